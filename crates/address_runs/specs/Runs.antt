@@ -1,0 +1,66 @@
+-- Runs of a function over addresses, whatever its values are: types of memory, owners, nodes.
+-- A run is a maximal set of consecutive addresses at which the function gives one value
+-- (what `e820__update_table` and `memblock_merge_regions` keep their tables in).
+use Rattle.std.specs.Prelude.{◌≡◌, ◌≢◌, ℕ, zero, suc, ◌+◌, ◌^◌, ◌<◌, ◌≤◌, ◌==◌, Bool, true, ◌&&◌, nat_le, nat_lt, if◌then◌else◌, Option, Some, None, List, [], ◌∷◌}
+
+-- a run: its first address, its number of addresses, and its value
+pub record RunOf (X : Type 0) : Type 0 where
+  pub base : ℕ
+  pub size : ℕ
+  pub value : X
+
+-- a test that tells whether two values are equal
+pub record Tells {X : Type 0} (same : X → X → Bool) : Type 0 where
+  pub yes : (a b : X) → same a b ≡ true → a ≡ b
+  pub no : (a b : X) → a ≡ b → same a b ≡ true
+
+module _ {X : Type 0} where
+  -- the address behind the last one of the run
+  abbrev pub run_end : RunOf X → ℕ
+  run_end r = r.base + r.size
+
+  -- whether the address lies in the run
+  abbrev pub lies_in : RunOf X → ℕ → Bool
+  lies_in r x = nat_le r.base x && nat_lt x (r.base + r.size)
+
+  -- what a list of runs gives at an address: the value of the first run that it lies in
+  abbrev pub value_at : List (RunOf X) → ℕ → Option X
+  value_at [] x = None
+  value_at (r ∷ rs) x = if lies_in r x then Some r.value else value_at rs x
+
+  -- the next run of the list begins behind this one, and has another value where they touch
+  abbrev pub IsBefore : RunOf X → List (RunOf X) → Type 0
+  IsBefore r [] = Unit {0}
+  IsBefore r (s ∷ ss) = (run_end r ≤ s.base) × (run_end r ≡ s.base → r.value ≢ s.value)
+
+  -- the list is canonical: ascending, no run empty, no two runs that could be one
+  abbrev pub AreRuns : List (RunOf X) → Type 0
+  AreRuns [] = Unit {0}
+  AreRuns (r ∷ rs) = (0 < r.size) × IsBefore r rs × AreRuns rs
+
+  -- the canonical list gives what the function gives, at every address
+  pub record IsRunsOf (f : ℕ → Option X) (rs : List (RunOf X)) : Type 0 where
+    pub runs : AreRuns rs
+    pub each : (x : ℕ) → value_at rs x ≡ f x
+
+  -- the run of one address
+  abbrev pub one_address : ℕ → X → RunOf X
+  one_address x v = record { base = x; size = 1; value = v }
+
+  -- the address and its value in front of the runs behind it: it lengthens the first, or begins one
+  abbrev pub led_by : (X → X → Bool) → ℕ → Option X → List (RunOf X) → List (RunOf X)
+  led_by same x None rs = rs
+  led_by same x (Some v) [] = one_address x v ∷ []
+  led_by same x (Some v) (r ∷ rs) =
+      if (r.base == x + 1) && same v r.value
+      then record { base = x; size = r.size + 1; value = v } ∷ rs
+      else (one_address x v ∷ (r ∷ rs))
+
+  -- the runs of the n addresses from x on
+  unfoldable pub runs_from : (X → X → Bool) → (ℕ → Option X) → ℕ → ℕ → List (RunOf X)
+  runs_from same f x zero = []
+  runs_from same f x (suc n) = led_by same x (f x) (runs_from same f (x + 1) n)
+
+  -- the runs of a function over all addresses below 2^64
+  unfoldable pub runs_of : (X → X → Bool) → (ℕ → Option X) → List (RunOf X)
+  runs_of same f = runs_from same f 0 (2 ^ 64)

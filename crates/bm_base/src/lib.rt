@@ -1,0 +1,19 @@
+//! Ranges of addresses, want of memory, and the pieces of text that reports are made of.
+//!
+//! Everything in the boot speaks of ranges of physical addresses. A [`Range`] is a base and a size
+//! in bytes whose sum is at most 2^64 - 1, as `struct range` and the firmware's entries have them;
+//! contracts see it as an `Extent`, a base and a size, wherever it stands.
+//!
+//! [`Memory`] is the one error that may come without any cause in the input: the program's own
+//! memory ran out. Each error type of the layers above has it as a variant.
+//!
+//! The `put_` calls append numbers and text to a report, in the forms of the kernel's log:
+//! `0x` with 16 digits for an address, right-aligned decimals in tables. They take no memory but
+//! what `out` itself grows by, and leave it as it was when that fails.
+#![tactic(auto)]
+
+mod memory;
+mod range;
+
+pub use memory::Memory;
+pub use range::Range;

@@ -1,0 +1,54 @@
+ghost use Rattle.std.specs.Prelude.{◌≡◌, ℕ, ◌+◌, ◌^◌, ◌<◌, ◌↔◌, SomeIff, IsTrue};
+ghost use Rattle.bm_base.specs.Extent.{end_of, Meet};
+
+use std::marker::Model;
+
+/// The addresses from `base` on, `size` bytes of them. The sum of both is at most 2^64 - 1, so the
+/// address behind the last byte is a `u64` too. A range of size 0 holds no address.
+#[derive(Clone, Copy, Debug, PartialEq, Eq)]
+pub struct Range {
+    /// The first address, in bytes.
+    pub base: u64,
+    /// The number of bytes.
+    pub size: u64,
+}
+
+impl Model for Range {
+    ghost use Rattle.std.specs.Prelude.{◌+◌, ◌^◌, ◌<◌};
+    ghost use Rattle.bm_base.specs.Extent.{Extent};
+
+    ghost Value = { Extent };
+
+    ghost view = { λ r. record { base = r.base; size = r.size } };
+
+    ghost invariant = { λ r. r.base + r.size < 2 ^ 64 };
+
+    ghost inverse = { λ r. record { base = r.base; size = r.size } };
+}
+
+impl Range {
+    /// The range of `size` bytes from `base` on; `None` exactly where their sum exceeds 2^64 - 1.
+    pub fn new(base: u64, size: u64) -> Option<Range>
+        ensures { SomeIff result (base + size < 2 ^ 64) (record { base = base; size = size }) }
+    {
+        base.checked_add(size)?;
+        Some(Range { base, size })
+    }
+
+    /// The address behind the last byte.
+    pub fn end(&self) -> u64
+        ensures value { result ≡ end_of self.now }
+        ensures small { end_of self.now < 2 ^ 64 }
+    {
+        self.base + self.size
+    }
+
+    /// Whether some address lies in both ranges.
+    pub fn overlaps(&self, other: &Range) -> bool
+        ensures { IsTrue result ↔ Meet self.now other.now }
+    {
+        let first = self.base.max(other.base);
+        let behind = self.end().min(other.end());
+        first < behind
+    }
+}

@@ -1,0 +1,90 @@
+-- What the firmware's entries, the extension and the options claim of one address: a set of types.
+use Rattle.std.specs.Prelude.{ℕ, zero, suc, ◌+◌, ◌^◌, ◌==◌, Bool, true, false, ◌&&◌, ◌||◌, not, nat_le, nat_lt, if◌then◌else◌, List, [], ◌∷◌}
+use Rattle.bm_base.specs.Extent.{Extent, covers}
+use Rattle.e820_model.specs.declared.entry.Entry.{Entry}
+use Rattle.e820_model.specs.declared.edit.Edit.{Edit}
+use Rattle.e820_model.specs.declared.edit.Edit.TheVariants as edit
+
+-- a set of types: which ones are in it. Type 0 claims nothing, so it is never in
+abbrev pub Types : Type 0
+Types = ℕ → Bool
+
+-- the claims of every address
+abbrev pub Claims : Type 0
+Claims = ℕ → Types
+
+abbrev pub no_claims : Claims
+no_claims x k = false
+
+-- whether the entry covers the address (`struct boot_e820_entry`: address, size, type)
+abbrev pub is_covered_by : Entry → ℕ → Bool
+is_covered_by e x = nat_le e.addr x && nat_lt x (e.addr + e.size)
+
+-- the types of the entries that cover the address
+abbrev pub claims_of_entries : List Entry → Claims
+claims_of_entries [] x k = false
+claims_of_entries (e ∷ es) x k = (is_covered_by e x && nat_lt 0 k && k == e.kind) || claims_of_entries es x k
+
+-- the greatest of the types below n that are in the set, 0 where there is none
+unfoldable pub greatest_below : Types → ℕ → ℕ
+greatest_below s zero = 0
+greatest_below s (suc n) = if s n then n else greatest_below s n
+
+-- the greatest type of the set, 0 where it is empty
+unfoldable pub greatest : Types → ℕ
+greatest s = greatest_below s (2 ^ 32)
+
+-- the type of an address: its greatest claim, or 0
+abbrev pub type_of : Claims → ℕ → ℕ
+type_of c x = greatest (c x)
+
+-- each address keeps its greatest claim alone (`e820__update_table`: the greatest type wins)
+abbrev pub settled : Claims → Claims
+settled c x k = nat_lt 0 k && k == type_of c x
+
+-- the claims of both
+abbrev pub added : Claims → Claims → Claims
+added c d x k = c x k || d x k
+
+-- what an edit makes of the claims of an address (`parse_memmap_one`: `e820__range_add`,
+-- `e820__range_remove` with and without a type, `e820__range_update`, and the cleared table of `exactmap`)
+abbrev pub edited : Edit → Claims → Claims
+edited (edit.Add range kind) c x k = c x k || (covers range x && k == kind)
+edited (edit.Remove range kind) c x k = c x k && not (covers range x && k == kind)
+edited (edit.RemoveAll range) c x k = c x k && not (covers range x)
+edited (edit.Change range from to) c x k =
+    if covers range x then ((c x from && k == to) || (c x k && not (k == from))) else c x k
+edited edit.Clear c x k = false
+
+-- the edits in their order
+abbrev pub after_edits : List Edit → Claims → Claims
+after_edits [] c = c
+after_edits (e ∷ es) c = after_edits es (edited e c)
+
+-- the first page is the BIOS's even where firmware calls it RAM, and from 640 KiB to 1 MiB there
+-- is none (`trim_bios_range`)
+abbrev pub first_page : Extent
+first_page = record { base = 0; size = 0x1000 }
+
+abbrev pub bios_area : Extent
+bios_area = record { base = 0xA0000; size = 0x60000 }
+
+abbrev pub trimmed : Claims → Claims
+trimmed c = edited (edit.Remove bios_area 1) (edited (edit.Change first_page 1 2) c)
+
+-- step 1: the zero page's entries, settled (`e820__memory_setup`)
+abbrev pub of_zero_page : List Entry → Claims
+of_zero_page entries = settled (claims_of_entries entries)
+
+-- step 2: the extension's entries come in, and the table settles (`e820__memory_setup_extended`)
+abbrev pub with_extension : List Entry → Claims → Claims
+with_extension extension c = settled (added c (claims_of_entries extension))
+
+-- steps 3 and 4: the options' edits in their order, and the table settles (`e820__finish_early_params`)
+abbrev pub with_edits : List Edit → Claims → Claims
+with_edits edits c = settled (after_edits edits c)
+
+-- the claims of the finished map
+abbrev pub finished : List Entry → List Entry → List Edit → Claims
+finished entries extension edits =
+    trimmed (with_edits edits (with_extension extension (of_zero_page entries)))

@@ -1,0 +1,19 @@
+//! The words in which the firmware's map is spoken of, by every layer above.
+//!
+//! Firmware hands the kernel a table of entries (`struct boot_e820_entry`): ranges with a type. They
+//! may overlap and come in any order, an extension may follow, and options edit them. What holds of
+//! an address is a set of claims (`specs/Claims.antt`), of which the greatest is its type; the map
+//! is the list of runs of one type (`specs/Map.antt`); a frame of which every byte is memory is
+//! usable (`specs/Usable.antt`).
+//!
+//! [`Entry`], [`Edit`] and [`Run`] are plain data. They stand here, below the crates that read and
+//! change them, because the definitions speak of them.
+#![tactic(auto)]
+
+mod edit;
+mod entry;
+mod run;
+
+pub use edit::Edit;
+pub use entry::Entry;
+pub use run::Run;
