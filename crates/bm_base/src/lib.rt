@@ -14,6 +14,10 @@
 
 mod memory;
 mod range;
+#[cfg(test)]
+mod tests;
+mod text;
 
 pub use memory::Memory;
 pub use range::Range;
+pub use text::{put_dec, put_hex, put_text};

@@ -1,0 +1,94 @@
+-- Laws of the text of numbers: what the bodies write digit by digit is what `digits` says.
+use Rattle.std.proofs.Common.{◌≡◌, ℕ, zero, suc, ◌+◌, ◌-◌, ◌/◌, ◌%◌, ◌^◌, ◌<◌, ◌≤◌, false, nat_eq, List, [], ◌∷◌, ◌++◌, length, take, drop, set, min, replicate, codes, refl, ap, sym, ◌∙◌, append-nil, arith, ⊎_elim}
+use Rattle.std.proofs.lemmas.Bool.{cases_lt}
+use Rattle.std.proofs.lemmas.Bool.Decides.{nat_tests}
+use Rattle.std.proofs.lemmas.List.{drop-set, take-append-drop, drop-append-le, take-replicate, drop-replicate, length-replicate}
+use Rattle.std.specs.Fmt.{digits, digits_onto, digit_glyph, decimal}
+use Rattle.bm_base.specs.Text.{hex_text, padded_decimal}
+
+-- digits, with zeros in front up to the width
+abbrev pub padded : ℕ → List ℕ → List ℕ
+padded w ds = replicate (w - length ds) 48 ++ ds
+
+-- the last k digits of n, followed by rest
+unfoldable pub hex_onto : ℕ → ℕ → List ℕ → List ℕ
+hex_onto zero n rest = rest
+hex_onto (suc k) n rest = hex_onto k (n / 16) (digit_glyph false (n % 16) ∷ rest)
+
+hex_none : (n : ℕ) (rest : List ℕ) → hex_onto 0 n rest ≡ rest
+unfolding hex_onto
+hex_none n rest = refl
+
+-- one zero more
+zeros_more : (k : ℕ) (rest : List ℕ) → replicate k 48 ++ (48 ∷ rest) ≡ replicate (suc k) 48 ++ rest
+zeros_more zero rest = refl
+zeros_more (suc k) rest = ap (λ xs. 48 ∷ xs) (zeros_more k rest)
+
+-- the digits of 0 are zeros
+hex_zeros : (k : ℕ) (rest : List ℕ) → hex_onto k 0 rest ≡ replicate k 48 ++ rest
+unfolding hex_onto
+hex_zeros zero rest = refl
+hex_zeros (suc k) rest = hex_zeros k (48 ∷ rest) ∙ zeros_more k rest
+
+-- a number below 16 has one digit, and zeros before it
+one_digit : (k j n : ℕ) (rest : List ℕ) → n < 16
+    → hex_onto (suc k) n rest ≡ padded (suc k + length rest) (digits_onto (suc j) 16 false n rest)
+unfolding hex_onto
+one_digit k j n rest small =
+    let none : n / 16 ≡ 0 = omega arith in
+    let width : suc k + length rest - length (digit_glyph false (n % 16) ∷ rest) ≡ k = omega arith in
+    rw (none, width) (hex_zeros k (digit_glyph false (n % 16) ∷ rest))
+
+-- the last k + 1 digits of a number that has no more are its digits with zeros before them
+padded_onto : (k j n : ℕ) (rest : List ℕ) → n < 16 ^ (suc k) → k ≤ j
+    → hex_onto (suc k) n rest ≡ padded (suc k + length rest) (digits_onto (suc j) 16 false n rest)
+unfolding hex_onto
+padded_onto zero j n rest small fuel = one_digit zero j n rest (omega arith)
+padded_onto (suc k) zero n rest small fuel = absurd (omega arith)
+padded_onto (suc k) (suc j) n rest small fuel =
+    ⊎_elim (λ below. one_digit (suc k) (suc j) n rest below)
+    (λ above.
+    let some : nat_eq (n / 16) 0 ≡ false = grind (arith, nat_tests) in
+    let width : suc (suc k) + length rest ≡ suc k + length (digit_glyph false (n % 16) ∷ rest) = omega arith in
+    rw (some, width) (padded_onto k j (n / 16) (digit_glyph false (n % 16) ∷ rest) (omega arith) (omega arith)))
+    (cases_lt n 16)
+
+-- the text of an address is `0x` and its last 16 digits
+pub hex_sixteen : (n : ℕ) → n < 2 ^ 64 → codes "0x" ++ hex_onto 16 n [] ≡ hex_text n
+unfolding digits
+hex_sixteen n small = ap (λ ds. codes "0x" ++ ds) (padded_onto 15 63 n [] (omega arith) (omega arith))
+
+-- one digit more, from the back
+pub hex_step : (text : List ℕ) (i left : ℕ) → i < 16 → length text ≡ 18
+    → hex_onto (16 - (i + 1)) (left / 16) (drop (18 - (i + 1)) (set text (17 - i) (digit_glyph false (left % 16))))
+    ≡ hex_onto (16 - i) left (drop (18 - i) text)
+unfolding hex_onto
+hex_step text i left below long =
+    let place : 18 - (i + 1) ≡ 17 - i = omega arith in
+    let count : 16 - i ≡ suc (16 - (i + 1)) = omega arith in
+    let behind : 17 - i + 1 ≡ 18 - i = omega arith in
+    let inside : 17 - i < length text = omega arith in
+    rw (place, count, drop-set text (17 - i) (digit_glyph false (left % 16)) inside, behind) refl
+
+-- after all digits the text is the digits and what was in front of them
+pub hex_end : (text : List ℕ) (i left n : ℕ) → i ≡ 16 → n < 2 ^ 64 → take 2 text ≡ codes "0x"
+    → hex_onto (16 - i) left (drop (18 - i) text) ≡ hex_onto 16 n [] → text ≡ hex_text n
+hex_end text i left n end small head digits =
+    let ready : drop 2 text ≡ hex_onto 16 n [] = sym (hex_none left (drop 2 text)) ∙ rw end at digits in
+    sym (take-append-drop 2 text) ∙ rw (head, ready) (hex_sixteen n small)
+
+-- a number at the right end of 20 spaces, cut to the width or to its first digit
+pub right_aligned : (width start n : ℕ) (text : List ℕ) → width ≤ 20 → start + length (decimal n) ≡ 20
+    → drop start text ≡ decimal n ++ [] → take start text ≡ take start (replicate 20 32)
+    → drop (min start (20 - width)) text ≡ padded_decimal width n
+right_aligned width start n text small place written spaces =
+    let inside : start ≤ 20 = omega arith in
+    let front : take start text ≡ replicate start 32 = spaces ∙ take-replicate start 20 32 inside in
+    let whole : text ≡ replicate start 32 ++ decimal n =
+    sym (take-append-drop start text) ∙ rw (front, written, append-nil) refl in
+    let long : length (replicate {A = ℕ} start 32) ≡ start = length-replicate {A = ℕ} start 32 in
+    let low : min start (20 - width) ≤ length (replicate {A = ℕ} start 32) = omega arith in
+    let left : start - min start (20 - width) ≡ width - length (decimal n) = omega arith in
+    ap (λ xs. drop (min start (20 - width)) xs) whole
+    ∙ drop-append-le (min start (20 - width)) (replicate start 32) (decimal n) low
+    ∙ rw (drop-replicate {X = ℕ} (min start (20 - width)) start 32, left) refl

@@ -1,0 +1,19 @@
+use Rattle.std.proofs.Common.{◌≡◌, ◌-◌, rules, arith, length, take, drop, length-drop}
+use Rattle.std.proofs.lemmas.List.{take_all}
+use Rattle.std.proofs.lemmas.Fmt.{length-decimal-le}
+use Rattle.bm_base.specs.Text.{padded_decimal}
+use Rattle.bm_base.proofs.TextLaws.{right_aligned}
+use Rattle.bm_base.proofs.text.put_dec.Goals as goal
+
+pub write_digits-start-requires : goal.write_digits-start-requires
+write_digits-start-requires c = search (rules, length-decimal-le 20)
+
+pub returns-clause-ok : goal.returns-clause-ok
+returns-clause-ok c =
+    let w = c.write_digits-start in
+    let text : drop c.min-from.result w.new.buf ≡ padded_decimal c.args.width c.args.value =
+    rw c.min-from.ensures (right_aligned c.args.width w.result c.args.value w.new.buf (omega arith) w.ensures.start w.ensures.written w.ensures.before) in
+    let long : length w.new.buf ≡ 20 = w.auto.buf in
+    let all : take (20 - c.min-from.result) (drop c.min-from.result w.new.buf) ≡ drop c.min-from.result w.new.buf =
+    take_all (20 - c.min-from.result) (drop c.min-from.result w.new.buf) (omega (arith, length-drop c.min-from.result w.new.buf)) in
+    rw (← text, ← all) c.put_text.ensures.ok

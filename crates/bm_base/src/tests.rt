@@ -1,0 +1,32 @@
+use crate::{Range, put_dec, put_hex, put_text};
+use std::test::Fail;
+
+#[test]
+fn numbers_as_the_log_prints_them(rt: HostRuntime) -> Result<(), Fail> {
+    let mut out = Vec::new(rt.alloc());
+    for value in [0, 0x9fc00, u64::MAX] {
+        put_hex(&mut out, value)?;
+        put_text(&mut out, b"\n")?;
+    }
+    for (value, width) in [(0, 0), (7, 4), (12345, 4), (u64::MAX, 20)] {
+        put_dec(&mut out, value, width)?;
+        put_text(&mut out, b"\n")?;
+    }
+    let want =
+        b"0x0000000000000000\n0x000000000009fc00\n0xffffffffffffffff\n0\n   7\n12345\n18446744073709551615\n";
+    assert_eq!(rt; out.as_slice(), want.as_slice());
+    Ok(())
+}
+
+#[test]
+fn ranges_end_below_two_to_64(rt: HostRuntime) -> Result<(), Fail> {
+    assert_eq!(rt; Range::new(1, u64::MAX), None);
+    let last = Range::new(1, u64::MAX - 1).ok_or("the greatest end")?;
+    assert_eq!(rt; last.end(), u64::MAX);
+    let first = Range { base: 0, size: 1 };
+    let empty = Range { base: 4, size: 0 };
+    assert!(rt; !last.overlaps(&first));
+    assert!(rt; !last.overlaps(&empty));
+    assert!(rt; last.overlaps(&Range { base: 0, size: 2 }));
+    Ok(())
+}

@@ -1,0 +1,55 @@
+ghost use Rattle.std.specs.Prelude.{◌≡◌, ℕ, ◌<◌, ◌≤◌, ◌++◌, OnOk, OnErr, false};
+ghost use Rattle.std.specs.Fmt.{digit_glyph};
+ghost use Rattle.bm_base.specs.Text.{hex_text, padded_decimal};
+
+use crate::memory::Memory;
+
+/// Appends the bytes of a text.
+pub fn put_text(out: &mut Vec<u8>, text: &[u8]) -> Result<(), Memory>
+    ensures ok { OnOk result (out.new.items ≡ out.old.items ++ text.now) }
+    ensures err { OnErr result (out.new.items ≡ out.old.items) }
+{
+    match out.extend_from_slice(text) {
+        Ok(()) => Ok(()),
+        Err(_) => Err(Memory),
+    }
+}
+
+/// Appends `0x` and 16 lower-case hexadecimal digits, as the kernel's log prints an address.
+pub fn put_hex(out: &mut Vec<u8>, value: u64) -> Result<(), Memory>
+    ensures ok { OnOk result (out.new.items ≡ out.old.items ++ hex_text value) }
+    ensures err { OnErr result (out.new.items ≡ out.old.items) }
+{
+    let mut text = *b"0x0000000000000000";
+    let mut left = value;
+    for i in 0..16 {
+        text[17 - i] = hex_digit(left % 16);
+        left /= 16;
+    }
+    put_text(out, &text)
+}
+
+/// Appends the decimal digits of a number, right-aligned with spaces in `width` places. `width` is
+/// at most 20, the length of the longest number; a longer number takes the places that it needs.
+pub fn put_dec(out: &mut Vec<u8>, value: u64, width: u32) -> Result<(), Memory>
+    requires { width ≤ 20 }
+    ensures ok { OnOk result (out.new.items ≡ out.old.items ++ padded_decimal width value) }
+    ensures err { OnErr result (out.new.items ≡ out.old.items) }
+{
+    let mut text = [b' '; 20];
+    let start = itoa::write_digits(value, &mut text, 20);
+    let from = start.min(20 - width as usize);
+    put_text(out, &text[from..])
+}
+
+fn hex_digit(digit: u64) -> u8
+    requires { digit < 16 }
+    ensures { result ≡ digit_glyph false digit }
+{
+    let digit = digit as u8;
+    if digit < 10 {
+        b'0' + digit
+    } else {
+        b'a' - 10 + digit
+    }
+}
