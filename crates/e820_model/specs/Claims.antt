@@ -1,5 +1,5 @@
 -- What the firmware's entries, the extension and the options claim of one address: a set of types.
-use Rattle.std.specs.Prelude.{ℕ, zero, suc, ◌+◌, ◌^◌, ◌==◌, Bool, true, false, ◌&&◌, ◌||◌, not, nat_le, nat_lt, if◌then◌else◌, List, [], ◌∷◌}
+use Rattle.std.specs.Prelude.{ℕ, zero, suc, ◌+◌, ◌^◌, ◌==◌, Bool, true, false, ◌&&◌, ◌||◌, ◌<◌, not, nat_le, nat_lt, if◌then◌else◌, List, [], ◌∷◌}
 use Rattle.bm_base.specs.Extent.{Extent, covers}
 use Rattle.e820_model.specs.declared.entry.Entry.{Entry}
 use Rattle.e820_model.specs.declared.edit.Edit.{Edit}
@@ -19,6 +19,11 @@ no_claims x k = false
 -- whether the entry covers the address (`struct boot_e820_entry`: address, size, type)
 abbrev pub is_covered_by : Entry → ℕ → Bool
 is_covered_by e x = nat_le e.addr x && nat_lt x (e.addr + e.size)
+
+-- each entry's address plus its size is at most 2^64 - 1
+abbrev pub EndInSpace : List Entry → Type 0
+EndInSpace [] = Unit {0}
+EndInSpace (e ∷ es) = (e.addr + e.size < 2 ^ 64) × EndInSpace es
 
 -- the types of the entries that cover the address
 abbrev pub claims_of_entries : List Entry → Claims
@@ -55,6 +60,18 @@ edited (edit.RemoveAll range) c x k = c x k && not (covers range x)
 edited (edit.Change range from to) c x k =
     if covers range x then ((c x from && k == to) || (c x k && not (k == from))) else c x k
 edited edit.Clear c x k = false
+
+-- no type in the edit is 0
+abbrev pub HasTypes : Edit → Type 0
+HasTypes (edit.Add range kind) = 0 < kind
+HasTypes (edit.Remove range kind) = 0 < kind
+HasTypes (edit.RemoveAll range) = Unit {0}
+HasTypes (edit.Change range from to) = (0 < from) × (0 < to)
+HasTypes edit.Clear = Unit {0}
+
+abbrev pub HaveTypes : List Edit → Type 0
+HaveTypes [] = Unit {0}
+HaveTypes (e ∷ es) = HasTypes e × HaveTypes es
 
 -- the edits in their order
 abbrev pub after_edits : List Edit → Claims → Claims
