@@ -1,0 +1,40 @@
+-- The E820 extension: a node of the `setup_data` list (`struct setup_data`: next, type, length) of type
+-- `SETUP_E820_EXT`, whose data are entries.
+use Rattle.std.specs.Prelude.{ℕ, ◌-◌, ◌/◌, ◌%◌, ◌==◌, Bool, ◌&&◌, List, length, not, nat_lt, if◌then◌else◌, Option, Some, None}
+use Rattle.e820_model.specs.declared.entry.Entry.{Entry}
+use Rattle.e820_table.specs.declared.extension.ExtFault.{ExtFault}
+use Rattle.e820_table.specs.declared.extension.ExtFault.TheVariants as faults
+use Rattle.e820_table.specs.Entries.{number_at, first_entries, first_far}
+
+-- the bytes of data: those behind the header of 16 bytes
+abbrev pub data_length : List ℕ → ℕ
+data_length bytes = length bytes - 16
+
+-- there is a whole header, and its type is that of an extension (the u32 at 8)
+abbrev pub has_header : List ℕ → Bool
+has_header bytes = not (nat_lt (length bytes) 16) && number_at 4 8 bytes == 1
+
+-- the length that the header states (the u32 at 12) is that of the data, and the data are whole entries
+abbrev pub has_length : List ℕ → Bool
+has_length bytes = number_at 4 12 bytes == data_length bytes && data_length bytes % 20 == 0
+
+-- the number of entries
+abbrev pub ext_count : List ℕ → ℕ
+ext_count bytes = data_length bytes / 20
+
+-- the entries of the extension
+abbrev pub ext_entries_of : List ℕ → List Entry
+ext_entries_of bytes = first_entries 16 (ext_count bytes) bytes
+
+-- the fault of an entry, where one has a fault
+abbrev pub ext_entry_fault : Option ℕ → Option ExtFault
+ext_entry_fault None = None
+ext_entry_fault (Some index) = Some (faults.EntryTooFar index)
+
+-- the first fault that the bytes have, in this order: the header, the length, and the least index of an
+-- entry that passes the end of numbers
+abbrev pub ext_fault : List ℕ → Option ExtFault
+ext_fault bytes =
+    if not (has_header bytes) then Some faults.ExtHeader
+    else (if not (has_length bytes) then Some faults.ExtLength
+    else ext_entry_fault (first_far 16 (ext_count bytes) bytes))

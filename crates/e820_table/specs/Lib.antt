@@ -1,0 +1,3 @@
+pub mod Entries
+pub mod Extension
+pub mod ZeroPage

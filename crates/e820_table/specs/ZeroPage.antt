@@ -1,0 +1,33 @@
+-- The zero page: `struct boot_params`, 4,096 bytes, of which the table of entries is read.
+use Rattle.std.specs.Prelude.{ℕ, ◌==◌, List, length, slice_index, not, nat_lt, if◌then◌else◌, Option, Some, None}
+use Rattle.e820_model.specs.declared.entry.Entry.{Entry}
+use Rattle.e820_table.specs.declared.zero_page.ZeroFault.{ZeroFault}
+use Rattle.e820_table.specs.declared.zero_page.ZeroFault.TheVariants as faults
+use Rattle.e820_table.specs.Entries.{first_entries, first_far}
+
+-- the number of entries: the byte `e820_entries`
+abbrev pub entry_count : List ℕ → ℕ
+entry_count bytes = slice_index bytes 0x1E8
+
+-- where the entries begin: `e820_table`
+abbrev pub table_offset : ℕ
+table_offset = 0x2D0
+
+-- the entries of the page
+abbrev pub entries_of : List ℕ → List Entry
+entries_of bytes = first_entries table_offset (entry_count bytes) bytes
+
+-- the fault of an entry, where one has a fault
+abbrev pub entry_fault : Option ℕ → Option ZeroFault
+entry_fault None = None
+entry_fault (Some index) = Some (faults.EntryTooFar index)
+
+-- the first fault that the bytes have, in this order: their number, too few entries
+-- (`append_e820_table` refuses a table of fewer than two), more entries than the page has room for,
+-- and the least index of an entry that passes the end of numbers
+abbrev pub zero_fault : List ℕ → Option ZeroFault
+zero_fault bytes =
+    if not (length bytes == 4096) then Some faults.WrongLength
+    else (if nat_lt (entry_count bytes) 2 then Some faults.TooFew
+    else (if nat_lt 128 (entry_count bytes) then Some faults.TooMany
+    else entry_fault (first_far table_offset (entry_count bytes) bytes)))

@@ -1,0 +1,92 @@
+ghost use Rattle.std.specs.Prelude.{◌≡◌, ◌≢◌, ℕ, ◌+◌, ◌*◌, ◌≤◌, length, IfOk, IfErr, IfSome, OnOk, SomeIff, IsTrue};
+ghost use Rattle.e820_model.specs.Claims.{EndInSpace};
+ghost use Rattle.e820_table.specs.Entries.{first_entries};
+ghost use Rattle.e820_table.specs.Extension.{ext_count, ext_entries_of, ext_fault, has_header, has_length};
+
+use crate::entries::{find_far, read_nth};
+use bm_base::Memory;
+use byteorder::{ByteOrder, LittleEndian};
+use e820_model::Entry;
+use std::alloc::Global;
+
+const HEADER_BYTES: usize = 16;
+
+const EXTENSION_TYPE: u32 = 1;
+
+/// Why bytes are no E820 extension. The first that holds is answered: the header, the length, then
+/// the entries.
+#[derive(Clone, Copy, Debug, PartialEq, Eq)]
+pub enum ExtFault {
+    /// The entry's address plus size exceeds 2^64 - 1; the least such index, from 0.
+    EntryTooFar { index: u32 },
+    /// There are fewer than 16 bytes, or the type isn't 1 (`SETUP_E820_EXT`).
+    ExtHeader,
+    /// The stated length isn't the number of bytes behind the header, or is no multiple of 20.
+    ExtLength,
+    /// The program's own memory ran out.
+    Memory,
+}
+
+impl From<Memory> for ExtFault {
+    ghost use Rattle.e820_table.specs.declared.extension.ExtFault.TheVariants as faults;
+
+    ghost from_gives = { λ _ fault. fault ≡ faults.Memory };
+
+    fn from(_error: Memory) -> ExtFault {
+        ExtFault::Memory
+    }
+}
+
+/// Reads an E820 extension (`struct setup_data` with entries behind it): the next node's address at
+/// offset 0, which is passed over, the type at 8, the length at 12, and the entries from 16 on. A
+/// length of 0 is accepted.
+pub fn read_ext(alloc: Global, bytes: &[u8]) -> Result<Vec<Entry>, ExtFault>
+    ensures fault { IfErr result (λ fault. fault ≢ ExtFault.Memory → ext_fault bytes.now ≡ Some fault) }
+    ensures well_formed { OnOk result (ext_fault bytes.now ≡ None) }
+    ensures value { IfOk result (λ entries. entries.items ≡ ext_entries_of bytes.now) }
+    ensures space { IfOk result (λ entries. EndInSpace entries.items) }
+{
+    if !is_extension(bytes) {
+        return Err(ExtFault::ExtHeader);
+    }
+    let Some(count) = stated_entries(bytes) else {
+        return Err(ExtFault::ExtLength);
+    };
+    if let Some(index) = find_far(bytes, HEADER_BYTES, count) {
+        return Err(ExtFault::EntryTooFar { index });
+    }
+    Ok(read_entries(alloc, bytes, count)?)
+}
+
+/// Whether there is a whole header, of the type of an extension.
+fn is_extension(bytes: &[u8]) -> bool
+    ensures { result ≡ has_header bytes.now }
+{
+    bytes.len() >= HEADER_BYTES && LittleEndian::read_u32(&bytes[8..]) == EXTENSION_TYPE
+}
+
+/// The number of entries, where the header's length is that of the data and these are whole entries.
+fn stated_entries(bytes: &[u8]) -> Option<u32>
+    requires { IsTrue (has_header bytes.now) }
+    ensures count { SomeIff result (IsTrue (has_length bytes.now)) (ext_count bytes.now) }
+    ensures whole { IfSome result (λ count. 16 + 20 * count ≤ length bytes.now) }
+{
+    let data = bytes.len() - HEADER_BYTES;
+    let stated = LittleEndian::read_u32(&bytes[12..]);
+    if stated as usize != data || stated % 20 != 0 {
+        return None;
+    }
+    Some(stated / 20)
+}
+
+/// The first `count` entries of the extension.
+fn read_entries(alloc: Global, bytes: &[u8], count: u32) -> Result<Vec<Entry>, Memory>
+    requires { 16 + 20 * count ≤ length bytes.now }
+    ensures { IfOk result (λ entries. entries.items ≡ first_entries 16 count bytes.now) }
+{
+    let mut entries = Vec::new(alloc);
+    for index in 0..count {
+        entries.push(read_nth(bytes, HEADER_BYTES, index as usize))?;
+    }
+    Ok(entries)
+}

@@ -1,0 +1,96 @@
+ghost use Rattle.std.specs.Prelude.{ℕ, ◌+◌, ◌≤◌, length};
+
+use crate::{Entry, ExtFault, ZeroFault, read_ext, read_zero_page};
+use byteorder::{ByteOrder, LittleEndian};
+use std::test::Fail;
+
+/// Writes an entry at the offset.
+fn put_entry(bytes: &mut [u8], offset: usize, entry: Entry)
+    requires { offset + 20 ≤ length bytes.old }
+{
+    LittleEndian::write_u64(&mut bytes[offset..], entry.addr);
+    LittleEndian::write_u64(&mut bytes[offset + 8..], entry.size);
+    LittleEndian::write_u32(&mut bytes[offset + 16..], entry.kind);
+}
+
+/// A zero page that states `count` entries, of which the first two are given.
+fn page(count: u8, first: Entry, second: Entry) -> [u8; 4096] {
+    let mut bytes = [0; 4096];
+    bytes[0x1e8] = count;
+    put_entry(&mut bytes, 0x2d0, first);
+    put_entry(&mut bytes, 0x2e4, second);
+    bytes
+}
+
+const RAM: Entry = Entry {
+    addr: 0x100000,
+    size: 0x7f00000,
+    kind: 1,
+};
+
+const LAST: Entry = Entry {
+    addr: 0x1000,
+    size: 0xffff_ffff_ffff_efff,
+    kind: 2,
+};
+
+const FAR: Entry = Entry {
+    addr: 0x1000,
+    size: 0xffff_ffff_ffff_f000,
+    kind: 2,
+};
+
+#[test]
+fn zero_pages(rt: HostRuntime) -> Result<(), Fail> {
+    let read = read_zero_page(&page(2, RAM, LAST))?;
+    assert_eq!(rt; read.entries.as_slice(), [RAM, LAST].as_slice());
+    let cases = [
+        (4095, page(2, RAM, LAST), ZeroFault::WrongLength),
+        (0, page(0, RAM, LAST), ZeroFault::WrongLength),
+        (4096, page(0, RAM, LAST), ZeroFault::TooFew),
+        (4096, page(1, FAR, FAR), ZeroFault::TooFew),
+        (4096, page(129, FAR, FAR), ZeroFault::TooMany),
+        (4096, page(2, RAM, FAR), ZeroFault::EntryTooFar { index: 1 }),
+        (4096, page(2, FAR, FAR), ZeroFault::EntryTooFar { index: 0 }),
+    ];
+    for (length, bytes, want) in &cases {
+        assert_eq!(rt; read_zero_page(&bytes[..*length]).err(), Some(*want));
+    }
+    let mut longer = Vec::from_slice(rt.alloc(), &page(0, RAM, LAST))?;
+    longer.push(0)?;
+    assert_eq!(rt; read_zero_page(&longer).err(), Some(ZeroFault::WrongLength));
+    Ok(())
+}
+
+#[test]
+fn extensions(rt: HostRuntime) -> Result<(), Fail> {
+    let mut bytes = [0; 56];
+    put_entry(&mut bytes, 16, FAR);
+    put_entry(&mut bytes, 36, FAR);
+    let cases = [
+        (0, 1, 0, Some(ExtFault::ExtHeader)),
+        (15, 1, 0, Some(ExtFault::ExtHeader)),
+        (56, 2, 39, Some(ExtFault::ExtHeader)),
+        (16, 1, 0, None),
+        (16, 1, 20, Some(ExtFault::ExtLength)),
+        (55, 1, 39, Some(ExtFault::ExtLength)),
+        (56, 1, 39, Some(ExtFault::ExtLength)),
+        (56, 1, 40, Some(ExtFault::EntryTooFar { index: 0 })),
+    ];
+    for (length, kind, stated, want) in cases {
+        LittleEndian::write_u32(&mut bytes[8..], kind);
+        LittleEndian::write_u32(&mut bytes[12..], stated);
+        assert_eq!(rt; read_ext(rt.alloc(), &bytes[..length]).err(), want);
+    }
+    put_entry(&mut bytes, 16, RAM);
+    assert_eq!(rt;
+        read_ext(rt.alloc(), &bytes).err(),
+        Some(ExtFault::EntryTooFar { index: 1 })
+    );
+    put_entry(&mut bytes, 36, LAST);
+    assert_eq!(rt;
+        read_ext(rt.alloc(), &bytes)?.as_slice(),
+        [RAM, LAST].as_slice()
+    );
+    Ok(())
+}
