@@ -1,6 +1,17 @@
 //! Runs of a function over addresses, whatever its values are.
 //!
 //! The firmware's map, the owners of memory and its nodes are all functions of an address. They are
-//! kept and printed as lists of runs: maximal sets of consecutive addresses of one value. This crate
-//! has the words for that in `specs/Runs.antt`, generic in the value.
+//! kept and printed as lists of runs: maximal sets of consecutive addresses of one value, as
+//! `e820__update_table` and `memblock_merge_regions` leave their tables. This crate has the words
+//! for that, generic in the value: `specs/Runs.antt` says what the runs of a function are, once as
+//! a relation (`IsRunsOf`) and once as a function by addresses (`runs_of`), and `specs/Sweep.antt`
+//! has the words for a list that is built from the lowest address on.
+//!
+//! [`one_list_of_runs`] and [`runs_by_address`] are the laws that tie both: a function has exactly
+//! one list of runs, and `runs_of` is it. The layers above may rest on them, and on the lemmas of
+//! `proofs/RunsLaws.antt` and `proofs/SweepLaws.antt`, from which their bodies are proved.
 #![tactic(auto)]
+
+mod laws;
+
+pub use laws::{one_list_of_runs, runs_by_address};

@@ -1,0 +1,3 @@
+mod ExampleLaws
+pub mod RunsLaws
+pub mod SweepLaws

@@ -1,0 +1,251 @@
+-- Canonical lists that agree at every address are equal, and `runs_of` is one.
+use Rattle.std.proofs.Common.{◌≡◌, ◌≢◌, ℕ, zero, suc, ◌+◌, ◌^◌, ◌<◌, ◌≤◌, ◌==◌, Bool, true, false, ◌&&◌, if◌then◌else◌, Option, Some, None, List, [], ◌∷◌, refl, sym, ◌∙◌, ap, subst, inl, inr, arith}
+use Rattle.std.proofs.lemmas.Bool.Decides.{nat_tests}
+use Rattle.std.proofs.lemmas.Bool.{cases_lt, cases_Bool, true≢false}
+use Rattle.address_runs.specs.Runs.{RunOf, Tells, run_end, lies_in, value_at, IsBefore, AreRuns, IsRunsOf, one_address, led_by, runs_from, runs_of}
+use Rattle.address_runs.specs.Sweep.{StartFrom}
+
+-- an address from the base up to the end lies in the run
+pub inside : {X : Type 0} (r : RunOf X) (x : ℕ) → r.base ≤ x → x < r.base + r.size → lies_in r x ≡ true
+inside r x above below = grind (arith, nat_tests)
+
+pub below : {X : Type 0} (r : RunOf X) (x : ℕ) → x < r.base → lies_in r x ≡ false
+below r x h = grind (arith, nat_tests)
+
+pub behind : {X : Type 0} (r : RunOf X) (x : ℕ) → r.base + r.size ≤ x → lies_in r x ≡ false
+behind r x h = grind (arith, nat_tests)
+
+-- nothing stands below the first run
+pub none_below : {X : Type 0} (at x : ℕ) (rs : List (RunOf X)) → AreRuns rs → StartFrom at rs → x < at → value_at rs x ≡ None
+none_below at x [] runs start h = refl
+none_below at x (r ∷ []) runs start h = let lt : x < r.base = omega arith in rw (below r x lt) refl
+none_below at x (r ∷ (s ∷ ss)) runs start h =
+    let lt : x < r.base = omega arith in
+    let from : r.base ≤ s.base = omega arith in
+    rw (below r x lt) (none_below r.base x (s ∷ ss) runs.2 from lt)
+
+-- the runs behind the first one begin behind its base, and at its end or behind it
+pub rest_from : {X : Type 0} (r : RunOf X) (rs : List (RunOf X)) → AreRuns (r ∷ rs) → StartFrom (run_end r) rs
+rest_from r [] runs = tt
+rest_from r (s ∷ ss) runs = runs.1.0
+
+-- right behind a run another value stands, or none
+pub other_behind : {X : Type 0} (r : RunOf X) (rs : List (RunOf X)) → AreRuns (r ∷ rs) → value_at rs (run_end r) ≢ Some r.value
+other_behind r [] runs = λ same. cc
+other_behind r (s ∷ ss) runs =
+    let starts : StartFrom s.base (s ∷ ss) = omega arith in
+    elim (cases_lt (run_end r) s.base) as (λ _. value_at (s ∷ ss) (run_end r) ≢ Some r.value) [
+      | inl lt ↦ rw (none_below s.base (run_end r) (s ∷ ss) runs.2 starts lt) (λ same. cc)
+      | inr ge ↦
+          let touch : run_end r ≡ s.base = omega arith in
+          let lies : lies_in s (run_end r) ≡ true = inside s (run_end r) (omega arith) (omega arith) in
+          rw lies (λ same. let equal : r.value ≡ s.value = cc in runs.1.1 touch equal)
+    ]
+
+-- the value of the first run, at its base
+value_first : {X : Type 0} (r : RunOf X) (rs : List (RunOf X)) → 0 < r.size → value_at (r ∷ rs) r.base ≡ Some r.value
+value_first r rs some = let lies : lies_in r r.base ≡ true = inside r r.base (omega arith) (omega arith) in rw lies refl
+
+value_inside : {X : Type 0} (r : RunOf X) (rs : List (RunOf X)) (x : ℕ) → r.base ≤ x → x < run_end r → value_at (r ∷ rs) x ≡ Some r.value
+value_inside r rs x above below_end = rw (inside r x above below_end) refl
+
+value_behind : {X : Type 0} (r : RunOf X) (rs : List (RunOf X)) (x : ℕ) → run_end r ≤ x → value_at (r ∷ rs) x ≡ value_at rs x
+value_behind r rs x h = rw (behind r x h) refl
+
+-- two lists that agree everywhere don't begin one before the other
+no_earlier : {X : Type 0} (r s : RunOf X) (rs ss : List (RunOf X)) → AreRuns (r ∷ rs) → AreRuns (s ∷ ss)
+    → ((x : ℕ) → value_at (r ∷ rs) x ≡ value_at (s ∷ ss) x) → s.base ≤ r.base
+no_earlier r s rs ss rr ra same =
+    elim (cases_lt r.base s.base) as (λ _. s.base ≤ r.base) [
+      | inl lt ↦
+          let starts : StartFrom s.base (s ∷ ss) = omega arith in
+          let first : value_at (r ∷ rs) r.base ≡ Some r.value = value_first r rs rr.0 in
+          let none : value_at (s ∷ ss) r.base ≡ None = none_below s.base r.base (s ∷ ss) ra starts lt in
+          let both : value_at (r ∷ rs) r.base ≡ value_at (s ∷ ss) r.base = same r.base in
+          absurd (cc (sym first ∙ both ∙ none))
+      | inr ge ↦ ge
+    ]
+
+-- of two lists that agree everywhere the first run of neither ends before the other's
+no_shorter : {X : Type 0} (r s : RunOf X) (rs ss : List (RunOf X)) → AreRuns (r ∷ rs) → AreRuns (s ∷ ss)
+    → ((x : ℕ) → value_at (r ∷ rs) x ≡ value_at (s ∷ ss) x) → r.base ≡ s.base → r.value ≡ s.value → run_end s ≤ run_end r
+no_shorter r s rs ss rr ra same bases values =
+    elim (cases_lt (run_end r) (run_end s)) as (λ _. run_end s ≤ run_end r) [
+      | inl lt ↦
+          let last : value_at (r ∷ rs) (run_end r) ≡ value_at rs (run_end r) = value_behind r rs (run_end r) (omega arith) in
+          let still : value_at (s ∷ ss) (run_end r) ≡ Some s.value = value_inside s ss (run_end r) (omega arith) lt in
+          absurd (other_behind r rs rr (sym last ∙ same (run_end r) ∙ still ∙ ap (λ v. Some v) (sym values)))
+      | inr ge ↦ ge
+    ]
+
+same_run : {X : Type 0} (r s : RunOf X) → r.base ≡ s.base → r.size ≡ s.size → r.value ≡ s.value → r ≡ s
+same_run {X} r s bases sizes values =
+    let at : ℕ → RunOf X = λ b. record { base = b; size = r.size; value = r.value } in
+    let long : ℕ → RunOf X = λ n. record { base = s.base; size = n; value = r.value } in
+    let with_value : X → RunOf X = λ v. record { base = s.base; size = s.size; value = v } in
+    let a : at r.base ≡ at s.base = ap at bases in
+    let b : long r.size ≡ long s.size = ap long sizes in
+    let c : with_value r.value ≡ with_value s.value = ap with_value values in
+    a ∙ b ∙ c
+
+-- lists that agree everywhere still do behind their equal first runs
+same_rest : {X : Type 0} (r : RunOf X) (rs ss : List (RunOf X)) → AreRuns (r ∷ rs) → AreRuns (r ∷ ss)
+    → ((x : ℕ) → value_at (r ∷ rs) x ≡ value_at (r ∷ ss) x) → (x : ℕ) → value_at rs x ≡ value_at ss x
+same_rest r rs ss rr ra same x =
+    elim (cases_lt x (run_end r)) as (λ _. value_at rs x ≡ value_at ss x) [
+      | inl lt ↦ none_below (run_end r) x rs rr.2 (rest_from r rs rr) lt ∙ sym (none_below (run_end r) x ss ra.2 (rest_from r ss ra) lt)
+      | inr ge ↦ sym (value_behind r rs x ge) ∙ same x ∙ value_behind r ss x ge
+    ]
+
+same_lists : {X : Type 0} (rs ss : List (RunOf X)) → AreRuns rs → AreRuns ss → ((x : ℕ) → value_at rs x ≡ value_at ss x) → rs ≡ ss
+same_lists [] [] rr ra same = refl
+same_lists [] (s ∷ ss) rr ra same = absurd (cc (same s.base ∙ value_first s ss ra.0))
+same_lists (r ∷ rs) [] rr ra same = absurd (cc (sym (value_first r rs rr.0) ∙ same r.base))
+same_lists {X} (r ∷ rs) (s ∷ ss) rr ra same =
+    let back : (x : ℕ) → value_at (s ∷ ss) x ≡ value_at (r ∷ rs) x = λ x. sym (same x) in
+    let one : s.base ≤ r.base = no_earlier r s rs ss rr ra same in
+    let two : r.base ≤ s.base = no_earlier s r ss rs ra rr back in
+    let bases : r.base ≡ s.base = omega arith in
+    let first : value_at (r ∷ rs) r.base ≡ Some r.value = value_first r rs rr.0 in
+    let other : value_at (s ∷ ss) s.base ≡ Some s.value = value_first s ss ra.0 in
+    let values : r.value ≡ s.value = cc (first, other, same r.base, bases) in
+    let ends : run_end s ≤ run_end r = no_shorter r s rs ss rr ra same bases values in
+    let ends_too : run_end r ≤ run_end s = no_shorter s r ss rs ra rr back (sym bases) (sym values) in
+    let sizes : r.size ≡ s.size = omega arith in
+    let heads : s ≡ r = sym (same_run r s bases sizes values) in
+    let Tail : RunOf X → Type 0 = λ t. AreRuns (t ∷ ss) → ((x : ℕ) → value_at (r ∷ rs) x ≡ value_at (t ∷ ss) x) → (r ∷ rs) ≡ (t ∷ ss) in
+    let at_r : Tail r = λ runs equal. ap (λ ts. r ∷ ts) (same_lists rs ss rr.2 runs.2 (same_rest r rs ss rr runs equal)) in
+    subst Tail (sym heads) at_r ra same
+
+-- a function has one list of runs
+pub one_list : {X : Type 0} (f : ℕ → Option X) (rs ss : List (RunOf X)) → IsRunsOf f rs → IsRunsOf f ss → rs ≡ ss
+one_list f rs ss rr ra = same_lists rs ss rr.runs ra.runs (λ x. rr.each x ∙ sym (ra.each x))
+
+-- what the test of `led_by` tells
+touches : (same : Bool) (a b : ℕ) → ((a == b) && same) ≡ true → (a ≡ b) × (same ≡ true)
+touches same a b h = grind (arith, nat_tests)
+
+touches_not : (same : Bool) (a b : ℕ) → ((a == b) && same) ≡ false → a ≡ b → same ≡ false
+touches_not same a b h e = grind (arith, nat_tests)
+
+-- a lengthened first run still goes before what is behind it
+before_longer : {X : Type 0} (x n : ℕ) (v : X) (r : RunOf X) (rs : List (RunOf X)) → x + n ≡ run_end r → v ≡ r.value → IsBefore r rs
+    → IsBefore (record { base = x; size = n; value = v }) rs
+before_longer x n v r [] ends values before = tt
+before_longer x n v r (s ∷ ss) ends values before =
+    (omega arith, λ touch equal. let at : run_end r ≡ s.base = omega arith in before.1 at (cc (values, equal)))
+
+-- an address with a value in front of a list behind it: canonical again
+runs_led_some : {X : Type 0} (same : X → X → Bool) → Tells same → (x : ℕ) (v : X) (r : RunOf X) (rs : List (RunOf X))
+    → AreRuns (r ∷ rs) → x + 1 ≤ r.base → AreRuns (led_by same x (Some v) (r ∷ rs))
+runs_led_some {X} same tells x v r rs runs start =
+    let test : Bool = (r.base == x + 1) && same v r.value in
+    let longer : List (RunOf X) = record { base = x; size = r.size + 1; value = v } ∷ rs in
+    let another : List (RunOf X) = one_address x v ∷ (r ∷ rs) in
+    let Canonical : Bool → Type 0 = λ b. AreRuns (if b then longer else another) in
+    elim (cases_Bool test) as (λ _. Canonical test) [
+      | inl holds ↦
+          let both : (r.base ≡ x + 1) × (same v r.value ≡ true) = touches (same v r.value) r.base (x + 1) holds in
+          let ends : x + (r.size + 1) ≡ run_end r = omega arith in
+          let before : IsBefore (record { base = x; size = r.size + 1; value = v }) rs = before_longer x (r.size + 1) v r rs ends (tells.yes v r.value both.1) runs.1 in
+          let canonical : Canonical true = (omega arith, before, runs.2) in
+          subst Canonical (sym holds) canonical
+      | inr fails ↦
+          let other : x + 1 ≡ r.base → v ≢ r.value =
+          λ touch equal. true≢false (sym (tells.no v r.value equal) ∙ touches_not (same v r.value) r.base (x + 1) fails (sym touch)) in
+          let canonical : Canonical false = (omega arith, (start, other), runs) in
+          subst Canonical (sym fails) canonical
+    ]
+
+runs_led : {X : Type 0} (same : X → X → Bool) → Tells same → (x : ℕ) (v : Option X) (rs : List (RunOf X))
+    → AreRuns rs → StartFrom (x + 1) rs → AreRuns (led_by same x v rs)
+runs_led same tells x None rs runs start = runs
+runs_led same tells x (Some v) [] runs start = (omega arith, tt, tt)
+runs_led same tells x (Some v) (r ∷ rs) runs start = runs_led_some same tells x v r rs runs start
+
+start_led : {X : Type 0} (same : X → X → Bool) (x : ℕ) (v : Option X) (rs : List (RunOf X)) → StartFrom (x + 1) rs → StartFrom x (led_by same x v rs)
+start_led same x None [] start = tt
+start_led same x None (r ∷ rs) start = omega arith
+start_led same x (Some v) [] start = omega arith
+start_led {X} same x (Some v) (r ∷ rs) start =
+    let test : Bool = (r.base == x + 1) && same v r.value in
+    let longer : List (RunOf X) = record { base = x; size = r.size + 1; value = v } ∷ rs in
+    let another : List (RunOf X) = one_address x v ∷ (r ∷ rs) in
+    let Starts : Bool → Type 0 = λ b. StartFrom x (if b then longer else another) in
+    let first : Starts true = omega arith in
+    let second : Starts false = omega arith in
+    elim (cases_Bool test) as (λ _. Starts test) [ inl holds ↦ subst Starts (sym holds) first | inr fails ↦ subst Starts (sym fails) second ]
+
+-- at the address itself the value leads, elsewhere the list behind it gives what it gave
+value_led : {X : Type 0} (same : X → X → Bool) → Tells same → (x : ℕ) (v : Option X) (rs : List (RunOf X)) (y : ℕ)
+    → AreRuns rs → StartFrom (x + 1) rs → value_at (led_by same x v rs) y ≡ (if y == x then v else value_at rs y)
+value_led same tells x None rs y runs start =
+    elim (cases_lt x y) as (λ _. value_at rs y ≡ (if y == x then None else value_at rs y)) [
+      | inl lt ↦ let not_here : (y == x) ≡ false = grind (arith, nat_tests) in rw not_here refl
+      | inr ge ↦ let lt : y < x + 1 = omega arith in rw (none_below (x + 1) y rs runs start lt) (grind (arith, nat_tests))
+    ]
+value_led same tells x (Some v) [] y runs start = grind (arith, nat_tests)
+value_led {X} same tells x (Some v) (r ∷ rs) y runs start =
+    let test : Bool = (r.base == x + 1) && same v r.value in
+    let longer : List (RunOf X) = record { base = x; size = r.size + 1; value = v } ∷ rs in
+    let another : List (RunOf X) = one_address x v ∷ (r ∷ rs) in
+    let Gives : Bool → Type 0 = λ b. value_at (if b then longer else another) y ≡ (if y == x then Some v else value_at (r ∷ rs) y) in
+    elim (cases_Bool test) as (λ _. Gives test) [
+      | inl holds ↦
+          let both : (r.base ≡ x + 1) × (same v r.value ≡ true) = touches (same v r.value) r.base (x + 1) holds in
+          let equal : v ≡ r.value = tells.yes v r.value both.1 in
+          let at_base : r.base ≡ x + 1 = both.0 in
+          let gives : Gives true = grind (arith, nat_tests, equal, at_base) in
+          subst Gives (sym holds) gives
+      | inr fails ↦ let gives : Gives false = grind (arith, nat_tests) in subst Gives (sym fails) gives
+    ]
+
+-- the n addresses from x on, as `runs_from` lists them
+pub record IsRunsBetween {X : Type 0} (f : ℕ → Option X) (x n : ℕ) (rs : List (RunOf X)) : Type 0 where
+  pub runs : AreRuns rs
+  pub start : StartFrom x rs
+  pub within : (y : ℕ) → x ≤ y → y < x + n → value_at rs y ≡ f y
+  pub past : (y : ℕ) → x + n ≤ y → value_at rs y ≡ None
+
+between_led : {X : Type 0} (same : X → X → Bool) → Tells same → (f : ℕ → Option X) (x n : ℕ) (rs : List (RunOf X))
+    → IsRunsBetween f (x + 1) n rs → IsRunsBetween f x (suc n) (led_by same x (f x) rs)
+between_led {X} same tells f x n rs known = record {
+  runs = runs_led same tells x (f x) rs known.runs known.start;
+  start = start_led same x (f x) rs known.start;
+  within = λ y above below_end.
+      value_led same tells x (f x) rs y known.runs known.start ∙ (
+      elim (cases_lt x y) as (λ _. (if y == x then f x else value_at rs y) ≡ f y) [
+        | inl lt ↦ let not_here : (y == x) ≡ false = grind (arith, nat_tests) in rw not_here (known.within y (omega arith) (omega arith))
+        | inr ge ↦ let here : y ≡ x = omega arith in let is : (y == x) ≡ true = grind (arith, nat_tests) in rw is (ap f (sym here))
+      ]);
+  past = λ y behind_end.
+      let not_here : (y == x) ≡ false = grind (arith, nat_tests) in
+      value_led same tells x (f x) rs y known.runs known.start ∙ rw not_here (known.past y (omega arith));
+}
+
+-- the runs from 0 up to an address from which on there are none are all of them
+all_runs : {X : Type 0} (f : ℕ → Option X) (rs : List (RunOf X)) → IsRunsBetween f 0 (2 ^ 64) rs → ((x : ℕ) → 2 ^ 64 ≤ x → f x ≡ None) → IsRunsOf f rs
+all_runs f rs known none = record {
+  runs = known.runs;
+  each = λ x. elim (cases_lt x (2 ^ 64)) as (λ _. value_at rs x ≡ f x) [
+    | inl lt ↦ known.within x (omega arith) (omega arith)
+    | inr ge ↦ known.past x (omega arith) ∙ sym (none x ge)
+  ];
+}
+
+-- `runs_from` lists the runs of its addresses
+pub from_runs : {X : Type 0} (same : X → X → Bool) → Tells same → (f : ℕ → Option X) (n x : ℕ) → IsRunsBetween f x n (runs_from same f x n)
+unfolding runs_from
+from_runs same tells f zero x = record { runs = tt; start = tt; within = λ y above below_end. absurd (omega arith); past = λ y h. refl }
+from_runs same tells f (suc n) x = between_led same tells f x n (runs_from same f (x + 1) n) (from_runs same tells f n (x + 1))
+
+-- `runs_of` is the list of runs of a function without a value from 2^64 on
+pub by_address : {X : Type 0} (same : X → X → Bool) → Tells same → (f : ℕ → Option X) → ((x : ℕ) → 2 ^ 64 ≤ x → f x ≡ None)
+    → IsRunsOf f (runs_of same f)
+unfolding runs_of
+by_address same tells f none = all_runs f (runs_from same f 0 (2 ^ 64)) (from_runs same tells f (2 ^ 64) 0) none
+
+-- so each list of its runs is this one
+pub the_list : {X : Type 0} (same : X → X → Bool) → Tells same → (f : ℕ → Option X) (rs : List (RunOf X))
+    → ((x : ℕ) → 2 ^ 64 ≤ x → f x ≡ None) → IsRunsOf f rs → rs ≡ runs_of same f
+the_list same tells f rs none known = one_list f rs (runs_of same f) known (by_address same tells f none)

@@ -1,0 +1,25 @@
+ghost use Rattle.std.specs.Prelude.{◌≡◌, ℕ, ◌^◌, ◌≤◌, Bool, Option, None, List};
+ghost use Rattle.address_runs.specs.Runs.{RunOf, IsRunsOf, Tells, runs_of};
+
+/// A law: a function has one list of runs, so what a caller reads of one list holds of each.
+pub fn one_list_of_runs<T>()
+    ensures { (f : ℕ → Option T) (rs ss : List (RunOf T)) → IsRunsOf f rs → IsRunsOf f ss → rs ≡ ss }
+{}
+
+/// A law: `runs_of` is the list of runs of a function that has no value from 2^64 on, for each
+/// test that tells equal values from others.
+pub fn runs_by_address<T>()
+    ensures { (same : T → T → Bool) (f : ℕ → Option T) → Tells same →
+        ((x : ℕ) → 2 ^ 64 ≤ x → f x ≡ None) → IsRunsOf f (runs_of same f) }
+{}
+
+#[cfg(test)]
+mod tests {
+    use super::{one_list_of_runs, runs_by_address};
+
+    #[test]
+    fn laws_are_called() {
+        one_list_of_runs::<u32>();
+        runs_by_address::<u32>();
+    }
+}
