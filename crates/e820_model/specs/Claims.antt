@@ -1,5 +1,5 @@
 -- What the firmware's entries, the extension and the options claim of one address: a set of types.
-use Rattle.std.specs.Prelude.{ℕ, zero, suc, ◌+◌, ◌^◌, ◌==◌, Bool, true, false, ◌&&◌, ◌||◌, ◌<◌, not, nat_le, nat_lt, if◌then◌else◌, List, [], ◌∷◌}
+use Rattle.std.specs.Prelude.{ℕ, zero, suc, ◌+◌, ◌^◌, ◌==◌, Bool, false, ◌&&◌, ◌||◌, ◌<◌, not, nat_le, nat_lt, if◌then◌else◌, List, [], ◌∷◌}
 use Rattle.bm_base.specs.Extent.{Extent, covers}
 use Rattle.e820_model.specs.declared.entry.Entry.{Entry}
 use Rattle.e820_model.specs.declared.edit.Edit.{Edit}

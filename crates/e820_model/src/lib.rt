@@ -12,8 +12,10 @@
 
 mod edit;
 mod entry;
+mod laws;
 mod run;
 
 pub use edit::Edit;
 pub use entry::Entry;
+pub use laws::{greatest_is_greatest, map_is_runs, one_claim, settled_type};
 pub use run::Run;

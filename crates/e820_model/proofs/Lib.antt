@@ -1,0 +1,2 @@
+mod ClaimExamples
+pub mod ClaimLaws

@@ -1,0 +1,42 @@
+ghost use Rattle.std.specs.Prelude.{◌≡◌, ℕ, ◌^◌, ◌<◌, ◌≤◌, true, Option, None, List};
+ghost use Rattle.address_runs.specs.Runs.{IsRunsOf};
+ghost use Rattle.e820_model.specs.Claims.{Types, Claims, greatest, type_of, settled, finished};
+ghost use Rattle.e820_model.specs.Map.{kinds, map_of};
+ghost use Rattle.e820_model.specs.declared.edit.Edit.{Edit as AnyEdit};
+ghost use Rattle.e820_model.specs.declared.entry.Entry.{Entry as AnyEntry};
+
+/// A law: the greatest type of a set is in it, unless it is 0, and no type of the set is above it.
+pub fn greatest_is_greatest()
+    ensures among { (s : Types) → 0 < greatest s → s (greatest s) ≡ true }
+    ensures above { (s : Types) (k : ℕ) → k < 2 ^ 32 → s k ≡ true → k ≤ greatest s }
+{}
+
+/// A law: settling changes no address's type (`e820__update_table` may run at any time).
+pub fn settled_type()
+    ensures { (c : Claims) (x : ℕ) → type_of (settled c) x ≡ type_of c x }
+{}
+
+/// A law: an address of the finished map has one claim at most, which is its type.
+pub fn one_claim()
+    ensures { (entries extension : List AnyEntry) (edits : List AnyEdit) (x j k : ℕ) →
+        finished entries extension edits x j ≡ true → finished entries extension edits x k ≡ true →
+        j ≡ k }
+{}
+
+/// A law: the map is the list of runs of the types, where no address from 2^64 on has one.
+pub fn map_is_runs()
+    ensures { (c : Claims) → ((x : ℕ) → 2 ^ 64 ≤ x → kinds c x ≡ None) → IsRunsOf (kinds c) (map_of c) }
+{}
+
+#[cfg(test)]
+mod tests {
+    use super::{greatest_is_greatest, map_is_runs, one_claim, settled_type};
+
+    #[test]
+    fn laws_are_called() {
+        greatest_is_greatest();
+        settled_type();
+        one_claim();
+        map_is_runs();
+    }
+}
