@@ -1,2 +1,4 @@
 mod ClaimExamples
 pub mod ClaimLaws
+mod UsableExamples
+pub mod UsableLaws

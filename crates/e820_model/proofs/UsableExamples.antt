@@ -1,0 +1,33 @@
+-- The definitions of usable memory, computed on small maps.
+use Rattle.std.proofs.Common.{◌≡◌, true, false, nat_lt, ◌==◌, refl, Some, None, [], ◌∷◌}
+use Rattle.address_runs.specs.Runs.{value_at}
+use Rattle.e820_model.specs.Map.{Kinds}
+use Rattle.e820_model.specs.Usable.{is_memory, all_below, count_below, is_usable}
+
+-- RAM and the kernel's memory count, reserved and unclaimed addresses don't
+memory_examples : (is_memory (Some 1) ≡ true) × (is_memory (Some 128) ≡ true) × (is_memory (Some 2) ≡ false) × (is_memory (Some 0xEFFFFFFF) ≡ false) × (is_memory None ≡ false)
+memory_examples = (refl, refl, refl, refl, refl)
+
+-- 0, 1 and 2 are the numbers below 5 that are below 3
+below_examples : (count_below (λ i. nat_lt i 3) 5 ≡ 3) × (all_below (λ i. nat_lt i 3) 3 ≡ true) × (all_below (λ i. nat_lt i 3) 4 ≡ false) × (count_below (λ i. i == 4) 4 ≡ 0)
+unfolding all_below count_below
+below_examples = (refl, refl, refl, refl)
+
+-- RAM from 0x800 up to 0x3800, but the kernel's from 0x1800 up to 0x2800: frames 1 and 2 are whole, 0 and 3 aren't
+kernel_inside : Kinds
+kernel_inside = value_at (record { base = 0x800; size = 0x1000; value = 1 } ∷ record { base = 0x1800; size = 0x1000; value = 128 } ∷ record { base = 0x2800; size = 0x1000; value = 1 } ∷ [])
+
+frame_examples : (is_usable kernel_inside 0 ≡ false) × (is_usable kernel_inside 1 ≡ true) × (is_usable kernel_inside 2 ≡ true) × (is_usable kernel_inside 3 ≡ false) × (count_below (is_usable kernel_inside) 5 ≡ 2)
+unfolding kernel_inside all_below count_below is_usable
+frame_examples = (refl, refl, refl, refl, refl)
+
+-- a byte of another type in the frame, or a byte that nothing claims, makes it unusable
+one_byte_reserved : Kinds
+one_byte_reserved = value_at (record { base = 0; size = 0x1234; value = 1 } ∷ record { base = 0x1234; size = 1; value = 2 } ∷ record { base = 0x1235; size = 0x1DCB; value = 1 } ∷ [])
+
+one_byte_missing : Kinds
+one_byte_missing = value_at (record { base = 0; size = 0x1FFF; value = 1 } ∷ record { base = 0x2000; size = 0x1000; value = 1 } ∷ [])
+
+byte_examples : (count_below (is_usable one_byte_reserved) 4 ≡ 2) × (is_usable one_byte_reserved 1 ≡ false) × (count_below (is_usable one_byte_missing) 4 ≡ 2) × (is_usable one_byte_missing 1 ≡ false)
+unfolding one_byte_reserved one_byte_missing all_below count_below is_usable
+byte_examples = (refl, refl, refl, refl)

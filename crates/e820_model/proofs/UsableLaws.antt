@@ -1,0 +1,260 @@
+-- Laws of tests over all numbers below a bound, of counts, and of whole frames.
+use Rattle.std.proofs.Common.{◌≡◌, ℕ, zero, suc, ◌+◌, ◌-◌, ◌*◌, ◌/◌, ◌^◌, ◌<◌, ◌≤◌, ◌∙◌, sym, ap, refl, Bool, true, false, ◌&&◌, ◌||◌, nat_le, nat_lt, min, arith, inl, inr}
+use Rattle.std.proofs.lemmas.Bool.{cases_lt, cases_Bool, cases_eq, both_ways}
+use Rattle.std.proofs.lemmas.Bool.Decides.{nat_tests}
+use Rattle.e820_model.specs.Usable.{is_memory, all_below, count_below, is_usable, usable_frames}
+use Rattle.e820_model.specs.Map.{Kinds}
+
+-- every number below n
+
+-- two tests that agree below n are one there
+pub all_same : (p q : ℕ → Bool) (n : ℕ) → ((i : ℕ) → i < n → p i ≡ q i) → all_below p n ≡ all_below q n
+unfolding all_below
+all_same p q zero same = refl
+all_same p q (suc n) same =
+    let here : p n ≡ q n = same n (omega arith) in
+    let rest : all_below p n ≡ all_below q n = all_same p q n (λ i lt. same i (omega arith)) in
+    rw (here, rest) refl
+
+-- it holds of all where it holds of each
+pub all_true : (p : ℕ → Bool) (n : ℕ) → ((i : ℕ) → i < n → p i ≡ true) → all_below p n ≡ true
+unfolding all_below
+all_true p zero each = refl
+all_true p (suc n) each =
+    let here : p n ≡ true = each n (omega arith) in
+    let rest : all_below p n ≡ true = all_true p n (λ i lt. each i (omega arith)) in
+    rw (here, rest) refl
+
+-- it doesn't hold of all where it fails somewhere
+pub all_but : (p : ℕ → Bool) (n i : ℕ) → i < n → p i ≡ false → all_below p n ≡ false
+unfolding all_below
+all_but p zero i lt fails = absurd (omega arith)
+all_but p (suc n) i lt fails = elim (cases_eq i n) as (λ _. all_below p (suc n) ≡ false) [
+  | inl here ↦ (let now : p n ≡ false = ap p (sym here) ∙ fails in rw now refl)
+  | inr other ↦ (let rest : all_below p n ≡ false = all_but p n i (omega arith) fails in grind (arith, rest))
+]
+
+-- it holds of each where it holds of all
+pub all_each : (p : ℕ → Bool) (n : ℕ) → all_below p n ≡ true → (i : ℕ) → i < n → p i ≡ true
+all_each p n all i lt = elim (cases_Bool (p i)) as (λ _. p i ≡ true) [
+  | inl here ↦ here
+  | inr fails ↦ absurd (both_ways (all_below p n) (all_but p n i lt fails) all)
+]
+
+-- how many numbers below n
+
+-- two tests that agree below n count the same there
+pub count_same : (p q : ℕ → Bool) (n : ℕ) → ((i : ℕ) → i < n → p i ≡ q i) → count_below p n ≡ count_below q n
+unfolding count_below
+count_same p q zero same = refl
+count_same p q (suc n) same =
+    let here : p n ≡ q n = same n (omega arith) in
+    let rest : count_below p n ≡ count_below q n = count_same p q n (λ i lt. same i (omega arith)) in
+    rw (here, rest) refl
+
+-- no number passes
+pub count_none : (p : ℕ → Bool) (n : ℕ) → ((i : ℕ) → i < n → p i ≡ false) → count_below p n ≡ 0
+unfolding count_below
+count_none p zero none = refl
+count_none p (suc n) none =
+    let here : p n ≡ false = none n (omega arith) in
+    let rest : count_below p n ≡ 0 = count_none p n (λ i lt. none i (omega arith)) in
+    rw (here, rest) refl
+
+-- each number passes
+pub count_all : (p : ℕ → Bool) (n : ℕ) → ((i : ℕ) → i < n → p i ≡ true) → count_below p n ≡ n
+unfolding count_below
+count_all p zero each = refl
+count_all p (suc n) each =
+    let here : p n ≡ true = each n (omega arith) in
+    let rest : count_below p n ≡ n = count_all p n (λ i lt. each i (omega arith)) in
+    rw (here, rest) (omega arith)
+
+-- at most n of them pass
+pub count_at_most : (p : ℕ → Bool) (n : ℕ) → count_below p n ≤ n
+unfolding count_below
+count_at_most p zero = omega arith
+count_at_most p (suc n) =
+    let rest : count_below p n ≤ n = count_at_most p n in
+    grind (arith, nat_tests, rest)
+
+-- a test that holds wherever another does counts at least as many
+pub count_weaker : (p q : ℕ → Bool) (n : ℕ) → ((i : ℕ) → i < n → p i ≡ true → q i ≡ true) → count_below p n ≤ count_below q n
+unfolding count_below
+count_weaker p q zero then = omega arith
+count_weaker p q (suc n) then =
+    let here : p n ≡ true → q n ≡ true = then n (omega arith) in
+    let rest : count_below p n ≤ count_below q n = count_weaker p q n (λ i lt. then i (omega arith)) in
+    elim (cases_Bool (p n)) as (λ _. count_below p (suc n) ≤ count_below q (suc n)) [
+      | inl passes ↦ (let also : q n ≡ true = here passes in rw (passes, also) (omega arith))
+      | inr fails ↦ (rw fails (grind (arith, nat_tests, rest)))
+    ]
+
+-- where one passes, the count isn't 0
+pub count_some : (p : ℕ → Bool) (n i : ℕ) → i < n → p i ≡ true → 0 < count_below p n
+unfolding count_below
+count_some p zero i lt passes = absurd (omega arith)
+count_some p (suc n) i lt passes = elim (cases_eq i n) as (λ _. 0 < count_below p (suc n)) [
+  | inl here ↦ (let now : p n ≡ true = ap p (sym here) ∙ passes in rw now (omega arith))
+  | inr other ↦ (let rest : 0 < count_below p n = count_some p n i (omega arith) passes in grind (arith, rest))
+]
+
+-- where the count is 0, none passes
+pub count_zero : (p : ℕ → Bool) (n : ℕ) → count_below p n ≡ 0 → (i : ℕ) → i < n → p i ≡ false
+count_zero p n none i lt = elim (cases_Bool (p i)) as (λ _. p i ≡ false) [
+  | inl passes ↦ (let some : 0 < count_below p n = count_some p n i lt passes in absurd (omega arith))
+  | inr here ↦ here
+]
+
+-- one test or another, never both
+pub count_either : (p q : ℕ → Bool) (n : ℕ) → ((i : ℕ) → i < n → p i ≡ true → q i ≡ false)
+    → count_below (λ i. p i || q i) n ≡ count_below p n + count_below q n
+unfolding count_below
+count_either p q zero apart = refl
+count_either p q (suc n) apart =
+    let here : p n ≡ true → q n ≡ false = apart n (omega arith) in
+    let rest : count_below (λ i. p i || q i) n ≡ count_below p n + count_below q n = count_either p q n (λ i lt. apart i (omega arith)) in
+    elim (cases_Bool (p n)) as (λ _. count_below (λ i. p i || q i) (suc n) ≡ count_below p (suc n) + count_below q (suc n)) [
+      | inl passes ↦ (let not_other : q n ≡ false = here passes in rw (passes, not_other) (omega arith))
+      | inr fails ↦ (rw fails (grind (arith, nat_tests, rest)))
+    ]
+
+-- those below m, and those from m on
+pub count_further : (p : ℕ → Bool) (m n : ℕ) → count_below p (m + n) ≡ count_below p m + count_below (λ i. p (m + i)) n
+unfolding count_below
+count_further p m zero = let no_more : m + zero ≡ m = omega arith in rw no_more (omega arith)
+count_further p m (suc n) =
+    let rest : count_below p (m + n) ≡ count_below p m + count_below (λ i. p (m + i)) n = count_further p m n in
+    let one_more : m + suc n ≡ suc (m + n) = omega arith in
+    rw one_more (grind (arith, nat_tests, rest))
+
+-- the numbers from a up to b
+pub count_interval : (a b n : ℕ) → count_below (λ i. nat_le a i && nat_lt i b) n ≡ min b n - a
+unfolding count_below
+count_interval a b zero = omega arith
+count_interval a b (suc n) =
+    let rest : count_below (λ i. nat_le a i && nat_lt i b) n ≡ min b n - a = count_interval a b n in
+    grind (arith, nat_tests, rest)
+
+-- whole frames
+
+-- whether every byte of the frame passes
+abbrev pub all_bytes : (ℕ → Bool) → ℕ → Bool
+all_bytes p frame = all_below (λ i. p (4096 * frame + i)) 4096
+
+-- a frame of which some byte fails
+pub frame_but : (p : ℕ → Bool) (frame x : ℕ) → 4096 * frame ≤ x → x < 4096 * frame + 4096 → p x ≡ false → all_bytes p frame ≡ false
+frame_but p frame x low high fails =
+    let place : 4096 * frame + (x - 4096 * frame) ≡ x = omega arith in
+    all_but (λ i. p (4096 * frame + i)) 4096 (x - 4096 * frame) (omega arith) (ap p place ∙ fails)
+
+-- each byte of a whole frame passes
+pub frame_each : (p : ℕ → Bool) (frame : ℕ) → all_bytes p frame ≡ true
+    → (x : ℕ) → 4096 * frame ≤ x → x < 4096 * frame + 4096 → p x ≡ true
+frame_each p frame all x low high = elim (cases_Bool (p x)) as (λ _. p x ≡ true) [
+  | inl here ↦ here
+  | inr fails ↦ absurd (both_ways (all_bytes p frame) (frame_but p frame x low high fails) all)
+]
+
+-- the frames between two addresses are those that begin at the first or behind it and end by the second
+pub interval_frame : (from until frame : ℕ)
+    → all_bytes (λ x. nat_le from x && nat_lt x until) frame ≡ (nat_le ((from + 4095) / 4096) frame && nat_lt frame (until / 4096))
+interval_frame from until frame =
+    let inside : ℕ → Bool = λ x. nat_le from x && nat_lt x until in
+    let goal : Type 0 = all_bytes inside frame ≡ (nat_le ((from + 4095) / 4096) frame && nat_lt frame (until / 4096)) in
+    elim (cases_lt (4096 * frame) from) as (λ _. goal) [
+      | inl early ↦
+          (let fails : inside (4096 * frame) ≡ false = grind (arith, nat_tests) in
+          let none : all_bytes inside frame ≡ false = frame_but inside frame (4096 * frame) (omega arith) (omega arith) fails in
+          none ∙ grind (arith, nat_tests))
+      | inr begun ↦ (elim (cases_lt until (4096 * frame + 4096)) as (λ _. goal) [
+        | inl late ↦
+            (let fails : inside (4096 * frame + 4095) ≡ false = grind (arith, nat_tests) in
+            let none : all_bytes inside frame ≡ false = frame_but inside frame (4096 * frame + 4095) (omega arith) (omega arith) fails in
+            none ∙ grind (arith, nat_tests))
+        | inr ends ↦
+            (let each : (i : ℕ) → i < 4096 → inside (4096 * frame + i) ≡ true = λ i lt. grind (arith, nat_tests) in
+            let whole : all_bytes inside frame ≡ true = all_true (λ i. inside (4096 * frame + i)) 4096 each in
+            whole ∙ grind (arith, nat_tests))
+      ])
+    ]
+
+-- how many of the frames below n lie between the two addresses
+pub count_frames_between : (from until n : ℕ)
+    → count_below (all_bytes (λ x. nat_le from x && nat_lt x until)) n ≡ min (until / 4096) n - (from + 4095) / 4096
+count_frames_between from until n =
+    count_same _ (λ frame. nat_le ((from + 4095) / 4096) frame && nat_lt frame (until / 4096)) n (λ frame lt. interval_frame from until frame)
+    ∙ count_interval ((from + 4095) / 4096) (until / 4096) n
+
+-- an address that lies between all of one test and all of another
+pub record IsGap (p q : ℕ → Bool) (gap : ℕ) : Type 0 where
+  pub below : (x : ℕ) → gap ≤ x → p x ≡ false
+  pub above : (x : ℕ) → x ≤ gap → q x ≡ false
+
+-- no frame lies across a gap
+pub split_frame : (p q : ℕ → Bool) (gap frame : ℕ) → IsGap p q gap
+    → all_bytes (λ x. p x || q x) frame ≡ (all_bytes p frame || all_bytes q frame)
+split_frame p q gap frame apart =
+    let either : ℕ → Bool = λ x. p x || q x in
+    let goal : Type 0 = all_bytes either frame ≡ (all_bytes p frame || all_bytes q frame) in
+    elim (cases_lt gap (4096 * frame)) as (λ _. goal) [
+      | inl behind ↦
+          (let each : (i : ℕ) → i < 4096 → either (4096 * frame + i) ≡ q (4096 * frame + i) =
+          λ i lt. (let none : p (4096 * frame + i) ≡ false = apart.below (4096 * frame + i) (omega arith) in rw none refl) in
+          let none : all_bytes p frame ≡ false = frame_but p frame (4096 * frame) (omega arith) (omega arith) (apart.below (4096 * frame) (omega arith)) in
+          rw none (all_same _ _ 4096 each))
+      | inr before ↦ (elim (cases_lt gap (4096 * frame + 4096)) as (λ _. goal) [
+        | inl inside ↦
+            (let no_first : p gap ≡ false = apart.below gap (omega arith) in
+            let no_second : q gap ≡ false = apart.above gap (omega arith) in
+            let no_either : either gap ≡ false = rw (no_first, no_second) refl in
+            let first : all_bytes p frame ≡ false = frame_but p frame gap before inside no_first in
+            let second : all_bytes q frame ≡ false = frame_but q frame gap before inside no_second in
+            let both : all_bytes either frame ≡ false = frame_but either frame gap before inside no_either in
+            rw (first, second) both)
+        | inr ahead ↦
+            (let each : (i : ℕ) → i < 4096 → either (4096 * frame + i) ≡ p (4096 * frame + i) =
+            λ i lt. (let none : q (4096 * frame + i) ≡ false = apart.above (4096 * frame + i) (omega arith) in grind (arith, none)) in
+            let none : all_bytes q frame ≡ false = frame_but q frame (4096 * frame) (omega arith) (omega arith) (apart.above (4096 * frame) (omega arith)) in
+            let same : all_bytes either frame ≡ all_bytes p frame = all_same _ _ 4096 each in
+            grind (arith, none, same))
+      ])
+    ]
+
+-- the frames of both sides of a gap are counted one by one
+pub count_split : (p q : ℕ → Bool) (gap n : ℕ) → IsGap p q gap
+    → count_below (all_bytes (λ x. p x || q x)) n ≡ count_below (all_bytes p) n + count_below (all_bytes q) n
+count_split p q gap n apart =
+    count_same _ (λ frame. all_bytes p frame || all_bytes q frame) n (λ frame lt. split_frame p q gap frame apart)
+    ∙ count_either (all_bytes p) (all_bytes q) n (λ frame lt whole.
+    let first : p (4096 * frame) ≡ true = frame_each p frame whole (4096 * frame) (omega arith) (omega arith) in
+    elim (cases_lt (4096 * frame) gap) as (λ _. all_bytes q frame ≡ false) [
+      | inl before ↦ frame_but q frame (4096 * frame) (omega arith) (omega arith) (apart.above (4096 * frame) (omega arith))
+      | inr behind ↦ absurd (both_ways (p (4096 * frame)) (apart.below (4096 * frame) behind) first)
+    ])
+
+-- usable frames
+
+-- two maps that agree have the same usable frames
+pub usable_same : (f g : Kinds) → ((x : ℕ) → f x ≡ g x) → usable_frames f ≡ usable_frames g
+usable_same f g same = ap usable_frames (λ i x. same x i)
+
+-- a frame is usable where it is whole in memory
+pub usable_whole : (f : Kinds) (frame : ℕ) → is_usable f frame ≡ all_bytes (λ x. is_memory (f x)) frame
+unfolding is_usable
+usable_whole f frame = refl
+
+-- the usable frames are the frames below 2^46 that are whole in memory
+pub usable_count : (f : Kinds) → usable_frames f ≡ count_below (all_bytes (λ x. is_memory (f x))) (2 ^ 34)
+unfolding usable_frames
+usable_count f = count_same (is_usable f) (all_bytes (λ x. is_memory (f x))) (2 ^ 34) (λ frame lt. usable_whole f frame)
+
+-- there are no more of them than frames below 2^46
+pub usable_at_most : (f : Kinds) → usable_frames f ≤ 2 ^ 34
+unfolding usable_frames
+usable_at_most f = count_at_most (is_usable f) (2 ^ 34)
+
+-- where no frame is usable, each frame has a byte that isn't memory, and the other way round
+pub usable_none : (f : Kinds) → usable_frames f ≡ 0 → (frame : ℕ) → frame < 2 ^ 34 → is_usable f frame ≡ false
+unfolding usable_frames
+usable_none f none frame lt = count_zero (is_usable f) (2 ^ 34) none frame lt
