@@ -1,0 +1,14 @@
+use Rattle.std.proofs.Common.{◌≡◌, ◌+◌, ◌*◌, ◌^◌, ◌<◌, ◌≤◌, drop}
+use Rattle.address_runs.specs.Runs.{AreRuns}
+use Rattle.e820_usable.proofs.FramesLaws.{frames_from, StartFrom}
+use Rattle.e820_usable.proofs.frames.usable_frames.Given as goal
+
+abbrev pub invariant-loop-run : goal.invariant-loop-run
+invariant-loop-run l = record {
+  rest : l.frames + frames_from l.from l.until (drop l.run-index l.runs) ≡ frames_from 0 0 l.runs;
+  few : 4096 * l.frames ≤ l.from;
+  fits : l.until < 2 ^ 64;
+  order : l.from ≤ l.until;
+  start : StartFrom l.until (drop l.run-index l.runs);
+  runs : AreRuns (drop l.run-index l.runs);
+}

@@ -1,0 +1,9 @@
+use Rattle.std.proofs.Common.{◌≡◌, ◌-◌, ◌/◌, ◌+◌, ◌^◌, ◌∙◌, min, sym, arith}
+use Rattle.std.proofs.lemmas.Grind.{common_steps}
+use Rattle.e820_usable.proofs.FramesLaws.{whole_by_division}
+use Rattle.e820_usable.proofs.frames.whole_frames.Goals as goal
+
+pub returns-clause-value : goal.returns-clause-value
+returns-clause-value c =
+    let divided : c.saturating_sub.result ≡ min c.args.until (2 ^ 46) / 4096 - (c.args.from + 4095) / 4096 = grind (arith, common_steps) in
+    divided ∙ sym (whole_by_division c.args.from c.args.until)

@@ -1,0 +1,57 @@
+ghost use Rattle.std.specs.Prelude.{◌≡◌, ℕ, ◌+◌, ◌-◌, ◌*◌, ◌^◌, ◌<◌, ◌≤◌};
+ghost use Rattle.address_runs.specs.Runs.{AreRuns, value_at};
+ghost use Rattle.e820_model.specs.Usable.{is_memory, usable_frames};
+ghost use Rattle.e820_usable.specs.Frames.{whole_frames};
+
+use e820_model::Run;
+
+/// RAM (`E820_TYPE_RAM`).
+const RAM: u32 = 1;
+
+/// Memory that is the kernel's own (`E820_TYPE_RESERVED_KERN`).
+const RESERVED_KERN: u32 = 128;
+
+/// The bytes of a frame (`PAGE_SIZE`).
+const FRAME_SIZE: u64 = 4096;
+
+/// The bits of an address of memory (`MAX_PHYSMEM_BITS`).
+const ADDRESS_BITS: u32 = 46;
+
+/// Whether addresses of this type (`enum e820_type`) are memory: RAM, or the kernel's own.
+pub fn is_memory(kind: u32) -> bool
+    ensures { result ≡ is_memory (Some kind) }
+{
+    kind == RAM || kind == RESERVED_KERN
+}
+
+// The number of frames below 2^46 that begin at `from` or behind it and end by `until`.
+fn whole_frames(from: u64, until: u64) -> u64
+    ensures value { result ≡ whole_frames from until }
+    ensures few { 4096 * result ≤ until - from }
+{
+    let first = from.div_ceil(FRAME_SIZE);
+    let behind = until.min(1 << ADDRESS_BITS) / FRAME_SIZE;
+    behind.saturating_sub(first)
+}
+
+/// The number of usable frames of the map that these runs are: frames of 4,096 bytes below 2^46 of which
+/// each byte is memory (`e820__memblock_setup`, `memblock_trim_memory`). At most 2^34.
+pub fn usable_frames(runs: &[Run]) -> u64
+    requires { AreRuns runs.now }
+    ensures { result ≡ usable_frames (value_at runs.now) }
+{
+    let mut frames = 0;
+    // the stretch of memory that goes on: from its first address up to the one behind its last
+    let mut from = 0;
+    let mut until = 0;
+    for run in runs {
+        if is_memory(run.kind) {
+            if run.range.base != until {
+                frames += whole_frames(from, until);
+                from = run.range.base;
+            }
+            until = run.range.end();
+        }
+    }
+    frames + whole_frames(from, until)
+}
