@@ -19,6 +19,8 @@
 
 mod frames;
 mod stop;
+#[cfg(test)]
+mod tests;
 
 pub use frames::{is_memory, usable_frames};
 pub use stop::{MapStop, judge};
