@@ -1,5 +1,5 @@
 -- Laws of tests over all numbers below a bound, of counts, and of whole frames.
-use Rattle.std.proofs.Common.{◌≡◌, ℕ, zero, suc, ◌+◌, ◌-◌, ◌*◌, ◌/◌, ◌^◌, ◌<◌, ◌≤◌, ◌∙◌, sym, ap, refl, Bool, true, false, ◌&&◌, ◌||◌, nat_le, nat_lt, min, arith, inl, inr}
+use Rattle.std.proofs.Common.{◌≡◌, ℕ, zero, suc, ◌+◌, ◌-◌, ◌*◌, ◌/◌, ◌^◌, ◌<◌, ◌≤◌, ◌∙◌, sym, ap, refl, Bool, true, false, ◌&&◌, ◌||◌, not, nat_le, nat_lt, min, arith, inl, inr}
 use Rattle.std.proofs.lemmas.Bool.{cases_lt, cases_Bool, cases_eq, both_ways}
 use Rattle.std.proofs.lemmas.Bool.Decides.{nat_tests}
 use Rattle.e820_model.specs.Usable.{is_memory, all_below, count_below, is_usable, usable_frames}
@@ -117,6 +117,21 @@ count_either p q (suc n) apart =
     elim (cases_Bool (p n)) as (λ _. count_below (λ i. p i || q i) (suc n) ≡ count_below p (suc n) + count_below q (suc n)) [
       | inl passes ↦ (let not_other : q n ≡ false = here passes in rw (passes, not_other) (omega arith))
       | inr fails ↦ (rw fails (grind (arith, nat_tests, rest)))
+    ]
+
+-- the numbers that pass, by whether they pass another test too
+pub count_parts : (p q : ℕ → Bool) (n : ℕ)
+    → count_below p n ≡ count_below (λ i. p i && q i) n + count_below (λ i. p i && not (q i)) n
+unfolding count_below
+count_parts p q zero = refl
+count_parts p q (suc n) =
+    let rest : count_below p n ≡ count_below (λ i. p i && q i) n + count_below (λ i. p i && not (q i)) n = count_parts p q n in
+    elim (cases_Bool (p n)) as (λ _. count_below p (suc n) ≡ count_below (λ i. p i && q i) (suc n) + count_below (λ i. p i && not (q i)) (suc n)) [
+      | inl passes ↦ (elim (cases_Bool (q n)) as (λ _. count_below p (suc n) ≡ count_below (λ i. p i && q i) (suc n) + count_below (λ i. p i && not (q i)) (suc n)) [
+        | inl too ↦ (rw (passes, too) (omega arith))
+        | inr alone ↦ (rw (passes, alone) (omega arith))
+      ])
+      | inr fails ↦ (rw fails rest)
     ]
 
 -- those below m, and those from m on
@@ -243,6 +258,15 @@ usable_same f g same = ap usable_frames (λ i x. same x i)
 pub usable_whole : (f : Kinds) (frame : ℕ) → is_usable f frame ≡ all_bytes (λ x. is_memory (f x)) frame
 unfolding is_usable
 usable_whole f frame = refl
+
+-- each byte of a usable frame is memory
+pub usable_each : (f : Kinds) (frame : ℕ) → is_usable f frame ≡ true
+    → (x : ℕ) → 4096 * frame ≤ x → x < 4096 * frame + 4096 → is_memory (f x) ≡ true
+usable_each f frame usable = frame_each (λ x. is_memory (f x)) frame (sym (usable_whole f frame) ∙ usable)
+
+-- a frame with a byte that isn't memory isn't usable
+pub usable_but : (f : Kinds) (frame x : ℕ) → 4096 * frame ≤ x → x < 4096 * frame + 4096 → is_memory (f x) ≡ false → is_usable f frame ≡ false
+usable_but f frame x low high fails = usable_whole f frame ∙ frame_but (λ x. is_memory (f x)) frame x low high fails
 
 -- the usable frames are the frames below 2^46 that are whole in memory
 pub usable_count : (f : Kinds) → usable_frames f ≡ count_below (all_bytes (λ x. is_memory (f x))) (2 ^ 34)
