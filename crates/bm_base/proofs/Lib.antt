@@ -1,1 +1,2 @@
+pub mod SizeLaws
 pub mod TextLaws

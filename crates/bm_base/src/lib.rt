@@ -14,10 +14,12 @@
 
 mod memory;
 mod range;
+mod size;
 #[cfg(test)]
 mod tests;
 mod text;
 
 pub use memory::Memory;
 pub use range::Range;
+pub use size::{NumFault, read_number, read_size};
 pub use text::{put_dec, put_hex, put_text};

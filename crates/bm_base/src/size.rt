@@ -1,0 +1,174 @@
+ghost use Rattle.std.specs.Prelude.{◌≡◌, ℕ, ◌+◌, ◌*◌, ◌^◌, ◌<◌, ◌≤◌, length, drop, IfSome, IfNone, IfOk, IsTrue, SomeIff};
+ghost use Rattle.bm_base.specs.Size.{front_digits, value_of, is_hexadecimal, begins_with_digit, radix_of, suffix_of, number_of, size_of};
+
+/// Why a text doesn't begin with a number.
+#[derive(Clone, Copy, Debug, PartialEq, Eq)]
+pub enum NumFault {
+    /// There is no first byte, or it isn't a decimal digit.
+    NoDigits,
+    /// The value, with its suffix, exceeds 2^64 - 1.
+    TooLarge,
+}
+
+/// The size at the front of `text`, and the number of bytes that it took (`memparse`).
+///
+/// A number is hexadecimal behind `0x` or `0X` where a hexadecimal digit follows, octal behind
+/// another first `0`, else decimal; it takes as many digits as there are. One suffix may follow in
+/// either case: K, M, G, T, P or E, for 2^10, 2^20 and so on to 2^60.
+pub fn read_size(text: &[u8]) -> Result<(u64, usize), NumFault>
+    ensures value { result ≡ size_of text.now }
+    ensures bound { IfOk result (λ found. found.1 ≤ length text.now) }
+{
+    let (number, end) = read_number(text)?;
+    let (factor, taken) = suffix_behind(text, end);
+    let Some(value) = number.checked_mul(factor) else {
+        return Err(NumFault::TooLarge);
+    };
+    Ok((value, end + taken))
+}
+
+/// The number at the front of `text`, and the number of bytes that it took: as [`read_size`], but a
+/// suffix isn't looked at (`simple_strtoull`).
+pub fn read_number(text: &[u8]) -> Result<(u64, usize), NumFault>
+    ensures value { result ≡ number_of text.now }
+    ensures bound { IfOk result (λ found. found.1 ≤ length text.now) }
+{
+    if !begins_with_a_digit(text) {
+        return Err(NumFault::NoDigits);
+    }
+    let prefix = if is_hex(text) { 2 } else { 0 };
+    let radix = radix_at(text);
+    let Some((value, count)) = read_digits(text.split_at(prefix).1, radix) else {
+        return Err(NumFault::TooLarge);
+    };
+    Ok((value, prefix + count))
+}
+
+/// Whether the text begins with a decimal digit.
+fn begins_with_a_digit(text: &[u8]) -> bool
+    ensures { result ≡ begins_with_digit text.now }
+{
+    match text {
+        [first, ..] => char::from(*first).is_digit(10),
+        [] => false,
+    }
+}
+
+/// Whether the text begins with `0x` or `0X` and a hexadecimal digit.
+fn is_hex(text: &[u8]) -> bool
+    ensures value { result ≡ is_hexadecimal text.now }
+    ensures long { IsTrue result → 2 ≤ length text.now }
+{
+    match text {
+        [b'0', b'x' | b'X', digit, ..] => char::from(*digit).is_digit(16),
+        _ => false,
+    }
+}
+
+/// The base of the number at the front: 16, 8 or 10.
+fn radix_at(text: &[u8]) -> u32
+    ensures value { result ≡ radix_of text.now }
+    ensures lower_bound { 2 ≤ result }
+    ensures upper_bound { result ≤ 36 }
+{
+    if is_hex(text) {
+        return 16;
+    }
+    match text {
+        [b'0', ..] => 8,
+        _ => 10,
+    }
+}
+
+/// The value of the digits at the front, and how many there are; `None` where it is no `u64`.
+fn read_digits(text: &[u8], radix: u32) -> Option<(u64, usize)>
+    requires lower_bound { 2 ≤ radix }
+    requires upper_bound { radix ≤ 36 }
+    ensures found { IfSome result (λ found.
+        (found.0 ≡ value_of radix text.now) × (found.1 ≡ length (front_digits radix text.now))) }
+    ensures bound { IfSome result (λ found. found.1 ≤ length text.now) }
+    ensures none { IfNone result (2 ^ 64 ≤ value_of radix text.now) }
+{
+    let mut value: u64 = 0;
+    for (count, byte) in text.iter().enumerate() {
+        let Some(digit) = char::from(*byte).to_digit(radix) else {
+            return Some((value, count));
+        };
+        let Some(more) = with_digit(value, u64::from(radix), u64::from(digit)) else {
+            return None;
+        };
+        value = more;
+    }
+    Some((value, text.len()))
+}
+
+/// The number that one more digit makes of `value`; `None` exactly where it exceeds 2^64 - 1.
+fn with_digit(value: u64, radix: u64, digit: u64) -> Option<u64>
+    ensures { SomeIff result (value * radix + digit < 2 ^ 64) (value * radix + digit) }
+{
+    value.checked_mul(radix)?.checked_add(digit)
+}
+
+/// The factor of the suffix that stands at `end`, and the bytes that it takes.
+fn suffix_behind(text: &[u8], end: usize) -> (u64, usize)
+    requires { end ≤ length text.now }
+    ensures value { result ≡ suffix_of (drop end text.now) }
+    ensures bound { end + result.1 ≤ length text.now }
+{
+    match text.get(end) {
+        Some(b'K' | b'k') => (1 << 10, 1),
+        Some(b'M' | b'm') => (1 << 20, 1),
+        Some(b'G' | b'g') => (1 << 30, 1),
+        Some(b'T' | b't') => (1 << 40, 1),
+        Some(b'P' | b'p') => (1 << 50, 1),
+        Some(b'E' | b'e') => (1 << 60, 1),
+        _ => (1, 0),
+    }
+}
+
+#[cfg(test)]
+mod tests {
+    use super::*;
+
+    #[test]
+    fn sizes_and_their_bytes(rt: HostRuntime) {
+        let cases = [
+            ("640K", Ok((655360, 4))),
+            ("0x1E", Ok((30, 4))),
+            ("1E", Ok((1 << 60, 2))),
+            ("010", Ok((8, 3))),
+            ("08", Ok((0, 1))),
+            ("0xg", Ok((0, 1))),
+            ("16E", Err(NumFault::TooLarge)),
+            ("K", Err(NumFault::NoDigits)),
+            ("", Err(NumFault::NoDigits)),
+            ("-1", Err(NumFault::NoDigits)),
+            ("0", Ok((0, 1))),
+            ("0K", Ok((0, 2))),
+            ("0x", Ok((0, 1))),
+            ("0XaBk@", Ok((0xab << 10, 5))),
+            ("1kK", Ok((1024, 2))),
+            ("2m", Ok((2 << 20, 2))),
+            ("3g,", Ok((3 << 30, 2))),
+            ("4T", Ok((4 << 40, 2))),
+            ("5p", Ok((5 << 50, 2))),
+            ("15e", Ok((15 << 60, 3))),
+            ("010M@1", Ok((8 << 20, 4))),
+            ("7B", Ok((7, 1))),
+            ("0xFFFFFFFFFFFFFFFF", Ok((u64::MAX, 18))),
+            ("0x10000000000000000", Err(NumFault::TooLarge)),
+            ("18446744073709551615", Ok((u64::MAX, 20))),
+            ("18446744073709551616", Err(NumFault::TooLarge)),
+            (
+                "99999999999999999999999999999999999999999",
+                Err(NumFault::TooLarge),
+            ),
+            ("01777777777777777777777", Ok((u64::MAX, 23))),
+        ];
+        for (text, want) in cases {
+            assert_eq!(rt; read_size(text.as_bytes()), want, "at {text}");
+        }
+        assert_eq!(rt; read_number(b"1K".as_slice()), Ok((1, 1)));
+        assert_eq!(rt; read_number(b"0x10+2".as_slice()), Ok((16, 4)));
+    }
+}
