@@ -1,0 +1,82 @@
+-- Laws of the parts of a text: one byte more, and what is spelled as parts.
+use Rattle.std.proofs.Common.{◌≡◌, ℕ, Bool, true, false, ◌&&◌, not, List, [], ◌∷◌, ◌++◌, refl, ap, sym, append_assoc, ◌+◌, ◌<◌, length, take, drop, get_or, Some, add-one, drop-cons, eq-eqb, suc}
+use Rattle.std.specs.Option.{option_map}
+use Rattle.std.proofs.lemmas.List.{append-nil}
+use Rattle.text_words.specs.declared.separators.Separators.{Separators}
+use Rattle.text_words.specs.Parts.{separates, quoted_behind, with_front, parts_from, parts_in, onto, cut}
+use Rattle.text_words.specs.Words.{IsClosed}
+
+-- the text before the first part, which becomes longer by it
+abbrev pub glued : List ℕ → List (List ℕ) → List (List ℕ)
+glued [] [] = []
+glued (b ∷ bs) [] = (b ∷ bs) ∷ []
+glued front (p ∷ ps) = (front ++ p) ∷ ps
+
+-- nothing before the first part
+pub glued-nil : (ps : List (List ℕ)) → glued [] ps ≡ ps
+glued-nil [] = refl
+glued-nil (p ∷ ps) = refl
+
+-- one byte before the first part, and then a text
+pub glued-with_front : (front : List ℕ) (b : ℕ) (ps : List (List ℕ)) → glued front (with_front b ps) ≡ glued (front ++ (b ∷ [])) ps
+glued-with_front [] b [] = refl
+glued-with_front (a ∷ front) b [] = refl
+glued-with_front [] b (p ∷ ps) = refl
+glued-with_front (a ∷ front) b (p ∷ ps) = ap (λ (part : List ℕ). (a ∷ part) ∷ ps) (sym (append_assoc front (b ∷ []) p))
+
+-- a separator ends the part before it
+pub parts-end : (s : Separators) (quoted : Bool) (front : List ℕ) (b : ℕ) (rest : List ℕ)
+    → separates s b ≡ true → quoted ≡ false → glued front (parts_from s quoted (b ∷ rest)) ≡ front ∷ parts_in s rest
+parts-end s true front b rest is closed = cc
+parts-end s false [] b rest is closed = rw is refl
+parts-end s false (a ∷ front) b rest is closed = rw is (ap (λ (part : List ℕ). (a ∷ part) ∷ parts_in s rest) (append-nil front))
+
+-- any other byte lengthens it
+pub parts-more : (s : Separators) (quoted : Bool) (front : List ℕ) (b : ℕ) (rest : List ℕ)
+    → separates s b && not quoted ≡ false
+    → glued front (parts_from s quoted (b ∷ rest)) ≡ glued (front ++ (b ∷ [])) (parts_from s (quoted_behind s quoted b) rest)
+parts-more s quoted front b rest stays = rw stays (glued-with_front front b (parts_from s (quoted_behind s quoted b) rest))
+
+-- the text ends the last part
+pub parts-last : (s : Separators) (quoted : Bool) (front : List ℕ) → glued front (parts_from s quoted []) ≡ front ∷ []
+parts-last s quoted [] = refl
+parts-last s quoted (a ∷ front) = ap (λ (part : List ℕ). (a ∷ part) ∷ []) (append-nil front)
+
+-- a part whose quotations close goes as far as the separator behind it
+pub parts-spelled : (s : Separators) (quoted : Bool) (part : List ℕ) (b : ℕ) (rest : List ℕ)
+    → IsClosed s quoted part → separates s b ≡ true → parts_from s quoted (part ++ (b ∷ rest)) ≡ part ∷ parts_in s rest
+parts-spelled s true [] b rest closed is = cc
+parts-spelled s false [] b rest closed is = rw is refl
+parts-spelled s true (a ∷ part) b rest closed is =
+    rw (and_false (separates s a)) (ap (with_front a) (parts-spelled s (quoted_behind s true a) part b rest closed is))
+  where
+    and_false : (t : Bool) → t && false ≡ false
+    and_false true = refl
+    and_false false = refl
+parts-spelled s false (a ∷ part) b rest closed is =
+    rw (closed.0) (ap (with_front a) (parts-spelled s (quoted_behind s false a) part b rest closed.1 is))
+
+-- a text whose quotations close, with no separator outside them, is one part
+pub parts-one : (s : Separators) (quoted : Bool) (part : List ℕ) → IsClosed s quoted part → parts_from s quoted part ≡ part ∷ []
+parts-one s quoted [] closed = refl
+parts-one s true (a ∷ part) closed =
+    rw (and_false (separates s a)) (ap (with_front a) (parts-one s (quoted_behind s true a) part closed))
+  where
+    and_false : (t : Bool) → t && false ≡ false
+    and_false true = refl
+    and_false false = refl
+parts-one s false (a ∷ part) closed =
+    rw (closed.0) (ap (with_front a) (parts-one s (quoted_behind s false a) part closed.1))
+
+-- the first byte that is the mark cuts the text there
+pub cut-found : (mark : ℕ) (text : List ℕ) (i : ℕ) → i < length text → get_or text i 0 ≡ mark
+    → option_map (onto (take i text)) (cut mark (drop i text)) ≡ Some (take i text, drop (i + 1) text)
+cut-found mark text i inside is =
+    rw (add-one, drop-cons text i 0, eq-eqb (get_or text i 0) mark is) (rw append-nil refl)
+
+-- a separator outside quotations ends the first part
+pub part-found : (s : Separators) (quoted : Bool) (text : List ℕ) (i : ℕ) → i < length text
+    → separates s (get_or text i 0) ≡ true → quoted ≡ false
+    → glued (take i text) (parts_from s quoted (drop i text)) ≡ take i text ∷ parts_in s (drop (i + 1) text)
+part-found s quoted text i inside is closed =
+    rw (add-one, drop-cons text i 0) (parts-end s quoted (take i text) (get_or text i 0) (drop (suc i) text) is closed)

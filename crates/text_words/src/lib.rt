@@ -1,0 +1,23 @@
+//! How texts fall into words, lines and pieces, without a copy of them.
+//!
+//! The command line of the kernel, the lines of a script and lists with commas are all split in one
+//! way: at each separating byte that stands in no quotation. [`Separators`] says which bytes
+//! separate and whether `"` protects from them; [`next_part`] gives the part in front and the rest,
+//! [`next_word`] the first part that isn't empty (`next_arg` of lib/cmdline.c for the command line).
+//! Both return slices of the text, so a caller goes once over it from the front.
+//!
+//! [`cut`] and [`before`] look for the first of one byte, as the `=` of an option or the zero byte
+//! at the end of a line; [`unquoted`] takes the quotation marks from around a word or a value.
+//!
+//! The definitions are functions on lists of bytes (`specs/Parts.antt`, `specs/Words.antt`). Beside
+//! them stands the grammar as laws: what is spelled as words with separators between them is read
+//! as those words ([`words_of_spelling`], [`parts_of_spelling`]).
+#![tactic(auto)]
+
+mod parts;
+mod separators;
+mod words;
+
+pub use parts::{before, cut, next_part, parts_of_spelling};
+pub use separators::Separators;
+pub use words::{next_word, unquoted, words_of_spelling};

@@ -1,0 +1,111 @@
+ghost use Rattle.std.specs.Prelude.{◌≡◌, ℕ, ◌<◌, ◌≤◌, true, List, [], ◌∷◌, ◌++◌, length, IfSome, IfNone};
+ghost use Rattle.text_words.specs.declared.separators.Separators.{Separators as SomeSeparators};
+ghost use Rattle.text_words.specs.Parts.{separates};
+ghost use Rattle.text_words.specs.Words.{words_in, unquoted as text_unquoted, IsWord, without_last};
+
+use crate::{Separators, next_part};
+
+/// The first word of the text, and what stands behind it; `None` where there is no word.
+pub fn next_word(text: &[u8], separators: Separators) -> Option<(&[u8], &[u8])>
+    ensures some { IfSome result (λ found. words_in separators text.now ≡ found.0.now ∷ words_in separators found.1.now) }
+    ensures none { IfNone result (words_in separators text.now ≡ []) }
+    ensures shorter { IfSome result (λ found. length found.1.now < length text.now) }
+    ensures within { IfSome result (λ found. length found.0.now ≤ length text.now) }
+{
+    let mut rest = Some(text);
+    while let Some(text) = rest {
+        let (part, behind) = next_part(text, separators);
+        if !part.is_empty() {
+            return Some((part, behind.unwrap_or(&[])));
+        }
+        rest = behind;
+    }
+    None
+}
+
+/// The text without the `"` that it begins with, and then without the `"` at its end; a text that
+/// doesn't begin with one stays as it is.
+pub fn unquoted(text: &[u8]) -> &[u8]
+    ensures { result.now ≡ text_unquoted text.now }
+{
+    match text.split_first() {
+        Some((b'"', inner)) => without_last_quote(inner),
+        _ => text,
+    }
+}
+
+fn without_last_quote(text: &[u8]) -> &[u8]
+    ensures { result.now ≡ without_last 34 text.now }
+{
+    match text.split_last() {
+        Some((last, front)) if *last == b'"' => front,
+        _ => text,
+    }
+}
+
+/// What is spelled as words with separators between them is read as those words: a separator in
+/// front is passed over, and a word goes as far as the next separator outside quotations.
+pub fn words_of_spelling()
+    ensures gap { (s : SomeSeparators) (b : ℕ) (rest : List ℕ)
+        → separates s b ≡ true → words_in s (b ∷ rest) ≡ words_in s rest }
+    ensures word { (s : SomeSeparators) (word : List ℕ) (b : ℕ) (rest : List ℕ)
+        → IsWord s word → separates s b ≡ true → words_in s (word ++ (b ∷ rest)) ≡ word ∷ words_in s rest }
+    ensures last { (s : SomeSeparators) (word : List ℕ) → IsWord s word → words_in s word ≡ word ∷ [] }
+{}
+
+#[cfg(test)]
+mod tests {
+    use super::*;
+    use crate::{before, cut, next_part};
+
+    #[test]
+    fn words_and_pieces(rt: HostRuntime) {
+        let mut line = b"\n a\t\"b  c\" d=\"e f\"g\"\" h\xA0i\x0B\x0C\rj ".as_slice();
+        let words = [
+            b"a".as_slice(),
+            b"\"b  c\"".as_slice(),
+            b"d=\"e f\"g\"\"".as_slice(),
+            b"h\xA0i".as_slice(),
+            b"j".as_slice(),
+        ];
+        for want in words {
+            let (word, rest) = next_word(line, Separators::CommandLine).expect(&rt, "a word");
+            assert_eq!(rt; word, want);
+            line = rest;
+        }
+        assert!(rt; next_word(line, Separators::CommandLine).is_none());
+
+        let (word, rest) = next_word(b"\t\"x y\r\x0Bz".as_slice(), Separators::Script).expect(
+            &rt, "a word",
+        );
+        assert_eq!(rt; word, b"\"x".as_slice());
+        let (word, _) = next_word(rest, Separators::Script).expect(&rt, "a word");
+        assert_eq!(rt; word, b"y".as_slice());
+
+        let (piece, rest) = next_part(b"1,\"2,".as_slice(), Separators::Byte(b','));
+        assert_eq!(rt; piece, b"1".as_slice());
+        let (piece, rest) = next_part(rest.expect(&rt, "a rest"), Separators::Byte(b','));
+        assert_eq!(rt; piece, b"\"2".as_slice());
+        let (piece, rest) = next_part(rest.expect(&rt, "a rest"), Separators::Byte(b','));
+        assert!(rt; piece.is_empty() && rest.is_none());
+
+        let (name, value) = cut(b"mem=1=2".as_slice(), b'=').expect(&rt, "a value");
+        assert_eq!(rt; name, b"mem".as_slice());
+        assert_eq!(rt; value, b"1=2".as_slice());
+        assert!(rt; cut(b"mem".as_slice(), b'=').is_none());
+        assert_eq!(rt; before(b"a\0b\0".as_slice(), 0), b"a".as_slice());
+
+        for (text, want) in [
+            ("", ""),
+            ("a", "a"),
+            ("a\"", "a\""),
+            ("\"", ""),
+            ("\"\"", ""),
+            ("\"a", "a"),
+            ("\"a\"", "a"),
+            ("\"\"a\"\"", "\"a\""),
+        ] {
+            assert_eq!(rt; unquoted(text.as_bytes()), want.as_bytes(), "at {text}");
+        }
+    }
+}
