@@ -1,0 +1,70 @@
+-- The tests of sameness tell.
+use Rattle.std.proofs.Common.{◌≡◌, ℕ, ◌==◌, true, ◌&&◌, if◌then◌else◌, Option, Some, None, refl, sym, ◌∙◌, ap, arith}
+use Rattle.std.proofs.lemmas.Bool.Decides.{nat_tests}
+use Rattle.address_runs.specs.Runs.{Tells}
+use Rattle.memblock_model.specs.declared.which.Which.TheVariants as which
+use Rattle.memblock_model.specs.declared.owner.Owner.{Owner}
+use Rattle.memblock_model.specs.declared.owner.Owner.TheVariants as owner
+use Rattle.memblock_model.specs.Same.{same_node, variant_of, number_of, same_owner}
+
+same_number : (m n : ℕ) → (m == n) ≡ true → m ≡ n
+same_number m n h = grind (arith, nat_tests)
+
+number_same : (m n : ℕ) → m ≡ n → (m == n) ≡ true
+number_same m n h = grind (arith, nat_tests)
+
+node_yes : (a b : Option ℕ) → same_node a b ≡ true → a ≡ b
+node_yes None None h = refl
+node_yes None (Some n) h = cc
+node_yes (Some m) None h = cc
+node_yes (Some m) (Some n) h = ap (λ k. Some k) (same_number m n h)
+
+pub node_self : (a : Option ℕ) → same_node a a ≡ true
+node_self None = refl
+node_self (Some n) = number_same n n refl
+
+pub node_tells : Tells same_node
+node_tells = record { yes = node_yes; no = λ a b e. ap (λ (o : Option ℕ). same_node a o) (sym e) ∙ node_self a }
+
+-- the owner of the variant that carries the number
+numbered : ℕ → ℕ → Owner
+numbered v n =
+    if v == 0 then owner.Kernel else (if v == 1 then owner.Low64K else (if v == 2 then owner.Initrd else (if v == 3 then owner.Low1M
+    else (if v == 4 then owner.Soft else (if v == 5 then owner.Table (if n == 0 then which.Memory else which.Reserved)
+    else (if v == 6 then owner.NodeData n else (if v == 7 then owner.Crash else (if v == 8 then owner.CrashLow else (if v == 9 then owner.Roots
+    else (if v == 10 then owner.Root n else (if v == 11 then owner.Usage n else (if v == 12 then owner.Map n else owner.Script n))))))))))))
+
+numbered_again : (o : Owner) → numbered (variant_of o) (number_of o) ≡ o
+unfolding numbered
+numbered_again owner.Kernel = refl
+numbered_again owner.Low64K = refl
+numbered_again owner.Initrd = refl
+numbered_again owner.Low1M = refl
+numbered_again owner.Soft = refl
+numbered_again (owner.Table which.Memory) = refl
+numbered_again (owner.Table which.Reserved) = refl
+numbered_again (owner.NodeData n) = refl
+numbered_again owner.Crash = refl
+numbered_again owner.CrashLow = refl
+numbered_again owner.Roots = refl
+numbered_again (owner.Root n) = refl
+numbered_again (owner.Usage n) = refl
+numbered_again (owner.Map n) = refl
+numbered_again (owner.Script n) = refl
+
+both_numbers : (m n v w : ℕ) → ((m == n) && (v == w)) ≡ true → (m ≡ n) × (v ≡ w)
+both_numbers m n v w h = grind (arith, nat_tests)
+
+numbers_both : (m n v w : ℕ) → m ≡ n → v ≡ w → ((m == n) && (v == w)) ≡ true
+numbers_both m n v w e f = grind (arith, nat_tests)
+
+owner_yes : (a b : Owner) → same_owner a b ≡ true → a ≡ b
+owner_yes a b h =
+    let both = both_numbers (variant_of a) (variant_of b) (number_of a) (number_of b) h in
+    sym (numbered_again a) ∙ ap (λ (v : ℕ). numbered v (number_of a)) both.0 ∙ ap (λ (n : ℕ). numbered (variant_of b) n) both.1 ∙ numbered_again b
+
+pub owner_self : (a : Owner) → same_owner a a ≡ true
+owner_self a = numbers_both (variant_of a) (variant_of a) (number_of a) (number_of a) refl refl
+
+pub owner_tells : Tells same_owner
+owner_tells = record { yes = owner_yes; no = λ a b e. ap (λ (o : Owner). same_owner a o) (sym e) ∙ owner_self a }

@@ -1,0 +1,97 @@
+-- The greatest number that passes a test, and the search by it.
+use Rattle.std.proofs.Common.{◌≡◌, ℕ, zero, suc, ◌^◌, ◌<◌, ◌≤◌, Bool, true, false, Some, None, refl, sym, ◌∙◌, ap, subst, inl, inr, arith}
+use Rattle.std.proofs.lemmas.Bool.{cases_Bool, cases_lt, true≢false}
+use Rattle.memblock_model.specs.declared.query.Query.{Query}
+use Rattle.memblock_model.specs.Items.{Nodes}
+use Rattle.memblock_model.specs.Search.{last_below, fits_in, best_in}
+
+-- the number passes, and none of the greater ones below n does
+pub record IsLastBelow (p : ℕ → Bool) (n a : ℕ) : Type 0 where
+  pub below : a < n
+  pub passes : p a ≡ true
+  pub last : (b : ℕ) → b < n → p b ≡ true → b ≤ a
+
+-- a number that passes, as the last one or as one before it
+last_here : (p : ℕ → Bool) (n : ℕ) → p n ≡ true → IsLastBelow p (suc n) n
+last_here p n passes = record { below = omega arith; passes = passes; last = λ b lt h. omega arith }
+
+last_more : (p : ℕ → Bool) (n a : ℕ) → p n ≡ false → IsLastBelow p n a → IsLastBelow p (suc n) a
+last_more p n a fails known = record {
+  below = let lt = known.below in omega arith;
+  passes = known.passes;
+  last = λ b lt h. elim (cases_lt b n) as (λ _. b ≤ a) [
+    | inl before ↦ known.last b before h
+    | inr ge ↦ let here : b ≡ n = omega arith in absurd (true≢false (sym (subst (λ (k : ℕ). p k ≡ true) here h) ∙ fails))
+  ];
+}
+
+some_same : (m a : ℕ) → Some m ≡ Some a → m ≡ a
+some_same m a h = cc
+
+-- the answer is the last one
+pub last_below-is : (p : ℕ → Bool) (n a : ℕ) → last_below p n ≡ Some a → IsLastBelow p n a
+unfolding last_below
+last_below-is p zero a h = cc
+last_below-is p (suc n) a h =
+    elim (cases_Bool (p n)) as (λ _. IsLastBelow p (suc n) a) [
+      | inl passes ↦ let here : n ≡ a = some_same n a (rw passes at h) in subst (λ (k : ℕ). IsLastBelow p (suc n) k) here (last_here p n passes)
+      | inr fails ↦ last_more p n a fails (last_below-is p n a (rw fails at h))
+    ]
+
+-- with no answer none passes
+pub last_below-none : (p : ℕ → Bool) (n : ℕ) → last_below p n ≡ None → (b : ℕ) → b < n → p b ≡ false
+unfolding last_below
+last_below-none p zero h b lt = absurd (omega arith)
+last_below-none p (suc n) h b lt =
+    elim (cases_Bool (p n)) as (λ _. p b ≡ false) [
+      | inl passes ↦ let clash : Some n ≡ None = rw passes at h in cc
+      | inr fails ↦ elim (cases_lt b n) as (λ _. p b ≡ false) [
+        | inl before ↦ last_below-none p n (rw fails at h) b before
+        | inr ge ↦ let here : n ≡ b = omega arith in subst (λ (k : ℕ). p k ≡ false) here fails
+      ]
+    ]
+
+-- the last one is the answer
+pub last_below-last : (p : ℕ → Bool) (n a : ℕ) → IsLastBelow p n a → last_below p n ≡ Some a
+unfolding last_below
+last_below-last p zero a known = absurd (let lt = known.below in omega arith)
+last_below-last p (suc n) a known =
+    elim (cases_Bool (p n)) as (λ _. last_below p (suc n) ≡ Some a) [
+      | inl passes ↦
+          let lt : a < suc n = known.below in
+          let most : n ≤ a = known.last n (omega arith) passes in
+          let here : n ≡ a = omega arith in
+          rw passes (ap (λ (k : ℕ). Some k) here)
+      | inr fails ↦
+          let lt : a < suc n = known.below in
+          let other : a ≡ n → p a ≡ false = λ e. subst (λ (k : ℕ). p k ≡ false) (sym e) fails in
+          let before : a < n = elim (cases_lt a n) as (λ _. a < n) [
+            | inl before ↦ before
+            | inr ge ↦ absurd (true≢false (sym known.passes ∙ other (omega arith)))
+          ] in
+          rw fails (last_below-last p n a (record { below = before; passes = known.passes; last = λ b less h. known.last b (omega arith) h }))
+    ]
+
+-- where none passes there is no answer
+pub last_below-fails : (p : ℕ → Bool) (n : ℕ) → ((b : ℕ) → b < n → p b ≡ false) → last_below p n ≡ None
+unfolding last_below
+last_below-fails p zero none = refl
+last_below-fails p (suc n) none = let here : p n ≡ false = none n (omega arith) in rw here (last_below-fails p n (λ b lt. none b (omega arith)))
+
+-- the best place
+pub best_in-is : (memory reserved : Nodes) (q : Query) (a : ℕ) → best_in memory reserved q ≡ Some a → IsLastBelow (fits_in memory reserved q) (2 ^ 64) a
+unfolding best_in
+best_in-is memory reserved q a h = last_below-is (fits_in memory reserved q) (2 ^ 64) a h
+
+pub best_in-none : (memory reserved : Nodes) (q : Query) → best_in memory reserved q ≡ None → (b : ℕ) → b < 2 ^ 64 → fits_in memory reserved q b ≡ false
+unfolding best_in
+best_in-none memory reserved q h b lt = last_below-none (fits_in memory reserved q) (2 ^ 64) h b lt
+
+-- and to prove that an address is it, or that there is none
+pub best_in-last : (memory reserved : Nodes) (q : Query) (a : ℕ) → IsLastBelow (fits_in memory reserved q) (2 ^ 64) a → best_in memory reserved q ≡ Some a
+unfolding best_in
+best_in-last memory reserved q a known = last_below-last (fits_in memory reserved q) (2 ^ 64) a known
+
+pub best_in-fails : (memory reserved : Nodes) (q : Query) → ((b : ℕ) → b < 2 ^ 64 → fits_in memory reserved q b ≡ false) → best_in memory reserved q ≡ None
+unfolding best_in
+best_in-fails memory reserved q none = last_below-fails (fits_in memory reserved q) (2 ^ 64) none

@@ -1,0 +1,5 @@
+pub mod Labels
+pub mod Same
+pub mod Items
+pub mod Tables
+pub mod Search

@@ -1,0 +1,58 @@
+-- Tests of whether two tables, two nodes, two owners are the same.
+use Rattle.std.specs.Prelude.{ℕ, ◌==◌, Bool, true, false, ◌&&◌, Option, Some, None}
+use Rattle.memblock_model.specs.declared.which.Which.{Which}
+use Rattle.memblock_model.specs.declared.which.Which.TheVariants as which
+use Rattle.memblock_model.specs.declared.owner.Owner.{Owner}
+use Rattle.memblock_model.specs.declared.owner.Owner.TheVariants as owner
+
+abbrev pub same_which : Which → Which → Bool
+same_which which.Memory which.Memory = true
+same_which which.Memory which.Reserved = false
+same_which which.Reserved which.Memory = false
+same_which which.Reserved which.Reserved = true
+
+-- both have no node, or the same
+abbrev pub same_node : Option ℕ → Option ℕ → Bool
+same_node None None = true
+same_node None (Some n) = false
+same_node (Some m) None = false
+same_node (Some m) (Some n) = m == n
+
+-- the place of the owner's variant in the list of them
+abbrev pub variant_of : Owner → ℕ
+variant_of owner.Kernel = 0
+variant_of owner.Low64K = 1
+variant_of owner.Initrd = 2
+variant_of owner.Low1M = 3
+variant_of owner.Soft = 4
+variant_of (owner.Table w) = 5
+variant_of (owner.NodeData n) = 6
+variant_of owner.Crash = 7
+variant_of owner.CrashLow = 8
+variant_of owner.Roots = 9
+variant_of (owner.Root n) = 10
+variant_of (owner.Usage n) = 11
+variant_of (owner.Map n) = 12
+variant_of (owner.Script n) = 13
+
+-- the number that the owner carries: of the node, the root, the section or the ID; 0 or 1 for the tables; else 0
+abbrev pub number_of : Owner → ℕ
+number_of owner.Kernel = 0
+number_of owner.Low64K = 0
+number_of owner.Initrd = 0
+number_of owner.Low1M = 0
+number_of owner.Soft = 0
+number_of (owner.Table which.Memory) = 0
+number_of (owner.Table which.Reserved) = 1
+number_of (owner.NodeData n) = n
+number_of owner.Crash = 0
+number_of owner.CrashLow = 0
+number_of owner.Roots = 0
+number_of (owner.Root n) = n
+number_of (owner.Usage n) = n
+number_of (owner.Map n) = n
+number_of (owner.Script n) = n
+
+-- the variants and their numbers are the same
+abbrev pub same_owner : Owner → Owner → Bool
+same_owner a b = (variant_of a == variant_of b) && (number_of a == number_of b)

@@ -1,0 +1,21 @@
+use crate::{Owner, Which};
+use bm_base::Range;
+
+/// Something that happened to memory. No item's range is empty.
+#[derive(Clone, Copy, Debug, PartialEq, Eq)]
+pub enum Item {
+    /// The bytes of the range become memory without a node (`memblock_add`).
+    Mem { range: Range },
+    /// Every run of memory is cut inwards to whole frames (`memblock_trim_memory`).
+    Trim,
+    /// The memory bytes of the range get the node (`memblock_set_node`).
+    Node { range: Range, node: u32 },
+    /// The bytes of the range get the owner (`memblock_reserve`).
+    Claim { range: Range, owner: Owner },
+    /// The bytes of the range get no owner (`memblock_phys_free`).
+    Free { range: Range },
+    /// No search passes the address any more (`memblock_set_current_limit`).
+    Limit { at: u64 },
+    /// The table has a new place and the room of so many records (`memblock_double_array`).
+    Grown { which: Which, place: u64, room: u64 },
+}

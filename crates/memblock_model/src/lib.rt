@@ -1,0 +1,33 @@
+//! The words in which memblock is spoken of: what happens to memory, and what then holds of a byte.
+//!
+//! From the finished map to the hand-over to the buddy allocator the kernel keeps memory in two
+//! tables, `memblock.memory` and `memblock.reserved`. Here what happens to memory is a list of
+//! [`Item`]s, oldest first, and everything else is asked of that list: who owns a byte and which
+//! node it has (`specs/Items.antt`), what the two tables hold, how much room they have and where
+//! they lie (`specs/Tables.antt`), and which addresses a search may answer (`specs/Search.antt`).
+//! What an item does to the bytes of a range has a word of its own (`specs/Labels.antt`), which the
+//! edits of the tables cite as well.
+//!
+//! [`Item`], [`Owner`], [`Tag`], [`Which`], [`OwnerRun`] and [`Query`] are plain data. They stand
+//! here, below the crates that keep and answer them, because the definitions speak of them.
+//!
+//! The functions are laws over the definitions: they do nothing, and their contracts are proved.
+#![tactic(auto)]
+
+mod item;
+mod laws;
+mod owner;
+mod query;
+mod run;
+mod tag;
+mod which;
+
+pub use item::Item;
+pub use laws::{
+    best_is_greatest, item_at_the_end, tables_go_by_themselves, tests_tell, trimmed_frame_is_whole,
+};
+pub use owner::Owner;
+pub use query::Query;
+pub use run::OwnerRun;
+pub use tag::Tag;
+pub use which::Which;

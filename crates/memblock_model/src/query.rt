@@ -1,0 +1,14 @@
+/// What a search looks for (`memblock_find_in_range_node`). Addresses and sizes are in bytes.
+#[derive(Clone, Copy, Debug, PartialEq, Eq)]
+pub struct Query {
+    /// The place begins here or above.
+    pub lo: u64,
+    /// The place ends here or below.
+    pub hi: u64,
+    /// Its number of bytes.
+    pub size: u64,
+    /// Its address is a multiple of this.
+    pub align: u64,
+    /// The node that has it, or any.
+    pub node: Option<u32>,
+}

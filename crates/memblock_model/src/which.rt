@@ -1,0 +1,8 @@
+/// One of memblock's two tables.
+#[derive(Clone, Copy, Debug, PartialEq, Eq)]
+pub enum Which {
+    /// The memory that there is (`memblock.memory`).
+    Memory,
+    /// The memory that someone has (`memblock.reserved`).
+    Reserved,
+}
