@@ -2,7 +2,9 @@
 use Rattle.std.proofs.Common.{◌≡◌, ℕ, ◌+◌, ◌-◌, ◌*◌, ◌/◌, ◌^◌, ◌<◌, ◌≤◌, ◌∙◌, sym, ap, refl, Bool, true, false, ◌&&◌, ◌||◌, ◌==◌, nat_le, nat_lt, min, if◌then◌else◌, arith, inl, inr, Some, None, List, [], ◌∷◌}
 use Rattle.std.proofs.lemmas.Bool.{cases_Bool, cases_eq}
 use Rattle.std.proofs.lemmas.Bool.Decides.{nat_tests}
-use Rattle.address_runs.specs.Runs.{RunOf, run_end, lies_in, value_at, IsBefore, AreRuns}
+use Rattle.address_runs.specs.Runs.{RunOf, run_end, lies_in, value_at, AreRuns}
+use Rattle.address_runs.specs.Sweep.{StartFrom}
+use Rattle.address_runs.proofs.RunsLaws.{none_below, rest_from}
 use Rattle.e820_model.specs.Usable.{is_memory, count_below, usable_frames}
 use Rattle.e820_model.proofs.UsableLaws.{all_bytes, count_same, count_interval, count_frames_between, IsGap, count_split, usable_count}
 use Rattle.e820_usable.specs.Frames.{whole_frames}
@@ -28,21 +30,11 @@ frames_from from until (r ∷ rs) =
     then (if r.base == until then frames_from from (run_end r) rs else whole_frames from until + frames_from r.base (run_end r) rs)
     else frames_from from until rs
 
--- the runs begin at the address or behind it
-abbrev pub StartFrom : ℕ → List (RunOf ℕ) → Type 0
-StartFrom x [] = Unit {0}
-StartFrom x (r ∷ rs) = x ≤ r.base
-
 -- memory of the stretch, and of the runs
 abbrev pub memory_after : ℕ → ℕ → List (RunOf ℕ) → ℕ → Bool
 memory_after from until rs x = (nat_le from x && nat_lt x until) || is_memory (value_at rs x)
 
--- the runs behind a run begin at its end or behind it
-pub start_behind : (r : RunOf ℕ) (rs : List (RunOf ℕ)) → IsBefore r rs → StartFrom (run_end r) rs
-start_behind r [] before = tt
-start_behind r (s ∷ ss) before = before.0
-
--- and so at each address before it
+-- runs that begin at an address or behind it begin at each earlier one or behind it
 pub start_earlier : (x y : ℕ) (rs : List (RunOf ℕ)) → x ≤ y → StartFrom y rs → StartFrom x rs
 start_earlier x y [] le start = tt
 start_earlier x y (r ∷ rs) le start = omega arith
@@ -51,13 +43,6 @@ start_earlier x y (r ∷ rs) le start = omega arith
 pub start_first : (rs : List (RunOf ℕ)) → StartFrom 0 rs
 start_first [] = tt
 start_first (r ∷ rs) = omega arith
-
--- no run has an address before the first
-pub none_before : (e : ℕ) (rs : List (RunOf ℕ)) → StartFrom e rs → AreRuns rs → (x : ℕ) → x < e → value_at rs x ≡ None
-none_before e [] start runs x lt = refl
-none_before e (r ∷ rs) start runs x lt =
-    let rest : value_at rs x ≡ None = none_before (run_end r) rs (start_behind r rs runs.1) runs.2 x (omega arith) in
-    grind (arith, nat_tests, rest)
 
 -- a run that touches the stretch lengthens it
 pub memory_touching : (from until : ℕ) (r : RunOf ℕ) (rs : List (RunOf ℕ)) → from ≤ until → AreRuns (r ∷ rs)
@@ -70,7 +55,7 @@ pub memory_other : (from until : ℕ) (r : RunOf ℕ) (rs : List (RunOf ℕ)) �
     → is_memory (Some r.value) ≡ false
     → (x : ℕ) → memory_after from until (r ∷ rs) x ≡ memory_after from until rs x
 memory_other from until r rs runs other x =
-    let none : x < run_end r → value_at rs x ≡ None = λ lt. none_before (run_end r) rs (start_behind r rs runs.1) runs.2 x lt in
+    let none : x < run_end r → value_at rs x ≡ None = λ lt. none_below (run_end r) x rs runs.2 (rest_from r rs runs) lt in
     elim (cases_Bool (lies_in r x)) as (λ _. memory_after from until (r ∷ rs) x ≡ memory_after from until rs x) [
       | inl inside ↦
           (let low : x < run_end r = grind (arith, nat_tests) in
@@ -95,7 +80,7 @@ pub stretch_gap : (from until : ℕ) (r : RunOf ℕ) (rs : List (RunOf ℕ)) →
 stretch_gap from until r rs runs behind = record {
   below = λ x high. grind (arith, nat_tests);
   above = λ x low.
-      let nothing : value_at rs x ≡ None = none_before (run_end r) rs (start_behind r rs runs.1) runs.2 x (omega arith) in
+      let nothing : value_at rs x ≡ None = none_below (run_end r) x rs runs.2 (rest_from r rs runs) (omega arith) in
       grind (arith, nat_tests, nothing);
 }
 
@@ -122,7 +107,7 @@ frames_counted [] from until order start runs =
     whole_bytes from until ∙ frames_same (λ x. nat_le from x && nat_lt x until) (memory_after from until []) (memory_last from until)
 frames_counted (r ∷ rs) from until order start runs =
     let goal : Type 0 = frames_from from until (r ∷ rs) ≡ frames_of (memory_after from until (r ∷ rs)) in
-    let behind : StartFrom (run_end r) rs = start_behind r rs runs.1 in
+    let behind : StartFrom (run_end r) rs = rest_from r rs runs in
     elim (cases_Bool (is_memory (Some r.value))) as (λ _. goal) [
       | inr other ↦
           (let rest : frames_from from until rs ≡ frames_of (memory_after from until rs) =

@@ -1,6 +1,7 @@
 use Rattle.std.proofs.Common.{◌≡◌, ◌+◌, ◌*◌, ◌^◌, ◌<◌, ◌≤◌, drop}
 use Rattle.address_runs.specs.Runs.{AreRuns}
-use Rattle.e820_usable.proofs.FramesLaws.{frames_from, StartFrom}
+use Rattle.address_runs.specs.Sweep.{StartFrom}
+use Rattle.e820_usable.proofs.FramesLaws.{frames_from}
 use Rattle.e820_usable.proofs.frames.usable_frames.Given as goal
 
 abbrev pub invariant-loop-run : goal.invariant-loop-run
