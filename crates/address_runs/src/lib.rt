@@ -7,11 +7,21 @@
 //! a relation (`IsRunsOf`) and once as a function by addresses (`runs_of`), and `specs/Sweep.antt`
 //! has the words for a list that is built from the lowest address on.
 //!
-//! [`one_list_of_runs`] and [`runs_by_address`] are the laws that tie both: a function has exactly
-//! one list of runs, and `runs_of` is it. The layers above may rest on them, and on the lemmas of
-//! `proofs/RunsLaws.antt` and `proofs/SweepLaws.antt`, from which their bodies are proved.
+//! A record of a range and a value (a [`Stretch`]) is kept in lists; [`Builder`] makes the list of
+//! runs of a function that is told from the lowest address on, and [`overlay_two`] lays two lists of
+//! runs over one another in one pass.
+//!
+//! [`one_list_of_runs`] and [`runs_by_address`] are the laws that tie relation and function: a
+//! function has exactly one list of runs, and `runs_of` is it. The layers above may rest on them,
+//! and on the lemmas of `proofs/RunsLaws.antt` and `proofs/SweepLaws.antt`.
 #![tactic(auto)]
 
+mod builder;
 mod laws;
+mod layers;
+mod stretch;
 
+pub use builder::{Builder, advance, begin, finish};
 pub use laws::{one_list_of_runs, runs_by_address};
+pub use layers::overlay_two;
+pub use stretch::{Overlay, Stretch};

@@ -1,0 +1,41 @@
+ghost use Rattle.std.specs.Prelude.{◌≡◌, ◌↔◌, Option, None, IsTrue};
+ghost use Rattle.address_runs.specs.Runs.{RunOf};
+
+use bm_base::Range;
+
+/// A record of a range of addresses and a value that is told of each of them.
+pub trait Stretch: Copy {
+    /// What is told of the addresses.
+    type Value: Copy;
+
+    ghost run: { Self → RunOf Self.Value };
+
+    /// The stretch of the range with the value.
+    fn of(range: Range, value: Self::Value) -> Self
+        ensures { run result ≡ record { base = range.base; size = range.size; value = value } };
+
+    /// Its addresses.
+    fn range(&self) -> Range
+        ensures base { result.base ≡ (run self.now).base }
+        ensures size { result.size ≡ (run self.now).size };
+
+    /// What is told of them.
+    fn value(&self) -> Self::Value
+        ensures { result ≡ (run self.now).value };
+
+    /// Whether two values are the same.
+    fn is_same(first: Self::Value, second: Self::Value) -> bool
+        ensures { IsTrue result ↔ (first ≡ second) };
+}
+
+/// A stretch whose values can be laid over one another.
+pub trait Overlay: Stretch {
+    ghost joined: { Option Self.Value → Option Self.Value → Option Self.Value };
+
+    /// What holds where the one list says `first` and the other `second`; nothing where neither
+    /// says anything.
+    fn join(first: Option<Self::Value>, second: Option<Self::Value>) -> Option<Self::Value>
+        ensures { result ≡ joined first second };
+
+    ghost nothing: { joined None None ≡ None };
+}
