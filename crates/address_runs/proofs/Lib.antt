@@ -1,3 +1,4 @@
 mod ExampleLaws
+pub mod OverlayLaws
 pub mod RunsLaws
 pub mod SweepLaws

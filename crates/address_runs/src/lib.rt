@@ -23,5 +23,5 @@ mod stretch;
 
 pub use builder::{Builder, advance, begin, finish};
 pub use laws::{one_list_of_runs, runs_by_address};
-pub use layers::overlay_two;
+pub use layers::{overlay_all, overlay_two};
 pub use stretch::{Overlay, Stretch};

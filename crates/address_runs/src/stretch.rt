@@ -32,10 +32,14 @@ pub trait Stretch: Copy {
 pub trait Overlay: Stretch {
     ghost joined: { Option Self.Value → Option Self.Value → Option Self.Value };
 
-    /// What holds where the one list says `first` and the other `second`; nothing where neither
-    /// says anything.
+    /// What holds where the one says `first` and the other `second`: what the one says alone where
+    /// the other says nothing. Of several, how they are grouped doesn't matter.
     fn join(first: Option<Self::Value>, second: Option<Self::Value>) -> Option<Self::Value>
         ensures { result ≡ joined first second };
 
-    ghost nothing: { joined None None ≡ None };
+    ghost before_none: { (v : Option Self.Value) → joined None v ≡ v };
+
+    ghost behind_none: { (v : Option Self.Value) → joined v None ≡ v };
+
+    ghost grouped: { (u v w : Option Self.Value) → joined (joined u v) w ≡ joined u (joined v w) };
 }
