@@ -1,0 +1,38 @@
+-- Counts that were counted up rose, by the number that was counted.
+use Rattle.std.proofs.Common.{◌≡◌, ℕ, ◌+◌, ◌-◌, ◌^◌, ◌<◌, ◌≤◌, min, List, length, Option, Some, Result, Ok, Err, Vec, Global, refl, arith}
+use Rattle.bm_io.specs.Counts.{counted, Rose, RoseByMoreThan}
+use Rattle.bm_io.specs.HeldFiles.{failures, bytes_taken}
+use Rattle.bm_io.specs.HeldOutput as output
+use Rattle.bm_io.specs.declared.reading.Fetch.{Fetch}
+use Rattle.bm_io.specs.declared.reading.Fetch.TheVariants as fetch
+use Rattle.bm_io.specs.declared.writing.Put.{Put}
+use Rattle.bm_io.specs.declared.writing.Put.TheVariants as put
+
+-- a count that was counted up is below 2^64
+pub counted_fits : (before n now : ℕ) → now ≡ counted before n → now < 2 ^ 64
+counted_fits before n now grew = omega (arith, grew)
+
+-- a failed fetch was counted
+pub rose_by_failure : (answer : Result (Vec ℕ Global) Fetch) (before now : ℕ)
+    → answer ≡ Err fetch.Failed → now ≡ counted before (failures answer) → Rose before now
+rose_by_failure answer before now failed grew =
+    let one : failures answer ≡ 1 = rw failed refl in omega (arith, rw one at grew)
+
+-- a file that was too long was counted, with each of its bytes
+pub rose_by_file : (answer : Result (Vec ℕ Global) Fetch) (held : Option (List ℕ)) (bytes : List ℕ) (limit before now : ℕ)
+    → answer ≡ Err fetch.TooLong → held ≡ Some bytes → limit < length bytes → now ≡ counted before (bytes_taken answer held)
+    → RoseByMoreThan limit before now
+rose_by_file answer held bytes limit before now too_long is longer grew =
+    let all : bytes_taken answer held ≡ length bytes = rw (too_long, is) refl in omega (arith, longer, rw all at grew)
+
+-- a failed put was counted
+pub rose_by_failed_put : (answer : Result (Unit {0}) Put) (before now : ℕ)
+    → answer ≡ Err put.Failed → now ≡ counted before (output.failures answer) → Rose before now
+rose_by_failed_put answer before now failed grew =
+    let one : output.failures answer ≡ 1 = rw failed refl in omega (arith, rw one at grew)
+
+-- a put that lacked memory was counted
+pub rose_by_want : (answer : Result (Unit {0}) Put) (before now : ℕ)
+    → answer ≡ Err put.Memory → now ≡ counted before (output.wants_of_memory answer) → Rose before now
+rose_by_want answer before now wanting grew =
+    let one : output.wants_of_memory answer ≡ 1 = rw wanting refl in omega (arith, rw one at grew)

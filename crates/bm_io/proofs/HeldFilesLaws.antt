@@ -1,0 +1,20 @@
+-- The list of files as the program has it, and as contracts see it.
+use Rattle.std.proofs.Common.{◌≡◌, ℕ, Bool, true, false, cond, List, [], ◌∷◌, Option, Some, None, find, refl}
+use Rattle.std.specs.Option.{option_map}
+use Rattle.std.specs.Str.{bytes_eq}
+use Rattle.bm_io.specs.declared.mem_files.MemFile.{MemFile}
+use Rattle.bm_io.specs.HeldFiles.{held_files, bytes_of, is_named}
+
+-- one more file in front of those of which it is known
+file_in_front : (f : MemFile) (fs : List MemFile) (name : List ℕ) (named : Bool)
+    → option_map (λ f. f.bytes.items) (find (is_named name) fs) ≡ bytes_of (held_files fs) name
+    → option_map (λ f. f.bytes.items) (cond named (Some f) (find (is_named name) fs))
+        ≡ cond named (Some f.bytes.items) (bytes_of (held_files fs) name)
+file_in_front f fs name true rest = refl
+file_in_front f fs name false rest = rest
+
+-- the bytes of the first file of the name are those of the file that a search finds
+pub bytes_of_found : (files : List MemFile) (name : List ℕ)
+    → option_map (λ f. f.bytes.items) (find (is_named name) files) ≡ bytes_of (held_files files) name
+bytes_of_found [] name = refl
+bytes_of_found (f ∷ fs) name = file_in_front f fs name (is_named name f) (bytes_of_found fs name)

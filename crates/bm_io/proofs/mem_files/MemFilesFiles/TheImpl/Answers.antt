@@ -1,0 +1,19 @@
+-- The exact counts and answers give what the trait asks of every implementation.
+use Rattle.std.proofs.Common.{Some, ap}
+use Rattle.bm_io.specs.HeldFiles.{bytes_of}
+use Rattle.bm_io.proofs.CountLaws.{counted_fits, rose_by_failure, rose_by_file}
+use Rattle.bm_io.proofs.mem_files.MemFilesFiles.TheImpl.Goals as goal
+
+pub fetch-tells : goal.fetch-tells
+fetch-tells c = record {
+  bounded = c.ensures.bounded;
+  told = c.ensures.told;
+  failed = λ is. rose_by_failure c.result _ _ is c.ensures.faults;
+  too_long = λ is. let longer = (c.ensures.too_long.0 is).1 in rose_by_file c.result _ longer.0 _ _ _ is longer.1 longer.2 c.ensures.taken;
+  longer = λ is. (c.ensures.too_long.0 is).1;
+  kept = ap (λ files. Some (bytes_of files)) c.ensures.files;
+  faults_stay = λ any. c.ensures.faults_stay;
+  faults_fit = λ any. counted_fits _ _ _ c.ensures.faults;
+  taken_stays = c.ensures.taken_stays;
+  taken_fits = counted_fits _ _ _ c.ensures.taken;
+}

@@ -1,0 +1,14 @@
+-- What the writer took so far is the front of the piece, and `rest` is what is left of it.
+use Rattle.std.proofs.Common.{◌≡◌, ℕ, ◌-◌, length, take, drop}
+use Rattle.std.specs.Io.KnownBytes.{Appends}
+use Rattle.bm_io.proofs.std_sink.StdSinkSink.put.Given as goal
+
+abbrev pub invariant-loop-rest : goal.invariant-loop-rest
+invariant-loop-rest g l = record {
+  front : Appends l.fn.self.written (g.W.Write.contents l.self-inside.writer) (take (length l.piece - length l.rest) l.piece);
+  left : l.rest ≡ drop (length l.piece - length l.rest) l.piece;
+  faults : l.self-inside.faults ≡ l.fn.self.faults;
+}
+
+abbrev pub decreases-loop-rest : goal.decreases-loop-rest
+decreases-loop-rest g l = length l.rest

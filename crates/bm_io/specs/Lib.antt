@@ -1,0 +1,5 @@
+pub mod Counts
+pub mod Told
+pub mod HeldFiles
+pub mod HeldOutput
+pub mod Counters

@@ -1,0 +1,30 @@
+//! The outside of the program: where its inputs come from and where its output goes.
+//!
+//! A boot reads a few whole files and writes reports. [`Files`] is what it reads from, by name and up
+//! to a limit in bytes; [`Sink`] is what it writes to, in pieces. Both may fail at any call, and the
+//! contracts of the layers above are about every implementation of them.
+//!
+//! What an implementation means is said by members that only contracts see: the bytes that a name
+//! holds and those that were written, where the object tells them, and counts of what happened. A
+//! count never falls. It is a `u64` that stands still at its last value, 2^64 - 1; that it rose in a
+//! call means that it is greater afterwards, or stands there. Each refusal has its cause in such a
+//! count, so a caller can tell a refusal of the outside from a mistake of the program.
+//!
+//! [`MemFiles`] and [`MemSink`] live in memory, tell everything, and fail at the calls that they were
+//! told to fail at: tests and proofs use them. [`RealFiles`] and [`StdSink`] are the trusted edge,
+//! the files and streams of the operating system. They tell no content and count what they see.
+#![tactic(auto)]
+
+mod mem_files;
+mod mem_sink;
+mod reading;
+mod real_files;
+mod std_sink;
+mod writing;
+
+pub use mem_files::{MemFile, MemFiles};
+pub use mem_sink::MemSink;
+pub use reading::{Fetch, Files};
+pub use real_files::RealFiles;
+pub use std_sink::StdSink;
+pub use writing::{Put, Sink};

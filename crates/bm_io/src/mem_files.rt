@@ -1,0 +1,126 @@
+ghost use Rattle.std.specs.Prelude.{◌≡◌, ℕ, ◌+◌, ◌-◌, ◌^◌, ◌<◌, ◌≤◌, ◌↔◌, List, length, min, Option, Some, IfOk, IsErrOf, find};
+ghost use Rattle.std.specs.Option.{option_copied};
+ghost use Rattle.bm_io.specs.Counts.{counted, Rose, RoseByMoreThan};
+ghost use Rattle.bm_io.specs.Told.{IsToldAs, IsToldLonger};
+ghost use Rattle.bm_io.specs.HeldFiles.{held_files, bytes_of, HaveOwnNames, IsRefused, IsLonger, is_named, failures, bytes_taken};
+
+use crate::reading::{Fetch, Files};
+use std::alloc::Global;
+use std::marker::Model;
+
+/// A file in memory.
+#[derive(Debug, Drop)]
+pub struct MemFile {
+    pub name: String,
+    pub bytes: Vec<u8>,
+}
+
+/// Files in memory, of which some calls of `fetch` fail. Calls are numbered from 1.
+#[derive(Drop)]
+pub struct MemFiles {
+    files: Vec<MemFile>,
+    failing: Vec<u64>,
+    calls: u64,
+    faults: u64,
+    taken: u64,
+}
+
+impl Model for MemFiles {
+    ghost use Rattle.std.specs.Prelude.{◌^◌, ◌<◌};
+    ghost use Rattle.bm_io.specs.HeldFiles.{HeldFiles, held_files};
+
+    ghost Value = { HeldFiles };
+
+    ghost view = { λ s. record {
+        files = held_files s.files.items; failing = s.failing.items;
+        calls = s.calls; faults = s.faults; taken = s.taken
+    } };
+
+    ghost invariant = { λ s. (s.calls < 2 ^ 64) × (s.faults < 2 ^ 64) × (s.taken < 2 ^ 64) };
+}
+
+impl MemFiles {
+    /// The files, and the numbers of the calls that are to fail. Takes no memory.
+    pub fn new(files: Vec<MemFile>, failing: Vec<u64>) -> MemFiles
+        requires { HaveOwnNames (held_files files.items) }
+        ensures files { result.files ≡ held_files files.items }
+        ensures failing { result.failing ≡ failing.items }
+        ensures calls { result.calls ≡ 0 }
+        ensures faults { result.faults ≡ 0 }
+        ensures taken { result.taken ≡ 0 }
+    {
+        MemFiles {
+            files,
+            failing,
+            calls: 0,
+            faults: 0,
+            taken: 0,
+        }
+    }
+}
+
+impl Files for MemFiles {
+    ghost holds = { λ s. Some (bytes_of s.files) };
+
+    ghost faults = { λ s name. s.faults };
+
+    ghost taken = { λ s. s.taken };
+
+    /// `Failed` comes exactly where the number of the call is one that is to fail or the name isn't
+    /// held, and `TooLong` exactly where it isn't that and the file has more than `limit` bytes.
+    fn fetch(&mut self, alloc: Global, name: &str, limit: u64) -> Result<Vec<u8>, Fetch>
+        ensures bounded { IfOk result (λ bytes. length bytes.items ≤ limit) }
+        ensures told { IfOk result (λ bytes. bytes_of self.old.files name.now ≡ Some bytes.items) }
+        ensures failed { IsErrOf result Fetch.Failed
+            ↔ IsRefused self.old self.new.calls name.now }
+        ensures too_long { IsErrOf result Fetch.TooLong
+            ↔ (¬ IsRefused self.old self.new.calls name.now × IsLonger self.old name.now limit) }
+
+        ensures files { self.new.files ≡ self.old.files }
+        ensures failing { self.new.failing ≡ self.old.failing }
+        ensures calls { self.new.calls ≡ counted self.old.calls 1 }
+        ensures faults { self.new.faults ≡ counted self.old.faults (failures result) }
+        ensures taken { self.new.taken
+            ≡ counted self.old.taken (bytes_taken result (bytes_of self.old.files name.now)) }
+        ensures faults_stay { self.old.faults ≤ self.new.faults }
+        ensures taken_stays { self.old.taken ≤ self.new.taken }
+    {
+        self.calls = self.calls.saturating_add(1);
+        let held = bytes_named(&self.files, name);
+        let Some(bytes) = held else {
+            self.faults = self.faults.saturating_add(1);
+            return Err(Fetch::Failed);
+        };
+        if self.failing.contains(&self.calls) {
+            self.faults = self.faults.saturating_add(1);
+            return Err(Fetch::Failed);
+        }
+        let length = bytes.len() as u64;
+        if length > limit {
+            self.taken = self.taken.saturating_add(length);
+            return Err(Fetch::TooLong);
+        }
+        let mut copy = Vec::new(alloc);
+        if copy.extend_from_slice(bytes).is_err() {
+            return Err(Fetch::Memory);
+        }
+        self.taken = self.taken.saturating_add(length);
+        Ok(copy)
+    }
+}
+
+// The bytes of the file of the name.
+fn bytes_named<'a>(files: &'a [MemFile], name: &str) -> Option<&'a [u8]>
+    ensures { option_copied result ≡ bytes_of (held_files files.now) name.now }
+{
+    let Some(file) = file_named(files, name) else {
+        return None;
+    };
+    Some(file.bytes.as_slice())
+}
+
+fn file_named<'a>(files: &'a [MemFile], name: &str) -> Option<&'a MemFile>
+    ensures { option_copied result ≡ find (is_named name.now) files.now }
+{
+    files.iter().find(|file| file.name.as_str() == name)
+}

@@ -1,0 +1,98 @@
+ghost use Rattle.std.specs.Prelude.{◌≡◌, ℕ, ◌+◌, ◌-◌, ◌/◌, ◌^◌, ◌<◌, ◌≤◌, List, [], ◌++◌, length, take, min, Option, Some, Contains, OnOk, OnErr, IsErrOf};
+ghost use Rattle.std.specs.Io.KnownBytes.{Appends};
+ghost use Rattle.bm_io.specs.Counts.{counted, Rose};
+ghost use Rattle.bm_io.specs.Told.{AppendsFront};
+ghost use Rattle.bm_io.specs.HeldOutput.{failures, wants_of_memory};
+
+use crate::writing::{Put, Sink};
+use std::marker::Model;
+
+/// Output in memory, of which some calls of `put` fail. Calls are numbered from 1.
+#[derive(Drop)]
+pub struct MemSink {
+    written: Vec<u8>,
+    failing: Vec<u64>,
+    calls: u64,
+    faults: u64,
+    wants: u64,
+}
+
+impl Model for MemSink {
+    ghost use Rattle.std.specs.Prelude.{◌^◌, ◌<◌};
+    ghost use Rattle.bm_io.specs.HeldOutput.{HeldOutput};
+
+    ghost Value = { HeldOutput };
+
+    ghost view = { λ s. record {
+        written = s.written.items; failing = s.failing.items;
+        calls = s.calls; faults = s.faults; wants = s.wants
+    } };
+
+    ghost invariant = { λ s. (s.calls < 2 ^ 64) × (s.faults < 2 ^ 64) × (s.wants < 2 ^ 64) };
+}
+
+impl MemSink {
+    /// Nothing written yet, and the numbers of the calls that are to fail. Takes no memory.
+    pub fn new(failing: Vec<u64>) -> MemSink
+        ensures written { result.written ≡ [] }
+        ensures failing { result.failing ≡ failing.items }
+        ensures calls { result.calls ≡ 0 }
+        ensures faults { result.faults ≡ 0 }
+        ensures wants { result.wants ≡ 0 }
+    {
+        MemSink {
+            written: Vec::new(*failing.allocator()),
+            failing,
+            calls: 0,
+            faults: 0,
+            wants: 0,
+        }
+    }
+
+    /// The bytes so far.
+    pub fn written(&self) -> &[u8]
+        ensures { result.now ≡ self.now.written }
+    {
+        self.written.as_slice()
+    }
+}
+
+impl Sink for MemSink {
+    ghost written = { λ s. Some s.written };
+
+    ghost faults = { λ s. s.faults };
+
+    ghost wants = { λ s. s.wants };
+
+    /// `Failed` comes where the number of the call is one that is to fail, and then the first half
+    /// of the piece, rounded down, was appended. After `Memory` nothing was.
+    fn put(&mut self, piece: &[u8]) -> Result<(), Put>
+        ensures whole { OnOk result (self.new.written ≡ self.old.written ++ piece.now) }
+        ensures half { IsErrOf result Put.Failed
+            → self.new.written ≡ self.old.written ++ take (length piece.now / 2) piece.now }
+        ensures none { IsErrOf result Put.Memory → self.new.written ≡ self.old.written }
+
+        ensures passed { OnOk result (¬ Contains self.old.failing self.new.calls) }
+        ensures failed { IsErrOf result Put.Failed → Contains self.old.failing self.new.calls }
+
+        ensures failing { self.new.failing ≡ self.old.failing }
+        ensures calls { self.new.calls ≡ counted self.old.calls 1 }
+        ensures faults { self.new.faults ≡ counted self.old.faults (failures result) }
+        ensures wants { self.new.wants ≡ counted self.old.wants (wants_of_memory result) }
+        ensures faults_stay { self.old.faults ≤ self.new.faults }
+        ensures wants_stay { self.old.wants ≤ self.new.wants }
+    {
+        self.calls = self.calls.saturating_add(1);
+        let fails = self.failing.contains(&self.calls);
+        let part = if fails { &piece[..piece.len() / 2] } else { piece };
+        if self.written.extend_from_slice(part).is_err() {
+            self.wants = self.wants.saturating_add(1);
+            return Err(Put::Memory);
+        }
+        if fails {
+            self.faults = self.faults.saturating_add(1);
+            return Err(Put::Failed);
+        }
+        Ok(())
+    }
+}

@@ -1,0 +1,40 @@
+ghost use Rattle.std.specs.Prelude.{ℕ, ◌^◌, ◌<◌, ◌≤◌, List, Option, OnOk, OnErr, IsErrOf};
+ghost use Rattle.std.specs.Io.KnownBytes.{Appends};
+ghost use Rattle.bm_io.specs.Counts.{Rose};
+ghost use Rattle.bm_io.specs.Told.{AppendsFront};
+
+/// Why a piece wasn't written whole.
+#[derive(Clone, Copy, Debug, PartialEq, Eq)]
+pub enum Put {
+    /// The output refused it.
+    Failed,
+    /// The output's own memory ran out.
+    Memory,
+}
+
+/// An output that takes bytes in pieces.
+pub trait Sink {
+    // The bytes so far, where the object tells them.
+    ghost written: { Self → Option (List ℕ) };
+
+    // How many puts failed.
+    ghost faults: { Self → ℕ };
+
+    // How many puts answered that memory is wanting.
+    ghost wants: { Self → ℕ };
+
+    /// Appends the piece. After an `Err` the front of it stands there, however long.
+    fn put(&mut self, piece: &[u8]) -> Result<(), Put>
+        ensures whole { OnOk result (Appends (written self.old) (written self.new) piece.now) }
+        ensures front { OnErr result (AppendsFront (written self.old) (written self.new) piece.now) }
+
+        // When each refusal comes.
+        ensures failed { IsErrOf result Put.Failed → Rose (faults self.old) (faults self.new) }
+        ensures wanting { IsErrOf result Put.Memory → Rose (wants self.old) (wants self.new) }
+
+        // No count falls or passes its last value.
+        ensures faults_stay { faults self.old ≤ faults self.new }
+        ensures faults_fit { faults self.new < 2 ^ 64 }
+        ensures wants_stay { wants self.old ≤ wants self.new }
+        ensures wants_fit { wants self.new < 2 ^ 64 };
+}
