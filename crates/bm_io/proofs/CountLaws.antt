@@ -1,5 +1,5 @@
 -- Counts that were counted up rose, by the number that was counted.
-use Rattle.std.proofs.Common.{◌≡◌, ℕ, ◌+◌, ◌-◌, ◌^◌, ◌<◌, ◌≤◌, min, List, length, Option, Some, Result, Ok, Err, Vec, Global, refl, arith}
+use Rattle.std.proofs.Common.{◌≡◌, ℕ, ◌^◌, ◌<◌, List, length, Option, Some, Result, Err, Vec, Global, refl, arith}
 use Rattle.bm_io.specs.Counts.{counted, Rose, RoseByMoreThan}
 use Rattle.bm_io.specs.HeldFiles.{failures, bytes_taken}
 use Rattle.bm_io.specs.HeldOutput as output

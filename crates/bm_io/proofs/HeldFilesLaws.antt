@@ -1,7 +1,6 @@
 -- The list of files as the program has it, and as contracts see it.
-use Rattle.std.proofs.Common.{◌≡◌, ℕ, Bool, true, false, cond, List, [], ◌∷◌, Option, Some, None, find, refl}
+use Rattle.std.proofs.Common.{◌≡◌, ℕ, Bool, true, false, cond, List, [], ◌∷◌, Some, find, refl}
 use Rattle.std.specs.Option.{option_map}
-use Rattle.std.specs.Str.{bytes_eq}
 use Rattle.bm_io.specs.declared.mem_files.MemFile.{MemFile}
 use Rattle.bm_io.specs.HeldFiles.{held_files, bytes_of, is_named}
 
@@ -9,7 +8,7 @@ use Rattle.bm_io.specs.HeldFiles.{held_files, bytes_of, is_named}
 file_in_front : (f : MemFile) (fs : List MemFile) (name : List ℕ) (named : Bool)
     → option_map (λ f. f.bytes.items) (find (is_named name) fs) ≡ bytes_of (held_files fs) name
     → option_map (λ f. f.bytes.items) (cond named (Some f) (find (is_named name) fs))
-        ≡ cond named (Some f.bytes.items) (bytes_of (held_files fs) name)
+    ≡ cond named (Some f.bytes.items) (bytes_of (held_files fs) name)
 file_in_front f fs name true rest = refl
 file_in_front f fs name false rest = rest
 

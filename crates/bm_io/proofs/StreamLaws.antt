@@ -1,5 +1,5 @@
 -- Known bytes that grow piece by piece.
-use Rattle.std.proofs.Common.{◌≡◌, ℕ, ◌+◌, ◌-◌, ◌/◌, ◌<◌, ◌≤◌, List, [], ◌++◌, length, take, drop, Option, Some, None, refl, sym, ◌∙◌, ap, arith, length-drop, append_assoc, append-nil, take_all, take-add, drop-drop, Result, Ok, Err}
+use Rattle.std.proofs.Common.{◌≡◌, ℕ, ◌+◌, ◌-◌, ◌/◌, ◌≤◌, List, ◌++◌, length, take, drop, Option, Some, None, refl, sym, ◌∙◌, ap, arith, length-drop, append_assoc, append-nil, take_all, take-add, drop-drop, Result, Ok, Err}
 use Rattle.std.specs.Prelude.{OnErr, IsErrOf}
 use Rattle.std.specs.Io.KnownBytes.{Appends}
 use Rattle.bm_io.specs.Told.{AppendsFront}
@@ -27,7 +27,7 @@ gone_more : (piece rest : List ℕ) (k : ℕ) → rest ≡ drop (length piece - 
     → length piece - length (left_of rest k) ≡ (length piece - length rest) + k
 gone_more piece rest k left small =
     let all : length rest ≡ length piece - (length piece - length rest) =
-        ap (λ (t : List ℕ). length t) left ∙ length-drop (length piece - length rest) piece in
+    ap (λ (t : List ℕ). length t) left ∙ length-drop (length piece - length rest) piece in
     rw (left_is rest k, length-drop k rest) (omega arith)
 
 -- the rest after k more bytes is the rest of the piece
@@ -35,8 +35,8 @@ pub left_more : (piece rest : List ℕ) (k : ℕ) → rest ≡ drop (length piec
     → left_of rest k ≡ drop (length piece - length (left_of rest k)) piece
 left_more piece rest k left small =
     left_is rest k ∙ ap (λ (t : List ℕ). drop k t) left
-        ∙ drop-drop k (length piece - length rest) piece
-        ∙ sym (ap (λ (n : ℕ). drop n piece) (gone_more piece rest k left small))
+    ∙ drop-drop k (length piece - length rest) piece
+    ∙ sym (ap (λ (n : ℕ). drop n piece) (gone_more piece rest k left small))
 
 -- the bytes so far and k more of the rest are the front of the piece
 pub front_more : (old mid new : Option (List ℕ)) (piece rest : List ℕ) (k : ℕ)
@@ -46,8 +46,8 @@ pub front_more : (old mid new : Option (List ℕ)) (piece rest : List ℕ) (k : 
 front_more old mid new piece rest k before left small more =
     let n : ℕ = length piece - length rest in
     let whole : take n piece ++ take k rest ≡ take (length piece - length (left_of rest k)) piece =
-        ap (λ (t : List ℕ). take n piece ++ take k t) left ∙ sym (take-add n k piece)
-            ∙ sym (ap (λ (m : ℕ). take m piece) (gone_more piece rest k left small)) in
+    ap (λ (t : List ℕ). take n piece ++ take k t) left ∙ sym (take-add n k piece)
+    ∙ sym (ap (λ (m : ℕ). take m piece) (gone_more piece rest k left small)) in
     rw (← whole) (appends_twice old mid new (take n piece) (take k rest) before more)
 
 -- a put that failed appended the half, and one with no memory nothing: either is a front of the piece

@@ -1,5 +1,5 @@
 -- Files that are held in memory.
-use Rattle.std.specs.Prelude.{◌≡◌, ◌≢◌, ℕ, ◌<◌, Bool, if◌then◌else◌, List, [], ◌∷◌, length, map, Option, Some, None, IsNone, IfSome, Contains, AllPairs, ◌⊎◌, Result, Ok, Err, Vec, string_bytes}
+use Rattle.std.specs.Prelude.{◌≡◌, ℕ, ◌<◌, Bool, if◌then◌else◌, List, [], ◌∷◌, length, map, Option, Some, None, IsNone, Contains, ◌⊎◌, Result, Ok, Err, Vec, string_bytes}
 use Rattle.std.specs.Str.{bytes_eq}
 use Rattle.std.specs.declared.alloc.Global.{Global}
 use Rattle.bm_io.specs.declared.reading.Fetch.{Fetch}
@@ -36,7 +36,8 @@ bytes_of (f ∷ fs) name = if bytes_eq f.name name then Some f.bytes else bytes_
 
 -- no two files have one name
 abbrev pub HaveOwnNames : List HeldFile → Type 0
-HaveOwnNames files = AllPairs (λ f g. f.name ≢ g.name) files
+HaveOwnNames [] = Unit {0}
+HaveOwnNames (f ∷ fs) = IsNone (bytes_of fs f.name) × HaveOwnNames fs
 
 -- the call of that number fails: it was told to, or the name isn't held
 abbrev pub IsRefused : HeldFiles → ℕ → List ℕ → Type 0

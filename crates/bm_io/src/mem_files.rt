@@ -32,8 +32,11 @@ impl Model for MemFiles {
     ghost Value = { HeldFiles };
 
     ghost view = { λ s. record {
-        files = held_files s.files.items; failing = s.failing.items;
-        calls = s.calls; faults = s.faults; taken = s.taken
+      files = held_files s.files.items;
+      failing = s.failing.items;
+      calls = s.calls;
+      faults = s.faults;
+      taken = s.taken;
     } };
 
     ghost invariant = { λ s. (s.calls < 2 ^ 64) × (s.faults < 2 ^ 64) × (s.taken < 2 ^ 64) };
@@ -123,4 +126,36 @@ fn file_named<'a>(files: &'a [MemFile], name: &str) -> Option<&'a MemFile>
     ensures { option_copied result ≡ find (is_named name.now) files.now }
 {
     files.iter().find(|file| file.name.as_str() == name)
+}
+
+#[cfg(test)]
+mod tests {
+    use super::*;
+    use std::test::Fail;
+
+    #[test]
+    fn files_in_memory(rt: HostRuntime) -> Result<(), Fail> {
+        let alloc = rt.alloc();
+        let file = MemFile {
+            name: String::from_str(alloc, "zp")?,
+            bytes: vec![in alloc; 1, 2, 3]?,
+        };
+        let mut files = MemFiles::new(vec![in alloc; file]?, vec![in alloc; 2]?);
+        let cases = [
+            ("zp", 3, Ok(3)),
+            ("zp", 3, Err(Fetch::Failed)),
+            ("zp", 2, Err(Fetch::TooLong)),
+            ("other", 3, Err(Fetch::Failed)),
+        ];
+        for (name, limit, want) in cases {
+            let answer = files.fetch(alloc, name, limit);
+            assert_eq!(rt;
+                answer.map(|bytes| bytes.len()),
+                want,
+                "{name} up to {limit}"
+            );
+        }
+        assert_eq!(rt; (files.calls, files.faults, files.taken), (4, 2, 6));
+        Ok(())
+    }
 }

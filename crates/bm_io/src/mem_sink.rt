@@ -24,8 +24,11 @@ impl Model for MemSink {
     ghost Value = { HeldOutput };
 
     ghost view = { λ s. record {
-        written = s.written.items; failing = s.failing.items;
-        calls = s.calls; faults = s.faults; wants = s.wants
+      written = s.written.items;
+      failing = s.failing.items;
+      calls = s.calls;
+      faults = s.faults;
+      wants = s.wants;
     } };
 
     ghost invariant = { λ s. (s.calls < 2 ^ 64) × (s.faults < 2 ^ 64) × (s.wants < 2 ^ 64) };
@@ -84,7 +87,11 @@ impl Sink for MemSink {
     {
         self.calls = self.calls.saturating_add(1);
         let fails = self.failing.contains(&self.calls);
-        let part = if fails { &piece[..piece.len() / 2] } else { piece };
+        let part = if fails {
+            &piece[..piece.len() / 2]
+        } else {
+            piece
+        };
         if self.written.extend_from_slice(part).is_err() {
             self.wants = self.wants.saturating_add(1);
             return Err(Put::Memory);
@@ -93,6 +100,23 @@ impl Sink for MemSink {
             self.faults = self.faults.saturating_add(1);
             return Err(Put::Failed);
         }
+        Ok(())
+    }
+}
+
+#[cfg(test)]
+mod tests {
+    use super::*;
+    use std::test::Fail;
+
+    #[test]
+    fn output_in_memory(rt: HostRuntime) -> Result<(), Fail> {
+        let mut sink = MemSink::new(vec![in rt.alloc(); 2]?);
+        assert_eq!(rt; sink.put(b"abc"), Ok(()));
+        assert_eq!(rt; sink.put(b"12345"), Err(Put::Failed));
+        assert_eq!(rt; sink.put(b"."), Ok(()));
+        assert_eq!(rt; sink.written(), b"abc12.".as_slice());
+        assert_eq!(rt; (sink.calls, sink.faults, sink.wants), (3, 1, 0));
         Ok(())
     }
 }

@@ -72,3 +72,36 @@ impl<'a, R: rt::Files> Files for RealFiles<'a, R> {
         }
     }
 }
+
+#[cfg(test)]
+mod tests {
+    use super::*;
+    use std::process;
+    use std::test::Fail;
+
+    #[test]
+    fn files_of_the_system(rt: HostRuntime) -> Result<(), Fail> {
+        let alloc = rt.alloc();
+        let there = format!(in alloc; "/tmp/bm_io-files-{}", process::id(rt.process()))?;
+        let bytes = vec![in alloc; 7u8; 10_000]?;
+        fs::write(&rt, there.as_str(), bytes.as_slice())?;
+        let cases = [
+            (there.as_str(), 10_000, Ok(10_000)),
+            (there.as_str(), 9_999, Err(Fetch::TooLong)),
+            ("/tmp/bm_io-no-such-file", 10_000, Err(Fetch::Failed)),
+            ("/tmp", 10_000, Err(Fetch::Failed)),
+        ];
+        let mut files = RealFiles::new(&rt);
+        for (name, limit, want) in cases {
+            let answer = files.fetch(alloc, name, limit);
+            assert_eq!(rt;
+                answer.map(|bytes| bytes.len()),
+                want,
+                "{name} up to {limit}"
+            );
+        }
+        assert_eq!(rt; (files.faults, files.taken), (2, 20_000));
+        fs::remove_file(&rt, there.as_str())?;
+        Ok(())
+    }
+}

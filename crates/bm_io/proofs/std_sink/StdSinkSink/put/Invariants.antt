@@ -1,5 +1,5 @@
 -- What the writer took so far is the front of the piece, and `rest` is what is left of it.
-use Rattle.std.proofs.Common.{◌≡◌, ℕ, ◌-◌, length, take, drop}
+use Rattle.std.proofs.Common.{◌≡◌, ◌-◌, length, take, drop}
 use Rattle.std.specs.Io.KnownBytes.{Appends}
 use Rattle.bm_io.proofs.std_sink.StdSinkSink.put.Given as goal
 
