@@ -1,4 +1,4 @@
-//! Ranges of addresses, want of memory, and the pieces of text that reports are made of.
+//! Ranges of addresses, want of memory, numbers in texts, and the pieces of text that reports are made of.
 //!
 //! Everything in the boot speaks of ranges of physical addresses. A [`Range`] is a base and a size
 //! in bytes whose sum is at most 2^64 - 1, as `struct range` and the firmware's entries have them;
@@ -10,6 +10,9 @@
 //! The `put_` calls append numbers and text to a report, in the forms of the kernel's log:
 //! `0x` with 16 digits for an address, right-aligned decimals in tables. They take no memory but
 //! what `out` itself grows by, and leave it as it was when that fails.
+//!
+//! [`read_size`] reads the numbers of every text input, as the kernel's `memparse` does; its values
+//! don't wrap, and what passes 2^64 - 1 is a [`NumFault`].
 #![tactic(auto)]
 
 mod memory;

@@ -20,4 +20,4 @@ mod words;
 
 pub use parts::{before, cut, next_part, parts_of_spelling};
 pub use separators::Separators;
-pub use words::{next_word, unquoted, words_of_spelling};
+pub use words::{next_word, unquoted, without_last, words_of_spelling};

@@ -1,7 +1,7 @@
 ghost use Rattle.std.specs.Prelude.{◌≡◌, ℕ, ◌<◌, ◌≤◌, true, List, [], ◌∷◌, ◌++◌, length, IfSome, IfNone};
 ghost use Rattle.text_words.specs.declared.separators.Separators.{Separators as SomeSeparators};
 ghost use Rattle.text_words.specs.Parts.{separates};
-ghost use Rattle.text_words.specs.Words.{words_in, unquoted as text_unquoted, IsWord, without_last};
+ghost use Rattle.text_words.specs.Words.{words_in, unquoted as text_unquoted, without_last as text_without_last, IsWord};
 
 use crate::{Separators, next_part};
 
@@ -29,16 +29,17 @@ pub fn unquoted(text: &[u8]) -> &[u8]
     ensures { result.now ≡ text_unquoted text.now }
 {
     match text.split_first() {
-        Some((b'"', inner)) => without_last_quote(inner),
+        Some((b'"', inner)) => without_last(inner, b'"'),
         _ => text,
     }
 }
 
-fn without_last_quote(text: &[u8]) -> &[u8]
-    ensures { result.now ≡ without_last 34 text.now }
+/// The text without its last byte, where that is `mark`.
+pub fn without_last(text: &[u8], mark: u8) -> &[u8]
+    ensures { result.now ≡ text_without_last mark text.now }
 {
     match text.split_last() {
-        Some((last, front)) if *last == b'"' => front,
+        Some((last, front)) if *last == mark => front,
         _ => text,
     }
 }

@@ -1,0 +1,40 @@
+-- Laws of a line that is read word by word: one word more, and what is left of the user map at the end.
+use Rattle.std.proofs.Common.{◌≡◌, ℕ, ◌+◌, Bool, true, false, List, [], ◌∷◌, ◌++◌, refl, ap, sym, ◌∙◌, map, codes, Result, Ok, Err}
+use Rattle.std.specs.Str.{bytes_eq}
+use Rattle.text_words.specs.declared.separators.Separators.TheVariants.{CommandLine}
+use Rattle.text_words.specs.Words.{words_in, unquoted}
+use Rattle.boot_options.specs.declared.fault.OptionFault.{OptionFault}
+use Rattle.boot_options.specs.Options.{Said, named, said_by, said_from, until_end, option_words, ◌>>=◌}
+use Rattle.boot_options.specs.Reading.{State, after, after_all, read_on, read_all}
+
+-- the first word in front of the words behind it, where it isn't `--`
+pub option_words-step : (line word behind : List ℕ) → words_in CommandLine line ≡ word ∷ words_in CommandLine behind
+    → bytes_eq (unquoted word) (codes "--") ≡ false → option_words line ≡ unquoted word ∷ option_words behind
+option_words-step line word behind is other = rw is (rw other refl)
+
+-- the fault of a word is that of the line from there on
+pub read_all-fault : (number : ℕ) (st : State) (fault : OptionFault) (word : List ℕ) (words : List (List ℕ))
+    → read_on number st (said_by number (named word)) ≡ Err fault
+    → read_all st (said_from number (word ∷ words)) ≡ Err fault
+read_all-fault number st fault word words = by_said (said_by number (named word))
+  where
+    by_said : (r : Result Said OptionFault) → read_on number st r ≡ Err fault
+        → read_all st (r >>= λ said. said_from (number + 1) words >>= λ others. Ok ((number, said) ∷ others)) ≡ Err fault
+    by_said (Ok said) is = cc
+    by_said (Err f) is = cc
+
+-- a word that has none leads to what the words behind it make of its state
+pub read_all-step : (number : ℕ) (old new : State) (word : List ℕ) (words : List (List ℕ))
+    → read_on number old (said_by number (named word)) ≡ Ok new
+    → read_all old (said_from number (word ∷ words)) ≡ read_all new (said_from (number + 1) words)
+read_all-step number old new word words = by_said (said_by number (named word))
+  where
+    by_others : (said : Said) (r : Result (List (ℕ × Said)) OptionFault) → after number old said ≡ new
+        → read_all old (r >>= λ others. Ok ((number, said) ∷ others)) ≡ read_all new r
+    by_others said (Ok others) is = rw is refl
+    by_others said (Err f) is = refl
+    by_said : (r : Result Said OptionFault) → read_on number old r ≡ Ok new
+        → read_all old (r >>= λ said. said_from (number + 1) words >>= λ others. Ok ((number, said) ∷ others))
+          ≡ read_all new (said_from (number + 1) words)
+    by_said (Ok said) is = by_others said (said_from (number + 1) words) cc
+    by_said (Err f) is = cc

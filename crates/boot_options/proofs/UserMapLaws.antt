@@ -1,0 +1,127 @@
+-- What a line that is read word by word comes to, by the lists of what its words say.
+use Rattle.std.proofs.Common.{◌≡◌, ℕ, ◌+◌, ◌-◌, ◌==◌, nat_lt, if◌then◌else◌, Bool, true, false, ◌||◌, Option, Some, None, List, [], ◌∷◌, ◌++◌, refl, ap, sym, ◌∙◌, append_assoc, Result, Ok, Err, arith}
+use Rattle.std.proofs.lemmas.List.{append-nil}
+use Rattle.std.proofs.lemmas.Bool.Decides.{nat_tests}
+use Rattle.std.specs.Option.{option_map}
+use Rattle.e820_model.specs.declared.edit.Edit.{Edit}
+use Rattle.boot_options.specs.declared.fault.OptionFault.{OptionFault}
+use Rattle.boot_options.specs.declared.piece.Piece.{Piece}
+use Rattle.boot_options.specs.declared.piece.Piece.TheVariants.{ExactMap, Adding, Other}
+use Rattle.boot_options.specs.declared.reading.UserMap.{UserMap}
+use Rattle.boot_options.specs.Options.{Said, Pieces, NumaOff, Chosen, ◌>>=◌, line_of, said_from, option_words, numbered, all_pieces, edit_of, with_edit, edits_of, is_numa_off, count_adding, or_here, last_exact, with_user_map, judged, options_of}
+use Rattle.boot_options.specs.Reading.{State, start, one_fewer, user_map_behind, after_piece, after_pieces, after_all, read_all, when_complete, finished}
+
+-- one edit behind others
+pub edits-step : (front : List Edit) (e : Option Edit) (behind : List Edit)
+    → (front ++ with_edit e []) ++ behind ≡ front ++ with_edit e behind
+edits-step front None behind = rw append-nil refl
+edits-step front (Some e) behind = append_assoc front (e ∷ []) behind
+
+-- the edits of a word's pieces
+pub edits-pieces : (number : ℕ) (st : State) (ps : List Piece) (behind : List (ℕ × Piece))
+    → (after_pieces number st ps).edits ++ edits_of behind ≡ st.edits ++ edits_of (numbered number ps behind)
+edits-pieces number st [] behind = refl
+edits-pieces number st (p ∷ ps) behind =
+    edits-pieces number (after_piece number st p) ps behind
+      ∙ edits-step st.edits (edit_of p) (edits_of (numbered number ps behind))
+
+-- the edits of all words
+pub edits-all : (st : State) (said : List (ℕ × Said)) → (after_all st said).edits ≡ st.edits ++ edits_of (all_pieces said)
+edits-all st [] = sym (append-nil st.edits)
+edits-all st ((number, Pieces ps) ∷ said) =
+    edits-all (after_pieces number st ps) said ∙ edits-pieces number st ps (all_pieces said)
+edits-all st ((number, NumaOff) ∷ said) = edits-all (record { edits = st.edits; numa_off = true; user_map = st.user_map }) said
+
+-- pieces say nothing of nodes
+pub numa_off-pieces : (number : ℕ) (st : State) (ps : List Piece) → (after_pieces number st ps).numa_off ≡ st.numa_off
+numa_off-pieces number st [] = refl
+numa_off-pieces number st (p ∷ ps) = numa_off-pieces number (after_piece number st p) ps
+
+-- whether some word says `numa=off`
+pub numa_off-all : (st : State) (said : List (ℕ × Said)) → (after_all st said).numa_off ≡ (st.numa_off || is_numa_off said)
+numa_off-all st [] = or_false st.numa_off
+  where
+    or_false : (b : Bool) → b ≡ (b || false)
+    or_false true = refl
+    or_false false = refl
+numa_off-all st ((number, Pieces ps) ∷ said) =
+    numa_off-all (after_pieces number st ps) said
+      ∙ ap (λ (b : Bool). b || is_numa_off said) (numa_off-pieces number st ps)
+numa_off-all st ((number, NumaOff) ∷ said) =
+    numa_off-all (record { edits = st.edits; numa_off = true; user_map = st.user_map }) said ∙ or_true st.numa_off
+  where
+    or_true : (b : Bool) → true ≡ (b || true)
+    or_true true = refl
+    or_true false = refl
+
+-- the user map behind the pieces of all words
+abbrev pub map_behind : List (ℕ × Piece) → Option UserMap → Option UserMap
+map_behind [] m = m
+map_behind (p ∷ ps) m = map_behind ps (user_map_behind p.0 p.1 m)
+
+pub user_map-pieces : (number : ℕ) (st : State) (ps : List Piece) (behind : List (ℕ × Piece))
+    → map_behind behind (after_pieces number st ps).user_map ≡ map_behind (numbered number ps behind) st.user_map
+user_map-pieces number st [] behind = refl
+user_map-pieces number st (p ∷ ps) behind = user_map-pieces number (after_piece number st p) ps behind
+
+pub user_map-all : (st : State) (said : List (ℕ × Said)) → (after_all st said).user_map ≡ map_behind (all_pieces said) st.user_map
+user_map-all st [] = refl
+user_map-all st ((number, Pieces ps) ∷ said) =
+    user_map-all (after_pieces number st ps) said ∙ user_map-pieces number st ps (all_pieces said)
+user_map-all st ((number, NumaOff) ∷ said) = user_map-all (record { edits = st.edits; numa_off = true; user_map = st.user_map }) said
+
+-- the adding pieces that a user map wants still, that many pieces later
+abbrev pub fewer : ℕ → UserMap → UserMap
+fewer n m = record { word = m.word; wanting = m.wanting - n }
+
+-- the user map by the last `exactmap`: two pieces less those behind it
+abbrev pub wanted : Option (ℕ × ℕ) → ℕ → Option UserMap → Option UserMap
+wanted None n m = option_map (fewer n) m
+wanted (Some exact) n m = Some (record { word = exact.0; wanting = 2 - exact.1 })
+
+-- the count from the front is the count from the last `exactmap` on
+pub map_behind-wanted : (ps : List (ℕ × Piece)) (m : Option UserMap) → map_behind ps m ≡ wanted (last_exact ps) (count_adding ps) m
+map_behind-wanted [] None = refl
+map_behind-wanted [] (Some m) =
+    let same : m.wanting ≡ m.wanting - 0 = omega arith in
+    ap (λ (w : ℕ). let map : UserMap = record { word = m.word; wanting = w } in Some map) same
+map_behind-wanted ((number, p) ∷ ps) m =
+    map_behind-wanted ps (user_map_behind number p m) ∙ step (last_exact ps) p m
+  where
+    fewer_still : (m : UserMap) (n : ℕ) → fewer n (one_fewer m) ≡ fewer (n + 1) m
+    fewer_still m n =
+        let same : m.wanting - 1 - n ≡ m.wanting - (n + 1) = omega arith in
+        ap (λ (w : ℕ). let map : UserMap = record { word = m.word; wanting = w } in map) same
+    step : (found : Option (ℕ × ℕ)) (p : Piece) (m : Option UserMap)
+        → wanted found (count_adding ps) (user_map_behind number p m)
+          ≡ wanted (or_here found number p (count_adding ps)) (count_adding ((number, p) ∷ ps)) m
+    step (Some exact) p m = refl
+    step None ExactMap m = refl
+    step None (Adding e) None = refl
+    step None (Adding e) (Some m) = ap (λ (map : UserMap). Some map) (fewer_still m (count_adding ps))
+    step None (Other e) m = refl
+
+-- a line that was read to its end is judged by its last `exactmap`
+pub finished-judged : (said : List (ℕ × Said)) → finished (after_all start said) ≡ judged said
+finished-judged said =
+    rw (edits-all start said, numa_off-all start said, user_map-all start said, map_behind-wanted (all_pieces said) None)
+      (by_exact (record { edits = edits_of (all_pieces said); numa_off = is_numa_off said }) (last_exact (all_pieces said)))
+  where
+    by_count : (chosen : Chosen) (fault : OptionFault) (n : ℕ)
+        → (if 2 - n == 0 then Ok chosen else Err fault) ≡ (if nat_lt n 2 then Err fault else Ok chosen)
+    by_count chosen fault n = grind (arith, nat_tests)
+    by_exact : (chosen : Chosen) (found : Option (ℕ × ℕ))
+        → when_complete chosen (wanted found (count_adding (all_pieces said)) None) ≡ with_user_map chosen found
+    by_exact chosen None = refl
+    by_exact chosen (Some exact) = by_count chosen _ exact.1
+
+-- the options of the bytes are those of the state that the words of the line lead to
+pub options-read : (bytes line : List ℕ) (st : State) → line_of bytes ≡ Ok line
+    → read_all start (said_from 1 (option_words line)) ≡ Ok st → options_of bytes ≡ finished st
+options-read bytes line st is read = rw is (by_said (said_from 1 (option_words line)) read)
+  where
+    by_said : (r : Result (List (ℕ × Said)) OptionFault) → read_all start r ≡ Ok st → (r >>= judged) ≡ finished st
+    by_said (Ok said) read =
+        let same : after_all start said ≡ st = cc in
+        sym (finished-judged said) ∙ ap finished same
+    by_said (Err fault) read = cc

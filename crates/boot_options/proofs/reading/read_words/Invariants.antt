@@ -1,0 +1,13 @@
+use Rattle.std.proofs.Common.{◌≡◌, ℕ, ◌+◌, ◌≤◌, length}
+use Rattle.boot_options.specs.Options.{said_from, option_words}
+use Rattle.boot_options.specs.Reading.{state_of, start, read_all}
+use Rattle.boot_options.proofs.reading.read_words.Given as goal
+
+abbrev pub invariant-loop-word : goal.invariant-loop-word
+invariant-loop-word l = record {
+  reading : read_all (state_of l.reading) (said_from l.number (option_words l.rest)) ≡ read_all start (said_from 1 (option_words l.line));
+  few : l.number + length l.rest ≤ length l.line + 1;
+}
+
+abbrev pub decreases-loop-word : goal.decreases-loop-word
+decreases-loop-word l = length l.rest

@@ -1,0 +1,186 @@
+-- What a command line says of the map, word by word (`parse_early_param`, `next_arg` of
+-- lib/cmdline.c, and the handlers of `mem=`, `memmap=` and `numa=`).
+use Rattle.std.specs.Prelude.{◌≡◌, ◌≢◌, ℕ, ◌+◌, ◌%◌, ◌<◌, ◌==◌, Bool, true, false, ◌||◌, nat_lt, if◌then◌else◌, Option, Some, None, List, [], ◌∷◌, ◌++◌, map, length, codes, Result, Ok, Err}
+use Rattle.std.specs.Option.{option_map, option_and_then}
+use Rattle.std.specs.Str.{bytes_eq}
+use Rattle.std.specs.Prelude.{count_by}
+use Rattle.e820_model.specs.declared.edit.Edit.{Edit}
+use Rattle.e820_model.specs.declared.edit.Edit.TheVariants.{Clear}
+use Rattle.text_words.specs.declared.separators.Separators.TheVariants.{CommandLine, Byte}
+use Rattle.text_words.specs.Parts.{before, cut, parts_in}
+use Rattle.text_words.specs.Words.{words_in, unquoted, without_last}
+use Rattle.boot_options.specs.declared.fault.OptionFault.{OptionFault}
+use Rattle.boot_options.specs.declared.fault.OptionFault.TheVariants as faults
+use Rattle.boot_options.specs.declared.options.Options.{Options}
+use Rattle.boot_options.specs.declared.piece.Piece.{Piece}
+use Rattle.boot_options.specs.declared.piece.Piece.TheVariants.{ExactMap, Adding, Other}
+use Rattle.boot_options.specs.Pieces.{piece_of, mem_of}
+
+-- one step after the other, as far as none fails
+infixl 10 ◌>>=◌
+abbrev pub ◌>>=◌ : {A B : Type 0} → Result A OptionFault → (A → Result B OptionFault) → Result B OptionFault
+Ok x >>= f = f x
+Err fault >>= f = Err fault
+
+-- the line: the bytes before the first zero byte, without a newline at its end. It has at most
+-- 2,047 bytes (`COMMAND_LINE_SIZE` less the zero byte), and an even number of `"`
+abbrev pub raw_line : List ℕ → List ℕ
+raw_line bytes = without_last 10 (before 0 bytes)
+
+abbrev pub is_closed : List ℕ → Bool
+is_closed line = count_by (λ b. b == 34) line % 2 == 0
+
+abbrev pub checked_line : List ℕ → Result (List ℕ) OptionFault
+checked_line line =
+    if nat_lt 2047 (length line) then Err faults.TooLong
+    else (if is_closed line then Ok line else Err faults.OpenQuote)
+
+abbrev pub line_of : List ℕ → Result (List ℕ) OptionFault
+line_of bytes = checked_line (raw_line bytes)
+
+-- what one word says
+pub data Said : Type 0 where
+  Pieces : (pieces : List Piece) → Said
+  NumaOff : Said
+
+-- the value of `memmap=` is one or more pieces with commas between
+abbrev pub pieces_of : List (List ℕ) → Option (List Piece)
+pieces_of [] = Some []
+pieces_of (text ∷ texts) = option_and_then (λ p. option_map (λ ps. p ∷ ps) (pieces_of texts)) (piece_of text)
+
+abbrev pub memmap_of : List ℕ → Option Said
+memmap_of value = option_map Pieces (pieces_of (parts_in (Byte 44) value))
+
+-- the value of `mem=` is one piece
+abbrev pub of_piece : Piece → Said
+of_piece p = Pieces (p ∷ [])
+
+-- the value of `numa=` is `off`
+abbrev pub numa_of : List ℕ → Option Said
+numa_of value = if bytes_eq value (codes "off") then Some NumaOff else None
+
+abbrev pub or_fault : OptionFault → Option Said → Result Said OptionFault
+or_fault fault None = Err fault
+or_fault fault (Some said) = Ok said
+
+-- by the name of the word; a word of another name says nothing, as does `crashkernel` so far. A word
+-- of one of these names without a value is malformed
+abbrev pub said_by : ℕ → List ℕ × Option (List ℕ) → Result Said OptionFault
+said_by number word =
+    if bytes_eq word.0 (codes "mem") then or_fault (faults.BadMem number) (option_map of_piece (option_and_then mem_of word.1)) else
+    (if bytes_eq word.0 (codes "memmap") then or_fault (faults.BadMemmap number) (option_and_then memmap_of word.1) else
+    (if bytes_eq word.0 (codes "numa") then or_fault (faults.BadNuma number) (option_and_then numa_of word.1) else
+    Ok (Pieces [])))
+
+-- the name of a word stands before its first `=`, the value behind it, without its quotation marks
+abbrev pub at_cut : List ℕ → Option (List ℕ × List ℕ) → List ℕ × Option (List ℕ)
+at_cut word None = (word, None)
+at_cut word (Some halves) = (halves.0, Some (unquoted halves.1))
+
+abbrev pub named : List ℕ → List ℕ × Option (List ℕ)
+named word = at_cut word (cut 61 word)
+
+-- the words before `--`
+abbrev pub until_end : List (List ℕ) → List (List ℕ)
+until_end [] = []
+until_end (word ∷ words) = if bytes_eq word (codes "--") then [] else word ∷ until_end words
+
+abbrev pub option_words : List ℕ → List (List ℕ)
+option_words line = until_end (map unquoted (words_in CommandLine line))
+
+-- what each word says, with its number; or the fault of the first one that has one
+abbrev pub said_from : ℕ → List (List ℕ) → Result (List (ℕ × Said)) OptionFault
+said_from number [] = Ok []
+said_from number (word ∷ words) = do
+  said ← said_by number (named word)
+  others ← said_from (number + 1) words
+  Ok ((number, said) ∷ others)
+
+-- the pieces in the order of the line, each with the number of its word
+abbrev pub numbered : ℕ → List Piece → List (ℕ × Piece) → List (ℕ × Piece)
+numbered number [] behind = behind
+numbered number (p ∷ ps) behind = (number, p) ∷ numbered number ps behind
+
+abbrev pub all_pieces : List (ℕ × Said) → List (ℕ × Piece)
+all_pieces [] = []
+all_pieces ((number, Pieces ps) ∷ said) = numbered number ps (all_pieces said)
+all_pieces ((number, NumaOff) ∷ said) = all_pieces said
+
+-- the edit of a piece, where it makes one
+abbrev pub edit_of : Piece → Option Edit
+edit_of ExactMap = Some Clear
+edit_of (Adding edit) = edit
+edit_of (Other edit) = edit
+
+abbrev pub with_edit : Option Edit → List Edit → List Edit
+with_edit None edits = edits
+with_edit (Some edit) edits = edit ∷ edits
+
+abbrev pub edits_of : List (ℕ × Piece) → List Edit
+edits_of [] = []
+edits_of (p ∷ ps) = with_edit (edit_of p.1) (edits_of ps)
+
+-- some word says `numa=off`
+abbrev pub is_numa_off : List (ℕ × Said) → Bool
+is_numa_off [] = false
+is_numa_off ((number, Pieces ps) ∷ said) = is_numa_off said
+is_numa_off ((number, NumaOff) ∷ said) = true
+
+-- the number of adding pieces
+abbrev pub count_adding : List (ℕ × Piece) → ℕ
+count_adding [] = 0
+count_adding ((number, ExactMap) ∷ ps) = count_adding ps
+count_adding ((number, Adding edit) ∷ ps) = count_adding ps + 1
+count_adding ((number, Other edit) ∷ ps) = count_adding ps
+
+-- the last `exactmap`: the number of its word, and the number of adding pieces behind it
+abbrev pub or_here : Option (ℕ × ℕ) → ℕ → Piece → ℕ → Option (ℕ × ℕ)
+or_here (Some found) number p behind = Some found
+or_here None number ExactMap behind = Some (number, behind)
+or_here None number (Adding edit) behind = None
+or_here None number (Other edit) behind = None
+
+abbrev pub last_exact : List (ℕ × Piece) → Option (ℕ × ℕ)
+last_exact [] = None
+last_exact (p ∷ ps) = or_here (last_exact ps) p.0 p.1 (count_adding ps)
+
+-- what the options of a line come to
+pub record Chosen : Type 0 where
+  pub edits : List Edit
+  pub numa_off : Bool
+
+abbrev pub chosen : Options → Chosen
+chosen options = record { edits = options.edits.items; numa_off = options.numa_off }
+
+abbrev pub chosen_by : List (ℕ × Said) → Chosen
+chosen_by said = record { edits = edits_of (all_pieces said); numa_off = is_numa_off said }
+
+-- a user map wants two adding pieces behind the last `exactmap`
+abbrev pub with_user_map : Chosen → Option (ℕ × ℕ) → Result Chosen OptionFault
+with_user_map chosen None = Ok chosen
+with_user_map chosen (Some exact) = if nat_lt exact.1 2 then Err (faults.UserMapInvalid exact.0) else Ok chosen
+
+abbrev pub judged : List (ℕ × Said) → Result Chosen OptionFault
+judged said = with_user_map (chosen_by said) (last_exact (all_pieces said))
+
+-- the options of a file's bytes, or its first fault: the line's, that of the lowest word, the user map's
+abbrev pub options_of : List ℕ → Result Chosen OptionFault
+options_of bytes = do
+  line ← line_of bytes
+  said ← said_from 1 (option_words line)
+  judged said
+
+-- what a call gives is what the definition says; only want of memory may come besides
+abbrev pub Gives : {A B : Type 0} → (A → B) → Result A OptionFault → Result B OptionFault → Type 0
+Gives view (Ok x) definition = definition ≡ Ok (view x)
+Gives view (Err fault) definition = fault ≢ faults.Memory → definition ≡ Err fault
+
+-- words are numbered from 1
+abbrev pub IsNumbered : OptionFault → Type 0
+IsNumbered faults.TooLong = Unit {0}
+IsNumbered faults.OpenQuote = Unit {0}
+IsNumbered (faults.BadMem word) = 0 < word
+IsNumbered (faults.BadMemmap word) = 0 < word
+IsNumbered (faults.UserMapInvalid word) = 0 < word
+IsNumbered (faults.BadNuma word) = 0 < word
+IsNumbered faults.Memory = Unit {0}

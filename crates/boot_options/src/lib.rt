@@ -1,0 +1,26 @@
+//! The command line: what it asks of the memory set-up.
+//!
+//! The kernel's own options for the map are words of one line: `mem=` ends RAM, `memmap=` adds
+//! ranges, takes them away or changes their type, `numa=off` has the SRAT passed over. This crate
+//! follows `next_arg` and `parse_args` for the words, `memparse` for the numbers, `parse_memopt` and
+//! `parse_memmap_one` of arch/x86/kernel/e820.c for the values. A malformed value is a fault here,
+//! where the kernel warns; a word of another name is passed over.
+//!
+//! [`read_options`] gives [`Options`]: the [`Edit`]s of the map in the order of the line, which
+//! `e820_sanitise` applies, and whether `numa=off` was there. Its one clause says value and fault
+//! exactly, by `options_of` of `specs/Options.antt`: what each word says alone, the first fault by
+//! a walk over the words, and what all of them come to. `specs/Pieces.antt` has the values of `mem=`
+//! and `memmap=`; `specs/Reading.antt` serves the proof alone.
+//!
+//! The layer above may rest on this: no type in an edit is 0, no range in one is empty, and words
+//! are numbered from 1.
+#![tactic(auto)]
+
+mod fault;
+mod options;
+mod piece;
+mod reading;
+
+pub use e820_model::Edit;
+pub use fault::OptionFault;
+pub use options::{Options, read_options};

@@ -1,0 +1,55 @@
+ghost use Rattle.std.specs.Prelude.{◌≡◌, ℕ, ◌≤◌, length, MatchResult, Ok, Err, IfOk, IfErr};
+ghost use Rattle.boot_options.specs.Options.{Gives, chosen, line_of, options_of};
+ghost use Rattle.boot_options.specs.Reading.{state_of, finished};
+
+use e820_model::Edit;
+use std::alloc::Global;
+use text_words::{before, without_last};
+
+use crate::fault::OptionFault;
+use crate::reading::{Reading, read_words};
+
+/// What the command line asks of the memory set-up.
+#[derive(Debug, Drop)]
+pub struct Options {
+    /// The edits of the map by `mem=` and `memmap=`, in the order of the line.
+    pub edits: Vec<Edit>,
+    /// Whether `numa=off` stands in the line: the SRAT isn't read then.
+    pub numa_off: bool,
+}
+
+/// The options of the bytes of a command line's file.
+pub fn read_options(alloc: Global, bytes: &[u8]) -> Result<Options, OptionFault>
+    ensures { Gives chosen result (options_of bytes.now) }
+{
+    let line = read_line(bytes)?;
+    let reading = read_words(alloc, line)?;
+    finish(reading)
+}
+
+/// The line of the file: the bytes before the first zero byte, without a newline at the end.
+fn read_line(bytes: &[u8]) -> Result<&[u8], OptionFault>
+    ensures line { MatchResult result (λ line. line_of bytes.now ≡ Ok line.now) (λ fault. line_of bytes.now ≡ Err fault) }
+    ensures short { IfOk result (λ line. length line.now ≤ 2047) }
+{
+    let line = without_last(before(bytes, 0), b'\n');
+    if line.len() > 2047 {
+        return Err(OptionFault::TooLong);
+    }
+    if line.iter().filter(|byte| **byte == b'"').count() % 2 != 0 {
+        return Err(OptionFault::OpenQuote);
+    }
+    Ok(line)
+}
+
+/// The options, unless a user map wants further pieces.
+fn finish(reading: Reading) -> Result<Options, OptionFault>
+    ensures { Gives chosen result (finished (state_of reading)) }
+{
+    if let Some(map) = reading.user_map {
+        if map.wanting > 0 {
+            return Err(OptionFault::UserMapInvalid { word: map.word });
+        }
+    }
+    Ok(Options { edits: reading.edits, numa_off: reading.numa_off })
+}
