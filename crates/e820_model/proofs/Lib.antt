@@ -1,4 +1,5 @@
 mod ClaimExamples
 pub mod ClaimLaws
+pub mod GreaterLaws
 mod UsableExamples
 pub mod UsableLaws

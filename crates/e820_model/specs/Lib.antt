@@ -1,3 +1,4 @@
 pub mod Claims
+pub mod Greater
 pub mod Map
 pub mod Usable

@@ -1,3 +1,7 @@
+ghost use Rattle.std.specs.Prelude.{◌≡◌};
+ghost use Rattle.e820_model.specs.Greater.{greater, greater_none, greater_alone, greater_grouped};
+
+use address_runs::{Overlay, Stretch};
 use bm_base::Range;
 use std::marker::Model;
 
@@ -20,4 +24,47 @@ impl Model for Run {
     ghost invariant = { λ r. r.range.base + r.range.size < 2 ^ 64 };
 
     ghost inverse = { λ r. record { range = record { base = r.base; size = r.size }; kind = r.value } };
+}
+
+impl Stretch for Run {
+    type Value = u32;
+
+    ghost run = { λ r. r };
+
+    fn of(range: Range, kind: u32) -> Run {
+        Run { range, kind }
+    }
+
+    fn range(&self) -> Range {
+        self.range
+    }
+
+    fn value(&self) -> u32 {
+        self.kind
+    }
+
+    fn is_same(first: u32, second: u32) -> bool {
+        first == second
+    }
+}
+
+/// Where two ranges with types lie over one another the greater type holds.
+impl Overlay for Run {
+    ghost joined = { greater };
+
+    fn join(first: Option<u32>, second: Option<u32>) -> Option<u32>
+        ensures { result ≡ greater first second }
+    {
+        match (first, second) {
+            (Some(first), Some(second)) => Some(first.max(second)),
+            (Some(kind), None) | (None, Some(kind)) => Some(kind),
+            (None, None) => None,
+        }
+    }
+
+    ghost before_none = { greater_none };
+
+    ghost behind_none = { greater_alone };
+
+    ghost grouped = { greater_grouped };
 }

@@ -1,0 +1,165 @@
+-- The claims of the parts of a claim, and what cutting makes of a whole list.
+use Rattle.std.proofs.Common.{◌≡◌, ℕ, ◌+◌, ◌-◌, ◌^◌, ◌<◌, ◌≤◌, ◌==◌, Bool, true, false, ◌&&◌, ◌||◌, not, nat_le, nat_lt, if◌then◌else◌, min, max, Option, Some, None, List, [], ◌∷◌, ◌++◌, refl, sym, ◌∙◌, ap, subst, inl, inr, arith}
+use Rattle.std.specs.List.{flat_map}
+use Rattle.std.proofs.lemmas.Bool.Decides.{nat_tests}
+use Rattle.std.proofs.lemmas.Bool.{cases_Bool}
+use Rattle.bm_base.specs.Extent.{Extent, end_of, covers}
+use Rattle.address_runs.specs.Runs.{RunOf, run_end, lies_in}
+use Rattle.e820_model.specs.Claims.{Claims, EndInSpace, is_covered_by, claims_of_entries, added, edited}
+use Rattle.e820_model.specs.Map.{claims_of, AreClaims}
+use Rattle.e820_model.specs.declared.entry.Entry.{Entry}
+use Rattle.e820_model.specs.declared.edit.Edit.TheVariants as edit
+use Rattle.e820_model.proofs.ClaimLaws.{is_value, claims_append, are_append}
+use Rattle.e820_sanitise.specs.Pieces.{between, between_if, parts, is_meant, inside, cut, claim_of}
+
+-- one part
+between_test : (from until kind x k : ℕ) → claims_of (between from until kind) x k ≡ (nat_le from x && nat_lt x until && k == kind)
+between_test from until kind x k =
+    elim (cases_Bool (nat_lt from until)) as (λ _. claims_of (between from until kind) x k ≡ (nat_le from x && nat_lt x until && k == kind)) [
+      inl some ↦ rw some (grind (arith, nat_tests))
+    | inr none ↦ rw none (grind (arith, nat_tests))
+    ]
+
+between_if_test : (from until : ℕ) (kind : Option ℕ) (x k : ℕ) → claims_of (between_if from until kind) x k ≡ (nat_le from x && nat_lt x until && is_value kind k)
+between_if_test from until None x k = grind (arith, nat_tests)
+between_if_test from until (Some kind) x k = between_test from until kind x k
+
+append_test : (rs ss : List (RunOf ℕ)) (x k : ℕ) → claims_of (rs ++ ss) x k ≡ (claims_of rs x k || claims_of ss x k)
+append_test rs ss x k = ap (λ (c : Claims). c x k) (claims_append rs ss)
+
+-- the three parts of a claim: the claim's addresses, with the other type where the range is
+parts_test : (range : Extent) (inner : Option ℕ) (r : RunOf ℕ) (x k : ℕ)
+    → claims_of (parts range inner r) x k ≡ (lies_in r x && (if covers range x then is_value inner k else (k == r.value)))
+parts_test range inner r x k =
+    let first : List (RunOf ℕ) = between r.base (min range.base (run_end r)) r.value in
+    let second : List (RunOf ℕ) = between_if (max range.base r.base) (min (end_of range) (run_end r)) inner in
+    let third : List (RunOf ℕ) = between (max (end_of range) r.base) (run_end r) r.value in
+    append_test (first ++ second) third x k
+      ∙ rw (append_test first second x k, between_test r.base (min range.base (run_end r)) r.value x k,
+            between_if_test (max range.base r.base) (min (end_of range) (run_end r)) inner x k,
+            between_test (max (end_of range) r.base) (run_end r) r.value x k)
+          (grind (arith, nat_tests))
+
+-- one claim of a list under a removal of one type, of all, and under a change
+remove_step : (lies in_range rest : Bool) (v kind k : ℕ)
+    → ((lies && (if in_range then is_value (if v == kind then None else Some v) k else (k == v))) || (rest && not (in_range && k == kind)))
+      ≡ (((lies && k == v) || rest) && not (in_range && k == kind))
+remove_step lies in_range rest v kind k =
+    elim (cases_Bool (v == kind)) as (λ _. ((lies && (if in_range then is_value (if v == kind then None else Some v) k else (k == v))) || (rest && not (in_range && k == kind)))
+      ≡ (((lies && k == v) || rest) && not (in_range && k == kind))) [
+      inl equal ↦ rw equal (grind (arith, nat_tests))
+    | inr other ↦ rw other (grind (arith, nat_tests))
+    ]
+
+remove_all_step : (lies in_range rest : Bool) (v k : ℕ)
+    → ((lies && (if in_range then false else (k == v))) || (rest && not in_range)) ≡ (((lies && k == v) || rest) && not in_range)
+remove_all_step lies in_range rest v k = grind (arith, nat_tests)
+
+change_step : (lies in_range rest rest_from : Bool) (v from to k : ℕ)
+    → ((lies && (if in_range then is_value (if v == from then Some to else Some v) k else (k == v)))
+        || (if in_range then ((rest_from && k == to) || (rest && not (k == from))) else rest))
+      ≡ (if in_range then ((((lies && from == v) || rest_from) && k == to) || (((lies && k == v) || rest) && not (k == from))) else ((lies && k == v) || rest))
+change_step lies in_range rest rest_from v from to k =
+    elim (cases_Bool (v == from)) as (λ _. ((lies && (if in_range then is_value (if v == from then Some to else Some v) k else (k == v)))
+        || (if in_range then ((rest_from && k == to) || (rest && not (k == from))) else rest))
+      ≡ (if in_range then ((((lies && from == v) || rest_from) && k == to) || (((lies && k == v) || rest) && not (k == from))) else ((lies && k == v) || rest))) [
+      inl equal ↦ rw equal (grind (arith, nat_tests))
+    | inr other ↦ rw other (grind (arith, nat_tests))
+    ]
+
+remove_test : (range : Extent) (kind : ℕ) (rs : List (RunOf ℕ)) (x k : ℕ)
+    → claims_of (cut range (Some kind) None rs) x k ≡ edited (edit.Remove range kind) (claims_of rs) x k
+remove_test range kind [] x k = refl
+remove_test range kind (r ∷ rs) x k =
+    append_test (parts range (inside (Some kind) None r.value) r) (cut range (Some kind) None rs) x k
+      ∙ rw (parts_test range (inside (Some kind) None r.value) r x k, remove_test range kind rs x k) (remove_step (lies_in r x) (covers range x) (claims_of rs x k) r.value kind k)
+
+remove_all_test : (range : Extent) (rs : List (RunOf ℕ)) (x k : ℕ)
+    → claims_of (cut range None None rs) x k ≡ edited (edit.RemoveAll range) (claims_of rs) x k
+remove_all_test range [] x k = refl
+remove_all_test range (r ∷ rs) x k =
+    append_test (parts range None r) (cut range None None rs) x k
+      ∙ rw (parts_test range None r x k, remove_all_test range rs x k) (remove_all_step (lies_in r x) (covers range x) (claims_of rs x k) r.value k)
+
+change_none : (b : Bool) → (if b then false else false) ≡ false
+change_none true = refl
+change_none false = refl
+
+change_test : (range : Extent) (from to : ℕ) (rs : List (RunOf ℕ)) (x k : ℕ)
+    → claims_of (cut range (Some from) (Some to) rs) x k ≡ edited (edit.Change range from to) (claims_of rs) x k
+change_test range from to [] x k = sym (change_none (covers range x))
+change_test range from to (r ∷ rs) x k =
+    append_test (parts range (inside (Some from) (Some to) r.value) r) (cut range (Some from) (Some to) rs) x k
+      ∙ rw (parts_test range (inside (Some from) (Some to) r.value) r x k, change_test range from to rs x k)
+          (change_step (lies_in r x) (covers range x) (claims_of rs x k) (claims_of rs x from) r.value from to k)
+
+-- so the cut lists are the edited claims
+pub remove_same : (range : Extent) (kind : ℕ) (rs : List (RunOf ℕ)) → claims_of (cut range (Some kind) None rs) ≡ edited (edit.Remove range kind) (claims_of rs)
+remove_same range kind rs = λ i x k. remove_test range kind rs x k i
+
+pub remove_all_same : (range : Extent) (rs : List (RunOf ℕ)) → claims_of (cut range None None rs) ≡ edited (edit.RemoveAll range) (claims_of rs)
+remove_all_same range rs = λ i x k. remove_all_test range rs x k i
+
+pub change_same : (range : Extent) (from to : ℕ) (rs : List (RunOf ℕ))
+    → claims_of (cut range (Some from) (Some to) rs) ≡ edited (edit.Change range from to) (claims_of rs)
+change_same range from to rs = λ i x k. change_test range from to rs x k i
+
+add_test : (range : Extent) (kind : ℕ) (rs : List (RunOf ℕ)) (x k : ℕ)
+    → claims_of (rs ++ between range.base (end_of range) kind) x k ≡ edited (edit.Add range kind) (claims_of rs) x k
+add_test range kind rs x k =
+    append_test rs (between range.base (end_of range) kind) x k ∙ ap (λ b. claims_of rs x k || b) (between_test range.base (end_of range) kind x k)
+
+pub add_same : (range : Extent) (kind : ℕ) (rs : List (RunOf ℕ)) → claims_of (rs ++ between range.base (end_of range) kind) ≡ edited (edit.Add range kind) (claims_of rs)
+add_same range kind rs = λ i x k. add_test range kind rs x k i
+
+-- the claims of entries
+claim_test : (e : Entry) (x k : ℕ) → claims_of (claim_of e) x k ≡ (is_covered_by e x && nat_lt 0 k && k == e.kind)
+claim_test e x k =
+    elim (cases_Bool (nat_lt 0 e.kind)) as (λ _. claims_of (claim_of e) x k ≡ (is_covered_by e x && nat_lt 0 k && k == e.kind)) [
+      inl some ↦ rw some (between_test e.addr (e.addr + e.size) e.kind x k ∙ grind (arith, nat_tests))
+    | inr none ↦ rw none (grind (arith, nat_tests))
+    ]
+
+entries_test : (es : List Entry) (x k : ℕ) → claims_of (flat_map claim_of es) x k ≡ claims_of_entries es x k
+entries_test [] x k = refl
+entries_test (e ∷ es) x k = append_test (claim_of e) (flat_map claim_of es) x k ∙ rw (claim_test e x k, entries_test es x k) refl
+
+pub entries_same : (rs : List (RunOf ℕ)) (es : List Entry) → claims_of (rs ++ flat_map claim_of es) ≡ added (claims_of rs) (claims_of_entries es)
+entries_same rs es =
+    claims_append rs (flat_map claim_of es) ∙ (λ i x k. claims_of rs x k || entries_test es x k i)
+
+-- parts of claims are claims
+pub are_between : (from until kind : ℕ) → until < 2 ^ 64 → 0 < kind → kind < 2 ^ 32 → AreClaims (between from until kind)
+are_between from until kind space some small =
+    elim (cases_Bool (nat_lt from until)) as (λ _. AreClaims (between from until kind)) [
+      inl above ↦
+        let lt : from < until = grind (arith, nat_tests) in
+        let one : AreClaims (record { base = from; size = until - from; value = kind } ∷ []) = (omega arith, omega arith, some, small, tt) in
+        rw above one
+    | inr none ↦ rw none tt
+    ]
+
+-- a type, if any
+abbrev pub IsType : Option ℕ → Type 0
+IsType None = Unit {0}
+IsType (Some kind) = (0 < kind) × (kind < 2 ^ 32)
+
+are_between_if : (from until : ℕ) (kind : Option ℕ) → until < 2 ^ 64 → IsType kind → AreClaims (between_if from until kind)
+are_between_if from until None space type = tt
+are_between_if from until (Some kind) space type = are_between from until kind space type.0 type.1
+
+type_inside : (meant instead : Option ℕ) (kind : ℕ) → IsType instead → 0 < kind → kind < 2 ^ 32 → IsType (inside meant instead kind)
+type_inside meant instead kind type some small =
+    elim (cases_Bool (is_meant meant kind)) as (λ _. IsType (inside meant instead kind)) [
+      inl one ↦ rw one type
+    | inr other ↦ let own : IsType (Some kind) = (some, small) in rw other own
+    ]
+
+pub are_cut : (range : Extent) (meant instead : Option ℕ) (rs : List (RunOf ℕ)) → IsType instead → AreClaims rs → AreClaims (cut range meant instead rs)
+are_cut range meant instead [] type claims = tt
+are_cut range meant instead (r ∷ rs) type claims =
+    let first : AreClaims (between r.base (min range.base (run_end r)) r.value) = are_between r.base (min range.base (run_end r)) r.value (omega arith) claims.2 claims.3 in
+    let second : AreClaims (between_if (max range.base r.base) (min (end_of range) (run_end r)) (inside meant instead r.value)) =
+      are_between_if (max range.base r.base) (min (end_of range) (run_end r)) (inside meant instead r.value) (omega arith) (type_inside meant instead r.value type claims.2 claims.3) in
+    let third : AreClaims (between (max (end_of range) r.base) (run_end r) r.value) = are_between (max (end_of range) r.base) (run_end r) r.value (omega arith) claims.2 claims.3 in
+    are_append _ _ (are_append _ _ (are_append _ _ first second) third) (are_cut range meant instead rs type claims.4)

@@ -1,0 +1,26 @@
+//! The table of the firmware's memory map, from entries that overlap to runs that don't.
+//!
+//! Firmware hands over entries (`struct boot_e820_entry`) that may overlap, touch, be empty, and come in
+//! any order; an extension adds more, and options edit the map. [`Table`] holds what all of them
+//! claim. It follows the kernel's `e820_table` through `__append_e820_table`, `e820__update_table`,
+//! `e820__range_add`, `e820__range_remove`, `e820__range_update` and `trim_bios_range`, of which each is a
+//! method here, and its contract says what becomes of the claims of every address.
+//!
+//! The layer above may rest on this: each method's clause is one equation between the claims before and
+//! after (`specs/Claims.antt` of `e820_model`), so that a chain of calls composes to the definition of
+//! the finished map; [`Table::runs`] gives exactly the runs of that map, or says how many there are too
+//! many; and after [`Memory`](bm_base::Memory) a table is as it was.
+//!
+//! Inside, the claims are a flat list of ranges with types in no order. An edit cuts each of them;
+//! settling lays them over one another by halves (`overlay_all` of `address_runs`), so a table of
+//! thousands of entries takes milliseconds.
+#![tactic(auto)]
+
+mod fault;
+mod pieces;
+mod settle;
+mod table;
+
+pub use e820_model::Run;
+pub use fault::MapFault;
+pub use table::{E820_MAX_ENTRIES, Table};

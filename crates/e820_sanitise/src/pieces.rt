@@ -1,0 +1,181 @@
+ghost use Rattle.std.specs.Prelude.{◌≡◌, ◌+◌, ◌^◌, ◌<◌, ◌++◌, OnOk, IfOk};
+ghost use Rattle.bm_base.specs.Extent.{end_of};
+ghost use Rattle.e820_model.specs.Claims.{EndInSpace, HasTypes, added, claims_of_entries, edited, trimmed};
+ghost use Rattle.e820_model.specs.Map.{AreClaims, claims_of};
+ghost use Rattle.e820_sanitise.specs.Pieces.{between, between_if, claim_of, cut, inside, parts};
+
+use bm_base::{Memory, Range};
+use e820_model::{Edit, Entry, Run};
+use std::alloc::Global;
+
+/// The firmware's type of memory (`E820_TYPE_RAM`).
+const RAM: u32 = 1;
+
+/// The firmware's type of what isn't to be used (`E820_TYPE_RESERVED`).
+const RESERVED: u32 = 2;
+
+fn push_between(claims: &mut Vec<Run>, from: u64, until: u64, kind: u32) -> Result<(), Memory>
+    ensures added { OnOk result (claims.new.items ≡ claims.old.items ++ between from until kind) }
+    ensures claims { OnOk result (0 < kind → AreClaims claims.old.items → AreClaims claims.new.items) }
+{
+    if until <= from {
+        return Ok(());
+    }
+    let range = Range { base: from, size: until - from };
+    if claims.push(Run { range, kind }).is_err() {
+        return Err(Memory);
+    }
+    Ok(())
+}
+
+fn push_between_if(
+    claims: &mut Vec<Run>,
+    from: u64,
+    until: u64,
+    kind: Option<u32>,
+) -> Result<(), Memory>
+    ensures { OnOk result (claims.new.items ≡ claims.old.items ++ between_if from until kind) }
+{
+    let Some(kind) = kind else {
+        return Ok(());
+    };
+    push_between(claims, from, until, kind)
+}
+
+/// The claim's part below the range, the one inside it for the type `inner` or none, and the one
+/// behind it.
+fn push_parts(
+    claims: &mut Vec<Run>,
+    range: &Range,
+    inner: Option<u32>,
+    claim: &Run,
+) -> Result<(), Memory>
+    ensures { OnOk result (claims.new.items ≡ claims.old.items ++ parts range.now inner claim.now) }
+{
+    let start = claim.range.base;
+    let end = claim.range.end();
+    push_between(claims, start, range.base.min(end), claim.kind)?;
+    push_between_if(claims, range.base.max(start), range.end().min(end), inner)?;
+    push_between(claims, range.end().max(start), end, claim.kind)
+}
+
+/// The claims with the range cut out of each: inside it `instead` stands, or nothing, in place of
+/// the type that is meant, or of every type.
+fn cut_claims(
+    alloc: Global,
+    claims: &[Run],
+    range: &Range,
+    meant: Option<u32>,
+    instead: Option<u32>,
+) -> Result<Vec<Run>, Memory>
+    ensures { IfOk result (λ left. left.items ≡ cut range.now meant instead claims.now) }
+{
+    let mut left = Vec::new(alloc);
+    for claim in claims {
+        let inner = inside_kind(meant, instead, claim.kind);
+        push_parts(&mut left, range, inner, claim)?;
+    }
+    Ok(left)
+}
+
+/// What stands inside the range in place of the type.
+fn inside_kind(meant: Option<u32>, instead: Option<u32>, kind: u32) -> Option<u32>
+    ensures { result ≡ inside meant instead kind }
+{
+    match meant {
+        Some(meant) if kind != meant => Some(kind),
+        _ => instead,
+    }
+}
+
+/// The claims and one more, of the range for the type.
+fn with_claim(
+    alloc: Global,
+    claims: &[Run],
+    range: &Range,
+    kind: u32,
+) -> Result<Vec<Run>, Memory>
+    ensures added {
+        IfOk result (λ all. all.items ≡ claims.now ++ between range.now.base (end_of range.now) kind)
+    }
+    ensures claims { IfOk result (λ all. 0 < kind → AreClaims claims.now → AreClaims all.items) }
+{
+    let mut all = copy_of(alloc, claims)?;
+    push_between(&mut all, range.base, range.end(), kind)?;
+    Ok(all)
+}
+
+fn copy_of(alloc: Global, claims: &[Run]) -> Result<Vec<Run>, Memory>
+    ensures { IfOk result (λ copy. copy.items ≡ claims.now) }
+{
+    let mut copy = Vec::new(alloc);
+    if copy.extend_from_slice(claims).is_err() {
+        return Err(Memory);
+    }
+    Ok(copy)
+}
+
+/// The claim of an entry; nothing where it is empty or has type 0.
+fn push_entry(claims: &mut Vec<Run>, entry: &Entry) -> Result<(), Memory>
+    requires { entry.now.addr + entry.now.size < 2 ^ 64 }
+    ensures added { OnOk result (claims.new.items ≡ claims.old.items ++ claim_of entry.now) }
+    ensures claims { OnOk result (AreClaims claims.old.items → AreClaims claims.new.items) }
+{
+    if entry.kind == 0 {
+        return Ok(());
+    }
+    push_between(claims, entry.addr, entry.addr + entry.size, entry.kind)
+}
+
+/// The claims and those of the entries.
+pub fn with_entries(
+    alloc: Global,
+    claims: &[Run],
+    entries: &[Entry],
+) -> Result<Vec<Run>, Memory>
+    requires claims { AreClaims claims.now }
+    requires space { EndInSpace entries.now }
+    ensures same {
+        IfOk result (λ all. claims_of all.items ≡ added (claims_of claims.now) (claims_of_entries entries.now))
+    }
+    ensures claims { IfOk result (λ all. AreClaims all.items) }
+{
+    let mut all = copy_of(alloc, claims)?;
+    for entry in entries {
+        push_entry(&mut all, entry)?;
+    }
+    Ok(all)
+}
+
+/// The claims after the edit.
+pub fn edited(alloc: Global, claims: &[Run], edit: &Edit) -> Result<Vec<Run>, Memory>
+    requires claims { AreClaims claims.now }
+    requires types { HasTypes edit.now }
+    ensures same { IfOk result (λ left. claims_of left.items ≡ edited edit.now (claims_of claims.now)) }
+    ensures claims { IfOk result (λ left. AreClaims left.items) }
+{
+    match edit {
+        Edit::Add { range, kind } => with_claim(alloc, claims, range, *kind),
+        Edit::Remove { range, kind } => cut_claims(alloc, claims, range, Some(*kind), None),
+        Edit::RemoveAll { range } => cut_claims(alloc, claims, range, None, None),
+        Edit::Change { range, from, to } => {
+            cut_claims(alloc, claims, range, Some(*from), Some(*to))
+        }
+        Edit::Clear => Ok(Vec::new(alloc)),
+    }
+}
+
+/// The claims after the BIOS's areas are trimmed: the first page is reserved, and no memory is
+/// taken from 640 KiB to 1 MiB.
+pub fn trimmed(alloc: Global, claims: &[Run]) -> Result<Vec<Run>, Memory>
+    requires { AreClaims claims.now }
+    ensures same { IfOk result (λ left. claims_of left.items ≡ trimmed (claims_of claims.now)) }
+    ensures claims { IfOk result (λ left. AreClaims left.items) }
+{
+    let first_page = Range { base: 0, size: 0x1000 };
+    let bios_area = Range { base: 0xA0000, size: 0x60000 };
+    let change = Edit::Change { range: first_page, from: RAM, to: RESERVED };
+    let remove = Edit::Remove { range: bios_area, kind: RAM };
+    let changed = edited(alloc, claims, &change)?;
+    edited(alloc, &changed, &remove)
+}
