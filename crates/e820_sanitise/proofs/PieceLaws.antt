@@ -1,11 +1,11 @@
 -- The claims of the parts of a claim, and what cutting makes of a whole list.
-use Rattle.std.proofs.Common.{◌≡◌, ℕ, ◌+◌, ◌-◌, ◌^◌, ◌<◌, ◌≤◌, ◌==◌, Bool, true, false, ◌&&◌, ◌||◌, not, nat_le, nat_lt, if◌then◌else◌, min, max, Option, Some, None, List, [], ◌∷◌, ◌++◌, refl, sym, ◌∙◌, ap, subst, inl, inr, arith}
+use Rattle.std.proofs.Common.{◌≡◌, ℕ, ◌+◌, ◌-◌, ◌^◌, ◌<◌, ◌==◌, Bool, true, false, ◌&&◌, ◌||◌, not, nat_le, nat_lt, if◌then◌else◌, min, max, Option, Some, None, List, [], ◌∷◌, ◌++◌, refl, sym, ◌∙◌, ap, inl, inr, arith}
 use Rattle.std.specs.List.{flat_map}
 use Rattle.std.proofs.lemmas.Bool.Decides.{nat_tests}
 use Rattle.std.proofs.lemmas.Bool.{cases_Bool}
 use Rattle.bm_base.specs.Extent.{Extent, end_of, covers}
 use Rattle.address_runs.specs.Runs.{RunOf, run_end, lies_in}
-use Rattle.e820_model.specs.Claims.{Claims, EndInSpace, is_covered_by, claims_of_entries, added, edited}
+use Rattle.e820_model.specs.Claims.{Claims, is_covered_by, claims_of_entries, added, edited}
 use Rattle.e820_model.specs.Map.{claims_of, AreClaims}
 use Rattle.e820_model.specs.declared.entry.Entry.{Entry}
 use Rattle.e820_model.specs.declared.edit.Edit.TheVariants as edit
@@ -16,8 +16,8 @@ use Rattle.e820_sanitise.specs.Pieces.{between, between_if, parts, is_meant, ins
 between_test : (from until kind x k : ℕ) → claims_of (between from until kind) x k ≡ (nat_le from x && nat_lt x until && k == kind)
 between_test from until kind x k =
     elim (cases_Bool (nat_lt from until)) as (λ _. claims_of (between from until kind) x k ≡ (nat_le from x && nat_lt x until && k == kind)) [
-      inl some ↦ rw some (grind (arith, nat_tests))
-    | inr none ↦ rw none (grind (arith, nat_tests))
+      | inl some ↦ rw some (grind (arith, nat_tests))
+      | inr none ↦ rw none (grind (arith, nat_tests))
     ]
 
 between_if_test : (from until : ℕ) (kind : Option ℕ) (x k : ℕ) → claims_of (between_if from until kind) x k ≡ (nat_le from x && nat_lt x until && is_value kind k)
@@ -35,20 +35,23 @@ parts_test range inner r x k =
     let second : List (RunOf ℕ) = between_if (max range.base r.base) (min (end_of range) (run_end r)) inner in
     let third : List (RunOf ℕ) = between (max (end_of range) r.base) (run_end r) r.value in
     append_test (first ++ second) third x k
-      ∙ rw (append_test first second x k, between_test r.base (min range.base (run_end r)) r.value x k,
-            between_if_test (max range.base r.base) (min (end_of range) (run_end r)) inner x k,
-            between_test (max (end_of range) r.base) (run_end r) r.value x k)
-          (grind (arith, nat_tests))
+    ∙ rw (
+      append_test first second x k,
+      between_test r.base (min range.base (run_end r)) r.value x k,
+      between_if_test (max range.base r.base) (min (end_of range) (run_end r)) inner x k,
+      between_test (max (end_of range) r.base) (run_end r) r.value x k,
+    )
+    (grind (arith, nat_tests))
 
 -- one claim of a list under a removal of one type, of all, and under a change
 remove_step : (lies in_range rest : Bool) (v kind k : ℕ)
     → ((lies && (if in_range then is_value (if v == kind then None else Some v) k else (k == v))) || (rest && not (in_range && k == kind)))
-      ≡ (((lies && k == v) || rest) && not (in_range && k == kind))
+    ≡ (((lies && k == v) || rest) && not (in_range && k == kind))
 remove_step lies in_range rest v kind k =
     elim (cases_Bool (v == kind)) as (λ _. ((lies && (if in_range then is_value (if v == kind then None else Some v) k else (k == v))) || (rest && not (in_range && k == kind)))
-      ≡ (((lies && k == v) || rest) && not (in_range && k == kind))) [
-      inl equal ↦ rw equal (grind (arith, nat_tests))
-    | inr other ↦ rw other (grind (arith, nat_tests))
+    ≡ (((lies && k == v) || rest) && not (in_range && k == kind))) [
+      | inl equal ↦ rw equal (grind (arith, nat_tests))
+      | inr other ↦ rw other (grind (arith, nat_tests))
     ]
 
 remove_all_step : (lies in_range rest : Bool) (v k : ℕ)
@@ -57,14 +60,14 @@ remove_all_step lies in_range rest v k = grind (arith, nat_tests)
 
 change_step : (lies in_range rest rest_from : Bool) (v from to k : ℕ)
     → ((lies && (if in_range then is_value (if v == from then Some to else Some v) k else (k == v)))
-        || (if in_range then ((rest_from && k == to) || (rest && not (k == from))) else rest))
-      ≡ (if in_range then ((((lies && from == v) || rest_from) && k == to) || (((lies && k == v) || rest) && not (k == from))) else ((lies && k == v) || rest))
+    || (if in_range then ((rest_from && k == to) || (rest && not (k == from))) else rest))
+    ≡ (if in_range then ((((lies && from == v) || rest_from) && k == to) || (((lies && k == v) || rest) && not (k == from))) else ((lies && k == v) || rest))
 change_step lies in_range rest rest_from v from to k =
     elim (cases_Bool (v == from)) as (λ _. ((lies && (if in_range then is_value (if v == from then Some to else Some v) k else (k == v)))
-        || (if in_range then ((rest_from && k == to) || (rest && not (k == from))) else rest))
-      ≡ (if in_range then ((((lies && from == v) || rest_from) && k == to) || (((lies && k == v) || rest) && not (k == from))) else ((lies && k == v) || rest))) [
-      inl equal ↦ rw equal (grind (arith, nat_tests))
-    | inr other ↦ rw other (grind (arith, nat_tests))
+    || (if in_range then ((rest_from && k == to) || (rest && not (k == from))) else rest))
+    ≡ (if in_range then ((((lies && from == v) || rest_from) && k == to) || (((lies && k == v) || rest) && not (k == from))) else ((lies && k == v) || rest))) [
+      | inl equal ↦ rw equal (grind (arith, nat_tests))
+      | inr other ↦ rw other (grind (arith, nat_tests))
     ]
 
 remove_test : (range : Extent) (kind : ℕ) (rs : List (RunOf ℕ)) (x k : ℕ)
@@ -72,14 +75,14 @@ remove_test : (range : Extent) (kind : ℕ) (rs : List (RunOf ℕ)) (x k : ℕ)
 remove_test range kind [] x k = refl
 remove_test range kind (r ∷ rs) x k =
     append_test (parts range (inside (Some kind) None r.value) r) (cut range (Some kind) None rs) x k
-      ∙ rw (parts_test range (inside (Some kind) None r.value) r x k, remove_test range kind rs x k) (remove_step (lies_in r x) (covers range x) (claims_of rs x k) r.value kind k)
+    ∙ rw (parts_test range (inside (Some kind) None r.value) r x k, remove_test range kind rs x k) (remove_step (lies_in r x) (covers range x) (claims_of rs x k) r.value kind k)
 
 remove_all_test : (range : Extent) (rs : List (RunOf ℕ)) (x k : ℕ)
     → claims_of (cut range None None rs) x k ≡ edited (edit.RemoveAll range) (claims_of rs) x k
 remove_all_test range [] x k = refl
 remove_all_test range (r ∷ rs) x k =
     append_test (parts range None r) (cut range None None rs) x k
-      ∙ rw (parts_test range None r x k, remove_all_test range rs x k) (remove_all_step (lies_in r x) (covers range x) (claims_of rs x k) r.value k)
+    ∙ rw (parts_test range None r x k, remove_all_test range rs x k) (remove_all_step (lies_in r x) (covers range x) (claims_of rs x k) r.value k)
 
 change_none : (b : Bool) → (if b then false else false) ≡ false
 change_none true = refl
@@ -90,8 +93,8 @@ change_test : (range : Extent) (from to : ℕ) (rs : List (RunOf ℕ)) (x k : �
 change_test range from to [] x k = sym (change_none (covers range x))
 change_test range from to (r ∷ rs) x k =
     append_test (parts range (inside (Some from) (Some to) r.value) r) (cut range (Some from) (Some to) rs) x k
-      ∙ rw (parts_test range (inside (Some from) (Some to) r.value) r x k, change_test range from to rs x k)
-          (change_step (lies_in r x) (covers range x) (claims_of rs x k) (claims_of rs x from) r.value from to k)
+    ∙ rw (parts_test range (inside (Some from) (Some to) r.value) r x k, change_test range from to rs x k)
+    (change_step (lies_in r x) (covers range x) (claims_of rs x k) (claims_of rs x from) r.value from to k)
 
 -- so the cut lists are the edited claims
 pub remove_same : (range : Extent) (kind : ℕ) (rs : List (RunOf ℕ)) → claims_of (cut range (Some kind) None rs) ≡ edited (edit.Remove range kind) (claims_of rs)
@@ -116,8 +119,8 @@ add_same range kind rs = λ i x k. add_test range kind rs x k i
 claim_test : (e : Entry) (x k : ℕ) → claims_of (claim_of e) x k ≡ (is_covered_by e x && nat_lt 0 k && k == e.kind)
 claim_test e x k =
     elim (cases_Bool (nat_lt 0 e.kind)) as (λ _. claims_of (claim_of e) x k ≡ (is_covered_by e x && nat_lt 0 k && k == e.kind)) [
-      inl some ↦ rw some (between_test e.addr (e.addr + e.size) e.kind x k ∙ grind (arith, nat_tests))
-    | inr none ↦ rw none (grind (arith, nat_tests))
+      | inl some ↦ rw some (between_test e.addr (e.addr + e.size) e.kind x k ∙ grind (arith, nat_tests))
+      | inr none ↦ rw none (grind (arith, nat_tests))
     ]
 
 entries_test : (es : List Entry) (x k : ℕ) → claims_of (flat_map claim_of es) x k ≡ claims_of_entries es x k
@@ -132,11 +135,11 @@ entries_same rs es =
 pub are_between : (from until kind : ℕ) → until < 2 ^ 64 → 0 < kind → kind < 2 ^ 32 → AreClaims (between from until kind)
 are_between from until kind space some small =
     elim (cases_Bool (nat_lt from until)) as (λ _. AreClaims (between from until kind)) [
-      inl above ↦
-        let lt : from < until = grind (arith, nat_tests) in
-        let one : AreClaims (record { base = from; size = until - from; value = kind } ∷ []) = (omega arith, omega arith, some, small, tt) in
-        rw above one
-    | inr none ↦ rw none tt
+      | inl above ↦
+          let lt : from < until = grind (arith, nat_tests) in
+          let one : AreClaims (record { base = from; size = until - from; value = kind } ∷ []) = (omega arith, omega arith, some, small, tt) in
+          rw above one
+      | inr none ↦ rw none tt
     ]
 
 -- a type, if any
@@ -151,8 +154,8 @@ are_between_if from until (Some kind) space type = are_between from until kind s
 type_inside : (meant instead : Option ℕ) (kind : ℕ) → IsType instead → 0 < kind → kind < 2 ^ 32 → IsType (inside meant instead kind)
 type_inside meant instead kind type some small =
     elim (cases_Bool (is_meant meant kind)) as (λ _. IsType (inside meant instead kind)) [
-      inl one ↦ rw one type
-    | inr other ↦ let own : IsType (Some kind) = (some, small) in rw other own
+      | inl one ↦ rw one type
+      | inr other ↦ let own : IsType (Some kind) = (some, small) in rw other own
     ]
 
 pub are_cut : (range : Extent) (meant instead : Option ℕ) (rs : List (RunOf ℕ)) → IsType instead → AreClaims rs → AreClaims (cut range meant instead rs)
@@ -160,6 +163,6 @@ are_cut range meant instead [] type claims = tt
 are_cut range meant instead (r ∷ rs) type claims =
     let first : AreClaims (between r.base (min range.base (run_end r)) r.value) = are_between r.base (min range.base (run_end r)) r.value (omega arith) claims.2 claims.3 in
     let second : AreClaims (between_if (max range.base r.base) (min (end_of range) (run_end r)) (inside meant instead r.value)) =
-      are_between_if (max range.base r.base) (min (end_of range) (run_end r)) (inside meant instead r.value) (omega arith) (type_inside meant instead r.value type claims.2 claims.3) in
+    are_between_if (max range.base r.base) (min (end_of range) (run_end r)) (inside meant instead r.value) (omega arith) (type_inside meant instead r.value type claims.2 claims.3) in
     let third : AreClaims (between (max (end_of range) r.base) (run_end r) r.value) = are_between (max (end_of range) r.base) (run_end r) r.value (omega arith) claims.2 claims.3 in
     are_append _ _ (are_append _ _ (are_append _ _ first second) third) (are_cut range meant instead rs type claims.4)

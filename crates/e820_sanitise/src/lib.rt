@@ -20,6 +20,8 @@ mod fault;
 mod pieces;
 mod settle;
 mod table;
+#[cfg(test)]
+mod tests;
 
 pub use e820_model::Run;
 pub use fault::MapFault;

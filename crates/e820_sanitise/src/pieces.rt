@@ -21,7 +21,10 @@ fn push_between(claims: &mut Vec<Run>, from: u64, until: u64, kind: u32) -> Resu
     if until <= from {
         return Ok(());
     }
-    let range = Range { base: from, size: until - from };
+    let range = Range {
+        base: from,
+        size: until - from,
+    };
     if claims.push(Run { range, kind }).is_err() {
         return Err(Memory);
     }
@@ -89,15 +92,8 @@ fn inside_kind(meant: Option<u32>, instead: Option<u32>, kind: u32) -> Option<u3
 }
 
 /// The claims and one more, of the range for the type.
-fn with_claim(
-    alloc: Global,
-    claims: &[Run],
-    range: &Range,
-    kind: u32,
-) -> Result<Vec<Run>, Memory>
-    ensures added {
-        IfOk result (λ all. all.items ≡ claims.now ++ between range.now.base (end_of range.now) kind)
-    }
+fn with_claim(alloc: Global, claims: &[Run], range: &Range, kind: u32) -> Result<Vec<Run>, Memory>
+    ensures added { IfOk result (λ all. all.items ≡ claims.now ++ between range.now.base (end_of range.now) kind) }
     ensures claims { IfOk result (λ all. 0 < kind → AreClaims claims.now → AreClaims all.items) }
 {
     let mut all = copy_of(alloc, claims)?;
@@ -128,16 +124,10 @@ fn push_entry(claims: &mut Vec<Run>, entry: &Entry) -> Result<(), Memory>
 }
 
 /// The claims and those of the entries.
-pub fn with_entries(
-    alloc: Global,
-    claims: &[Run],
-    entries: &[Entry],
-) -> Result<Vec<Run>, Memory>
+pub fn with_entries(alloc: Global, claims: &[Run], entries: &[Entry]) -> Result<Vec<Run>, Memory>
     requires claims { AreClaims claims.now }
     requires space { EndInSpace entries.now }
-    ensures same {
-        IfOk result (λ all. claims_of all.items ≡ added (claims_of claims.now) (claims_of_entries entries.now))
-    }
+    ensures same { IfOk result (λ all. claims_of all.items ≡ added (claims_of claims.now) (claims_of_entries entries.now)) }
     ensures claims { IfOk result (λ all. AreClaims all.items) }
 {
     let mut all = copy_of(alloc, claims)?;
@@ -172,10 +162,23 @@ pub fn trimmed(alloc: Global, claims: &[Run]) -> Result<Vec<Run>, Memory>
     ensures same { IfOk result (λ left. claims_of left.items ≡ trimmed (claims_of claims.now)) }
     ensures claims { IfOk result (λ left. AreClaims left.items) }
 {
-    let first_page = Range { base: 0, size: 0x1000 };
-    let bios_area = Range { base: 0xA0000, size: 0x60000 };
-    let change = Edit::Change { range: first_page, from: RAM, to: RESERVED };
-    let remove = Edit::Remove { range: bios_area, kind: RAM };
+    let first_page = Range {
+        base: 0,
+        size: 0x1000,
+    };
+    let bios_area = Range {
+        base: 0xA0000,
+        size: 0x60000,
+    };
+    let change = Edit::Change {
+        range: first_page,
+        from: RAM,
+        to: RESERVED,
+    };
+    let remove = Edit::Remove {
+        range: bios_area,
+        kind: RAM,
+    };
     let changed = edited(alloc, claims, &change)?;
     edited(alloc, &changed, &remove)
 }
