@@ -1,4 +1,5 @@
 pub mod Claims
 pub mod Greater
 pub mod Map
+pub mod MapText
 pub mod Usable

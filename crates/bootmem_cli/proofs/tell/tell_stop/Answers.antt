@@ -1,0 +1,8 @@
+-- The pieces of each line are the line.
+use Rattle.bootmem_cli.proofs.tell.tell_stop.Goals as goal
+
+pub returns-in-MapFull : goal.returns-in-MapFull
+returns-in-MapFull g c = rw (c.in-MapFull.is, ← c.format-runs.ensures.text) c.put_all.ensures
+
+pub returns-in-Memory : goal.returns-in-Memory
+returns-in-Memory g c = rw c.in-Memory.is c.put_all-in-Memory.ensures

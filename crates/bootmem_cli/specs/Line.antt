@@ -1,0 +1,55 @@
+-- The one line on the error output.
+use Rattle.std.specs.Prelude.{ℕ, List, ◌++◌, codes, decimal, Option, ◌⊎◌}
+use Rattle.std.specs.Io.KnownBytes.{Appends}
+use Rattle.bm_io.specs.Counts.{Rose}
+use Rattle.bm_io.specs.Told.{AppendsFront}
+use Rattle.e820_table.specs.declared.zero_page.ZeroFault.{ZeroFault}
+use Rattle.e820_table.specs.declared.zero_page.ZeroFault.TheVariants as zero
+use Rattle.bootmem_cli.specs.declared.failure.Input.{Input}
+use Rattle.bootmem_cli.specs.declared.failure.Input.TheVariants as inputs
+use Rattle.bootmem_cli.specs.declared.failure.InputFault.{InputFault}
+use Rattle.bootmem_cli.specs.declared.failure.InputFault.TheVariants as faults
+use Rattle.bootmem_cli.specs.declared.failure.Stop.{Stop}
+use Rattle.bootmem_cli.specs.declared.failure.Stop.TheVariants as stops
+use Rattle.bootmem_cli.specs.declared.failure.Refusal.{Refusal}
+use Rattle.bootmem_cli.specs.declared.failure.Refusal.TheVariants as refusals
+use Rattle.bootmem_cli.specs.declared.failure.Failure.{Failure}
+use Rattle.bootmem_cli.specs.declared.failure.Failure.TheVariants as failures
+use Rattle.bootmem_cli.specs.Words.{Named, name_in}
+
+-- the word for an input in the line of its fault
+abbrev pub input_text : Input → List ℕ
+input_text inputs.ZeroPage = codes "zeropage"
+
+abbrev pub zero_fault_line : ZeroFault → List ℕ
+zero_fault_line zero.WrongLength = codes "bootmem: zeropage: wrong length\n"
+zero_fault_line zero.TooFew = codes "bootmem: zeropage: too few entries\n"
+zero_fault_line zero.TooMany = codes "bootmem: zeropage: too many entries\n"
+zero_fault_line (zero.EntryTooFar index) = codes "bootmem: zeropage: entry " ++ (decimal index ++ codes " too far\n")
+
+abbrev pub fault_line : InputFault → List ℕ
+fault_line (faults.TooLong input) = codes "bootmem: " ++ (input_text input ++ codes ": too long\n")
+fault_line (faults.ZeroPage fault) = zero_fault_line fault
+
+abbrev pub stop_line : Stop → List ℕ
+stop_line (stops.MapFull runs) = codes "bootmem: stopped: " ++ (decimal runs ++ codes " map runs\n")
+stop_line stops.Memory = codes "bootmem: out of memory\n"
+
+abbrev pub refusal_line : Option Named → Refusal → List ℕ
+refusal_line accepted refusals.Usage = codes "bootmem: usage\n"
+refusal_line accepted (refusals.Unread input) = codes "bootmem: cannot read " ++ (name_in accepted input ++ codes "\n")
+refusal_line accepted (refusals.Faulty fault) = fault_line fault
+refusal_line accepted (refusals.Stopped stop) = stop_line stop
+
+-- the line of a failure; a file that couldn't be read is named as the words name it
+abbrev pub line_of : Option Named → Failure → List ℕ
+line_of accepted (failures.Refused refusal) = refusal_line accepted refusal
+line_of accepted failures.Unwritten = codes "bootmem: cannot write\n"
+line_of accepted failures.Memory = codes "bootmem: out of memory\n"
+
+-- the front of the line was appended to the output, and all of it unless the output itself failed; `written`,
+-- `faults` and `wants` are those of its kind
+pub record Tells {S : Type 0} (written : S → Option (List ℕ)) (faults wants : S → ℕ) (old new : S) (line : List ℕ)
+    : Type 0 where
+  pub front : AppendsFront (written old) (written new) line
+  pub whole : Appends (written old) (written new) line ⊎ Rose (faults old) (faults new) ⊎ Rose (wants old) (wants new)

@@ -1,0 +1,145 @@
+ghost use Rattle.std.specs.Prelude.{◌≡◌};
+ghost use Rattle.bootmem_cli.specs.Status.{status_of, refusal_status};
+
+use bm_base::Memory;
+use e820_sanitise::MapFault;
+use e820_table::ZeroFault;
+
+/// The files that the words may name, in the order in which they are read.
+#[derive(Clone, Copy, Debug, PartialEq, Eq)]
+pub enum Input {
+    /// The zero page (`struct boot_params`).
+    ZeroPage,
+}
+
+/// What is wrong with a file that could be read.
+#[derive(Clone, Copy, Debug, PartialEq, Eq)]
+pub enum InputFault {
+    /// It has more bytes than its limit.
+    TooLong(Input),
+    /// The first fault of the zero page.
+    ZeroPage(ZeroFault),
+}
+
+/// Why a boot stops.
+#[derive(Clone, Copy, Debug, PartialEq, Eq)]
+pub enum Stop {
+    /// The map has more than 3,200 runs: so many.
+    MapFull { runs: u64 },
+    /// The program's own memory ran out.
+    Memory,
+}
+
+/// Why the words and the files give no report.
+#[derive(Clone, Copy, Debug, PartialEq, Eq)]
+pub enum Refusal {
+    /// The words aren't accepted.
+    Usage,
+    /// The file of this input couldn't be read.
+    Unread(Input),
+    /// An input has a fault, and those before it have none.
+    Faulty(InputFault),
+    /// The boot stops.
+    Stopped(Stop),
+}
+
+/// Why the program doesn't end with status 0.
+#[derive(Clone, Copy, Debug, PartialEq, Eq)]
+pub enum Failure {
+    /// What was asked for is refused.
+    Refused(Refusal),
+    /// The output failed.
+    Unwritten,
+    /// The program's own memory ran out, or the output's.
+    Memory,
+}
+
+impl Refusal {
+    fn status(self) -> u8
+        ensures { result ≡ refusal_status self }
+    {
+        match self {
+            Refusal::Usage => 2,
+            Refusal::Unread(_) => 3,
+            Refusal::Faulty(_) => 5,
+            Refusal::Stopped(_) => 6,
+        }
+    }
+}
+
+impl Failure {
+    /// The exit status.
+    pub fn status(self) -> u8
+        ensures { result ≡ status_of self }
+    {
+        match self {
+            Failure::Refused(refusal) => refusal.status(),
+            Failure::Unwritten => 4,
+            Failure::Memory => 7,
+        }
+    }
+}
+
+impl From<Memory> for Failure {
+    ghost use Rattle.std.specs.Prelude.{◌≡◌};
+    ghost use Rattle.bootmem_cli.specs.declared.failure.Failure.TheVariants as failures;
+
+    ghost from_gives = { λ _ failure. failure ≡ failures.Memory };
+
+    fn from(_error: Memory) -> Failure {
+        Failure::Memory
+    }
+}
+
+impl From<ZeroFault> for Failure {
+    ghost use Rattle.std.specs.Prelude.{◌≡◌};
+    ghost use Rattle.bootmem_cli.specs.declared.failure.InputFault.TheVariants as faults;
+    ghost use Rattle.bootmem_cli.specs.declared.failure.Refusal.TheVariants as refusals;
+    ghost use Rattle.bootmem_cli.specs.declared.failure.Failure.TheVariants as failures;
+
+    ghost from_gives = { λ fault failure.
+        failure ≡ failures.Refused (refusals.Faulty (faults.ZeroPage fault)) };
+
+    fn from(fault: ZeroFault) -> Failure {
+        Failure::Refused(Refusal::Faulty(InputFault::ZeroPage(fault)))
+    }
+}
+
+impl From<Memory> for Stop {
+    ghost use Rattle.std.specs.Prelude.{◌≡◌};
+    ghost use Rattle.bootmem_cli.specs.declared.failure.Stop.TheVariants as stops;
+
+    ghost from_gives = { λ _ stop. stop ≡ stops.Memory };
+
+    fn from(_error: Memory) -> Stop {
+        Stop::Memory
+    }
+}
+
+impl From<MapFault> for Stop {
+    ghost use Rattle.std.specs.Prelude.{◌≡◌};
+    ghost use Rattle.bootmem_cli.specs.Status.{stop_of_map};
+
+    ghost from_gives = { λ fault stop. stop ≡ stop_of_map fault };
+
+    fn from(fault: MapFault) -> Stop {
+        match fault {
+            MapFault::MapFull { runs } => Stop::MapFull { runs },
+            MapFault::Memory => Stop::Memory,
+        }
+    }
+}
+
+impl From<Stop> for Failure {
+    ghost use Rattle.std.specs.Prelude.{◌≡◌};
+    ghost use Rattle.bootmem_cli.specs.Status.{failure_of_stop};
+
+    ghost from_gives = { λ stop failure. failure ≡ failure_of_stop stop };
+
+    fn from(stop: Stop) -> Failure {
+        match stop {
+            Stop::MapFull { .. } => Failure::Refused(Refusal::Stopped(stop)),
+            Stop::Memory => Failure::Memory,
+        }
+    }
+}

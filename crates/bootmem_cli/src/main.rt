@@ -1,0 +1,51 @@
+//! `bootmem`: what an x86-64 Linux 6.1 kernel makes of the firmware's memory map, before its buddy
+//! lists.
+//!
+//! The program reads the zero page that a boot loader hands over, brings its E820 entries into a
+//! table, settles it, and prints the map: `bootmem --report map ZEROPAGE`. [`run`] is the whole of
+//! it over any files, output and error output; `main` hands it those of the system.
+//!
+//! What the program answers is a definition, `outcome` of `specs/Outcome.antt`: from the words to
+//! the files that they name, from the files' bytes to the inputs, from those to the map, and from
+//! the map to its text, each step by cases. `run` answers what it says, but where the outside fails:
+//! a file that couldn't be read, an output that refused, want of memory. Each of these has its cause
+//! in a count of the object that was handed in.
+//!
+//! Exit statuses: 0 written, 2 the words are refused, 3 a file couldn't be read, 4 the output
+//! failed, 5 an input has a fault, 6 the boot stops, 7 out of memory. All but 0 put one line on the
+//! error output.
+#![tactic(auto)]
+
+mod boot;
+mod failure;
+mod inputs;
+mod report;
+mod run;
+mod tell;
+mod words;
+
+use bm_io::{RealFiles, StdSink};
+use std::env;
+use std::io::ErrorKind;
+use std::process::ExitCode;
+
+pub use run::run;
+
+fn main(rt: HostRuntime) -> ExitCode {
+    let alloc = rt.alloc();
+    let args = match env::args(&rt) {
+        Ok(args) => args,
+        Err(error) if error.kind() == ErrorKind::OutOfMemory => return ExitCode::from(7),
+        Err(_) => return ExitCode::from(2),
+    };
+    let mut words = Vec::new(alloc);
+    for word in args.skip(1) {
+        if words.push(word).is_err() {
+            return ExitCode::from(7);
+        }
+    }
+    let mut files = RealFiles::new(&rt);
+    let mut out = StdSink::new(rt.stdout());
+    let mut err = StdSink::new(rt.stderr());
+    ExitCode::from(run(alloc, &words, &mut files, &mut out, &mut err))
+}

@@ -1,0 +1,29 @@
+-- The text of the map: a line for each run, as the kernel's `e820__print_table` has them.
+use Rattle.std.specs.Prelude.{ℕ, ◌+◌, ◌-◌, ◌==◌, if◌then◌else◌, List, [], ◌∷◌, ◌++◌, codes, decimal}
+use Rattle.bm_base.specs.Text.{hex_text}
+use Rattle.address_runs.specs.Runs.{RunOf}
+
+-- the name of a type (`enum e820_type`)
+abbrev pub kind_name : ℕ → List ℕ
+kind_name k =
+    if k == 1 then codes "usable"
+    else (if k == 2 then codes "reserved"
+    else (if k == 3 then codes "ACPI data"
+    else (if k == 4 then codes "ACPI NVS"
+    else (if k == 5 then codes "unusable"
+    else (if k == 7 then codes "persistent"
+    else (if k == 12 then codes "persistent legacy"
+    else (if k == 128 then codes "usable kernel"
+    else (if k == 0xEFFFFFFF then codes "soft reserved"
+    else codes "other"))))))))
+
+-- the line of a run: its first and its last byte, the number of its type and the type's name
+abbrev pub run_line : RunOf ℕ → List ℕ
+run_line r =
+    hex_text r.base ++ codes ".." ++ hex_text (r.base + r.size - 1)
+        ++ codes " " ++ decimal r.value ++ codes " " ++ kind_name r.value ++ codes "\n"
+
+-- the text of the map: the lines of its runs
+abbrev pub map_text : List (RunOf ℕ) → List ℕ
+map_text [] = []
+map_text (r ∷ rs) = run_line r ++ map_text rs
