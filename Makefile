@@ -14,25 +14,22 @@ ARGS ?=
 
 SOURCES := crates.txt $(shell find crates -name out -prune -o \( -name '*.rt' -o -name '*.antt' \) -print)
 
-.PHONY: all run try test install clean toolchain
+export RT
+
+.PHONY: all run try test install clean
 
 all: bootmem
 
-toolchain:
-	@command -v $(RT) >/dev/null 2>&1 || { \
-	  echo "bootmem: no command '$(RT)' found: the toolchain Rattle (kit rattle-kit-13f) proves and builds this program; put its bin/ on PATH or set RT" >&2; \
-	  exit 1; }
-
-bootmem: $(SOURCES) tools/build.sh | toolchain
-	@RT="$(RT)" tools/build.sh bootmem_cli $@
+bootmem: $(SOURCES)
+	@tools/build.sh bootmem_cli $@ --report map "$(CURDIR)/examples/first/zp.bin"
 
 run: bootmem
 	@./bootmem --report map examples/first/zp.bin
 
-try: | toolchain
-	@RT="$(RT)" tools/try.sh $(ARGS)
+try:
+	@tools/try.sh $(ARGS)
 
-test: | toolchain
+test:
 	@.ci/run
 
 install: bootmem

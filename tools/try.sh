@@ -6,6 +6,7 @@ set -eu
 rt=${RT:-rt}
 top=$(cd "$(dirname "$0")/.." && pwd)
 
+"$top/tools/toolchain.sh"
 echo "bootmem: an unproved build; 'make bootmem' gives the proved program" >&2
 given=$#
 count=0
