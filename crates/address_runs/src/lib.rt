@@ -7,9 +7,11 @@
 //! a relation (`IsRunsOf`) and once as a function by addresses (`runs_of`), and `specs/Sweep.antt`
 //! has the words for a list that is built from the lowest address on.
 //!
-//! A record of a range and a value (a [`Stretch`]) is kept in lists; [`Builder`] makes the list of
-//! runs of a function that is told from the lowest address on, and [`overlay_two`] lays two lists of
-//! runs over one another in one pass.
+//! A record of a range and a value, as `struct e820_entry` is one, is a [`Stretch`]; where its values
+//! can be laid over one another it is an [`Overlay`]. [`overlay_all`] gives the runs of any list of
+//! such stretches, which may overlap and come in any order: at each address what they say of it,
+//! joined in the order of the list. It works by halves, so a list of n stretches that overlap little
+//! takes n log n steps.
 //!
 //! [`one_list_of_runs`] and [`runs_by_address`] are the laws that tie relation and function: a
 //! function has exactly one list of runs, and `runs_of` is it. The layers above may rest on them,
@@ -21,7 +23,6 @@ mod laws;
 mod layers;
 mod stretch;
 
-pub use builder::{Builder, advance, begin, finish};
 pub use laws::{one_list_of_runs, runs_by_address};
-pub use layers::{overlay_all, overlay_two};
+pub use layers::overlay_all;
 pub use stretch::{Overlay, Stretch};

@@ -8,6 +8,7 @@ pub trait Stretch: Copy {
     /// What is told of the addresses.
     type Value: Copy;
 
+    // the record as a run, which clauses speak of
     ghost run: { Self → RunOf Self.Value };
 
     /// The stretch of the range with the value.
@@ -30,6 +31,7 @@ pub trait Stretch: Copy {
 
 /// A stretch whose values can be laid over one another.
 pub trait Overlay: Stretch {
+    // what `join` gives
     ghost joined: { Option Self.Value → Option Self.Value → Option Self.Value };
 
     /// What holds where the one says `first` and the other `second`: what the one says alone where
