@@ -1,17 +1,22 @@
 -- Small journals, computed: what the definitions say of them.
-use Rattle.std.proofs.Common.{◌≡◌, ℕ, ◌==◌, nat_lt, true, false, if◌then◌else◌, Option, Some, None, [], ◌∷◌, refl}
-use Rattle.bm_base.specs.Extent.{Extent}
-use Rattle.address_runs.specs.Runs.{runs_from}
+use Rattle.std.proofs.Common.{◌≡◌, ℕ, ◌^◌, ◌≤◌, ◌==◌, nat_lt, true, false, if◌then◌else◌, Option, Some, None, List, [], ◌∷◌, length, refl, sym, ap, inl, inr, arith}
+use Rattle.std.proofs.lemmas.Bool.{cases_Bool}
+use Rattle.std.proofs.lemmas.Bool.Decides.{nat_tests}
+use Rattle.bm_base.specs.Extent.{Extent, covers}
+use Rattle.memblock_model.specs.declared.item.Item.{Item}
+use Rattle.address_runs.specs.Runs.{RunOf, value_at, AreRuns, runs_from}
 use Rattle.memblock_model.specs.declared.owner.Owner.TheVariants as owner
 use Rattle.memblock_model.specs.declared.which.Which.TheVariants as which
 use Rattle.memblock_model.specs.declared.tag.Tag.TheVariants as tag
 use Rattle.memblock_model.specs.declared.query.Query.{Query}
 use Rattle.memblock_model.specs.declared.item.Item.TheVariants as item
-use Rattle.memblock_model.specs.Labels.{each_from, each_in, trimmed}
-use Rattle.memblock_model.specs.Same.{same_node}
-use Rattle.memblock_model.specs.Items.{owner_of, tag_of, limit_of}
-use Rattle.memblock_model.specs.Tables.{table_of, bare, room_of, place_of}
-use Rattle.memblock_model.specs.Search.{last_below, fits_in}
+use Rattle.memblock_model.specs.Labels.{each_from, each_in, trimmed, NothingFrom}
+use Rattle.memblock_model.specs.Same.{same_node, same_owner}
+use Rattle.memblock_model.specs.Items.{Nodes, owner_of, tag_of, limit_of}
+use Rattle.memblock_model.specs.Tables.{reserved_of, table_of, bare, pieces, room_of, place_of, live}
+use Rattle.memblock_model.specs.Search.{last_below, fits_in, best}
+use Rattle.memblock_model.proofs.SearchLaws.{fits_in-parts, best_in-last, best_in-fails}
+use Rattle.memblock_model.proofs.TableLaws.{records_for-is}
 
 abbrev bytes : ℕ → ℕ → Extent
 bytes base size = record { base = base; size = size }
@@ -126,3 +131,87 @@ first_frame_does_not_fit = refl
 greatest_that_fits : last_below (fits_in memory claimed (pairs 4103)) 4110 ≡ Some 4098
 unfolding last_below fits_in each_in each_from
 greatest_that_fits = refl
+
+-- claims of one owner that touch are one run, of two owners two
+claims_of_one_owner : runs_from same_owner (owner_of (item.Claim (bytes 1 2) owner.Kernel ∷ (item.Claim (bytes 3 2) owner.Kernel ∷ []))) 0 8
+    ≡ record { base = 1; size = 4; value = owner.Kernel } ∷ []
+unfolding runs_from
+claims_of_one_owner = refl
+
+claims_of_two_owners : runs_from same_owner (owner_of (item.Claim (bytes 1 2) (owner.Script 1) ∷ (item.Claim (bytes 3 2) (owner.Script 2) ∷ []))) 0 8
+    ≡ record { base = 1; size = 2; value = owner.Script 1 } ∷ (record { base = 3; size = 2; value = owner.Script 2 } ∷ [])
+unfolding runs_from
+claims_of_two_owners = refl
+
+live_at_first : live which.Reserved (bytes 0x1000000 0x2000000) [] ≡ bytes 0x2FFF000 3072
+live_at_first = refl
+
+live_when_grown : live which.Memory (bytes 0x1000000 0x2000000) (item.Grown which.Memory 4096 256 ∷ []) ≡ bytes 4096 6144
+live_when_grown = refl
+
+-- the bytes 1 to 6 of which 3 and 4 are memory: over all addresses, by the laws
+abbrev partly : Nodes
+partly = table_of which.Memory (item.Mem (bytes 3 2) ∷ [])
+
+abbrev two_runs : List (RunOf (Option ℕ))
+two_runs = record { base = 1; size = 2; value = None } ∷ (record { base = 5; size = 2; value = None } ∷ [])
+
+two_runs_are_bare : (x : ℕ) → value_at two_runs x ≡ bare (bytes 1 6) partly x
+two_runs_are_bare x = grind (arith, nat_tests)
+
+two_runs_are_runs : AreRuns two_runs
+two_runs_are_runs = (omega arith, (omega arith, λ touch. absurd (omega arith)), (omega arith, tt, tt))
+
+bare_ends : NothingFrom (2 ^ 64) (bare (bytes 1 6) partly)
+bare_ends x le = grind (arith, nat_tests)
+
+two_pieces : pieces (bytes 1 6) partly ≡ 2
+unfolding pieces
+two_pieces = ap length (sym (records_for-is (bare (bytes 1 6) partly) two_runs bare_ends (record { runs = two_runs_are_runs; each = two_runs_are_bare })))
+
+no_pieces_are_bare : (x : ℕ) → value_at [] x ≡ bare (bytes 3 2) partly x
+no_pieces_are_bare x = grind (arith, nat_tests)
+
+covered_ends : NothingFrom (2 ^ 64) (bare (bytes 3 2) partly)
+covered_ends x le = grind (arith, nat_tests)
+
+no_pieces : pieces (bytes 3 2) partly ≡ 0
+unfolding pieces
+no_pieces = ap length (sym (records_for-is (bare (bytes 3 2) partly) [] covered_ends (record { runs = tt; each = no_pieces_are_bare })))
+
+-- 64 KiB of memory: the best page below its end, and none where a claim leaves the first frame alone
+abbrev small : List Item
+small = item.Mem (bytes 0 0x10000) ∷ []
+
+abbrev page : Query
+page = record { lo = 0; hi = 0x10000; size = 0x1000; align = 0x1000; node = None }
+
+page_fits : fits_in (table_of which.Memory small) (table_of which.Reserved small) page 0xF000 ≡ true
+unfolding fits_in each_in each_from
+page_fits = refl
+
+page_ends : (b : ℕ) → fits_in (table_of which.Memory small) (table_of which.Reserved small) page b ≡ true → b ≤ 0xF000
+page_ends b h = let high = (fits_in-parts (table_of which.Memory small) (table_of which.Reserved small) page b h).high in omega arith
+
+best_page : best small page ≡ Some 0xF000
+unfolding best
+best_page = best_in-last (table_of which.Memory small) (table_of which.Reserved small) page 0xF000
+    (record { below = omega arith; passes = page_fits; last = λ b lt h. page_ends b h })
+
+abbrev crowded : List Item
+crowded = item.Mem (bytes 0 0x10000) ∷ (item.Claim (bytes 0x1000 0xF000) owner.Kernel ∷ [])
+
+nothing_fits : (b : ℕ) → fits_in (table_of which.Memory crowded) (table_of which.Reserved crowded) page b ≡ true → ⊥
+nothing_fits b h =
+    let place = fits_in-parts (table_of which.Memory crowded) (table_of which.Reserved crowded) page b h in
+    let high = place.high in
+    let first = place.first in
+    let free : reserved_of (owner_of crowded) b ≡ None = place.free b (omega arith) (omega arith) in
+    let taken : reserved_of (owner_of crowded) b ≡ Some None = (let inside : covers (bytes 0x1000 0xF000) b ≡ true = grind (arith, nat_tests) in rw inside refl) in
+    cc (free, taken)
+
+nothing_best : best crowded page ≡ None
+unfolding best
+nothing_best = best_in-fails (table_of which.Memory crowded) (table_of which.Reserved crowded) page
+    (λ b lt. elim (cases_Bool (fits_in (table_of which.Memory crowded) (table_of which.Reserved crowded) page b))
+    as (λ _. fits_in (table_of which.Memory crowded) (table_of which.Reserved crowded) page b ≡ false) [ inl fits ↦ absurd (nothing_fits b fits) | inr fails ↦ fails ])

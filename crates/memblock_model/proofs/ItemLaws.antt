@@ -10,7 +10,7 @@ use Rattle.memblock_model.specs.declared.item.Item.{Item}
 use Rattle.memblock_model.specs.declared.item.Item.TheVariants as item
 use Rattle.memblock_model.specs.Labels.{covered, uncovered, relabelled, taken}
 use Rattle.memblock_model.specs.Same.{same_node}
-use Rattle.memblock_model.specs.Items.{Owners, Nodes, owners_after, no_owners, owner_of, nodes_after, no_memory, nodes_of, limit_after, limit_of}
+use Rattle.memblock_model.specs.Items.{IsItem, AreItems, Owners, Nodes, owners_after, no_owners, owner_of, nodes_after, no_memory, nodes_of, limit_after, limit_of}
 use Rattle.memblock_model.specs.Tables.{without_owner, reserved_of, table_of, table_after, room_after, room_of, moved_after, moved_to}
 use Rattle.memblock_model.proofs.LabelLaws.{IsInFrame, frame_join, frame_back, trimmed-local}
 
@@ -81,3 +81,8 @@ pub nodes_fold-local : (f g : Nodes) (items : List Item) (x : ℕ) → ((y : ℕ
     → (y : ℕ) → IsInFrame x y → fold nodes_after f items y ≡ fold nodes_after g items y
 nodes_fold-local f g [] x agree y at_y = agree y at_y
 nodes_fold-local f g (i ∷ is) x agree y at_y = nodes_fold-local (nodes_after f i) (nodes_after g i) is x (nodes_after-local f g i x agree) y at_y
+
+-- one more item whose range isn't empty
+pub AreItems-push : (items : List Item) (i : Item) → AreItems items → IsItem i → AreItems (items ++ i ∷ [])
+AreItems-push [] i known some = (some, tt)
+AreItems-push (j ∷ is) i known some = (known.0, AreItems-push is i known.1 some)

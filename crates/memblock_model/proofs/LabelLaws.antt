@@ -6,13 +6,14 @@ use Rattle.bm_base.specs.Extent.{Extent, covers}
 use Rattle.address_runs.specs.Runs.{Tells}
 use Rattle.memblock_model.specs.Labels.{each_from, each_in, frame_around, same_label, trimmed}
 
-both_true : (a b : Bool) → a ≡ true → b ≡ true → (a && b) ≡ true
+-- the parts of a chain of tests
+pub both_true : (a b : Bool) → a ≡ true → b ≡ true → (a && b) ≡ true
 both_true a b h k = grind arith
 
-left_true : (a b : Bool) → (a && b) ≡ true → a ≡ true
+pub left_true : (a b : Bool) → (a && b) ≡ true → a ≡ true
 left_true a b h = grind arith
 
-right_true : (a b : Bool) → (a && b) ≡ true → b ≡ true
+pub right_true : (a b : Bool) → (a && b) ≡ true → b ≡ true
 right_true a b h = grind arith
 
 -- what passes at each address passes

@@ -1,9 +1,15 @@
 -- The greatest number that passes a test, and the search by it.
-use Rattle.std.proofs.Common.{◌≡◌, ℕ, zero, suc, ◌^◌, ◌<◌, ◌≤◌, Bool, true, false, Some, None, refl, sym, ◌∙◌, ap, subst, inl, inr, arith}
+use Rattle.std.proofs.Common.{◌≡◌, ℕ, zero, suc, ◌+◌, ◌%◌, ◌^◌, ◌<◌, ◌≤◌, ◌==◌, Bool, true, false, ◌&&◌, nat_le, is_some, is_none, Option, Some, None, refl, sym, ◌∙◌, ap, subst, inl, inr, arith}
+use Rattle.std.proofs.lemmas.Bool.Decides.{nat_tests}
 use Rattle.std.proofs.lemmas.Bool.{cases_Bool, cases_lt, true≢false}
 use Rattle.memblock_model.specs.declared.query.Query.{Query}
 use Rattle.memblock_model.specs.Items.{Nodes}
-use Rattle.memblock_model.specs.Search.{last_below, fits_in, best_in}
+use Rattle.bm_base.specs.Extent.{Extent}
+use Rattle.memblock_model.specs.Labels.{each_in, same_label}
+use Rattle.memblock_model.specs.Same.{same_node}
+use Rattle.memblock_model.specs.Search.{last_below, allows, fits_in, best_in}
+use Rattle.memblock_model.proofs.SameLaws.{node_tells}
+use Rattle.memblock_model.proofs.LabelLaws.{both_true, left_true, right_true, each_in-all, each_in-each, label_yes, label_no}
 
 -- the number passes, and none of the greater ones below n does
 pub record IsLastBelow (p : ℕ → Bool) (n a : ℕ) : Type 0 where
@@ -95,3 +101,79 @@ best_in-last memory reserved q a known = last_below-last (fits_in memory reserve
 pub best_in-fails : (memory reserved : Nodes) (q : Query) → ((b : ℕ) → b < 2 ^ 64 → fits_in memory reserved q b ≡ false) → best_in memory reserved q ≡ None
 unfolding best_in
 best_in-fails memory reserved q none = last_below-fails (fits_in memory reserved q) (2 ^ 64) none
+
+-- what it is for an address to fit, part by part
+pub record IsPlace (memory reserved : Nodes) (q : Query) (a : ℕ) : Type 0 where
+  pub aligned : a % q.align ≡ 0
+  pub low : q.lo ≤ a
+  pub first : 4096 ≤ a
+  pub high : a + q.size ≤ q.hi
+  pub held : is_some (memory a) ≡ true
+  pub allowed : allows q.node (memory a) ≡ true
+  pub label : (x : ℕ) → a ≤ x → x < a + q.size → memory x ≡ memory a
+  pub free : (x : ℕ) → a ≤ x → x < a + q.size → reserved x ≡ None
+
+no_label : (o : Option (Option ℕ)) → is_none o ≡ true → o ≡ None
+no_label None h = refl
+no_label (Some n) h = absurd (true≢false (sym h))
+
+none_is : (o : Option (Option ℕ)) → o ≡ None → is_none o ≡ true
+none_is o e = ap is_none e
+
+pub fits_in-parts : (memory reserved : Nodes) (q : Query) (a : ℕ) → fits_in memory reserved q a ≡ true → IsPlace memory reserved q a
+unfolding fits_in
+fits_in-parts memory reserved q a h =
+    let place : Extent = record { base = a; size = q.size } in
+    let test : ℕ → Bool = λ x. same_label same_node (memory x) (memory a) && is_none (reserved x) in
+    let aligned : Bool = a % q.align == 0 in
+    let low : Bool = aligned && nat_le q.lo a in
+    let first : Bool = low && nat_le 4096 a in
+    let high : Bool = first && nat_le (a + q.size) q.hi in
+    let held : Bool = high && is_some (memory a) in
+    let allowed : Bool = held && allows q.node (memory a) in
+    let at_allowed : allowed ≡ true = left_true allowed (each_in place test) h in
+    let at_held : held ≡ true = left_true held (allows q.node (memory a)) at_allowed in
+    let at_high : high ≡ true = left_true high (is_some (memory a)) at_held in
+    let at_first : first ≡ true = left_true first (nat_le (a + q.size) q.hi) at_high in
+    let at_low : low ≡ true = left_true low (nat_le 4096 a) at_first in
+    let at_aligned : aligned ≡ true = left_true aligned (nat_le q.lo a) at_low in
+    let is_low : nat_le q.lo a ≡ true = right_true aligned (nat_le q.lo a) at_low in
+    let is_first : nat_le 4096 a ≡ true = right_true low (nat_le 4096 a) at_first in
+    let is_high : nat_le (a + q.size) q.hi ≡ true = right_true first (nat_le (a + q.size) q.hi) at_high in
+    let each : (x : ℕ) → a ≤ x → x < a + q.size → test x ≡ true = each_in-each place test (right_true allowed (each_in place test) h) in
+    record {
+      aligned = grind (arith, nat_tests, at_aligned);
+      low = grind (arith, nat_tests, is_low);
+      first = grind (arith, nat_tests, is_first);
+      high = grind (arith, nat_tests, is_high);
+      held = right_true high (is_some (memory a)) at_held;
+      allowed = right_true held (allows q.node (memory a)) at_allowed;
+      label = λ x above below. label_yes same_node node_tells (memory x) (memory a) (left_true (same_label same_node (memory x) (memory a)) (is_none (reserved x)) (each x above below));
+      free = λ x above below. no_label (reserved x) (right_true (same_label same_node (memory x) (memory a)) (is_none (reserved x)) (each x above below));
+    }
+
+pub fits_in-whole : (memory reserved : Nodes) (q : Query) (a : ℕ) → IsPlace memory reserved q a → fits_in memory reserved q a ≡ true
+unfolding fits_in
+fits_in-whole memory reserved q a known =
+    let place : Extent = record { base = a; size = q.size } in
+    let test : ℕ → Bool = λ x. same_label same_node (memory x) (memory a) && is_none (reserved x) in
+    let aligned : Bool = a % q.align == 0 in
+    let low : Bool = aligned && nat_le q.lo a in
+    let first : Bool = low && nat_le 4096 a in
+    let high : Bool = first && nat_le (a + q.size) q.hi in
+    let held : Bool = high && is_some (memory a) in
+    let allowed : Bool = held && allows q.node (memory a) in
+    let is_aligned = known.aligned in
+    let is_low = known.low in
+    let is_first = known.first in
+    let is_high = known.high in
+    let at_aligned : aligned ≡ true = grind (arith, nat_tests, is_aligned) in
+    let at_low : low ≡ true = both_true aligned (nat_le q.lo a) at_aligned (grind (arith, nat_tests, is_low)) in
+    let at_first : first ≡ true = both_true low (nat_le 4096 a) at_low (grind (arith, nat_tests, is_first)) in
+    let at_high : high ≡ true = both_true first (nat_le (a + q.size) q.hi) at_first (grind (arith, nat_tests, is_high)) in
+    let at_held : held ≡ true = both_true high (is_some (memory a)) at_high known.held in
+    let at_allowed : allowed ≡ true = both_true held (allows q.node (memory a)) at_held known.allowed in
+    let each : each_in place test ≡ true = each_in-all place test (λ x above below.
+    both_true (same_label same_node (memory x) (memory a)) (is_none (reserved x))
+    (label_no same_node node_tells (memory x) (memory a) (known.label x above below)) (none_is (reserved x) (known.free x above below))) in
+    both_true allowed (each_in place test) at_allowed each

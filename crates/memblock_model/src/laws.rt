@@ -13,17 +13,23 @@ ghost use Rattle.memblock_model.specs.Search.{fits_in, best_in};
 /// A law: an item at the end of the list changes owners, nodes and limit as its word says, at every
 /// address at once.
 pub fn item_at_the_end()
-    ensures owners { (items : List Item) (i : Item) → owner_of (items ++ i ∷ []) ≡ owners_after (owner_of items) i }
-    ensures nodes { (items : List Item) (i : Item) → nodes_of (items ++ i ∷ []) ≡ nodes_after (nodes_of items) i }
-    ensures limit { (items : List Item) (i : Item) → limit_of (items ++ i ∷ []) ≡ limit_after (limit_of items) i }
+    ensures owners { (items : List Item) (i : Item) →
+        owner_of (items ++ i ∷ []) ≡ owners_after (owner_of items) i }
+    ensures nodes { (items : List Item) (i : Item) →
+        nodes_of (items ++ i ∷ []) ≡ nodes_after (nodes_of items) i }
+    ensures limit { (items : List Item) (i : Item) →
+        limit_of (items ++ i ∷ []) ≡ limit_after (limit_of items) i }
 {}
 
 /// A law: what a table says, its room and its place follow from what they were and the new item,
 /// whoever owned the bytes that it claims.
 pub fn tables_go_by_themselves()
-    ensures says { (w : Which) (items : List Item) (i : Item) → table_of w (items ++ i ∷ []) ≡ table_after w (table_of w items) i }
-    ensures room { (w : Which) (items : List Item) (i : Item) → room_of w (items ++ i ∷ []) ≡ room_after w (room_of w items) i }
-    ensures place { (w : Which) (items : List Item) (i : Item) → moved_to w (items ++ i ∷ []) ≡ moved_after w (moved_to w items) i }
+    ensures says { (w : Which) (items : List Item) (i : Item) →
+        table_of w (items ++ i ∷ []) ≡ table_after w (table_of w items) i }
+    ensures room { (w : Which) (items : List Item) (i : Item) →
+        room_of w (items ++ i ∷ []) ≡ room_after w (room_of w items) i }
+    ensures place { (w : Which) (items : List Item) (i : Item) →
+        moved_to w (items ++ i ∷ []) ≡ moved_after w (moved_to w items) i }
 {}
 
 /// A law: the tests that runs of nodes and runs of owners are made by tell equal values from others.
@@ -34,16 +40,18 @@ pub fn tests_tell()
 
 /// A law: a frame that is trimmed has one label, or none.
 pub fn trimmed_frame_is_whole()
-    ensures { (f : Nodes) (x y : ℕ) → covers (frame_around x) y ≡ true → trimmed same_node f y ≡ trimmed same_node f x }
+    ensures { (f : Nodes) (x y : ℕ) → covers (frame_around x) y ≡ true →
+        trimmed same_node f y ≡ trimmed same_node f x }
 {}
 
 /// A law: the best place fits, and no greater address does. Where there is none, nothing fits.
 pub fn best_is_greatest()
-    ensures fits { (memory reserved : Nodes) (q : Query) (a : ℕ) → best_in memory reserved q ≡ Some a → fits_in memory reserved q a ≡ true }
-    ensures greatest { (memory reserved : Nodes) (q : Query) (a b : ℕ) → best_in memory reserved q ≡ Some a →
-        b < 2 ^ 64 → fits_in memory reserved q b ≡ true → b ≤ a }
-    ensures none { (memory reserved : Nodes) (q : Query) (b : ℕ) → best_in memory reserved q ≡ None →
-        b < 2 ^ 64 → fits_in memory reserved q b ≡ false }
+    ensures fits { (memory reserved : Nodes) (q : Query) (a : ℕ) →
+        best_in memory reserved q ≡ Some a → fits_in memory reserved q a ≡ true }
+    ensures greatest { (memory reserved : Nodes) (q : Query) (a b : ℕ) →
+        best_in memory reserved q ≡ Some a → b < 2 ^ 64 → fits_in memory reserved q b ≡ true → b ≤ a }
+    ensures none { (memory reserved : Nodes) (q : Query) (b : ℕ) →
+        best_in memory reserved q ≡ None → b < 2 ^ 64 → fits_in memory reserved q b ≡ false }
 {}
 
 #[cfg(test)]
