@@ -1,0 +1,117 @@
+ghost use Rattle.std.specs.Prelude.{◌≡◌, ◌++◌, ◌∷◌, ◌+◌, ◌-◌, ◌<◌, ◌≤◌, [], OnOk, OnErr, IfOk, vec_len, vec_capacity};
+ghost use Rattle.address_runs.specs.Runs.{IsRunsOf};
+ghost use Rattle.memblock_model.specs.Items.{IsItem, AreItems, owner_of, tag_of, owner_runs_of};
+
+use crate::{owners, tags};
+use bm_base::Memory;
+use memblock_model::{Item, Owner, OwnerRun, Tag};
+use std::alloc::Global;
+use std::marker::Model;
+
+/// What happened to memory, oldest first. Contracts see the items beside `spare`, the number of
+/// items that can be appended without wanting memory.
+#[derive(Debug, Drop)]
+pub struct Journal {
+    items: Vec<Item>,
+    spare: u64,
+}
+
+impl Model for Journal {
+    ghost use Rattle.std.specs.Prelude.{◌+◌, ◌≤◌, vec_len, vec_capacity};
+    ghost use Rattle.memblock_model.specs.Items.{AreItems};
+    ghost use Rattle.boot_journal.specs.Contents.{Contents};
+
+    ghost Value = { Contents };
+
+    ghost view = { λ j. record { items = j.items.items; spare = j.spare } };
+
+    ghost invariant = { λ j.
+        (vec_len j.items + j.spare ≤ vec_capacity j.items) × AreItems j.items.items };
+}
+
+impl Journal {
+    /// The journal of a boot in which nothing happened yet.
+    pub fn new(alloc: Global) -> Journal
+        ensures { result ≡ record { items = []; spare = 0 } }
+    {
+        Journal {
+            items: Vec::new(alloc),
+            spare: 0,
+        }
+    }
+
+    /// Takes the memory for `n` more items. After `Memory` the journal is as before.
+    pub fn ready(&mut self, n: u64) -> Result<(), Memory>
+        ensures items { self.new.items ≡ self.old.items }
+        ensures enough { OnOk result (n ≤ self.new.spare) }
+        ensures no_less { self.old.spare ≤ self.new.spare }
+        ensures err { OnErr result (self.new ≡ self.old) }
+    {
+        self.items.reserve(n as usize)?;
+        self.spare = self.spare.max(n);
+        Ok(())
+    }
+
+    /// Appends the item, whose range isn't empty. Nothing is said of `spare` afterwards. After
+    /// `Memory` the journal is as before.
+    pub fn push(&mut self, item: Item) -> Result<(), Memory>
+        requires { IsItem item }
+        ensures ok { OnOk result (self.new.items ≡ self.old.items ++ item ∷ []) }
+        ensures err { OnErr result (self.new ≡ self.old) }
+    {
+        self.items.push(item)?;
+        self.spare = self.spare.saturating_sub(1);
+        Ok(())
+    }
+
+    /// Appends the item, whose range isn't empty, and takes no memory.
+    pub fn push_ready(&mut self, item: Item)
+        requires item { IsItem item }
+        requires spare { 0 < self.old.spare }
+        ensures { self.new ≡ record { items = self.old.items ++ item ∷ []; spare = self.old.spare - 1 } }
+    {
+        push_within_capacity(&mut self.items, item);
+        self.spare -= 1;
+    }
+
+    /// The items, oldest first.
+    pub fn items(&self) -> &[Item]
+        ensures items { result.now ≡ self.now.items }
+        ensures ranges { AreItems result.now }
+    {
+        self.items.as_slice()
+    }
+
+    /// Who owns the byte at `x`: the newest claim or freeing that covers it decides. Takes no memory.
+    pub fn owner_at(&self, x: u64) -> Option<Owner>
+        ensures { result ≡ owner_of self.now.items x }
+    {
+        owners::owner_at(&self.items, x)
+    }
+
+    /// Whether the byte at `x` is memory, and of which node. Takes no memory. The time is that of a
+    /// few looks at all items, one more for each end of a range inside the frame of `x`.
+    pub fn tag_at(&self, x: u64) -> Tag
+        ensures { result ≡ tag_of self.now.items x }
+    {
+        tags::tag_at(&self.items, x)
+    }
+
+    /// The runs of equal owner, ascending. The time grows with the square of the number of items.
+    pub fn owner_runs(&self) -> Result<Vec<OwnerRun>, Memory>
+        ensures runs { IfOk result (λ runs. IsRunsOf (owner_of self.now.items) runs.items) }
+        ensures list { IfOk result (λ runs. runs.items ≡ owner_runs_of self.now.items) }
+    {
+        owners::owner_runs(*self.items.allocator(), &self.items)
+    }
+}
+
+/// Appends the item to a list that has memory for it.
+fn push_within_capacity(items: &mut Vec<Item>, item: Item)
+    requires { vec_len items.old < vec_capacity items.old }
+    ensures items { items.new.items ≡ items.old.items ++ item ∷ [] }
+    ensures len { vec_len items.new ≡ vec_len items.old + 1 }
+    ensures capacity { vec_capacity items.old ≤ vec_capacity items.new }
+{
+    let _ = items.push(item);
+}
