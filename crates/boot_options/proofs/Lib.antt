@@ -1,2 +1,4 @@
 pub mod ReadingLaws
 pub mod UserMapLaws
+pub mod PieceBounds
+pub mod LineBounds

@@ -5,7 +5,7 @@ use Rattle.std.specs.Option.{option_map, option_and_then}
 use Rattle.std.specs.Str.{bytes_eq}
 use Rattle.std.specs.Prelude.{count_by}
 use Rattle.e820_model.specs.declared.edit.Edit.{Edit}
-use Rattle.e820_model.specs.declared.edit.Edit.TheVariants.{Clear}
+use Rattle.e820_model.specs.declared.edit.Edit.TheVariants.{Add, Remove, RemoveAll, Change, Clear}
 use Rattle.text_words.specs.declared.separators.Separators.TheVariants.{CommandLine, Byte}
 use Rattle.text_words.specs.Parts.{before, cut, parts_in}
 use Rattle.text_words.specs.Words.{words_in, unquoted, without_last}
@@ -174,6 +174,18 @@ options_of bytes = do
 abbrev pub Gives : {A B : Type 0} → (A → B) → Result A OptionFault → Result B OptionFault → Type 0
 Gives view (Ok x) definition = definition ≡ Ok (view x)
 Gives view (Err fault) definition = fault ≢ faults.Memory → definition ≡ Err fault
+
+-- the range of the edit has an address
+abbrev pub HasRange : Edit → Type 0
+HasRange (Add range kind) = 0 < range.size
+HasRange (Remove range kind) = 0 < range.size
+HasRange (RemoveAll range) = 0 < range.size
+HasRange (Change range from to) = 0 < range.size
+HasRange Clear = Unit {0}
+
+abbrev pub HaveRanges : List Edit → Type 0
+HaveRanges [] = Unit {0}
+HaveRanges (e ∷ es) = HasRange e × HaveRanges es
 
 -- words are numbered from 1
 abbrev pub IsNumbered : OptionFault → Type 0

@@ -1,5 +1,6 @@
 ghost use Rattle.std.specs.Prelude.{◌≡◌, ℕ, ◌≤◌, length, MatchResult, Ok, Err, IfOk, IfErr};
-ghost use Rattle.boot_options.specs.Options.{Gives, chosen, line_of, options_of};
+ghost use Rattle.boot_options.specs.Options.{Gives, chosen, line_of, options_of, HaveRanges, IsNumbered};
+ghost use Rattle.e820_model.specs.Claims.{HaveTypes};
 ghost use Rattle.boot_options.specs.Reading.{state_of, finished};
 
 use e820_model::Edit;
@@ -20,7 +21,10 @@ pub struct Options {
 
 /// The options of the bytes of a command line's file.
 pub fn read_options(alloc: Global, bytes: &[u8]) -> Result<Options, OptionFault>
-    ensures { Gives chosen result (options_of bytes.now) }
+    ensures gives { Gives chosen result (options_of bytes.now) }
+    ensures types { IfOk result (λ options. HaveTypes options.edits.items) }
+    ensures ranges { IfOk result (λ options. HaveRanges options.edits.items) }
+    ensures words { IfErr result IsNumbered }
 {
     let line = read_line(bytes)?;
     let reading = read_words(alloc, line)?;
