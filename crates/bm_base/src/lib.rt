@@ -24,5 +24,5 @@ mod text;
 
 pub use memory::Memory;
 pub use range::Range;
-pub use size::{NumFault, read_number, read_size};
+pub use size::{NumFault, read_number, read_size, sizes_of_spelling};
 pub use text::{put_dec, put_hex, put_text};

@@ -48,24 +48,24 @@ iferr-if P false x y a b = b
 pub sound-said_by : (number : ℕ) (word : List ℕ × Option (List ℕ)) → IfOk (said_by number word) IsSoundWord
 sound-said_by number word =
     ifok-if IsSoundWord (bytes_eq word.0 (codes "mem")) _ _
-      (sound-or_fault (faults.BadMem number) _
-        (ifsome-map IsSoundPiece IsSoundWord of_piece (option_and_then mem_of word.1) (λ p is. (is, tt))
-          (ifsome-and_then IsSoundPiece mem_of word.1 sound-mem)))
-      (ifok-if IsSoundWord (bytes_eq word.0 (codes "memmap")) _ _
-        (sound-or_fault (faults.BadMemmap number) _
-          (ifsome-and_then IsSoundWord memmap_of word.1 (λ value.
-            ifsome-map AreSound IsSoundWord Pieces (pieces_of (parts_in (Byte 44) value)) (λ ps are. are) (sound-pieces (parts_in (Byte 44) value)))))
-        (ifok-if IsSoundWord (bytes_eq word.0 (codes "numa")) _ _
-          (sound-or_fault (faults.BadNuma number) _
-            (ifsome-and_then IsSoundWord numa_of word.1 (λ value.
-              ifsome-if IsSoundWord (bytes_eq value (codes "off")) (Some NumaOff) None tt tt)))
-          tt))
+    (sound-or_fault (faults.BadMem number) _
+    (ifsome-map IsSoundPiece IsSoundWord of_piece (option_and_then mem_of word.1) (λ p is. (is, tt))
+    (ifsome-and_then IsSoundPiece mem_of word.1 sound-mem)))
+    (ifok-if IsSoundWord (bytes_eq word.0 (codes "memmap")) _ _
+    (sound-or_fault (faults.BadMemmap number) _
+    (ifsome-and_then IsSoundWord memmap_of word.1 (λ value.
+    ifsome-map AreSound IsSoundWord Pieces (pieces_of (parts_in (Byte 44) value)) (λ ps are. are) (sound-pieces (parts_in (Byte 44) value)))))
+    (ifok-if IsSoundWord (bytes_eq word.0 (codes "numa")) _ _
+    (sound-or_fault (faults.BadNuma number) _
+    (ifsome-and_then IsSoundWord numa_of word.1 (λ value.
+    ifsome-if IsSoundWord (bytes_eq value (codes "off")) (Some NumaOff) None tt tt)))
+    tt))
 
 pub numbered-said_by : (number : ℕ) (word : List ℕ × Option (List ℕ)) → 0 < number → IfErr (said_by number word) IsNumbered
 numbered-said_by number word above =
     iferr-if IsNumbered (bytes_eq word.0 (codes "mem")) _ _ (numbered-or_fault (faults.BadMem number) _ above)
-      (iferr-if IsNumbered (bytes_eq word.0 (codes "memmap")) _ _ (numbered-or_fault (faults.BadMemmap number) _ above)
-        (iferr-if IsNumbered (bytes_eq word.0 (codes "numa")) _ _ (numbered-or_fault (faults.BadNuma number) _ above) tt))
+    (iferr-if IsNumbered (bytes_eq word.0 (codes "memmap")) _ _ (numbered-or_fault (faults.BadMemmap number) _ above)
+    (iferr-if IsNumbered (bytes_eq word.0 (codes "numa")) _ _ (numbered-or_fault (faults.BadNuma number) _ above) tt))
 
 -- a fact of a later step, by what the earlier one gives
 pub ifok-then : {A B : Type 0} (P : A → Type 0) (Q : B → Type 0) (r : Result A OptionFault) (f : A → Result B OptionFault)
@@ -83,16 +83,16 @@ pub sound-said_from : (number : ℕ) (words : List (List ℕ)) → 0 < number �
 sound-said_from number [] above = tt
 sound-said_from number (word ∷ words) above =
     ifok-then IsSoundWord AreSoundWords (said_by number (named word)) _ (sound-said_by number (named word)) (λ said is.
-      ifok-then AreSoundWords AreSoundWords (said_from (number + 1) words) _
-        (sound-said_from (number + 1) words (omega arith)) (λ others are. (above, is, are)))
+    ifok-then AreSoundWords AreSoundWords (said_from (number + 1) words) _
+    (sound-said_from (number + 1) words (omega arith)) (λ others are. (above, is, are)))
 
 pub numbered-said_from : (number : ℕ) (words : List (List ℕ)) → 0 < number → IfErr (said_from number words) IsNumbered
 numbered-said_from number [] above = tt
 numbered-said_from number (word ∷ words) above =
     iferr-then IsSoundWord (said_by number (named word)) _ (sound-said_by number (named word))
-      (numbered-said_by number (named word) above) (λ said is.
-        iferr-then AreSoundWords (said_from (number + 1) words) _ (sound-said_from (number + 1) words (omega arith))
-          (numbered-said_from (number + 1) words (omega arith)) (λ others are. tt))
+    (numbered-said_by number (named word) above) (λ said is.
+    iferr-then AreSoundWords (said_from (number + 1) words) _ (sound-said_from (number + 1) words (omega arith))
+    (numbered-said_from (number + 1) words (omega arith)) (λ others are. tt))
 
 -- the pieces of all words
 pub sound-numbered : (number : ℕ) (ps : List Piece) (behind : List (ℕ × Piece))
@@ -157,8 +157,8 @@ IsAnyLine line = Unit {0}
 pub sound-options : (bytes : List ℕ) → IfOk (options_of bytes) IsSoundChoice
 sound-options bytes =
     ifok-then IsAnyLine IsSoundChoice (line_of bytes) _ (any (line_of bytes)) (λ line _.
-      ifok-then AreSoundWords IsSoundChoice (said_from 1 (option_words line)) judged
-        (sound-said_from 1 (option_words line) (omega arith)) sound-judged)
+    ifok-then AreSoundWords IsSoundChoice (said_from 1 (option_words line)) judged
+    (sound-said_from 1 (option_words line) (omega arith)) sound-judged)
   where
     any : (r : Result (List ℕ) OptionFault) → IfOk r IsAnyLine
     any (Ok line) = tt
@@ -167,8 +167,8 @@ sound-options bytes =
 pub numbered-options : (bytes : List ℕ) → IfErr (options_of bytes) IsNumbered
 numbered-options bytes =
     iferr-then IsAnyLine (line_of bytes) _ (any (line_of bytes)) (numbered-line bytes) (λ line _.
-      iferr-then AreSoundWords (said_from 1 (option_words line)) judged
-        (sound-said_from 1 (option_words line) (omega arith)) (numbered-said_from 1 (option_words line) (omega arith)) numbered-judged)
+    iferr-then AreSoundWords (said_from 1 (option_words line)) judged
+    (sound-said_from 1 (option_words line) (omega arith)) (numbered-said_from 1 (option_words line) (omega arith)) numbered-judged)
   where
     any : (r : Result (List ℕ) OptionFault) → IfOk r IsAnyLine
     any (Ok line) = tt

@@ -66,21 +66,22 @@ sound-ram_above size = sound-unless_empty (range_above size) (Remove (range_abov
 pub sound-added : (kind size : ℕ) (place : List ℕ) → 0 < kind → IfSome (added kind size place) IsSoundPiece
 sound-added kind size place above =
     ifsome-then IsSoundPiece (whole_size place) _ (λ base.
-      ifsome-then IsSoundPiece (range_at base size) _ (λ range.
-        sound-unless_empty range (Add range kind) above (λ h. h)))
+    ifsome-then IsSoundPiece (range_at base size) _ (λ range.
+    sound-unless_empty range (Add range kind) above (λ h. h)))
 
 pub sound-retyped : (range : Extent) (from to : ℕ) → IfSome (retyped range from to) IsSoundPiece
 sound-retyped range from to = by_tests (from == 0) refl (to == 0) refl (from == to)
   where
     above : (n : ℕ) → n == 0 ≡ false → 0 < n
     above n is = grind (arith, nat_tests)
+
     by_tests : (f : Bool) → from == 0 ≡ f → (t : Bool) → to == 0 ≡ t → (s : Bool)
         → IfSome (if f
-            then (if t then Some (Other (unless_empty range (RemoveAll range))) else Some (Adding (unless_empty range (Add range to))))
-            else (if t
-              then Some (Other (unless_empty range (Remove range from)))
-              else (if s then None else Some (Other (unless_empty range (Change range from to))))))
-          IsSoundPiece
+        then (if t then Some (Other (unless_empty range (RemoveAll range))) else Some (Adding (unless_empty range (Add range to))))
+        else (if t
+        then Some (Other (unless_empty range (Remove range from)))
+        else (if s then None else Some (Other (unless_empty range (Change range from to))))))
+        IsSoundPiece
     by_tests true f_is true t_is s = sound-unless_empty range (RemoveAll range) tt (λ h. h)
     by_tests true f_is false t_is s = sound-unless_empty range (Add range to) (above to t_is) (λ h. h)
     by_tests false f_is true t_is s = sound-unless_empty range (Remove range from) (above from f_is) (λ h. h)
@@ -91,30 +92,30 @@ sound-retyped range from to = by_tests (from == 0) refl (to == 0) refl (from == 
 pub sound-changed : (size : ℕ) (place : List ℕ) → IfSome (changed size place) IsSoundPiece
 sound-changed size place =
     ifsome-then IsSoundPiece (size_part place) _ (λ base.
-      ifsome-then IsSoundPiece (range_at base.0 size) _ (λ range.
-        ifsome-then IsSoundPiece (kind_behind 45 base.1) _ (λ from.
-          ifsome-then IsSoundPiece (kind_behind 43 from.1) _ (λ to.
-            ifsome-at_end IsSoundPiece to.1 (retyped range from.0 to.0) (sound-retyped range from.0 to.0)))))
+    ifsome-then IsSoundPiece (range_at base.0 size) _ (λ range.
+    ifsome-then IsSoundPiece (kind_behind 45 base.1) _ (λ from.
+    ifsome-then IsSoundPiece (kind_behind 43 from.1) _ (λ to.
+    ifsome-at_end IsSoundPiece to.1 (retyped range from.0 to.0) (sound-retyped range from.0 to.0)))))
 
 pub sound-by_mark : (size : ℕ) (text : List ℕ) → IfSome (by_mark size text) IsSoundPiece
 sound-by_mark size [] = sound-ram_above size
 sound-by_mark size (mark ∷ place) =
     ifsome-if IsSoundPiece (mark == 64) _ _ (sound-added 1 size place (omega arith))
-      (ifsome-if IsSoundPiece (mark == 35) _ _ (sound-added 3 size place (omega arith))
-        (ifsome-if IsSoundPiece (mark == 36) _ _ (sound-added 2 size place (omega arith))
-          (ifsome-if IsSoundPiece (mark == 33) _ _ (sound-added 12 size place (omega arith))
-            (ifsome-if IsSoundPiece (mark == 37) _ None (sound-changed size place) tt))))
+    (ifsome-if IsSoundPiece (mark == 35) _ _ (sound-added 3 size place (omega arith))
+    (ifsome-if IsSoundPiece (mark == 36) _ _ (sound-added 2 size place (omega arith))
+    (ifsome-if IsSoundPiece (mark == 33) _ _ (sound-added 12 size place (omega arith))
+    (ifsome-if IsSoundPiece (mark == 37) _ None (sound-changed size place) tt))))
 
 pub sound-piece : (text : List ℕ) → IfSome (piece_of text) IsSoundPiece
 sound-piece text =
     ifsome-if IsSoundPiece (bytes_eq text (codes "exactmap")) (Some ExactMap) (sized_piece text) (tt, tt)
-      (ifsome-then IsSoundPiece (size_part text) _ (λ size. sound-by_mark size.0 size.1))
+    (ifsome-then IsSoundPiece (size_part text) _ (λ size. sound-by_mark size.0 size.1))
 
 pub sound-mem : (text : List ℕ) → IfSome (mem_of text) IsSoundPiece
 sound-mem text =
     ifsome-if IsSoundPiece (bytes_eq text (codes "nopentium")) (Some (Other None)) _ tt
-      (ifsome-then IsSoundPiece (whole_size text) ram_up_to (λ size.
-        ifsome-if IsSoundPiece (size == 0) None (Some (Other (ram_above size))) tt (sound-ram_above size)))
+    (ifsome-then IsSoundPiece (whole_size text) ram_up_to (λ size.
+    ifsome-if IsSoundPiece (size == 0) None (Some (Other (ram_above size))) tt (sound-ram_above size)))
 
 pub sound-pieces : (texts : List (List ℕ)) → IfSome (pieces_of texts) AreSound
 sound-pieces [] = tt

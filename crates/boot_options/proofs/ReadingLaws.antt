@@ -33,8 +33,9 @@ read_all-step number old new word words = by_said (said_by number (named word))
         → read_all old (r >>= λ others. Ok ((number, said) ∷ others)) ≡ read_all new r
     by_others said (Ok others) is = rw is refl
     by_others said (Err f) is = refl
+
     by_said : (r : Result Said OptionFault) → read_on number old r ≡ Ok new
         → read_all old (r >>= λ said. said_from (number + 1) words >>= λ others. Ok ((number, said) ∷ others))
-          ≡ read_all new (said_from (number + 1) words)
+        ≡ read_all new (said_from (number + 1) words)
     by_said (Ok said) is = by_others said (said_from (number + 1) words) cc
     by_said (Err f) is = cc

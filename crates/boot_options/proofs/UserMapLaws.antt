@@ -23,7 +23,7 @@ pub edits-pieces : (number : ℕ) (st : State) (ps : List Piece) (behind : List 
 edits-pieces number st [] behind = refl
 edits-pieces number st (p ∷ ps) behind =
     edits-pieces number (after_piece number st p) ps behind
-      ∙ edits-step st.edits (edit_of p) (edits_of (numbered number ps behind))
+    ∙ edits-step st.edits (edit_of p) (edits_of (numbered number ps behind))
 
 -- the edits of all words
 pub edits-all : (st : State) (said : List (ℕ × Said)) → (after_all st said).edits ≡ st.edits ++ edits_of (all_pieces said)
@@ -46,7 +46,7 @@ numa_off-all st [] = or_false st.numa_off
     or_false false = refl
 numa_off-all st ((number, Pieces ps) ∷ said) =
     numa_off-all (after_pieces number st ps) said
-      ∙ ap (λ (b : Bool). b || is_numa_off said) (numa_off-pieces number st ps)
+    ∙ ap (λ (b : Bool). b || is_numa_off said) (numa_off-pieces number st ps)
 numa_off-all st ((number, NumaOff) ∷ said) =
     numa_off-all (record { edits = st.edits; numa_off = true; user_map = st.user_map }) said ∙ or_true st.numa_off
   where
@@ -92,9 +92,10 @@ map_behind-wanted ((number, p) ∷ ps) m =
     fewer_still m n =
         let same : m.wanting - 1 - n ≡ m.wanting - (n + 1) = omega arith in
         ap (λ (w : ℕ). let map : UserMap = record { word = m.word; wanting = w } in map) same
+
     step : (found : Option (ℕ × ℕ)) (p : Piece) (m : Option UserMap)
         → wanted found (count_adding ps) (user_map_behind number p m)
-          ≡ wanted (or_here found number p (count_adding ps)) (count_adding ((number, p) ∷ ps)) m
+        ≡ wanted (or_here found number p (count_adding ps)) (count_adding ((number, p) ∷ ps)) m
     step (Some exact) p m = refl
     step None ExactMap m = refl
     step None (Adding e) None = refl
@@ -105,11 +106,12 @@ map_behind-wanted ((number, p) ∷ ps) m =
 pub finished-judged : (said : List (ℕ × Said)) → finished (after_all start said) ≡ judged said
 finished-judged said =
     rw (edits-all start said, numa_off-all start said, user_map-all start said, map_behind-wanted (all_pieces said) None)
-      (by_exact (record { edits = edits_of (all_pieces said); numa_off = is_numa_off said }) (last_exact (all_pieces said)))
+    (by_exact (record { edits = edits_of (all_pieces said); numa_off = is_numa_off said }) (last_exact (all_pieces said)))
   where
     by_count : (chosen : Chosen) (fault : OptionFault) (n : ℕ)
         → (if 2 - n == 0 then Ok chosen else Err fault) ≡ (if nat_lt n 2 then Err fault else Ok chosen)
     by_count chosen fault n = grind (arith, nat_tests)
+
     by_exact : (chosen : Chosen) (found : Option (ℕ × ℕ))
         → when_complete chosen (wanted found (count_adding (all_pieces said)) None) ≡ with_user_map chosen found
     by_exact chosen None = refl

@@ -78,11 +78,11 @@ abbrev pub retyped : Extent → ℕ → ℕ → Option Piece
 retyped range from to =
     if from == 0
     then (if to == 0
-          then Some (Other (unless_empty range (RemoveAll range)))
-          else Some (Adding (unless_empty range (Add range to))))
+    then Some (Other (unless_empty range (RemoveAll range)))
+    else Some (Adding (unless_empty range (Add range to))))
     else (if to == 0
-          then Some (Other (unless_empty range (Remove range from)))
-          else (if from == to then None else Some (Other (unless_empty range (Change range from to)))))
+    then Some (Other (unless_empty range (Remove range from)))
+    else (if from == to then None else Some (Other (unless_empty range (Change range from to)))))
 
 -- `S%A-f+t`, with f and t as they are written
 abbrev pub changed : ℕ → List ℕ → Option Piece

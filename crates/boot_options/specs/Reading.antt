@@ -35,7 +35,7 @@ abbrev pub after_piece : ℕ → State → Piece → State
 after_piece number st p = record {
   edits = st.edits ++ with_edit (edit_of p) [];
   numa_off = st.numa_off;
-  user_map = user_map_behind number p st.user_map
+  user_map = user_map_behind number p st.user_map;
 }
 
 abbrev pub after_pieces : ℕ → State → List Piece → State

@@ -20,6 +20,8 @@ mod fault;
 mod options;
 mod piece;
 mod reading;
+#[cfg(test)]
+mod tests;
 
 pub use e820_model::Edit;
 pub use fault::OptionFault;

@@ -3,12 +3,11 @@ ghost use Rattle.boot_options.specs.Options.{Gives, chosen, line_of, options_of,
 ghost use Rattle.e820_model.specs.Claims.{HaveTypes};
 ghost use Rattle.boot_options.specs.Reading.{state_of, finished};
 
+use crate::fault::OptionFault;
+use crate::reading::{Reading, read_words};
 use e820_model::Edit;
 use std::alloc::Global;
 use text_words::{before, without_last};
-
-use crate::fault::OptionFault;
-use crate::reading::{Reading, read_words};
 
 /// What the command line asks of the memory set-up.
 #[derive(Debug, Drop)]
@@ -55,5 +54,8 @@ fn finish(reading: Reading) -> Result<Options, OptionFault>
             return Err(OptionFault::UserMapInvalid { word: map.word });
         }
     }
-    Ok(Options { edits: reading.edits, numa_off: reading.numa_off })
+    Ok(Options {
+        edits: reading.edits,
+        numa_off: reading.numa_off,
+    })
 }

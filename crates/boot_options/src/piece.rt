@@ -114,7 +114,10 @@ fn kind_behind(mark: u8, text: &[u8]) -> Option<(u32, &[u8])>
 fn ram_above(size: u64) -> Option<Edit>
     ensures { result ≡ edit_above size }
 {
-    let range = Range { base: size, size: u64::MAX - size };
+    let range = Range {
+        base: size,
+        size: u64::MAX - size,
+    };
     unless_empty(range, Edit::Remove { range, kind: 1 })
 }
 

@@ -5,13 +5,12 @@ ghost use Rattle.boot_options.specs.declared.fault.OptionFault.TheVariants as fa
 ghost use Rattle.boot_options.specs.Options.{Gives, named, said_by, said_from, option_words, or_fault, memmap_of, with_edit};
 ghost use Rattle.boot_options.specs.Reading.{state_of, start, one_fewer as one_fewer_wanted, after_piece, read_on, read_all};
 
+use crate::fault::OptionFault;
+use crate::piece::{Piece, read_mem, read_piece};
 use bm_base::Memory;
 use e820_model::Edit;
 use std::alloc::Global;
 use text_words::{Separators, cut, next_part, next_word, unquoted};
-
-use crate::fault::OptionFault;
-use crate::piece::{Piece, read_mem, read_piece};
 
 /// What the words so far have come to.
 #[derive(Drop)]
@@ -33,7 +32,11 @@ pub fn read_words(alloc: Global, line: &[u8]) -> Result<Reading, OptionFault>
     requires { length line.now ≤ 2047 }
     ensures { Gives state_of result (read_all start (said_from 1 (option_words line.now))) }
 {
-    let mut reading = Reading { edits: Vec::new(alloc), numa_off: false, user_map: None };
+    let mut reading = Reading {
+        edits: Vec::new(alloc),
+        numa_off: false,
+        user_map: None,
+    };
     let mut rest = line;
     let mut number: u32 = 1;
     while let Some((word, behind)) = next_word(rest, Separators::CommandLine) {
@@ -107,7 +110,10 @@ fn take_piece(piece: &Piece, number: u32, reading: &mut Reading) -> Result<(), M
     match piece {
         Piece::ExactMap => {
             reading.edits.push(Edit::Clear)?;
-            reading.user_map = Some(UserMap { word: number, wanting: 2 });
+            reading.user_map = Some(UserMap {
+                word: number,
+                wanting: 2,
+            });
         }
         Piece::Adding(edit) => {
             push_some(edit, &mut reading.edits)?;
@@ -132,5 +138,8 @@ fn push_some(edit: &Option<Edit>, edits: &mut Vec<Edit>) -> Result<(), Memory>
 fn one_fewer(map: &Option<UserMap>) -> Option<UserMap>
     ensures { result ≡ option_map one_fewer_wanted map.now }
 {
-    map.map(|map| UserMap { word: map.word, wanting: map.wanting.saturating_sub(1) })
+    map.map(|map| UserMap {
+        word: map.word,
+        wanting: map.wanting.saturating_sub(1),
+    })
 }

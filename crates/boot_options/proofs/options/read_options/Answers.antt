@@ -9,7 +9,7 @@ use Rattle.boot_options.proofs.options.read_options.Goals as goal
 pub returns-clause-gives : goal.returns-clause-gives
 returns-clause-gives c =
     rw (options-read c.args.bytes.now c.in_ok-line.line.now (state_of c.in_ok-reading.reading) c.in_ok-line.ensures.line c.in_ok-reading.ensures)
-      c.finish.ensures
+    c.finish.ensures
 
 pub returns-clause-types : goal.returns-clause-types
 returns-clause-types c = types-given c.args.bytes.now c.finish.result (returns-clause-gives c)

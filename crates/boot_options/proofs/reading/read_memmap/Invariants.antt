@@ -9,7 +9,7 @@ use Rattle.boot_options.proofs.reading.read_memmap.Given as goal
 abbrev pub invariant-loop-rest : goal.invariant-loop-rest
 invariant-loop-rest l =
     read_pieces l.number (state_of l.reading) (pieces_of (parts_behind (Byte 44) (text_of l.rest)))
-      ≡ read_pieces l.number (state_of l.fn.reading) (pieces_of (parts_behind (Byte 44) (text_of l.initial.rest)))
+    ≡ read_pieces l.number (state_of l.fn.reading) (pieces_of (parts_behind (Byte 44) (text_of l.initial.rest)))
 
 abbrev pub decreases-loop-rest : goal.decreases-loop-rest
 decreases-loop-rest l = left l.rest
