@@ -1,5 +1,5 @@
 -- How a failure of one step stands to the outcome of the steps behind it.
-use Rattle.std.proofs.Common.{◌≡◌, ℕ, List, Option, Some, None, Result, Ok, Err, refl, ap, arith}
+use Rattle.std.proofs.Common.{◌≡◌, List, [], Option, Some, None, Result, Ok, Err, refl, ap, arith}
 use Rattle.std.specs.Prelude.{IfSome}
 use Rattle.e820_model.specs.declared.entry.Entry.{Entry}
 use Rattle.e820_table.specs.declared.zero_page.ZeroFault.{ZeroFault}
@@ -10,9 +10,9 @@ use Rattle.bootmem_cli.specs.declared.failure.Refusal.{Refusal}
 use Rattle.bootmem_cli.specs.declared.failure.Refusal.TheVariants as refusals
 use Rattle.bootmem_cli.specs.declared.failure.Failure.{Failure}
 use Rattle.bootmem_cli.specs.declared.failure.Failure.TheVariants as failures
-use Rattle.bootmem_cli.specs.declared.inputs.Inputs.{Inputs}
+use Rattle.bootmem_cli.specs.declared.boot.Inputs.{Inputs}
 use Rattle.bootmem_cli.specs.Words.{Named}
-use Rattle.bootmem_cli.specs.Outcome.{Held, ◌>>=◌, file_of, unless_zero_fault, zero_page_of, inputs_of}
+use Rattle.bootmem_cli.specs.Outcome.{Held, ◌>>=◌, file_of, unless_zero_fault, zero_page_of, no_options, inputs_of}
 use Rattle.bootmem_cli.specs.Answers.{ComesTo, Fits, Gives}
 use Rattle.bootmem_cli.specs.View.{inputs_view}
 
@@ -46,6 +46,6 @@ pub zero_page_unread : (holds : Option Held) (answer : Result Inputs Failure) (f
     → IfSome holds (λ held. Gives inputs_view answer (inputs_of held named))
 zero_page_unread None answer failure named is own fits = tt
 zero_page_unread (Some held) answer failure named is own fits =
-    rw is (fits_then failure (file_of held named inputs.ZeroPage 4096) (λ bytes. zero_page_of bytes >>= λ entries. Ok (record { entries = entries }))
-        (λ input unread bytes. rw (own input unread) (comes_to_zero_page (zero_fault bytes) (entries_of bytes) (λ entries. record { entries = entries })))
-        fits)
+    rw is (fits_then failure (file_of held named inputs.ZeroPage 4096) (λ bytes. zero_page_of bytes >>= λ entries. Ok (record { entries = entries; extension = []; options = no_options }))
+    (λ input unread bytes. rw (own input unread) (comes_to_zero_page (zero_fault bytes) (entries_of bytes) (λ entries. record { entries = entries; extension = []; options = no_options })))
+    fits)

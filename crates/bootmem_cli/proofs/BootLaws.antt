@@ -1,44 +1,105 @@
--- The table's answer as the boot's.
-use Rattle.std.proofs.Common.{◌≡◌, ℕ, ◌<◌, ◌≤◌, List, length, Result, Ok, Err, Vec, Global, refl, sym, ◌∙◌, ap, arith}
+-- What holds of a boot that isn't stopped.
+use Rattle.std.proofs.Common.{◌≡◌, ℕ, ◌+◌, ◌*◌, ◌^◌, ◌<◌, ◌≤◌, ◌∙◌, sym, ap, refl, arith, inl, inr, Bool, ◌||◌, true, false, ◌==◌, nat_lt, if◌then◌else◌, Option, Some, None, List, [], ◌∷◌, length, Result, Ok, Err}
+use Rattle.std.proofs.lemmas.Bool.{cases_Bool}
 use Rattle.std.proofs.lemmas.Bool.Decides.{nat_tests}
-use Rattle.address_runs.specs.Runs.{RunOf}
-use Rattle.e820_model.specs.Claims.{Claims, no_claims, added, settled, claims_of_entries, of_zero_page}
-use Rattle.e820_model.specs.Map.{map_of}
-use Rattle.e820_sanitise.specs.declared.fault.MapFault.{MapFault}
-use Rattle.e820_sanitise.specs.declared.fault.MapFault.TheVariants as maps
-use Rattle.e820_sanitise.specs.Gives.{MapGives}
-use Rattle.bootmem_cli.specs.declared.failure.Stop.{Stop}
-use Rattle.bootmem_cli.specs.declared.failure.Stop.TheVariants as stops
-use Rattle.bootmem_cli.specs.Status.{stop_of_map}
-use Rattle.bootmem_cli.specs.Outcome.{Inputs, claims, unless_full, boot}
-use Rattle.bootmem_cli.specs.Answers.{Boots}
+use Rattle.std.proofs.Math.Bool.{or-false}
+use Rattle.address_runs.specs.Runs.{RunOf, run_end, lies_in, value_at, AreRuns, runs_of}
+use Rattle.address_runs.proofs.RunsLaws.{IsRunsBetween, from_runs, none_below, rest_from}
+use Rattle.e820_model.specs.Claims.{Claims}
+use Rattle.e820_model.specs.Map.{kinds, map_of, same_kind}
+use Rattle.e820_model.specs.Usable.{is_memory, is_usable, usable_frames, all_below}
+use Rattle.e820_model.proofs.ClaimLaws.{tells_kinds}
+use Rattle.e820_model.proofs.UsableLaws.{usable_whole, all_same}
+use Rattle.e820_usable.specs.declared.stop.MapStop.{MapStop}
+use Rattle.e820_usable.specs.declared.stop.MapStop.TheVariants as reasons
+use Rattle.e820_usable.specs.Judged.{judged}
+use Rattle.boot_options.specs.Options.{Chosen}
+use Rattle.bootmem_cli.specs.declared.boot.Stop.{Stop}
+use Rattle.bootmem_cli.specs.declared.boot.Stop.TheVariants as stops
+use Rattle.bootmem_cli.specs.Boot.{Given, Made, ◌>>=◌, claims, room, unless_stopped, boot, lies_in_memory}
 
--- a map that isn't too long is the boot's
-full_never : (map : List (RunOf ℕ)) → length map ≤ 3200 → unless_full map ≡ Ok map
-full_never map few = grind (arith, nat_tests, few)
+-- what is known where the steps come to an end
+pub record GoesOn (given : Given) (made : Made) : Type 0 where
+  pub map : made.map ≡ map_of (claims given)
+  pub fits : nat_lt room (length (map_of (claims given))) ≡ false
+  pub judged : judged (kinds (claims given)) ≡ None
 
--- a map that is too long stops the boot
-full_stops : (map : List (RunOf ℕ)) → 3200 < length map → unless_full map ≡ Err (stops.MapFull (length map))
-full_stops map many = grind (arith, nat_tests, many)
+-- the steps of the map, by what decides them
+abbrev steps : Bool → Option MapStop → List (RunOf ℕ) → Chosen → Result Made Stop
+steps full reason map options = do
+  given ← do
+    fits ← (if full then Err (stops.MapFull (length map)) else Ok map)
+    unless_stopped reason fits
+  Ok (record { map = given; options = options })
 
--- the claims of a new table, once the entries were appended and it settled
-pub settled_entries : (new appended done : Claims) (inputs : Inputs) → new ≡ no_claims
-    → appended ≡ added new (claims_of_entries inputs.entries) → done ≡ settled appended → done ≡ claims inputs
-settled_entries new appended done inputs none more end =
-    end ∙ ap settled (more ∙ ap (λ (c : Claims). added c (claims_of_entries inputs.entries)) none)
+steps_end : (full : Bool) (reason : Option MapStop) (map : List (RunOf ℕ)) (options : Chosen) (made : Made) → steps full reason map options ≡ Ok made
+    → (made.map ≡ map) × (full ≡ false) × (reason ≡ None)
+steps_end true reason map options made ends = absurd (cc)
+steps_end false (Some reason) map options made ends = absurd (cc)
+steps_end false None map options made ends = (cc, refl, refl)
 
--- the boot gives the runs that the table gives
-pub boot_runs : (done : Claims) (runs : List (RunOf ℕ)) (inputs : Inputs) → done ≡ claims inputs
-    → runs ≡ map_of done → length (map_of done) ≤ 3200 → boot inputs ≡ Ok runs
+pub goes_on : (given : Given) (made : Made) → boot given ≡ Ok made → GoesOn given made
 unfolding boot
-boot_runs done runs inputs same are few =
-    rw (← same) (full_never (map_of done) few ∙ ap (λ (map : List (RunOf ℕ)). Ok map) (sym are))
+goes_on given made ends =
+    let c : Claims = claims given in
+    let known = steps_end (nat_lt room (length (map_of c))) (judged (kinds c)) (map_of c) given.options made ends in
+    record { map = known.0; fits = known.1; judged = known.2 }
 
--- the boot stops where the table has no map
-pub boot_stops : (done : Claims) (answer : Result (Vec (RunOf ℕ) Global) Stop) (fault : MapFault) (inputs : Inputs)
-    → done ≡ claims inputs → answer ≡ Err (stop_of_map fault)
-    → MapGives (Err fault) (map_of done) → Boots (λ runs. runs.items) answer (boot inputs)
-unfolding boot
-boot_stops done answer (maps.MapFull n) inputs same is full =
-    rw (is, ← same) (full_stops (map_of done) full.1 ∙ ap (λ (n : ℕ). Err (stops.MapFull n)) (sym full.0))
-boot_stops done answer maps.Memory inputs same is full = rw is tt
+-- the map has each address's type
+pub map_between : (c : Claims) → IsRunsBetween (kinds c) 0 (2 ^ 64) (map_of c)
+unfolding map_of runs_of
+map_between c = from_runs same_kind tells_kinds (kinds c) (2 ^ 64) 0
+
+-- an address lies in memory where the list gives memory
+pub memory_lies : (rs : List (RunOf ℕ)) (x : ℕ) → AreRuns rs → is_memory (value_at rs x) ≡ lies_in_memory rs x
+memory_lies [] x runs = refl
+memory_lies (r ∷ rs) x runs =
+    let rest : is_memory (value_at rs x) ≡ lies_in_memory rs x = memory_lies rs x runs.2 in
+    elim (cases_Bool (lies_in r x)) as (λ _. is_memory (value_at (r ∷ rs) x) ≡ lies_in_memory (r ∷ rs) x) [
+      | inl inside ↦
+          (let low : x < run_end r = grind (arith, nat_tests) in
+          let nothing : value_at rs x ≡ None = none_below (run_end r) x rs runs.2 (rest_from r rs runs) low in
+          let none : lies_in_memory rs x ≡ false = sym rest ∙ ap is_memory nothing in
+          rw (inside, none) (sym (or-false (r.value == 1 || r.value == 128))))
+      | inr outside ↦ (rw outside rest)
+    ]
+
+-- the runs tell which frames are usable
+pub usable_lies : (given : Given) (made : Made) (frame : ℕ) → boot given ≡ Ok made → frame < 2 ^ 34
+    → is_usable (kinds (claims given)) frame ≡ all_below (λ i. lies_in_memory made.map (4096 * frame + i)) 4096
+usable_lies given made frame ends low =
+    let c : Claims = claims given in
+    let between = map_between c in
+    let each : (i : ℕ) → i < 4096 → is_memory (kinds c (4096 * frame + i)) ≡ lies_in_memory made.map (4096 * frame + i) =
+    λ i lt. (
+    let x : ℕ = 4096 * frame + i in
+    let value : value_at (map_of c) x ≡ kinds c x = between.within x (omega arith) (omega arith) in
+    let told : is_memory (kinds c x) ≡ lies_in_memory (map_of c) x = ap is_memory (sym value) ∙ memory_lies (map_of c) x between.runs in
+    rw (goes_on given made ends).map told) in
+    usable_whole (kinds c) frame ∙ all_same _ _ 4096 each
+
+-- each address below 2^64 has in the map the type that the claims give
+pub types_told : (given : Given) (made : Made) (x : ℕ) → boot given ≡ Ok made → x < 2 ^ 64 → value_at made.map x ≡ kinds (claims given) x
+types_told given made x ends low = rw (goes_on given made ends).map ((map_between (claims given)).within x (omega arith) (omega arith))
+
+-- a number of frames for which no stop is due
+frames_within : (n : ℕ) → (if n == 0 then Some reasons.NoRam else (if nat_lt (2 ^ 32) n then Some (reasons.TooMuchRam n) else None)) ≡ None
+    → (0 < n) × (n ≤ 2 ^ 32)
+frames_within n fine = elim (cases_Bool (n == 0)) as (λ _. (0 < n) × (n ≤ 2 ^ 32)) [
+  | inl none ↦ (let clash : Some reasons.NoRam ≡ None = rw none at fine in absurd (cc))
+  | inr some ↦ (elim (cases_Bool (nat_lt (2 ^ 32) n)) as (λ _. (0 < n) × (n ≤ 2 ^ 32)) [
+    | inl many ↦ (let clash : Some (reasons.TooMuchRam n) ≡ None = rw (some, many) at fine in absurd (cc))
+    | inr few ↦ (grind (arith, nat_tests), grind (arith, nat_tests))
+  ])
+]
+
+-- a map that isn't refused has usable frames, and not too many
+pub frames_told : (given : Given) (made : Made) → boot given ≡ Ok made
+    → (0 < usable_frames (kinds (claims given))) × (usable_frames (kinds (claims given)) ≤ 2 ^ 32)
+frames_told given made ends = frames_within (usable_frames (kinds (claims given))) (goes_on given made ends).judged
+
+-- and it is in the table's room
+pub room_told : (given : Given) (made : Made) → boot given ≡ Ok made → length made.map ≤ 3200
+room_told given made ends =
+    let known : GoesOn given made = goes_on given made ends in
+    rw known.map (grind (arith, nat_tests, known.fits))

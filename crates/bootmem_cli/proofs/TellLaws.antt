@@ -26,7 +26,7 @@ joined_at : (pieces : List (Bor (List ℕ))) (i : ℕ) (d : Bor (List ℕ)) → 
 joined_at pieces i d inside =
     let rest : drop i pieces ≡ get_or pieces i d ∷ drop (i + 1) pieces = rw (add-one i) (drop-cons pieces i d inside) in
     ap (λ (t : List (Bor (List ℕ))). joined (take i pieces) ++ joined t) (sym rest)
-        ∙ sym (joined_append (take i pieces) (drop i pieces)) ∙ ap (λ (t : List (Bor (List ℕ))). joined t) (take-append-drop i pieces)
+    ∙ sym (joined_append (take i pieces) (drop i pieces)) ∙ ap (λ (t : List (Bor (List ℕ))). joined t) (take-append-drop i pieces)
 
 -- pieces that went out whole, and then the front of one, are a front of all
 front_then : (old mid new : Option (List ℕ)) (first piece rest : List ℕ)
@@ -34,7 +34,7 @@ front_then : (old mid new : Option (List ℕ)) (first piece rest : List ℕ)
 front_then old mid new first piece rest before front =
     let n : ℕ = front.0 in
     let bytes : first ++ take n piece ≡ take (length first + n) (first ++ (piece ++ rest)) =
-        ap (λ (t : List ℕ). first ++ t) (sym (take-append-le n piece rest front.1)) ∙ sym (take-append-add first (piece ++ rest) n) in
+    ap (λ (t : List ℕ). first ++ t) (sym (take-append-le n piece rest front.1)) ∙ sym (take-append-add first (piece ++ rest) n) in
     (length first + n, rw (length-append first (piece ++ rest), length-append piece rest) (omega (arith, front.1)), rw (← bytes) (appends_twice old mid new first (take n piece) before front.2))
 
 refused_front : {P : Type 0} (answer : Result (Unit {0}) Put) → is_err answer ≡ true → OnErr answer P → P
@@ -63,6 +63,6 @@ tells_refused written faults wants old mid new pieces i d piece answer inside is
     record {
       front = rw (← joined_at pieces i d inside)
           (front_then (written old) (written mid) (written new) (joined (take i pieces)) (get_or pieces i d).now (joined (drop (i + 1) pieces))
-              before (rw (← is) (refused_front answer refused front)));
+          before (rw (← is) (refused_front answer refused front)));
       whole = inr (refused_cause answer (faults old) (faults mid) (faults new) (wants old) (wants mid) (wants new) refused faults_stay wants_stay failed wanting);
     }

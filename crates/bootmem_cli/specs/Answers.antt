@@ -7,8 +7,8 @@ use Rattle.bootmem_cli.specs.declared.failure.Input.{Input}
 use Rattle.bootmem_cli.specs.declared.failure.Input.TheVariants as inputs
 use Rattle.bootmem_cli.specs.declared.failure.InputFault.{InputFault}
 use Rattle.bootmem_cli.specs.declared.failure.InputFault.TheVariants as faults
-use Rattle.bootmem_cli.specs.declared.failure.Stop.{Stop}
-use Rattle.bootmem_cli.specs.declared.failure.Stop.TheVariants as stops
+use Rattle.bootmem_cli.specs.declared.boot.Stop.{Stop}
+use Rattle.bootmem_cli.specs.declared.boot.Stop.TheVariants as stops
 use Rattle.bootmem_cli.specs.declared.failure.Refusal.{Refusal}
 use Rattle.bootmem_cli.specs.declared.failure.Refusal.TheVariants as refusals
 use Rattle.bootmem_cli.specs.declared.failure.Failure.{Failure}
@@ -55,6 +55,8 @@ Gives view (Err failure) said = Fits failure said
 -- the boot's answer is the definition's, or want of memory
 abbrev pub Boots : {X Y : Type 0} → (X → Y) → Result X Stop → Result Y Stop → Type 0
 Boots view (Ok x) said = said ≡ Ok (view x)
+Boots view (Err stops.NoRam) said = said ≡ Err stops.NoRam
+Boots view (Err (stops.TooMuchRam frames)) said = said ≡ Err (stops.TooMuchRam frames)
 Boots view (Err (stops.MapFull runs)) said = said ≡ Err (stops.MapFull runs)
 Boots view (Err stops.Memory) said = Unit {0}
 

@@ -1,3 +1,4 @@
+pub mod Boot
 pub mod Status
 pub mod Words
 pub mod View

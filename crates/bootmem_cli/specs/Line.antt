@@ -9,8 +9,8 @@ use Rattle.bootmem_cli.specs.declared.failure.Input.{Input}
 use Rattle.bootmem_cli.specs.declared.failure.Input.TheVariants as inputs
 use Rattle.bootmem_cli.specs.declared.failure.InputFault.{InputFault}
 use Rattle.bootmem_cli.specs.declared.failure.InputFault.TheVariants as faults
-use Rattle.bootmem_cli.specs.declared.failure.Stop.{Stop}
-use Rattle.bootmem_cli.specs.declared.failure.Stop.TheVariants as stops
+use Rattle.bootmem_cli.specs.declared.boot.Stop.{Stop}
+use Rattle.bootmem_cli.specs.declared.boot.Stop.TheVariants as stops
 use Rattle.bootmem_cli.specs.declared.failure.Refusal.{Refusal}
 use Rattle.bootmem_cli.specs.declared.failure.Refusal.TheVariants as refusals
 use Rattle.bootmem_cli.specs.declared.failure.Failure.{Failure}
@@ -32,6 +32,8 @@ fault_line (faults.TooLong input) = codes "bootmem: " ++ (input_text input ++ co
 fault_line (faults.ZeroPage fault) = zero_fault_line fault
 
 abbrev pub stop_line : Stop → List ℕ
+stop_line stops.NoRam = codes "bootmem: stopped: no usable frame\n"
+stop_line (stops.TooMuchRam frames) = codes "bootmem: stopped: " ++ (decimal frames ++ codes " usable frames\n")
 stop_line (stops.MapFull runs) = codes "bootmem: stopped: " ++ (decimal runs ++ codes " map runs\n")
 stop_line stops.Memory = codes "bootmem: out of memory\n"
 

@@ -1,19 +1,17 @@
 -- What the program comes to, from the words and from what each name holds.
-use Rattle.std.specs.Prelude.{ℕ, List, length, Option, Some, None, Result, Ok, Err, nat_lt, if◌then◌else◌}
-use Rattle.address_runs.specs.Runs.{RunOf}
+use Rattle.std.specs.Prelude.{ℕ, false, List, [], length, Option, Some, None, Result, Ok, Err, nat_lt, if◌then◌else◌}
 use Rattle.e820_model.specs.declared.entry.Entry.{Entry}
-use Rattle.e820_model.specs.Claims.{Claims, of_zero_page}
-use Rattle.e820_model.specs.Map.{map_of}
 use Rattle.e820_model.specs.MapText.{map_text}
+use Rattle.boot_options.specs.Options.{Chosen}
 use Rattle.e820_table.specs.declared.zero_page.ZeroFault.{ZeroFault}
 use Rattle.e820_table.specs.ZeroPage.{zero_fault, entries_of}
 use Rattle.bootmem_cli.specs.declared.failure.Input.{Input}
 use Rattle.bootmem_cli.specs.declared.failure.Input.TheVariants as inputs
 use Rattle.bootmem_cli.specs.declared.failure.InputFault.TheVariants as faults
-use Rattle.bootmem_cli.specs.declared.failure.Stop.{Stop}
-use Rattle.bootmem_cli.specs.declared.failure.Stop.TheVariants as stops
+use Rattle.bootmem_cli.specs.declared.boot.Stop.{Stop}
 use Rattle.bootmem_cli.specs.declared.failure.Refusal.{Refusal}
 use Rattle.bootmem_cli.specs.declared.failure.Refusal.TheVariants as refusals
+use Rattle.bootmem_cli.specs.Boot.{Given, boot}
 use Rattle.bootmem_cli.specs.Words.{Named, accepted, name_of}
 
 -- what each name holds
@@ -40,10 +38,6 @@ within input limit (Some bytes) =
 abbrev pub file_of : Held → Named → Input → ℕ → Result (List ℕ) Refusal
 file_of held named input limit = within input limit (held (name_of named input))
 
--- what the files give the boot
-pub record Inputs : Type 0 where
-  pub entries : List Entry
-
 -- the entries of a zero page, unless it has a fault
 abbrev pub unless_zero_fault : Option ZeroFault → List Entry → Result (List Entry) Refusal
 unless_zero_fault None entries = Ok entries
@@ -52,25 +46,18 @@ unless_zero_fault (Some fault) entries = Err (refusals.Faulty (faults.ZeroPage f
 abbrev pub zero_page_of : List ℕ → Result (List Entry) Refusal
 zero_page_of bytes = unless_zero_fault (zero_fault bytes) (entries_of bytes)
 
+-- a command line of no words
+abbrev pub no_options : Chosen
+no_options = record { edits = []; numa_off = false }
+
 -- the inputs: each file is fetched and judged before the next
-abbrev pub inputs_of : Held → Named → Result Inputs Refusal
+abbrev pub inputs_of : Held → Named → Result Given Refusal
 inputs_of held named = do
   bytes ← file_of held named inputs.ZeroPage 4096
   entries ← zero_page_of bytes
-  Ok (record { entries = entries })
+  Ok (record { entries = entries; extension = []; options = no_options })
 
--- the claims of the finished map
-abbrev pub claims : Inputs → Claims
-claims inputs = of_zero_page inputs.entries
-
--- the map, unless it has more than 3,200 runs
-abbrev pub unless_full : List (RunOf ℕ) → Result (List (RunOf ℕ)) Stop
-unless_full map = if nat_lt 3200 (length map) then Err (stops.MapFull (length map)) else Ok map
-
--- the boot: its map, or why it stops
-unfoldable pub boot : Inputs → Result (List (RunOf ℕ)) Stop
-boot inputs = unless_full (map_of (claims inputs))
-
+-- a stop of the boot
 abbrev pub or_stopped : {A : Type 0} → Result A Stop → Result A Refusal
 or_stopped (Ok a) = Ok a
 or_stopped (Err stop) = Err (refusals.Stopped stop)
@@ -80,5 +67,5 @@ abbrev pub outcome : Option Named → Held → Result (List ℕ) Refusal
 outcome accepted held = do
   named ← or_usage accepted
   inputs ← inputs_of held named
-  map ← or_stopped (boot inputs)
-  Ok (map_text map)
+  made ← or_stopped (boot inputs)
+  Ok (map_text made.map)

@@ -2,8 +2,8 @@
 use Rattle.std.specs.Prelude.{ℕ}
 use Rattle.e820_sanitise.specs.declared.fault.MapFault.{MapFault}
 use Rattle.e820_sanitise.specs.declared.fault.MapFault.TheVariants as maps
-use Rattle.bootmem_cli.specs.declared.failure.Stop.{Stop}
-use Rattle.bootmem_cli.specs.declared.failure.Stop.TheVariants as stops
+use Rattle.bootmem_cli.specs.declared.boot.Stop.{Stop}
+use Rattle.bootmem_cli.specs.declared.boot.Stop.TheVariants as stops
 use Rattle.bootmem_cli.specs.declared.failure.Refusal.{Refusal}
 use Rattle.bootmem_cli.specs.declared.failure.Refusal.TheVariants as refusals
 use Rattle.bootmem_cli.specs.declared.failure.Failure.{Failure}
@@ -27,5 +27,7 @@ stop_of_map maps.Memory = stops.Memory
 
 -- want of memory is the one stop that isn't the input's
 abbrev pub failure_of_stop : Stop → Failure
+failure_of_stop stops.NoRam = failures.Refused (refusals.Stopped stops.NoRam)
+failure_of_stop (stops.TooMuchRam frames) = failures.Refused (refusals.Stopped (stops.TooMuchRam frames))
 failure_of_stop (stops.MapFull runs) = failures.Refused (refusals.Stopped (stops.MapFull runs))
 failure_of_stop stops.Memory = failures.Memory

@@ -1,23 +1,150 @@
-ghost use Rattle.std.specs.Prelude.{◌≡◌, ℕ, IfOk, List};
+ghost use Rattle.std.specs.Prelude.{◌≡◌, IfOk};
 ghost use Rattle.address_runs.specs.Runs.{AreRuns};
-ghost use Rattle.e820_model.specs.Claims.{EndInSpace};
-ghost use Rattle.bootmem_cli.specs.Outcome.{boot};
+ghost use Rattle.e820_model.specs.Claims.{EndInSpace, HaveTypes, finished};
+ghost use Rattle.e820_model.specs.Map.{claims_of};
 ghost use Rattle.bootmem_cli.specs.Answers.{Boots};
-ghost use Rattle.bootmem_cli.specs.View.{inputs_view};
+ghost use Rattle.bootmem_cli.specs.Boot.{boot, judged_map};
+ghost use Rattle.bootmem_cli.specs.View.{booted_view, inputs_view};
 
-use crate::failure::Stop;
-use crate::inputs::Inputs;
-use e820_sanitise::{Run, Table};
+mod laws;
+#[cfg(test)]
+mod tests;
+
+use bm_base::Memory;
+use boot_options::{Edit, Options};
+use e820_sanitise::{MapFault, Run, Table};
+use e820_table::{Entry, ZeroPage};
+use e820_usable::{MapStop, judge};
 use std::alloc::Global;
 
-/// The map of the inputs: the zero page's entries, settled.
-pub fn boot(alloc: Global, inputs: &Inputs) -> Result<Vec<Run>, Stop>
-    requires { EndInSpace inputs.now.zero_page.entries.items }
-    ensures gives { Boots (λ runs. runs.items) result (boot (inputs_view inputs.now)) }
-    ensures runs { IfOk result (λ runs. AreRuns runs.items) }
+/// What a boot is given.
+#[derive(Drop)]
+pub struct Inputs {
+    /// The zero page (`struct boot_params`).
+    pub zero: ZeroPage,
+    /// The entries of the E820 extension; none where there is no extension.
+    pub ext: Vec<Entry>,
+    /// The options of the command line.
+    pub options: Options,
+}
+
+/// What a boot makes.
+#[derive(Drop)]
+pub struct Booted {
+    /// The map, as runs in the order of their addresses.
+    pub map: Vec<Run>,
+    /// The options, as they were given.
+    pub options: Options,
+}
+
+/// Why a boot stops.
+#[derive(Clone, Copy, Debug, PartialEq, Eq)]
+pub enum Stop {
+    /// No frame of the map is usable.
+    NoRam,
+    /// More than 2^32 frames of the map are usable: so many.
+    TooMuchRam { frames: u64 },
+    /// The map has more runs than the table has room for, which is 3,200: so many.
+    MapFull { runs: u64 },
+    /// The program's own memory ran out.
+    Memory,
+}
+
+impl From<Memory> for Stop {
+    ghost use Rattle.std.specs.Prelude.{◌≡◌};
+    ghost use Rattle.bootmem_cli.specs.declared.boot.Stop.TheVariants as stops;
+
+    ghost from_gives = { λ _ stop. stop ≡ stops.Memory };
+
+    fn from(_error: Memory) -> Stop {
+        Stop::Memory
+    }
+}
+
+impl From<MapFault> for Stop {
+    ghost use Rattle.std.specs.Prelude.{◌≡◌};
+    ghost use Rattle.bootmem_cli.specs.Status.{stop_of_map};
+
+    ghost from_gives = { λ fault stop. stop ≡ stop_of_map fault };
+
+    fn from(fault: MapFault) -> Stop {
+        match fault {
+            MapFault::MapFull { runs } => Stop::MapFull { runs },
+            MapFault::Memory => Stop::Memory,
+        }
+    }
+}
+
+impl From<MapStop> for Stop {
+    ghost use Rattle.std.specs.Prelude.{◌≡◌};
+    ghost use Rattle.bootmem_cli.specs.Boot.{stop_of};
+
+    ghost from_gives = { λ reason stop. stop ≡ stop_of reason };
+
+    fn from(reason: MapStop) -> Stop {
+        match reason {
+            MapStop::NoRam => Stop::NoRam,
+            MapStop::TooMuchRam { frames } => Stop::TooMuchRam { frames },
+        }
+    }
+}
+
+/// Boots: brings the entries into a table, settles and edits it (`e820__memory_setup`,
+/// `e820__memory_setup_extended`, `e820__finish_early_params`, `trim_bios_range`), and judges its map.
+#[tactic(auto, unfolding(crate::specs::Boot::boot))]
+pub fn boot(alloc: Global, inputs: Inputs) -> Result<Booted, Stop>
+    requires entries_end { EndInSpace inputs.zero.entries.items }
+    requires extension_ends { EndInSpace inputs.ext.items }
+    requires types { HaveTypes inputs.options.edits.items }
+    ensures boots { Boots booted_view result (boot (inputs_view inputs)) }
+    ensures runs { IfOk result (λ booted. AreRuns booted.map.items) }
+{
+    let table = finished_table(
+        alloc,
+        &inputs.zero.entries,
+        &inputs.ext,
+        &inputs.options.edits,
+    )?;
+    let map = judged_map(&table)?;
+    Ok(Booted {
+        map,
+        options: inputs.options,
+    })
+}
+
+/// The table of the finished map.
+fn finished_table(
+    alloc: Global,
+    entries: &[Entry],
+    extension: &[Entry],
+    edits: &[Edit],
+) -> Result<Table, Memory>
+    requires entries_end { EndInSpace entries.now }
+    requires extension_ends { EndInSpace extension.now }
+    requires types { HaveTypes edits.now }
+    ensures { IfOk result (λ table. claims_of table ≡ finished entries.now extension.now edits.now) }
 {
     let mut table = Table::new(alloc);
-    table.append(&inputs.zero_page.entries)?;
+    table.append(entries)?;
     table.settle()?;
-    Ok(table.runs()?)
+    table.append(extension)?;
+    table.settle()?;
+    for edit in edits {
+        table.edit(edit)?;
+    }
+    table.settle()?;
+    table.trim_bios()?;
+    Ok(table)
+}
+
+/// The map of the table's claims, where the boot goes on with it.
+fn judged_map(table: &Table) -> Result<Vec<Run>, Stop>
+    ensures judged { Boots (λ runs. runs.items) result (judged_map (claims_of table.now)) }
+    ensures runs { IfOk result (λ runs. AreRuns runs.items) }
+{
+    let runs = table.runs()?;
+    match judge(&runs) {
+        Some(reason) => Err(Stop::from(reason)),
+        None => Ok(runs),
+    }
 }

@@ -1,8 +1,8 @@
 ghost use Rattle.std.specs.Prelude.{◌≡◌};
 ghost use Rattle.bootmem_cli.specs.Status.{status_of, refusal_status};
 
+use crate::boot::Stop;
 use bm_base::Memory;
-use e820_sanitise::MapFault;
 use e820_table::ZeroFault;
 
 /// The files that the words may name, in the order in which they are read.
@@ -19,15 +19,6 @@ pub enum InputFault {
     TooLong(Input),
     /// The first fault of the zero page.
     ZeroPage(ZeroFault),
-}
-
-/// Why a boot stops.
-#[derive(Clone, Copy, Debug, PartialEq, Eq)]
-pub enum Stop {
-    /// The map has more than 3,200 runs: so many.
-    MapFull { runs: u64 },
-    /// The program's own memory ran out.
-    Memory,
 }
 
 /// Why the words and the files give no report.
@@ -105,31 +96,6 @@ impl From<ZeroFault> for Failure {
     }
 }
 
-impl From<Memory> for Stop {
-    ghost use Rattle.std.specs.Prelude.{◌≡◌};
-    ghost use Rattle.bootmem_cli.specs.declared.failure.Stop.TheVariants as stops;
-
-    ghost from_gives = { λ _ stop. stop ≡ stops.Memory };
-
-    fn from(_error: Memory) -> Stop {
-        Stop::Memory
-    }
-}
-
-impl From<MapFault> for Stop {
-    ghost use Rattle.std.specs.Prelude.{◌≡◌};
-    ghost use Rattle.bootmem_cli.specs.Status.{stop_of_map};
-
-    ghost from_gives = { λ fault stop. stop ≡ stop_of_map fault };
-
-    fn from(fault: MapFault) -> Stop {
-        match fault {
-            MapFault::MapFull { runs } => Stop::MapFull { runs },
-            MapFault::Memory => Stop::Memory,
-        }
-    }
-}
-
 impl From<Stop> for Failure {
     ghost use Rattle.std.specs.Prelude.{◌≡◌};
     ghost use Rattle.bootmem_cli.specs.Status.{failure_of_stop};
@@ -138,7 +104,9 @@ impl From<Stop> for Failure {
 
     fn from(stop: Stop) -> Failure {
         match stop {
-            Stop::MapFull { .. } => Failure::Refused(Refusal::Stopped(stop)),
+            Stop::NoRam | Stop::TooMuchRam { .. } | Stop::MapFull { .. } => {
+                Failure::Refused(Refusal::Stopped(stop))
+            }
             Stop::Memory => Failure::Memory,
         }
     }

@@ -1,24 +1,20 @@
 ghost use Rattle.std.specs.Prelude.{◌≡◌, ℕ, ◌≤◌, List, Some, IfOk, IfSome, IsErrOf};
-ghost use Rattle.e820_model.specs.Claims.{EndInSpace};
+ghost use Rattle.e820_model.specs.Claims.{EndInSpace, HaveTypes};
 ghost use Rattle.bootmem_cli.specs.Outcome.{file_of, inputs_of};
 ghost use Rattle.bootmem_cli.specs.Answers.{Gives, HasCause};
 ghost use Rattle.bootmem_cli.specs.declared.failure.Input.{Input};
 ghost use Rattle.bootmem_cli.specs.View.{names_view, inputs_view};
 
+use crate::boot::Inputs;
 use crate::failure::{Failure, Input, InputFault, Refusal};
 use crate::words::Names;
 use bm_io::{Fetch, Files};
-use e820_table::{ZeroPage, read_zero_page};
+use boot_options::Options;
+use e820_table::read_zero_page;
 use std::alloc::Global;
 
 /// The most bytes of a zero page's file.
 const ZERO_PAGE_LIMIT: u64 = 4096;
-
-/// What the files give the boot.
-#[derive(Drop)]
-pub struct Inputs {
-    pub zero_page: ZeroPage,
-}
 
 /// Fetches each file that is named, and judges it before the next.
 pub fn read_inputs<F: Files>(alloc: Global, files: &mut F, names: &Names) -> Result<Inputs, Failure>
@@ -26,11 +22,18 @@ pub fn read_inputs<F: Files>(alloc: Global, files: &mut F, names: &Names) -> Res
         Gives inputs_view result (inputs_of held (names_view names.now))) }
     ensures cause { HasCause (F.faults files.old) (F.faults files.new)
         (Some (names_view names.now)) result }
-    ensures space { IfOk result (λ inputs. EndInSpace inputs.zero_page.entries.items) }
+    ensures entries_end { IfOk result (λ inputs. EndInSpace inputs.zero.entries.items) }
+    ensures extension_ends { IfOk result (λ inputs. EndInSpace inputs.ext.items) }
+    ensures types { IfOk result (λ inputs. HaveTypes inputs.options.edits.items) }
 {
     let bytes = fetch(alloc, files, names, Input::ZeroPage, ZERO_PAGE_LIMIT)?;
-    let zero_page = read_zero_page(&bytes)?;
-    Ok(Inputs { zero_page })
+    let zero = read_zero_page(&bytes)?;
+    let ext = Vec::new(alloc);
+    let options = Options {
+        edits: Vec::new(alloc),
+        numa_off: false,
+    };
+    Ok(Inputs { zero, ext, options })
 }
 
 /// Fetches the file of an input, of at most `limit` bytes.

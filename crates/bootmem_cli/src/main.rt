@@ -1,15 +1,15 @@
 //! `bootmem`: what an x86-64 Linux 6.1 kernel makes of the firmware's memory map, before its buddy
 //! lists.
 //!
-//! The program reads the zero page that a boot loader hands over, brings its E820 entries into a
-//! table, settles it, and prints the map: `bootmem --report map ZEROPAGE`. [`run`] is the whole of
-//! it over any files, output and error output; `main` hands it those of the system.
+//! The program reads the zero page that a boot loader hands over, boots with its E820 entries as far
+//! as the finished map, and prints it: `bootmem --report map ZEROPAGE`. [`run`] is the whole of it
+//! over any files, output and error output; `main` hands it those of the system.
 //!
 //! What the program answers is a definition, `outcome` of `specs/Outcome.antt`: from the words to
-//! the files that they name, from the files' bytes to the inputs, from those to the map, and from
-//! the map to its text, each step by cases. `run` answers what it says, but where the outside fails:
-//! a file that couldn't be read, an output that refused, want of memory. Each of these has its cause
-//! in a count of the object that was handed in.
+//! the files that they name, from the files' bytes to the inputs, from those to the map by the boot
+//! (`specs/Boot.antt`), and from the map to its text, each step by cases. `run` answers what it says,
+//! but where the outside fails: a file that couldn't be read, an output that refused, want of
+//! memory. Each of these has its cause in a count of the object that was handed in.
 //!
 //! Exit statuses: 0 written, 2 the words are refused, 3 a file couldn't be read, 4 the output
 //! failed, 5 an input has a fault, 6 the boot stops, 7 out of memory. All but 0 put one line on the
@@ -25,11 +25,10 @@ mod tell;
 mod words;
 
 use bm_io::{RealFiles, StdSink};
+pub use run::run;
 use std::env;
 use std::io::ErrorKind;
 use std::process::ExitCode;
-
-pub use run::run;
 
 fn main(rt: HostRuntime) -> ExitCode {
     let alloc = rt.alloc();

@@ -51,14 +51,14 @@ pub fn run<F: Files, S: Sink, E: Sink>(
         Ends (outcome (accepted (texts words.now)) held) result) }
     ensures written { result ≡ 0 → IfSome (F.holds files.old) (λ held.
         IsText (outcome (accepted (texts words.now)) held)
-            (λ text. Appends (S.written out.old) (S.written out.new) text)) }
+        (λ text. Appends (S.written out.old) (S.written out.new) text)) }
     ensures part { result ≡ 4 → IfSome (F.holds files.old) (λ held.
         IsText (outcome (accepted (texts words.now)) held)
-            (λ text. AppendsFront (S.written out.old) (S.written out.new) text)) }
+        (λ text. AppendsFront (S.written out.old) (S.written out.new) text)) }
     ensures wanted { result ≡ 7 → IfSome (F.holds files.old) (λ held.
         (S.written out.new ≡ S.written out.old)
-            ⊎ IsText (outcome (accepted (texts words.now)) held)
-                (λ text. AppendsFront (S.written out.old) (S.written out.new) text)) }
+        ⊎ IsText (outcome (accepted (texts words.now)) held)
+        (λ text. AppendsFront (S.written out.old) (S.written out.new) text)) }
     ensures faulty { result ≡ 5 → IfSome (F.holds files.old) (λ held.
         IsFaulty (outcome (accepted (texts words.now)) held)) }
     ensures stopped { result ≡ 6 → IfSome (F.holds files.old) (λ held.
@@ -69,7 +69,7 @@ pub fn run<F: Files, S: Sink, E: Sink>(
         IsText (outcome (accepted (texts words.now)) held) (λ text. Unit {0})
         → ¬ Rose (S.faults out.old) (S.faults out.new)
         → ((input : Input)
-            → ¬ RoseFor (F.faults files.old) (F.faults files.new) (accepted (texts words.now)) input)
+        → ¬ RoseFor (F.faults files.old) (F.faults files.new) (accepted (texts words.now)) input)
         → (result ≡ 0) ⊎ (result ≡ 7)) }
 
     // What stands on the error output: nothing, or the line of a failure that has the status, has
@@ -77,10 +77,10 @@ pub fn run<F: Files, S: Sink, E: Sink>(
     ensures silent { result ≡ 0 → E.written err.new ≡ E.written err.old }
     ensures line { result ≢ 0 → (failure : Failure) × (result ≡ status_of failure)
         × Tells E.written E.faults E.wants err.old err.new
-            (line_of (accepted (texts words.now)) failure)
+        (line_of (accepted (texts words.now)) failure)
         × EndHasCause (F.faults files.old) (F.faults files.new) (accepted (texts words.now)) failure
         × IfSome (F.holds files.old) (λ held.
-            EndFits failure (outcome (accepted (texts words.now)) held)) }
+        EndFits failure (outcome (accepted (texts words.now)) held)) }
 {
     let names = read_words(words);
     let Err(failure) = write_report(alloc, names, files, out) else {
@@ -99,7 +99,7 @@ fn write_report<F: Files, S: Sink>(
 ) -> Result<(), Failure>
     ensures writes { IfSome (F.holds files.old) (λ held.
         Writes (S.written out.old) (S.written out.new) result
-            (outcome (option_map names_view names.entry) held)) }
+        (outcome (option_map names_view names.entry) held)) }
     ensures accepted { OnOk result (IsSome (option_map names_view names.entry)) }
     ensures cause { IfErr result (λ failure. EndHasCause (F.faults files.old) (F.faults files.new)
         (option_map names_view names.entry) failure) }
@@ -143,8 +143,8 @@ fn make_report<F: Files>(
         return Err(Failure::Refused(Refusal::Usage));
     };
     let inputs = read_inputs(alloc, files, &names)?;
-    let runs = boot(alloc, &inputs)?;
+    let booted = boot(alloc, inputs)?;
     let mut text = Vec::new(alloc);
-    put_map(&mut text, &runs)?;
+    put_map(&mut text, &booted.map)?;
     Ok(text)
 }

@@ -3,7 +3,8 @@ ghost use Rattle.std.specs.Option.{option_map};
 ghost use Rattle.bootmem_cli.specs.Line.{Tells, line_of, refusal_line, fault_line, zero_fault_line, stop_line, input_text};
 ghost use Rattle.bootmem_cli.specs.View.{names_view};
 
-use crate::failure::{Failure, Input, InputFault, Refusal, Stop};
+use crate::boot::Stop;
+use crate::failure::{Failure, Input, InputFault, Refusal};
 use crate::words::{Names, name_in};
 use bm_io::Sink;
 use e820_table::ZeroFault;
@@ -69,6 +70,12 @@ fn tell_stop<E: Sink>(err: &mut E, stop: Stop)
         (stop_line stop) }
 {
     match stop {
+        Stop::NoRam => put_all(err, &["bootmem: stopped: no usable frame\n"]),
+        Stop::TooMuchRam { frames } => {
+            let mut buffer = Buffer::new();
+            let frames = buffer.format(frames);
+            put_all(err, &["bootmem: stopped: ", frames, " usable frames\n"])
+        }
         Stop::MapFull { runs } => {
             let mut buffer = Buffer::new();
             let runs = buffer.format(runs);

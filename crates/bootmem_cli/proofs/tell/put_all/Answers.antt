@@ -8,4 +8,4 @@ returns-then-is_err g c =
     let l = c.loop-piece in
     let put = c.put.ensures in
     tells_refused g.E.Sink.written g.E.Sink.faults g.E.Sink.wants _ l.err _ _ _ _ _ c.put.result c.loop-piece-test.true c.as_bytes.ensures.value
-        l.invariant.written l.invariant.faults l.invariant.wants (sym c.is_err.ensures.value ∙ c.if-is_err.true) put.front put.failed put.wanting
+    l.invariant.written l.invariant.faults l.invariant.wants (sym c.is_err.ensures.value ∙ c.if-is_err.true) put.front put.failed put.wanting

@@ -1,8 +1,11 @@
 -- The pieces of each line are the line.
 use Rattle.bootmem_cli.proofs.tell.tell_stop.Goals as goal
 
+pub returns-in-TooMuchRam : goal.returns-in-TooMuchRam
+returns-in-TooMuchRam g c = rw (c.in-TooMuchRam.is, ← c.format-frames.ensures.text) c.put_all-in-TooMuchRam.ensures
+
 pub returns-in-MapFull : goal.returns-in-MapFull
-returns-in-MapFull g c = rw (c.in-MapFull.is, ← c.format-runs.ensures.text) c.put_all.ensures
+returns-in-MapFull g c = rw (c.in-MapFull.is, ← c.format-runs.ensures.text) c.put_all-in-MapFull.ensures
 
 pub returns-in-Memory : goal.returns-in-Memory
 returns-in-Memory g c = rw c.in-Memory.is c.put_all-in-Memory.ensures
