@@ -1,7 +1,7 @@
 -- Numbers and sizes in texts, as the kernel reads them: the digits of `_parse_integer_fixup_radix` and
 -- `simple_strtoull` (lib/kstrtox.c, lib/vsprintf.c), the suffixes of `memparse` (lib/cmdline.c).
 -- The values are whole numbers, which don't wrap; what passes 2^64 - 1 is a fault.
-use Rattle.std.specs.Prelude.{ℕ, ◌+◌, ◌*◌, ◌^◌, ◌==◌, Bool, false, ◌&&◌, ◌||◌, nat_lt, if◌then◌else◌, List, [], ◌∷◌, length, drop, Result, Ok, Err}
+use Rattle.std.specs.Prelude.{◌≡◌, ℕ, ◌+◌, ◌*◌, ◌^◌, ◌==◌, Bool, false, ◌&&◌, ◌||◌, nat_lt, if◌then◌else◌, List, [], ◌∷◌, length, drop, Result, Ok, Err}
 use Rattle.std.specs.Char.{is_digit}
 use Rattle.std.specs.Str.Parse.{digits_value}
 use Rattle.bm_base.specs.declared.size.NumFault.{NumFault}
@@ -80,3 +80,10 @@ size_of text =
     if begins_with_digit text
     then with_suffix (number_value text) (number_end text) (suffix_of (drop (number_end text) text))
     else Err NoDigits
+
+-- the whole text is a size, or a number, of that value
+abbrev pub IsSize : List ℕ → ℕ → Type 0
+IsSize text n = size_of text ≡ Ok (n, length text)
+
+abbrev pub IsNumber : List ℕ → ℕ → Type 0
+IsNumber text n = number_of text ≡ Ok (n, length text)

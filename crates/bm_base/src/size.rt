@@ -1,7 +1,7 @@
 ghost use Rattle.std.specs.Prelude.{◌≡◌, ℕ, Bool, false, List, ◌∷◌, ◌++◌, Ok, ◌+◌, ◌*◌, ◌^◌, ◌<◌, ◌≤◌, length, drop, IfSome, IfNone, IfOk, IsTrue, SomeIff};
 ghost use Rattle.std.specs.Char.{is_digit};
 ghost use Rattle.std.specs.Fmt.{decimal};
-ghost use Rattle.bm_base.specs.Size.{front_digits, value_of, is_hexadecimal, begins_with_digit, radix_of, suffix_of, number_of, size_of};
+ghost use Rattle.bm_base.specs.Size.{front_digits, value_of, is_hexadecimal, begins_with_digit, radix_of, suffix_of, number_of, size_of, IsSize};
 
 /// Why a text doesn't begin with a number.
 #[derive(Clone, Copy, Debug, PartialEq, Eq)]
@@ -51,7 +51,7 @@ pub fn read_number(text: &[u8]) -> Result<(u64, usize), NumFault>
 pub fn sizes_of_spelling()
     ensures size { (text rest : List ℕ) (mark : ℕ) → is_digit mark 36 ≡ false → size_of (text ++ (mark ∷ rest)) ≡ size_of text }
     ensures number { (text rest : List ℕ) (mark : ℕ) → is_digit mark 36 ≡ false → number_of (text ++ (mark ∷ rest)) ≡ number_of text }
-    ensures decimal { (n : ℕ) → n < 2 ^ 64 → size_of (decimal n) ≡ Ok (n, length (decimal n)) }
+    ensures decimal { (n : ℕ) → n < 2 ^ 64 → IsSize (decimal n) n }
 {}
 
 /// Whether the text begins with a decimal digit.

@@ -1,8 +1,8 @@
 -- What the options of a line keep: types above 0, ranges with an address, words from 1 on.
-use Rattle.std.proofs.Common.{◌≡◌, ◌≢◌, ℕ, ◌+◌, ◌<◌, ◌==◌, nat_lt, if◌then◌else◌, Bool, true, false, Option, Some, None, List, [], ◌∷◌, refl, sym, length, Result, Ok, Err, IfSome, IfOk, IfErr, arith, codes}
-use Rattle.std.specs.Option.{option_map, option_and_then}
+use Rattle.std.proofs.Common.{◌≡◌, ◌≢◌, ℕ, ◌+◌, ◌<◌, nat_lt, if◌then◌else◌, Bool, true, false, Option, Some, None, List, [], ◌∷◌, length, Result, Ok, Err, IfSome, IfOk, IfErr, arith, codes}
+use Rattle.std.specs.Option.{option_and_then}
 use Rattle.std.specs.Str.{bytes_eq}
-use Rattle.e820_model.specs.Claims.{HasTypes, HaveTypes}
+use Rattle.e820_model.specs.Claims.{HaveTypes}
 use Rattle.e820_model.specs.declared.edit.Edit.{Edit}
 use Rattle.text_words.specs.declared.separators.Separators.TheVariants.{Byte}
 use Rattle.text_words.specs.Parts.{parts_in}
@@ -12,7 +12,7 @@ use Rattle.boot_options.specs.declared.options.Options.{Options}
 use Rattle.boot_options.specs.declared.piece.Piece.{Piece}
 use Rattle.boot_options.specs.declared.piece.Piece.TheVariants.{ExactMap, Adding, Other}
 use Rattle.boot_options.specs.Pieces.{mem_of}
-use Rattle.boot_options.specs.Options.{Said, Pieces, NumaOff, Chosen, chosen, Gives, is_closed, checked_line, line_of, raw_line, pieces_of, memmap_of, of_piece, numa_of, or_fault, said_by, named, said_from, option_words, numbered, all_pieces, edit_of, with_edit, edits_of, count_adding, or_here, last_exact, chosen_by, with_user_map, judged, options_of, HasRange, HaveRanges, IsNumbered, ◌>>=◌}
+use Rattle.boot_options.specs.Options.{Said, Pieces, NumaOff, Chosen, chosen, Gives, is_closed, line_of, raw_line, pieces_of, memmap_of, of_piece, numa_of, or_fault, said_by, named, said_from, option_words, numbered, all_pieces, edit_of, with_edit, edits_of, count_adding, or_here, last_exact, chosen_by, with_user_map, judged, options_of, HaveRanges, IsNumbered, ◌>>=◌}
 use Rattle.boot_options.proofs.PieceBounds.{IsSound, IsSoundPiece, AreSound, ifsome-and_then, ifsome-map, ifsome-if, sound-mem, sound-pieces}
 
 abbrev pub IsSoundWord : Said → Type 0

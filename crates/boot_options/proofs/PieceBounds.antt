@@ -1,23 +1,17 @@
 -- What the pieces of `mem=` and `memmap=` keep: types above 0, and ranges with an address.
-use Rattle.std.proofs.Common.{◌≡◌, ℕ, ◌+◌, ◌<◌, ◌==◌, nat_lt, if◌then◌else◌, Bool, true, false, Option, Some, None, List, [], ◌∷◌, refl, sym, length, map, Result, Ok, Err, IfSome, IfOk, IfErr, arith, codes, subst}
+use Rattle.std.proofs.Common.{◌≡◌, ℕ, ◌<◌, ◌==◌, nat_lt, if◌then◌else◌, Bool, true, false, Option, Some, None, List, [], ◌∷◌, refl, IfSome, arith, codes}
 use Rattle.std.proofs.lemmas.Bool.{ltb-true}
 use Rattle.std.proofs.lemmas.Bool.Decides.{nat_tests}
 use Rattle.std.specs.Option.{option_map, option_and_then}
 use Rattle.std.specs.Str.{bytes_eq}
 use Rattle.bm_base.specs.Extent.{Extent}
-use Rattle.bm_base.specs.Size.{size_of, number_of}
-use Rattle.e820_model.specs.Claims.{HasTypes, HaveTypes}
+use Rattle.e820_model.specs.Claims.{HasTypes}
 use Rattle.e820_model.specs.declared.edit.Edit.{Edit}
-use Rattle.e820_model.specs.declared.edit.Edit.TheVariants.{Add, Remove, RemoveAll, Change, Clear}
-use Rattle.text_words.specs.declared.separators.Separators.TheVariants.{Byte}
-use Rattle.text_words.specs.Parts.{parts_in}
-use Rattle.boot_options.specs.declared.fault.OptionFault.{OptionFault}
-use Rattle.boot_options.specs.declared.fault.OptionFault.TheVariants as faults
-use Rattle.boot_options.specs.declared.options.Options.{Options}
+use Rattle.e820_model.specs.declared.edit.Edit.TheVariants.{Add, Remove, RemoveAll, Change}
 use Rattle.boot_options.specs.declared.piece.Piece.{Piece}
 use Rattle.boot_options.specs.declared.piece.Piece.TheVariants.{ExactMap, Adding, Other}
-use Rattle.boot_options.specs.Pieces.{Part, part_of, size_part, whole_size, at_end, range_at, unless_empty, range_above, ram_above, added, kind_behind, retyped, changed, by_mark, sized_piece, piece_of, ram_up_to, mem_of, ◌>>=◌}
-use Rattle.boot_options.specs.Options.{Said, Pieces, NumaOff, Chosen, chosen, Gives, is_closed, checked_line, line_of, raw_line, pieces_of, memmap_of, of_piece, numa_of, or_fault, said_by, named, said_from, option_words, numbered, all_pieces, edit_of, with_edit, edits_of, count_adding, or_here, last_exact, chosen_by, with_user_map, judged, options_of, HasRange, HaveRanges, IsNumbered}
+use Rattle.boot_options.specs.Pieces.{size_part, whole_size, at_end, range_at, unless_empty, range_above, ram_above, added, kind_behind, retyped, changed, by_mark, sized_piece, piece_of, ram_up_to, mem_of, ◌>>=◌}
+use Rattle.boot_options.specs.Options.{pieces_of, edit_of, HasRange}
 
 -- the edit names types, and its range has an address
 abbrev pub IsSound : Option Edit → Type 0

@@ -1,11 +1,11 @@
 -- Laws of a line that is read word by word: one word more, and what is left of the user map at the end.
-use Rattle.std.proofs.Common.{◌≡◌, ℕ, ◌+◌, Bool, true, false, List, [], ◌∷◌, ◌++◌, refl, ap, sym, ◌∙◌, map, codes, Result, Ok, Err}
+use Rattle.std.proofs.Common.{◌≡◌, ℕ, ◌+◌, false, List, ◌∷◌, refl, codes, Result, Ok, Err}
 use Rattle.std.specs.Str.{bytes_eq}
 use Rattle.text_words.specs.declared.separators.Separators.TheVariants.{CommandLine}
 use Rattle.text_words.specs.Words.{words_in, unquoted}
 use Rattle.boot_options.specs.declared.fault.OptionFault.{OptionFault}
-use Rattle.boot_options.specs.Options.{Said, named, said_by, said_from, until_end, option_words, ◌>>=◌}
-use Rattle.boot_options.specs.Reading.{State, after, after_all, read_on, read_all}
+use Rattle.boot_options.specs.Options.{Said, named, said_by, said_from, option_words, ◌>>=◌}
+use Rattle.boot_options.specs.Reading.{State, after, read_on, read_all}
 
 -- the first word in front of the words behind it, where it isn't `--`
 pub option_words-step : (line word behind : List ℕ) → words_in CommandLine line ≡ word ∷ words_in CommandLine behind

@@ -1,6 +1,6 @@
 -- A command line half read: what the words so far have come to. The reader keeps of the user map only
 -- how many adding pieces it still wants.
-use Rattle.std.specs.Prelude.{◌≡◌, ℕ, ◌-◌, ◌==◌, if◌then◌else◌, Bool, true, false, Option, Some, None, List, [], ◌∷◌, ◌++◌, Result, Ok, Err}
+use Rattle.std.specs.Prelude.{ℕ, ◌-◌, ◌==◌, if◌then◌else◌, Bool, true, false, Option, Some, None, List, [], ◌∷◌, ◌++◌, Result, Ok, Err}
 use Rattle.std.specs.Option.{option_map}
 use Rattle.e820_model.specs.declared.edit.Edit.{Edit}
 use Rattle.boot_options.specs.declared.fault.OptionFault.{OptionFault}

@@ -1,6 +1,10 @@
-ghost use Rattle.std.specs.Prelude.{◌≡◌, ℕ, ◌<◌, ◌≤◌, ◌^◌, List, [], ◌∷◌, Option, Some, None, IfSome};
+ghost use Rattle.std.specs.Prelude.{◌≡◌, ◌≢◌, ℕ, ◌-◌, ◌++◌, ◌<◌, ◌≤◌, ◌^◌, List, [], ◌∷◌, Option, Some, None, IfSome};
 ghost use Rattle.std.specs.Option.{option_map};
-ghost use Rattle.boot_options.specs.Pieces.{size_part, number_part, whole_size, unless_empty as edit_unless_empty, ram_above as edit_above, added as added_piece, kind_behind as kind_part, retyped as retyped_piece, changed as changed_piece, by_mark as marked_piece, piece_of, mem_of};
+ghost use Rattle.bm_base.specs.Extent.{Extent};
+ghost use Rattle.bm_base.specs.Size.{IsSize};
+ghost use Rattle.e820_model.specs.declared.edit.Edit.TheVariants.{Add, Remove, RemoveAll, Change};
+ghost use Rattle.boot_options.specs.declared.piece.Piece.TheVariants.{Adding, Other};
+ghost use Rattle.boot_options.specs.Pieces.{range_above, Spell, SpellsType, size_part, number_part, whole_size, unless_empty as edit_unless_empty, ram_above as edit_above, added as added_piece, kind_behind as kind_part, retyped as retyped_piece, changed as changed_piece, by_mark as marked_piece, piece_of, mem_of};
 
 use bm_base::{NumFault, Range, read_number, read_size};
 use e820_model::Edit;
@@ -155,3 +159,21 @@ fn read_number_part(text: &[u8]) -> Option<(u64, &[u8])>
         Err(_) => None,
     }
 }
+
+/// What is spelled as a piece of `memmap=` is read as that piece, form by form.
+pub fn pieces_of_spelling()
+    ensures ram { (s a : List ℕ) (range : Extent) → Spell s a range → piece_of (s ++ (64 ∷ a)) ≡ Some (Adding (Some (Add range 1))) }
+    ensures acpi { (s a : List ℕ) (range : Extent) → Spell s a range → piece_of (s ++ (35 ∷ a)) ≡ Some (Adding (Some (Add range 3))) }
+    ensures reserved { (s a : List ℕ) (range : Extent) → Spell s a range → piece_of (s ++ (36 ∷ a)) ≡ Some (Adding (Some (Add range 2))) }
+    ensures persistent { (s a : List ℕ) (range : Extent) → Spell s a range → piece_of (s ++ (33 ∷ a)) ≡ Some (Adding (Some (Add range 12))) }
+    ensures above { (s : List ℕ) (size : ℕ) → IsSize s size → size < 2 ^ 64 - 1
+        → piece_of s ≡ Some (Other (Some (Remove (range_above size) 1))) }
+    ensures every_type { (s a : List ℕ) (range : Extent) → Spell s a range → piece_of (s ++ (37 ∷ a)) ≡ Some (Other (Some (RemoveAll range))) }
+    ensures one_type { (s a f : List ℕ) (range : Extent) (from : ℕ) → Spell s a range → SpellsType f from
+        → piece_of (s ++ (37 ∷ (a ++ (45 ∷ f)))) ≡ Some (Other (Some (Remove range from))) }
+    ensures new_type { (s a t : List ℕ) (range : Extent) (to : ℕ) → Spell s a range → SpellsType t to
+        → piece_of (s ++ (37 ∷ (a ++ (43 ∷ t)))) ≡ Some (Adding (Some (Add range to))) }
+    ensures other_type { (s a f t : List ℕ) (range : Extent) (from to : ℕ)
+        → Spell s a range → SpellsType f from → SpellsType t to → from ≢ to
+        → piece_of (s ++ (37 ∷ (a ++ (45 ∷ (f ++ (43 ∷ t)))))) ≡ Some (Other (Some (Change range from to))) }
+{}

@@ -1,4 +1,4 @@
-use Rattle.std.proofs.Common.{◌≡◌, ℕ, ◌+◌, length}
+use Rattle.std.proofs.Common.{◌≡◌}
 use Rattle.text_words.specs.declared.separators.Separators.TheVariants.{Byte}
 use Rattle.text_words.specs.Parts.{parts_behind}
 use Rattle.text_words.proofs.WordsLaws.{text_of, left}

@@ -1,8 +1,8 @@
-use Rattle.std.proofs.Common.{◌≡◌, ℕ, ◌+◌, false, List, ◌∷◌, sym, ◌∙◌, codes, Ok, arith}
+use Rattle.std.proofs.Common.{◌≡◌, false, ◌∷◌, sym, ◌∙◌, codes, Ok, arith}
 use Rattle.std.specs.Str.{bytes_eq}
 use Rattle.text_words.specs.Words.{unquoted}
-use Rattle.boot_options.specs.Options.{option_words, said_from, said_by, named}
-use Rattle.boot_options.specs.Reading.{state_of, read_on, read_all}
+use Rattle.boot_options.specs.Options.{option_words, said_by, named}
+use Rattle.boot_options.specs.Reading.{state_of, read_on}
 use Rattle.boot_options.proofs.ReadingLaws.{option_words-step, read_all-fault, read_all-step}
 use Rattle.boot_options.proofs.reading.read_words.Goals as goal
 

@@ -1,4 +1,4 @@
-use Rattle.std.proofs.Common.{◌≡◌, ℕ, ◌+◌, ◌≤◌, length}
+use Rattle.std.proofs.Common.{◌≡◌, ◌+◌, ◌≤◌, length}
 use Rattle.boot_options.specs.Options.{said_from, option_words}
 use Rattle.boot_options.specs.Reading.{state_of, start, read_all}
 use Rattle.boot_options.proofs.reading.read_words.Given as goal
