@@ -21,7 +21,7 @@ kind_name k =
 abbrev pub run_line : RunOf ℕ → List ℕ
 run_line r =
     hex_text r.base ++ codes ".." ++ hex_text (r.base + r.size - 1)
-        ++ codes " " ++ decimal r.value ++ codes " " ++ kind_name r.value ++ codes "\n"
+    ++ codes " " ++ decimal r.value ++ codes " " ++ kind_name r.value ++ codes "\n"
 
 -- the text of the map: the lines of its runs
 abbrev pub map_text : List (RunOf ℕ) → List ℕ
