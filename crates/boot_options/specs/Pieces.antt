@@ -72,17 +72,20 @@ abbrev pub kind_behind : ℕ → List ℕ → Option Part
 kind_behind mark [] = Some (0, [])
 kind_behind mark (b ∷ bs) = if b == mark then number_part bs >>= small_kind else Some (0, b ∷ bs)
 
--- what the types `-f` and `+t` make of the range, each 0 where it isn't written: no type, type t
--- added, type f taken away, or f turned into t, which must differ
+-- without f: every type is taken away, or type t is added
+abbrev pub retyped_to : Extent → ℕ → Option Piece
+retyped_to range to =
+    if to == 0 then Some (Other (unless_empty range (RemoveAll range))) else Some (Adding (unless_empty range (Add range to)))
+
+-- with f: it is taken away, or turned into t, which must differ
+abbrev pub retyped_from : Extent → ℕ → ℕ → Option Piece
+retyped_from range from to =
+    if to == 0 then Some (Other (unless_empty range (Remove range from))) else
+    (if from == to then None else Some (Other (unless_empty range (Change range from to))))
+
+-- what the types `-f` and `+t` make of the range, each 0 where it isn't written
 abbrev pub retyped : Extent → ℕ → ℕ → Option Piece
-retyped range from to =
-    if from == 0
-    then (if to == 0
-    then Some (Other (unless_empty range (RemoveAll range)))
-    else Some (Adding (unless_empty range (Add range to))))
-    else (if to == 0
-    then Some (Other (unless_empty range (Remove range from)))
-    else (if from == to then None else Some (Other (unless_empty range (Change range from to)))))
+retyped range from to = if from == 0 then retyped_to range to else retyped_from range from to
 
 -- `S%A-f+t`, with f and t as they are written
 abbrev pub changed : ℕ → List ℕ → Option Piece

@@ -18,7 +18,11 @@ pub struct Options {
     pub numa_off: bool,
 }
 
-/// The options of the bytes of a command line's file.
+/// The options of the bytes of a command line's file, or the first fault: `TooLong`, then
+/// `OpenQuote`, then the fault of the lowest word that has one, then `UserMapInvalid`.
+///
+/// The line ends before the first zero byte, without one newline at its end. The word `--` ends the
+/// options. `Memory` comes only where the program's own memory runs out.
 pub fn read_options(alloc: Global, bytes: &[u8]) -> Result<Options, OptionFault>
     ensures gives { Gives chosen result (options_of bytes.now) }
     ensures types { IfOk result (λ options. HaveTypes options.edits.items) }
