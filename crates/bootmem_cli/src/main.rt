@@ -22,6 +22,8 @@ mod inputs;
 mod report;
 mod run;
 mod tell;
+#[cfg(test)]
+mod tests;
 mod words;
 
 use bm_io::{RealFiles, StdSink};

@@ -1,5 +1,6 @@
 mod ClaimExamples
 pub mod ClaimLaws
 pub mod GreaterLaws
+mod MapTextExamples
 mod UsableExamples
 pub mod UsableLaws

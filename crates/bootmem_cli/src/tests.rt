@@ -1,0 +1,214 @@
+ghost use Rattle.std.specs.Prelude.{◌≡◌, ◌+◌, ◌≤◌, length};
+
+use crate::run::run;
+use bm_io::{MemFile, MemFiles, MemSink};
+use byteorder::{ByteOrder, LittleEndian};
+use e820_model::Entry;
+use std::alloc::Global;
+use std::test::Fail;
+
+const RAM: Entry = Entry {
+    addr: 0x100000,
+    size: 0x7f00000,
+    kind: 1,
+};
+
+const RESERVED: Entry = Entry {
+    addr: 0x7fe0000,
+    size: 0x20000,
+    kind: 2,
+};
+
+// Its last byte is the last but one of all addresses.
+const LAST: Entry = Entry {
+    addr: 0x1000,
+    size: 0xffff_ffff_ffff_efff,
+    kind: 2,
+};
+
+const FAR: Entry = Entry {
+    addr: 0x1000,
+    size: 0xffff_ffff_ffff_f000,
+    kind: 2,
+};
+
+const MAP: &str = "0x0000000000100000..0x0000000007fdffff 1 usable\n\
+                   0x0000000007fe0000..0x0000000007ffffff 2 reserved\n";
+
+/// Writes an entry at the offset.
+fn put_entry(bytes: &mut [u8], offset: usize, entry: Entry)
+    requires { offset + 20 ≤ length bytes.old }
+{
+    LittleEndian::write_u64(&mut bytes[offset..], entry.addr);
+    LittleEndian::write_u64(&mut bytes[offset + 8..], entry.size);
+    LittleEndian::write_u32(&mut bytes[offset + 16..], entry.kind);
+}
+
+/// A zero page that states `count` entries, of which these are the first two.
+fn page(count: u8, first: Entry, second: Entry) -> [u8; 4096] {
+    let mut bytes = [0; 4096];
+    bytes[0x1e8] = count;
+    put_entry(&mut bytes, 0x2d0, first);
+    put_entry(&mut bytes, 0x2e4, second);
+    bytes
+}
+
+/// What became of a run: the status, the output and the error output.
+#[derive(Drop)]
+struct Ended {
+    status: u8,
+    out: MemSink,
+    err: MemSink,
+}
+
+/// Runs on these words, where `zp` holds these bytes and the numbered calls of the two outputs fail.
+fn run_on(
+    alloc: Global,
+    words: &[&str],
+    zp: &[u8],
+    out_failing: &[u64],
+    err_failing: &[u64],
+) -> Result<Ended, Fail> {
+    let mut owned = Vec::new(alloc);
+    for word in words {
+        owned.push(String::from_str(alloc, word)?)?;
+    }
+    let file = MemFile {
+        name: String::from_str(alloc, "zp")?,
+        bytes: Vec::from_slice(alloc, zp)?,
+    };
+    let mut files = MemFiles::new(vec![in alloc; file]?, Vec::new(alloc));
+    let mut out = MemSink::new(Vec::from_slice(alloc, out_failing)?);
+    let mut err = MemSink::new(Vec::from_slice(alloc, err_failing)?);
+    let status = run(alloc, &owned, &mut files, &mut out, &mut err);
+    Ok(Ended { status, out, err })
+}
+
+const WORDS: &[&str] = &["--report", "map", "zp"];
+
+#[test]
+fn pages(rt: HostRuntime) -> Result<(), Fail> {
+    let reserved = "0x0000000000001000..0xfffffffffffffffe 2 reserved\n";
+    let cases = [
+        (4096, page(2, RAM, RESERVED), 0, MAP, ""),
+        (4096, page(2, RAM, LAST), 0, reserved, ""),
+        (
+            4096,
+            page(2, RAM, FAR),
+            5,
+            "",
+            "bootmem: zeropage: entry 1 too far\n",
+        ),
+        (
+            4096,
+            page(2, FAR, FAR),
+            5,
+            "",
+            "bootmem: zeropage: entry 0 too far\n",
+        ),
+        (
+            4096,
+            page(129, FAR, FAR),
+            5,
+            "",
+            "bootmem: zeropage: too many entries\n",
+        ),
+        (
+            4096,
+            page(1, FAR, FAR),
+            5,
+            "",
+            "bootmem: zeropage: too few entries\n",
+        ),
+        (
+            4095,
+            page(0, RAM, RAM),
+            5,
+            "",
+            "bootmem: zeropage: wrong length\n",
+        ),
+    ];
+    for (length, bytes, status, text, line) in &cases {
+        let ended = run_on(rt.alloc(), WORDS, &bytes[..*length], &[], &[])?;
+        assert_eq!(rt; ended.status, *status, "{line}");
+        assert_eq!(rt; ended.out.written(), text.as_bytes(), "{line}");
+        assert_eq!(rt; ended.err.written(), line.as_bytes(), "{line}");
+    }
+    let mut longer = Vec::from_slice(rt.alloc(), &page(0, RAM, RAM))?;
+    longer.push(0)?;
+    let ended = run_on(rt.alloc(), WORDS, &longer, &[], &[])?;
+    assert_eq!(rt; ended.status, 5);
+    assert_eq!(rt;
+        ended.err.written(),
+        b"bootmem: zeropage: too long\n".as_slice()
+    );
+    Ok(())
+}
+
+#[test]
+fn words_and_failures(rt: HostRuntime) -> Result<(), Fail> {
+    let zp = page(2, RAM, RESERVED);
+    let half = "0x0000000000100000..0x0000000007fdffff 1 usable\n0";
+    let none: &[u64] = &[];
+    let first: &[u64] = &[1];
+    let cases = [
+        (
+            ["--report", "map", "other"],
+            none,
+            none,
+            3,
+            "",
+            "bootmem: cannot read other\n",
+        ),
+        (
+            ["--report", "map", "zp"],
+            first,
+            none,
+            4,
+            half,
+            "bootmem: cannot write\n",
+        ),
+        (
+            ["--report", "map", "zp"],
+            first,
+            first,
+            4,
+            half,
+            "bootmem: ca",
+        ),
+        (
+            ["--report", "map", "other"],
+            none,
+            first,
+            3,
+            "",
+            "bootmem: c",
+        ),
+        (
+            ["--report", "map", "-zp"],
+            none,
+            none,
+            2,
+            "",
+            "bootmem: usage\n",
+        ),
+        (
+            ["--report", "pam", "zp"],
+            none,
+            none,
+            2,
+            "",
+            "bootmem: usage\n",
+        ),
+        (["map", "--report", "zp"], none, first, 2, "", "bootmem"),
+    ];
+    for (words, out_failing, err_failing, status, text, line) in cases {
+        let ended = run_on(rt.alloc(), &words, &zp, out_failing, err_failing)?;
+        assert_eq!(rt; ended.status, status, "{line}");
+        assert_eq!(rt; ended.out.written(), text.as_bytes(), "{line}");
+        assert_eq!(rt; ended.err.written(), line.as_bytes(), "{line}");
+    }
+    let ended = run_on(rt.alloc(), &[], &zp, &[], &[])?;
+    assert_eq!(rt; ended.status, 2, "no word at all");
+    Ok(())
+}
