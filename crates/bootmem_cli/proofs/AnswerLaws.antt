@@ -1,9 +1,5 @@
 -- How a failure of one step stands to the outcome of the steps behind it.
-<<<<<<< HEAD
 use Rattle.std.proofs.Common.{◌≡◌, List, [], Option, Some, None, Result, Ok, Err, refl, ap, arith}
-=======
-use Rattle.std.proofs.Common.{◌≡◌, List, Option, Some, None, Result, Ok, Err, refl, ap, arith}
->>>>>>> 79ff550 (bootmem_cli: worked runs, the stored run, and wrong bodies that the contracts refuse; examples of the map's text)
 use Rattle.std.specs.Prelude.{IfSome}
 use Rattle.e820_model.specs.declared.entry.Entry.{Entry}
 use Rattle.e820_table.specs.declared.zero_page.ZeroFault.{ZeroFault}
@@ -50,11 +46,6 @@ pub zero_page_unread : (holds : Option Held) (answer : Result Inputs Failure) (f
     → IfSome holds (λ held. Gives inputs_view answer (inputs_of held named))
 zero_page_unread None answer failure named is own fits = tt
 zero_page_unread (Some held) answer failure named is own fits =
-<<<<<<< HEAD
     rw is (fits_then failure (file_of held named inputs.ZeroPage 4096) (λ bytes. zero_page_of bytes >>= λ entries. Ok (record { entries = entries; extension = []; options = no_options }))
     (λ input unread bytes. rw (own input unread) (comes_to_zero_page (zero_fault bytes) (entries_of bytes) (λ entries. record { entries = entries; extension = []; options = no_options })))
-=======
-    rw is (fits_then failure (file_of held named inputs.ZeroPage 4096) (λ bytes. zero_page_of bytes >>= λ entries. Ok (record { entries = entries }))
-    (λ input unread bytes. rw (own input unread) (comes_to_zero_page (zero_fault bytes) (entries_of bytes) (λ entries. record { entries = entries })))
->>>>>>> 79ff550 (bootmem_cli: worked runs, the stored run, and wrong bodies that the contracts refuse; examples of the map's text)
     fits)

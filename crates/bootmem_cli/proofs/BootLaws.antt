@@ -1,4 +1,3 @@
-<<<<<<< HEAD
 -- What holds of a boot that isn't stopped.
 use Rattle.std.proofs.Common.{◌≡◌, ℕ, ◌+◌, ◌*◌, ◌^◌, ◌<◌, ◌≤◌, ◌∙◌, sym, ap, refl, arith, inl, inr, Bool, ◌||◌, true, false, ◌==◌, nat_lt, if◌then◌else◌, Option, Some, None, List, [], ◌∷◌, length, Result, Ok, Err}
 use Rattle.std.proofs.lemmas.Bool.{cases_Bool}
@@ -18,22 +17,6 @@ use Rattle.boot_options.specs.Options.{Chosen}
 use Rattle.bootmem_cli.specs.declared.boot.Stop.{Stop}
 use Rattle.bootmem_cli.specs.declared.boot.Stop.TheVariants as stops
 use Rattle.bootmem_cli.specs.Boot.{Given, Made, ◌>>=◌, claims, room, unless_stopped, boot, lies_in_memory}
-=======
--- The table's answer as the boot's.
-use Rattle.std.proofs.Common.{◌≡◌, ℕ, ◌<◌, ◌≤◌, List, length, Result, Ok, Err, Vec, Global, sym, ◌∙◌, ap, arith}
-use Rattle.std.proofs.lemmas.Bool.Decides.{nat_tests}
-use Rattle.address_runs.specs.Runs.{RunOf}
-use Rattle.e820_model.specs.Claims.{Claims, no_claims, added, settled, claims_of_entries}
-use Rattle.e820_model.specs.Map.{map_of}
-use Rattle.e820_sanitise.specs.declared.fault.MapFault.{MapFault}
-use Rattle.e820_sanitise.specs.declared.fault.MapFault.TheVariants as maps
-use Rattle.e820_sanitise.specs.Gives.{MapGives}
-use Rattle.bootmem_cli.specs.declared.failure.Stop.{Stop}
-use Rattle.bootmem_cli.specs.declared.failure.Stop.TheVariants as stops
-use Rattle.bootmem_cli.specs.Status.{stop_of_map}
-use Rattle.bootmem_cli.specs.Outcome.{Inputs, claims, unless_full, boot}
-use Rattle.bootmem_cli.specs.Answers.{Boots}
->>>>>>> 79ff550 (bootmem_cli: worked runs, the stored run, and wrong bodies that the contracts refuse; examples of the map's text)
 
 -- what is known where the steps come to an end
 pub record GoesOn (given : Given) (made : Made) : Type 0 where

@@ -88,10 +88,10 @@ const WORDS: &[&str] = &["--report", "map", "zp"];
 
 #[test]
 fn pages(rt: HostRuntime) -> Result<(), Fail> {
-    let reserved = "0x0000000000001000..0xfffffffffffffffe 2 reserved\n";
+    let no_ram = "bootmem: stopped: no usable frame\n";
     let cases = [
         (4096, page(2, RAM, RESERVED), 0, MAP, ""),
-        (4096, page(2, RAM, LAST), 0, reserved, ""),
+        (4096, page(2, RAM, LAST), 6, "", no_ram),
         (
             4096,
             page(2, RAM, FAR),
