@@ -1,6 +1,6 @@
-ghost use Rattle.std.specs.Prelude.{◌≡◌, IfOk};
+ghost use Rattle.std.specs.Prelude.{◌≡◌, IfOk, OnOk};
 ghost use Rattle.address_runs.specs.Runs.{AreRuns};
-ghost use Rattle.e820_model.specs.Claims.{EndInSpace, HaveTypes, finished};
+ghost use Rattle.e820_model.specs.Claims.{EndInSpace, HaveTypes, finished, with_edits, with_extension};
 ghost use Rattle.e820_model.specs.Map.{claims_of};
 ghost use Rattle.bootmem_cli.specs.Answers.{Boots};
 ghost use Rattle.bootmem_cli.specs.Boot.{boot, judged_map};
@@ -89,8 +89,12 @@ impl From<MapStop> for Stop {
     }
 }
 
-/// Boots: brings the entries into a table, settles and edits it (`e820__memory_setup`,
-/// `e820__memory_setup_extended`, `e820__finish_early_params`, `trim_bios_range`), and judges its map.
+/// The boot (`setup_arch`), as far as the map: the entries, the extension's and the options come into
+/// one table, the BIOS's part of it is trimmed (`trim_bios_range`), and its map is judged.
+///
+/// Each entry's address plus size is at most 2^64 - 1, and no type of an edit is 0. The map is
+/// refused exactly where the definition stops: first where it has more than 3,200 runs, then where no
+/// frame of it is usable, then where more than 2^32 are.
 #[tactic(auto, unfolding(crate::specs::Boot::boot))]
 pub fn boot(alloc: Global, inputs: Inputs) -> Result<Booted, Stop>
     requires entries_end { EndInSpace inputs.zero.entries.items }
@@ -125,16 +129,31 @@ fn finished_table(
     ensures { IfOk result (λ table. claims_of table ≡ finished entries.now extension.now edits.now) }
 {
     let mut table = Table::new(alloc);
+    append_settled(&mut table, entries)?;
+    append_settled(&mut table, extension)?;
+    edit_settled(&mut table, edits)?;
+    table.trim_bios()?;
+    Ok(table)
+}
+
+/// Appends the entries, and settles the table (`e820__memory_setup`, `e820__memory_setup_extended`).
+fn append_settled(table: &mut Table, entries: &[Entry]) -> Result<(), Memory>
+    requires { EndInSpace entries.now }
+    ensures { OnOk result (claims_of table.new ≡ with_extension entries.now (claims_of table.old)) }
+{
     table.append(entries)?;
-    table.settle()?;
-    table.append(extension)?;
-    table.settle()?;
+    table.settle()
+}
+
+/// Edits the table, and settles it (`e820__finish_early_params`).
+fn edit_settled(table: &mut Table, edits: &[Edit]) -> Result<(), Memory>
+    requires { HaveTypes edits.now }
+    ensures { OnOk result (claims_of table.new ≡ with_edits edits.now (claims_of table.old)) }
+{
     for edit in edits {
         table.edit(edit)?;
     }
-    table.settle()?;
-    table.trim_bios()?;
-    Ok(table)
+    table.settle()
 }
 
 /// The map of the table's claims, where the boot goes on with it.
