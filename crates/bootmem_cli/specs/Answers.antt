@@ -18,11 +18,15 @@ use Rattle.bootmem_cli.specs.Words.{Named, name_of}
 -- the place of an input in the order of work
 abbrev pub place : Input → ℕ
 place inputs.ZeroPage = 0
+place inputs.Extension = 1
+place inputs.CommandLine = 2
 
 -- the input whose fault it is
 abbrev pub input_of : InputFault → Input
 input_of (faults.TooLong input) = input
 input_of (faults.ZeroPage fault) = inputs.ZeroPage
+input_of (faults.Extension fault) = inputs.Extension
+input_of (faults.CommandLine fault) = inputs.CommandLine
 
 -- the work comes to the input's file: the words are accepted, and each input before it is held and
 -- has no fault
@@ -60,10 +64,15 @@ Boots view (Err (stops.TooMuchRam frames)) said = said ≡ Err (stops.TooMuchRam
 Boots view (Err (stops.MapFull runs)) said = said ≡ Err (stops.MapFull runs)
 Boots view (Err stops.Memory) said = Unit {0}
 
--- the faults of the input's file rose
+-- there is a name, and the faults of its file rose
+abbrev pub RoseAt : (before now : List ℕ → ℕ) → Option (List ℕ) → Type 0
+RoseAt before now None = ⊥
+RoseAt before now (Some name) = Rose (before name) (now name)
+
+-- the words name a file for the input, and its faults rose
 abbrev pub RoseFor : (before now : List ℕ → ℕ) → Option Named → Input → Type 0
 RoseFor before now None input = ⊥
-RoseFor before now (Some named) input = Rose (before (name_of named input)) (now (name_of named input))
+RoseFor before now (Some named) input = RoseAt before now (name_of named input)
 
 -- the cause of a refusal, whatever the files tell: refused words, or a rise of the faults of a named file
 abbrev pub RefusalHasCause : (before now : List ℕ → ℕ) → Option Named → Refusal → Type 0
@@ -77,6 +86,18 @@ HasCause before now accepted (Ok x) = IsSome accepted
 HasCause before now accepted (Err (failures.Refused refusal)) = RefusalHasCause before now accepted refusal
 HasCause before now accepted (Err failures.Unwritten) = ⊥
 HasCause before now accepted (Err failures.Memory) = IsSome accepted
+
+-- how the fetch of one file answers, whatever the files tell: only a rise of the faults of its name makes it
+-- unread
+abbrev pub FetchHasCause : {X : Type 0} → (before now : List ℕ → ℕ) → Input → List ℕ → Result X Failure → Type 0
+FetchHasCause before now input name (Ok x) = Unit {0}
+FetchHasCause before now input name (Err (failures.Refused refusals.Usage)) = ⊥
+FetchHasCause before now input name (Err (failures.Refused (refusals.Unread other))) =
+    (other ≡ input) × Rose (before name) (now name)
+FetchHasCause before now input name (Err (failures.Refused (refusals.Faulty fault))) = Unit {0}
+FetchHasCause before now input name (Err (failures.Refused (refusals.Stopped stop))) = ⊥
+FetchHasCause before now input name (Err failures.Unwritten) = ⊥
+FetchHasCause before now input name (Err failures.Memory) = Unit {0}
 
 -- the outcome is a text of which that holds
 abbrev pub IsText : Result (List ℕ) Refusal → (List ℕ → Type 0) → Type 0

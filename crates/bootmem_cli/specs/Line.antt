@@ -5,6 +5,10 @@ use Rattle.bm_io.specs.Counts.{Rose}
 use Rattle.bm_io.specs.Told.{AppendsFront}
 use Rattle.e820_table.specs.declared.zero_page.ZeroFault.{ZeroFault}
 use Rattle.e820_table.specs.declared.zero_page.ZeroFault.TheVariants as zero
+use Rattle.e820_table.specs.declared.extension.ExtFault.{ExtFault}
+use Rattle.e820_table.specs.declared.extension.ExtFault.TheVariants as extension
+use Rattle.boot_options.specs.declared.fault.OptionFault.{OptionFault}
+use Rattle.boot_options.specs.declared.fault.OptionFault.TheVariants as options
 use Rattle.bootmem_cli.specs.declared.failure.Input.{Input}
 use Rattle.bootmem_cli.specs.declared.failure.Input.TheVariants as inputs
 use Rattle.bootmem_cli.specs.declared.failure.InputFault.{InputFault}
@@ -15,11 +19,13 @@ use Rattle.bootmem_cli.specs.declared.failure.Refusal.{Refusal}
 use Rattle.bootmem_cli.specs.declared.failure.Refusal.TheVariants as refusals
 use Rattle.bootmem_cli.specs.declared.failure.Failure.{Failure}
 use Rattle.bootmem_cli.specs.declared.failure.Failure.TheVariants as failures
-use Rattle.bootmem_cli.specs.Words.{Named, name_in}
+use Rattle.bootmem_cli.specs.Words.{Named, name_text}
 
 -- the word for an input in the line of its fault
 abbrev pub input_text : Input → List ℕ
 input_text inputs.ZeroPage = codes "zeropage"
+input_text inputs.Extension = codes "e820ext"
+input_text inputs.CommandLine = codes "cmdline"
 
 abbrev pub zero_fault_line : ZeroFault → List ℕ
 zero_fault_line zero.WrongLength = codes "bootmem: zeropage: wrong length\n"
@@ -27,9 +33,30 @@ zero_fault_line zero.TooFew = codes "bootmem: zeropage: too few entries\n"
 zero_fault_line zero.TooMany = codes "bootmem: zeropage: too many entries\n"
 zero_fault_line (zero.EntryTooFar index) = codes "bootmem: zeropage: entry " ++ (decimal index ++ codes " too far\n")
 
+abbrev pub ext_fault_line : ExtFault → List ℕ
+ext_fault_line (extension.EntryTooFar index) = codes "bootmem: e820ext: entry " ++ (decimal index ++ codes " too far\n")
+ext_fault_line extension.ExtHeader = codes "bootmem: e820ext: header\n"
+ext_fault_line extension.ExtLength = codes "bootmem: e820ext: length\n"
+ext_fault_line extension.Memory = codes "bootmem: out of memory\n"
+
+-- words of the command line are numbered from 1
+abbrev pub word_line : ℕ → List ℕ → List ℕ
+word_line word what = codes "bootmem: cmdline: word " ++ (decimal word ++ (codes ": " ++ (what ++ codes "\n")))
+
+abbrev pub option_fault_line : OptionFault → List ℕ
+option_fault_line options.TooLong = codes "bootmem: cmdline: line too long\n"
+option_fault_line options.OpenQuote = codes "bootmem: cmdline: open quote\n"
+option_fault_line (options.BadMem word) = word_line word (codes "mem")
+option_fault_line (options.BadMemmap word) = word_line word (codes "memmap")
+option_fault_line (options.UserMapInvalid word) = word_line word (codes "user map")
+option_fault_line (options.BadNuma word) = word_line word (codes "numa")
+option_fault_line options.Memory = codes "bootmem: out of memory\n"
+
 abbrev pub fault_line : InputFault → List ℕ
 fault_line (faults.TooLong input) = codes "bootmem: " ++ (input_text input ++ codes ": too long\n")
 fault_line (faults.ZeroPage fault) = zero_fault_line fault
+fault_line (faults.Extension fault) = ext_fault_line fault
+fault_line (faults.CommandLine fault) = option_fault_line fault
 
 abbrev pub stop_line : Stop → List ℕ
 stop_line stops.NoRam = codes "bootmem: stopped: no usable frame\n"
@@ -39,7 +66,7 @@ stop_line stops.Memory = codes "bootmem: out of memory\n"
 
 abbrev pub refusal_line : Option Named → Refusal → List ℕ
 refusal_line accepted refusals.Usage = codes "bootmem: usage\n"
-refusal_line accepted (refusals.Unread input) = codes "bootmem: cannot read " ++ (name_in accepted input ++ codes "\n")
+refusal_line accepted (refusals.Unread input) = codes "bootmem: cannot read " ++ (name_text accepted input ++ codes "\n")
 refusal_line accepted (refusals.Faulty fault) = fault_line fault
 refusal_line accepted (refusals.Stopped stop) = stop_line stop
 

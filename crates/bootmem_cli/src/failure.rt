@@ -3,13 +3,18 @@ ghost use Rattle.bootmem_cli.specs.Status.{status_of, refusal_status};
 
 use crate::boot::Stop;
 use bm_base::Memory;
-use e820_table::ZeroFault;
+use boot_options::OptionFault;
+use e820_table::{ExtFault, ZeroFault};
 
 /// The files that the words may name, in the order in which they are read.
 #[derive(Clone, Copy, Debug, PartialEq, Eq)]
 pub enum Input {
     /// The zero page (`struct boot_params`).
     ZeroPage,
+    /// The E820 extension (a `setup_data` node of type `SETUP_E820_EXT`).
+    Extension,
+    /// The command line of the kernel.
+    CommandLine,
 }
 
 /// What is wrong with a file that could be read.
@@ -19,6 +24,10 @@ pub enum InputFault {
     TooLong(Input),
     /// The first fault of the zero page.
     ZeroPage(ZeroFault),
+    /// The first fault of the E820 extension.
+    Extension(ExtFault),
+    /// The first fault of the command line.
+    CommandLine(OptionFault),
 }
 
 /// Why the words and the files give no report.
@@ -93,6 +102,34 @@ impl From<ZeroFault> for Failure {
 
     fn from(fault: ZeroFault) -> Failure {
         Failure::Refused(Refusal::Faulty(InputFault::ZeroPage(fault)))
+    }
+}
+
+impl From<ExtFault> for Failure {
+    ghost use Rattle.std.specs.Prelude.{◌≡◌};
+    ghost use Rattle.bootmem_cli.specs.Status.{failure_of_extension};
+
+    ghost from_gives = { λ fault failure. failure ≡ failure_of_extension fault };
+
+    fn from(fault: ExtFault) -> Failure {
+        match fault {
+            ExtFault::Memory => Failure::Memory,
+            _ => Failure::Refused(Refusal::Faulty(InputFault::Extension(fault))),
+        }
+    }
+}
+
+impl From<OptionFault> for Failure {
+    ghost use Rattle.std.specs.Prelude.{◌≡◌};
+    ghost use Rattle.bootmem_cli.specs.Status.{failure_of_options};
+
+    ghost from_gives = { λ fault failure. failure ≡ failure_of_options fault };
+
+    fn from(fault: OptionFault) -> Failure {
+        match fault {
+            OptionFault::Memory => Failure::Memory,
+            _ => Failure::Refused(Refusal::Faulty(InputFault::CommandLine(fault))),
+        }
     }
 }
 

@@ -1,7 +1,8 @@
 ghost use Rattle.std.specs.Prelude.{◌≡◌, ℕ, ◌≤◌, List, Some, IfOk, IfSome, IsErrOf};
 ghost use Rattle.e820_model.specs.Claims.{EndInSpace, HaveTypes};
-ghost use Rattle.bootmem_cli.specs.Outcome.{file_of, inputs_of};
-ghost use Rattle.bootmem_cli.specs.Answers.{Gives, HasCause};
+ghost use Rattle.boot_options.specs.Options.{chosen};
+ghost use Rattle.bootmem_cli.specs.Outcome.{file_of, zero_page_of, extension_of, command_line_of, inputs_of};
+ghost use Rattle.bootmem_cli.specs.Answers.{FetchHasCause, Gives, HasCause};
 ghost use Rattle.bootmem_cli.specs.declared.failure.Input.{Input};
 ghost use Rattle.bootmem_cli.specs.View.{names_view, inputs_view};
 
@@ -9,12 +10,18 @@ use crate::boot::Inputs;
 use crate::failure::{Failure, Input, InputFault, Refusal};
 use crate::words::Names;
 use bm_io::{Fetch, Files};
-use boot_options::Options;
-use e820_table::read_zero_page;
+use boot_options::{Options, read_options};
+use e820_table::{Entry, ZeroPage, read_ext, read_zero_page};
 use std::alloc::Global;
 
 /// The most bytes of a zero page's file.
 const ZERO_PAGE_LIMIT: u64 = 4096;
+
+/// The most bytes of an extension's file: 3,072 entries behind the header.
+const EXTENSION_LIMIT: u64 = 61_456;
+
+/// The most bytes of a command line's file.
+const COMMAND_LINE_LIMIT: u64 = 4096;
 
 /// Fetches each file that is named, and judges it before the next.
 pub fn read_inputs<F: Files>(alloc: Global, files: &mut F, names: &Names) -> Result<Inputs, Failure>
@@ -26,33 +33,94 @@ pub fn read_inputs<F: Files>(alloc: Global, files: &mut F, names: &Names) -> Res
     ensures extension_ends { IfOk result (λ inputs. EndInSpace inputs.ext.items) }
     ensures types { IfOk result (λ inputs. HaveTypes inputs.options.edits.items) }
 {
-    let bytes = fetch(alloc, files, names, Input::ZeroPage, ZERO_PAGE_LIMIT)?;
-    let zero = read_zero_page(&bytes)?;
-    let ext = Vec::new(alloc);
-    let options = Options {
-        edits: Vec::new(alloc),
-        numa_off: false,
-    };
+    let zero = fetch_zero_page(alloc, files, names)?;
+    let ext = fetch_extension(alloc, files, names)?;
+    let options = fetch_command_line(alloc, files, names)?;
     Ok(Inputs { zero, ext, options })
+}
+
+fn fetch_zero_page<F: Files>(
+    alloc: Global,
+    files: &mut F,
+    names: &Names,
+) -> Result<ZeroPage, Failure>
+    ensures gives { IfSome (F.holds files.old) (λ held.
+        Gives (λ zero. zero.entries.items) result (zero_page_of held (names_view names.now))) }
+    ensures cause { HasCause (F.faults files.old) (F.faults files.new)
+        (Some (names_view names.now)) result }
+    ensures own { (other : Input) → IsErrOf result (Failure.Refused (Refusal.Unread other))
+        → other ≡ Input.ZeroPage }
+    ensures kept { F.holds files.new ≡ F.holds files.old }
+    ensures faults_stay { (any : List ℕ) → F.faults files.old any ≤ F.faults files.new any }
+    ensures ends { IfOk result (λ zero. EndInSpace zero.entries.items) }
+{
+    let name = names.zero_page;
+    let bytes = fetch(alloc, files, Input::ZeroPage, ZERO_PAGE_LIMIT, name)?;
+    Ok(read_zero_page(&bytes)?)
+}
+
+/// The entries of the extension; none where none is named.
+fn fetch_extension<F: Files>(
+    alloc: Global,
+    files: &mut F,
+    names: &Names,
+) -> Result<Vec<Entry>, Failure>
+    ensures gives { IfSome (F.holds files.old) (λ held.
+        Gives (λ entries. entries.items) result (extension_of held (names_view names.now))) }
+    ensures cause { HasCause (F.faults files.old) (F.faults files.new)
+        (Some (names_view names.now)) result }
+    ensures own { (other : Input) → IsErrOf result (Failure.Refused (Refusal.Unread other))
+        → other ≡ Input.Extension }
+    ensures kept { F.holds files.new ≡ F.holds files.old }
+    ensures faults_stay { (any : List ℕ) → F.faults files.old any ≤ F.faults files.new any }
+    ensures ends { IfOk result (λ entries. EndInSpace entries.items) }
+{
+    let Some(name) = names.extension else {
+        return Ok(Vec::new(alloc));
+    };
+    let bytes = fetch(alloc, files, Input::Extension, EXTENSION_LIMIT, name)?;
+    Ok(read_ext(alloc, &bytes)?)
+}
+
+/// The options of the command line; none where none is named.
+fn fetch_command_line<F: Files>(
+    alloc: Global,
+    files: &mut F,
+    names: &Names,
+) -> Result<Options, Failure>
+    ensures gives { IfSome (F.holds files.old) (λ held.
+        Gives chosen result (command_line_of held (names_view names.now))) }
+    ensures cause { HasCause (F.faults files.old) (F.faults files.new)
+        (Some (names_view names.now)) result }
+    ensures own { (other : Input) → IsErrOf result (Failure.Refused (Refusal.Unread other))
+        → other ≡ Input.CommandLine }
+    ensures types { IfOk result (λ options. HaveTypes options.edits.items) }
+{
+    let Some(name) = names.command_line else {
+        return Ok(Options {
+            edits: Vec::new(alloc),
+            numa_off: false,
+        });
+    };
+    let bytes = fetch(alloc, files, Input::CommandLine, COMMAND_LINE_LIMIT, name)?;
+    Ok(read_options(alloc, &bytes)?)
 }
 
 /// Fetches the file of an input, of at most `limit` bytes.
 fn fetch<F: Files>(
     alloc: Global,
     files: &mut F,
-    names: &Names,
     input: Input,
     limit: u64,
+    name: &str,
 ) -> Result<Vec<u8>, Failure>
     ensures gives { IfSome (F.holds files.old) (λ held.
-        Gives (λ bytes. bytes.items) result (file_of held (names_view names.now) input limit)) }
-    ensures cause { HasCause (F.faults files.old) (F.faults files.new)
-        (Some (names_view names.now)) result }
-    ensures own { (other : Input) → IsErrOf result (Failure.Refused (Refusal.Unread other)) → other ≡ input }
+        Gives (λ bytes. bytes.items) result (file_of held input limit name.now)) }
+    ensures cause { FetchHasCause (F.faults files.old) (F.faults files.new) input name.now result }
     ensures kept { F.holds files.new ≡ F.holds files.old }
     ensures faults_stay { (any : List ℕ) → F.faults files.old any ≤ F.faults files.new any }
 {
-    match files.fetch(alloc, names.of(input), limit) {
+    match files.fetch(alloc, name, limit) {
         Ok(bytes) => Ok(bytes),
         Err(Fetch::Failed) => Err(Failure::Refused(Refusal::Unread(input))),
         Err(Fetch::TooLong) => Err(Failure::Refused(Refusal::Faulty(InputFault::TooLong(input)))),

@@ -1,8 +1,9 @@
 //! `bootmem`: what an x86-64 Linux 6.1 kernel makes of the firmware's memory map, before its buddy
 //! lists.
 //!
-//! The program reads the zero page that a boot loader hands over, boots with its E820 entries as far
-//! as the finished map, and prints it: `bootmem --report map ZEROPAGE`. [`run`] is the whole of it
+//! The program reads the zero page that a boot loader hands over, and where they are named the E820
+//! extension and the command line of the kernel; it boots with them as far as the finished map, and
+//! prints it: `bootmem --report map [--e820ext F] [--cmdline F] ZEROPAGE`. [`run`] is the whole of it
 //! over any files, output and error output; `main` hands it those of the system.
 //!
 //! What the program answers is a definition, `outcome` of `specs/Outcome.antt`: from the words to

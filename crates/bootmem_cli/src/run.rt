@@ -22,7 +22,9 @@ use bm_io::{Files, Put, Sink};
 use std::alloc::Global;
 
 /// The whole program: reads the files that the words name, boots with them, and writes the report.
-/// `words` are those after the program's name: `--report map ZEROPAGE`. Answers the exit status.
+/// `words` are those after the program's name: `--report map`, and where they are wanted
+/// `--e820ext F` and `--cmdline F`, in any order, and then the name of the zero page. No value and no
+/// name begins with `-`. Answers the exit status.
 ///
 /// Where `outcome` is a text, that is written; where it is a refusal, nothing is, and the line of
 /// the refusal goes to `err`. Three answers come from elsewhere: 3 where a named file couldn't be

@@ -1,13 +1,14 @@
 ghost use Rattle.std.specs.Prelude.{◌≡◌, flat_map};
 ghost use Rattle.std.specs.Option.{option_map};
-ghost use Rattle.bootmem_cli.specs.Line.{Tells, line_of, refusal_line, fault_line, zero_fault_line, stop_line, input_text};
+ghost use Rattle.bootmem_cli.specs.Line.{Tells, line_of, refusal_line, fault_line, zero_fault_line, ext_fault_line, option_fault_line, word_line, stop_line, input_text};
 ghost use Rattle.bootmem_cli.specs.View.{names_view};
 
 use crate::boot::Stop;
 use crate::failure::{Failure, Input, InputFault, Refusal};
-use crate::words::{Names, name_in};
+use crate::words::{Names, name_text};
 use bm_io::Sink;
-use e820_table::ZeroFault;
+use boot_options::OptionFault;
+use e820_table::{ExtFault, ZeroFault};
 use itoa::Buffer;
 
 /// Puts the line of a failure on the error output. It takes no memory, and what the output answers
@@ -30,7 +31,10 @@ fn tell_refusal<E: Sink>(err: &mut E, names: Option<Names<'_>>, refusal: Refusal
     match refusal {
         Refusal::Usage => put_all(err, &["bootmem: usage\n"]),
         Refusal::Unread(input) => {
-            put_all(err, &["bootmem: cannot read ", name_in(names, input), "\n"])
+            put_all(
+                err,
+                &["bootmem: cannot read ", name_text(names, input), "\n"],
+            )
         }
         Refusal::Faulty(fault) => tell_fault(err, fault),
         Refusal::Stopped(stop) => tell_stop(err, stop),
@@ -46,6 +50,8 @@ fn tell_fault<E: Sink>(err: &mut E, fault: InputFault)
             put_all(err, &["bootmem: ", input_text(input), ": too long\n"])
         }
         InputFault::ZeroPage(fault) => tell_zero_fault(err, fault),
+        InputFault::Extension(fault) => tell_ext_fault(err, fault),
+        InputFault::CommandLine(fault) => tell_option_fault(err, fault),
     }
 }
 
@@ -63,6 +69,47 @@ fn tell_zero_fault<E: Sink>(err: &mut E, fault: ZeroFault)
             put_all(err, &["bootmem: zeropage: entry ", index, " too far\n"])
         }
     }
+}
+
+fn tell_ext_fault<E: Sink>(err: &mut E, fault: ExtFault)
+    ensures { Tells E.written E.faults E.wants err.old err.new
+        (ext_fault_line fault) }
+{
+    match fault {
+        ExtFault::EntryTooFar { index } => {
+            let mut buffer = Buffer::new();
+            let index = buffer.format(index);
+            put_all(err, &["bootmem: e820ext: entry ", index, " too far\n"])
+        }
+        ExtFault::ExtHeader => put_all(err, &["bootmem: e820ext: header\n"]),
+        ExtFault::ExtLength => put_all(err, &["bootmem: e820ext: length\n"]),
+        ExtFault::Memory => put_all(err, &["bootmem: out of memory\n"]),
+    }
+}
+
+fn tell_option_fault<E: Sink>(err: &mut E, fault: OptionFault)
+    ensures { Tells E.written E.faults E.wants err.old err.new
+        (option_fault_line fault) }
+{
+    match fault {
+        OptionFault::TooLong => put_all(err, &["bootmem: cmdline: line too long\n"]),
+        OptionFault::OpenQuote => put_all(err, &["bootmem: cmdline: open quote\n"]),
+        OptionFault::BadMem { word } => tell_word(err, word, "mem"),
+        OptionFault::BadMemmap { word } => tell_word(err, word, "memmap"),
+        OptionFault::UserMapInvalid { word } => tell_word(err, word, "user map"),
+        OptionFault::BadNuma { word } => tell_word(err, word, "numa"),
+        OptionFault::Memory => put_all(err, &["bootmem: out of memory\n"]),
+    }
+}
+
+/// The line of a word of the command line, numbered from 1.
+fn tell_word<E: Sink>(err: &mut E, word: u32, what: &str)
+    ensures { Tells E.written E.faults E.wants err.old err.new
+        (word_line word what.now) }
+{
+    let mut buffer = Buffer::new();
+    let word = buffer.format(word);
+    put_all(err, &["bootmem: cmdline: word ", word, ": ", what, "\n"])
 }
 
 fn tell_stop<E: Sink>(err: &mut E, stop: Stop)
@@ -91,6 +138,8 @@ fn input_text(input: Input) -> &'static str
 {
     match input {
         Input::ZeroPage => "zeropage",
+        Input::Extension => "e820ext",
+        Input::CommandLine => "cmdline",
     }
 }
 

@@ -1,4 +1,5 @@
-ghost use Rattle.std.specs.Prelude.{◌≡◌, ◌+◌, ◌≤◌, length};
+ghost use Rattle.std.specs.Prelude.{◌+◌, ◌≤◌, length, IfOk};
+ghost use Rattle.bm_io.specs.HeldFiles.{held_files, HaveOwnNames};
 
 use crate::run::run;
 use bm_io::{MemFile, MemFiles, MemSink};
@@ -61,11 +62,38 @@ struct Ended {
     err: MemSink,
 }
 
-/// Runs on these words, where `zp` holds these bytes and the numbered calls of the two outputs fail.
+/// The bytes of the files that a run finds: the zero page `zp`, the extension `ext` and the command
+/// line `cmd`.
+#[derive(Clone, Copy)]
+struct Held<'a> {
+    zp: &'a [u8],
+    ext: &'a [u8],
+    cmd: &'a [u8],
+}
+
+fn files_of(alloc: Global, held: &Held<'_>) -> Result<Vec<MemFile>, Fail>
+    ensures { IfOk result (λ files. HaveOwnNames (held_files files.items)) }
+{
+    let zp = MemFile {
+        name: String::from_str(alloc, "zp")?,
+        bytes: Vec::from_slice(alloc, held.zp)?,
+    };
+    let ext = MemFile {
+        name: String::from_str(alloc, "ext")?,
+        bytes: Vec::from_slice(alloc, held.ext)?,
+    };
+    let cmd = MemFile {
+        name: String::from_str(alloc, "cmd")?,
+        bytes: Vec::from_slice(alloc, held.cmd)?,
+    };
+    Ok(vec![in alloc; zp, ext, cmd]?)
+}
+
+/// Runs on these words and files, where the numbered calls of the two outputs fail.
 fn run_on(
     alloc: Global,
     words: &[&str],
-    zp: &[u8],
+    held: &Held<'_>,
     out_failing: &[u64],
     err_failing: &[u64],
 ) -> Result<Ended, Fail> {
@@ -73,15 +101,20 @@ fn run_on(
     for word in words {
         owned.push(String::from_str(alloc, word)?)?;
     }
-    let file = MemFile {
-        name: String::from_str(alloc, "zp")?,
-        bytes: Vec::from_slice(alloc, zp)?,
-    };
-    let mut files = MemFiles::new(vec![in alloc; file]?, Vec::new(alloc));
+    let mut files = MemFiles::new(files_of(alloc, held)?, Vec::new(alloc));
     let mut out = MemSink::new(Vec::from_slice(alloc, out_failing)?);
     let mut err = MemSink::new(Vec::from_slice(alloc, err_failing)?);
     let status = run(alloc, &owned, &mut files, &mut out, &mut err);
     Ok(Ended { status, out, err })
+}
+
+/// The zero page alone.
+fn only(zp: &[u8]) -> Held<'_> {
+    Held {
+        zp,
+        ext: &[],
+        cmd: &[],
+    }
 }
 
 const WORDS: &[&str] = &["--report", "map", "zp"];
@@ -129,14 +162,14 @@ fn pages(rt: HostRuntime) -> Result<(), Fail> {
         ),
     ];
     for (length, bytes, status, text, line) in &cases {
-        let ended = run_on(rt.alloc(), WORDS, &bytes[..*length], &[], &[])?;
+        let ended = run_on(rt.alloc(), WORDS, &only(&bytes[..*length]), &[], &[])?;
         assert_eq!(rt; ended.status, *status, "{line}");
         assert_eq!(rt; ended.out.written(), text.as_bytes(), "{line}");
         assert_eq!(rt; ended.err.written(), line.as_bytes(), "{line}");
     }
     let mut longer = Vec::from_slice(rt.alloc(), &page(0, RAM, RAM))?;
     longer.push(0)?;
-    let ended = run_on(rt.alloc(), WORDS, &longer, &[], &[])?;
+    let ended = run_on(rt.alloc(), WORDS, &only(&longer), &[], &[])?;
     assert_eq!(rt; ended.status, 5);
     assert_eq!(rt;
         ended.err.written(),
@@ -203,12 +236,127 @@ fn words_and_failures(rt: HostRuntime) -> Result<(), Fail> {
         (["map", "--report", "zp"], none, first, 2, "", "bootmem"),
     ];
     for (words, out_failing, err_failing, status, text, line) in cases {
-        let ended = run_on(rt.alloc(), &words, &zp, out_failing, err_failing)?;
+        let ended = run_on(rt.alloc(), &words, &only(&zp), out_failing, err_failing)?;
         assert_eq!(rt; ended.status, status, "{line}");
         assert_eq!(rt; ended.out.written(), text.as_bytes(), "{line}");
         assert_eq!(rt; ended.err.written(), line.as_bytes(), "{line}");
     }
-    let ended = run_on(rt.alloc(), &[], &zp, &[], &[])?;
+    let ended = run_on(rt.alloc(), &[], &only(&zp), &[], &[])?;
     assert_eq!(rt; ended.status, 2, "no word at all");
+    Ok(())
+}
+
+/// An extension of one entry, RAM of 4,096 bytes behind `RAM`.
+const EXTENSION: [u8; 36] = [
+    0, 0, 0, 0, 0, 0, 0, 0, 1, 0, 0, 0, 20, 0, 0, 0, // next, type, length
+    0, 0, 0, 8, 0, 0, 0, 0, 0, 0x10, 0, 0, 0, 0, 0, 0, 1, 0, 0, 0, // address, size, type
+];
+
+#[test]
+fn extension_and_command_line(rt: HostRuntime) -> Result<(), Fail> {
+    let zp = page(2, RAM, RESERVED);
+    let ext: &[u8] = &EXTENSION;
+    let longer = "0x0000000000100000..0x0000000007fdffff 1 usable\n\
+                  0x0000000007fe0000..0x0000000007ffffff 2 reserved\n\
+                  0x0000000008000000..0x0000000008000fff 1 usable\n";
+    let shorter = "0x0000000000100000..0x0000000003ffffff 1 usable\n\
+                   0x0000000007fe0000..0x0000000007ffffff 2 reserved\n";
+    let cases = [
+        (ext, "", 0, longer, ""),
+        (ext, "mem=0x4000000 -- mem=0", 0, shorter, ""),
+        (ext, "mem=0", 5, "", "bootmem: cmdline: word 1: mem\n"),
+        (
+            ext,
+            "x memmap=1M@",
+            5,
+            "",
+            "bootmem: cmdline: word 2: memmap\n",
+        ),
+        (
+            ext,
+            "memmap=exactmap memmap=640K@0",
+            5,
+            "",
+            "bootmem: cmdline: word 1: user map\n",
+        ),
+        (ext, "a\"b", 5, "", "bootmem: cmdline: open quote\n"),
+        (&ext[..15], "a\"b", 5, "", "bootmem: e820ext: header\n"),
+        (&ext[..35], "a\"b", 5, "", "bootmem: e820ext: length\n"),
+    ];
+    let words = [
+        "--cmdline",
+        "cmd",
+        "--report",
+        "map",
+        "--e820ext",
+        "ext",
+        "zp",
+    ];
+    for (ext, line, status, text, want) in cases {
+        let held = Held {
+            zp: &zp,
+            ext,
+            cmd: line.as_bytes(),
+        };
+        let ended = run_on(rt.alloc(), &words, &held, &[], &[])?;
+        assert_eq!(rt; ended.status, status, "{want}");
+        assert_eq!(rt; ended.out.written(), text.as_bytes(), "{want}");
+        assert_eq!(rt; ended.err.written(), want.as_bytes(), "{want}");
+    }
+    Ok(())
+}
+
+#[test]
+fn words_in_any_order(rt: HostRuntime) -> Result<(), Fail> {
+    let zp = page(2, RAM, RESERVED);
+    let held = Held {
+        zp: &zp,
+        ext: &EXTENSION,
+        cmd: b"mem=0",
+    };
+    let cases: [(&[&str], u8, &str); 8] = [
+        (&["--report", "map", "--e820ext", "ext", "zp"], 0, ""),
+        (
+            &[
+                "--e820ext",
+                "none",
+                "--report",
+                "map",
+                "--cmdline",
+                "cmd",
+                "zp",
+            ],
+            3,
+            "none",
+        ),
+        (
+            &[
+                "--cmdline",
+                "none",
+                "--report",
+                "map",
+                "--e820ext",
+                "zp",
+                "zp",
+            ],
+            5,
+            "",
+        ),
+        (&["--report", "map", "--report", "map", "zp"], 2, ""),
+        (&["--e820ext", "ext", "zp"], 2, ""),
+        (&["--report", "map", "--cmdline", "-", "zp"], 2, ""),
+        (&["--report", "map", "--cmdline", "zp"], 2, ""),
+        (&["--report", "map", "zp", "zp"], 2, ""),
+    ];
+    for (words, status, name) in cases {
+        let ended = run_on(rt.alloc(), words, &held, &[], &[])?;
+        assert_eq!(rt; ended.status, status, "{name}");
+        let line = format!(in rt.alloc(); "bootmem: cannot read {name}\n")?;
+        assert_eq!(rt;
+            status == 3,
+            ended.err.written() == line.as_bytes(),
+            "{name}"
+        );
+    }
     Ok(())
 }

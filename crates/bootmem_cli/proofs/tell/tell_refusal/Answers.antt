@@ -2,4 +2,4 @@
 use Rattle.bootmem_cli.proofs.tell.tell_refusal.Goals as goal
 
 pub returns-in-Unread : goal.returns-in-Unread
-returns-in-Unread g c = rw (c.in-Unread.is, ← c.name_in.ensures) c.put_all-in-Unread.ensures
+returns-in-Unread g c = rw (c.in-Unread.is, ← c.name_text.ensures) c.put_all-in-Unread.ensures
