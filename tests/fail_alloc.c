@@ -63,10 +63,11 @@ int posix_memalign(void **place, size_t align, size_t size)
 __attribute__((destructor)) static void tell(void)
 {
 	const char *name = getenv("FAIL_ALLOC_COUNT");
+	unsigned long count = calls; /* without those of the file below */
 	FILE *file = name ? fopen(name, "w") : NULL;
 
 	if (file) {
-		fprintf(file, "%lu\n", calls);
+		fprintf(file, "%lu\n", count);
 		fclose(file);
 	}
 }
