@@ -1,142 +1,169 @@
--- Owners between the ends of ranges, and the runs that a sweep from end to end gives.
-use Rattle.std.proofs.Common.{◌≡◌, ◌≢◌, ℕ, ◌-◌, ◌<◌, ◌≤◌, min, max, Bool, true, false, if◌then◌else◌, Option, Some, None, List, [], ◌∷◌, ◌++◌, refl, sym, ◌∙◌, ap, subst, inl, inr, arith}
+-- Claims and freeings laid over one another give the owners, and the runs that have an owner are those of the owners.
+use Rattle.std.proofs.Common.{◌≡◌, ◌≢◌, ℕ, ◌+◌, ◌^◌, ◌<◌, ◌≤◌, Bool, true, false, if◌then◌else◌, Option, Some, None, List, map, filter_map, [], ◌∷◌, refl, sym, ◌∙◌, ap, arith}
 use Rattle.std.proofs.lemmas.Bool.Decides.{nat_tests}
-use Rattle.std.proofs.lemmas.Bool.{cases_lt}
-use Rattle.std.proofs.lemmas.List.{append-nil}
-use Rattle.std.proofs.lemmas.List.Sums.{fold-append}
-use Rattle.std.specs.List.{fold}
-use Rattle.bm_base.specs.Extent.{Extent, covers, end_of}
-use Rattle.address_runs.specs.Runs.{RunOf, run_end}
-use Rattle.address_runs.specs.Sweep.{Stays, IsSweptTo}
-use Rattle.address_runs.proofs.SweepLaws.{swept_blank, swept_run}
+use Rattle.std.proofs.lemmas.List.{map-id}
+use Rattle.std.specs.List.{fold, cons_option}
+use Rattle.bm_base.specs.Extent.{covers}
+use Rattle.address_runs.specs.Runs.{RunOf, run_end, lies_in, value_at, IsBefore, AreRuns, IsRunsOf}
+use Rattle.address_runs.specs.Sweep.{StartFrom, EndBy}
+use Rattle.address_runs.specs.Overlay.{all_overlaid, HaveAddresses}
+use Rattle.address_runs.proofs.RunsLaws.{none_below, rest_from, the_list}
+use Rattle.address_runs.proofs.SweepLaws.{none_behind}
 use Rattle.memblock_model.specs.declared.owner.Owner.{Owner}
 use Rattle.memblock_model.specs.declared.item.Item.{Item}
 use Rattle.memblock_model.specs.declared.item.Item.TheVariants as item
-use Rattle.memblock_model.specs.Items.{Owners, owners_after, no_owners, owner_of}
-use Rattle.boot_journal.specs.Edges.{edge_of, edge_behind, next_edge, claim_end, claims_end, run_if}
+use Rattle.memblock_model.specs.Same.{same_owner}
+use Rattle.memblock_model.specs.Items.{AreItems, Owners, owners_after, no_owners, owner_of, owner_runs_of}
+use Rattle.memblock_model.proofs.SameLaws.{owner_tells}
+use Rattle.boot_journal.specs.Newest.{newer, claimed_by, owned_range, owned}
 
--- up to the first end behind an address nothing changes
-covers-quiet : (r : Extent) (from top y : ℕ) → from ≤ y → y < edge_of r from top → covers r y ≡ covers r from
-covers-quiet r from top y above below = grind (arith, nat_tests)
+-- what is said of an address, over the owner that it had
+abbrev over : Option (Option Owner) → Option Owner → Option Owner
+over None old = old
+over (Some owner) old = owner
 
-edge_of-behind : (r : Extent) (from top : ℕ) → from < top → from < edge_of r from top
-edge_of-behind r from top lt = grind (arith, nat_tests)
+-- the owner that is told, if any
+abbrev owner_told : Option (Option Owner) → Option Owner
+owner_told said = over said None
 
-edge_behind-behind : (i : Item) (from top : ℕ) → from < top → from < edge_behind i from top
-edge_behind-behind (item.Mem range) from top lt = lt
-edge_behind-behind item.Trim from top lt = lt
-edge_behind-behind (item.Node range node) from top lt = lt
-edge_behind-behind (item.Claim range owner) from top lt = edge_of-behind range from top lt
-edge_behind-behind (item.Free range) from top lt = edge_of-behind range from top lt
-edge_behind-behind (item.Limit at) from top lt = lt
-edge_behind-behind (item.Grown which place room) from top lt = lt
+-- a claim or a freeing below what is said later
+over_claim : (b : Bool) (owner old : Option Owner) (said : Option (Option Owner))
+    → over said (if b then owner else old) ≡ over (newer (if b then Some owner else None) said) old
+over_claim true owner old None = refl
+over_claim true owner old (Some last) = refl
+over_claim false owner old None = refl
+over_claim false owner old (Some last) = refl
 
--- the least of several numbers and a
-abbrev least : ℕ → ℕ → ℕ → List Item → ℕ
-least a from top items = fold (λ until i. min until (edge_behind i from top)) a items
+-- what the items claim and free, the newer over the older
+abbrev told_by : List Item → ℕ → Option (Option Owner)
+told_by items = all_overlaid newer (filter_map claimed_by items)
 
-least-below : (items : List Item) (a from top : ℕ) → least a from top items ≤ a
-least-below [] a from top = omega arith
-least-below (i ∷ is) a from top =
-    let rest : least (min a (edge_behind i from top)) from top is ≤ min a (edge_behind i from top) = least-below is (min a (edge_behind i from top)) from top in
-    omega (arith, rest)
+-- what the items say goes over the owners that there were
+owners_over : (items : List Item) (f : Owners) (x : ℕ) → fold owners_after f items x ≡ over (told_by items x) (f x)
+owners_over [] f x = refl
+owners_over (item.Mem range ∷ is) f x = owners_over is f x
+owners_over (item.Trim ∷ is) f x = owners_over is f x
+owners_over (item.Node range node ∷ is) f x = owners_over is f x
+owners_over (item.Claim range owner ∷ is) f x = owners_over is (owners_after f (item.Claim range owner)) x ∙ over_claim (covers range x) (Some owner) (f x) (told_by is x)
+owners_over (item.Free range ∷ is) f x = owners_over is (owners_after f (item.Free range)) x ∙ over_claim (covers range x) None (f x) (told_by is x)
+owners_over (item.Limit at ∷ is) f x = owners_over is f x
+owners_over (item.Grown which place room ∷ is) f x = owners_over is f x
 
-least-behind : (items : List Item) (a from top : ℕ) → from < top → from < a → from < least a from top items
-least-behind [] a from top lt less = less
-least-behind (i ∷ is) a from top lt less =
-    let edge : from < edge_behind i from top = edge_behind-behind i from top lt in
-    least-behind is (min a (edge_behind i from top)) from top lt (omega (arith, edge))
+-- the owner of a byte is what they tell of it
+owner_is_told : (items : List Item) (x : ℕ) → owner_of items x ≡ owner_told (told_by items x)
+owner_is_told items x = owners_over items no_owners x
 
-pub next_edge-behind : (items : List Item) (from top : ℕ) → from < top → from < next_edge items from top
-next_edge-behind items from top lt = least-behind items top from top lt lt
+-- no item's range is empty
+claims_addresses : (items : List Item) → AreItems items → HaveAddresses (filter_map claimed_by items)
+claims_addresses [] some = tt
+claims_addresses (item.Mem range ∷ is) some = claims_addresses is some.1
+claims_addresses (item.Trim ∷ is) some = claims_addresses is some.1
+claims_addresses (item.Node range node ∷ is) some = claims_addresses is some.1
+claims_addresses (item.Claim range owner ∷ is) some = (some.0, claims_addresses is some.1)
+claims_addresses (item.Free range ∷ is) some = (some.0, claims_addresses is some.1)
+claims_addresses (item.Limit at ∷ is) some = claims_addresses is some.1
+claims_addresses (item.Grown which place room ∷ is) some = claims_addresses is some.1
 
-pub next_edge-within : (items : List Item) (from top : ℕ) → next_edge items from top ≤ top
-next_edge-within items from top = least-below items top from top
+-- the runs of those that have an owner
+abbrev kept : List (RunOf (Option Owner)) → List (RunOf Owner)
+kept rs = filter_map owned rs
 
-owners_after-quiet : (f : Owners) (i : Item) (from top y : ℕ) → from ≤ y → y < edge_behind i from top → f y ≡ f from → owners_after f i y ≡ owners_after f i from
-owners_after-quiet f (item.Mem range) from top y above below same = same
-owners_after-quiet f item.Trim from top y above below same = same
-owners_after-quiet f (item.Node range node) from top y above below same = same
-owners_after-quiet f (item.Claim range owner) from top y above below same = rw (covers-quiet range from top y above below, same) refl
-owners_after-quiet f (item.Free range) from top y above below same = rw (covers-quiet range from top y above below, same) refl
-owners_after-quiet f (item.Limit at) from top y above below same = same
-owners_after-quiet f (item.Grown which place room) from top y above below same = same
+-- the range in front of what is kept behind it, if it has an owner
+abbrev in_front : ℕ → ℕ → Option Owner → List (RunOf Owner) → List (RunOf Owner)
+in_front base size owner rs = cons_option (owned_range base size owner) rs
 
-owners-quiet : (items : List Item) (f : Owners) (a from top y : ℕ) → from ≤ y → y < least a from top items → f y ≡ f from
-    → fold owners_after f items y ≡ fold owners_after f items from
-owners-quiet [] f a from top y above below same = same
-owners-quiet (i ∷ is) f a from top y above below same =
-    let rest : least (min a (edge_behind i from top)) from top is ≤ min a (edge_behind i from top) = least-below is (min a (edge_behind i from top)) from top in
-    let here : y < edge_behind i from top = omega (arith, rest) in
-    owners-quiet is (owners_after f i) (min a (edge_behind i from top)) from top y above below (owners_after-quiet f i from top y above here same)
+-- what begins at an address or behind it begins at each earlier one or behind it
+start_sooner : {X : Type 0} (sooner at : ℕ) (rs : List (RunOf X)) → sooner ≤ at → StartFrom at rs → StartFrom sooner rs
+start_sooner sooner at [] order starts = tt
+start_sooner sooner at (r ∷ rs) order starts = omega arith
 
--- the owner stays the same up to the next end
-pub owner-stays : (items : List Item) (from top : ℕ) → Stays (owner_of items) from (next_edge items from top) (owner_of items from)
-owner-stays items from top y above below = owners-quiet items no_owners top from top y above below refl
+-- with a range in front, what is kept begins at the range or behind it
+front_starts : (at base size : ℕ) (owner : Option Owner) (rs : List (RunOf Owner)) → at ≤ base → StartFrom (base + size) rs → StartFrom at (in_front base size owner rs)
+front_starts at base size None rs order starts = start_sooner at (base + size) rs (omega arith) starts
+front_starts at base size (Some owner) rs order starts = order
 
--- two stretches of one owner that touch are one
-pub stays-join : (f : Owners) (from middle until : ℕ) → Stays f from middle (f from) → f middle ≡ f from → Stays f middle until (f middle) → Stays f from until (f from)
-stays-join f from middle until first same second y above below =
-    elim (cases_lt y middle) as (λ _. f y ≡ f from) [ inl before ↦ first y above before | inr later ↦ second y later below ∙ same ]
+-- what is kept begins no earlier than the runs
+kept_starts : (at : ℕ) (rs : List (RunOf (Option Owner))) → AreRuns rs → StartFrom at rs → StartFrom at (kept rs)
+kept_starts at [] runs starts = tt
+kept_starts at (r ∷ rs) runs starts = front_starts at r.base r.size r.value (kept rs) starts (kept_starts (run_end r) rs runs.2 (rest_from r rs runs))
 
--- nothing is owned behind all claims
-abbrev most : ℕ → List Item → ℕ
-most a items = fold (λ top i. max top (claim_end i)) a items
+-- a run that ends below the address stands before what begins there
+far_before : {X : Type 0} (r : RunOf X) (at : ℕ) (rs : List (RunOf X)) → run_end r < at → StartFrom at rs → IsBefore r rs
+far_before r at [] far starts = tt
+far_before r at (s ∷ ss) far starts = (omega arith, λ touch. absurd (omega arith))
 
-most-above : (items : List Item) (a : ℕ) → a ≤ most a items
-most-above [] a = omega arith
-most-above (i ∷ is) a =
-    let rest : max a (claim_end i) ≤ most (max a (claim_end i)) is = most-above is (max a (claim_end i)) in
-    omega (arith, rest)
+-- a run stands before what is kept, if it does before the range in front
+front_before : (r : RunOf Owner) (base size : ℕ) (owner : Option Owner) (rs : List (RunOf Owner)) → run_end r ≤ base → (run_end r ≡ base → Some r.value ≢ owner)
+    → 0 < size → StartFrom (base + size) rs → IsBefore r (in_front base size owner rs)
+front_before r base size None rs order other some starts = far_before r (base + size) rs (omega arith) starts
+front_before r base size (Some owner) rs order other some starts = (order, λ touch equal. other touch (ap (λ (o : Owner). Some o) equal))
 
-not_covered : (r : Extent) (x : ℕ) → end_of r ≤ x → covers r x ≡ false
-not_covered r x past = grind (arith, nat_tests)
+-- so does a run with an owner before what is kept of those behind it
+kept_before : (r : RunOf (Option Owner)) (owner : Owner) (rs : List (RunOf (Option Owner))) → AreRuns (r ∷ rs) → r.value ≡ Some owner
+    → IsBefore (record { base = r.base; size = r.size; value = owner }) (kept rs)
+kept_before r owner [] runs is = tt
+kept_before r owner (s ∷ ss) runs is =
+    front_before (record { base = r.base; size = r.size; value = owner }) s.base s.size s.value (kept ss) runs.1.0 (λ touch equal. runs.1.1 touch (is ∙ equal))
+    runs.2.0 (kept_starts (run_end s) ss runs.2.2 (rest_from s ss runs.2))
 
-freed_none : (b : Bool) (o : Option Owner) → o ≡ None → (if b then None else o) ≡ None
-freed_none true o none = refl
-freed_none false o none = none
+-- what is kept stays a list of runs with a range in front
+front_runs : (base size : ℕ) (owner : Option Owner) (rs : List (RunOf Owner)) → 0 < size
+    → ((o : Owner) → owner ≡ Some o → IsBefore (record { base = base; size = size; value = o }) rs) → AreRuns rs → AreRuns (in_front base size owner rs)
+front_runs base size None rs some before runs = runs
+front_runs base size (Some owner) rs some before runs = (some, before owner refl, runs)
 
-owners_after-none : (f : Owners) (i : Item) (x : ℕ) → claim_end i ≤ x → f x ≡ None → owners_after f i x ≡ None
-owners_after-none f (item.Mem range) x past none = none
-owners_after-none f item.Trim x past none = none
-owners_after-none f (item.Node range node) x past none = none
-owners_after-none f (item.Claim range owner) x past none = rw (not_covered range x past) none
-owners_after-none f (item.Free range) x past none = freed_none (covers range x) (f x) none
-owners_after-none f (item.Limit at) x past none = none
-owners_after-none f (item.Grown which place room) x past none = none
+-- what is kept of runs is a list of runs
+kept_runs : (rs : List (RunOf (Option Owner))) → AreRuns rs → AreRuns (kept rs)
+kept_runs [] runs = tt
+kept_runs (r ∷ rs) runs = front_runs r.base r.size r.value (kept rs) runs.0 (λ owner is. kept_before r owner rs runs is) (kept_runs rs runs.2)
 
-owners-none : (items : List Item) (f : Owners) (a x : ℕ) → most a items ≤ x → f x ≡ None → fold owners_after f items x ≡ None
-owners-none [] f a x past none = none
-owners-none (i ∷ is) f a x past none =
-    let rest : max a (claim_end i) ≤ most (max a (claim_end i)) is = most-above is (max a (claim_end i)) in
-    let here : claim_end i ≤ x = omega (arith, rest) in
-    owners-none is (owners_after f i) (max a (claim_end i)) x past (owners_after-none f i x here none)
+-- an address in the run lies below its end
+lies_below : {X : Type 0} (r : RunOf X) (x : ℕ) → lies_in r x ≡ true → x < run_end r
+lies_below r x lies = grind (arith, nat_tests)
 
-pub nothing_owned : (items : List Item) (x : ℕ) → claims_end items ≤ x → owner_of items x ≡ None
-nothing_owned items x past = owners-none items no_owners 0 x past refl
+-- inside a run nothing is kept of those behind it
+none_inside : (r : RunOf (Option Owner)) (rs : List (RunOf (Option Owner))) (x : ℕ) → AreRuns (r ∷ rs) → lies_in r x ≡ true → value_at (kept rs) x ≡ None
+none_inside r rs x runs lies =
+    none_below (run_end r) x (kept rs) (kept_runs rs runs.2) (kept_starts (run_end r) rs runs.2 (rest_from r rs runs)) (lies_below r x lies)
 
--- one turn of the sweep
-pub swept_stretch : (f : Owners) (from until top : ℕ) (o : Option Owner) (rs : List (RunOf Owner)) → o ≡ f from → IsSweptTo f from rs → from < until → until ≤ top
-    → Stays f from until (f from) → (until < top → f until ≢ f from) → ((x : ℕ) → top ≤ x → f x ≡ None) → IsSweptTo f until (rs ++ run_if from until o)
-swept_stretch f from until top None rs is known lt within stays changes none =
-    subst (λ (ss : List (RunOf Owner)). IsSweptTo f until ss) (sym (append-nil rs))
-    (swept_blank f from until rs known lt (λ x above below. stays x above below ∙ sym is))
-swept_stretch f from until top (Some w) rs is known lt within stays changes none =
-    let r : RunOf Owner = record { base = from; size = until - from; value = w } in
-    let ends : run_end r ≡ until = omega arith in
-    let other : f until ≢ Some w = elim (cases_lt until top) as (λ _. f until ≢ Some w) [
-      | inl before ↦ λ same. changes before (same ∙ is)
-      | inr ge ↦ λ same. let gone : f until ≡ None = none until ge in let clash : None ≡ Some w = sym gone ∙ same in cc
-    ] in
-    let Swept : ℕ → Type 0 = λ k. IsSweptTo f k (rs ++ r ∷ []) in
-    let Stay : ℕ → Type 0 = λ k. Stays f from k (Some w) in
-    let Other : ℕ → Type 0 = λ k. f k ≢ Some w in
-    let long : Stay until = λ x above below. stays x above below ∙ sym is in
-    subst Swept ends (swept_run f r rs known (omega arith) (subst Stay (sym ends) long) (subst Other (sym ends) other))
+-- the value with a range in front
+front_value : (base size x : ℕ) (owner : Option Owner) (rs : List (RunOf Owner)) (lies : Bool) (said : Option (Option Owner))
+    → lies ≡ lies_in (record { base = base; size = size; value = owner }) x → (lies ≡ true → value_at rs x ≡ None) → value_at rs x ≡ owner_told said
+    → value_at (in_front base size owner rs) x ≡ owner_told (if lies then Some owner else said)
+front_value base size x None rs true said is none rest = none refl
+front_value base size x None rs false said is none rest = rest
+front_value base size x (Some owner) rs true said is none rest = rw (← is) refl
+front_value base size x (Some owner) rs false said is none rest = rw (← is) rest
 
--- the newest item that speaks of the byte decides
-pub owner-claimed : (items : List Item) (r : Extent) (w : Owner) (x : ℕ) → covers r x ≡ true → owner_of (items ++ item.Claim r w ∷ []) x ≡ Some w
-owner-claimed items r w x inside = ap (λ (f : Owners). f x) (fold-append owners_after no_owners items (item.Claim r w ∷ [])) ∙ rw inside refl
+-- what is kept gives the owner that the runs tell
+kept_each : (rs : List (RunOf (Option Owner))) (x : ℕ) → AreRuns rs → value_at (kept rs) x ≡ owner_told (value_at rs x)
+kept_each [] x runs = refl
+kept_each (r ∷ rs) x runs =
+    front_value r.base r.size x r.value (kept rs) (lies_in r x) (value_at rs x) refl (λ lies. none_inside r rs x runs lies) (kept_each rs x runs.2)
 
-pub owner-freed : (items : List Item) (r : Extent) (x : ℕ) → covers r x ≡ true → owner_of (items ++ item.Free r ∷ []) x ≡ None
-owner-freed items r x inside = ap (λ (f : Owners). f x) (fold-append owners_after no_owners items (item.Free r ∷ [])) ∙ rw inside refl
+-- the runs that have an owner are the runs of the owners
+owners_kept : (items : List Item) (rs : List (RunOf (Option Owner))) → IsRunsOf (told_by items) rs → IsRunsOf (owner_of items) (filter_map owned rs)
+owners_kept items rs known = record {
+  runs = kept_runs rs known.runs;
+  each = λ x. kept_each rs x known.runs ∙ ap owner_told (known.each x) ∙ sym (owner_is_told items x);
+}
+
+-- contracts of any record see a run through a function that changes nothing
+pub addresses_alike : (items : List Item) (claimed : List (RunOf (Option Owner))) → claimed ≡ filter_map claimed_by items → AreItems items
+    → HaveAddresses (map (λ (r : RunOf (Option Owner)). r) claimed)
+addresses_alike items claimed is some = rw (map-id claimed, is) (claims_addresses items some)
+
+-- what is kept of the runs that the claims give is the runs of the owners
+pub runs_alike : (items : List Item) (claimed runs : List (RunOf (Option Owner))) (found : List (RunOf Owner)) → claimed ≡ filter_map claimed_by items
+    → IsRunsOf (all_overlaid newer (map (λ (r : RunOf (Option Owner)). r) claimed)) (map (λ (r : RunOf (Option Owner)). r) runs)
+    → found ≡ filter_map owned runs → IsRunsOf (owner_of items) found
+runs_alike items claimed runs found is known kept_is =
+    let plain : IsRunsOf (all_overlaid newer claimed) runs = rw (map-id claimed, map-id runs) at known in
+    let told : IsRunsOf (told_by items) runs = rw is at plain in
+    rw kept_is (owners_kept items runs told)
+
+-- and they are the list, where they end by 2^64
+pub owner_list : (items : List Item) (found : List (RunOf Owner)) → IsRunsOf (owner_of items) found → EndBy (2 ^ 64) None found → found ≡ owner_runs_of items
+unfolding owner_runs_of
+owner_list items found known ends =
+    the_list same_owner owner_tells (owner_of items) found (λ x past. sym (known.each x) ∙ none_behind (2 ^ 64) x None found ends past) known

@@ -1,3 +1,3 @@
 pub mod Contents
 pub mod Bytes
-pub mod Edges
+pub mod Newest

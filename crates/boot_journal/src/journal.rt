@@ -97,7 +97,8 @@ impl Journal {
         tags::tag_at(&self.items, x)
     }
 
-    /// The runs of equal owner, ascending. The time grows with the square of the number of items.
+    /// The runs of equal owner, ascending. For n items this takes n log n steps, and memory for the
+    /// claims and freeings among them.
     pub fn owner_runs(&self) -> Result<Vec<OwnerRun>, Memory>
         ensures runs { IfOk result (λ runs. IsRunsOf (owner_of self.now.items) runs.items) }
         ensures list { IfOk result (λ runs. runs.items ≡ owner_runs_of self.now.items) }

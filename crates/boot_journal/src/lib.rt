@@ -14,6 +14,7 @@
 //! see a journal as its items beside the number `spare`. No item's range is empty.
 #![tactic(auto)]
 
+mod claimed;
 mod journal;
 mod owners;
 mod ranges;

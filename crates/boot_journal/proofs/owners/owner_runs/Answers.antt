@@ -1,38 +1,23 @@
-use Rattle.std.proofs.Common.{◌≡◌, ℕ, ◌≤◌, None, List, arith}
-use Rattle.address_runs.specs.Runs.{IsRunsOf}
-use Rattle.address_runs.proofs.RunsLaws.{the_list}
-use Rattle.address_runs.proofs.SweepLaws.{swept_all}
-use Rattle.memblock_model.specs.declared.item.Item.{Item}
-use Rattle.memblock_model.specs.Same.{same_owner}
-use Rattle.memblock_model.specs.Items.{Owners, owner_of, owner_runs_of}
-use Rattle.memblock_model.proofs.SameLaws.{owner_tells}
-use Rattle.boot_journal.proofs.OwnerLaws.{nothing_owned, swept_stretch}
+use Rattle.std.proofs.Common.{◌∙◌}
+use Rattle.std.proofs.lemmas.Result.{IfOk-weaker}
+use Rattle.std.specs.Prelude.{Result, Ok, Err, IfOk}
+use Rattle.boot_journal.proofs.OwnerLaws.{addresses_alike, runs_alike, owner_list}
 use Rattle.boot_journal.proofs.owners.owner_runs.Goals as goal
 
-pub loop-from-preserved : goal.loop-from-preserved
-loop-from-preserved c =
-    let items : List Item = c.args.items.now in
-    let f : Owners = owner_of items in
-    let top : ℕ = c.end_of_claims-top.result in
-    let none : (x : ℕ) → top ≤ x → f x ≡ None = λ x past. nothing_owned items x (rw (← c.end_of_claims-top.ensures) past) in
-    record {
-      within = c.stretch_end-until.ensures.within;
-      swept = rw c.in_ok-push_run.ensures (swept_stretch f c.loop-from.from c.stretch_end-until.result top c.owner_at.result c.loop-from.runs.items c.owner_at.ensures
-          c.loop-from.invariant.swept c.stretch_end-until.ensures.behind c.stretch_end-until.ensures.within c.stretch_end-until.ensures.stays c.stretch_end-until.ensures.changes none);
-    }
+-- two facts of what was found give a third
+IfOk-both : {X E : Type 0} (r : Result X E) (P Q R : X → Type 0) → ((x : X) → P x → Q x → R x) → IfOk r P → IfOk r Q → IfOk r R
+IfOk-both (Ok x) P Q R gives p q = gives x p q
+IfOk-both (Err e) P Q R gives p q = tt
+
+pub overlay_all-requires : goal.overlay_all-requires
+overlay_all-requires c = addresses_alike c.args.items.now c.deref.result.now (c.deref.ensures.value ∙ c.in_ok-claimed.ensures) c.requires
 
 pub returns-clause-runs : goal.returns-clause-runs
 returns-clause-runs c =
-    let items : List Item = c.args.items.now in
-    swept_all (owner_of items) c.loop-from.from c.loop-from.runs.items c.loop-from.invariant.swept
-    (λ x past. let top : c.end_of_claims-top.result ≤ x = omega arith in nothing_owned items x (rw (← c.end_of_claims-top.ensures) top))
+    IfOk-weaker c.owned_runs.result _ _
+    (λ found is. runs_alike c.args.items.now c.deref.result.now c.deref-2.result.now found.items (c.deref.ensures.value ∙ c.in_ok-claimed.ensures)
+    (rw c.deref-2.ensures.value c.in_ok-runs.ensures) is) c.owned_runs.ensures.items
 
 pub returns-clause-list : goal.returns-clause-list
-unfolding owner_runs_of
 returns-clause-list c =
-    let items : List Item = c.args.items.now in
-    let f : Owners = owner_of items in
-    let top : ℕ = c.end_of_claims-top.result in
-    let none : (x : ℕ) → top ≤ x → f x ≡ None = λ x past. nothing_owned items x (rw (← c.end_of_claims-top.ensures) past) in
-    let runs : IsRunsOf f c.loop-from.runs.items = swept_all f c.loop-from.from c.loop-from.runs.items c.loop-from.invariant.swept (λ x past. none x (omega arith)) in
-    the_list same_owner owner_tells f c.loop-from.runs.items (λ x past. none x (omega arith)) runs
+    IfOk-both c.owned_runs.result _ _ _ (λ found runs within. owner_list c.args.items.now found.items runs within) (returns-clause-runs c) c.owned_runs.ensures.within
