@@ -23,7 +23,7 @@ pub enum ExtFault {
     ExtHeader,
     /// The stated length isn't the number of bytes behind the header, or is no multiple of 20.
     ExtLength,
-    /// The program's own memory ran out.
+    /// The program's own memory ran out; only where the bytes have none of the other faults.
     Memory,
 }
 
@@ -43,6 +43,7 @@ impl From<Memory> for ExtFault {
 pub fn read_ext(alloc: Global, bytes: &[u8]) -> Result<Vec<Entry>, ExtFault>
     ensures fault { IfErr result (λ fault. fault ≢ ExtFault.Memory → ext_fault bytes.now ≡ Some fault) }
     ensures well_formed { OnOk result (ext_fault bytes.now ≡ None) }
+    ensures memory { IfErr result (λ fault. fault ≡ ExtFault.Memory → ext_fault bytes.now ≡ None) }
     ensures value { IfOk result (λ entries. entries.items ≡ ext_entries_of bytes.now) }
     ensures space { IfOk result (λ entries. EndInSpace entries.items) }
 {
