@@ -1,4 +1,4 @@
-ghost use Rattle.std.specs.Prelude.{◌≡◌, IfOk, OnErr, OnOk};
+ghost use Rattle.std.specs.Prelude.{◌≡◌, ◌≢◌, IfErr, IfOk, OnErr, OnOk};
 ghost use Rattle.address_runs.specs.Runs.{IsRunsOf};
 ghost use Rattle.e820_model.specs.Claims.{EndInSpace, HasTypes, added, claims_of_entries, edited, no_claims, settled, trimmed, type_of};
 ghost use Rattle.e820_model.specs.Map.{claims_of, kinds, map_of};
@@ -106,11 +106,18 @@ impl Table {
         ensures gives { MapGives result (map_of (claims_of self.now)) }
     {
         let alloc = *self.claims.allocator();
-        let runs = settle::runs_of_claims(alloc, &self.claims)?;
-        let count = runs.len() as u64;
-        if count > E820_MAX_ENTRIES {
-            return Err(MapFault::MapFull { runs: count });
-        }
-        Ok(runs)
+        limited(settle::runs_of_claims(alloc, &self.claims)?)
     }
+}
+
+/// The runs, where a map has room for so many; else their number. Takes no memory.
+fn limited(runs: Vec<Run>) -> Result<Vec<Run>, MapFault>
+    ensures gives { MapGives result runs.items }
+    ensures always { IfErr result (λ fault. fault ≢ MapFault.Memory) }
+{
+    let count = runs.len() as u64;
+    if count > E820_MAX_ENTRIES {
+        return Err(MapFault::MapFull { runs: count });
+    }
+    Ok(runs)
 }
