@@ -156,6 +156,8 @@ mod tests {
             );
         }
         assert_eq!(rt; (files.calls, files.faults, files.taken), (4, 2, 6));
+        let answer = files.fetch(alloc, "zp", 3).expect(&rt, "the file");
+        assert_eq!(rt; answer.as_slice(), b"\x01\x02\x03".as_slice());
         Ok(())
     }
 }

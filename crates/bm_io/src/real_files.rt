@@ -1,4 +1,5 @@
-ghost use Rattle.std.specs.Prelude.{◌≡◌, ℕ, None};
+ghost use Rattle.std.specs.Prelude.{◌≡◌, ℕ, ◌^◌, ◌<◌, ◌≤◌, length, None, IfSome, IfOk, IsErrOf};
+ghost use Rattle.bm_io.specs.Counts.{counted, Rose, RoseByMoreThan};
 
 use crate::reading::{Fetch, Files};
 use std::alloc::Global;
@@ -7,7 +8,8 @@ use std::marker::Model;
 use std::{fs, rt};
 
 /// The files of the operating system. They tell no content; one counter of faults serves all names,
-/// and what is taken is what each read gave.
+/// and what is taken is what each read gave. Once a file is open, each byte that its reader gives up
+/// to the end is answered, whichever reader it is.
 #[derive(Drop)]
 pub struct RealFiles<'a, R: rt::Files> {
     runtime: &'a R,
@@ -38,20 +40,27 @@ impl<'a, R: rt::Files> RealFiles<'a, R> {
             taken: 0,
         }
     }
-}
 
-impl<'a, R: rt::Files> Files for RealFiles<'a, R> {
-    ghost holds = { λ s. None };
-
-    ghost faults = { λ s name. s.faults };
-
-    ghost taken = { λ s. s.taken };
-
-    fn fetch(&mut self, alloc: Global, name: &str, limit: u64) -> Result<Vec<u8>, Fetch> {
-        let Ok(mut file) = fs::open(self.runtime, name) else {
-            self.faults = self.faults.saturating_add(1);
-            return Err(Fetch::Failed);
-        };
+    /// The bytes of the reader up to its end, at most `limit` of them. What each read gives counts as
+    /// taken, and a read that fails as a fault.
+    fn read_whole<F: Read>(
+        &mut self,
+        file: &mut F,
+        alloc: Global,
+        limit: u64,
+    ) -> Result<Vec<u8>, Fetch>
+        ensures bounded { IfOk result (λ bytes. length bytes.items ≤ limit) }
+        ensures whole { IfOk result (λ bytes. IfSome (F.remaining file.old) (λ all. bytes.items ≡ all)) }
+        ensures given { IfOk result (λ bytes. self.new.taken ≡ counted self.old.taken (length bytes.items)) }
+        ensures failed { IsErrOf result Fetch.Failed → Rose self.old.faults self.new.faults }
+        ensures too_long { IsErrOf result Fetch.TooLong → RoseByMoreThan limit self.old.taken self.new.taken }
+        ensures longer { IsErrOf result Fetch.TooLong
+            → IfSome (F.remaining file.old) (λ all. limit < length all) }
+        ensures faults_stay { self.old.faults ≤ self.new.faults }
+        ensures faults_fit { self.new.faults < 2 ^ 64 }
+        ensures taken_stays { self.old.taken ≤ self.new.taken }
+        ensures taken_fits { self.new.taken < 2 ^ 64 }
+    {
         let mut bytes = Vec::new(alloc);
         let mut buffer = [0u8; 4096];
         loop {
@@ -73,11 +82,74 @@ impl<'a, R: rt::Files> Files for RealFiles<'a, R> {
     }
 }
 
+impl<'a, R: rt::Files> Files for RealFiles<'a, R> {
+    ghost holds = { λ s. None };
+
+    ghost faults = { λ s name. s.faults };
+
+    ghost taken = { λ s. s.taken };
+
+    fn fetch(&mut self, alloc: Global, name: &str, limit: u64) -> Result<Vec<u8>, Fetch> {
+        let Ok(mut file) = fs::open(self.runtime, name) else {
+            self.faults = self.faults.saturating_add(1);
+            return Err(Fetch::Failed);
+        };
+        self.read_whole(&mut file, alloc, limit)
+    }
+}
+
 #[cfg(test)]
 mod tests {
     use super::*;
-    use std::process;
     use std::test::Fail;
+    use std::{io, process};
+
+    /// A reader of so many bytes, up to three a call, whose call of that number fails.
+    #[derive(Drop)]
+    struct Slow {
+        left: usize,
+        calls: u64,
+        failing: u64,
+    }
+
+    impl Read for Slow {
+        fn read(&mut self, buffer: &mut [u8]) -> io::Result<usize> {
+            self.calls = self.calls.saturating_add(1);
+            if self.calls == self.failing {
+                return Err(io::Error::from(io::ErrorKind::Other));
+            }
+            let count = self.left.min(3).min(buffer.len());
+            self.left -= count;
+            Ok(count)
+        }
+    }
+
+    #[test]
+    fn a_read_that_fails_midway(rt: HostRuntime) {
+        let cases = [
+            (8, 0, 8, Ok(8)),
+            (8, 0, 7, Err(Fetch::TooLong)),
+            (8, 1, 8, Err(Fetch::Failed)),
+            (8, 3, 8, Err(Fetch::Failed)),
+            (8, 4, 8, Err(Fetch::Failed)),
+            (8, 5, 8, Ok(8)),
+            (0, 0, 0, Ok(0)),
+        ];
+        for (left, failing, limit, want) in cases {
+            let mut files = RealFiles::new(&rt);
+            let mut reader = Slow {
+                left,
+                calls: 0,
+                failing,
+            };
+            let answer = files.read_whole(&mut reader, rt.alloc(), limit);
+            assert_eq!(rt;
+                answer.map(|bytes| bytes.len()),
+                want,
+                "{left} up to {limit}, failing at {failing}"
+            );
+        }
+    }
 
     #[test]
     fn files_of_the_system(rt: HostRuntime) -> Result<(), Fail> {
@@ -101,6 +173,10 @@ mod tests {
             );
         }
         assert_eq!(rt; (files.faults, files.taken), (2, 20_000));
+        let answer = files
+            .fetch(alloc, there.as_str(), 10_000)
+            .expect(&rt, "the file");
+        assert_eq!(rt; answer.as_slice(), bytes.as_slice());
         fs::remove_file(&rt, there.as_str())?;
         Ok(())
     }
