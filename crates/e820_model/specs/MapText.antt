@@ -1,4 +1,5 @@
--- The text of the map: a line for each run, as the kernel's `e820__print_table` has them.
+-- The text of the map: a line for each run, where the kernel's `e820__print_table` has a line for each entry.
+-- The form of the line is this project's own.
 use Rattle.std.specs.Prelude.{ℕ, ◌+◌, ◌-◌, ◌==◌, if◌then◌else◌, List, [], ◌∷◌, ◌++◌, codes, decimal}
 use Rattle.bm_base.specs.Text.{hex_text}
 use Rattle.address_runs.specs.Runs.{RunOf}

@@ -21,6 +21,7 @@ count_below p (suc n) = if p n then count_below p n + 1 else count_below p n
 unfoldable pub is_usable : Kinds → ℕ → Bool
 is_usable f frame = all_below (λ i. is_memory (f (4096 * frame + i))) 4096
 
--- the number of usable frames; addresses from 2^46 on are out of reach (`MAX_PHYSMEM_BITS`)
+-- the number of usable frames; addresses from 2^46 on are out of reach (`MAX_PHYSMEM_BITS`
+-- with page tables of four levels)
 unfoldable pub usable_frames : Kinds → ℕ
 usable_frames f = count_below (is_usable f) (2 ^ 34)
