@@ -6,6 +6,7 @@ use bm_io::{MemFile, MemFiles, MemSink};
 use byteorder::{ByteOrder, LittleEndian};
 use e820_model::Entry;
 use std::alloc::Global;
+use std::process::Abort;
 use std::test::Fail;
 
 const RAM: Entry = Entry {
@@ -63,12 +64,13 @@ struct Ended {
 }
 
 /// The bytes of the files that a run finds: the zero page `zp`, the extension `ext` and the command
-/// line `cmd`.
+/// line `cmd`; and the numbers of the fetches that fail.
 #[derive(Clone, Copy)]
 struct Held<'a> {
     zp: &'a [u8],
     ext: &'a [u8],
     cmd: &'a [u8],
+    failing: &'a [u64],
 }
 
 fn files_of(alloc: Global, held: &Held<'_>) -> Result<Vec<MemFile>, Fail>
@@ -101,7 +103,8 @@ fn run_on(
     for word in words {
         owned.push(String::from_str(alloc, word)?)?;
     }
-    let mut files = MemFiles::new(files_of(alloc, held)?, Vec::new(alloc));
+    let failing = Vec::from_slice(alloc, held.failing)?;
+    let mut files = MemFiles::new(files_of(alloc, held)?, failing);
     let mut out = MemSink::new(Vec::from_slice(alloc, out_failing)?);
     let mut err = MemSink::new(Vec::from_slice(alloc, err_failing)?);
     let status = run(alloc, &owned, &mut files, &mut out, &mut err);
@@ -114,6 +117,7 @@ fn only(zp: &[u8]) -> Held<'_> {
         zp,
         ext: &[],
         cmd: &[],
+        failing: &[],
     }
 }
 
@@ -246,10 +250,16 @@ fn words_and_failures(rt: HostRuntime) -> Result<(), Fail> {
     Ok(())
 }
 
-/// An extension of one entry, RAM of 4,096 bytes behind `RAM`.
+/// An extension of one entry, RAM over `RESERVED` and 4,096 bytes behind it.
 const EXTENSION: [u8; 36] = [
     0, 0, 0, 0, 0, 0, 0, 0, 1, 0, 0, 0, 20, 0, 0, 0, // next, type, length
-    0, 0, 0, 8, 0, 0, 0, 0, 0, 0x10, 0, 0, 0, 0, 0, 0, 1, 0, 0, 0, // address, size, type
+    0, 0, 0xFE, 7, 0, 0, 0, 0, 0, 0x10, 2, 0, 0, 0, 0, 0, 1, 0, 0, 0, // address, size, type
+];
+
+/// An extension of one entry, ACPI data over the border of `RAM` and `RESERVED`.
+const ACPI: [u8; 36] = [
+    0, 0, 0, 0, 0, 0, 0, 0, 1, 0, 0, 0, 20, 0, 0, 0, // next, type, length
+    0, 0xF0, 0xFD, 7, 0, 0, 0, 0, 0, 0x20, 0, 0, 0, 0, 0, 0, 3, 0, 0, 0, // address, size, type
 ];
 
 #[test]
@@ -261,8 +271,12 @@ fn extension_and_command_line(rt: HostRuntime) -> Result<(), Fail> {
                   0x0000000008000000..0x0000000008000fff 1 usable\n";
     let shorter = "0x0000000000100000..0x0000000003ffffff 1 usable\n\
                    0x0000000007fe0000..0x0000000007ffffff 2 reserved\n";
+    let acpi = "0x0000000000100000..0x0000000007fdefff 1 usable\n\
+                0x0000000007fdf000..0x0000000007fe0fff 3 ACPI data\n\
+                0x0000000007fe1000..0x0000000007ffffff 2 reserved\n";
     let cases = [
         (ext, "", 0, longer, ""),
+        (&ACPI, "", 0, acpi, ""),
         (ext, "mem=0x4000000 -- mem=0", 0, shorter, ""),
         (ext, "mem=0", 5, "", "bootmem: cmdline: word 1: mem\n"),
         (
@@ -297,6 +311,7 @@ fn extension_and_command_line(rt: HostRuntime) -> Result<(), Fail> {
             zp: &zp,
             ext,
             cmd: line.as_bytes(),
+            failing: &[],
         };
         let ended = run_on(rt.alloc(), &words, &held, &[], &[])?;
         assert_eq!(rt; ended.status, status, "{want}");
@@ -313,6 +328,7 @@ fn words_in_any_order(rt: HostRuntime) -> Result<(), Fail> {
         zp: &zp,
         ext: &EXTENSION,
         cmd: b"mem=0",
+        failing: &[],
     };
     let cases: [(&[&str], u8, &str); 8] = [
         (&["--report", "map", "--e820ext", "ext", "zp"], 0, ""),
@@ -357,6 +373,136 @@ fn words_in_any_order(rt: HostRuntime) -> Result<(), Fail> {
             ended.err.written() == line.as_bytes(),
             "{name}"
         );
+    }
+    Ok(())
+}
+
+/// Runs on the three files by these names, where the fetch of that number fails, and compares the
+/// status and the line on the error output.
+fn expect_line(
+    rt: &impl Abort,
+    alloc: Global,
+    names: &[&str; 3],
+    held: &Held<'_>,
+    failing: u64,
+    status: u8,
+    line: &str,
+) -> Result<(), Fail> {
+    let [zp, ext, cmd] = *names;
+    let words = ["--cmdline", cmd, "--report", "map", "--e820ext", ext, zp];
+    let failing = [failing];
+    let held = Held {
+        failing: &failing,
+        ..*held
+    };
+    let ended = run_on(alloc, &words, &held, &[], &[])?;
+    assert_eq!(rt; ended.status, status, "{line}");
+    assert_eq!(rt; ended.err.written(), line.as_bytes(), "{line}");
+    Ok(())
+}
+
+/// Each file missing, faulty and too long in turn. So many files are fetched and no more: where the
+/// last of these fetches fails its file is named, and where the next one would, nothing changes.
+#[test]
+fn files_in_their_order(rt: HostRuntime) -> Result<(), Fail> {
+    let zp = page(2, RAM, RESERVED);
+    let long = vec![in rt.alloc(); 0; 61_457]?;
+    let long = long.as_slice();
+    let good = Held {
+        zp: &zp,
+        ext: &EXTENSION,
+        cmd: b"quiet",
+        failing: &[],
+    };
+    let all = ["zp", "ext", "cmd"];
+    let cases: [([&str; 3], Held, u8, &str, u64); 10] = [
+        (all, good, 0, "", 3),
+        (
+            ["none", "ext", "cmd"],
+            good,
+            3,
+            "bootmem: cannot read none\n",
+            1,
+        ),
+        (
+            all,
+            Held {
+                zp: &zp[..4095],
+                ..good
+            },
+            5,
+            "bootmem: zeropage: wrong length\n",
+            1,
+        ),
+        (
+            all,
+            Held { zp: long, ..good },
+            5,
+            "bootmem: zeropage: too long\n",
+            1,
+        ),
+        (
+            ["zp", "none", "cmd"],
+            good,
+            3,
+            "bootmem: cannot read none\n",
+            2,
+        ),
+        (
+            all,
+            Held { ext: &zp, ..good },
+            5,
+            "bootmem: e820ext: header\n",
+            2,
+        ),
+        (
+            all,
+            Held { ext: long, ..good },
+            5,
+            "bootmem: e820ext: too long\n",
+            2,
+        ),
+        (
+            ["zp", "ext", "none"],
+            good,
+            3,
+            "bootmem: cannot read none\n",
+            3,
+        ),
+        (
+            all,
+            Held {
+                cmd: b"numa=on",
+                ..good
+            },
+            5,
+            "bootmem: cmdline: word 1: numa\n",
+            3,
+        ),
+        (
+            all,
+            Held { cmd: long, ..good },
+            5,
+            "bootmem: cmdline: too long\n",
+            3,
+        ),
+    ];
+    for (names, held, status, line, fetches) in &cases {
+        let last = names
+            .get((*fetches as usize).saturating_sub(1))
+            .copied()
+            .unwrap_or("");
+        let unread = format!(in rt.alloc(); "bootmem: cannot read {last}\n")?;
+        expect_line(&rt, rt.alloc(), names, held, *fetches, 3, unread.as_str())?;
+        expect_line(
+            &rt,
+            rt.alloc(),
+            names,
+            held,
+            fetches.saturating_add(1),
+            *status,
+            line,
+        )?;
     }
     Ok(())
 }

@@ -1,0 +1,55 @@
+#!/bin/sh
+# outside.sh [PROGRAM]: what the program answers where the outside fails: files that can't be read, an output
+# that is full. Prints a line for each difference, and 'N passed, M failed' at its end.
+set -u
+top=$(cd "$(dirname "$0")/.." && pwd)
+program=$(cd "$(dirname "${1:-$top/bootmem}")" && pwd)/$(basename "${1:-$top/bootmem}")
+work=$(mktemp -d) || exit 1
+trap 'rm -rf "$work"' EXIT
+passed=0
+failed=0
+
+# expect STATUS LINE OUTPUT WORD..: the program's status and its line on standard error, with that output
+expect() {
+	wanted=$1
+	line=$2
+	output=$3
+	shift 3
+	"$program" "$@" >"$output" 2>"$work/err"
+	status=$?
+	if [ "$status" = "$wanted" ] && [ "$(cat "$work/err")" = "$line" ]; then
+		passed=$((passed + 1))
+	else
+		failed=$((failed + 1))
+		echo "$*: status $status, wanted $wanted: $(cat "$work/err")"
+	fi
+}
+
+zp=$top/examples/first/zp.bin
+cd "$work" || exit 1
+mkdir folder
+head -c 4095 "$zp" >short
+cat "$zp" "$zp" >long
+printf 'mem=0\n' >line
+expect 0 '' "$work/out" --report map "$zp"
+expect 2 'bootmem: usage' "$work/out"
+expect 2 'bootmem: usage' "$work/out" --report map "$zp" "$zp"
+expect 3 'bootmem: cannot read missing' "$work/out" --report map missing
+expect 3 'bootmem: cannot read folder' "$work/out" --report map folder
+expect 3 'bootmem: cannot read missing' "$work/out" --report map --cmdline missing "$zp"
+expect 5 'bootmem: zeropage: wrong length' "$work/out" --report map --cmdline missing short
+expect 5 'bootmem: zeropage: too long' "$work/out" --report map long
+expect 5 'bootmem: cmdline: word 1: mem' "$work/out" --report map --cmdline line "$zp"
+if [ -c /dev/full ]; then
+	expect 4 'bootmem: cannot write' /dev/full --report map "$zp"
+	"$program" --report map missing 2>/dev/full
+	status=$?
+	if [ "$status" -eq 3 ]; then
+		passed=$((passed + 1))
+	else
+		failed=$((failed + 1))
+		echo "a full standard error: status $status, wanted 3"
+	fi
+fi
+echo "$passed passed, $failed failed"
+[ "$failed" -eq 0 ]
