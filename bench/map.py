@@ -5,7 +5,7 @@ usage: bench/map.py [PROGRAM] [ROUNDS]
 
 Tables of 100, 1,000 and 3,200 entries (the first 128 in the zero page, the others in the extension):
 `disjoint` ones, that neither touch nor overlap, and `nested` ones, that all overlap, each within the
-one before, with types that alternate so that every border shows. With `edits`, a command line of 100
+one before, with two types in turn, so that few runs come out. With `edits`, a command line of 100
 pieces of memmap= acts on the table as well. Of each the least time of ROUNDS runs is taken, and the
 least time of a run over two entries is taken off: what is left is the table's own work, with the
 reading of its bytes and the printing of its lines.
@@ -25,7 +25,6 @@ def disjoint(count):
 
 
 def nested(count):
-    # a table that all overlaps: 3,200 entries give fewer than 3,200 runs, since every second one is hidden
     return [(0x100000 + i * 0x1000, (2 * count - i) * 0x1000, 1 + i % 2) for i in range(count)]
 
 
