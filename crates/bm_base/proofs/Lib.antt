@@ -1,2 +1,3 @@
+mod Examples
 pub mod SizeLaws
 pub mod TextLaws

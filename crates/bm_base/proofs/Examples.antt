@@ -1,0 +1,66 @@
+-- Small ranges, numbers and texts, computed.
+use Rattle.std.proofs.Common.{◌≡◌, ℕ, ◌^◌, ◌*◌, true, false, ◌&&◌, [], codes, Ok, Err, refl, arith}
+use Rattle.std.proofs.lemmas.Bool.Decides.{nat_tests}
+use Rattle.std.specs.Fmt.{digits}
+use Rattle.bm_base.specs.Extent.{Extent, end_of, covers, Meet}
+use Rattle.bm_base.specs.Text.{hexadecimal, hex_text, padded_decimal}
+use Rattle.bm_base.specs.Size.{front_digits, value_of, is_hexadecimal, radix_of, suffix_of, number_of, size_of, IsSize, IsNumber}
+use Rattle.bm_base.specs.declared.size.NumFault.TheVariants.{NoDigits, TooLarge}
+
+-- the second page of memory, and the page behind it
+abbrev second_page : Extent
+second_page = record { base = 0x1000; size = 0x1000 }
+
+abbrev third_page : Extent
+third_page = record { base = 0x2000; size = 0x1000 }
+
+-- its end is the address behind its last byte
+end_examples : (end_of second_page ≡ 0x2000) × (end_of (record { base = 0x2000; size = 0 }) ≡ 0x2000)
+end_examples = (refl, refl)
+
+-- it covers its first and its last byte, and neither the one below nor the one behind; an empty range covers nothing
+covers_examples : (covers second_page 0xFFF ≡ false) × (covers second_page 0x1000 ≡ true) × (covers second_page 0x1FFF ≡ true) × (covers second_page 0x2000 ≡ false)
+    × (covers (record { base = 0x1000; size = 0 }) 0x1000 ≡ false)
+covers_examples = (refl, refl, refl, refl, refl)
+
+-- ranges that share one byte meet, ranges that touch don't
+one_byte_shared : Meet (record { base = 0; size = 0x1001 }) second_page
+one_byte_shared = (0x1000, refl)
+
+touching_pages : ¬ Meet second_page third_page
+touching_pages both = let shared : (covers second_page both.0 && covers third_page both.0) ≡ true = both.1 in grind (arith, nat_tests)
+
+-- digits as far as there are some, in that base; the rest is left
+digits_examples : (front_digits 10 (codes "640K") ≡ codes "640") × (front_digits 8 (codes "0178") ≡ codes "017") × (value_of 16 (codes "fFg") ≡ 255)
+digits_examples = (refl, refl, refl)
+
+-- `0x` begins a hexadecimal number where a digit follows; otherwise a first `0` is an octal one
+radix_examples : (radix_of (codes "0x1f") ≡ 16) × (radix_of (codes "0XF") ≡ 16) × (radix_of (codes "0x") ≡ 8) × (radix_of (codes "010") ≡ 8) × (radix_of (codes "10") ≡ 10)
+radix_examples = (refl, refl, refl, refl, refl)
+
+prefix_examples : (is_hexadecimal (codes "0xg") ≡ false) × (is_hexadecimal (codes "0X0") ≡ true)
+prefix_examples = (refl, refl)
+
+suffix_examples : (suffix_of (codes "K") ≡ (2 ^ 10, 1)) × (suffix_of (codes "e@") ≡ (2 ^ 60, 1)) × (suffix_of (codes "@K") ≡ (1, 0)) × (suffix_of [] ≡ (1, 0))
+suffix_examples = (refl, refl, refl, refl)
+
+-- a number takes no suffix, and of `0x` the `0` alone
+number_examples : (number_of (codes "0x1fz") ≡ Ok (31, 4)) × (number_of (codes "64M") ≡ Ok (64, 2)) × (number_of (codes "0x") ≡ Ok (0, 1)) × (number_of (codes "x1") ≡ Err NoDigits)
+number_examples = (refl, refl, refl, refl)
+
+-- a size takes one suffix; 16E is 2^64
+size_examples : (size_of (codes "64M") ≡ Ok (0x4000000, 3)) × (size_of (codes "010k@") ≡ Ok (8192, 4)) × (size_of (codes "15EE") ≡ Ok (15 * 2 ^ 60, 3))
+    × (size_of (codes "16E") ≡ Err TooLarge) × (size_of (codes "M") ≡ Err NoDigits) × (size_of [] ≡ Err NoDigits)
+size_examples = (refl, refl, refl, refl, refl, refl)
+
+whole_examples : IsSize (codes "1G") 0x40000000 × IsNumber (codes "017") 15
+whole_examples = (refl, refl)
+
+-- an address has 16 digits in lower case, a decimal stands at the right end of its places, or beyond them
+hex_examples : (hexadecimal 0x9FC00 ≡ codes "9fc00") × (hex_text 0 ≡ codes "0x0000000000000000") × (hex_text 0xFEC00000 ≡ codes "0x00000000fec00000")
+unfolding digits
+hex_examples = (refl, refl, refl)
+
+decimal_examples : (padded_decimal 6 640 ≡ codes "   640") × (padded_decimal 2 640 ≡ codes "640")
+unfolding digits
+decimal_examples = (refl, refl)
