@@ -1,6 +1,10 @@
 -- Small lists of runs, computed.
-use Rattle.std.proofs.Common.{◌≡◌, ℕ, ◌==◌, nat_lt, if◌then◌else◌, Option, Some, None, [], ◌∷◌, refl}
-use Rattle.address_runs.specs.Runs.{RunOf, runs_from}
+use Rattle.std.proofs.Common.{◌≡◌, ℕ, ◌+◌, ◌^◌, ◌<◌, ◌≤◌, ◌==◌, nat_lt, true, false, if◌then◌else◌, Option, Some, None, [], ◌∷◌, refl, arith}
+use Rattle.std.proofs.lemmas.Bool.Decides.{nat_tests}
+use Rattle.address_runs.specs.Runs.{RunOf, Tells, run_end, lies_in, value_at, AreRuns, IsRunsOf, led_by, runs_from, runs_of}
+use Rattle.address_runs.specs.Sweep.{Stays, StartFrom, EndBy, EndsBehind, EndsFrom, IsSweptTo, IsRestFrom, IsBuiltTo}
+use Rattle.address_runs.specs.Overlay.{overlaid, given_by, all_overlaid}
+use Rattle.address_runs.proofs.RunsLaws.{the_list}
 
 run : ℕ → ℕ → ℕ → RunOf ℕ
 run base size value = record { base = base; size = size; value = value }
@@ -18,3 +22,118 @@ gaps_part_runs = refl
 one_value_is_one_run : runs_from (λ a b. a == b) (λ x. Some 7) 0 8 ≡ run 0 8 7 ∷ []
 unfolding runs_from run
 one_value_is_one_run = refl
+
+-- a run has its base and its last address, and not the one behind
+lies_examples : (lies_in (run 4 2 1) 3 ≡ false) × (lies_in (run 4 2 1) 4 ≡ true) × (lies_in (run 4 2 1) 5 ≡ true) × (lies_in (run 4 2 1) 6 ≡ false) × (run_end (run 4 2 1) ≡ 6)
+unfolding run
+lies_examples = (refl, refl, refl, refl, refl)
+
+-- a list gives the value of the first run that has the address
+value_examples : (value_at (run 0 2 1 ∷ (run 4 2 3 ∷ [])) 5 ≡ Some 3) × (value_at (run 0 2 1 ∷ (run 4 2 3 ∷ [])) 2 ≡ None) × (value_at (run 0 4 1 ∷ (run 2 4 3 ∷ [])) 3 ≡ Some 1)
+unfolding run
+value_examples = (refl, refl, refl)
+
+-- canonical: ascending, and another value where two runs touch, or a gap between
+touching_values_differ : AreRuns (run 0 2 1 ∷ (run 2 2 3 ∷ (run 6 1 3 ∷ [])))
+unfolding run
+touching_values_differ = (omega arith, (omega arith, λ touch same. absurd (omega arith)), (omega arith, (omega arith, λ touch. absurd (omega arith)), (omega arith, tt, tt)))
+
+-- not canonical: two runs that could be one, runs that overlap, an empty run
+could_be_one : ¬ AreRuns (run 0 2 1 ∷ (run 2 2 1 ∷ []))
+unfolding run
+could_be_one runs = runs.1.1 refl refl
+
+overlapping : ¬ AreRuns (run 0 3 1 ∷ (run 2 2 3 ∷ []))
+unfolding run
+overlapping runs = let apart : 3 ≤ 2 = runs.1.0 in absurd (omega arith)
+
+empty_run : ¬ AreRuns (run 0 0 1 ∷ [])
+unfolding run
+empty_run runs = let some : 0 < 0 = runs.0 in absurd (omega arith)
+
+-- an address in front of the runs behind it lengthens the first, begins one, or has no value
+led_examples : (led_by (λ a b. a == b) 3 (Some 1) (run 4 2 1 ∷ []) ≡ run 3 3 1 ∷ []) × (led_by (λ a b. a == b) 3 (Some 2) (run 4 2 1 ∷ []) ≡ run 3 1 2 ∷ (run 4 2 1 ∷ []))
+    × (led_by (λ a b. a == b) 2 (Some 1) (run 4 2 1 ∷ []) ≡ run 2 1 1 ∷ (run 4 2 1 ∷ [])) × (led_by (λ a b. a == b) 3 None (run 4 2 1 ∷ []) ≡ run 4 2 1 ∷ [])
+unfolding run
+led_examples = (refl, refl, refl, refl)
+
+-- a list that is canonical is the list of what it gives
+is_of_itself : IsRunsOf (value_at (run 0 2 1 ∷ (run 2 2 3 ∷ []))) (run 0 2 1 ∷ (run 2 2 3 ∷ []))
+unfolding run
+is_of_itself = record { runs = (omega arith, (omega arith, λ touch same. absurd (omega arith)), (omega arith, tt, tt)); each = λ x. refl }
+
+-- the runs of all addresses below 2^64: one page of RAM, and nothing at all
+tells_numbers : Tells {X = ℕ} (λ a b. a == b)
+tells_numbers = record { yes = λ a b h. grind (arith, nat_tests); no = λ a b h. grind (arith, nat_tests) }
+
+one_page : ℕ → Option ℕ
+one_page = value_at (run 0x1000 0x1000 1 ∷ [])
+
+none_behind_the_page : (x : ℕ) → 2 ^ 64 ≤ x → one_page x ≡ None
+unfolding one_page run
+none_behind_the_page x far = grind (arith, nat_tests)
+
+runs_of_one_page : run 0x1000 0x1000 1 ∷ [] ≡ runs_of (λ a b. a == b) one_page
+unfolding one_page run
+runs_of_one_page = the_list (λ a b. a == b) tells_numbers one_page (run 0x1000 0x1000 1 ∷ []) none_behind_the_page (record { runs = (omega arith, tt, tt); each = λ x. refl })
+
+runs_of_nothing : [] ≡ runs_of {X = ℕ} (λ a b. a == b) (λ x. None)
+runs_of_nothing = the_list (λ a b. a == b) tells_numbers (λ x. None) [] (λ x far. refl) (record { runs = tt; each = λ x. refl })
+
+-- where several give a value, here the sum
+abbrev sum_of : Option ℕ → Option ℕ → Option ℕ
+sum_of None l = l
+sum_of (Some k) None = Some k
+sum_of (Some k) (Some l) = Some (k + l)
+
+overlaid_examples : (overlaid sum_of gaps (λ x. Some 10) 1 ≡ Some 11) × (overlaid sum_of gaps (λ x. Some 10) 2 ≡ Some 10) × (overlaid sum_of gaps (λ x. None) 2 ≡ None)
+overlaid_examples = (refl, refl, refl)
+
+given_examples : (given_by (run 4 2 1) 5 ≡ Some 1) × (given_by (run 4 2 1) 6 ≡ None)
+unfolding run
+given_examples = (refl, refl)
+
+all_overlaid_examples : (all_overlaid sum_of (run 0 4 1 ∷ (run 2 4 3 ∷ [])) 3 ≡ Some 4) × (all_overlaid sum_of (run 0 4 1 ∷ (run 2 4 3 ∷ [])) 5 ≡ Some 3) × (all_overlaid sum_of (run 0 4 1 ∷ (run 2 4 3 ∷ [])) 6 ≡ None)
+unfolding run
+all_overlaid_examples = (refl, refl, refl)
+
+-- a function that stays at one value between two addresses, and one that doesn't
+stays_examples : Stays gaps 0 2 (Some 1) × Stays gaps 2 4 None
+stays_examples = (λ x from until. grind (arith, nat_tests), λ x from until. grind (arith, nat_tests))
+
+changes_at_two : ¬ Stays gaps 0 3 (Some 1)
+changes_at_two stays = let at_two : None ≡ Some 1 = stays 2 (omega arith) (omega arith) in absurd (cc at_two)
+
+-- where a list begins and where it ends; a run that ends right at the address must have another value
+start_examples : StartFrom 4 (run 4 2 1 ∷ []) × EndBy 6 (Some 2) (run 4 2 1 ∷ []) × EndsBehind 5 (run 4 2 1 ∷ []) × EndsFrom 6 (run 4 2 1 ∷ [])
+unfolding run
+start_examples = (omega arith, (omega arith, λ touch same. absurd (cc same), tt), omega arith, omega arith)
+
+goes_on_with_the_value : ¬ EndBy 6 (Some 1) (run 4 2 1 ∷ [])
+unfolding run
+goes_on_with_the_value ends = ends.1 refl refl
+
+begins_lower : ¬ StartFrom 5 (run 4 2 1 ∷ [])
+unfolding run
+begins_lower start = let higher : 5 ≤ 4 = start in absurd (omega arith)
+
+-- below 3 the function has one run, and from 3 on two; up to 6 one of them is built and one begun
+swept_to_three : IsSweptTo gaps 3 (run 0 2 1 ∷ [])
+unfolding run
+swept_to_three = record { runs = (omega arith, tt, tt); ends = (omega arith, λ touch. absurd (omega arith), tt); each = λ x below. grind (arith, nat_tests) }
+
+rest_from_three : IsRestFrom gaps 3 (run 4 2 1 ∷ (run 6 1 2 ∷ []))
+unfolding run
+rest_from_three = record {
+  runs = (omega arith, (omega arith, λ touch same. absurd (omega arith)), (omega arith, tt, tt));
+  ends = omega arith;
+  each = λ x above. grind (arith, nat_tests);
+}
+
+built_to_six : IsBuiltTo gaps 6 (run 0 2 1 ∷ []) 4 (Some 1)
+unfolding run
+built_to_six = record {
+  begun = omega arith;
+  swept = record { runs = (omega arith, tt, tt); ends = (omega arith, λ touch. absurd (omega arith), tt); each = λ x below. grind (arith, nat_tests) };
+  stays = λ x from until. grind (arith, nat_tests);
+}
