@@ -1,14 +1,27 @@
 -- Small maps, computed from their entries.
-use Rattle.std.proofs.Common.{◌≡◌, true, false, List, [], ◌∷◌, refl, arith}
+use Rattle.std.proofs.Common.{◌≡◌, ℕ, ◌^◌, ◌<◌, ◌+◌, ◌==◌, Bool, true, false, ◌&&◌, ◌||◌, nat_lt, List, [], ◌∷◌, refl, ap, ◌∙◌, arith}
 use Rattle.std.proofs.lemmas.Bool.Decides.{nat_tests}
-use Rattle.e820_model.specs.Claims.{greatest_below, type_of, claims_of_entries, edited, trimmed}
+use Rattle.e820_model.specs.Claims.{Claims, no_claims, is_covered_by, EndInSpace, greatest_below, greatest, type_of, settled, added, claims_of_entries, edited, HasTypes, HaveTypes, after_edits, trimmed, of_zero_page, with_extension, with_edits, finished}
 use Rattle.e820_model.specs.declared.entry.Entry.{Entry}
+use Rattle.e820_model.specs.declared.edit.Edit.{Edit}
 use Rattle.e820_model.specs.declared.edit.Edit.TheVariants as edit
-use Rattle.e820_model.proofs.ClaimLaws.{greatest_is}
+use Rattle.bm_base.specs.Extent.{Extent}
+use Rattle.e820_model.proofs.ClaimLaws.{greatest_is, settled_keeps}
 
 -- RAM up to 2 MiB, with ACPI data in it from 1 MiB on, 512 KiB long
 abbrev ram_and_acpi : List Entry
 ram_and_acpi = record { addr = 0x100000; size = 0x80000; kind = 3 } ∷ (record { addr = 0; size = 0x200000; kind = 1 } ∷ [])
+
+-- an entry covers its first and its last byte, an entry may end at 2^64 - 1, and none behind it
+covered_examples : (is_covered_by (record { addr = 0x1000; size = 0x1000; kind = 1 }) 0x1000 ≡ true) × (is_covered_by (record { addr = 0x1000; size = 0x1000; kind = 1 }) 0x1FFF ≡ true)
+    × (is_covered_by (record { addr = 0x1000; size = 0x1000; kind = 1 }) 0xFFF ≡ false) × (is_covered_by (record { addr = 0x1000; size = 0x1000; kind = 1 }) 0x2000 ≡ false)
+covered_examples = (refl, refl, refl, refl)
+
+ends_at_the_end : EndInSpace (record { addr = 0xFFFFFFFFFFFFF000; size = 0xFFF; kind = 2 } ∷ [])
+ends_at_the_end = (omega arith, tt)
+
+ends_behind_it : ¬ EndInSpace (record { addr = 0xFFFFFFFFFFFFF000; size = 0x1000; kind = 2 } ∷ [])
+ends_behind_it ends = let small : 0xFFFFFFFFFFFFF000 + 0x1000 < 2 ^ 64 = ends.0 in absurd (omega arith)
 
 -- both claim the address 1 MiB, neither does 2 MiB, and an empty entry nowhere
 both_claim_ram : claims_of_entries ram_and_acpi 0x100000 1 ≡ true
@@ -23,6 +36,9 @@ neither_claims = refl
 empty_claims_nothing : claims_of_entries (record { addr = 0x1000; size = 0; kind = 1 } ∷ []) 0x1000 1 ≡ false
 empty_claims_nothing = refl
 
+type_0_claims_nothing : claims_of_entries (record { addr = 0; size = 0x1000; kind = 0 } ∷ []) 0 0 ≡ false
+type_0_claims_nothing = refl
+
 -- of the types 1 and 3 the greatest below 8 is 3
 greatest_of_two : greatest_below (claims_of_entries ram_and_acpi 0x100000) 8 ≡ 3
 unfolding greatest_below
@@ -32,6 +48,64 @@ greatest_of_two = refl
 later_does_not_win : type_of (claims_of_entries ram_and_acpi) 0x100000 ≡ 3
 later_does_not_win =
     greatest_is (claims_of_entries ram_and_acpi 0x100000) 3 (omega arith) (λ some. refl) (λ k higher small. grind (arith, nat_tests))
+
+-- of no types at all the greatest is 0, of a single type that type
+greatest_of_none : greatest (λ k. false) ≡ 0
+greatest_of_none = greatest_is (λ k. false) 0 (omega arith) (λ some. absurd (omega arith)) (λ k higher small. refl)
+
+greatest_of_one : greatest (λ k. k == 0xEFFFFFFF) ≡ 0xEFFFFFFF
+greatest_of_one = greatest_is (λ k. k == 0xEFFFFFFF) 0xEFFFFFFF (omega arith) (λ some. refl) (λ k higher small. grind (arith, nat_tests))
+
+-- nothing claims 2 MiB, so its type is 0
+unclaimed_has_type_0 : type_of (claims_of_entries ram_and_acpi) 0x200000 ≡ 0
+unclaimed_has_type_0 =
+    greatest_is (claims_of_entries ram_and_acpi 0x200000) 0 (omega arith) (λ some. absurd (omega arith)) (λ k higher small. refl)
+
+-- settling leaves ACPI data alone at 1 MiB, and at an address with one claim that claim
+settled_keeps_acpi : settled (claims_of_entries ram_and_acpi) 0x100000 3 ≡ true
+settled_keeps_acpi = rw later_does_not_win refl
+
+settled_drops_ram : settled (claims_of_entries ram_and_acpi) 0x100000 1 ≡ false
+settled_drops_ram = rw later_does_not_win refl
+
+settled_claims_nothing : settled (claims_of_entries ram_and_acpi) 0x200000 0 ≡ false
+settled_claims_nothing = refl
+
+-- what is added claims beside what was there
+added_examples : (added (claims_of_entries ram_and_acpi) (claims_of_entries (record { addr = 0x180000; size = 0x1000; kind = 4 } ∷ [])) 0x180000 1 ≡ true)
+    × (added (claims_of_entries ram_and_acpi) (claims_of_entries (record { addr = 0x180000; size = 0x1000; kind = 4 } ∷ [])) 0x180000 4 ≡ true)
+    × (added no_claims (claims_of_entries ram_and_acpi) 0x200000 1 ≡ false)
+added_examples = (refl, refl, refl)
+
+-- the edits, on the page from 0x1000 on: `memmap=4K@0x1000` and the like
+abbrev page : Extent
+page = record { base = 0x1000; size = 0x1000 }
+
+abbrev ram_and_nvs : Claims
+ram_and_nvs x k = k == 1 || k == 4
+
+add_examples : (edited (edit.Add page 2) ram_and_nvs 0x1FFF 2 ≡ true) × (edited (edit.Add page 2) ram_and_nvs 0x1FFF 1 ≡ true) × (edited (edit.Add page 2) ram_and_nvs 0x2000 2 ≡ false)
+add_examples = (refl, refl, refl)
+
+remove_examples : (edited (edit.Remove page 1) ram_and_nvs 0x1000 1 ≡ false) × (edited (edit.Remove page 1) ram_and_nvs 0x1000 4 ≡ true) × (edited (edit.Remove page 1) ram_and_nvs 0xFFF 1 ≡ true)
+remove_examples = (refl, refl, refl)
+
+remove_all_examples : (edited (edit.RemoveAll page) ram_and_nvs 0x1000 1 ≡ false) × (edited (edit.RemoveAll page) ram_and_nvs 0x1000 4 ≡ false) × (edited (edit.RemoveAll page) ram_and_nvs 0x2000 4 ≡ true)
+remove_all_examples = (refl, refl, refl)
+
+clear_examples : (edited edit.Clear ram_and_nvs 0x1000 1 ≡ false) × (edited edit.Clear ram_and_nvs 0x9000 4 ≡ false)
+clear_examples = (refl, refl)
+
+has_types : HasTypes (edit.Change page 1 2) × HasTypes edit.Clear × HaveTypes (edit.Add page 7 ∷ edit.RemoveAll page ∷ [])
+has_types = ((omega arith, omega arith), tt, (omega arith, (tt, tt)))
+
+type_0_is_none : ¬ HasTypes (edit.Add page 0)
+type_0_is_none some = absurd (omega arith)
+
+-- edits go in their order: what is cleared first is added again, and what is added first is cleared
+after_examples : (after_edits (edit.Clear ∷ edit.Add page 1 ∷ []) ram_and_nvs 0x1000 1 ≡ true) × (after_edits (edit.Add page 1 ∷ edit.Clear ∷ []) ram_and_nvs 0x1000 1 ≡ false)
+    × (after_edits (edit.Remove page 1 ∷ edit.Change page 1 2 ∷ []) ram_and_nvs 0x1000 2 ≡ false) × (after_edits [] ram_and_nvs 0x1000 4 ≡ true)
+after_examples = (refl, refl, refl, refl)
 
 -- a change takes the place of the one type and leaves the other
 changed_is_in : edited (edit.Change (record { base = 0; size = 0x200000 }) 1 4) (claims_of_entries ram_and_acpi) 0x100000 4 ≡ true
@@ -55,3 +129,74 @@ bios_area_taken = refl
 
 below_bios_area_kept : trimmed (claims_of_entries ram_and_acpi) 0x9FFFF 1 ≡ true
 below_bios_area_kept = refl
+
+-- the whole way: RAM up to 2 MiB with ACPI data in it; an extension that has a page at 1.5 MiB as ACPI NVS; and
+-- `memmap=516K$1M`, which reserves where ACPI data was and one page behind it
+abbrev extension : List Entry
+extension = record { addr = 0x180000; size = 0x1000; kind = 4 } ∷ []
+
+abbrev edits : List Edit
+edits = edit.Add (record { base = 0x100000; size = 0x81000 }) 2 ∷ []
+
+abbrev first_claims : Claims
+first_claims = of_zero_page ram_and_acpi
+
+abbrev second_claims : Claims
+second_claims = with_extension extension first_claims
+
+-- where each step takes the type from, at an address: the claims before it are one type alone
+abbrev alone : ℕ → ℕ → Bool
+alone t k = nat_lt 0 k && k == t
+
+extended : (x t u : ℕ) → type_of (claims_of_entries ram_and_acpi) x ≡ t → u < 2 ^ 32
+    → (0 < u → (alone t u || claims_of_entries extension x u) ≡ true) → ((k : ℕ) → u < k → k < 2 ^ 32 → (alone t k || claims_of_entries extension x k) ≡ false)
+    → type_of (added first_claims (claims_of_entries extension)) x ≡ u
+extended x t u known small is_in none =
+    greatest_is (added first_claims (claims_of_entries extension) x) u small (λ some. rw known (is_in some)) (λ k higher below. rw known (none k higher below))
+
+changed : (x t u : ℕ) → type_of (added first_claims (claims_of_entries extension)) x ≡ t → u < 2 ^ 32
+    → (0 < u → edited (edit.Add (record { base = 0x100000; size = 0x81000 }) 2) (λ y. alone t) x u ≡ true)
+    → ((k : ℕ) → u < k → k < 2 ^ 32 → edited (edit.Add (record { base = 0x100000; size = 0x81000 }) 2) (λ y. alone t) x k ≡ false)
+    → type_of (after_edits edits second_claims) x ≡ u
+changed x t u known small is_in none =
+    greatest_is (after_edits edits second_claims x) u small (λ some. rw known (is_in some)) (λ k higher below. rw known (none k higher below))
+
+-- at 1.5 MiB the extension's type is greater than RAM, and then greater than the option's
+nvs_with_extension : type_of (added first_claims (claims_of_entries extension)) 0x180000 ≡ 4
+nvs_with_extension =
+    let ram : type_of (claims_of_entries ram_and_acpi) 0x180000 ≡ 1 =
+    greatest_is (claims_of_entries ram_and_acpi 0x180000) 1 (omega arith) (λ some. refl) (λ k higher small. grind (arith, nat_tests)) in
+    extended 0x180000 1 4 ram (omega arith) (λ some. refl) (λ k higher small. grind (arith, nat_tests))
+
+extension_wins : with_extension extension first_claims 0x180000 4 ≡ true
+extension_wins = rw nvs_with_extension refl
+
+ram_is_settled_away : with_extension extension first_claims 0x180000 1 ≡ false
+ram_is_settled_away = rw nvs_with_extension refl
+
+nvs_stays : type_of (after_edits edits second_claims) 0x180000 ≡ 4
+nvs_stays = changed 0x180000 4 4 nvs_with_extension (omega arith) (λ some. refl) (λ k higher small. grind (arith, nat_tests))
+
+option_does_not_lower : with_edits edits second_claims 0x180000 2 ≡ false
+option_does_not_lower = rw nvs_stays refl
+
+nvs_in_the_map : finished ram_and_acpi extension edits 0x180000 4 ≡ true
+nvs_in_the_map = rw nvs_stays refl
+
+-- the first byte is RAM up to the trim, and then the BIOS's; 640 KiB is RAM, and then nothing
+ram_until_the_trim : (x : ℕ) → x < 0x100000 → type_of (after_edits edits second_claims) x ≡ 1
+ram_until_the_trim x low =
+    let ram : type_of (claims_of_entries ram_and_acpi) x ≡ 1 =
+    greatest_is (claims_of_entries ram_and_acpi x) 1 (omega arith) (λ some. grind (arith, nat_tests)) (λ k higher small. grind (arith, nat_tests)) in
+    let still : type_of (added first_claims (claims_of_entries extension)) x ≡ 1 =
+    extended x 1 1 ram (omega arith) (λ some. grind (arith, nat_tests)) (λ k higher small. grind (arith, nat_tests)) in
+    changed x 1 1 still (omega arith) (λ some. grind (arith, nat_tests)) (λ k higher small. grind (arith, nat_tests))
+
+first_byte_in_the_map : (finished ram_and_acpi extension edits 0 2 ≡ true) × (finished ram_and_acpi extension edits 0 1 ≡ false)
+first_byte_in_the_map = let ram : type_of (after_edits edits second_claims) 0 ≡ 1 = ram_until_the_trim 0 (omega arith) in (rw ram refl, rw ram refl)
+
+no_ram_from_640K : finished ram_and_acpi extension edits 0xA0000 1 ≡ false
+no_ram_from_640K = let ram : type_of (after_edits edits second_claims) 0xA0000 ≡ 1 = ram_until_the_trim 0xA0000 (omega arith) in rw ram refl
+
+ram_below_640K : finished ram_and_acpi extension edits 0x9FFFF 1 ≡ true
+ram_below_640K = let ram : type_of (after_edits edits second_claims) 0x9FFFF ≡ 1 = ram_until_the_trim 0x9FFFF (omega arith) in rw ram refl

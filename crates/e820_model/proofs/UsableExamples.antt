@@ -1,8 +1,10 @@
 -- The definitions of usable memory, computed on small maps.
-use Rattle.std.proofs.Common.{◌≡◌, true, false, nat_lt, ◌==◌, refl, Some, None, [], ◌∷◌}
+use Rattle.std.proofs.Common.{◌≡◌, ℕ, ◌+◌, ◌^◌, ◌==◌, ◌&&◌, nat_le, nat_lt, true, false, refl, ap, ◌∙◌, Some, None, [], ◌∷◌, arith}
+use Rattle.std.proofs.lemmas.Bool.Decides.{nat_tests}
 use Rattle.address_runs.specs.Runs.{value_at}
 use Rattle.e820_model.specs.Map.{Kinds}
-use Rattle.e820_model.specs.Usable.{is_memory, all_below, count_below, is_usable}
+use Rattle.e820_model.specs.Usable.{is_memory, all_below, count_below, is_usable, usable_frames}
+use Rattle.e820_model.proofs.UsableLaws.{all_bytes, count_frames_between, usable_count}
 
 -- RAM and the kernel's memory count, reserved and unclaimed addresses don't
 memory_examples : (is_memory (Some 1) ≡ true) × (is_memory (Some 128) ≡ true) × (is_memory (Some 2) ≡ false) × (is_memory (Some 0xEFFFFFFF) ≡ false) × (is_memory None ≡ false)
@@ -31,3 +33,22 @@ one_byte_missing = value_at (record { base = 0; size = 0x1FFF; value = 1 } ∷ r
 byte_examples : (count_below (is_usable one_byte_reserved) 4 ≡ 2) × (is_usable one_byte_reserved 1 ≡ false) × (count_below (is_usable one_byte_missing) 4 ≡ 2) × (is_usable one_byte_missing 1 ≡ false)
 unfolding one_byte_reserved one_byte_missing all_below count_below is_usable
 byte_examples = (refl, refl, refl, refl)
+
+-- of one run of RAM the whole frames below 2^46 count: two of 12 KiB that begin and end inside a frame, and none that
+-- lie from 2^46 on
+ram : ℕ → ℕ → Kinds
+ram base size = value_at (record { base = base; size = size; value = 1 } ∷ [])
+
+is_ram : (base size x : ℕ) → is_memory (ram base size x) ≡ (nat_le base x && nat_lt x (base + size))
+unfolding ram
+is_ram base size x = grind (arith, nat_tests)
+
+frames_of_ram : (base size : ℕ) → usable_frames (ram base size) ≡ count_below (all_bytes (λ x. nat_le base x && nat_lt x (base + size))) (2 ^ 34)
+frames_of_ram base size =
+    usable_count (ram base size) ∙ ap (λ p. count_below (all_bytes p) (2 ^ 34)) (λ i x. is_ram base size x i)
+
+two_frames : usable_frames (ram 0x800 0x3000) ≡ 2
+two_frames = frames_of_ram 0x800 0x3000 ∙ count_frames_between 0x800 0x3800 (2 ^ 34)
+
+out_of_reach : usable_frames (ram (2 ^ 46) 0x4000) ≡ 0
+out_of_reach = frames_of_ram (2 ^ 46) 0x4000 ∙ count_frames_between (2 ^ 46) (2 ^ 46 + 0x4000) (2 ^ 34)

@@ -1,0 +1,80 @@
+-- Small maps: the types of addresses, and the runs of them over all addresses.
+use Rattle.std.proofs.Common.{◌≡◌, ℕ, ◌^◌, ◌+◌, ◌<◌, ◌≤◌, ◌==◌, true, false, ◌&&◌, nat_lt, max, Option, Some, None, List, [], ◌∷◌, refl, sym, ◌∙◌, arith}
+use Rattle.std.proofs.lemmas.Bool.Decides.{nat_tests}
+use Rattle.address_runs.specs.Runs.{RunOf, lies_in, value_at, AreRuns, IsRunsOf}
+use Rattle.address_runs.proofs.RunsLaws.{one_list}
+use Rattle.e820_model.specs.Claims.{Claims, no_claims, type_of}
+use Rattle.e820_model.specs.Map.{some_kind, kinds, same_kind, map_of, claims_of, AreClaims}
+use Rattle.e820_model.specs.Greater.{greater}
+use Rattle.e820_model.proofs.ClaimLaws.{greatest_is, type_top, map_unique, map_runs}
+
+run : ℕ → ℕ → ℕ → RunOf ℕ
+run base size kind = record { base = base; size = size; value = kind }
+
+-- type 0 is none
+kind_examples : (some_kind 0 ≡ None) × (some_kind 7 ≡ Some 7) × (same_kind 1 1 ≡ true) × (same_kind 1 2 ≡ false)
+kind_examples = (refl, refl, refl, refl)
+
+-- of two types the greater, of one that one
+greater_examples : (greater (Some 1) (Some 3) ≡ Some 3) × (greater (Some 3) (Some 1) ≡ Some 3) × (greater None (Some 1) ≡ Some 1) × (greater (Some 1) None ≡ Some 1) × (greater None None ≡ None)
+greater_examples = (refl, refl, refl, refl, refl)
+
+-- RAM of 2 MiB with 512 KiB of ACPI data in it, from 1 MiB on
+abbrev ram_and_acpi : List (RunOf ℕ)
+ram_and_acpi = run 0 0x200000 1 ∷ (run 0x100000 0x80000 3 ∷ [])
+
+are_claims : AreClaims ram_and_acpi
+unfolding run
+are_claims = (omega arith, omega arith, omega arith, omega arith, (omega arith, omega arith, omega arith, omega arith, tt))
+
+past_the_end : ¬ AreClaims (run 0xFFFFFFFFFFFFF000 0x1000 1 ∷ [])
+unfolding run
+past_the_end claims = let small : 0xFFFFFFFFFFFFF000 + 0x1000 < 2 ^ 64 = claims.1 in absurd (omega arith)
+
+claims_examples : (claims_of ram_and_acpi 0x17FFFF 1 ≡ true) × (claims_of ram_and_acpi 0x17FFFF 3 ≡ true) × (claims_of ram_and_acpi 0x180000 3 ≡ false)
+unfolding run
+claims_examples = (refl, refl, refl)
+
+-- the type of an address, and no type where nothing claims it
+kinds_examples : (kinds (claims_of ram_and_acpi) 0x17FFFF ≡ Some 3) × (kinds (claims_of ram_and_acpi) 0x180000 ≡ Some 1) × (kinds (claims_of ram_and_acpi) 0x200000 ≡ None)
+unfolding run
+kinds_examples =
+    let acpi : type_of (claims_of ram_and_acpi) 0x17FFFF ≡ 3 = type_top ram_and_acpi 0x17FFFF are_claims in
+    let ram : type_of (claims_of ram_and_acpi) 0x180000 ≡ 1 = type_top ram_and_acpi 0x180000 are_claims in
+    let nothing : type_of (claims_of ram_and_acpi) 0x200000 ≡ 0 = type_top ram_and_acpi 0x200000 are_claims in
+    (rw acpi refl, rw ram refl, rw nothing refl)
+
+-- the map: ACPI data parts the RAM
+abbrev three_runs : List (RunOf ℕ)
+three_runs = run 0 0x100000 1 ∷ (run 0x100000 0x80000 3 ∷ (run 0x180000 0x80000 1 ∷ []))
+
+each_of_three : (x : ℕ) → value_at three_runs x ≡ kinds (claims_of ram_and_acpi) x
+unfolding run
+each_of_three x = rw (type_top ram_and_acpi x are_claims) (grind (arith, nat_tests))
+
+acpi_parts_ram : three_runs ≡ map_of (claims_of ram_and_acpi)
+unfolding run
+acpi_parts_ram = map_unique ram_and_acpi three_runs are_claims (record {
+  runs = (omega arith, (omega arith, λ touch same. absurd (omega arith)), (omega arith, (omega arith, λ touch same. absurd (omega arith)), (omega arith, tt, tt)));
+  each = each_of_three;
+})
+
+-- two ranges of one type that touch are one run
+abbrev two_halves : List (RunOf ℕ)
+two_halves = run 0 0x1000 1 ∷ (run 0x1000 0x1000 1 ∷ [])
+
+halves_are_claims : AreClaims two_halves
+unfolding run
+halves_are_claims = (omega arith, omega arith, omega arith, omega arith, (omega arith, omega arith, omega arith, omega arith, tt))
+
+each_of_one : (x : ℕ) → value_at (run 0 0x2000 1 ∷ []) x ≡ kinds (claims_of two_halves) x
+unfolding run
+each_of_one x = rw (type_top two_halves x halves_are_claims) (grind (arith, nat_tests))
+
+halves_are_one_run : run 0 0x2000 1 ∷ [] ≡ map_of (claims_of two_halves)
+unfolding run
+halves_are_one_run = map_unique two_halves (run 0 0x2000 1 ∷ []) halves_are_claims (record { runs = (omega arith, tt, tt); each = each_of_one })
+
+-- no claims, no runs
+no_claims_no_runs : [] ≡ map_of (claims_of [])
+no_claims_no_runs = map_unique [] [] tt (record { runs = tt; each = λ x. rw (type_top [] x tt) refl })
