@@ -6,6 +6,8 @@
 #   make test                 the whole gate: every proof, every test, the real machines
 #   make install PREFIX=DIR   installs the program and its manual page (DESTDIR is honoured)
 #   make clean                removes what was built
+#
+# RT names the toolchain's command, where it isn't rt on the PATH: make bootmem RT=/opt/kit/bin/rt
 
 RT ?= rt
 PREFIX ?= /usr/local
@@ -29,8 +31,9 @@ run: bootmem
 try:
 	@tools/try.sh $(ARGS)
 
+# the gate calls rt by its name, so a toolchain that RT names goes onto the PATH
 test:
-	@.ci/run
+	@PATH="$(if $(findstring /,$(RT)),$(abspath $(dir $(RT))):)$$PATH" .ci/run
 
 install: bootmem
 	install -d "$(DESTDIR)$(PREFIX)/bin" "$(DESTDIR)$(PREFIX)/share/man/man1"

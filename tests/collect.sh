@@ -2,6 +2,7 @@
 # collect.sh: runs tools/collect.sh over a folder that imitates /sys, and compares what it gathered.
 # Prints a line for each difference, and 'N passed, M failed' at its end.
 set -u
+unset CDPATH
 top=$(cd "$(dirname "$0")/.." && pwd)
 work=$(mktemp -d) || exit 1
 trap 'rm -rf "$work"' EXIT
@@ -16,6 +17,16 @@ same() {
 	else
 		failed=$((failed + 1))
 		echo "$1: $got, wanted $3"
+	fi
+}
+
+# is WHAT GOT WANTED: the two are the same
+is() {
+	if [ "$2" = "$3" ]; then
+		passed=$((passed + 1))
+	else
+		failed=$((failed + 1))
+		echo "$1: $2, wanted $3"
 	fi
 }
 
@@ -46,7 +57,7 @@ printf 'SRAT' >"$work/sys/firmware/acpi/tables/SRAT"
 printf 'mem=1G\n' >"$work/line"
 
 said=$("$top/tools/collect.sh" --sys "$work/sys" --cmdline "$work/line" "$work/out")
-says "status" "$?" 0
+is "status" "$?" 0
 same "zero page" "$work/out/zp.bin" 70616765
 same "extension" "$work/out/e820ext.bin" 000000000000000001000000060000006162636465"7a"
 same "command line" "$work/out/cmdline" 6d656d3d31470a
@@ -55,14 +66,21 @@ says "no SLIT" "$said" "slit.bin: no SLIT here"
 
 rm -r "$params/setup_data"
 "$top/tools/collect.sh" --sys "$work/sys" --cmdline "$work/line" "$work/plain" >/dev/null
-says "without setup_data" "$(ls "$work/plain")" "cmdline
+is "without setup_data" "$(ls "$work/plain")" "cmdline
 srat.bin
 zp.bin"
 
 rm "$params/data"
 said=$("$top/tools/collect.sh" --sys "$work/sys" --cmdline "$work/line" "$work/none")
 status=$?
-says "no zero page" "$status $said" "1 zp.bin: no zero page here"
+is "status without a zero page" "$status" 1
+says "no zero page" "$said" "zp.bin: no zero page here"
+
+mkdir "$work/again"
+printf 'old' >"$work/again/e820ext.bin"
+"$top/tools/collect.sh" --sys "$work/sys" --cmdline "$work/line" "$work/again" >/dev/null
+is "what an earlier run left" "$(ls "$work/again")" "cmdline
+srat.bin"
 
 echo "$passed passed, $failed failed"
 [ "$failed" -eq 0 ]

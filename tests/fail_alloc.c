@@ -1,5 +1,5 @@
 /*
- * Makes one allocation of a program fail: the call of malloc, calloc, realloc or the aligned ones whose
+ * Makes one allocation of a program fail: the call of malloc, realloc or the aligned ones whose
  * number, from 1 on, stands in the environment as FAIL_ALLOC. At the program's end the number of calls
  * goes to the file that FAIL_ALLOC_COUNT names. Loaded by LD_PRELOAD; for tests alone.
  */

@@ -2,6 +2,7 @@
 # outside.sh [PROGRAM]: what the program answers where the outside fails: files that can't be read, an output
 # that is full. Prints a line for each difference, and 'N passed, M failed' at its end.
 set -u
+unset CDPATH
 top=$(cd "$(dirname "$0")/.." && pwd)
 program=$(cd "$(dirname "${1:-$top/bootmem}")" && pwd)/$(basename "${1:-$top/bootmem}")
 work=$(mktemp -d) || exit 1
@@ -9,15 +10,25 @@ trap 'rm -rf "$work"' EXIT
 passed=0
 failed=0
 
-# expect STATUS LINE OUTPUT WORD..: the program's status and its line on standard error, with that output
+[ -x "$program" ] || {
+	echo "outside.sh: there is no program $program: 'make bootmem' builds it" >&2
+	exit 2
+}
+
+# expect STATUS LINE OUTPUT WORD..: the program's status, its line on standard error, byte for byte, and its
+# output: the example's map where the status is 0, and else nothing
 expect() {
 	wanted=$1
 	line=$2
 	output=$3
 	shift 3
+	if [ "$wanted" -eq 0 ]; then cat "$map"; fi >"$work/report"
+	printf '%s' "${line:+$line
+}" >"$work/line"
 	"$program" "$@" >"$output" 2>"$work/err"
 	status=$?
-	if [ "$status" = "$wanted" ] && [ "$(cat "$work/err")" = "$line" ]; then
+	if [ "$status" = "$wanted" ] && cmp -s "$work/err" "$work/line" &&
+		{ [ ! -f "$output" ] || cmp -s "$output" "$work/report"; }; then
 		passed=$((passed + 1))
 	else
 		failed=$((failed + 1))
@@ -26,11 +37,12 @@ expect() {
 }
 
 zp=$top/examples/first/zp.bin
+map=$top/examples/first/map.txt
 cd "$work" || exit 1
 mkdir folder
 head -c 4095 "$zp" >short
 cat "$zp" "$zp" >long
-printf 'mem=0\n' >line
+printf 'mem=0\n' >options
 expect 0 '' "$work/out" --report map "$zp"
 expect 2 'bootmem: usage' "$work/out"
 expect 2 'bootmem: usage' "$work/out" --report map "$zp" "$zp"
@@ -39,7 +51,7 @@ expect 3 'bootmem: cannot read folder' "$work/out" --report map folder
 expect 3 'bootmem: cannot read missing' "$work/out" --report map --cmdline missing "$zp"
 expect 5 'bootmem: zeropage: wrong length' "$work/out" --report map --cmdline missing short
 expect 5 'bootmem: zeropage: too long' "$work/out" --report map long
-expect 5 'bootmem: cmdline: word 1: mem' "$work/out" --report map --cmdline line "$zp"
+expect 5 'bootmem: cmdline: word 1: mem' "$work/out" --report map --cmdline options "$zp"
 if [ -c /dev/full ]; then
 	expect 4 'bootmem: cannot write' /dev/full --report map "$zp"
 	"$program" --report map missing 2>/dev/full

@@ -1,9 +1,9 @@
 #!/bin/sh
-# real_machines.sh [PROGRAM]: runs the program over every example, and over a further corpus of real boots
-# where there is one (CORPUS, by default ../shared/corpus), and compares the printed map byte for byte with
-# map.txt, which the kernel's own log of that boot confirms. Prints a line for each difference, and
-# 'N passed, M failed' at its end.
+# real_machines.sh [PROGRAM]: runs the program over every example, and over a further corpus of boots where there
+# is one (CORPUS, by default ../shared/corpus), and compares the printed map byte for byte with map.txt. Prints
+# a line for each difference, and 'N passed, M failed' at its end.
 set -u
+unset CDPATH
 top=$(cd "$(dirname "$0")/.." && pwd)
 program=${1:-$top/bootmem}
 corpus=${CORPUS:-$top/../shared/corpus}

@@ -3,6 +3,7 @@
 # words, on which it is to end with status 0, and puts it at PROGRAM. What the prover says goes to
 # crates/CRATE/out/build.log, and its end to standard error where something fails.
 set -eu
+unset CDPATH
 rt=${RT:-rt}
 crate=$1
 program=$2

@@ -8,9 +8,11 @@
 #   srat.bin     the ACPI table SRAT      (/sys/firmware/acpi/tables/SRAT, for root alone)
 #   slit.bin     the ACPI table SLIT      (/sys/firmware/acpi/tables/SLIT, for root alone)
 #
-# It reads and writes nothing else, needs no root for the first three, and says what it couldn't read.
+# Files of these names that FOLDER has already are removed first. It reads and writes nothing else, needs no
+# root for the first three, and says what it couldn't read.
 # --sys and --cmdline name what stands for /sys and /proc/cmdline.
 set -u
+unset CDPATH
 sys=/sys
 cmdline=/proc/cmdline
 
@@ -34,6 +36,8 @@ esac
 folder=$1
 mkdir -p "$folder" || exit 1
 folder=$(cd "$folder" && pwd) || exit 1
+# what an earlier run left would be taken for this machine's
+rm -f "$folder/zp.bin" "$folder/e820ext.bin" "$folder/cmdline" "$folder/srat.bin" "$folder/slit.bin"
 
 # take FILE NAME WHAT: copies the file, or says that it couldn't
 take() {

@@ -3,27 +3,35 @@
 # Its output is the program's; what the toolchain says goes to standard error. Words that name files are
 # handed to the run as copies under plain names, so a line on standard error may name such a copy.
 set -eu
+unset CDPATH
 rt=${RT:-rt}
 top=$(cd "$(dirname "$0")/.." && pwd)
 
 "$top/tools/toolchain.sh"
 echo "bootmem: an unproved build; 'make bootmem' gives the proved program" >&2
+copies=$(mktemp -d)
+trap 'rm -rf "$copies"' EXIT
 given=$#
 count=0
-data=
+before=
 while [ "$given" -gt 0 ]; do
 	word=$1
 	shift
 	given=$((given - 1))
-	if [ -f "$word" ]; then
+	# the word behind --report is the report's name, whatever files there are
+	if [ "$before" != --report ] && [ -f "$word" ]; then
 		count=$((count + 1))
 		name=file$count-$(basename "$word" | tr -c 'A-Za-z0-9._\n' _)
-		file=$(cd "$(dirname "$word")" && pwd)/$(basename "$word")
-		data="$data --data $name=$file"
-		word=$name
+		cp "$word" "$copies/$name"
+		set -- "$@" "$name"
+	else
+		set -- "$@" "$word"
 	fi
-	set -- "$@" "$word"
+	before=$word
+done
+set -- -- "$@"
+for copy in "$copies"/*; do
+	[ ! -f "$copy" ] || set -- --data "$(basename "$copy")=$copy" "$@"
 done
 cd "$top/crates/bootmem_cli"
-# shellcheck disable=SC2086 # each --data is two words
-exec "$rt" try $data -- "$@"
+"$rt" try "$@"
