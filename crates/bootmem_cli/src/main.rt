@@ -14,7 +14,8 @@
 //!
 //! Exit statuses: 0 written, 2 the words are refused, 3 a file couldn't be read, 4 the output
 //! failed, 5 an input has a fault, 6 the boot stops, 7 out of memory. All but 0 put one line on the
-//! error output.
+//! error output; where the words themselves can't be collected, `main` ends without one, with 2 for a word that
+//! isn't UTF-8 and with 7 for want of memory.
 #![tactic(auto)]
 
 mod boot;
