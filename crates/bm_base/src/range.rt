@@ -1,5 +1,5 @@
-ghost use Rattle.std.specs.Prelude.{◌≡◌, ℕ, ◌+◌, ◌^◌, ◌<◌, ◌↔◌, SomeIff, IsTrue};
-ghost use Rattle.bm_base.specs.Extent.{end_of, Meet};
+ghost use Rattle.std.specs.Prelude.{◌≡◌, ℕ, ◌+◌, ◌-◌, ◌^◌, ◌<◌, ◌↔◌, SomeIff, IsTrue};
+ghost use Rattle.bm_base.specs.Extent.{covers, end_of, Meet};
 
 use std::marker::Model;
 
@@ -35,12 +35,32 @@ impl Range {
         Some(Range { base, size })
     }
 
+    /// The range from `from` on, up to `until` and without it; `None` exactly where it has no address.
+    pub fn between(from: u64, until: u64) -> Option<Range>
+        ensures { SomeIff result (from < until) (record { base = from; size = until - from }) }
+    {
+        if until <= from {
+            return None;
+        }
+        Some(Range {
+            base: from,
+            size: until - from,
+        })
+    }
+
     /// The address behind the last byte.
     pub fn end(&self) -> u64
         ensures value { result ≡ end_of self.now }
         ensures small { end_of self.now < 2 ^ 64 }
     {
         self.base + self.size
+    }
+
+    /// Whether the address lies in the range.
+    pub fn contains(&self, address: u64) -> bool
+        ensures { result ≡ covers self.now address }
+    {
+        self.base <= address && address < self.end()
     }
 
     /// Whether some address lies in both ranges.

@@ -23,9 +23,7 @@ pub fn read_size(text: &[u8]) -> Result<(u64, usize), NumFault>
 {
     let (number, end) = read_number(text)?;
     let (factor, taken) = suffix_behind(text, end);
-    let Some(value) = number.checked_mul(factor) else {
-        return Err(NumFault::TooLarge);
-    };
+    let value = number.checked_mul(factor).ok_or(NumFault::TooLarge)?;
     Ok((value, end + taken))
 }
 
@@ -40,9 +38,8 @@ pub fn read_number(text: &[u8]) -> Result<(u64, usize), NumFault>
     }
     let prefix = if is_hex(text) { 2 } else { 0 };
     let radix = radix_at(text);
-    let Some((value, count)) = read_digits(text.split_at(prefix).1, radix) else {
-        return Err(NumFault::TooLarge);
-    };
+    let digits = text.split_at(prefix).1;
+    let (value, count) = read_digits(digits, radix).ok_or(NumFault::TooLarge)?;
     Ok((value, prefix + count))
 }
 
@@ -104,10 +101,7 @@ fn read_digits(text: &[u8], radix: u32) -> Option<(u64, usize)>
         let Some(digit) = char::from(*byte).to_digit(radix) else {
             return Some((value, count));
         };
-        let Some(more) = with_digit(value, u64::from(radix), u64::from(digit)) else {
-            return None;
-        };
-        value = more;
+        value = with_digit(value, u64::from(radix), u64::from(digit))?;
     }
     Some((value, text.len()))
 }

@@ -23,6 +23,12 @@ fn ranges_end_below_two_to_64(rt: HostRuntime) -> Result<(), Fail> {
     assert_eq!(rt; Range::new(1, u64::MAX), None);
     let last = Range::new(1, u64::MAX - 1).ok_or("the greatest end")?;
     assert_eq!(rt; last.end(), u64::MAX);
+    assert_eq!(rt; Range::between(5, 5), None);
+    assert_eq!(rt; Range::between(1, u64::MAX), Some(last));
+    assert!(rt; !last.contains(0));
+    assert!(rt; last.contains(1));
+    assert!(rt; last.contains(u64::MAX - 1));
+    assert!(rt; !last.contains(u64::MAX));
     let first = Range { base: 0, size: 1 };
     let empty = Range { base: 4, size: 0 };
     assert!(rt; !last.overlaps(&first));

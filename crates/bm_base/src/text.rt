@@ -9,10 +9,8 @@ pub fn put_text(out: &mut Vec<u8>, text: &[u8]) -> Result<(), Memory>
     ensures ok { OnOk result (out.new.items ≡ out.old.items ++ text.now) }
     ensures err { OnErr result (out.new.items ≡ out.old.items) }
 {
-    match out.extend_from_slice(text) {
-        Ok(()) => Ok(()),
-        Err(_) => Err(Memory),
-    }
+    out.extend_from_slice(text)?;
+    Ok(())
 }
 
 /// Appends `0x` and 16 lower-case hexadecimal digits, as the kernel's log prints an address.
