@@ -1,4 +1,4 @@
-ghost use Rattle.std.specs.Prelude.{◌≡◌};
+ghost use Rattle.std.specs.Prelude.{◌≡◌, ◌+◌, ◌^◌, ◌<◌};
 ghost use Rattle.e820_model.specs.Greater.{greater, greater_none, greater_alone, greater_grouped};
 
 use address_runs::{Overlay, Stretch};
@@ -71,8 +71,6 @@ impl Overlay for Run {
 
 #[cfg(test)]
 mod tests {
-    ghost use Rattle.std.specs.Prelude.{◌+◌, ◌^◌, ◌<◌};
-
     use super::Run;
     use address_runs::overlay_all;
     use bm_base::Range;
