@@ -1,4 +1,5 @@
-ghost use Rattle.std.specs.Prelude.{◌≡◌, ◌+◌, ◌^◌, ◌<◌};
+ghost use Rattle.std.specs.Prelude.{◌≡◌, ℕ, ◌+◌, ◌^◌, ◌<◌};
+ghost use Rattle.address_runs.specs.Runs.{RunOf};
 ghost use Rattle.e820_model.specs.Greater.{greater, greater_none, greater_alone, greater_grouped};
 
 use address_runs::{Overlay, Stretch};
@@ -78,6 +79,7 @@ mod tests {
 
     fn run(base: u64, size: u64, kind: u32) -> Run
         requires { base + size < 2 ^ 64 }
+        ensures { result ≡ record { base = base; size = size; value = kind } }
     {
         Run {
             range: Range { base, size },
