@@ -1,6 +1,7 @@
 -- What the firmware's entries, the extension and the options claim of one address: a set of types.
 use Rattle.std.specs.Prelude.{ℕ, zero, suc, ◌+◌, ◌^◌, ◌==◌, Bool, false, ◌&&◌, ◌||◌, ◌<◌, not, nat_le, nat_lt, if◌then◌else◌, List, [], ◌∷◌}
 use Rattle.bm_base.specs.Extent.{Extent, covers}
+use Rattle.e820_model.specs.declared.types.TheConstants.{E820_TYPE_RAM, E820_TYPE_RESERVED}
 use Rattle.e820_model.specs.declared.entry.Entry.{Entry}
 use Rattle.e820_model.specs.declared.edit.Edit.{Edit}
 use Rattle.e820_model.specs.declared.edit.Edit.TheVariants as edit
@@ -87,7 +88,7 @@ abbrev pub bios_area : Extent
 bios_area = record { base = 0xA0000; size = 0x60000 }
 
 abbrev pub trimmed : Claims → Claims
-trimmed c = edited (edit.Remove bios_area 1) (edited (edit.Change first_page 1 2) c)
+trimmed c = edited (edit.Remove bios_area E820_TYPE_RAM) (edited (edit.Change first_page E820_TYPE_RAM E820_TYPE_RESERVED) c)
 
 -- step 1: the zero page's entries, settled (`e820__memory_setup`)
 abbrev pub of_zero_page : List Entry → Claims

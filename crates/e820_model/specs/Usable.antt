@@ -1,11 +1,12 @@
--- Which frames of the map are usable memory, each judged alone, and whether a boot goes on with them.
+-- Which frames of the map are usable memory, each judged alone, and how many there are.
 use Rattle.std.specs.Prelude.{ℕ, zero, suc, ◌+◌, ◌*◌, ◌^◌, ◌==◌, Bool, true, false, ◌&&◌, ◌||◌, if◌then◌else◌, Option, Some, None}
+use Rattle.e820_model.specs.declared.types.TheConstants.{E820_TYPE_RAM, E820_TYPE_RESERVED_KERN}
 use Rattle.e820_model.specs.Map.{Kinds}
 
--- RAM, or memory that is the kernel's (`E820_TYPE_RAM`, `E820_TYPE_RESERVED_KERN`: `e820__memblock_setup`)
+-- RAM, or memory that is the kernel's (`e820__memblock_setup`)
 abbrev pub is_memory : Option ℕ → Bool
 is_memory None = false
-is_memory (Some k) = k == 1 || k == 128
+is_memory (Some k) = k == E820_TYPE_RAM || k == E820_TYPE_RESERVED_KERN
 
 -- every number below n passes the test
 unfoldable pub all_below : (ℕ → Bool) → ℕ → Bool
