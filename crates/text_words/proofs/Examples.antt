@@ -1,0 +1,109 @@
+-- Small texts, split and cut: what the definitions say of them, by computing.
+use Rattle.std.proofs.Common.{◌≡◌, true, false, Some, None, [], ◌∷◌, codes, refl, arith}
+use Rattle.text_words.specs.declared.separators.Separators.TheVariants.{CommandLine, Script, Byte}
+use Rattle.text_words.specs.Parts.{separates, quotes, quoted_behind, with_front, parts_from, parts_in, parts_behind, before, onto, cut}
+use Rattle.text_words.specs.Words.{is_word, words_in, without_last, unquoted, IsClosed, IsWord}
+
+-- blanks separate, and of a command line the bytes 0x09 to 0x0D; 0x08, 0x0E and 0xA0 don't
+line_separators : (separates CommandLine 0x20 ≡ true) × (separates CommandLine 0x09 ≡ true) × (separates CommandLine 0x0D ≡ true) × (separates CommandLine 0x08 ≡ false) × (separates CommandLine 0x0E ≡ false) × (separates CommandLine 0xA0 ≡ false)
+line_separators = (refl, refl, refl, refl, refl, refl)
+
+-- of a script's line a newline and a form feed don't
+script_separators : (separates Script 0x20 ≡ true) × (separates Script 0x09 ≡ true) × (separates Script 0x0D ≡ true) × (separates Script 0x0A ≡ false) × (separates Script 0x0C ≡ false)
+script_separators = (refl, refl, refl, refl, refl)
+
+-- and of pieces between commas the comma alone
+comma_separates : (separates (Byte 44) 44 ≡ true) × (separates (Byte 44) 0x20 ≡ false)
+comma_separates = (refl, refl)
+
+-- `"` quotes in a command line alone, `'` nowhere
+quoting : (quotes CommandLine 34 ≡ true) × (quotes CommandLine 39 ≡ false) × (quotes Script 34 ≡ false) × (quotes (Byte 34) 34 ≡ false)
+quoting = (refl, refl, refl, refl)
+
+-- a mark opens a quotation and closes it, another byte does neither
+quoted_after : (quoted_behind CommandLine false 34 ≡ true) × (quoted_behind CommandLine true 34 ≡ false) × (quoted_behind CommandLine true 97 ≡ true) × (quoted_behind Script false 34 ≡ false)
+quoted_after = (refl, refl, refl, refl)
+
+fronts : (with_front 97 [] ≡ codes "a" ∷ []) × (with_front 97 (codes "b" ∷ codes "c" ∷ []) ≡ codes "ab" ∷ codes "c" ∷ [])
+fronts = (refl, refl)
+
+-- a part may be empty, also the last one
+pieces_between_commas : parts_in (Byte 44) (codes "2G@0,,4G@2G") ≡ codes "2G@0" ∷ [] ∷ codes "4G@2G" ∷ []
+pieces_between_commas = refl
+
+trailing_comma : parts_in (Byte 44) (codes "2G@0,") ≡ codes "2G@0" ∷ [] ∷ []
+trailing_comma = refl
+
+part_of_nothing : parts_in CommandLine [] ≡ [] ∷ []
+part_of_nothing = refl
+
+-- a separator inside a quotation doesn't separate, and one that isn't closed goes on to the end
+quoted_blank : parts_in CommandLine (codes "a=\"b c\" d") ≡ codes "a=\"b c\"" ∷ codes "d" ∷ []
+quoted_blank = refl
+
+open_quotation : parts_in CommandLine (codes "a \"b c") ≡ codes "a" ∷ codes "\"b c" ∷ []
+open_quotation = refl
+
+script_has_no_quotations : parts_in Script (codes "\"b c\"") ≡ codes "\"b" ∷ codes "c\"" ∷ []
+script_has_no_quotations = refl
+
+-- where a quotation is open at the front, the first blank is protected
+begun_in_a_quotation : parts_from CommandLine true (codes "a b\" c") ≡ codes "a b\"" ∷ codes "c" ∷ []
+begun_in_a_quotation = refl
+
+behind_a_separator : (parts_behind (Byte 44) (Some (codes "b,c")) ≡ codes "b" ∷ codes "c" ∷ []) × (parts_behind (Byte 44) (Some []) ≡ [] ∷ []) × (parts_behind (Byte 44) None ≡ [])
+behind_a_separator = (refl, refl, refl)
+
+-- a line ends at the first zero byte, if it has one
+before_zero : (before 0 (97 ∷ 98 ∷ 0 ∷ 99 ∷ 0 ∷ []) ≡ codes "ab") × (before 0 (codes "ab") ≡ codes "ab") × (before 0 (0 ∷ 97 ∷ []) ≡ [])
+before_zero = (refl, refl, refl)
+
+onto_halves : (onto (codes "m") (codes "em", codes "4G") ≡ (codes "mem", codes "4G")) × (onto [] ([], codes "4G") ≡ ([], codes "4G"))
+onto_halves = (refl, refl)
+
+-- name and value, at the first mark; a mark at the very front is one
+cut_at_the_first : cut 61 (codes "mem=1=2") ≡ Some (codes "mem", codes "1=2")
+cut_at_the_first = refl
+
+cut_at_the_front : cut 61 (codes "=1") ≡ Some ([], codes "1")
+cut_at_the_front = refl
+
+nothing_to_cut : cut 61 (codes "quiet") ≡ None
+nothing_to_cut = refl
+
+some_and_none : (is_word (codes "a") ≡ true) × (is_word [] ≡ false)
+some_and_none = (refl, refl)
+
+-- separators in a row make no word, in front and at the end either
+words_of_a_line : words_in CommandLine (codes "\n quiet\t mem=4G ") ≡ codes "quiet" ∷ codes "mem=4G" ∷ []
+words_of_a_line = refl
+
+quotation_in_a_word : words_in CommandLine (codes "a=\"b  c\"d e") ≡ codes "a=\"b  c\"d" ∷ codes "e" ∷ []
+quotation_in_a_word = refl
+
+no_words : words_in Script (codes " \t\r") ≡ []
+no_words = refl
+
+-- one mark at the end goes, and no more
+last_marks : (without_last 10 (codes "ab\n\n") ≡ codes "ab\n") × (without_last 10 (codes "\na") ≡ codes "\na") × (without_last 34 (codes "\"") ≡ []) × (without_last 34 [] ≡ [])
+last_marks = (refl, refl, refl, refl)
+
+-- a mark at the end alone stays, one in front goes alone
+unquoted_texts : (unquoted (codes "\"a b\"") ≡ codes "a b") × (unquoted (codes "\"a") ≡ codes "a") × (unquoted (codes "a\"") ≡ codes "a\"") × (unquoted (codes "\"") ≡ []) × (unquoted (codes "\"\"") ≡ [])
+unquoted_texts = (refl, refl, refl, refl, refl)
+
+-- a text with a quotation that closes is closed; with an open one, or a blank, it isn't
+closed_text : IsClosed CommandLine false (codes "a=\"b c\"")
+closed_text = (refl, (refl, (refl, refl)))
+
+open_text : IsClosed CommandLine false (codes "a\"b") → ⊥
+open_text closed = let still : true ≡ false = closed.1.1 in cc still
+
+blank_in_a_text : IsClosed CommandLine false (codes "a b") → ⊥
+blank_in_a_text closed = let separated : true ≡ false = closed.1.0 in cc separated
+
+spelled_word : IsWord CommandLine (codes "a=\"b c\"")
+spelled_word = record { some = omega arith; closed = closed_text }
+
+empty_is_no_word : IsWord CommandLine [] → ⊥
+empty_is_no_word word = let some = word.some in omega arith
