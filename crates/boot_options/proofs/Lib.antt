@@ -3,3 +3,4 @@ pub mod UserMapLaws
 pub mod PieceBounds
 pub mod LineBounds
 pub mod SpellingLaws
+mod Examples

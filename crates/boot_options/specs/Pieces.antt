@@ -50,7 +50,7 @@ range_at base size = if nat_lt (base + size) (2 ^ 64) then Some (record { base =
 abbrev pub unless_empty : Extent → Edit → Option Edit
 unless_empty range edit = if nat_lt 0 range.size then Some edit else None
 
--- RAM goes from the address to 2^64 - 1
+-- RAM goes from the address on, to 2^64 - 2: a range ends at 2^64 - 1 at most
 abbrev pub range_above : ℕ → Extent
 range_above size = record { base = size; size = 2 ^ 64 - 1 - size }
 

@@ -114,7 +114,7 @@ fn kind_behind(mark: u8, text: &[u8]) -> Option<(u32, &[u8])>
     }
 }
 
-/// The edit that takes RAM away from the address to 2^64 - 1.
+/// The edit that takes RAM away from the address on, to 2^64 - 2.
 fn ram_above(size: u64) -> Option<Edit>
     ensures { result ≡ edit_above size }
 {

@@ -1,0 +1,256 @@
+-- Small options, pieces and lines: what the definitions say of them, by computing.
+use Rattle.std.proofs.Common.{◌≡◌, ℕ, ◌-◌, ◌^◌, true, false, Some, None, List, [], ◌∷◌, codes, replicate, Ok, Err, refl, arith}
+use Rattle.bm_base.specs.Extent.{Extent}
+use Rattle.bm_base.specs.Size.{size_of}
+use Rattle.e820_model.specs.declared.edit.Edit.TheVariants.{Add, Remove, RemoveAll, Change, Clear}
+use Rattle.boot_options.specs.declared.fault.OptionFault.TheVariants as faults
+use Rattle.boot_options.specs.declared.piece.Piece.{Piece}
+use Rattle.boot_options.specs.declared.piece.Piece.TheVariants.{ExactMap, Adding, Other}
+use Rattle.boot_options.specs.Pieces.{part_of, size_part, number_part, at_end, whole_size, range_at, unless_empty, range_above, ram_above, added, small_kind, kind_behind, retyped_to, retyped_from, retyped, changed, by_mark, sized_piece, piece_of, ram_up_to, mem_of, Spell, SpellsType}
+use Rattle.boot_options.specs.Options.{raw_line, is_closed, checked_line, line_of, Said, Pieces, NumaOff, pieces_of, memmap_of, of_piece, numa_of, or_fault, said_by, at_cut, named, until_end, option_words, said_from, numbered, all_pieces, edit_of, with_edit, edits_of, is_numa_off, count_adding, or_here, last_exact, Chosen, chosen_by, with_user_map, judged, options_of, HasRange, HaveRanges, IsNumbered}
+use Rattle.boot_options.specs.Reading.{start, after, after_all, finished}
+
+abbrev range : ℕ → ℕ → Extent
+range base size = record { base = base; size = size }
+
+-- a size and a number at the front of a text, and what stands behind them
+parts : (size_part (codes "1M@2M") ≡ Some (2 ^ 20, codes "@2M")) × (size_part (codes "@2M") ≡ None) × (number_part (codes "5+7") ≡ Some (5, codes "+7")) × (number_part (codes "5K") ≡ Some (5, codes "K"))
+parts = (refl, refl, refl, refl)
+
+parts_of_answers : (part_of (codes "5K") (Ok (5, 1)) ≡ Some (5, codes "K")) × (part_of (codes "16E") (size_of (codes "16E")) ≡ None)
+parts_of_answers = (refl, refl)
+
+ends : (at_end {A = ℕ} [] (Some 5) ≡ Some 5) × (at_end {A = ℕ} (codes "K") (Some 5) ≡ None)
+ends = (refl, refl)
+
+whole_sizes : (whole_size (codes "640K") ≡ Some 655360) × (whole_size (codes "0x1E") ≡ Some 30) × (whole_size (codes "1E") ≡ Some (2 ^ 60)) × (whole_size (codes "08") ≡ None) × (whole_size (codes "16E") ≡ None) × (whole_size (codes "K") ≡ None)
+whole_sizes = (refl, refl, refl, refl, refl, refl)
+
+-- base and size together are at most 2^64 - 1
+ranges : (range_at (2 ^ 64 - 2) 1 ≡ Some (range (2 ^ 64 - 2) 1)) × (range_at (2 ^ 64 - 1) 1 ≡ None)
+ranges = (refl, refl)
+
+empty_or_not : (unless_empty (range 0 1) Clear ≡ Some Clear) × (unless_empty (range 5 0) Clear ≡ None)
+empty_or_not = (refl, refl)
+
+-- RAM from an address on, and where there is no address left
+above : (range_above (2 ^ 64 - 2) ≡ range (2 ^ 64 - 2) 1) × (ram_above (2 ^ 64 - 2) ≡ Some (Remove (range (2 ^ 64 - 2) 1) 1)) × (ram_above (2 ^ 64 - 1) ≡ None)
+above = (refl, refl, refl)
+
+-- one piece of each form
+ram_piece : piece_of (codes "1M@2M") ≡ Some (Adding (Some (Add (range 0x200000 0x100000) 1)))
+ram_piece = refl
+
+acpi_piece : piece_of (codes "0x1000#0X2fff") ≡ Some (Adding (Some (Add (range 0x2fff 0x1000) 3)))
+acpi_piece = refl
+
+reserved_piece : piece_of (codes "010$020") ≡ Some (Adding (Some (Add (range 16 8) 2)))
+reserved_piece = refl
+
+persistent_piece : piece_of (codes "1g!4G") ≡ Some (Adding (Some (Add (range 0x100000000 0x40000000) 12)))
+persistent_piece = refl
+
+ram_ends_piece : piece_of (codes "4G") ≡ Some (Other (Some (Remove (range 0x100000000 (2 ^ 64 - 1 - 0x100000000)) 1)))
+ram_ends_piece = refl
+
+exactmap_piece : (piece_of (codes "exactmap") ≡ Some ExactMap) × (piece_of (codes "exactmap ") ≡ None)
+exactmap_piece = (refl, refl)
+
+changing_piece : piece_of (codes "1M%2M-2+1") ≡ Some (Other (Some (Change (range 0x200000 0x100000) 2 1)))
+changing_piece = refl
+
+adding_piece : piece_of (codes "1M%2M+5") ≡ Some (Adding (Some (Add (range 0x200000 0x100000) 5)))
+adding_piece = refl
+
+removing_piece : piece_of (codes "1M%2M-5") ≡ Some (Other (Some (Remove (range 0x200000 0x100000) 5)))
+removing_piece = refl
+
+removing_all_piece : piece_of (codes "1M%2M") ≡ Some (Other (Some (RemoveAll (range 0x200000 0x100000))))
+removing_all_piece = refl
+
+-- an empty range makes no edit, but the piece counts as adding memory; a range past the end is malformed
+empty_piece : piece_of (codes "0@1M") ≡ Some (Adding None)
+empty_piece = refl
+
+malformed_pieces : (piece_of [] ≡ None) × (piece_of (codes "1M@") ≡ None) × (piece_of (codes "1M@2MB") ≡ None) × (piece_of (codes "1M&2M") ≡ None) × (piece_of (codes "1M%2M-3+3") ≡ None) × (piece_of (codes "15E@15E") ≡ None)
+malformed_pieces = (refl, refl, refl, refl, refl, refl)
+
+-- the steps of a piece
+steps_of_added : (added 3 0x1000 (codes "2M") ≡ Some (Adding (Some (Add (range 0x200000 0x1000) 3)))) × (added 3 0x1000 (codes "2M ") ≡ None)
+steps_of_added = (refl, refl)
+
+steps_of_marks : (by_mark 0x1000 [] ≡ Some (Other (ram_above 0x1000))) × (by_mark 0x1000 (codes "!0") ≡ Some (Adding (Some (Add (range 0 0x1000) 12)))) × (by_mark 0x1000 (codes "x0") ≡ None)
+steps_of_marks = (refl, refl, refl)
+
+steps_of_sized : (sized_piece (codes "4K$8K") ≡ Some (Adding (Some (Add (range 8192 4096) 2)))) × (sized_piece (codes "exactmap") ≡ None)
+steps_of_sized = (refl, refl)
+
+-- a type is at most 2^32 - 1
+small_kinds : (small_kind (2 ^ 32 - 1, []) ≡ Some (2 ^ 32 - 1, [])) × (small_kind (2 ^ 32, []) ≡ None)
+small_kinds = (refl, refl)
+
+kinds_behind : (kind_behind 45 (codes "-3+4") ≡ Some (3, codes "+4")) × (kind_behind 45 (codes "+4") ≡ Some (0, codes "+4")) × (kind_behind 43 [] ≡ Some (0, [])) × (kind_behind 43 (codes "+") ≡ None)
+kinds_behind = (refl, refl, refl, refl)
+
+steps_of_retyped : (retyped_to (range 0 8) 0 ≡ Some (Other (Some (RemoveAll (range 0 8))))) × (retyped_to (range 0 8) 7 ≡ Some (Adding (Some (Add (range 0 8) 7)))) × (retyped_from (range 0 8) 1 0 ≡ Some (Other (Some (Remove (range 0 8) 1)))) × (retyped_from (range 0 8) 1 1 ≡ None)
+steps_of_retyped = (refl, refl, refl, refl)
+
+retyped_ranges : (retyped (range 0 8) 1 7 ≡ Some (Other (Some (Change (range 0 8) 1 7)))) × (retyped (range 0 8) 0 7 ≡ Some (Adding (Some (Add (range 0 8) 7))))
+retyped_ranges = (refl, refl)
+
+changed_ranges : (changed 8 (codes "0-1+7") ≡ Some (Other (Some (Change (range 0 8) 1 7)))) × (changed 8 (codes "0+7-1") ≡ None)
+changed_ranges = (refl, refl)
+
+-- `mem=`: RAM ends somewhere above 0
+mem_values : (mem_of (codes "4G") ≡ Some (Other (Some (Remove (range 0x100000000 (2 ^ 64 - 1 - 0x100000000)) 1)))) × (mem_of (codes "nopentium") ≡ Some (Other None)) × (mem_of (codes "0") ≡ None) × (mem_of (codes "4G@0") ≡ None)
+mem_values = (refl, refl, refl, refl)
+
+ends_of_ram : (ram_up_to 1 ≡ Some (Other (Some (Remove (range 1 (2 ^ 64 - 2)) 1)))) × (ram_up_to 0 ≡ None)
+ends_of_ram = (refl, refl)
+
+-- texts that spell a range, and a type
+spelled_range : Spell (codes "1M") (codes "0x200000") (range 0x200000 0x100000)
+spelled_range = record { size = refl; base = refl; some = omega arith; ends = omega arith }
+
+spelled_type : SpellsType (codes "12") 12
+spelled_type = record { number = refl; above = omega arith; small = omega arith }
+
+-- the line ends before the first zero byte, and one newline at its end doesn't count
+raw_lines : (raw_line (codes "quiet\n") ≡ codes "quiet") × (raw_line (113 ∷ 10 ∷ 10 ∷ 0 ∷ 120 ∷ []) ≡ 113 ∷ 10 ∷ []) × (raw_line [] ≡ [])
+raw_lines = (refl, refl, refl)
+
+closed_lines : (is_closed (codes "a=\"b c\"") ≡ true) × (is_closed (codes "a=\"b") ≡ false)
+closed_lines = (refl, refl)
+
+lines : (line_of (codes "mem=\"4G\"\n") ≡ Ok (codes "mem=\"4G\"")) × (line_of (codes "mem=\"4G\n") ≡ Err faults.OpenQuote)
+lines = (refl, refl)
+
+longest_line : checked_line (replicate 2047 97) ≡ Ok (replicate 2047 97)
+longest_line = refl
+
+too_long : checked_line (replicate 2048 34) ≡ Err faults.TooLong
+too_long = refl
+
+-- pieces between commas, each of which has to be one
+pieces_in_order : memmap_of (codes "exactmap,8@0") ≡ Some (Pieces (ExactMap ∷ Adding (Some (Add (range 0 8) 1)) ∷ []))
+pieces_in_order = refl
+
+no_piece_behind_a_comma : (memmap_of (codes "exactmap,") ≡ None) × (memmap_of [] ≡ None)
+no_piece_behind_a_comma = (refl, refl)
+
+lists_of_pieces : (pieces_of [] ≡ Some []) × (pieces_of (codes "exactmap" ∷ codes "1@0" ∷ []) ≡ Some (ExactMap ∷ Adding (Some (Add (range 0 1) 1)) ∷ [])) × (pieces_of (codes "exactmap" ∷ codes "x" ∷ []) ≡ None)
+lists_of_pieces = (refl, refl, refl)
+
+numa_values : (numa_of (codes "off") ≡ Some NumaOff) × (numa_of (codes "OFF") ≡ None)
+numa_values = (refl, refl)
+
+said_or_fault : (or_fault (faults.BadNuma 3) None ≡ Err (faults.BadNuma 3)) × (or_fault (faults.BadNuma 3) (Some NumaOff) ≡ Ok NumaOff)
+said_or_fault = (refl, refl)
+
+-- name and value, which loses its quotation marks
+names : (named (codes "mem=\"4G\"") ≡ (codes "mem", Some (codes "4G"))) × (named (codes "quiet") ≡ (codes "quiet", None)) × (named (codes "mem=") ≡ (codes "mem", Some []))
+names = (refl, refl, refl)
+
+cuts : (at_cut (codes "quiet") None ≡ (codes "quiet", None)) × (at_cut (codes "a=\"b") (Some (codes "a", codes "\"b")) ≡ (codes "a", Some (codes "b")))
+cuts = (refl, refl)
+
+-- what one word says: by its whole name, and with the word's number in its fault
+said_words : (said_by 2 (codes "mem", Some (codes "nopentium")) ≡ Ok (of_piece (Other None))) × (said_by 2 (codes "numa", Some (codes "off")) ≡ Ok NumaOff) × (said_by 2 (codes "memory", Some (codes "4G")) ≡ Ok (Pieces []))
+said_words = (refl, refl, refl)
+
+faulty_words : (said_by 2 (codes "mem", None) ≡ Err (faults.BadMem 2)) × (said_by 3 (codes "memmap", Some (codes "1G!4X")) ≡ Err (faults.BadMemmap 3)) × (said_by 4 (codes "numa", Some (codes "fake=2")) ≡ Err (faults.BadNuma 4))
+faulty_words = (refl, refl, refl)
+
+-- the words up to `--`, each without its quotation marks
+words_up_to_the_end : (until_end (codes "a" ∷ codes "--" ∷ codes "b" ∷ []) ≡ codes "a" ∷ []) × (until_end (codes "a" ∷ codes "--x" ∷ []) ≡ codes "a" ∷ codes "--x" ∷ [])
+words_up_to_the_end = (refl, refl)
+
+words_of_options : option_words (codes "a \"b\" -- c") ≡ codes "a" ∷ codes "b" ∷ []
+words_of_options = refl
+
+-- the fault of the lowest word goes first, and the words are numbered from the number that is given
+first_fault : said_from 1 (codes "quiet" ∷ codes "numa=on" ∷ codes "mem=0" ∷ []) ≡ Err (faults.BadNuma 2)
+first_fault = refl
+
+no_fault : said_from 1 (codes "quiet" ∷ codes "numa=off" ∷ []) ≡ Ok ((1, Pieces []) ∷ (2, NumaOff) ∷ [])
+no_fault = refl
+
+-- word 1 says `exactmap,0@1M`, word 2 `numa=off`, word 3 `8@0`
+abbrev a_page : Piece
+a_page = Adding (Some (Add (range 0 8) 1))
+
+abbrev three_words : List (ℕ × Said)
+three_words = (1, Pieces (ExactMap ∷ Adding None ∷ [])) ∷ (2, NumaOff) ∷ (3, Pieces (a_page ∷ [])) ∷ []
+
+pieces_with_words : (all_pieces three_words ≡ (1, ExactMap) ∷ (1, Adding None) ∷ (3, a_page) ∷ []) × (all_pieces ((2, NumaOff) ∷ []) ≡ [])
+pieces_with_words = (refl, refl)
+
+numbered_pieces : (numbered 4 (ExactMap ∷ a_page ∷ []) [] ≡ (4, ExactMap) ∷ (4, a_page) ∷ []) × (numbered 4 [] ((5, a_page) ∷ []) ≡ (5, a_page) ∷ [])
+numbered_pieces = (refl, refl)
+
+-- an adding piece with an empty range makes no edit
+edits_of_pieces : (edits_of (all_pieces three_words) ≡ Clear ∷ Add (range 0 8) 1 ∷ []) × (edit_of (Adding None) ≡ None) × (edit_of ExactMap ≡ Some Clear)
+edits_of_pieces = (refl, refl, refl)
+
+edits_in_front : (with_edit (Some Clear) [] ≡ Clear ∷ []) × (with_edit None (Clear ∷ []) ≡ Clear ∷ [])
+edits_in_front = (refl, refl)
+
+numa_is_off : (is_numa_off three_words ≡ true) × (is_numa_off ((1, Pieces (ExactMap ∷ [])) ∷ []) ≡ false)
+numa_is_off = (refl, refl)
+
+-- the last `exactmap` counts, and the adding pieces behind it
+two_behind_it : (last_exact (all_pieces three_words) ≡ Some (1, 2)) × (count_adding (all_pieces three_words) ≡ 2)
+two_behind_it = (refl, refl)
+
+one_behind_the_last : last_exact ((1, ExactMap) ∷ (1, a_page) ∷ (2, ExactMap) ∷ (3, a_page) ∷ (4, Other None) ∷ []) ≡ Some (2, 1)
+one_behind_the_last = refl
+
+no_exactmap : last_exact ((1, a_page) ∷ (2, Other None) ∷ []) ≡ None
+no_exactmap = refl
+
+here_or_behind : (or_here None 3 ExactMap 2 ≡ Some (3, 2)) × (or_here (Some (5, 1)) 3 ExactMap 2 ≡ Some (5, 1)) × (or_here None 3 a_page 2 ≡ None)
+here_or_behind = (refl, refl, refl)
+
+-- a user map wants two adding pieces
+abbrev nothing_chosen : Chosen
+nothing_chosen = record { edits = []; numa_off = false }
+
+user_maps : (with_user_map nothing_chosen (Some (3, 1)) ≡ Err (faults.UserMapInvalid 3)) × (with_user_map nothing_chosen (Some (3, 2)) ≡ Ok nothing_chosen) × (with_user_map nothing_chosen None ≡ Ok nothing_chosen)
+user_maps = (refl, refl, refl)
+
+judged_words : (judged three_words ≡ Ok (record { edits = Clear ∷ Add (range 0 8) 1 ∷ []; numa_off = true })) × (judged ((1, Pieces (ExactMap ∷ a_page ∷ [])) ∷ []) ≡ Err (faults.UserMapInvalid 1))
+judged_words = (refl, refl)
+
+chosen_words : (chosen_by [] ≡ nothing_chosen) × (chosen_by ((2, NumaOff) ∷ []) ≡ record { edits = []; numa_off = true })
+chosen_words = (refl, refl)
+
+-- whole lines
+options_of_a_line : options_of (codes "quiet mem=4G memmap=1G!2G\n")
+    ≡ Ok (record { edits = Remove (range 0x100000000 (2 ^ 64 - 1 - 0x100000000)) 1 ∷ Add (range 0x80000000 0x40000000) 12 ∷ []; numa_off = false })
+options_of_a_line = refl
+
+nothing_behind_the_end : options_of (codes "numa=off -- mem=0") ≡ Ok (record { edits = []; numa_off = true })
+nothing_behind_the_end = refl
+
+third_word_is_faulty : options_of (codes "quiet mem=2G memmap=1G!4X\n") ≡ Err (faults.BadMemmap 3)
+third_word_is_faulty = refl
+
+user_map_of_one_piece : options_of (codes "a memmap=exactmap memmap=1M@0") ≡ Err (faults.UserMapInvalid 2)
+user_map_of_one_piece = refl
+
+-- ranges of edits, and numbers of words in faults
+ranges_of_edits : HaveRanges (Add (range 0 8) 1 ∷ Clear ∷ [])
+ranges_of_edits = (omega arith, (tt, tt))
+
+no_range : HasRange (RemoveAll (range 5 0)) → ⊥
+no_range has = omega arith
+
+numbered_faults : IsNumbered (faults.BadMem 1) × IsNumbered faults.OpenQuote
+numbered_faults = (omega arith, tt)
+
+-- a line half read: behind `exactmap` two adding pieces are wanted, and each one that is read is one fewer
+read_three_words : after_all start three_words ≡ record { edits = Clear ∷ Add (range 0 8) 1 ∷ []; numa_off = true; user_map = Some (record { word = 1; wanting = 0 }) }
+read_three_words = refl
+
+none_wanted : (finished (after_all start three_words) ≡ judged three_words) × (finished (after 1 start (Pieces (ExactMap ∷ a_page ∷ []))) ≡ Err (faults.UserMapInvalid 1))
+none_wanted = (refl, refl)
