@@ -1,3 +1,4 @@
 pub mod CountLaws
 pub mod HeldFilesLaws
 pub mod StreamLaws
+mod Examples

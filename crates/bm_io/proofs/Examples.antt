@@ -1,0 +1,100 @@
+-- Small counts, files and outputs: what the definitions say of them, by computing.
+use Rattle.std.proofs.Common.{◌≡◌, ℕ, ◌-◌, ◌^◌, true, false, Some, None, [], ◌∷◌, Vec, Ok, Err, codes, refl, inl, inr, arith}
+use Rattle.std.specs.declared.alloc.Global.{Global}
+use Rattle.bm_io.specs.declared.reading.Fetch.TheVariants as fetch
+use Rattle.bm_io.specs.declared.writing.Put.TheVariants as put
+use Rattle.bm_io.specs.declared.mem_files.MemFile.{MemFile}
+use Rattle.bm_io.specs.Counts.{counted, Rose, RoseByMoreThan}
+use Rattle.bm_io.specs.Told.{IsToldAs, IsToldLonger, AppendsFront}
+use Rattle.bm_io.specs.HeldFiles.{HeldFiles, held_file, held_files, is_named, bytes_of, HaveOwnNames, IsRefused, IsLonger, failures, bytes_taken}
+use Rattle.bm_io.specs.HeldOutput.{failures as put_failures, wants_of_memory}
+
+-- a count goes up, and stands still at 2^64 - 1
+counts : (counted 5 3 ≡ 8) × (counted (2 ^ 64 - 2) 3 ≡ 2 ^ 64 - 1)
+counts = (refl, refl)
+
+-- that it rose shows, but at its last value, where it can't
+it_rose : Rose 5 6 × Rose (2 ^ 64 - 1) (2 ^ 64 - 1)
+it_rose = (omega arith, omega arith)
+
+it_stood : Rose 5 5 → ⊥
+it_stood rose = omega arith
+
+rose_by_more : RoseByMoreThan 16 4 21 × RoseByMoreThan 16 (2 ^ 64 - 3) (2 ^ 64 - 1)
+rose_by_more = (omega arith, omega arith)
+
+rose_by_the_limit : RoseByMoreThan 16 4 20 → ⊥
+rose_by_the_limit more = omega arith
+
+-- files that tell: `zp` holds three bytes; files that don't: anything may be said
+told_bytes : IsToldAs (Some (λ name. Some (codes "abc"))) (codes "zp") (codes "abc") × IsToldAs None (codes "zp") []
+told_bytes = (refl, tt)
+
+not_so_told : IsToldAs (Some (λ name. Some (codes "abc"))) (codes "zp") [] → ⊥
+not_so_told told = cc told
+
+told_longer : IsToldLonger (Some (λ name. Some (codes "abc"))) (codes "zp") 2 × IsToldLonger None (codes "zp") 9
+told_longer = ((codes "abc", refl, omega arith), tt)
+
+-- two of three bytes went out
+front_went_out : AppendsFront (Some (codes "a")) (Some (codes "abc")) (codes "bcd")
+front_went_out = (2, omega arith, refl)
+
+nothing_went_out : AppendsFront (Some (codes "a")) (Some (codes "a")) (codes "bcd")
+nothing_went_out = (0, omega arith, refl)
+
+-- two files, of which the second call fails
+abbrev two_files : HeldFiles
+two_files = record {
+  files = record { name = codes "zp"; bytes = codes "abc" } ∷ record { name = codes "line"; bytes = [] } ∷ [];
+  failing = 2 ∷ [];
+  calls = 0;
+  faults = 0;
+  taken = 0;
+}
+
+bytes_by_name : (bytes_of two_files.files (codes "zp") ≡ Some (codes "abc")) × (bytes_of two_files.files (codes "line") ≡ Some []) × (bytes_of two_files.files (codes "z") ≡ None)
+bytes_by_name = (refl, refl, refl)
+
+own_names : HaveOwnNames two_files.files
+own_names = (refl, (refl, tt))
+
+one_name_twice : HaveOwnNames (record { name = codes "zp"; bytes = [] } ∷ record { name = codes "zp"; bytes = codes "a" } ∷ []) → ⊥
+one_name_twice own = let none : true ≡ false = own.0 in cc none
+
+-- a call fails by its number or by its name
+refused_by_number : IsRefused two_files 2 (codes "zp")
+refused_by_number = inl (0, omega arith, refl)
+
+refused_by_name : IsRefused two_files 1 (codes "z")
+refused_by_name = inr refl
+
+longer_than_two : IsLonger two_files (codes "zp") 2
+longer_than_two = (codes "abc", refl, omega arith)
+
+not_longer_than_none : IsLonger two_files (codes "line") 0 → ⊥
+not_longer_than_none longer = let same : Some [] ≡ Some longer.0 = longer.1 in let more = longer.2 in grind (arith, same, more)
+
+-- a file in memory by its fields
+held_by_fields : (f : MemFile) → (held_files (f ∷ []) ≡ held_file f ∷ []) × (held_files [] ≡ [])
+held_by_fields f = (refl, refl)
+
+named_zp : (f : MemFile) → (held_file f).name ≡ codes "zp" → (is_named (codes "zp") f ≡ true) × (is_named (codes "z") f ≡ false)
+named_zp f is = (rw is refl, rw is refl)
+
+-- failures and bytes of an answer of `fetch`: a file that is too long was read, one whose call failed wasn't
+failed_fetches : (failures (Err fetch.Failed) ≡ 1) × (failures (Err fetch.TooLong) ≡ 0) × (failures (Err fetch.Memory) ≡ 0)
+failed_fetches = (refl, refl, refl)
+
+taken_bytes : (bytes_taken (Err fetch.TooLong) (Some (codes "abc")) ≡ 3) × (bytes_taken (Err fetch.Failed) (Some (codes "abc")) ≡ 0) × (bytes_taken (Err fetch.Failed) None ≡ 0)
+taken_bytes = (refl, refl, refl)
+
+given_bytes : (bytes : Vec ℕ Global) → (failures (Ok bytes) ≡ 0) × (bytes_taken (Ok bytes) (Some (codes "abc")) ≡ 3)
+given_bytes bytes = (refl, refl)
+
+-- failures and wants of an answer of `put`
+failed_puts : (put_failures (Ok tt) ≡ 0) × (put_failures (Err put.Failed) ≡ 1) × (put_failures (Err put.Memory) ≡ 0)
+failed_puts = (refl, refl, refl)
+
+wanted_memory : (wants_of_memory (Ok tt) ≡ 0) × (wants_of_memory (Err put.Failed) ≡ 0) × (wants_of_memory (Err put.Memory) ≡ 1)
+wanted_memory = (refl, refl, refl)
