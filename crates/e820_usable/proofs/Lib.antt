@@ -1,1 +1,2 @@
 mod FramesLaws
+mod Examples
