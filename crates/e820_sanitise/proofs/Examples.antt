@@ -1,0 +1,54 @@
+-- Claims cut by small ranges, and answers: what the definitions say of them, by computing.
+use Rattle.std.proofs.Common.{◌≡◌, ℕ, true, false, Some, None, List, [], ◌∷◌, length, Err, refl, sym, arith}
+use Rattle.bm_base.specs.Extent.{Extent}
+use Rattle.address_runs.specs.Runs.{RunOf}
+use Rattle.e820_sanitise.specs.declared.fault.MapFault.TheVariants as faults
+use Rattle.e820_sanitise.specs.Gives.{MapGives}
+use Rattle.e820_sanitise.specs.Pieces.{between, between_if, parts, is_meant, inside, cut, claim_of}
+
+abbrev range : ℕ → ℕ → Extent
+range base size = record { base = base; size = size }
+
+abbrev run : ℕ → ℕ → ℕ → RunOf ℕ
+run base size kind = record { base = base; size = size; value = kind }
+
+claims_between : (between 2 5 1 ≡ run 2 3 1 ∷ []) × (between 5 5 1 ≡ []) × (between 6 5 1 ≡ [])
+claims_between = (refl, refl, refl)
+
+claims_or_none : (between_if 2 5 (Some 1) ≡ run 2 3 1 ∷ []) × (between_if 2 5 None ≡ [])
+claims_or_none = (refl, refl)
+
+-- in the middle of a claim there are three parts, at its front two, and beside it one
+part_in_the_middle : parts (range 4 2) (Some 7) (run 0 10 1) ≡ run 0 4 1 ∷ run 4 2 7 ∷ run 6 4 1 ∷ []
+part_in_the_middle = refl
+
+part_at_the_front : parts (range 4 2) None (run 5 10 1) ≡ run 6 9 1 ∷ []
+part_at_the_front = refl
+
+nothing_inside : (parts (range 0 5) (Some 7) (run 5 10 1) ≡ run 5 10 1 ∷ []) × (parts (range 15 5) (Some 7) (run 5 10 1) ≡ run 5 10 1 ∷ [])
+nothing_inside = (refl, refl)
+
+meant_types : (is_meant None 3 ≡ true) × (is_meant (Some 3) 3 ≡ true) × (is_meant (Some 1) 3 ≡ false)
+meant_types = (refl, refl, refl)
+
+-- `Change 1 4` inside a claim of type 1 and of type 2, `RemoveAll` inside a claim
+inside_a_change : (inside (Some 1) (Some 4) 1 ≡ Some 4) × (inside (Some 1) (Some 4) 2 ≡ Some 2) × (inside None None 2 ≡ None)
+inside_a_change = (refl, refl, refl)
+
+-- RAM is taken away in the middle, and what is reserved there stays, though in three parts
+ram_removed : cut (range 4 2) (Some 1) None (run 0 10 1 ∷ run 0 10 2 ∷ []) ≡ run 0 4 1 ∷ run 6 4 1 ∷ run 0 4 2 ∷ run 4 2 2 ∷ run 6 4 2 ∷ []
+ram_removed = refl
+
+all_removed : cut (range 0 10) None None (run 0 10 1 ∷ run 2 3 2 ∷ []) ≡ []
+all_removed = refl
+
+-- an empty entry and one of type 0 have no claim
+claims_of_one_entry : (claim_of (record { addr = 4; size = 2; kind = 1 }) ≡ run 4 2 1 ∷ []) × (claim_of (record { addr = 4; size = 0; kind = 1 }) ≡ []) × (claim_of (record { addr = 4; size = 2; kind = 0 }) ≡ [])
+claims_of_one_entry = (refl, refl, refl)
+
+-- a map of 3,201 runs is too long, and is answered by their number; one of 3,200 isn't
+full_map : (map : List (RunOf ℕ)) → length map ≡ 3201 → MapGives (Err (faults.MapFull 3201)) map
+full_map map runs = (sym runs, omega (arith, runs))
+
+not_full : (map : List (RunOf ℕ)) → length map ≡ 3200 → MapGives (Err (faults.MapFull 3200)) map → ⊥
+not_full map runs gives = let more = gives.1 in omega (arith, runs, more)
