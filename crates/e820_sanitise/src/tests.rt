@@ -47,10 +47,8 @@ fn expect_after(rt: &impl Abort, table: &mut Table, edit: &Edit, runs: &[Run])
 }
 
 fn expect(rt: &impl Abort, table: &Table, runs: &[Run]) {
-    match table.runs() {
-        Ok(found) => assert_eq!(rt; found.as_slice(), runs),
-        Err(fault) => assert_eq!(rt; fault, MapFault::MapFull { runs: 0 }),
-    }
+    let found = table.runs().expect(rt, "a map");
+    assert_eq!(rt; found.as_slice(), runs);
     for run in runs {
         assert_eq!(rt; table.type_at(run.range.base), run.kind);
         assert_eq!(rt; table.type_at(run.range.end()) == run.kind, false);
