@@ -6,9 +6,10 @@ use Rattle.e820_model.specs.declared.edit.Edit.TheVariants.{Add, Remove, RemoveA
 use Rattle.boot_options.specs.declared.fault.OptionFault.TheVariants as faults
 use Rattle.boot_options.specs.declared.piece.Piece.{Piece}
 use Rattle.boot_options.specs.declared.piece.Piece.TheVariants.{ExactMap, Adding, Other}
+use Rattle.boot_options.specs.declared.reading.UserMap.{UserMap}
 use Rattle.boot_options.specs.Pieces.{part_of, size_part, number_part, at_end, whole_size, range_at, unless_empty, range_above, ram_above, added, small_kind, kind_behind, retyped_to, retyped_from, retyped, changed, by_mark, sized_piece, piece_of, ram_up_to, mem_of, Spell, SpellsType}
-use Rattle.boot_options.specs.Options.{raw_line, is_closed, checked_line, line_of, Said, Pieces, NumaOff, pieces_of, memmap_of, of_piece, numa_of, or_fault, said_by, at_cut, named, until_end, option_words, said_from, numbered, all_pieces, edit_of, with_edit, edits_of, is_numa_off, count_adding, or_here, last_exact, Chosen, chosen_by, with_user_map, judged, options_of, HasRange, HaveRanges, IsNumbered}
-use Rattle.boot_options.specs.Reading.{start, after, after_all, finished}
+use Rattle.boot_options.specs.Options.{raw_line, is_closed, checked_line, line_of, Said, Pieces, NumaOff, pieces_of, memmap_of, of_piece, numa_of, or_fault, said_by, at_cut, named, until_end, option_words, said_from, numbered, all_pieces, edit_of, with_edit, edits_of, is_numa_off, count_adding, or_here, last_exact, Chosen, chosen_by, with_user_map, judged, options_of, Gives, HasRange, HaveRanges, IsNumbered}
+use Rattle.boot_options.specs.Reading.{start, one_fewer, user_map_behind, after_piece, after_pieces, after, after_all, read_on, read_all, read_pieces, when_complete, finished}
 
 abbrev range : ℕ → ℕ → Extent
 range base size = record { base = base; size = size }
@@ -254,3 +255,37 @@ read_three_words = refl
 
 none_wanted : (finished (after_all start three_words) ≡ judged three_words) × (finished (after 1 start (Pieces (ExactMap ∷ a_page ∷ []))) ≡ Err (faults.UserMapInvalid 1))
 none_wanted = (refl, refl)
+
+abbrev two_wanted : UserMap
+two_wanted = record { word = 3; wanting = 2 }
+
+abbrev one_wanted : UserMap
+one_wanted = record { word = 3; wanting = 1 }
+
+wanted_behind : (user_map_behind 3 ExactMap None ≡ Some two_wanted) × (user_map_behind 4 a_page (Some two_wanted) ≡ Some one_wanted) × (user_map_behind 4 (Other None) (Some two_wanted) ≡ Some two_wanted) × (user_map_behind 4 a_page None ≡ None)
+wanted_behind = (refl, refl, refl, refl)
+
+fewer_wanted : (one_fewer two_wanted ≡ one_wanted) × (one_fewer one_wanted ≡ record { word = 3; wanting = 0 })
+fewer_wanted = (refl, refl)
+
+complete_or_not : (when_complete nothing_chosen (Some one_wanted) ≡ Err (faults.UserMapInvalid 3)) × (when_complete nothing_chosen (Some (one_fewer one_wanted)) ≡ Ok nothing_chosen) × (when_complete nothing_chosen None ≡ Ok nothing_chosen)
+complete_or_not = (refl, refl, refl)
+
+steps_of_a_word : (after_pieces 3 start [] ≡ start) × (after_pieces 3 start (ExactMap ∷ a_page ∷ []) ≡ after_piece 3 (after_piece 3 start ExactMap) a_page) × (after 2 start NumaOff ≡ record { edits = []; numa_off = true; user_map = None })
+steps_of_a_word = (refl, refl, refl)
+
+read_or_fault : (read_on 2 start (Err (faults.BadMem 2)) ≡ Err (faults.BadMem 2)) × (read_on 2 start (Ok NumaOff) ≡ Ok (after 2 start NumaOff)) × (read_pieces 2 start None ≡ None) × (read_pieces 2 start (Some []) ≡ Some start)
+read_or_fault = (refl, refl, refl, refl)
+
+read_all_or_fault : (read_all start (Err (faults.BadMem 2)) ≡ Err (faults.BadMem 2)) × (read_all start (Ok []) ≡ Ok start)
+read_all_or_fault = (refl, refl)
+
+-- an answer gives the definition's value or fault; want of memory may stand in place of either
+same_answer : Gives (λ (n : ℕ). n) (Ok 5) (Ok 5) × Gives {A = ℕ} (λ (n : ℕ). n) (Err faults.OpenQuote) (Err faults.OpenQuote)
+same_answer = (refl, λ other. refl)
+
+memory_for_a_value : Gives {A = ℕ} (λ (n : ℕ). n) (Err faults.Memory) (Ok 5)
+memory_for_a_value = λ other. absurd (other refl)
+
+other_answer : Gives (λ (n : ℕ). n) (Ok 5) (Ok 6) → ⊥
+other_answer gives = grind (arith, gives)
