@@ -3,4 +3,8 @@ pub mod LabelLaws
 pub mod ItemLaws
 pub mod SearchLaws
 pub mod TableLaws
-mod ExampleLaws
+mod LabelExamples
+mod SameExamples
+mod ItemExamples
+mod TableExamples
+mod SearchExamples

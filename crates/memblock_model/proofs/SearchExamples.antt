@@ -1,0 +1,155 @@
+-- Small searches, computed: which addresses fit, and the best of them.
+use Rattle.std.proofs.Common.{◌≡◌, ℕ, ◌≤◌, ◌==◌, nat_lt, true, false, if◌then◌else◌, Option, Some, None, List, [], ◌∷◌, refl, inl, inr, arith}
+use Rattle.std.proofs.lemmas.Bool.{cases_Bool}
+use Rattle.std.proofs.lemmas.Bool.Decides.{nat_tests}
+use Rattle.bm_base.specs.Extent.{covers}
+use Rattle.memblock_model.specs.declared.owner.Owner.TheVariants as owner
+use Rattle.memblock_model.specs.declared.which.Which.TheVariants as which
+use Rattle.memblock_model.specs.declared.query.Query.{Query}
+use Rattle.memblock_model.specs.declared.item.Item.{Item}
+use Rattle.memblock_model.specs.declared.item.Item.TheVariants as item
+use Rattle.memblock_model.specs.Labels.{each_from, each_in}
+use Rattle.memblock_model.specs.Items.{owner_of, no_memory}
+use Rattle.memblock_model.specs.Tables.{reserved_of, table_of}
+use Rattle.memblock_model.specs.Search.{last_below, allows, fits_in, best_in, fits, best}
+use Rattle.memblock_model.proofs.SearchLaws.{fits_in-parts, best_in-last, best_in-fails}
+use Rattle.memblock_model.proofs.LabelExamples.{bytes}
+
+-- the last number that passes, and none
+last_of_three : last_below (λ n. nat_lt n 3) 10 ≡ Some 2
+unfolding last_below
+last_of_three = refl
+
+none_of_five : last_below (λ n. n == 5) 5 ≡ None
+unfolding last_below
+none_of_five = refl
+
+-- a query for any node takes memory without one too, a query for a node that node's memory alone
+any_node : allows None (Some None) ≡ true
+any_node = refl
+
+this_node : allows (Some 1) (Some (Some 1)) ≡ true
+this_node = refl
+
+other_node : allows (Some 1) (Some (Some 2)) ≡ false
+other_node = refl
+
+no_node : allows (Some 1) (Some None) ≡ false
+no_node = refl
+
+-- bytes 4096 to 4103 are memory of node 1, the rest of node 2; byte 4101 is claimed
+abbrev memory : ℕ → Option (Option ℕ)
+memory x = if nat_lt x 4104 then Some (Some 1) else Some (Some 2)
+
+abbrev claimed : ℕ → Option (Option ℕ)
+claimed x = if x == 4101 then Some None else None
+
+-- two bytes of node 1 at an even address, or of any node at any
+abbrev pairs : ℕ → ℕ → Query
+pairs lo hi = record { lo = lo; hi = hi; size = 2; align = 2; node = Some 1 }
+
+abbrev any_pairs : Query
+any_pairs = record { lo = 0; hi = 4200; size = 2; align = 1; node = None }
+
+fits_above_claim : fits_in memory claimed (pairs 0 4200) 4102 ≡ true
+unfolding fits_in each_in each_from
+fits_above_claim = refl
+
+claimed_does_not_fit : fits_in memory claimed (pairs 0 4200) 4100 ≡ false
+unfolding fits_in each_in each_from
+claimed_does_not_fit = refl
+
+other_node_does_not_fit : fits_in memory claimed (pairs 0 4200) 4104 ≡ false
+unfolding fits_in each_in each_from
+other_node_does_not_fit = refl
+
+first_frame_does_not_fit : fits_in memory claimed (pairs 0 4200) 4094 ≡ false
+unfolding fits_in each_in each_from
+first_frame_does_not_fit = refl
+
+odd_does_not_fit : fits_in memory claimed (pairs 0 4200) 4097 ≡ false
+unfolding fits_in each_in each_from
+odd_does_not_fit = refl
+
+odd_fits_at_any : fits_in memory claimed any_pairs 4097 ≡ true
+unfolding fits_in each_in each_from
+odd_fits_at_any = refl
+
+-- half in node 1 and half in node 2
+border_does_not_fit : fits_in memory claimed any_pairs 4103 ≡ false
+unfolding fits_in each_in each_from
+border_does_not_fit = refl
+
+what_is_no_memory_does_not_fit : fits_in no_memory claimed any_pairs 4098 ≡ false
+unfolding fits_in each_in each_from
+what_is_no_memory_does_not_fit = refl
+
+-- the window from its first byte to its last
+fits_at_lo : fits_in memory claimed (pairs 4098 4200) 4098 ≡ true
+unfolding fits_in each_in each_from
+fits_at_lo = refl
+
+below_lo_does_not_fit : fits_in memory claimed (pairs 4098 4200) 4096 ≡ false
+unfolding fits_in each_in each_from
+below_lo_does_not_fit = refl
+
+fits_up_to_hi : fits_in memory claimed (pairs 0 4104) 4102 ≡ true
+unfolding fits_in each_in each_from
+fits_up_to_hi = refl
+
+past_hi_does_not_fit : fits_in memory claimed (pairs 0 4103) 4102 ≡ false
+unfolding fits_in each_in each_from
+past_hi_does_not_fit = refl
+
+-- the greatest of those that fit
+greatest_that_fits : last_below (fits_in memory claimed (pairs 0 4103)) 4110 ≡ Some 4098
+unfolding last_below fits_in each_in each_from
+greatest_that_fits = refl
+
+-- 64 KiB of memory: the best page below its end, and none where a claim leaves the first frame alone
+abbrev small : List Item
+small = item.Mem (bytes 0 0x10000) ∷ []
+
+abbrev page : Query
+page = record { lo = 0; hi = 0x10000; size = 0x1000; align = 0x1000; node = None }
+
+page_fits : fits small page 0xF000 ≡ true
+unfolding fits fits_in each_in each_from
+page_fits = refl
+
+page_ends : (b : ℕ) → fits_in (table_of which.Memory small) (table_of which.Reserved small) page b ≡ true → b ≤ 0xF000
+page_ends b h = let high = (fits_in-parts (table_of which.Memory small) (table_of which.Reserved small) page b h).high in omega arith
+
+best_in_page : best_in (table_of which.Memory small) (table_of which.Reserved small) page ≡ Some 0xF000
+unfolding fits
+best_in_page = best_in-last (table_of which.Memory small) (table_of which.Reserved small) page 0xF000
+    (record { below = omega arith; passes = page_fits; last = λ b lt h. page_ends b h })
+
+best_page : best small page ≡ Some 0xF000
+unfolding best
+best_page = best_in_page
+
+abbrev crowded : List Item
+crowded = item.Mem (bytes 0 0x10000) ∷ (item.Claim (bytes 0x1000 0xF000) owner.Kernel ∷ [])
+
+claimed_page_does_not_fit : fits crowded page 0xF000 ≡ false
+unfolding fits fits_in each_in each_from
+claimed_page_does_not_fit = refl
+
+nothing_fits : (b : ℕ) → fits_in (table_of which.Memory crowded) (table_of which.Reserved crowded) page b ≡ true → ⊥
+nothing_fits b h =
+    let place = fits_in-parts (table_of which.Memory crowded) (table_of which.Reserved crowded) page b h in
+    let high = place.high in
+    let first = place.first in
+    let free : reserved_of (owner_of crowded) b ≡ None = place.free b (omega arith) (omega arith) in
+    let taken : reserved_of (owner_of crowded) b ≡ Some None = (let inside : covers (bytes 0x1000 0xF000) b ≡ true = grind (arith, nat_tests) in rw inside refl) in
+    cc (free, taken)
+
+no_best_in : best_in (table_of which.Memory crowded) (table_of which.Reserved crowded) page ≡ None
+no_best_in = best_in-fails (table_of which.Memory crowded) (table_of which.Reserved crowded) page
+    (λ b lt. elim (cases_Bool (fits_in (table_of which.Memory crowded) (table_of which.Reserved crowded) page b))
+    as (λ _. fits_in (table_of which.Memory crowded) (table_of which.Reserved crowded) page b ≡ false) [ inl fits ↦ absurd (nothing_fits b fits) | inr fails ↦ fails ])
+
+nothing_best : best crowded page ≡ None
+unfolding best
+nothing_best = no_best_in
