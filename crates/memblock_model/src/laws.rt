@@ -1,13 +1,13 @@
 ghost use Rattle.std.specs.Prelude.{◌≡◌, ℕ, ◌^◌, ◌<◌, ◌≤◌, Bool, true, false, Option, Some, None, List, [], ◌∷◌, ◌++◌};
 ghost use Rattle.bm_base.specs.Extent.{covers};
-ghost use Rattle.address_runs.specs.Runs.{Tells};
+ghost use Rattle.address_runs.specs.Runs.{Tells, IsRunsOf};
 ghost use Rattle.memblock_model.specs.declared.item.Item.{Item};
 ghost use Rattle.memblock_model.specs.declared.which.Which.{Which};
 ghost use Rattle.memblock_model.specs.declared.query.Query.{Query};
-ghost use Rattle.memblock_model.specs.Labels.{frame_around, trimmed};
+ghost use Rattle.memblock_model.specs.Labels.{frame_around, trimmed, NothingFrom};
 ghost use Rattle.memblock_model.specs.Same.{same_node, same_owner};
-ghost use Rattle.memblock_model.specs.Items.{Nodes, owners_after, owner_of, nodes_after, nodes_of, limit_after, limit_of};
-ghost use Rattle.memblock_model.specs.Tables.{table_of, table_after, room_of, room_after, moved_to, moved_after};
+ghost use Rattle.memblock_model.specs.Items.{Nodes, owners_after, owner_of, nodes_after, nodes_of, limit_after, limit_of, owner_runs_of};
+ghost use Rattle.memblock_model.specs.Tables.{table_of, table_after, room_of, room_after, moved_to, moved_after, records_of};
 ghost use Rattle.memblock_model.specs.Search.{fits_in, best_in};
 
 /// A law: an item at the end of the list changes owners, nodes and limit as its word says, at every
@@ -38,6 +38,16 @@ pub fn tests_tell()
     ensures owners { Tells same_owner }
 {}
 
+/// A law: the runs of owners, and the records of a table, are in order, none empty and no two that
+/// could be one, and they give at every address its owner, or what the table says of it. No range
+/// passes the end of numbers, so nobody owns an address from 2^64 on, and no table covers one.
+pub fn lists_are_runs()
+    ensures owners { (items : List Item) → NothingFrom (2 ^ 64) (owner_of items) →
+        IsRunsOf (owner_of items) (owner_runs_of items) }
+    ensures records { (w : Which) (items : List Item) → NothingFrom (2 ^ 64) (table_of w items) →
+        IsRunsOf (table_of w items) (records_of w items) }
+{}
+
 /// A law: a frame that is trimmed has one label, or none.
 pub fn trimmed_frame_is_whole()
     ensures { (f : Nodes) (x y : ℕ) → covers (frame_around x) y ≡ true →
@@ -63,6 +73,7 @@ mod tests {
         item_at_the_end();
         tables_go_by_themselves();
         tests_tell();
+        lists_are_runs();
         trimmed_frame_is_whole();
         best_is_greatest();
     }

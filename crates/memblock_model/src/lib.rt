@@ -24,7 +24,8 @@ mod which;
 
 pub use item::Item;
 pub use laws::{
-    best_is_greatest, item_at_the_end, tables_go_by_themselves, tests_tell, trimmed_frame_is_whole,
+    best_is_greatest, item_at_the_end, lists_are_runs, tables_go_by_themselves, tests_tell,
+    trimmed_frame_is_whole,
 };
 pub use owner::Owner;
 pub use query::Query;
