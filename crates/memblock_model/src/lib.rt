@@ -32,3 +32,6 @@ pub use query::Query;
 pub use run::OwnerRun;
 pub use tag::Tag;
 pub use which::Which;
+
+#[cfg(test)]
+mod tests;
