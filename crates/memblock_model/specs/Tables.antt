@@ -51,7 +51,7 @@ bare r f x = if covers r x && is_none (f x) then Some None else None
 unfoldable pub pieces : Extent → Nodes → ℕ
 pieces r f = length (records_for (bare r f))
 
--- how many records there is room for: 128 (`INIT_MEMBLOCK_REGIONS`), doubled each time that the table grew
+-- how many records there is room for: 128 (`INIT_MEMBLOCK_REGIONS`), doubled each time that the table grew, whatever number the item has
 abbrev pub room_after : Which → ℕ → Item → ℕ
 room_after w n (item.Grown which place room) = if same_which w which then 2 * n else n
 room_after w n (item.Mem range) = n

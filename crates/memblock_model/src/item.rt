@@ -14,8 +14,9 @@ pub enum Item {
     Claim { range: Range, owner: Owner },
     /// The bytes of the range get no owner (`memblock_phys_free`).
     Free { range: Range },
-    /// No search passes the address any more (`memblock_set_current_limit`).
+    /// The limit becomes the address: who looks for a place keeps below it (`memblock_set_current_limit`).
     Limit { at: u64 },
-    /// The table has a new place and the room of so many records (`memblock_double_array`).
+    /// The table has a new place and twice the room, which is `room` records now
+    /// (`memblock_double_array`). The definitions count the doublings, and don't look at `room`.
     Grown { which: Which, place: u64, room: u64 },
 }
