@@ -103,16 +103,17 @@ fn values_that_differ_in_one_part(rt: HostRuntime) -> Result<(), Fail> {
     assert_ne!(rt; query, of_node_0);
     assert_ne!(rt; Tag::NoNode, Tag::Node(0));
 
+    // The run ends where addresses end.
     let run = OwnerRun {
-        range: bytes(0x1000, 0x2000),
+        range: bytes(u64::MAX - 0x2000, 0x2000),
         owner: Owner::Table(Which::Memory),
     };
     let other = OwnerRun {
-        range: bytes(0x1000, 0x2000),
+        range: bytes(u64::MAX - 0x2000, 0x2000),
         owner: Owner::Table(Which::Reserved),
     };
     assert_ne!(rt; run, other);
-    assert_eq!(rt; base_of(&run), 0x1000);
+    assert_eq!(rt; base_of(&run), u64::MAX - 0x2000);
     assert_eq!(rt; size_of(&run), 0x2000);
     assert_eq!(rt; owner_of(&run), Owner::Table(Which::Memory));
     Ok(())
