@@ -1,1 +1,2 @@
+mod EntryExamples
 pub mod EntryLaws

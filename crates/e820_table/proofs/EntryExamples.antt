@@ -1,0 +1,158 @@
+-- Small tables of entries, computed: what the definitions say of them.
+use Rattle.std.proofs.Common.{◌≡◌, ℕ, ◌-◌, true, false, List, [], ◌∷◌, ◌++◌, Some, None, refl}
+use Rattle.std.specs.Prelude.{replicate}
+use Rattle.e820_model.specs.declared.entry.Entry.{Entry}
+use Rattle.e820_table.specs.declared.zero_page.ZeroFault.TheVariants as zero_faults
+use Rattle.e820_table.specs.declared.extension.ExtFault.TheVariants as ext_faults
+use Rattle.e820_table.specs.Entries.{number_at, entry_at, nth_entry, first_entries, is_too_far, far_from, first_far}
+use Rattle.e820_table.specs.Extension.{data_length, has_header, has_length, ext_count, ext_entries_of, ext_entry_fault, ext_fault}
+use Rattle.e820_table.specs.ZeroPage.{entry_count, table_offset, entries_of, entry_fault, zero_fault}
+
+-- the 20 bytes of the entry of 1 MiB of RAM at 1 MiB
+abbrev ram_bytes : List ℕ
+ram_bytes =
+    0 ∷ 0 ∷ 0x10 ∷ 0 ∷ 0 ∷ 0 ∷ 0 ∷ 0 ∷
+    0 ∷ 0 ∷ 0x10 ∷ 0 ∷ 0 ∷ 0 ∷ 0 ∷ 0 ∷
+    1 ∷ 0 ∷ 0 ∷ 0 ∷ []
+
+abbrev ram : Entry
+ram = record { addr = 0x100000; size = 0x100000; kind = 1 }
+
+-- those of a reserved entry whose address plus size is 2^64 - 1, and of one where it is 2^64
+abbrev last_bytes : List ℕ
+last_bytes =
+    0 ∷ 0x10 ∷ 0 ∷ 0 ∷ 0 ∷ 0 ∷ 0 ∷ 0 ∷
+    0xFF ∷ 0xEF ∷ 0xFF ∷ 0xFF ∷ 0xFF ∷ 0xFF ∷ 0xFF ∷ 0xFF ∷
+    2 ∷ 0 ∷ 0 ∷ 0 ∷ []
+
+abbrev last : Entry
+last = record { addr = 0x1000; size = 0xFFFFFFFFFFFFEFFF; kind = 2 }
+
+abbrev far_bytes : List ℕ
+far_bytes =
+    0 ∷ 0x10 ∷ 0 ∷ 0 ∷ 0 ∷ 0 ∷ 0 ∷ 0 ∷
+    0 ∷ 0xF0 ∷ 0xFF ∷ 0xFF ∷ 0xFF ∷ 0xFF ∷ 0xFF ∷ 0xFF ∷
+    2 ∷ 0 ∷ 0 ∷ 0 ∷ []
+
+-- the first byte is the lowest
+low_byte_first : number_at 4 1 (9 ∷ 0x78 ∷ 0x56 ∷ 0x34 ∷ 0x12 ∷ []) ≡ 0x12345678
+low_byte_first = refl
+
+at_the_front : entry_at 0 ram_bytes ≡ ram
+unfolding entry_at
+at_the_front = refl
+
+behind_two_bytes : entry_at 2 (7 ∷ 7 ∷ last_bytes) ≡ last
+unfolding entry_at
+behind_two_bytes = refl
+
+second_of_three : nth_entry 0 1 (far_bytes ++ ram_bytes ++ last_bytes) ≡ ram
+unfolding entry_at
+second_of_three = refl
+
+-- in the order of the bytes, and no more than are asked for
+two_of_three : first_entries 0 2 (ram_bytes ++ last_bytes ++ far_bytes) ≡ ram ∷ last ∷ []
+unfolding entry_at
+two_of_three = refl
+
+none_of_three : first_entries 0 0 (ram_bytes ++ last_bytes ++ far_bytes) ≡ []
+none_of_three = refl
+
+-- 2^64 - 1 isn't too far, and 2^64 is
+last_is_near : is_too_far last ≡ false
+last_is_near = refl
+
+next_is_far : is_too_far (record { addr = 0x1000; size = 0xFFFFFFFFFFFFF000; kind = 2 }) ≡ true
+next_is_far = refl
+
+-- the least of the far entries, and only among those that are asked for
+least_far : first_far 0 3 (last_bytes ++ far_bytes ++ far_bytes) ≡ Some 1
+unfolding entry_at
+least_far = refl
+
+far_behind_the_end : first_far 0 2 (ram_bytes ++ last_bytes ++ far_bytes) ≡ None
+unfolding entry_at
+far_behind_the_end = refl
+
+far_from_the_second_on : far_from 0 1 2 (far_bytes ++ last_bytes ++ far_bytes) ≡ Some 2
+unfolding entry_at
+far_from_the_second_on = refl
+
+-- an extension: the next node's address, the type, the length, and the entries
+abbrev header : ℕ → ℕ → List ℕ
+header kind bytes = replicate 8 0xAA ++ (kind ∷ 0 ∷ 0 ∷ 0 ∷ bytes ∷ 0 ∷ 0 ∷ 0 ∷ [])
+
+one_entry : ext_fault (header 1 20 ++ ram_bytes) ≡ None
+unfolding entry_at
+one_entry = refl
+
+its_entry : ext_entries_of (header 1 20 ++ ram_bytes) ≡ ram ∷ []
+unfolding entry_at
+its_entry = refl
+
+counted_by_the_bytes : (data_length (header 1 40 ++ ram_bytes ++ last_bytes) ≡ 40) × (ext_count (header 1 40 ++ ram_bytes ++ last_bytes) ≡ 2)
+counted_by_the_bytes = (refl, refl)
+
+no_entries : (ext_fault (header 1 0) ≡ None) × (ext_entries_of (header 1 0) ≡ [])
+no_entries = (refl, refl)
+
+-- the header is judged first: 15 bytes, or another type, whatever the length says
+short_header : (has_header (replicate 15 1) ≡ false) × (ext_fault (replicate 15 1) ≡ Some ext_faults.ExtHeader)
+short_header = (refl, refl)
+
+other_type : (has_header (header 2 7) ≡ false) × (ext_fault (header 2 7) ≡ Some ext_faults.ExtHeader)
+other_type = (refl, refl)
+
+-- then the length: not that of the data, or part of an entry
+other_length : (has_length (header 1 20) ≡ false) × (ext_fault (header 1 20) ≡ Some ext_faults.ExtLength)
+other_length = (refl, refl)
+
+part_of_an_entry : ext_fault (header 1 19 ++ replicate 19 0) ≡ Some ext_faults.ExtLength
+part_of_an_entry = refl
+
+-- then the entries
+far_entry : ext_fault (header 1 60 ++ last_bytes ++ far_bytes ++ far_bytes) ≡ Some (ext_faults.EntryTooFar 1)
+unfolding entry_at
+far_entry = refl
+
+fault_of_the_index : (ext_entry_fault (Some 7) ≡ Some (ext_faults.EntryTooFar 7)) × (ext_entry_fault None ≡ None)
+fault_of_the_index = (refl, refl)
+
+-- a zero page that states so many entries, of which these are the first
+abbrev page : ℕ → List ℕ → List ℕ
+page count entries =
+    replicate 0x1E8 0 ++ (count ∷ replicate (0x2D0 - 0x1E9) 0) ++ entries ++ replicate (4096 - 0x2D0 - 40) 0
+
+two_entries : zero_fault (page 2 (ram_bytes ++ last_bytes)) ≡ None
+unfolding entry_at
+two_entries = refl
+
+their_order : entries_of (page 2 (ram_bytes ++ last_bytes)) ≡ ram ∷ last ∷ []
+unfolding entry_at
+their_order = refl
+
+stated_number : (entry_count (page 200 (ram_bytes ++ last_bytes)) ≡ 200) × (table_offset ≡ 720)
+stated_number = (refl, refl)
+
+-- the length of the page goes before the number of entries, and that before an entry
+one_byte_short : zero_fault (replicate 4095 0) ≡ Some zero_faults.WrongLength
+one_byte_short = refl
+
+one_byte_more : zero_fault (replicate 4097 0) ≡ Some zero_faults.WrongLength
+one_byte_more = refl
+
+no_byte : zero_fault [] ≡ Some zero_faults.WrongLength
+no_byte = refl
+
+one_far_entry : zero_fault (page 1 (far_bytes ++ far_bytes)) ≡ Some zero_faults.TooFew
+one_far_entry = refl
+
+too_many_entries : zero_fault (page 129 (far_bytes ++ far_bytes)) ≡ Some zero_faults.TooMany
+too_many_entries = refl
+
+second_is_far : zero_fault (page 2 (ram_bytes ++ far_bytes)) ≡ Some (zero_faults.EntryTooFar 1)
+unfolding entry_at
+second_is_far = refl
+
+fault_of_an_index : (entry_fault (Some 7) ≡ Some (zero_faults.EntryTooFar 7)) × (entry_fault None ≡ None)
+fault_of_an_index = (refl, refl)
