@@ -111,14 +111,12 @@ Writes old new (Err (failures.Refused refusal)) said = FitsRefusal refusal said
 Writes old new (Err failures.Unwritten) said = IsText said (λ text. AppendsFront old new text)
 Writes old new (Err failures.Memory) said = (new ≡ old) ⊎ IsText said (λ text. AppendsFront old new text)
 
--- the output was left as it was, or has the cause of what became of it, whatever the files tell
-abbrev pub WritingHasCause : {S : Type 0} → (written : S → Option (List ℕ)) → (faults wants : S → ℕ) → (old new : S)
-    → Result (Unit {0}) Failure → Type 0
-WritingHasCause written faults wants old new (Ok done) = Unit {0}
-WritingHasCause written faults wants old new (Err (failures.Refused refusal)) = written new ≡ written old
-WritingHasCause written faults wants old new (Err failures.Unwritten) = Rose (faults old) (faults new)
-WritingHasCause written faults wants old new (Err failures.Memory) =
-    (written new ≡ written old) ⊎ Rose (wants old) (wants new)
+-- the output object is as it was, or has the cause of what became of it, whatever the files tell
+abbrev pub WritingHasCause : {S : Type 0} → (faults wants : S → ℕ) → (old new : S) → Result (Unit {0}) Failure → Type 0
+WritingHasCause faults wants old new (Ok done) = Unit {0}
+WritingHasCause faults wants old new (Err (failures.Refused refusal)) = new ≡ old
+WritingHasCause faults wants old new (Err failures.Unwritten) = Rose (faults old) (faults new)
+WritingHasCause faults wants old new (Err failures.Memory) = (new ≡ old) ⊎ Rose (wants old) (wants new)
 
 -- the cause of the way it ended, whatever the files tell
 abbrev pub EndHasCause : (before now : List ℕ → ℕ) → Option Named → Failure → Type 0

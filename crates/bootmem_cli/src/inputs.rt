@@ -1,4 +1,5 @@
-ghost use Rattle.std.specs.Prelude.{◌≡◌, ℕ, ◌≤◌, List, Some, IfOk, IfSome, IsErrOf};
+ghost use Rattle.std.specs.Prelude.{◌≡◌, ℕ, ◌≤◌, List, Some, IfOk, IfSome, IsErrOf, IsNone};
+ghost use Rattle.std.specs.Option.{option_copied};
 ghost use Rattle.e820_model.specs.Claims.{EndInSpace, HaveTypes};
 ghost use Rattle.boot_options.specs.Options.{chosen};
 ghost use Rattle.bootmem_cli.specs.Outcome.{file_of, zero_page_of, extension_of, command_line_of, inputs_of};
@@ -74,6 +75,7 @@ fn fetch_extension<F: Files>(
     ensures kept { F.holds files.new ≡ F.holds files.old }
     ensures faults_stay { (any : List ℕ) → F.faults files.old any ≤ F.faults files.new any }
     ensures ends { IfOk result (λ entries. EndInSpace entries.items) }
+    ensures unfetched { IsNone (option_copied names.now.extension) → files.new ≡ files.old }
 {
     let Some(name) = names.extension else {
         return Ok(Vec::new(alloc));
@@ -95,6 +97,7 @@ fn fetch_command_line<F: Files>(
     ensures own { (other : Input) → IsErrOf result (Failure.Refused (Refusal.Unread other))
         → other ≡ Input.CommandLine }
     ensures types { IfOk result (λ options. HaveTypes options.edits.items) }
+    ensures unfetched { IsNone (option_copied names.now.command_line) → files.new ≡ files.old }
 {
     let Some(name) = names.command_line else {
         return Ok(Options {

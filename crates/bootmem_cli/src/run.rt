@@ -42,11 +42,11 @@ pub fn run<F: Files, S: Sink, E: Sink>(
         × RoseFor (F.faults files.old) (F.faults files.new) (accepted (texts words.now)) input }
     ensures unwritten { result ≡ 4 → Rose (S.faults out.old) (S.faults out.new) }
 
-    // What stands in the output, whatever the files tell.
-    ensures early { (result ≡ 2) ⊎ (result ≡ 3) ⊎ (result ≡ 5) ⊎ (result ≡ 6)
-        → S.written out.new ≡ S.written out.old }
-    ensures wanting { result ≡ 7 → (S.written out.new ≡ S.written out.old)
-        ⊎ Rose (S.wants out.old) (S.wants out.new) }
+    // What stays as it was, whatever the files tell: with refused words no file is fetched, and before
+    // the text is there nothing is put into the output.
+    ensures unfetched { result ≡ 2 → files.new ≡ files.old }
+    ensures early { (result ≡ 2) ⊎ (result ≡ 3) ⊎ (result ≡ 5) ⊎ (result ≡ 6) → out.new ≡ out.old }
+    ensures wanting { result ≡ 7 → (out.new ≡ out.old) ⊎ Rose (S.wants out.old) (S.wants out.new) }
 
     // Where the files tell what they hold: the status and the output are those of the outcome.
     ensures answers { IfSome (F.holds files.old) (λ held.
@@ -76,7 +76,7 @@ pub fn run<F: Files, S: Sink, E: Sink>(
 
     // What stands on the error output: nothing, or the line of a failure that has the status, has
     // its cause, and is that of the outcome.
-    ensures silent { result ≡ 0 → E.written err.new ≡ E.written err.old }
+    ensures silent { result ≡ 0 → err.new ≡ err.old }
     ensures line { result ≢ 0 → (failure : Failure) × (result ≡ status_of failure)
         × Tells E.written E.faults E.wants err.old err.new
         (line_of (accepted (texts words.now)) failure)
@@ -105,7 +105,8 @@ fn write_report<F: Files, S: Sink>(
     ensures accepted { OnOk result (IsSome (option_map names_view names.entry)) }
     ensures cause { IfErr result (λ failure. EndHasCause (F.faults files.old) (F.faults files.new)
         (option_map names_view names.entry) failure) }
-    ensures output { WritingHasCause S.written S.faults S.wants out.old out.new result }
+    ensures unfetched { IsNone (option_map names_view names.entry) → files.new ≡ files.old }
+    ensures output { WritingHasCause S.faults S.wants out.old out.new result }
 {
     let text = make_report(alloc, names, files)?;
     put_report(out, &text)
@@ -140,6 +141,7 @@ fn make_report<F: Files>(
         Gives (λ text. text.items) result (outcome (option_map names_view names.entry) held)) }
     ensures cause { HasCause (F.faults files.old) (F.faults files.new)
         (option_map names_view names.entry) result }
+    ensures unfetched { IsNone (option_map names_view names.entry) → files.new ≡ files.old }
 {
     let Some(names) = names else {
         return Err(Failure::Refused(Refusal::Usage));
