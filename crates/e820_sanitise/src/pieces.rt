@@ -5,32 +5,21 @@ ghost use Rattle.e820_model.specs.Map.{AreClaims, claims_of};
 ghost use Rattle.e820_sanitise.specs.Pieces.{between, between_if, claim_of, cut, inside, parts};
 
 use bm_base::{Memory, Range};
-use e820_model::{Edit, Entry, Run};
+use e820_model::{E820_TYPE_RAM, E820_TYPE_RESERVED, Edit, Entry, Run};
 use std::alloc::Global;
 
-/// The firmware's type of memory (`E820_TYPE_RAM`).
-const RAM: u32 = 1;
-
-/// The firmware's type of what isn't to be used (`E820_TYPE_RESERVED`).
-const RESERVED: u32 = 2;
-
+/// The claim of the type on the addresses from `from` up to `until`; nothing where there is none.
 fn push_between(claims: &mut Vec<Run>, from: u64, until: u64, kind: u32) -> Result<(), Memory>
     ensures added { OnOk result (claims.new.items ≡ claims.old.items ++ between from until kind) }
     ensures claims { OnOk result (0 < kind → AreClaims claims.old.items → AreClaims claims.new.items) }
 {
-    if until <= from {
-        return Ok(());
-    }
-    let range = Range {
-        base: from,
-        size: until - from,
-    };
-    if claims.push(Run { range, kind }).is_err() {
-        return Err(Memory);
+    if let Some(range) = Range::between(from, until) {
+        claims.push(Run { range, kind })?;
     }
     Ok(())
 }
 
+/// The same for a type or none.
 fn push_between_if(
     claims: &mut Vec<Run>,
     from: u64,
@@ -96,19 +85,9 @@ fn with_claim(alloc: Global, claims: &[Run], range: &Range, kind: u32) -> Result
     ensures added { IfOk result (λ all. all.items ≡ claims.now ++ between range.now.base (end_of range.now) kind) }
     ensures claims { IfOk result (λ all. 0 < kind → AreClaims claims.now → AreClaims all.items) }
 {
-    let mut all = copy_of(alloc, claims)?;
+    let mut all = Vec::from_slice(alloc, claims)?;
     push_between(&mut all, range.base, range.end(), kind)?;
     Ok(all)
-}
-
-fn copy_of(alloc: Global, claims: &[Run]) -> Result<Vec<Run>, Memory>
-    ensures { IfOk result (λ copy. copy.items ≡ claims.now) }
-{
-    let mut copy = Vec::new(alloc);
-    if copy.extend_from_slice(claims).is_err() {
-        return Err(Memory);
-    }
-    Ok(copy)
 }
 
 /// The claim of an entry; nothing where it is empty or has type 0.
@@ -130,7 +109,7 @@ pub fn with_entries(alloc: Global, claims: &[Run], entries: &[Entry]) -> Result<
     ensures same { IfOk result (λ all. claims_of all.items ≡ added (claims_of claims.now) (claims_of_entries entries.now)) }
     ensures claims { IfOk result (λ all. AreClaims all.items) }
 {
-    let mut all = copy_of(alloc, claims)?;
+    let mut all = Vec::from_slice(alloc, claims)?;
     for entry in entries {
         push_entry(&mut all, entry)?;
     }
@@ -172,12 +151,12 @@ pub fn trimmed(alloc: Global, claims: &[Run]) -> Result<Vec<Run>, Memory>
     };
     let change = Edit::Change {
         range: first_page,
-        from: RAM,
-        to: RESERVED,
+        from: E820_TYPE_RAM,
+        to: E820_TYPE_RESERVED,
     };
     let remove = Edit::Remove {
         range: bios_area,
-        kind: RAM,
+        kind: E820_TYPE_RAM,
     };
     let changed = edited(alloc, claims, &change)?;
     edited(alloc, &changed, &remove)

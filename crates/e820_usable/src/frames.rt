@@ -3,13 +3,7 @@ ghost use Rattle.address_runs.specs.Runs.{AreRuns, value_at};
 ghost use Rattle.e820_model.specs.Usable.{is_memory, usable_frames};
 ghost use Rattle.e820_usable.specs.Frames.{whole_frames};
 
-use e820_model::Run;
-
-/// RAM (`E820_TYPE_RAM`).
-const RAM: u32 = 1;
-
-/// Memory that is the kernel's own (`E820_TYPE_RESERVED_KERN`).
-const RESERVED_KERN: u32 = 128;
+use e820_model::{E820_TYPE_RAM, E820_TYPE_RESERVED_KERN, Run};
 
 /// The bytes of a frame (`PAGE_SIZE`).
 const FRAME_SIZE: u64 = 4096;
@@ -21,7 +15,7 @@ const ADDRESS_BITS: u32 = 46;
 pub fn is_memory(kind: u32) -> bool
     ensures { result ≡ is_memory (Some kind) }
 {
-    kind == RAM || kind == RESERVED_KERN
+    kind == E820_TYPE_RAM || kind == E820_TYPE_RESERVED_KERN
 }
 
 // The number of frames below 2^46 that begin at `from` or behind it and end by `until`.
