@@ -1,8 +1,11 @@
 -- Small ranges, numbers and texts, computed.
-use Rattle.std.proofs.Common.{◌≡◌, ℕ, ◌^◌, ◌*◌, true, false, ◌&&◌, [], codes, Ok, Err, refl, arith}
+use Rattle.std.proofs.Common.{◌≡◌, ℕ, ◌^◌, ◌*◌, ◌+◌, true, false, ◌&&◌, [], codes, Some, None, Ok, Err, refl, arith}
 use Rattle.std.proofs.lemmas.Bool.Decides.{nat_tests}
 use Rattle.std.specs.Fmt.{digits}
 use Rattle.bm_base.specs.Extent.{Extent, end_of, covers, Meet}
+use Rattle.std.specs.Prelude.{Result}
+use Rattle.bm_base.specs.OptionSteps as option
+use Rattle.bm_base.specs.ResultSteps.{◌>>=◌}
 use Rattle.bm_base.specs.Text.{hexadecimal, hex_text, padded_decimal}
 use Rattle.bm_base.specs.Size.{front_digits, value_of, is_hexadecimal, radix_of, suffix_of, number_of, size_of, IsSize, IsNumber}
 use Rattle.bm_base.specs.declared.size.NumFault.TheVariants.{NoDigits, TooLarge}
@@ -64,3 +67,10 @@ hex_examples = (refl, refl, refl)
 decimal_examples : (padded_decimal 6 640 ≡ codes "   640") × (padded_decimal 2 640 ≡ codes "640")
 unfolding digits
 decimal_examples = (refl, refl)
+
+-- one step after another, up to the first that fails or has no value
+option_steps_examples : (option.◌>>=◌ (Some 5) (λ n. Some (n + 1)) ≡ Some 6) × (option.◌>>=◌ None (λ n. Some (n + 1)) ≡ None)
+option_steps_examples = (refl, refl)
+
+result_steps_examples : ((r : Result ℕ ℕ) → (◌>>=◌ {A = ℕ} (Ok 5) (λ n. r)) ≡ r) × ((step : ℕ → Result ℕ ℕ) → (◌>>=◌ {A = ℕ} (Err 7) step) ≡ Err 7)
+result_steps_examples = ((λ r. refl), (λ step. refl))

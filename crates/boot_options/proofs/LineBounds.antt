@@ -6,13 +6,14 @@ use Rattle.e820_model.specs.Claims.{HaveTypes}
 use Rattle.e820_model.specs.declared.edit.Edit.{Edit}
 use Rattle.text_words.specs.declared.separators.Separators.TheVariants.{Byte}
 use Rattle.text_words.specs.Parts.{parts_in}
+use Rattle.bm_base.specs.ResultSteps.{◌>>=◌}
 use Rattle.boot_options.specs.declared.fault.OptionFault.{OptionFault}
 use Rattle.boot_options.specs.declared.fault.OptionFault.TheVariants as faults
 use Rattle.boot_options.specs.declared.options.Options.{Options}
 use Rattle.boot_options.specs.declared.piece.Piece.{Piece}
 use Rattle.boot_options.specs.declared.piece.Piece.TheVariants.{ExactMap, Adding, Other}
 use Rattle.boot_options.specs.Pieces.{mem_of}
-use Rattle.boot_options.specs.Options.{Said, Pieces, NumaOff, Chosen, chosen, Gives, is_closed, line_of, raw_line, pieces_of, memmap_of, of_piece, numa_of, or_fault, said_by, named, said_from, option_words, numbered, all_pieces, edit_of, with_edit, edits_of, count_adding, or_here, last_exact, chosen_by, with_user_map, judged, options_of, HaveRanges, IsNumbered, ◌>>=◌}
+use Rattle.boot_options.specs.Options.{Said, Pieces, NumaOff, Chosen, chosen, Gives, is_closed, line_of, raw_line, pieces_of, memmap_of, of_piece, numa_of, or_fault, said_by, named, said_from, option_words, numbered, all_pieces, edit_of, with_edit, edits_of, count_adding, or_here, last_exact, chosen_by, with_user_map, judged, options_of, HaveRanges, IsNumbered}
 use Rattle.boot_options.proofs.PieceBounds.{IsSound, IsSoundPiece, AreSound, ifsome-and_then, ifsome-map, ifsome-if, sound-mem, sound-pieces}
 
 abbrev pub IsSoundWord : Said → Type 0

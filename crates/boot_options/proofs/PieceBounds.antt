@@ -8,9 +8,10 @@ use Rattle.bm_base.specs.Extent.{Extent}
 use Rattle.e820_model.specs.Claims.{HasTypes}
 use Rattle.e820_model.specs.declared.edit.Edit.{Edit}
 use Rattle.e820_model.specs.declared.edit.Edit.TheVariants.{Add, Remove, RemoveAll, Change}
+use Rattle.bm_base.specs.OptionSteps.{◌>>=◌}
 use Rattle.boot_options.specs.declared.piece.Piece.{Piece}
 use Rattle.boot_options.specs.declared.piece.Piece.TheVariants.{ExactMap, Adding, Other}
-use Rattle.boot_options.specs.Pieces.{size_part, whole_size, at_end, range_at, unless_empty, range_above, ram_above, added, kind_behind, retyped, changed, by_mark, sized_piece, piece_of, ram_up_to, mem_of, ◌>>=◌}
+use Rattle.boot_options.specs.Pieces.{size_part, whole_size, at_end, range_at, unless_empty, range_above, ram_above, added, kind_behind, retyped, changed, by_mark, sized_piece, piece_of, ram_up_to, mem_of}
 use Rattle.boot_options.specs.Options.{pieces_of, edit_of, HasRange}
 
 -- the edit names types, and its range has an address

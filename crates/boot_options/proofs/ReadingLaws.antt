@@ -3,8 +3,9 @@ use Rattle.std.proofs.Common.{◌≡◌, ℕ, ◌+◌, false, List, ◌∷◌, r
 use Rattle.std.specs.Str.{bytes_eq}
 use Rattle.text_words.specs.declared.separators.Separators.TheVariants.{CommandLine}
 use Rattle.text_words.specs.Words.{words_in, unquoted}
+use Rattle.bm_base.specs.ResultSteps.{◌>>=◌}
 use Rattle.boot_options.specs.declared.fault.OptionFault.{OptionFault}
-use Rattle.boot_options.specs.Options.{Said, named, said_by, said_from, option_words, ◌>>=◌}
+use Rattle.boot_options.specs.Options.{Said, named, said_by, said_from, option_words}
 use Rattle.boot_options.specs.Reading.{State, after, read_on, read_all}
 
 -- the first word in front of the words behind it, where it isn't `--`

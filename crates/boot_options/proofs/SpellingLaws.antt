@@ -12,8 +12,9 @@ use Rattle.bm_base.specs.Size.{begins_with_digit, number_value, number_end, suff
 use Rattle.bm_base.proofs.SizeLaws.{size_of-mark, number_of-mark}
 use Rattle.e820_model.specs.declared.edit.Edit.{Edit}
 use Rattle.e820_model.specs.declared.edit.Edit.TheVariants.{Add, Remove, RemoveAll, Change}
+use Rattle.bm_base.specs.OptionSteps.{◌>>=◌}
 use Rattle.boot_options.specs.declared.piece.Piece.TheVariants.{Adding, Other}
-use Rattle.boot_options.specs.Pieces.{Part, part_of, size_part, number_part, at_end, whole_size, range_at, unless_empty, range_above, added, small_kind, kind_behind, retyped, changed, by_mark, piece_of, Spell, SpellsType, ◌>>=◌}
+use Rattle.boot_options.specs.Pieces.{Part, part_of, size_part, number_part, at_end, whole_size, range_at, unless_empty, range_above, added, small_kind, kind_behind, retyped, changed, by_mark, piece_of, Spell, SpellsType}
 
 -- the later step, where the earlier one gives a value
 pub then-some : {A B : Type 0} (o : Option A) (f : A → Option B) (x : A) → o ≡ Some x → (o >>= f) ≡ f x

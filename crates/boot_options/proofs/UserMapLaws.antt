@@ -4,11 +4,12 @@ use Rattle.std.proofs.lemmas.List.{append-nil}
 use Rattle.std.proofs.lemmas.Bool.Decides.{nat_tests}
 use Rattle.std.specs.Option.{option_map}
 use Rattle.e820_model.specs.declared.edit.Edit.{Edit}
+use Rattle.bm_base.specs.ResultSteps.{◌>>=◌}
 use Rattle.boot_options.specs.declared.fault.OptionFault.{OptionFault}
 use Rattle.boot_options.specs.declared.piece.Piece.{Piece}
 use Rattle.boot_options.specs.declared.piece.Piece.TheVariants.{ExactMap, Adding, Other}
 use Rattle.boot_options.specs.declared.reading.UserMap.{UserMap}
-use Rattle.boot_options.specs.Options.{Said, Pieces, NumaOff, Chosen, ◌>>=◌, line_of, said_from, option_words, numbered, all_pieces, edit_of, with_edit, edits_of, is_numa_off, count_adding, or_here, last_exact, with_user_map, judged, options_of}
+use Rattle.boot_options.specs.Options.{Said, Pieces, NumaOff, Chosen, line_of, said_from, option_words, numbered, all_pieces, edit_of, with_edit, edits_of, is_numa_off, count_adding, or_here, last_exact, with_user_map, judged, options_of}
 use Rattle.boot_options.specs.Reading.{State, start, one_fewer, user_map_behind, after_piece, after_pieces, after_all, read_all, when_complete, finished}
 
 -- one edit behind others

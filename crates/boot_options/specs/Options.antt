@@ -4,6 +4,7 @@ use Rattle.std.specs.Prelude.{◌≡◌, ◌≢◌, ℕ, ◌+◌, ◌%◌, ◌<�
 use Rattle.std.specs.Option.{option_map, option_and_then}
 use Rattle.std.specs.Str.{bytes_eq}
 use Rattle.std.specs.Prelude.{count_by}
+use Rattle.bm_base.specs.ResultSteps.{◌>>=◌}
 use Rattle.e820_model.specs.declared.edit.Edit.{Edit}
 use Rattle.e820_model.specs.declared.edit.Edit.TheVariants.{Add, Remove, RemoveAll, Change, Clear}
 use Rattle.text_words.specs.declared.separators.Separators.TheVariants.{CommandLine, Byte}
@@ -12,15 +13,10 @@ use Rattle.text_words.specs.Words.{words_in, unquoted, without_last}
 use Rattle.boot_options.specs.declared.fault.OptionFault.{OptionFault}
 use Rattle.boot_options.specs.declared.fault.OptionFault.TheVariants as faults
 use Rattle.boot_options.specs.declared.options.Options.{Options}
+use Rattle.boot_options.specs.declared.options.TheConstants.{LONGEST_LINE}
 use Rattle.boot_options.specs.declared.piece.Piece.{Piece}
 use Rattle.boot_options.specs.declared.piece.Piece.TheVariants.{ExactMap, Adding, Other}
 use Rattle.boot_options.specs.Pieces.{piece_of, mem_of}
-
--- one step after the other, as far as none fails
-infixl 10 ◌>>=◌
-abbrev pub ◌>>=◌ : {A B : Type 0} → Result A OptionFault → (A → Result B OptionFault) → Result B OptionFault
-Ok x >>= f = f x
-Err fault >>= f = Err fault
 
 -- the line: the bytes before the first zero byte, without a newline at its end. It has at most
 -- 2,047 bytes (`COMMAND_LINE_SIZE` less the zero byte), and an even number of `"`
@@ -32,7 +28,7 @@ is_closed line = count_by (λ b. b == 34) line % 2 == 0
 
 abbrev pub checked_line : List ℕ → Result (List ℕ) OptionFault
 checked_line line =
-    if nat_lt 2047 (length line) then Err faults.TooLong
+    if nat_lt LONGEST_LINE (length line) then Err faults.TooLong
     else (if is_closed line then Ok line else Err faults.OpenQuote)
 
 abbrev pub line_of : List ℕ → Result (List ℕ) OptionFault

@@ -3,18 +3,36 @@
 use Rattle.std.specs.Prelude.{ℕ, ◌+◌, ◌-◌, ◌^◌, ◌==◌, ◌<◌, nat_lt, if◌then◌else◌, Option, Some, None, List, [], ◌∷◌, drop, codes, Result, Ok, Err}
 use Rattle.std.specs.Str.{bytes_eq}
 use Rattle.bm_base.specs.Extent.{Extent}
+use Rattle.bm_base.specs.OptionSteps.{◌>>=◌}
 use Rattle.bm_base.specs.Size.{size_of, number_of, IsSize, IsNumber}
 use Rattle.bm_base.specs.declared.size.NumFault.{NumFault}
+use Rattle.e820_model.specs.declared.types.TheConstants.{E820_TYPE_RAM, E820_TYPE_RESERVED, E820_TYPE_ACPI, E820_TYPE_PRAM}
 use Rattle.e820_model.specs.declared.edit.Edit.{Edit}
 use Rattle.e820_model.specs.declared.edit.Edit.TheVariants.{Add, Remove, RemoveAll, Change}
 use Rattle.boot_options.specs.declared.piece.Piece.{Piece}
 use Rattle.boot_options.specs.declared.piece.Piece.TheVariants.{ExactMap, Adding, Other}
 
--- one step after the other, as far as none fails
-infixl 10 ◌>>=◌
-abbrev pub ◌>>=◌ : {A B : Type 0} → Option A → (A → Option B) → Option B
-None >>= f = None
-Some x >>= f = f x
+-- the marks of a piece: `@`, `#`, `$`, `!` and `%` behind its size, and `-` and `+` before its types
+abbrev pub ram_mark : ℕ
+ram_mark = 64
+
+abbrev pub acpi_mark : ℕ
+acpi_mark = 35
+
+abbrev pub reserved_mark : ℕ
+reserved_mark = 36
+
+abbrev pub persistent_mark : ℕ
+persistent_mark = 33
+
+abbrev pub change_mark : ℕ
+change_mark = 37
+
+abbrev pub from_mark : ℕ
+from_mark = 45
+
+abbrev pub to_mark : ℕ
+to_mark = 43
 
 -- a number at the front of a text, and what stands behind it
 abbrev pub Part : Type 0
@@ -55,7 +73,7 @@ abbrev pub range_above : ℕ → Extent
 range_above size = record { base = size; size = 2 ^ 64 - 1 - size }
 
 abbrev pub ram_above : ℕ → Option Edit
-ram_above size = unless_empty (range_above size) (Remove (range_above size) 1)
+ram_above size = unless_empty (range_above size) (Remove (range_above size) E820_TYPE_RAM)
 
 -- `S@A`, `S#A`, `S$A` and `S!A`: the range is of that type
 abbrev pub added : ℕ → ℕ → List ℕ → Option Piece
@@ -92,19 +110,19 @@ abbrev pub changed : ℕ → List ℕ → Option Piece
 changed size place = do
   base ← size_part place
   range ← range_at base.0 size
-  from ← kind_behind 45 base.1
-  to ← kind_behind 43 from.1
+  from ← kind_behind from_mark base.1
+  to ← kind_behind to_mark from.1
   at_end to.1 (retyped range from.0 to.0)
 
--- by the mark behind S: `@` 64, `#` 35, `$` 36, `!` 33, `%` 37, or the end of the piece
+-- by the mark behind S, or the end of the piece
 abbrev pub by_mark : ℕ → List ℕ → Option Piece
 by_mark size [] = Some (Other (ram_above size))
 by_mark size (mark ∷ place) =
-    if mark == 64 then added 1 size place else
-    (if mark == 35 then added 3 size place else
-    (if mark == 36 then added 2 size place else
-    (if mark == 33 then added 12 size place else
-    (if mark == 37 then changed size place else None))))
+    if mark == ram_mark then added E820_TYPE_RAM size place else
+    (if mark == acpi_mark then added E820_TYPE_ACPI size place else
+    (if mark == reserved_mark then added E820_TYPE_RESERVED size place else
+    (if mark == persistent_mark then added E820_TYPE_PRAM size place else
+    (if mark == change_mark then changed size place else None))))
 
 abbrev pub sized_piece : List ℕ → Option Piece
 sized_piece text = do

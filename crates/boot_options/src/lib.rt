@@ -1,10 +1,10 @@
 //! The command line: what it asks of the memory set-up.
 //!
 //! The kernel's own options for the map are words of one line: `mem=` ends RAM, `memmap=` adds
-//! ranges, takes them away or changes their type, `numa=off` has the SRAT passed over. This crate
+//! ranges, takes them away or changes their type, `numa=off` has the SRAT not used. This crate
 //! follows `next_arg` and `parse_args` for the words, `memparse` for the numbers, `parse_memopt` and
 //! `parse_memmap_one` of arch/x86/kernel/e820.c for the values. A malformed value is a fault here,
-//! where the kernel warns; a word of another name is passed over.
+//! where the kernel warns or says nothing; a word of another name is passed over.
 //!
 //! [`read_options`] gives [`Options`]: the [`Edit`]s of the map in the order of the line, which
 //! `e820_sanitise` applies, and whether `numa=off` was there. Its one clause says value and fault
@@ -26,3 +26,4 @@ mod tests;
 pub use e820_model::Edit;
 pub use fault::OptionFault;
 pub use options::{Options, read_options};
+pub use piece::pieces_of_spelling;

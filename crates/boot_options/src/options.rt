@@ -1,4 +1,5 @@
 ghost use Rattle.std.specs.Prelude.{◌≡◌, ℕ, ◌≤◌, length, MatchResult, Ok, Err, IfOk, IfErr};
+ghost use Rattle.boot_options.specs.declared.options.TheConstants.{LONGEST_LINE};
 ghost use Rattle.boot_options.specs.Options.{Gives, chosen, line_of, options_of, HaveRanges, IsNumbered};
 ghost use Rattle.e820_model.specs.Claims.{HaveTypes};
 ghost use Rattle.boot_options.specs.Reading.{state_of, finished};
@@ -14,15 +15,16 @@ use text_words::{before, without_last};
 pub struct Options {
     /// The edits of the map by `mem=` and `memmap=`, in the order of the line.
     pub edits: Vec<Edit>,
-    /// Whether `numa=off` stands in the line: the SRAT isn't read then.
+    /// Whether `numa=off` stands in the line: the SRAT isn't used then.
     pub numa_off: bool,
 }
 
 /// The options of the bytes of a command line's file, or the first fault: `TooLong`, then
 /// `OpenQuote`, then the fault of the lowest word that has one, then `UserMapInvalid`.
 ///
-/// The line ends before the first zero byte, without one newline at its end. The word `--` ends the
-/// options. `Memory` comes only where the program's own memory runs out.
+/// The line ends before the first zero byte, without one newline at its end, and has at most 2,047
+/// bytes (`COMMAND_LINE_SIZE`). The word `--` ends the options. `Memory` comes only where the program's
+/// own memory runs out.
 pub fn read_options(alloc: Global, bytes: &[u8]) -> Result<Options, OptionFault>
     ensures gives { Gives chosen result (options_of bytes.now) }
     ensures types { IfOk result (λ options. HaveTypes options.edits.items) }
@@ -34,13 +36,17 @@ pub fn read_options(alloc: Global, bytes: &[u8]) -> Result<Options, OptionFault>
     finish(reading)
 }
 
+/// The greatest number of bytes of a line, which a zero byte ends (`COMMAND_LINE_SIZE` - 1).
+const LONGEST_LINE: usize = 2047;
+
 /// The line of the file: the bytes before the first zero byte, without a newline at the end.
 fn read_line(bytes: &[u8]) -> Result<&[u8], OptionFault>
-    ensures line { MatchResult result (λ line. line_of bytes.now ≡ Ok line.now) (λ fault. line_of bytes.now ≡ Err fault) }
-    ensures short { IfOk result (λ line. length line.now ≤ 2047) }
+    ensures line { MatchResult result (λ line. line_of bytes.now ≡ Ok line.now)
+        (λ fault. line_of bytes.now ≡ Err fault) }
+    ensures short { IfOk result (λ line. length line.now ≤ LONGEST_LINE) }
 {
     let line = without_last(before(bytes, 0), b'\n');
-    if line.len() > 2047 {
+    if line.len() > LONGEST_LINE {
         return Err(OptionFault::TooLong);
     }
     if line.iter().filter(|byte| **byte == b'"').count() % 2 != 0 {

@@ -1,13 +1,14 @@
-ghost use Rattle.std.specs.Prelude.{◌≡◌, ◌≢◌, ℕ, ◌-◌, ◌++◌, ◌<◌, ◌≤◌, ◌^◌, List, [], ◌∷◌, Option, Some, None, IfSome};
+ghost use Rattle.std.specs.Prelude.{◌≡◌, ◌≢◌, ℕ, ◌-◌, ◌++◌, ◌<◌, ◌≤◌, ◌^◌, List, codes, Option, Some, None};
 ghost use Rattle.std.specs.Option.{option_map};
 ghost use Rattle.bm_base.specs.Extent.{Extent};
 ghost use Rattle.bm_base.specs.Size.{IsSize};
+ghost use Rattle.e820_model.specs.declared.types.TheConstants.{E820_TYPE_RAM, E820_TYPE_RESERVED, E820_TYPE_ACPI, E820_TYPE_PRAM};
 ghost use Rattle.e820_model.specs.declared.edit.Edit.TheVariants.{Add, Remove, RemoveAll, Change};
 ghost use Rattle.boot_options.specs.declared.piece.Piece.TheVariants.{Adding, Other};
 ghost use Rattle.boot_options.specs.Pieces.{range_above, Spell, SpellsType, size_part, number_part, whole_size, unless_empty as edit_unless_empty, ram_above as edit_above, added as added_piece, kind_behind as kind_part, retyped as retyped_piece, changed as changed_piece, by_mark as marked_piece, piece_of, mem_of};
 
-use bm_base::{NumFault, Range, read_number, read_size};
-use e820_model::Edit;
+use bm_base::{Range, read_number, read_size};
+use e820_model::{E820_TYPE_ACPI, E820_TYPE_PRAM, E820_TYPE_RAM, E820_TYPE_RESERVED, Edit};
 
 /// What `mem=` or one piece of `memmap=` says of the map.
 #[derive(Clone, Copy, Debug, PartialEq, Eq)]
@@ -53,10 +54,10 @@ fn by_mark(size: u64, text: &[u8]) -> Option<Piece>
         return Some(Piece::Other(ram_above(size)));
     };
     match mark {
-        b'@' => added(1, size, place),
-        b'#' => added(3, size, place),
-        b'$' => added(2, size, place),
-        b'!' => added(12, size, place),
+        b'@' => added(E820_TYPE_RAM, size, place),
+        b'#' => added(E820_TYPE_ACPI, size, place),
+        b'$' => added(E820_TYPE_RESERVED, size, place),
+        b'!' => added(E820_TYPE_PRAM, size, place),
         b'%' => changed(size, place),
         _ => None,
     }
@@ -105,10 +106,7 @@ fn kind_behind(mark: u8, text: &[u8]) -> Option<(u32, &[u8])>
     match text {
         [first, number @ ..] if *first == mark => {
             let (kind, rest) = read_number_part(number)?;
-            let Ok(kind) = u32::try_from(kind) else {
-                return None;
-            };
-            Some((kind, rest))
+            Some((u32::try_from(kind).ok()?, rest))
         }
         _ => Some((0, text)),
     }
@@ -122,7 +120,13 @@ fn ram_above(size: u64) -> Option<Edit>
         base: size,
         size: u64::MAX - size,
     };
-    unless_empty(range, Edit::Remove { range, kind: 1 })
+    unless_empty(
+        range,
+        Edit::Remove {
+            range,
+            kind: E820_TYPE_RAM,
+        },
+    )
 }
 
 /// The edit, where its range has an address.
@@ -144,36 +148,40 @@ fn read_whole_size(text: &[u8]) -> Option<u64>
 fn read_size_part(text: &[u8]) -> Option<(u64, &[u8])>
     ensures { option_map (λ part. (part.0, part.1.now)) result ≡ size_part text.now }
 {
-    match read_size(text) {
-        Ok((size, taken)) => Some((size, text.split_at(taken).1)),
-        Err(_) => None,
-    }
+    let (size, taken) = read_size(text).ok()?;
+    Some((size, text.split_at(taken).1))
 }
 
 /// The number without a suffix at the front of the text, and the rest.
 fn read_number_part(text: &[u8]) -> Option<(u64, &[u8])>
     ensures { option_map (λ part. (part.0, part.1.now)) result ≡ number_part text.now }
 {
-    match read_number(text) {
-        Ok((number, taken)) => Some((number, text.split_at(taken).1)),
-        Err(_) => None,
-    }
+    let (number, taken) = read_number(text).ok()?;
+    Some((number, text.split_at(taken).1))
 }
 
-/// What is spelled as a piece of `memmap=` is read as that piece, form by form.
+/// A law: what is spelled as a piece of `memmap=` is read as that piece, form by form.
 pub fn pieces_of_spelling()
-    ensures ram { (s a : List ℕ) (range : Extent) → Spell s a range → piece_of (s ++ (64 ∷ a)) ≡ Some (Adding (Some (Add range 1))) }
-    ensures acpi { (s a : List ℕ) (range : Extent) → Spell s a range → piece_of (s ++ (35 ∷ a)) ≡ Some (Adding (Some (Add range 3))) }
-    ensures reserved { (s a : List ℕ) (range : Extent) → Spell s a range → piece_of (s ++ (36 ∷ a)) ≡ Some (Adding (Some (Add range 2))) }
-    ensures persistent { (s a : List ℕ) (range : Extent) → Spell s a range → piece_of (s ++ (33 ∷ a)) ≡ Some (Adding (Some (Add range 12))) }
-    ensures above { (s : List ℕ) (size : ℕ) → IsSize s size → size < 2 ^ 64 - 1
-        → piece_of s ≡ Some (Other (Some (Remove (range_above size) 1))) }
-    ensures every_type { (s a : List ℕ) (range : Extent) → Spell s a range → piece_of (s ++ (37 ∷ a)) ≡ Some (Other (Some (RemoveAll range))) }
-    ensures one_type { (s a f : List ℕ) (range : Extent) (from : ℕ) → Spell s a range → SpellsType f from
-        → piece_of (s ++ (37 ∷ (a ++ (45 ∷ f)))) ≡ Some (Other (Some (Remove range from))) }
-    ensures new_type { (s a t : List ℕ) (range : Extent) (to : ℕ) → Spell s a range → SpellsType t to
-        → piece_of (s ++ (37 ∷ (a ++ (43 ∷ t)))) ≡ Some (Adding (Some (Add range to))) }
-    ensures other_type { (s a f t : List ℕ) (range : Extent) (from to : ℕ)
-        → Spell s a range → SpellsType f from → SpellsType t to → from ≢ to
-        → piece_of (s ++ (37 ∷ (a ++ (45 ∷ (f ++ (43 ∷ t)))))) ≡ Some (Other (Some (Change range from to))) }
+    ensures ram { (s a : List ℕ) (range : Extent) → Spell s a range →
+        piece_of (s ++ (codes "@" ++ a)) ≡ Some (Adding (Some (Add range E820_TYPE_RAM))) }
+    ensures acpi { (s a : List ℕ) (range : Extent) → Spell s a range →
+        piece_of (s ++ (codes "#" ++ a)) ≡ Some (Adding (Some (Add range E820_TYPE_ACPI))) }
+    ensures reserved { (s a : List ℕ) (range : Extent) → Spell s a range →
+        piece_of (s ++ (codes "$" ++ a)) ≡ Some (Adding (Some (Add range E820_TYPE_RESERVED))) }
+    ensures persistent { (s a : List ℕ) (range : Extent) → Spell s a range →
+        piece_of (s ++ (codes "!" ++ a)) ≡ Some (Adding (Some (Add range E820_TYPE_PRAM))) }
+    ensures above { (s : List ℕ) (size : ℕ) → IsSize s size → size < 2 ^ 64 - 1 →
+        piece_of s ≡ Some (Other (Some (Remove (range_above size) E820_TYPE_RAM))) }
+    ensures every_type { (s a : List ℕ) (range : Extent) → Spell s a range →
+        piece_of (s ++ (codes "%" ++ a)) ≡ Some (Other (Some (RemoveAll range))) }
+    ensures one_type { (s a f : List ℕ) (range : Extent) (from : ℕ) →
+        Spell s a range → SpellsType f from →
+        piece_of (s ++ (codes "%" ++ (a ++ (codes "-" ++ f)))) ≡ Some (Other (Some (Remove range from))) }
+    ensures new_type { (s a t : List ℕ) (range : Extent) (to : ℕ) →
+        Spell s a range → SpellsType t to →
+        piece_of (s ++ (codes "%" ++ (a ++ (codes "+" ++ t)))) ≡ Some (Adding (Some (Add range to))) }
+    ensures other_type { (s a f t : List ℕ) (range : Extent) (from to : ℕ) →
+        Spell s a range → SpellsType f from → SpellsType t to → from ≢ to →
+        piece_of (s ++ (codes "%" ++ (a ++ (codes "-" ++ (f ++ (codes "+" ++ t))))))
+        ≡ Some (Other (Some (Change range from to))) }
 {}

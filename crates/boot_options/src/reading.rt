@@ -2,6 +2,7 @@ ghost use Rattle.std.specs.Prelude.{◌≡◌, ℕ, ◌≤◌, ◌+◌, List, []
 ghost use Rattle.std.specs.Option.{option_map, option_and_then};
 ghost use Rattle.e820_model.specs.declared.edit.Edit.{Edit as SomeEdit};
 ghost use Rattle.boot_options.specs.declared.fault.OptionFault.TheVariants as faults;
+ghost use Rattle.boot_options.specs.declared.options.TheConstants.{LONGEST_LINE};
 ghost use Rattle.boot_options.specs.Options.{Gives, named, said_by, said_from, option_words, or_fault, memmap_of, with_edit};
 ghost use Rattle.boot_options.specs.Reading.{state_of, start, one_fewer as one_fewer_wanted, after_piece, read_on, read_all};
 
@@ -29,7 +30,7 @@ pub struct UserMap {
 
 /// Reads the words of the line, up to `--`.
 pub fn read_words(alloc: Global, line: &[u8]) -> Result<Reading, OptionFault>
-    requires { length line.now ≤ 2047 }
+    requires { length line.now ≤ LONGEST_LINE }
     ensures { Gives state_of result (read_all start (said_from 1 (option_words line.now))) }
 {
     let mut reading = Reading {
