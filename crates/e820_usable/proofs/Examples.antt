@@ -55,3 +55,9 @@ one_frame_more = frames_of_ram (2 ^ 44 + 4096) (omega arith) ∙ whole_by_divisi
 
 one_frame_more_stops : judged (value_at (ram (2 ^ 44 + 4096))) ≡ Some (stops.TooMuchRam (2 ^ 32 + 1))
 one_frame_more_stops = rw one_frame_more refl
+
+-- a map without a run has no frame
+empty_map_stops : judged (value_at []) ≡ Some stops.NoRam
+empty_map_stops =
+    let none : usable_frames (value_at []) ≡ 0 = sym (frames_usable [] tt) ∙ whole_by_division 0 0 in
+    rw none refl
