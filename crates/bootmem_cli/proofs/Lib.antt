@@ -1,7 +1,8 @@
 pub mod AnswerLaws
 pub mod BootLaws
+pub mod EndLaws
+mod FirstRun
 mod OutcomeExamples
 pub mod TellLaws
-pub mod WordLaws
 mod WordExamples
-pub mod EndLaws
+pub mod WordLaws

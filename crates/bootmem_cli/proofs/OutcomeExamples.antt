@@ -1,5 +1,5 @@
--- What the program comes to with small files, computed. A map isn't, since `map_of` goes over all addresses; the one
--- that is empty follows from laws.
+-- What the program comes to with small files, computed. A map isn't, since `map_of` goes over all addresses: that of
+-- empty entries follows from laws, as that of the first run does (`FirstRun`).
 use Rattle.std.proofs.Common.{◌≡◌, ℕ, ◌*◌, ◌-◌, ◌^◌, true, false, if◌then◌else◌, List, [], ◌∷◌, ◌++◌, codes, Option, Some, None, Ok, Err, refl, sym, ap, inl, arith}
 use Rattle.std.proofs.lemmas.Bool.Decides.{nat_tests}
 use Rattle.std.specs.Prelude.{replicate}

@@ -1,0 +1,121 @@
+-- The first run, whole: `bootmem --report map zp`, where `zp` holds a zero page of two entries, of which the second
+-- reserves the end of the first. The map follows from laws, the rest is computed.
+use Rattle.std.proofs.Common.{◌≡◌, ℕ, ◌+◌, ◌*◌, ◌-◌, ◌^◌, ◌<◌, ◌≤◌, ◌==◌, ◌&&◌, nat_lt, nat_le, if◌then◌else◌, List, [], ◌∷◌, ◌++◌, codes, Some, None, Ok, refl, sym, ap, ◌∙◌, arith}
+use Rattle.std.proofs.lemmas.Bool.Decides.{nat_tests}
+use Rattle.std.specs.Fmt.{digits}
+use Rattle.std.specs.Prelude.{replicate}
+use Rattle.std.specs.Str.{bytes_eq}
+use Rattle.address_runs.specs.Runs.{RunOf, value_at, AreRuns}
+use Rattle.address_runs.proofs.RunsLaws.{one_list}
+use Rattle.e820_model.specs.declared.entry.Entry.{Entry}
+use Rattle.e820_model.specs.Claims.{Claims, claims_of_entries, type_of, settled, added, trimmed}
+use Rattle.e820_model.specs.Map.{kinds, map_of, some_kind}
+use Rattle.e820_model.specs.Usable.{is_memory, usable_frames}
+use Rattle.e820_model.proofs.ClaimLaws.{greatest_is, map_runs}
+use Rattle.e820_model.proofs.UsableLaws.{all_same, count_same, count_frames_between, usable_count}
+use Rattle.e820_table.specs.Entries.{entry_at}
+use Rattle.bootmem_cli.specs.Boot.{Given, boot, claims}
+use Rattle.bootmem_cli.specs.Words.{accepted}
+use Rattle.bootmem_cli.specs.Outcome.{Held, no_options, outcome}
+
+-- RAM from 1 MiB up to 128 MiB
+abbrev ram : Entry
+ram = record { addr = 0x100000; size = 0x7F00000; kind = 1 }
+
+abbrev reserved : Entry
+reserved = record { addr = 0x7FE0000; size = 0x20000; kind = 2 }
+
+abbrev page : List ℕ
+page =
+    replicate 0x1E8 0 ++ (2 ∷ replicate (0x2D0 - 0x1E9) 0)
+    ++ (0 ∷ 0 ∷ 0x10 ∷ 0 ∷ 0 ∷ 0 ∷ 0 ∷ 0 ∷ 0 ∷ 0 ∷ 0xF0 ∷ 7 ∷ 0 ∷ 0 ∷ 0 ∷ 0 ∷ 1 ∷ 0 ∷ 0 ∷ 0 ∷ [])
+    ++ (0 ∷ 0 ∷ 0xFE ∷ 7 ∷ 0 ∷ 0 ∷ 0 ∷ 0 ∷ 0 ∷ 0 ∷ 2 ∷ 0 ∷ 0 ∷ 0 ∷ 0 ∷ 0 ∷ 2 ∷ 0 ∷ 0 ∷ 0 ∷ [])
+    ++ replicate (4096 - 0x2D0 - 40) 0
+
+abbrev held : Held
+held name = if bytes_eq name (codes "zp") then Some page else None
+
+abbrev given : Given
+given = record { entries = ram ∷ reserved ∷ []; extension = []; options = no_options }
+
+-- the type of each address: where both entries claim it, the greater one
+kind_at : ℕ → ℕ
+kind_at x = if nat_lt x 0x100000 then 0 else (if nat_lt x 0x7FE0000 then 1 else (if nat_lt x 0x8000000 then 2 else 0))
+
+small : (x : ℕ) → kind_at x < 2 ^ 32
+unfolding kind_at
+small x = grind (arith, nat_tests)
+
+entries_give : (x : ℕ) → type_of (claims_of_entries given.entries) x ≡ kind_at x
+unfolding kind_at
+entries_give x = greatest_is (claims_of_entries given.entries x) (kind_at x) (small x)
+    (λ some. grind (arith, nat_tests))
+    (λ k higher low. grind (arith, nat_tests))
+
+-- each address has that claim alone
+IsOnly : Claims → Type 0
+IsOnly c = (x k : ℕ) → c x k ≡ (nat_lt 0 k && k == kind_at x)
+
+only_settled : (c : Claims) → ((x : ℕ) → type_of c x ≡ kind_at x) → IsOnly (settled c)
+unfolding IsOnly
+only_settled c gives x k = rw (gives x) refl
+
+only_gives : (c : Claims) → IsOnly c → (x : ℕ) → type_of c x ≡ kind_at x
+unfolding IsOnly
+only_gives c only x = greatest_is (c x) (kind_at x) (small x)
+    (λ some. rw (only x (kind_at x)) (grind (arith, nat_tests)))
+    (λ k higher low. rw (only x k) (grind (arith, nat_tests)))
+
+only_added : (c : Claims) → IsOnly c → IsOnly (added c (claims_of_entries []))
+unfolding IsOnly
+only_added c only x k = rw (only x k) (grind (arith, nat_tests))
+
+only_trimmed : (c : Claims) → IsOnly c → IsOnly (trimmed c)
+unfolding IsOnly kind_at
+only_trimmed c only x k = rw (only x k, only x 1) (grind (arith, nat_tests))
+
+only_claims : IsOnly (claims given)
+only_claims =
+    only_trimmed _ (only_settled _ (only_gives _ (only_settled _ (only_gives _ (only_added _ (only_settled _ entries_give))))))
+
+-- so these are the runs of the map
+abbrev runs : List (RunOf ℕ)
+runs = record { base = 0x100000; size = 0x7EE0000; value = 1 } ∷ record { base = 0x7FE0000; size = 0x20000; value = 2 } ∷ []
+
+runs_give : (x : ℕ) → value_at runs x ≡ some_kind (kind_at x)
+unfolding kind_at
+runs_give x = grind (arith, nat_tests)
+
+kinds_are : (x : ℕ) → kinds (claims given) x ≡ value_at runs x
+kinds_are x = ap some_kind (only_gives (claims given) only_claims x) ∙ sym (runs_give x)
+
+none_above : (x : ℕ) → 2 ^ 64 ≤ x → kinds (claims given) x ≡ None
+unfolding kind_at
+none_above x far = kinds_are x ∙ grind (arith, nat_tests)
+
+are_runs : AreRuns runs
+are_runs = (omega arith, (omega arith, λ touch same. omega (arith, same)), (omega arith, tt, tt))
+
+map_is : map_of (claims given) ≡ runs
+map_is =
+    one_list (kinds (claims given)) _ _ (map_runs (claims given) none_above)
+    (record { runs = are_runs; each = λ x. sym (kinds_are x) })
+
+-- RAM makes 32,480 whole frames
+memory_is : (x : ℕ) → is_memory (kinds (claims given) x) ≡ (nat_le 0x100000 x && nat_lt x 0x7FE0000)
+memory_is x = rw (kinds_are x) (grind (arith, nat_tests))
+
+frames_are : usable_frames (kinds (claims given)) ≡ 32480
+frames_are =
+    usable_count (kinds (claims given))
+    ∙ count_same _ _ (2 ^ 34) (λ frame low. all_same _ _ 4096 (λ i below. memory_is (4096 * frame + i)))
+    ∙ count_frames_between 0x100000 0x7FE0000 (2 ^ 34)
+
+boot_is : boot given ≡ Ok (record { map = runs; options = no_options })
+unfolding boot
+boot_is = rw (map_is, frames_are) refl
+
+first_run : outcome (accepted (codes "--report" ∷ codes "map" ∷ codes "zp" ∷ [])) held
+    ≡ Ok (codes "0x0000000000100000..0x0000000007fdffff 1 usable\n0x0000000007fe0000..0x0000000007ffffff 2 reserved\n")
+unfolding entry_at digits
+first_run = rw boot_is refl
