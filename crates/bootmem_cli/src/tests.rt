@@ -188,6 +188,7 @@ fn words_and_failures(rt: HostRuntime) -> Result<(), Fail> {
     let half = "0x0000000000100000..0x0000000007fdffff 1 usable\n0";
     let none: &[u64] = &[];
     let first: &[u64] = &[1];
+    let second: &[u64] = &[2];
     let cases = [
         (
             ["--report", "map", "other"],
@@ -205,6 +206,8 @@ fn words_and_failures(rt: HostRuntime) -> Result<(), Fail> {
             half,
             "bootmem: cannot write\n",
         ),
+        // the report is put in one piece
+        (["--report", "map", "zp"], second, none, 0, MAP, ""),
         (
             ["--report", "map", "zp"],
             first,
