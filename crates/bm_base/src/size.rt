@@ -43,11 +43,13 @@ pub fn read_number(text: &[u8]) -> Result<(u64, usize), NumFault>
     Ok((value, prefix + count))
 }
 
-/// What is spelled as a number is read as that number: a size goes as far as the next byte that is no
-/// digit and no letter, and the decimal digits of a `u64` are read as it.
+/// A law: what is spelled as a number is read as that number. A size goes as far as the next byte that
+/// is no digit and no letter, and the decimal digits of a `u64` are read as it.
 pub fn sizes_of_spelling()
-    ensures size { (text rest : List ℕ) (mark : ℕ) → is_digit mark 36 ≡ false → size_of (text ++ (mark ∷ rest)) ≡ size_of text }
-    ensures number { (text rest : List ℕ) (mark : ℕ) → is_digit mark 36 ≡ false → number_of (text ++ (mark ∷ rest)) ≡ number_of text }
+    ensures size { (text rest : List ℕ) (mark : ℕ) → is_digit mark 36 ≡ false →
+        size_of (text ++ (mark ∷ rest)) ≡ size_of text }
+    ensures number { (text rest : List ℕ) (mark : ℕ) → is_digit mark 36 ≡ false →
+        number_of (text ++ (mark ∷ rest)) ≡ number_of text }
     ensures decimal { (n : ℕ) → n < 2 ^ 64 → IsSize (decimal n) n }
 {}
 

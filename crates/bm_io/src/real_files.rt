@@ -51,7 +51,8 @@ impl<'a, R: rt::Files> RealFiles<'a, R> {
     ) -> Result<Vec<u8>, Fetch>
         ensures bounded { IfOk result (λ bytes. length bytes.items ≤ limit) }
         ensures whole { IfOk result (λ bytes. IfSome (F.remaining file.old) (λ all. bytes.items ≡ all)) }
-        ensures given { IfOk result (λ bytes. self.new.taken ≡ counted self.old.taken (length bytes.items)) }
+        ensures given { IfOk result (λ bytes.
+            self.new.taken ≡ counted self.old.taken (length bytes.items)) }
         ensures failed { IsErrOf result Fetch.Failed → Rose self.old.faults self.new.faults }
         ensures too_long { IsErrOf result Fetch.TooLong → RoseByMoreThan limit self.old.taken self.new.taken }
         ensures longer { IsErrOf result Fetch.TooLong

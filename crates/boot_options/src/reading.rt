@@ -56,7 +56,8 @@ pub fn read_words(alloc: Global, line: &[u8]) -> Result<Reading, OptionFault>
 
 /// Reads one word, by its name; a word of another name is passed over.
 fn read_word(word: &[u8], number: u32, reading: &mut Reading) -> Result<(), OptionFault>
-    ensures { Gives (λ _. state_of reading.new) result (read_on number (state_of reading.old) (said_by number (named word.now))) }
+    ensures { Gives (λ _. state_of reading.new) result
+        (read_on number (state_of reading.old) (said_by number (named word.now))) }
 {
     let (name, value) = name_and_value(word);
     if name == b"mem".as_slice() {
@@ -90,7 +91,9 @@ fn name_and_value(word: &[u8]) -> (&[u8], Option<&[u8]>)
 
 /// Reads the pieces of `memmap=`, one after the other.
 fn read_memmap(value: &[u8], number: u32, reading: &mut Reading) -> Result<(), OptionFault>
-    ensures { Gives (λ _. state_of reading.new) result (read_on number (state_of reading.old) (or_fault (faults.BadMemmap number) (memmap_of value.now))) }
+    ensures { Gives (λ _. state_of reading.new) result
+        (read_on number (state_of reading.old)
+        (or_fault (faults.BadMemmap number) (memmap_of value.now))) }
 {
     let mut rest = Some(value);
     while let Some(text) = rest {

@@ -82,7 +82,8 @@ fn inside_kind(meant: Option<u32>, instead: Option<u32>, kind: u32) -> Option<u3
 
 /// The claims and one more, of the range for the type.
 fn with_claim(alloc: Global, claims: &[Run], range: &Range, kind: u32) -> Result<Vec<Run>, Memory>
-    ensures added { IfOk result (λ all. all.items ≡ claims.now ++ between range.now.base (end_of range.now) kind) }
+    ensures added { IfOk result (λ all.
+        all.items ≡ claims.now ++ between range.now.base (end_of range.now) kind) }
     ensures claims { IfOk result (λ all. 0 < kind → AreClaims claims.now → AreClaims all.items) }
 {
     let mut all = Vec::from_slice(alloc, claims)?;
@@ -106,7 +107,8 @@ fn push_entry(claims: &mut Vec<Run>, entry: &Entry) -> Result<(), Memory>
 pub fn with_entries(alloc: Global, claims: &[Run], entries: &[Entry]) -> Result<Vec<Run>, Memory>
     requires claims { AreClaims claims.now }
     requires space { EndInSpace entries.now }
-    ensures same { IfOk result (λ all. claims_of all.items ≡ added (claims_of claims.now) (claims_of_entries entries.now)) }
+    ensures same { IfOk result (λ all. claims_of all.items
+        ≡ added (claims_of claims.now) (claims_of_entries entries.now)) }
     ensures claims { IfOk result (λ all. AreClaims all.items) }
 {
     let mut all = Vec::from_slice(alloc, claims)?;

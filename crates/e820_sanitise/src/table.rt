@@ -49,7 +49,8 @@ impl Table {
     /// before.
     pub fn append(&mut self, entries: &[Entry]) -> Result<(), Memory>
         requires { EndInSpace entries.now }
-        ensures ok { OnOk result (claims_of self.new ≡ added (claims_of self.old) (claims_of_entries entries.now)) }
+        ensures ok { OnOk result (claims_of self.new
+            ≡ added (claims_of self.old) (claims_of_entries entries.now)) }
         ensures err { OnErr result (self.new ≡ self.old) }
     {
         let alloc = *self.claims.allocator();

@@ -50,7 +50,7 @@ pub fn cut(text: &[u8], mark: u8) -> Option<(&[u8], &[u8])>
     None
 }
 
-/// What is spelled as parts with separators between them is read as those parts.
+/// A law: what is spelled as parts with separators between them is read as those parts.
 pub fn parts_of_spelling()
     ensures first { (s : SomeSeparators) (part : List ℕ) (b : ℕ) (rest : List ℕ)
         → IsClosed s false part → separates s b ≡ true

@@ -5,9 +5,10 @@ ghost use Rattle.text_words.specs.Words.{words_in, unquoted as text_unquoted, wi
 
 use crate::{Separators, next_part};
 
-/// The first word of the text, and what stands behind it; `None` where there is no word.
+/// The first word of the text, and a text with the words behind it; `None` where there is no word.
 pub fn next_word(text: &[u8], separators: Separators) -> Option<(&[u8], &[u8])>
-    ensures some { IfSome result (λ found. words_in separators text.now ≡ found.0.now ∷ words_in separators found.1.now) }
+    ensures some { IfSome result (λ found.
+        words_in separators text.now ≡ found.0.now ∷ words_in separators found.1.now) }
     ensures none { IfNone result (words_in separators text.now ≡ []) }
     ensures shorter { IfSome result (λ found. length found.1.now < length text.now) }
     ensures within { IfSome result (λ found. length found.0.now ≤ length text.now) }
@@ -44,7 +45,7 @@ pub fn without_last(text: &[u8], mark: u8) -> &[u8]
     }
 }
 
-/// What is spelled as words with separators between them is read as those words: a separator in
+/// A law: what is spelled as words with separators between them is read as those words: a separator in
 /// front is passed over, and a word goes as far as the next separator outside quotations.
 pub fn words_of_spelling()
     ensures gap { (s : SomeSeparators) (b : ℕ) (rest : List ℕ)
