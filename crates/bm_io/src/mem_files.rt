@@ -112,14 +112,11 @@ impl Files for MemFiles {
     }
 }
 
-// The bytes of the file of the name.
+/// The bytes of the file of the name.
 fn bytes_named<'a>(files: &'a [MemFile], name: &str) -> Option<&'a [u8]>
     ensures { option_copied result ≡ bytes_of (held_files files.now) name.now }
 {
-    let Some(file) = file_named(files, name) else {
-        return None;
-    };
-    Some(file.bytes.as_slice())
+    Some(file_named(files, name)?.bytes.as_slice())
 }
 
 fn file_named<'a>(files: &'a [MemFile], name: &str) -> Option<&'a MemFile>

@@ -1,5 +1,6 @@
 ghost use Rattle.std.specs.Prelude.{◌≡◌, ℕ, ◌^◌, ◌<◌, ◌≤◌, length, None, IfSome, IfOk, IsErrOf};
 ghost use Rattle.bm_io.specs.Counts.{counted, Rose, RoseByMoreThan};
+ghost use Rattle.bm_io.specs.Told.{IsToldAs};
 
 use crate::reading::{Fetch, Files};
 use std::alloc::Global;
@@ -90,7 +91,21 @@ impl<'a, R: rt::Files> Files for RealFiles<'a, R> {
 
     ghost taken = { λ s. s.taken };
 
-    fn fetch(&mut self, alloc: Global, name: &str, limit: u64) -> Result<Vec<u8>, Fetch> {
+    /// `Failed` comes only where a fault was counted, and the bytes that are answered were counted as
+    /// taken, all of them.
+    fn fetch(&mut self, alloc: Global, name: &str, limit: u64) -> Result<Vec<u8>, Fetch>
+        ensures bounded { IfOk result (λ bytes. length bytes.items ≤ limit) }
+        ensures told { IfOk result (λ bytes. IsToldAs None name.now bytes.items) }
+        ensures given { IfOk result (λ bytes.
+            self.new.taken ≡ counted self.old.taken (length bytes.items)) }
+        ensures failed { IsErrOf result Fetch.Failed → Rose self.old.faults self.new.faults }
+        ensures too_long { IsErrOf result Fetch.TooLong
+            → RoseByMoreThan limit self.old.taken self.new.taken }
+        ensures faults_stay { self.old.faults ≤ self.new.faults }
+        ensures faults_fit { self.new.faults < 2 ^ 64 }
+        ensures taken_stays { self.old.taken ≤ self.new.taken }
+        ensures taken_fits { self.new.taken < 2 ^ 64 }
+    {
         let Ok(mut file) = fs::open(self.runtime, name) else {
             self.faults = self.faults.saturating_add(1);
             return Err(Fetch::Failed);
