@@ -4,11 +4,12 @@ use Rattle.bm_base.specs.Extent.{Extent}
 use Rattle.bm_base.specs.Size.{size_of}
 use Rattle.e820_model.specs.declared.edit.Edit.TheVariants.{Add, Remove, RemoveAll, Change, Clear}
 use Rattle.boot_options.specs.declared.fault.OptionFault.TheVariants as faults
+use Rattle.boot_options.specs.declared.options.Options.{Options}
 use Rattle.boot_options.specs.declared.piece.Piece.{Piece}
 use Rattle.boot_options.specs.declared.piece.Piece.TheVariants.{ExactMap, Adding, Other}
 use Rattle.boot_options.specs.declared.reading.UserMap.{UserMap}
 use Rattle.boot_options.specs.Pieces.{part_of, size_part, number_part, at_end, whole_size, range_at, unless_empty, range_above, ram_above, added, small_kind, kind_behind, retyped_to, retyped_from, retyped, changed, by_mark, sized_piece, piece_of, ram_up_to, mem_of, Spell, SpellsType}
-use Rattle.boot_options.specs.Options.{raw_line, is_closed, checked_line, line_of, Said, Pieces, NumaOff, pieces_of, memmap_of, of_piece, numa_of, or_fault, said_by, at_cut, named, until_end, option_words, said_from, numbered, all_pieces, edit_of, with_edit, edits_of, is_numa_off, count_adding, or_here, last_exact, Chosen, chosen_by, with_user_map, judged, options_of, Gives, HasRange, HaveRanges, IsNumbered}
+use Rattle.boot_options.specs.Options.{raw_line, is_closed, checked_line, line_of, Said, Pieces, NumaOff, pieces_of, memmap_of, of_piece, numa_of, or_fault, said_by, at_cut, named, until_end, option_words, said_from, numbered, all_pieces, edit_of, with_edit, edits_of, is_numa_off, count_adding, or_here, last_exact, Chosen, chosen, chosen_by, with_user_map, judged, options_of, Gives, HasRange, HaveRanges, IsNumbered}
 use Rattle.boot_options.specs.Reading.{start, one_fewer, user_map_behind, after_piece, after_pieces, after, after_all, read_on, read_all, read_pieces, when_complete, finished}
 
 abbrev range : ℕ → ℕ → Extent
@@ -221,6 +222,13 @@ user_maps = (refl, refl, refl)
 
 judged_words : (judged three_words ≡ Ok (record { edits = Clear ∷ Add (range 0 8) 1 ∷ []; numa_off = true })) × (judged ((1, Pieces (ExactMap ∷ a_page ∷ [])) ∷ []) ≡ Err (faults.UserMapInvalid 1))
 judged_words = (refl, refl)
+
+-- what contracts see of options: the edits, without the vector that holds them, and whether the SRAT is read
+chosen_options : (options : Options) → options.edits.items ≡ Clear ∷ [] → options.numa_off ≡ true → chosen options ≡ record { edits = Clear ∷ []; numa_off = true }
+chosen_options options edits off = rw (edits, off) refl
+
+chosen_nothing : (options : Options) → options.edits.items ≡ [] → options.numa_off ≡ false → chosen options ≡ nothing_chosen
+chosen_nothing options edits on = rw (edits, on) refl
 
 chosen_words : (chosen_by [] ≡ nothing_chosen) × (chosen_by ((2, NumaOff) ∷ []) ≡ record { edits = []; numa_off = true })
 chosen_words = (refl, refl)
