@@ -38,8 +38,11 @@ none_in_the_list : AreItems (item.Trim ∷ (item.Free (bytes 7 0) ∷ [])) → �
 none_in_the_list some = let empty = some.1.0 in omega arith
 
 -- one item alone
-nobody_at_first : no_owners 5 ≡ None
+nobody_at_first : no_owners 0 ≡ None
 nobody_at_first = refl
+
+nobody_at_five : no_owners 5 ≡ None
+nobody_at_five = refl
 
 claimed : owners_after no_owners (item.Claim (bytes 4 8) owner.Soft) 11 ≡ Some owner.Soft
 claimed = refl
@@ -47,8 +50,11 @@ claimed = refl
 claimed_elsewhere : owners_after no_owners (item.Claim (bytes 4 8) owner.Soft) 12 ≡ None
 claimed_elsewhere = refl
 
-absent_at_first : no_memory 5 ≡ None
+absent_at_first : no_memory 0 ≡ None
 absent_at_first = refl
+
+absent_at_five : no_memory 5 ≡ None
+absent_at_five = refl
 
 made_memory : nodes_after no_memory (item.Mem (bytes 4 8)) 4 ≡ Some None
 made_memory = refl
@@ -143,6 +149,9 @@ no_limit = refl
 
 limit_set : limit_after 7 (item.Limit 5) ≡ 5
 limit_set = refl
+
+limit_left : limit_after 7 (item.Free (bytes 0 4)) ≡ 7
+limit_left = refl
 
 limit_stays : limit_of (item.Limit 7 ∷ (item.Mem (bytes 0 8) ∷ (item.Node (bytes 0 8) 1 ∷ (item.Claim (bytes 0 8) owner.Kernel ∷ (item.Free (bytes 0 4)
     ∷ (item.Grown which.Memory 4 256 ∷ [])))))) ≡ 7

@@ -154,6 +154,9 @@ room_at_first = refl
 room_once_more : room_after which.Reserved 256 (item.Grown which.Reserved 8192 7) ≡ 512
 room_once_more = refl
 
+room_of_the_other : room_after which.Memory 256 (item.Grown which.Reserved 8192 7) ≡ 256
+room_of_the_other = refl
+
 -- nothing else speaks of room or place
 abbrev no_growth : List Item
 no_growth = item.Mem (bytes 1 4) ∷ (item.Node (bytes 3 2) 7 ∷ (item.Trim ∷ (item.Claim (bytes 2 2) owner.Kernel ∷ (item.Free (bytes 2 1) ∷ (item.Limit 4 ∷ [])))))
