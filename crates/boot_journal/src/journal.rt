@@ -52,11 +52,12 @@ impl Journal {
         Ok(())
     }
 
-    /// Appends the item, whose range isn't empty. Nothing is said of `spare` afterwards. After
-    /// `Memory` the journal is as before.
+    /// Appends the item, whose range isn't empty; `spare` falls by one at most. After `Memory` the
+    /// journal is as before.
     pub fn push(&mut self, item: Item) -> Result<(), Memory>
         requires { IsItem item }
         ensures ok { OnOk result (self.new.items ≡ self.old.items ++ item ∷ []) }
+        ensures spare { OnOk result (self.old.spare ≤ self.new.spare + 1) }
         ensures err { OnErr result (self.new ≡ self.old) }
     {
         self.items.push(item)?;
@@ -90,7 +91,7 @@ impl Journal {
     }
 
     /// Whether the byte at `x` is memory, and of which node. Takes no memory. The time is that of a
-    /// few looks at all items, one more for each end of a range inside the frame of `x`.
+    /// few looks at all items, two more for each end of a range inside the frame of `x`.
     pub fn tag_at(&self, x: u64) -> Tag
         ensures { result ≡ tag_of self.now.items x }
     {
