@@ -145,6 +145,8 @@ fn owners(rt: HostRuntime) -> Result<(), Fail> {
 #[test]
 fn items_stand_in_their_order(rt: HostRuntime) -> Result<(), Fail> {
     let mut journal = Journal::new(rt.alloc());
+    assert_eq!(rt; journal.items().len(), 0);
+    assert_eq!(rt; journal.owner_runs()?.len(), 0);
     journal.push(Item::Limit { at: 0x10_0000 })?;
     journal.ready(1)?;
     journal.push_ready(Item::Grown {
@@ -161,5 +163,10 @@ fn items_stand_in_their_order(rt: HostRuntime) -> Result<(), Fail> {
         },
     ];
     assert_eq!(rt; journal.items(), expected.as_slice());
+    let text = format!(in rt.alloc(); "{journal:?}")?;
+    assert_eq!(rt;
+        text.as_str(),
+        "Journal { items: [Limit { at: 1048576 }, Grown { which: Reserved, place: 20480, room: 256 }], spare: 0 }"
+    );
     Ok(())
 }
