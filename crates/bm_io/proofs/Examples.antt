@@ -7,7 +7,7 @@ use Rattle.bm_io.specs.declared.mem_files.MemFile.{MemFile}
 use Rattle.bm_io.specs.Counts.{counted, Rose, RoseByMoreThan}
 use Rattle.bm_io.specs.Told.{IsToldAs, IsToldLonger, AppendsFront}
 use Rattle.bm_io.specs.HeldFiles.{HeldFiles, held_file, held_files, is_named, bytes_of, HaveOwnNames, IsRefused, IsLonger, failures, bytes_taken}
-use Rattle.bm_io.specs.HeldOutput.{failures as put_failures, wants_of_memory}
+use Rattle.bm_io.specs.HeldOutput.{HeldOutput, failures as put_failures, wants_of_memory}
 
 -- a count goes up, and stands still at 2^64 - 1
 counts : (counted 5 3 ≡ 8) × (counted (2 ^ 64 - 2) 3 ≡ 2 ^ 64 - 1)
@@ -98,3 +98,16 @@ failed_puts = (refl, refl, refl)
 
 wanted_memory : (wants_of_memory (Ok tt) ≡ 0) × (wants_of_memory (Err put.Failed) ≡ 0) × (wants_of_memory (Err put.Memory) ≡ 1)
 wanted_memory = (refl, refl, refl)
+
+-- an output whose second call failed, before that call and behind it: half of the piece went out
+abbrev before_failure : HeldOutput
+before_failure = record { written = codes "ab"; failing = 2 ∷ []; calls = 1; faults = 0; wants = 0 }
+
+abbrev behind_failure : HeldOutput
+behind_failure = record { written = codes "abc"; failing = 2 ∷ []; calls = 2; faults = 1; wants = 0 }
+
+half_of_a_piece : AppendsFront (Some before_failure.written) (Some behind_failure.written) (codes "cd")
+half_of_a_piece = (1, omega arith, refl)
+
+counted_failure : (behind_failure.faults ≡ counted before_failure.faults (put_failures (Err put.Failed))) × Rose before_failure.faults behind_failure.faults
+counted_failure = (refl, omega arith)
