@@ -17,7 +17,6 @@
 mod claimed;
 mod journal;
 mod owners;
-mod ranges;
 mod tags;
 
 pub use journal::Journal;

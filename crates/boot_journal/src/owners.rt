@@ -5,7 +5,6 @@ ghost use Rattle.memblock_model.specs.Items.{AreItems, owner_of, owner_runs_of};
 ghost use Rattle.boot_journal.specs.Newest.{claimed_by, owned};
 
 use crate::claimed::Claimed;
-use crate::ranges::contains;
 use address_runs::{Stretch, overlay_all};
 use bm_base::Memory;
 use memblock_model::{Item, Owner, OwnerRun};
@@ -19,8 +18,8 @@ pub fn owner_at(items: &[Item], x: u64) -> Option<Owner>
     let mut rest = items;
     while let [older @ .., newest] = rest {
         match newest {
-            Item::Claim { range, owner } if contains(range, x) => return Some(*owner),
-            Item::Free { range } if contains(range, x) => return None,
+            Item::Claim { range, owner } if range.contains(x) => return Some(*owner),
+            Item::Free { range } if range.contains(x) => return None,
             _ => {}
         }
         rest = older;

@@ -3,7 +3,6 @@ ghost use Rattle.bm_base.specs.Extent.{end_of};
 ghost use Rattle.memblock_model.specs.Items.{tag_of};
 ghost use Rattle.boot_journal.specs.Bytes.{is_trim, tag_after, tag_from, tag_kept, Agrees, Differs, EdgesAgree, AllAgree};
 
-use crate::ranges::contains;
 use bm_base::Range;
 use memblock_model::{Item, Tag};
 
@@ -15,8 +14,8 @@ fn after(tag: Tag, item: &Item, x: u64) -> Tag
     ensures { result ≡ tag_after x tag item.now }
 {
     match item {
-        Item::Mem { range } if tag == Tag::Absent && contains(range, x) => Tag::NoNode,
-        Item::Node { range, node } if tag != Tag::Absent && contains(range, x) => Tag::Node(*node),
+        Item::Mem { range } if tag == Tag::Absent && range.contains(x) => Tag::NoNode,
+        Item::Node { range, node } if tag != Tag::Absent && range.contains(x) => Tag::Node(*node),
         _ => tag,
     }
 }
@@ -53,8 +52,7 @@ fn item_agrees(tag: Tag, items: &[Item], first: u64, item: &Item) -> bool
     ensures differs { result ≡ false → (e : ℕ) × Differs tag items.now first e }
 {
     match item {
-        Item::Mem { range } => range_agrees(tag, items, first, range),
-        Item::Node { range, .. } => range_agrees(tag, items, first, range),
+        Item::Mem { range } | Item::Node { range, .. } => range_agrees(tag, items, first, range),
         _ => true,
     }
 }
@@ -64,10 +62,7 @@ fn range_agrees(tag: Tag, items: &[Item], first: u64, range: &Range) -> bool
         Agrees tag items.now first range.now.base × Agrees tag items.now first (end_of range.now) }
     ensures differs { result ≡ false → (e : ℕ) × Differs tag items.now first e }
 {
-    if !edge_agrees(tag, items, first, range.base) {
-        return false;
-    }
-    edge_agrees(tag, items, first, range.end())
+    edge_agrees(tag, items, first, range.base) && edge_agrees(tag, items, first, range.end())
 }
 
 /// Whether all bytes of the frame that begins at `first` have one tag after the items, of which none
