@@ -1,6 +1,7 @@
 ghost use Rattle.std.specs.Prelude.{◌≡◌, ℕ, ◌^◌, ◌<◌, ◌≤◌, length, None, IfSome, IfOk, IsErrOf};
 ghost use Rattle.bm_io.specs.Counts.{counted, Rose, RoseByMoreThan};
 ghost use Rattle.bm_io.specs.Told.{IsToldAs};
+ghost use Rattle.bm_io.specs.HeldFiles.{failures};
 
 use crate::reading::{Fetch, Files};
 use std::alloc::Global;
@@ -54,8 +55,10 @@ impl<'a, R: rt::Files> RealFiles<'a, R> {
         ensures whole { IfOk result (λ bytes. IfSome (F.remaining file.old) (λ all. bytes.items ≡ all)) }
         ensures given { IfOk result (λ bytes.
             self.new.taken ≡ counted self.old.taken (length bytes.items)) }
+        ensures faults { self.new.faults ≡ counted self.old.faults (failures result) }
         ensures failed { IsErrOf result Fetch.Failed → Rose self.old.faults self.new.faults }
-        ensures too_long { IsErrOf result Fetch.TooLong → RoseByMoreThan limit self.old.taken self.new.taken }
+        ensures too_long { IsErrOf result Fetch.TooLong
+            → RoseByMoreThan limit self.old.taken self.new.taken }
         ensures longer { IsErrOf result Fetch.TooLong
             → IfSome (F.remaining file.old) (λ all. limit < length all) }
         ensures faults_stay { self.old.faults ≤ self.new.faults }
@@ -91,13 +94,14 @@ impl<'a, R: rt::Files> Files for RealFiles<'a, R> {
 
     ghost taken = { λ s. s.taken };
 
-    /// `Failed` comes only where a fault was counted, and the bytes that are answered were counted as
-    /// taken, all of them.
+    /// One fault is counted where the answer is `Failed`, and none else; the bytes that are answered were
+    /// counted as taken, all of them.
     fn fetch(&mut self, alloc: Global, name: &str, limit: u64) -> Result<Vec<u8>, Fetch>
         ensures bounded { IfOk result (λ bytes. length bytes.items ≤ limit) }
         ensures told { IfOk result (λ bytes. IsToldAs None name.now bytes.items) }
         ensures given { IfOk result (λ bytes.
             self.new.taken ≡ counted self.old.taken (length bytes.items)) }
+        ensures faults { self.new.faults ≡ counted self.old.faults (failures result) }
         ensures failed { IsErrOf result Fetch.Failed → Rose self.old.faults self.new.faults }
         ensures too_long { IsErrOf result Fetch.TooLong
             → RoseByMoreThan limit self.old.taken self.new.taken }

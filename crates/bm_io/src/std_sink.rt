@@ -1,4 +1,8 @@
-ghost use Rattle.std.specs.Prelude.{◌≡◌, ℕ};
+ghost use Rattle.std.specs.Prelude.{◌≡◌, ℕ, ◌^◌, ◌<◌, ◌≤◌, OnOk, OnErr, IsErrOf};
+ghost use Rattle.std.specs.Io.KnownBytes.{Appends};
+ghost use Rattle.bm_io.specs.Counts.{counted, Rose};
+ghost use Rattle.bm_io.specs.HeldOutput.{failures};
+ghost use Rattle.bm_io.specs.Told.{AppendsFront};
 
 use crate::writing::{Put, Sink};
 use std::io::Write;
@@ -40,7 +44,16 @@ impl<W: Write + Drop> Sink for StdSink<W> {
 
     ghost wants = { λ s. 0 };
 
-    fn put(&mut self, piece: &[u8]) -> Result<(), Put> {
+    /// One fault is counted where the answer is `Failed`, and none else; want of memory never comes.
+    fn put(&mut self, piece: &[u8]) -> Result<(), Put>
+        ensures whole { OnOk result (Appends self.old.written self.new.written piece.now) }
+        ensures front { OnErr result (AppendsFront self.old.written self.new.written piece.now) }
+        ensures faults { self.new.faults ≡ counted self.old.faults (failures result) }
+        ensures failed { IsErrOf result Put.Failed → Rose self.old.faults self.new.faults }
+        ensures never { ¬ IsErrOf result Put.Memory }
+        ensures faults_stay { self.old.faults ≤ self.new.faults }
+        ensures faults_fit { self.new.faults < 2 ^ 64 }
+    {
         let mut rest = piece;
         while !rest.is_empty() {
             match self.writer.write(rest) {
