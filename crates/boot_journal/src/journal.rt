@@ -52,13 +52,14 @@ impl Journal {
         Ok(())
     }
 
-    /// Appends the item, whose range isn't empty; `spare` falls by one at most. After `Memory` the
-    /// journal is as before.
+    /// Appends the item, whose range isn't empty; `spare` falls by one at most. `Memory` comes only
+    /// where it is 0, and the journal is then as before.
     pub fn push(&mut self, item: Item) -> Result<(), Memory>
         requires { IsItem item }
         ensures ok { OnOk result (self.new.items ≡ self.old.items ++ item ∷ []) }
         ensures spare { OnOk result (self.old.spare ≤ self.new.spare + 1) }
         ensures err { OnErr result (self.new ≡ self.old) }
+        ensures memory { OnErr result (self.old.spare ≡ 0) }
     {
         self.items.push(item)?;
         self.spare = self.spare.saturating_sub(1);
