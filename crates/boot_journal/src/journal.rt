@@ -40,12 +40,14 @@ impl Journal {
         }
     }
 
-    /// Takes the memory for `n` more items. After `Memory` the journal is as before.
+    /// Takes the memory for `n` more items. `Memory` comes only where there was less, and the journal
+    /// is then as before.
     pub fn ready(&mut self, n: u64) -> Result<(), Memory>
         ensures items { self.new.items ≡ self.old.items }
         ensures enough { OnOk result (n ≤ self.new.spare) }
         ensures no_less { self.old.spare ≤ self.new.spare }
         ensures err { OnErr result (self.new ≡ self.old) }
+        ensures memory { OnErr result (self.old.spare < n) }
     {
         self.items.reserve(n as usize)?;
         self.spare = self.spare.max(n);
