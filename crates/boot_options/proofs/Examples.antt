@@ -36,8 +36,8 @@ empty_or_not : (unless_empty (range 0 1) Clear ≡ Some Clear) × (unless_empty 
 empty_or_not = (refl, refl)
 
 -- RAM from an address on, and where there is no address left
-above : (range_above (2 ^ 64 - 2) ≡ range (2 ^ 64 - 2) 1) × (ram_above (2 ^ 64 - 2) ≡ Some (Remove (range (2 ^ 64 - 2) 1) 1)) × (ram_above (2 ^ 64 - 1) ≡ None)
-above = (refl, refl, refl)
+above : (range_above (2 ^ 64 - 2) ≡ range (2 ^ 64 - 2) 1) × (range_above 0 ≡ range 0 (2 ^ 64 - 1)) × (ram_above (2 ^ 64 - 2) ≡ Some (Remove (range (2 ^ 64 - 2) 1) 1)) × (ram_above (2 ^ 64 - 1) ≡ None)
+above = (refl, refl, refl, refl)
 
 -- one piece of each form
 ram_piece : piece_of (codes "1M@2M") ≡ Some (Adding (Some (Add (range 0x200000 0x100000) 1)))
@@ -117,6 +117,15 @@ spelled_range = record { size = refl; base = refl; some = omega arith; ends = om
 spelled_type : SpellsType (codes "12") 12
 spelled_type = record { number = refl; above = omega arith; small = omega arith }
 
+spelled_last_byte : Spell (codes "1") (codes "0xFFFFFFFFFFFFFFFE") (range (2 ^ 64 - 2) 1)
+spelled_last_byte = record { size = refl; base = refl; some = omega arith; ends = omega arith }
+
+empty_range_isn't_spelled : Spell (codes "0") (codes "1M") (range 0x100000 0) → ⊥
+empty_range_isn't_spelled spelled = let some = spelled.some in omega arith
+
+zero_isn't_a_type : SpellsType (codes "0") 0 → ⊥
+zero_isn't_a_type spelled = let above = spelled.above in omega arith
+
 -- the line ends before the first zero byte, and one newline at its end doesn't count
 raw_lines : (raw_line (codes "quiet\n") ≡ codes "quiet") × (raw_line (113 ∷ 10 ∷ 10 ∷ 0 ∷ 120 ∷ []) ≡ 113 ∷ 10 ∷ []) × (raw_line [] ≡ [])
 raw_lines = (refl, refl, refl)
@@ -170,6 +179,9 @@ words_up_to_the_end = (refl, refl)
 words_of_options : option_words (codes "a \"b\" -- c") ≡ codes "a" ∷ codes "b" ∷ []
 words_of_options = refl
 
+no_words_before_the_end : option_words (codes "-- a") ≡ []
+no_words_before_the_end = refl
+
 -- the fault of the lowest word goes first, and the words are numbered from the number that is given
 first_fault : said_from 1 (codes "quiet" ∷ codes "numa=on" ∷ codes "mem=0" ∷ []) ≡ Err (faults.BadNuma 2)
 first_fault = refl
@@ -191,8 +203,8 @@ numbered_pieces : (numbered 4 (ExactMap ∷ a_page ∷ []) [] ≡ (4, ExactMap) 
 numbered_pieces = (refl, refl)
 
 -- an adding piece with an empty range makes no edit
-edits_of_pieces : (edits_of (all_pieces three_words) ≡ Clear ∷ Add (range 0 8) 1 ∷ []) × (edit_of (Adding None) ≡ None) × (edit_of ExactMap ≡ Some Clear)
-edits_of_pieces = (refl, refl, refl)
+edits_of_pieces : (edits_of (all_pieces three_words) ≡ Clear ∷ Add (range 0 8) 1 ∷ []) × (edit_of (Adding None) ≡ None) × (edit_of ExactMap ≡ Some Clear) × (edits_of [] ≡ [])
+edits_of_pieces = (refl, refl, refl, refl)
 
 edits_in_front : (with_edit (Some Clear) [] ≡ Clear ∷ []) × (with_edit None (Clear ∷ []) ≡ Clear ∷ [])
 edits_in_front = (refl, refl)
@@ -201,8 +213,8 @@ numa_is_off : (is_numa_off three_words ≡ true) × (is_numa_off ((1, Pieces (Ex
 numa_is_off = (refl, refl)
 
 -- the last `exactmap` counts, and the adding pieces behind it
-two_behind_it : (last_exact (all_pieces three_words) ≡ Some (1, 2)) × (count_adding (all_pieces three_words) ≡ 2)
-two_behind_it = (refl, refl)
+two_behind_it : (last_exact (all_pieces three_words) ≡ Some (1, 2)) × (count_adding (all_pieces three_words) ≡ 2) × (count_adding ((1, ExactMap) ∷ (2, Other None) ∷ []) ≡ 0)
+two_behind_it = (refl, refl, refl)
 
 one_behind_the_last : last_exact ((1, ExactMap) ∷ (1, a_page) ∷ (2, ExactMap) ∷ (3, a_page) ∷ (4, Other None) ∷ []) ≡ Some (2, 1)
 one_behind_the_last = refl
@@ -253,6 +265,12 @@ ranges_of_edits = (omega arith, (tt, tt))
 
 no_range : HasRange (RemoveAll (range 5 0)) → ⊥
 no_range has = omega arith
+
+one_has_none : HaveRanges (Clear ∷ RemoveAll (range 5 0) ∷ []) → ⊥
+one_has_none have = let has = have.1.0 in omega arith
+
+change_has_one : HasRange (Change (range 5 1) 1 2)
+change_has_one = omega arith
 
 numbered_faults : IsNumbered (faults.BadMem 1) × IsNumbered faults.OpenQuote
 numbered_faults = (omega arith, tt)

@@ -51,6 +51,9 @@ script_has_no_quotations = refl
 begun_in_a_quotation : parts_from CommandLine true (codes "a b\" c") ≡ codes "a b\"" ∷ codes "c" ∷ []
 begun_in_a_quotation = refl
 
+begun_outside : parts_from CommandLine false (codes "a b\" c") ≡ codes "a" ∷ codes "b\" c" ∷ []
+begun_outside = refl
+
 behind_a_separator : (parts_behind (Byte 44) (Some (codes "b,c")) ≡ codes "b" ∷ codes "c" ∷ []) × (parts_behind (Byte 44) (Some []) ≡ [] ∷ []) × (parts_behind (Byte 44) None ≡ [])
 behind_a_separator = (refl, refl, refl)
 
