@@ -2,6 +2,7 @@
 use Rattle.std.proofs.Common.{◌≡◌, ℕ, Option, Some, None, Result, Ok, Err, Vec, Global, refl, ap}
 use Rattle.std.specs.Prelude.{IfSome}
 use Rattle.e820_model.specs.MapText.{map_text}
+use Rattle.bm_base.specs.ResultSteps.{◌>>=◌}
 use Rattle.bootmem_cli.specs.declared.boot.Stop.{Stop}
 use Rattle.bootmem_cli.specs.declared.failure.Input.{Input}
 use Rattle.bootmem_cli.specs.declared.failure.Refusal.{Refusal}
@@ -10,7 +11,7 @@ use Rattle.bootmem_cli.specs.declared.failure.Failure.{Failure}
 use Rattle.bootmem_cli.specs.declared.failure.Failure.TheVariants as failures
 use Rattle.bootmem_cli.specs.Boot.{Made, boot}
 use Rattle.bootmem_cli.specs.Words.{Named}
-use Rattle.bootmem_cli.specs.Outcome.{Held, ◌>>=◌, inputs_of, or_stopped, outcome}
+use Rattle.bootmem_cli.specs.Outcome.{Held, inputs_of, or_stopped, outcome}
 use Rattle.bootmem_cli.specs.Answers.{ComesTo, Fits, Gives}
 
 -- a failure that fits a step fits that step and the one behind it; where a file couldn't be read although the

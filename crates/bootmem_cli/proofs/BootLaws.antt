@@ -14,9 +14,10 @@ use Rattle.e820_usable.specs.declared.stop.MapStop.{MapStop}
 use Rattle.e820_usable.specs.declared.stop.MapStop.TheVariants as reasons
 use Rattle.e820_usable.specs.Judged.{judged}
 use Rattle.boot_options.specs.Options.{Chosen}
+use Rattle.bm_base.specs.ResultSteps.{◌>>=◌}
 use Rattle.bootmem_cli.specs.declared.boot.Stop.{Stop}
 use Rattle.bootmem_cli.specs.declared.boot.Stop.TheVariants as stops
-use Rattle.bootmem_cli.specs.Boot.{Given, Made, ◌>>=◌, claims, room, unless_stopped, boot, lies_in_memory}
+use Rattle.bootmem_cli.specs.Boot.{Given, Made, claims, room, unless_stopped, boot, lies_in_memory}
 
 -- what is known where the steps come to an end
 pub record GoesOn (given : Given) (made : Made) : Type 0 where

@@ -10,6 +10,7 @@ use Rattle.e820_table.specs.Extension.{ext_fault, ext_entries_of}
 use Rattle.boot_options.specs.declared.fault.OptionFault.{OptionFault}
 use Rattle.boot_options.specs.Options.{Chosen, options_of}
 use Rattle.bm_io.specs.Told.{AppendsFront}
+use Rattle.bm_base.specs.ResultSteps.{◌>>=◌}
 use Rattle.bootmem_cli.specs.declared.failure.Input.{Input}
 use Rattle.bootmem_cli.specs.declared.failure.Input.TheVariants as inputs
 use Rattle.bootmem_cli.specs.declared.failure.InputFault.TheVariants as faults
@@ -20,7 +21,7 @@ use Rattle.bootmem_cli.specs.declared.failure.Failure.TheVariants as failures
 use Rattle.bootmem_cli.specs.Boot.{boot}
 use Rattle.bootmem_cli.specs.Words.{Named}
 use Rattle.bootmem_cli.specs.Status.{status_of}
-use Rattle.bootmem_cli.specs.Outcome.{Held, ◌>>=◌, within, file_of, unless_zero_fault, zero_page_of, unless_ext_fault, if_named, extension_of, unless_option_fault, no_options, command_line_of, inputs_of, or_stopped, outcome}
+use Rattle.bootmem_cli.specs.Outcome.{Held, within, file_of, unless_zero_fault, zero_page_of, unless_ext_fault, if_named, extension_of, unless_option_fault, no_options, command_line_of, inputs_of, or_stopped, outcome}
 use Rattle.bootmem_cli.specs.Answers.{ComesTo, EndHasCause, Ends, IsText, Writes}
 use Rattle.bootmem_cli.proofs.AnswerLaws.{comes_to_boot}
 

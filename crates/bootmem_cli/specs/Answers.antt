@@ -1,6 +1,8 @@
 -- How the answers of the program's parts stand to what the definitions say.
-use Rattle.std.specs.Prelude.{◌≡◌, ℕ, ◌≤◌, List, Option, Some, None, Result, Ok, Err, IsNone, IsSome, ◌⊎◌}
+use Rattle.std.specs.Prelude.{◌≡◌, ◌≢◌, ℕ, ◌≤◌, List, Option, Some, None, Result, Ok, Err, IsNone, IsSome, ◌⊎◌}
 use Rattle.std.specs.Io.KnownBytes.{Appends}
+use Rattle.e820_table.specs.declared.extension.ExtFault.TheVariants as extension
+use Rattle.boot_options.specs.declared.fault.OptionFault.TheVariants as options
 use Rattle.bm_io.specs.Counts.{Rose}
 use Rattle.bm_io.specs.Told.{AppendsFront}
 use Rattle.bootmem_cli.specs.declared.failure.Input.{Input}
@@ -74,12 +76,16 @@ abbrev pub RoseFor : (before now : List ℕ → ℕ) → Option Named → Input 
 RoseFor before now None input = ⊥
 RoseFor before now (Some named) input = RoseAt before now (name_of named input)
 
--- the cause of a refusal, whatever the files tell: refused words, or a rise of the faults of a named file
+-- the cause of a refusal, whatever the files tell: refused words, or a rise of the faults of a named file; want of
+-- memory is no fault of an input and no stop
 abbrev pub RefusalHasCause : (before now : List ℕ → ℕ) → Option Named → Refusal → Type 0
 RefusalHasCause before now accepted refusals.Usage = IsNone accepted
 RefusalHasCause before now accepted (refusals.Unread input) = RoseFor before now accepted input
-RefusalHasCause before now accepted (refusals.Faulty fault) = IsSome accepted
-RefusalHasCause before now accepted (refusals.Stopped stop) = IsSome accepted
+RefusalHasCause before now accepted (refusals.Faulty (faults.TooLong input)) = IsSome accepted
+RefusalHasCause before now accepted (refusals.Faulty (faults.ZeroPage fault)) = IsSome accepted
+RefusalHasCause before now accepted (refusals.Faulty (faults.Extension fault)) = IsSome accepted × (fault ≢ extension.Memory)
+RefusalHasCause before now accepted (refusals.Faulty (faults.CommandLine fault)) = IsSome accepted × (fault ≢ options.Memory)
+RefusalHasCause before now accepted (refusals.Stopped stop) = IsSome accepted × (stop ≢ stops.Memory)
 
 abbrev pub HasCause : {X : Type 0} → (before now : List ℕ → ℕ) → Option Named → Result X Failure → Type 0
 HasCause before now accepted (Ok x) = IsSome accepted
@@ -88,13 +94,13 @@ HasCause before now accepted (Err failures.Unwritten) = ⊥
 HasCause before now accepted (Err failures.Memory) = IsSome accepted
 
 -- how the fetch of one file answers, whatever the files tell: only a rise of the faults of its name makes it
--- unread
+-- unread, and its one fault is that it is too long
 abbrev pub FetchHasCause : {X : Type 0} → (before now : List ℕ → ℕ) → Input → List ℕ → Result X Failure → Type 0
 FetchHasCause before now input name (Ok x) = Unit {0}
 FetchHasCause before now input name (Err (failures.Refused refusals.Usage)) = ⊥
 FetchHasCause before now input name (Err (failures.Refused (refusals.Unread other))) =
     (other ≡ input) × Rose (before name) (now name)
-FetchHasCause before now input name (Err (failures.Refused (refusals.Faulty fault))) = Unit {0}
+FetchHasCause before now input name (Err (failures.Refused (refusals.Faulty fault))) = fault ≡ faults.TooLong input
 FetchHasCause before now input name (Err (failures.Refused (refusals.Stopped stop))) = ⊥
 FetchHasCause before now input name (Err failures.Unwritten) = ⊥
 FetchHasCause before now input name (Err failures.Memory) = Unit {0}

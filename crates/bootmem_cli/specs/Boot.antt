@@ -1,7 +1,9 @@
 -- The boot: what `setup_arch` makes of the firmware's map and of the command line, step by step.
 use Rattle.std.specs.Prelude.{ℕ, ◌==◌, Bool, ◌&&◌, ◌||◌, List, length, nat_lt, if◌then◌else◌, Option, Some, None, Result, Ok, Err}
 use Rattle.std.specs.List.{list_any}
+use Rattle.bm_base.specs.ResultSteps.{◌>>=◌}
 use Rattle.address_runs.specs.Runs.{RunOf, lies_in}
+use Rattle.e820_model.specs.declared.types.TheConstants.{E820_TYPE_RAM, E820_TYPE_RESERVED_KERN}
 use Rattle.e820_model.specs.declared.entry.Entry.{Entry}
 use Rattle.e820_model.specs.Claims.{Claims, finished}
 use Rattle.e820_model.specs.Map.{kinds, map_of}
@@ -11,12 +13,6 @@ use Rattle.e820_usable.specs.Judged.{judged}
 use Rattle.boot_options.specs.Options.{Chosen}
 use Rattle.bootmem_cli.specs.declared.boot.Stop.{Stop}
 use Rattle.bootmem_cli.specs.declared.boot.Stop.TheVariants as stops
-
--- one step after another, up to the first that stops the boot
-infixl 10 ◌>>=◌
-abbrev pub ◌>>=◌ : {A B : Type 0} → Result A Stop → (A → Result B Stop) → Result B Stop
-Ok a >>= step = step a
-Err stop >>= step = Err stop
 
 -- what a boot is given: the zero page's entries, those of the extension, and the options
 pub record Given : Type 0 where
@@ -61,7 +57,6 @@ boot given = do
   map ← judged_map (claims given)
   Ok (record { map = map; options = given.options })
 
--- whether the address lies in a run of RAM, or of memory of the kernel's own (`E820_TYPE_RAM`,
--- `E820_TYPE_RESERVED_KERN`)
+-- whether the address lies in a run of RAM, or of memory of the kernel's own
 abbrev pub lies_in_memory : List (RunOf ℕ) → ℕ → Bool
-lies_in_memory map x = list_any (λ r. lies_in r x && (r.value == 1 || r.value == 128)) map
+lies_in_memory map x = list_any (λ r. lies_in r x && (r.value == E820_TYPE_RAM || r.value == E820_TYPE_RESERVED_KERN)) map

@@ -1,5 +1,6 @@
 -- What the program comes to, from the words and from what each name holds.
 use Rattle.std.specs.Prelude.{ℕ, false, List, [], length, Option, Some, None, Result, Ok, Err, nat_lt, if◌then◌else◌}
+use Rattle.bm_base.specs.ResultSteps.{◌>>=◌}
 use Rattle.e820_model.specs.declared.entry.Entry.{Entry}
 use Rattle.e820_model.specs.MapText.{map_text}
 use Rattle.boot_options.specs.declared.fault.OptionFault.{OptionFault}
@@ -20,12 +21,6 @@ use Rattle.bootmem_cli.specs.Words.{Named}
 -- what each name holds
 abbrev pub Held : Type 0
 Held = List ℕ → Option (List ℕ)
-
--- one step after another, up to the first refusal
-infixl 10 ◌>>=◌
-abbrev pub ◌>>=◌ : {A B : Type 0} → Result A Refusal → (A → Result B Refusal) → Result B Refusal
-Ok a >>= step = step a
-Err refusal >>= step = Err refusal
 
 -- what the words name, where they are accepted
 abbrev pub or_usage : Option Named → Result Named Refusal
@@ -81,7 +76,7 @@ command_line_of held named = if_named named.command_line no_options (λ name. do
   bytes ← file_of held inputs.CommandLine 4096 name
   unless_option_fault (options_of bytes))
 
--- the inputs: each file is fetched and judged before the next
+-- the inputs in their order, of which the first refusal is the answer
 abbrev pub inputs_of : Held → Named → Result Given Refusal
 inputs_of held named = do
   entries ← zero_page_of held named

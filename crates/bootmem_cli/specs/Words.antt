@@ -4,6 +4,7 @@ use Rattle.std.specs.Prelude.{ℕ, nat_eq, Bool, true, false, ◌&&◌, ◌||◌
 use Rattle.std.specs.List.{starts_with}
 use Rattle.std.specs.Str.{bytes_eq}
 use Rattle.std.specs.declared.alloc.Global.{Global}
+use Rattle.bm_base.specs.OptionSteps.{◌>>=◌}
 use Rattle.bootmem_cli.specs.declared.failure.Input.{Input}
 use Rattle.bootmem_cli.specs.declared.failure.Input.TheVariants as inputs
 
@@ -52,12 +53,6 @@ at_most_one (first ∷ second ∷ rest) = None
 
 abbrev pub value_of : List ℕ → List (List ℕ) → Option (Option (List ℕ))
 value_of option words = at_most_one (values_of option words)
-
--- one step after another, as far as none fails
-infixl 10 ◌>>=◌
-abbrev pub ◌>>=◌ : {A B : Type 0} → Option A → (A → Option B) → Option B
-None >>= step = None
-Some a >>= step = step a
 
 -- the test holds
 abbrev pub provided : Bool → Option (Unit {0})

@@ -18,13 +18,15 @@ use std::alloc::Global;
 /// The most bytes of a zero page's file.
 const ZERO_PAGE_LIMIT: u64 = 4096;
 
-/// The most bytes of an extension's file: 3,072 entries behind the header.
+/// The most bytes of an extension's file: 3,072 entries behind the header, which with the 128 of a zero
+/// page are as many as the kernel's table holds (`E820_MAX_ENTRIES`).
 const EXTENSION_LIMIT: u64 = 61_456;
 
 /// The most bytes of a command line's file.
 const COMMAND_LINE_LIMIT: u64 = 4096;
 
-/// Fetches each file that is named, and judges it before the next.
+/// Fetches each file that is named, in the order of work, and judges it before the next; the first
+/// refusal is the answer.
 pub fn read_inputs<F: Files>(alloc: Global, files: &mut F, names: &Names) -> Result<Inputs, Failure>
     ensures gives { IfSome (F.holds files.old) (λ held.
         Gives inputs_view result (inputs_of held (names_view names.now))) }

@@ -29,6 +29,7 @@ mod tests;
 mod words;
 
 use bm_io::{RealFiles, StdSink};
+pub use boot::{Booted, Inputs, Stop, boot};
 pub use run::run;
 use std::env;
 use std::io::ErrorKind;

@@ -3,22 +3,25 @@ ghost use Rattle.address_runs.specs.Runs.{AreRuns};
 ghost use Rattle.e820_model.specs.MapText.{kind_name, run_line, map_text};
 
 use bm_base::{Memory, put_dec, put_hex, put_text};
-use e820_sanitise::Run;
+use e820_model::{
+    E820_TYPE_ACPI, E820_TYPE_NVS, E820_TYPE_PMEM, E820_TYPE_PRAM, E820_TYPE_RAM,
+    E820_TYPE_RESERVED, E820_TYPE_RESERVED_KERN, E820_TYPE_SOFT_RESERVED, E820_TYPE_UNUSABLE, Run,
+};
 
 /// The name of a type (`enum e820_type`).
 fn kind_name(kind: u32) -> &'static str
     ensures { result.now ≡ kind_name kind }
 {
     match kind {
-        1 => "usable",
-        2 => "reserved",
-        3 => "ACPI data",
-        4 => "ACPI NVS",
-        5 => "unusable",
-        7 => "persistent",
-        12 => "persistent legacy",
-        128 => "usable kernel",
-        0xefff_ffff => "soft reserved",
+        E820_TYPE_RAM => "usable",
+        E820_TYPE_RESERVED => "reserved",
+        E820_TYPE_ACPI => "ACPI data",
+        E820_TYPE_NVS => "ACPI NVS",
+        E820_TYPE_UNUSABLE => "unusable",
+        E820_TYPE_PMEM => "persistent",
+        E820_TYPE_PRAM => "persistent legacy",
+        E820_TYPE_RESERVED_KERN => "usable kernel",
+        E820_TYPE_SOFT_RESERVED => "soft reserved",
         _ => "other",
     }
 }
