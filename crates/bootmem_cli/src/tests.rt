@@ -28,6 +28,19 @@ const LAST: Entry = Entry {
     kind: 2,
 };
 
+// RAM of 640 KiB, and RAM of 2^44 bytes: 2^32 frames and 160 more.
+const LOW: Entry = Entry {
+    addr: 0,
+    size: 0xa_0000,
+    kind: 1,
+};
+
+const VAST: Entry = Entry {
+    addr: 0x10_0000,
+    size: 0x1000_0000_0000,
+    kind: 1,
+};
+
 const FAR: Entry = Entry {
     addr: 0x1000,
     size: 0xffff_ffff_ffff_f000,
@@ -129,6 +142,13 @@ fn pages(rt: HostRuntime) -> Result<(), Fail> {
     let cases = [
         (4096, page(2, RAM, RESERVED), 0, MAP, ""),
         (4096, page(2, RAM, LAST), 6, "", no_ram),
+        (
+            4096,
+            page(2, LOW, VAST),
+            6,
+            "",
+            "bootmem: stopped: 4294967455 usable frames\n",
+        ),
         (
             4096,
             page(2, RAM, FAR),

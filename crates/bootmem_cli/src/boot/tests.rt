@@ -102,7 +102,7 @@ fn maps_and_stops(rt: HostRuntime) -> Result<(), Fail> {
     )?;
     let whole = [low[0], low[1], run(0x10_0000, 0x7FF_FFFF, 1)];
     expect(&rt, alloc, &nested, b"memmap=1M%0x200000-2+1", Ok(&whole))?;
-    // a map of the user's own, over the entries of a virtual machine of 128 MiB
+    // a virtual machine of 128 MiB: its own map, RAM up to 64 MiB, and a map of the user's own
     let machine = [
         entry(0, 0x9_FC00, 1),
         entry(0x9_FC00, 0x400, 2),
@@ -111,6 +111,26 @@ fn maps_and_stops(rt: HostRuntime) -> Result<(), Fail> {
         entry(0x7FE_0000, 0x2_0000, 2),
         entry(0xFFFC_0000, 0x4_0000, 2),
     ];
+    let own = [
+        low[0],
+        run(0x1000, 0x9_FBFF, 1),
+        run(0x9_FC00, 0x9_FFFF, 2),
+        run(0xF_0000, 0xF_FFFF, 2),
+        run(0x10_0000, 0x7FD_FFFF, 1),
+        run(0x7FE_0000, 0x7FF_FFFF, 2),
+        run(0xFFFC_0000, 0xFFFF_FFFF, 2),
+    ];
+    expect(&rt, alloc, &machine, b"", Ok(&own))?;
+    let cut = [
+        own[0],
+        own[1],
+        own[2],
+        own[3],
+        run(0x10_0000, 0x3FF_FFFF, 1),
+        own[5],
+        own[6],
+    ];
+    expect(&rt, alloc, &machine, b"mem=0x4000000 -- mem=0", Ok(&cut))?;
     let exact = b"memmap=exactmap memmap=640K@0 memmap=127M@1M";
     expect(&rt, alloc, &machine, exact, Ok(&whole))?;
     // the stops
