@@ -74,7 +74,8 @@ tag_for (Some (Some node)) = tag.Node node
 abbrev pub tag_of : List Item → ℕ → Tag
 tag_of items x = tag_for (nodes_of items x)
 
--- the limit: 0 at first, then the newest one (`memblock.current_limit`). A query doesn't know it: who asks keeps the window below it
+-- the limit: 0 at first, then the newest one (`memblock.current_limit`). A query doesn't know it: an allocation that states no
+-- end of its own asks for a window that ends there (`memblock_find_in_range_node`)
 abbrev pub limit_after : ℕ → Item → ℕ
 limit_after l (item.Limit at) = at
 limit_after l (item.Mem range) = l

@@ -14,7 +14,8 @@ pub enum Item {
     Claim { range: Range, owner: Owner },
     /// The bytes of the range get no owner (`memblock_phys_free`).
     Free { range: Range },
-    /// The limit becomes the address: who looks for a place keeps below it (`memblock_set_current_limit`).
+    /// The limit becomes the address: an allocation that states no end of its own keeps below it
+    /// (`memblock_set_current_limit`).
     Limit { at: u64 },
     /// The table has a new place and twice the room, which is `room` records now
     /// (`memblock_double_array`). The definitions count the doublings, and don't look at `room`.
