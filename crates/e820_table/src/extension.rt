@@ -50,9 +50,7 @@ pub fn read_ext(alloc: Global, bytes: &[u8]) -> Result<Vec<Entry>, ExtFault>
     if !is_extension(bytes) {
         return Err(ExtFault::ExtHeader);
     }
-    let Some(count) = stated_entries(bytes) else {
-        return Err(ExtFault::ExtLength);
-    };
+    let count = stated_entries(bytes).ok_or(ExtFault::ExtLength)?;
     if let Some(index) = find_far(bytes, HEADER_BYTES, count) {
         return Err(ExtFault::EntryTooFar { index });
     }

@@ -20,7 +20,7 @@ const TABLE_OFFSET: usize = 0x2D0;
 #[derive(Drop)]
 pub struct ZeroPage {
     /// The firmware's entries, in the order of the table.
-    pub entries: ArrayVec<Entry, 128>,
+    pub entries: ArrayVec<Entry, ZERO_PAGE_ENTRIES>,
 }
 
 /// Why bytes are no zero page. The first that holds is answered, in the order of this list.
@@ -51,7 +51,7 @@ pub fn read_zero_page(bytes: &[u8]) -> Result<ZeroPage, ZeroFault>
     if count < 2 {
         return Err(ZeroFault::TooFew);
     }
-    if count > 128 {
+    if count as usize > ZERO_PAGE_ENTRIES {
         return Err(ZeroFault::TooMany);
     }
     if let Some(index) = find_far(bytes, TABLE_OFFSET, count) {
@@ -63,7 +63,7 @@ pub fn read_zero_page(bytes: &[u8]) -> Result<ZeroPage, ZeroFault>
 }
 
 /// The first `count` entries of the page.
-fn read_entries(bytes: &[u8], count: u32) -> ArrayVec<Entry, 128>
+fn read_entries(bytes: &[u8], count: u32) -> ArrayVec<Entry, ZERO_PAGE_ENTRIES>
     requires room { count ≤ 128 }
     requires whole { 0x2D0 + 20 * count ≤ length bytes.now }
     ensures { result.items ≡ first_entries 0x2D0 count bytes.now }

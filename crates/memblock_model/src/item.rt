@@ -4,9 +4,10 @@ use bm_base::Range;
 /// Something that happened to memory. No item's range is empty.
 #[derive(Clone, Copy, Debug, PartialEq, Eq)]
 pub enum Item {
-    /// The bytes of the range become memory without a node (`memblock_add`).
+    /// The bytes of the range become memory without a node; what is memory already keeps its node
+    /// (`memblock_add`).
     Mem { range: Range },
-    /// Every run of memory is cut inwards to whole frames (`memblock_trim_memory`).
+    /// Each frame whose bytes don't all carry one tag is memory no more (`memblock_trim_memory`).
     Trim,
     /// The memory bytes of the range get the node (`memblock_set_node`).
     Node { range: Range, node: u32 },

@@ -5,9 +5,9 @@ pub struct Query {
     pub lo: u64,
     /// The place ends here or below.
     pub hi: u64,
-    /// Its number of bytes.
+    /// Its number of bytes; a search wants at least 1.
     pub size: u64,
-    /// Its address is a multiple of this.
+    /// Its address is a multiple of this; a search wants a power of two.
     pub align: u64,
     /// The node that has it, or any.
     pub node: Option<u32>,
