@@ -12,7 +12,7 @@ use Rattle.bootmem_cli.specs.declared.failure.Refusal.TheVariants as refusals
 use Rattle.bootmem_cli.specs.declared.failure.Failure.TheVariants as failures
 use Rattle.bootmem_cli.specs.Words.{Named, is_value, is_option, are_spelled, word_behind, values_of, at_most_one, value_of, provided, is_report, accepted, name_of, name_text}
 use Rattle.bootmem_cli.specs.Status.{refusal_status, status_of, stop_of_map, failure_of_stop, failure_of_extension, failure_of_options}
-use Rattle.bootmem_cli.specs.Line.{input_text, zero_fault_line, ext_fault_line, word_line, option_fault_line, fault_line, stop_line, refusal_line, line_of}
+use Rattle.bootmem_cli.specs.Line.{input_text, zero_fault_line, ext_fault_line, word_line, option_fault_line, fault_line, stop_line, refusal_line, failure_line}
 
 -- the words of the first run, `bootmem --report map zp`, and what they name
 abbrev first_words : List (List ℕ)
@@ -168,8 +168,8 @@ stop_lines = (refl, refl)
 unread_line : refusal_line (Some all_named) (refusals.Unread inputs.Extension) ≡ codes "bootmem: cannot read ext\n"
 unread_line = refl
 
-usage_line : line_of None (failures.Refused refusals.Usage) ≡ codes "bootmem: usage\n"
+usage_line : failure_line None (failures.Refused refusals.Usage) ≡ codes "bootmem: usage\n"
 usage_line = refl
 
-outside_lines : (line_of (Some all_named) failures.Unwritten ≡ codes "bootmem: cannot write\n") × (line_of None failures.Memory ≡ codes "bootmem: out of memory\n")
+outside_lines : (failure_line (Some all_named) failures.Unwritten ≡ codes "bootmem: cannot write\n") × (failure_line None failures.Memory ≡ codes "bootmem: out of memory\n")
 outside_lines = (refl, refl)

@@ -71,10 +71,10 @@ refusal_line accepted (refusals.Faulty fault) = fault_line fault
 refusal_line accepted (refusals.Stopped stop) = stop_line stop
 
 -- the line of a failure; a file that couldn't be read is named as the words name it
-abbrev pub line_of : Option Named → Failure → List ℕ
-line_of accepted (failures.Refused refusal) = refusal_line accepted refusal
-line_of accepted failures.Unwritten = codes "bootmem: cannot write\n"
-line_of accepted failures.Memory = codes "bootmem: out of memory\n"
+abbrev pub failure_line : Option Named → Failure → List ℕ
+failure_line accepted (failures.Refused refusal) = refusal_line accepted refusal
+failure_line accepted failures.Unwritten = codes "bootmem: cannot write\n"
+failure_line accepted failures.Memory = codes "bootmem: out of memory\n"
 
 -- the front of the line was appended to the output, and all of it unless the output itself failed; `written`,
 -- `faults` and `wants` are those of its kind

@@ -8,7 +8,7 @@ ghost use Rattle.bootmem_cli.specs.declared.failure.Failure.{Failure};
 ghost use Rattle.bootmem_cli.specs.Words.{texts, accepted};
 ghost use Rattle.bootmem_cli.specs.Outcome.{outcome};
 ghost use Rattle.bootmem_cli.specs.Answers.{Gives, HasCause, EndHasCause, EndFits, Ends, IsText, IsFaulty, IsStopped, RoseFor, Writes, WritingHasCause};
-ghost use Rattle.bootmem_cli.specs.Line.{Tells, line_of};
+ghost use Rattle.bootmem_cli.specs.Line.{Tells, failure_line};
 ghost use Rattle.bootmem_cli.specs.Status.{status_of};
 ghost use Rattle.bootmem_cli.specs.View.{names_view};
 
@@ -79,7 +79,7 @@ pub fn run<F: Files, S: Sink, E: Sink>(
     ensures silent { result ≡ 0 → err.new ≡ err.old }
     ensures line { result ≢ 0 → (failure : Failure) × (result ≡ status_of failure)
         × Tells E.written E.faults E.wants err.old err.new
-        (line_of (accepted (texts words.now)) failure)
+        (failure_line (accepted (texts words.now)) failure)
         × EndHasCause (F.faults files.old) (F.faults files.new) (accepted (texts words.now)) failure
         × IfSome (F.holds files.old) (λ held.
         EndFits failure (outcome (accepted (texts words.now)) held)) }

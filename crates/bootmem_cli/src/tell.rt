@@ -1,6 +1,6 @@
 ghost use Rattle.std.specs.Prelude.{◌≡◌, flat_map};
 ghost use Rattle.std.specs.Option.{option_map};
-ghost use Rattle.bootmem_cli.specs.Line.{Tells, line_of, refusal_line, fault_line, zero_fault_line, ext_fault_line, option_fault_line, word_line, stop_line, input_text};
+ghost use Rattle.bootmem_cli.specs.Line.{Tells, failure_line, refusal_line, fault_line, zero_fault_line, ext_fault_line, option_fault_line, word_line, stop_line, input_text};
 ghost use Rattle.bootmem_cli.specs.View.{names_view};
 
 use crate::boot::Stop;
@@ -15,7 +15,7 @@ use itoa::Buffer;
 /// changes nothing: the line goes out piece by piece, up to the first that is refused.
 pub fn tell<E: Sink>(err: &mut E, names: Option<Names<'_>>, failure: Failure)
     ensures { Tells E.written E.faults E.wants err.old err.new
-        (line_of (option_map names_view names.entry) failure) }
+        (failure_line (option_map names_view names.entry) failure) }
 {
     match failure {
         Failure::Refused(refusal) => tell_refusal(err, names, refusal),

@@ -43,18 +43,10 @@ pub fn name_text<'w>(names: Option<Names<'w>>, input: Input) -> &'w str
 pub fn read_words(words: &[String]) -> Option<Names<'_>>
     ensures { option_map names_view result ≡ accepted (texts words.now) }
 {
-    let Some(zero_page) = word_behind(words) else {
-        return None;
-    };
-    let Some(report) = value_of(words, "--report") else {
-        return None;
-    };
-    let Some(extension) = value_of(words, "--e820ext") else {
-        return None;
-    };
-    let Some(command_line) = value_of(words, "--cmdline") else {
-        return None;
-    };
+    let zero_page = word_behind(words)?;
+    let report = value_of(words, "--report")?;
+    let extension = value_of(words, "--e820ext")?;
+    let command_line = value_of(words, "--cmdline")?;
     if !(are_spelled(words) && is_report(report)) {
         return None;
     }
@@ -69,10 +61,7 @@ pub fn read_words(words: &[String]) -> Option<Names<'_>>
 fn is_report(report: Option<&str>) -> bool
     ensures { result ≡ is_report (option_copied report.entry) }
 {
-    match report {
-        Some(report) => report == "map",
-        None => false,
-    }
+    report == Some("map")
 }
 
 /// Whether every option is known, and every other word may stand where it stands.
