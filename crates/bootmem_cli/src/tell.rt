@@ -12,7 +12,8 @@ use e820_table::{ExtFault, ZeroFault};
 use itoa::Buffer;
 
 /// Puts the line of a failure on the error output. It takes no memory, and what the output answers
-/// changes nothing: the line goes out piece by piece, up to the first that is refused.
+/// changes nothing: the line goes out piece by piece, up to the first that is refused. Want of memory is a
+/// failure of its own, so the `Memory` of a fault or of a stop never comes to its line.
 pub fn tell<E: Sink>(err: &mut E, names: Option<Names<'_>>, failure: Failure)
     ensures { Tells E.written E.faults E.wants err.old err.new
         (failure_line (option_map names_view names.entry) failure) }
