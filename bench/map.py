@@ -60,6 +60,8 @@ def least_time(program, folder, rounds):
 def main():
     program = os.path.abspath(sys.argv[1] if len(sys.argv) > 1 else "bootmem")
     rounds = int(sys.argv[2]) if len(sys.argv) > 2 else 100
+    if not os.access(program, os.X_OK):
+        sys.exit("bench: there is no program %s: 'make bootmem' builds it" % program)
     with tempfile.TemporaryDirectory() as folder:
         write_inputs(folder, disjoint(2), 0)
         base = least_time(program, folder, rounds)
