@@ -15,6 +15,7 @@ use boot_options::{Edit, Options};
 use e820_sanitise::{MapFault, Run, Table};
 use e820_table::{Entry, ZeroPage};
 use e820_usable::{MapStop, judge};
+pub use laws::{map_gives_frames, map_gives_types};
 use std::alloc::Global;
 
 /// What a boot is given.

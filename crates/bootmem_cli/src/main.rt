@@ -29,7 +29,7 @@ mod tests;
 mod words;
 
 use bm_io::{RealFiles, StdSink};
-pub use boot::{Booted, Inputs, Stop, boot};
+pub use boot::{Booted, Inputs, Stop, boot, map_gives_frames, map_gives_types};
 pub use run::run;
 use std::env;
 use std::io::ErrorKind;

@@ -27,16 +27,3 @@ pub fn one_claim()
 pub fn map_is_runs()
     ensures { (c : Claims) → ((x : ℕ) → 2 ^ 64 ≤ x → kinds c x ≡ None) → IsRunsOf (kinds c) (map_of c) }
 {}
-
-#[cfg(test)]
-mod tests {
-    use super::{greatest_is_greatest, map_is_runs, one_claim, settled_type};
-
-    #[test]
-    fn laws_are_called() {
-        greatest_is_greatest();
-        settled_type();
-        one_claim();
-        map_is_runs();
-    }
-}

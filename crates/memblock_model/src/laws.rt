@@ -63,18 +63,3 @@ pub fn best_is_greatest()
     ensures none { (memory reserved : Nodes) (q : Query) (b : ℕ) →
         best_in memory reserved q ≡ None → b < 2 ^ 64 → fits_in memory reserved q b ≡ false }
 {}
-
-#[cfg(test)]
-mod tests {
-    use super::*;
-
-    #[test]
-    fn laws_are_called() {
-        item_at_the_end();
-        tables_go_by_themselves();
-        tests_tell();
-        lists_are_runs();
-        trimmed_frame_is_whole();
-        best_is_greatest();
-    }
-}

@@ -15,19 +15,11 @@ pub fn map_gives_types()
 /// A law: a frame below 2^46 is usable exactly where each of its bytes lies in a run of RAM or of the
 /// kernel's own memory, of the map of a boot; and there are 1 to 2^32 such frames.
 pub fn map_gives_frames()
-    ensures each { (given : Given) (made : Made) (frame : ℕ) → boot given ≡ Ok made → frame < 2 ^ 34 →
-        is_usable (kinds (claims given)) frame ≡ all_below (λ i. lies_in_memory made.map (4096 * frame + i)) 4096 }
-    ensures some { (given : Given) (made : Made) → boot given ≡ Ok made → 0 < usable_frames (kinds (claims given)) }
-    ensures few { (given : Given) (made : Made) → boot given ≡ Ok made → usable_frames (kinds (claims given)) ≤ 2 ^ 32 }
+    ensures each { (given : Given) (made : Made) (frame : ℕ) → boot given ≡ Ok made →
+        frame < 2 ^ 34 → is_usable (kinds (claims given)) frame
+        ≡ all_below (λ i. lies_in_memory made.map (4096 * frame + i)) 4096 }
+    ensures some { (given : Given) (made : Made) → boot given ≡ Ok made →
+        0 < usable_frames (kinds (claims given)) }
+    ensures few { (given : Given) (made : Made) → boot given ≡ Ok made →
+        usable_frames (kinds (claims given)) ≤ 2 ^ 32 }
 {}
-
-#[cfg(test)]
-mod tests {
-    use super::{map_gives_frames, map_gives_types};
-
-    #[test]
-    fn laws_are_called() {
-        map_gives_types();
-        map_gives_frames();
-    }
-}
