@@ -1,9 +1,9 @@
 -- Small lists of runs, computed.
 use Rattle.std.proofs.Common.{◌≡◌, ℕ, ◌+◌, ◌^◌, ◌<◌, ◌≤◌, ◌==◌, nat_lt, true, false, if◌then◌else◌, Option, Some, None, [], ◌∷◌, refl, arith}
 use Rattle.std.proofs.lemmas.Bool.Decides.{nat_tests}
-use Rattle.address_runs.specs.Runs.{RunOf, Tells, run_end, lies_in, value_at, AreRuns, IsRunsOf, led_by, runs_from, runs_of}
+use Rattle.address_runs.specs.Runs.{RunOf, Tells, run_end, lies_in, value_at, IsBefore, AreRuns, IsRunsOf, one_address, led_by, runs_from, runs_of}
 use Rattle.address_runs.specs.Sweep.{Stays, StartFrom, EndBy, EndsBehind, EndsFrom, IsSweptTo, IsRestFrom, IsBuiltTo}
-use Rattle.address_runs.specs.Overlay.{overlaid, given_by, all_overlaid}
+use Rattle.address_runs.specs.Overlay.{overlaid, given_by, all_overlaid, HaveAddresses}
 use Rattle.address_runs.proofs.RunsLaws.{the_list}
 
 run : ℕ → ℕ → ℕ → RunOf ℕ
@@ -32,6 +32,19 @@ lies_examples = (refl, refl, refl, refl, refl)
 value_examples : (value_at (run 0 2 1 ∷ (run 4 2 3 ∷ [])) 5 ≡ Some 3) × (value_at (run 0 2 1 ∷ (run 4 2 3 ∷ [])) 2 ≡ None) × (value_at (run 0 4 1 ∷ (run 2 4 3 ∷ [])) 3 ≡ Some 1)
 unfolding run
 value_examples = (refl, refl, refl)
+
+one_address_examples : (one_address 7 1 ≡ run 7 1 1) × (one_address 0 5 ≡ run 0 1 5)
+unfolding run
+one_address_examples = (refl, refl)
+
+-- a run stands before one that begins behind it, or right there with another value
+before_examples : IsBefore (run 0 2 1) (run 3 1 1 ∷ []) × IsBefore (run 0 2 1) (run 2 1 5 ∷ []) × IsBefore (run 0 2 1) []
+unfolding run
+before_examples = ((omega arith, λ touch same. absurd (omega arith)), (omega arith, λ touch same. absurd (omega arith)), tt)
+
+not_before_the_same : ¬ IsBefore (run 0 2 1) (run 2 1 1 ∷ [])
+unfolding run
+not_before_the_same before = before.1 refl refl
 
 -- canonical: ascending, and another value where two runs touch, or a gap between
 touching_values_differ : AreRuns (run 0 2 1 ∷ (run 2 2 3 ∷ (run 6 1 3 ∷ [])))
@@ -137,3 +150,11 @@ built_to_six = record {
   swept = record { runs = (omega arith, tt, tt); ends = (omega arith, λ touch. absurd (omega arith), tt); each = λ x below. grind (arith, nat_tests) };
   stays = λ x from until. grind (arith, nat_tests);
 }
+
+have_addresses : HaveAddresses (run 4 2 1 ∷ (run 0 9 2 ∷ []))
+unfolding run
+have_addresses = (omega arith, (omega arith, tt))
+
+one_has_none : ¬ HaveAddresses (run 4 2 1 ∷ (run 0 0 2 ∷ []))
+unfolding run
+one_has_none have = let some : 0 < 0 = have.1.0 in absurd (omega arith)

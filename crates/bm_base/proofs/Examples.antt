@@ -1,5 +1,5 @@
 -- Small ranges, numbers and texts, computed.
-use Rattle.std.proofs.Common.{◌≡◌, ℕ, ◌^◌, ◌*◌, ◌+◌, true, false, ◌&&◌, [], codes, Some, None, Ok, Err, refl, arith}
+use Rattle.std.proofs.Common.{◌≡◌, ℕ, ◌^◌, ◌*◌, ◌+◌, ◌-◌, true, false, ◌&&◌, [], codes, Some, None, Ok, Err, refl, arith}
 use Rattle.std.proofs.lemmas.Bool.Decides.{nat_tests}
 use Rattle.std.specs.Fmt.{digits}
 use Rattle.bm_base.specs.Extent.{Extent, end_of, covers, Meet}
@@ -7,7 +7,7 @@ use Rattle.std.specs.Prelude.{Result}
 use Rattle.bm_base.specs.OptionSteps as option
 use Rattle.bm_base.specs.ResultSteps.{◌>>=◌}
 use Rattle.bm_base.specs.Text.{hexadecimal, hex_text, padded_decimal}
-use Rattle.bm_base.specs.Size.{front_digits, value_of, is_hexadecimal, radix_of, suffix_of, number_of, size_of, IsSize, IsNumber}
+use Rattle.bm_base.specs.Size.{front_digits, value_of, is_hexadecimal, begins_with_zero, begins_with_digit, prefix_of, radix_of, number_value, number_end, suffix_at, suffix_of, fitting, with_suffix, number_of, size_of, IsSize, IsNumber}
 use Rattle.bm_base.specs.declared.size.NumFault.TheVariants.{NoDigits, TooLarge}
 
 -- the second page of memory, and the page behind it
@@ -43,6 +43,20 @@ radix_examples = (refl, refl, refl, refl, refl)
 
 prefix_examples : (is_hexadecimal (codes "0xg") ≡ false) × (is_hexadecimal (codes "0X0") ≡ true)
 prefix_examples = (refl, refl)
+
+first_byte_examples : (begins_with_zero (codes "010") ≡ true) × (begins_with_zero (codes "10") ≡ false) × (begins_with_digit (codes "9K") ≡ true) × (begins_with_digit (codes "K9") ≡ false) × (begins_with_digit [] ≡ false)
+first_byte_examples = (refl, refl, refl, refl, refl)
+
+-- `0x` isn't part of the digits but of the bytes that the number takes; a first `0` that is octal is a digit
+taken_examples : (prefix_of (codes "0x1fz") ≡ 2) × (prefix_of (codes "017") ≡ 0) × (number_value (codes "0x1fz") ≡ 31) × (number_end (codes "0x1fz") ≡ 4) × (number_value (codes "017") ≡ 15) × (number_end (codes "017") ≡ 3)
+taken_examples = (refl, refl, refl, refl, refl, refl)
+
+suffix_at_examples : (suffix_at 77 ≡ (2 ^ 20, 1)) × (suffix_at 109 ≡ (2 ^ 20, 1)) × (suffix_at 66 ≡ (1, 0))
+suffix_at_examples = (refl, refl, refl)
+
+-- 2^64 - 1 is a u64, 2^64 isn't
+fitting_examples : (fitting (2 ^ 64 - 1) 20 ≡ Ok (2 ^ 64 - 1, 20)) × (fitting (2 ^ 64) 20 ≡ Err TooLarge) × (with_suffix 3 1 (2 ^ 10, 1) ≡ Ok (3072, 2)) × (with_suffix 16 2 (2 ^ 60, 1) ≡ Err TooLarge)
+fitting_examples = (refl, refl, refl, refl)
 
 suffix_examples : (suffix_of (codes "K") ≡ (2 ^ 10, 1)) × (suffix_of (codes "e@") ≡ (2 ^ 60, 1)) × (suffix_of (codes "@K") ≡ (1, 0)) × (suffix_of [] ≡ (1, 0))
 suffix_examples = (refl, refl, refl, refl)

@@ -1,11 +1,11 @@
 -- Small maps, computed from their entries.
 use Rattle.std.proofs.Common.{◌≡◌, ℕ, ◌^◌, ◌<◌, ◌+◌, ◌==◌, Bool, true, false, ◌&&◌, ◌||◌, nat_lt, List, [], ◌∷◌, refl, ap, ◌∙◌, arith}
 use Rattle.std.proofs.lemmas.Bool.Decides.{nat_tests}
-use Rattle.e820_model.specs.Claims.{Claims, no_claims, is_covered_by, EndInSpace, greatest_below, greatest, type_of, settled, added, claims_of_entries, edited, HasTypes, HaveTypes, after_edits, trimmed, of_zero_page, with_extension, with_edits, finished}
+use Rattle.e820_model.specs.Claims.{Claims, no_claims, is_covered_by, EndInSpace, greatest_below, greatest, type_of, settled, added, claims_of_entries, edited, HasTypes, HaveTypes, after_edits, first_page, bios_area, trimmed, of_zero_page, with_extension, with_edits, finished}
 use Rattle.e820_model.specs.declared.entry.Entry.{Entry}
 use Rattle.e820_model.specs.declared.edit.Edit.{Edit}
 use Rattle.e820_model.specs.declared.edit.Edit.TheVariants as edit
-use Rattle.bm_base.specs.Extent.{Extent}
+use Rattle.bm_base.specs.Extent.{Extent, covers}
 use Rattle.e820_model.proofs.ClaimLaws.{greatest_is, settled_keeps}
 
 -- RAM up to 2 MiB, with ACPI data in it from 1 MiB on, 512 KiB long
@@ -116,6 +116,10 @@ changed_is_out = refl
 
 other_is_kept : edited (edit.Change (record { base = 0; size = 0x200000 }) 1 4) (claims_of_entries ram_and_acpi) 0x100000 3 ≡ true
 other_is_kept = refl
+
+-- 4 KiB from 0 on, and 640 KiB up to 1 MiB
+bios_areas : (covers first_page 0xFFF ≡ true) × (covers first_page 0x1000 ≡ false) × (covers bios_area 0x9FFFF ≡ false) × (covers bios_area 0xA0000 ≡ true) × (covers bios_area 0xFFFFF ≡ true) × (covers bios_area 0x100000 ≡ false)
+bios_areas = (refl, refl, refl, refl, refl, refl)
 
 -- the trim makes the first page the BIOS's, and takes RAM away from 640 KiB on, and nothing below
 first_page_reserved : trimmed (claims_of_entries ram_and_acpi) 0xFFF 2 ≡ true
