@@ -1,2 +1,3 @@
+mod Examples
 pub mod ByteLaws
 pub mod OwnerLaws
