@@ -1,27 +1,17 @@
 -- Tests over ranges of addresses, and what trimming leaves of a frame.
-use Rattle.std.proofs.Common.{◌≡◌, ◌≢◌, ◌⊎◌, ℕ, zero, suc, ◌+◌, ◌-◌, ◌%◌, ◌<◌, ◌≤◌, Bool, true, false, ◌&&◌, Option, Some, None, refl, sym, ◌∙◌, ap, subst, inl, inr, arith}
+use Rattle.std.proofs.Common.{◌≡◌, ◌≢◌, ◌⊎◌, ℕ, zero, suc, ◌+◌, ◌-◌, ◌%◌, ◌<◌, ◌≤◌, Bool, true, false, Option, Some, None, refl, sym, ◌∙◌, ap, subst, inl, inr, arith}
 use Rattle.std.proofs.lemmas.Bool.Decides.{nat_tests}
-use Rattle.std.proofs.lemmas.Bool.{cases_lt, cases_Bool, true≢false}
+use Rattle.std.proofs.lemmas.Bool.{cases_lt, cases_Bool, true≢false, and_from, and_parts}
 use Rattle.bm_base.specs.Extent.{Extent, covers}
 use Rattle.address_runs.specs.Runs.{Tells}
 use Rattle.memblock_model.specs.Labels.{each_from, each_in, frame_around, same_label, trimmed}
-
--- the parts of a chain of tests
-pub both_true : (a b : Bool) → a ≡ true → b ≡ true → (a && b) ≡ true
-both_true a b h k = grind arith
-
-pub left_true : (a b : Bool) → (a && b) ≡ true → a ≡ true
-left_true a b h = grind arith
-
-pub right_true : (a b : Bool) → (a && b) ≡ true → b ≡ true
-right_true a b h = grind arith
 
 -- what passes at each address passes
 pub each_from-all : (p : ℕ → Bool) (x n : ℕ) → ((y : ℕ) → x ≤ y → y < x + n → p y ≡ true) → each_from p x n ≡ true
 unfolding each_from
 each_from-all p x zero all = refl
 each_from-all p x (suc n) all =
-    both_true (p x) (each_from p (x + 1) n) (all x (omega arith) (omega arith)) (each_from-all p (x + 1) n (λ y above below. all y (omega arith) (omega arith)))
+    and_from (p x) (each_from p (x + 1) n) (all x (omega arith) (omega arith)) (each_from-all p (x + 1) n (λ y above below. all y (omega arith) (omega arith)))
 
 -- and the other way round
 pub each_from-each : (p : ℕ → Bool) (x n : ℕ) → each_from p x n ≡ true → (y : ℕ) → x ≤ y → y < x + n → p y ≡ true
@@ -29,8 +19,8 @@ unfolding each_from
 each_from-each p x zero h y above below = absurd (omega arith)
 each_from-each p x (suc n) h y above below =
     elim (cases_lt x y) as (λ _. p y ≡ true) [
-      | inl lt ↦ each_from-each p (x + 1) n (right_true (p x) (each_from p (x + 1) n) h) y (omega arith) (omega arith)
-      | inr ge ↦ let here : x ≡ y = omega arith in subst (λ (z : ℕ). p z ≡ true) here (left_true (p x) (each_from p (x + 1) n) h)
+      | inl lt ↦ each_from-each p (x + 1) n (and_parts (p x) (each_from p (x + 1) n) h).1 y (omega arith) (omega arith)
+      | inr ge ↦ let here : x ≡ y = omega arith in subst (λ (z : ℕ). p z ≡ true) here (and_parts (p x) (each_from p (x + 1) n) h).0
     ]
 
 pub each_in-all : (r : Extent) (p : ℕ → Bool) → ((y : ℕ) → r.base ≤ y → y < r.base + r.size → p y ≡ true) → each_in r p ≡ true

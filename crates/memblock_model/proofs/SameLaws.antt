@@ -1,27 +1,22 @@
 -- The tests of sameness tell.
 use Rattle.std.proofs.Common.{◌≡◌, ℕ, ◌==◌, true, ◌&&◌, if◌then◌else◌, Option, Some, None, refl, sym, ◌∙◌, ap, arith}
 use Rattle.std.proofs.lemmas.Bool.Decides.{nat_tests}
+use Rattle.std.proofs.lemmas.Bool.{eqb-true, eq-eqb}
 use Rattle.address_runs.specs.Runs.{Tells}
 use Rattle.memblock_model.specs.declared.which.Which.TheVariants as which
 use Rattle.memblock_model.specs.declared.owner.Owner.{Owner}
 use Rattle.memblock_model.specs.declared.owner.Owner.TheVariants as owner
 use Rattle.memblock_model.specs.Same.{same_node, variant_of, number_of, same_owner}
 
-same_number : (m n : ℕ) → (m == n) ≡ true → m ≡ n
-same_number m n h = grind (arith, nat_tests)
-
-number_same : (m n : ℕ) → m ≡ n → (m == n) ≡ true
-number_same m n h = grind (arith, nat_tests)
-
 node_yes : (a b : Option ℕ) → same_node a b ≡ true → a ≡ b
 node_yes None None h = refl
 node_yes None (Some n) h = cc
 node_yes (Some m) None h = cc
-node_yes (Some m) (Some n) h = ap (λ k. Some k) (same_number m n h)
+node_yes (Some m) (Some n) h = ap (λ k. Some k) (eqb-true m n h)
 
 pub node_self : (a : Option ℕ) → same_node a a ≡ true
 node_self None = refl
-node_self (Some n) = number_same n n refl
+node_self (Some n) = eq-eqb n n refl
 
 pub node_tells : Tells same_node
 node_tells = record { yes = node_yes; no = λ a b e. ap (λ (o : Option ℕ). same_node a o) (sym e) ∙ node_self a }

@@ -1,7 +1,8 @@
 -- The greatest number that passes a test, and the search by it.
 use Rattle.std.proofs.Common.{◌≡◌, ℕ, zero, suc, ◌+◌, ◌%◌, ◌^◌, ◌<◌, ◌≤◌, ◌==◌, Bool, true, false, ◌&&◌, nat_le, is_some, is_none, Option, Some, None, refl, sym, ◌∙◌, ap, subst, inl, inr, arith}
 use Rattle.std.proofs.lemmas.Bool.Decides.{nat_tests}
-use Rattle.std.proofs.lemmas.Bool.{cases_Bool, cases_lt, true≢false}
+use Rattle.std.proofs.lemmas.Bool.{cases_Bool, cases_lt, true≢false, and_from, and_parts}
+use Rattle.std.proofs.lemmas.Option.{same_Some}
 use Rattle.memblock_model.specs.declared.query.Query.{Query}
 use Rattle.memblock_model.specs.Items.{Nodes}
 use Rattle.bm_base.specs.Extent.{Extent}
@@ -9,7 +10,7 @@ use Rattle.memblock_model.specs.Labels.{each_in, same_label}
 use Rattle.memblock_model.specs.Same.{same_node}
 use Rattle.memblock_model.specs.Search.{last_below, allows, fits_in, best_in}
 use Rattle.memblock_model.proofs.SameLaws.{node_tells}
-use Rattle.memblock_model.proofs.LabelLaws.{both_true, left_true, right_true, each_in-all, each_in-each, label_yes, label_no}
+use Rattle.memblock_model.proofs.LabelLaws.{each_in-all, each_in-each, label_yes, label_no}
 
 -- the number passes, and none of the greater ones below n does
 pub record IsLastBelow (p : ℕ → Bool) (n a : ℕ) : Type 0 where
@@ -31,16 +32,13 @@ last_more p n a fails known = record {
   ];
 }
 
-some_same : (m a : ℕ) → Some m ≡ Some a → m ≡ a
-some_same m a h = cc
-
 -- the answer is the last one
 pub last_below-is : (p : ℕ → Bool) (n a : ℕ) → last_below p n ≡ Some a → IsLastBelow p n a
 unfolding last_below
 last_below-is p zero a h = cc
 last_below-is p (suc n) a h =
     elim (cases_Bool (p n)) as (λ _. IsLastBelow p (suc n) a) [
-      | inl passes ↦ let here : n ≡ a = some_same n a (rw passes at h) in subst (λ (k : ℕ). IsLastBelow p (suc n) k) here (last_here p n passes)
+      | inl passes ↦ let here : n ≡ a = same_Some n a (rw passes at h) in subst (λ (k : ℕ). IsLastBelow p (suc n) k) here (last_here p n passes)
       | inr fails ↦ last_more p n a fails (last_below-is p n a (rw fails at h))
     ]
 
@@ -131,25 +129,25 @@ fits_in-parts memory reserved q a h =
     let high : Bool = first && nat_le (a + q.size) q.hi in
     let held : Bool = high && is_some (memory a) in
     let allowed : Bool = held && allows q.node (memory a) in
-    let at_allowed : allowed ≡ true = left_true allowed (each_in place test) h in
-    let at_held : held ≡ true = left_true held (allows q.node (memory a)) at_allowed in
-    let at_high : high ≡ true = left_true high (is_some (memory a)) at_held in
-    let at_first : first ≡ true = left_true first (nat_le (a + q.size) q.hi) at_high in
-    let at_low : low ≡ true = left_true low (nat_le 4096 a) at_first in
-    let at_aligned : aligned ≡ true = left_true aligned (nat_le q.lo a) at_low in
-    let is_low : nat_le q.lo a ≡ true = right_true aligned (nat_le q.lo a) at_low in
-    let is_first : nat_le 4096 a ≡ true = right_true low (nat_le 4096 a) at_first in
-    let is_high : nat_le (a + q.size) q.hi ≡ true = right_true first (nat_le (a + q.size) q.hi) at_high in
-    let each : (x : ℕ) → a ≤ x → x < a + q.size → test x ≡ true = each_in-each place test (right_true allowed (each_in place test) h) in
+    let at_allowed : allowed ≡ true = (and_parts allowed (each_in place test) h).0 in
+    let at_held : held ≡ true = (and_parts held (allows q.node (memory a)) at_allowed).0 in
+    let at_high : high ≡ true = (and_parts high (is_some (memory a)) at_held).0 in
+    let at_first : first ≡ true = (and_parts first (nat_le (a + q.size) q.hi) at_high).0 in
+    let at_low : low ≡ true = (and_parts low (nat_le 4096 a) at_first).0 in
+    let at_aligned : aligned ≡ true = (and_parts aligned (nat_le q.lo a) at_low).0 in
+    let is_low : nat_le q.lo a ≡ true = (and_parts aligned (nat_le q.lo a) at_low).1 in
+    let is_first : nat_le 4096 a ≡ true = (and_parts low (nat_le 4096 a) at_first).1 in
+    let is_high : nat_le (a + q.size) q.hi ≡ true = (and_parts first (nat_le (a + q.size) q.hi) at_high).1 in
+    let each : (x : ℕ) → a ≤ x → x < a + q.size → test x ≡ true = each_in-each place test (and_parts allowed (each_in place test) h).1 in
     record {
       aligned = grind (arith, nat_tests, at_aligned);
       low = grind (arith, nat_tests, is_low);
       first = grind (arith, nat_tests, is_first);
       high = grind (arith, nat_tests, is_high);
-      held = right_true high (is_some (memory a)) at_held;
-      allowed = right_true held (allows q.node (memory a)) at_allowed;
-      label = λ x above below. label_yes same_node node_tells (memory x) (memory a) (left_true (same_label same_node (memory x) (memory a)) (is_none (reserved x)) (each x above below));
-      free = λ x above below. no_label (reserved x) (right_true (same_label same_node (memory x) (memory a)) (is_none (reserved x)) (each x above below));
+      held = (and_parts high (is_some (memory a)) at_held).1;
+      allowed = (and_parts held (allows q.node (memory a)) at_allowed).1;
+      label = λ x above below. label_yes same_node node_tells (memory x) (memory a) (and_parts (same_label same_node (memory x) (memory a)) (is_none (reserved x)) (each x above below)).0;
+      free = λ x above below. no_label (reserved x) (and_parts (same_label same_node (memory x) (memory a)) (is_none (reserved x)) (each x above below)).1;
     }
 
 pub fits_in-whole : (memory reserved : Nodes) (q : Query) (a : ℕ) → IsPlace memory reserved q a → fits_in memory reserved q a ≡ true
@@ -168,12 +166,12 @@ fits_in-whole memory reserved q a known =
     let is_first = known.first in
     let is_high = known.high in
     let at_aligned : aligned ≡ true = grind (arith, nat_tests, is_aligned) in
-    let at_low : low ≡ true = both_true aligned (nat_le q.lo a) at_aligned (grind (arith, nat_tests, is_low)) in
-    let at_first : first ≡ true = both_true low (nat_le 4096 a) at_low (grind (arith, nat_tests, is_first)) in
-    let at_high : high ≡ true = both_true first (nat_le (a + q.size) q.hi) at_first (grind (arith, nat_tests, is_high)) in
-    let at_held : held ≡ true = both_true high (is_some (memory a)) at_high known.held in
-    let at_allowed : allowed ≡ true = both_true held (allows q.node (memory a)) at_held known.allowed in
+    let at_low : low ≡ true = and_from aligned (nat_le q.lo a) at_aligned (grind (arith, nat_tests, is_low)) in
+    let at_first : first ≡ true = and_from low (nat_le 4096 a) at_low (grind (arith, nat_tests, is_first)) in
+    let at_high : high ≡ true = and_from first (nat_le (a + q.size) q.hi) at_first (grind (arith, nat_tests, is_high)) in
+    let at_held : held ≡ true = and_from high (is_some (memory a)) at_high known.held in
+    let at_allowed : allowed ≡ true = and_from held (allows q.node (memory a)) at_held known.allowed in
     let each : each_in place test ≡ true = each_in-all place test (λ x above below.
-    both_true (same_label same_node (memory x) (memory a)) (is_none (reserved x))
+    and_from (same_label same_node (memory x) (memory a)) (is_none (reserved x))
     (label_no same_node node_tells (memory x) (memory a) (known.label x above below)) (none_is (reserved x) (known.free x above below))) in
-    both_true allowed (each_in place test) at_allowed each
+    and_from allowed (each_in place test) at_allowed each
