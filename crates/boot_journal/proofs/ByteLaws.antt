@@ -2,6 +2,7 @@
 use Rattle.std.proofs.Common.{◌≡◌, ◌≢◌, ◌⊎◌, ℕ, zero, suc, ◌+◌, ◌-◌, ◌%◌, ◌<◌, ◌≤◌, ◌==◌, Bool, true, false, ◌&&◌, ◌||◌, not, is_some, is_none, nat_lt, if◌then◌else◌, Option, Some, None, List, [], ◌∷◌, ◌++◌, length, take, drop, get_or, refl, sym, ◌∙◌, ap, subst, inl, inr, arith}
 use Rattle.std.proofs.lemmas.Bool.Decides.{nat_tests}
 use Rattle.std.proofs.lemmas.Bool.{cases_Bool, true≢false}
+use Rattle.std.proofs.lemmas.Option.{same_Some}
 use Rattle.std.proofs.lemmas.List.Sums.{fold-append, split_at_first, fails_before_first, passes_at_first}
 use Rattle.std.proofs.lemmas.List.{get_or-take, length-take}
 use Rattle.std.specs.List.{fold, position, position_or_len, before_first, after_first}
@@ -203,14 +204,11 @@ trim_step whole items rest x plain =
 take_less : (i k : ℕ) (items : List Item) → k < length (take i items) → k < i
 take_less i k items lt = omega (arith, length-take i items)
 
-some_same : (m n : ℕ) → Some m ≡ Some n → m ≡ n
-some_same m n h = cc
-
 position_is : (items : List Item) (i : ℕ) → position is_trim items ≡ Some i → (position_or_len is_trim items ≡ i) × (i < length items)
 position_is items i h =
     elim (cases_Bool (nat_lt (position_or_len is_trim items) (length items))) as (λ _. (position_or_len is_trim items ≡ i) × (i < length items)) [
       | inl found ↦
-          let is : position_or_len is_trim items ≡ i = some_same (position_or_len is_trim items) i (rw found at h) in
+          let is : position_or_len is_trim items ≡ i = same_Some (position_or_len is_trim items) i (rw found at h) in
           (is, grind (arith, nat_tests, is, found))
       | inr none ↦ let clash : None ≡ Some i = rw none at h in cc
     ]
