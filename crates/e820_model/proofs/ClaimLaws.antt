@@ -138,7 +138,8 @@ or_assoc : (a b c : Bool) → (a || (b || c)) ≡ ((a || b) || c)
 or_assoc true b c = refl
 or_assoc false b c = refl
 
-claims_append_at : (rs ss : List (RunOf ℕ)) (x k : ℕ) → claims_of (rs ++ ss) x k ≡ (claims_of rs x k || claims_of ss x k)
+-- the claims of two lists, at an address and a type
+pub claims_append_at : (rs ss : List (RunOf ℕ)) (x k : ℕ) → claims_of (rs ++ ss) x k ≡ (claims_of rs x k || claims_of ss x k)
 claims_append_at [] ss x k = refl
 claims_append_at (r ∷ rs) ss x k =
     let rest : claims_of (rs ++ ss) x k ≡ (claims_of rs x k || claims_of ss x k) = claims_append_at rs ss x k in
@@ -175,7 +176,7 @@ pub top_append : (rs ss : List (RunOf ℕ)) (x : ℕ) → top (rs ++ ss) x ≡ m
 top_append [] ss x = omega arith
 top_append (r ∷ rs) ss x = rw (top_append rs ss x) (omega arith)
 
--- the claims of two lists
+-- and everywhere
 pub claims_append : (rs ss : List (RunOf ℕ)) → claims_of (rs ++ ss) ≡ added (claims_of rs) (claims_of ss)
 claims_append rs ss = λ i x k. claims_append_at rs ss x k i
 

@@ -5,11 +5,11 @@ use Rattle.std.proofs.lemmas.Bool.Decides.{nat_tests}
 use Rattle.std.proofs.lemmas.Bool.{cases_Bool}
 use Rattle.bm_base.specs.Extent.{Extent, end_of, covers}
 use Rattle.address_runs.specs.Runs.{RunOf, run_end, lies_in}
-use Rattle.e820_model.specs.Claims.{Claims, is_covered_by, claims_of_entries, added, edited}
+use Rattle.e820_model.specs.Claims.{is_covered_by, claims_of_entries, added, edited}
 use Rattle.e820_model.specs.Map.{claims_of, AreClaims}
 use Rattle.e820_model.specs.declared.entry.Entry.{Entry}
 use Rattle.e820_model.specs.declared.edit.Edit.TheVariants as edit
-use Rattle.e820_model.proofs.ClaimLaws.{is_value, claims_append, are_append}
+use Rattle.e820_model.proofs.ClaimLaws.{is_value, claims_append_at, claims_append, are_append}
 use Rattle.e820_sanitise.specs.Pieces.{between, between_if, parts, is_meant, inside, cut, claim_of}
 
 -- one part
@@ -24,9 +24,6 @@ between_if_test : (from until : ℕ) (kind : Option ℕ) (x k : ℕ) → claims_
 between_if_test from until None x k = grind (arith, nat_tests)
 between_if_test from until (Some kind) x k = between_test from until kind x k
 
-append_test : (rs ss : List (RunOf ℕ)) (x k : ℕ) → claims_of (rs ++ ss) x k ≡ (claims_of rs x k || claims_of ss x k)
-append_test rs ss x k = ap (λ (c : Claims). c x k) (claims_append rs ss)
-
 -- the three parts of a claim: the claim's addresses, with the other type where the range is
 parts_test : (range : Extent) (inner : Option ℕ) (r : RunOf ℕ) (x k : ℕ)
     → claims_of (parts range inner r) x k ≡ (lies_in r x && (if covers range x then is_value inner k else (k == r.value)))
@@ -34,9 +31,9 @@ parts_test range inner r x k =
     let first : List (RunOf ℕ) = between r.base (min range.base (run_end r)) r.value in
     let second : List (RunOf ℕ) = between_if (max range.base r.base) (min (end_of range) (run_end r)) inner in
     let third : List (RunOf ℕ) = between (max (end_of range) r.base) (run_end r) r.value in
-    append_test (first ++ second) third x k
+    claims_append_at (first ++ second) third x k
     ∙ rw (
-      append_test first second x k,
+      claims_append_at first second x k,
       between_test r.base (min range.base (run_end r)) r.value x k,
       between_if_test (max range.base r.base) (min (end_of range) (run_end r)) inner x k,
       between_test (max (end_of range) r.base) (run_end r) r.value x k,
@@ -74,14 +71,14 @@ remove_test : (range : Extent) (kind : ℕ) (rs : List (RunOf ℕ)) (x k : ℕ)
     → claims_of (cut range (Some kind) None rs) x k ≡ edited (edit.Remove range kind) (claims_of rs) x k
 remove_test range kind [] x k = refl
 remove_test range kind (r ∷ rs) x k =
-    append_test (parts range (inside (Some kind) None r.value) r) (cut range (Some kind) None rs) x k
+    claims_append_at (parts range (inside (Some kind) None r.value) r) (cut range (Some kind) None rs) x k
     ∙ rw (parts_test range (inside (Some kind) None r.value) r x k, remove_test range kind rs x k) (remove_step (lies_in r x) (covers range x) (claims_of rs x k) r.value kind k)
 
 remove_all_test : (range : Extent) (rs : List (RunOf ℕ)) (x k : ℕ)
     → claims_of (cut range None None rs) x k ≡ edited (edit.RemoveAll range) (claims_of rs) x k
 remove_all_test range [] x k = refl
 remove_all_test range (r ∷ rs) x k =
-    append_test (parts range None r) (cut range None None rs) x k
+    claims_append_at (parts range None r) (cut range None None rs) x k
     ∙ rw (parts_test range None r x k, remove_all_test range rs x k) (remove_all_step (lies_in r x) (covers range x) (claims_of rs x k) r.value k)
 
 change_none : (b : Bool) → (if b then false else false) ≡ false
@@ -92,7 +89,7 @@ change_test : (range : Extent) (from to : ℕ) (rs : List (RunOf ℕ)) (x k : �
     → claims_of (cut range (Some from) (Some to) rs) x k ≡ edited (edit.Change range from to) (claims_of rs) x k
 change_test range from to [] x k = sym (change_none (covers range x))
 change_test range from to (r ∷ rs) x k =
-    append_test (parts range (inside (Some from) (Some to) r.value) r) (cut range (Some from) (Some to) rs) x k
+    claims_append_at (parts range (inside (Some from) (Some to) r.value) r) (cut range (Some from) (Some to) rs) x k
     ∙ rw (parts_test range (inside (Some from) (Some to) r.value) r x k, change_test range from to rs x k)
     (change_step (lies_in r x) (covers range x) (claims_of rs x k) (claims_of rs x from) r.value from to k)
 
@@ -110,7 +107,7 @@ change_same range from to rs = λ i x k. change_test range from to rs x k i
 add_test : (range : Extent) (kind : ℕ) (rs : List (RunOf ℕ)) (x k : ℕ)
     → claims_of (rs ++ between range.base (end_of range) kind) x k ≡ edited (edit.Add range kind) (claims_of rs) x k
 add_test range kind rs x k =
-    append_test rs (between range.base (end_of range) kind) x k ∙ ap (λ b. claims_of rs x k || b) (between_test range.base (end_of range) kind x k)
+    claims_append_at rs (between range.base (end_of range) kind) x k ∙ ap (λ b. claims_of rs x k || b) (between_test range.base (end_of range) kind x k)
 
 pub add_same : (range : Extent) (kind : ℕ) (rs : List (RunOf ℕ)) → claims_of (rs ++ between range.base (end_of range) kind) ≡ edited (edit.Add range kind) (claims_of rs)
 add_same range kind rs = λ i x k. add_test range kind rs x k i
@@ -125,7 +122,7 @@ claim_test e x k =
 
 entries_test : (es : List Entry) (x k : ℕ) → claims_of (flat_map claim_of es) x k ≡ claims_of_entries es x k
 entries_test [] x k = refl
-entries_test (e ∷ es) x k = append_test (claim_of e) (flat_map claim_of es) x k ∙ rw (claim_test e x k, entries_test es x k) refl
+entries_test (e ∷ es) x k = claims_append_at (claim_of e) (flat_map claim_of es) x k ∙ rw (claim_test e x k, entries_test es x k) refl
 
 pub entries_same : (rs : List (RunOf ℕ)) (es : List Entry) → claims_of (rs ++ flat_map claim_of es) ≡ added (claims_of rs) (claims_of_entries es)
 entries_same rs es =
