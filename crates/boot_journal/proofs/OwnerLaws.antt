@@ -1,6 +1,5 @@
 -- Claims and freeings laid over one another give the owners, and the runs that have an owner are those of the owners.
 use Rattle.std.proofs.Common.{◌≡◌, ◌≢◌, ℕ, ◌+◌, ◌^◌, ◌<◌, ◌≤◌, Bool, true, false, if◌then◌else◌, Option, Some, None, List, map, filter_map, [], ◌∷◌, refl, sym, ◌∙◌, ap, arith}
-use Rattle.std.proofs.lemmas.Bool.Decides.{nat_tests}
 use Rattle.std.proofs.lemmas.List.{map-id}
 use Rattle.std.specs.List.{fold, cons_option}
 use Rattle.bm_base.specs.Extent.{covers}
@@ -8,7 +7,7 @@ use Rattle.address_runs.specs.Runs.{RunOf, run_end, lies_in, value_at, IsBefore,
 use Rattle.address_runs.specs.Sweep.{StartFrom, EndBy}
 use Rattle.address_runs.specs.Overlay.{all_overlaid, HaveAddresses}
 use Rattle.address_runs.proofs.RunsLaws.{none_below, rest_from, the_list}
-use Rattle.address_runs.proofs.SweepLaws.{none_behind}
+use Rattle.address_runs.proofs.SweepLaws.{none_behind, start_sooner, far_before, lies_below}
 use Rattle.memblock_model.specs.declared.owner.Owner.{Owner}
 use Rattle.memblock_model.specs.declared.item.Item.{Item}
 use Rattle.memblock_model.specs.declared.item.Item.TheVariants as item
@@ -72,11 +71,6 @@ kept rs = filter_map owned rs
 abbrev in_front : ℕ → ℕ → Option Owner → List (RunOf Owner) → List (RunOf Owner)
 in_front base size owner rs = cons_option (owned_range base size owner) rs
 
--- what begins at an address or behind it begins at each earlier one or behind it
-start_sooner : {X : Type 0} (sooner at : ℕ) (rs : List (RunOf X)) → sooner ≤ at → StartFrom at rs → StartFrom sooner rs
-start_sooner sooner at [] order starts = tt
-start_sooner sooner at (r ∷ rs) order starts = omega arith
-
 -- with a range in front, what is kept begins at the range or behind it
 front_starts : (at base size : ℕ) (owner : Option Owner) (rs : List (RunOf Owner)) → at ≤ base → StartFrom (base + size) rs → StartFrom at (in_front base size owner rs)
 front_starts at base size None rs order starts = start_sooner at (base + size) rs (omega arith) starts
@@ -86,11 +80,6 @@ front_starts at base size (Some owner) rs order starts = order
 kept_starts : (at : ℕ) (rs : List (RunOf (Option Owner))) → AreRuns rs → StartFrom at rs → StartFrom at (kept rs)
 kept_starts at [] runs starts = tt
 kept_starts at (r ∷ rs) runs starts = front_starts at r.base r.size r.value (kept rs) starts (kept_starts (run_end r) rs runs.2 (rest_from r rs runs))
-
--- a run that ends below the address stands before what begins there
-far_before : {X : Type 0} (r : RunOf X) (at : ℕ) (rs : List (RunOf X)) → run_end r < at → StartFrom at rs → IsBefore r rs
-far_before r at [] far starts = tt
-far_before r at (s ∷ ss) far starts = (omega arith, λ touch. absurd (omega arith))
 
 -- a run stands before what is kept, if it does before the range in front
 front_before : (r : RunOf Owner) (base size : ℕ) (owner : Option Owner) (rs : List (RunOf Owner)) → run_end r ≤ base → (run_end r ≡ base → Some r.value ≢ owner)
@@ -116,10 +105,6 @@ front_runs base size (Some owner) rs some before runs = (some, before owner refl
 kept_runs : (rs : List (RunOf (Option Owner))) → AreRuns rs → AreRuns (kept rs)
 kept_runs [] runs = tt
 kept_runs (r ∷ rs) runs = front_runs r.base r.size r.value (kept rs) runs.0 (λ owner is. kept_before r owner rs runs is) (kept_runs rs runs.2)
-
--- an address in the run lies below its end
-lies_below : {X : Type 0} (r : RunOf X) (x : ℕ) → lies_in r x ≡ true → x < run_end r
-lies_below r x lies = grind (arith, nat_tests)
 
 -- inside a run nothing is kept of those behind it
 none_inside : (r : RunOf (Option Owner)) (rs : List (RunOf (Option Owner))) (x : ℕ) → AreRuns (r ∷ rs) → lies_in r x ≡ true → value_at (kept rs) x ≡ None
