@@ -1,11 +1,11 @@
 -- Claims and freeings laid over one another give the owners, and the runs that have an owner are those of the owners.
 use Rattle.std.proofs.Common.{◌≡◌, ◌≢◌, ℕ, ◌+◌, ◌^◌, ◌<◌, ◌≤◌, Bool, true, false, if◌then◌else◌, Option, Some, None, List, map, filter_map, [], ◌∷◌, refl, sym, ◌∙◌, ap, arith}
-use Rattle.std.proofs.lemmas.List.{map-id}
 use Rattle.std.specs.List.{fold, cons_option}
 use Rattle.bm_base.specs.Extent.{covers}
 use Rattle.address_runs.specs.Runs.{RunOf, run_end, lies_in, value_at, IsBefore, AreRuns, IsRunsOf}
 use Rattle.address_runs.specs.Sweep.{StartFrom, EndBy}
 use Rattle.address_runs.specs.Overlay.{all_overlaid, HaveAddresses}
+use Rattle.address_runs.proofs.OverlayLaws.{plain_addresses, plain_runs}
 use Rattle.address_runs.proofs.RunsLaws.{none_below, rest_from, the_list}
 use Rattle.address_runs.proofs.SweepLaws.{none_behind, start_sooner, far_before, lies_below}
 use Rattle.memblock_model.specs.declared.owner.Owner.{Owner}
@@ -133,17 +133,17 @@ owners_kept items rs known = record {
   each = λ x. kept_each rs x known.runs ∙ ap owner_told (known.each x) ∙ sym (owner_is_told items x);
 }
 
--- contracts of any record see a run through a function that changes nothing
+-- so none of the ranges that they claim or free is, as contracts of any record see them
 pub addresses_alike : (items : List Item) (claimed : List (RunOf (Option Owner))) → claimed ≡ filter_map claimed_by items → AreItems items
     → HaveAddresses (map (λ (r : RunOf (Option Owner)). r) claimed)
-addresses_alike items claimed is some = rw (map-id claimed, is) (claims_addresses items some)
+addresses_alike items claimed is some = plain_addresses claimed (rw is (claims_addresses items some))
 
 -- what is kept of the runs that the claims give is the runs of the owners
 pub runs_alike : (items : List Item) (claimed runs : List (RunOf (Option Owner))) (found : List (RunOf Owner)) → claimed ≡ filter_map claimed_by items
     → IsRunsOf (all_overlaid newer (map (λ (r : RunOf (Option Owner)). r) claimed)) (map (λ (r : RunOf (Option Owner)). r) runs)
     → found ≡ filter_map owned runs → IsRunsOf (owner_of items) found
 runs_alike items claimed runs found is known kept_is =
-    let plain : IsRunsOf (all_overlaid newer claimed) runs = rw (map-id claimed, map-id runs) at known in
+    let plain : IsRunsOf (all_overlaid newer claimed) runs = plain_runs newer claimed runs known in
     let told : IsRunsOf (told_by items) runs = rw is at plain in
     rw kept_is (owners_kept items runs told)
 
