@@ -1,12 +1,11 @@
 -- Small maps: the types of addresses, and the runs of them over all addresses.
-use Rattle.std.proofs.Common.{◌≡◌, ℕ, ◌^◌, ◌+◌, ◌<◌, ◌≤◌, ◌==◌, true, false, ◌&&◌, nat_lt, max, Option, Some, None, List, [], ◌∷◌, refl, sym, ◌∙◌, arith}
+use Rattle.std.proofs.Common.{◌≡◌, ℕ, ◌^◌, ◌+◌, ◌<◌, true, false, Some, None, List, [], ◌∷◌, refl, arith}
 use Rattle.std.proofs.lemmas.Bool.Decides.{nat_tests}
-use Rattle.address_runs.specs.Runs.{RunOf, lies_in, value_at, AreRuns, IsRunsOf}
-use Rattle.address_runs.proofs.RunsLaws.{one_list}
-use Rattle.e820_model.specs.Claims.{Claims, no_claims, type_of}
+use Rattle.address_runs.specs.Runs.{RunOf, value_at}
+use Rattle.e820_model.specs.Claims.{type_of}
 use Rattle.e820_model.specs.Map.{some_kind, kinds, same_kind, map_of, claims_of, AreClaims}
 use Rattle.e820_model.specs.Greater.{greater}
-use Rattle.e820_model.proofs.ClaimLaws.{greatest_is, type_top, map_unique, map_runs}
+use Rattle.e820_model.proofs.ClaimLaws.{type_top, map_unique}
 
 run : ℕ → ℕ → ℕ → RunOf ℕ
 run base size kind = record { base = base; size = size; value = kind }

@@ -1,4 +1,4 @@
-use Rattle.std.proofs.Common.{◌≡◌, ◌-◌, ◌<◌, ◌+◌, ◌^◌, [], ◌∷◌, ◌++◌, arith}
+use Rattle.std.proofs.Common.{◌≡◌, ◌-◌, ◌<◌, [], ◌∷◌, ◌++◌, arith}
 use Rattle.std.proofs.lemmas.Grind.{common_steps}
 use Rattle.address_runs.specs.Runs.{RunOf}
 use Rattle.e820_model.specs.Map.{AreClaims}
