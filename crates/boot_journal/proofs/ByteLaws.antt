@@ -2,8 +2,8 @@
 use Rattle.std.proofs.Common.{◌≡◌, ◌≢◌, ◌⊎◌, ℕ, zero, suc, ◌+◌, ◌-◌, ◌%◌, ◌<◌, ◌≤◌, ◌==◌, Bool, true, false, ◌&&◌, ◌||◌, not, is_some, is_none, nat_lt, if◌then◌else◌, Option, Some, None, List, [], ◌∷◌, ◌++◌, length, take, drop, get_or, refl, sym, ◌∙◌, ap, subst, inl, inr, arith}
 use Rattle.std.proofs.lemmas.Bool.Decides.{nat_tests}
 use Rattle.std.proofs.lemmas.Bool.{cases_Bool, true≢false}
-use Rattle.std.proofs.lemmas.Option.{same_Some}
-use Rattle.std.proofs.lemmas.List.Sums.{fold-append, split_at_first, fails_before_first, passes_at_first}
+use Rattle.std.proofs.lemmas.List.Quantifiers.{position-Some}
+use Rattle.std.proofs.lemmas.List.Sums.{fold-append, split_at_first, fails_before_first, passes_at_first, position_or_len_is}
 use Rattle.std.proofs.lemmas.List.{get_or-take, length-take}
 use Rattle.std.specs.List.{fold, position, position_or_len, before_first, after_first}
 use Rattle.bm_base.specs.Extent.{Extent, covers, end_of}
@@ -204,15 +204,6 @@ trim_step whole items rest x plain =
 take_less : (i k : ℕ) (items : List Item) → k < length (take i items) → k < i
 take_less i k items lt = omega (arith, length-take i items)
 
-position_is : (items : List Item) (i : ℕ) → position is_trim items ≡ Some i → (position_or_len is_trim items ≡ i) × (i < length items)
-position_is items i h =
-    elim (cases_Bool (nat_lt (position_or_len is_trim items) (length items))) as (λ _. (position_or_len is_trim items ≡ i) × (i < length items)) [
-      | inl found ↦
-          let is : position_or_len is_trim items ≡ i = same_Some (position_or_len is_trim items) i (rw found at h) in
-          (is, grind (arith, nat_tests, is, found))
-      | inr none ↦ let clash : None ≡ Some i = rw none at h in cc
-    ]
-
 position_none : (items : List Item) → position is_trim items ≡ None → Plain items
 position_none items h k lt =
     elim (cases_Bool (nat_lt (position_or_len is_trim items) (length items))) as (λ _. is_trim (get_or items k item.Trim) ≡ false) [
@@ -235,8 +226,9 @@ is_trim-is (item.Grown which place room) h = absurd (true≢false (sym h))
 pub turn : (whole : Tag) (items : List Item) (i x : ℕ) → position is_trim items ≡ Some i
     → tag_after_all whole items x ≡ tag_after_all (tag_kept whole (take i items) x) (drop (i + 1) items) x
 turn whole items i x found =
-    let at = position_is items i found in
-    let count : position_or_len is_trim items ≡ i = at.0 in
+    let at = position-Some is_trim items i item.Trim found in
+    let within : i < length items = at.0 in
+    let count : position_or_len is_trim items ≡ i = position_or_len_is is_trim items i item.Trim (omega arith) at.2 (λ _. at.1) in
     let lt : position_or_len is_trim items < length items = omega arith in
     let trim : get_or items (position_or_len is_trim items) item.Trim ≡ item.Trim =
     is_trim-is (get_or items (position_or_len is_trim items) item.Trim) (passes_at_first is_trim items item.Trim lt) in
