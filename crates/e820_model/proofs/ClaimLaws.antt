@@ -2,6 +2,7 @@
 use Rattle.std.proofs.Common.{◌≡◌, ℕ, zero, suc, ◌+◌, ◌^◌, ◌<◌, ◌≤◌, ◌==◌, Bool, true, false, ◌&&◌, ◌||◌, not, nat_lt, if◌then◌else◌, max, ◌-◌, Option, Some, None, List, [], ◌∷◌, ◌++◌, refl, sym, ◌∙◌, ap, subst, inl, inr, arith}
 use Rattle.std.proofs.lemmas.Bool.Decides.{nat_tests}
 use Rattle.std.proofs.lemmas.Bool.{cases_lt, cases_Bool}
+use Rattle.std.proofs.Math.Bool.{or_assoc}
 use Rattle.address_runs.specs.Runs.{RunOf, Tells, run_end, lies_in, value_at, AreRuns, IsRunsOf}
 use Rattle.address_runs.proofs.RunsLaws.{inside, behind, none_below, rest_from, by_address, one_list}
 use Rattle.e820_model.specs.Claims.{Types, Claims, greatest_below, greatest, type_of, settled, added, after_edits, of_zero_page, with_extension, trimmed, finished}
@@ -134,16 +135,12 @@ above_step : (lies : Bool) (value rest k : ℕ) → max (if lies then value else
 above_step true value rest k higher = grind (arith, nat_tests)
 above_step false value rest k higher = refl
 
-or_assoc : (a b c : Bool) → (a || (b || c)) ≡ ((a || b) || c)
-or_assoc true b c = refl
-or_assoc false b c = refl
-
 -- the claims of two lists, at an address and a type
 pub claims_append_at : (rs ss : List (RunOf ℕ)) (x k : ℕ) → claims_of (rs ++ ss) x k ≡ (claims_of rs x k || claims_of ss x k)
 claims_append_at [] ss x k = refl
 claims_append_at (r ∷ rs) ss x k =
     let rest : claims_of (rs ++ ss) x k ≡ (claims_of rs x k || claims_of ss x k) = claims_append_at rs ss x k in
-    rw rest (or_assoc (lies_in r x && k == r.value) (claims_of rs x k) (claims_of ss x k))
+    rw rest (sym (or_assoc (lies_in r x && k == r.value) (claims_of rs x k) (claims_of ss x k)))
 
 -- the greatest type of the runs that an address lies in, 0 where there is none
 abbrev pub top : List (RunOf ℕ) → ℕ → ℕ
