@@ -1,9 +1,11 @@
 -- Laws of the numbers in texts.
 use Rattle.std.proofs.Common.{◌≡◌, ℕ, ◌+◌, ◌*◌, ◌^◌, ◌<◌, ◌≤◌, ◌==◌, ◌&&◌, ◌||◌, Bool, true, false, nat_lt, if◌then◌else◌, List, [], ◌∷◌, ◌++◌, length, drop, length-drop, get_or, zero, suc, refl, ap, ◌∙◌, Ok, Err, arith}
 use Rattle.bm_base.specs.declared.size.NumFault.TheVariants.{NoDigits}
+use Rattle.std.proofs.Math.Bool.{and-false}
 use Rattle.std.proofs.Math.Nat.{mul-le-mul_left}
+use Rattle.std.proofs.Math.Seq.{drop-length}
 use Rattle.std.specs.Char.{digit_value, is_digit}
-use Rattle.std.proofs.lemmas.Bool.{ne_eqb}
+use Rattle.std.proofs.lemmas.Bool.{ne_eqb, and_left}
 use Rattle.std.proofs.lemmas.Bool.Decides.{nat_tests}
 use Rattle.std.proofs.lemmas.List.{drop-append-le}
 use Rattle.std.proofs.lemmas.Fmt.{decimal_is_IsNumeral, first_decimal, decimal_digit}
@@ -54,11 +56,7 @@ begins_with_zero-mark (b ∷ bs) mark rest is = refl
 
 pub is_hexadecimal-short : (z x : ℕ) (rest : List ℕ) → (x == 120) || (x == 88) ≡ false → is_hexadecimal (z ∷ x ∷ rest) ≡ false
 is_hexadecimal-short z x [] is = refl
-is_hexadecimal-short z x (d ∷ rest) is = rw is (and_false (z == 48))
-  where
-    and_false : (t : Bool) → t && false && is_digit d 16 ≡ false
-    and_false true = refl
-    and_false false = refl
+is_hexadecimal-short z x (d ∷ rest) is = rw is (and_left ((z == 48) && false) (is_digit d 16) (and-false (z == 48)))
 
 pub is_hexadecimal-mark : (text : List ℕ) (mark : ℕ) (rest : List ℕ)
     → is_digit mark 36 ≡ false → is_hexadecimal (text ++ (mark ∷ rest)) ≡ is_hexadecimal text
@@ -67,11 +65,7 @@ is_hexadecimal-mark [] mark (x ∷ []) is = refl
 is_hexadecimal-mark [] mark (x ∷ d ∷ rest) is = rw (mark-other mark 48 is refl) refl
 is_hexadecimal-mark (z ∷ []) mark rest is =
     is_hexadecimal-short z mark rest (rw (mark-other mark 120 is refl, mark-other mark 88 is refl) refl)
-is_hexadecimal-mark (z ∷ x ∷ []) mark rest is = rw (is_digit-mark mark 16 (omega arith) is) (and_false ((z == 48) && ((x == 120) || (x == 88))))
-  where
-    and_false : (t : Bool) → t && false ≡ false
-    and_false true = refl
-    and_false false = refl
+is_hexadecimal-mark (z ∷ x ∷ []) mark rest is = rw (is_digit-mark mark 16 (omega arith) is) (and-false ((z == 48) && ((x == 120) || (x == 88))))
 is_hexadecimal-mark (z ∷ x ∷ d ∷ more) mark rest is = refl
 
 pub radix_of-mark : (text : List ℕ) (mark : ℕ) (rest : List ℕ)
@@ -184,10 +178,6 @@ front_digits-all (d ∷ ds) all =
     let digit : nat_lt (digit_value d) 10 ≡ true = grind (arith, nat_tests, all.0) in
     rw digit (ap (λ (rest : List ℕ). d ∷ rest) (front_digits-all ds all.1))
 
-pub drop-all : (ds : List ℕ) → drop (length ds) ds ≡ []
-drop-all [] = refl
-drop-all (d ∷ ds) = drop-all ds
-
 pub is_hexadecimal-other : (d : ℕ) (ds : List ℕ) → d == 48 ≡ false → is_hexadecimal (d ∷ ds) ≡ false
 is_hexadecimal-other d [] is = refl
 is_hexadecimal-other d (x ∷ []) is = refl
@@ -221,7 +211,7 @@ size_of-digits d ds all above small =
         (suffix_of (drop (prefix + length (front_digits radix (drop prefix text))) text))
         else Err NoDigits) ≡ Ok (digits_value 10 text, length text)
     spelled begins radix prefix text is base none whole small =
-        rw (is, base, none, whole, from_zero (length text), drop-all text) (sized (digits_value 10 text) (length text) small)
+        rw (is, base, none, whole, from_zero (length text), drop-length text) (sized (digits_value 10 text) (length text) small)
 
 -- a number is read from what `{}` writes of it
 pub size_of-decimal : (n : ℕ) → n < 2 ^ 64 → size_of (decimal n) ≡ Ok (n, length (decimal n))
