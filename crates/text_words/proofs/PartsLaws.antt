@@ -1,6 +1,7 @@
 -- Laws of the parts of a text: one byte more, and what is spelled as parts.
 use Rattle.std.proofs.Common.{◌≡◌, ℕ, Bool, true, false, ◌&&◌, not, List, [], ◌∷◌, ◌++◌, refl, ap, sym, append_assoc, ◌+◌, ◌<◌, length, take, drop, get_or, Some, add-one, drop-cons, eq-eqb, suc}
 use Rattle.std.specs.Option.{option_map}
+use Rattle.std.proofs.Math.Bool.{and-false}
 use Rattle.std.proofs.lemmas.List.{append-nil}
 use Rattle.text_words.specs.declared.separators.Separators.{Separators}
 use Rattle.text_words.specs.Parts.{separates, quoted_behind, with_front, parts_from, parts_in, onto, cut}
@@ -48,11 +49,7 @@ pub parts-spelled : (s : Separators) (quoted : Bool) (part : List ℕ) (b : ℕ)
 parts-spelled s true [] b rest closed is = cc
 parts-spelled s false [] b rest closed is = rw is refl
 parts-spelled s true (a ∷ part) b rest closed is =
-    rw (and_false (separates s a)) (ap (with_front a) (parts-spelled s (quoted_behind s true a) part b rest closed is))
-  where
-    and_false : (t : Bool) → t && false ≡ false
-    and_false true = refl
-    and_false false = refl
+    rw (and-false (separates s a)) (ap (with_front a) (parts-spelled s (quoted_behind s true a) part b rest closed is))
 parts-spelled s false (a ∷ part) b rest closed is =
     rw (closed.0) (ap (with_front a) (parts-spelled s (quoted_behind s false a) part b rest closed.1 is))
 
@@ -60,11 +57,7 @@ parts-spelled s false (a ∷ part) b rest closed is =
 pub parts-one : (s : Separators) (quoted : Bool) (part : List ℕ) → IsClosed s quoted part → parts_from s quoted part ≡ part ∷ []
 parts-one s quoted [] closed = refl
 parts-one s true (a ∷ part) closed =
-    rw (and_false (separates s a)) (ap (with_front a) (parts-one s (quoted_behind s true a) part closed))
-  where
-    and_false : (t : Bool) → t && false ≡ false
-    and_false true = refl
-    and_false false = refl
+    rw (and-false (separates s a)) (ap (with_front a) (parts-one s (quoted_behind s true a) part closed))
 parts-one s false (a ∷ part) closed =
     rw (closed.0) (ap (with_front a) (parts-one s (quoted_behind s false a) part closed.1))
 
