@@ -1,5 +1,6 @@
 -- What a line that is read word by word comes to, by the lists of what its words say.
-use Rattle.std.proofs.Common.{◌≡◌, ℕ, ◌+◌, ◌-◌, ◌==◌, nat_lt, if◌then◌else◌, Bool, true, false, ◌||◌, Option, Some, None, List, [], ◌∷◌, ◌++◌, refl, ap, sym, ◌∙◌, append_assoc, Result, Ok, Err, arith}
+use Rattle.std.proofs.Common.{◌≡◌, ℕ, ◌+◌, ◌-◌, ◌==◌, nat_lt, if◌then◌else◌, Bool, true, ◌||◌, Option, Some, None, List, [], ◌∷◌, ◌++◌, refl, ap, sym, ◌∙◌, append_assoc, Result, Ok, Err, arith}
+use Rattle.std.proofs.Math.Bool.{or-false, or-true}
 use Rattle.std.proofs.lemmas.List.{append-nil}
 use Rattle.std.proofs.lemmas.Bool.Decides.{nat_tests}
 use Rattle.std.specs.Option.{option_map}
@@ -40,20 +41,12 @@ numa_off-pieces number st (p ∷ ps) = numa_off-pieces number (after_piece numbe
 
 -- whether some word says `numa=off`
 pub numa_off-all : (st : State) (said : List (ℕ × Said)) → (after_all st said).numa_off ≡ (st.numa_off || is_numa_off said)
-numa_off-all st [] = or_false st.numa_off
-  where
-    or_false : (b : Bool) → b ≡ (b || false)
-    or_false true = refl
-    or_false false = refl
+numa_off-all st [] = sym (or-false st.numa_off)
 numa_off-all st ((number, Pieces ps) ∷ said) =
     numa_off-all (after_pieces number st ps) said
     ∙ ap (λ (b : Bool). b || is_numa_off said) (numa_off-pieces number st ps)
 numa_off-all st ((number, NumaOff) ∷ said) =
-    numa_off-all (record { edits = st.edits; numa_off = true; user_map = st.user_map }) said ∙ or_true st.numa_off
-  where
-    or_true : (b : Bool) → true ≡ (b || true)
-    or_true true = refl
-    or_true false = refl
+    numa_off-all (record { edits = st.edits; numa_off = true; user_map = st.user_map }) said ∙ sym (or-true st.numa_off)
 
 -- the user map behind the pieces of all words
 abbrev pub map_behind : List (ℕ × Piece) → Option UserMap → Option UserMap
