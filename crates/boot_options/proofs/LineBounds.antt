@@ -154,26 +154,22 @@ numbered-line bytes =
 abbrev pub IsAnyLine : List ℕ → Type 0
 IsAnyLine line = Unit {0}
 
+pub any_line : (r : Result (List ℕ) OptionFault) → IfOk r IsAnyLine
+any_line (Ok line) = tt
+any_line (Err fault) = tt
+
 -- the options of the bytes, and their faults
 pub sound-options : (bytes : List ℕ) → IfOk (options_of bytes) IsSoundChoice
 sound-options bytes =
-    ifok-then IsAnyLine IsSoundChoice (line_of bytes) _ (any (line_of bytes)) (λ line _.
+    ifok-then IsAnyLine IsSoundChoice (line_of bytes) _ (any_line (line_of bytes)) (λ line _.
     ifok-then AreSoundWords IsSoundChoice (said_from 1 (option_words line)) judged
     (sound-said_from 1 (option_words line) (omega arith)) sound-judged)
-  where
-    any : (r : Result (List ℕ) OptionFault) → IfOk r IsAnyLine
-    any (Ok line) = tt
-    any (Err fault) = tt
 
 pub numbered-options : (bytes : List ℕ) → IfErr (options_of bytes) IsNumbered
 numbered-options bytes =
-    iferr-then IsAnyLine (line_of bytes) _ (any (line_of bytes)) (numbered-line bytes) (λ line _.
+    iferr-then IsAnyLine (line_of bytes) _ (any_line (line_of bytes)) (numbered-line bytes) (λ line _.
     iferr-then AreSoundWords (said_from 1 (option_words line)) judged
     (sound-said_from 1 (option_words line) (omega arith)) (numbered-said_from 1 (option_words line) (omega arith)) numbered-judged)
-  where
-    any : (r : Result (List ℕ) OptionFault) → IfOk r IsAnyLine
-    any (Ok line) = tt
-    any (Err fault) = tt
 
 -- the same of what a call gives
 pub types-given : (bytes : List ℕ) (r : Result Options OptionFault) → Gives chosen r (options_of bytes)
