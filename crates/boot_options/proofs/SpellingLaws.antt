@@ -14,36 +14,33 @@ use Rattle.e820_model.specs.declared.edit.Edit.{Edit}
 use Rattle.e820_model.specs.declared.edit.Edit.TheVariants.{Add, Remove, RemoveAll, Change}
 use Rattle.bm_base.specs.OptionSteps.{◌>>=◌}
 use Rattle.boot_options.specs.declared.piece.Piece.TheVariants.{Adding, Other}
-use Rattle.boot_options.specs.Pieces.{Part, part_of, size_part, number_part, at_end, whole_size, range_at, unless_empty, range_above, added, small_kind, kind_behind, retyped, changed, by_mark, piece_of, Spell, SpellsType}
+use Rattle.boot_options.specs.Pieces.{part_of, size_part, number_part, at_end, whole_size, range_at, unless_empty, range_above, added, small_kind, kind_behind, retyped, changed, by_mark, piece_of, Spell, SpellsType}
 
 -- the later step, where the earlier one gives a value
 pub then-some : {A B : Type 0} (o : Option A) (f : A → Option B) (x : A) → o ≡ Some x → (o >>= f) ≡ f x
 then-some o f x is = rw is refl
 
-pub part_of-ok : (text : List ℕ) (r : Result (ℕ × ℕ) NumFault) (n k : ℕ) → r ≡ Ok (n, k) → part_of text r ≡ Some (n, drop k text)
-part_of-ok text r n k is = rw is refl
+-- what is read of a text up to the byte before the rest, or to its end
+pub part_of-front : (s rest : List ℕ) (r : Result (ℕ × ℕ) NumFault) (n : ℕ) → r ≡ Ok (n, length s) → part_of (s ++ rest) r ≡ Some (n, rest)
+part_of-front s rest r n is = rw (is, drop-append_seam s rest) refl
 
-abbrev pub some_part : ℕ → List ℕ → Option Part
-some_part n rest = Some (n, rest)
+pub part_of-whole : (s : List ℕ) (r : Result (ℕ × ℕ) NumFault) (n : ℕ) → r ≡ Ok (n, length s) → part_of s r ≡ Some (n, [])
+part_of-whole s r n is = rw (is, drop-length s) refl
 
--- a size before a byte that is no digit and no letter, or at the end of the text
+-- a size, or a number, before a byte that is no digit and no letter, or at the end of the text
 pub size_part-mark : (s : List ℕ) (n mark : ℕ) (rest : List ℕ) → IsSize s n → is_digit mark 36 ≡ false
     → size_part (s ++ (mark ∷ rest)) ≡ Some (n, mark ∷ rest)
-size_part-mark s n mark rest size is =
-    part_of-ok (s ++ (mark ∷ rest)) (size_of (s ++ (mark ∷ rest))) n (length s) (size_of-mark s rest mark is ∙ size)
-    ∙ ap (some_part n) (drop-append_seam s (mark ∷ rest))
+size_part-mark s n mark rest size is = part_of-front s (mark ∷ rest) _ n (size_of-mark s rest mark is ∙ size)
 
 pub size_part-end : (s : List ℕ) (n : ℕ) → IsSize s n → size_part s ≡ Some (n, [])
-size_part-end s n size = part_of-ok s (size_of s) n (length s) size ∙ ap (some_part n) (drop-length s)
+size_part-end s n size = part_of-whole s (size_of s) n size
 
 pub number_part-mark : (s : List ℕ) (n mark : ℕ) (rest : List ℕ) → IsNumber s n → is_digit mark 36 ≡ false
     → number_part (s ++ (mark ∷ rest)) ≡ Some (n, mark ∷ rest)
-number_part-mark s n mark rest number is =
-    part_of-ok (s ++ (mark ∷ rest)) (number_of (s ++ (mark ∷ rest))) n (length s) (number_of-mark s rest mark is ∙ number)
-    ∙ ap (some_part n) (drop-append_seam s (mark ∷ rest))
+number_part-mark s n mark rest number is = part_of-front s (mark ∷ rest) _ n (number_of-mark s rest mark is ∙ number)
 
 pub number_part-end : (s : List ℕ) (n : ℕ) → IsNumber s n → number_part s ≡ Some (n, [])
-number_part-end s n number = part_of-ok s (number_of s) n (length s) number ∙ ap (some_part n) (drop-length s)
+number_part-end s n number = part_of-whole s (number_of s) n number
 
 pub whole_size-end : (s : List ℕ) (n : ℕ) → IsSize s n → whole_size s ≡ Some n
 whole_size-end s n size = then-some (size_part s) (λ part. at_end part.1 (Some part.0)) (n, []) (size_part-end s n size)
@@ -115,28 +112,24 @@ piece-above s size is small =
     (then-some (size_part s) (λ part. by_mark part.0 part.1) (size, []) (size_part-end s size is)
     ∙ ap (λ (e : Option Edit). Some (Other e)) (unless_empty-some (range_above size) (Remove (range_above size) 1) some))
 
+-- a type below 2^32 is one
+pub small_kind-below : (n : ℕ) (rest : List ℕ) → n < 2 ^ 32 → small_kind (n, rest) ≡ Some (n, rest)
+small_kind-below n rest is =
+    let fits : nat_lt n (2 ^ 32) ≡ true = grind (arith, nat_tests, is) in
+    rw fits refl
+
 -- a type behind its mark, before another mark or at the end
 pub kind_behind-end : (mark : ℕ) (text : List ℕ) (kind : ℕ) → SpellsType text kind → kind_behind mark (mark ∷ text) ≡ Some (kind, [])
 kind_behind-end mark text kind spells =
     rw (eq-eqb mark mark refl)
-    (then-some (number_part text) small_kind (kind, []) (number_part-end text kind spells.number) ∙ small kind spells.small)
-  where
-    small : (n : ℕ) → n < 2 ^ 32 → small_kind (n, []) ≡ Some (n, [])
-    small n is =
-        let fits : nat_lt n (2 ^ 32) ≡ true = grind (arith, nat_tests, is) in
-        rw fits refl
+    (then-some (number_part text) small_kind (kind, []) (number_part-end text kind spells.number) ∙ small_kind-below kind [] spells.small)
 
 pub kind_behind-mark : (mark : ℕ) (text : List ℕ) (kind next : ℕ) (rest : List ℕ) → SpellsType text kind → is_digit next 36 ≡ false
     → kind_behind mark (mark ∷ (text ++ (next ∷ rest))) ≡ Some (kind, next ∷ rest)
 kind_behind-mark mark text kind next rest spells is =
     rw (eq-eqb mark mark refl)
     (then-some (number_part (text ++ (next ∷ rest))) small_kind (kind, next ∷ rest) (number_part-mark text kind next rest spells.number is)
-    ∙ small kind spells.small)
-  where
-    small : (n : ℕ) → n < 2 ^ 32 → small_kind (n, next ∷ rest) ≡ Some (n, next ∷ rest)
-    small n is =
-        let fits : nat_lt n (2 ^ 32) ≡ true = grind (arith, nat_tests, is) in
-        rw fits refl
+    ∙ small_kind-below kind (next ∷ rest) spells.small)
 
 -- the forms with `%`: the address, the types, and nothing behind them
 pub changed-spelled : (range : Extent) (place tail rest : List ℕ) (from to : ℕ) → range.base + range.size < 2 ^ 64
