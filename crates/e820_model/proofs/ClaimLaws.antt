@@ -1,5 +1,6 @@
 -- Claims, the greatest of them, settling, and lists of runs read as claims.
 use Rattle.std.proofs.Common.{◌≡◌, ℕ, zero, suc, ◌+◌, ◌^◌, ◌<◌, ◌≤◌, ◌==◌, Bool, true, false, ◌&&◌, ◌||◌, not, nat_lt, if◌then◌else◌, max, ◌-◌, Option, Some, None, List, [], ◌∷◌, ◌++◌, refl, sym, ◌∙◌, ap, subst, inl, inr, arith}
+use Rattle.std.proofs.Math.Bool.{or-false}
 use Rattle.std.proofs.lemmas.Bool.Decides.{nat_tests}
 use Rattle.std.proofs.lemmas.Bool.{cases_lt, cases_Bool}
 use Rattle.std.proofs.Math.Bool.{or_assoc}
@@ -213,10 +214,6 @@ abbrev pub is_value : Option ℕ → ℕ → Bool
 is_value None k = false
 is_value (Some v) k = k == v
 
-or_false : (b : Bool) → (b || false) ≡ b
-or_false true = refl
-or_false false = refl
-
 -- a canonical list claims at an address the value that it gives there, and nothing else
 pub claims_value : (rs : List (RunOf ℕ)) (x k : ℕ) → AreRuns rs → claims_of rs x k ≡ is_value (value_at rs x) k
 claims_value [] x k runs = refl
@@ -226,7 +223,7 @@ claims_value (r ∷ rs) x k runs =
       | inl here ↦
           let lt : x < r.base + r.size = grind (arith, nat_tests) in
           let none : value_at rs x ≡ None = none_below (run_end r) x rs runs.2 (rest_from r rs runs) lt in
-          rw (here, rest, none) (or_false (k == r.value))
+          rw (here, rest, none) (or-false (k == r.value))
       | inr not_here ↦ rw (not_here, rest) refl
     ]
 
