@@ -2,7 +2,7 @@
 use Rattle.std.proofs.Common.{◌≡◌, ℕ, ◌+◌, ◌*◌, ◌^◌, ◌<◌, ◌≤◌, ◌==◌, ◌&&◌, ◌||◌, Bool, true, false, nat_lt, if◌then◌else◌, List, [], ◌∷◌, ◌++◌, length, drop, length-drop, get_or, zero, suc, refl, ap, ◌∙◌, Ok, Err, arith}
 use Rattle.bm_base.specs.declared.size.NumFault.TheVariants.{NoDigits}
 use Rattle.std.proofs.Math.Bool.{and-false}
-use Rattle.std.proofs.Math.Nat.{mul-le-mul_left}
+use Rattle.std.proofs.Math.Nat.{mul-le-mul_left, zero-add}
 use Rattle.std.proofs.Math.Seq.{drop-length}
 use Rattle.std.specs.Char.{digit_value, is_digit}
 use Rattle.std.proofs.lemmas.Bool.{ne_eqb, and_left}
@@ -194,9 +194,6 @@ size_of-digits d ds all above small =
     let prefix : prefix_of (d ∷ ds) ≡ 0 = rw (is_hexadecimal-other d ds other) refl in
     spelled (begins_with_digit (d ∷ ds)) (radix_of (d ∷ ds)) (prefix_of (d ∷ ds)) (d ∷ ds) digit radix prefix whole small
   where
-    from_zero : (n : ℕ) → 0 + n ≡ n
-    from_zero n = omega arith
-
     sized : (v n : ℕ) → v < 2 ^ 64 → with_suffix v n (1, 0) ≡ Ok (v, n)
     sized v n small =
         let value : v * 1 ≡ v = omega arith in
@@ -211,7 +208,7 @@ size_of-digits d ds all above small =
         (suffix_of (drop (prefix + length (front_digits radix (drop prefix text))) text))
         else Err NoDigits) ≡ Ok (digits_value 10 text, length text)
     spelled begins radix prefix text is base none whole small =
-        rw (is, base, none, whole, from_zero (length text), drop-length text) (sized (digits_value 10 text) (length text) small)
+        rw (is, base, none, whole, zero-add (length text), drop-length text) (sized (digits_value 10 text) (length text) small)
 
 -- a number is read from what `{}` writes of it
 pub size_of-decimal : (n : ℕ) → n < 2 ^ 64 → size_of (decimal n) ≡ Ok (n, length (decimal n))
