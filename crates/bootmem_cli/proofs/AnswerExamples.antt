@@ -1,16 +1,13 @@
 -- How answers stand to outcomes, and what counts as their cause, on small answers and counts.
-use Rattle.std.proofs.Common.{◌≡◌, ℕ, List, [], ◌∷◌, codes, Option, Some, None, Ok, Err, refl, inl, inr, arith}
+use Rattle.std.proofs.Common.{◌≡◌, ℕ, List, [], codes, Option, Some, None, Ok, Err, refl, inl, inr, arith}
 use Rattle.std.specs.Prelude.{Result}
-use Rattle.boot_options.specs.declared.fault.OptionFault.TheVariants as options
 use Rattle.e820_table.specs.declared.zero_page.ZeroFault.TheVariants as zero
 use Rattle.e820_table.specs.declared.extension.ExtFault.TheVariants as extension
-use Rattle.bootmem_cli.specs.declared.boot.Stop.{Stop}
 use Rattle.bootmem_cli.specs.declared.boot.Stop.TheVariants as stops
 use Rattle.bootmem_cli.specs.declared.failure.Input.TheVariants as inputs
 use Rattle.bootmem_cli.specs.declared.failure.InputFault.TheVariants as faults
 use Rattle.bootmem_cli.specs.declared.failure.Refusal.{Refusal}
 use Rattle.bootmem_cli.specs.declared.failure.Refusal.TheVariants as refusals
-use Rattle.bootmem_cli.specs.declared.failure.Failure.{Failure}
 use Rattle.bootmem_cli.specs.declared.failure.Failure.TheVariants as failures
 use Rattle.bootmem_cli.specs.Words.{Named}
 use Rattle.bootmem_cli.specs.Outcome.{if_named}

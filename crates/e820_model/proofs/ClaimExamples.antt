@@ -1,12 +1,12 @@
 -- Small maps, computed from their entries.
-use Rattle.std.proofs.Common.{◌≡◌, ℕ, ◌^◌, ◌<◌, ◌+◌, ◌==◌, Bool, true, false, ◌&&◌, ◌||◌, nat_lt, List, [], ◌∷◌, refl, ap, ◌∙◌, arith}
+use Rattle.std.proofs.Common.{◌≡◌, ℕ, ◌^◌, ◌<◌, ◌+◌, ◌==◌, Bool, true, false, ◌&&◌, ◌||◌, nat_lt, List, [], ◌∷◌, refl, arith}
 use Rattle.std.proofs.lemmas.Bool.Decides.{nat_tests}
 use Rattle.e820_model.specs.Claims.{Claims, no_claims, is_covered_by, EndInSpace, greatest_below, greatest, type_of, settled, added, claims_of_entries, edited, HasTypes, HaveTypes, after_edits, first_page, bios_area, trimmed, of_zero_page, with_extension, with_edits, finished}
 use Rattle.e820_model.specs.declared.entry.Entry.{Entry}
 use Rattle.e820_model.specs.declared.edit.Edit.{Edit}
 use Rattle.e820_model.specs.declared.edit.Edit.TheVariants as edit
 use Rattle.bm_base.specs.Extent.{Extent, covers}
-use Rattle.e820_model.proofs.ClaimLaws.{greatest_is, settled_keeps}
+use Rattle.e820_model.proofs.ClaimLaws.{greatest_is}
 
 -- RAM up to 2 MiB, with ACPI data in it from 1 MiB on, 512 KiB long
 abbrev ram_and_acpi : List Entry
