@@ -77,7 +77,7 @@ is_of_itself = record { runs = (omega arith, (omega arith, λ touch same. absurd
 
 -- the runs of all addresses below 2^64: one page of RAM, and nothing at all
 tells_numbers : Tells {X = ℕ} (λ a b. a == b)
-tells_numbers = record { yes = λ a b h. grind (arith, nat_tests); no = λ a b h. grind (arith, nat_tests) }
+tells_numbers = record { true_is_equal = λ a b h. grind (arith, nat_tests); equal_is_true = λ a b h. grind (arith, nat_tests) }
 
 one_page : ℕ → Option ℕ
 one_page = value_at (run 0x1000 0x1000 1 ∷ [])

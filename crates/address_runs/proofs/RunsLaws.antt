@@ -147,12 +147,12 @@ runs_led_some {X} same tells x v r rs runs start =
       | inl holds ↦
           let both : (r.base ≡ x + 1) × (same v r.value ≡ true) = touches (same v r.value) r.base (x + 1) holds in
           let ends : x + (r.size + 1) ≡ run_end r = omega arith in
-          let before : IsBefore (record { base = x; size = r.size + 1; value = v }) rs = before_longer x (r.size + 1) v r rs ends (tells.yes v r.value both.1) runs.1 in
+          let before : IsBefore (record { base = x; size = r.size + 1; value = v }) rs = before_longer x (r.size + 1) v r rs ends (tells.true_is_equal v r.value both.1) runs.1 in
           let canonical : Canonical true = (omega arith, before, runs.2) in
           subst Canonical (sym holds) canonical
       | inr fails ↦
           let other : x + 1 ≡ r.base → v ≢ r.value =
-          λ touch equal. true≢false (sym (tells.no v r.value equal) ∙ touches_not (same v r.value) r.base (x + 1) fails (sym touch)) in
+          λ touch equal. true≢false (sym (tells.equal_is_true v r.value equal) ∙ touches_not (same v r.value) r.base (x + 1) fails (sym touch)) in
           let canonical : Canonical false = (omega arith, (start, other), runs) in
           subst Canonical (sym fails) canonical
     ]
@@ -193,7 +193,7 @@ value_led {X} same tells x (Some v) (r ∷ rs) y runs start =
     elim (cases_Bool test) as (λ _. Gives test) [
       | inl holds ↦
           let both : (r.base ≡ x + 1) × (same v r.value ≡ true) = touches (same v r.value) r.base (x + 1) holds in
-          let equal : v ≡ r.value = tells.yes v r.value both.1 in
+          let equal : v ≡ r.value = tells.true_is_equal v r.value both.1 in
           let at_base : r.base ≡ x + 1 = both.0 in
           let gives : Gives true = grind (arith, nat_tests, equal, at_base) in
           subst Gives (sym holds) gives

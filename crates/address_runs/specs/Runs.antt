@@ -11,8 +11,8 @@ pub record RunOf (X : Type 0) : Type 0 where
 
 -- a test that tells whether two values are equal
 pub record Tells {X : Type 0} (same : X → X → Bool) : Type 0 where
-  pub yes : (a b : X) → same a b ≡ true → a ≡ b
-  pub no : (a b : X) → a ≡ b → same a b ≡ true
+  pub true_is_equal : (a b : X) → same a b ≡ true → a ≡ b
+  pub equal_is_true : (a b : X) → a ≡ b → same a b ≡ true
 
 module _ {X : Type 0} where
   -- the address behind the last one of the run

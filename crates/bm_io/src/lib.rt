@@ -7,8 +7,9 @@
 //! What an implementation means is said by members that only contracts see: the bytes that a name
 //! holds and those that were written, where the object tells them, and counts of what happened. A
 //! count never falls. It is a `u64` that stands still at its last value, 2^64 - 1; that it rose in a
-//! call means that it is greater afterwards, or stands there. Each refusal has its cause in such a
-//! count, so a caller can tell a refusal of the outside from a mistake of the program.
+//! call means that it is greater afterwards, or stands there. Each refusal but want of memory at a
+//! fetch has its cause in such a count, so a caller can tell a refusal of the outside from a mistake of
+//! the program.
 //!
 //! [`MemFiles`] and [`MemSink`] live in memory, tell everything, and fail at the calls that they were
 //! told to fail at: tests and proofs use them. [`RealFiles`] and [`StdSink`] are the trusted edge,

@@ -10,12 +10,12 @@
 //! the files that they name, from the files' bytes to the inputs, from those to the map by the boot
 //! (`specs/Boot.antt`), and from the map to its text, each step by cases. `run` answers what it says,
 //! but where the outside fails: a file that couldn't be read, an output that refused, want of
-//! memory. Each of these has its cause in a count of the object that was handed in.
+//! memory. The first two have their cause in a count of the object that was handed in.
 //!
 //! Exit statuses: 0 written, 2 the words are refused, 3 a file couldn't be read, 4 the output
 //! failed, 5 an input has a fault, 6 the boot stops, 7 out of memory. All but 0 put one line on the
-//! error output; where the words themselves can't be collected, `main` ends without one, with 2 for a word that
-//! isn't UTF-8 and with 7 for want of memory.
+//! error output; where the words themselves can't be collected, `main` ends without one, with 2 for
+//! a word that isn't UTF-8 and with 7 for want of memory.
 #![tactic(auto)]
 
 mod boot;

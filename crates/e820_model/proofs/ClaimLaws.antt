@@ -196,7 +196,7 @@ none_past rs x claims far =
 
 -- the test that tells types apart
 pub tells_kinds : Tells same_kind
-tells_kinds = record { yes = λ a b h. grind (arith, nat_tests); no = λ a b h. grind (arith, nat_tests) }
+tells_kinds = record { true_is_equal = λ a b h. grind (arith, nat_tests); equal_is_true = λ a b h. grind (arith, nat_tests) }
 
 -- the map of claims that give out is their list of runs
 pub map_runs : (c : Claims) → ((x : ℕ) → 2 ^ 64 ≤ x → kinds c x ≡ None) → IsRunsOf (kinds c) (map_of c)

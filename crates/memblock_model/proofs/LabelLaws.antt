@@ -74,11 +74,11 @@ module _ {X : Type 0} where
   label_yes same tells None None h = refl
   label_yes same tells None (Some b) h = cc
   label_yes same tells (Some a) None h = cc
-  label_yes same tells (Some a) (Some b) h = ap (λ v. Some v) (tells.yes a b h)
+  label_yes same tells (Some a) (Some b) h = ap (λ v. Some v) (tells.true_is_equal a b h)
 
   pub label_self : (same : X → X → Bool) → Tells same → (a : Option X) → same_label same a a ≡ true
   label_self same tells None = refl
-  label_self same tells (Some a) = tells.no a a refl
+  label_self same tells (Some a) = tells.equal_is_true a a refl
 
   pub label_no : (same : X → X → Bool) → Tells same → (a b : Option X) → a ≡ b → same_label same a b ≡ true
   label_no same tells a b e = ap (λ o. same_label same a o) (sym e) ∙ label_self same tells a

@@ -19,7 +19,7 @@ node_self None = refl
 node_self (Some n) = eq-eqb n n refl
 
 pub node_tells : Tells same_node
-node_tells = record { yes = node_yes; no = λ a b e. ap (λ (o : Option ℕ). same_node a o) (sym e) ∙ node_self a }
+node_tells = record { true_is_equal = node_yes; equal_is_true = λ a b e. ap (λ (o : Option ℕ). same_node a o) (sym e) ∙ node_self a }
 
 -- the owner of the variant that carries the number
 numbered : ℕ → ℕ → Owner
@@ -62,4 +62,4 @@ pub owner_self : (a : Owner) → same_owner a a ≡ true
 owner_self a = numbers_both (variant_of a) (variant_of a) (number_of a) (number_of a) refl refl
 
 pub owner_tells : Tells same_owner
-owner_tells = record { yes = owner_yes; no = λ a b e. ap (λ (o : Owner). same_owner a o) (sym e) ∙ owner_self a }
+owner_tells = record { true_is_equal = owner_yes; equal_is_true = λ a b e. ap (λ (o : Owner). same_owner a o) (sym e) ∙ owner_self a }

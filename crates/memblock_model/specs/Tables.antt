@@ -77,8 +77,8 @@ moved_after w o (item.Limit at) = o
 abbrev pub moved_to : Which → List Item → Option ℕ
 moved_to w items = fold (moved_after w) None items
 
--- where the table lies at first: in the last two frames of the kernel's image
--- (`memblock_memory_init_regions`, `memblock_reserved_init_regions`)
+-- where the table lies at first: in the last two frames of the kernel's image. There the kernel has its arrays too
+-- (`memblock_memory_init_regions`, `memblock_reserved_init_regions`); the places are this project's own
 abbrev pub built_in : Which → Extent → ℕ
 built_in which.Memory kernel = end_of kernel - 8192
 built_in which.Reserved kernel = end_of kernel - 4096
