@@ -24,9 +24,9 @@ unfolding runs_from run
 one_value_is_one_run = refl
 
 -- a run has its base and its last address, and not the one behind
-lies_examples : (lies_in (run 4 2 1) 3 ≡ false) × (lies_in (run 4 2 1) 4 ≡ true) × (lies_in (run 4 2 1) 5 ≡ true) × (lies_in (run 4 2 1) 6 ≡ false) × (run_end (run 4 2 1) ≡ 6)
+lies_examples : (lies_in (run 4 2 1) 3 ≡ false) × (lies_in (run 4 2 1) 4 ≡ true) × (lies_in (run 4 2 1) 5 ≡ true) × (lies_in (run 4 2 1) 6 ≡ false) × (run_end (run 4 2 1) ≡ 6) × (run_end (run 9 0 1) ≡ 9)
 unfolding run
-lies_examples = (refl, refl, refl, refl, refl)
+lies_examples = (refl, refl, refl, refl, refl, refl)
 
 -- a list gives the value of the first run that has the address
 value_examples : (value_at (run 0 2 1 ∷ (run 4 2 3 ∷ [])) 5 ≡ Some 3) × (value_at (run 0 2 1 ∷ (run 4 2 3 ∷ [])) 2 ≡ None) × (value_at (run 0 4 1 ∷ (run 2 4 3 ∷ [])) 3 ≡ Some 1)
@@ -75,9 +75,17 @@ is_of_itself : IsRunsOf (value_at (run 0 2 1 ∷ (run 2 2 3 ∷ []))) (run 0 2 1
 unfolding run
 is_of_itself = record { runs = (omega arith, (omega arith, λ touch same. absurd (omega arith)), (omega arith, tt, tt)); each = λ x. refl }
 
+-- and of nothing else
+is_not_of_another : ¬ IsRunsOf (λ x. Some 1) (run 0 2 1 ∷ [])
+unfolding run
+is_not_of_another known = let none : None ≡ Some 1 = known.each 2 in cc none
+
 -- the runs of all addresses below 2^64: one page of RAM, and nothing at all
 tells_numbers : Tells {X = ℕ} (λ a b. a == b)
 tells_numbers = record { true_is_equal = λ a b h. grind (arith, nat_tests); equal_is_true = λ a b h. grind (arith, nat_tests) }
+
+not_telling : ¬ Tells {X = ℕ} (λ a b. true)
+not_telling tells = let same : 1 ≡ 2 = tells.true_is_equal 1 2 refl in absurd (omega (arith, same))
 
 one_page : ℕ → Option ℕ
 one_page = value_at (run 0x1000 0x1000 1 ∷ [])
@@ -126,6 +134,10 @@ goes_on_with_the_value : ¬ EndBy 6 (Some 1) (run 4 2 1 ∷ [])
 unfolding run
 goes_on_with_the_value ends = ends.1 refl refl
 
+ends_right_there : (¬ EndsBehind 6 (run 4 2 1 ∷ [])) × (¬ EndsFrom 7 (run 4 2 1 ∷ []))
+unfolding run
+ends_right_there = ((λ behind. let more : 6 < 6 = behind in absurd (omega arith)), λ from. let more : 7 ≤ 6 = from in absurd (omega arith))
+
 begins_lower : ¬ StartFrom 5 (run 4 2 1 ∷ [])
 unfolding run
 begins_lower start = let higher : 5 ≤ 4 = start in absurd (omega arith)
@@ -135,12 +147,26 @@ swept_to_three : IsSweptTo gaps 3 (run 0 2 1 ∷ [])
 unfolding run
 swept_to_three = record { runs = (omega arith, tt, tt); ends = (omega arith, λ touch. absurd (omega arith), tt); each = λ x below. grind (arith, nat_tests) }
 
+not_swept_to_five : ¬ IsSweptTo gaps 5 (run 0 2 1 ∷ [])
+unfolding run
+not_swept_to_five swept = let none : None ≡ Some 1 = swept.each 4 (omega arith) in cc none
+
+nothing_is_left : IsRestFrom gaps 7 []
+nothing_is_left = record { runs = tt; ends = tt; each = λ x above. grind (arith, nat_tests) }
+
 rest_from_three : IsRestFrom gaps 3 (run 4 2 1 ∷ (run 6 1 2 ∷ []))
 unfolding run
 rest_from_three = record {
   runs = (omega arith, (omega arith, λ touch same. absurd (omega arith)), (omega arith, tt, tt));
   ends = omega arith;
   each = λ x above. grind (arith, nat_tests);
+}
+
+built_to_two : IsBuiltTo gaps 2 [] 0 (Some 1)
+built_to_two = record {
+  begun = omega arith;
+  swept = record { runs = tt; ends = tt; each = λ x below. absurd (omega arith) };
+  stays = λ x from until. grind (arith, nat_tests);
 }
 
 built_to_six : IsBuiltTo gaps 6 (run 0 2 1 ∷ []) 4 (Some 1)

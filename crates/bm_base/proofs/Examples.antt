@@ -34,8 +34,8 @@ touching_pages : ¬ Meet second_page third_page
 touching_pages both = let shared : (covers second_page both.0 && covers third_page both.0) ≡ true = both.1 in grind (arith, nat_tests)
 
 -- digits as far as there are some, in that base; the rest is left
-digits_examples : (front_digits 10 (codes "640K") ≡ codes "640") × (front_digits 8 (codes "0178") ≡ codes "017") × (value_of 16 (codes "fFg") ≡ 255)
-digits_examples = (refl, refl, refl)
+digits_examples : (front_digits 10 (codes "640K") ≡ codes "640") × (front_digits 8 (codes "0178") ≡ codes "017") × (value_of 16 (codes "fFg") ≡ 255) × (value_of 8 (codes "0178") ≡ 15)
+digits_examples = (refl, refl, refl, refl)
 
 -- `0x` begins a hexadecimal number where a digit follows; otherwise a first `0` is an octal one
 radix_examples : (radix_of (codes "0x1f") ≡ 16) × (radix_of (codes "0XF") ≡ 16) × (radix_of (codes "0x") ≡ 8) × (radix_of (codes "010") ≡ 8) × (radix_of (codes "10") ≡ 10)
@@ -70,8 +70,8 @@ size_examples : (size_of (codes "64M") ≡ Ok (0x4000000, 3)) × (size_of (codes
     × (size_of (codes "16E") ≡ Err TooLarge) × (size_of (codes "M") ≡ Err NoDigits) × (size_of [] ≡ Err NoDigits)
 size_examples = (refl, refl, refl, refl, refl, refl)
 
-whole_examples : IsSize (codes "1G") 0x40000000 × IsNumber (codes "017") 15
-whole_examples = (refl, refl)
+whole_examples : IsSize (codes "1G") 0x40000000 × IsSize (codes "0x10k") 16384 × IsNumber (codes "017") 15 × IsNumber (codes "0xff") 255
+whole_examples = (refl, refl, refl, refl)
 
 -- an address has 16 digits in lower case, a decimal stands at the right end of its places, or beyond them
 hex_examples : (hexadecimal 0x9FC00 ≡ codes "9fc00") × (hex_text 0 ≡ codes "0x0000000000000000") × (hex_text 0xFEC00000 ≡ codes "0x00000000fec00000")

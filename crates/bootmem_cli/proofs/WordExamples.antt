@@ -173,3 +173,12 @@ usage_line = refl
 
 outside_lines : (failure_line (Some all_named) failures.Unwritten ≡ codes "bootmem: cannot write\n") × (failure_line None failures.Memory ≡ codes "bootmem: out of memory\n")
 outside_lines = (refl, refl)
+
+-- the other lines of each kind
+plain_lines : (zero_fault_line zero.TooFew ≡ codes "bootmem: zeropage: too few entries\n") × (ext_fault_line extension.ExtHeader ≡ codes "bootmem: e820ext: header\n")
+    × (option_fault_line options.OpenQuote ≡ codes "bootmem: cmdline: open quote\n") × (refusal_line None refusals.Usage ≡ codes "bootmem: usage\n")
+plain_lines = (refl, refl, refl, refl)
+
+first_word_line : word_line 1 (codes "mem") ≡ codes "bootmem: cmdline: word 1: mem\n"
+unfolding digits
+first_word_line = refl

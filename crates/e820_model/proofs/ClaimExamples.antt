@@ -74,8 +74,8 @@ settled_claims_nothing = refl
 -- what is added claims beside what was there
 added_examples : (added (claims_of_entries ram_and_acpi) (claims_of_entries (record { addr = 0x180000; size = 0x1000; kind = 4 } ∷ [])) 0x180000 1 ≡ true)
     × (added (claims_of_entries ram_and_acpi) (claims_of_entries (record { addr = 0x180000; size = 0x1000; kind = 4 } ∷ [])) 0x180000 4 ≡ true)
-    × (added no_claims (claims_of_entries ram_and_acpi) 0x200000 1 ≡ false)
-added_examples = (refl, refl, refl)
+    × (added no_claims (claims_of_entries ram_and_acpi) 0x200000 1 ≡ false) × (no_claims 0 1 ≡ false)
+added_examples = (refl, refl, refl, refl)
 
 -- the edits, on the page from 0x1000 on: `memmap=4K@0x1000` and the like
 abbrev page : Extent
@@ -98,6 +98,9 @@ clear_examples = (refl, refl)
 
 has_types : HasTypes (edit.Change page 1 2) × HasTypes edit.Clear × HaveTypes (edit.Add page 7 ∷ edit.RemoveAll page ∷ [])
 has_types = ((omega arith, omega arith), tt, (omega arith, (tt, tt)))
+
+one_type_0_is_enough : ¬ HaveTypes (edit.Clear ∷ edit.Remove page 0 ∷ [])
+one_type_0_is_enough have = let some : 0 < 0 = have.1.0 in absurd (omega arith)
 
 type_0_is_none : ¬ HasTypes (edit.Add page 0)
 type_0_is_none some = absurd (omega arith)
@@ -165,6 +168,10 @@ changed : (x t u : ℕ) → type_of (added first_claims (claims_of_entries exten
 changed x t u known small is_in none =
     greatest_is (after_edits edits second_claims x) u small (λ some. rw known (is_in some)) (λ k higher below. rw known (none k higher below))
 
+-- the zero page alone: ACPI data at 1 MiB, RAM not beside it
+zero_page_examples : (of_zero_page ram_and_acpi 0x100000 3 ≡ true) × (of_zero_page ram_and_acpi 0x100000 1 ≡ false)
+zero_page_examples = (settled_keeps_acpi, settled_drops_ram)
+
 -- at 1.5 MiB the extension's type is greater than RAM, and then greater than the option's
 nvs_with_extension : type_of (added first_claims (claims_of_entries extension)) 0x180000 ≡ 4
 nvs_with_extension =
@@ -183,6 +190,9 @@ nvs_stays = changed 0x180000 4 4 nvs_with_extension (omega arith) (λ some. refl
 
 option_does_not_lower : with_edits edits second_claims 0x180000 2 ≡ false
 option_does_not_lower = rw nvs_stays refl
+
+nvs_after_the_edits : with_edits edits second_claims 0x180000 4 ≡ true
+nvs_after_the_edits = rw nvs_stays refl
 
 nvs_in_the_map : finished ram_and_acpi extension edits 0x180000 4 ≡ true
 nvs_in_the_map = rw nvs_stays refl

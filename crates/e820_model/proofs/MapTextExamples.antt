@@ -14,6 +14,10 @@ line_of_ram : run_line ram_at_1M ≡ codes "0x0000000000100000..0x0000000007fdff
 unfolding ram_at_1M digits
 line_of_ram = refl
 
+line_of_reserved : run_line reserved_behind ≡ codes "0x0000000007fe0000..0x0000000007ffffff 2 reserved\n"
+unfolding reserved_behind digits
+line_of_reserved = refl
+
 two_lines : map_text (ram_at_1M ∷ reserved_behind ∷ [])
     ≡ codes "0x0000000000100000..0x0000000007fdffff 1 usable\n0x0000000007fe0000..0x0000000007ffffff 2 reserved\n"
 unfolding ram_at_1M reserved_behind digits

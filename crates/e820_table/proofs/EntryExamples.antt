@@ -156,3 +156,24 @@ second_is_far = refl
 
 fault_of_an_index : (entry_fault (Some 7) ≡ Some (zero_faults.EntryTooFar 7)) × (entry_fault None ≡ None)
 fault_of_an_index = (refl, refl)
+
+-- the same words once more, on less
+two_bytes : number_at 2 0 (0x34 ∷ 0x12 ∷ []) ≡ 0x1234
+two_bytes = refl
+
+first_of_two : nth_entry 0 0 (last_bytes ++ ram_bytes) ≡ last
+unfolding entry_at
+first_of_two = refl
+
+first_is_far : far_from 0 0 2 (far_bytes ++ last_bytes) ≡ Some 0
+unfolding entry_at
+first_is_far = refl
+
+no_data : (data_length (header 1 0) ≡ 0) × (ext_count (header 1 0) ≡ 0) × (has_length (header 1 0) ≡ true)
+no_data = (refl, refl, refl)
+
+no_entries_stated : (entry_count (page 0 ram_bytes) ≡ 0) × (entries_of (page 0 ram_bytes) ≡ [])
+no_entries_stated = (refl, refl)
+
+its_first_entry : entries_of (page 1 (ram_bytes ++ last_bytes)) ≡ nth_entry table_offset 0 (page 1 (ram_bytes ++ last_bytes)) ∷ []
+its_first_entry = refl
