@@ -1,6 +1,9 @@
 -- How answers stand to outcomes, and what counts as their cause, on small answers and counts.
-use Rattle.std.proofs.Common.{◌≡◌, ℕ, List, [], codes, Option, Some, None, Ok, Err, refl, inl, inr, arith}
-use Rattle.std.specs.Prelude.{Result}
+use Rattle.std.proofs.Common.{◌≡◌, ℕ, List, [], ◌∷◌, codes, Option, Some, None, Ok, Err, refl, inl, inr, arith}
+use Rattle.std.specs.Prelude.{Result, String, string_bytes}
+use Rattle.std.specs.Option.{option_copied}
+use Rattle.std.specs.declared.alloc.Global.{Global}
+use Rattle.boot_options.specs.Options.{chosen}
 use Rattle.e820_table.specs.declared.zero_page.ZeroFault.TheVariants as zero
 use Rattle.e820_table.specs.declared.extension.ExtFault.TheVariants as extension
 use Rattle.bootmem_cli.specs.declared.boot.Stop.TheVariants as stops
@@ -9,7 +12,11 @@ use Rattle.bootmem_cli.specs.declared.failure.InputFault.TheVariants as faults
 use Rattle.bootmem_cli.specs.declared.failure.Refusal.{Refusal}
 use Rattle.bootmem_cli.specs.declared.failure.Refusal.TheVariants as refusals
 use Rattle.bootmem_cli.specs.declared.failure.Failure.TheVariants as failures
-use Rattle.bootmem_cli.specs.Words.{Named}
+use Rattle.bootmem_cli.specs.declared.words.Names.{Names}
+use Rattle.bootmem_cli.specs.declared.boot.Inputs.{Inputs}
+use Rattle.bootmem_cli.specs.declared.boot.Booted.{Booted}
+use Rattle.bootmem_cli.specs.Words.{Named, texts}
+use Rattle.bootmem_cli.specs.View.{names_view, inputs_view, booted_view}
 use Rattle.bootmem_cli.specs.Outcome.{if_named}
 use Rattle.bootmem_cli.specs.Answers.{FitsRefusal, Fits, Gives, Boots, RoseAt, RoseFor, RefusalHasCause, HasCause, FetchHasCause, IsText, Writes, WritingHasCause, EndHasCause, EndFits, IsFaulty, IsStopped}
 use Rattle.bootmem_cli.specs.Line.{Tells}
@@ -111,3 +118,19 @@ line_half_told = record { front = (0, omega arith, refl); whole = inr (inl (omeg
 -- a file that needn't be named
 if_named_examples : ((given : List ℕ → Result ℕ Refusal) → if_named None 5 given ≡ Ok 5) × ((given : List ℕ → Result ℕ Refusal) → if_named (Some (codes "ext")) 5 given ≡ given (codes "ext"))
 if_named_examples = ((λ given. refl), λ given. refl)
+
+-- the program's values as the definitions have them: a word is its bytes, a list its items
+no_words : texts [] ≡ []
+no_words = refl
+
+words_are_bytes : (first second : String Global) → texts (first ∷ second ∷ []) ≡ string_bytes first ∷ string_bytes second ∷ []
+words_are_bytes first second = refl
+
+names_are_bytes : (n : Names) → ((names_view n).zero_page ≡ n.zero_page.now) × ((names_view n).extension ≡ option_copied n.extension)
+names_are_bytes n = (refl, refl)
+
+inputs_are_items : (i : Inputs) → ((inputs_view i).entries ≡ i.zero.entries.items) × ((inputs_view i).extension ≡ i.ext.items)
+inputs_are_items i = (refl, refl)
+
+booted_are_items : (b : Booted) → ((booted_view b).map ≡ b.map.items) × ((booted_view b).options ≡ chosen b.options)
+booted_are_items b = (refl, refl)
