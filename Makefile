@@ -1,8 +1,9 @@
 # bootmem: the boot-time memory set-up of x86-64 Linux 6.1, proved.
 #
+#   make run                  prints the map of the example zero page: by ./bootmem where it is up to date, else by an
+#                             unproved build, within half a minute
 #   make bootmem              proves and builds ./bootmem
-#   make run                  prints the map of the example zero page
-#   make try ARGS="..."       runs the program within a minute, without proof
+#   make try ARGS="..."       runs the program on these words without proof, within half a minute
 #   make test                 the whole gate: every proof, every test, the real machines
 #   make install PREFIX=DIR   installs the program and its manual page (DESTDIR is honoured)
 #   make clean                removes what was built
@@ -13,6 +14,9 @@ RT ?= rt
 PREFIX ?= /usr/local
 DESTDIR ?=
 ARGS ?=
+
+# the words of the first run
+FIRST := --report map examples/first/zp.bin
 
 SOURCES := crates.txt $(shell find crates -name out -prune -o \( -name '*.rt' -o -name '*.antt' \) -print)
 
@@ -25,8 +29,8 @@ all: bootmem
 bootmem: $(SOURCES)
 	@tools/build.sh bootmem_cli $@ --report map "$(CURDIR)/examples/first/zp.bin"
 
-run: bootmem
-	@./bootmem --report map examples/first/zp.bin
+run:
+	@if $(MAKE) -q --no-print-directory bootmem >/dev/null 2>&1; then ./bootmem $(FIRST); else tools/try.sh $(FIRST); fi
 
 try:
 	@tools/try.sh $(ARGS)

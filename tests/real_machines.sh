@@ -1,45 +1,80 @@
 #!/bin/sh
-# real_machines.sh [PROGRAM]: runs the program over every example, and over a further corpus of boots where there
-# is one (CORPUS, by default ../shared/corpus), and compares the printed map byte for byte with map.txt. Prints
-# a line for each difference, and 'N passed, M failed' at its end.
+# real_machines.sh [PROGRAM]: runs the program over every machine of examples/ and compares each report that the
+# program has byte for byte with the text that the kernel's own log confirms: map.txt, memory.txt, nodes.txt,
+# zones.txt, and replay/script.txt, the boot's early allocations. A text whose report the program doesn't have yet
+# is counted as waiting; that the program refuses the report's name is looked at, too, so none waits for ever.
+# Prints a line for each difference, and 'N passed, M failed' at its end.
 set -u
 unset CDPATH
 top=$(cd "$(dirname "$0")/.." && pwd)
-program=${1:-$top/bootmem}
-corpus=${CORPUS:-$top/../shared/corpus}
+program=$(cd "$(dirname "${1:-$top/bootmem}")" && pwd)/$(basename "${1:-$top/bootmem}")
+# the reports that the program has, and those that it is going to have
+built="map"
+coming="memory nodes zones script"
 passed=0
 failed=0
-got=$(mktemp) || exit 1
-err=$(mktemp) || exit 1
-trap 'rm -f "$got" "$err"' EXIT
+waiting=0
+work=$(mktemp -d) || exit 1
+trap 'rm -rf "$work"' EXIT
 
-# check FOLDER: the map of the machine in that folder
+# words REPORT FOLDER: the words that run the report, from within the machine's folder
+words() {
+	case $1 in
+	map)
+		[ ! -f "$2/cmdline" ] || printf '%s ' --cmdline cmdline
+		[ ! -f "$2/e820ext.bin" ] || printf '%s ' --e820ext e820ext.bin
+		printf '%s\n' zp.bin
+		;;
+	*) cat "$2/words" ;;
+	esac
+}
+
+# differs FOLDER REPORT WHAT: one more that failed
+differs() {
+	failed=$((failed + 1))
+	echo "$1: $2: $3"
+}
+
+# check MACHINE FOLDER REPORT: the report of the machine whose files are in that folder
 check() {
-	folder=$1
-	set -- --report map
-	[ ! -f "$folder/cmdline" ] || set -- "$@" --cmdline "$folder/cmdline"
-	[ ! -f "$folder/e820ext.bin" ] || set -- "$@" --e820ext "$folder/e820ext.bin"
-	"$program" "$@" "$folder/zp.bin" >"$got" 2>"$err"
+	# shellcheck disable=SC2046 # the words are separated by blanks
+	(cd "$2" && exec "$program" --report "$3" $(words "$3" "$2")) >"$work/got" 2>"$work/err"
 	status=$?
 	if [ "$status" -ne 0 ]; then
-		echo "$folder: status $status, $(cat "$err")"
-	elif ! cmp -s "$got" "$folder/map.txt"; then
-		echo "$folder: $(cmp "$got" "$folder/map.txt" 2>&1 | sed 's/.*: //; s/.* differ[^,]*, *//')"
-	elif [ -s "$err" ]; then
-		echo "$folder: standard error has $(cat "$err")"
+		differs "$1" "$3" "status $status, $(cat "$work/err")"
+	elif ! cmp -s "$work/got" "$2/$3.txt"; then
+		differs "$1" "$3" "$(diff "$2/$3.txt" "$work/got" | head -n 4 | tr '\n' ' ')"
+	elif [ -s "$work/err" ]; then
+		differs "$1" "$3" "standard error has $(cat "$work/err")"
 	else
 		passed=$((passed + 1))
-		return
 	fi
-	failed=$((failed + 1))
+}
+
+# each REPORT: the folders that have a text of the report, a line for each: the machine, and the folder of its files
+each() {
+	for text in "$top"/examples/*/"$1".txt "$top"/examples/*/replay/"$1".txt; do
+		[ ! -f "$text" ] || echo "$(echo "${text#"$top"/examples/}" | cut -d/ -f1) $(dirname "$text")"
+	done
 }
 
 if [ ! -x "$program" ]; then
 	echo "real_machines.sh: there is no program $program: 'make bootmem' builds it" >&2
 	exit 2
 fi
-for map in "$top"/examples/*/map.txt "$corpus"/*/map.txt; do
-	[ ! -f "$map" ] || check "$(dirname "$map")"
+for report in $built; do
+	each "$report" >"$work/list"
+	while read -r machine folder; do
+		check "$machine" "$folder" "$report"
+	done <"$work/list"
 done
+for report in $coming; do
+	each "$report" >"$work/list"
+	waiting=$((waiting + $(wc -l <"$work/list")))
+	"$program" --report "$report" "$top/examples/first/zp.bin" >/dev/null 2>&1
+	status=$?
+	[ "$status" -eq 2 ] || differs first "$report" "the program has this report by now (status $status): compare it"
+done
+echo "$waiting texts wait for the reports $coming, which the program doesn't have"
 echo "$passed passed, $failed failed"
 [ "$failed" -eq 0 ] && [ "$passed" -gt 0 ]

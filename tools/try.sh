@@ -1,6 +1,6 @@
 #!/bin/sh
 # try.sh WORD..: runs the program on these words without proving it, within a minute.
-# Its output is the program's; what the toolchain says goes to standard error. Words that name files are
+# Its output and its standard error are the program's, behind one line that says that it isn't proved. Words that name files are
 # handed to the run as copies under plain names, so a line on standard error may name such a copy.
 set -eu
 unset CDPATH
@@ -34,4 +34,8 @@ for copy in "$copies"/*; do
 	[ ! -f "$copy" ] || set -- --data "$(basename "$copy")=$copy" "$@"
 done
 cd "$top/crates/bootmem_cli"
-"$rt" try "$@"
+status=0
+"$rt" try "$@" 2>"$copies/said" || status=$?
+# what the toolchain says of its own run is left out
+grep -v -e '^checked: ' -e '^run=' "$copies/said" >&2 || :
+exit "$status"
