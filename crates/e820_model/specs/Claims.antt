@@ -1,5 +1,5 @@
 -- What the firmware's entries, the extension and the options claim of one address: a set of types.
-use Rattle.std.specs.Prelude.{ℕ, zero, suc, ◌+◌, ◌^◌, ◌==◌, Bool, false, ◌&&◌, ◌||◌, ◌<◌, not, nat_le, nat_lt, if◌then◌else◌, List, [], ◌∷◌}
+use Rattle.std.specs.Prelude.{ℕ, zero, suc, ◌+◌, ◌^◌, ◌==◌, Bool, false, ◌&&◌, ◌||◌, ◌<◌, not, nat_lt, if◌then◌else◌, List, [], ◌∷◌}
 use Rattle.bm_base.specs.Extent.{Extent, covers}
 use Rattle.e820_model.specs.declared.types.TheConstants.{E820_TYPE_RAM, E820_TYPE_RESERVED}
 use Rattle.e820_model.specs.declared.entry.Entry.{Entry}
@@ -19,7 +19,7 @@ no_claims x k = false
 
 -- whether the entry covers the address (`struct boot_e820_entry`: address, size, type)
 abbrev pub is_covered_by : Entry → ℕ → Bool
-is_covered_by e x = nat_le e.addr x && nat_lt x (e.addr + e.size)
+is_covered_by e x = covers (record { base = e.addr; size = e.size }) x
 
 -- each entry's address plus its size is at most 2^64 - 1
 abbrev pub EndInSpace : List Entry → Type 0
