@@ -1,10 +1,10 @@
 -- Claims cut by small ranges, and answers: what the definitions say of them, by computing.
-use Rattle.std.proofs.Common.{◌≡◌, ℕ, true, false, Some, None, List, [], ◌∷◌, length, Err, refl, sym, arith}
+use Rattle.std.proofs.Common.{◌≡◌, ℕ, true, false, Some, None, List, [], ◌∷◌, length, Ok, Err, refl}
 use Rattle.bm_base.specs.Extent.{Extent}
 use Rattle.address_runs.specs.Runs.{RunOf}
 use Rattle.e820_sanitise.specs.declared.fault.MapFault.TheVariants as faults
-use Rattle.e820_sanitise.specs.Gives.{MapGives}
 use Rattle.e820_sanitise.specs.Pieces.{between, between_if, parts, is_meant, inside, cut, claim_of}
+use Rattle.e820_sanitise.specs.Room.{in_room}
 
 abbrev range : ℕ → ℕ → Extent
 range base size = record { base = base; size = size }
@@ -47,8 +47,8 @@ claims_of_one_entry : (claim_of (record { addr = 4; size = 2; kind = 1 }) ≡ ru
 claims_of_one_entry = (refl, refl, refl)
 
 -- a map of 3,201 runs is too long, and is answered by their number; one of 3,200 isn't
-full_map : (map : List (RunOf ℕ)) → length map ≡ 3201 → MapGives (Err (faults.MapFull 3201)) map
-full_map map runs = (sym runs, omega (arith, runs))
+full_map : (map : List (RunOf ℕ)) → length map ≡ 3201 → in_room map ≡ Err (faults.MapFull 3201)
+full_map map runs = rw runs refl
 
-not_full : (map : List (RunOf ℕ)) → length map ≡ 3200 → MapGives (Err (faults.MapFull 3200)) map → ⊥
-not_full map runs gives = let more = gives.1 in omega (arith, runs, more)
+room_enough : (map : List (RunOf ℕ)) → length map ≡ 3200 → in_room map ≡ Ok map
+room_enough map runs = rw runs refl
