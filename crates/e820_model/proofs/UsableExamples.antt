@@ -3,7 +3,7 @@ use Rattle.std.proofs.Common.{◌≡◌, ℕ, ◌+◌, ◌-◌, ◌^◌, ◌==�
 use Rattle.std.proofs.lemmas.Bool.Decides.{nat_tests}
 use Rattle.address_runs.specs.Runs.{value_at}
 use Rattle.bm_base.specs.Each.{each_from, each_in}
-use Rattle.e820_model.specs.Map.{Kinds}
+use Rattle.e820_model.specs.Map.{TypeAt}
 use Rattle.e820_model.specs.Usable.{is_memory, count_below, reachable, is_usable, usable_frames}
 use Rattle.e820_model.proofs.UsableLaws.{all_bytes, count_frames_between, usable_count}
 
@@ -17,7 +17,7 @@ unfolding count_below
 below_examples = (refl, refl)
 
 -- RAM from 0x800 up to 0x3800, but the kernel's from 0x1800 up to 0x2800: frames 1 and 2 are whole, 0 and 3 aren't
-kernel_inside : Kinds
+kernel_inside : TypeAt
 kernel_inside = value_at (record { base = 0x800; size = 0x1000; value = 1 } ∷ record { base = 0x1800; size = 0x1000; value = 128 } ∷ record { base = 0x2800; size = 0x1000; value = 1 } ∷ [])
 
 frame_examples : (is_usable kernel_inside 0 ≡ false) × (is_usable kernel_inside 1 ≡ true) × (is_usable kernel_inside 2 ≡ true) × (is_usable kernel_inside 3 ≡ false) × (count_below (is_usable kernel_inside) 5 ≡ 2)
@@ -25,10 +25,10 @@ unfolding kernel_inside each_from each_in count_below is_usable
 frame_examples = (refl, refl, refl, refl, refl)
 
 -- a byte of another type in the frame, or a byte that nothing claims, makes it unusable
-one_byte_reserved : Kinds
+one_byte_reserved : TypeAt
 one_byte_reserved = value_at (record { base = 0; size = 0x1234; value = 1 } ∷ record { base = 0x1234; size = 1; value = 2 } ∷ record { base = 0x1235; size = 0x1DCB; value = 1 } ∷ [])
 
-one_byte_missing : Kinds
+one_byte_missing : TypeAt
 one_byte_missing = value_at (record { base = 0; size = 0x1FFF; value = 1 } ∷ record { base = 0x2000; size = 0x1000; value = 1 } ∷ [])
 
 byte_examples : (count_below (is_usable one_byte_reserved) 4 ≡ 2) × (is_usable one_byte_reserved 1 ≡ false) × (count_below (is_usable one_byte_missing) 4 ≡ 2) × (is_usable one_byte_missing 1 ≡ false)
@@ -42,7 +42,7 @@ unfolding one_byte_reserved kernel_inside each_from each_in is_usable
 reach_examples = (refl, refl, refl, refl)
 
 -- of one run of RAM the whole frames count: two of 12 KiB that begin and end inside a frame, and the highest of all
-ram : ℕ → ℕ → Kinds
+ram : ℕ → ℕ → TypeAt
 ram base size = value_at (record { base = base; size = size; value = 1 } ∷ [])
 
 is_ram : (base size x : ℕ) → is_memory (ram base size x) ≡ (nat_le base x && nat_lt x (base + size))

@@ -6,7 +6,7 @@ use Rattle.bm_base.specs.Each.{each_in}
 use Rattle.bm_base.specs.Frames.{bytes_of_frame}
 use Rattle.bm_base.proofs.EachLaws.{each_in-all, each_in-each, each_in-fails, each_in-same}
 use Rattle.e820_model.specs.Usable.{is_memory, count_below, reachable, is_usable, usable_frames}
-use Rattle.e820_model.specs.Map.{Kinds}
+use Rattle.e820_model.specs.Map.{TypeAt}
 
 -- how many numbers below n
 
@@ -213,49 +213,49 @@ count_split p q gap n apart =
 -- usable frames
 
 -- two maps that agree have the same usable frames
-pub usable_same : (f g : Kinds) → ((x : ℕ) → f x ≡ g x) → usable_frames f ≡ usable_frames g
+pub usable_same : (f g : TypeAt) → ((x : ℕ) → f x ≡ g x) → usable_frames f ≡ usable_frames g
 usable_same f g same = ap usable_frames (λ i x. same x i)
 
 -- a frame is usable where it is whole in memory
-pub usable_whole : (f : Kinds) (frame : ℕ) → is_usable f frame ≡ all_bytes (λ x. is_memory (f x)) frame
+pub usable_whole : (f : TypeAt) (frame : ℕ) → is_usable f frame ≡ all_bytes (λ x. is_memory (f x)) frame
 unfolding is_usable
 usable_whole f frame = refl
 
 -- each byte of a usable frame is memory
-pub usable_each : (f : Kinds) (frame : ℕ) → is_usable f frame ≡ true
+pub usable_each : (f : TypeAt) (frame : ℕ) → is_usable f frame ≡ true
     → (x : ℕ) → 4096 * frame ≤ x → x < 4096 * frame + 4096 → is_memory (f x) ≡ true
 usable_each f frame usable = frame_each (λ x. is_memory (f x)) frame (sym (usable_whole f frame) ∙ usable)
 
 -- a frame with a byte that isn't memory isn't usable
-pub usable_but : (f : Kinds) (frame x : ℕ) → 4096 * frame ≤ x → x < 4096 * frame + 4096 → is_memory (f x) ≡ false → is_usable f frame ≡ false
+pub usable_but : (f : TypeAt) (frame x : ℕ) → 4096 * frame ≤ x → x < 4096 * frame + 4096 → is_memory (f x) ≡ false → is_usable f frame ≡ false
 usable_but f frame x low high fails = usable_whole f frame ∙ frame_but (λ x. is_memory (f x)) frame x low high fails
 
 -- the usable frames are the frames that are whole in memory
-pub usable_count : (f : Kinds) → usable_frames f ≡ count_below (all_bytes (λ x. is_memory (f x))) (2 ^ 52)
+pub usable_count : (f : TypeAt) → usable_frames f ≡ count_below (all_bytes (λ x. is_memory (f x))) (2 ^ 52)
 unfolding usable_frames
 usable_count f = count_same (is_usable f) (all_bytes (λ x. is_memory (f x))) (2 ^ 52) (λ frame lt. usable_whole f frame)
 
 -- there are no more of them than frames
-pub usable_at_most : (f : Kinds) → usable_frames f ≤ 2 ^ 52
+pub usable_at_most : (f : TypeAt) → usable_frames f ≤ 2 ^ 52
 unfolding usable_frames
 usable_at_most f = count_at_most (is_usable f) (2 ^ 52)
 
 -- where no frame is usable, each frame has a byte that isn't memory, and the other way round
-pub usable_none : (f : Kinds) → usable_frames f ≡ 0 → (frame : ℕ) → frame < 2 ^ 52 → is_usable f frame ≡ false
+pub usable_none : (f : TypeAt) → usable_frames f ≡ 0 → (frame : ℕ) → frame < 2 ^ 52 → is_usable f frame ≡ false
 unfolding usable_frames
 usable_none f none frame lt = count_zero (is_usable f) (2 ^ 52) none frame lt
 
 -- types as far as they reach
 
 -- memory within reach
-pub memory_reached : (limit : ℕ) (f : Kinds) (x : ℕ) → is_memory (reachable limit f x) ≡ (is_memory (f x) && nat_lt x limit)
+pub memory_reached : (limit : ℕ) (f : TypeAt) (x : ℕ) → is_memory (reachable limit f x) ≡ (is_memory (f x) && nat_lt x limit)
 memory_reached limit f x = elim (cases_Bool (nat_lt x limit)) as (λ _. is_memory (reachable limit f x) ≡ (is_memory (f x) && nat_lt x limit)) [
   | inl within ↦ rw within (grind (arith, nat_tests))
   | inr past ↦ rw past (grind (arith, nat_tests))
 ]
 
 -- a frame is usable within reach where it is usable and ends by the limit
-pub usable_reached : (limit : ℕ) (f : Kinds) (frame : ℕ)
+pub usable_reached : (limit : ℕ) (f : TypeAt) (frame : ℕ)
     → is_usable (reachable limit f) frame ≡ (is_usable f frame && nat_le (4096 * frame + 4096) limit)
 usable_reached limit f frame =
     let goal : Type 0 = is_usable (reachable limit f) frame ≡ (is_usable f frame && nat_le (4096 * frame + 4096) limit) in

@@ -16,8 +16,8 @@
 //! thousands of entries takes milliseconds.
 #![tactic(auto)]
 
+mod cuts;
 mod fault;
-mod pieces;
 mod settle;
 mod table;
 #[cfg(test)]

@@ -1,12 +1,12 @@
 ghost use Rattle.std.specs.Prelude.{◌≡◌, ◌≢◌, IfErr, IfOk, OnErr, OnOk};
 ghost use Rattle.address_runs.specs.Runs.{IsRunsOf};
-ghost use Rattle.e820_model.specs.Claims.{EndInSpace, HasTypes, added, claims_of_entries, edited, no_claims, settled, trimmed, type_of};
+ghost use Rattle.e820_model.specs.Claims.{EndInSpace, HasTypes, with_claims, claims_of_entries, edited, no_claims, settled, bios_trimmed, type_of};
 ghost use Rattle.e820_model.specs.Map.{claims_of, kinds, map_of};
 ghost use Rattle.bm_base.specs.Answers.{Answers};
 ghost use Rattle.e820_sanitise.specs.Room.{in_room};
 
 use crate::fault::MapFault;
-use crate::{pieces, settle};
+use crate::{cuts, settle};
 use bm_base::Memory;
 use e820_model::{E820_MAX_ENTRIES, Edit, Entry, Run};
 use std::alloc::Global;
@@ -48,11 +48,11 @@ impl Table {
     pub fn append(&mut self, entries: &[Entry]) -> Result<(), Memory>
         requires { EndInSpace entries.now }
         ensures ok { OnOk result (claims_of self.new
-            ≡ added (claims_of self.old) (claims_of_entries entries.now)) }
+            ≡ with_claims (claims_of self.old) (claims_of_entries entries.now)) }
         ensures err { OnErr result (self.new ≡ self.old) }
     {
         let alloc = *self.claims.allocator();
-        self.claims = pieces::with_entries(alloc, &self.claims, entries)?;
+        self.claims = cuts::with_entries(alloc, &self.claims, entries)?;
         Ok(())
     }
 
@@ -65,7 +65,7 @@ impl Table {
         ensures err { OnErr result (self.new ≡ self.old) }
     {
         let alloc = *self.claims.allocator();
-        self.claims = pieces::edited(alloc, &self.claims, edit)?;
+        self.claims = cuts::edited(alloc, &self.claims, edit)?;
         Ok(())
     }
 
@@ -83,11 +83,11 @@ impl Table {
     /// Reserves the first page, and takes memory away from 640 KiB to 1 MiB (`trim_bios_range`).
     /// After `Memory` the table is as before.
     pub fn trim_bios(&mut self) -> Result<(), Memory>
-        ensures ok { OnOk result (claims_of self.new ≡ trimmed (claims_of self.old)) }
+        ensures ok { OnOk result (claims_of self.new ≡ bios_trimmed (claims_of self.old)) }
         ensures err { OnErr result (self.new ≡ self.old) }
     {
         let alloc = *self.claims.allocator();
-        self.claims = pieces::trimmed(alloc, &self.claims)?;
+        self.claims = cuts::bios_trimmed(alloc, &self.claims)?;
         Ok(())
     }
 
