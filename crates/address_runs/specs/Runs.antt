@@ -1,7 +1,8 @@
 -- Runs of a function over addresses, whatever its values are: types of memory, owners, nodes.
 -- A run is a maximal set of consecutive addresses at which the function gives one value
 -- (what `e820__update_table` and `memblock_merge_regions` keep their tables in).
-use Rattle.std.specs.Prelude.{◌≡◌, ◌≢◌, ℕ, zero, suc, ◌+◌, ◌^◌, ◌<◌, ◌≤◌, ◌==◌, Bool, true, ◌&&◌, nat_le, nat_lt, if◌then◌else◌, Option, Some, None, List, [], ◌∷◌}
+use Rattle.std.specs.Prelude.{◌≡◌, ◌≢◌, ℕ, zero, suc, ◌+◌, ◌^◌, ◌<◌, ◌≤◌, ◌==◌, Bool, true, ◌&&◌, if◌then◌else◌, Option, Some, None, List, [], ◌∷◌}
+use Rattle.bm_base.specs.Extent.{Extent, covers}
 
 -- a run: its first address, its number of addresses, and its value
 pub record RunOf (X : Type 0) : Type 0 where
@@ -19,9 +20,13 @@ module _ {X : Type 0} where
   abbrev pub run_end : RunOf X → ℕ
   run_end r = r.base + r.size
 
+  -- its addresses
+  abbrev pub extent_of : RunOf X → Extent
+  extent_of r = record { base = r.base; size = r.size }
+
   -- whether the address lies in the run
   abbrev pub lies_in : RunOf X → ℕ → Bool
-  lies_in r x = nat_le r.base x && nat_lt x (r.base + r.size)
+  lies_in r x = covers (extent_of r) x
 
   -- what a list of runs gives at an address: the value of the first run that it lies in
   abbrev pub value_at : List (RunOf X) → ℕ → Option X

@@ -1,11 +1,14 @@
 -- Small ranges, numbers and texts, computed.
-use Rattle.std.proofs.Common.{◌≡◌, ℕ, ◌^◌, ◌*◌, ◌+◌, ◌-◌, true, false, ◌&&◌, [], codes, Some, None, Ok, Err, refl, arith}
+use Rattle.std.proofs.Common.{◌≡◌, ◌≢◌, ℕ, ◌^◌, ◌*◌, ◌+◌, ◌-◌, true, false, ◌&&◌, nat_lt, ◌==◌, not, [], codes, Some, None, Ok, Err, refl, arith}
 use Rattle.std.proofs.lemmas.Bool.Decides.{nat_tests}
 use Rattle.std.specs.Fmt.{digits}
+use Rattle.bm_base.specs.Answers.{Answers}
+use Rattle.bm_base.specs.Each.{each_from, each_in}
 use Rattle.bm_base.specs.Extent.{Extent, end_of, covers, Meet}
+use Rattle.bm_base.specs.Frames.{bytes_of_frame, frame_around}
 use Rattle.std.specs.Prelude.{Result}
 use Rattle.bm_base.specs.OptionSteps as option
-use Rattle.bm_base.specs.ResultSteps.{◌>>=◌}
+use Rattle.bm_base.specs.ResultSteps.{◌>>=◌, with_error}
 use Rattle.bm_base.specs.Text.{hexadecimal, hex_text, padded_decimal}
 use Rattle.bm_base.specs.Size.{front_digits, value_of, is_hexadecimal, begins_with_zero, begins_with_digit, prefix_of, radix_of, number_value, number_end, suffix_at, suffix_of, fitting, with_suffix, number_of, size_of, IsSize, IsNumber}
 use Rattle.bm_base.specs.declared.size.NumFault.TheVariants.{NoDigits, TooLarge}
@@ -32,6 +35,21 @@ one_byte_shared = (0x1000, refl)
 
 touching_pages : ¬ Meet second_page third_page
 touching_pages both = let shared : (covers second_page both.0 && covers third_page both.0) ≡ true = both.1 in grind (arith, nat_tests)
+
+-- frame 0 and frame 2; the frame of an address within it, and of its first byte
+frame_examples : (bytes_of_frame 0 ≡ record { base = 0; size = 0x1000 }) × (bytes_of_frame 2 ≡ third_page)
+    × (frame_around 0x2FFF ≡ third_page) × (frame_around 0x1000 ≡ second_page)
+frame_examples = (refl, refl, refl, refl)
+
+-- each of 3, 4 and 5 is below 6, but not each of the next one too; no number at all passes every test
+each_examples : (each_from (λ x. nat_lt x 6) 3 3 ≡ true) × (each_from (λ x. nat_lt x 6) 3 4 ≡ false) × (each_from (λ x. false) 3 0 ≡ true)
+unfolding each_from
+each_examples = (refl, refl, refl)
+
+-- one byte in the middle of the range fails
+each_in_examples : (each_in (record { base = 3; size = 3 }) (λ x. not (x == 4)) ≡ false) × (each_in (record { base = 5; size = 3 }) (λ x. not (x == 4)) ≡ true)
+unfolding each_in each_from
+each_in_examples = (refl, refl)
 
 -- digits as far as there are some, in that base; the rest is left
 digits_examples : (front_digits 10 (codes "640K") ≡ codes "640") × (front_digits 8 (codes "0178") ≡ codes "017") × (value_of 16 (codes "fFg") ≡ 255) × (value_of 8 (codes "0178") ≡ 15)
@@ -88,3 +106,14 @@ option_steps_examples = (refl, refl)
 
 result_steps_examples : ((r : Result ℕ ℕ) → (◌>>=◌ {A = ℕ} (Ok 5) (λ n. r)) ≡ r) × ((step : ℕ → Result ℕ ℕ) → (◌>>=◌ {A = ℕ} (Err 7) step) ≡ Err 7)
 result_steps_examples = ((λ r. refl), (λ step. refl))
+
+error_examples : (with_error {A = ℕ} {E = ℕ} {F = ℕ} (λ n. n + 1) (Err 7) ≡ Err 8) × (with_error {A = ℕ} {E = ℕ} {F = ℕ} (λ n. n + 1) (Ok 7) ≡ Ok 7)
+error_examples = (refl, refl)
+
+-- the definition's value and its error are answers, and no other value is; error 9 may come whatever it says
+answer_examples : Answers {A = ℕ} {B = ℕ} {E = ℕ} 9 (λ n. n + 1) (Ok 4) (Ok 5) × (¬ Answers {A = ℕ} {B = ℕ} {E = ℕ} 9 (λ n. n + 1) (Ok 5) (Ok 5))
+    × Answers {A = ℕ} {B = ℕ} {E = ℕ} 9 (λ n. n) (Err 9) (Ok 5)
+answer_examples = (refl, (λ said. grind (arith, said)), (λ other. absurd (other refl)))
+
+error_answers : Answers {A = ℕ} {B = ℕ} {E = ℕ} 9 (λ n. n) (Err 7) (Err 7) × (¬ Answers {A = ℕ} {B = ℕ} {E = ℕ} 9 (λ n. n) (Err 7) (Ok 5))
+error_answers = ((λ other. refl), (λ said. let seven : (the_seven : ℕ) → the_seven ≡ 7 → the_seven ≢ 9 = λ n is. omega (arith, is) in grind (arith, said (seven 7 refl))))

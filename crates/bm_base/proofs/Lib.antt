@@ -1,3 +1,6 @@
+pub mod AnswerLaws
+pub mod EachLaws
 mod Examples
+pub mod FrameLaws
 pub mod SizeLaws
 pub mod TextLaws

@@ -6,3 +6,8 @@ infixl 10 ◌>>=◌
 abbrev pub ◌>>=◌ : {A B E : Type 0} → Result A E → (A → Result B E) → Result B E
 Ok a >>= step = step a
 Err error >>= step = Err error
+
+-- the error of a step, as an error of another type
+abbrev pub with_error : {A E F : Type 0} → (E → F) → Result A E → Result A F
+with_error convert (Ok a) = Ok a
+with_error convert (Err error) = Err (convert error)

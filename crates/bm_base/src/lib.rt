@@ -15,6 +15,7 @@
 //! don't wrap, and what passes 2^64 - 1 is a [`NumFault`].
 #![tactic(auto)]
 
+mod frame;
 mod memory;
 mod range;
 mod size;
@@ -22,6 +23,7 @@ mod size;
 mod tests;
 mod text;
 
+pub use frame::FRAME_SIZE;
 pub use memory::Memory;
 pub use range::Range;
 pub use size::{NumFault, read_number, read_size, sizes_of_spelling};

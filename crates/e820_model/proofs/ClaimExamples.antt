@@ -1,7 +1,7 @@
 -- Small maps, computed from their entries.
 use Rattle.std.proofs.Common.{◌≡◌, ℕ, ◌^◌, ◌<◌, ◌+◌, ◌==◌, Bool, true, false, ◌&&◌, ◌||◌, nat_lt, List, [], ◌∷◌, refl, arith}
 use Rattle.std.proofs.lemmas.Bool.Decides.{nat_tests}
-use Rattle.e820_model.specs.Claims.{Claims, no_claims, is_covered_by, EndInSpace, greatest_below, greatest, type_of, settled, added, claims_of_entries, edited, HasTypes, HaveTypes, after_edits, first_page, bios_area, trimmed, of_zero_page, with_extension, with_edits, finished}
+use Rattle.e820_model.specs.Claims.{Claims, no_claims, is_covered_by, EndInSpace, greatest_below, greatest, type_of, settled, with_claims, claims_of_entries, edited, HasTypes, HaveTypes, after_edits, first_page, bios_area, bios_trimmed, of_zero_page, with_extension, with_edits, finished}
 use Rattle.e820_model.specs.declared.entry.Entry.{Entry}
 use Rattle.e820_model.specs.declared.edit.Edit.{Edit}
 use Rattle.e820_model.specs.declared.edit.Edit.TheVariants as edit
@@ -72,10 +72,10 @@ settled_claims_nothing : settled (claims_of_entries ram_and_acpi) 0x200000 0 ≡
 settled_claims_nothing = refl
 
 -- what is added claims beside what was there
-added_examples : (added (claims_of_entries ram_and_acpi) (claims_of_entries (record { addr = 0x180000; size = 0x1000; kind = 4 } ∷ [])) 0x180000 1 ≡ true)
-    × (added (claims_of_entries ram_and_acpi) (claims_of_entries (record { addr = 0x180000; size = 0x1000; kind = 4 } ∷ [])) 0x180000 4 ≡ true)
-    × (added no_claims (claims_of_entries ram_and_acpi) 0x200000 1 ≡ false) × (no_claims 0 1 ≡ false)
-added_examples = (refl, refl, refl, refl)
+with_claims_examples : (with_claims (claims_of_entries ram_and_acpi) (claims_of_entries (record { addr = 0x180000; size = 0x1000; kind = 4 } ∷ [])) 0x180000 1 ≡ true)
+    × (with_claims (claims_of_entries ram_and_acpi) (claims_of_entries (record { addr = 0x180000; size = 0x1000; kind = 4 } ∷ [])) 0x180000 4 ≡ true)
+    × (with_claims no_claims (claims_of_entries ram_and_acpi) 0x200000 1 ≡ false) × (no_claims 0 1 ≡ false)
+with_claims_examples = (refl, refl, refl, refl)
 
 -- the edits, on the page from 0x1000 on: `memmap=4K@0x1000` and the like
 abbrev page : Extent
@@ -125,16 +125,16 @@ bios_areas : (covers first_page 0xFFF ≡ true) × (covers first_page 0x1000 ≡
 bios_areas = (refl, refl, refl, refl, refl, refl)
 
 -- the trim makes the first page the BIOS's, and takes RAM away from 640 KiB on, and nothing below
-first_page_reserved : trimmed (claims_of_entries ram_and_acpi) 0xFFF 2 ≡ true
+first_page_reserved : bios_trimmed (claims_of_entries ram_and_acpi) 0xFFF 2 ≡ true
 first_page_reserved = refl
 
-second_page_kept : trimmed (claims_of_entries ram_and_acpi) 0x1000 1 ≡ true
+second_page_kept : bios_trimmed (claims_of_entries ram_and_acpi) 0x1000 1 ≡ true
 second_page_kept = refl
 
-bios_area_taken : trimmed (claims_of_entries ram_and_acpi) 0xA0000 1 ≡ false
+bios_area_taken : bios_trimmed (claims_of_entries ram_and_acpi) 0xA0000 1 ≡ false
 bios_area_taken = refl
 
-below_bios_area_kept : trimmed (claims_of_entries ram_and_acpi) 0x9FFFF 1 ≡ true
+below_bios_area_kept : bios_trimmed (claims_of_entries ram_and_acpi) 0x9FFFF 1 ≡ true
 below_bios_area_kept = refl
 
 -- the whole way: RAM up to 2 MiB with ACPI data in it; an extension that has a page at 1.5 MiB as ACPI NVS; and
@@ -157,11 +157,11 @@ alone t k = nat_lt 0 k && k == t
 
 extended : (x t u : ℕ) → type_of (claims_of_entries ram_and_acpi) x ≡ t → u < 2 ^ 32
     → (0 < u → (alone t u || claims_of_entries extension x u) ≡ true) → ((k : ℕ) → u < k → k < 2 ^ 32 → (alone t k || claims_of_entries extension x k) ≡ false)
-    → type_of (added first_claims (claims_of_entries extension)) x ≡ u
+    → type_of (with_claims first_claims (claims_of_entries extension)) x ≡ u
 extended x t u known small is_in none =
-    greatest_is (added first_claims (claims_of_entries extension) x) u small (λ some. rw known (is_in some)) (λ k higher below. rw known (none k higher below))
+    greatest_is (with_claims first_claims (claims_of_entries extension) x) u small (λ some. rw known (is_in some)) (λ k higher below. rw known (none k higher below))
 
-changed : (x t u : ℕ) → type_of (added first_claims (claims_of_entries extension)) x ≡ t → u < 2 ^ 32
+changed : (x t u : ℕ) → type_of (with_claims first_claims (claims_of_entries extension)) x ≡ t → u < 2 ^ 32
     → (0 < u → edited (edit.Add (record { base = 0x100000; size = 0x81000 }) 2) (λ y. alone t) x u ≡ true)
     → ((k : ℕ) → u < k → k < 2 ^ 32 → edited (edit.Add (record { base = 0x100000; size = 0x81000 }) 2) (λ y. alone t) x k ≡ false)
     → type_of (after_edits edits second_claims) x ≡ u
@@ -173,7 +173,7 @@ zero_page_examples : (of_zero_page ram_and_acpi 0x100000 3 ≡ true) × (of_zero
 zero_page_examples = (settled_keeps_acpi, settled_drops_ram)
 
 -- at 1.5 MiB the extension's type is greater than RAM, and then greater than the option's
-nvs_with_extension : type_of (added first_claims (claims_of_entries extension)) 0x180000 ≡ 4
+nvs_with_extension : type_of (with_claims first_claims (claims_of_entries extension)) 0x180000 ≡ 4
 nvs_with_extension =
     let ram : type_of (claims_of_entries ram_and_acpi) 0x180000 ≡ 1 =
     greatest_is (claims_of_entries ram_and_acpi 0x180000) 1 (omega arith) (λ some. refl) (λ k higher small. grind (arith, nat_tests)) in
@@ -202,7 +202,7 @@ ram_until_the_trim : (x : ℕ) → x < 0x100000 → type_of (after_edits edits s
 ram_until_the_trim x low =
     let ram : type_of (claims_of_entries ram_and_acpi) x ≡ 1 =
     greatest_is (claims_of_entries ram_and_acpi x) 1 (omega arith) (λ some. grind (arith, nat_tests)) (λ k higher small. grind (arith, nat_tests)) in
-    let still : type_of (added first_claims (claims_of_entries extension)) x ≡ 1 =
+    let still : type_of (with_claims first_claims (claims_of_entries extension)) x ≡ 1 =
     extended x 1 1 ram (omega arith) (λ some. grind (arith, nat_tests)) (λ k higher small. grind (arith, nat_tests)) in
     changed x 1 1 still (omega arith) (λ some. grind (arith, nat_tests)) (λ k higher small. grind (arith, nat_tests))
 

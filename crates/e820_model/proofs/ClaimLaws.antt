@@ -6,7 +6,7 @@ use Rattle.std.proofs.lemmas.Bool.{cases_lt, cases_Bool}
 use Rattle.std.proofs.Math.Bool.{or_assoc}
 use Rattle.address_runs.specs.Runs.{RunOf, Tells, run_end, lies_in, value_at, AreRuns, IsRunsOf}
 use Rattle.address_runs.proofs.RunsLaws.{inside, behind, none_below, rest_from, by_address, one_list}
-use Rattle.e820_model.specs.Claims.{Types, Claims, greatest_below, greatest, type_of, settled, added, after_edits, of_zero_page, with_extension, trimmed, finished}
+use Rattle.e820_model.specs.Claims.{Types, Claims, greatest_below, greatest, type_of, settled, with_claims, after_edits, of_zero_page, with_extension, bios_trimmed, finished}
 use Rattle.e820_model.specs.Map.{some_kind, kinds, same_kind, map_of, claims_of, AreClaims}
 use Rattle.e820_model.specs.declared.entry.Entry.{Entry}
 use Rattle.e820_model.specs.declared.edit.Edit.{Edit}
@@ -110,15 +110,15 @@ trim_one : (low high one : Bool) (is_j is_k : Bool) (j k : ℕ) → (is_j ≡ tr
     → j ≡ k
 trim_one low high one is_j is_k j k same one_j one_k at_j at_k = grind (arith, nat_tests, same, one_j, one_k)
 
-pub trimmed_one : (c : Claims) (x j k : ℕ) → ((i l : ℕ) → c x i ≡ true → c x l ≡ true → i ≡ l) → trimmed c x j ≡ true → trimmed c x k ≡ true → j ≡ k
-trimmed_one c x j k one at_j at_k =
+pub bios_trimmed_one : (c : Claims) (x j k : ℕ) → ((i l : ℕ) → c x i ≡ true → c x l ≡ true → i ≡ l) → bios_trimmed c x j ≡ true → bios_trimmed c x k ≡ true → j ≡ k
+bios_trimmed_one c x j k one at_j at_k =
     trim_one _ _ (c x 1) (c x j) (c x k) j k (one j k) (λ a b. sym (one 1 j a b)) (λ a b. sym (one 1 k a b)) at_j at_k
 
 pub finished_one : (entries extension : List Entry) (edits : List Edit) (x j k : ℕ)
     → finished entries extension edits x j ≡ true → finished entries extension edits x k ≡ true → j ≡ k
 finished_one entries extension edits x j k at_j at_k =
     let before : Claims = after_edits edits (with_extension extension (of_zero_page entries)) in
-    trimmed_one (settled before) x j k (settled_one before x) at_j at_k
+    bios_trimmed_one (settled before) x j k (settled_one before x) at_j at_k
 
 -- lists of runs read as claims
 
@@ -175,7 +175,7 @@ top_append [] ss x = omega arith
 top_append (r ∷ rs) ss x = rw (top_append rs ss x) (omega arith)
 
 -- and everywhere
-pub claims_append : (rs ss : List (RunOf ℕ)) → claims_of (rs ++ ss) ≡ added (claims_of rs) (claims_of ss)
+pub claims_append : (rs ss : List (RunOf ℕ)) → claims_of (rs ++ ss) ≡ with_claims (claims_of rs) (claims_of ss)
 claims_append rs ss = λ i x k. claims_append_at rs ss x k i
 
 pub are_append : (rs ss : List (RunOf ℕ)) → AreClaims rs → AreClaims ss → AreClaims (rs ++ ss)

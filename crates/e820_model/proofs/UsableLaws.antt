@@ -1,45 +1,12 @@
--- Laws of tests over all numbers below a bound, of counts, and of whole frames.
+-- Laws of counts, and of whole frames.
 use Rattle.std.proofs.Common.{◌≡◌, ℕ, zero, suc, ◌+◌, ◌-◌, ◌*◌, ◌/◌, ◌^◌, ◌<◌, ◌≤◌, ◌∙◌, sym, ap, refl, Bool, true, false, ◌&&◌, ◌||◌, not, nat_le, nat_lt, min, arith, inl, inr}
 use Rattle.std.proofs.lemmas.Bool.{cases_lt, cases_Bool, cases_eq, both_ways}
 use Rattle.std.proofs.lemmas.Bool.Decides.{nat_tests}
-use Rattle.e820_model.specs.Usable.{is_memory, all_below, count_below, is_usable, usable_frames}
-use Rattle.e820_model.specs.Map.{Kinds}
-
--- every number below n
-
--- two tests that agree below n are one there
-pub all_same : (p q : ℕ → Bool) (n : ℕ) → ((i : ℕ) → i < n → p i ≡ q i) → all_below p n ≡ all_below q n
-unfolding all_below
-all_same p q zero same = refl
-all_same p q (suc n) same =
-    let here : p n ≡ q n = same n (omega arith) in
-    let rest : all_below p n ≡ all_below q n = all_same p q n (λ i lt. same i (omega arith)) in
-    rw (here, rest) refl
-
--- it holds of all where it holds of each
-pub all_true : (p : ℕ → Bool) (n : ℕ) → ((i : ℕ) → i < n → p i ≡ true) → all_below p n ≡ true
-unfolding all_below
-all_true p zero each = refl
-all_true p (suc n) each =
-    let here : p n ≡ true = each n (omega arith) in
-    let rest : all_below p n ≡ true = all_true p n (λ i lt. each i (omega arith)) in
-    rw (here, rest) refl
-
--- it doesn't hold of all where it fails somewhere
-pub all_but : (p : ℕ → Bool) (n i : ℕ) → i < n → p i ≡ false → all_below p n ≡ false
-unfolding all_below
-all_but p zero i lt fails = absurd (omega arith)
-all_but p (suc n) i lt fails = elim (cases_eq i n) as (λ _. all_below p (suc n) ≡ false) [
-  | inl here ↦ (let now : p n ≡ false = ap p (sym here) ∙ fails in rw now refl)
-  | inr other ↦ (let rest : all_below p n ≡ false = all_but p n i (omega arith) fails in grind (arith, rest))
-]
-
--- it holds of each where it holds of all
-pub all_each : (p : ℕ → Bool) (n : ℕ) → all_below p n ≡ true → (i : ℕ) → i < n → p i ≡ true
-all_each p n all i lt = elim (cases_Bool (p i)) as (λ _. p i ≡ true) [
-  | inl here ↦ here
-  | inr fails ↦ absurd (both_ways (all_below p n) (all_but p n i lt fails) all)
-]
+use Rattle.bm_base.specs.Each.{each_in}
+use Rattle.bm_base.specs.Frames.{bytes_of_frame}
+use Rattle.bm_base.proofs.EachLaws.{each_in-all, each_in-each, each_in-fails, each_in-same}
+use Rattle.e820_model.specs.Usable.{is_memory, count_below, reachable, is_usable, usable_frames}
+use Rattle.e820_model.specs.Map.{TypeAt}
 
 -- how many numbers below n
 
@@ -155,21 +122,16 @@ count_interval a b (suc n) =
 
 -- whether every byte of the frame passes
 abbrev pub all_bytes : (ℕ → Bool) → ℕ → Bool
-all_bytes p frame = all_below (λ i. p (4096 * frame + i)) 4096
+all_bytes p frame = each_in (bytes_of_frame frame) p
 
 -- a frame of which some byte fails
 pub frame_but : (p : ℕ → Bool) (frame x : ℕ) → 4096 * frame ≤ x → x < 4096 * frame + 4096 → p x ≡ false → all_bytes p frame ≡ false
-frame_but p frame x low high fails =
-    let place : 4096 * frame + (x - 4096 * frame) ≡ x = omega arith in
-    all_but (λ i. p (4096 * frame + i)) 4096 (x - 4096 * frame) (omega arith) (ap p place ∙ fails)
+frame_but p frame x low high fails = each_in-fails (bytes_of_frame frame) p x low high fails
 
 -- each byte of a whole frame passes
 pub frame_each : (p : ℕ → Bool) (frame : ℕ) → all_bytes p frame ≡ true
     → (x : ℕ) → 4096 * frame ≤ x → x < 4096 * frame + 4096 → p x ≡ true
-frame_each p frame all x low high = elim (cases_Bool (p x)) as (λ _. p x ≡ true) [
-  | inl here ↦ here
-  | inr fails ↦ absurd (both_ways (all_bytes p frame) (frame_but p frame x low high fails) all)
-]
+frame_each p frame all x low high = each_in-each (bytes_of_frame frame) p all x low high
 
 -- the frames between two addresses are those that begin at the first or behind it and end by the second
 pub interval_frame : (from until frame : ℕ)
@@ -188,8 +150,8 @@ interval_frame from until frame =
             let none : all_bytes inside frame ≡ false = frame_but inside frame (4096 * frame + 4095) (omega arith) (omega arith) fails in
             none ∙ grind (arith, nat_tests))
         | inr ends ↦
-            (let each : (i : ℕ) → i < 4096 → inside (4096 * frame + i) ≡ true = λ i lt. grind (arith, nat_tests) in
-            let whole : all_bytes inside frame ≡ true = all_true (λ i. inside (4096 * frame + i)) 4096 each in
+            (let each : (x : ℕ) → 4096 * frame ≤ x → x < 4096 * frame + 4096 → inside x ≡ true = λ x low high. grind (arith, nat_tests) in
+            let whole : all_bytes inside frame ≡ true = each_in-all (bytes_of_frame frame) inside each in
             whole ∙ grind (arith, nat_tests))
       ])
     ]
@@ -214,10 +176,10 @@ split_frame p q gap frame apart =
     let goal : Type 0 = all_bytes either frame ≡ (all_bytes p frame || all_bytes q frame) in
     elim (cases_lt gap (4096 * frame)) as (λ _. goal) [
       | inl behind ↦
-          (let each : (i : ℕ) → i < 4096 → either (4096 * frame + i) ≡ q (4096 * frame + i) =
-          λ i lt. (let none : p (4096 * frame + i) ≡ false = apart.below (4096 * frame + i) (omega arith) in rw none refl) in
+          (let each : (x : ℕ) → 4096 * frame ≤ x → x < 4096 * frame + 4096 → either x ≡ q x =
+          λ x low high. (let none : p x ≡ false = apart.below x (omega arith) in rw none refl) in
           let none : all_bytes p frame ≡ false = frame_but p frame (4096 * frame) (omega arith) (omega arith) (apart.below (4096 * frame) (omega arith)) in
-          rw none (all_same _ _ 4096 each))
+          rw none (each_in-same (bytes_of_frame frame) either q each))
       | inr before ↦ (elim (cases_lt gap (4096 * frame + 4096)) as (λ _. goal) [
         | inl inside ↦
             (let no_first : p gap ≡ false = apart.below gap (omega arith) in
@@ -228,10 +190,10 @@ split_frame p q gap frame apart =
             let both : all_bytes either frame ≡ false = frame_but either frame gap before inside no_either in
             rw (first, second) both)
         | inr ahead ↦
-            (let each : (i : ℕ) → i < 4096 → either (4096 * frame + i) ≡ p (4096 * frame + i) =
-            λ i lt. (let none : q (4096 * frame + i) ≡ false = apart.above (4096 * frame + i) (omega arith) in grind (arith, none)) in
+            (let each : (x : ℕ) → 4096 * frame ≤ x → x < 4096 * frame + 4096 → either x ≡ p x =
+            λ x low high. (let none : q x ≡ false = apart.above x (omega arith) in grind (arith, none)) in
             let none : all_bytes q frame ≡ false = frame_but q frame (4096 * frame) (omega arith) (omega arith) (apart.above (4096 * frame) (omega arith)) in
-            let same : all_bytes either frame ≡ all_bytes p frame = all_same _ _ 4096 each in
+            let same : all_bytes either frame ≡ all_bytes p frame = each_in-same (bytes_of_frame frame) either p each in
             grind (arith, none, same))
       ])
     ]
@@ -251,34 +213,64 @@ count_split p q gap n apart =
 -- usable frames
 
 -- two maps that agree have the same usable frames
-pub usable_same : (f g : Kinds) → ((x : ℕ) → f x ≡ g x) → usable_frames f ≡ usable_frames g
+pub usable_same : (f g : TypeAt) → ((x : ℕ) → f x ≡ g x) → usable_frames f ≡ usable_frames g
 usable_same f g same = ap usable_frames (λ i x. same x i)
 
 -- a frame is usable where it is whole in memory
-pub usable_whole : (f : Kinds) (frame : ℕ) → is_usable f frame ≡ all_bytes (λ x. is_memory (f x)) frame
+pub usable_whole : (f : TypeAt) (frame : ℕ) → is_usable f frame ≡ all_bytes (λ x. is_memory (f x)) frame
 unfolding is_usable
 usable_whole f frame = refl
 
 -- each byte of a usable frame is memory
-pub usable_each : (f : Kinds) (frame : ℕ) → is_usable f frame ≡ true
+pub usable_each : (f : TypeAt) (frame : ℕ) → is_usable f frame ≡ true
     → (x : ℕ) → 4096 * frame ≤ x → x < 4096 * frame + 4096 → is_memory (f x) ≡ true
 usable_each f frame usable = frame_each (λ x. is_memory (f x)) frame (sym (usable_whole f frame) ∙ usable)
 
 -- a frame with a byte that isn't memory isn't usable
-pub usable_but : (f : Kinds) (frame x : ℕ) → 4096 * frame ≤ x → x < 4096 * frame + 4096 → is_memory (f x) ≡ false → is_usable f frame ≡ false
+pub usable_but : (f : TypeAt) (frame x : ℕ) → 4096 * frame ≤ x → x < 4096 * frame + 4096 → is_memory (f x) ≡ false → is_usable f frame ≡ false
 usable_but f frame x low high fails = usable_whole f frame ∙ frame_but (λ x. is_memory (f x)) frame x low high fails
 
--- the usable frames are the frames below 2^46 that are whole in memory
-pub usable_count : (f : Kinds) → usable_frames f ≡ count_below (all_bytes (λ x. is_memory (f x))) (2 ^ 34)
+-- the usable frames are the frames that are whole in memory
+pub usable_count : (f : TypeAt) → usable_frames f ≡ count_below (all_bytes (λ x. is_memory (f x))) (2 ^ 52)
 unfolding usable_frames
-usable_count f = count_same (is_usable f) (all_bytes (λ x. is_memory (f x))) (2 ^ 34) (λ frame lt. usable_whole f frame)
+usable_count f = count_same (is_usable f) (all_bytes (λ x. is_memory (f x))) (2 ^ 52) (λ frame lt. usable_whole f frame)
 
--- there are no more of them than frames below 2^46
-pub usable_at_most : (f : Kinds) → usable_frames f ≤ 2 ^ 34
+-- there are no more of them than frames
+pub usable_at_most : (f : TypeAt) → usable_frames f ≤ 2 ^ 52
 unfolding usable_frames
-usable_at_most f = count_at_most (is_usable f) (2 ^ 34)
+usable_at_most f = count_at_most (is_usable f) (2 ^ 52)
 
 -- where no frame is usable, each frame has a byte that isn't memory, and the other way round
-pub usable_none : (f : Kinds) → usable_frames f ≡ 0 → (frame : ℕ) → frame < 2 ^ 34 → is_usable f frame ≡ false
+pub usable_none : (f : TypeAt) → usable_frames f ≡ 0 → (frame : ℕ) → frame < 2 ^ 52 → is_usable f frame ≡ false
 unfolding usable_frames
-usable_none f none frame lt = count_zero (is_usable f) (2 ^ 34) none frame lt
+usable_none f none frame lt = count_zero (is_usable f) (2 ^ 52) none frame lt
+
+-- types as far as they reach
+
+-- memory within reach
+pub memory_reached : (limit : ℕ) (f : TypeAt) (x : ℕ) → is_memory (reachable limit f x) ≡ (is_memory (f x) && nat_lt x limit)
+memory_reached limit f x = elim (cases_Bool (nat_lt x limit)) as (λ _. is_memory (reachable limit f x) ≡ (is_memory (f x) && nat_lt x limit)) [
+  | inl within ↦ rw within (grind (arith, nat_tests))
+  | inr past ↦ rw past (grind (arith, nat_tests))
+]
+
+-- a frame is usable within reach where it is usable and ends by the limit
+pub usable_reached : (limit : ℕ) (f : TypeAt) (frame : ℕ)
+    → is_usable (reachable limit f) frame ≡ (is_usable f frame && nat_le (4096 * frame + 4096) limit)
+usable_reached limit f frame =
+    let goal : Type 0 = is_usable (reachable limit f) frame ≡ (is_usable f frame && nat_le (4096 * frame + 4096) limit) in
+    elim (cases_lt limit (4096 * frame + 4096)) as (λ _. goal) [
+      | inl late ↦
+          (let test : nat_le (4096 * frame + 4096) limit ≡ false = grind (arith, nat_tests) in
+          let fails : is_memory (reachable limit f (4096 * frame + 4095)) ≡ false = memory_reached limit f (4096 * frame + 4095) ∙ grind (arith, nat_tests) in
+          let none : is_usable (reachable limit f) frame ≡ false =
+          usable_but (reachable limit f) frame (4096 * frame + 4095) (omega arith) (omega arith) fails in
+          rw test (none ∙ grind (arith, nat_tests)))
+      | inr ends ↦
+          (let test : nat_le (4096 * frame + 4096) limit ≡ true = grind (arith, nat_tests) in
+          let each : (x : ℕ) → 4096 * frame ≤ x → x < 4096 * frame + 4096 → is_memory (reachable limit f x) ≡ is_memory (f x) =
+          λ x low high. (let within : nat_lt x limit ≡ true = grind (arith, nat_tests) in rw within refl) in
+          let same : is_usable (reachable limit f) frame ≡ is_usable f frame =
+          usable_whole (reachable limit f) frame ∙ each_in-same (bytes_of_frame frame) _ _ each ∙ sym (usable_whole f frame) in
+          rw test (same ∙ grind (arith, nat_tests)))
+    ]

@@ -1,5 +1,5 @@
 -- What the firmware's entries, the extension and the options claim of one address: a set of types.
-use Rattle.std.specs.Prelude.{ℕ, zero, suc, ◌+◌, ◌^◌, ◌==◌, Bool, false, ◌&&◌, ◌||◌, ◌<◌, not, nat_le, nat_lt, if◌then◌else◌, List, [], ◌∷◌}
+use Rattle.std.specs.Prelude.{ℕ, zero, suc, ◌+◌, ◌^◌, ◌==◌, Bool, false, ◌&&◌, ◌||◌, ◌<◌, not, nat_lt, if◌then◌else◌, List, [], ◌∷◌}
 use Rattle.bm_base.specs.Extent.{Extent, covers}
 use Rattle.e820_model.specs.declared.types.TheConstants.{E820_TYPE_RAM, E820_TYPE_RESERVED}
 use Rattle.e820_model.specs.declared.entry.Entry.{Entry}
@@ -19,7 +19,7 @@ no_claims x k = false
 
 -- whether the entry covers the address (`struct boot_e820_entry`: address, size, type)
 abbrev pub is_covered_by : Entry → ℕ → Bool
-is_covered_by e x = nat_le e.addr x && nat_lt x (e.addr + e.size)
+is_covered_by e x = covers (record { base = e.addr; size = e.size }) x
 
 -- each entry's address plus its size is at most 2^64 - 1
 abbrev pub EndInSpace : List Entry → Type 0
@@ -49,8 +49,8 @@ abbrev pub settled : Claims → Claims
 settled c x k = nat_lt 0 k && k == type_of c x
 
 -- the claims of both
-abbrev pub added : Claims → Claims → Claims
-added c d x k = c x k || d x k
+abbrev pub with_claims : Claims → Claims → Claims
+with_claims c d x k = c x k || d x k
 
 -- what an edit makes of the claims of an address (`parse_memmap_one`: `e820__range_add`,
 -- `e820__range_remove` with and without a type, `e820__range_update`, and the cleared table of `exactmap`)
@@ -87,8 +87,8 @@ first_page = record { base = 0; size = 0x1000 }
 abbrev pub bios_area : Extent
 bios_area = record { base = 0xA0000; size = 0x60000 }
 
-abbrev pub trimmed : Claims → Claims
-trimmed c = edited (edit.Remove bios_area E820_TYPE_RAM) (edited (edit.Change first_page E820_TYPE_RAM E820_TYPE_RESERVED) c)
+abbrev pub bios_trimmed : Claims → Claims
+bios_trimmed c = edited (edit.Remove bios_area E820_TYPE_RAM) (edited (edit.Change first_page E820_TYPE_RAM E820_TYPE_RESERVED) c)
 
 -- step 1: the zero page's entries, settled (`e820__memory_setup`)
 abbrev pub of_zero_page : List Entry → Claims
@@ -96,7 +96,7 @@ of_zero_page entries = settled (claims_of_entries entries)
 
 -- step 2: the extension's entries come in, and the table settles (`e820__memory_setup_extended`)
 abbrev pub with_extension : List Entry → Claims → Claims
-with_extension extension c = settled (added c (claims_of_entries extension))
+with_extension extension c = settled (with_claims c (claims_of_entries extension))
 
 -- steps 3 and 4: the options' edits in their order, and the table settles (`e820__finish_early_params`)
 abbrev pub with_edits : List Edit → Claims → Claims
@@ -105,4 +105,4 @@ with_edits edits c = settled (after_edits edits c)
 -- the claims of the finished map
 abbrev pub finished : List Entry → List Entry → List Edit → Claims
 finished entries extension edits =
-    trimmed (with_edits edits (with_extension extension (of_zero_page entries)))
+    bios_trimmed (with_edits edits (with_extension extension (of_zero_page entries)))

@@ -4,14 +4,14 @@ use Rattle.address_runs.specs.Runs.{RunOf, lies_in, runs_of}
 use Rattle.e820_model.specs.Claims.{Claims, type_of}
 
 -- the type of every address, where it has one
-abbrev pub Kinds : Type 0
-Kinds = ℕ → Option ℕ
+abbrev pub TypeAt : Type 0
+TypeAt = ℕ → Option ℕ
 
 abbrev pub some_kind : ℕ → Option ℕ
 some_kind k = if k == 0 then None else Some k
 
 -- the types that the claims give
-abbrev pub kinds : Claims → Kinds
+abbrev pub kinds : Claims → TypeAt
 kinds c x = some_kind (type_of c x)
 
 abbrev pub same_kind : ℕ → ℕ → Bool

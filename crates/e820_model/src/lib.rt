@@ -13,12 +13,14 @@
 mod edit;
 mod entry;
 mod laws;
+mod room;
 mod run;
 mod types;
 
 pub use edit::Edit;
 pub use entry::Entry;
 pub use laws::{greatest_is_greatest, map_is_runs, one_claim, settled_type};
+pub use room::E820_MAX_ENTRIES;
 pub use run::Run;
 pub use types::{
     E820_TYPE_ACPI, E820_TYPE_NVS, E820_TYPE_PMEM, E820_TYPE_PRAM, E820_TYPE_RAM,

@@ -1,10 +1,10 @@
 -- Claims cut by small ranges, and answers: what the definitions say of them, by computing.
-use Rattle.std.proofs.Common.{◌≡◌, ℕ, true, false, Some, None, List, [], ◌∷◌, length, Err, refl, sym, arith}
+use Rattle.std.proofs.Common.{◌≡◌, ℕ, true, false, Some, None, List, [], ◌∷◌, length, Ok, Err, refl}
 use Rattle.bm_base.specs.Extent.{Extent}
 use Rattle.address_runs.specs.Runs.{RunOf}
 use Rattle.e820_sanitise.specs.declared.fault.MapFault.TheVariants as faults
-use Rattle.e820_sanitise.specs.Gives.{MapGives}
-use Rattle.e820_sanitise.specs.Pieces.{between, between_if, parts, is_meant, inside, cut, claim_of}
+use Rattle.e820_sanitise.specs.Cuts.{between, between_if, parts, is_meant, left_inside, cut_out, claim_of}
+use Rattle.e820_sanitise.specs.Room.{in_room}
 
 abbrev range : ℕ → ℕ → Extent
 range base size = record { base = base; size = size }
@@ -32,14 +32,14 @@ meant_types : (is_meant None 3 ≡ true) × (is_meant (Some 3) 3 ≡ true) × (i
 meant_types = (refl, refl, refl)
 
 -- `Change 1 4` inside a claim of type 1 and of type 2, `RemoveAll` inside a claim
-inside_a_change : (inside (Some 1) (Some 4) 1 ≡ Some 4) × (inside (Some 1) (Some 4) 2 ≡ Some 2) × (inside None None 2 ≡ None)
+inside_a_change : (left_inside (Some 1) (Some 4) 1 ≡ Some 4) × (left_inside (Some 1) (Some 4) 2 ≡ Some 2) × (left_inside None None 2 ≡ None)
 inside_a_change = (refl, refl, refl)
 
 -- RAM is taken away in the middle, and what is reserved there stays, though in three parts
-ram_removed : cut (range 4 2) (Some 1) None (run 0 10 1 ∷ run 0 10 2 ∷ []) ≡ run 0 4 1 ∷ run 6 4 1 ∷ run 0 4 2 ∷ run 4 2 2 ∷ run 6 4 2 ∷ []
+ram_removed : cut_out (range 4 2) (Some 1) None (run 0 10 1 ∷ run 0 10 2 ∷ []) ≡ run 0 4 1 ∷ run 6 4 1 ∷ run 0 4 2 ∷ run 4 2 2 ∷ run 6 4 2 ∷ []
 ram_removed = refl
 
-all_removed : cut (range 0 10) None None (run 0 10 1 ∷ run 2 3 2 ∷ []) ≡ []
+all_removed : cut_out (range 0 10) None None (run 0 10 1 ∷ run 2 3 2 ∷ []) ≡ []
 all_removed = refl
 
 -- an empty entry and one of type 0 have no claim
@@ -47,8 +47,8 @@ claims_of_one_entry : (claim_of (record { addr = 4; size = 2; kind = 1 }) ≡ ru
 claims_of_one_entry = (refl, refl, refl)
 
 -- a map of 3,201 runs is too long, and is answered by their number; one of 3,200 isn't
-full_map : (map : List (RunOf ℕ)) → length map ≡ 3201 → MapGives (Err (faults.MapFull 3201)) map
-full_map map runs = (sym runs, omega (arith, runs))
+full_map : (map : List (RunOf ℕ)) → length map ≡ 3201 → in_room map ≡ Err (faults.MapFull 3201)
+full_map map runs = rw runs refl
 
-not_full : (map : List (RunOf ℕ)) → length map ≡ 3200 → MapGives (Err (faults.MapFull 3200)) map → ⊥
-not_full map runs gives = let more = gives.1 in omega (arith, runs, more)
+room_enough : (map : List (RunOf ℕ)) → length map ≡ 3200 → in_room map ≡ Ok map
+room_enough map runs = rw runs refl

@@ -1,3 +1,3 @@
-pub mod PieceLaws
+pub mod CutLaws
 pub mod SettleLaws
 mod Examples

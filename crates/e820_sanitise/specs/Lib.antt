@@ -1,2 +1,2 @@
-pub mod Gives
-pub mod Pieces
+pub mod Cuts
+pub mod Room

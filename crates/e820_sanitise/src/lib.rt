@@ -16,13 +16,13 @@
 //! thousands of entries takes milliseconds.
 #![tactic(auto)]
 
+mod cuts;
 mod fault;
-mod pieces;
 mod settle;
 mod table;
 #[cfg(test)]
 mod tests;
 
-pub use e820_model::Run;
+pub use e820_model::{E820_MAX_ENTRIES, Run};
 pub use fault::MapFault;
-pub use table::{E820_MAX_ENTRIES, Table};
+pub use table::Table;

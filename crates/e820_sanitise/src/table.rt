@@ -1,18 +1,16 @@
 ghost use Rattle.std.specs.Prelude.{◌≡◌, ◌≢◌, IfErr, IfOk, OnErr, OnOk};
 ghost use Rattle.address_runs.specs.Runs.{IsRunsOf};
-ghost use Rattle.e820_model.specs.Claims.{EndInSpace, HasTypes, added, claims_of_entries, edited, no_claims, settled, trimmed, type_of};
+ghost use Rattle.e820_model.specs.Claims.{EndInSpace, HasTypes, with_claims, claims_of_entries, edited, no_claims, settled, bios_trimmed, type_of};
 ghost use Rattle.e820_model.specs.Map.{claims_of, kinds, map_of};
-ghost use Rattle.e820_sanitise.specs.Gives.{MapGives};
+ghost use Rattle.bm_base.specs.Answers.{Answers};
+ghost use Rattle.e820_sanitise.specs.Room.{in_room};
 
 use crate::fault::MapFault;
-use crate::{pieces, settle};
+use crate::{cuts, settle};
 use bm_base::Memory;
-use e820_model::{Edit, Entry, Run};
+use e820_model::{E820_MAX_ENTRIES, Edit, Entry, Run};
 use std::alloc::Global;
 use std::marker::Model;
-
-/// The most runs that a map may have (`E820_MAX_ENTRIES` of a kernel with 1,024 nodes).
-pub const E820_MAX_ENTRIES: u64 = 3200;
 
 /// The firmware's table (`struct e820_table`): which types claim which addresses. Contracts see it
 /// as a list of ranges with types and speak of it by `claims_of` alone, the test whether a type
@@ -50,11 +48,11 @@ impl Table {
     pub fn append(&mut self, entries: &[Entry]) -> Result<(), Memory>
         requires { EndInSpace entries.now }
         ensures ok { OnOk result (claims_of self.new
-            ≡ added (claims_of self.old) (claims_of_entries entries.now)) }
+            ≡ with_claims (claims_of self.old) (claims_of_entries entries.now)) }
         ensures err { OnErr result (self.new ≡ self.old) }
     {
         let alloc = *self.claims.allocator();
-        self.claims = pieces::with_entries(alloc, &self.claims, entries)?;
+        self.claims = cuts::with_entries(alloc, &self.claims, entries)?;
         Ok(())
     }
 
@@ -67,7 +65,7 @@ impl Table {
         ensures err { OnErr result (self.new ≡ self.old) }
     {
         let alloc = *self.claims.allocator();
-        self.claims = pieces::edited(alloc, &self.claims, edit)?;
+        self.claims = cuts::edited(alloc, &self.claims, edit)?;
         Ok(())
     }
 
@@ -85,11 +83,11 @@ impl Table {
     /// Reserves the first page, and takes memory away from 640 KiB to 1 MiB (`trim_bios_range`).
     /// After `Memory` the table is as before.
     pub fn trim_bios(&mut self) -> Result<(), Memory>
-        ensures ok { OnOk result (claims_of self.new ≡ trimmed (claims_of self.old)) }
+        ensures ok { OnOk result (claims_of self.new ≡ bios_trimmed (claims_of self.old)) }
         ensures err { OnErr result (self.new ≡ self.old) }
     {
         let alloc = *self.claims.allocator();
-        self.claims = pieces::trimmed(alloc, &self.claims)?;
+        self.claims = cuts::bios_trimmed(alloc, &self.claims)?;
         Ok(())
     }
 
@@ -104,7 +102,8 @@ impl Table {
     /// more than [`E820_MAX_ENTRIES`] of them.
     pub fn runs(&self) -> Result<Vec<Run>, MapFault>
         ensures relation { IfOk result (λ runs. IsRunsOf (kinds (claims_of self.now)) runs.items) }
-        ensures gives { MapGives result (map_of (claims_of self.now)) }
+        ensures answers { Answers MapFault.Memory (λ runs. runs.items) result
+            (in_room (map_of (claims_of self.now))) }
     {
         let alloc = *self.claims.allocator();
         limited(settle::runs_of_claims(alloc, &self.claims)?)
@@ -113,7 +112,7 @@ impl Table {
 
 /// The runs, where a map has room for so many; else their number. Takes no memory.
 fn limited(runs: Vec<Run>) -> Result<Vec<Run>, MapFault>
-    ensures gives { MapGives result runs.items }
+    ensures answers { Answers MapFault.Memory (λ runs. runs.items) result (in_room runs.items) }
     ensures always { IfErr result (λ fault. fault ≢ MapFault.Memory) }
 {
     let count = runs.len() as u64;

@@ -1,7 +1,7 @@
 -- Small maps and large ones, judged: what the definitions say of them.
-use Rattle.std.proofs.Common.{◌≡◌, ℕ, ◌+◌, ◌-◌, ◌^◌, ◌<◌, ◌∙◌, Some, None, List, [], ◌∷◌, refl, sym, arith}
+use Rattle.std.proofs.Common.{◌≡◌, ℕ, ◌+◌, ◌^◌, ◌<◌, ◌∙◌, Some, None, List, [], ◌∷◌, min, refl, sym, arith}
 use Rattle.address_runs.specs.Runs.{RunOf, value_at, AreRuns}
-use Rattle.e820_model.specs.Usable.{usable_frames}
+use Rattle.e820_model.specs.Usable.{reachable, usable_frames}
 use Rattle.e820_usable.specs.declared.stop.MapStop.TheVariants as stops
 use Rattle.e820_usable.specs.Frames.{whole_frames}
 use Rattle.e820_usable.specs.Judged.{judged}
@@ -9,14 +9,14 @@ use Rattle.e820_usable.proofs.FramesLaws.{whole_by_division, frames_usable}
 
 -- from 2 KiB on, frame 0 isn't whole; up to 14 KiB, frame 3 isn't
 frames_1_and_2 : whole_frames 0x800 0x3800 ≡ 2
-frames_1_and_2 = whole_by_division 0x800 0x3800
+frames_1_and_2 = whole_by_division 0x800 0x3800 (omega arith)
 
 one_byte_short : whole_frames 0 0xFFF ≡ 0
-one_byte_short = whole_by_division 0 0xFFF
+one_byte_short = whole_by_division 0 0xFFF (omega arith)
 
--- no frame lies beyond 2^46
-last_frame_in_reach : whole_frames (2 ^ 46 - 4096) (2 ^ 46 + 8192) ≡ 1
-last_frame_in_reach = whole_by_division (2 ^ 46 - 4096) (2 ^ 46 + 8192)
+-- the first address that page tables of four levels don't reach
+abbrev limit : ℕ
+limit = 2 ^ 46
 
 -- RAM from 0 on, of that size
 abbrev ram : ℕ → List (RunOf ℕ)
@@ -26,38 +26,45 @@ one_run : (size : ℕ) → 0 < size → AreRuns (ram size)
 one_run size some = (some, tt, tt)
 
 -- its usable frames are the whole ones up to its end
-frames_of_ram : (size : ℕ) → 0 < size → usable_frames (value_at (ram size)) ≡ whole_frames 0 (0 + size)
-frames_of_ram size some = sym (frames_usable (ram size) (one_run size some))
+frames_of_ram : (size : ℕ) → 0 < size → usable_frames (reachable limit (value_at (ram size))) ≡ whole_frames 0 (min (0 + size) limit)
+frames_of_ram size some = sym (frames_usable limit (omega arith) (ram size) (one_run size some))
 
 -- two pages are enough
-two_pages : usable_frames (value_at (ram 0x2000)) ≡ 2
-two_pages = frames_of_ram 0x2000 (omega arith) ∙ whole_by_division 0 0x2000
+two_pages : usable_frames (reachable limit (value_at (ram 0x2000))) ≡ 2
+two_pages = frames_of_ram 0x2000 (omega arith) ∙ whole_by_division 0 0x2000 (omega arith)
 
-two_pages_go_on : judged (value_at (ram 0x2000)) ≡ None
+two_pages_go_on : judged (reachable limit (value_at (ram 0x2000))) ≡ None
 two_pages_go_on = rw two_pages refl
 
 -- less than one isn't, nor is nothing
-part_of_a_page : usable_frames (value_at (ram 0x800)) ≡ 0
-part_of_a_page = frames_of_ram 0x800 (omega arith) ∙ whole_by_division 0 0x800
+part_of_a_page : usable_frames (reachable limit (value_at (ram 0x800))) ≡ 0
+part_of_a_page = frames_of_ram 0x800 (omega arith) ∙ whole_by_division 0 0x800 (omega arith)
 
-part_of_a_page_stops : judged (value_at (ram 0x800)) ≡ Some stops.NoRam
+part_of_a_page_stops : judged (reachable limit (value_at (ram 0x800))) ≡ Some stops.NoRam
 part_of_a_page_stops = rw part_of_a_page refl
 
 -- 2^32 frames are enough still, and one more is too many
-most_frames : usable_frames (value_at (ram (2 ^ 44))) ≡ 2 ^ 32
-most_frames = frames_of_ram (2 ^ 44) (omega arith) ∙ whole_by_division 0 (2 ^ 44)
+most_frames : usable_frames (reachable limit (value_at (ram (2 ^ 44)))) ≡ 2 ^ 32
+most_frames = frames_of_ram (2 ^ 44) (omega arith) ∙ whole_by_division 0 (2 ^ 44) (omega arith)
 
-most_frames_go_on : judged (value_at (ram (2 ^ 44))) ≡ None
+most_frames_go_on : judged (reachable limit (value_at (ram (2 ^ 44)))) ≡ None
 most_frames_go_on = rw most_frames refl
 
-one_frame_more : usable_frames (value_at (ram (2 ^ 44 + 4096))) ≡ 2 ^ 32 + 1
-one_frame_more = frames_of_ram (2 ^ 44 + 4096) (omega arith) ∙ whole_by_division 0 (2 ^ 44 + 4096)
+one_frame_more : usable_frames (reachable limit (value_at (ram (2 ^ 44 + 4096)))) ≡ 2 ^ 32 + 1
+one_frame_more = frames_of_ram (2 ^ 44 + 4096) (omega arith) ∙ whole_by_division 0 (2 ^ 44 + 4096) (omega arith)
 
-one_frame_more_stops : judged (value_at (ram (2 ^ 44 + 4096))) ≡ Some (stops.TooMuchRam (2 ^ 32 + 1))
+one_frame_more_stops : judged (reachable limit (value_at (ram (2 ^ 44 + 4096)))) ≡ Some (stops.TooMuchRam (2 ^ 32 + 1))
 one_frame_more_stops = rw one_frame_more refl
 
 -- a map without a run has no frame
-empty_map_stops : judged (value_at []) ≡ Some stops.NoRam
+empty_map_stops : judged (reachable limit (value_at [])) ≡ Some stops.NoRam
 empty_map_stops =
-    let none : usable_frames (value_at []) ≡ 0 = sym (frames_usable [] tt) ∙ whole_by_division 0 0 in
+    let none : usable_frames (reachable limit (value_at [])) ≡ 0 = sym (frames_usable limit (omega arith) [] tt) ∙ whole_by_division 0 0 (omega arith) in
     rw none refl
+
+-- frames from the limit on don't count, nor does one in which it lies: of three pages up to 8 KiB and of 16 KiB up to 10 KiB two
+three_pages : usable_frames (reachable 0x2000 (value_at (ram 0x3000))) ≡ 2
+three_pages = sym (frames_usable 0x2000 (omega arith) (ram 0x3000) (one_run 0x3000 (omega arith))) ∙ whole_by_division 0 0x2000 (omega arith)
+
+limit_in_a_frame : usable_frames (reachable 0x2800 (value_at (ram 0x4000))) ≡ 2
+limit_in_a_frame = sym (frames_usable 0x2800 (omega arith) (ram 0x4000) (one_run 0x4000 (omega arith))) ∙ whole_by_division 0 0x2800 (omega arith)

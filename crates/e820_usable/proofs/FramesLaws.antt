@@ -5,30 +5,31 @@ use Rattle.std.proofs.lemmas.Bool.Decides.{nat_tests}
 use Rattle.address_runs.specs.Runs.{RunOf, run_end, lies_in, value_at, AreRuns}
 use Rattle.address_runs.specs.Sweep.{StartFrom}
 use Rattle.address_runs.proofs.RunsLaws.{none_below, rest_from}
-use Rattle.e820_model.specs.Usable.{is_memory, count_below, usable_frames}
-use Rattle.e820_model.proofs.UsableLaws.{all_bytes, count_same, count_interval, count_frames_between, IsGap, count_split, usable_count}
+use Rattle.e820_model.specs.Usable.{is_memory, count_below, reachable, usable_frames}
+use Rattle.e820_model.proofs.UsableLaws.{all_bytes, count_same, count_interval, count_frames_between, IsGap, count_split, usable_count, memory_reached}
 use Rattle.e820_usable.specs.Frames.{whole_frames}
 
 -- the whole frames between two addresses, by division
-pub whole_by_division : (from until : ℕ) → whole_frames from until ≡ min until (2 ^ 46) / 4096 - (from + 4095) / 4096
-whole_by_division from until =
-    let same : (frame : ℕ) → frame < 2 ^ 34 → (nat_le from (4096 * frame) && nat_le (4096 * frame + 4096) until) ≡ (nat_le ((from + 4095) / 4096) frame && nat_lt frame (until / 4096)) =
+pub whole_by_division : (from until : ℕ) → until < 2 ^ 64 → whole_frames from until ≡ until / 4096 - (from + 4095) / 4096
+whole_by_division from until space =
+    let same : (frame : ℕ) → frame < 2 ^ 52 → (nat_le from (4096 * frame) && nat_le (4096 * frame + 4096) until) ≡ (nat_le ((from + 4095) / 4096) frame && nat_lt frame (until / 4096)) =
     λ frame lt. grind (arith, nat_tests) in
-    let counted : whole_frames from until ≡ min (until / 4096) (2 ^ 34) - (from + 4095) / 4096 =
-    count_same _ _ (2 ^ 34) same ∙ count_interval ((from + 4095) / 4096) (until / 4096) (2 ^ 34) in
+    let counted : whole_frames from until ≡ min (until / 4096) (2 ^ 52) - (from + 4095) / 4096 =
+    count_same _ _ (2 ^ 52) same ∙ count_interval ((from + 4095) / 4096) (until / 4096) (2 ^ 52) in
     counted ∙ omega arith
 
 -- they are the frames whose bytes all lie between the two addresses
-pub whole_bytes : (from until : ℕ) → whole_frames from until ≡ count_below (all_bytes (λ x. nat_le from x && nat_lt x until)) (2 ^ 34)
-whole_bytes from until = whole_by_division from until ∙ omega (arith, count_frames_between from until (2 ^ 34))
+whole_bytes : (from until : ℕ) → until < 2 ^ 64
+    → whole_frames from until ≡ count_below (all_bytes (λ x. nat_le from x && nat_lt x until)) (2 ^ 52)
+whole_bytes from until space = whole_by_division from until space ∙ omega (arith, count_frames_between from until (2 ^ 52), space)
 
--- the frames of the stretch of memory that goes on, and of those that begin in the runs behind it
-abbrev pub frames_from : ℕ → ℕ → List (RunOf ℕ) → ℕ
-frames_from from until [] = whole_frames from until
-frames_from from until (r ∷ rs) =
+-- the frames of the stretch of memory that goes on, and of those that begin in the runs behind it, within reach
+abbrev pub frames_from : ℕ → ℕ → ℕ → List (RunOf ℕ) → ℕ
+frames_from limit from until [] = whole_frames from (min until limit)
+frames_from limit from until (r ∷ rs) =
     if is_memory (Some r.value)
-    then (if r.base == until then frames_from from (run_end r) rs else whole_frames from until + frames_from r.base (run_end r) rs)
-    else frames_from from until rs
+    then (if r.base == until then frames_from limit from (run_end r) rs else whole_frames from (min until limit) + frames_from limit r.base (run_end r) rs)
+    else frames_from limit from until rs
 
 -- memory of the stretch, and of the runs
 abbrev pub memory_after : ℕ → ℕ → List (RunOf ℕ) → ℕ → Bool
@@ -92,53 +93,76 @@ memory_last from until x = grind (arith, nat_tests)
 pub memory_first : (rs : List (RunOf ℕ)) (x : ℕ) → memory_after 0 0 rs x ≡ is_memory (value_at rs x)
 memory_first rs x = grind (arith, nat_tests)
 
--- the frames of memory that a test of addresses tells
-abbrev pub frames_of : (ℕ → Bool) → ℕ
-frames_of p = count_below (all_bytes p) (2 ^ 34)
+-- the frames of memory that a test of addresses tells, within reach
+abbrev pub frames_of : ℕ → (ℕ → Bool) → ℕ
+frames_of limit p = count_below (all_bytes (λ x. p x && nat_lt x limit)) (2 ^ 52)
 
 -- two tests that agree tell the same frames
-pub frames_same : (p q : ℕ → Bool) → ((x : ℕ) → p x ≡ q x) → frames_of p ≡ frames_of q
-frames_same p q same = ap frames_of (λ i x. same x i)
+pub frames_same : (limit : ℕ) (p q : ℕ → Bool) → ((x : ℕ) → p x ≡ q x) → frames_of limit p ≡ frames_of limit q
+frames_same limit p q same = ap (frames_of limit) (λ i x. same x i)
+
+-- those of a stretch
+stretch_frames : (limit from until : ℕ) → limit < 2 ^ 64 → whole_frames from (min until limit) ≡ frames_of limit (λ x. nat_le from x && nat_lt x until)
+stretch_frames limit from until space =
+    let cut : (x : ℕ) → (nat_le from x && nat_lt x (min until limit)) ≡ ((nat_le from x && nat_lt x until) && nat_lt x limit) = λ x. grind (arith, nat_tests) in
+    whole_bytes from (min until limit) (omega arith) ∙ ap (λ p. count_below (all_bytes p) (2 ^ 52)) (λ i x. cut x i)
+
+-- the frames of both sides of a gap
+both_frames : (limit : ℕ) (p q : ℕ → Bool) (gap : ℕ) → IsGap p q gap → frames_of limit (λ x. p x || q x) ≡ frames_of limit p + frames_of limit q
+both_frames limit p q gap apart =
+    let near : ℕ → Bool = λ x. p x && nat_lt x limit in
+    let far : ℕ → Bool = λ x. q x && nat_lt x limit in
+    let still : IsGap near far gap = record {
+      below = λ x high. rw (apart.below x high) refl;
+      above = λ x low. rw (apart.above x low) refl;
+    } in
+    let either : (x : ℕ) → ((p x || q x) && nat_lt x limit) ≡ (near x || far x) = λ x. grind (arith, nat_tests) in
+    ap (λ t. count_below (all_bytes t) (2 ^ 52)) (λ i x. either x i) ∙ count_split near far gap (2 ^ 52) still
 
 -- the frames counted along the runs are the whole frames of memory
-pub frames_counted : (rs : List (RunOf ℕ)) (from until : ℕ) → from ≤ until → StartFrom until rs → AreRuns rs
-    → frames_from from until rs ≡ frames_of (memory_after from until rs)
-frames_counted [] from until order start runs =
-    whole_bytes from until ∙ frames_same (λ x. nat_le from x && nat_lt x until) (memory_after from until []) (memory_last from until)
-frames_counted (r ∷ rs) from until order start runs =
-    let goal : Type 0 = frames_from from until (r ∷ rs) ≡ frames_of (memory_after from until (r ∷ rs)) in
+pub frames_counted : (limit : ℕ) → limit < 2 ^ 64 → (rs : List (RunOf ℕ)) (from until : ℕ) → from ≤ until → StartFrom until rs → AreRuns rs
+    → frames_from limit from until rs ≡ frames_of limit (memory_after from until rs)
+frames_counted limit space [] from until order start runs =
+    stretch_frames limit from until space ∙ frames_same limit (λ x. nat_le from x && nat_lt x until) (memory_after from until []) (memory_last from until)
+frames_counted limit space (r ∷ rs) from until order start runs =
+    let goal : Type 0 = frames_from limit from until (r ∷ rs) ≡ frames_of limit (memory_after from until (r ∷ rs)) in
     let behind : StartFrom (run_end r) rs = rest_from r rs runs in
     elim (cases_Bool (is_memory (Some r.value))) as (λ _. goal) [
       | inr other ↦
-          (let rest : frames_from from until rs ≡ frames_of (memory_after from until rs) =
-          frames_counted rs from until order (start_earlier until (run_end r) rs (omega arith) behind) runs.2 in
-          let same : frames_of (memory_after from until (r ∷ rs)) ≡ frames_of (memory_after from until rs) =
-          frames_same _ _ (memory_other from until r rs runs other) in
+          (let rest : frames_from limit from until rs ≡ frames_of limit (memory_after from until rs) =
+          frames_counted limit space rs from until order (start_earlier until (run_end r) rs (omega arith) behind) runs.2 in
+          let same : frames_of limit (memory_after from until (r ∷ rs)) ≡ frames_of limit (memory_after from until rs) =
+          frames_same limit _ _ (memory_other from until r rs runs other) in
           rw other (rest ∙ sym same))
       | inl memory ↦ (elim (cases_eq r.base until) as (λ _. goal) [
         | inl touches ↦
             (let test : (r.base == until) ≡ true = grind (arith, nat_tests) in
-            let rest : frames_from from (run_end r) rs ≡ frames_of (memory_after from (run_end r) rs) =
-            frames_counted rs from (run_end r) (omega arith) behind runs.2 in
-            let same : frames_of (memory_after from until (r ∷ rs)) ≡ frames_of (memory_after from (run_end r) rs) =
-            frames_same _ _ (memory_touching from until r rs order runs memory touches) in
+            let rest : frames_from limit from (run_end r) rs ≡ frames_of limit (memory_after from (run_end r) rs) =
+            frames_counted limit space rs from (run_end r) (omega arith) behind runs.2 in
+            let same : frames_of limit (memory_after from until (r ∷ rs)) ≡ frames_of limit (memory_after from (run_end r) rs) =
+            frames_same limit _ _ (memory_touching from until r rs order runs memory touches) in
             rw (memory, test) (rest ∙ sym same))
         | inr apart ↦
             (let test : (r.base == until) ≡ false = grind (arith, nat_tests) in
-            let rest : frames_from r.base (run_end r) rs ≡ frames_of (memory_after r.base (run_end r) rs) =
-            frames_counted rs r.base (run_end r) (omega arith) behind runs.2 in
-            let same : frames_of (memory_after from until (r ∷ rs)) ≡ frames_of (λ x. (nat_le from x && nat_lt x until) || memory_after r.base (run_end r) rs x) =
-            frames_same _ _ (memory_apart from until r rs memory) in
-            let split : frames_of (λ x. (nat_le from x && nat_lt x until) || memory_after r.base (run_end r) rs x) ≡ frames_of (λ x. nat_le from x && nat_lt x until) + frames_of (memory_after r.base (run_end r) rs) =
-            count_split _ _ until (2 ^ 34) (stretch_gap from until r rs runs (omega arith)) in
-            let stretch : whole_frames from until ≡ frames_of (λ x. nat_le from x && nat_lt x until) = whole_bytes from until in
+            let rest : frames_from limit r.base (run_end r) rs ≡ frames_of limit (memory_after r.base (run_end r) rs) =
+            frames_counted limit space rs r.base (run_end r) (omega arith) behind runs.2 in
+            let same : frames_of limit (memory_after from until (r ∷ rs)) ≡ frames_of limit (λ x. (nat_le from x && nat_lt x until) || memory_after r.base (run_end r) rs x) =
+            frames_same limit _ _ (memory_apart from until r rs memory) in
+            let split : frames_of limit (λ x. (nat_le from x && nat_lt x until) || memory_after r.base (run_end r) rs x)
+            ≡ frames_of limit (λ x. nat_le from x && nat_lt x until) + frames_of limit (memory_after r.base (run_end r) rs) =
+            both_frames limit _ _ until (stretch_gap from until r rs runs (omega arith)) in
+            let stretch : whole_frames from (min until limit) ≡ frames_of limit (λ x. nat_le from x && nat_lt x until) = stretch_frames limit from until space in
             rw (memory, test, same, split, stretch, rest) refl)
       ])
     ]
 
 -- along a canonical list of runs, from no stretch at all: its usable frames
-pub frames_usable : (rs : List (RunOf ℕ)) → AreRuns rs → frames_from 0 0 rs ≡ usable_frames (value_at rs)
-frames_usable rs runs =
-    frames_counted rs 0 0 (omega arith) (start_first rs) runs
-    ∙ frames_same (memory_after 0 0 rs) (λ x. is_memory (value_at rs x)) (memory_first rs)
-    ∙ sym (usable_count (value_at rs))
+pub frames_usable : (limit : ℕ) → limit < 2 ^ 64 → (rs : List (RunOf ℕ)) → AreRuns rs
+    → frames_from limit 0 0 rs ≡ usable_frames (reachable limit (value_at rs))
+frames_usable limit space rs runs =
+    let reached : (x : ℕ) → (is_memory (value_at rs x) && nat_lt x limit) ≡ is_memory (reachable limit (value_at rs) x) =
+    λ x. sym (memory_reached limit (value_at rs) x) in
+    frames_counted limit space rs 0 0 (omega arith) (start_first rs) runs
+    ∙ frames_same limit (memory_after 0 0 rs) (λ x. is_memory (value_at rs x)) (memory_first rs)
+    ∙ ap (λ p. count_below (all_bytes p) (2 ^ 52)) (λ i x. reached x i)
+    ∙ sym (usable_count (reachable limit (value_at rs)))

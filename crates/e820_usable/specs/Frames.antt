@@ -1,7 +1,8 @@
 -- Frames between two addresses.
 use Rattle.std.specs.Prelude.{ℕ, ◌+◌, ◌*◌, ◌^◌, ◌&&◌, nat_le}
+use Rattle.bm_base.specs.declared.frame.TheConstants.{FRAME_SIZE}
 use Rattle.e820_model.specs.Usable.{count_below}
 
--- how many frames below 2^46 begin at `from` or behind it and end by `until`
+-- how many frames begin at `from` or behind it and end by `until`
 abbrev pub whole_frames : ℕ → ℕ → ℕ
-whole_frames from until = count_below (λ frame. nat_le from (4096 * frame) && nat_le (4096 * frame + 4096) until) (2 ^ 34)
+whole_frames from until = count_below (λ frame. nat_le from (FRAME_SIZE * frame) && nat_le (FRAME_SIZE * frame + FRAME_SIZE) until) (2 ^ 52)

@@ -1,15 +1,10 @@
 ghost use Rattle.std.specs.Prelude.{◌≡◌, ℕ, ◌+◌, ◌-◌, ◌*◌, ◌^◌, ◌<◌, ◌≤◌};
 ghost use Rattle.address_runs.specs.Runs.{AreRuns, value_at};
-ghost use Rattle.e820_model.specs.Usable.{is_memory, usable_frames};
+ghost use Rattle.e820_model.specs.Usable.{is_memory, reachable, usable_frames};
 ghost use Rattle.e820_usable.specs.Frames.{whole_frames};
 
+use bm_base::FRAME_SIZE;
 use e820_model::{E820_TYPE_RAM, E820_TYPE_RESERVED_KERN, Run};
-
-/// The bytes of a frame (`PAGE_SIZE`).
-const FRAME_SIZE: u64 = 4096;
-
-/// The bits of an address of memory (`MAX_PHYSMEM_BITS`).
-const ADDRESS_BITS: u32 = 46;
 
 /// Whether addresses of this type (`enum e820_type`) are memory: RAM, or the kernel's own.
 pub fn is_memory(kind: u32) -> bool
@@ -18,21 +13,22 @@ pub fn is_memory(kind: u32) -> bool
     kind == E820_TYPE_RAM || kind == E820_TYPE_RESERVED_KERN
 }
 
-// The number of frames below 2^46 that begin at `from` or behind it and end by `until`.
+// The number of frames that begin at `from` or behind it and end by `until`.
 fn whole_frames(from: u64, until: u64) -> u64
     ensures value { result ≡ whole_frames from until }
     ensures few { 4096 * result ≤ until - from }
 {
     let first = from.div_ceil(FRAME_SIZE);
-    let behind = until.min(1 << ADDRESS_BITS) / FRAME_SIZE;
+    let behind = until / FRAME_SIZE;
     behind.saturating_sub(first)
 }
 
-/// The number of usable frames of the map that these runs are: frames of 4,096 bytes below 2^46 of which
-/// each byte is memory (`e820__memblock_setup`, `memblock_trim_memory`). At most 2^34.
-pub fn usable_frames(runs: &[Run]) -> u64
+/// The number of usable frames of the map that these runs are: frames of 4,096 bytes of which each byte is
+/// memory (`e820__memblock_setup`, `memblock_trim_memory`) and within reach. `limit` is the first address out of
+/// reach, in bytes, and may lie inside a frame.
+pub fn usable_frames(runs: &[Run], limit: u64) -> u64
     requires { AreRuns runs.now }
-    ensures { result ≡ usable_frames (value_at runs.now) }
+    ensures { result ≡ usable_frames (reachable limit (value_at runs.now)) }
 {
     let mut frames = 0;
     // the stretch of memory that goes on: from its first address up to the one behind its last
@@ -41,11 +37,11 @@ pub fn usable_frames(runs: &[Run]) -> u64
     for run in runs {
         if is_memory(run.kind) {
             if run.range.base != until {
-                frames += whole_frames(from, until);
+                frames += whole_frames(from, until.min(limit));
                 from = run.range.base;
             }
             until = run.range.end();
         }
     }
-    frames + whole_frames(from, until)
+    frames + whole_frames(from, until.min(limit))
 }

@@ -1,5 +1,6 @@
 ghost use Rattle.std.specs.Prelude.{◌≡◌};
 ghost use Rattle.address_runs.specs.Runs.{AreRuns, value_at};
+ghost use Rattle.e820_model.specs.Usable.{reachable};
 ghost use Rattle.e820_usable.specs.Judged.{judged};
 
 use crate::frames::usable_frames;
@@ -17,13 +18,13 @@ pub enum MapStop {
     TooMuchRam { frames: u64 },
 }
 
-/// Whether a boot stops at the map that these runs are: exactly where no frame of it is usable, or more than
-/// 2^32 are.
-pub fn judge(runs: &[Run]) -> Option<MapStop>
+/// Whether a boot stops at the map that these runs are: exactly where no frame of it within reach is usable, or
+/// more than 2^32 are. `limit` is the first address out of reach, in bytes, and may lie inside a frame.
+pub fn judge(runs: &[Run], limit: u64) -> Option<MapStop>
     requires { AreRuns runs.now }
-    ensures { result ≡ judged (value_at runs.now) }
+    ensures { result ≡ judged (reachable limit (value_at runs.now)) }
 {
-    let frames = usable_frames(runs);
+    let frames = usable_frames(runs, limit);
     if frames == 0 {
         return Some(MapStop::NoRam);
     }

@@ -16,11 +16,14 @@ fn run(base: u64, size: u64, kind: u32) -> Run
     }
 }
 
+/// The first address that page tables of four levels don't reach.
+const LIMIT: u64 = 1 << 46;
+
 fn expect(rt: &impl Abort, runs: &[Run], frames: u64, stop: Option<MapStop>)
     requires { AreRuns runs.now }
 {
-    assert_eq!(rt; usable_frames(runs), frames);
-    assert_eq!(rt; judge(runs), stop);
+    assert_eq!(rt; usable_frames(runs, LIMIT), frames);
+    assert_eq!(rt; judge(runs, LIMIT), stop);
 }
 
 #[test]
@@ -77,4 +80,19 @@ fn frames_at_the_ends_of_runs(rt: HostRuntime) {
         None,
     );
     expect(&rt, &[page, run(0x1001, 0x1FFE, 1)], 1, None);
+}
+
+#[test]
+fn limits_of_addresses(rt: HostRuntime) {
+    let low = [run(0, 0x4000, 1)];
+    assert_eq!(rt; usable_frames(&low, 0), 0);
+    assert_eq!(rt; judge(&low, 0), Some(MapStop::NoRam));
+    // a limit inside a frame, at its end, and behind all memory
+    assert_eq!(rt; usable_frames(&low, 0x2FFF), 2);
+    assert_eq!(rt; usable_frames(&low, 0x3000), 3);
+    assert_eq!(rt; usable_frames(&low, u64::MAX), 4);
+    // with all addresses within reach, the last frame of 64-bit addresses misses its last byte
+    let high = [run(0xFFFF_FFFF_FFFF_D000, 0x2FFF, 1)];
+    assert_eq!(rt; usable_frames(&high, u64::MAX), 2);
+    assert_eq!(rt; usable_frames(&high, LIMIT), 0);
 }

@@ -5,5 +5,5 @@ use Rattle.e820_usable.proofs.frames.usable_frames.Goals as goal
 
 pub returns : goal.returns
 returns c =
-    let counted : c.loop-run.frames + c.whole_frames.result ≡ frames_from 0 0 c.args.runs.now = grind (arith, common_steps) in
-    counted ∙ frames_usable c.args.runs.now c.requires
+    let counted : c.loop-run.frames + c.whole_frames.result ≡ frames_from c.args.limit 0 0 c.args.runs.now = grind (arith, common_steps) in
+    counted ∙ frames_usable c.args.limit (omega arith) c.args.runs.now c.requires

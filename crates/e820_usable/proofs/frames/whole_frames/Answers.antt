@@ -5,5 +5,5 @@ use Rattle.e820_usable.proofs.frames.whole_frames.Goals as goal
 
 pub returns-clause-value : goal.returns-clause-value
 returns-clause-value c =
-    let divided : c.saturating_sub.result ≡ min c.args.until (2 ^ 46) / 4096 - (c.args.from + 4095) / 4096 = grind (arith, common_steps) in
-    divided ∙ sym (whole_by_division c.args.from c.args.until)
+    let divided : c.saturating_sub.result ≡ c.args.until / 4096 - (c.args.from + 4095) / 4096 = grind (arith, common_steps) in
+    divided ∙ sym (whole_by_division c.args.from c.args.until (omega arith))

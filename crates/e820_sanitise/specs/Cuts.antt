@@ -27,12 +27,12 @@ is_meant None kind = true
 is_meant (Some meant) kind = kind == meant
 
 -- what stands inside the range in place of a type
-abbrev pub inside : Option ℕ → Option ℕ → ℕ → Option ℕ
-inside meant instead kind = if is_meant meant kind then instead else Some kind
+abbrev pub left_inside : Option ℕ → Option ℕ → ℕ → Option ℕ
+left_inside meant instead kind = if is_meant meant kind then instead else Some kind
 
 -- every claim of the list so cut
-abbrev pub cut : Extent → Option ℕ → Option ℕ → List (RunOf ℕ) → List (RunOf ℕ)
-cut range meant instead rs = flat_map (λ r. parts range (inside meant instead r.value) r) rs
+abbrev pub cut_out : Extent → Option ℕ → Option ℕ → List (RunOf ℕ) → List (RunOf ℕ)
+cut_out range meant instead rs = flat_map (λ r. parts range (left_inside meant instead r.value) r) rs
 
 -- the claim of an entry, if it has any
 abbrev pub claim_of : Entry → List (RunOf ℕ)

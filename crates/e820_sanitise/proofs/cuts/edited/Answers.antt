@@ -2,8 +2,8 @@ use Rattle.std.proofs.Common.{◌<◌, Some, None, ap, sym, ◌∙◌, arith}
 use Rattle.std.proofs.lemmas.Result.{IfOk-weaker}
 use Rattle.e820_model.specs.Claims.{edited}
 use Rattle.e820_model.specs.Map.{claims_of}
-use Rattle.e820_sanitise.proofs.PieceLaws.{add_same, remove_same, remove_all_same, change_same, are_cut}
-use Rattle.e820_sanitise.proofs.pieces.edited.Goals as goal
+use Rattle.e820_sanitise.proofs.CutLaws.{add_same, remove_same, remove_all_same, change_same, are_cut}
+use Rattle.e820_sanitise.proofs.cuts.edited.Goals as goal
 
 pub returns-in-Add-clause-same : goal.returns-in-Add-clause-same
 returns-in-Add-clause-same c =

@@ -3,7 +3,7 @@ use Rattle.std.proofs.lemmas.Grind.{common_steps}
 use Rattle.address_runs.specs.Runs.{RunOf}
 use Rattle.e820_model.specs.Map.{AreClaims}
 use Rattle.e820_model.proofs.ClaimLaws.{are_append}
-use Rattle.e820_sanitise.proofs.pieces.push_between.Goals as goal
+use Rattle.e820_sanitise.proofs.cuts.push_between.Goals as goal
 
 pub returns-in_ok-push-clause-claims : goal.returns-in_ok-push-clause-claims
 returns-in_ok-push-clause-claims c = λ some claims.

@@ -5,12 +5,12 @@ use Rattle.std.proofs.lemmas.Bool.Decides.{nat_tests}
 use Rattle.std.proofs.lemmas.Bool.{cases_Bool}
 use Rattle.bm_base.specs.Extent.{Extent, end_of, covers}
 use Rattle.address_runs.specs.Runs.{RunOf, run_end, lies_in}
-use Rattle.e820_model.specs.Claims.{is_covered_by, claims_of_entries, added, edited}
+use Rattle.e820_model.specs.Claims.{is_covered_by, claims_of_entries, with_claims, edited}
 use Rattle.e820_model.specs.Map.{claims_of, AreClaims}
 use Rattle.e820_model.specs.declared.entry.Entry.{Entry}
 use Rattle.e820_model.specs.declared.edit.Edit.TheVariants as edit
 use Rattle.e820_model.proofs.ClaimLaws.{is_value, claims_append_at, claims_append, are_append}
-use Rattle.e820_sanitise.specs.Pieces.{between, between_if, parts, is_meant, inside, cut, claim_of}
+use Rattle.e820_sanitise.specs.Cuts.{between, between_if, parts, is_meant, left_inside, cut_out, claim_of}
 
 -- one part
 between_test : (from until kind x k : ℕ) → claims_of (between from until kind) x k ≡ (nat_le from x && nat_lt x until && k == kind)
@@ -68,17 +68,17 @@ change_step lies in_range rest rest_from v from to k =
     ]
 
 remove_test : (range : Extent) (kind : ℕ) (rs : List (RunOf ℕ)) (x k : ℕ)
-    → claims_of (cut range (Some kind) None rs) x k ≡ edited (edit.Remove range kind) (claims_of rs) x k
+    → claims_of (cut_out range (Some kind) None rs) x k ≡ edited (edit.Remove range kind) (claims_of rs) x k
 remove_test range kind [] x k = refl
 remove_test range kind (r ∷ rs) x k =
-    claims_append_at (parts range (inside (Some kind) None r.value) r) (cut range (Some kind) None rs) x k
-    ∙ rw (parts_test range (inside (Some kind) None r.value) r x k, remove_test range kind rs x k) (remove_step (lies_in r x) (covers range x) (claims_of rs x k) r.value kind k)
+    claims_append_at (parts range (left_inside (Some kind) None r.value) r) (cut_out range (Some kind) None rs) x k
+    ∙ rw (parts_test range (left_inside (Some kind) None r.value) r x k, remove_test range kind rs x k) (remove_step (lies_in r x) (covers range x) (claims_of rs x k) r.value kind k)
 
 remove_all_test : (range : Extent) (rs : List (RunOf ℕ)) (x k : ℕ)
-    → claims_of (cut range None None rs) x k ≡ edited (edit.RemoveAll range) (claims_of rs) x k
+    → claims_of (cut_out range None None rs) x k ≡ edited (edit.RemoveAll range) (claims_of rs) x k
 remove_all_test range [] x k = refl
 remove_all_test range (r ∷ rs) x k =
-    claims_append_at (parts range None r) (cut range None None rs) x k
+    claims_append_at (parts range None r) (cut_out range None None rs) x k
     ∙ rw (parts_test range None r x k, remove_all_test range rs x k) (remove_all_step (lies_in r x) (covers range x) (claims_of rs x k) r.value k)
 
 change_none : (b : Bool) → (if b then false else false) ≡ false
@@ -86,22 +86,22 @@ change_none true = refl
 change_none false = refl
 
 change_test : (range : Extent) (from to : ℕ) (rs : List (RunOf ℕ)) (x k : ℕ)
-    → claims_of (cut range (Some from) (Some to) rs) x k ≡ edited (edit.Change range from to) (claims_of rs) x k
+    → claims_of (cut_out range (Some from) (Some to) rs) x k ≡ edited (edit.Change range from to) (claims_of rs) x k
 change_test range from to [] x k = sym (change_none (covers range x))
 change_test range from to (r ∷ rs) x k =
-    claims_append_at (parts range (inside (Some from) (Some to) r.value) r) (cut range (Some from) (Some to) rs) x k
-    ∙ rw (parts_test range (inside (Some from) (Some to) r.value) r x k, change_test range from to rs x k)
+    claims_append_at (parts range (left_inside (Some from) (Some to) r.value) r) (cut_out range (Some from) (Some to) rs) x k
+    ∙ rw (parts_test range (left_inside (Some from) (Some to) r.value) r x k, change_test range from to rs x k)
     (change_step (lies_in r x) (covers range x) (claims_of rs x k) (claims_of rs x from) r.value from to k)
 
 -- so the cut lists are the edited claims
-pub remove_same : (range : Extent) (kind : ℕ) (rs : List (RunOf ℕ)) → claims_of (cut range (Some kind) None rs) ≡ edited (edit.Remove range kind) (claims_of rs)
+pub remove_same : (range : Extent) (kind : ℕ) (rs : List (RunOf ℕ)) → claims_of (cut_out range (Some kind) None rs) ≡ edited (edit.Remove range kind) (claims_of rs)
 remove_same range kind rs = λ i x k. remove_test range kind rs x k i
 
-pub remove_all_same : (range : Extent) (rs : List (RunOf ℕ)) → claims_of (cut range None None rs) ≡ edited (edit.RemoveAll range) (claims_of rs)
+pub remove_all_same : (range : Extent) (rs : List (RunOf ℕ)) → claims_of (cut_out range None None rs) ≡ edited (edit.RemoveAll range) (claims_of rs)
 remove_all_same range rs = λ i x k. remove_all_test range rs x k i
 
 pub change_same : (range : Extent) (from to : ℕ) (rs : List (RunOf ℕ))
-    → claims_of (cut range (Some from) (Some to) rs) ≡ edited (edit.Change range from to) (claims_of rs)
+    → claims_of (cut_out range (Some from) (Some to) rs) ≡ edited (edit.Change range from to) (claims_of rs)
 change_same range from to rs = λ i x k. change_test range from to rs x k i
 
 add_test : (range : Extent) (kind : ℕ) (rs : List (RunOf ℕ)) (x k : ℕ)
@@ -124,7 +124,7 @@ entries_test : (es : List Entry) (x k : ℕ) → claims_of (flat_map claim_of es
 entries_test [] x k = refl
 entries_test (e ∷ es) x k = claims_append_at (claim_of e) (flat_map claim_of es) x k ∙ rw (claim_test e x k, entries_test es x k) refl
 
-pub entries_same : (rs : List (RunOf ℕ)) (es : List Entry) → claims_of (rs ++ flat_map claim_of es) ≡ added (claims_of rs) (claims_of_entries es)
+pub entries_same : (rs : List (RunOf ℕ)) (es : List Entry) → claims_of (rs ++ flat_map claim_of es) ≡ with_claims (claims_of rs) (claims_of_entries es)
 entries_same rs es =
     claims_append rs (flat_map claim_of es) ∙ (λ i x k. claims_of rs x k || entries_test es x k i)
 
@@ -148,18 +148,18 @@ are_between_if : (from until : ℕ) (kind : Option ℕ) → until < 2 ^ 64 → I
 are_between_if from until None space type = tt
 are_between_if from until (Some kind) space type = are_between from until kind space type.0 type.1
 
-type_inside : (meant instead : Option ℕ) (kind : ℕ) → IsType instead → 0 < kind → kind < 2 ^ 32 → IsType (inside meant instead kind)
+type_inside : (meant instead : Option ℕ) (kind : ℕ) → IsType instead → 0 < kind → kind < 2 ^ 32 → IsType (left_inside meant instead kind)
 type_inside meant instead kind type some small =
-    elim (cases_Bool (is_meant meant kind)) as (λ _. IsType (inside meant instead kind)) [
+    elim (cases_Bool (is_meant meant kind)) as (λ _. IsType (left_inside meant instead kind)) [
       | inl one ↦ rw one type
       | inr other ↦ let own : IsType (Some kind) = (some, small) in rw other own
     ]
 
-pub are_cut : (range : Extent) (meant instead : Option ℕ) (rs : List (RunOf ℕ)) → IsType instead → AreClaims rs → AreClaims (cut range meant instead rs)
+pub are_cut : (range : Extent) (meant instead : Option ℕ) (rs : List (RunOf ℕ)) → IsType instead → AreClaims rs → AreClaims (cut_out range meant instead rs)
 are_cut range meant instead [] type claims = tt
 are_cut range meant instead (r ∷ rs) type claims =
     let first : AreClaims (between r.base (min range.base (run_end r)) r.value) = are_between r.base (min range.base (run_end r)) r.value (omega arith) claims.2 claims.3 in
-    let second : AreClaims (between_if (max range.base r.base) (min (end_of range) (run_end r)) (inside meant instead r.value)) =
-    are_between_if (max range.base r.base) (min (end_of range) (run_end r)) (inside meant instead r.value) (omega arith) (type_inside meant instead r.value type claims.2 claims.3) in
+    let second : AreClaims (between_if (max range.base r.base) (min (end_of range) (run_end r)) (left_inside meant instead r.value)) =
+    are_between_if (max range.base r.base) (min (end_of range) (run_end r)) (left_inside meant instead r.value) (omega arith) (type_inside meant instead r.value type claims.2 claims.3) in
     let third : AreClaims (between (max (end_of range) r.base) (run_end r) r.value) = are_between (max (end_of range) r.base) (run_end r) r.value (omega arith) claims.2 claims.3 in
     are_append _ _ (are_append _ _ (are_append _ _ first second) third) (are_cut range meant instead rs type claims.4)

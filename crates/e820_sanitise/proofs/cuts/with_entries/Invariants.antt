@@ -2,8 +2,8 @@ use Rattle.std.proofs.Common.{◌≡◌, drop, ◌++◌}
 use Rattle.std.specs.List.{flat_map}
 use Rattle.e820_model.specs.Claims.{EndInSpace}
 use Rattle.e820_model.specs.Map.{AreClaims}
-use Rattle.e820_sanitise.specs.Pieces.{claim_of}
-use Rattle.e820_sanitise.proofs.pieces.with_entries.Given as goal
+use Rattle.e820_sanitise.specs.Cuts.{claim_of}
+use Rattle.e820_sanitise.proofs.cuts.with_entries.Given as goal
 
 abbrev pub invariant-loop-entry : goal.invariant-loop-entry
 invariant-loop-entry l = record {

@@ -2,9 +2,9 @@ use Rattle.std.proofs.Common.{◌≡◌, ap, ◌∙◌, ◌++◌, arith}
 use Rattle.std.specs.List.{flat_map}
 use Rattle.std.proofs.lemmas.Grind.{common_steps}
 use Rattle.e820_model.specs.Map.{claims_of}
-use Rattle.e820_sanitise.specs.Pieces.{claim_of}
-use Rattle.e820_sanitise.proofs.PieceLaws.{entries_same}
-use Rattle.e820_sanitise.proofs.pieces.with_entries.Goals as goal
+use Rattle.e820_sanitise.specs.Cuts.{claim_of}
+use Rattle.e820_sanitise.proofs.CutLaws.{entries_same}
+use Rattle.e820_sanitise.proofs.cuts.with_entries.Goals as goal
 
 pub returns-clause-same : goal.returns-clause-same
 returns-clause-same c =

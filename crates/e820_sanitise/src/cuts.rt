@@ -1,8 +1,8 @@
 ghost use Rattle.std.specs.Prelude.{◌≡◌, ◌+◌, ◌^◌, ◌<◌, ◌++◌, OnOk, IfOk};
 ghost use Rattle.bm_base.specs.Extent.{end_of};
-ghost use Rattle.e820_model.specs.Claims.{EndInSpace, HasTypes, added, claims_of_entries, edited, trimmed};
+ghost use Rattle.e820_model.specs.Claims.{EndInSpace, HasTypes, with_claims, claims_of_entries, edited, bios_trimmed};
 ghost use Rattle.e820_model.specs.Map.{AreClaims, claims_of};
-ghost use Rattle.e820_sanitise.specs.Pieces.{between, between_if, claim_of, cut, inside, parts};
+ghost use Rattle.e820_sanitise.specs.Cuts.{between, between_if, claim_of, cut_out, left_inside, parts};
 
 use bm_base::{Memory, Range};
 use e820_model::{E820_TYPE_RAM, E820_TYPE_RESERVED, Edit, Entry, Run};
@@ -60,7 +60,7 @@ fn cut_claims(
     meant: Option<u32>,
     instead: Option<u32>,
 ) -> Result<Vec<Run>, Memory>
-    ensures { IfOk result (λ left. left.items ≡ cut range.now meant instead claims.now) }
+    ensures { IfOk result (λ left. left.items ≡ cut_out range.now meant instead claims.now) }
 {
     let mut left = Vec::new(alloc);
     for claim in claims {
@@ -72,7 +72,7 @@ fn cut_claims(
 
 /// What stands inside the range in place of the type.
 fn inside_kind(meant: Option<u32>, instead: Option<u32>, kind: u32) -> Option<u32>
-    ensures { result ≡ inside meant instead kind }
+    ensures { result ≡ left_inside meant instead kind }
 {
     match meant {
         Some(meant) if kind != meant => Some(kind),
@@ -108,7 +108,7 @@ pub fn with_entries(alloc: Global, claims: &[Run], entries: &[Entry]) -> Result<
     requires claims { AreClaims claims.now }
     requires space { EndInSpace entries.now }
     ensures same { IfOk result (λ all. claims_of all.items
-        ≡ added (claims_of claims.now) (claims_of_entries entries.now)) }
+        ≡ with_claims (claims_of claims.now) (claims_of_entries entries.now)) }
     ensures claims { IfOk result (λ all. AreClaims all.items) }
 {
     let mut all = Vec::from_slice(alloc, claims)?;
@@ -138,9 +138,9 @@ pub fn edited(alloc: Global, claims: &[Run], edit: &Edit) -> Result<Vec<Run>, Me
 
 /// The claims after the BIOS's areas are trimmed: the first page is reserved, and no memory is
 /// taken from 640 KiB to 1 MiB.
-pub fn trimmed(alloc: Global, claims: &[Run]) -> Result<Vec<Run>, Memory>
+pub fn bios_trimmed(alloc: Global, claims: &[Run]) -> Result<Vec<Run>, Memory>
     requires { AreClaims claims.now }
-    ensures same { IfOk result (λ left. claims_of left.items ≡ trimmed (claims_of claims.now)) }
+    ensures same { IfOk result (λ left. claims_of left.items ≡ bios_trimmed (claims_of claims.now)) }
     ensures claims { IfOk result (λ left. AreClaims left.items) }
 {
     let first_page = Range {

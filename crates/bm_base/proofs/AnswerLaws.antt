@@ -1,0 +1,39 @@
+-- What the first call answers and what the rest answers make the whole's answer.
+use Rattle.std.proofs.Common.{◌≡◌, Result, Ok, Err, refl, ap}
+use Rattle.bm_base.specs.Answers.{Answers}
+use Rattle.bm_base.specs.ResultSteps.{◌>>=◌, with_error}
+
+module _ {A B C D E : Type 0} (memory : E) (view : A → B) (shown : C → D) where
+  -- `?` goes on: the definition's first step has the value that was answered, so what the rest answers is the whole's
+  pub goes_on : (a : A) (said : Result B E) (step : B → Result D E) (rest : Result C E)
+      → Answers memory view (Ok a) said → Answers memory shown rest (step (view a)) → Answers memory shown rest (said >>= step)
+  goes_on a said step rest first answers = rw first answers
+
+  -- `?` stops: the error is the definition's, or want of memory
+  pub stops : (error : E) (said : Result B E) (step : B → Result D E)
+      → Answers memory view (Err error) said → Answers memory shown (Err error) (said >>= step)
+  stops error said step first other = rw (first other) refl
+
+  -- both at once
+  pub one_step : (first : Result A E) (rest : A → Result C E) (said : Result B E) (step : B → Result D E)
+      → Answers memory view first said → ((a : A) → first ≡ Ok a → Answers memory shown (rest a) (step (view a)))
+      → Answers memory shown (first >>= rest) (said >>= step)
+  one_step (Ok a) rest said step answers behind = goes_on a said step (rest a) answers (behind a refl)
+  one_step (Err error) rest said step answers behind = stops error said step answers
+
+-- want of memory answers for everything
+pub want_of_memory : {A B E : Type 0} (memory : E) (view : A → B) (said : Result B E) → Answers memory view (Err memory) said
+want_of_memory memory view said other = absurd (other refl)
+
+module _ {A B E F : Type 0} (convert : E → F) (memory : E) (view : A → B) where
+  -- an error that becomes one of another type on its way (`map_err`, or `?` by `From`)
+  pub converted : (answer : Result A E) (said : Result B E)
+      → Answers memory view answer said → Answers (convert memory) view (with_error convert answer) (with_error convert said)
+  converted (Ok a) said answers = ap (with_error convert) answers
+  converted (Err error) said answers = λ other. ap (with_error convert) (answers (λ is. other (ap convert is)))
+
+  -- and stops the whole
+  pub stops_converted : {C D : Type 0} (shown : C → D) (error : E) (said : Result B E) (step : B → Result D F)
+      → Answers memory view (Err error) said → Answers (convert memory) shown (Err (convert error)) (with_error convert said >>= step)
+  stops_converted shown error said step answers =
+      stops (convert memory) view shown (convert error) (with_error convert said) step (converted (Err error) said answers)
