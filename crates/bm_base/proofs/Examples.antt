@@ -12,6 +12,8 @@ use Rattle.bm_base.specs.ResultSteps.{◌>>=◌, with_error}
 use Rattle.bm_base.specs.Text.{hexadecimal, hex_text, padded_decimal}
 use Rattle.bm_base.specs.Size.{front_digits, value_of, is_hexadecimal, begins_with_zero, begins_with_digit, prefix_of, radix_of, number_value, number_end, suffix_at, suffix_of, fitting, with_suffix, number_of, size_of, IsSize, IsNumber}
 use Rattle.bm_base.specs.declared.size.NumFault.TheVariants.{NoDigits, TooLarge}
+use Rattle.bm_base.specs.Zones.{zone_of}
+use Rattle.bm_base.specs.declared.zone.Zone.TheVariants.{Dma, Dma32, Normal}
 
 -- the second page of memory, and the page behind it
 abbrev second_page : Extent
@@ -117,3 +119,7 @@ answer_examples = (refl, (λ said. grind (arith, said)), (λ other. absurd (othe
 
 error_answers : Answers {A = ℕ} {B = ℕ} {E = ℕ} 9 (λ n. n) (Err 7) (Err 7) × (¬ Answers {A = ℕ} {B = ℕ} {E = ℕ} 9 (λ n. n) (Err 7) (Ok 5))
 error_answers = ((λ other. refl), (λ said. let seven : (the_seven : ℕ) → the_seven ≡ 7 → the_seven ≢ 9 = λ n is. omega (arith, is) in grind (arith, said (seven 7 refl))))
+
+-- the last frame of each zone and the first of the next
+zone_examples : (zone_of 0 ≡ Dma) × (zone_of 4095 ≡ Dma) × (zone_of 4096 ≡ Dma32) × (zone_of 1048575 ≡ Dma32) × (zone_of 1048576 ≡ Normal)
+zone_examples = (refl, refl, refl, refl, refl)

@@ -6,3 +6,4 @@ pub mod OptionSteps
 pub mod ResultSteps
 pub mod Size
 pub mod Text
+pub mod Zones

@@ -13,18 +13,25 @@
 //!
 //! [`read_size`] reads the numbers of every text input, as the kernel's `memparse` does; its values
 //! don't wrap, and what passes 2^64 - 1 is a [`NumFault`].
+//!
+//! A frame is [`FRAME_SIZE`] bytes and lies in one [`Zone`]; [`round_up`] and [`round_down`] go to multiples, as
+//! those of frames and of an alignment.
 #![tactic(auto)]
 
 mod frame;
 mod memory;
 mod range;
+mod rounding;
 mod size;
 #[cfg(test)]
 mod tests;
 mod text;
+mod zone;
 
 pub use frame::FRAME_SIZE;
 pub use memory::Memory;
 pub use range::Range;
+pub use rounding::{round_down, round_up};
 pub use size::{NumFault, read_number, read_size, sizes_of_spelling};
 pub use text::{put_dec, put_hex, put_text};
+pub use zone::{MAX_DMA_FRAME, MAX_DMA32_FRAME, Zone, zone_of};

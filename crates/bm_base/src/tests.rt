@@ -1,4 +1,4 @@
-use crate::{Range, put_dec, put_hex, put_text};
+use crate::{Range, Zone, put_dec, put_hex, put_text, round_down, round_up, zone_of};
 use std::test::Fail;
 
 #[test]
@@ -35,4 +35,17 @@ fn ranges_end_below_two_to_64(rt: HostRuntime) -> Result<(), Fail> {
     assert!(rt; !last.overlaps(&empty));
     assert!(rt; last.overlaps(&Range { base: 0, size: 2 }));
     Ok(())
+}
+
+#[test]
+fn multiples_and_zones(rt: HostRuntime) {
+    assert_eq!(rt; round_up(0, 4096), Some(0));
+    assert_eq!(rt; round_up(1, 4096), Some(4096));
+    assert_eq!(rt; round_up(u64::MAX - 4095, 4096), Some(u64::MAX - 4095));
+    assert_eq!(rt; round_up(u64::MAX - 4094, 4096), None);
+    assert_eq!(rt; round_down(8191, 4096), 4096);
+    assert_eq!(rt;
+        (zone_of(4095), zone_of(4096), zone_of(1 << 20)),
+        (Zone::Dma, Zone::Dma32, Zone::Normal)
+    );
 }
