@@ -1,3 +1,5 @@
+//! Numbers in reports and ranges at the end of numbers, by values from outside.
+
 use crate::{Range, put_dec, put_hex, put_text};
 use std::test::Fail;
 
