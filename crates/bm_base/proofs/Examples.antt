@@ -27,7 +27,8 @@ end_examples : (end_of second_page ≡ 0x2000) × (end_of (record { base = 0x200
 end_examples = (refl, refl)
 
 -- it covers its first and its last byte, and neither the one below nor the one behind; an empty range covers nothing
-covers_examples : (covers second_page 0xFFF ≡ false) × (covers second_page 0x1000 ≡ true) × (covers second_page 0x1FFF ≡ true) × (covers second_page 0x2000 ≡ false)
+covers_examples : (covers second_page 0xFFF ≡ false) × (covers second_page 0x1000 ≡ true) × (covers second_page 0x1FFF ≡ true)
+    × (covers second_page 0x2000 ≡ false)
     × (covers (record { base = 0x1000; size = 0 }) 0x1000 ≡ false)
 covers_examples = (refl, refl, refl, refl, refl)
 
@@ -49,44 +50,53 @@ unfolding each_from
 each_examples = (refl, refl, refl)
 
 -- one byte in the middle of the range fails
-each_in_examples : (each_in (record { base = 3; size = 3 }) (λ x. not (x == 4)) ≡ false) × (each_in (record { base = 5; size = 3 }) (λ x. not (x == 4)) ≡ true)
+each_in_examples : (each_in (record { base = 3; size = 3 }) (λ x. not (x == 4)) ≡ false)
+    × (each_in (record { base = 5; size = 3 }) (λ x. not (x == 4)) ≡ true)
 unfolding each_in each_from
 each_in_examples = (refl, refl)
 
 -- digits as far as there are some, in that base; the rest is left
-digits_examples : (front_digits 10 (codes "640K") ≡ codes "640") × (front_digits 8 (codes "0178") ≡ codes "017") × (value_of 16 (codes "fFg") ≡ 255) × (value_of 8 (codes "0178") ≡ 15)
+digits_examples : (front_digits 10 (codes "640K") ≡ codes "640") × (front_digits 8 (codes "0178") ≡ codes "017")
+    × (value_of 16 (codes "fFg") ≡ 255) × (value_of 8 (codes "0178") ≡ 15)
 digits_examples = (refl, refl, refl, refl)
 
 -- `0x` begins a hexadecimal number where a digit follows; otherwise a first `0` is an octal one
-radix_examples : (radix_of (codes "0x1f") ≡ 16) × (radix_of (codes "0XF") ≡ 16) × (radix_of (codes "0x") ≡ 8) × (radix_of (codes "010") ≡ 8) × (radix_of (codes "10") ≡ 10)
+radix_examples : (radix_of (codes "0x1f") ≡ 16) × (radix_of (codes "0XF") ≡ 16) × (radix_of (codes "0x") ≡ 8) × (radix_of (codes "010") ≡ 8)
+    × (radix_of (codes "10") ≡ 10)
 radix_examples = (refl, refl, refl, refl, refl)
 
 prefix_examples : (is_hexadecimal (codes "0xg") ≡ false) × (is_hexadecimal (codes "0X0") ≡ true)
 prefix_examples = (refl, refl)
 
-first_byte_examples : (begins_with_zero (codes "010") ≡ true) × (begins_with_zero (codes "10") ≡ false) × (begins_with_digit (codes "9K") ≡ true) × (begins_with_digit (codes "K9") ≡ false) × (begins_with_digit [] ≡ false)
+first_byte_examples : (begins_with_zero (codes "010") ≡ true) × (begins_with_zero (codes "10") ≡ false)
+    × (begins_with_digit (codes "9K") ≡ true) × (begins_with_digit (codes "K9") ≡ false) × (begins_with_digit [] ≡ false)
 first_byte_examples = (refl, refl, refl, refl, refl)
 
 -- `0x` isn't part of the digits but of the bytes that the number takes; a first `0` that is octal is a digit
-taken_examples : (prefix_of (codes "0x1fz") ≡ 2) × (prefix_of (codes "017") ≡ 0) × (number_value (codes "0x1fz") ≡ 31) × (number_end (codes "0x1fz") ≡ 4) × (number_value (codes "017") ≡ 15) × (number_end (codes "017") ≡ 3)
+taken_examples : (prefix_of (codes "0x1fz") ≡ 2) × (prefix_of (codes "017") ≡ 0) × (number_value (codes "0x1fz") ≡ 31)
+    × (number_end (codes "0x1fz") ≡ 4) × (number_value (codes "017") ≡ 15) × (number_end (codes "017") ≡ 3)
 taken_examples = (refl, refl, refl, refl, refl, refl)
 
 suffix_at_examples : (suffix_at 77 ≡ (2 ^ 20, 1)) × (suffix_at 109 ≡ (2 ^ 20, 1)) × (suffix_at 66 ≡ (1, 0))
 suffix_at_examples = (refl, refl, refl)
 
 -- 2^64 - 1 is a u64, 2^64 isn't
-fitting_examples : (fitting (2 ^ 64 - 1) 20 ≡ Ok (2 ^ 64 - 1, 20)) × (fitting (2 ^ 64) 20 ≡ Err TooLarge) × (with_suffix 3 1 (2 ^ 10, 1) ≡ Ok (3072, 2)) × (with_suffix 16 2 (2 ^ 60, 1) ≡ Err TooLarge)
+fitting_examples : (fitting (2 ^ 64 - 1) 20 ≡ Ok (2 ^ 64 - 1, 20)) × (fitting (2 ^ 64) 20 ≡ Err TooLarge)
+    × (with_suffix 3 1 (2 ^ 10, 1) ≡ Ok (3072, 2)) × (with_suffix 16 2 (2 ^ 60, 1) ≡ Err TooLarge)
 fitting_examples = (refl, refl, refl, refl)
 
-suffix_examples : (suffix_of (codes "K") ≡ (2 ^ 10, 1)) × (suffix_of (codes "e@") ≡ (2 ^ 60, 1)) × (suffix_of (codes "@K") ≡ (1, 0)) × (suffix_of [] ≡ (1, 0))
+suffix_examples : (suffix_of (codes "K") ≡ (2 ^ 10, 1)) × (suffix_of (codes "e@") ≡ (2 ^ 60, 1)) × (suffix_of (codes "@K") ≡ (1, 0))
+    × (suffix_of [] ≡ (1, 0))
 suffix_examples = (refl, refl, refl, refl)
 
 -- a number takes no suffix, and of `0x` the `0` alone
-number_examples : (number_of (codes "0x1fz") ≡ Ok (31, 4)) × (number_of (codes "64M") ≡ Ok (64, 2)) × (number_of (codes "0x") ≡ Ok (0, 1)) × (number_of (codes "x1") ≡ Err NoDigits)
+number_examples : (number_of (codes "0x1fz") ≡ Ok (31, 4)) × (number_of (codes "64M") ≡ Ok (64, 2)) × (number_of (codes "0x") ≡ Ok (0, 1))
+    × (number_of (codes "x1") ≡ Err NoDigits)
 number_examples = (refl, refl, refl, refl)
 
 -- a size takes one suffix; 16E is 2^64
-size_examples : (size_of (codes "64M") ≡ Ok (0x4000000, 3)) × (size_of (codes "010k@") ≡ Ok (8192, 4)) × (size_of (codes "15EE") ≡ Ok (15 * 2 ^ 60, 3))
+size_examples : (size_of (codes "64M") ≡ Ok (0x4000000, 3)) × (size_of (codes "010k@") ≡ Ok (8192, 4))
+    × (size_of (codes "15EE") ≡ Ok (15 * 2 ^ 60, 3))
     × (size_of (codes "16E") ≡ Err TooLarge) × (size_of (codes "M") ≡ Err NoDigits) × (size_of [] ≡ Err NoDigits)
 size_examples = (refl, refl, refl, refl, refl, refl)
 
@@ -94,7 +104,8 @@ whole_examples : IsSize (codes "1G") 0x40000000 × IsSize (codes "0x10k") 16384 
 whole_examples = (refl, refl, refl, refl)
 
 -- an address has 16 digits in lower case, a decimal stands at the right end of its places, or beyond them
-hex_examples : (hexadecimal 0x9FC00 ≡ codes "9fc00") × (hex_text 0 ≡ codes "0x0000000000000000") × (hex_text 0xFEC00000 ≡ codes "0x00000000fec00000")
+hex_examples : (hexadecimal 0x9FC00 ≡ codes "9fc00") × (hex_text 0 ≡ codes "0x0000000000000000")
+    × (hex_text 0xFEC00000 ≡ codes "0x00000000fec00000")
 unfolding digits
 hex_examples = (refl, refl, refl)
 
@@ -106,14 +117,17 @@ decimal_examples = (refl, refl)
 option_steps_examples : (option.◌>>=◌ (Some 5) (λ n. Some (n + 1)) ≡ Some 6) × (option.◌>>=◌ None (λ n. Some (n + 1)) ≡ None)
 option_steps_examples = (refl, refl)
 
-result_steps_examples : ((r : Result ℕ ℕ) → (◌>>=◌ {A = ℕ} (Ok 5) (λ n. r)) ≡ r) × ((step : ℕ → Result ℕ ℕ) → (◌>>=◌ {A = ℕ} (Err 7) step) ≡ Err 7)
+result_steps_examples : ((r : Result ℕ ℕ) → (◌>>=◌ {A = ℕ} (Ok 5) (λ n. r)) ≡ r)
+    × ((step : ℕ → Result ℕ ℕ) → (◌>>=◌ {A = ℕ} (Err 7) step) ≡ Err 7)
 result_steps_examples = ((λ r. refl), (λ step. refl))
 
-error_examples : (with_error {A = ℕ} {E = ℕ} {F = ℕ} (λ n. n + 1) (Err 7) ≡ Err 8) × (with_error {A = ℕ} {E = ℕ} {F = ℕ} (λ n. n + 1) (Ok 7) ≡ Ok 7)
+error_examples : (with_error {A = ℕ} {E = ℕ} {F = ℕ} (λ n. n + 1) (Err 7) ≡ Err 8)
+    × (with_error {A = ℕ} {E = ℕ} {F = ℕ} (λ n. n + 1) (Ok 7) ≡ Ok 7)
 error_examples = (refl, refl)
 
 -- the definition's value and its error are answers, and no other value is; error 9 may come whatever it says
-answer_examples : Answers {A = ℕ} {B = ℕ} {E = ℕ} 9 (λ n. n + 1) (Ok 4) (Ok 5) × (¬ Answers {A = ℕ} {B = ℕ} {E = ℕ} 9 (λ n. n + 1) (Ok 5) (Ok 5))
+answer_examples : Answers {A = ℕ} {B = ℕ} {E = ℕ} 9 (λ n. n + 1) (Ok 4) (Ok 5)
+    × (¬ Answers {A = ℕ} {B = ℕ} {E = ℕ} 9 (λ n. n + 1) (Ok 5) (Ok 5))
     × Answers {A = ℕ} {B = ℕ} {E = ℕ} 9 (λ n. n) (Err 9) (Ok 5)
 answer_examples = (refl, (λ said. grind (arith, said)), (λ other. absurd (other refl)))
 

@@ -99,7 +99,8 @@ pub front_digits-le : (radix : ℕ) (text : List ℕ) → length (front_digits r
 front_digits-le radix [] = omega arith
 front_digits-le radix (b ∷ bs) = by_test (is_digit b radix) (front_digits-le radix bs)
   where
-    by_test : (t : Bool) → length (front_digits radix bs) ≤ length bs → length (if t then b ∷ front_digits radix bs else []) ≤ length (b ∷ bs)
+    by_test : (t : Bool) → length (front_digits radix bs) ≤ length bs
+        → length (if t then b ∷ front_digits radix bs else []) ≤ length (b ∷ bs)
     by_test true rest = omega arith
     by_test false rest = omega arith
 
@@ -217,7 +218,8 @@ size_of-decimal (suc n) small =
     by_digits (suc n) (decimal (suc n)) (decimal_is_IsNumeral (suc n) small).0.1 (first_decimal (suc n) (omega arith) small)
     (decimal_is_IsNumeral (suc n) small).1 small
   where
-    by_digits : (m : ℕ) (ds : List ℕ) → AllDigits 10 ds → 48 < get_or ds 0 0 → digits_value 10 ds ≡ m → m < 2 ^ 64 → size_of ds ≡ Ok (m, length ds)
+    by_digits : (m : ℕ) (ds : List ℕ) → AllDigits 10 ds → 48 < get_or ds 0 0 → digits_value 10 ds ≡ m → m < 2 ^ 64
+        → size_of ds ≡ Ok (m, length ds)
     by_digits m [] all above is small = absurd (omega (arith, above))
     by_digits m (d ∷ ds) all above is small =
         let fits : digits_value 10 (d ∷ ds) < 2 ^ 64 = rw is small in

@@ -1,11 +1,16 @@
-//! Ranges of addresses, want of memory, numbers in texts, and the pieces of text that reports are made of.
+//! Ranges of addresses, frames, want of memory, numbers in texts, and numbers in reports.
 //!
 //! Everything in the boot speaks of ranges of physical addresses. A [`Range`] is a base and a size
 //! in bytes whose sum is at most 2^64 - 1, as `struct range` and the firmware's entries have them;
 //! contracts see it as an `Extent`, a base and a size, wherever it stands.
 //!
+//! Memory is handed out by frames of [`FRAME_SIZE`] bytes (`specs/Frames.antt`); that something holds of
+//! each address of a range, or of each of several frames, is said by `each_in` and `each_from`
+//! (`specs/Each.antt`).
+//!
 //! [`Memory`] is the one error that may come without any cause in the input: the program's own
-//! memory ran out. Each error type of the layers above has it as a variant.
+//! memory ran out. Each error type of the layers above has it as a variant, and `Answers`
+//! (`specs/Answers.antt`) says of a call that its answer is the definition's, or that one.
 //!
 //! The `put_` calls append numbers and text to a report, in the forms of the kernel's log:
 //! `0x` with 16 digits for an address, right-aligned decimals in tables. They take no memory but

@@ -1,3 +1,6 @@
+//! Want of memory: the one answer that needs no cause in the input. It stands at the bottom, since each error type
+//! above has it as a variant.
+
 use std::alloc::{AllocError, AllocFailed};
 
 /// The program's own memory ran out. No contract says when this comes.

@@ -1,3 +1,6 @@
+//! Ranges of physical addresses, as the firmware's entries and `struct range` have them. That base and size add up to
+//! a `u64` is kept by the type, so that no layer above has to look whether an end wraps.
+
 ghost use Rattle.std.specs.Prelude.{◌≡◌, ℕ, ◌+◌, ◌-◌, ◌^◌, ◌<◌, ◌↔◌, SomeIff, IsTrue};
 ghost use Rattle.bm_base.specs.Extent.{covers, end_of, Meet};
 

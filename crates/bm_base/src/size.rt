@@ -1,3 +1,6 @@
+//! Numbers and sizes at the front of a text, as `memparse` (lib/cmdline.c) and `simple_strtoull` read them. The command
+//! line and the program's text inputs have them alike, so the one reader stands below both.
+
 ghost use Rattle.std.specs.Prelude.{◌≡◌, ℕ, Bool, false, List, ◌∷◌, ◌++◌, Ok, ◌+◌, ◌*◌, ◌^◌, ◌<◌, ◌≤◌, length, drop, IfSome, IfNone, IfOk, IsTrue, SomeIff};
 ghost use Rattle.std.specs.Char.{is_digit};
 ghost use Rattle.std.specs.Fmt.{decimal};

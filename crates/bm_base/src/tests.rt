@@ -1,3 +1,5 @@
+//! Numbers in reports, ranges at the end of numbers, multiples and zones, by values from outside.
+
 use crate::{Range, Zone, put_dec, put_hex, put_text, round_down, round_up, zone_of};
 use std::test::Fail;
 

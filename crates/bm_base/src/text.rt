@@ -1,3 +1,6 @@
+//! Numbers and text in reports, in the forms of the kernel's log. They go to a buffer of the caller, which is as it
+//! was where it can't grow, so that a report is written whole or not at all.
+
 ghost use Rattle.std.specs.Prelude.{◌≡◌, ℕ, ◌<◌, ◌≤◌, ◌++◌, OnOk, OnErr, false};
 ghost use Rattle.std.specs.Fmt.{digit_glyph};
 ghost use Rattle.bm_base.specs.Text.{hex_text, padded_decimal};

@@ -13,8 +13,10 @@ abbrev ram_and_acpi : List Entry
 ram_and_acpi = record { addr = 0x100000; size = 0x80000; kind = 3 } ∷ (record { addr = 0; size = 0x200000; kind = 1 } ∷ [])
 
 -- an entry covers its first and its last byte, an entry may end at 2^64 - 1, and none behind it
-covered_examples : (is_covered_by (record { addr = 0x1000; size = 0x1000; kind = 1 }) 0x1000 ≡ true) × (is_covered_by (record { addr = 0x1000; size = 0x1000; kind = 1 }) 0x1FFF ≡ true)
-    × (is_covered_by (record { addr = 0x1000; size = 0x1000; kind = 1 }) 0xFFF ≡ false) × (is_covered_by (record { addr = 0x1000; size = 0x1000; kind = 1 }) 0x2000 ≡ false)
+covered_examples : (is_covered_by (record { addr = 0x1000; size = 0x1000; kind = 1 }) 0x1000 ≡ true)
+    × (is_covered_by (record { addr = 0x1000; size = 0x1000; kind = 1 }) 0x1FFF ≡ true)
+    × (is_covered_by (record { addr = 0x1000; size = 0x1000; kind = 1 }) 0xFFF ≡ false)
+    × (is_covered_by (record { addr = 0x1000; size = 0x1000; kind = 1 }) 0x2000 ≡ false)
 covered_examples = (refl, refl, refl, refl)
 
 ends_at_the_end : EndInSpace (record { addr = 0xFFFFFFFFFFFFF000; size = 0xFFF; kind = 2 } ∷ [])
@@ -84,13 +86,16 @@ page = record { base = 0x1000; size = 0x1000 }
 abbrev ram_and_nvs : Claims
 ram_and_nvs x k = k == 1 || k == 4
 
-add_examples : (edited (edit.Add page 2) ram_and_nvs 0x1FFF 2 ≡ true) × (edited (edit.Add page 2) ram_and_nvs 0x1FFF 1 ≡ true) × (edited (edit.Add page 2) ram_and_nvs 0x2000 2 ≡ false)
+add_examples : (edited (edit.Add page 2) ram_and_nvs 0x1FFF 2 ≡ true) × (edited (edit.Add page 2) ram_and_nvs 0x1FFF 1 ≡ true)
+    × (edited (edit.Add page 2) ram_and_nvs 0x2000 2 ≡ false)
 add_examples = (refl, refl, refl)
 
-remove_examples : (edited (edit.Remove page 1) ram_and_nvs 0x1000 1 ≡ false) × (edited (edit.Remove page 1) ram_and_nvs 0x1000 4 ≡ true) × (edited (edit.Remove page 1) ram_and_nvs 0xFFF 1 ≡ true)
+remove_examples : (edited (edit.Remove page 1) ram_and_nvs 0x1000 1 ≡ false) × (edited (edit.Remove page 1) ram_and_nvs 0x1000 4 ≡ true)
+    × (edited (edit.Remove page 1) ram_and_nvs 0xFFF 1 ≡ true)
 remove_examples = (refl, refl, refl)
 
-remove_all_examples : (edited (edit.RemoveAll page) ram_and_nvs 0x1000 1 ≡ false) × (edited (edit.RemoveAll page) ram_and_nvs 0x1000 4 ≡ false) × (edited (edit.RemoveAll page) ram_and_nvs 0x2000 4 ≡ true)
+remove_all_examples : (edited (edit.RemoveAll page) ram_and_nvs 0x1000 1 ≡ false)
+    × (edited (edit.RemoveAll page) ram_and_nvs 0x1000 4 ≡ false) × (edited (edit.RemoveAll page) ram_and_nvs 0x2000 4 ≡ true)
 remove_all_examples = (refl, refl, refl)
 
 clear_examples : (edited edit.Clear ram_and_nvs 0x1000 1 ≡ false) × (edited edit.Clear ram_and_nvs 0x9000 4 ≡ false)
@@ -106,8 +111,10 @@ type_0_is_none : ¬ HasTypes (edit.Add page 0)
 type_0_is_none some = absurd (omega arith)
 
 -- edits go in their order: what is cleared first is added again, and what is added first is cleared
-after_examples : (after_edits (edit.Clear ∷ edit.Add page 1 ∷ []) ram_and_nvs 0x1000 1 ≡ true) × (after_edits (edit.Add page 1 ∷ edit.Clear ∷ []) ram_and_nvs 0x1000 1 ≡ false)
-    × (after_edits (edit.Remove page 1 ∷ edit.Change page 1 2 ∷ []) ram_and_nvs 0x1000 2 ≡ false) × (after_edits [] ram_and_nvs 0x1000 4 ≡ true)
+after_examples : (after_edits (edit.Clear ∷ edit.Add page 1 ∷ []) ram_and_nvs 0x1000 1 ≡ true)
+    × (after_edits (edit.Add page 1 ∷ edit.Clear ∷ []) ram_and_nvs 0x1000 1 ≡ false)
+    × (after_edits (edit.Remove page 1 ∷ edit.Change page 1 2 ∷ []) ram_and_nvs 0x1000 2 ≡ false)
+    × (after_edits [] ram_and_nvs 0x1000 4 ≡ true)
 after_examples = (refl, refl, refl, refl)
 
 -- a change takes the place of the one type and leaves the other
@@ -121,7 +128,8 @@ other_is_kept : edited (edit.Change (record { base = 0; size = 0x200000 }) 1 4) 
 other_is_kept = refl
 
 -- 4 KiB from 0 on, and 640 KiB up to 1 MiB
-bios_areas : (covers first_page 0xFFF ≡ true) × (covers first_page 0x1000 ≡ false) × (covers bios_area 0x9FFFF ≡ false) × (covers bios_area 0xA0000 ≡ true) × (covers bios_area 0xFFFFF ≡ true) × (covers bios_area 0x100000 ≡ false)
+bios_areas : (covers first_page 0xFFF ≡ true) × (covers first_page 0x1000 ≡ false) × (covers bios_area 0x9FFFF ≡ false)
+    × (covers bios_area 0xA0000 ≡ true) × (covers bios_area 0xFFFFF ≡ true) × (covers bios_area 0x100000 ≡ false)
 bios_areas = (refl, refl, refl, refl, refl, refl)
 
 -- the trim makes the first page the BIOS's, and takes RAM away from 640 KiB on, and nothing below
@@ -156,7 +164,8 @@ abbrev alone : ℕ → ℕ → Bool
 alone t k = nat_lt 0 k && k == t
 
 extended : (x t u : ℕ) → type_of (claims_of_entries ram_and_acpi) x ≡ t → u < 2 ^ 32
-    → (0 < u → (alone t u || claims_of_entries extension x u) ≡ true) → ((k : ℕ) → u < k → k < 2 ^ 32 → (alone t k || claims_of_entries extension x k) ≡ false)
+    → (0 < u → (alone t u || claims_of_entries extension x u) ≡ true)
+    → ((k : ℕ) → u < k → k < 2 ^ 32 → (alone t k || claims_of_entries extension x k) ≡ false)
     → type_of (with_claims first_claims (claims_of_entries extension)) x ≡ u
 extended x t u known small is_in none =
     greatest_is (with_claims first_claims (claims_of_entries extension) x) u small (λ some. rw known (is_in some)) (λ k higher below. rw known (none k higher below))

@@ -104,13 +104,15 @@ pub settled_one : (c : Claims) (x j k : ℕ) → settled c x j ≡ true → sett
 settled_one c x j k is_j is_k = grind (arith, nat_tests)
 
 -- the trim leaves one claim where there was one
-trim_one : (low high one : Bool) (is_j is_k : Bool) (j k : ℕ) → (is_j ≡ true → is_k ≡ true → j ≡ k) → (one ≡ true → is_j ≡ true → j ≡ 1) → (one ≡ true → is_k ≡ true → k ≡ 1)
+trim_one : (low high one : Bool) (is_j is_k : Bool) (j k : ℕ) → (is_j ≡ true → is_k ≡ true → j ≡ k) → (one ≡ true → is_j ≡ true → j ≡ 1)
+    → (one ≡ true → is_k ≡ true → k ≡ 1)
     → ((if low then ((one && j == 2) || (is_j && not (j == 1))) else is_j) && not (high && j == 1)) ≡ true
     → ((if low then ((one && k == 2) || (is_k && not (k == 1))) else is_k) && not (high && k == 1)) ≡ true
     → j ≡ k
 trim_one low high one is_j is_k j k same one_j one_k at_j at_k = grind (arith, nat_tests, same, one_j, one_k)
 
-pub bios_trimmed_one : (c : Claims) (x j k : ℕ) → ((i l : ℕ) → c x i ≡ true → c x l ≡ true → i ≡ l) → bios_trimmed c x j ≡ true → bios_trimmed c x k ≡ true → j ≡ k
+pub bios_trimmed_one : (c : Claims) (x j k : ℕ) → ((i l : ℕ) → c x i ≡ true → c x l ≡ true → i ≡ l) → bios_trimmed c x j ≡ true
+    → bios_trimmed c x k ≡ true → j ≡ k
 bios_trimmed_one c x j k one at_j at_k =
     trim_one _ _ (c x 1) (c x j) (c x k) j k (one j k) (λ a b. sym (one 1 j a b)) (λ a b. sym (one 1 k a b)) at_j at_k
 
@@ -267,7 +269,8 @@ kind_small c x k found =
     kind_of (type_of c x) k found small
 
 -- canonical lists whose values are types at addresses below 2^64 - 1
-types_claims : (rs : List (RunOf ℕ)) → AreRuns rs → ((x k : ℕ) → value_at rs x ≡ Some k → (x < 2 ^ 64 - 1) × (0 < k) × (k < 2 ^ 32)) → AreClaims rs
+types_claims : (rs : List (RunOf ℕ)) → AreRuns rs → ((x k : ℕ) → value_at rs x ≡ Some k → (x < 2 ^ 64 - 1) × (0 < k) × (k < 2 ^ 32))
+    → AreClaims rs
 types_claims [] runs types = tt
 types_claims (r ∷ rs) runs types =
     let lies : lies_in r (r.base + r.size - 1) ≡ true = inside r (r.base + r.size - 1) (omega arith) (omega arith) in

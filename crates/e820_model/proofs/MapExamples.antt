@@ -15,7 +15,8 @@ kind_examples : (some_kind 0 ≡ None) × (some_kind 7 ≡ Some 7) × (same_kind
 kind_examples = (refl, refl, refl, refl)
 
 -- of two types the greater, of one that one
-greater_examples : (greater (Some 1) (Some 3) ≡ Some 3) × (greater (Some 3) (Some 1) ≡ Some 3) × (greater None (Some 1) ≡ Some 1) × (greater (Some 1) None ≡ Some 1) × (greater None None ≡ None)
+greater_examples : (greater (Some 1) (Some 3) ≡ Some 3) × (greater (Some 3) (Some 1) ≡ Some 3) × (greater None (Some 1) ≡ Some 1)
+    × (greater (Some 1) None ≡ Some 1) × (greater None None ≡ None)
 greater_examples = (refl, refl, refl, refl, refl)
 
 -- RAM of 2 MiB with 512 KiB of ACPI data in it, from 1 MiB on
@@ -30,12 +31,14 @@ past_the_end : ¬ AreClaims (run 0xFFFFFFFFFFFFF000 0x1000 1 ∷ [])
 unfolding run
 past_the_end claims = let small : 0xFFFFFFFFFFFFF000 + 0x1000 < 2 ^ 64 = claims.1 in absurd (omega arith)
 
-claims_examples : (claims_of ram_and_acpi 0x17FFFF 1 ≡ true) × (claims_of ram_and_acpi 0x17FFFF 3 ≡ true) × (claims_of ram_and_acpi 0x180000 3 ≡ false)
+claims_examples : (claims_of ram_and_acpi 0x17FFFF 1 ≡ true) × (claims_of ram_and_acpi 0x17FFFF 3 ≡ true)
+    × (claims_of ram_and_acpi 0x180000 3 ≡ false)
 unfolding run
 claims_examples = (refl, refl, refl)
 
 -- the type of an address, and no type where nothing claims it
-kinds_examples : (kinds (claims_of ram_and_acpi) 0x17FFFF ≡ Some 3) × (kinds (claims_of ram_and_acpi) 0x180000 ≡ Some 1) × (kinds (claims_of ram_and_acpi) 0x200000 ≡ None)
+kinds_examples : (kinds (claims_of ram_and_acpi) 0x17FFFF ≡ Some 3) × (kinds (claims_of ram_and_acpi) 0x180000 ≡ Some 1)
+    × (kinds (claims_of ram_and_acpi) 0x200000 ≡ None)
 unfolding run
 kinds_examples =
     let acpi : type_of (claims_of ram_and_acpi) 0x17FFFF ≡ 3 = type_top ram_and_acpi 0x17FFFF are_claims in

@@ -8,7 +8,8 @@ use Rattle.e820_model.specs.Usable.{is_memory, count_below, reachable, is_usable
 use Rattle.e820_model.proofs.UsableLaws.{all_bytes, count_frames_between, usable_count}
 
 -- RAM and the kernel's memory count, reserved and unclaimed addresses don't
-memory_examples : (is_memory (Some 1) ≡ true) × (is_memory (Some 128) ≡ true) × (is_memory (Some 2) ≡ false) × (is_memory (Some 0xEFFFFFFF) ≡ false) × (is_memory None ≡ false)
+memory_examples : (is_memory (Some 1) ≡ true) × (is_memory (Some 128) ≡ true) × (is_memory (Some 2) ≡ false)
+    × (is_memory (Some 0xEFFFFFFF) ≡ false) × (is_memory None ≡ false)
 memory_examples = (refl, refl, refl, refl, refl)
 
 -- 0, 1 and 2 are the numbers below 5 that are below 3
@@ -20,7 +21,8 @@ below_examples = (refl, refl)
 kernel_inside : TypeAt
 kernel_inside = value_at (record { base = 0x800; size = 0x1000; value = 1 } ∷ record { base = 0x1800; size = 0x1000; value = 128 } ∷ record { base = 0x2800; size = 0x1000; value = 1 } ∷ [])
 
-frame_examples : (is_usable kernel_inside 0 ≡ false) × (is_usable kernel_inside 1 ≡ true) × (is_usable kernel_inside 2 ≡ true) × (is_usable kernel_inside 3 ≡ false) × (count_below (is_usable kernel_inside) 5 ≡ 2)
+frame_examples : (is_usable kernel_inside 0 ≡ false) × (is_usable kernel_inside 1 ≡ true) × (is_usable kernel_inside 2 ≡ true)
+    × (is_usable kernel_inside 3 ≡ false) × (count_below (is_usable kernel_inside) 5 ≡ 2)
 unfolding kernel_inside each_from each_in count_below is_usable
 frame_examples = (refl, refl, refl, refl, refl)
 
@@ -31,7 +33,8 @@ one_byte_reserved = value_at (record { base = 0; size = 0x1234; value = 1 } ∷ 
 one_byte_missing : TypeAt
 one_byte_missing = value_at (record { base = 0; size = 0x1FFF; value = 1 } ∷ record { base = 0x2000; size = 0x1000; value = 1 } ∷ [])
 
-byte_examples : (count_below (is_usable one_byte_reserved) 4 ≡ 2) × (is_usable one_byte_reserved 1 ≡ false) × (count_below (is_usable one_byte_missing) 4 ≡ 2) × (is_usable one_byte_missing 1 ≡ false)
+byte_examples : (count_below (is_usable one_byte_reserved) 4 ≡ 2) × (is_usable one_byte_reserved 1 ≡ false)
+    × (count_below (is_usable one_byte_missing) 4 ≡ 2) × (is_usable one_byte_missing 1 ≡ false)
 unfolding one_byte_reserved one_byte_missing each_from each_in count_below is_usable
 byte_examples = (refl, refl, refl, refl)
 
@@ -49,7 +52,8 @@ is_ram : (base size x : ℕ) → is_memory (ram base size x) ≡ (nat_le base x 
 unfolding ram
 is_ram base size x = grind (arith, nat_tests)
 
-frames_of_ram : (base size : ℕ) → usable_frames (ram base size) ≡ count_below (all_bytes (λ x. nat_le base x && nat_lt x (base + size))) (2 ^ 52)
+frames_of_ram : (base size : ℕ)
+    → usable_frames (ram base size) ≡ count_below (all_bytes (λ x. nat_le base x && nat_lt x (base + size))) (2 ^ 52)
 frames_of_ram base size =
     usable_count (ram base size) ∙ ap (λ p. count_below (all_bytes p) (2 ^ 52)) (λ i x. is_ram base size x i)
 

@@ -227,7 +227,8 @@ pub usable_each : (f : TypeAt) (frame : ℕ) → is_usable f frame ≡ true
 usable_each f frame usable = frame_each (λ x. is_memory (f x)) frame (sym (usable_whole f frame) ∙ usable)
 
 -- a frame with a byte that isn't memory isn't usable
-pub usable_but : (f : TypeAt) (frame x : ℕ) → 4096 * frame ≤ x → x < 4096 * frame + 4096 → is_memory (f x) ≡ false → is_usable f frame ≡ false
+pub usable_but : (f : TypeAt) (frame x : ℕ) → 4096 * frame ≤ x → x < 4096 * frame + 4096 → is_memory (f x) ≡ false
+    → is_usable f frame ≡ false
 usable_but f frame x low high fails = usable_whole f frame ∙ frame_but (λ x. is_memory (f x)) frame x low high fails
 
 -- the usable frames are the frames that are whole in memory
@@ -262,7 +263,8 @@ usable_reached limit f frame =
     elim (cases_lt limit (4096 * frame + 4096)) as (λ _. goal) [
       | inl late ↦
           (let test : nat_le (4096 * frame + 4096) limit ≡ false = grind (arith, nat_tests) in
-          let fails : is_memory (reachable limit f (4096 * frame + 4095)) ≡ false = memory_reached limit f (4096 * frame + 4095) ∙ grind (arith, nat_tests) in
+          let fails : is_memory (reachable limit f (4096 * frame + 4095)) ≡ false = memory_reached limit f (4096 * frame + 4095)
+          ∙ grind (arith, nat_tests) in
           let none : is_usable (reachable limit f) frame ≡ false =
           usable_but (reachable limit f) frame (4096 * frame + 4095) (omega arith) (omega arith) fails in
           rw test (none ∙ grind (arith, nat_tests)))

@@ -1,3 +1,6 @@
+//! What an option of the command line does to the table. It is plain data, and stands below the crate that reads
+//! options and the one that keeps the table, since the definitions speak of it.
+
 use bm_base::Range;
 
 /// What an option does to the table (`parse_memmap_one`). No type in it is 0.

@@ -1,3 +1,6 @@
+//! An entry of the firmware's table, as plain data: the crates that read tables make them, and the one that keeps the
+//! map takes them.
+
 /// One entry of the firmware's table (`struct boot_e820_entry` of the boot protocol).
 #[derive(Clone, Copy, Debug, Default, PartialEq, Eq)]
 pub struct Entry {

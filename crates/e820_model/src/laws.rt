@@ -1,3 +1,6 @@
+//! Laws of the definitions, each the contract of a function that does nothing. They say what the definitions come to
+//! in the field's words: the greatest type wins, the table may settle at any time, a map is a list of runs.
+
 ghost use Rattle.std.specs.Prelude.{◌≡◌, ℕ, ◌^◌, ◌<◌, ◌≤◌, true, Option, None, List};
 ghost use Rattle.address_runs.specs.Runs.{IsRunsOf};
 ghost use Rattle.e820_model.specs.Claims.{Types, Claims, greatest, type_of, settled, finished};

@@ -3,8 +3,8 @@
 //! Firmware hands the kernel a table of entries (`struct boot_e820_entry`): ranges with a type. They
 //! may overlap and come in any order, an extension may follow, and options edit them. What holds of
 //! an address is a set of claims (`specs/Claims.antt`), of which the greatest is its type; the map
-//! is the list of runs of one type (`specs/Map.antt`); a frame of which every byte is memory is
-//! usable (`specs/Usable.antt`).
+//! is the list of runs of one type (`specs/Map.antt`), of which a kernel's table has room for
+//! [`E820_MAX_ENTRIES`]; a frame of which every byte is memory is usable (`specs/Usable.antt`).
 //!
 //! [`Entry`], [`Edit`] and [`Run`] are plain data. They stand here, below the crates that read and
 //! change them, because the definitions speak of them.

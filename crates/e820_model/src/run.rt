@@ -1,3 +1,6 @@
+//! A run of the map, and how runs that lie over one another are joined: the greater type holds
+//! (`e820__update_table`). By this `address_runs` makes the map, knowing nothing of types.
+
 ghost use Rattle.std.specs.Prelude.{◌≡◌, ℕ, ◌+◌, ◌^◌, ◌<◌};
 ghost use Rattle.address_runs.specs.Runs.{RunOf};
 ghost use Rattle.e820_model.specs.Greater.{greater, greater_none, greater_alone, greater_grouped};

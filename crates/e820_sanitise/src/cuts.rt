@@ -1,3 +1,7 @@
+//! Lists of claims that grow by entries and are cut by edits (`e820__range_add`, `e820__range_remove`,
+//! `e820__range_update`, `trim_bios_range`). Each call makes a new list and leaves the old one, so that a table is as
+//! before where memory runs out on the way.
+
 ghost use Rattle.std.specs.Prelude.{◌≡◌, ◌+◌, ◌^◌, ◌<◌, ◌++◌, OnOk, IfOk};
 ghost use Rattle.bm_base.specs.Extent.{end_of};
 ghost use Rattle.e820_model.specs.Claims.{EndInSpace, HasTypes, with_claims, claims_of_entries, edited, bios_trimmed};

@@ -1,3 +1,6 @@
+//! Why a table gives no map. It stands apart from [`crate::Table`] because the definition of the room for runs names
+//! it.
+
 use bm_base::Memory;
 
 /// Why there is no map.

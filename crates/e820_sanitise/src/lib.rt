@@ -8,8 +8,8 @@
 //!
 //! The layer above may rest on this: each method's clause is one equation between the claims before and
 //! after (`specs/Claims.antt` of `e820_model`), so that a chain of calls composes to the definition of
-//! the finished map; [`Table::runs`] gives exactly the runs of that map, or says how many there are too
-//! many; and after [`Memory`](bm_base::Memory) a table is as it was.
+//! the finished map; [`Table::runs`] answers exactly the runs of that map, or how many they are where there is no
+//! room for so many; and after [`Memory`](bm_base::Memory) a table is as it was.
 //!
 //! Inside, the claims are a flat list of ranges with types in no order. An edit cuts each of them;
 //! settling lays them over one another by halves (`overlay_all` of `address_runs`), so a table of

@@ -1,3 +1,6 @@
+//! The table itself: claims, and the calls that change them, each a step of the kernel's `e820_table`. A call makes the
+//! new list of claims first and puts it in place of the old one last, so want of memory changes nothing.
+
 ghost use Rattle.std.specs.Prelude.{◌≡◌, ◌≢◌, IfErr, IfOk, OnErr, OnOk};
 ghost use Rattle.address_runs.specs.Runs.{IsRunsOf};
 ghost use Rattle.e820_model.specs.Claims.{EndInSpace, HasTypes, with_claims, claims_of_entries, edited, no_claims, settled, bios_trimmed, type_of};

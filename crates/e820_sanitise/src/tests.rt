@@ -1,3 +1,5 @@
+//! The table on small maps that overlap and are edited, by runs from outside, and one map too many.
+
 ghost use Rattle.std.specs.Prelude.{◌≡◌, ◌+◌, ◌^◌, ◌<◌};
 ghost use Rattle.e820_model.specs.Claims.{EndInSpace, HasTypes};
 

@@ -90,7 +90,8 @@ its_entry : ext_entries_of (header 1 20 ++ ram_bytes) ≡ ram ∷ []
 unfolding entry_at
 its_entry = refl
 
-counted_by_the_bytes : (data_length (header 1 40 ++ ram_bytes ++ last_bytes) ≡ 40) × (ext_count (header 1 40 ++ ram_bytes ++ last_bytes) ≡ 2)
+counted_by_the_bytes : (data_length (header 1 40 ++ ram_bytes ++ last_bytes) ≡ 40)
+    × (ext_count (header 1 40 ++ ram_bytes ++ last_bytes) ≡ 2)
 counted_by_the_bytes = (refl, refl)
 
 no_entries : (ext_fault (header 1 0) ≡ None) × (ext_entries_of (header 1 0) ≡ [])

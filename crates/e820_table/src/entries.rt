@@ -1,3 +1,6 @@
+//! Entries in bytes, wherever they stand: the zero page and the extension have the same 20 bytes for each, so both
+//! readers rest on this file.
+
 ghost use Rattle.std.specs.Prelude.{◌≡◌, ℕ, ◌+◌, ◌*◌, ◌≤◌, length};
 ghost use Rattle.e820_table.specs.Entries.{entry_at, nth_entry, first_far};
 

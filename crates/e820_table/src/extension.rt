@@ -1,3 +1,6 @@
+//! The extension: the entries that the zero page has no room for (`SETUP_E820_EXT`). Their number is bounded by the
+//! file alone, so reading them takes memory.
+
 ghost use Rattle.std.specs.Prelude.{◌≡◌, ◌≢◌, ℕ, ◌+◌, ◌*◌, ◌≤◌, length, IfOk, IfErr, IfSome, OnOk, SomeIff, IsTrue};
 ghost use Rattle.e820_model.specs.Claims.{EndInSpace};
 ghost use Rattle.e820_table.specs.Entries.{first_entries};

@@ -1,3 +1,5 @@
+//! Zero pages and extensions with one fault each, and with several, where the first of them is answered.
+
 ghost use Rattle.std.specs.Prelude.{ℕ, ◌+◌, ◌≤◌, length};
 
 use crate::{Entry, ExtFault, ZeroFault, read_ext, read_zero_page};

@@ -1,3 +1,6 @@
+//! The zero page: the boot loader's page of parameters, of which the table of entries is read. It has room for 128 of
+//! them, which an array of that capacity holds, so reading takes no memory.
+
 ghost use Rattle.std.specs.Prelude.{◌≡◌, ℕ, ◌+◌, ◌*◌, ◌≤◌, length, IfOk, IfErr, OnOk};
 ghost use Rattle.e820_model.specs.Claims.{EndInSpace};
 ghost use Rattle.e820_table.specs.Entries.{first_entries};

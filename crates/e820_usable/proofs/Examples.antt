@@ -14,9 +14,9 @@ frames_1_and_2 = whole_by_division 0x800 0x3800 (omega arith)
 one_byte_short : whole_frames 0 0xFFF ≡ 0
 one_byte_short = whole_by_division 0 0xFFF (omega arith)
 
--- the first address that page tables of four levels don't reach
+-- the first address that page tables of five levels don't reach
 abbrev limit : ℕ
-limit = 2 ^ 46
+limit = 2 ^ 52
 
 -- RAM from 0 on, of that size
 abbrev ram : ℕ → List (RunOf ℕ)
@@ -59,12 +59,17 @@ one_frame_more_stops = rw one_frame_more refl
 -- a map without a run has no frame
 empty_map_stops : judged (reachable limit (value_at [])) ≡ Some stops.NoRam
 empty_map_stops =
-    let none : usable_frames (reachable limit (value_at [])) ≡ 0 = sym (frames_usable limit (omega arith) [] tt) ∙ whole_by_division 0 0 (omega arith) in
+    let counted : usable_frames (reachable limit (value_at [])) ≡ whole_frames 0 (min 0 limit) = sym (frames_usable limit (omega arith) [] tt) in
+    let none : usable_frames (reachable limit (value_at [])) ≡ 0 = counted ∙ whole_by_division 0 0 (omega arith) in
     rw none refl
 
 -- frames from the limit on don't count, nor does one in which it lies: of three pages up to 8 KiB and of 16 KiB up to 10 KiB two
 three_pages : usable_frames (reachable 0x2000 (value_at (ram 0x3000))) ≡ 2
-three_pages = sym (frames_usable 0x2000 (omega arith) (ram 0x3000) (one_run 0x3000 (omega arith))) ∙ whole_by_division 0 0x2000 (omega arith)
+three_pages =
+    sym (frames_usable 0x2000 (omega arith) (ram 0x3000) (one_run 0x3000 (omega arith)))
+    ∙ whole_by_division 0 0x2000 (omega arith)
 
 limit_in_a_frame : usable_frames (reachable 0x2800 (value_at (ram 0x4000))) ≡ 2
-limit_in_a_frame = sym (frames_usable 0x2800 (omega arith) (ram 0x4000) (one_run 0x4000 (omega arith))) ∙ whole_by_division 0 0x2800 (omega arith)
+limit_in_a_frame =
+    sym (frames_usable 0x2800 (omega arith) (ram 0x4000) (one_run 0x4000 (omega arith)))
+    ∙ whole_by_division 0 0x2800 (omega arith)

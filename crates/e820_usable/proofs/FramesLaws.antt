@@ -102,13 +102,15 @@ pub frames_same : (limit : ℕ) (p q : ℕ → Bool) → ((x : ℕ) → p x ≡ 
 frames_same limit p q same = ap (frames_of limit) (λ i x. same x i)
 
 -- those of a stretch
-stretch_frames : (limit from until : ℕ) → limit < 2 ^ 64 → whole_frames from (min until limit) ≡ frames_of limit (λ x. nat_le from x && nat_lt x until)
+stretch_frames : (limit from until : ℕ) → limit < 2 ^ 64
+    → whole_frames from (min until limit) ≡ frames_of limit (λ x. nat_le from x && nat_lt x until)
 stretch_frames limit from until space =
     let cut : (x : ℕ) → (nat_le from x && nat_lt x (min until limit)) ≡ ((nat_le from x && nat_lt x until) && nat_lt x limit) = λ x. grind (arith, nat_tests) in
     whole_bytes from (min until limit) (omega arith) ∙ ap (λ p. count_below (all_bytes p) (2 ^ 52)) (λ i x. cut x i)
 
 -- the frames of both sides of a gap
-both_frames : (limit : ℕ) (p q : ℕ → Bool) (gap : ℕ) → IsGap p q gap → frames_of limit (λ x. p x || q x) ≡ frames_of limit p + frames_of limit q
+both_frames : (limit : ℕ) (p q : ℕ → Bool) (gap : ℕ) → IsGap p q gap
+    → frames_of limit (λ x. p x || q x) ≡ frames_of limit p + frames_of limit q
 both_frames limit p q gap apart =
     let near : ℕ → Bool = λ x. p x && nat_lt x limit in
     let far : ℕ → Bool = λ x. q x && nat_lt x limit in
@@ -123,7 +125,8 @@ both_frames limit p q gap apart =
 pub frames_counted : (limit : ℕ) → limit < 2 ^ 64 → (rs : List (RunOf ℕ)) (from until : ℕ) → from ≤ until → StartFrom until rs → AreRuns rs
     → frames_from limit from until rs ≡ frames_of limit (memory_after from until rs)
 frames_counted limit space [] from until order start runs =
-    stretch_frames limit from until space ∙ frames_same limit (λ x. nat_le from x && nat_lt x until) (memory_after from until []) (memory_last from until)
+    stretch_frames limit from until space
+    ∙ frames_same limit (λ x. nat_le from x && nat_lt x until) (memory_after from until []) (memory_last from until)
 frames_counted limit space (r ∷ rs) from until order start runs =
     let goal : Type 0 = frames_from limit from until (r ∷ rs) ≡ frames_of limit (memory_after from until (r ∷ rs)) in
     let behind : StartFrom (run_end r) rs = rest_from r rs runs in

@@ -1,3 +1,6 @@
+//! Counting usable frames along the runs of a map: runs of memory that touch make one stretch, and of a stretch the
+//! whole frames count. One pass over the runs is enough, however many frames they have.
+
 ghost use Rattle.std.specs.Prelude.{◌≡◌, ℕ, ◌+◌, ◌-◌, ◌*◌, ◌^◌, ◌<◌, ◌≤◌};
 ghost use Rattle.address_runs.specs.Runs.{AreRuns, value_at};
 ghost use Rattle.e820_model.specs.Usable.{is_memory, reachable, usable_frames};

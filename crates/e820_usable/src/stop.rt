@@ -1,3 +1,6 @@
+//! Why a boot stops at its map. The number of usable frames is all that decides, so it is judged here, beside the
+//! count, and not where the boot's steps are put together.
+
 ghost use Rattle.std.specs.Prelude.{◌≡◌};
 ghost use Rattle.address_runs.specs.Runs.{AreRuns, value_at};
 ghost use Rattle.e820_model.specs.Usable.{reachable};

@@ -1,3 +1,5 @@
+//! Maps that stop a boot and maps that don't, and frames at the ends of runs and of what is within reach.
+
 ghost use Rattle.std.specs.Prelude.{◌≡◌, ◌+◌, ◌^◌, ◌<◌};
 ghost use Rattle.address_runs.specs.Runs.{AreRuns};
 
@@ -16,8 +18,8 @@ fn run(base: u64, size: u64, kind: u32) -> Run
     }
 }
 
-/// The first address that page tables of four levels don't reach.
-const LIMIT: u64 = 1 << 46;
+/// The first address that page tables of five levels don't reach.
+const LIMIT: u64 = 1 << 52;
 
 fn expect(rt: &impl Abort, runs: &[Run], frames: u64, stop: Option<MapStop>)
     requires { AreRuns runs.now }
@@ -39,19 +41,19 @@ fn maps_that_stop_a_boot(rt: HostRuntime) {
         frames: 4_294_967_455,
     };
     expect(&rt, &[reserved, low, high], 4_294_967_455, Some(too_much));
-    // no frame at 2^46 or above it counts, and none that begins there
+    // no frame at the limit or above it counts, and none that begins there
     let over = MapStop::TooMuchRam {
-        frames: 17_179_869_184,
+        frames: 1_099_511_627_776,
     };
     expect(
         &rt,
-        &[run(0, 0x5000_0000_0000, 1)],
-        17_179_869_184,
+        &[run(0, 0x14_0000_0000_0000, 1)],
+        1_099_511_627_776,
         Some(over),
     );
     expect(
         &rt,
-        &[run(0x4000_0000_0000, 0x1_0000, 1)],
+        &[run(0x10_0000_0000_0000, 0x1_0000, 1)],
         0,
         Some(MapStop::NoRam),
     );
