@@ -1,5 +1,6 @@
 -- Counts that were counted up rose, by the number that was counted.
-use Rattle.std.proofs.Common.{◌≡◌, ℕ, ◌^◌, ◌<◌, List, length, Option, Some, Result, Err, Vec, Global, refl, arith}
+use Rattle.std.proofs.Common.{◌≡◌, ℕ, ◌^◌, ◌<◌, List, length, Option, Some, Result, Ok, Err, Vec, Global, refl, arith}
+use Rattle.std.specs.Prelude.{OnOk}
 use Rattle.bm_io.specs.Counts.{counted, Rose, RoseByMoreThan}
 use Rattle.bm_io.specs.HeldFiles.{failures, bytes_taken}
 use Rattle.bm_io.specs.HeldOutput as output
@@ -11,6 +12,11 @@ use Rattle.bm_io.specs.declared.writing.Put.TheVariants as put
 -- a count that was counted up is below 2^64
 pub counted_fits : (before n now : ℕ) → now ≡ counted before n → now < 2 ^ 64
 counted_fits before n now grew = omega (arith, grew)
+
+-- a count that serves all names is that of each
+pub for_each_name : (answer : Result (Vec ℕ Global) Fetch) (P : Type 0) → OnOk answer P → OnOk answer ((any : List ℕ) → P)
+for_each_name (Ok bytes) P holds = λ any. holds
+for_each_name (Err fetch) P holds = tt
 
 -- a failed fetch was counted
 pub rose_by_failure : (answer : Result (Vec ℕ Global) Fetch) (before now : ℕ)

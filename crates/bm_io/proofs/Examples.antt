@@ -3,10 +3,12 @@ use Rattle.std.proofs.Common.{◌≡◌, ℕ, ◌-◌, ◌^◌, true, false, Som
 use Rattle.std.specs.declared.alloc.Global.{Global}
 use Rattle.bm_io.specs.declared.reading.Fetch.TheVariants as fetch
 use Rattle.bm_io.specs.declared.writing.Put.TheVariants as put
+use Rattle.bm_io.specs.declared.writing.Sink.{Ghosts as SinkOf}
 use Rattle.bm_io.specs.declared.mem_files.MemFile.{MemFile}
 use Rattle.bm_io.specs.Counts.{counted, Rose, RoseByMoreThan}
 use Rattle.bm_io.specs.Told.{IsToldAs, IsToldLonger, AppendsFront}
 use Rattle.bm_io.specs.HeldFiles.{HeldFiles, held_file, held_files, is_named, bytes_of, HaveOwnNames, IsRefused, IsLonger, failures, bytes_taken}
+use Rattle.bm_io.specs.Puts.{Puts}
 use Rattle.bm_io.specs.HeldOutput.{HeldOutput, failures as put_failures, wants_of_memory}
 
 -- a count goes up, and stands still at 2^64 - 1
@@ -111,3 +113,25 @@ half_of_a_piece = (1, omega arith, refl)
 
 counted_failure : (behind_failure.faults ≡ counted before_failure.faults (put_failures (Err put.Failed))) × Rose before_failure.faults behind_failure.faults
 counted_failure = (refl, omega arith)
+
+-- an output in memory tells its bytes and its counts
+abbrev held_sink : SinkOf HeldOutput
+held_sink = record { written = λ s. Some s.written; faults = λ s. s.faults; wants = λ s. s.wants }
+
+-- that call refused two bytes with a cause; with no fault counted it couldn't, and with one it couldn't answer Ok
+failed_put : Puts held_sink before_failure behind_failure (Err put.Failed) (codes "cd")
+failed_put = record {
+  whole = tt;
+  front = half_of_a_piece;
+  failed = λ is. omega arith;
+  wanting = λ is. cc;
+  uncounted = tt;
+  faults_stay = omega arith;
+  wants_stay = omega arith;
+}
+
+no_cause : Puts held_sink before_failure before_failure (Err put.Failed) (codes "cd") → ⊥
+no_cause puts = let rose = puts.failed refl in omega (arith, rose)
+
+fault_unheard : Puts held_sink before_failure behind_failure (Ok tt) (codes "c") → ⊥
+fault_unheard puts = let still = puts.uncounted.0 in omega (arith, still)

@@ -3,3 +3,4 @@ pub mod Told
 pub mod HeldFiles
 pub mod HeldOutput
 pub mod Counters
+pub mod Puts

@@ -16,6 +16,7 @@
 //! the files and streams of the operating system. They tell no content and count what they see.
 #![tactic(auto)]
 
+mod joined;
 mod mem_files;
 mod mem_sink;
 mod reading;
@@ -23,6 +24,7 @@ mod real_files;
 mod std_sink;
 mod writing;
 
+pub use joined::put_all;
 pub use mem_files::{MemFile, MemFiles};
 pub use mem_sink::MemSink;
 pub use reading::{Fetch, Files};

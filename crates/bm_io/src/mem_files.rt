@@ -1,4 +1,8 @@
-ghost use Rattle.std.specs.Prelude.{◌≡◌, ℕ, ◌+◌, ◌-◌, ◌^◌, ◌<◌, ◌≤◌, ◌↔◌, List, length, min, Option, Some, IfOk, IsErrOf, find};
+//! Files in memory that tell everything: what tests and proofs read from.
+//!
+//! Their failures are planned, by the numbers of calls. Names are looked up in the order of the list; no
+//! name stands twice.
+ghost use Rattle.std.specs.Prelude.{◌≡◌, ℕ, ◌+◌, ◌-◌, ◌^◌, ◌<◌, ◌≤◌, ◌↔◌, List, length, min, Option, Some, OnOk, IfOk, IsErrOf, find};
 ghost use Rattle.std.specs.Option.{option_copied};
 ghost use Rattle.bm_io.specs.Counts.{counted, Rose, RoseByMoreThan};
 ghost use Rattle.bm_io.specs.Told.{IsToldAs, IsToldLonger};
@@ -85,6 +89,7 @@ impl Files for MemFiles {
         ensures faults { self.new.faults ≡ counted self.old.faults (failures result) }
         ensures taken { self.new.taken
             ≡ counted self.old.taken (bytes_taken result (bytes_of self.old.files name.now)) }
+        ensures uncounted { OnOk result (self.new.faults ≡ self.old.faults) }
         ensures faults_stay { self.old.faults ≤ self.new.faults }
         ensures taken_stays { self.old.taken ≤ self.new.taken }
     {

@@ -1,3 +1,7 @@
+//! An output in memory that tells everything: what tests and proofs write to.
+//!
+//! Its failures are planned, by the numbers of calls, so a test can have each call fail in turn and see what
+//! the layers above make of it.
 ghost use Rattle.std.specs.Prelude.{◌≡◌, ℕ, ◌+◌, ◌-◌, ◌/◌, ◌^◌, ◌<◌, ◌≤◌, List, [], ◌++◌, length, take, min, Option, Some, Contains, OnOk, OnErr, IsErrOf};
 ghost use Rattle.std.specs.Io.KnownBytes.{Appends};
 ghost use Rattle.bm_io.specs.Counts.{counted, Rose};
@@ -82,6 +86,8 @@ impl Sink for MemSink {
         ensures calls { self.new.calls ≡ counted self.old.calls 1 }
         ensures faults { self.new.faults ≡ counted self.old.faults (failures result) }
         ensures wants { self.new.wants ≡ counted self.old.wants (wants_of_memory result) }
+        ensures uncounted { OnOk result
+            ((self.new.faults ≡ self.old.faults) × (self.new.wants ≡ self.old.wants)) }
         ensures faults_stay { self.old.faults ≤ self.new.faults }
         ensures wants_stay { self.old.wants ≤ self.new.wants }
     {

@@ -1,4 +1,9 @@
-ghost use Rattle.std.specs.Prelude.{◌≡◌, ℕ, ◌^◌, ◌<◌, ◌≤◌, List, length, Option, IfOk, IsErrOf};
+//! What the program reads: named files, each fetched whole up to a limit.
+//!
+//! A boot's inputs are small (a zero page has 4,096 bytes), so a file is one value and there are no streams
+//! above this crate. The trait stands apart from what implements it: a layer that is generic over `Files` knows
+//! this contract and nothing else.
+ghost use Rattle.std.specs.Prelude.{◌≡◌, ℕ, ◌^◌, ◌<◌, ◌≤◌, List, length, Option, OnOk, IfOk, IsErrOf};
 ghost use Rattle.bm_io.specs.Counts.{Rose, RoseByMoreThan};
 ghost use Rattle.bm_io.specs.Told.{IsToldAs, IsToldLonger};
 
@@ -38,8 +43,11 @@ pub trait Files {
             → RoseByMoreThan limit (taken self.old) (taken self.new) }
         ensures longer { IsErrOf result Fetch.TooLong → IsToldLonger (holds self.old) name.now limit }
 
-        // What a call leaves as it was, and that no count falls or passes its last value.
+        // What a call leaves as it was: after `Ok` no name has one more fault.
         ensures kept { holds self.new ≡ holds self.old }
+        ensures uncounted { OnOk result ((any : List ℕ) → faults self.new any ≡ faults self.old any) }
+
+        // No count falls or passes its last value.
         ensures faults_stay { (any : List ℕ) → faults self.old any ≤ faults self.new any }
         ensures faults_fit { (any : List ℕ) → faults self.new any < 2 ^ 64 }
         ensures taken_stays { taken self.old ≤ taken self.new }

@@ -1,4 +1,8 @@
-ghost use Rattle.std.specs.Prelude.{◌≡◌, ℕ, ◌^◌, ◌<◌, ◌≤◌, length, None, IfSome, IfOk, IsErrOf};
+//! The files of the operating system: the trusted edge on the side of reading.
+//!
+//! No contract can say what a real file holds, so opening is a few lines, and the loop that reads is proved for
+//! every reader: for one that tells its bytes it is exact.
+ghost use Rattle.std.specs.Prelude.{◌≡◌, ℕ, ◌^◌, ◌<◌, ◌≤◌, length, None, IfSome, OnOk, IfOk, IsErrOf};
 ghost use Rattle.bm_io.specs.Counts.{counted, Rose, RoseByMoreThan};
 ghost use Rattle.bm_io.specs.Told.{IsToldAs};
 ghost use Rattle.bm_io.specs.HeldFiles.{failures};
@@ -61,6 +65,7 @@ impl<'a, R: rt::Files> RealFiles<'a, R> {
             → RoseByMoreThan limit self.old.taken self.new.taken }
         ensures longer { IsErrOf result Fetch.TooLong
             → IfSome (F.remaining file.old) (λ all. limit < length all) }
+        ensures uncounted { OnOk result (self.new.faults ≡ self.old.faults) }
         ensures faults_stay { self.old.faults ≤ self.new.faults }
         ensures faults_fit { self.new.faults < 2 ^ 64 }
         ensures taken_stays { self.old.taken ≤ self.new.taken }
@@ -105,6 +110,7 @@ impl<'a, R: rt::Files> Files for RealFiles<'a, R> {
         ensures failed { IsErrOf result Fetch.Failed → Rose self.old.faults self.new.faults }
         ensures too_long { IsErrOf result Fetch.TooLong
             → RoseByMoreThan limit self.old.taken self.new.taken }
+        ensures uncounted { OnOk result (self.new.faults ≡ self.old.faults) }
         ensures faults_stay { self.old.faults ≤ self.new.faults }
         ensures faults_fit { self.new.faults < 2 ^ 64 }
         ensures taken_stays { self.old.taken ≤ self.new.taken }

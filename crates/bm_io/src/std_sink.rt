@@ -1,3 +1,7 @@
+//! An output over a stream of the operating system: the trusted edge on the side of writing.
+//!
+//! No contract can say what a real stream keeps, so this loop is short, and it is proved for every writer:
+//! for one that tells its bytes it is exact.
 ghost use Rattle.std.specs.Prelude.{◌≡◌, ℕ, ◌^◌, ◌<◌, ◌≤◌, OnOk, OnErr, IsErrOf};
 ghost use Rattle.std.specs.Io.KnownBytes.{Appends};
 ghost use Rattle.bm_io.specs.Counts.{counted, Rose};
@@ -51,6 +55,7 @@ impl<W: Write + Drop> Sink for StdSink<W> {
         ensures faults { self.new.faults ≡ counted self.old.faults (failures result) }
         ensures failed { IsErrOf result Put.Failed → Rose self.old.faults self.new.faults }
         ensures never { ¬ IsErrOf result Put.Memory }
+        ensures uncounted { OnOk result (self.new.faults ≡ self.old.faults) }
         ensures faults_stay { self.old.faults ≤ self.new.faults }
         ensures faults_fit { self.new.faults < 2 ^ 64 }
     {

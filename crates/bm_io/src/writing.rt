@@ -1,4 +1,8 @@
-ghost use Rattle.std.specs.Prelude.{ℕ, ◌^◌, ◌<◌, ◌≤◌, List, Option, OnOk, OnErr, IsErrOf};
+//! What the program writes: an output that takes bytes in pieces.
+//!
+//! One trait serves the report and the error line alike. It is apart from what implements it for the same
+//! reason as `Files`: the layers above know this contract alone.
+ghost use Rattle.std.specs.Prelude.{◌≡◌, ℕ, ◌^◌, ◌<◌, ◌≤◌, List, Option, OnOk, OnErr, IsErrOf};
 ghost use Rattle.std.specs.Io.KnownBytes.{Appends};
 ghost use Rattle.bm_io.specs.Counts.{Rose};
 ghost use Rattle.bm_io.specs.Told.{AppendsFront};
@@ -32,7 +36,8 @@ pub trait Sink {
         ensures failed { IsErrOf result Put.Failed → Rose (faults self.old) (faults self.new) }
         ensures wanting { IsErrOf result Put.Memory → Rose (wants self.old) (wants self.new) }
 
-        // No count falls or passes its last value.
+        // After `Ok` no count moved. None falls or passes its last value.
+        ensures uncounted { OnOk result ((faults self.new ≡ faults self.old) × (wants self.new ≡ wants self.old)) }
         ensures faults_stay { faults self.old ≤ faults self.new }
         ensures faults_fit { faults self.new < 2 ^ 64 }
         ensures wants_stay { wants self.old ≤ wants self.new }

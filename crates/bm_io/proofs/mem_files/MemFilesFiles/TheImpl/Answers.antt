@@ -1,7 +1,7 @@
 -- The exact counts and answers give what the trait asks of every implementation.
 use Rattle.std.proofs.Common.{Some, ap}
 use Rattle.bm_io.specs.HeldFiles.{bytes_of}
-use Rattle.bm_io.proofs.CountLaws.{counted_fits, rose_by_failure, rose_by_file}
+use Rattle.bm_io.proofs.CountLaws.{counted_fits, for_each_name, rose_by_failure, rose_by_file}
 use Rattle.bm_io.proofs.mem_files.MemFilesFiles.TheImpl.Goals as goal
 
 pub fetch-tells : goal.fetch-tells
@@ -12,6 +12,7 @@ fetch-tells c = record {
   too_long = λ is. let longer = (c.ensures.too_long.0 is).1 in rose_by_file c.result _ longer.0 _ _ _ is longer.1 longer.2 c.ensures.taken;
   longer = λ is. (c.ensures.too_long.0 is).1;
   kept = ap (λ files. Some (bytes_of files)) c.ensures.files;
+  uncounted = for_each_name c.result _ c.ensures.uncounted;
   faults_stay = λ any. c.ensures.faults_stay;
   faults_fit = λ any. counted_fits _ _ _ c.ensures.faults;
   taken_stays = c.ensures.taken_stays;

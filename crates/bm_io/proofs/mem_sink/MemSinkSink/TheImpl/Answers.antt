@@ -9,6 +9,7 @@ put-tells c = record {
   front = front_of_failure c.result _ _ _ c.ensures.half c.ensures.none;
   failed = λ is. rose_by_failed_put c.result _ _ is c.ensures.faults;
   wanting = λ is. rose_by_want c.result _ _ is c.ensures.wants;
+  uncounted = c.ensures.uncounted;
   faults_stay = c.ensures.faults_stay;
   faults_fit = counted_fits _ _ _ c.ensures.faults;
   wants_stay = c.ensures.wants_stay;

@@ -1,0 +1,63 @@
+-- Bytes that go out one piece after another.
+use Rattle.std.proofs.Common.{◌≡◌, ℕ, ◌+◌, ◌<◌, List, [], ◌∷◌, ◌++◌, length, take, drop, get_or, Option, Result, Err, refl, sym, ◌∙◌, ap, arith, append-nil, length-append, take-append-drop, drop-cons, add-one}
+use Rattle.std.proofs.lemmas.List.{take-append-le, take_more}
+use Rattle.std.proofs.lemmas.Grind.{flat_map-append}
+use Rattle.std.proofs.Math.Seq.{take-append-add}
+use Rattle.std.specs.List.{flat_map}
+use Rattle.std.specs.Io.KnownBytes.{Appends}
+use Rattle.bm_io.specs.Told.{AppendsFront}
+use Rattle.bm_io.specs.Puts.{Puts}
+use Rattle.bm_io.specs.declared.writing.Put.{Put}
+use Rattle.bm_io.specs.declared.writing.Sink.{Ghosts as SinkOf}
+use Rattle.bm_io.proofs.StreamLaws.{appends_twice}
+
+-- the bytes of one more piece stand behind those of the pieces before it
+pub joined_more : {P : Type 0} (bytes : P → List ℕ) (pieces : List P) (i : ℕ) (d : P) → i < length pieces
+    → flat_map bytes (take (i + 1) pieces) ≡ flat_map bytes (take i pieces) ++ bytes (get_or pieces i d)
+joined_more bytes pieces i d inside =
+    ap (λ t. flat_map bytes t) (take_more pieces i d inside) ∙ flat_map-append bytes (take i pieces) (get_or pieces i d ∷ [])
+    ∙ ap (λ (t : List ℕ). flat_map bytes (take i pieces) ++ t) (append-nil (bytes (get_or pieces i d)))
+
+-- the bytes of the pieces before one, of that piece, and of those behind it
+pub joined_at : {P : Type 0} (bytes : P → List ℕ) (pieces : List P) (i : ℕ) (d : P) → i < length pieces
+    → flat_map bytes (take i pieces) ++ (bytes (get_or pieces i d) ++ flat_map bytes (drop (i + 1) pieces)) ≡ flat_map bytes pieces
+joined_at bytes pieces i d inside =
+    let rest : drop i pieces ≡ get_or pieces i d ∷ drop (i + 1) pieces = rw (add-one i) (drop-cons pieces i d inside) in
+    ap (λ t. flat_map bytes (take i pieces) ++ flat_map bytes t) (sym rest)
+    ∙ sym (flat_map-append bytes (take i pieces) (drop i pieces)) ∙ ap (λ t. flat_map bytes t) (take-append-drop i pieces)
+
+-- where bytes that were joined are none, neither part has any
+pub none_first : (xs ys : List ℕ) → xs ++ ys ≡ [] → xs ≡ []
+none_first [] ys none = refl
+none_first (x ∷ xs) ys none = cc
+
+pub none_behind : (xs ys : List ℕ) → xs ++ ys ≡ [] → ys ≡ []
+none_behind [] ys none = none
+none_behind (x ∷ xs) ys none = cc
+
+-- bytes that went out whole, and then the front of others, are a front of all
+front_then : (old mid new : Option (List ℕ)) (first bytes rest : List ℕ)
+    → Appends old mid first → AppendsFront mid new bytes → AppendsFront old new (first ++ (bytes ++ rest))
+front_then old mid new first bytes rest before front =
+    let n : ℕ = front.0 in
+    let out : first ++ take n bytes ≡ take (length first + n) (first ++ (bytes ++ rest)) =
+    ap (λ (t : List ℕ). first ++ t) (sym (take-append-le n bytes rest front.1)) ∙ sym (take-append-add first (bytes ++ rest) n) in (
+      length first + n,
+      rw (length-append first (bytes ++ rest), length-append bytes rest) (omega (arith, front.1)),
+      rw (← out) (appends_twice old mid new first (take n bytes) before front.2),
+    )
+
+-- a refusal behind bytes that went out whole is the refusal of all
+pub puts_refused : {S : Type 0} (sink : SinkOf S) (old mid new : S) (answer : Result (Unit {0}) Put) (error : Put) (first bytes rest all : List ℕ)
+    → answer ≡ Err error → first ++ (bytes ++ rest) ≡ all → Appends (sink.written old) (sink.written mid) first
+    → sink.faults mid ≡ sink.faults old → sink.wants mid ≡ sink.wants old
+    → Puts sink mid new (Err error) bytes → Puts sink old new answer all
+puts_refused sink old mid new answer error first bytes rest all is joined before faults wants refused = rw (is, ← joined) record {
+  whole = tt;
+  front = front_then (sink.written old) (sink.written mid) (sink.written new) first bytes rest before refused.front;
+  failed = rw (← faults) refused.failed;
+  wanting = rw (← wants) refused.wanting;
+  uncounted = tt;
+  faults_stay = rw (← faults) refused.faults_stay;
+  wants_stay = rw (← wants) refused.wants_stay;
+}

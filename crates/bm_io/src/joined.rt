@@ -1,0 +1,57 @@
+//! A text that goes out in pieces: one call for all of them, with the contract of one put.
+//!
+//! A line of a report or of a failure is known in parts, of which some stand in the program and some
+//! are written into a buffer of a few bytes. Put one after another they need no memory for the whole.
+//! It stands here, and not above, since what it promises is `Sink::put`'s own promise for the joined bytes.
+ghost use Rattle.std.specs.Prelude.{◌≡◌, []};
+ghost use Rattle.std.specs.List.{flat_map};
+ghost use Rattle.bm_io.specs.Puts.{Puts};
+
+use crate::writing::{Put, Sink};
+use std::convert::AsSlice;
+
+/// Appends the pieces one after another, up to the first that is refused: as one put of the joined
+/// bytes. An empty piece makes no call, so where all are empty the output isn't touched.
+pub fn put_all<S: Sink, P: AsSlice<u8>>(out: &mut S, pieces: &[P]) -> Result<(), Put>
+    ensures puts { Puts S.Sink out.old out.new result (flat_map P.items pieces.now) }
+    ensures untouched { flat_map P.items pieces.now ≡ [] → out.new ≡ out.old }
+{
+    for piece in pieces {
+        put_some(out, piece.as_slice())?;
+    }
+    Ok(())
+}
+
+fn put_some<S: Sink>(out: &mut S, piece: &[u8]) -> Result<(), Put>
+    ensures puts { Puts S.Sink out.old out.new result piece.now }
+    ensures untouched { piece.now ≡ [] → out.new ≡ out.old }
+{
+    if piece.is_empty() {
+        return Ok(());
+    }
+    out.put(piece)
+}
+
+#[cfg(test)]
+mod tests {
+    use super::*;
+    use crate::MemSink;
+    use std::test::Fail;
+
+    #[test]
+    fn text_in_pieces(rt: HostRuntime) -> Result<(), Fail> {
+        let cases = [
+            (0, Ok(()), "entry 12 too far\n"),
+            (1, Err(Put::Failed), "ent"),
+            (2, Err(Put::Failed), "entry 1"),
+            (3, Err(Put::Failed), "entry 12 too"),
+        ];
+        for (failing, want, written) in cases {
+            let mut sink = MemSink::new(vec![in rt.alloc(); failing]?);
+            let answer = put_all(&mut sink, &["", "entry ", "12", "", " too far\n"]);
+            assert_eq!(rt; answer, want, "failing at {failing}");
+            assert_eq!(rt; sink.written(), written.as_bytes(), "failing at {failing}");
+        }
+        Ok(())
+    }
+}
