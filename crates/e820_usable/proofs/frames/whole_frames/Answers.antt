@@ -1,4 +1,4 @@
-use Rattle.std.proofs.Common.{◌≡◌, ◌-◌, ◌/◌, ◌+◌, ◌^◌, ◌∙◌, min, sym, arith}
+use Rattle.std.proofs.Common.{◌≡◌, ◌-◌, ◌/◌, ◌+◌, ◌∙◌, sym, arith}
 use Rattle.std.proofs.lemmas.Grind.{common_steps}
 use Rattle.e820_usable.proofs.FramesLaws.{whole_by_division}
 use Rattle.e820_usable.proofs.frames.whole_frames.Goals as goal
