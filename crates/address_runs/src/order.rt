@@ -4,6 +4,7 @@
 //! Firmware hands over tables that mostly are in this order, and a table that was settled once always
 //! is. A look at each stretch and the one behind it tells, and of two lists of runs a look at the last
 //! of the one and the first of the other; then nothing has to be laid over anything.
+
 ghost use Rattle.std.specs.Prelude.{◌↔◌, ◌++◌, List, map, IsTrue};
 ghost use Rattle.address_runs.specs.Runs.{AreRuns, IsBefore};
 ghost use Rattle.address_runs.specs.Overlay.{HaveAddresses};

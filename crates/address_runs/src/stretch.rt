@@ -3,6 +3,7 @@
 //!
 //! [`Stretch`] is enough to build a list of runs and to tell one. An [`Overlay`] says besides what holds
 //! where two of them cover an address: the greater type of memory, or the later owner.
+
 ghost use Rattle.std.specs.Prelude.{◌≡◌, ◌↔◌, Option, None, IsTrue};
 ghost use Rattle.address_runs.specs.Runs.{RunOf};
 
