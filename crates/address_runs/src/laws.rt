@@ -1,3 +1,8 @@
+//! What holds of the words themselves, as calls that the crates above may cite.
+//!
+//! `IsRunsOf` says of a list whether it is the list of runs of a function, `runs_of` is that list by
+//! addresses. A contract may use the one that reads better, since a function has exactly one list.
+
 ghost use Rattle.std.specs.Prelude.{◌≡◌, ℕ, ◌^◌, ◌≤◌, Bool, Option, None, List};
 ghost use Rattle.address_runs.specs.Runs.{RunOf, IsRunsOf, Tells, runs_of};
 

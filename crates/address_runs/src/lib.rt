@@ -10,8 +10,9 @@
 //! A record of a range and a value, as `struct e820_entry` is one, is a [`Stretch`]; where its values
 //! can be laid over one another it is an [`Overlay`]. [`overlay_all`] gives the runs of any list of
 //! such stretches, which may overlap and come in any order: at each address what they say of it,
-//! joined in the order of the list. It works by halves, so a list of n stretches that overlap little
-//! takes n log n steps.
+//! joined in the order of the list. A list that is in order already takes n steps and is answered as
+//! it is (`order.rt`); another one is laid over itself by halves (`layers.rt`), which takes n log n
+//! steps where the stretches overlap little.
 //!
 //! [`one_list_of_runs`] and [`runs_by_address`] are the laws that tie relation and function: a
 //! function has exactly one list of runs, and `runs_of` is it. The layers above may rest on them,
@@ -21,6 +22,7 @@
 mod builder;
 mod laws;
 mod layers;
+mod order;
 mod stretch;
 
 pub use laws::{one_list_of_runs, runs_by_address};

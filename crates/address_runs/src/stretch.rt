@@ -1,3 +1,9 @@
+//! What a record must tell, so that its lists can be kept as runs: its range and its value, as
+//! `struct e820_entry` and `struct memblock_region` have them.
+//!
+//! [`Stretch`] is enough to build a list of runs and to tell one. An [`Overlay`] says besides what holds
+//! where two of them cover an address: the greater type of memory, or the later owner.
+
 ghost use Rattle.std.specs.Prelude.{◌≡◌, ◌↔◌, Option, None, IsTrue};
 ghost use Rattle.address_runs.specs.Runs.{RunOf};
 

@@ -1,5 +1,5 @@
 -- The claims of the parts of a claim, and what cutting makes of a whole list.
-use Rattle.std.proofs.Common.{◌≡◌, ℕ, ◌+◌, ◌-◌, ◌^◌, ◌<◌, ◌==◌, Bool, true, false, ◌&&◌, ◌||◌, not, nat_le, nat_lt, if◌then◌else◌, min, max, Option, Some, None, List, [], ◌∷◌, ◌++◌, refl, sym, ◌∙◌, ap, inl, inr, arith}
+use Rattle.std.proofs.Common.{◌≡◌, ℕ, ◌+◌, ◌-◌, ◌^◌, ◌<◌, ◌==◌, Bool, true, false, ◌&&◌, ◌||◌, not, nat_le, nat_lt, if◌then◌else◌, min, max, Option, Some, None, Result, Ok, Err, OnOk, OnErr, List, [], ◌∷◌, ◌++◌, refl, sym, ◌∙◌, ap, inl, inr, arith}
 use Rattle.std.specs.List.{flat_map}
 use Rattle.std.proofs.lemmas.Bool.Decides.{nat_tests}
 use Rattle.std.proofs.lemmas.Bool.{cases_Bool}
@@ -163,3 +163,9 @@ are_cut range meant instead (r ∷ rs) type claims =
     are_between_if (max range.base r.base) (min (end_of range) (run_end r)) (left_inside meant instead r.value) (omega arith) (type_inside meant instead r.value type claims.2 claims.3) in
     let third : AreClaims (between (max (end_of range) r.base) (run_end r) r.value) = are_between (max (end_of range) r.base) (run_end r) r.value (omega arith) claims.2 claims.3 in
     are_append _ _ (are_append _ _ (are_append _ _ first second) third) (are_cut range meant instead rs type claims.4)
+
+-- claims that changed as they should, or not at all, are claims
+pub are_either : {T E : Type 0} (r : Result T E) (new changed old : List (RunOf ℕ)) → OnOk r (new ≡ changed) → OnErr r (new ≡ old)
+    → AreClaims changed → AreClaims old → AreClaims new
+are_either (Ok x) new changed old ok err after before = rw ok after
+are_either (Err e) new changed old ok err after before = rw err before

@@ -1,8 +1,12 @@
 //! Lists of claims that grow by entries and are cut by edits (`e820__range_add`, `e820__range_remove`,
-//! `e820__range_update`, `trim_bios_range`). Each call makes a new list and leaves the old one, so that a table is as
-//! before where memory runs out on the way.
+//! `e820__range_update`, `trim_bios_range`).
+//!
+//! The kernel walks its table and splits each entry that the range meets into up to three. Here, too, a claim falls into a
+//! part below the range, one inside it and one behind it, and one that the range doesn't meet is copied as it is. What is
+//! cut makes a new list, and what is added takes its place in one push, so a table is as before where memory runs out on
+//! the way. No list is sorted here: what an address is claimed for doesn't depend on the order.
 
-ghost use Rattle.std.specs.Prelude.{◌≡◌, ◌+◌, ◌^◌, ◌<◌, ◌++◌, OnOk, IfOk};
+ghost use Rattle.std.specs.Prelude.{◌≡◌, ℕ, ◌+◌, ◌^◌, ◌<◌, Option, [], ◌∷◌, ◌++◌, OnOk, OnErr, IfOk, IsTrue};
 ghost use Rattle.bm_base.specs.Extent.{end_of};
 ghost use Rattle.e820_model.specs.Claims.{EndInSpace, HasTypes, with_claims, claims_of_entries, edited, bios_trimmed};
 ghost use Rattle.e820_model.specs.Map.{AreClaims, claims_of};
@@ -15,7 +19,8 @@ use std::alloc::Global;
 /// The claim of the type on the addresses from `from` up to `until`; nothing where there is none.
 fn push_between(claims: &mut Vec<Run>, from: u64, until: u64, kind: u32) -> Result<(), Memory>
     ensures added { OnOk result (claims.new.items ≡ claims.old.items ++ between from until kind) }
-    ensures claims { OnOk result (0 < kind → AreClaims claims.old.items → AreClaims claims.new.items) }
+    ensures claims { 0 < kind → AreClaims claims.old.items → AreClaims claims.new.items }
+    ensures err { OnErr result (claims.new.items ≡ claims.old.items) }
 {
     if let Some(range) = Range::between(from, until) {
         claims.push(Run { range, kind })?;
@@ -48,11 +53,25 @@ fn push_parts(
 ) -> Result<(), Memory>
     ensures { OnOk result (claims.new.items ≡ claims.old.items ++ parts range.now inner claim.now) }
 {
+    if is_apart(range, claim) {
+        claims.push(*claim)?;
+        return Ok(());
+    }
     let start = claim.range.base;
     let end = claim.range.end();
     push_between(claims, start, range.base.min(end), claim.kind)?;
     push_between_if(claims, range.base.max(start), range.end().min(end), inner)?;
     push_between(claims, range.end().max(start), end, claim.kind)
+}
+
+/// Whether the claim has addresses, and all of them lie below the range or all behind it: then it is
+/// its only part.
+fn is_apart(range: &Range, claim: &Run) -> bool
+    ensures { IsTrue result → (inner : Option ℕ) → parts range.now inner claim.now ≡ claim.now ∷ [] }
+{
+    let start = claim.range.base;
+    let end = claim.range.end();
+    start < end && (end <= range.base || range.end() <= start)
 }
 
 /// The claims with the range cut out of each: inside it `instead` stands, or nothing, in place of
@@ -66,7 +85,7 @@ fn cut_claims(
 ) -> Result<Vec<Run>, Memory>
     ensures { IfOk result (λ left. left.items ≡ cut_out range.now meant instead claims.now) }
 {
-    let mut left = Vec::new(alloc);
+    let mut left = Vec::with_capacity(alloc, claims.len())?;
     for claim in claims {
         let inner = inside_kind(meant, instead, claim.kind);
         push_parts(&mut left, range, inner, claim)?;
@@ -82,17 +101,6 @@ fn inside_kind(meant: Option<u32>, instead: Option<u32>, kind: u32) -> Option<u3
         Some(meant) if kind != meant => Some(kind),
         _ => instead,
     }
-}
-
-/// The claims and one more, of the range for the type.
-fn with_claim(alloc: Global, claims: &[Run], range: &Range, kind: u32) -> Result<Vec<Run>, Memory>
-    ensures added { IfOk result (λ all.
-        all.items ≡ claims.now ++ between range.now.base (end_of range.now) kind) }
-    ensures claims { IfOk result (λ all. 0 < kind → AreClaims claims.now → AreClaims all.items) }
-{
-    let mut all = Vec::from_slice(alloc, claims)?;
-    push_between(&mut all, range.base, range.end(), kind)?;
-    Ok(all)
 }
 
 /// The claim of an entry; nothing where it is empty or has type 0.
@@ -122,22 +130,39 @@ pub fn with_entries(alloc: Global, claims: &[Run], entries: &[Entry]) -> Result<
     Ok(all)
 }
 
-/// The claims after the edit.
-pub fn edited(alloc: Global, claims: &[Run], edit: &Edit) -> Result<Vec<Run>, Memory>
-    requires claims { AreClaims claims.now }
+/// Changes the claims as the edit says.
+pub fn edit_claims(claims: &mut Vec<Run>, edit: &Edit) -> Result<(), Memory>
+    requires claims { AreClaims claims.old.items }
     requires types { HasTypes edit.now }
-    ensures same { IfOk result (λ left. claims_of left.items ≡ edited edit.now (claims_of claims.now)) }
-    ensures claims { IfOk result (λ left. AreClaims left.items) }
+    ensures same { OnOk result (claims_of claims.new.items ≡ edited edit.now (claims_of claims.old.items)) }
+    ensures claims { AreClaims claims.new.items }
+    ensures err { OnErr result (claims.new.items ≡ claims.old.items) }
 {
     match edit {
-        Edit::Add { range, kind } => with_claim(alloc, claims, range, *kind),
-        Edit::Remove { range, kind } => cut_claims(alloc, claims, range, Some(*kind), None),
-        Edit::RemoveAll { range } => cut_claims(alloc, claims, range, None, None),
-        Edit::Change { range, from, to } => {
-            cut_claims(alloc, claims, range, Some(*from), Some(*to))
+        Edit::Add { range, kind } => push_between(claims, range.base, range.end(), *kind),
+        Edit::Remove { range, kind } => cut(claims, range, Some(*kind), None),
+        Edit::RemoveAll { range } => cut(claims, range, None, None),
+        Edit::Change { range, from, to } => cut(claims, range, Some(*from), Some(*to)),
+        Edit::Clear => {
+            claims.clear();
+            Ok(())
         }
-        Edit::Clear => Ok(Vec::new(alloc)),
     }
+}
+
+/// Cuts the range out of each of the claims, as `cut_claims` says.
+fn cut(
+    claims: &mut Vec<Run>,
+    range: &Range,
+    meant: Option<u32>,
+    instead: Option<u32>,
+) -> Result<(), Memory>
+    ensures ok { OnOk result (claims.new.items ≡ cut_out range.now meant instead claims.old.items) }
+    ensures err { OnErr result (claims.new.items ≡ claims.old.items) }
+{
+    let alloc = *claims.allocator();
+    *claims = cut_claims(alloc, claims, range, meant, instead)?;
+    Ok(())
 }
 
 /// The claims after the BIOS's areas are trimmed: the first page is reserved, and no memory is
@@ -155,15 +180,12 @@ pub fn bios_trimmed(alloc: Global, claims: &[Run]) -> Result<Vec<Run>, Memory>
         base: 0xA0000,
         size: 0x60000,
     };
-    let change = Edit::Change {
-        range: first_page,
-        from: E820_TYPE_RAM,
-        to: E820_TYPE_RESERVED,
-    };
-    let remove = Edit::Remove {
-        range: bios_area,
-        kind: E820_TYPE_RAM,
-    };
-    let changed = edited(alloc, claims, &change)?;
-    edited(alloc, &changed, &remove)
+    let reserved = cut_claims(
+        alloc,
+        claims,
+        &first_page,
+        Some(E820_TYPE_RAM),
+        Some(E820_TYPE_RESERVED),
+    )?;
+    cut_claims(alloc, &reserved, &bios_area, Some(E820_TYPE_RAM), None)
 }

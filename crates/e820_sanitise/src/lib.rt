@@ -11,9 +11,9 @@
 //! the finished map; [`Table::runs`] answers exactly the runs of that map, or how many they are where there is no
 //! room for so many; and after [`Memory`](bm_base::Memory) a table is as it was.
 //!
-//! Inside, the claims are a flat list of ranges with types in no order. An edit cuts each of them;
-//! settling lays them over one another by halves (`overlay_all` of `address_runs`), so a table of
-//! thousands of entries takes milliseconds.
+//! Inside, the claims are a flat list of ranges with types in no order. An edit adds a claim or cuts each of them;
+//! settling sorts them and lays them over one another (`overlay_all` of `address_runs`), which takes one look at each where
+//! they lie apart, and n log n steps for n of them where they overlap little.
 #![tactic(auto)]
 
 mod cuts;

@@ -67,9 +67,7 @@ impl Table {
         ensures ok { OnOk result (claims_of self.new ≡ edited edit.now (claims_of self.old)) }
         ensures err { OnErr result (self.new ≡ self.old) }
     {
-        let alloc = *self.claims.allocator();
-        self.claims = cuts::edited(alloc, &self.claims, edit)?;
-        Ok(())
+        cuts::edit_claims(&mut self.claims, edit)
     }
 
     /// Leaves each address its greatest claim alone (`e820__update_table`). After `Memory` the table
