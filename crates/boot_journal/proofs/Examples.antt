@@ -5,7 +5,8 @@ use Rattle.bm_base.specs.Extent.{Extent}
 use Rattle.memblock_model.specs.declared.owner.Owner.TheVariants as owner
 use Rattle.memblock_model.specs.declared.item.Item.{Item}
 use Rattle.memblock_model.specs.declared.item.Item.TheVariants as item
-use Rattle.memblock_model.specs.Labels.{Label, plain_label, with_node, each_from, each_in}
+use Rattle.bm_base.specs.Each.{each_from, each_in}
+use Rattle.memblock_model.specs.Labels.{Label, plain_label, with_node}
 use Rattle.memblock_model.specs.Items.{trimmed}
 use Rattle.boot_journal.specs.Contents.{Contents}
 use Rattle.boot_journal.specs.Newest.{newer, told_of, claimed_by, owned_range, owned}

@@ -10,7 +10,8 @@ use Rattle.memblock_model.specs.declared.which.Which.TheVariants as which
 use Rattle.memblock_model.specs.declared.tag.Tag.TheVariants as tag
 use Rattle.memblock_model.specs.declared.item.Item.{Item}
 use Rattle.memblock_model.specs.declared.item.Item.TheVariants as item
-use Rattle.memblock_model.specs.Labels.{Labels, plain_label, with_node, each_from, each_in}
+use Rattle.bm_base.specs.Each.{each_from, each_in}
+use Rattle.memblock_model.specs.Labels.{Labels, plain_label, with_node}
 use Rattle.memblock_model.specs.Same.{same_owner}
 use Rattle.memblock_model.specs.Items.{IsItem, AreItems, owners_after, no_owners, owner_of, memory_after, no_memory, trimmed, memory_of, tag_of, limit_after, limit_of, owner_runs_of}
 use Rattle.memblock_model.proofs.SameLaws.{owner_tells}

@@ -1,60 +1,17 @@
--- Tests over ranges of addresses, and what trimming leaves of a frame.
-use Rattle.std.proofs.Common.{◌≡◌, ◌≢◌, ◌⊎◌, ℕ, zero, suc, ◌+◌, ◌-◌, ◌%◌, ◌<◌, ◌≤◌, Bool, true, false, None, refl, sym, ◌∙◌, ap, subst, inl, inr, arith}
+-- What trimming leaves of a frame.
+use Rattle.std.proofs.Common.{◌≡◌, ◌≢◌, ◌⊎◌, ℕ, ◌+◌, ◌-◌, ◌%◌, ◌<◌, ◌≤◌, true, None, refl, sym, ◌∙◌, ap, inl, inr, arith}
 use Rattle.std.proofs.lemmas.Bool.Decides.{nat_tests}
-use Rattle.std.proofs.lemmas.Bool.{cases_lt, cases_Bool, true≢false, and_from, and_parts}
-use Rattle.bm_base.specs.Extent.{Extent, covers}
+use Rattle.std.proofs.lemmas.Bool.{cases_Bool}
+use Rattle.bm_base.specs.Extent.{covers}
+use Rattle.bm_base.proofs.EachLaws.{each_in-all, each_in-each, each_in-same}
 use Rattle.address_runs.specs.Edits.{agree}
 use Rattle.address_runs.proofs.EditLaws.{agree-yes, agree-same}
-use Rattle.memblock_model.specs.Labels.{Labels, each_from, each_in, frame_around}
+use Rattle.bm_base.specs.Frames.{frame_around}
+use Rattle.bm_base.specs.Each.{each_in}
+use Rattle.memblock_model.specs.Labels.{Labels}
 use Rattle.memblock_model.specs.Same.{same_label}
 use Rattle.memblock_model.specs.Items.{trimmed}
 use Rattle.memblock_model.proofs.SameLaws.{label_tells}
-
--- what passes at each address passes
-pub each_from-all : (p : ℕ → Bool) (x n : ℕ) → ((y : ℕ) → x ≤ y → y < x + n → p y ≡ true) → each_from p x n ≡ true
-unfolding each_from
-each_from-all p x zero all = refl
-each_from-all p x (suc n) all =
-    and_from (p x) (each_from p (x + 1) n) (all x (omega arith) (omega arith)) (each_from-all p (x + 1) n (λ y above below. all y (omega arith) (omega arith)))
-
--- and the other way round
-pub each_from-each : (p : ℕ → Bool) (x n : ℕ) → each_from p x n ≡ true → (y : ℕ) → x ≤ y → y < x + n → p y ≡ true
-unfolding each_from
-each_from-each p x zero h y above below = absurd (omega arith)
-each_from-each p x (suc n) h y above below =
-    elim (cases_lt x y) as (λ _. p y ≡ true) [
-      | inl lt ↦ each_from-each p (x + 1) n (and_parts (p x) (each_from p (x + 1) n) h).1 y (omega arith) (omega arith)
-      | inr ge ↦ let here : x ≡ y = omega arith in subst (λ (z : ℕ). p z ≡ true) here (and_parts (p x) (each_from p (x + 1) n) h).0
-    ]
-
-pub each_in-all : (r : Extent) (p : ℕ → Bool) → ((y : ℕ) → r.base ≤ y → y < r.base + r.size → p y ≡ true) → each_in r p ≡ true
-unfolding each_in
-each_in-all r p all = each_from-all p r.base r.size all
-
-pub each_in-each : (r : Extent) (p : ℕ → Bool) → each_in r p ≡ true → (y : ℕ) → r.base ≤ y → y < r.base + r.size → p y ≡ true
-unfolding each_in
-each_in-each r p h = each_from-each p r.base r.size h
-
--- one address that fails
-pub each_in-fails : (r : Extent) (p : ℕ → Bool) (y : ℕ) → r.base ≤ y → y < r.base + r.size → p y ≡ false → each_in r p ≡ false
-each_in-fails r p y above below fails =
-    elim (cases_Bool (each_in r p)) as (λ _. each_in r p ≡ false) [
-      | inl holds ↦ absurd (true≢false (sym (each_in-each r p holds y above below) ∙ fails))
-      | inr fails_too ↦ fails_too
-    ]
-
--- tests that agree over the addresses agree on them all
-pub each_from-same : (p q : ℕ → Bool) (x n : ℕ) → ((y : ℕ) → x ≤ y → y < x + n → p y ≡ q y) → each_from p x n ≡ each_from q x n
-unfolding each_from
-each_from-same p q x zero same = refl
-each_from-same p q x (suc n) same =
-    let here : p x ≡ q x = same x (omega arith) (omega arith) in
-    let rest : each_from p (x + 1) n ≡ each_from q (x + 1) n = each_from-same p q (x + 1) n (λ y above below. same y (omega arith) (omega arith)) in
-    rw (here, rest) refl
-
-pub each_in-same : (r : Extent) (p q : ℕ → Bool) → ((y : ℕ) → r.base ≤ y → y < r.base + r.size → p y ≡ q y) → each_in r p ≡ each_in r q
-unfolding each_in
-each_in-same r p q same = each_from-same p q r.base r.size same
 
 -- the two addresses lie in one frame
 pub record IsInFrame (x y : ℕ) : Type 0 where

@@ -8,7 +8,8 @@ use Rattle.memblock_model.specs.declared.which.Which.TheVariants as which
 use Rattle.memblock_model.specs.declared.query.Query.{Query}
 use Rattle.memblock_model.specs.declared.item.Item.{Item}
 use Rattle.memblock_model.specs.declared.item.Item.TheVariants as item
-use Rattle.memblock_model.specs.Labels.{Label, Labels, plain_label, with_node, each_from, each_in}
+use Rattle.bm_base.specs.Each.{each_from, each_in}
+use Rattle.memblock_model.specs.Labels.{Label, Labels, plain_label, with_node}
 use Rattle.memblock_model.specs.Items.{owner_of, no_memory}
 use Rattle.memblock_model.specs.Tables.{reserved_of, table_of}
 use Rattle.memblock_model.specs.Search.{last_below, allows, fits_in, best_in, fits, best}

@@ -7,11 +7,12 @@ use Rattle.memblock_model.specs.declared.query.Query.{Query}
 use Rattle.bm_base.specs.Extent.{Extent}
 use Rattle.address_runs.specs.Edits.{agree}
 use Rattle.address_runs.proofs.EditLaws.{agree-yes, agree-same}
-use Rattle.memblock_model.specs.Labels.{Label, Labels, each_in}
+use Rattle.bm_base.specs.Each.{each_in}
+use Rattle.memblock_model.specs.Labels.{Label, Labels}
 use Rattle.memblock_model.specs.Same.{same_label}
 use Rattle.memblock_model.specs.Search.{last_below, allows, fits_in, best_in}
 use Rattle.memblock_model.proofs.SameLaws.{label_tells}
-use Rattle.memblock_model.proofs.LabelLaws.{each_in-all, each_in-each}
+use Rattle.bm_base.proofs.EachLaws.{each_in-all, each_in-each}
 
 -- the number passes, and none of the greater ones below n does
 pub record IsLastBelow (p : ℕ → Bool) (n a : ℕ) : Type 0 where

@@ -8,7 +8,9 @@ use Rattle.memblock_model.specs.declared.which.Which.{Which}
 use Rattle.memblock_model.specs.declared.item.Item.{Item}
 use Rattle.memblock_model.specs.declared.item.Item.TheVariants as item
 use Rattle.address_runs.specs.Edits.{agree, NothingFrom}
-use Rattle.memblock_model.specs.Labels.{Label, Labels, each_in, frame_around}
+use Rattle.bm_base.specs.Frames.{frame_around}
+use Rattle.bm_base.specs.Each.{each_in}
+use Rattle.memblock_model.specs.Labels.{Label, Labels}
 use Rattle.memblock_model.specs.Same.{same_which, same_label}
 use Rattle.memblock_model.specs.Items.{trimmed}
 use Rattle.memblock_model.specs.Tables.{records_for, room_after, room_of}

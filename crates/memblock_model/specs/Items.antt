@@ -2,7 +2,9 @@
 use Rattle.std.specs.Prelude.{ℕ, ◌<◌, if◌then◌else◌, Option, Some, None, List, [], ◌∷◌, fold}
 use Rattle.address_runs.specs.Runs.{RunOf, runs_of}
 use Rattle.address_runs.specs.Edits.{covered, uncovered, relabelled, replaced, agree}
-use Rattle.memblock_model.specs.Labels.{Labels, plain_label, with_node, tag_for, each_in, frame_around}
+use Rattle.bm_base.specs.Frames.{frame_around}
+use Rattle.bm_base.specs.Each.{each_in}
+use Rattle.memblock_model.specs.Labels.{Labels, plain_label, with_node, tag_for}
 use Rattle.memblock_model.specs.Same.{same_label, same_owner}
 use Rattle.memblock_model.specs.declared.owner.Owner.{Owner}
 use Rattle.memblock_model.specs.declared.tag.Tag.{Tag}

@@ -1,6 +1,5 @@
 -- What a byte of memory carries beside being memory: its label. And what a table says of each byte.
-use Rattle.std.specs.Prelude.{ℕ, zero, suc, ◌+◌, ◌-◌, ◌%◌, Bool, true, ◌&&◌, Option, Some, None}
-use Rattle.bm_base.specs.Extent.{Extent}
+use Rattle.std.specs.Prelude.{ℕ, Option, Some, None}
 use Rattle.memblock_model.specs.declared.tag.Tag.{Tag}
 use Rattle.memblock_model.specs.declared.tag.Tag.TheVariants as tag
 
@@ -29,16 +28,3 @@ node_tag (Some node) = tag.Node node
 abbrev pub tag_for : Option Label → Tag
 tag_for None = tag.Absent
 tag_for (Some label) = node_tag label.node
-
--- whether each of the n addresses from x on passes the test
-unfoldable pub each_from : (ℕ → Bool) → ℕ → ℕ → Bool
-each_from p x zero = true
-each_from p x (suc n) = p x && each_from p (x + 1) n
-
--- whether each address of the range passes the test
-unfoldable pub each_in : Extent → (ℕ → Bool) → Bool
-each_in r p = each_from p r.base r.size
-
--- the frame in which the address lies: 4,096 bytes
-abbrev pub frame_around : ℕ → Extent
-frame_around x = record { base = x - x % 4096; size = 4096 }

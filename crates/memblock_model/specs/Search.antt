@@ -1,7 +1,8 @@
 -- Which addresses a search may answer, and the one that it answers (`memblock_find_in_range_node`, from the top down).
 use Rattle.std.specs.Prelude.{ℕ, zero, suc, ◌+◌, ◌%◌, ◌^◌, ◌==◌, Bool, true, false, ◌&&◌, nat_le, is_some, is_none, if◌then◌else◌, Option, Some, None, List}
 use Rattle.address_runs.specs.Edits.{agree}
-use Rattle.memblock_model.specs.Labels.{Label, Labels, each_in}
+use Rattle.bm_base.specs.Each.{each_in}
+use Rattle.memblock_model.specs.Labels.{Label, Labels}
 use Rattle.memblock_model.specs.Same.{same_node, same_label}
 use Rattle.memblock_model.specs.Tables.{table_of}
 use Rattle.memblock_model.specs.declared.query.Query.{Query}
