@@ -2,7 +2,7 @@
 use Rattle.std.proofs.Common.{◌≡◌, ℕ, ◌+◌, ◌==◌, true, false, if◌then◌else◌, Option, Some, None, refl, arith}
 use Rattle.std.proofs.lemmas.Bool.Decides.{nat_tests}
 use Rattle.bm_base.specs.Extent.{Extent}
-use Rattle.address_runs.specs.Edits.{covered, uncovered, relabelled, replaced, agree, NothingFrom}
+use Rattle.address_runs.specs.Edits.{amended, bare, covered, uncovered, relabelled, replaced, agree, NothingFrom}
 
 abbrev bytes : ℕ → ℕ → Extent
 bytes base size = record { base = base; size = size }
@@ -43,6 +43,18 @@ replaced_carried = refl
 
 replaced_ends : replaced (bytes 2 2) 9 one_value 4 ≡ None
 replaced_ends = refl
+
+amended_inside : amended (λ carried. None) (bytes 2 2) one_value 3 ≡ None
+amended_inside = refl
+
+amended_outside : amended (λ carried. Some 9) (bytes 4 2) one_value 3 ≡ Some 7
+amended_outside = refl
+
+bare_address : bare (bytes 2 2) 9 one_value 2 ≡ Some 9
+bare_address = refl
+
+no_bare_address : bare (bytes 2 2) 9 one_value 3 ≡ None
+no_bare_address = refl
 
 -- two agree where both carry something and the test says so, or where neither carries anything
 both_bare : agree (λ m n. m == n) None None ≡ true

@@ -1,7 +1,8 @@
 -- What an item at the end of the list changes, as equations between functions.
-use Rattle.std.proofs.Common.{◌≡◌, ℕ, ◌&&◌, Bool, true, false, if◌then◌else◌, is_none, Option, Some, None, List, [], ◌∷◌, ◌++◌, refl, ◌∙◌, ap}
+use Rattle.std.proofs.Common.{◌≡◌, ℕ, Bool, true, false, if◌then◌else◌, Option, Some, None, List, [], ◌∷◌, ◌++◌, refl, ◌∙◌, ap}
 use Rattle.std.proofs.lemmas.List.Sums.{fold-append}
 use Rattle.std.specs.List.{fold}
+use Rattle.std.specs.Prelude.{unwrap_or}
 use Rattle.std.specs.Option.{option_map}
 use Rattle.bm_base.specs.Extent.{Extent, covers}
 use Rattle.memblock_model.specs.declared.owner.Owner.{Owner}
@@ -32,11 +33,10 @@ moved_to-push w items i = fold-append (moved_after w) None items (i ∷ [])
 
 -- a claim takes the bytes of its range: those had an owner, or are covered by it now
 claim_at : (b : Bool) (o : Owner) (old : Option Owner)
-    → without_owner (if b then Some o else old) ≡ (if b && is_none (without_owner old) then Some plain_label else without_owner old)
+    → without_owner (if b then Some o else old) ≡ (if b then Some (unwrap_or (without_owner old) plain_label) else without_owner old)
 claim_at true o None = refl
 claim_at true o (Some p) = refl
-claim_at false o None = refl
-claim_at false o (Some p) = refl
+claim_at false o old = refl
 
 free_at : (b : Bool) (old : Option Owner) → without_owner (if b then None else old) ≡ (if b then None else without_owner old)
 free_at true old = refl
@@ -60,7 +60,7 @@ table_of-push which.Reserved items i = ap reserved_of (owner_of-push items i) �
 
 -- what memory is in a frame depends on what it was there
 covers_alike : (r : Extent) (v : Label) (f g : Labels) (y : ℕ) → f y ≡ g y → covered r v f y ≡ covered r v g y
-covers_alike r v f g y e = ap (λ o. if covers r y && is_none o then Some v else o) e
+covers_alike r v f g y e = ap (λ o. if covers r y then Some (unwrap_or o v) else o) e
 
 relabels_alike : (r : Extent) (change : Label → Label) (f g : Labels) (y : ℕ) → f y ≡ g y → relabelled r change f y ≡ relabelled r change g y
 relabels_alike r change f g y e = ap (λ o. if covers r y then option_map change o else o) e

@@ -2,7 +2,7 @@
 use Rattle.std.proofs.Common.{◌≡◌, ℕ, ◌^◌, Some, None, List, [], ◌∷◌, length, refl, sym, ap, arith}
 use Rattle.std.proofs.lemmas.Bool.Decides.{nat_tests}
 use Rattle.bm_base.specs.Extent.{Extent}
-use Rattle.address_runs.specs.Edits.{NothingFrom}
+use Rattle.address_runs.specs.Edits.{bare, NothingFrom}
 use Rattle.address_runs.specs.Runs.{RunOf, value_at, AreRuns, runs_from}
 use Rattle.memblock_model.specs.declared.owner.Owner.TheVariants as owner
 use Rattle.memblock_model.specs.declared.which.Which.TheVariants as which
@@ -11,7 +11,7 @@ use Rattle.memblock_model.specs.declared.item.Item.TheVariants as item
 use Rattle.memblock_model.specs.Labels.{Label, Labels, plain_label, with_node}
 use Rattle.memblock_model.specs.Same.{same_label}
 use Rattle.memblock_model.specs.Items.{no_owners, owner_of, no_memory}
-use Rattle.memblock_model.specs.Tables.{without_owner, reserved_of, reserved_after, table_of, table_after, records_for, records_of, bare, pieces, room_after, room_of, moved_after, moved_to, built_in, place_of, live}
+use Rattle.memblock_model.specs.Tables.{without_owner, reserved_of, reserved_after, table_of, table_after, records_for, records_of, pieces, room_after, room_of, moved_after, moved_to, built_in, place_of, live}
 use Rattle.memblock_model.proofs.TableLaws.{records_for-is}
 use Rattle.memblock_model.proofs.LabelExamples.{bytes}
 
@@ -113,12 +113,12 @@ unfolding records_of
 records_of_reserved = sym (records_for-is (table_of which.Reserved few) reserved_records reserved_ends (record { runs = reserved_are_runs; each = reserved_each }))
 
 -- a record in the middle of the range leaves two pieces that it doesn't cover
-two_bare_pieces : runs_from same_label (bare (bytes 1 6) (table_of which.Memory (item.Mem (bytes 3 2) ∷ []))) 0 8
+two_bare_pieces : runs_from same_label (bare (bytes 1 6) plain_label (table_of which.Memory (item.Mem (bytes 3 2) ∷ []))) 0 8
     ≡ record { base = 1; size = 2; value = plain_label } ∷ (record { base = 5; size = 2; value = plain_label } ∷ [])
 unfolding runs_from
 two_bare_pieces = refl
 
-nothing_bare : runs_from same_label (bare (bytes 3 1) (table_of which.Memory (item.Mem (bytes 3 2) ∷ []))) 0 8 ≡ []
+nothing_bare : runs_from same_label (bare (bytes 3 1) plain_label (table_of which.Memory (item.Mem (bytes 3 2) ∷ []))) 0 8 ≡ []
 unfolding runs_from
 nothing_bare = refl
 
@@ -129,30 +129,30 @@ partly = table_of which.Memory (item.Mem (bytes 3 2) ∷ [])
 abbrev two_runs : List (RunOf Label)
 two_runs = record { base = 1; size = 2; value = plain_label } ∷ (record { base = 5; size = 2; value = plain_label } ∷ [])
 
-two_runs_are_bare : (x : ℕ) → value_at two_runs x ≡ bare (bytes 1 6) partly x
+two_runs_are_bare : (x : ℕ) → value_at two_runs x ≡ bare (bytes 1 6) plain_label partly x
 two_runs_are_bare x = grind (arith, nat_tests)
 
 two_runs_are_runs : AreRuns two_runs
 two_runs_are_runs = (omega arith, (omega arith, λ touch. absurd (omega arith)), (omega arith, tt, tt))
 
-bare_ends : NothingFrom (2 ^ 64) (bare (bytes 1 6) partly)
+bare_ends : NothingFrom (2 ^ 64) (bare (bytes 1 6) plain_label partly)
 bare_ends x le = grind (arith, nat_tests)
 
-records_for_bare : records_for (bare (bytes 1 6) partly) ≡ two_runs
-records_for_bare = sym (records_for-is (bare (bytes 1 6) partly) two_runs bare_ends (record { runs = two_runs_are_runs; each = two_runs_are_bare }))
+records_for_bare : records_for (bare (bytes 1 6) plain_label partly) ≡ two_runs
+records_for_bare = sym (records_for-is (bare (bytes 1 6) plain_label partly) two_runs bare_ends (record { runs = two_runs_are_runs; each = two_runs_are_bare }))
 
 two_pieces : pieces (bytes 1 6) partly ≡ 2
 unfolding pieces
 two_pieces = ap length records_for_bare
 
-no_pieces_are_bare : (x : ℕ) → value_at [] x ≡ bare (bytes 3 2) partly x
+no_pieces_are_bare : (x : ℕ) → value_at [] x ≡ bare (bytes 3 2) plain_label partly x
 no_pieces_are_bare x = grind (arith, nat_tests)
 
-covered_ends : NothingFrom (2 ^ 64) (bare (bytes 3 2) partly)
+covered_ends : NothingFrom (2 ^ 64) (bare (bytes 3 2) plain_label partly)
 covered_ends x le = grind (arith, nat_tests)
 
-records_for_nothing : records_for (bare (bytes 3 2) partly) ≡ []
-records_for_nothing = sym (records_for-is (bare (bytes 3 2) partly) [] covered_ends (record { runs = tt; each = no_pieces_are_bare }))
+records_for_nothing : records_for (bare (bytes 3 2) plain_label partly) ≡ []
+records_for_nothing = sym (records_for-is (bare (bytes 3 2) plain_label partly) [] covered_ends (record { runs = tt; each = no_pieces_are_bare }))
 
 no_pieces : pieces (bytes 3 2) partly ≡ 0
 unfolding pieces

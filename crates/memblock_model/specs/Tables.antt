@@ -1,8 +1,8 @@
 -- The two tables that a list of items stands for (`struct memblock_type`): their records, their room and their places.
-use Rattle.std.specs.Prelude.{ℕ, ◌-◌, ◌*◌, ◌&&◌, is_none, if◌then◌else◌, Option, Some, None, List, fold, length, unwrap_or}
-use Rattle.bm_base.specs.Extent.{Extent, covers, end_of}
+use Rattle.std.specs.Prelude.{ℕ, ◌-◌, ◌*◌, if◌then◌else◌, Option, Some, None, List, fold, length, unwrap_or}
+use Rattle.bm_base.specs.Extent.{Extent, end_of}
 use Rattle.address_runs.specs.Runs.{RunOf, runs_of}
-use Rattle.address_runs.specs.Edits.{covered, uncovered}
+use Rattle.address_runs.specs.Edits.{covered, uncovered, bare}
 use Rattle.memblock_model.specs.Labels.{Label, Labels, plain_label}
 use Rattle.memblock_model.specs.Same.{same_which, same_label}
 use Rattle.memblock_model.specs.Items.{Owners, owner_of, memory_of, memory_after}
@@ -44,13 +44,9 @@ records_for f = runs_of same_label f
 unfoldable pub records_of : Which → List Item → List (RunOf Label)
 records_of w items = records_for (table_of w items)
 
--- the bytes of the range that aren't covered
-abbrev pub bare : Extent → Labels → Labels
-bare r f x = if covers r x && is_none (f x) then Some plain_label else None
-
 -- the number of records that covering the range adds before any are merged (`memblock_add_range`, its count)
 unfoldable pub pieces : Extent → Labels → ℕ
-pieces r f = length (records_for (bare r f))
+pieces r f = length (records_for (bare r plain_label f))
 
 -- how many records there is room for: 128 (`INIT_MEMBLOCK_REGIONS`), doubled each time that the table grew, whatever number the item has
 abbrev pub room_after : Which → ℕ → Item → ℕ
