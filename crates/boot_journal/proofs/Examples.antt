@@ -1,14 +1,16 @@
 -- Small journals, computed: what the definitions say that the bodies' contracts cite.
-use Rattle.std.proofs.Common.{◌≡◌, ℕ, true, false, Some, None, List, [], ◌∷◌, refl, arith}
+use Rattle.std.proofs.Common.{◌≡◌, ℕ, true, false, Option, Some, None, List, [], ◌∷◌, refl, ap, arith}
+use Rattle.std.specs.Option.{option_map_or}
 use Rattle.bm_base.specs.Extent.{Extent}
 use Rattle.memblock_model.specs.declared.owner.Owner.TheVariants as owner
-use Rattle.memblock_model.specs.declared.tag.Tag.TheVariants as tag
 use Rattle.memblock_model.specs.declared.item.Item.{Item}
 use Rattle.memblock_model.specs.declared.item.Item.TheVariants as item
-use Rattle.memblock_model.specs.Labels.{each_from, each_in, trimmed}
+use Rattle.bm_base.specs.Each.{each_from, each_in}
+use Rattle.memblock_model.specs.Labels.{Label, plain_label, with_node}
+use Rattle.memblock_model.specs.Items.{trimmed}
 use Rattle.boot_journal.specs.Contents.{Contents}
 use Rattle.boot_journal.specs.Newest.{newer, told_of, claimed_by, owned_range, owned}
-use Rattle.boot_journal.specs.Bytes.{is_trim, is_absent, tag_after, tag_from, label_for, nodes_from, tag_kept, Agrees, Differs, EdgesAgree, AllAgree}
+use Rattle.boot_journal.specs.Bytes.{is_trim, label_after, label_from, label_kept, Agrees, Differs, EdgesAgree, AllAgree}
 
 abbrev bytes : ℕ → ℕ → Extent
 bytes base size = record { base = base; size = size }
@@ -24,45 +26,51 @@ owned_examples : (owned (told_of (bytes 4 2) (Some owner.Soft)) ≡ owned_range 
 owned_examples = (refl, refl, refl)
 
 -- one item, and one byte
-trim_examples : (is_trim item.Trim ≡ true) × (is_trim (item.Free (bytes 4 2)) ≡ false) × (is_absent tag.Absent ≡ true) × (is_absent (tag.Node 0) ≡ false)
-trim_examples = (refl, refl, refl, refl)
+trim_examples : (is_trim item.Trim ≡ true) × (is_trim (item.Free (bytes 4 2)) ≡ false)
+trim_examples = (refl, refl)
+
+abbrev of_node : ℕ → Label
+of_node node = with_node (Some node) plain_label
 
 -- memory keeps its node, and what isn't memory gets none
-tag_examples : (tag_after 5 tag.Absent (item.Mem (bytes 4 2)) ≡ tag.NoNode) × (tag_after 5 (tag.Node 1) (item.Mem (bytes 4 2)) ≡ tag.Node 1) × (tag_after 6 tag.Absent (item.Mem (bytes 4 2)) ≡ tag.Absent)
-    × (tag_after 5 tag.NoNode (item.Node (bytes 4 2) 3) ≡ tag.Node 3) × (tag_after 5 tag.Absent (item.Node (bytes 4 2) 3) ≡ tag.Absent)
-tag_examples = (refl, refl, refl, refl, refl)
+after_examples : (label_after 5 None (item.Mem (bytes 4 2)) ≡ Some plain_label) × (label_after 5 (Some (of_node 1)) (item.Mem (bytes 4 2)) ≡ Some (of_node 1)) × (label_after 6 None (item.Mem (bytes 4 2)) ≡ None)
+    × (label_after 5 (Some plain_label) (item.Node (bytes 4 2) 3) ≡ Some (of_node 3)) × (label_after 5 None (item.Node (bytes 4 2) 3) ≡ None) × (label_after 5 (Some plain_label) item.Trim ≡ Some plain_label)
+after_examples = (refl, refl, refl, refl, refl, refl)
 
 -- frame 1 becomes memory, and half of it gets node 3
 abbrev half : List Item
 half = item.Mem (bytes 4096 4096) ∷ (item.Node (bytes 4096 2048) 3 ∷ [])
 
-from_examples : (tag_from tag.Absent half 4096 ≡ tag.Node 3) × (tag_from tag.Absent half 6144 ≡ tag.NoNode) × (tag_from tag.Absent half 0 ≡ tag.Absent) × (nodes_from tag.Absent half 6143 ≡ Some (Some 3)) × (nodes_from tag.Absent half 0 ≡ None)
-from_examples = (refl, refl, refl, refl, refl)
-
-label_examples : (label_for tag.Absent ≡ None) × (label_for tag.NoNode ≡ Some None) × (label_for (tag.Node 7) ≡ Some (Some 7))
-label_examples = (refl, refl, refl)
+from_examples : (label_from None half 4096 ≡ Some (of_node 3)) × (label_from None half 6144 ≡ Some plain_label) × (label_from None half 0 ≡ None)
+from_examples = (refl, refl, refl)
 
 -- a trim leaves nothing of such a frame, and all of one that is memory without a node
-nothing_is_kept : tag_kept tag.Absent half 4096 ≡ tag.Absent
-unfolding tag_kept trimmed each_in each_from
+nothing_is_kept : label_kept None half 4096 ≡ None
+unfolding label_kept trimmed each_in each_from
 nothing_is_kept = refl
 
-whole_frame_is_kept : tag_kept tag.Absent (item.Mem (bytes 4096 4096) ∷ []) 5000 ≡ tag.NoNode
-unfolding tag_kept trimmed each_in each_from
+whole_frame_is_kept : label_kept None (item.Mem (bytes 4096 4096) ∷ []) 5000 ≡ Some plain_label
+unfolding label_kept trimmed each_in each_from
 whole_frame_is_kept = refl
 
--- the byte in the middle of the frame differs from its first one, and that is an end of a range
-middle_differs : Differs tag.Absent half 4096 6144
-middle_differs = record { behind = omega arith; inside = omega arith; other = λ same. cc same }
+no_node_is_another : (n : ℕ) → None ≡ Some n → ⊥
+no_node_is_another n same = cc
 
-agrees_examples : Agrees tag.Absent half 4096 5000 × Agrees tag.Absent half 4096 8192
+plain_is_another : Some plain_label ≡ Some (of_node 3) → ⊥
+plain_is_another same = no_node_is_another 3 (ap (λ (l : Option Label). option_map_or (λ (m : Label). m.node) l None) same)
+
+-- the byte in the middle of the frame differs from its first one, and that is an end of a range
+middle_differs : Differs None half 4096 6144
+middle_differs = record { behind = omega arith; inside = omega arith; other = plain_is_another }
+
+agrees_examples : Agrees None half 4096 5000 × Agrees None half 4096 8192
 agrees_examples = ((λ behind inside. refl), λ behind inside. absurd (omega (arith, inside)))
 
-edges_examples : EdgesAgree tag.Absent (item.Mem (bytes 4096 4096) ∷ []) 4096 (item.Mem (bytes 4096 4096)) × AllAgree tag.Absent (item.Mem (bytes 4096 4096) ∷ []) 4096 (item.Mem (bytes 4096 4096) ∷ [])
+edges_examples : EdgesAgree None (item.Mem (bytes 4096 4096) ∷ []) 4096 (item.Mem (bytes 4096 4096)) × AllAgree None (item.Mem (bytes 4096 4096) ∷ []) 4096 (item.Mem (bytes 4096 4096) ∷ [])
 edges_examples = (((λ behind inside. absurd (omega (arith, behind))), (λ behind inside. absurd (omega (arith, inside)))), (((λ behind inside. absurd (omega (arith, behind))), (λ behind inside. absurd (omega (arith, inside)))), tt))
 
-middle_is_an_edge : EdgesAgree tag.Absent half 4096 (item.Node (bytes 4096 2048) 3) → ⊥
-middle_is_an_edge agree = let same : tag.NoNode ≡ tag.Node 3 = agree.1 (omega arith) (omega arith) in cc same
+middle_is_an_edge : EdgesAgree None half 4096 (item.Node (bytes 4096 2048) 3) → ⊥
+middle_is_an_edge agree = plain_is_another (agree.1 (omega arith) (omega arith))
 
 -- what contracts see of a journal: its items beside its spare room
 contents : Contents

@@ -1,7 +1,8 @@
 -- Small journals, computed: who owns a byte, what it is to memory, and the limit.
-use Rattle.std.proofs.Common.{◌≡◌, ℕ, ◌^◌, Some, None, List, [], ◌∷◌, refl, sym, arith}
+use Rattle.std.proofs.Common.{◌≡◌, ℕ, ◌^◌, ◌==◌, nat_lt, if◌then◌else◌, Some, None, List, [], ◌∷◌, refl, sym, arith}
 use Rattle.std.proofs.lemmas.Bool.Decides.{nat_tests}
 use Rattle.address_runs.specs.Runs.{RunOf, value_at, AreRuns, runs_from}
+use Rattle.address_runs.specs.Edits.{NothingFrom}
 use Rattle.address_runs.proofs.RunsLaws.{the_list}
 use Rattle.memblock_model.specs.declared.owner.Owner.{Owner}
 use Rattle.memblock_model.specs.declared.owner.Owner.TheVariants as owner
@@ -9,9 +10,10 @@ use Rattle.memblock_model.specs.declared.which.Which.TheVariants as which
 use Rattle.memblock_model.specs.declared.tag.Tag.TheVariants as tag
 use Rattle.memblock_model.specs.declared.item.Item.{Item}
 use Rattle.memblock_model.specs.declared.item.Item.TheVariants as item
-use Rattle.memblock_model.specs.Labels.{each_from, each_in, trimmed, NothingFrom}
+use Rattle.bm_base.specs.Each.{each_from, each_in}
+use Rattle.memblock_model.specs.Labels.{Labels, plain_label, with_node}
 use Rattle.memblock_model.specs.Same.{same_owner}
-use Rattle.memblock_model.specs.Items.{IsItem, AreItems, owners_after, no_owners, owner_of, nodes_after, no_memory, nodes_of, tag_for, tag_of, limit_after, limit_of, owner_runs_of}
+use Rattle.memblock_model.specs.Items.{IsItem, AreItems, owners_after, no_owners, owner_of, memory_after, no_memory, trimmed, memory_of, tag_of, limit_after, limit_of, owner_runs_of}
 use Rattle.memblock_model.proofs.SameLaws.{owner_tells}
 use Rattle.memblock_model.proofs.LabelExamples.{bytes}
 
@@ -56,10 +58,10 @@ absent_at_first = refl
 absent_at_five : no_memory 5 ≡ None
 absent_at_five = refl
 
-made_memory : nodes_after no_memory (item.Mem (bytes 4 8)) 4 ≡ Some None
+made_memory : memory_after no_memory (item.Mem (bytes 4 8)) 4 ≡ Some plain_label
 made_memory = refl
 
-made_memory_elsewhere : nodes_after no_memory (item.Mem (bytes 4 8)) 3 ≡ None
+made_memory_elsewhere : memory_after no_memory (item.Mem (bytes 4 8)) 3 ≡ None
 made_memory_elsewhere = refl
 
 -- the newest item that covers a byte decides
@@ -96,10 +98,10 @@ added_new = refl
 node_of_nothing : tag_of (item.Node (bytes 0 4) 1 ∷ []) 3 ≡ tag.Absent
 node_of_nothing = refl
 
-later_node : nodes_of (item.Mem (bytes 0 8) ∷ (item.Node (bytes 0 8) 1 ∷ (item.Node (bytes 4 4) 2 ∷ []))) 4 ≡ Some (Some 2)
+later_node : memory_of (item.Mem (bytes 0 8) ∷ (item.Node (bytes 0 8) 1 ∷ (item.Node (bytes 4 4) 2 ∷ []))) 4 ≡ Some (with_node (Some 2) plain_label)
 later_node = refl
 
-earlier_node : nodes_of (item.Mem (bytes 0 8) ∷ (item.Node (bytes 0 8) 1 ∷ (item.Node (bytes 4 4) 2 ∷ []))) 3 ≡ Some (Some 1)
+earlier_node : memory_of (item.Mem (bytes 0 8) ∷ (item.Node (bytes 0 8) 1 ∷ (item.Node (bytes 4 4) 2 ∷ []))) 3 ≡ Some (with_node (Some 1) plain_label)
 earlier_node = refl
 
 -- nothing else speaks of memory
@@ -127,15 +129,25 @@ mixed_frame_goes : tag_of (item.Mem (bytes 0 4096) ∷ (item.Node (bytes 0 100) 
 unfolding trimmed each_in each_from
 mixed_frame_goes = refl
 
--- a tag tells the three cases apart
-tag_of_nothing : tag_for None ≡ tag.Absent
-tag_of_nothing = refl
+-- the first frame carries one label, the second too but for its last byte, which carries another, and the third but for one byte
+abbrev frames : Labels
+frames x = if nat_lt x 8191 then Some plain_label else (if x == 8191 then Some (with_node (Some 8) plain_label) else (if nat_lt x 12287 then Some plain_label else None))
 
-tag_of_memory : tag_for (Some None) ≡ tag.NoNode
-tag_of_memory = refl
+whole_frame : trimmed frames 4095 ≡ Some plain_label
+unfolding trimmed each_in each_from
+whole_frame = refl
 
-tag_of_a_node : tag_for (Some (Some 0)) ≡ tag.Node 0
-tag_of_a_node = refl
+two_labels : trimmed frames 4096 ≡ None
+unfolding trimmed each_in each_from
+two_labels = refl
+
+two_labels_at_the_end : trimmed frames 8191 ≡ None
+unfolding trimmed each_in each_from
+two_labels_at_the_end = refl
+
+one_byte_short : trimmed frames 8192 ≡ None
+unfolding trimmed each_in each_from
+one_byte_short = refl
 
 -- the newest limit, whether it is lower or higher, and whatever else happens
 limit_falls : limit_of (item.Limit 5 ∷ (item.Limit 3 ∷ (item.Trim ∷ []))) ≡ 3

@@ -1,8 +1,9 @@
--- Tables, nodes and owners that are the same, and that are not.
+-- Tables, labels and owners that are the same, and that are not.
 use Rattle.std.proofs.Common.{◌≡◌, true, false, Some, None, refl}
 use Rattle.memblock_model.specs.declared.which.Which.TheVariants as which
 use Rattle.memblock_model.specs.declared.owner.Owner.TheVariants as owner
-use Rattle.memblock_model.specs.Same.{same_which, same_node, variant_of, number_of, same_owner}
+use Rattle.memblock_model.specs.Labels.{plain_label, with_node}
+use Rattle.memblock_model.specs.Same.{same_which, same_node, same_label, variant_of, owner_number, same_owner}
 
 one_table : same_which which.Memory which.Memory ≡ true
 one_table = refl
@@ -32,17 +33,24 @@ node_and_none = refl
 none_and_node : same_node (Some 0) None ≡ false
 none_and_node = refl
 
+-- labels are the same where their nodes are
+one_label : same_label (with_node (Some 3) plain_label) (with_node (Some 3) (with_node (Some 4) plain_label)) ≡ true
+one_label = refl
+
+two_labels : same_label plain_label (with_node (Some 0) plain_label) ≡ false
+two_labels = refl
+
 first_variant : variant_of owner.Kernel ≡ 0
 first_variant = refl
 
 last_variant : variant_of (owner.Script 7) ≡ 13
 last_variant = refl
 
-number_of_a_root : number_of (owner.Root 7) ≡ 7
-number_of_a_root = refl
+owner_number_of_a_root : owner_number (owner.Root 7) ≡ 7
+owner_number_of_a_root = refl
 
-number_of_a_table : number_of (owner.Table which.Reserved) ≡ 1
-number_of_a_table = refl
+owner_number_of_a_table : owner_number (owner.Table which.Reserved) ≡ 1
+owner_number_of_a_table = refl
 
 -- an owner is another where its variant is, or its number
 one_owner : same_owner (owner.Script 7) (owner.Script 7) ≡ true

@@ -6,7 +6,8 @@ use Rattle.address_runs.specs.Runs.{Tells}
 use Rattle.memblock_model.specs.declared.which.Which.TheVariants as which
 use Rattle.memblock_model.specs.declared.owner.Owner.{Owner}
 use Rattle.memblock_model.specs.declared.owner.Owner.TheVariants as owner
-use Rattle.memblock_model.specs.Same.{same_node, variant_of, number_of, same_owner}
+use Rattle.memblock_model.specs.Labels.{Label}
+use Rattle.memblock_model.specs.Same.{same_node, same_label, variant_of, owner_number, same_owner}
 
 node_yes : (a b : Option ℕ) → same_node a b ≡ true → a ≡ b
 node_yes None None h = refl
@@ -21,6 +22,16 @@ node_self (Some n) = eq-eqb n n refl
 pub node_tells : Tells same_node
 node_tells = record { true_is_equal = node_yes; equal_is_true = λ a b e. ap (λ (o : Option ℕ). same_node a o) (sym e) ∙ node_self a }
 
+-- labels are the same where their parts are
+label_yes : (a b : Label) → same_label a b ≡ true → a ≡ b
+label_yes a b h = let nodes : a.node ≡ b.node = node_yes a.node b.node h in ap (λ (n : Option ℕ). let label : Label = record { node = n } in label) nodes
+
+pub label_self : (a : Label) → same_label a a ≡ true
+label_self a = node_self a.node
+
+pub label_tells : Tells same_label
+label_tells = record { true_is_equal = label_yes; equal_is_true = λ a b e. ap (λ (l : Label). same_label a l) (sym e) ∙ label_self a }
+
 -- the owner of the variant that carries the number
 numbered : ℕ → ℕ → Owner
 numbered v n =
@@ -29,7 +40,7 @@ numbered v n =
     else (if v == 6 then owner.NodeData n else (if v == 7 then owner.Crash else (if v == 8 then owner.CrashLow else (if v == 9 then owner.Roots
     else (if v == 10 then owner.Root n else (if v == 11 then owner.Usage n else (if v == 12 then owner.Map n else owner.Script n))))))))))))
 
-numbered_again : (o : Owner) → numbered (variant_of o) (number_of o) ≡ o
+numbered_again : (o : Owner) → numbered (variant_of o) (owner_number o) ≡ o
 unfolding numbered
 numbered_again owner.Kernel = refl
 numbered_again owner.Low64K = refl
@@ -55,11 +66,11 @@ numbers_both m n v w e f = grind (arith, nat_tests)
 
 owner_yes : (a b : Owner) → same_owner a b ≡ true → a ≡ b
 owner_yes a b h =
-    let both = both_numbers (variant_of a) (variant_of b) (number_of a) (number_of b) h in
-    sym (numbered_again a) ∙ ap (λ (v : ℕ). numbered v (number_of a)) both.0 ∙ ap (λ (n : ℕ). numbered (variant_of b) n) both.1 ∙ numbered_again b
+    let both = both_numbers (variant_of a) (variant_of b) (owner_number a) (owner_number b) h in
+    sym (numbered_again a) ∙ ap (λ (v : ℕ). numbered v (owner_number a)) both.0 ∙ ap (λ (n : ℕ). numbered (variant_of b) n) both.1 ∙ numbered_again b
 
 pub owner_self : (a : Owner) → same_owner a a ≡ true
-owner_self a = numbers_both (variant_of a) (variant_of a) (number_of a) (number_of a) refl refl
+owner_self a = numbers_both (variant_of a) (variant_of a) (owner_number a) (owner_number a) refl refl
 
 pub owner_tells : Tells same_owner
 owner_tells = record { true_is_equal = owner_yes; equal_is_true = λ a b e. ap (λ (o : Owner). same_owner a o) (sym e) ∙ owner_self a }

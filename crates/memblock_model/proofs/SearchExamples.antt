@@ -1,5 +1,5 @@
 -- Small searches, computed: which addresses fit, and the best of them.
-use Rattle.std.proofs.Common.{◌≡◌, ℕ, ◌≤◌, ◌==◌, nat_lt, true, false, if◌then◌else◌, Option, Some, None, List, [], ◌∷◌, refl, inl, inr, arith}
+use Rattle.std.proofs.Common.{◌≡◌, ℕ, ◌≤◌, ◌==◌, nat_lt, true, false, if◌then◌else◌, Some, None, List, [], ◌∷◌, refl, inl, inr, arith}
 use Rattle.std.proofs.lemmas.Bool.{cases_Bool}
 use Rattle.std.proofs.lemmas.Bool.Decides.{nat_tests}
 use Rattle.bm_base.specs.Extent.{covers}
@@ -8,7 +8,8 @@ use Rattle.memblock_model.specs.declared.which.Which.TheVariants as which
 use Rattle.memblock_model.specs.declared.query.Query.{Query}
 use Rattle.memblock_model.specs.declared.item.Item.{Item}
 use Rattle.memblock_model.specs.declared.item.Item.TheVariants as item
-use Rattle.memblock_model.specs.Labels.{each_from, each_in}
+use Rattle.bm_base.specs.Each.{each_from, each_in}
+use Rattle.memblock_model.specs.Labels.{Label, Labels, plain_label, with_node}
 use Rattle.memblock_model.specs.Items.{owner_of, no_memory}
 use Rattle.memblock_model.specs.Tables.{reserved_of, table_of}
 use Rattle.memblock_model.specs.Search.{last_below, allows, fits_in, best_in, fits, best}
@@ -24,25 +25,31 @@ none_of_five : last_below (λ n. n == 5) 5 ≡ None
 unfolding last_below
 none_of_five = refl
 
+abbrev of_node : ℕ → Label
+of_node node = with_node (Some node) plain_label
+
 -- a query for any node takes memory without one too, a query for a node that node's memory alone
-any_node : allows None (Some None) ≡ true
+any_node : allows None (Some plain_label) ≡ true
 any_node = refl
 
-this_node : allows (Some 1) (Some (Some 1)) ≡ true
+this_node : allows (Some 1) (Some (of_node 1)) ≡ true
 this_node = refl
 
-other_node : allows (Some 1) (Some (Some 2)) ≡ false
+other_node : allows (Some 1) (Some (of_node 2)) ≡ false
 other_node = refl
 
-no_node : allows (Some 1) (Some None) ≡ false
+nothing_allowed : allows (Some 1) None ≡ false
+nothing_allowed = refl
+
+no_node : allows (Some 1) (Some plain_label) ≡ false
 no_node = refl
 
 -- bytes 4096 to 4103 are memory of node 1, the rest of node 2; byte 4101 is claimed
-abbrev memory : ℕ → Option (Option ℕ)
-memory x = if nat_lt x 4104 then Some (Some 1) else Some (Some 2)
+abbrev memory : Labels
+memory x = if nat_lt x 4104 then Some (of_node 1) else Some (of_node 2)
 
-abbrev claimed : ℕ → Option (Option ℕ)
-claimed x = if x == 4101 then Some None else None
+abbrev claimed : Labels
+claimed x = if x == 4101 then Some plain_label else None
 
 -- two bytes of node 1 at an even address, or of any node at any
 abbrev pairs : ℕ → ℕ → Query
@@ -142,8 +149,8 @@ nothing_fits b h =
     let high = place.high in
     let first = place.first in
     let free : reserved_of (owner_of crowded) b ≡ None = place.free b (omega arith) (omega arith) in
-    let taken : reserved_of (owner_of crowded) b ≡ Some None = (let inside : covers (bytes 0x1000 0xF000) b ≡ true = grind (arith, nat_tests) in rw inside refl) in
-    cc (free, taken)
+    let held : reserved_of (owner_of crowded) b ≡ Some plain_label = (let inside : covers (bytes 0x1000 0xF000) b ≡ true = grind (arith, nat_tests) in rw inside refl) in
+    cc (free, held)
 
 no_best_in : best_in (table_of which.Memory crowded) (table_of which.Reserved crowded) page ≡ None
 no_best_in = best_in-fails (table_of which.Memory crowded) (table_of which.Reserved crowded) page

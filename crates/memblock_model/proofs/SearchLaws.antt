@@ -4,13 +4,15 @@ use Rattle.std.proofs.lemmas.Bool.Decides.{nat_tests}
 use Rattle.std.proofs.lemmas.Bool.{cases_Bool, cases_lt, true≢false, and_from, and_parts}
 use Rattle.std.proofs.lemmas.Option.{same_Some}
 use Rattle.memblock_model.specs.declared.query.Query.{Query}
-use Rattle.memblock_model.specs.Items.{Nodes}
 use Rattle.bm_base.specs.Extent.{Extent}
-use Rattle.memblock_model.specs.Labels.{each_in, same_label}
-use Rattle.memblock_model.specs.Same.{same_node}
+use Rattle.address_runs.specs.Edits.{agree}
+use Rattle.address_runs.proofs.EditLaws.{agree-yes, agree-same}
+use Rattle.bm_base.specs.Each.{each_in}
+use Rattle.memblock_model.specs.Labels.{Label, Labels}
+use Rattle.memblock_model.specs.Same.{same_label}
 use Rattle.memblock_model.specs.Search.{last_below, allows, fits_in, best_in}
-use Rattle.memblock_model.proofs.SameLaws.{node_tells}
-use Rattle.memblock_model.proofs.LabelLaws.{each_in-all, each_in-each, label_yes, label_no}
+use Rattle.memblock_model.proofs.SameLaws.{label_tells}
+use Rattle.bm_base.proofs.EachLaws.{each_in-all, each_in-each}
 
 -- the number passes, and none of the greater ones below n does
 pub record IsLastBelow (p : ℕ → Bool) (n a : ℕ) : Type 0 where
@@ -83,25 +85,25 @@ last_below-fails p zero none = refl
 last_below-fails p (suc n) none = let here : p n ≡ false = none n (omega arith) in rw here (last_below-fails p n (λ b lt. none b (omega arith)))
 
 -- the best place
-pub best_in-is : (memory reserved : Nodes) (q : Query) (a : ℕ) → best_in memory reserved q ≡ Some a → IsLastBelow (fits_in memory reserved q) (2 ^ 64) a
+pub best_in-is : (memory reserved : Labels) (q : Query) (a : ℕ) → best_in memory reserved q ≡ Some a → IsLastBelow (fits_in memory reserved q) (2 ^ 64) a
 unfolding best_in
 best_in-is memory reserved q a h = last_below-is (fits_in memory reserved q) (2 ^ 64) a h
 
-pub best_in-none : (memory reserved : Nodes) (q : Query) → best_in memory reserved q ≡ None → (b : ℕ) → b < 2 ^ 64 → fits_in memory reserved q b ≡ false
+pub best_in-none : (memory reserved : Labels) (q : Query) → best_in memory reserved q ≡ None → (b : ℕ) → b < 2 ^ 64 → fits_in memory reserved q b ≡ false
 unfolding best_in
 best_in-none memory reserved q h b lt = last_below-none (fits_in memory reserved q) (2 ^ 64) h b lt
 
 -- and to prove that an address is it, or that there is none
-pub best_in-last : (memory reserved : Nodes) (q : Query) (a : ℕ) → IsLastBelow (fits_in memory reserved q) (2 ^ 64) a → best_in memory reserved q ≡ Some a
+pub best_in-last : (memory reserved : Labels) (q : Query) (a : ℕ) → IsLastBelow (fits_in memory reserved q) (2 ^ 64) a → best_in memory reserved q ≡ Some a
 unfolding best_in
 best_in-last memory reserved q a known = last_below-last (fits_in memory reserved q) (2 ^ 64) a known
 
-pub best_in-fails : (memory reserved : Nodes) (q : Query) → ((b : ℕ) → b < 2 ^ 64 → fits_in memory reserved q b ≡ false) → best_in memory reserved q ≡ None
+pub best_in-fails : (memory reserved : Labels) (q : Query) → ((b : ℕ) → b < 2 ^ 64 → fits_in memory reserved q b ≡ false) → best_in memory reserved q ≡ None
 unfolding best_in
 best_in-fails memory reserved q none = last_below-fails (fits_in memory reserved q) (2 ^ 64) none
 
 -- what it is for an address to fit, part by part
-pub record IsPlace (memory reserved : Nodes) (q : Query) (a : ℕ) : Type 0 where
+pub record IsPlace (memory reserved : Labels) (q : Query) (a : ℕ) : Type 0 where
   pub aligned : a % q.align ≡ 0
   pub low : q.lo ≤ a
   pub first : 4096 ≤ a
@@ -111,18 +113,18 @@ pub record IsPlace (memory reserved : Nodes) (q : Query) (a : ℕ) : Type 0 wher
   pub label : (x : ℕ) → a ≤ x → x < a + q.size → memory x ≡ memory a
   pub free : (x : ℕ) → a ≤ x → x < a + q.size → reserved x ≡ None
 
-no_label : (o : Option (Option ℕ)) → is_none o ≡ true → o ≡ None
+no_label : (o : Option Label) → is_none o ≡ true → o ≡ None
 no_label None h = refl
 no_label (Some n) h = absurd (true≢false (sym h))
 
-none_is : (o : Option (Option ℕ)) → o ≡ None → is_none o ≡ true
+none_is : (o : Option Label) → o ≡ None → is_none o ≡ true
 none_is o e = ap is_none e
 
-pub fits_in-parts : (memory reserved : Nodes) (q : Query) (a : ℕ) → fits_in memory reserved q a ≡ true → IsPlace memory reserved q a
+pub fits_in-parts : (memory reserved : Labels) (q : Query) (a : ℕ) → fits_in memory reserved q a ≡ true → IsPlace memory reserved q a
 unfolding fits_in
 fits_in-parts memory reserved q a h =
     let place : Extent = record { base = a; size = q.size } in
-    let test : ℕ → Bool = λ x. same_label same_node (memory x) (memory a) && is_none (reserved x) in
+    let test : ℕ → Bool = λ x. agree same_label (memory x) (memory a) && is_none (reserved x) in
     let aligned : Bool = a % q.align == 0 in
     let low : Bool = aligned && nat_le q.lo a in
     let first : Bool = low && nat_le 4096 a in
@@ -146,15 +148,15 @@ fits_in-parts memory reserved q a h =
       high = grind (arith, nat_tests, is_high);
       held = (and_parts high (is_some (memory a)) at_held).1;
       allowed = (and_parts held (allows q.node (memory a)) at_allowed).1;
-      label = λ x above below. label_yes same_node node_tells (memory x) (memory a) (and_parts (same_label same_node (memory x) (memory a)) (is_none (reserved x)) (each x above below)).0;
-      free = λ x above below. no_label (reserved x) (and_parts (same_label same_node (memory x) (memory a)) (is_none (reserved x)) (each x above below)).1;
+      label = λ x above below. agree-yes same_label label_tells (memory x) (memory a) (and_parts (agree same_label (memory x) (memory a)) (is_none (reserved x)) (each x above below)).0;
+      free = λ x above below. no_label (reserved x) (and_parts (agree same_label (memory x) (memory a)) (is_none (reserved x)) (each x above below)).1;
     }
 
-pub fits_in-whole : (memory reserved : Nodes) (q : Query) (a : ℕ) → IsPlace memory reserved q a → fits_in memory reserved q a ≡ true
+pub fits_in-whole : (memory reserved : Labels) (q : Query) (a : ℕ) → IsPlace memory reserved q a → fits_in memory reserved q a ≡ true
 unfolding fits_in
 fits_in-whole memory reserved q a known =
     let place : Extent = record { base = a; size = q.size } in
-    let test : ℕ → Bool = λ x. same_label same_node (memory x) (memory a) && is_none (reserved x) in
+    let test : ℕ → Bool = λ x. agree same_label (memory x) (memory a) && is_none (reserved x) in
     let aligned : Bool = a % q.align == 0 in
     let low : Bool = aligned && nat_le q.lo a in
     let first : Bool = low && nat_le 4096 a in
@@ -172,6 +174,6 @@ fits_in-whole memory reserved q a known =
     let at_held : held ≡ true = and_from high (is_some (memory a)) at_high known.held in
     let at_allowed : allowed ≡ true = and_from held (allows q.node (memory a)) at_held known.allowed in
     let each : each_in place test ≡ true = each_in-all place test (λ x above below.
-    and_from (same_label same_node (memory x) (memory a)) (is_none (reserved x))
-    (label_no same_node node_tells (memory x) (memory a) (known.label x above below)) (none_is (reserved x) (known.free x above below))) in
+    and_from (agree same_label (memory x) (memory a)) (is_none (reserved x))
+    (agree-same same_label label_tells (memory x) (memory a) (known.label x above below)) (none_is (reserved x) (known.free x above below))) in
     and_from allowed (each_in place test) at_allowed each

@@ -1,5 +1,6 @@
--- Tests of whether two tables, two nodes, two owners are the same.
+-- Tests of whether two tables, two labels, two owners are the same.
 use Rattle.std.specs.Prelude.{ℕ, ◌==◌, Bool, true, false, ◌&&◌, Option, Some, None}
+use Rattle.memblock_model.specs.Labels.{Label}
 use Rattle.memblock_model.specs.declared.which.Which.{Which}
 use Rattle.memblock_model.specs.declared.which.Which.TheVariants as which
 use Rattle.memblock_model.specs.declared.owner.Owner.{Owner}
@@ -17,6 +18,10 @@ same_node None None = true
 same_node None (Some n) = false
 same_node (Some m) None = false
 same_node (Some m) (Some n) = m == n
+
+-- the parts of both labels are the same
+abbrev pub same_label : Label → Label → Bool
+same_label a b = same_node a.node b.node
 
 -- the place of the owner's variant in the list of them
 abbrev pub variant_of : Owner → ℕ
@@ -36,23 +41,15 @@ variant_of (owner.Map n) = 12
 variant_of (owner.Script n) = 13
 
 -- the number that the owner carries: of the node, the root, the section or the ID; 0 or 1 for the tables; else 0
-abbrev pub number_of : Owner → ℕ
-number_of owner.Kernel = 0
-number_of owner.Low64K = 0
-number_of owner.Initrd = 0
-number_of owner.Low1M = 0
-number_of owner.Soft = 0
-number_of (owner.Table which.Memory) = 0
-number_of (owner.Table which.Reserved) = 1
-number_of (owner.NodeData n) = n
-number_of owner.Crash = 0
-number_of owner.CrashLow = 0
-number_of owner.Roots = 0
-number_of (owner.Root n) = n
-number_of (owner.Usage n) = n
-number_of (owner.Map n) = n
-number_of (owner.Script n) = n
+abbrev pub owner_number : Owner → ℕ
+owner_number (owner.Table which.Reserved) = 1
+owner_number (owner.NodeData n) = n
+owner_number (owner.Root n) = n
+owner_number (owner.Usage n) = n
+owner_number (owner.Map n) = n
+owner_number (owner.Script n) = n
+owner_number o = 0
 
 -- the variants and their numbers are the same
 abbrev pub same_owner : Owner → Owner → Bool
-same_owner a b = (variant_of a == variant_of b) && (number_of a == number_of b)
+same_owner a b = (variant_of a == variant_of b) && (owner_number a == owner_number b)

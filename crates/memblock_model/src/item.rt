@@ -9,14 +9,15 @@ pub enum Item {
     Mem { range: Range },
     /// Each frame whose bytes don't all carry one tag is memory no more (`memblock_trim_memory`).
     Trim,
-    /// The memory bytes of the range get the node (`memblock_set_node`).
+    /// The memory bytes of the range get the node (`memblock_set_node`). A journal takes any number;
+    /// below 1,024 it is held by the label that the memory table gets ([`crate::Label`]).
     Node { range: Range, node: u32 },
     /// The bytes of the range get the owner (`memblock_reserve`).
     Claim { range: Range, owner: Owner },
     /// The bytes of the range get no owner (`memblock_phys_free`).
     Free { range: Range },
-    /// The limit becomes the address: an allocation that states no end of its own keeps below it
-    /// (`memblock_set_current_limit`).
+    /// The limit becomes the address (`memblock_set_current_limit`): an allocation keeps below it, also
+    /// one that states a greater end of its own.
     Limit { at: u64 },
     /// The table has a new place and twice the room, which is `room` records now
     /// (`memblock_double_array`). The definitions count the doublings, and don't look at `room`.

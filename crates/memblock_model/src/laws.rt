@@ -4,19 +4,21 @@ ghost use Rattle.address_runs.specs.Runs.{Tells, IsRunsOf};
 ghost use Rattle.memblock_model.specs.declared.item.Item.{Item};
 ghost use Rattle.memblock_model.specs.declared.which.Which.{Which};
 ghost use Rattle.memblock_model.specs.declared.query.Query.{Query};
-ghost use Rattle.memblock_model.specs.Labels.{frame_around, trimmed, NothingFrom};
-ghost use Rattle.memblock_model.specs.Same.{same_node, same_owner};
-ghost use Rattle.memblock_model.specs.Items.{Nodes, owners_after, owner_of, nodes_after, nodes_of, limit_after, limit_of, owner_runs_of};
+ghost use Rattle.address_runs.specs.Edits.{NothingFrom};
+ghost use Rattle.bm_base.specs.Frames.{frame_around};
+ghost use Rattle.memblock_model.specs.Labels.{Labels};
+ghost use Rattle.memblock_model.specs.Same.{same_label, same_owner};
+ghost use Rattle.memblock_model.specs.Items.{trimmed, owners_after, owner_of, memory_after, memory_of, limit_after, limit_of, owner_runs_of};
 ghost use Rattle.memblock_model.specs.Tables.{table_of, table_after, room_of, room_after, moved_to, moved_after, records_of};
 ghost use Rattle.memblock_model.specs.Search.{fits_in, best_in};
 
-/// A law: an item at the end of the list changes owners, nodes and limit as its word says, at every
+/// A law: an item at the end of the list changes owners, memory and limit as its word says, at every
 /// address at once.
 pub fn item_at_the_end()
     ensures owners { (items : List Item) (i : Item) →
         owner_of (items ++ i ∷ []) ≡ owners_after (owner_of items) i }
-    ensures nodes { (items : List Item) (i : Item) →
-        nodes_of (items ++ i ∷ []) ≡ nodes_after (nodes_of items) i }
+    ensures memory { (items : List Item) (i : Item) →
+        memory_of (items ++ i ∷ []) ≡ memory_after (memory_of items) i }
     ensures limit { (items : List Item) (i : Item) →
         limit_of (items ++ i ∷ []) ≡ limit_after (limit_of items) i }
 {}
@@ -32,9 +34,9 @@ pub fn tables_go_by_themselves()
         moved_to w (items ++ i ∷ []) ≡ moved_after w (moved_to w items) i }
 {}
 
-/// A law: the tests that runs of nodes and runs of owners are made by tell equal values from others.
+/// A law: the tests that records and runs of owners are made by tell equal values from others.
 pub fn tests_tell()
-    ensures nodes { Tells same_node }
+    ensures labels { Tells same_label }
     ensures owners { Tells same_owner }
 {}
 
@@ -50,16 +52,16 @@ pub fn lists_are_runs()
 
 /// A law: a frame that is trimmed has one label, or none.
 pub fn trimmed_frame_is_whole()
-    ensures { (f : Nodes) (x y : ℕ) → covers (frame_around x) y ≡ true →
-        trimmed same_node f y ≡ trimmed same_node f x }
+    ensures { (f : Labels) (x y : ℕ) → covers (frame_around x) y ≡ true →
+        trimmed f y ≡ trimmed f x }
 {}
 
 /// A law: the best place fits, and no greater address does. Where there is none, nothing fits.
 pub fn best_is_greatest()
-    ensures fits { (memory reserved : Nodes) (q : Query) (a : ℕ) →
+    ensures fits { (memory reserved : Labels) (q : Query) (a : ℕ) →
         best_in memory reserved q ≡ Some a → fits_in memory reserved q a ≡ true }
-    ensures greatest { (memory reserved : Nodes) (q : Query) (a b : ℕ) →
+    ensures greatest { (memory reserved : Labels) (q : Query) (a b : ℕ) →
         best_in memory reserved q ≡ Some a → b < 2 ^ 64 → fits_in memory reserved q b ≡ true → b ≤ a }
-    ensures none { (memory reserved : Nodes) (q : Query) (b : ℕ) →
+    ensures none { (memory reserved : Labels) (q : Query) (b : ℕ) →
         best_in memory reserved q ≡ None → b < 2 ^ 64 → fits_in memory reserved q b ≡ false }
 {}

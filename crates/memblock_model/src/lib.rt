@@ -5,16 +5,19 @@
 //! [`Item`]s, oldest first, and everything else is asked of that list: who owns a byte and which
 //! node it has (`specs/Items.antt`), what the two tables hold, how much room they have and where
 //! they lie (`specs/Tables.antt`), and which addresses a search may answer (`specs/Search.antt`).
-//! What an item does to the bytes of a range has a word of its own (`specs/Labels.antt`), which the
-//! edits of the tables cite as well.
+//! What an item does to the bytes of a range has a word of its own (`specs/Edits.antt` of
+//! `address_runs`), which the edits of the tables cite as well. What a byte carries is a label
+//! (`specs/Labels.antt`): one more part of it is one more field there, in its test of sameness
+//! (`specs/Same.antt`), and in the item that sets it; every law here stays.
 //!
-//! [`Item`], [`Owner`], [`Tag`], [`Which`], [`OwnerRun`] and [`Query`] are plain data. They stand
+//! [`Item`], [`Owner`], [`Label`], [`Tag`], [`Which`], [`OwnerRun`] and [`Query`] are plain data. They stand
 //! here, below the crates that keep and answer them, because the definitions speak of them.
 //!
 //! The functions are laws over the definitions: they do nothing, and their contracts are proved.
 #![tactic(auto)]
 
 mod item;
+mod label;
 mod laws;
 mod owner;
 mod query;
@@ -23,6 +26,7 @@ mod tag;
 mod which;
 
 pub use item::Item;
+pub use label::Label;
 pub use laws::{
     best_is_greatest, item_at_the_end, lists_are_runs, tables_go_by_themselves, tests_tell,
     trimmed_frame_is_whole,

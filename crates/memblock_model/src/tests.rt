@@ -1,7 +1,7 @@
 ghost use Rattle.std.specs.Prelude.{◌≡◌, ◌+◌, ◌^◌, ◌<◌};
 ghost use Rattle.memblock_model.specs.declared.owner.Owner.{Owner as AnyOwner};
 
-use crate::{Item, Owner, OwnerRun, Query, Tag, Which};
+use crate::{Item, Label, Owner, OwnerRun, Query, Tag, Which};
 use bm_base::Range;
 use std::test::Fail;
 
@@ -102,6 +102,8 @@ fn values_that_differ_in_one_part(rt: HostRuntime) -> Result<(), Fail> {
     assert_eq!(rt; query, query);
     assert_ne!(rt; query, of_node_0);
     assert_ne!(rt; Tag::NoNode, Tag::Node(0));
+    assert_ne!(rt; Label::plain(), Label::plain().with_node(0));
+    assert_eq!(rt; Label::plain().with_node(1023).node(), Some(1023));
 
     // The run ends where addresses end.
     let run = OwnerRun {

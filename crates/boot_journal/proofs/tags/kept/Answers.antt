@@ -5,7 +5,7 @@ use Rattle.boot_journal.proofs.tags.kept.Goals as goal
 pub returns-then-not-frame_agrees : goal.returns-then-not-frame_agrees
 returns-then-not-frame_agrees c =
     let some = c.if-not-frame_agrees.ensures.differs refl in
-    sym (kept-parts c.args.tag c.args.items.now c.args.x some.0 some.1)
+    sym (kept-parts c.args.whole.now c.args.items.now c.args.x some.0 some.1)
 
 pub returns : goal.returns
-returns c = c.after_all.ensures ∙ sym (kept-whole c.args.tag c.args.items.now c.args.x (c.if-not-frame_agrees.ensures.agrees refl))
+returns c = c.after_all.ensures ∙ sym (kept-whole c.args.whole.now c.args.items.now c.args.x (c.if-not-frame_agrees.ensures.agrees refl))

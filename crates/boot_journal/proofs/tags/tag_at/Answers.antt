@@ -1,6 +1,7 @@
-use Rattle.std.proofs.Common.{◌≡◌, ℕ, ◌+◌, ◌-◌, List, length, take, drop, sym, ◌∙◌, arith}
+use Rattle.std.proofs.Common.{◌≡◌, ℕ, ◌+◌, ◌-◌, List, length, take, drop, sym, ◌∙◌, ap, arith}
 use Rattle.std.proofs.lemmas.List.{take_all, length-drop}
 use Rattle.memblock_model.specs.declared.item.Item.{Item}
+use Rattle.memblock_model.specs.Labels.{tag_for}
 use Rattle.boot_journal.proofs.ByteLaws.{turn, last_turn}
 use Rattle.boot_journal.proofs.tags.tag_at.Goals as goal
 
@@ -11,8 +12,8 @@ loop-i-preserved c =
     let all : take (length rest - (i + 1)) (drop (i + 1) rest) ≡ drop (i + 1) rest = take_all (length rest - (i + 1)) (drop (i + 1) rest) (omega (arith, length-drop (i + 1) rest)) in
     record {
       few = rw all (omega (arith, length-drop (i + 1) rest));
-      tag = rw (all, c.kept-whole.ensures) (sym (turn c.loop-i.whole rest i c.args.x (sym c.in-Some.ensures.first)) ∙ c.loop-i.invariant.tag);
+      label = rw (all, c.kept-whole.ensures) (sym (turn c.loop-i.whole rest i c.args.x (sym c.in-Some.ensures.first)) ∙ c.loop-i.invariant.label);
     }
 
 pub returns : goal.returns
-returns c = c.after_all.ensures ∙ sym (last_turn c.loop-i.whole c.loop-i.rest.now c.args.x (sym c.in_default.ensures.first)) ∙ c.loop-i.invariant.tag
+returns c = c.tag.ensures ∙ ap tag_for (c.after_all.ensures ∙ sym (last_turn c.loop-i.whole c.loop-i.rest.now c.args.x (sym c.in_default.ensures.first)) ∙ c.loop-i.invariant.label)
