@@ -11,7 +11,7 @@ pub enum OptionFault {
     BadMem { word: u32 },
     /// The word is a malformed `memmap=`.
     BadMemmap { word: u32 },
-    /// No other fault is found, and fewer than two adding pieces follow the last `exactmap`, which
+    /// No other fault is found, and fewer than two adding map options follow the last `exactmap`, which
     /// stands in this word.
     UserMapInvalid { word: u32 },
     /// The word is a malformed `numa=`.

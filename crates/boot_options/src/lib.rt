@@ -9,7 +9,7 @@
 //! [`read_options`] gives [`Options`]: the [`Edit`]s of the map in the order of the line, which
 //! `e820_sanitise` applies, and whether `numa=off` was there. Its one clause says value and fault
 //! exactly, by `options_of` of `specs/Options.antt`: what each word says alone, the first fault by
-//! a walk over the words, and what all of them come to. `specs/Pieces.antt` has the values of `mem=`
+//! a walk over the words, and what all of them come to. `specs/MapOptions.antt` has the values of `mem=`
 //! and `memmap=`; `specs/Reading.antt` serves the proof alone.
 //!
 //! The layer above may rest on this: no type in an edit is 0, no range in one is empty, and words
@@ -18,7 +18,7 @@
 
 mod fault;
 mod options;
-mod piece;
+mod map_option;
 mod reading;
 #[cfg(test)]
 mod tests;
@@ -26,4 +26,4 @@ mod tests;
 pub use e820_model::Edit;
 pub use fault::OptionFault;
 pub use options::{Options, read_options};
-pub use piece::pieces_of_spelling;
+pub use map_option::map_options_of_spelling;

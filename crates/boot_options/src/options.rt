@@ -2,7 +2,7 @@ ghost use Rattle.std.specs.Prelude.{◌≡◌, ℕ, ◌≤◌, length, MatchResu
 ghost use Rattle.boot_options.specs.declared.options.TheConstants.{LONGEST_LINE};
 ghost use Rattle.boot_options.specs.Options.{Gives, chosen, line_of, options_of, HaveRanges, IsNumbered};
 ghost use Rattle.e820_model.specs.Claims.{HaveTypes};
-ghost use Rattle.boot_options.specs.Reading.{state_of, finished};
+ghost use Rattle.boot_options.specs.Reading.{state_of, at_line_end};
 
 use crate::fault::OptionFault;
 use crate::reading::{Reading, read_words};
@@ -55,9 +55,9 @@ fn read_line(bytes: &[u8]) -> Result<&[u8], OptionFault>
     Ok(line)
 }
 
-/// The options, unless a user map wants further pieces.
+/// The options, unless a user map wants further map options.
 fn finish(reading: Reading) -> Result<Options, OptionFault>
-    ensures { Gives chosen result (finished (state_of reading)) }
+    ensures { Gives chosen result (at_line_end (state_of reading)) }
 {
     if let Some(map) = reading.user_map {
         if map.wanting > 0 {

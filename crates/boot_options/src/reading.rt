@@ -1,13 +1,14 @@
 ghost use Rattle.std.specs.Prelude.{◌≡◌, ℕ, ◌≤◌, ◌+◌, List, [], ◌∷◌, ◌++◌, length, Result, Ok, Err, OnOk};
+ghost use Rattle.std.specs.List.{cons_option};
 ghost use Rattle.std.specs.Option.{option_map, option_and_then};
 ghost use Rattle.e820_model.specs.declared.edit.Edit.{Edit as SomeEdit};
 ghost use Rattle.boot_options.specs.declared.fault.OptionFault.TheVariants as faults;
 ghost use Rattle.boot_options.specs.declared.options.TheConstants.{LONGEST_LINE};
-ghost use Rattle.boot_options.specs.Options.{Gives, named, said_by, said_from, option_words, or_fault, memmap_of, with_edit};
-ghost use Rattle.boot_options.specs.Reading.{state_of, start, one_fewer as one_fewer_wanted, after_piece, read_on, read_all};
+ghost use Rattle.boot_options.specs.Options.{Gives, name_value_of, said_by, said_from, option_words, or_fault, memmap_of};
+ghost use Rattle.boot_options.specs.Reading.{state_of, start, one_fewer as one_fewer_wanted, after_map_option, read_on, read_all};
 
 use crate::fault::OptionFault;
-use crate::piece::{Piece, read_mem, read_piece};
+use crate::map_option::{MapOption, read_mem, read_map_option};
 use bm_base::Memory;
 use e820_model::Edit;
 use std::alloc::Global;
@@ -21,7 +22,7 @@ pub struct Reading {
     pub user_map: Option<UserMap>,
 }
 
-/// The last `exactmap` so far: its word, and how many adding pieces are still wanted behind it.
+/// The last `exactmap` so far: its word, and how many adding map options are still wanted behind it.
 #[derive(Clone, Copy, Debug, PartialEq, Eq)]
 pub struct UserMap {
     pub word: u32,
@@ -57,14 +58,14 @@ pub fn read_words(alloc: Global, line: &[u8]) -> Result<Reading, OptionFault>
 /// Reads one word, by its name; a word of another name is passed over.
 fn read_word(word: &[u8], number: u32, reading: &mut Reading) -> Result<(), OptionFault>
     ensures { Gives (λ _. state_of reading.new) result
-        (read_on number (state_of reading.old) (said_by number (named word.now))) }
+        (read_on number (state_of reading.old) (said_by number (name_value_of word.now))) }
 {
     let (name, value) = name_and_value(word);
     if name == b"mem".as_slice() {
-        let Some(piece) = value.and_then(read_mem) else {
+        let Some(option) = value.and_then(read_mem) else {
             return Err(OptionFault::BadMem { word: number });
         };
-        take_piece(&piece, number, reading)?;
+        take_map_option(&option, number, reading)?;
     } else if name == b"memmap".as_slice() {
         let Some(value) = value else {
             return Err(OptionFault::BadMemmap { word: number });
@@ -81,7 +82,7 @@ fn read_word(word: &[u8], number: u32, reading: &mut Reading) -> Result<(), Opti
 
 /// The name of a word, and its value without quotation marks, where there is a `=`.
 fn name_and_value(word: &[u8]) -> (&[u8], Option<&[u8]>)
-    ensures { (result.0.now, option_map (λ value. value.now) result.1) ≡ named word.now }
+    ensures { (result.0.now, option_map (λ value. value.now) result.1) ≡ name_value_of word.now }
 {
     match cut(word, b'=') {
         Some((name, value)) => (name, Some(unquoted(value))),
@@ -89,7 +90,7 @@ fn name_and_value(word: &[u8]) -> (&[u8], Option<&[u8]>)
     }
 }
 
-/// Reads the pieces of `memmap=`, one after the other.
+/// Reads the map options of `memmap=`, one after the other.
 fn read_memmap(value: &[u8], number: u32, reading: &mut Reading) -> Result<(), OptionFault>
     ensures { Gives (λ _. state_of reading.new) result
         (read_on number (state_of reading.old)
@@ -98,39 +99,39 @@ fn read_memmap(value: &[u8], number: u32, reading: &mut Reading) -> Result<(), O
     let mut rest = Some(value);
     while let Some(text) = rest {
         let (text, behind) = next_part(text, Separators::Byte(b','));
-        let Some(piece) = read_piece(text) else {
+        let Some(option) = read_map_option(text) else {
             return Err(OptionFault::BadMemmap { word: number });
         };
-        take_piece(&piece, number, reading)?;
+        take_map_option(&option, number, reading)?;
         rest = behind;
     }
     Ok(())
 }
 
-/// Takes what one piece says.
-fn take_piece(piece: &Piece, number: u32, reading: &mut Reading) -> Result<(), Memory>
-    ensures { OnOk result (state_of reading.new ≡ after_piece number (state_of reading.old) piece.now) }
+/// Takes what one map option says.
+fn take_map_option(option: &MapOption, number: u32, reading: &mut Reading) -> Result<(), Memory>
+    ensures { OnOk result (state_of reading.new ≡ after_map_option number (state_of reading.old) option.now) }
 {
-    match piece {
-        Piece::ExactMap => {
+    match option {
+        MapOption::ExactMap => {
             reading.edits.push(Edit::Clear)?;
             reading.user_map = Some(UserMap {
                 word: number,
                 wanting: 2,
             });
         }
-        Piece::Adding(edit) => {
+        MapOption::Adding(edit) => {
             push_some(edit, &mut reading.edits)?;
             reading.user_map = one_fewer(&reading.user_map);
         }
-        Piece::Other(edit) => push_some(edit, &mut reading.edits)?,
+        MapOption::Other(edit) => push_some(edit, &mut reading.edits)?,
     }
     Ok(())
 }
 
 /// Appends the edit, where there is one.
 fn push_some(edit: &Option<Edit>, edits: &mut Vec<Edit>) -> Result<(), Memory>
-    ensures { OnOk result (edits.new.items ≡ edits.old.items ++ with_edit edit.now []) }
+    ensures { OnOk result (edits.new.items ≡ edits.old.items ++ cons_option edit.now []) }
 {
     if let Some(edit) = edit {
         edits.push(*edit)?;
@@ -138,7 +139,7 @@ fn push_some(edit: &Option<Edit>, edits: &mut Vec<Edit>) -> Result<(), Memory>
     Ok(())
 }
 
-/// The user map that wants one adding piece fewer.
+/// The user map that wants one adding map option fewer.
 fn one_fewer(map: &Option<UserMap>) -> Option<UserMap>
     ensures { result ≡ option_map one_fewer_wanted map.now }
 {

@@ -21,7 +21,7 @@ fn read_count(alloc: Global, line: &[u8]) -> Result<(usize, bool), OptionFault> 
 }
 
 #[test]
-fn pieces_of_memmap(rt: HostRuntime) -> Result<(), Fail> {
+fn forms_of_map_options(rt: HostRuntime) -> Result<(), Fail> {
     let at_2m = Range {
         base: 2 * MIB,
         size: MIB,
@@ -171,7 +171,7 @@ fn pieces_of_memmap(rt: HostRuntime) -> Result<(), Fail> {
 }
 
 #[test]
-fn malformed_pieces_of_memmap(rt: HostRuntime) -> Result<(), Fail> {
+fn malformed_map_options(rt: HostRuntime) -> Result<(), Fail> {
     let cases = [
         "",
         ",",

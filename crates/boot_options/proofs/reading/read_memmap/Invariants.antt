@@ -2,14 +2,14 @@ use Rattle.std.proofs.Common.{◌≡◌}
 use Rattle.text_words.specs.declared.separators.Separators.TheVariants.{Byte}
 use Rattle.text_words.specs.Parts.{parts_behind}
 use Rattle.text_words.proofs.WordsLaws.{text_of, left}
-use Rattle.boot_options.specs.Options.{pieces_of}
-use Rattle.boot_options.specs.Reading.{state_of, read_pieces}
+use Rattle.boot_options.specs.Options.{map_options_of}
+use Rattle.boot_options.specs.Reading.{state_of, read_map_options}
 use Rattle.boot_options.proofs.reading.read_memmap.Given as goal
 
 abbrev pub invariant-loop-rest : goal.invariant-loop-rest
 invariant-loop-rest l =
-    read_pieces l.number (state_of l.reading) (pieces_of (parts_behind (Byte 44) (text_of l.rest)))
-    ≡ read_pieces l.number (state_of l.fn.reading) (pieces_of (parts_behind (Byte 44) (text_of l.initial.rest)))
+    read_map_options l.number (state_of l.reading) (map_options_of (parts_behind (Byte 44) (text_of l.rest)))
+    ≡ read_map_options l.number (state_of l.fn.reading) (map_options_of (parts_behind (Byte 44) (text_of l.initial.rest)))
 
 abbrev pub decreases-loop-rest : goal.decreases-loop-rest
 decreases-loop-rest l = left l.rest
