@@ -30,12 +30,22 @@ abbrev pub AreNumbered : List (ℕ × MapOption) → Type 0
 AreNumbered [] = Unit {0}
 AreNumbered (p ∷ ps) = (0 < p.0) × IsSoundOption p.1 × AreNumbered ps
 
+-- a fault that a line may have: its word has a number, and it isn't want of memory
+abbrev pub IsLineFault : OptionFault → Type 0
+IsLineFault faults.TooLong = Unit {0}
+IsLineFault faults.OpenQuote = Unit {0}
+IsLineFault (faults.BadMem word) = 0 < word
+IsLineFault (faults.BadMemmap word) = 0 < word
+IsLineFault (faults.UserMapInvalid word) = 0 < word
+IsLineFault (faults.BadNuma word) = 0 < word
+IsLineFault faults.Memory = ⊥
+
 -- what a word says is sound, and its fault has its number
 pub sound-or_fault : (fault : OptionFault) (o : Option Said) → IfSome o IsSoundWord → IfOk (or_fault fault o) IsSoundWord
 sound-or_fault fault None is = tt
 sound-or_fault fault (Some said) is = is
 
-pub numbered-or_fault : (fault : OptionFault) (o : Option Said) → IsNumbered fault → IfErr (or_fault fault o) IsNumbered
+pub numbered-or_fault : (fault : OptionFault) (o : Option Said) → IsLineFault fault → IfErr (or_fault fault o) IsLineFault
 numbered-or_fault fault None is = is
 numbered-or_fault fault (Some said) is = tt
 
@@ -63,11 +73,11 @@ sound-said_by number word =
     ifsome-if IsSoundWord (bytes_eq value (codes "off")) (Some NumaOff) None tt tt)))
     tt))
 
-pub numbered-said_by : (number : ℕ) (word : List ℕ × Option (List ℕ)) → 0 < number → IfErr (said_by number word) IsNumbered
+pub numbered-said_by : (number : ℕ) (word : List ℕ × Option (List ℕ)) → 0 < number → IfErr (said_by number word) IsLineFault
 numbered-said_by number word above =
-    iferr-if IsNumbered (bytes_eq word.0 (codes "mem")) _ _ (numbered-or_fault (faults.BadMem number) _ above)
-    (iferr-if IsNumbered (bytes_eq word.0 (codes "memmap")) _ _ (numbered-or_fault (faults.BadMemmap number) _ above)
-    (iferr-if IsNumbered (bytes_eq word.0 (codes "numa")) _ _ (numbered-or_fault (faults.BadNuma number) _ above) tt))
+    iferr-if IsLineFault (bytes_eq word.0 (codes "mem")) _ _ (numbered-or_fault (faults.BadMem number) _ above)
+    (iferr-if IsLineFault (bytes_eq word.0 (codes "memmap")) _ _ (numbered-or_fault (faults.BadMemmap number) _ above)
+    (iferr-if IsLineFault (bytes_eq word.0 (codes "numa")) _ _ (numbered-or_fault (faults.BadNuma number) _ above) tt))
 
 -- a fact of a later step, by what the earlier one gives
 pub ifok-then : {A B : Type 0} (P : A → Type 0) (Q : B → Type 0) (r : Result A OptionFault) (f : A → Result B OptionFault)
@@ -76,7 +86,7 @@ ifok-then P Q (Ok a) f is each = each a is
 ifok-then P Q (Err fault) f is each = tt
 
 pub iferr-then : {A B : Type 0} (P : A → Type 0) (r : Result A OptionFault) (f : A → Result B OptionFault)
-    → IfOk r P → IfErr r IsNumbered → ((a : A) → P a → IfErr (f a) IsNumbered) → IfErr (r >>= f) IsNumbered
+    → IfOk r P → IfErr r IsLineFault → ((a : A) → P a → IfErr (f a) IsLineFault) → IfErr (r >>= f) IsLineFault
 iferr-then P (Ok a) f is err each = each a is
 iferr-then P (Err fault) f is err each = err
 
@@ -88,7 +98,7 @@ sound-said_from number (word ∷ words) above =
     ifok-then AreSoundWords AreSoundWords (said_from (number + 1) words) _
     (sound-said_from (number + 1) words (omega arith)) (λ others are. (above, is, are)))
 
-pub numbered-said_from : (number : ℕ) (words : List (List ℕ)) → 0 < number → IfErr (said_from number words) IsNumbered
+pub numbered-said_from : (number : ℕ) (words : List (List ℕ)) → 0 < number → IfErr (said_from number words) IsLineFault
 numbered-said_from number [] above = tt
 numbered-said_from number (word ∷ words) above =
     iferr-then IsSoundWord (said_by number (name_value_of word)) _ (sound-said_by number (name_value_of word))
@@ -141,16 +151,16 @@ sound-with_user_map said are = by_exact (last_exact (all_map_options said))
     by_exact (Some exact) =
         ifok-if IsSoundChoice (nat_lt exact.1 2) _ _ tt (types-edits (all_map_options said) (sound-all_map_options said are))
 
-pub numbered-with_user_map : (said : List (ℕ × Said)) → AreSoundWords said → IfErr (with_user_map said) IsNumbered
+pub numbered-with_user_map : (said : List (ℕ × Said)) → AreSoundWords said → IfErr (with_user_map said) IsLineFault
 numbered-with_user_map said are = by_exact (last_exact (all_map_options said)) (numbered-last_exact (all_map_options said) (sound-all_map_options said are))
   where
-    by_exact : (found : Option (ℕ × ℕ)) → IfSome found (λ exact. 0 < exact.0) → IfErr (unless_incomplete (chosen_by said) found) IsNumbered
+    by_exact : (found : Option (ℕ × ℕ)) → IfSome found (λ exact. 0 < exact.0) → IfErr (unless_incomplete (chosen_by said) found) IsLineFault
     by_exact None is = tt
-    by_exact (Some exact) is = iferr-if IsNumbered (nat_lt exact.1 2) _ _ is tt
+    by_exact (Some exact) is = iferr-if IsLineFault (nat_lt exact.1 2) _ _ is tt
 
-pub numbered-line : (bytes : List ℕ) → IfErr (line_of bytes) IsNumbered
+pub numbered-line : (bytes : List ℕ) → IfErr (line_of bytes) IsLineFault
 numbered-line bytes =
-    iferr-if IsNumbered (nat_lt 2047 (length (raw_line bytes))) _ _ tt (iferr-if IsNumbered (is_closed (raw_line bytes)) _ _ tt tt)
+    iferr-if IsLineFault (nat_lt 2047 (length (raw_line bytes))) _ _ tt (iferr-if IsLineFault (is_closed (raw_line bytes)) _ _ tt tt)
 
 abbrev pub IsAnyLine : List ℕ → Type 0
 IsAnyLine line = Unit {0}
@@ -166,7 +176,7 @@ sound-options bytes =
     ifok-then AreSoundWords IsSoundChoice (said_from 1 (option_words line)) with_user_map
     (sound-said_from 1 (option_words line) (omega arith)) sound-with_user_map)
 
-pub numbered-options : (bytes : List ℕ) → IfErr (options_of bytes) IsNumbered
+pub numbered-options : (bytes : List ℕ) → IfErr (options_of bytes) IsLineFault
 numbered-options bytes =
     iferr-then IsAnyLine (line_of bytes) _ (any_line (line_of bytes)) (numbered-line bytes) (λ line _.
     iferr-then AreSoundWords (said_from 1 (option_words line)) with_user_map
@@ -195,3 +205,7 @@ numbered-given bytes (Err fault) is = by_fault fault is
     by_fault (faults.UserMapInvalid word) is = rw (is (λ same. cc)) at (numbered-options bytes)
     by_fault (faults.BadNuma word) is = rw (is (λ same. cc)) at (numbered-options bytes)
     by_fault faults.Memory is = tt
+
+-- no line says that memory ran out
+pub options-remembered : (bytes : List ℕ) → options_of bytes ≢ Err faults.Memory
+options-remembered bytes is = rw is at (numbered-options bytes)

@@ -6,12 +6,18 @@ use Rattle.text_words.specs.Words.{words_in, unquoted}
 use Rattle.bm_base.specs.ResultSteps.{◌>>=◌}
 use Rattle.boot_options.specs.declared.fault.OptionFault.{OptionFault}
 use Rattle.boot_options.specs.Options.{Said, name_value_of, said_by, said_from, option_words}
-use Rattle.boot_options.specs.Reading.{State, after, read_on, read_all}
+use Rattle.boot_options.specs.declared.reading.Reading.{Reading}
+use Rattle.boot_options.specs.Reading.{State, HasReached, Reaches, after, read_on, read_all}
 
 -- the first word in front of the words behind it, where it isn't `--`
 pub option_words-step : (line word behind : List ℕ) → words_in CommandLine line ≡ word ∷ words_in CommandLine behind
     → bytes_eq (unquoted word) (codes "--") ≡ false → option_words line ≡ unquoted word ∷ option_words behind
 option_words-step line word behind is other = rw is (rw other refl)
+
+-- the state that the reader has reached
+pub reached : (r : Reading) (d : Result State OptionFault) → Reaches r d → (st : State) × HasReached r st × (d ≡ Ok st)
+reached r (Ok st) has = (st, has, refl)
+reached r (Err fault) has = absurd has
 
 -- the fault of a word is that of the line from there on
 pub read_all-fault : (number : ℕ) (st : State) (fault : OptionFault) (word : List ℕ) (words : List (List ℕ))

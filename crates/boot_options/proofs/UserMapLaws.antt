@@ -122,3 +122,12 @@ options-read bytes line st is read = rw is (by_said (said_from 1 (option_words l
         let same : after_all start said ≡ st = cc in
         sym (at_line_end-with_user_map said) ∙ ap at_line_end same
     by_said (Err fault) read = cc
+
+-- a fault of the line's words is that of the bytes
+pub options-fault : (bytes line : List ℕ) (fault : OptionFault) → line_of bytes ≡ Ok line
+    → read_all start (said_from 1 (option_words line)) ≡ Err fault → options_of bytes ≡ Err fault
+options-fault bytes line fault is read = rw is (by_said (said_from 1 (option_words line)) read)
+  where
+    by_said : (r : Result (List (ℕ × Said)) OptionFault) → read_all start r ≡ Err fault → (r >>= with_user_map) ≡ Err fault
+    by_said (Ok said) read = cc
+    by_said (Err f) read = cc

@@ -1,8 +1,10 @@
 -- A command line half read: what the words so far have come to. The reader keeps of the user map only
 -- how many adding map options it still wants.
-use Rattle.std.specs.Prelude.{ℕ, ◌-◌, ◌==◌, if◌then◌else◌, Bool, true, false, Option, Some, None, List, [], ◌∷◌, ◌++◌, Result, Ok, Err}
+use Rattle.std.specs.Prelude.{◌≡◌, ℕ, ◌-◌, ◌<◌, ◌==◌, if◌then◌else◌, Bool, true, false, Option, Some, None, List, [], ◌∷◌, ◌++◌, length, Result, Ok, Err, Vec}
 use Rattle.std.specs.List.{cons_option}
 use Rattle.std.specs.Option.{option_map}
+use Rattle.std.specs.declared.alloc.Global.{Global}
+use Rattle.bm_base.specs.declared.memory.Memory.{Memory}
 use Rattle.e820_model.specs.declared.edit.Edit.{Edit}
 use Rattle.boot_options.specs.declared.fault.OptionFault.{OptionFault}
 use Rattle.boot_options.specs.declared.fault.OptionFault.TheVariants.{UserMapInvalid}
@@ -16,9 +18,6 @@ pub record State : Type 0 where
   pub edits : List Edit
   pub numa_off : Bool
   pub user_map : Option UserMap
-
-abbrev pub state_of : Reading → State
-state_of r = record { edits = r.edits.items; numa_off = r.numa_off; user_map = r.user_map }
 
 abbrev pub start : State
 start = record { edits = []; numa_off = false; user_map = None }
@@ -70,3 +69,23 @@ when_complete chosen (Some m) = if m.wanting == 0 then Ok chosen else Err (UserM
 
 abbrev pub at_line_end : State → Result Chosen OptionFault
 at_line_end st = when_complete (record { edits = st.edits; numa_off = st.numa_off }) st.user_map
+
+-- the edits that are kept are these; where memory ran out for one, there are some
+abbrev pub KeepsEdits : Result (Vec Edit Global) Memory → List Edit → Type 0
+KeepsEdits (Ok kept) edits = kept.items ≡ edits
+KeepsEdits (Err memory) edits = 0 < length edits
+
+-- the reader has reached the state; it may have run out of memory for its edits
+pub record HasReached (r : Reading) (st : State) : Type 0 where
+  pub edits : KeepsEdits r.edits st.edits
+  pub numa_off : r.numa_off ≡ st.numa_off
+  pub user_map : r.user_map ≡ st.user_map
+
+abbrev pub Reaches : Reading → Result State OptionFault → Type 0
+Reaches r (Ok st) = HasReached r st
+Reaches r (Err fault) = ⊥
+
+-- the reader reaches the state that the definition has, or answers its fault
+abbrev pub ReachesAs : {X : Type 0} → (X → Reading) → Result X OptionFault → Result State OptionFault → Type 0
+ReachesAs view (Ok x) definition = Reaches (view x) definition
+ReachesAs view (Err fault) definition = definition ≡ Err fault

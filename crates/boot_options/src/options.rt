@@ -1,8 +1,8 @@
-ghost use Rattle.std.specs.Prelude.{◌≡◌, ℕ, ◌≤◌, length, MatchResult, Ok, Err, IfOk, IfErr};
+ghost use Rattle.std.specs.Prelude.{◌≡◌, ℕ, ◌<◌, ◌≤◌, length, MatchResult, Ok, Err, IfOk, IfErr, IsOkAnd};
 ghost use Rattle.boot_options.specs.declared.options.TheConstants.{LONGEST_LINE};
 ghost use Rattle.boot_options.specs.Options.{Gives, chosen, line_of, options_of, HaveRanges, IsNumbered};
 ghost use Rattle.e820_model.specs.Claims.{HaveTypes};
-ghost use Rattle.boot_options.specs.Reading.{state_of, at_line_end};
+ghost use Rattle.boot_options.specs.Reading.{State, HasReached, at_line_end};
 
 use crate::fault::OptionFault;
 use crate::reading::{Reading, read_words};
@@ -27,6 +27,8 @@ pub struct Options {
 /// own memory runs out.
 pub fn read_options(alloc: Global, bytes: &[u8]) -> Result<Options, OptionFault>
     ensures gives { Gives chosen result (options_of bytes.now) }
+    ensures memory { result ≡ Err OptionFault.Memory →
+        IsOkAnd (options_of bytes.now) (λ options. 0 < length options.edits) }
     ensures types { IfOk result (λ options. HaveTypes options.edits.items) }
     ensures ranges { IfOk result (λ options. HaveRanges options.edits.items) }
     ensures words { IfErr result IsNumbered }
@@ -55,9 +57,11 @@ fn read_line(bytes: &[u8]) -> Result<&[u8], OptionFault>
     Ok(line)
 }
 
-/// The options, unless a user map wants further map options.
+/// The options, unless the user map wants further map options. It takes no memory, and tells where it was
+/// wanting for an edit.
 fn finish(reading: Reading) -> Result<Options, OptionFault>
-    ensures { Gives chosen result (at_line_end (state_of reading)) }
+    ensures gives { (st : State) → HasReached reading st → Gives chosen result (at_line_end st) }
+    ensures memory { result ≡ Err OptionFault.Memory → IsErr reading.edits }
 {
     if let Some(map) = reading.user_map {
         if map.wanting > 0 {
@@ -65,7 +69,7 @@ fn finish(reading: Reading) -> Result<Options, OptionFault>
         }
     }
     Ok(Options {
-        edits: reading.edits,
+        edits: reading.edits?,
         numa_off: reading.numa_off,
     })
 }
