@@ -1,5 +1,8 @@
 -- Small options, map options and lines: what the definitions say of them, by computing.
-use Rattle.std.proofs.Common.{◌≡◌, ℕ, ◌-◌, ◌^◌, true, false, Some, None, List, [], ◌∷◌, codes, replicate, Ok, Err, refl, arith}
+use Rattle.std.proofs.Common.{◌≡◌, ℕ, ◌-◌, ◌^◌, true, false, Some, None, List, [], ◌∷◌, codes, replicate, Ok, Err, refl, arith, Vec}
+use Rattle.std.specs.declared.alloc.Global.{Global}
+use Rattle.bm_base.specs.declared.memory.Memory.{Memory}
+use Rattle.e820_model.specs.declared.edit.Edit.{Edit}
 use Rattle.bm_base.specs.Extent.{Extent}
 use Rattle.bm_base.specs.Size.{size_of}
 use Rattle.e820_model.specs.declared.edit.Edit.TheVariants.{Add, Remove, RemoveAll, Change, Clear}
@@ -7,10 +10,11 @@ use Rattle.boot_options.specs.declared.fault.OptionFault.TheVariants as faults
 use Rattle.boot_options.specs.declared.options.Options.{Options}
 use Rattle.boot_options.specs.declared.map_option.MapOption.{MapOption}
 use Rattle.boot_options.specs.declared.map_option.MapOption.TheVariants.{ExactMap, Adding, Other}
+use Rattle.boot_options.specs.declared.reading.Reading.{Reading}
 use Rattle.boot_options.specs.declared.reading.UserMap.{UserMap}
 use Rattle.boot_options.specs.MapOptions.{number_and_rest, front_size, front_number, at_end, whole_size, range_at, unless_empty, range_above, ram_above, adding_option, small_kind, kind_behind, retyped_to, retyped_from, retyped, changed, by_mark, sized_map_option, map_option_of, ram_up_to, mem_of, Spell, SpellsType}
-use Rattle.boot_options.specs.Options.{raw_line, is_closed, checked_line, line_of, Said, OfMap, NumaOff, map_options_of, memmap_of, of_one, numa_of, or_fault, said_by, at_cut, name_value_of, until_end, option_words, said_from, numbered, all_map_options, edit_of, edits_of, is_numa_off, count_adding, or_here, last_exact, Chosen, chosen, chosen_by, unless_incomplete, with_user_map, options_of, Gives, HasRange, HaveRanges, IsNumbered}
-use Rattle.boot_options.specs.Reading.{start, one_fewer, user_map_behind, after_map_option, after_map_options, after, after_all, read_on, read_all, read_map_options, when_complete, at_line_end}
+use Rattle.boot_options.specs.Options.{raw_line, is_closed, checked_line, line_of, Said, OfMap, NumaOff, map_options_of, memmap_of, of_one, numa_of, or_fault, said_by, at_cut, name_value_of, until_end, option_words, said_from, numbered, all_map_options, edit_of, edits_of, is_numa_off, count_adding, or_here, last_exact, Chosen, chosen, chosen_by, unless_incomplete, with_user_map, options_of, HasRange, HaveRanges, IsNumbered}
+use Rattle.boot_options.specs.Reading.{start, one_fewer, user_map_behind, after_map_option, after_map_options, after, after_all, read_on, read_all, read_map_options, when_complete, at_line_end, KeepsEdits, HasReached, Reaches, ReachesAs}
 
 abbrev range : ℕ → ℕ → Extent
 range base size = record { base = base; size = size }
@@ -70,12 +74,40 @@ removing_form = refl
 removing_all_form : map_option_of (codes "1M%2M") ≡ Some (Other (Some (RemoveAll (range 0x200000 0x100000))))
 removing_all_form = refl
 
+-- the widest range, the last byte, and RAM that ends at 0 or nowhere
+edges : (map_option_of (codes "0xFFFFFFFFFFFFFFFF@0") ≡ Some (Adding (Some (Add (range 0 (2 ^ 64 - 1)) 1))))
+    × (map_option_of (codes "1@18446744073709551614") ≡ Some (Adding (Some (Add (range (2 ^ 64 - 2) 1) 1))))
+    × (map_option_of (codes "0") ≡ Some (Other (Some (Remove (range 0 (2 ^ 64 - 1)) 1)))) × (map_option_of (codes "0xFFFFFFFFFFFFFFFF") ≡ Some (Other None))
+edges = (refl, refl, refl, refl)
+
+-- a type of 0 counts as not written
+types_of_zero : (map_option_of (codes "1%2-0+5") ≡ map_option_of (codes "1%2+5")) × (map_option_of (codes "1%2-5+0") ≡ map_option_of (codes "1%2-5"))
+    × (map_option_of (codes "1%2-0+0") ≡ Some (Other (Some (RemoveAll (range 2 1))))) × (map_option_of (codes "1%2-0") ≡ map_option_of (codes "1%2"))
+    × (map_option_of (codes "1%2+0") ≡ map_option_of (codes "1%2"))
+types_of_zero = (refl, refl, refl, refl, refl)
+
+-- types in other bases, and the greatest one
+types_as_numbers : (map_option_of (codes "1%2-0x10+021") ≡ Some (Other (Some (Change (range 2 1) 16 17)))) × (map_option_of (codes "1%2-4294967295") ≡ Some (Other (Some (Remove (range 2 1) (2 ^ 32 - 1)))))
+types_as_numbers = (refl, refl)
+
 -- an empty range makes no edit, but the map option counts as adding memory; a range past the end is malformed
 empty_form : map_option_of (codes "0@1M") ≡ Some (Adding None)
 empty_form = refl
 
 malformed_options : (map_option_of [] ≡ None) × (map_option_of (codes "1M@") ≡ None) × (map_option_of (codes "1M@2MB") ≡ None) × (map_option_of (codes "1M&2M") ≡ None) × (map_option_of (codes "1M%2M-3+3") ≡ None) × (map_option_of (codes "15E@15E") ≡ None)
 malformed_options = (refl, refl, refl, refl, refl, refl)
+
+-- rubbish in front, behind and between; names that are almost one; ranges past the end
+no_map_options : (map_option_of (codes "@1M") ≡ None) × (map_option_of (codes "1KK") ≡ None) × (map_option_of (codes "1M@2M@3M") ≡ None)
+    × (map_option_of (codes "1M@-2M") ≡ None) × (map_option_of (codes "exactmapx") ≡ None) × (map_option_of (codes "EXACTMAP") ≡ None)
+    × (map_option_of (codes "16E@0") ≡ None) × (map_option_of (codes "2@0xFFFFFFFFFFFFFFFE") ≡ None)
+no_map_options = (refl, refl, refl, refl, refl, refl, refl, refl)
+
+-- types without digits, with a suffix, in the other order, past 2^32 - 1
+no_types : (map_option_of (codes "1%2-") ≡ None) × (map_option_of (codes "1%2-3+") ≡ None) × (map_option_of (codes "1%2-1K") ≡ None)
+    × (map_option_of (codes "1%2+3-4") ≡ None) × (map_option_of (codes "1%2+08") ≡ None) × (map_option_of (codes "1%2-0x10+020") ≡ None)
+    × (map_option_of (codes "1%2+4294967296") ≡ None) × (map_option_of (codes "1%2-18446744073709551616") ≡ None)
+no_types = (refl, refl, refl, refl, refl, refl, refl, refl)
 
 -- the steps of a map option
 steps_of_adding : (adding_option 3 0x1000 (codes "2M") ≡ Some (Adding (Some (Add (range 0x200000 0x1000) 3)))) × (adding_option 3 0x1000 (codes "2M ") ≡ None)
@@ -104,8 +136,8 @@ changed_ranges : (changed 8 (codes "0-1+7") ≡ Some (Other (Some (Change (range
 changed_ranges = (refl, refl)
 
 -- `mem=`: RAM ends somewhere above 0
-mem_values : (mem_of (codes "4G") ≡ Some (Other (Some (Remove (range 0x100000000 (2 ^ 64 - 1 - 0x100000000)) 1)))) × (mem_of (codes "nopentium") ≡ Some (Other None)) × (mem_of (codes "0") ≡ None) × (mem_of (codes "4G@0") ≡ None)
-mem_values = (refl, refl, refl, refl)
+mem_values : (mem_of (codes "4G") ≡ Some (Other (Some (Remove (range 0x100000000 (2 ^ 64 - 1 - 0x100000000)) 1)))) × (mem_of (codes "nopentium") ≡ Some (Other None)) × (mem_of (codes "0") ≡ None) × (mem_of (codes "4G@0") ≡ None) × (mem_of (codes "0xFFFFFFFFFFFFFFFF") ≡ Some (Other None)) × (mem_of (codes "16E") ≡ None) × (mem_of [] ≡ None)
+mem_values = (refl, refl, refl, refl, refl, refl, refl)
 
 ends_of_ram : (ram_up_to 1 ≡ Some (Other (Some (Remove (range 1 (2 ^ 64 - 2)) 1)))) × (ram_up_to 0 ≡ None)
 ends_of_ram = (refl, refl)
@@ -303,12 +335,32 @@ read_or_fault = (refl, refl, refl, refl)
 read_all_or_fault : (read_all start (Err (faults.BadMem 2)) ≡ Err (faults.BadMem 2)) × (read_all start (Ok []) ≡ Ok start)
 read_all_or_fault = (refl, refl)
 
--- an answer gives the definition's value or fault; want of memory may stand in place of either
-same_answer : Gives (λ (n : ℕ). n) (Ok 5) (Ok 5) × Gives {A = ℕ} (λ (n : ℕ). n) (Err faults.OpenQuote) (Err faults.OpenQuote)
-same_answer = (refl, λ other. refl)
+-- the reader keeps the edits of its state; where it ran out of memory, its state has some
+edits_are_kept : (kept : Vec Edit Global) → kept.items ≡ Clear ∷ [] → KeepsEdits (Ok kept) (Clear ∷ [])
+edits_are_kept kept is = is
 
-memory_for_a_value : Gives {A = ℕ} (λ (n : ℕ). n) (Err faults.Memory) (Ok 5)
-memory_for_a_value = λ other. absurd (other refl)
+memory_ran_out : (m : Memory) → KeepsEdits (Err m) (Clear ∷ [])
+memory_ran_out m = omega arith
 
-other_answer : Gives (λ (n : ℕ). n) (Ok 5) (Ok 6) → ⊥
-other_answer gives = grind (arith, gives)
+nothing_to_keep : (m : Memory) → KeepsEdits (Err m) [] → ⊥
+nothing_to_keep m wanting = omega arith
+
+abbrev half_read : Memory → Reading
+half_read m = record { edits = Err m; numa_off = true; user_map = None }
+
+-- all but the edits it has, also without memory
+reached_without_memory : (m : Memory) → HasReached (half_read m) (after 1 (after_map_option 1 start (Other (Some Clear))) NumaOff)
+reached_without_memory m = record { edits = omega arith; numa_off = refl; user_map = refl }
+
+other_numa_off : (m : Memory) → HasReached (half_read m) (after_map_option 1 start (Other (Some Clear))) → ⊥
+other_numa_off m has = let off = has.numa_off in cc off
+
+-- a reader that goes on has no fault, and one that answers a fault has the definition's
+reaches_no_fault : (m : Memory) → Reaches (half_read m) (Err (faults.BadMem 1)) → ⊥
+reaches_no_fault m reaches = reaches
+
+same_fault : (m : Memory) → ReachesAs {X = ℕ} (λ _. half_read m) (Err (faults.BadMem 1)) (read_on 1 start (said_by 1 (codes "mem", None)))
+same_fault m = refl
+
+no_other_fault : (m : Memory) → ReachesAs {X = ℕ} (λ _. half_read m) (Err faults.Memory) (read_on 1 start (said_by 1 (codes "mem", None))) → ⊥
+no_other_fault m same = cc same

@@ -7,6 +7,7 @@ use Rattle.e820_model.specs.Claims.{HaveTypes}
 use Rattle.e820_model.specs.declared.edit.Edit.{Edit}
 use Rattle.text_words.specs.declared.separators.Separators.TheVariants.{Byte}
 use Rattle.text_words.specs.Parts.{parts_in}
+use Rattle.bm_base.specs.Answers.{Answers}
 use Rattle.bm_base.specs.ResultSteps.{◌>>=◌}
 use Rattle.boot_options.specs.declared.fault.OptionFault.{OptionFault}
 use Rattle.boot_options.specs.declared.fault.OptionFault.TheVariants as faults
@@ -14,7 +15,7 @@ use Rattle.boot_options.specs.declared.options.Options.{Options}
 use Rattle.boot_options.specs.declared.map_option.MapOption.{MapOption}
 use Rattle.boot_options.specs.declared.map_option.MapOption.TheVariants.{ExactMap, Adding, Other}
 use Rattle.boot_options.specs.MapOptions.{mem_of}
-use Rattle.boot_options.specs.Options.{Said, OfMap, NumaOff, Chosen, chosen, Gives, is_closed, line_of, raw_line, map_options_of, memmap_of, of_one, numa_of, or_fault, said_by, name_value_of, said_from, option_words, numbered, all_map_options, edit_of, edits_of, count_adding, or_here, last_exact, chosen_by, unless_incomplete, with_user_map, options_of, HaveRanges, IsNumbered}
+use Rattle.boot_options.specs.Options.{Said, OfMap, NumaOff, Chosen, chosen, is_closed, line_of, raw_line, map_options_of, memmap_of, of_one, numa_of, or_fault, said_by, name_value_of, said_from, option_words, numbered, all_map_options, edit_of, edits_of, count_adding, or_here, last_exact, chosen_by, unless_incomplete, with_user_map, options_of, HaveRanges, IsNumbered}
 use Rattle.boot_options.proofs.MapOptionBounds.{IsSound, IsSoundOption, AreSound, ifsome-and_then, ifsome-map, ifsome-if, sound-mem, sound-map_options}
 
 abbrev pub IsSoundWord : Said → Type 0
@@ -183,17 +184,17 @@ numbered-options bytes =
     (sound-said_from 1 (option_words line) (omega arith)) (numbered-said_from 1 (option_words line) (omega arith)) numbered-with_user_map)
 
 -- the same of what a call gives
-pub types-given : (bytes : List ℕ) (r : Result Options OptionFault) → Gives chosen r (options_of bytes)
+pub types-given : (bytes : List ℕ) (r : Result Options OptionFault) → Answers faults.Memory chosen r (options_of bytes)
     → IfOk r (λ options. HaveTypes options.edits.items)
 types-given bytes (Ok options) is = (rw is at (sound-options bytes)).0
 types-given bytes (Err fault) is = tt
 
-pub ranges-given : (bytes : List ℕ) (r : Result Options OptionFault) → Gives chosen r (options_of bytes)
+pub ranges-given : (bytes : List ℕ) (r : Result Options OptionFault) → Answers faults.Memory chosen r (options_of bytes)
     → IfOk r (λ options. HaveRanges options.edits.items)
 ranges-given bytes (Ok options) is = (rw is at (sound-options bytes)).1
 ranges-given bytes (Err fault) is = tt
 
-pub numbered-given : (bytes : List ℕ) (r : Result Options OptionFault) → Gives chosen r (options_of bytes) → IfErr r IsNumbered
+pub numbered-given : (bytes : List ℕ) (r : Result Options OptionFault) → Answers faults.Memory chosen r (options_of bytes) → IfErr r IsNumbered
 numbered-given bytes (Ok options) is = tt
 numbered-given bytes (Err fault) is = by_fault fault is
   where

@@ -162,11 +162,6 @@ options_of bytes = do
   said ← said_from 1 (option_words line)
   with_user_map said
 
--- what a call gives is what the definition says; only want of memory may come besides
-abbrev pub Gives : {A B : Type 0} → (A → B) → Result A OptionFault → Result B OptionFault → Type 0
-Gives view (Ok x) definition = definition ≡ Ok (view x)
-Gives view (Err fault) definition = fault ≢ faults.Memory → definition ≡ Err fault
-
 -- the range of the edit has an address
 abbrev pub HasRange : Edit → Type 0
 HasRange (Add range kind) = 0 < range.size

@@ -1,3 +1,11 @@
+//! Map options: the value of `mem=`, and what stands between the commas of `memmap=`.
+//!
+//! One map option at a time, as `parse_memopt` and `parse_memmap_one` of arch/x86/kernel/e820.c
+//! read it: a size at the front, a mark that says what the range is for, and an address, with
+//! types behind it where they change. Nothing here knows of the line or takes memory; a malformed
+//! text is `None`, and the word that it stands in makes a fault of it. At the end stand the laws:
+//! what is spelled in one of the forms is read as that form.
+
 ghost use Rattle.std.specs.Prelude.{◌≡◌, ◌≢◌, ℕ, ◌-◌, ◌++◌, ◌<◌, ◌≤◌, ◌^◌, List, codes, Option, Some, None};
 ghost use Rattle.std.specs.Option.{option_map};
 ghost use Rattle.bm_base.specs.Extent.{Extent};
@@ -10,7 +18,7 @@ ghost use Rattle.boot_options.specs.MapOptions.{range_above, Spell, SpellsType, 
 use bm_base::{Range, read_number, read_size};
 use e820_model::{E820_TYPE_ACPI, E820_TYPE_PRAM, E820_TYPE_RAM, E820_TYPE_RESERVED, Edit};
 
-/// What `mem=` or one map option of `memmap=` says of the map.
+/// What the value of `mem=`, or one of the texts between the commas of `memmap=`, says of the map.
 #[derive(Clone, Copy, Debug, PartialEq, Eq)]
 pub enum MapOption {
     /// The map is given by the map options that follow (`exactmap`).
@@ -35,7 +43,8 @@ pub fn read_mem(text: &[u8]) -> Option<MapOption>
     Some(MapOption::Other(ram_above(size)))
 }
 
-/// What one map option of `memmap=` says (`parse_memmap_one`); `None` where it is malformed.
+/// What a text between the commas of `memmap=` says (`parse_memmap_one`); `None` where it is
+/// malformed.
 pub fn read_map_option(text: &[u8]) -> Option<MapOption>
     ensures { result ≡ map_option_of text.now }
 {
@@ -167,7 +176,8 @@ pub fn map_options_of_spelling()
     ensures acpi { (s a : List ℕ) (range : Extent) → Spell s a range →
         map_option_of (s ++ (codes "#" ++ a)) ≡ Some (Adding (Some (Add range E820_TYPE_ACPI))) }
     ensures reserved { (s a : List ℕ) (range : Extent) → Spell s a range →
-        map_option_of (s ++ (codes "$" ++ a)) ≡ Some (Adding (Some (Add range E820_TYPE_RESERVED))) }
+        map_option_of (s ++ (codes "$" ++ a))
+        ≡ Some (Adding (Some (Add range E820_TYPE_RESERVED))) }
     ensures persistent { (s a : List ℕ) (range : Extent) → Spell s a range →
         map_option_of (s ++ (codes "!" ++ a)) ≡ Some (Adding (Some (Add range E820_TYPE_PRAM))) }
     ensures above { (s : List ℕ) (size : ℕ) → IsSize s size → size < 2 ^ 64 - 1 →
@@ -176,10 +186,12 @@ pub fn map_options_of_spelling()
         map_option_of (s ++ (codes "%" ++ a)) ≡ Some (Other (Some (RemoveAll range))) }
     ensures one_type { (s a f : List ℕ) (range : Extent) (from : ℕ) →
         Spell s a range → SpellsType f from →
-        map_option_of (s ++ (codes "%" ++ (a ++ (codes "-" ++ f)))) ≡ Some (Other (Some (Remove range from))) }
+        map_option_of (s ++ (codes "%" ++ (a ++ (codes "-" ++ f))))
+        ≡ Some (Other (Some (Remove range from))) }
     ensures new_type { (s a t : List ℕ) (range : Extent) (to : ℕ) →
         Spell s a range → SpellsType t to →
-        map_option_of (s ++ (codes "%" ++ (a ++ (codes "+" ++ t)))) ≡ Some (Adding (Some (Add range to))) }
+        map_option_of (s ++ (codes "%" ++ (a ++ (codes "+" ++ t))))
+        ≡ Some (Adding (Some (Add range to))) }
     ensures other_type { (s a f t : List ℕ) (range : Extent) (from to : ℕ) →
         Spell s a range → SpellsType f from → SpellsType t to → from ≢ to →
         map_option_of (s ++ (codes "%" ++ (a ++ (codes "-" ++ (f ++ (codes "+" ++ t))))))

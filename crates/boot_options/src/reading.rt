@@ -1,11 +1,11 @@
 //! The words of a line, read one after the other.
 //!
-//! Each word has its meaning alone, by its name; a [`Reading`] is what all words so far have come to. The
-//! edits are kept in the order of the line, and of the user map only what the end of the line asks: the
-//! word of the last `exactmap`, and how many adding map options it still wants.
+//! Each word has its meaning alone, by its name; a [`Reading`] is what all words so far have come
+//! to. The edits are kept in the order of the line, and of the user map only what the end of the
+//! line asks: the word of the last `exactmap`, and how many adding map options it still wants.
 //!
-//! Memory is taken here alone, for the edits. Where it runs out the line is still read on without them,
-//! so that a fault is told wherever it stands; no call here answers want of memory.
+//! Memory is taken here alone, for the edits. Where it runs out the line is still read on without
+//! them, so that a fault is told wherever it stands; no call here answers want of memory.
 
 ghost use Rattle.std.specs.Prelude.{◌≡◌, ℕ, ◌≤◌, ◌+◌, List, [], ◌∷◌, ◌++◌, length, Result, Ok, Err};
 ghost use Rattle.std.specs.List.{cons_option};
@@ -32,7 +32,8 @@ pub struct Reading {
     pub user_map: Option<UserMap>,
 }
 
-/// The last `exactmap` so far: its word, and how many adding map options are still wanted behind it.
+/// The last `exactmap` so far: its word, and how many adding map options are still wanted behind
+/// it.
 #[derive(Clone, Copy, Debug, PartialEq, Eq)]
 pub struct UserMap {
     pub word: u32,

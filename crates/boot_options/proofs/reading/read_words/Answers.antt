@@ -33,8 +33,12 @@ loop-word-preserved c =
     let next = reached c.read_word.new.reading (read_on c.loop-word.number so_far.0 (said_by c.loop-word.number (name_value_of c.unquoted-word.result.now)))
     (c.in_default-read_word.ensures so_far.0 so_far.1) in
     record {
-      reading = (next.0, next.1, sym (read_all-step c.loop-word.number so_far.0 next.0 c.unquoted-word.result.now
-          (option_words c.in-Some.behind.now) next.2)
-          ∙ (rw words at so_far.2));
+      reading = (
+        next.0,
+        next.1,
+        sym (read_all-step c.loop-word.number so_far.0 next.0 c.unquoted-word.result.now
+            (option_words c.in-Some.behind.now) next.2)
+            ∙ (rw words at so_far.2),
+      );
       few = omega (arith, c.in-Some.ensures.shorter);
     }
