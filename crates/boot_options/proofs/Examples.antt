@@ -1,26 +1,30 @@
--- Small options, pieces and lines: what the definitions say of them, by computing.
-use Rattle.std.proofs.Common.{◌≡◌, ℕ, ◌-◌, ◌^◌, true, false, Some, None, List, [], ◌∷◌, codes, replicate, Ok, Err, refl, arith}
+-- Small options, map options and lines: what the definitions say of them, by computing.
+use Rattle.std.proofs.Common.{◌≡◌, ℕ, ◌-◌, ◌^◌, true, false, Some, None, List, [], ◌∷◌, codes, replicate, Ok, Err, refl, arith, Vec}
+use Rattle.std.specs.declared.alloc.Global.{Global}
+use Rattle.bm_base.specs.declared.memory.Memory.{Memory}
+use Rattle.e820_model.specs.declared.edit.Edit.{Edit}
 use Rattle.bm_base.specs.Extent.{Extent}
 use Rattle.bm_base.specs.Size.{size_of}
 use Rattle.e820_model.specs.declared.edit.Edit.TheVariants.{Add, Remove, RemoveAll, Change, Clear}
 use Rattle.boot_options.specs.declared.fault.OptionFault.TheVariants as faults
 use Rattle.boot_options.specs.declared.options.Options.{Options}
-use Rattle.boot_options.specs.declared.piece.Piece.{Piece}
-use Rattle.boot_options.specs.declared.piece.Piece.TheVariants.{ExactMap, Adding, Other}
+use Rattle.boot_options.specs.declared.map_option.MapOption.{MapOption}
+use Rattle.boot_options.specs.declared.map_option.MapOption.TheVariants.{ExactMap, Adding, Other}
+use Rattle.boot_options.specs.declared.reading.Reading.{Reading}
 use Rattle.boot_options.specs.declared.reading.UserMap.{UserMap}
-use Rattle.boot_options.specs.Pieces.{part_of, size_part, number_part, at_end, whole_size, range_at, unless_empty, range_above, ram_above, added, small_kind, kind_behind, retyped_to, retyped_from, retyped, changed, by_mark, sized_piece, piece_of, ram_up_to, mem_of, Spell, SpellsType}
-use Rattle.boot_options.specs.Options.{raw_line, is_closed, checked_line, line_of, Said, Pieces, NumaOff, pieces_of, memmap_of, of_piece, numa_of, or_fault, said_by, at_cut, named, until_end, option_words, said_from, numbered, all_pieces, edit_of, with_edit, edits_of, is_numa_off, count_adding, or_here, last_exact, Chosen, chosen, chosen_by, with_user_map, judged, options_of, Gives, HasRange, HaveRanges, IsNumbered}
-use Rattle.boot_options.specs.Reading.{start, one_fewer, user_map_behind, after_piece, after_pieces, after, after_all, read_on, read_all, read_pieces, when_complete, finished}
+use Rattle.boot_options.specs.MapOptions.{number_and_rest, front_size, front_number, at_end, whole_size, range_at, unless_empty, range_above, ram_above, adding_option, small_kind, kind_behind, retyped_to, retyped_from, retyped, changed, by_mark, sized_map_option, map_option_of, ram_up_to, mem_of, Spell, SpellsType}
+use Rattle.boot_options.specs.Options.{raw_line, is_closed, checked_line, line_of, Said, OfMap, NumaOff, map_options_of, memmap_of, of_one, numa_of, or_fault, said_by, at_cut, name_value_of, until_end, option_words, said_from, numbered, all_map_options, edit_of, edits_of, is_numa_off, count_adding, or_here, last_exact, Chosen, chosen, chosen_by, unless_incomplete, with_user_map, options_of, HasRange, HaveRanges, IsNumbered}
+use Rattle.boot_options.specs.Reading.{start, one_fewer, user_map_behind, after_map_option, after_map_options, after, after_all, read_on, read_all, read_map_options, when_complete, at_line_end, KeepsEdits, HasReached, Reaches, ReachesAs}
 
 abbrev range : ℕ → ℕ → Extent
 range base size = record { base = base; size = size }
 
 -- a size and a number at the front of a text, and what stands behind them
-parts : (size_part (codes "1M@2M") ≡ Some (2 ^ 20, codes "@2M")) × (size_part (codes "@2M") ≡ None) × (number_part (codes "5+7") ≡ Some (5, codes "+7")) × (number_part (codes "5K") ≡ Some (5, codes "K"))
-parts = (refl, refl, refl, refl)
+fronts : (front_size (codes "1M@2M") ≡ Some (2 ^ 20, codes "@2M")) × (front_size (codes "@2M") ≡ None) × (front_number (codes "5+7") ≡ Some (5, codes "+7")) × (front_number (codes "5K") ≡ Some (5, codes "K"))
+fronts = (refl, refl, refl, refl)
 
-parts_of_answers : (part_of (codes "5K") (Ok (5, 1)) ≡ Some (5, codes "K")) × (part_of (codes "16E") (size_of (codes "16E")) ≡ None)
-parts_of_answers = (refl, refl)
+fronts_of_answers : (number_and_rest (codes "5K") (Ok (5, 1)) ≡ Some (5, codes "K")) × (number_and_rest (codes "16E") (size_of (codes "16E")) ≡ None)
+fronts_of_answers = (refl, refl)
 
 ends : (at_end {A = ℕ} [] (Some 5) ≡ Some 5) × (at_end {A = ℕ} (codes "K") (Some 5) ≡ None)
 ends = (refl, refl)
@@ -39,52 +43,80 @@ empty_or_not = (refl, refl)
 above : (range_above (2 ^ 64 - 2) ≡ range (2 ^ 64 - 2) 1) × (range_above 0 ≡ range 0 (2 ^ 64 - 1)) × (ram_above (2 ^ 64 - 2) ≡ Some (Remove (range (2 ^ 64 - 2) 1) 1)) × (ram_above (2 ^ 64 - 1) ≡ None)
 above = (refl, refl, refl, refl)
 
--- one piece of each form
-ram_piece : piece_of (codes "1M@2M") ≡ Some (Adding (Some (Add (range 0x200000 0x100000) 1)))
-ram_piece = refl
+-- one map option of each form
+ram_form : map_option_of (codes "1M@2M") ≡ Some (Adding (Some (Add (range 0x200000 0x100000) 1)))
+ram_form = refl
 
-acpi_piece : piece_of (codes "0x1000#0X2fff") ≡ Some (Adding (Some (Add (range 0x2fff 0x1000) 3)))
-acpi_piece = refl
+acpi_form : map_option_of (codes "0x1000#0X2fff") ≡ Some (Adding (Some (Add (range 0x2fff 0x1000) 3)))
+acpi_form = refl
 
-reserved_piece : piece_of (codes "010$020") ≡ Some (Adding (Some (Add (range 16 8) 2)))
-reserved_piece = refl
+reserved_form : map_option_of (codes "010$020") ≡ Some (Adding (Some (Add (range 16 8) 2)))
+reserved_form = refl
 
-persistent_piece : piece_of (codes "1g!4G") ≡ Some (Adding (Some (Add (range 0x100000000 0x40000000) 12)))
-persistent_piece = refl
+persistent_form : map_option_of (codes "1g!4G") ≡ Some (Adding (Some (Add (range 0x100000000 0x40000000) 12)))
+persistent_form = refl
 
-ram_ends_piece : piece_of (codes "4G") ≡ Some (Other (Some (Remove (range 0x100000000 (2 ^ 64 - 1 - 0x100000000)) 1)))
-ram_ends_piece = refl
+ram_ends_form : map_option_of (codes "4G") ≡ Some (Other (Some (Remove (range 0x100000000 (2 ^ 64 - 1 - 0x100000000)) 1)))
+ram_ends_form = refl
 
-exactmap_piece : (piece_of (codes "exactmap") ≡ Some ExactMap) × (piece_of (codes "exactmap ") ≡ None)
-exactmap_piece = (refl, refl)
+exactmap_form : (map_option_of (codes "exactmap") ≡ Some ExactMap) × (map_option_of (codes "exactmap ") ≡ None)
+exactmap_form = (refl, refl)
 
-changing_piece : piece_of (codes "1M%2M-2+1") ≡ Some (Other (Some (Change (range 0x200000 0x100000) 2 1)))
-changing_piece = refl
+changing_form : map_option_of (codes "1M%2M-2+1") ≡ Some (Other (Some (Change (range 0x200000 0x100000) 2 1)))
+changing_form = refl
 
-adding_piece : piece_of (codes "1M%2M+5") ≡ Some (Adding (Some (Add (range 0x200000 0x100000) 5)))
-adding_piece = refl
+adding_form : map_option_of (codes "1M%2M+5") ≡ Some (Adding (Some (Add (range 0x200000 0x100000) 5)))
+adding_form = refl
 
-removing_piece : piece_of (codes "1M%2M-5") ≡ Some (Other (Some (Remove (range 0x200000 0x100000) 5)))
-removing_piece = refl
+removing_form : map_option_of (codes "1M%2M-5") ≡ Some (Other (Some (Remove (range 0x200000 0x100000) 5)))
+removing_form = refl
 
-removing_all_piece : piece_of (codes "1M%2M") ≡ Some (Other (Some (RemoveAll (range 0x200000 0x100000))))
-removing_all_piece = refl
+removing_all_form : map_option_of (codes "1M%2M") ≡ Some (Other (Some (RemoveAll (range 0x200000 0x100000))))
+removing_all_form = refl
 
--- an empty range makes no edit, but the piece counts as adding memory; a range past the end is malformed
-empty_piece : piece_of (codes "0@1M") ≡ Some (Adding None)
-empty_piece = refl
+-- the widest range, the last byte, and RAM that ends at 0 or nowhere
+edges : (map_option_of (codes "0xFFFFFFFFFFFFFFFF@0") ≡ Some (Adding (Some (Add (range 0 (2 ^ 64 - 1)) 1))))
+    × (map_option_of (codes "1@18446744073709551614") ≡ Some (Adding (Some (Add (range (2 ^ 64 - 2) 1) 1))))
+    × (map_option_of (codes "0") ≡ Some (Other (Some (Remove (range 0 (2 ^ 64 - 1)) 1)))) × (map_option_of (codes "0xFFFFFFFFFFFFFFFF") ≡ Some (Other None))
+edges = (refl, refl, refl, refl)
 
-malformed_pieces : (piece_of [] ≡ None) × (piece_of (codes "1M@") ≡ None) × (piece_of (codes "1M@2MB") ≡ None) × (piece_of (codes "1M&2M") ≡ None) × (piece_of (codes "1M%2M-3+3") ≡ None) × (piece_of (codes "15E@15E") ≡ None)
-malformed_pieces = (refl, refl, refl, refl, refl, refl)
+-- a type of 0 counts as not written
+types_of_zero : (map_option_of (codes "1%2-0+5") ≡ map_option_of (codes "1%2+5")) × (map_option_of (codes "1%2-5+0") ≡ map_option_of (codes "1%2-5"))
+    × (map_option_of (codes "1%2-0+0") ≡ Some (Other (Some (RemoveAll (range 2 1))))) × (map_option_of (codes "1%2-0") ≡ map_option_of (codes "1%2"))
+    × (map_option_of (codes "1%2+0") ≡ map_option_of (codes "1%2"))
+types_of_zero = (refl, refl, refl, refl, refl)
 
--- the steps of a piece
-steps_of_added : (added 3 0x1000 (codes "2M") ≡ Some (Adding (Some (Add (range 0x200000 0x1000) 3)))) × (added 3 0x1000 (codes "2M ") ≡ None)
-steps_of_added = (refl, refl)
+-- types in other bases, and the greatest one
+types_as_numbers : (map_option_of (codes "1%2-0x10+021") ≡ Some (Other (Some (Change (range 2 1) 16 17)))) × (map_option_of (codes "1%2-4294967295") ≡ Some (Other (Some (Remove (range 2 1) (2 ^ 32 - 1)))))
+types_as_numbers = (refl, refl)
+
+-- an empty range makes no edit, but the map option counts as adding memory; a range past the end is malformed
+empty_form : map_option_of (codes "0@1M") ≡ Some (Adding None)
+empty_form = refl
+
+malformed_options : (map_option_of [] ≡ None) × (map_option_of (codes "1M@") ≡ None) × (map_option_of (codes "1M@2MB") ≡ None) × (map_option_of (codes "1M&2M") ≡ None) × (map_option_of (codes "1M%2M-3+3") ≡ None) × (map_option_of (codes "15E@15E") ≡ None)
+malformed_options = (refl, refl, refl, refl, refl, refl)
+
+-- rubbish in front, behind and between; names that are almost one; ranges past the end
+no_map_options : (map_option_of (codes "@1M") ≡ None) × (map_option_of (codes "1KK") ≡ None) × (map_option_of (codes "1M@2M@3M") ≡ None)
+    × (map_option_of (codes "1M@-2M") ≡ None) × (map_option_of (codes "exactmapx") ≡ None) × (map_option_of (codes "EXACTMAP") ≡ None)
+    × (map_option_of (codes "16E@0") ≡ None) × (map_option_of (codes "2@0xFFFFFFFFFFFFFFFE") ≡ None)
+no_map_options = (refl, refl, refl, refl, refl, refl, refl, refl)
+
+-- types without digits, with a suffix, in the other order, past 2^32 - 1
+no_types : (map_option_of (codes "1%2-") ≡ None) × (map_option_of (codes "1%2-3+") ≡ None) × (map_option_of (codes "1%2-1K") ≡ None)
+    × (map_option_of (codes "1%2+3-4") ≡ None) × (map_option_of (codes "1%2+08") ≡ None) × (map_option_of (codes "1%2-0x10+020") ≡ None)
+    × (map_option_of (codes "1%2+4294967296") ≡ None) × (map_option_of (codes "1%2-18446744073709551616") ≡ None)
+no_types = (refl, refl, refl, refl, refl, refl, refl, refl)
+
+-- the steps of a map option
+steps_of_adding : (adding_option 3 0x1000 (codes "2M") ≡ Some (Adding (Some (Add (range 0x200000 0x1000) 3)))) × (adding_option 3 0x1000 (codes "2M ") ≡ None)
+steps_of_adding = (refl, refl)
 
 steps_of_marks : (by_mark 0x1000 [] ≡ Some (Other (ram_above 0x1000))) × (by_mark 0x1000 (codes "!0") ≡ Some (Adding (Some (Add (range 0 0x1000) 12)))) × (by_mark 0x1000 (codes "x0") ≡ None)
 steps_of_marks = (refl, refl, refl)
 
-steps_of_sized : (sized_piece (codes "4K$8K") ≡ Some (Adding (Some (Add (range 8192 4096) 2)))) × (sized_piece (codes "exactmap") ≡ None)
+steps_of_sized : (sized_map_option (codes "4K$8K") ≡ Some (Adding (Some (Add (range 8192 4096) 2)))) × (sized_map_option (codes "exactmap") ≡ None)
 steps_of_sized = (refl, refl)
 
 -- a type is at most 2^32 - 1
@@ -104,8 +136,8 @@ changed_ranges : (changed 8 (codes "0-1+7") ≡ Some (Other (Some (Change (range
 changed_ranges = (refl, refl)
 
 -- `mem=`: RAM ends somewhere above 0
-mem_values : (mem_of (codes "4G") ≡ Some (Other (Some (Remove (range 0x100000000 (2 ^ 64 - 1 - 0x100000000)) 1)))) × (mem_of (codes "nopentium") ≡ Some (Other None)) × (mem_of (codes "0") ≡ None) × (mem_of (codes "4G@0") ≡ None)
-mem_values = (refl, refl, refl, refl)
+mem_values : (mem_of (codes "4G") ≡ Some (Other (Some (Remove (range 0x100000000 (2 ^ 64 - 1 - 0x100000000)) 1)))) × (mem_of (codes "nopentium") ≡ Some (Other None)) × (mem_of (codes "0") ≡ None) × (mem_of (codes "4G@0") ≡ None) × (mem_of (codes "0xFFFFFFFFFFFFFFFF") ≡ Some (Other None)) × (mem_of (codes "16E") ≡ None) × (mem_of [] ≡ None)
+mem_values = (refl, refl, refl, refl, refl, refl, refl)
 
 ends_of_ram : (ram_up_to 1 ≡ Some (Other (Some (Remove (range 1 (2 ^ 64 - 2)) 1)))) × (ram_up_to 0 ≡ None)
 ends_of_ram = (refl, refl)
@@ -142,15 +174,15 @@ longest_line = refl
 too_long : checked_line (replicate 2048 34) ≡ Err faults.TooLong
 too_long = refl
 
--- pieces between commas, each of which has to be one
-pieces_in_order : memmap_of (codes "exactmap,8@0") ≡ Some (Pieces (ExactMap ∷ Adding (Some (Add (range 0 8) 1)) ∷ []))
-pieces_in_order = refl
+-- map options between commas, each of which has to be one
+options_in_order : memmap_of (codes "exactmap,8@0") ≡ Some (OfMap (ExactMap ∷ Adding (Some (Add (range 0 8) 1)) ∷ []))
+options_in_order = refl
 
-no_piece_behind_a_comma : (memmap_of (codes "exactmap,") ≡ None) × (memmap_of [] ≡ None)
-no_piece_behind_a_comma = (refl, refl)
+no_option_behind_a_comma : (memmap_of (codes "exactmap,") ≡ None) × (memmap_of [] ≡ None)
+no_option_behind_a_comma = (refl, refl)
 
-lists_of_pieces : (pieces_of [] ≡ Some []) × (pieces_of (codes "exactmap" ∷ codes "1@0" ∷ []) ≡ Some (ExactMap ∷ Adding (Some (Add (range 0 1) 1)) ∷ [])) × (pieces_of (codes "exactmap" ∷ codes "x" ∷ []) ≡ None)
-lists_of_pieces = (refl, refl, refl)
+lists_of_map_options : (map_options_of [] ≡ Some []) × (map_options_of (codes "exactmap" ∷ codes "1@0" ∷ []) ≡ Some (ExactMap ∷ Adding (Some (Add (range 0 1) 1)) ∷ [])) × (map_options_of (codes "exactmap" ∷ codes "x" ∷ []) ≡ None)
+lists_of_map_options = (refl, refl, refl)
 
 numa_values : (numa_of (codes "off") ≡ Some NumaOff) × (numa_of (codes "OFF") ≡ None)
 numa_values = (refl, refl)
@@ -159,14 +191,14 @@ said_or_fault : (or_fault (faults.BadNuma 3) None ≡ Err (faults.BadNuma 3)) ×
 said_or_fault = (refl, refl)
 
 -- name and value, which loses its quotation marks
-names : (named (codes "mem=\"4G\"") ≡ (codes "mem", Some (codes "4G"))) × (named (codes "quiet") ≡ (codes "quiet", None)) × (named (codes "mem=") ≡ (codes "mem", Some []))
+names : (name_value_of (codes "mem=\"4G\"") ≡ (codes "mem", Some (codes "4G"))) × (name_value_of (codes "quiet") ≡ (codes "quiet", None)) × (name_value_of (codes "mem=") ≡ (codes "mem", Some []))
 names = (refl, refl, refl)
 
 cuts : (at_cut (codes "quiet") None ≡ (codes "quiet", None)) × (at_cut (codes "a=\"b") (Some (codes "a", codes "\"b")) ≡ (codes "a", Some (codes "b")))
 cuts = (refl, refl)
 
 -- what one word says: by its whole name, and with the word's number in its fault
-said_words : (said_by 2 (codes "mem", Some (codes "nopentium")) ≡ Ok (of_piece (Other None))) × (said_by 2 (codes "numa", Some (codes "off")) ≡ Ok NumaOff) × (said_by 2 (codes "memory", Some (codes "4G")) ≡ Ok (Pieces []))
+said_words : (said_by 2 (codes "mem", Some (codes "nopentium")) ≡ Ok (of_one (Other None))) × (said_by 2 (codes "numa", Some (codes "off")) ≡ Ok NumaOff) × (said_by 2 (codes "memory", Some (codes "4G")) ≡ Ok (OfMap []))
 said_words = (refl, refl, refl)
 
 faulty_words : (said_by 2 (codes "mem", None) ≡ Err (faults.BadMem 2)) × (said_by 3 (codes "memmap", Some (codes "1G!4X")) ≡ Err (faults.BadMemmap 3)) × (said_by 4 (codes "numa", Some (codes "fake=2")) ≡ Err (faults.BadNuma 4))
@@ -186,34 +218,31 @@ no_words_before_the_end = refl
 first_fault : said_from 1 (codes "quiet" ∷ codes "numa=on" ∷ codes "mem=0" ∷ []) ≡ Err (faults.BadNuma 2)
 first_fault = refl
 
-no_fault : said_from 1 (codes "quiet" ∷ codes "numa=off" ∷ []) ≡ Ok ((1, Pieces []) ∷ (2, NumaOff) ∷ [])
+no_fault : said_from 1 (codes "quiet" ∷ codes "numa=off" ∷ []) ≡ Ok ((1, OfMap []) ∷ (2, NumaOff) ∷ [])
 no_fault = refl
 
 -- word 1 says `exactmap,0@1M`, word 2 `numa=off`, word 3 `8@0`
-abbrev a_page : Piece
+abbrev a_page : MapOption
 a_page = Adding (Some (Add (range 0 8) 1))
 
 abbrev three_words : List (ℕ × Said)
-three_words = (1, Pieces (ExactMap ∷ Adding None ∷ [])) ∷ (2, NumaOff) ∷ (3, Pieces (a_page ∷ [])) ∷ []
+three_words = (1, OfMap (ExactMap ∷ Adding None ∷ [])) ∷ (2, NumaOff) ∷ (3, OfMap (a_page ∷ [])) ∷ []
 
-pieces_with_words : (all_pieces three_words ≡ (1, ExactMap) ∷ (1, Adding None) ∷ (3, a_page) ∷ []) × (all_pieces ((2, NumaOff) ∷ []) ≡ [])
-pieces_with_words = (refl, refl)
+options_with_words : (all_map_options three_words ≡ (1, ExactMap) ∷ (1, Adding None) ∷ (3, a_page) ∷ []) × (all_map_options ((2, NumaOff) ∷ []) ≡ [])
+options_with_words = (refl, refl)
 
-numbered_pieces : (numbered 4 (ExactMap ∷ a_page ∷ []) [] ≡ (4, ExactMap) ∷ (4, a_page) ∷ []) × (numbered 4 [] ((5, a_page) ∷ []) ≡ (5, a_page) ∷ [])
-numbered_pieces = (refl, refl)
+numbered_options : (numbered 4 (ExactMap ∷ a_page ∷ []) [] ≡ (4, ExactMap) ∷ (4, a_page) ∷ []) × (numbered 4 [] ((5, a_page) ∷ []) ≡ (5, a_page) ∷ [])
+numbered_options = (refl, refl)
 
--- an adding piece with an empty range makes no edit
-edits_of_pieces : (edits_of (all_pieces three_words) ≡ Clear ∷ Add (range 0 8) 1 ∷ []) × (edit_of (Adding None) ≡ None) × (edit_of ExactMap ≡ Some Clear) × (edits_of [] ≡ [])
-edits_of_pieces = (refl, refl, refl, refl)
+-- an adding map option with an empty range makes no edit
+edits_of_options : (edits_of (all_map_options three_words) ≡ Clear ∷ Add (range 0 8) 1 ∷ []) × (edit_of (Adding None) ≡ None) × (edit_of ExactMap ≡ Some Clear) × (edits_of [] ≡ [])
+edits_of_options = (refl, refl, refl, refl)
 
-edits_in_front : (with_edit (Some Clear) [] ≡ Clear ∷ []) × (with_edit None (Clear ∷ []) ≡ Clear ∷ [])
-edits_in_front = (refl, refl)
-
-numa_is_off : (is_numa_off three_words ≡ true) × (is_numa_off ((1, Pieces (ExactMap ∷ [])) ∷ []) ≡ false)
+numa_is_off : (is_numa_off three_words ≡ true) × (is_numa_off ((1, OfMap (ExactMap ∷ [])) ∷ []) ≡ false)
 numa_is_off = (refl, refl)
 
--- the last `exactmap` counts, and the adding pieces behind it
-two_behind_it : (last_exact (all_pieces three_words) ≡ Some (1, 2)) × (count_adding (all_pieces three_words) ≡ 2) × (count_adding ((1, ExactMap) ∷ (2, Other None) ∷ []) ≡ 0)
+-- the last `exactmap` counts, and the adding map options behind it
+two_behind_it : (last_exact (all_map_options three_words) ≡ Some (1, 2)) × (count_adding (all_map_options three_words) ≡ 2) × (count_adding ((1, ExactMap) ∷ (2, Other None) ∷ []) ≡ 0)
 two_behind_it = (refl, refl, refl)
 
 one_behind_the_last : last_exact ((1, ExactMap) ∷ (1, a_page) ∷ (2, ExactMap) ∷ (3, a_page) ∷ (4, Other None) ∷ []) ≡ Some (2, 1)
@@ -225,15 +254,15 @@ no_exactmap = refl
 here_or_behind : (or_here None 3 ExactMap 2 ≡ Some (3, 2)) × (or_here (Some (5, 1)) 3 ExactMap 2 ≡ Some (5, 1)) × (or_here None 3 a_page 2 ≡ None)
 here_or_behind = (refl, refl, refl)
 
--- a user map wants two adding pieces
+-- a user map wants two adding map options
 abbrev nothing_chosen : Chosen
 nothing_chosen = record { edits = []; numa_off = false }
 
-user_maps : (with_user_map nothing_chosen (Some (3, 1)) ≡ Err (faults.UserMapInvalid 3)) × (with_user_map nothing_chosen (Some (3, 2)) ≡ Ok nothing_chosen) × (with_user_map nothing_chosen None ≡ Ok nothing_chosen)
+user_maps : (unless_incomplete nothing_chosen (Some (3, 1)) ≡ Err (faults.UserMapInvalid 3)) × (unless_incomplete nothing_chosen (Some (3, 2)) ≡ Ok nothing_chosen) × (unless_incomplete nothing_chosen None ≡ Ok nothing_chosen)
 user_maps = (refl, refl, refl)
 
-judged_words : (judged three_words ≡ Ok (record { edits = Clear ∷ Add (range 0 8) 1 ∷ []; numa_off = true })) × (judged ((1, Pieces (ExactMap ∷ a_page ∷ [])) ∷ []) ≡ Err (faults.UserMapInvalid 1))
-judged_words = (refl, refl)
+words_with_user_maps : (with_user_map three_words ≡ Ok (record { edits = Clear ∷ Add (range 0 8) 1 ∷ []; numa_off = true })) × (with_user_map ((1, OfMap (ExactMap ∷ a_page ∷ [])) ∷ []) ≡ Err (faults.UserMapInvalid 1))
+words_with_user_maps = (refl, refl)
 
 -- what contracts see of options: the edits, without the vector that holds them, and whether the SRAT is read
 chosen_options : (options : Options) → options.edits.items ≡ Clear ∷ [] → options.numa_off ≡ true → chosen options ≡ record { edits = Clear ∷ []; numa_off = true }
@@ -256,8 +285,8 @@ nothing_behind_the_end = refl
 third_word_is_faulty : options_of (codes "quiet mem=2G memmap=1G!4X\n") ≡ Err (faults.BadMemmap 3)
 third_word_is_faulty = refl
 
-user_map_of_one_piece : options_of (codes "a memmap=exactmap memmap=1M@0") ≡ Err (faults.UserMapInvalid 2)
-user_map_of_one_piece = refl
+user_map_of_one_option : options_of (codes "a memmap=exactmap memmap=1M@0") ≡ Err (faults.UserMapInvalid 2)
+user_map_of_one_option = refl
 
 -- ranges of edits, and numbers of words in faults
 ranges_of_edits : HaveRanges (Add (range 0 8) 1 ∷ Clear ∷ [])
@@ -275,11 +304,11 @@ change_has_one = omega arith
 numbered_faults : IsNumbered (faults.BadMem 1) × IsNumbered faults.OpenQuote
 numbered_faults = (omega arith, tt)
 
--- a line half read: behind `exactmap` two adding pieces are wanted, and each one that is read is one fewer
+-- a line half read: behind `exactmap` two adding map options are wanted, and each one that is read is one fewer
 read_three_words : after_all start three_words ≡ record { edits = Clear ∷ Add (range 0 8) 1 ∷ []; numa_off = true; user_map = Some (record { word = 1; wanting = 0 }) }
 read_three_words = refl
 
-none_wanted : (finished (after_all start three_words) ≡ judged three_words) × (finished (after 1 start (Pieces (ExactMap ∷ a_page ∷ []))) ≡ Err (faults.UserMapInvalid 1))
+none_wanted : (at_line_end (after_all start three_words) ≡ with_user_map three_words) × (at_line_end (after 1 start (OfMap (ExactMap ∷ a_page ∷ []))) ≡ Err (faults.UserMapInvalid 1))
 none_wanted = (refl, refl)
 
 abbrev two_wanted : UserMap
@@ -297,21 +326,41 @@ fewer_wanted = (refl, refl)
 complete_or_not : (when_complete nothing_chosen (Some one_wanted) ≡ Err (faults.UserMapInvalid 3)) × (when_complete nothing_chosen (Some (one_fewer one_wanted)) ≡ Ok nothing_chosen) × (when_complete nothing_chosen None ≡ Ok nothing_chosen)
 complete_or_not = (refl, refl, refl)
 
-steps_of_a_word : (after_pieces 3 start [] ≡ start) × (after_pieces 3 start (ExactMap ∷ a_page ∷ []) ≡ after_piece 3 (after_piece 3 start ExactMap) a_page) × (after 2 start NumaOff ≡ record { edits = []; numa_off = true; user_map = None })
+steps_of_a_word : (after_map_options 3 start [] ≡ start) × (after_map_options 3 start (ExactMap ∷ a_page ∷ []) ≡ after_map_option 3 (after_map_option 3 start ExactMap) a_page) × (after 2 start NumaOff ≡ record { edits = []; numa_off = true; user_map = None })
 steps_of_a_word = (refl, refl, refl)
 
-read_or_fault : (read_on 2 start (Err (faults.BadMem 2)) ≡ Err (faults.BadMem 2)) × (read_on 2 start (Ok NumaOff) ≡ Ok (after 2 start NumaOff)) × (read_pieces 2 start None ≡ None) × (read_pieces 2 start (Some []) ≡ Some start)
+read_or_fault : (read_on 2 start (Err (faults.BadMem 2)) ≡ Err (faults.BadMem 2)) × (read_on 2 start (Ok NumaOff) ≡ Ok (after 2 start NumaOff)) × (read_map_options 2 start None ≡ None) × (read_map_options 2 start (Some []) ≡ Some start)
 read_or_fault = (refl, refl, refl, refl)
 
 read_all_or_fault : (read_all start (Err (faults.BadMem 2)) ≡ Err (faults.BadMem 2)) × (read_all start (Ok []) ≡ Ok start)
 read_all_or_fault = (refl, refl)
 
--- an answer gives the definition's value or fault; want of memory may stand in place of either
-same_answer : Gives (λ (n : ℕ). n) (Ok 5) (Ok 5) × Gives {A = ℕ} (λ (n : ℕ). n) (Err faults.OpenQuote) (Err faults.OpenQuote)
-same_answer = (refl, λ other. refl)
+-- the reader keeps the edits of its state; where it ran out of memory, its state has some
+edits_are_kept : (kept : Vec Edit Global) → kept.items ≡ Clear ∷ [] → KeepsEdits (Ok kept) (Clear ∷ [])
+edits_are_kept kept is = is
 
-memory_for_a_value : Gives {A = ℕ} (λ (n : ℕ). n) (Err faults.Memory) (Ok 5)
-memory_for_a_value = λ other. absurd (other refl)
+memory_ran_out : (m : Memory) → KeepsEdits (Err m) (Clear ∷ [])
+memory_ran_out m = omega arith
 
-other_answer : Gives (λ (n : ℕ). n) (Ok 5) (Ok 6) → ⊥
-other_answer gives = grind (arith, gives)
+nothing_to_keep : (m : Memory) → KeepsEdits (Err m) [] → ⊥
+nothing_to_keep m wanting = omega arith
+
+abbrev half_read : Memory → Reading
+half_read m = record { edits = Err m; numa_off = true; user_map = None }
+
+-- all but the edits it has, also without memory
+reached_without_memory : (m : Memory) → HasReached (half_read m) (after 1 (after_map_option 1 start (Other (Some Clear))) NumaOff)
+reached_without_memory m = record { edits = omega arith; numa_off = refl; user_map = refl }
+
+other_numa_off : (m : Memory) → HasReached (half_read m) (after_map_option 1 start (Other (Some Clear))) → ⊥
+other_numa_off m has = let off = has.numa_off in cc off
+
+-- a reader that goes on has no fault, and one that answers a fault has the definition's
+reaches_no_fault : (m : Memory) → Reaches (half_read m) (Err (faults.BadMem 1)) → ⊥
+reaches_no_fault m reaches = reaches
+
+same_fault : (m : Memory) → ReachesAs {X = ℕ} (λ _. half_read m) (Err (faults.BadMem 1)) (read_on 1 start (said_by 1 (codes "mem", None)))
+same_fault m = refl
+
+no_other_fault : (m : Memory) → ReachesAs {X = ℕ} (λ _. half_read m) (Err faults.Memory) (read_on 1 start (said_by 1 (codes "mem", None))) → ⊥
+no_other_fault m same = cc same

@@ -1,6 +1,6 @@
 pub mod ReadingLaws
 pub mod UserMapLaws
-pub mod PieceBounds
+pub mod MapOptionBounds
 pub mod LineBounds
 pub mod SpellingLaws
 mod Examples

@@ -1,23 +1,25 @@
 -- What the options of a line keep: types above 0, ranges with an address, words from 1 on.
 use Rattle.std.proofs.Common.{◌≡◌, ◌≢◌, ℕ, ◌+◌, ◌<◌, nat_lt, if◌then◌else◌, Bool, true, false, Option, Some, None, List, [], ◌∷◌, length, Result, Ok, Err, IfSome, IfOk, IfErr, arith, codes}
+use Rattle.std.specs.List.{cons_option}
 use Rattle.std.specs.Option.{option_and_then}
 use Rattle.std.specs.Str.{bytes_eq}
 use Rattle.e820_model.specs.Claims.{HaveTypes}
 use Rattle.e820_model.specs.declared.edit.Edit.{Edit}
 use Rattle.text_words.specs.declared.separators.Separators.TheVariants.{Byte}
 use Rattle.text_words.specs.Parts.{parts_in}
+use Rattle.bm_base.specs.Answers.{Answers}
 use Rattle.bm_base.specs.ResultSteps.{◌>>=◌}
 use Rattle.boot_options.specs.declared.fault.OptionFault.{OptionFault}
 use Rattle.boot_options.specs.declared.fault.OptionFault.TheVariants as faults
 use Rattle.boot_options.specs.declared.options.Options.{Options}
-use Rattle.boot_options.specs.declared.piece.Piece.{Piece}
-use Rattle.boot_options.specs.declared.piece.Piece.TheVariants.{ExactMap, Adding, Other}
-use Rattle.boot_options.specs.Pieces.{mem_of}
-use Rattle.boot_options.specs.Options.{Said, Pieces, NumaOff, Chosen, chosen, Gives, is_closed, line_of, raw_line, pieces_of, memmap_of, of_piece, numa_of, or_fault, said_by, named, said_from, option_words, numbered, all_pieces, edit_of, with_edit, edits_of, count_adding, or_here, last_exact, chosen_by, with_user_map, judged, options_of, HaveRanges, IsNumbered}
-use Rattle.boot_options.proofs.PieceBounds.{IsSound, IsSoundPiece, AreSound, ifsome-and_then, ifsome-map, ifsome-if, sound-mem, sound-pieces}
+use Rattle.boot_options.specs.declared.map_option.MapOption.{MapOption}
+use Rattle.boot_options.specs.declared.map_option.MapOption.TheVariants.{ExactMap, Adding, Other}
+use Rattle.boot_options.specs.MapOptions.{mem_of}
+use Rattle.boot_options.specs.Options.{Said, OfMap, NumaOff, Chosen, chosen, is_closed, line_of, raw_line, map_options_of, memmap_of, of_one, numa_of, or_fault, said_by, name_value_of, said_from, option_words, numbered, all_map_options, edit_of, edits_of, count_adding, or_here, last_exact, chosen_by, unless_incomplete, with_user_map, options_of, HaveRanges, IsNumbered}
+use Rattle.boot_options.proofs.MapOptionBounds.{IsSound, IsSoundOption, AreSound, ifsome-and_then, ifsome-map, ifsome-if, sound-mem, sound-map_options}
 
 abbrev pub IsSoundWord : Said → Type 0
-IsSoundWord (Pieces ps) = AreSound ps
+IsSoundWord (OfMap ps) = AreSound ps
 IsSoundWord NumaOff = Unit {0}
 
 -- each word has a number above 0 and says something sound
@@ -25,16 +27,26 @@ abbrev pub AreSoundWords : List (ℕ × Said) → Type 0
 AreSoundWords [] = Unit {0}
 AreSoundWords (s ∷ said) = (0 < s.0) × IsSoundWord s.1 × AreSoundWords said
 
-abbrev pub AreNumbered : List (ℕ × Piece) → Type 0
+abbrev pub AreNumbered : List (ℕ × MapOption) → Type 0
 AreNumbered [] = Unit {0}
-AreNumbered (p ∷ ps) = (0 < p.0) × IsSoundPiece p.1 × AreNumbered ps
+AreNumbered (p ∷ ps) = (0 < p.0) × IsSoundOption p.1 × AreNumbered ps
+
+-- a fault that a line may have: its word has a number, and it isn't want of memory
+abbrev pub IsLineFault : OptionFault → Type 0
+IsLineFault faults.TooLong = Unit {0}
+IsLineFault faults.OpenQuote = Unit {0}
+IsLineFault (faults.BadMem word) = 0 < word
+IsLineFault (faults.BadMemmap word) = 0 < word
+IsLineFault (faults.UserMapInvalid word) = 0 < word
+IsLineFault (faults.BadNuma word) = 0 < word
+IsLineFault faults.Memory = ⊥
 
 -- what a word says is sound, and its fault has its number
 pub sound-or_fault : (fault : OptionFault) (o : Option Said) → IfSome o IsSoundWord → IfOk (or_fault fault o) IsSoundWord
 sound-or_fault fault None is = tt
 sound-or_fault fault (Some said) is = is
 
-pub numbered-or_fault : (fault : OptionFault) (o : Option Said) → IsNumbered fault → IfErr (or_fault fault o) IsNumbered
+pub numbered-or_fault : (fault : OptionFault) (o : Option Said) → IsLineFault fault → IfErr (or_fault fault o) IsLineFault
 numbered-or_fault fault None is = is
 numbered-or_fault fault (Some said) is = tt
 
@@ -50,23 +62,23 @@ pub sound-said_by : (number : ℕ) (word : List ℕ × Option (List ℕ)) → If
 sound-said_by number word =
     ifok-if IsSoundWord (bytes_eq word.0 (codes "mem")) _ _
     (sound-or_fault (faults.BadMem number) _
-    (ifsome-map IsSoundPiece IsSoundWord of_piece (option_and_then mem_of word.1) (λ p is. (is, tt))
-    (ifsome-and_then IsSoundPiece mem_of word.1 sound-mem)))
+    (ifsome-map IsSoundOption IsSoundWord of_one (option_and_then mem_of word.1) (λ p is. (is, tt))
+    (ifsome-and_then IsSoundOption mem_of word.1 sound-mem)))
     (ifok-if IsSoundWord (bytes_eq word.0 (codes "memmap")) _ _
     (sound-or_fault (faults.BadMemmap number) _
     (ifsome-and_then IsSoundWord memmap_of word.1 (λ value.
-    ifsome-map AreSound IsSoundWord Pieces (pieces_of (parts_in (Byte 44) value)) (λ ps are. are) (sound-pieces (parts_in (Byte 44) value)))))
+    ifsome-map AreSound IsSoundWord OfMap (map_options_of (parts_in (Byte 44) value)) (λ ps are. are) (sound-map_options (parts_in (Byte 44) value)))))
     (ifok-if IsSoundWord (bytes_eq word.0 (codes "numa")) _ _
     (sound-or_fault (faults.BadNuma number) _
     (ifsome-and_then IsSoundWord numa_of word.1 (λ value.
     ifsome-if IsSoundWord (bytes_eq value (codes "off")) (Some NumaOff) None tt tt)))
     tt))
 
-pub numbered-said_by : (number : ℕ) (word : List ℕ × Option (List ℕ)) → 0 < number → IfErr (said_by number word) IsNumbered
+pub numbered-said_by : (number : ℕ) (word : List ℕ × Option (List ℕ)) → 0 < number → IfErr (said_by number word) IsLineFault
 numbered-said_by number word above =
-    iferr-if IsNumbered (bytes_eq word.0 (codes "mem")) _ _ (numbered-or_fault (faults.BadMem number) _ above)
-    (iferr-if IsNumbered (bytes_eq word.0 (codes "memmap")) _ _ (numbered-or_fault (faults.BadMemmap number) _ above)
-    (iferr-if IsNumbered (bytes_eq word.0 (codes "numa")) _ _ (numbered-or_fault (faults.BadNuma number) _ above) tt))
+    iferr-if IsLineFault (bytes_eq word.0 (codes "mem")) _ _ (numbered-or_fault (faults.BadMem number) _ above)
+    (iferr-if IsLineFault (bytes_eq word.0 (codes "memmap")) _ _ (numbered-or_fault (faults.BadMemmap number) _ above)
+    (iferr-if IsLineFault (bytes_eq word.0 (codes "numa")) _ _ (numbered-or_fault (faults.BadNuma number) _ above) tt))
 
 -- a fact of a later step, by what the earlier one gives
 pub ifok-then : {A B : Type 0} (P : A → Type 0) (Q : B → Type 0) (r : Result A OptionFault) (f : A → Result B OptionFault)
@@ -75,7 +87,7 @@ ifok-then P Q (Ok a) f is each = each a is
 ifok-then P Q (Err fault) f is each = tt
 
 pub iferr-then : {A B : Type 0} (P : A → Type 0) (r : Result A OptionFault) (f : A → Result B OptionFault)
-    → IfOk r P → IfErr r IsNumbered → ((a : A) → P a → IfErr (f a) IsNumbered) → IfErr (r >>= f) IsNumbered
+    → IfOk r P → IfErr r IsLineFault → ((a : A) → P a → IfErr (f a) IsLineFault) → IfErr (r >>= f) IsLineFault
 iferr-then P (Ok a) f is err each = each a is
 iferr-then P (Err fault) f is err each = err
 
@@ -83,73 +95,73 @@ iferr-then P (Err fault) f is err each = err
 pub sound-said_from : (number : ℕ) (words : List (List ℕ)) → 0 < number → IfOk (said_from number words) AreSoundWords
 sound-said_from number [] above = tt
 sound-said_from number (word ∷ words) above =
-    ifok-then IsSoundWord AreSoundWords (said_by number (named word)) _ (sound-said_by number (named word)) (λ said is.
+    ifok-then IsSoundWord AreSoundWords (said_by number (name_value_of word)) _ (sound-said_by number (name_value_of word)) (λ said is.
     ifok-then AreSoundWords AreSoundWords (said_from (number + 1) words) _
     (sound-said_from (number + 1) words (omega arith)) (λ others are. (above, is, are)))
 
-pub numbered-said_from : (number : ℕ) (words : List (List ℕ)) → 0 < number → IfErr (said_from number words) IsNumbered
+pub numbered-said_from : (number : ℕ) (words : List (List ℕ)) → 0 < number → IfErr (said_from number words) IsLineFault
 numbered-said_from number [] above = tt
 numbered-said_from number (word ∷ words) above =
-    iferr-then IsSoundWord (said_by number (named word)) _ (sound-said_by number (named word))
-    (numbered-said_by number (named word) above) (λ said is.
+    iferr-then IsSoundWord (said_by number (name_value_of word)) _ (sound-said_by number (name_value_of word))
+    (numbered-said_by number (name_value_of word) above) (λ said is.
     iferr-then AreSoundWords (said_from (number + 1) words) _ (sound-said_from (number + 1) words (omega arith))
     (numbered-said_from (number + 1) words (omega arith)) (λ others are. tt))
 
--- the pieces of all words
-pub sound-numbered : (number : ℕ) (ps : List Piece) (behind : List (ℕ × Piece))
+-- the map options of all words
+pub sound-numbered : (number : ℕ) (ps : List MapOption) (behind : List (ℕ × MapOption))
     → 0 < number → AreSound ps → AreNumbered behind → AreNumbered (numbered number ps behind)
 sound-numbered number [] behind above are rest = rest
 sound-numbered number (p ∷ ps) behind above are rest = (above, are.0, sound-numbered number ps behind above are.1 rest)
 
-pub sound-all_pieces : (said : List (ℕ × Said)) → AreSoundWords said → AreNumbered (all_pieces said)
-sound-all_pieces [] are = tt
-sound-all_pieces ((number, Pieces ps) ∷ said) are = sound-numbered number ps (all_pieces said) are.0 are.1 (sound-all_pieces said are.2)
-sound-all_pieces ((number, NumaOff) ∷ said) are = sound-all_pieces said are.2
+pub sound-all_map_options : (said : List (ℕ × Said)) → AreSoundWords said → AreNumbered (all_map_options said)
+sound-all_map_options [] are = tt
+sound-all_map_options ((number, OfMap ps) ∷ said) are = sound-numbered number ps (all_map_options said) are.0 are.1 (sound-all_map_options said are.2)
+sound-all_map_options ((number, NumaOff) ∷ said) are = sound-all_map_options said are.2
 
 -- their edits
-pub types-edits : (ps : List (ℕ × Piece)) → AreNumbered ps → HaveTypes (edits_of ps) × HaveRanges (edits_of ps)
+pub types-edits : (ps : List (ℕ × MapOption)) → AreNumbered ps → HaveTypes (edits_of ps) × HaveRanges (edits_of ps)
 types-edits [] are = (tt, tt)
 types-edits (p ∷ ps) are = with_one (edit_of p.1) are.1 (types-edits ps are.2)
   where
     with_one : (e : Option Edit) → IsSound e → HaveTypes (edits_of ps) × HaveRanges (edits_of ps)
-        → HaveTypes (with_edit e (edits_of ps)) × HaveRanges (with_edit e (edits_of ps))
+        → HaveTypes (cons_option e (edits_of ps)) × HaveRanges (cons_option e (edits_of ps))
     with_one None is rest = rest
     with_one (Some e) is rest = ((is.0, rest.0), (is.1, rest.1))
 
 -- the word of the last `exactmap`
-pub numbered-last_exact : (ps : List (ℕ × Piece)) → AreNumbered ps → IfSome (last_exact ps) (λ exact. 0 < exact.0)
+pub numbered-last_exact : (ps : List (ℕ × MapOption)) → AreNumbered ps → IfSome (last_exact ps) (λ exact. 0 < exact.0)
 numbered-last_exact [] are = tt
 numbered-last_exact ((number, p) ∷ ps) are = or_this (last_exact ps) p (numbered-last_exact ps are.2)
   where
-    or_this : (found : Option (ℕ × ℕ)) (p : Piece) → IfSome found (λ exact. 0 < exact.0)
+    or_this : (found : Option (ℕ × ℕ)) (p : MapOption) → IfSome found (λ exact. 0 < exact.0)
         → IfSome (or_here found number p (count_adding ps)) (λ exact. 0 < exact.0)
     or_this (Some exact) p is = is
     or_this None ExactMap is = are.0
     or_this None (Adding e) is = tt
     or_this None (Other e) is = tt
 
--- the judged line
+-- the with_user_map line
 abbrev pub IsSoundChoice : Chosen → Type 0
 IsSoundChoice c = HaveTypes c.edits × HaveRanges c.edits
 
-pub sound-judged : (said : List (ℕ × Said)) → AreSoundWords said → IfOk (judged said) IsSoundChoice
-sound-judged said are = by_exact (last_exact (all_pieces said))
+pub sound-with_user_map : (said : List (ℕ × Said)) → AreSoundWords said → IfOk (with_user_map said) IsSoundChoice
+sound-with_user_map said are = by_exact (last_exact (all_map_options said))
   where
-    by_exact : (found : Option (ℕ × ℕ)) → IfOk (with_user_map (chosen_by said) found) IsSoundChoice
-    by_exact None = types-edits (all_pieces said) (sound-all_pieces said are)
+    by_exact : (found : Option (ℕ × ℕ)) → IfOk (unless_incomplete (chosen_by said) found) IsSoundChoice
+    by_exact None = types-edits (all_map_options said) (sound-all_map_options said are)
     by_exact (Some exact) =
-        ifok-if IsSoundChoice (nat_lt exact.1 2) _ _ tt (types-edits (all_pieces said) (sound-all_pieces said are))
+        ifok-if IsSoundChoice (nat_lt exact.1 2) _ _ tt (types-edits (all_map_options said) (sound-all_map_options said are))
 
-pub numbered-judged : (said : List (ℕ × Said)) → AreSoundWords said → IfErr (judged said) IsNumbered
-numbered-judged said are = by_exact (last_exact (all_pieces said)) (numbered-last_exact (all_pieces said) (sound-all_pieces said are))
+pub numbered-with_user_map : (said : List (ℕ × Said)) → AreSoundWords said → IfErr (with_user_map said) IsLineFault
+numbered-with_user_map said are = by_exact (last_exact (all_map_options said)) (numbered-last_exact (all_map_options said) (sound-all_map_options said are))
   where
-    by_exact : (found : Option (ℕ × ℕ)) → IfSome found (λ exact. 0 < exact.0) → IfErr (with_user_map (chosen_by said) found) IsNumbered
+    by_exact : (found : Option (ℕ × ℕ)) → IfSome found (λ exact. 0 < exact.0) → IfErr (unless_incomplete (chosen_by said) found) IsLineFault
     by_exact None is = tt
-    by_exact (Some exact) is = iferr-if IsNumbered (nat_lt exact.1 2) _ _ is tt
+    by_exact (Some exact) is = iferr-if IsLineFault (nat_lt exact.1 2) _ _ is tt
 
-pub numbered-line : (bytes : List ℕ) → IfErr (line_of bytes) IsNumbered
+pub numbered-line : (bytes : List ℕ) → IfErr (line_of bytes) IsLineFault
 numbered-line bytes =
-    iferr-if IsNumbered (nat_lt 2047 (length (raw_line bytes))) _ _ tt (iferr-if IsNumbered (is_closed (raw_line bytes)) _ _ tt tt)
+    iferr-if IsLineFault (nat_lt 2047 (length (raw_line bytes))) _ _ tt (iferr-if IsLineFault (is_closed (raw_line bytes)) _ _ tt tt)
 
 abbrev pub IsAnyLine : List ℕ → Type 0
 IsAnyLine line = Unit {0}
@@ -162,27 +174,27 @@ any_line (Err fault) = tt
 pub sound-options : (bytes : List ℕ) → IfOk (options_of bytes) IsSoundChoice
 sound-options bytes =
     ifok-then IsAnyLine IsSoundChoice (line_of bytes) _ (any_line (line_of bytes)) (λ line _.
-    ifok-then AreSoundWords IsSoundChoice (said_from 1 (option_words line)) judged
-    (sound-said_from 1 (option_words line) (omega arith)) sound-judged)
+    ifok-then AreSoundWords IsSoundChoice (said_from 1 (option_words line)) with_user_map
+    (sound-said_from 1 (option_words line) (omega arith)) sound-with_user_map)
 
-pub numbered-options : (bytes : List ℕ) → IfErr (options_of bytes) IsNumbered
+pub numbered-options : (bytes : List ℕ) → IfErr (options_of bytes) IsLineFault
 numbered-options bytes =
     iferr-then IsAnyLine (line_of bytes) _ (any_line (line_of bytes)) (numbered-line bytes) (λ line _.
-    iferr-then AreSoundWords (said_from 1 (option_words line)) judged
-    (sound-said_from 1 (option_words line) (omega arith)) (numbered-said_from 1 (option_words line) (omega arith)) numbered-judged)
+    iferr-then AreSoundWords (said_from 1 (option_words line)) with_user_map
+    (sound-said_from 1 (option_words line) (omega arith)) (numbered-said_from 1 (option_words line) (omega arith)) numbered-with_user_map)
 
 -- the same of what a call gives
-pub types-given : (bytes : List ℕ) (r : Result Options OptionFault) → Gives chosen r (options_of bytes)
+pub types-given : (bytes : List ℕ) (r : Result Options OptionFault) → Answers faults.Memory chosen r (options_of bytes)
     → IfOk r (λ options. HaveTypes options.edits.items)
 types-given bytes (Ok options) is = (rw is at (sound-options bytes)).0
 types-given bytes (Err fault) is = tt
 
-pub ranges-given : (bytes : List ℕ) (r : Result Options OptionFault) → Gives chosen r (options_of bytes)
+pub ranges-given : (bytes : List ℕ) (r : Result Options OptionFault) → Answers faults.Memory chosen r (options_of bytes)
     → IfOk r (λ options. HaveRanges options.edits.items)
 ranges-given bytes (Ok options) is = (rw is at (sound-options bytes)).1
 ranges-given bytes (Err fault) is = tt
 
-pub numbered-given : (bytes : List ℕ) (r : Result Options OptionFault) → Gives chosen r (options_of bytes) → IfErr r IsNumbered
+pub numbered-given : (bytes : List ℕ) (r : Result Options OptionFault) → Answers faults.Memory chosen r (options_of bytes) → IfErr r IsNumbered
 numbered-given bytes (Ok options) is = tt
 numbered-given bytes (Err fault) is = by_fault fault is
   where
@@ -194,3 +206,7 @@ numbered-given bytes (Err fault) is = by_fault fault is
     by_fault (faults.UserMapInvalid word) is = rw (is (λ same. cc)) at (numbered-options bytes)
     by_fault (faults.BadNuma word) is = rw (is (λ same. cc)) at (numbered-options bytes)
     by_fault faults.Memory is = tt
+
+-- no line says that memory ran out
+pub options-remembered : (bytes : List ℕ) → options_of bytes ≢ Err faults.Memory
+options-remembered bytes is = rw is at (numbered-options bytes)

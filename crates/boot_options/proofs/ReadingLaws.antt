@@ -5,19 +5,25 @@ use Rattle.text_words.specs.declared.separators.Separators.TheVariants.{CommandL
 use Rattle.text_words.specs.Words.{words_in, unquoted}
 use Rattle.bm_base.specs.ResultSteps.{◌>>=◌}
 use Rattle.boot_options.specs.declared.fault.OptionFault.{OptionFault}
-use Rattle.boot_options.specs.Options.{Said, named, said_by, said_from, option_words}
-use Rattle.boot_options.specs.Reading.{State, after, read_on, read_all}
+use Rattle.boot_options.specs.Options.{Said, name_value_of, said_by, said_from, option_words}
+use Rattle.boot_options.specs.declared.reading.Reading.{Reading}
+use Rattle.boot_options.specs.Reading.{State, HasReached, Reaches, after, read_on, read_all}
 
 -- the first word in front of the words behind it, where it isn't `--`
 pub option_words-step : (line word behind : List ℕ) → words_in CommandLine line ≡ word ∷ words_in CommandLine behind
     → bytes_eq (unquoted word) (codes "--") ≡ false → option_words line ≡ unquoted word ∷ option_words behind
 option_words-step line word behind is other = rw is (rw other refl)
 
+-- the state that the reader has reached
+pub reached : (r : Reading) (d : Result State OptionFault) → Reaches r d → (st : State) × HasReached r st × (d ≡ Ok st)
+reached r (Ok st) has = (st, has, refl)
+reached r (Err fault) has = absurd has
+
 -- the fault of a word is that of the line from there on
 pub read_all-fault : (number : ℕ) (st : State) (fault : OptionFault) (word : List ℕ) (words : List (List ℕ))
-    → read_on number st (said_by number (named word)) ≡ Err fault
+    → read_on number st (said_by number (name_value_of word)) ≡ Err fault
     → read_all st (said_from number (word ∷ words)) ≡ Err fault
-read_all-fault number st fault word words = by_said (said_by number (named word))
+read_all-fault number st fault word words = by_said (said_by number (name_value_of word))
   where
     by_said : (r : Result Said OptionFault) → read_on number st r ≡ Err fault
         → read_all st (r >>= λ said. said_from (number + 1) words >>= λ others. Ok ((number, said) ∷ others)) ≡ Err fault
@@ -26,9 +32,9 @@ read_all-fault number st fault word words = by_said (said_by number (named word)
 
 -- a word that has none leads to what the words behind it make of its state
 pub read_all-step : (number : ℕ) (old new : State) (word : List ℕ) (words : List (List ℕ))
-    → read_on number old (said_by number (named word)) ≡ Ok new
+    → read_on number old (said_by number (name_value_of word)) ≡ Ok new
     → read_all old (said_from number (word ∷ words)) ≡ read_all new (said_from (number + 1) words)
-read_all-step number old new word words = by_said (said_by number (named word))
+read_all-step number old new word words = by_said (said_by number (name_value_of word))
   where
     by_others : (said : Said) (r : Result (List (ℕ × Said)) OptionFault) → after number old said ≡ new
         → read_all old (r >>= λ others. Ok ((number, said) ∷ others)) ≡ read_all new r

@@ -1,4 +1,4 @@
--- What is spelled as a piece of `memmap=` is read as that piece.
+-- What is spelled as a map option of `memmap=` is read as that map option.
 use Rattle.std.proofs.Common.{◌≡◌, ◌≢◌, ℕ, ◌+◌, ◌-◌, ◌^◌, ◌<◌, ◌==◌, nat_lt, if◌then◌else◌, Bool, true, false, Option, Some, List, [], ◌∷◌, ◌++◌, length, drop, refl, ap, ◌∙◌, eq-eqb, codes, Result, Ok, Err, arith}
 use Rattle.std.proofs.Math.Seq.{drop-append_seam, drop-length}
 use Rattle.bm_base.specs.declared.size.NumFault.TheVariants.{NoDigits}
@@ -13,37 +13,37 @@ use Rattle.bm_base.proofs.SizeLaws.{size_of-mark, number_of-mark}
 use Rattle.e820_model.specs.declared.edit.Edit.{Edit}
 use Rattle.e820_model.specs.declared.edit.Edit.TheVariants.{Add, Remove, RemoveAll, Change}
 use Rattle.bm_base.specs.OptionSteps.{◌>>=◌}
-use Rattle.boot_options.specs.declared.piece.Piece.TheVariants.{Adding, Other}
-use Rattle.boot_options.specs.Pieces.{part_of, size_part, number_part, at_end, whole_size, range_at, unless_empty, range_above, added, small_kind, kind_behind, retyped, changed, by_mark, piece_of, Spell, SpellsType}
+use Rattle.boot_options.specs.declared.map_option.MapOption.TheVariants.{Adding, Other}
+use Rattle.boot_options.specs.MapOptions.{number_and_rest, front_size, front_number, at_end, whole_size, range_at, unless_empty, range_above, adding_option, small_kind, kind_behind, retyped, changed, by_mark, map_option_of, Spell, SpellsType}
 
 -- the later step, where the earlier one gives a value
 pub then-some : {A B : Type 0} (o : Option A) (f : A → Option B) (x : A) → o ≡ Some x → (o >>= f) ≡ f x
 then-some o f x is = rw is refl
 
 -- what is read of a text up to the byte before the rest, or to its end
-pub part_of-front : (s rest : List ℕ) (r : Result (ℕ × ℕ) NumFault) (n : ℕ) → r ≡ Ok (n, length s) → part_of (s ++ rest) r ≡ Some (n, rest)
-part_of-front s rest r n is = rw (is, drop-append_seam s rest) refl
+pub number_and_rest-front : (s rest : List ℕ) (r : Result (ℕ × ℕ) NumFault) (n : ℕ) → r ≡ Ok (n, length s) → number_and_rest (s ++ rest) r ≡ Some (n, rest)
+number_and_rest-front s rest r n is = rw (is, drop-append_seam s rest) refl
 
-pub part_of-whole : (s : List ℕ) (r : Result (ℕ × ℕ) NumFault) (n : ℕ) → r ≡ Ok (n, length s) → part_of s r ≡ Some (n, [])
-part_of-whole s r n is = rw (is, drop-length s) refl
+pub number_and_rest-whole : (s : List ℕ) (r : Result (ℕ × ℕ) NumFault) (n : ℕ) → r ≡ Ok (n, length s) → number_and_rest s r ≡ Some (n, [])
+number_and_rest-whole s r n is = rw (is, drop-length s) refl
 
 -- a size, or a number, before a byte that is no digit and no letter, or at the end of the text
-pub size_part-mark : (s : List ℕ) (n mark : ℕ) (rest : List ℕ) → IsSize s n → is_digit mark 36 ≡ false
-    → size_part (s ++ (mark ∷ rest)) ≡ Some (n, mark ∷ rest)
-size_part-mark s n mark rest size is = part_of-front s (mark ∷ rest) _ n (size_of-mark s rest mark is ∙ size)
+pub front_size-mark : (s : List ℕ) (n mark : ℕ) (rest : List ℕ) → IsSize s n → is_digit mark 36 ≡ false
+    → front_size (s ++ (mark ∷ rest)) ≡ Some (n, mark ∷ rest)
+front_size-mark s n mark rest size is = number_and_rest-front s (mark ∷ rest) _ n (size_of-mark s rest mark is ∙ size)
 
-pub size_part-end : (s : List ℕ) (n : ℕ) → IsSize s n → size_part s ≡ Some (n, [])
-size_part-end s n size = part_of-whole s (size_of s) n size
+pub front_size-end : (s : List ℕ) (n : ℕ) → IsSize s n → front_size s ≡ Some (n, [])
+front_size-end s n size = number_and_rest-whole s (size_of s) n size
 
-pub number_part-mark : (s : List ℕ) (n mark : ℕ) (rest : List ℕ) → IsNumber s n → is_digit mark 36 ≡ false
-    → number_part (s ++ (mark ∷ rest)) ≡ Some (n, mark ∷ rest)
-number_part-mark s n mark rest number is = part_of-front s (mark ∷ rest) _ n (number_of-mark s rest mark is ∙ number)
+pub front_number-mark : (s : List ℕ) (n mark : ℕ) (rest : List ℕ) → IsNumber s n → is_digit mark 36 ≡ false
+    → front_number (s ++ (mark ∷ rest)) ≡ Some (n, mark ∷ rest)
+front_number-mark s n mark rest number is = number_and_rest-front s (mark ∷ rest) _ n (number_of-mark s rest mark is ∙ number)
 
-pub number_part-end : (s : List ℕ) (n : ℕ) → IsNumber s n → number_part s ≡ Some (n, [])
-number_part-end s n number = part_of-whole s (number_of s) n number
+pub front_number-end : (s : List ℕ) (n : ℕ) → IsNumber s n → front_number s ≡ Some (n, [])
+front_number-end s n number = number_and_rest-whole s (number_of s) n number
 
 pub whole_size-end : (s : List ℕ) (n : ℕ) → IsSize s n → whole_size s ≡ Some n
-whole_size-end s n size = then-some (size_part s) (λ part. at_end part.1 (Some part.0)) (n, []) (size_part-end s n size)
+whole_size-end s n size = then-some (front_size s) (λ front. at_end front.1 (Some front.0)) (n, []) (front_size-end s n size)
 
 -- a size begins with a digit, so it isn't `exactmap`
 pub begins_with_digit-size : (s : List ℕ) (n : ℕ) → IsSize s n → begins_with_digit s ≡ true
@@ -72,11 +72,11 @@ exactmap-end [] begins = cc
 exactmap-end (b ∷ bs) begins = exactmap-digit b bs begins
 
 -- the size in front of a mark
-pub piece-mark : (s : List ℕ) (n mark : ℕ) (rest : List ℕ) → IsSize s n → is_digit mark 36 ≡ false
-    → piece_of (s ++ (mark ∷ rest)) ≡ by_mark n (mark ∷ rest)
-piece-mark s n mark rest size is =
+pub map_option-mark : (s : List ℕ) (n mark : ℕ) (rest : List ℕ) → IsSize s n → is_digit mark 36 ≡ false
+    → map_option_of (s ++ (mark ∷ rest)) ≡ by_mark n (mark ∷ rest)
+map_option-mark s n mark rest size is =
     rw (exactmap-other s (mark ∷ rest) (begins_with_digit-size s n size))
-    (then-some (size_part (s ++ (mark ∷ rest))) (λ size. by_mark size.0 size.1) (n, mark ∷ rest) (size_part-mark s n mark rest size is))
+    (then-some (front_size (s ++ (mark ∷ rest))) (λ size. by_mark size.0 size.1) (n, mark ∷ rest) (front_size-mark s n mark rest size is))
 
 -- the range, and an edit of it
 pub range_at-ends : (range : Extent) → range.base + range.size < 2 ^ 64 → range_at range.base range.size ≡ Some range
@@ -89,27 +89,27 @@ unless_empty-some range e some =
     let above : nat_lt 0 range.size ≡ true = grind (arith, nat_tests, some) in
     rw above refl
 
-pub added-spelled : (kind : ℕ) (s a : List ℕ) (range : Extent) → Spell s a range
-    → added kind range.size a ≡ Some (Adding (Some (Add range kind)))
-added-spelled kind s a range spell =
+pub adding_option-spelled : (kind : ℕ) (s a : List ℕ) (range : Extent) → Spell s a range
+    → adding_option kind range.size a ≡ Some (Adding (Some (Add range kind)))
+adding_option-spelled kind s a range spell =
     then-some (whole_size a) _ range.base (whole_size-end a range.base spell.base)
     ∙ then-some (range_at range.base range.size) (λ r. Some (Adding (unless_empty r (Add r kind)))) range (range_at-ends range spell.ends)
     ∙ ap (λ (e : Option Edit). Some (Adding e)) (unless_empty-some range (Add range kind) spell.some)
 
 -- a mark of an adding form, which means that type
-pub piece-added : (s a : List ℕ) (range : Extent) (mark kind : ℕ) → is_digit mark 36 ≡ false
-    → by_mark range.size (mark ∷ a) ≡ added kind range.size a → Spell s a range
-    → piece_of (s ++ (mark ∷ a)) ≡ Some (Adding (Some (Add range kind)))
-piece-added s a range mark kind is means spell =
-    piece-mark s range.size mark a spell.size is ∙ means ∙ added-spelled kind s a range spell
+pub map_option-adding : (s a : List ℕ) (range : Extent) (mark kind : ℕ) → is_digit mark 36 ≡ false
+    → by_mark range.size (mark ∷ a) ≡ adding_option kind range.size a → Spell s a range
+    → map_option_of (s ++ (mark ∷ a)) ≡ Some (Adding (Some (Add range kind)))
+map_option-adding s a range mark kind is means spell =
+    map_option-mark s range.size mark a spell.size is ∙ means ∙ adding_option-spelled kind s a range spell
 
 -- a size alone
-pub piece-above : (s : List ℕ) (size : ℕ) → IsSize s size → size < 2 ^ 64 - 1
-    → piece_of s ≡ Some (Other (Some (Remove (range_above size) 1)))
-piece-above s size is small =
+pub map_option-above : (s : List ℕ) (size : ℕ) → IsSize s size → size < 2 ^ 64 - 1
+    → map_option_of s ≡ Some (Other (Some (Remove (range_above size) 1)))
+map_option-above s size is small =
     let some : 0 < (range_above size).size = omega arith in
     rw (exactmap-end s (begins_with_digit-size s size is))
-    (then-some (size_part s) (λ part. by_mark part.0 part.1) (size, []) (size_part-end s size is)
+    (then-some (front_size s) (λ front. by_mark front.0 front.1) (size, []) (front_size-end s size is)
     ∙ ap (λ (e : Option Edit). Some (Other e)) (unless_empty-some (range_above size) (Remove (range_above size) 1) some))
 
 -- a type below 2^32 is one
@@ -122,21 +122,21 @@ small_kind-below n rest is =
 pub kind_behind-end : (mark : ℕ) (text : List ℕ) (kind : ℕ) → SpellsType text kind → kind_behind mark (mark ∷ text) ≡ Some (kind, [])
 kind_behind-end mark text kind spells =
     rw (eq-eqb mark mark refl)
-    (then-some (number_part text) small_kind (kind, []) (number_part-end text kind spells.number) ∙ small_kind-below kind [] spells.small)
+    (then-some (front_number text) small_kind (kind, []) (front_number-end text kind spells.number) ∙ small_kind-below kind [] spells.small)
 
 pub kind_behind-mark : (mark : ℕ) (text : List ℕ) (kind next : ℕ) (rest : List ℕ) → SpellsType text kind → is_digit next 36 ≡ false
     → kind_behind mark (mark ∷ (text ++ (next ∷ rest))) ≡ Some (kind, next ∷ rest)
 kind_behind-mark mark text kind next rest spells is =
     rw (eq-eqb mark mark refl)
-    (then-some (number_part (text ++ (next ∷ rest))) small_kind (kind, next ∷ rest) (number_part-mark text kind next rest spells.number is)
+    (then-some (front_number (text ++ (next ∷ rest))) small_kind (kind, next ∷ rest) (front_number-mark text kind next rest spells.number is)
     ∙ small_kind-below kind (next ∷ rest) spells.small)
 
 -- the forms with `%`: the address, the types, and nothing behind them
 pub changed-spelled : (range : Extent) (place tail rest : List ℕ) (from to : ℕ) → range.base + range.size < 2 ^ 64
-    → size_part place ≡ Some (range.base, tail) → kind_behind 45 tail ≡ Some (from, rest) → kind_behind 43 rest ≡ Some (to, [])
+    → front_size place ≡ Some (range.base, tail) → kind_behind 45 tail ≡ Some (from, rest) → kind_behind 43 rest ≡ Some (to, [])
     → changed range.size place ≡ retyped range from to
 changed-spelled range place tail rest from to ends base is_from is_to =
-    then-some (size_part place) _ (range.base, tail) base
+    then-some (front_size place) _ (range.base, tail) base
     ∙ then-some (range_at range.base range.size) _ range (range_at-ends range ends)
     ∙ then-some (kind_behind 45 tail) _ (from, rest) is_from
     ∙ then-some (kind_behind 43 rest) (λ to. at_end to.1 (retyped range from to.0)) (to, []) is_to
@@ -144,37 +144,37 @@ changed-spelled range place tail rest from to ends base is_from is_to =
 pub other_than_zero : (n : ℕ) → 0 < n → n == 0 ≡ false
 other_than_zero n above = grind (arith, nat_tests, above)
 
-pub piece-every_type : (s a : List ℕ) (range : Extent) → Spell s a range → piece_of (s ++ (37 ∷ a)) ≡ Some (Other (Some (RemoveAll range)))
-piece-every_type s a range spell =
-    piece-mark s range.size 37 a spell.size refl
-    ∙ changed-spelled range a [] [] 0 0 spell.ends (size_part-end a range.base spell.base) refl refl
+pub map_option-every_type : (s a : List ℕ) (range : Extent) → Spell s a range → map_option_of (s ++ (37 ∷ a)) ≡ Some (Other (Some (RemoveAll range)))
+map_option-every_type s a range spell =
+    map_option-mark s range.size 37 a spell.size refl
+    ∙ changed-spelled range a [] [] 0 0 spell.ends (front_size-end a range.base spell.base) refl refl
     ∙ ap (λ (e : Option Edit). Some (Other e)) (unless_empty-some range (RemoveAll range) spell.some)
 
-pub piece-one_type : (s a f : List ℕ) (range : Extent) (from : ℕ) → Spell s a range → SpellsType f from
-    → piece_of (s ++ (37 ∷ (a ++ (45 ∷ f)))) ≡ Some (Other (Some (Remove range from)))
-piece-one_type s a f range from spell spells =
-    piece-mark s range.size 37 (a ++ (45 ∷ f)) spell.size refl
-    ∙ changed-spelled range (a ++ (45 ∷ f)) (45 ∷ f) [] from 0 spell.ends (size_part-mark a range.base 45 f spell.base refl)
+pub map_option-one_type : (s a f : List ℕ) (range : Extent) (from : ℕ) → Spell s a range → SpellsType f from
+    → map_option_of (s ++ (37 ∷ (a ++ (45 ∷ f)))) ≡ Some (Other (Some (Remove range from)))
+map_option-one_type s a f range from spell spells =
+    map_option-mark s range.size 37 (a ++ (45 ∷ f)) spell.size refl
+    ∙ changed-spelled range (a ++ (45 ∷ f)) (45 ∷ f) [] from 0 spell.ends (front_size-mark a range.base 45 f spell.base refl)
     (kind_behind-end 45 f from spells) refl
     ∙ rw (other_than_zero from spells.above)
     (ap (λ (e : Option Edit). Some (Other e)) (unless_empty-some range (Remove range from) spell.some))
 
-pub piece-new_type : (s a t : List ℕ) (range : Extent) (to : ℕ) → Spell s a range → SpellsType t to
-    → piece_of (s ++ (37 ∷ (a ++ (43 ∷ t)))) ≡ Some (Adding (Some (Add range to)))
-piece-new_type s a t range to spell spells =
-    piece-mark s range.size 37 (a ++ (43 ∷ t)) spell.size refl
-    ∙ changed-spelled range (a ++ (43 ∷ t)) (43 ∷ t) (43 ∷ t) 0 to spell.ends (size_part-mark a range.base 43 t spell.base refl)
+pub map_option-new_type : (s a t : List ℕ) (range : Extent) (to : ℕ) → Spell s a range → SpellsType t to
+    → map_option_of (s ++ (37 ∷ (a ++ (43 ∷ t)))) ≡ Some (Adding (Some (Add range to)))
+map_option-new_type s a t range to spell spells =
+    map_option-mark s range.size 37 (a ++ (43 ∷ t)) spell.size refl
+    ∙ changed-spelled range (a ++ (43 ∷ t)) (43 ∷ t) (43 ∷ t) 0 to spell.ends (front_size-mark a range.base 43 t spell.base refl)
     refl (kind_behind-end 43 t to spells)
     ∙ rw (other_than_zero to spells.above)
     (ap (λ (e : Option Edit). Some (Adding e)) (unless_empty-some range (Add range to) spell.some))
 
-pub piece-other_type : (s a f t : List ℕ) (range : Extent) (from to : ℕ)
+pub map_option-other_type : (s a f t : List ℕ) (range : Extent) (from to : ℕ)
     → Spell s a range → SpellsType f from → SpellsType t to → from ≢ to
-    → piece_of (s ++ (37 ∷ (a ++ (45 ∷ (f ++ (43 ∷ t)))))) ≡ Some (Other (Some (Change range from to)))
-piece-other_type s a f t range from to spell is_from is_to differ =
-    piece-mark s range.size 37 (a ++ (45 ∷ (f ++ (43 ∷ t)))) spell.size refl
+    → map_option_of (s ++ (37 ∷ (a ++ (45 ∷ (f ++ (43 ∷ t)))))) ≡ Some (Other (Some (Change range from to)))
+map_option-other_type s a f t range from to spell is_from is_to differ =
+    map_option-mark s range.size 37 (a ++ (45 ∷ (f ++ (43 ∷ t)))) spell.size refl
     ∙ changed-spelled range (a ++ (45 ∷ (f ++ (43 ∷ t)))) (45 ∷ (f ++ (43 ∷ t))) (43 ∷ t) from to spell.ends
-    (size_part-mark a range.base 45 (f ++ (43 ∷ t)) spell.base refl)
+    (front_size-mark a range.base 45 (f ++ (43 ∷ t)) spell.base refl)
     (kind_behind-mark 45 f from 43 t is_from refl) (kind_behind-end 43 t to is_to)
     ∙ rw (other_than_zero from is_from.above, other_than_zero to is_to.above, ne_eqb from to differ)
     (ap (λ (e : Option Edit). Some (Other e)) (unless_empty-some range (Change range from to) spell.some))

@@ -3,78 +3,79 @@ use Rattle.std.proofs.Common.{◌≡◌, ℕ, ◌+◌, ◌-◌, ◌==◌, nat_lt
 use Rattle.std.proofs.Math.Bool.{or-false, or-true}
 use Rattle.std.proofs.lemmas.List.{append-nil}
 use Rattle.std.proofs.lemmas.Bool.Decides.{nat_tests}
+use Rattle.std.specs.List.{cons_option}
 use Rattle.std.specs.Option.{option_map}
 use Rattle.e820_model.specs.declared.edit.Edit.{Edit}
 use Rattle.bm_base.specs.ResultSteps.{◌>>=◌}
 use Rattle.boot_options.specs.declared.fault.OptionFault.{OptionFault}
-use Rattle.boot_options.specs.declared.piece.Piece.{Piece}
-use Rattle.boot_options.specs.declared.piece.Piece.TheVariants.{ExactMap, Adding, Other}
+use Rattle.boot_options.specs.declared.map_option.MapOption.{MapOption}
+use Rattle.boot_options.specs.declared.map_option.MapOption.TheVariants.{ExactMap, Adding, Other}
 use Rattle.boot_options.specs.declared.reading.UserMap.{UserMap}
-use Rattle.boot_options.specs.Options.{Said, Pieces, NumaOff, Chosen, line_of, said_from, option_words, numbered, all_pieces, edit_of, with_edit, edits_of, is_numa_off, count_adding, or_here, last_exact, with_user_map, judged, options_of}
-use Rattle.boot_options.specs.Reading.{State, start, one_fewer, user_map_behind, after_piece, after_pieces, after_all, read_all, when_complete, finished}
+use Rattle.boot_options.specs.Options.{Said, OfMap, NumaOff, Chosen, line_of, said_from, option_words, numbered, all_map_options, edit_of, edits_of, is_numa_off, count_adding, or_here, last_exact, unless_incomplete, with_user_map, options_of}
+use Rattle.boot_options.specs.Reading.{State, start, one_fewer, user_map_behind, after_map_option, after_map_options, after_all, read_all, when_complete, at_line_end}
 
 -- one edit behind others
 pub edits-step : (front : List Edit) (e : Option Edit) (behind : List Edit)
-    → (front ++ with_edit e []) ++ behind ≡ front ++ with_edit e behind
+    → (front ++ cons_option e []) ++ behind ≡ front ++ cons_option e behind
 edits-step front None behind = rw append-nil refl
 edits-step front (Some e) behind = append_assoc front (e ∷ []) behind
 
--- the edits of a word's pieces
-pub edits-pieces : (number : ℕ) (st : State) (ps : List Piece) (behind : List (ℕ × Piece))
-    → (after_pieces number st ps).edits ++ edits_of behind ≡ st.edits ++ edits_of (numbered number ps behind)
-edits-pieces number st [] behind = refl
-edits-pieces number st (p ∷ ps) behind =
-    edits-pieces number (after_piece number st p) ps behind
+-- the edits of a word's map options
+pub edits-map_options : (number : ℕ) (st : State) (ps : List MapOption) (behind : List (ℕ × MapOption))
+    → (after_map_options number st ps).edits ++ edits_of behind ≡ st.edits ++ edits_of (numbered number ps behind)
+edits-map_options number st [] behind = refl
+edits-map_options number st (p ∷ ps) behind =
+    edits-map_options number (after_map_option number st p) ps behind
     ∙ edits-step st.edits (edit_of p) (edits_of (numbered number ps behind))
 
 -- the edits of all words
-pub edits-all : (st : State) (said : List (ℕ × Said)) → (after_all st said).edits ≡ st.edits ++ edits_of (all_pieces said)
+pub edits-all : (st : State) (said : List (ℕ × Said)) → (after_all st said).edits ≡ st.edits ++ edits_of (all_map_options said)
 edits-all st [] = sym (append-nil st.edits)
-edits-all st ((number, Pieces ps) ∷ said) =
-    edits-all (after_pieces number st ps) said ∙ edits-pieces number st ps (all_pieces said)
+edits-all st ((number, OfMap ps) ∷ said) =
+    edits-all (after_map_options number st ps) said ∙ edits-map_options number st ps (all_map_options said)
 edits-all st ((number, NumaOff) ∷ said) = edits-all (record { edits = st.edits; numa_off = true; user_map = st.user_map }) said
 
--- pieces say nothing of nodes
-pub numa_off-pieces : (number : ℕ) (st : State) (ps : List Piece) → (after_pieces number st ps).numa_off ≡ st.numa_off
-numa_off-pieces number st [] = refl
-numa_off-pieces number st (p ∷ ps) = numa_off-pieces number (after_piece number st p) ps
+-- map options say nothing of nodes
+pub numa_off-map_options : (number : ℕ) (st : State) (ps : List MapOption) → (after_map_options number st ps).numa_off ≡ st.numa_off
+numa_off-map_options number st [] = refl
+numa_off-map_options number st (p ∷ ps) = numa_off-map_options number (after_map_option number st p) ps
 
 -- whether some word says `numa=off`
 pub numa_off-all : (st : State) (said : List (ℕ × Said)) → (after_all st said).numa_off ≡ (st.numa_off || is_numa_off said)
 numa_off-all st [] = sym (or-false st.numa_off)
-numa_off-all st ((number, Pieces ps) ∷ said) =
-    numa_off-all (after_pieces number st ps) said
-    ∙ ap (λ (b : Bool). b || is_numa_off said) (numa_off-pieces number st ps)
+numa_off-all st ((number, OfMap ps) ∷ said) =
+    numa_off-all (after_map_options number st ps) said
+    ∙ ap (λ (b : Bool). b || is_numa_off said) (numa_off-map_options number st ps)
 numa_off-all st ((number, NumaOff) ∷ said) =
     numa_off-all (record { edits = st.edits; numa_off = true; user_map = st.user_map }) said ∙ sym (or-true st.numa_off)
 
--- the user map behind the pieces of all words
-abbrev pub map_behind : List (ℕ × Piece) → Option UserMap → Option UserMap
+-- the user map behind the map options of all words
+abbrev pub map_behind : List (ℕ × MapOption) → Option UserMap → Option UserMap
 map_behind [] m = m
 map_behind (p ∷ ps) m = map_behind ps (user_map_behind p.0 p.1 m)
 
-pub user_map-pieces : (number : ℕ) (st : State) (ps : List Piece) (behind : List (ℕ × Piece))
-    → map_behind behind (after_pieces number st ps).user_map ≡ map_behind (numbered number ps behind) st.user_map
-user_map-pieces number st [] behind = refl
-user_map-pieces number st (p ∷ ps) behind = user_map-pieces number (after_piece number st p) ps behind
+pub user_map-map_options : (number : ℕ) (st : State) (ps : List MapOption) (behind : List (ℕ × MapOption))
+    → map_behind behind (after_map_options number st ps).user_map ≡ map_behind (numbered number ps behind) st.user_map
+user_map-map_options number st [] behind = refl
+user_map-map_options number st (p ∷ ps) behind = user_map-map_options number (after_map_option number st p) ps behind
 
-pub user_map-all : (st : State) (said : List (ℕ × Said)) → (after_all st said).user_map ≡ map_behind (all_pieces said) st.user_map
+pub user_map-all : (st : State) (said : List (ℕ × Said)) → (after_all st said).user_map ≡ map_behind (all_map_options said) st.user_map
 user_map-all st [] = refl
-user_map-all st ((number, Pieces ps) ∷ said) =
-    user_map-all (after_pieces number st ps) said ∙ user_map-pieces number st ps (all_pieces said)
+user_map-all st ((number, OfMap ps) ∷ said) =
+    user_map-all (after_map_options number st ps) said ∙ user_map-map_options number st ps (all_map_options said)
 user_map-all st ((number, NumaOff) ∷ said) = user_map-all (record { edits = st.edits; numa_off = true; user_map = st.user_map }) said
 
--- the adding pieces that a user map wants still, that many pieces later
+-- the adding map options that a user map wants still, that many map options later
 abbrev pub fewer : ℕ → UserMap → UserMap
 fewer n m = record { word = m.word; wanting = m.wanting - n }
 
--- the user map by the last `exactmap`: two pieces less those behind it
+-- the user map by the last `exactmap`: two map options less those behind it
 abbrev pub wanted : Option (ℕ × ℕ) → ℕ → Option UserMap → Option UserMap
 wanted None n m = option_map (fewer n) m
 wanted (Some exact) n m = Some (record { word = exact.0; wanting = 2 - exact.1 })
 
 -- the count from the front is the count from the last `exactmap` on
-pub map_behind-wanted : (ps : List (ℕ × Piece)) (m : Option UserMap) → map_behind ps m ≡ wanted (last_exact ps) (count_adding ps) m
+pub map_behind-wanted : (ps : List (ℕ × MapOption)) (m : Option UserMap) → map_behind ps m ≡ wanted (last_exact ps) (count_adding ps) m
 map_behind-wanted [] None = refl
 map_behind-wanted [] (Some m) =
     let same : m.wanting ≡ m.wanting - 0 = omega arith in
@@ -87,7 +88,7 @@ map_behind-wanted ((number, p) ∷ ps) m =
         let same : m.wanting - 1 - n ≡ m.wanting - (n + 1) = omega arith in
         ap (λ (w : ℕ). let map : UserMap = record { word = m.word; wanting = w } in map) same
 
-    step : (found : Option (ℕ × ℕ)) (p : Piece) (m : Option UserMap)
+    step : (found : Option (ℕ × ℕ)) (p : MapOption) (m : Option UserMap)
         → wanted found (count_adding ps) (user_map_behind number p m)
         ≡ wanted (or_here found number p (count_adding ps)) (count_adding ((number, p) ∷ ps)) m
     step (Some exact) p m = refl
@@ -96,28 +97,37 @@ map_behind-wanted ((number, p) ∷ ps) m =
     step None (Adding e) (Some m) = ap (λ (map : UserMap). Some map) (fewer_still m (count_adding ps))
     step None (Other e) m = refl
 
--- a line that was read to its end is judged by its last `exactmap`
-pub finished-judged : (said : List (ℕ × Said)) → finished (after_all start said) ≡ judged said
-finished-judged said =
-    rw (edits-all start said, numa_off-all start said, user_map-all start said, map_behind-wanted (all_pieces said) None)
-    (by_exact (record { edits = edits_of (all_pieces said); numa_off = is_numa_off said }) (last_exact (all_pieces said)))
+-- a line that was read to its end is with_user_map by its last `exactmap`
+pub at_line_end-with_user_map : (said : List (ℕ × Said)) → at_line_end (after_all start said) ≡ with_user_map said
+at_line_end-with_user_map said =
+    rw (edits-all start said, numa_off-all start said, user_map-all start said, map_behind-wanted (all_map_options said) None)
+    (by_exact (record { edits = edits_of (all_map_options said); numa_off = is_numa_off said }) (last_exact (all_map_options said)))
   where
     by_count : (chosen : Chosen) (fault : OptionFault) (n : ℕ)
         → (if 2 - n == 0 then Ok chosen else Err fault) ≡ (if nat_lt n 2 then Err fault else Ok chosen)
     by_count chosen fault n = grind (arith, nat_tests)
 
     by_exact : (chosen : Chosen) (found : Option (ℕ × ℕ))
-        → when_complete chosen (wanted found (count_adding (all_pieces said)) None) ≡ with_user_map chosen found
+        → when_complete chosen (wanted found (count_adding (all_map_options said)) None) ≡ unless_incomplete chosen found
     by_exact chosen None = refl
     by_exact chosen (Some exact) = by_count chosen _ exact.1
 
 -- the options of the bytes are those of the state that the words of the line lead to
 pub options-read : (bytes line : List ℕ) (st : State) → line_of bytes ≡ Ok line
-    → read_all start (said_from 1 (option_words line)) ≡ Ok st → options_of bytes ≡ finished st
+    → read_all start (said_from 1 (option_words line)) ≡ Ok st → options_of bytes ≡ at_line_end st
 options-read bytes line st is read = rw is (by_said (said_from 1 (option_words line)) read)
   where
-    by_said : (r : Result (List (ℕ × Said)) OptionFault) → read_all start r ≡ Ok st → (r >>= judged) ≡ finished st
+    by_said : (r : Result (List (ℕ × Said)) OptionFault) → read_all start r ≡ Ok st → (r >>= with_user_map) ≡ at_line_end st
     by_said (Ok said) read =
         let same : after_all start said ≡ st = cc in
-        sym (finished-judged said) ∙ ap finished same
+        sym (at_line_end-with_user_map said) ∙ ap at_line_end same
     by_said (Err fault) read = cc
+
+-- a fault of the line's words is that of the bytes
+pub options-fault : (bytes line : List ℕ) (fault : OptionFault) → line_of bytes ≡ Ok line
+    → read_all start (said_from 1 (option_words line)) ≡ Err fault → options_of bytes ≡ Err fault
+options-fault bytes line fault is read = rw is (by_said (said_from 1 (option_words line)) read)
+  where
+    by_said : (r : Result (List (ℕ × Said)) OptionFault) → read_all start r ≡ Err fault → (r >>= with_user_map) ≡ Err fault
+    by_said (Ok said) read = cc
+    by_said (Err f) read = cc

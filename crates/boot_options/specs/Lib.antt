@@ -1,3 +1,3 @@
-pub mod Pieces
+pub mod MapOptions
 pub mod Options
 pub mod Reading

@@ -2,6 +2,7 @@
 -- lib/cmdline.c, and the handlers of `mem=`, `memmap=` and `numa=`).
 use Rattle.std.specs.Prelude.{◌≡◌, ◌≢◌, ℕ, ◌+◌, ◌%◌, ◌<◌, ◌==◌, Bool, true, false, nat_lt, if◌then◌else◌, Option, Some, None, List, [], ◌∷◌, map, length, codes, Result, Ok, Err}
 use Rattle.std.specs.Option.{option_map, option_and_then}
+use Rattle.std.specs.List.{filter_map}
 use Rattle.std.specs.Str.{bytes_eq}
 use Rattle.std.specs.Prelude.{count_by}
 use Rattle.bm_base.specs.ResultSteps.{◌>>=◌}
@@ -14,9 +15,9 @@ use Rattle.boot_options.specs.declared.fault.OptionFault.{OptionFault}
 use Rattle.boot_options.specs.declared.fault.OptionFault.TheVariants as faults
 use Rattle.boot_options.specs.declared.options.Options.{Options}
 use Rattle.boot_options.specs.declared.options.TheConstants.{LONGEST_LINE}
-use Rattle.boot_options.specs.declared.piece.Piece.{Piece}
-use Rattle.boot_options.specs.declared.piece.Piece.TheVariants.{ExactMap, Adding, Other}
-use Rattle.boot_options.specs.Pieces.{piece_of, mem_of}
+use Rattle.boot_options.specs.declared.map_option.MapOption.{MapOption}
+use Rattle.boot_options.specs.declared.map_option.MapOption.TheVariants.{ExactMap, Adding, Other}
+use Rattle.boot_options.specs.MapOptions.{map_option_of, mem_of}
 
 -- the line: the bytes before the first zero byte, without a newline at its end. It has at most
 -- 2,047 bytes (`COMMAND_LINE_SIZE` less the zero byte), and an even number of `"`
@@ -36,20 +37,20 @@ line_of bytes = checked_line (raw_line bytes)
 
 -- what one word says
 pub data Said : Type 0 where
-  Pieces : (pieces : List Piece) → Said
+  OfMap : (options : List MapOption) → Said
   NumaOff : Said
 
--- the value of `memmap=` is one or more pieces with commas between
-abbrev pub pieces_of : List (List ℕ) → Option (List Piece)
-pieces_of [] = Some []
-pieces_of (text ∷ texts) = option_and_then (λ p. option_map (λ ps. p ∷ ps) (pieces_of texts)) (piece_of text)
+-- the value of `memmap=` is one or more map options with commas between
+abbrev pub map_options_of : List (List ℕ) → Option (List MapOption)
+map_options_of [] = Some []
+map_options_of (text ∷ texts) = option_and_then (λ p. option_map (λ ps. p ∷ ps) (map_options_of texts)) (map_option_of text)
 
 abbrev pub memmap_of : List ℕ → Option Said
-memmap_of value = option_map Pieces (pieces_of (parts_in (Byte 44) value))
+memmap_of value = option_map OfMap (map_options_of (parts_in (Byte 44) value))
 
--- the value of `mem=` is one piece
-abbrev pub of_piece : Piece → Said
-of_piece p = Pieces (p ∷ [])
+-- the value of `mem=` is one map option
+abbrev pub of_one : MapOption → Said
+of_one p = OfMap (p ∷ [])
 
 -- the value of `numa=` is `off`
 abbrev pub numa_of : List ℕ → Option Said
@@ -63,18 +64,18 @@ or_fault fault (Some said) = Ok said
 -- of one of these names without a value is malformed
 abbrev pub said_by : ℕ → List ℕ × Option (List ℕ) → Result Said OptionFault
 said_by number word =
-    if bytes_eq word.0 (codes "mem") then or_fault (faults.BadMem number) (option_map of_piece (option_and_then mem_of word.1)) else
+    if bytes_eq word.0 (codes "mem") then or_fault (faults.BadMem number) (option_map of_one (option_and_then mem_of word.1)) else
     (if bytes_eq word.0 (codes "memmap") then or_fault (faults.BadMemmap number) (option_and_then memmap_of word.1) else
     (if bytes_eq word.0 (codes "numa") then or_fault (faults.BadNuma number) (option_and_then numa_of word.1) else
-    Ok (Pieces [])))
+    Ok (OfMap [])))
 
 -- the name of a word stands before its first `=`, the value behind it, without its quotation marks
 abbrev pub at_cut : List ℕ → Option (List ℕ × List ℕ) → List ℕ × Option (List ℕ)
 at_cut word None = (word, None)
 at_cut word (Some halves) = (halves.0, Some (unquoted halves.1))
 
-abbrev pub named : List ℕ → List ℕ × Option (List ℕ)
-named word = at_cut word (cut 61 word)
+abbrev pub name_value_of : List ℕ → List ℕ × Option (List ℕ)
+name_value_of word = at_cut word (cut 61 word)
 
 -- the words before `--`
 abbrev pub until_end : List (List ℕ) → List (List ℕ)
@@ -88,55 +89,50 @@ option_words line = until_end (map unquoted (words_in CommandLine line))
 abbrev pub said_from : ℕ → List (List ℕ) → Result (List (ℕ × Said)) OptionFault
 said_from number [] = Ok []
 said_from number (word ∷ words) = do
-  said ← said_by number (named word)
+  said ← said_by number (name_value_of word)
   others ← said_from (number + 1) words
   Ok ((number, said) ∷ others)
 
--- the pieces in the order of the line, each with the number of its word
-abbrev pub numbered : ℕ → List Piece → List (ℕ × Piece) → List (ℕ × Piece)
+-- the map options in the order of the line, each with the number of its word
+abbrev pub numbered : ℕ → List MapOption → List (ℕ × MapOption) → List (ℕ × MapOption)
 numbered number [] behind = behind
 numbered number (p ∷ ps) behind = (number, p) ∷ numbered number ps behind
 
-abbrev pub all_pieces : List (ℕ × Said) → List (ℕ × Piece)
-all_pieces [] = []
-all_pieces ((number, Pieces ps) ∷ said) = numbered number ps (all_pieces said)
-all_pieces ((number, NumaOff) ∷ said) = all_pieces said
+abbrev pub all_map_options : List (ℕ × Said) → List (ℕ × MapOption)
+all_map_options [] = []
+all_map_options ((number, OfMap ps) ∷ said) = numbered number ps (all_map_options said)
+all_map_options ((number, NumaOff) ∷ said) = all_map_options said
 
--- the edit of a piece, where it makes one
-abbrev pub edit_of : Piece → Option Edit
+-- the edit of a map option, where it makes one
+abbrev pub edit_of : MapOption → Option Edit
 edit_of ExactMap = Some Clear
 edit_of (Adding edit) = edit
 edit_of (Other edit) = edit
 
-abbrev pub with_edit : Option Edit → List Edit → List Edit
-with_edit None edits = edits
-with_edit (Some edit) edits = edit ∷ edits
-
-abbrev pub edits_of : List (ℕ × Piece) → List Edit
-edits_of [] = []
-edits_of (p ∷ ps) = with_edit (edit_of p.1) (edits_of ps)
+abbrev pub edits_of : List (ℕ × MapOption) → List Edit
+edits_of ps = filter_map (λ p. edit_of p.1) ps
 
 -- some word says `numa=off`
 abbrev pub is_numa_off : List (ℕ × Said) → Bool
 is_numa_off [] = false
-is_numa_off ((number, Pieces ps) ∷ said) = is_numa_off said
+is_numa_off ((number, OfMap ps) ∷ said) = is_numa_off said
 is_numa_off ((number, NumaOff) ∷ said) = true
 
--- the number of adding pieces
-abbrev pub count_adding : List (ℕ × Piece) → ℕ
+-- the number of adding map options
+abbrev pub count_adding : List (ℕ × MapOption) → ℕ
 count_adding [] = 0
 count_adding ((number, ExactMap) ∷ ps) = count_adding ps
 count_adding ((number, Adding edit) ∷ ps) = count_adding ps + 1
 count_adding ((number, Other edit) ∷ ps) = count_adding ps
 
--- the last `exactmap`: the number of its word, and the number of adding pieces behind it
-abbrev pub or_here : Option (ℕ × ℕ) → ℕ → Piece → ℕ → Option (ℕ × ℕ)
+-- the last `exactmap`: the number of its word, and the number of adding map options behind it
+abbrev pub or_here : Option (ℕ × ℕ) → ℕ → MapOption → ℕ → Option (ℕ × ℕ)
 or_here (Some found) number p behind = Some found
 or_here None number ExactMap behind = Some (number, behind)
 or_here None number (Adding edit) behind = None
 or_here None number (Other edit) behind = None
 
-abbrev pub last_exact : List (ℕ × Piece) → Option (ℕ × ℕ)
+abbrev pub last_exact : List (ℕ × MapOption) → Option (ℕ × ℕ)
 last_exact [] = None
 last_exact (p ∷ ps) = or_here (last_exact ps) p.0 p.1 (count_adding ps)
 
@@ -149,27 +145,22 @@ abbrev pub chosen : Options → Chosen
 chosen options = record { edits = options.edits.items; numa_off = options.numa_off }
 
 abbrev pub chosen_by : List (ℕ × Said) → Chosen
-chosen_by said = record { edits = edits_of (all_pieces said); numa_off = is_numa_off said }
+chosen_by said = record { edits = edits_of (all_map_options said); numa_off = is_numa_off said }
 
--- a user map wants two adding pieces behind the last `exactmap`
-abbrev pub with_user_map : Chosen → Option (ℕ × ℕ) → Result Chosen OptionFault
-with_user_map chosen None = Ok chosen
-with_user_map chosen (Some exact) = if nat_lt exact.1 2 then Err (faults.UserMapInvalid exact.0) else Ok chosen
+-- a user map wants two adding map options behind the last `exactmap`
+abbrev pub unless_incomplete : Chosen → Option (ℕ × ℕ) → Result Chosen OptionFault
+unless_incomplete chosen None = Ok chosen
+unless_incomplete chosen (Some exact) = if nat_lt exact.1 2 then Err (faults.UserMapInvalid exact.0) else Ok chosen
 
-abbrev pub judged : List (ℕ × Said) → Result Chosen OptionFault
-judged said = with_user_map (chosen_by said) (last_exact (all_pieces said))
+abbrev pub with_user_map : List (ℕ × Said) → Result Chosen OptionFault
+with_user_map said = unless_incomplete (chosen_by said) (last_exact (all_map_options said))
 
 -- the options of a file's bytes, or its first fault: the line's, that of the lowest word, the user map's
 abbrev pub options_of : List ℕ → Result Chosen OptionFault
 options_of bytes = do
   line ← line_of bytes
   said ← said_from 1 (option_words line)
-  judged said
-
--- what a call gives is what the definition says; only want of memory may come besides
-abbrev pub Gives : {A B : Type 0} → (A → B) → Result A OptionFault → Result B OptionFault → Type 0
-Gives view (Ok x) definition = definition ≡ Ok (view x)
-Gives view (Err fault) definition = fault ≢ faults.Memory → definition ≡ Err fault
+  with_user_map said
 
 -- the range of the edit has an address
 abbrev pub HasRange : Edit → Type 0

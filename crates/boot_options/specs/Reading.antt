@@ -1,56 +1,56 @@
 -- A command line half read: what the words so far have come to. The reader keeps of the user map only
--- how many adding pieces it still wants.
-use Rattle.std.specs.Prelude.{ℕ, ◌-◌, ◌==◌, if◌then◌else◌, Bool, true, false, Option, Some, None, List, [], ◌∷◌, ◌++◌, Result, Ok, Err}
+-- how many adding map options it still wants.
+use Rattle.std.specs.Prelude.{◌≡◌, ℕ, ◌-◌, ◌<◌, ◌==◌, if◌then◌else◌, Bool, true, false, Option, Some, None, List, [], ◌∷◌, ◌++◌, length, Result, Ok, Err, Vec}
+use Rattle.std.specs.List.{cons_option}
 use Rattle.std.specs.Option.{option_map}
+use Rattle.std.specs.declared.alloc.Global.{Global}
+use Rattle.bm_base.specs.declared.memory.Memory.{Memory}
 use Rattle.e820_model.specs.declared.edit.Edit.{Edit}
 use Rattle.boot_options.specs.declared.fault.OptionFault.{OptionFault}
 use Rattle.boot_options.specs.declared.fault.OptionFault.TheVariants.{UserMapInvalid}
-use Rattle.boot_options.specs.declared.piece.Piece.{Piece}
-use Rattle.boot_options.specs.declared.piece.Piece.TheVariants.{ExactMap, Adding, Other}
+use Rattle.boot_options.specs.declared.map_option.MapOption.{MapOption}
+use Rattle.boot_options.specs.declared.map_option.MapOption.TheVariants.{ExactMap, Adding, Other}
 use Rattle.boot_options.specs.declared.reading.Reading.{Reading}
 use Rattle.boot_options.specs.declared.reading.UserMap.{UserMap}
-use Rattle.boot_options.specs.Options.{Said, Pieces, NumaOff, Chosen, edit_of, with_edit}
+use Rattle.boot_options.specs.Options.{Said, OfMap, NumaOff, Chosen, edit_of}
 
 pub record State : Type 0 where
   pub edits : List Edit
   pub numa_off : Bool
   pub user_map : Option UserMap
 
-abbrev pub state_of : Reading → State
-state_of r = record { edits = r.edits.items; numa_off = r.numa_off; user_map = r.user_map }
-
 abbrev pub start : State
 start = record { edits = []; numa_off = false; user_map = None }
 
--- one adding piece fewer is wanted
+-- one adding map option fewer is wanted
 abbrev pub one_fewer : UserMap → UserMap
 one_fewer m = record { word = m.word; wanting = m.wanting - 1 }
 
-abbrev pub user_map_behind : ℕ → Piece → Option UserMap → Option UserMap
+abbrev pub user_map_behind : ℕ → MapOption → Option UserMap → Option UserMap
 user_map_behind number ExactMap m = Some (record { word = number; wanting = 2 })
 user_map_behind number (Adding edit) m = option_map one_fewer m
 user_map_behind number (Other edit) m = m
 
-abbrev pub after_piece : ℕ → State → Piece → State
-after_piece number st p = record {
-  edits = st.edits ++ with_edit (edit_of p) [];
+abbrev pub after_map_option : ℕ → State → MapOption → State
+after_map_option number st p = record {
+  edits = st.edits ++ cons_option (edit_of p) [];
   numa_off = st.numa_off;
   user_map = user_map_behind number p st.user_map;
 }
 
-abbrev pub after_pieces : ℕ → State → List Piece → State
-after_pieces number st [] = st
-after_pieces number st (p ∷ ps) = after_pieces number (after_piece number st p) ps
+abbrev pub after_map_options : ℕ → State → List MapOption → State
+after_map_options number st [] = st
+after_map_options number st (p ∷ ps) = after_map_options number (after_map_option number st p) ps
 
 abbrev pub after : ℕ → State → Said → State
-after number st (Pieces ps) = after_pieces number st ps
+after number st (OfMap ps) = after_map_options number st ps
 after number st NumaOff = record { edits = st.edits; numa_off = true; user_map = st.user_map }
 
 abbrev pub after_all : State → List (ℕ × Said) → State
 after_all st [] = st
 after_all st (s ∷ said) = after_all (after s.0 st s.1) said
 
--- the same where a word, or a piece, may be malformed
+-- the same where a word, or a map option, may be malformed
 abbrev pub read_on : ℕ → State → Result Said OptionFault → Result State OptionFault
 read_on number st (Ok said) = Ok (after number st said)
 read_on number st (Err fault) = Err fault
@@ -59,13 +59,33 @@ abbrev pub read_all : State → Result (List (ℕ × Said)) OptionFault → Resu
 read_all st (Ok said) = Ok (after_all st said)
 read_all st (Err fault) = Err fault
 
-abbrev pub read_pieces : ℕ → State → Option (List Piece) → Option State
-read_pieces number st ps = option_map (after_pieces number st) ps
+abbrev pub read_map_options : ℕ → State → Option (List MapOption) → Option State
+read_map_options number st ps = option_map (after_map_options number st) ps
 
--- at the end of the line the user map may want no further piece
+-- at the end of the line the user map may want no further map option
 abbrev pub when_complete : Chosen → Option UserMap → Result Chosen OptionFault
 when_complete chosen None = Ok chosen
 when_complete chosen (Some m) = if m.wanting == 0 then Ok chosen else Err (UserMapInvalid m.word)
 
-abbrev pub finished : State → Result Chosen OptionFault
-finished st = when_complete (record { edits = st.edits; numa_off = st.numa_off }) st.user_map
+abbrev pub at_line_end : State → Result Chosen OptionFault
+at_line_end st = when_complete (record { edits = st.edits; numa_off = st.numa_off }) st.user_map
+
+-- the edits that are kept are these; where memory ran out for one, there are some
+abbrev pub KeepsEdits : Result (Vec Edit Global) Memory → List Edit → Type 0
+KeepsEdits (Ok kept) edits = kept.items ≡ edits
+KeepsEdits (Err memory) edits = 0 < length edits
+
+-- the reader has reached the state; it may have run out of memory for its edits
+pub record HasReached (r : Reading) (st : State) : Type 0 where
+  pub edits : KeepsEdits r.edits st.edits
+  pub numa_off : r.numa_off ≡ st.numa_off
+  pub user_map : r.user_map ≡ st.user_map
+
+abbrev pub Reaches : Reading → Result State OptionFault → Type 0
+Reaches r (Ok st) = HasReached r st
+Reaches r (Err fault) = ⊥
+
+-- the reader reaches the state that the definition has, or answers its fault
+abbrev pub ReachesAs : {X : Type 0} → (X → Reading) → Result X OptionFault → Result State OptionFault → Type 0
+ReachesAs view (Ok x) definition = Reaches (view x) definition
+ReachesAs view (Err fault) definition = definition ≡ Err fault

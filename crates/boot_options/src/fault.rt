@@ -1,3 +1,6 @@
+//! Why a command line isn't read, on its own because both the reading of the words and the line's
+//! end answer it. The kernel tells most of these on its log, or not at all, and boots on.
+
 use bm_base::Memory;
 
 /// Why a command line isn't read. A `word` is the number of a word of the line, from 1 on.
@@ -11,12 +14,13 @@ pub enum OptionFault {
     BadMem { word: u32 },
     /// The word is a malformed `memmap=`.
     BadMemmap { word: u32 },
-    /// No other fault is found, and fewer than two adding pieces follow the last `exactmap`, which
-    /// stands in this word.
+    /// No other fault is found, and fewer than two adding map options follow the last `exactmap`,
+    /// which stands in this word.
     UserMapInvalid { word: u32 },
     /// The word is a malformed `numa=`.
     BadNuma { word: u32 },
-    /// The program's own memory ran out.
+    /// The program's own memory ran out for an edit; only where the line has none of the faults
+    /// above.
     Memory,
 }
 

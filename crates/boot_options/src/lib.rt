@@ -2,28 +2,28 @@
 //!
 //! The kernel's own options for the map are words of one line: `mem=` ends RAM, `memmap=` adds
 //! ranges, takes them away or changes their type, `numa=off` has the SRAT not used. This crate
-//! follows `next_arg` and `parse_args` for the words, `memparse` for the numbers, `parse_memopt` and
-//! `parse_memmap_one` of arch/x86/kernel/e820.c for the values. A malformed value is a fault here,
-//! where the kernel warns or says nothing; a word of another name is passed over.
+//! follows `next_arg` and `parse_args` for the words, `memparse` for the numbers, `parse_memopt`
+//! and `parse_memmap_one` of arch/x86/kernel/e820.c for the values. A malformed value is a fault
+//! here, where the kernel warns or says nothing; a word of another name is passed over.
 //!
 //! [`read_options`] gives [`Options`]: the [`Edit`]s of the map in the order of the line, which
-//! `e820_sanitise` applies, and whether `numa=off` was there. Its one clause says value and fault
+//! `e820_sanitise` applies, and whether `numa=off` was there. Its contract says value and fault
 //! exactly, by `options_of` of `specs/Options.antt`: what each word says alone, the first fault by
-//! a walk over the words, and what all of them come to. `specs/Pieces.antt` has the values of `mem=`
-//! and `memmap=`; `specs/Reading.antt` serves the proof alone.
+//! a walk over the words, and what all of them come to. `specs/MapOptions.antt` has the values of
+//! `mem=` and `memmap=`; `specs/Reading.antt` serves the proof alone.
 //!
-//! The layer above may rest on this: no type in an edit is 0, no range in one is empty, and words
-//! are numbered from 1.
+//! The layer above may rest on this: no type in an edit is 0, no range in one is empty, words are
+//! numbered from 1, and want of memory comes only where the line has no fault and makes an edit.
 #![tactic(auto)]
 
 mod fault;
+mod map_option;
 mod options;
-mod piece;
 mod reading;
 #[cfg(test)]
 mod tests;
 
 pub use e820_model::Edit;
 pub use fault::OptionFault;
+pub use map_option::map_options_of_spelling;
 pub use options::{Options, read_options};
-pub use piece::pieces_of_spelling;

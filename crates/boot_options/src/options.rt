@@ -1,8 +1,14 @@
-ghost use Rattle.std.specs.Prelude.{◌≡◌, ℕ, ◌≤◌, length, MatchResult, Ok, Err, IfOk, IfErr};
+//! The options of a line: its bounds first, then its words, then what all of them must come to.
+//!
+//! This is the entry of the crate. What a file holds becomes a line here, and what the reader has
+//! reached at the end of the line becomes the options: a user map must be complete by then.
+
+ghost use Rattle.std.specs.Prelude.{◌≡◌, ℕ, ◌<◌, ◌≤◌, length, MatchResult, Ok, Err, IfOk, IfErr, IsOkAnd, IsErr};
+ghost use Rattle.bm_base.specs.Answers.{Answers};
 ghost use Rattle.boot_options.specs.declared.options.TheConstants.{LONGEST_LINE};
-ghost use Rattle.boot_options.specs.Options.{Gives, chosen, line_of, options_of, HaveRanges, IsNumbered};
+ghost use Rattle.boot_options.specs.Options.{chosen, line_of, options_of, HaveRanges, IsNumbered};
 ghost use Rattle.e820_model.specs.Claims.{HaveTypes};
-ghost use Rattle.boot_options.specs.Reading.{state_of, finished};
+ghost use Rattle.boot_options.specs.Reading.{State, HasReached, at_line_end};
 
 use crate::fault::OptionFault;
 use crate::reading::{Reading, read_words};
@@ -22,11 +28,13 @@ pub struct Options {
 /// The options of the bytes of a command line's file, or the first fault: `TooLong`, then
 /// `OpenQuote`, then the fault of the lowest word that has one, then `UserMapInvalid`.
 ///
-/// The line ends before the first zero byte, without one newline at its end, and has at most 2,047
-/// bytes (`COMMAND_LINE_SIZE`). The word `--` ends the options. `Memory` comes only where the program's
-/// own memory runs out.
+/// The line ends before the first zero byte, without one newline at its end, and has at most
+/// 2,047 bytes (`COMMAND_LINE_SIZE`). The word `--` ends the options. `Memory` comes only where
+/// the line has none of these faults and makes an edit.
 pub fn read_options(alloc: Global, bytes: &[u8]) -> Result<Options, OptionFault>
-    ensures gives { Gives chosen result (options_of bytes.now) }
+    ensures gives { Answers OptionFault.Memory chosen result (options_of bytes.now) }
+    ensures memory { result ≡ Err OptionFault.Memory →
+        IsOkAnd (options_of bytes.now) (λ options. 0 < length options.edits) }
     ensures types { IfOk result (λ options. HaveTypes options.edits.items) }
     ensures ranges { IfOk result (λ options. HaveRanges options.edits.items) }
     ensures words { IfErr result IsNumbered }
@@ -55,9 +63,14 @@ fn read_line(bytes: &[u8]) -> Result<&[u8], OptionFault>
     Ok(line)
 }
 
-/// The options, unless a user map wants further pieces.
+/// The options, unless the user map wants further map options. It takes no memory, and tells
+/// where it was wanting for an edit.
 fn finish(reading: Reading) -> Result<Options, OptionFault>
-    ensures { Gives chosen result (finished (state_of reading)) }
+    ensures gives { (st : State) → HasReached reading st →
+        Answers OptionFault.Memory chosen result (at_line_end st) }
+    ensures memory { result ≡ Err OptionFault.Memory → IsErr reading.edits }
+    ensures complete { result ≡ Err OptionFault.Memory → (st : State) → HasReached reading st →
+        IsOkAnd (at_line_end st) (λ options. 0 < length options.edits) }
 {
     if let Some(map) = reading.user_map {
         if map.wanting > 0 {
@@ -65,7 +78,7 @@ fn finish(reading: Reading) -> Result<Options, OptionFault>
         }
     }
     Ok(Options {
-        edits: reading.edits,
+        edits: reading.edits?,
         numa_off: reading.numa_off,
     })
 }

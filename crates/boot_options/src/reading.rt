@@ -1,13 +1,23 @@
-ghost use Rattle.std.specs.Prelude.{◌≡◌, ℕ, ◌≤◌, ◌+◌, List, [], ◌∷◌, ◌++◌, length, Result, Ok, Err, OnOk};
+//! The words of a line, read one after the other.
+//!
+//! Each word has its meaning alone, by its name; a [`Reading`] is what all words so far have come
+//! to. The edits are kept in the order of the line, and of the user map only what the end of the
+//! line asks: the word of the last `exactmap`, and how many adding map options it still wants.
+//!
+//! Memory is taken here alone, for the edits. Where it runs out the line is still read on without
+//! them, so that a fault is told wherever it stands; no call here answers want of memory.
+
+ghost use Rattle.std.specs.Prelude.{◌≡◌, ℕ, ◌≤◌, ◌+◌, List, [], ◌∷◌, ◌++◌, length, Result, Ok, Err};
+ghost use Rattle.std.specs.List.{cons_option};
 ghost use Rattle.std.specs.Option.{option_map, option_and_then};
 ghost use Rattle.e820_model.specs.declared.edit.Edit.{Edit as SomeEdit};
 ghost use Rattle.boot_options.specs.declared.fault.OptionFault.TheVariants as faults;
 ghost use Rattle.boot_options.specs.declared.options.TheConstants.{LONGEST_LINE};
-ghost use Rattle.boot_options.specs.Options.{Gives, named, said_by, said_from, option_words, or_fault, memmap_of, with_edit};
-ghost use Rattle.boot_options.specs.Reading.{state_of, start, one_fewer as one_fewer_wanted, after_piece, read_on, read_all};
+ghost use Rattle.boot_options.specs.Options.{name_value_of, said_by, said_from, option_words, or_fault, memmap_of};
+ghost use Rattle.boot_options.specs.Reading.{State, start, one_fewer as one_fewer_wanted, after_map_option, read_on, read_all, KeepsEdits, HasReached, ReachesAs};
 
 use crate::fault::OptionFault;
-use crate::piece::{Piece, read_mem, read_piece};
+use crate::map_option::{MapOption, read_map_option, read_mem};
 use bm_base::Memory;
 use e820_model::Edit;
 use std::alloc::Global;
@@ -16,12 +26,14 @@ use text_words::{Separators, cut, next_part, next_word, unquoted};
 /// What the words so far have come to.
 #[derive(Drop)]
 pub struct Reading {
-    pub edits: Vec<Edit>,
+    /// The edits of all words, or want of memory for one of them.
+    pub edits: Result<Vec<Edit>, Memory>,
     pub numa_off: bool,
     pub user_map: Option<UserMap>,
 }
 
-/// The last `exactmap` so far: its word, and how many adding pieces are still wanted behind it.
+/// The last `exactmap` so far: its word, and how many adding map options are still wanted behind
+/// it.
 #[derive(Clone, Copy, Debug, PartialEq, Eq)]
 pub struct UserMap {
     pub word: u32,
@@ -31,10 +43,11 @@ pub struct UserMap {
 /// Reads the words of the line, up to `--`.
 pub fn read_words(alloc: Global, line: &[u8]) -> Result<Reading, OptionFault>
     requires { length line.now ≤ LONGEST_LINE }
-    ensures { Gives state_of result (read_all start (said_from 1 (option_words line.now))) }
+    ensures { ReachesAs (λ reading. reading) result
+        (read_all start (said_from 1 (option_words line.now))) }
 {
     let mut reading = Reading {
-        edits: Vec::new(alloc),
+        edits: Ok(Vec::new(alloc)),
         numa_off: false,
         user_map: None,
     };
@@ -56,20 +69,21 @@ pub fn read_words(alloc: Global, line: &[u8]) -> Result<Reading, OptionFault>
 
 /// Reads one word, by its name; a word of another name is passed over.
 fn read_word(word: &[u8], number: u32, reading: &mut Reading) -> Result<(), OptionFault>
-    ensures { Gives (λ _. state_of reading.new) result
-        (read_on number (state_of reading.old) (said_by number (named word.now))) }
+    ensures { (st : State) → HasReached reading.old st →
+        ReachesAs (λ _. reading.new) result
+        (read_on number st (said_by number (name_value_of word.now))) }
 {
     let (name, value) = name_and_value(word);
     if name == b"mem".as_slice() {
-        let Some(piece) = value.and_then(read_mem) else {
+        let Some(option) = value.and_then(read_mem) else {
             return Err(OptionFault::BadMem { word: number });
         };
-        take_piece(&piece, number, reading)?;
+        take_map_option(&option, number, reading);
     } else if name == b"memmap".as_slice() {
         let Some(value) = value else {
             return Err(OptionFault::BadMemmap { word: number });
         };
-        read_memmap(value, number, reading)?;
+        return read_memmap(value, number, reading);
     } else if name == b"numa".as_slice() {
         let Some(b"off") = value else {
             return Err(OptionFault::BadNuma { word: number });
@@ -81,7 +95,7 @@ fn read_word(word: &[u8], number: u32, reading: &mut Reading) -> Result<(), Opti
 
 /// The name of a word, and its value without quotation marks, where there is a `=`.
 fn name_and_value(word: &[u8]) -> (&[u8], Option<&[u8]>)
-    ensures { (result.0.now, option_map (λ value. value.now) result.1) ≡ named word.now }
+    ensures { (result.0.now, option_map (λ value. value.now) result.1) ≡ name_value_of word.now }
 {
     match cut(word, b'=') {
         Some((name, value)) => (name, Some(unquoted(value))),
@@ -89,56 +103,58 @@ fn name_and_value(word: &[u8]) -> (&[u8], Option<&[u8]>)
     }
 }
 
-/// Reads the pieces of `memmap=`, one after the other.
+/// Reads the map options of `memmap=`, one after the other.
 fn read_memmap(value: &[u8], number: u32, reading: &mut Reading) -> Result<(), OptionFault>
-    ensures { Gives (λ _. state_of reading.new) result
-        (read_on number (state_of reading.old)
-        (or_fault (faults.BadMemmap number) (memmap_of value.now))) }
+    ensures { (st : State) → HasReached reading.old st →
+        ReachesAs (λ _. reading.new) result
+        (read_on number st (or_fault (faults.BadMemmap number) (memmap_of value.now))) }
 {
     let mut rest = Some(value);
     while let Some(text) = rest {
         let (text, behind) = next_part(text, Separators::Byte(b','));
-        let Some(piece) = read_piece(text) else {
+        let Some(option) = read_map_option(text) else {
             return Err(OptionFault::BadMemmap { word: number });
         };
-        take_piece(&piece, number, reading)?;
+        take_map_option(&option, number, reading);
         rest = behind;
     }
     Ok(())
 }
 
-/// Takes what one piece says.
-fn take_piece(piece: &Piece, number: u32, reading: &mut Reading) -> Result<(), Memory>
-    ensures { OnOk result (state_of reading.new ≡ after_piece number (state_of reading.old) piece.now) }
+/// Takes what one map option says.
+fn take_map_option(option: &MapOption, number: u32, reading: &mut Reading)
+    ensures { (st : State) → HasReached reading.old st →
+        HasReached reading.new (after_map_option number st option.now) }
 {
-    match piece {
-        Piece::ExactMap => {
-            reading.edits.push(Edit::Clear)?;
+    match option {
+        MapOption::ExactMap => {
+            keep(&Some(Edit::Clear), &mut reading.edits);
             reading.user_map = Some(UserMap {
                 word: number,
                 wanting: 2,
             });
         }
-        Piece::Adding(edit) => {
-            push_some(edit, &mut reading.edits)?;
+        MapOption::Adding(edit) => {
+            keep(edit, &mut reading.edits);
             reading.user_map = one_fewer(&reading.user_map);
         }
-        Piece::Other(edit) => push_some(edit, &mut reading.edits)?,
+        MapOption::Other(edit) => keep(edit, &mut reading.edits),
     }
-    Ok(())
 }
 
-/// Appends the edit, where there is one.
-fn push_some(edit: &Option<Edit>, edits: &mut Vec<Edit>) -> Result<(), Memory>
-    ensures { OnOk result (edits.new.items ≡ edits.old.items ++ with_edit edit.now []) }
+/// Keeps the edit, where there is one, behind the others.
+fn keep(edit: &Option<Edit>, edits: &mut Result<Vec<Edit>, Memory>)
+    ensures { (before : List SomeEdit) → KeepsEdits edits.old before →
+        KeepsEdits edits.new (before ++ cons_option edit.now []) }
 {
-    if let Some(edit) = edit {
-        edits.push(*edit)?;
+    if let (Some(edit), Ok(kept)) = (edit, &mut *edits) {
+        if kept.push(*edit).is_err() {
+            *edits = Err(Memory);
+        }
     }
-    Ok(())
 }
 
-/// The user map that wants one adding piece fewer.
+/// The user map that wants one adding map option fewer.
 fn one_fewer(map: &Option<UserMap>) -> Option<UserMap>
     ensures { result ≡ option_map one_fewer_wanted map.now }
 {

@@ -12,7 +12,7 @@ line_separators = (refl, refl, refl, refl, refl, refl)
 script_separators : (separates Script 0x20 ≡ true) × (separates Script 0x09 ≡ true) × (separates Script 0x0D ≡ true) × (separates Script 0x0A ≡ false) × (separates Script 0x0C ≡ false)
 script_separators = (refl, refl, refl, refl, refl)
 
--- and of pieces between commas the comma alone
+-- and of a list with commas the comma alone
 comma_separates : (separates (Byte 44) 44 ≡ true) × (separates (Byte 44) 0x20 ≡ false)
 comma_separates = (refl, refl)
 
@@ -28,8 +28,8 @@ fronts : (with_front 97 [] ≡ codes "a" ∷ []) × (with_front 97 (codes "b" �
 fronts = (refl, refl)
 
 -- a part may be empty, also the last one
-pieces_between_commas : parts_in (Byte 44) (codes "2G@0,,4G@2G") ≡ codes "2G@0" ∷ [] ∷ codes "4G@2G" ∷ []
-pieces_between_commas = refl
+parts_between_commas : parts_in (Byte 44) (codes "2G@0,,4G@2G") ≡ codes "2G@0" ∷ [] ∷ codes "4G@2G" ∷ []
+parts_between_commas = refl
 
 trailing_comma : parts_in (Byte 44) (codes "2G@0,") ≡ codes "2G@0" ∷ [] ∷ []
 trailing_comma = refl

@@ -1,4 +1,4 @@
--- How a text, a list of bytes, falls into parts: lines, words, and pieces between commas.
+-- How a text, a list of bytes, falls into parts: lines, words, and what stands between commas.
 -- The command line is split as `next_arg` of lib/cmdline.c does it, the script by its own blanks.
 use Rattle.std.specs.Prelude.{ℕ, ◌==◌, Bool, false, not, ◌&&◌, ◌||◌, nat_le, if◌then◌else◌, Option, Some, None, List, [], ◌∷◌, ◌++◌}
 use Rattle.std.specs.Option.{option_map}

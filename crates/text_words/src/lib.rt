@@ -1,10 +1,10 @@
-//! How texts fall into words, lines and pieces, without a copy of them.
+//! How texts fall into parts, words and lines, without a copy of them.
 //!
-//! The command line of the kernel, the lines of a script and lists with commas are all split in one
-//! way: at each separating byte that stands in no quotation. [`Separators`] says which bytes
-//! separate and whether `"` protects from them; [`next_part`] gives the part in front and the rest,
-//! [`next_word`] the first part that isn't empty (`next_arg` of lib/cmdline.c for the command line).
-//! Both return slices of the text, so a caller goes once over it from the front.
+//! The command line of the kernel, the lines of a script and lists with commas are all split in
+//! one way: at each separating byte that stands in no quotation. [`Separators`] says which bytes
+//! separate and whether `"` protects from them; [`next_part`] gives the part in front and the
+//! rest, [`next_word`] the first part that isn't empty (`next_arg` of lib/cmdline.c for the
+//! command line). Both return slices of the text, so a caller goes once over it from the front.
 //!
 //! [`cut`] and [`before`] look for the first of one byte, as the `=` of an option or the zero byte
 //! at the end of a line; [`unquoted`] takes the quotation marks from around a word or a value.

@@ -1,3 +1,9 @@
+//! Parts of a text: how it falls apart at its separators, and at the first of one byte.
+//!
+//! A part may be empty, as between two commas, and the text has always at least one. What goes
+//! over the parts keeps the rest of the text, and no place in it; words are made of parts, in the
+//! file beside this one.
+
 ghost use Rattle.std.specs.Prelude.{◌≡◌, ℕ, ◌<◌, ◌≤◌, Bool, true, false, List, [], ◌∷◌, ◌++◌, length, IfSome};
 ghost use Rattle.std.specs.Option.{option_map};
 ghost use Rattle.text_words.specs.declared.separators.Separators.{Separators as SomeSeparators};
@@ -55,5 +61,6 @@ pub fn parts_of_spelling()
     ensures first { (s : SomeSeparators) (part : List ℕ) (b : ℕ) (rest : List ℕ)
         → IsClosed s false part → separates s b ≡ true
         → parts_in s (part ++ (b ∷ rest)) ≡ part ∷ parts_in s rest }
-    ensures last { (s : SomeSeparators) (part : List ℕ) → IsClosed s false part → parts_in s part ≡ part ∷ [] }
+    ensures last { (s : SomeSeparators) (part : List ℕ)
+        → IsClosed s false part → parts_in s part ≡ part ∷ [] }
 {}

@@ -1,3 +1,9 @@
+//! Which bytes separate the parts of a text, and which byte protects from that.
+//!
+//! All texts of the program are split in one way and differ only in this, so the kinds of texts
+//! are told apart here alone: the kernel's command line (`isspace` and `next_arg`), a line of a
+//! script, and a list with one separating byte.
+
 ghost use Rattle.std.specs.Prelude.{◌≡◌};
 
 /// Which bytes separate the parts of a text, and whether quotations protect from them.

@@ -1,3 +1,9 @@
+//! Words of a text: its parts that aren't empty, and the quotation marks around a word or its
+//! value.
+//!
+//! `next_arg` of lib/cmdline.c does both in one pass and writes into the line; here the text
+//! stays as it is, and a word is a slice of it.
+
 ghost use Rattle.std.specs.Prelude.{◌≡◌, ℕ, ◌<◌, ◌≤◌, true, List, [], ◌∷◌, ◌++◌, length, IfSome, IfNone};
 ghost use Rattle.text_words.specs.declared.separators.Separators.{Separators as SomeSeparators};
 ghost use Rattle.text_words.specs.Parts.{separates};
@@ -45,14 +51,17 @@ pub fn without_last(text: &[u8], mark: u8) -> &[u8]
     }
 }
 
-/// A law: what is spelled as words with separators between them is read as those words: a separator in
-/// front is passed over, and a word goes as far as the next separator outside quotations.
+/// A law: what is spelled as words with separators between them is read as those words: a
+/// separator in front is passed over, and a word goes as far as the next separator outside
+/// quotations.
 pub fn words_of_spelling()
     ensures gap { (s : SomeSeparators) (b : ℕ) (rest : List ℕ)
         → separates s b ≡ true → words_in s (b ∷ rest) ≡ words_in s rest }
     ensures word { (s : SomeSeparators) (word : List ℕ) (b : ℕ) (rest : List ℕ)
-        → IsWord s word → separates s b ≡ true → words_in s (word ++ (b ∷ rest)) ≡ word ∷ words_in s rest }
-    ensures last { (s : SomeSeparators) (word : List ℕ) → IsWord s word → words_in s word ≡ word ∷ [] }
+        → IsWord s word → separates s b ≡ true
+        → words_in s (word ++ (b ∷ rest)) ≡ word ∷ words_in s rest }
+    ensures last { (s : SomeSeparators) (word : List ℕ)
+        → IsWord s word → words_in s word ≡ word ∷ [] }
 {}
 
 #[cfg(test)]
@@ -61,7 +70,7 @@ mod tests {
     use crate::{before, cut, next_part};
 
     #[test]
-    fn words_and_pieces(rt: HostRuntime) {
+    fn words_and_parts(rt: HostRuntime) {
         let mut line = b"\n a\t\"b  c\" d=\"e f\"g\"\" h\xA0i\x0B\x0C\rj ".as_slice();
         let words = [
             b"a".as_slice(),
@@ -84,12 +93,12 @@ mod tests {
         let (word, _) = next_word(rest, Separators::Script).expect(&rt, "a word");
         assert_eq!(rt; word, b"y".as_slice());
 
-        let (piece, rest) = next_part(b"1,\"2,".as_slice(), Separators::Byte(b','));
-        assert_eq!(rt; piece, b"1".as_slice());
-        let (piece, rest) = next_part(rest.expect(&rt, "a rest"), Separators::Byte(b','));
-        assert_eq!(rt; piece, b"\"2".as_slice());
-        let (piece, rest) = next_part(rest.expect(&rt, "a rest"), Separators::Byte(b','));
-        assert!(rt; piece.is_empty() && rest.is_none());
+        let (part, rest) = next_part(b"1,\"2,".as_slice(), Separators::Byte(b','));
+        assert_eq!(rt; part, b"1".as_slice());
+        let (part, rest) = next_part(rest.expect(&rt, "a rest"), Separators::Byte(b','));
+        assert_eq!(rt; part, b"\"2".as_slice());
+        let (part, rest) = next_part(rest.expect(&rt, "a rest"), Separators::Byte(b','));
+        assert!(rt; part.is_empty() && rest.is_none());
 
         let (name, value) = cut(b"mem=1=2".as_slice(), b'=').expect(&rt, "a value");
         assert_eq!(rt; name, b"mem".as_slice());

@@ -2,14 +2,16 @@ use Rattle.std.proofs.Common.{◌≡◌}
 use Rattle.text_words.specs.declared.separators.Separators.TheVariants.{Byte}
 use Rattle.text_words.specs.Parts.{parts_behind}
 use Rattle.text_words.proofs.WordsLaws.{text_of, left}
-use Rattle.boot_options.specs.Options.{pieces_of}
-use Rattle.boot_options.specs.Reading.{state_of, read_pieces}
+use Rattle.boot_options.specs.Options.{map_options_of}
+use Rattle.boot_options.specs.Reading.{State, HasReached, read_map_options}
 use Rattle.boot_options.proofs.reading.read_memmap.Given as goal
 
+-- from the state that the reader has reached, the texts that are left lead where all texts lead from the first one
 abbrev pub invariant-loop-rest : goal.invariant-loop-rest
 invariant-loop-rest l =
-    read_pieces l.number (state_of l.reading) (pieces_of (parts_behind (Byte 44) (text_of l.rest)))
-    ≡ read_pieces l.number (state_of l.fn.reading) (pieces_of (parts_behind (Byte 44) (text_of l.initial.rest)))
+    (st : State) → HasReached l.fn.reading st → (mid : State) × HasReached l.reading mid
+    × (read_map_options l.number mid (map_options_of (parts_behind (Byte 44) (text_of l.rest)))
+    ≡ read_map_options l.number st (map_options_of (parts_behind (Byte 44) (text_of l.initial.rest))))
 
 abbrev pub decreases-loop-rest : goal.decreases-loop-rest
 decreases-loop-rest l = left l.rest

@@ -1,4 +1,4 @@
--- What the pieces of `mem=` and `memmap=` keep: types above 0, and ranges with an address.
+-- What the map options of `mem=` and `memmap=` keep: types above 0, and ranges with an address.
 use Rattle.std.proofs.Common.{◌≡◌, ℕ, ◌<◌, ◌==◌, nat_lt, if◌then◌else◌, Bool, true, false, Option, Some, None, List, [], ◌∷◌, refl, IfSome, arith, codes}
 use Rattle.std.proofs.lemmas.Bool.{ltb-true}
 use Rattle.std.proofs.lemmas.Bool.Decides.{nat_tests}
@@ -9,22 +9,22 @@ use Rattle.e820_model.specs.Claims.{HasTypes}
 use Rattle.e820_model.specs.declared.edit.Edit.{Edit}
 use Rattle.e820_model.specs.declared.edit.Edit.TheVariants.{Add, Remove, RemoveAll, Change}
 use Rattle.bm_base.specs.OptionSteps.{◌>>=◌}
-use Rattle.boot_options.specs.declared.piece.Piece.{Piece}
-use Rattle.boot_options.specs.declared.piece.Piece.TheVariants.{ExactMap, Adding, Other}
-use Rattle.boot_options.specs.Pieces.{size_part, whole_size, at_end, range_at, unless_empty, range_above, ram_above, added, kind_behind, retyped, changed, by_mark, sized_piece, piece_of, ram_up_to, mem_of}
-use Rattle.boot_options.specs.Options.{pieces_of, edit_of, HasRange}
+use Rattle.boot_options.specs.declared.map_option.MapOption.{MapOption}
+use Rattle.boot_options.specs.declared.map_option.MapOption.TheVariants.{ExactMap, Adding, Other}
+use Rattle.boot_options.specs.MapOptions.{front_size, whole_size, at_end, range_at, unless_empty, range_above, ram_above, adding_option, kind_behind, retyped, changed, by_mark, sized_map_option, map_option_of, ram_up_to, mem_of}
+use Rattle.boot_options.specs.Options.{map_options_of, edit_of, HasRange}
 
 -- the edit names types, and its range has an address
 abbrev pub IsSound : Option Edit → Type 0
 IsSound None = Unit {0}
 IsSound (Some e) = HasTypes e × HasRange e
 
-abbrev pub IsSoundPiece : Piece → Type 0
-IsSoundPiece p = IsSound (edit_of p)
+abbrev pub IsSoundOption : MapOption → Type 0
+IsSoundOption p = IsSound (edit_of p)
 
-abbrev pub AreSound : List Piece → Type 0
+abbrev pub AreSound : List MapOption → Type 0
 AreSound [] = Unit {0}
-AreSound (p ∷ ps) = IsSoundPiece p × AreSound ps
+AreSound (p ∷ ps) = IsSoundOption p × AreSound ps
 
 -- a fact of a later step, whatever the earlier one gives
 pub ifsome-then : {A B : Type 0} (P : B → Type 0) (o : Option A) (f : A → Option B) → ((a : A) → IfSome (f a) P) → IfSome (o >>= f) P
@@ -58,13 +58,13 @@ sound-unless_empty range e types ranged = by_test (nat_lt 0 range.size) refl
 pub sound-ram_above : (size : ℕ) → IsSound (ram_above size)
 sound-ram_above size = sound-unless_empty (range_above size) (Remove (range_above size) 1) (omega arith) (λ h. h)
 
-pub sound-added : (kind size : ℕ) (place : List ℕ) → 0 < kind → IfSome (added kind size place) IsSoundPiece
-sound-added kind size place above =
-    ifsome-then IsSoundPiece (whole_size place) _ (λ base.
-    ifsome-then IsSoundPiece (range_at base size) _ (λ range.
+pub sound-adding_option : (kind size : ℕ) (place : List ℕ) → 0 < kind → IfSome (adding_option kind size place) IsSoundOption
+sound-adding_option kind size place above =
+    ifsome-then IsSoundOption (whole_size place) _ (λ base.
+    ifsome-then IsSoundOption (range_at base size) _ (λ range.
     sound-unless_empty range (Add range kind) above (λ h. h)))
 
-pub sound-retyped : (range : Extent) (from to : ℕ) → IfSome (retyped range from to) IsSoundPiece
+pub sound-retyped : (range : Extent) (from to : ℕ) → IfSome (retyped range from to) IsSoundOption
 sound-retyped range from to = by_tests (from == 0) refl (to == 0) refl (from == to)
   where
     above : (n : ℕ) → n == 0 ≡ false → 0 < n
@@ -76,7 +76,7 @@ sound-retyped range from to = by_tests (from == 0) refl (to == 0) refl (from == 
         else (if t
         then Some (Other (unless_empty range (Remove range from)))
         else (if s then None else Some (Other (unless_empty range (Change range from to))))))
-        IsSoundPiece
+        IsSoundOption
     by_tests true f_is true t_is s = sound-unless_empty range (RemoveAll range) tt (λ h. h)
     by_tests true f_is false t_is s = sound-unless_empty range (Add range to) (above to t_is) (λ h. h)
     by_tests false f_is true t_is s = sound-unless_empty range (Remove range from) (above from f_is) (λ h. h)
@@ -84,39 +84,39 @@ sound-retyped range from to = by_tests (from == 0) refl (to == 0) refl (from == 
     by_tests false f_is false t_is false =
         sound-unless_empty range (Change range from to) (above from f_is, above to t_is) (λ h. h)
 
-pub sound-changed : (size : ℕ) (place : List ℕ) → IfSome (changed size place) IsSoundPiece
+pub sound-changed : (size : ℕ) (place : List ℕ) → IfSome (changed size place) IsSoundOption
 sound-changed size place =
-    ifsome-then IsSoundPiece (size_part place) _ (λ base.
-    ifsome-then IsSoundPiece (range_at base.0 size) _ (λ range.
-    ifsome-then IsSoundPiece (kind_behind 45 base.1) _ (λ from.
-    ifsome-then IsSoundPiece (kind_behind 43 from.1) _ (λ to.
-    ifsome-at_end IsSoundPiece to.1 (retyped range from.0 to.0) (sound-retyped range from.0 to.0)))))
+    ifsome-then IsSoundOption (front_size place) _ (λ base.
+    ifsome-then IsSoundOption (range_at base.0 size) _ (λ range.
+    ifsome-then IsSoundOption (kind_behind 45 base.1) _ (λ from.
+    ifsome-then IsSoundOption (kind_behind 43 from.1) _ (λ to.
+    ifsome-at_end IsSoundOption to.1 (retyped range from.0 to.0) (sound-retyped range from.0 to.0)))))
 
-pub sound-by_mark : (size : ℕ) (text : List ℕ) → IfSome (by_mark size text) IsSoundPiece
+pub sound-by_mark : (size : ℕ) (text : List ℕ) → IfSome (by_mark size text) IsSoundOption
 sound-by_mark size [] = sound-ram_above size
 sound-by_mark size (mark ∷ place) =
-    ifsome-if IsSoundPiece (mark == 64) _ _ (sound-added 1 size place (omega arith))
-    (ifsome-if IsSoundPiece (mark == 35) _ _ (sound-added 3 size place (omega arith))
-    (ifsome-if IsSoundPiece (mark == 36) _ _ (sound-added 2 size place (omega arith))
-    (ifsome-if IsSoundPiece (mark == 33) _ _ (sound-added 12 size place (omega arith))
-    (ifsome-if IsSoundPiece (mark == 37) _ None (sound-changed size place) tt))))
+    ifsome-if IsSoundOption (mark == 64) _ _ (sound-adding_option 1 size place (omega arith))
+    (ifsome-if IsSoundOption (mark == 35) _ _ (sound-adding_option 3 size place (omega arith))
+    (ifsome-if IsSoundOption (mark == 36) _ _ (sound-adding_option 2 size place (omega arith))
+    (ifsome-if IsSoundOption (mark == 33) _ _ (sound-adding_option 12 size place (omega arith))
+    (ifsome-if IsSoundOption (mark == 37) _ None (sound-changed size place) tt))))
 
-pub sound-piece : (text : List ℕ) → IfSome (piece_of text) IsSoundPiece
-sound-piece text =
-    ifsome-if IsSoundPiece (bytes_eq text (codes "exactmap")) (Some ExactMap) (sized_piece text) (tt, tt)
-    (ifsome-then IsSoundPiece (size_part text) _ (λ size. sound-by_mark size.0 size.1))
+pub sound-map_option : (text : List ℕ) → IfSome (map_option_of text) IsSoundOption
+sound-map_option text =
+    ifsome-if IsSoundOption (bytes_eq text (codes "exactmap")) (Some ExactMap) (sized_map_option text) (tt, tt)
+    (ifsome-then IsSoundOption (front_size text) _ (λ size. sound-by_mark size.0 size.1))
 
-pub sound-mem : (text : List ℕ) → IfSome (mem_of text) IsSoundPiece
+pub sound-mem : (text : List ℕ) → IfSome (mem_of text) IsSoundOption
 sound-mem text =
-    ifsome-if IsSoundPiece (bytes_eq text (codes "nopentium")) (Some (Other None)) _ tt
-    (ifsome-then IsSoundPiece (whole_size text) ram_up_to (λ size.
-    ifsome-if IsSoundPiece (size == 0) None (Some (Other (ram_above size))) tt (sound-ram_above size)))
+    ifsome-if IsSoundOption (bytes_eq text (codes "nopentium")) (Some (Other None)) _ tt
+    (ifsome-then IsSoundOption (whole_size text) ram_up_to (λ size.
+    ifsome-if IsSoundOption (size == 0) None (Some (Other (ram_above size))) tt (sound-ram_above size)))
 
-pub sound-pieces : (texts : List (List ℕ)) → IfSome (pieces_of texts) AreSound
-sound-pieces [] = tt
-sound-pieces (text ∷ texts) = with_first (piece_of text) (sound-piece text) (sound-pieces texts)
+pub sound-map_options : (texts : List (List ℕ)) → IfSome (map_options_of texts) AreSound
+sound-map_options [] = tt
+sound-map_options (text ∷ texts) = with_first (map_option_of text) (sound-map_option text) (sound-map_options texts)
   where
-    with_first : (o : Option Piece) → IfSome o IsSoundPiece → IfSome (pieces_of texts) AreSound
-        → IfSome (option_and_then (λ p. option_map (λ ps. p ∷ ps) (pieces_of texts)) o) AreSound
+    with_first : (o : Option MapOption) → IfSome o IsSoundOption → IfSome (map_options_of texts) AreSound
+        → IfSome (option_and_then (λ p. option_map (λ ps. p ∷ ps) (map_options_of texts)) o) AreSound
     with_first None is are = tt
-    with_first (Some p) is are = ifsome-map AreSound AreSound (λ (ps : List Piece). p ∷ ps) (pieces_of texts) (λ ps all. (is, all)) are
+    with_first (Some p) is are = ifsome-map AreSound AreSound (λ (ps : List MapOption). p ∷ ps) (map_options_of texts) (λ ps all. (is, all)) are
