@@ -9,7 +9,8 @@ pub each_from-all : (p : ℕ → Bool) (x n : ℕ) → ((y : ℕ) → x ≤ y �
 unfolding each_from
 each_from-all p x zero all = refl
 each_from-all p x (suc n) all =
-    and_from (p x) (each_from p (x + 1) n) (all x (omega arith) (omega arith)) (each_from-all p (x + 1) n (λ y above below. all y (omega arith) (omega arith)))
+    and_from (p x) (each_from p (x + 1) n) (all x (omega arith) (omega arith))
+    (each_from-all p (x + 1) n (λ y above below. all y (omega arith) (omega arith)))
 
 -- and the other way round
 pub each_from-each : (p : ℕ → Bool) (x n : ℕ) → each_from p x n ≡ true → (y : ℕ) → x ≤ y → y < x + n → p y ≡ true
@@ -43,7 +44,8 @@ unfolding each_from
 each_from-same p q x zero same = refl
 each_from-same p q x (suc n) same =
     let here : p x ≡ q x = same x (omega arith) (omega arith) in
-    let rest : each_from p (x + 1) n ≡ each_from q (x + 1) n = each_from-same p q (x + 1) n (λ y above below. same y (omega arith) (omega arith)) in
+    let rest : each_from p (x + 1) n ≡ each_from q (x + 1) n =
+    each_from-same p q (x + 1) n (λ y above below. same y (omega arith) (omega arith)) in
     rw (here, rest) refl
 
 pub each_in-same : (r : Extent) (p q : ℕ → Bool) → ((y : ℕ) → r.base ≤ y → y < r.base + r.size → p y ≡ q y) → each_in r p ≡ each_in r q

@@ -1,5 +1,5 @@
 -- Small ranges, numbers and texts, computed.
-use Rattle.std.proofs.Common.{◌≡◌, ◌≢◌, ℕ, ◌^◌, ◌*◌, ◌+◌, ◌-◌, true, false, ◌&&◌, nat_lt, ◌==◌, not, [], codes, Some, None, Ok, Err, refl, arith}
+use Rattle.std.proofs.Common.{◌≡◌, ℕ, ◌^◌, ◌*◌, ◌+◌, ◌-◌, true, false, ◌&&◌, nat_lt, ◌==◌, not, [], codes, Some, None, Ok, Err, refl, arith}
 use Rattle.std.proofs.lemmas.Bool.Decides.{nat_tests}
 use Rattle.std.specs.Fmt.{digits}
 use Rattle.bm_base.specs.Answers.{Answers}
@@ -132,7 +132,7 @@ answer_examples : Answers {A = ℕ} {B = ℕ} {E = ℕ} 9 (λ n. n + 1) (Ok 4) (
 answer_examples = (refl, (λ said. grind (arith, said)), (λ other. absurd (other refl)))
 
 error_answers : Answers {A = ℕ} {B = ℕ} {E = ℕ} 9 (λ n. n) (Err 7) (Err 7) × (¬ Answers {A = ℕ} {B = ℕ} {E = ℕ} 9 (λ n. n) (Err 7) (Ok 5))
-error_answers = ((λ other. refl), (λ said. let seven : (the_seven : ℕ) → the_seven ≡ 7 → the_seven ≢ 9 = λ n is. omega (arith, is) in grind (arith, said (seven 7 refl))))
+error_answers = ((λ other. refl), (λ said. grind (arith, said (λ same. omega (arith, same)))))
 
 -- the last frame of each zone and the first of the next
 zone_examples : (zone_of 0 ≡ Dma) × (zone_of 4095 ≡ Dma) × (zone_of 4096 ≡ Dma32) × (zone_of 1048575 ≡ Dma32) × (zone_of 1048576 ≡ Normal)

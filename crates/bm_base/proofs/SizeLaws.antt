@@ -65,7 +65,8 @@ is_hexadecimal-mark [] mark (x ∷ []) is = refl
 is_hexadecimal-mark [] mark (x ∷ d ∷ rest) is = rw (mark-other mark 48 is refl) refl
 is_hexadecimal-mark (z ∷ []) mark rest is =
     is_hexadecimal-short z mark rest (rw (mark-other mark 120 is refl, mark-other mark 88 is refl) refl)
-is_hexadecimal-mark (z ∷ x ∷ []) mark rest is = rw (is_digit-mark mark 16 (omega arith) is) (and-false ((z == 48) && ((x == 120) || (x == 88))))
+is_hexadecimal-mark (z ∷ x ∷ []) mark rest is =
+    rw (is_digit-mark mark 16 (omega arith) is) (and-false ((z == 48) && ((x == 120) || (x == 88))))
 is_hexadecimal-mark (z ∷ x ∷ d ∷ more) mark rest is = refl
 
 pub radix_of-mark : (text : List ℕ) (mark : ℕ) (rest : List ℕ)

@@ -74,9 +74,12 @@ settled_claims_nothing : settled (claims_of_entries ram_and_acpi) 0x200000 0 ≡
 settled_claims_nothing = refl
 
 -- what is added claims beside what was there
-with_claims_examples : (with_claims (claims_of_entries ram_and_acpi) (claims_of_entries (record { addr = 0x180000; size = 0x1000; kind = 4 } ∷ [])) 0x180000 1 ≡ true)
-    × (with_claims (claims_of_entries ram_and_acpi) (claims_of_entries (record { addr = 0x180000; size = 0x1000; kind = 4 } ∷ [])) 0x180000 4 ≡ true)
+with_nvs : Claims
+with_nvs = with_claims (claims_of_entries ram_and_acpi) (claims_of_entries (record { addr = 0x180000; size = 0x1000; kind = 4 } ∷ []))
+
+with_claims_examples : (with_nvs 0x180000 1 ≡ true) × (with_nvs 0x180000 4 ≡ true)
     × (with_claims no_claims (claims_of_entries ram_and_acpi) 0x200000 1 ≡ false) × (no_claims 0 1 ≡ false)
+unfolding with_nvs
 with_claims_examples = (refl, refl, refl, refl)
 
 -- the edits, on the page from 0x1000 on: `memmap=4K@0x1000` and the like
@@ -168,14 +171,16 @@ extended : (x t u : ℕ) → type_of (claims_of_entries ram_and_acpi) x ≡ t �
     → ((k : ℕ) → u < k → k < 2 ^ 32 → (alone t k || claims_of_entries extension x k) ≡ false)
     → type_of (with_claims first_claims (claims_of_entries extension)) x ≡ u
 extended x t u known small is_in none =
-    greatest_is (with_claims first_claims (claims_of_entries extension) x) u small (λ some. rw known (is_in some)) (λ k higher below. rw known (none k higher below))
+    greatest_is (with_claims first_claims (claims_of_entries extension) x) u small (λ some. rw known (is_in some))
+    (λ k higher below. rw known (none k higher below))
 
 changed : (x t u : ℕ) → type_of (with_claims first_claims (claims_of_entries extension)) x ≡ t → u < 2 ^ 32
     → (0 < u → edited (edit.Add (record { base = 0x100000; size = 0x81000 }) 2) (λ y. alone t) x u ≡ true)
     → ((k : ℕ) → u < k → k < 2 ^ 32 → edited (edit.Add (record { base = 0x100000; size = 0x81000 }) 2) (λ y. alone t) x k ≡ false)
     → type_of (after_edits edits second_claims) x ≡ u
 changed x t u known small is_in none =
-    greatest_is (after_edits edits second_claims x) u small (λ some. rw known (is_in some)) (λ k higher below. rw known (none k higher below))
+    greatest_is (after_edits edits second_claims x) u small (λ some. rw known (is_in some))
+    (λ k higher below. rw known (none k higher below))
 
 -- the zero page alone: ACPI data at 1 MiB, RAM not beside it
 zero_page_examples : (of_zero_page ram_and_acpi 0x100000 3 ≡ true) × (of_zero_page ram_and_acpi 0x100000 1 ≡ false)
@@ -210,13 +215,15 @@ nvs_in_the_map = rw nvs_stays refl
 ram_until_the_trim : (x : ℕ) → x < 0x100000 → type_of (after_edits edits second_claims) x ≡ 1
 ram_until_the_trim x low =
     let ram : type_of (claims_of_entries ram_and_acpi) x ≡ 1 =
-    greatest_is (claims_of_entries ram_and_acpi x) 1 (omega arith) (λ some. grind (arith, nat_tests)) (λ k higher small. grind (arith, nat_tests)) in
+    greatest_is (claims_of_entries ram_and_acpi x) 1 (omega arith) (λ some. grind (arith, nat_tests))
+    (λ k higher small. grind (arith, nat_tests)) in
     let still : type_of (with_claims first_claims (claims_of_entries extension)) x ≡ 1 =
     extended x 1 1 ram (omega arith) (λ some. grind (arith, nat_tests)) (λ k higher small. grind (arith, nat_tests)) in
     changed x 1 1 still (omega arith) (λ some. grind (arith, nat_tests)) (λ k higher small. grind (arith, nat_tests))
 
 first_byte_in_the_map : (finished ram_and_acpi extension edits 0 2 ≡ true) × (finished ram_and_acpi extension edits 0 1 ≡ false)
-first_byte_in_the_map = let ram : type_of (after_edits edits second_claims) 0 ≡ 1 = ram_until_the_trim 0 (omega arith) in (rw ram refl, rw ram refl)
+first_byte_in_the_map =
+    let ram : type_of (after_edits edits second_claims) 0 ≡ 1 = ram_until_the_trim 0 (omega arith) in (rw ram refl, rw ram refl)
 
 no_ram_from_640K : finished ram_and_acpi extension edits 0xA0000 1 ≡ false
 no_ram_from_640K = let ram : type_of (after_edits edits second_claims) 0xA0000 ≡ 1 = ram_until_the_trim 0xA0000 (omega arith) in rw ram refl

@@ -97,7 +97,8 @@ greatest_is s m small is_in none = below_is s (2 ^ 32) m small is_in none
 -- settling keeps the type of every address
 pub settled_keeps : (c : Claims) (x : ℕ) → type_of (settled c) x ≡ type_of c x
 settled_keeps c x =
-    greatest_is (settled c x) (type_of c x) (greatest_small (c x)) (λ some. grind (arith, nat_tests)) (λ k higher small. grind (arith, nat_tests))
+    greatest_is (settled c x) (type_of c x) (greatest_small (c x)) (λ some. grind (arith, nat_tests))
+    (λ k higher small. grind (arith, nat_tests))
 
 -- settled claims are one at most
 pub settled_one : (c : Claims) (x j k : ℕ) → settled c x j ≡ true → settled c x k ≡ true → j ≡ k
@@ -128,7 +129,8 @@ top_step : (lies : Bool) (value rest : ℕ) (among : ℕ → Bool) → (0 < rest
     → ((lies && max (if lies then value else 0) rest == value) || among (max (if lies then value else 0) rest)) ≡ true
 top_step true value rest among is_rest some =
     elim (cases_lt value rest) as (λ _. ((max value rest == value) || among (max value rest)) ≡ true) [
-      | inl lower ↦ let is : max value rest ≡ rest = omega arith in let found : among rest ≡ true = is_rest (omega arith) in rw (is, found) (grind (arith, nat_tests))
+      | inl lower ↦ let is : max value rest ≡ rest = omega arith in let found : among rest ≡ true = is_rest (omega arith) in rw (is, found)
+          (grind (arith, nat_tests))
       | inr ge ↦ let is : max value rest ≡ value = omega arith in rw is (grind (arith, nat_tests))
     ]
 top_step false value rest among is_rest some =
@@ -155,7 +157,8 @@ top_small : (rs : List (RunOf ℕ)) (x : ℕ) → AreClaims rs → top rs x < 2 
 top_small [] x claims = omega arith
 top_small (r ∷ rs) x claims =
     let rest : top rs x < 2 ^ 32 = top_small rs x claims.4 in
-    elim (cases_Bool (lies_in r x)) as (λ _. top (r ∷ rs) x < 2 ^ 32) [ inl here ↦ rw here (omega arith) | inr not_here ↦ rw not_here (omega arith) ]
+    elim (cases_Bool (lies_in r x)) as
+    (λ _. top (r ∷ rs) x < 2 ^ 32) [ inl here ↦ rw here (omega arith) | inr not_here ↦ rw not_here (omega arith) ]
 
 top_among : (rs : List (RunOf ℕ)) (x : ℕ) → 0 < top rs x → claims_of rs x (top rs x) ≡ true
 top_among [] x some = absurd (omega arith)
@@ -170,7 +173,8 @@ top_above (r ∷ rs) x k higher =
     rw rest (above_step (lies_in r x) r.value (top rs x) k higher)
 
 pub type_top : (rs : List (RunOf ℕ)) (x : ℕ) → AreClaims rs → type_of (claims_of rs) x ≡ top rs x
-type_top rs x claims = greatest_is (claims_of rs x) (top rs x) (top_small rs x claims) (top_among rs x) (λ k higher small. top_above rs x k higher)
+type_top rs x claims =
+    greatest_is (claims_of rs x) (top rs x) (top_small rs x claims) (top_among rs x) (λ k higher small. top_above rs x k higher)
 
 pub top_append : (rs ss : List (RunOf ℕ)) (x : ℕ) → top (rs ++ ss) x ≡ max (top rs x) (top ss x)
 top_append [] ss x = omega arith
@@ -208,7 +212,8 @@ map_runs c none = by_address same_kind tells_kinds (kinds c) none
 -- and each list of runs of a list's claims is it
 pub map_unique : (rs runs : List (RunOf ℕ)) → AreClaims rs → IsRunsOf (kinds (claims_of rs)) runs → runs ≡ map_of (claims_of rs)
 map_unique rs runs claims known =
-    one_list (kinds (claims_of rs)) runs (map_of (claims_of rs)) known (map_runs (claims_of rs) (λ x far. none_past rs x claims (omega arith)))
+    one_list (kinds (claims_of rs)) runs (map_of (claims_of rs)) known
+    (map_runs (claims_of rs) (λ x far. none_past rs x claims (omega arith)))
 
 -- canonical lists as claims
 
@@ -285,5 +290,9 @@ pub runs_claims : (c : Claims) (rs : List (RunOf ℕ)) → IsRunsOf (kinds c) rs
 runs_claims c rs known none =
     types_claims rs known.runs (λ x k found.
     let here : kinds c x ≡ Some k = sym (known.each x) ∙ found in
-    let small : (0 < k) × (k < 2 ^ 32) = kind_small c x k here in
-    (elim (cases_lt x (2 ^ 64 - 1)) as (λ _. x < 2 ^ 64 - 1) [ inl lt ↦ lt | inr ge ↦ absurd (cc (sym here ∙ none x ge)) ], small.0, small.1))
+    let small : (0 < k) × (k < 2 ^ 32) = kind_small c x k here in (
+      elim (cases_lt x (2 ^ 64 - 1)) as
+          (λ _. x < 2 ^ 64 - 1) [ inl lt ↦ lt | inr ge ↦ absurd (cc (sym here ∙ none x ge)) ],
+      small.0,
+      small.1,
+    ))

@@ -57,7 +57,11 @@ each_of_three x = rw (type_top ram_and_acpi x are_claims) (grind (arith, nat_tes
 acpi_parts_ram : three_runs ≡ map_of (claims_of ram_and_acpi)
 unfolding run
 acpi_parts_ram = map_unique ram_and_acpi three_runs are_claims (record {
-  runs = (omega arith, (omega arith, λ touch same. absurd (omega arith)), (omega arith, (omega arith, λ touch same. absurd (omega arith)), (omega arith, tt, tt)));
+  runs = (
+    omega arith,
+    (omega arith, λ touch same. absurd (omega arith)),
+    (omega arith, (omega arith, λ touch same. absurd (omega arith)), (omega arith, tt, tt)),
+  );
   each = each_of_three;
 })
 
@@ -75,7 +79,8 @@ each_of_one x = rw (type_top two_halves x halves_are_claims) (grind (arith, nat_
 
 halves_are_one_run : run 0 0x2000 1 ∷ [] ≡ map_of (claims_of two_halves)
 unfolding run
-halves_are_one_run = map_unique two_halves (run 0 0x2000 1 ∷ []) halves_are_claims (record { runs = (omega arith, tt, tt); each = each_of_one })
+halves_are_one_run =
+    map_unique two_halves (run 0 0x2000 1 ∷ []) halves_are_claims (record { runs = (omega arith, tt, tt); each = each_of_one })
 
 -- no claims, no runs
 no_claims_no_runs : [] ≡ map_of (claims_of [])

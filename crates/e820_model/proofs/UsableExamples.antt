@@ -19,7 +19,9 @@ below_examples = (refl, refl)
 
 -- RAM from 0x800 up to 0x3800, but the kernel's from 0x1800 up to 0x2800: frames 1 and 2 are whole, 0 and 3 aren't
 kernel_inside : TypeAt
-kernel_inside = value_at (record { base = 0x800; size = 0x1000; value = 1 } ∷ record { base = 0x1800; size = 0x1000; value = 128 } ∷ record { base = 0x2800; size = 0x1000; value = 1 } ∷ [])
+kernel_inside =
+    value_at (record { base = 0x800; size = 0x1000; value = 1 } ∷ record { base = 0x1800; size = 0x1000; value = 128 }
+    ∷ record { base = 0x2800; size = 0x1000; value = 1 } ∷ [])
 
 frame_examples : (is_usable kernel_inside 0 ≡ false) × (is_usable kernel_inside 1 ≡ true) × (is_usable kernel_inside 2 ≡ true)
     × (is_usable kernel_inside 3 ≡ false) × (count_below (is_usable kernel_inside) 5 ≡ 2)
@@ -28,7 +30,9 @@ frame_examples = (refl, refl, refl, refl, refl)
 
 -- a byte of another type in the frame, or a byte that nothing claims, makes it unusable
 one_byte_reserved : TypeAt
-one_byte_reserved = value_at (record { base = 0; size = 0x1234; value = 1 } ∷ record { base = 0x1234; size = 1; value = 2 } ∷ record { base = 0x1235; size = 0x1DCB; value = 1 } ∷ [])
+one_byte_reserved =
+    value_at (record { base = 0; size = 0x1234; value = 1 } ∷ record { base = 0x1234; size = 1; value = 2 }
+    ∷ record { base = 0x1235; size = 0x1DCB; value = 1 } ∷ [])
 
 one_byte_missing : TypeAt
 one_byte_missing = value_at (record { base = 0; size = 0x1FFF; value = 1 } ∷ record { base = 0x2000; size = 0x1000; value = 1 } ∷ [])

@@ -93,11 +93,13 @@ unfolding count_below
 count_parts p q zero = refl
 count_parts p q (suc n) =
     let rest : count_below p n ≡ count_below (λ i. p i && q i) n + count_below (λ i. p i && not (q i)) n = count_parts p q n in
-    elim (cases_Bool (p n)) as (λ _. count_below p (suc n) ≡ count_below (λ i. p i && q i) (suc n) + count_below (λ i. p i && not (q i)) (suc n)) [
-      | inl passes ↦ (elim (cases_Bool (q n)) as (λ _. count_below p (suc n) ≡ count_below (λ i. p i && q i) (suc n) + count_below (λ i. p i && not (q i)) (suc n)) [
-        | inl too ↦ (rw (passes, too) (omega arith))
-        | inr alone ↦ (rw (passes, alone) (omega arith))
-      ])
+    elim (cases_Bool (p n)) as
+    (λ _. count_below p (suc n) ≡ count_below (λ i. p i && q i) (suc n) + count_below (λ i. p i && not (q i)) (suc n)) [
+      | inl passes ↦ (elim (cases_Bool (q n)) as
+          (λ _. count_below p (suc n) ≡ count_below (λ i. p i && q i) (suc n) + count_below (λ i. p i && not (q i)) (suc n)) [
+            | inl too ↦ (rw (passes, too) (omega arith))
+            | inr alone ↦ (rw (passes, alone) (omega arith))
+          ])
       | inr fails ↦ (rw fails rest)
     ]
 
@@ -160,7 +162,8 @@ interval_frame from until frame =
 pub count_frames_between : (from until n : ℕ)
     → count_below (all_bytes (λ x. nat_le from x && nat_lt x until)) n ≡ min (until / 4096) n - (from + 4095) / 4096
 count_frames_between from until n =
-    count_same _ (λ frame. nat_le ((from + 4095) / 4096) frame && nat_lt frame (until / 4096)) n (λ frame lt. interval_frame from until frame)
+    count_same _ (λ frame. nat_le ((from + 4095) / 4096) frame && nat_lt frame (until / 4096)) n
+    (λ frame lt. interval_frame from until frame)
     ∙ count_interval ((from + 4095) / 4096) (until / 4096) n
 
 -- an address that lies between all of one test and all of another
@@ -178,7 +181,8 @@ split_frame p q gap frame apart =
       | inl behind ↦
           (let each : (x : ℕ) → 4096 * frame ≤ x → x < 4096 * frame + 4096 → either x ≡ q x =
           λ x low high. (let none : p x ≡ false = apart.below x (omega arith) in rw none refl) in
-          let none : all_bytes p frame ≡ false = frame_but p frame (4096 * frame) (omega arith) (omega arith) (apart.below (4096 * frame) (omega arith)) in
+          let none : all_bytes p frame ≡ false =
+          frame_but p frame (4096 * frame) (omega arith) (omega arith) (apart.below (4096 * frame) (omega arith)) in
           rw none (each_in-same (bytes_of_frame frame) either q each))
       | inr before ↦ (elim (cases_lt gap (4096 * frame + 4096)) as (λ _. goal) [
         | inl inside ↦
@@ -192,7 +196,8 @@ split_frame p q gap frame apart =
         | inr ahead ↦
             (let each : (x : ℕ) → 4096 * frame ≤ x → x < 4096 * frame + 4096 → either x ≡ p x =
             λ x low high. (let none : q x ≡ false = apart.above x (omega arith) in grind (arith, none)) in
-            let none : all_bytes q frame ≡ false = frame_but q frame (4096 * frame) (omega arith) (omega arith) (apart.above (4096 * frame) (omega arith)) in
+            let none : all_bytes q frame ≡ false =
+            frame_but q frame (4096 * frame) (omega arith) (omega arith) (apart.above (4096 * frame) (omega arith)) in
             let same : all_bytes either frame ≡ all_bytes p frame = each_in-same (bytes_of_frame frame) either p each in
             grind (arith, none, same))
       ])
@@ -250,10 +255,11 @@ usable_none f none frame lt = count_zero (is_usable f) (2 ^ 52) none frame lt
 
 -- memory within reach
 pub memory_reached : (limit : ℕ) (f : TypeAt) (x : ℕ) → is_memory (reachable limit f x) ≡ (is_memory (f x) && nat_lt x limit)
-memory_reached limit f x = elim (cases_Bool (nat_lt x limit)) as (λ _. is_memory (reachable limit f x) ≡ (is_memory (f x) && nat_lt x limit)) [
-  | inl within ↦ rw within (grind (arith, nat_tests))
-  | inr past ↦ rw past (grind (arith, nat_tests))
-]
+memory_reached limit f x =
+    elim (cases_Bool (nat_lt x limit)) as (λ _. is_memory (reachable limit f x) ≡ (is_memory (f x) && nat_lt x limit)) [
+      | inl within ↦ rw within (grind (arith, nat_tests))
+      | inr past ↦ rw past (grind (arith, nat_tests))
+    ]
 
 -- a frame is usable within reach where it is usable and ends by the limit
 pub usable_reached : (limit : ℕ) (f : TypeAt) (frame : ℕ)

@@ -20,7 +20,8 @@ between_test from until kind x k =
       | inr none ↦ rw none (grind (arith, nat_tests))
     ]
 
-between_if_test : (from until : ℕ) (kind : Option ℕ) (x k : ℕ) → claims_of (between_if from until kind) x k ≡ (nat_le from x && nat_lt x until && is_value kind k)
+between_if_test : (from until : ℕ) (kind : Option ℕ) (x k : ℕ)
+    → claims_of (between_if from until kind) x k ≡ (nat_le from x && nat_lt x until && is_value kind k)
 between_if_test from until None x k = grind (arith, nat_tests)
 between_if_test from until (Some kind) x k = between_test from until kind x k
 
@@ -94,10 +95,12 @@ change_test range from to (r ∷ rs) x k =
     (change_step (lies_in r x) (covers range x) (claims_of rs x k) (claims_of rs x from) r.value from to k)
 
 -- so the cut lists are the edited claims
-pub remove_same : (range : Extent) (kind : ℕ) (rs : List (RunOf ℕ)) → claims_of (cut_out range (Some kind) None rs) ≡ edited (edit.Remove range kind) (claims_of rs)
+pub remove_same : (range : Extent) (kind : ℕ) (rs : List (RunOf ℕ))
+    → claims_of (cut_out range (Some kind) None rs) ≡ edited (edit.Remove range kind) (claims_of rs)
 remove_same range kind rs = λ i x k. remove_test range kind rs x k i
 
-pub remove_all_same : (range : Extent) (rs : List (RunOf ℕ)) → claims_of (cut_out range None None rs) ≡ edited (edit.RemoveAll range) (claims_of rs)
+pub remove_all_same : (range : Extent) (rs : List (RunOf ℕ))
+    → claims_of (cut_out range None None rs) ≡ edited (edit.RemoveAll range) (claims_of rs)
 remove_all_same range rs = λ i x k. remove_all_test range rs x k i
 
 pub change_same : (range : Extent) (from to : ℕ) (rs : List (RunOf ℕ))
@@ -107,9 +110,11 @@ change_same range from to rs = λ i x k. change_test range from to rs x k i
 add_test : (range : Extent) (kind : ℕ) (rs : List (RunOf ℕ)) (x k : ℕ)
     → claims_of (rs ++ between range.base (end_of range) kind) x k ≡ edited (edit.Add range kind) (claims_of rs) x k
 add_test range kind rs x k =
-    claims_append_at rs (between range.base (end_of range) kind) x k ∙ ap (λ b. claims_of rs x k || b) (between_test range.base (end_of range) kind x k)
+    claims_append_at rs (between range.base (end_of range) kind) x k
+        ∙ ap (λ b. claims_of rs x k || b) (between_test range.base (end_of range) kind x k)
 
-pub add_same : (range : Extent) (kind : ℕ) (rs : List (RunOf ℕ)) → claims_of (rs ++ between range.base (end_of range) kind) ≡ edited (edit.Add range kind) (claims_of rs)
+pub add_same : (range : Extent) (kind : ℕ) (rs : List (RunOf ℕ))
+    → claims_of (rs ++ between range.base (end_of range) kind) ≡ edited (edit.Add range kind) (claims_of rs)
 add_same range kind rs = λ i x k. add_test range kind rs x k i
 
 -- the claims of entries
@@ -124,7 +129,8 @@ entries_test : (es : List Entry) (x k : ℕ) → claims_of (flat_map claim_of es
 entries_test [] x k = refl
 entries_test (e ∷ es) x k = claims_append_at (claim_of e) (flat_map claim_of es) x k ∙ rw (claim_test e x k, entries_test es x k) refl
 
-pub entries_same : (rs : List (RunOf ℕ)) (es : List Entry) → claims_of (rs ++ flat_map claim_of es) ≡ with_claims (claims_of rs) (claims_of_entries es)
+pub entries_same : (rs : List (RunOf ℕ)) (es : List Entry)
+    → claims_of (rs ++ flat_map claim_of es) ≡ with_claims (claims_of rs) (claims_of_entries es)
 entries_same rs es =
     claims_append rs (flat_map claim_of es) ∙ (λ i x k. claims_of rs x k || entries_test es x k i)
 
@@ -155,7 +161,8 @@ type_inside meant instead kind type some small =
       | inr other ↦ let own : IsType (Some kind) = (some, small) in rw other own
     ]
 
-pub are_cut : (range : Extent) (meant instead : Option ℕ) (rs : List (RunOf ℕ)) → IsType instead → AreClaims rs → AreClaims (cut_out range meant instead rs)
+pub are_cut : (range : Extent) (meant instead : Option ℕ) (rs : List (RunOf ℕ)) → IsType instead → AreClaims rs
+    → AreClaims (cut_out range meant instead rs)
 are_cut range meant instead [] type claims = tt
 are_cut range meant instead (r ∷ rs) type claims =
     let first : AreClaims (between r.base (min range.base (run_end r)) r.value) = are_between r.base (min range.base (run_end r)) r.value (omega arith) claims.2 claims.3 in

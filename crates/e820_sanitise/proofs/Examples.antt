@@ -43,7 +43,8 @@ all_removed : cut_out (range 0 10) None None (run 0 10 1 ∷ run 2 3 2 ∷ []) �
 all_removed = refl
 
 -- an empty entry and one of type 0 have no claim
-claims_of_one_entry : (claim_of (record { addr = 4; size = 2; kind = 1 }) ≡ run 4 2 1 ∷ []) × (claim_of (record { addr = 4; size = 0; kind = 1 }) ≡ []) × (claim_of (record { addr = 4; size = 2; kind = 0 }) ≡ [])
+claims_of_one_entry : (claim_of (record { addr = 4; size = 2; kind = 1 }) ≡ run 4 2 1 ∷ [])
+    × (claim_of (record { addr = 4; size = 0; kind = 1 }) ≡ []) × (claim_of (record { addr = 4; size = 2; kind = 0 }) ≡ [])
 claims_of_one_entry = (refl, refl, refl)
 
 -- a map of 3,201 runs is too long, and is answered by their number; one of 3,200 isn't

@@ -59,7 +59,8 @@ one_frame_more_stops = rw one_frame_more refl
 -- a map without a run has no frame
 empty_map_stops : judged (reachable limit (value_at [])) ≡ Some stops.NoRam
 empty_map_stops =
-    let counted : usable_frames (reachable limit (value_at [])) ≡ whole_frames 0 (min 0 limit) = sym (frames_usable limit (omega arith) [] tt) in
+    let counted : usable_frames (reachable limit (value_at [])) ≡ whole_frames 0 (min 0 limit) =
+    sym (frames_usable limit (omega arith) [] tt) in
     let none : usable_frames (reachable limit (value_at [])) ≡ 0 = counted ∙ whole_by_division 0 0 (omega arith) in
     rw none refl
 

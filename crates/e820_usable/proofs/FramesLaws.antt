@@ -12,7 +12,8 @@ use Rattle.e820_usable.specs.Frames.{whole_frames}
 -- the whole frames between two addresses, by division
 pub whole_by_division : (from until : ℕ) → until < 2 ^ 64 → whole_frames from until ≡ until / 4096 - (from + 4095) / 4096
 whole_by_division from until space =
-    let same : (frame : ℕ) → frame < 2 ^ 52 → (nat_le from (4096 * frame) && nat_le (4096 * frame + 4096) until) ≡ (nat_le ((from + 4095) / 4096) frame && nat_lt frame (until / 4096)) =
+    let same : (frame : ℕ) → frame < 2 ^ 52 → (nat_le from (4096 * frame) && nat_le (4096 * frame + 4096) until)
+    ≡ (nat_le ((from + 4095) / 4096) frame && nat_lt frame (until / 4096)) =
     λ frame lt. grind (arith, nat_tests) in
     let counted : whole_frames from until ≡ min (until / 4096) (2 ^ 52) - (from + 4095) / 4096 =
     count_same _ _ (2 ^ 52) same ∙ count_interval ((from + 4095) / 4096) (until / 4096) (2 ^ 52) in
@@ -28,7 +29,8 @@ abbrev pub frames_from : ℕ → ℕ → ℕ → List (RunOf ℕ) → ℕ
 frames_from limit from until [] = whole_frames from (min until limit)
 frames_from limit from until (r ∷ rs) =
     if is_memory (Some r.value)
-    then (if r.base == until then frames_from limit from (run_end r) rs else whole_frames from (min until limit) + frames_from limit r.base (run_end r) rs)
+    then (if r.base == until then frames_from limit from (run_end r) rs
+    else whole_frames from (min until limit) + frames_from limit r.base (run_end r) rs)
     else frames_from limit from until rs
 
 -- memory of the stretch, and of the runs
@@ -70,7 +72,8 @@ pub memory_apart : (from until : ℕ) (r : RunOf ℕ) (rs : List (RunOf ℕ))
     → is_memory (Some r.value) ≡ true
     → (x : ℕ) → memory_after from until (r ∷ rs) x ≡ ((nat_le from x && nat_lt x until) || memory_after r.base (run_end r) rs x)
 memory_apart from until r rs memory x =
-    elim (cases_Bool (lies_in r x)) as (λ _. memory_after from until (r ∷ rs) x ≡ ((nat_le from x && nat_lt x until) || memory_after r.base (run_end r) rs x)) [
+    elim (cases_Bool (lies_in r x)) as
+    (λ _. memory_after from until (r ∷ rs) x ≡ ((nat_le from x && nat_lt x until) || memory_after r.base (run_end r) rs x)) [
       | inl inside ↦ (rw (inside, memory) refl)
       | inr outside ↦ (rw outside refl)
     ]
@@ -105,7 +108,8 @@ frames_same limit p q same = ap (frames_of limit) (λ i x. same x i)
 stretch_frames : (limit from until : ℕ) → limit < 2 ^ 64
     → whole_frames from (min until limit) ≡ frames_of limit (λ x. nat_le from x && nat_lt x until)
 stretch_frames limit from until space =
-    let cut : (x : ℕ) → (nat_le from x && nat_lt x (min until limit)) ≡ ((nat_le from x && nat_lt x until) && nat_lt x limit) = λ x. grind (arith, nat_tests) in
+    let cut : (x : ℕ) → (nat_le from x && nat_lt x (min until limit)) ≡ ((nat_le from x && nat_lt x until) && nat_lt x limit) =
+    λ x. grind (arith, nat_tests) in
     whole_bytes from (min until limit) (omega arith) ∙ ap (λ p. count_below (all_bytes p) (2 ^ 52)) (λ i x. cut x i)
 
 -- the frames of both sides of a gap
@@ -149,12 +153,14 @@ frames_counted limit space (r ∷ rs) from until order start runs =
             (let test : (r.base == until) ≡ false = grind (arith, nat_tests) in
             let rest : frames_from limit r.base (run_end r) rs ≡ frames_of limit (memory_after r.base (run_end r) rs) =
             frames_counted limit space rs r.base (run_end r) (omega arith) behind runs.2 in
-            let same : frames_of limit (memory_after from until (r ∷ rs)) ≡ frames_of limit (λ x. (nat_le from x && nat_lt x until) || memory_after r.base (run_end r) rs x) =
+            let same : frames_of limit (memory_after from until (r ∷ rs))
+            ≡ frames_of limit (λ x. (nat_le from x && nat_lt x until) || memory_after r.base (run_end r) rs x) =
             frames_same limit _ _ (memory_apart from until r rs memory) in
             let split : frames_of limit (λ x. (nat_le from x && nat_lt x until) || memory_after r.base (run_end r) rs x)
             ≡ frames_of limit (λ x. nat_le from x && nat_lt x until) + frames_of limit (memory_after r.base (run_end r) rs) =
             both_frames limit _ _ until (stretch_gap from until r rs runs (omega arith)) in
-            let stretch : whole_frames from (min until limit) ≡ frames_of limit (λ x. nat_le from x && nat_lt x until) = stretch_frames limit from until space in
+            let stretch : whole_frames from (min until limit) ≡ frames_of limit (λ x. nat_le from x && nat_lt x until) =
+            stretch_frames limit from until space in
             rw (memory, test, same, split, stretch, rest) refl)
       ])
     ]

@@ -12,7 +12,8 @@ pub returns-clause-ok : goal.returns-clause-ok
 returns-clause-ok c =
     let w = c.write_digits-start in
     let text : drop c.min-from.result w.new.buf ≡ padded_decimal c.args.width c.args.value =
-    rw c.min-from.ensures (right_aligned c.args.width w.result c.args.value w.new.buf (omega arith) w.ensures.start w.ensures.written w.ensures.before) in
+    rw c.min-from.ensures
+    (right_aligned c.args.width w.result c.args.value w.new.buf (omega arith) w.ensures.start w.ensures.written w.ensures.before) in
     let long : length w.new.buf ≡ 20 = w.auto.buf in
     let all : take (20 - c.min-from.result) (drop c.min-from.result w.new.buf) ≡ drop c.min-from.result w.new.buf =
     take_all (20 - c.min-from.result) (drop c.min-from.result w.new.buf) (omega (arith, length-drop c.min-from.result w.new.buf)) in

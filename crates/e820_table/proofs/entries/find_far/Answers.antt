@@ -9,5 +9,6 @@ pub loop-index-preserved : goal.loop-index-preserved
 loop-index-preserved c =
     let l = c.loop-index in
     let left : c.args.count - l.index ≡ suc (c.args.count - (l.index + 1)) = omega arith in
-    let near : is_too_far (nth_entry c.args.start l.index c.args.bytes.now) ≡ false = rw (← c.read_nth-entry.ensures) (grind (arith, nat_tests, common_steps)) in
+    let near : is_too_far (nth_entry c.args.start l.index c.args.bytes.now) ≡ false =
+    rw (← c.read_nth-entry.ensures) (grind (arith, nat_tests, common_steps)) in
     sym (far_later c.args.start l.index (c.args.count - (l.index + 1)) c.args.bytes.now near) ∙ rw left at l.invariant
