@@ -23,6 +23,7 @@ mod laws;
 mod layers;
 mod stretch;
 
+pub use builder::agree;
 pub use laws::{one_list_of_runs, runs_by_address};
 pub use layers::overlay_all;
 pub use stretch::{Overlay, Stretch};
