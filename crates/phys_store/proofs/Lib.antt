@@ -1,0 +1,3 @@
+pub mod Lookup
+pub mod ByteLists
+pub mod Writes

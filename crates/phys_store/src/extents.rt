@@ -1,0 +1,97 @@
+ghost use Rattle.std.specs.Prelude.{◌≡◌, ℕ, ◌+◌, ◌-◌, ◌^◌, ◌<◌, ◌≤◌, ◌↔◌, map, length, slice_index, position, IsTrue};
+ghost use Rattle.phys_store.specs.Bytes.{inside, byte_of, AreReady, Wrote, bytes_at};
+ghost use Rattle.phys_store.specs.Extents.{piece, Apart};
+
+use bm_base::Range;
+
+/// Consecutive bytes that are prepared, with none prepared right before or behind them.
+#[derive(Debug, Drop)]
+pub struct Held {
+    /// The address of the first byte.
+    pub base: u64,
+    pub bytes: Vec<u8>,
+}
+
+/// The index of the extent in which the address lies.
+fn place_of(extents: &[Held], address: u64) -> Option<usize>
+    ensures { result ≡ position (λ e. inside (piece e) address) extents.now }
+{
+    extents
+        .iter()
+        .position(|e| e.base <= address && address - e.base < e.bytes.len() as u64)
+}
+
+/// Whether each address of the range is prepared.
+pub fn are_ready(extents: &[Held], range: Range) -> bool
+    requires { Apart 0 (map piece extents.now) }
+    ensures { IsTrue result ↔ AreReady (map piece extents.now) range.base range.size }
+{
+    if range.size == 0 {
+        return true;
+    }
+    match place_of(extents, range.base) {
+        Some(i) => {
+            let extent = &extents[i];
+            range.end() - extent.base <= extent.bytes.len() as u64
+        }
+        None => false,
+    }
+}
+
+/// The byte at the address; 0 where it isn't prepared.
+pub fn byte_at(extents: &[Held], address: u64) -> u8
+    requires { Apart 0 (map piece extents.now) }
+    ensures { result ≡ byte_of (map piece extents.now) address }
+{
+    match place_of(extents, address) {
+        Some(i) => {
+            let extent = &extents[i];
+            extent.bytes[(address - extent.base) as usize]
+        }
+        None => 0,
+    }
+}
+
+/// The bytes of a prepared range, in place.
+pub fn slice(extents: &[Held], at: u64, count: u64) -> &[u8]
+    requires apart { Apart 0 (map piece extents.now) }
+    requires prepared { AreReady (map piece extents.now) at count }
+    ensures { result.now ≡ bytes_at (byte_of (map piece extents.now)) at count }
+{
+    match place_of(extents, at) {
+        Some(i) => {
+            let extent = &extents[i];
+            let from = (at - extent.base) as usize;
+            &extent.bytes[from..from + count as usize]
+        }
+        None => &[],
+    }
+}
+
+/// The bytes are written at the address.
+pub fn write(extents: &mut [Held], at: u64, bytes: &[u8])
+    requires apart { Apart 0 (map piece extents.old) }
+    requires prepared { AreReady (map piece extents.old) at (length bytes.now) }
+    ensures apart { Apart 0 (map piece extents.new) }
+    ensures wrote { Wrote (map piece extents.old) (map piece extents.new) at (length bytes.now) (slice_index bytes.now) }
+{
+    if let Some(i) = place_of(extents, at) {
+        let extent = &mut extents[i];
+        let from = (at - extent.base) as usize;
+        extent.bytes[from..from + bytes.len()].copy_from_slice(bytes);
+    }
+}
+
+/// Each address of the range gets the byte.
+pub fn fill(extents: &mut [Held], range: Range, byte: u8)
+    requires apart { Apart 0 (map piece extents.old) }
+    requires prepared { AreReady (map piece extents.old) range.base range.size }
+    ensures apart { Apart 0 (map piece extents.new) }
+    ensures wrote { Wrote (map piece extents.old) (map piece extents.new) range.base range.size (λ _. byte) }
+{
+    if let Some(i) = place_of(extents, range.base) {
+        let extent = &mut extents[i];
+        let from = (range.base - extent.base) as usize;
+        extent.bytes[from..from + range.size as usize].fill(byte);
+    }
+}

@@ -1,0 +1,7 @@
+//! The bytes of physical memory, as far as a boot writes them.
+#![tactic(auto)]
+
+mod extents;
+mod store;
+
+pub use store::Store;

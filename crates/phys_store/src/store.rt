@@ -1,0 +1,77 @@
+ghost use Rattle.std.specs.Prelude.{◌≡◌, ℕ, ◌+◌, ◌-◌, ◌^◌, ◌<◌, ◌≤◌, ◌↔◌, Bool, true, ◌||◌, nat_le, min, max, List, [], length, slice_index, IsTrue, OnOk, OnErr};
+ghost use Rattle.phys_store.specs.Bytes.{byte_of, is_ready, AreReady, Wrote, bytes_at};
+
+use crate::extents;
+use crate::extents::Held;
+use bm_base::Range;
+use std::alloc::Global;
+use std::marker::Model;
+
+/// A byte at each address, 0 at first. Some addresses are prepared, and these can be written without
+/// wanting memory.
+#[derive(Debug, Drop)]
+pub struct Store {
+    extents: Vec<Held>,
+}
+
+impl Model for Store {
+    ghost use Rattle.std.specs.Prelude.{List, map};
+    ghost use Rattle.phys_store.specs.Bytes.{Piece};
+
+    ghost Value = { List Piece };
+
+    ghost use Rattle.phys_store.specs.Extents.{piece, Apart};
+
+    ghost view = { λ s. map piece s.extents.items };
+
+    ghost invariant = { λ s. Apart 0 (map piece s.extents.items) };
+}
+
+impl Store {
+    /// The store in which each byte is 0 and nothing is prepared.
+    pub fn new(alloc: Global) -> Store
+        ensures { result ≡ [] }
+    {
+        Store {
+            extents: Vec::new(alloc),
+        }
+    }
+
+    /// Whether each address of the range is prepared.
+    pub fn is_prepared(&self, range: Range) -> bool
+        ensures { IsTrue result ↔ AreReady self.now range.base range.size }
+    {
+        extents::are_ready(&self.extents, range)
+    }
+
+    /// The byte at the address.
+    pub fn byte_at(&self, address: u64) -> u8
+        ensures { result ≡ byte_of self.now address }
+    {
+        extents::byte_at(&self.extents, address)
+    }
+
+    /// The bytes of a prepared range, in place: no byte is copied.
+    pub fn slice(&self, at: u64, count: u64) -> &[u8]
+        requires { AreReady self.now at count }
+        ensures { result.now ≡ bytes_at (byte_of self.now) at count }
+    {
+        extents::slice(&self.extents, at, count)
+    }
+
+    /// Writes the bytes from the address on, which are prepared.
+    pub fn write(&mut self, at: u64, bytes: &[u8])
+        requires { AreReady self.old at (length bytes.now) }
+        ensures { Wrote self.old self.new at (length bytes.now) (slice_index bytes.now) }
+    {
+        extents::write(&mut self.extents, at, bytes);
+    }
+
+    /// Writes the byte to each address of the range, which is prepared.
+    pub fn fill(&mut self, range: Range, byte: u8)
+        requires { AreReady self.old range.base range.size }
+        ensures { Wrote self.old self.new range.base range.size (λ _. byte) }
+    {
+        extents::fill(&mut self.extents, range, byte);
+    }
+}
