@@ -1,3 +1,4 @@
-pub mod Lookup
 pub mod ByteLists
+pub mod Joining
+pub mod Lookup
 pub mod Writes

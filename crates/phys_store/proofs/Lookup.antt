@@ -161,3 +161,18 @@ pub none_ready : (es : List Held) (a n : ℕ) → position (λ d. inside (piece 
 none_ready es a zero none ready = refl
 none_ready es a (suc n) none ready =
     absurd (false≢true (sym (none-found es a none) ∙ ready a (omega arith) (omega arith)))
+
+-- what is prepared lies below 2^64 - 1
+small_in : (p : Piece) (ps : List Piece) (x : ℕ) (b : Bool) → inside p x ≡ b → past p < 2 ^ 64 → (inside p x || is_ready ps x) ≡ true →
+    (is_ready ps x ≡ true → x + 1 < 2 ^ 64) → x + 1 < 2 ^ 64
+small_in p ps x true is small ready rest = let high = inside-high p x is in omega (arith, high, small)
+small_in p ps x false is small ready rest = rest (sym (ap (λ b. b || is_ready ps x) is) ∙ ready)
+
+ready-small : (e : ℕ) (ps : List Piece) (x : ℕ) → Apart e ps → is_ready ps x ≡ true → x + 1 < 2 ^ 64
+ready-small e [] x apart ready = absurd (false≢true ready)
+ready-small e (p ∷ ps) x apart ready = small_in p ps x (inside p x) refl apart.2 ready (ready-small (past p + 1) ps x apart.3)
+
+pub prepared-small : (ps : List Piece) (a n : ℕ) → Apart 0 ps → AreReady ps a n → 0 < n → a + n < 2 ^ 64
+prepared-small ps a n apart ready some =
+    let last = ready-small 0 ps (a + n - 1) apart (ready (a + n - 1) (omega arith) (omega arith)) in
+    omega (arith, last)

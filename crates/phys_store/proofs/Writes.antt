@@ -4,6 +4,7 @@ use Rattle.std.proofs.lemmas.Bool.{cases_lt, cases_Bool}
 use Rattle.std.proofs.lemmas.Bool.Decides.{nat_tests}
 use Rattle.std.proofs.lemmas.List.{get_or-set_same, get_or-replicate, length-replicate, length-take, length-drop, map-set, with_items_is, places}
 use Rattle.std.specs.Vec.{with_items}
+use Rattle.std.specs.List.{CopiedTo, SameBelow, SameFrom}
 use borrow.Rule.Slice.PartMut.{put_mid}
 use Rattle.phys_store.specs.Bytes.{Piece, past, inside, byte_of, is_ready, AreReady, Wrote}
 use Rattle.phys_store.specs.declared.extents.Held.{Held}
@@ -61,13 +62,13 @@ wrote-set ps i p q a n g apart count there base len low high new old =
       ready = λ x. ready-set p q base len ps i x there })
 
 -- a part of a list is written over: its length, what is in the part, and what is beside it
-length-mid : (k m : ℕ) (xs ys : List ℕ) → length ys ≡ m → k + m ≤ length xs → length (put_mid k m xs ys) ≡ length xs
+pub length-mid : (k m : ℕ) (xs ys : List ℕ) → length ys ≡ m → k + m ≤ length xs → length (put_mid k m xs ys) ≡ length xs
 length-mid k m xs ys len within = search (rules, places)
 
-mid-in : (k m : ℕ) (xs ys : List ℕ) (j : ℕ) → length ys ≡ m → k + m ≤ length xs → j < m → get_or (put_mid k m xs ys) (k + j) 0 ≡ get_or ys j 0
+pub mid-in : (k m : ℕ) (xs ys : List ℕ) (j : ℕ) → length ys ≡ m → k + m ≤ length xs → j < m → get_or (put_mid k m xs ys) (k + j) 0 ≡ get_or ys j 0
 mid-in k m xs ys j len within below = grind (arith, places)
 
-mid-out : (k m : ℕ) (xs ys : List ℕ) (j : ℕ) → length ys ≡ m → k + m ≤ length xs → IsTrue (nat_lt j k || nat_le (k + m) j) →
+pub mid-out : (k m : ℕ) (xs ys : List ℕ) (j : ℕ) → length ys ≡ m → k + m ≤ length xs → IsTrue (nat_lt j k || nat_le (k + m) j) →
     get_or (put_mid k m xs ys) j 0 ≡ get_or xs j 0
 mid-out k m xs ys j len within off = grind (arith, places, nat_tests)
 
@@ -102,3 +103,49 @@ filled k m xs ys b within is =
     let long : n ≡ m = length-take m (drop k xs) ∙ omega (arith, length-drop k xs) in
     (ap length is ∙ length-replicate n b ∙ long,
      λ j below. ap (λ (zs : List ℕ). get_or zs j 0) is ∙ get_or-replicate n j b 0 (omega (arith, below, long)))
+
+-- the extent that holds two ranges gets in the one what stood in the other
+pub wrote-copied : (es : List Held) (a n i : ℕ) (e d : Held) (from to count m : ℕ) → Apart 0 (map piece es) → Holds es a n i e →
+    a ≤ from → a ≤ to → from + count ≤ a + n → to + count ≤ a + n → d.base ≡ e.base → length d.bytes.items ≡ length e.bytes.items → m ≡ count →
+    CopiedTo e.bytes.items d.bytes.items (from - e.base) (to - e.base) m →
+    SameBelow e.bytes.items d.bytes.items (to - e.base) → SameFrom e.bytes.items d.bytes.items (to - e.base + m) →
+    let new = set es i d in
+    Apart 0 (map piece new) × Wrote (map piece es) (map piece new) to count (λ k. byte_of (map piece es) (from + k))
+wrote-copied es a n i e d from to count m apart h from_low to_low from_high to_high base len at copied below behind =
+    rw (map-set piece es i d)
+        (wrote-set (map piece es) i (piece e) (piece d) to count (λ k. byte_of (map piece es) (from + k)) apart h.count h.there base len
+            (omega (arith, h.low)) (omega (arith, h.high))
+            (λ k less. copied (to - e.base + k) 0 (omega arith) (omega (arith, at))
+                ∙ ap (λ j. get_or e.bytes.items j 0) (omega (arith, h.low))
+                ∙ sym (byte-at 0 (map piece es) i (piece e) (from + k) apart h.count h.there (omega (arith, h.low)) (omega (arith, h.high))))
+            (λ j off. elim (cases_lt j (to - e.base)) [
+                inl less ↦ below j 0 less
+              | inr more ↦ behind j 0 (grind (arith, nat_tests)) ]))
+
+-- one write behind another is one write
+pub wrote-more : (s t u : List Piece) (a n m : ℕ) (g : ℕ → ℕ) → Wrote s t a n g → Wrote t u (a + n) m (λ k. g (n + k)) → Wrote s u a (n + m) g
+wrote-more s t u a n m g first second = record {
+  within = λ k below. elim (cases_lt k n) [
+      inl less ↦ second.outside (a + k) (grind (arith, nat_tests)) ∙ first.within k less
+    | inr more ↦ ap (byte_of u) (omega arith) ∙ second.within (k - n) (omega arith) ∙ ap g (omega arith) ];
+  outside = λ x off. second.outside x (grind (arith, nat_tests)) ∙ first.outside x (grind (arith, nat_tests));
+  ready = λ x. second.ready x ∙ first.ready x }
+
+-- what was prepared before a write is prepared behind it
+pub ready_kept : (s t : List Piece) (a n : ℕ) → ((x : ℕ) → is_ready t x ≡ is_ready s x) → AreReady s a n → AreReady t a n
+ready_kept s t a n same ready = λ x low high. same x ∙ ready x low high
+
+-- a write told by another function that gives the same bytes
+pub wrote-like : (s t : List Piece) (a n m : ℕ) (f g : ℕ → ℕ) → Wrote s t a n f → n ≡ m → ((k : ℕ) → k < m → f k ≡ g k) → Wrote s t a m g
+wrote-like s t a n m f g w same alike = record {
+  within = λ k below. w.within k (omega (arith, same)) ∙ alike k below;
+  outside = λ x off. w.outside x (rw same off);
+  ready = w.ready }
+
+-- the next part of a copy, where what is read lies apart from what is written
+pub copied-more : (s t u : List Piece) (from to count n m : ℕ) → IsTrue (nat_le (from + count) to || nat_le (to + count) from) → n + m ≤ count →
+    Wrote s t to n (λ k. byte_of s (from + k)) → Wrote t u (to + n) m (λ k. byte_of t (from + n + k)) → Wrote s u to (n + m) (λ k. byte_of s (from + k))
+copied-more s t u from to count n m apart most first second =
+    wrote-more s t u to n m (λ k. byte_of s (from + k)) first
+        (wrote-like t u (to + n) m m (λ k. byte_of t (from + n + k)) (λ k. byte_of s (from + (n + k))) second refl
+            (λ k below. first.outside (from + n + k) (grind (arith, nat_tests)) ∙ ap (byte_of s) (omega arith)))

@@ -1,4 +1,4 @@
-ghost use Rattle.std.specs.Prelude.{◌≡◌, ℕ, ◌+◌, ◌-◌, ◌^◌, ◌<◌, ◌≤◌, ◌↔◌, map, length, slice_index, position, IsTrue};
+ghost use Rattle.std.specs.Prelude.{◌≡◌, ℕ, ◌+◌, ◌-◌, ◌^◌, ◌<◌, ◌≤◌, ◌↔◌, Bool, true, ◌||◌, nat_le, min, max, map, length, slice_index, position, IsTrue};
 ghost use Rattle.phys_store.specs.Bytes.{inside, byte_of, AreReady, Wrote, bytes_at};
 ghost use Rattle.phys_store.specs.Extents.{piece, Apart};
 
@@ -93,5 +93,63 @@ pub fn fill(extents: &mut [Held], range: Range, byte: u8)
         let extent = &mut extents[i];
         let from = (range.base - extent.base) as usize;
         extent.bytes[from..from + range.size as usize].fill(byte);
+    }
+}
+
+/// The `count` bytes from `from` on are written from `to` on as well; the two ranges may overlap, and
+/// all addresses of both and between them are prepared.
+pub fn shift(extents: &mut [Held], from: u64, to: u64, count: u64)
+    requires apart { Apart 0 (map piece extents.old) }
+    requires prepared { AreReady (map piece extents.old) (min from to) (max from to - min from to + count) }
+    ensures apart { Apart 0 (map piece extents.new) }
+    ensures wrote { Wrote (map piece extents.old) (map piece extents.new) to count (λ k. byte_of (map piece extents.old) (from + k)) }
+{
+    if let Some(i) = place_of(extents, from.min(to)) {
+        let extent = &mut extents[i];
+        let source = (from - extent.base) as usize;
+        let target = (to - extent.base) as usize;
+        extent
+            .bytes
+            .copy_within(source..source + count as usize, target);
+    }
+}
+
+/// The bytes that are copied at a time between two extents.
+const CHUNK: usize = 256;
+
+/// The `count` bytes from `from` on are written from `to` on as well, where the two ranges have no
+/// address in common. Both are prepared.
+pub fn copy(extents: &mut [Held], from: u64, to: u64, count: u64)
+    requires apart { Apart 0 (map piece extents.old) }
+    requires read { AreReady (map piece extents.old) from count }
+    requires written { AreReady (map piece extents.old) to count }
+    requires disjoint { IsTrue (nat_le (from + count) to || nat_le (to + count) from) }
+    ensures apart { Apart 0 (map piece extents.new) }
+    ensures wrote { Wrote (map piece extents.old) (map piece extents.new) to count (λ k. byte_of (map piece extents.old) (from + k)) }
+{
+    let mut chunk = [0; CHUNK];
+    let mut done = 0;
+    while done < count {
+        let n = (count - done).min(CHUNK as u64);
+        let part = &mut chunk[..n as usize];
+        part.copy_from_slice(slice(extents, from + done, n));
+        write(extents, to + done, part);
+        done += n;
+    }
+}
+
+/// Reads the bytes from the address on; what isn't prepared is 0.
+pub fn read(extents: &[Held], at: u64, into: &mut [u8])
+    requires apart { Apart 0 (map piece extents.now) }
+    requires small { at + length into.old < 2 ^ 64 }
+    ensures { into.new ≡ bytes_at (byte_of (map piece extents.now)) at (length into.old) }
+{
+    let count = into.len() as u64;
+    if are_ready(extents, Range { base: at, size: count }) {
+        into.copy_from_slice(slice(extents, at, count));
+        return;
+    }
+    for k in 0..into.len() {
+        into[k] = byte_at(extents, at + k as u64);
     }
 }

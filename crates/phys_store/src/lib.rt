@@ -2,6 +2,7 @@
 #![tactic(auto)]
 
 mod extents;
+mod prepare;
 mod store;
 
 pub use store::Store;

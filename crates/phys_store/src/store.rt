@@ -1,9 +1,11 @@
 ghost use Rattle.std.specs.Prelude.{◌≡◌, ℕ, ◌+◌, ◌-◌, ◌^◌, ◌<◌, ◌≤◌, ◌↔◌, Bool, true, ◌||◌, nat_le, min, max, List, [], length, slice_index, IsTrue, OnOk, OnErr};
+ghost use Rattle.bm_base.specs.Extent.{covers};
 ghost use Rattle.phys_store.specs.Bytes.{byte_of, is_ready, AreReady, Wrote, bytes_at};
 
 use crate::extents;
 use crate::extents::Held;
-use bm_base::Range;
+use crate::prepare;
+use bm_base::{Memory, Range};
 use std::alloc::Global;
 use std::marker::Model;
 
@@ -35,6 +37,17 @@ impl Store {
         Store {
             extents: Vec::new(alloc),
         }
+    }
+
+    /// Prepares each address of the range; what was prepared stays so, and nothing else gets prepared. No
+    /// byte changes. After `Memory` the store is as before.
+    pub fn prepare(&mut self, range: Range) -> Result<(), Memory>
+        ensures bytes { (x : ℕ) → byte_of self.new x ≡ byte_of self.old x }
+        ensures ready { OnOk result ((x : ℕ) → is_ready self.new x ≡ (covers range x || is_ready self.old x)) }
+        ensures err { OnErr result (self.new ≡ self.old) }
+    {
+        prepare::prepare(&mut self.extents, range)?;
+        Ok(())
     }
 
     /// Whether each address of the range is prepared.
@@ -73,5 +86,33 @@ impl Store {
         ensures { Wrote self.old self.new range.base range.size (λ _. byte) }
     {
         extents::fill(&mut self.extents, range, byte);
+    }
+
+    /// Writes the `count` bytes from `from` on to the addresses from `to` on. The ranges may overlap; all
+    /// addresses from the lower one's first to the higher one's last are prepared.
+    pub fn move_bytes(&mut self, from: u64, to: u64, count: u64)
+        requires { AreReady self.old (min from to) (max from to - min from to + count) }
+        ensures { Wrote self.old self.new to count (λ k. byte_of self.old (from + k)) }
+    {
+        extents::shift(&mut self.extents, from, to, count);
+    }
+
+    /// Writes the `count` bytes from `from` on to the addresses from `to` on. Both ranges are prepared,
+    /// and have no address in common.
+    pub fn copy(&mut self, from: u64, to: u64, count: u64)
+        requires read { AreReady self.old from count }
+        requires written { AreReady self.old to count }
+        requires disjoint { IsTrue (nat_le (from + count) to || nat_le (to + count) from) }
+        ensures { Wrote self.old self.new to count (λ k. byte_of self.old (from + k)) }
+    {
+        extents::copy(&mut self.extents, from, to, count);
+    }
+
+    /// Reads the bytes from the address on, whether they are prepared or not.
+    pub fn read(&self, at: u64, into: &mut [u8])
+        requires { at + length into.old < 2 ^ 64 }
+        ensures { into.new ≡ bytes_at (byte_of self.now) at (length into.old) }
+    {
+        extents::read(&self.extents, at, into);
     }
 }
