@@ -1,5 +1,5 @@
 -- A list of bytes told by a function of the address.
-use Rattle.std.proofs.Common.{◌≡◌, ℕ, zero, suc, ◌+◌, ◌<◌, List, [], ◌∷◌, length, get_or, refl, sym, ◌∙◌, ap, subst, arith}
+use Rattle.std.proofs.Common.{◌≡◌, ℕ, zero, suc, ◌+◌, ◌<◌, List, length, get_or, refl, sym, ◌∙◌, ap, arith}
 use Rattle.std.proofs.lemmas.List.{ext_get_or}
 use Rattle.phys_store.specs.Bytes.{bytes_at}
 
@@ -18,4 +18,4 @@ get-bytes_at f a (suc n) (suc k) below = get-bytes_at f (a + 1) n k (omega arith
 pub told_bytes : (f : ℕ → ℕ) (a n : ℕ) (bs : List ℕ) → length bs ≡ n → ((k : ℕ) → k < n → get_or bs k 0 ≡ f (a + k)) → bs ≡ bytes_at f a n
 told_bytes f a n bs len told =
     ext_get_or 0 bs (bytes_at f a n) (len ∙ sym (length-bytes_at f a n))
-        (λ k below. let small : k < n = omega (arith, len) in told k small ∙ sym (get-bytes_at f a n k small))
+    (λ k below. let small : k < n = omega (arith, len) in told k small ∙ sym (get-bytes_at f a n k small))

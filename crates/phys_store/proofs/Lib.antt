@@ -1,3 +1,4 @@
+mod Examples
 pub mod ByteLists
 pub mod Joining
 pub mod Lookup

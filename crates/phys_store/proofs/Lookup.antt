@@ -1,6 +1,6 @@
 -- What lies in one of several pieces that are apart, and what a look-up finds.
-use Rattle.std.proofs.Common.{◌≡◌, ℕ, zero, suc, ◌+◌, ◌-◌, ◌^◌, ◌<◌, ◌≤◌, Bool, true, false, not, cond, ◌&&◌, ◌||◌, ◌⊎◌, Option, Some, None, List, [], ◌∷◌, length, get_or, set, map, refl, sym, ◌∙◌, ap, subst, arith, IsTrue, inl, inr, nat_lt}
-use Rattle.std.proofs.lemmas.Bool.{cases_lt, cases_Bool, false≢true}
+use Rattle.std.proofs.Common.{◌≡◌, ℕ, zero, suc, ◌+◌, ◌-◌, ◌^◌, ◌<◌, ◌≤◌, Bool, true, false, not, cond, ◌||◌, Some, None, List, [], ◌∷◌, length, get_or, map, refl, sym, ◌∙◌, ap, subst, arith, inl, inr, nat_lt}
+use Rattle.std.proofs.lemmas.Bool.{cases_lt, false≢true}
 use Rattle.std.proofs.lemmas.Bool.Decides.{nat_tests}
 use Rattle.std.proofs.lemmas.List.{length-map, get_or-map}
 use Rattle.std.proofs.lemmas.List.Sums.{prefix_len-le-length}
@@ -59,11 +59,12 @@ fits e (q ∷ ps) zero p apart count there = subst (λ (r : Piece). past r < 2 ^
 fits e (q ∷ ps) (suc i) p apart count there = fits (past q + 1) ps i p apart.3 (omega arith) there
 
 -- the address behind a piece isn't prepared
-pub unready-past : (e : ℕ) (ps : List Piece) (i : ℕ) (p : Piece) → Apart e ps → i < length ps → get_or ps i p ≡ p → is_ready ps (past p) ≡ false
+pub unready-past : (e : ℕ) (ps : List Piece) (i : ℕ) (p : Piece) → Apart e ps → i < length ps → get_or ps i p ≡ p →
+    is_ready ps (past p) ≡ false
 unready-past e [] i p apart count there = absurd (omega arith)
 unready-past e (q ∷ ps) zero p apart count there =
     subst (λ (r : Piece). is_ready (q ∷ ps) (past r) ≡ false) there
-        (rw (inside-above q (past q) (omega arith)) (ready-below (past q + 1) ps (past q) apart.3 (omega arith)))
+    (rw (inside-above q (past q) (omega arith)) (ready-below (past q + 1) ps (past q) apart.3 (omega arith)))
 unready-past e (q ∷ ps) (suc i) p apart count there =
     let low = at-least (past q + 1) ps i p apart.3 (omega arith) there in
     rw (inside-above q (past p) (omega (arith, low))) (unready-past (past q + 1) ps i p apart.3 (omega arith) there)
@@ -73,8 +74,9 @@ pub whole : (e : ℕ) (ps : List Piece) (i : ℕ) (p : Piece) (a n : ℕ) → Ap
     p.base ≤ a → a < past p → AreReady ps a n → a + n ≤ past p
 whole e ps i p a n apart count there low high ready =
     elim (cases_lt (past p) (a + n)) [
-      inl beyond ↦ absurd (false≢true (sym (unready-past e ps i p apart count there) ∙ ready (past p) (omega arith) beyond))
-    | inr ends ↦ ends ]
+      | inl beyond ↦ absurd (false≢true (sym (unready-past e ps i p apart count there) ∙ ready (past p) (omega arith) beyond))
+      | inr ends ↦ ends
+    ]
 
 -- the byte at an address of a piece is that of the piece, whichever it is, and it is prepared
 pub byte-at : (e : ℕ) (ps : List Piece) (i : ℕ) (p : Piece) (x : ℕ) → Apart e ps → i < length ps → get_or ps i p ≡ p →
@@ -120,7 +122,8 @@ holds es a n i e apart ready found is =
       low = low;
       inner = high;
       high = whole 0 (map piece es) i (piece e) a n apart count there low high ready;
-      small = fits 0 (map piece es) i (piece e) apart count there }
+      small = fits 0 (map piece es) i (piece e) apart count there;
+    }
 
 -- the same of one byte, prepared or not
 pub holds_one : (es : List Held) (a i : ℕ) (e : Held) → Apart 0 (map piece es) →
@@ -137,7 +140,7 @@ none_at e es x true is all rest =
     absurd (omega arith)
 none_at e es x false is all rest =
     let more : 1 + position_or_len (λ d. inside (piece d) x) es ≡ suc (length es) =
-        sym (ap (λ b. cond (not b) (1 + position_or_len (λ d. inside (piece d) x) es) 0) is) ∙ all in
+    sym (ap (λ b. cond (not b) (1 + position_or_len (λ d. inside (piece d) x) es) 0) is) ∙ all in
     rw is (rest (omega arith))
 
 none_passes : (es : List Held) (x : ℕ) → position_or_len (λ d. inside (piece d) x) es ≡ length es → is_ready (map piece es) x ≡ false
@@ -147,9 +150,10 @@ none_passes (e ∷ es) x all = none_at e es x (inside (piece e) x) refl all (non
 none_cond : (m n : ℕ) → m ≤ n → cond (nat_lt m n) (Some m) None ≡ None → m ≡ n
 none_cond m n most none =
     elim (cases_lt m n) [
-      inl below ↦ let some : nat_lt m n ≡ true = grind (arith, nat_tests) in
-        absurd (none-some m (sym none ∙ ap (λ b. cond b (Some m) None) some))
-    | inr above ↦ omega arith ]
+      | inl below ↦ let some : nat_lt m n ≡ true = grind (arith, nat_tests) in
+          absurd (none-some m (sym none ∙ ap (λ b. cond b (Some m) None) some))
+      | inr above ↦ omega arith
+    ]
 
 -- where the look-up finds nothing the address isn't prepared
 pub none-found : (es : List Held) (x : ℕ) → position (λ d. inside (piece d) x) es ≡ None → is_ready (map piece es) x ≡ false

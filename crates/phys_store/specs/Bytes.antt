@@ -1,6 +1,6 @@
 -- Bytes at addresses, as contracts see them: what each address holds, and which ones may be written without wanting memory.
 -- Physical memory itself has neither gaps nor want of memory; a program that stands for it has both.
-use Rattle.std.specs.Prelude.{◌≡◌, ℕ, zero, suc, ◌+◌, ◌-◌, ◌<◌, ◌≤◌, Bool, true, false, ◌&&◌, ◌||◌, nat_le, nat_lt, if◌then◌else◌, List, [], ◌∷◌, length, slice_index, IsTrue}
+use Rattle.std.specs.Prelude.{◌≡◌, ℕ, zero, suc, ◌+◌, ◌-◌, ◌<◌, ◌≤◌, Bool, false, ◌&&◌, ◌||◌, nat_le, nat_lt, if◌then◌else◌, List, [], ◌∷◌, length, slice_index, IsTrue}
 
 -- some consecutive bytes: the address of the first, and what they are
 pub record Piece : Type 0 where

@@ -1,3 +1,6 @@
+//! What is read from and written to the extents of a store, none of which takes memory. Each call looks up
+//! the extent of the first address; that it holds the whole of a prepared range follows from the
+//! extents being apart, so no call goes from one extent to the next.
 ghost use Rattle.std.specs.Prelude.{◌≡◌, ℕ, ◌+◌, ◌-◌, ◌^◌, ◌<◌, ◌≤◌, ◌↔◌, Bool, true, ◌||◌, nat_le, min, max, map, length, slice_index, position, IsTrue};
 ghost use Rattle.phys_store.specs.Bytes.{inside, byte_of, AreReady, Wrote, bytes_at};
 ghost use Rattle.phys_store.specs.Extents.{piece, Apart};
@@ -16,9 +19,7 @@ pub struct Held {
 fn place_of(extents: &[Held], address: u64) -> Option<usize>
     ensures { result ≡ position (λ e. inside (piece e) address) extents.now }
 {
-    extents
-        .iter()
-        .position(|e| e.base <= address && address - e.base < e.bytes.len() as u64)
+    extents.iter().position(|e| e.base <= address && address - e.base < e.bytes.len() as u64)
 }
 
 /// Whether each address of the range is prepared.
@@ -145,7 +146,13 @@ pub fn read(extents: &[Held], at: u64, into: &mut [u8])
     ensures { into.new ≡ bytes_at (byte_of (map piece extents.now)) at (length into.old) }
 {
     let count = into.len() as u64;
-    if are_ready(extents, Range { base: at, size: count }) {
+    if are_ready(
+        extents,
+        Range {
+            base: at,
+            size: count,
+        },
+    ) {
         into.copy_from_slice(slice(extents, at, count));
         return;
     }

@@ -1,3 +1,5 @@
+//! Preparing a range: with the extents that it meets or touches it becomes one extent, so that extents stay
+//! apart. All memory is taken before the list of extents changes, and a failure leaves it as it was.
 ghost use Rattle.std.specs.Prelude.{◌≡◌, ℕ, ◌+◌, ◌-◌, ◌^◌, ◌<◌, ◌≤◌, ◌||◌, IsTrue, ◌++◌, ◌∷◌, take, drop, map, length, slice_index, IfOk, OnOk, OnErr};
 ghost use Rattle.bm_base.specs.Extent.{end_of, covers};
 ghost use Rattle.phys_store.specs.Bytes.{past, byte_of, is_ready};
@@ -86,12 +88,7 @@ fn gathered(alloc: Global, extents: &[Held], low: u64, high: u64) -> Result<Vec<
 }
 
 /// The extent stands in place of those from the index `first` up to `behind`.
-fn replace(
-    extents: &mut Vec<Held>,
-    first: usize,
-    behind: usize,
-    extent: Held,
-) -> Result<(), Memory>
+fn replace(extents: &mut Vec<Held>, first: usize, behind: usize, extent: Held) -> Result<(), Memory>
     requires order { first ≤ behind }
     requires most { behind ≤ length extents.old.items }
     ensures ok { OnOk result (extents.new.items ≡ take first extents.old.items ++ extent ∷ drop behind extents.old.items) }

@@ -1,10 +1,12 @@
+//! The store as its callers see it: a value with a byte and a readiness at every address. Each method is
+//! one call of `extents` or `prepare`, where the work is done over the list of extents; the fact that
+//! the extents are apart is kept here, as the invariant of the type.
 ghost use Rattle.std.specs.Prelude.{◌≡◌, ℕ, ◌+◌, ◌-◌, ◌^◌, ◌<◌, ◌≤◌, ◌↔◌, Bool, true, ◌||◌, nat_le, min, max, List, [], length, slice_index, IsTrue, OnOk, OnErr};
 ghost use Rattle.bm_base.specs.Extent.{covers};
 ghost use Rattle.phys_store.specs.Bytes.{byte_of, is_ready, AreReady, Wrote, bytes_at};
 
-use crate::extents;
 use crate::extents::Held;
-use crate::prepare;
+use crate::{extents, prepare};
 use bm_base::{Memory, Range};
 use std::alloc::Global;
 use std::marker::Model;

@@ -1,4 +1,4 @@
-use Rattle.std.proofs.Common.{◌≡◌, ℕ, ◌+◌, ◌-◌, ◌<◌, ◌≤◌, min, List, length, get_or, take, map, refl, sym, ◌∙◌, ap, arith}
+use Rattle.std.proofs.Common.{◌≡◌, ℕ, ◌+◌, ◌≤◌, List, length, get_or, map, ◌∙◌, ap, arith}
 use Rattle.std.proofs.lemmas.List.{length-take}
 use Rattle.phys_store.specs.Bytes.{byte_of}
 use Rattle.phys_store.specs.Extents.{piece}
@@ -10,13 +10,15 @@ use Rattle.phys_store.proofs.extents.copy.Goals as goal
 pub overflow_add-from : goal.overflow_add-from
 overflow_add-from c =
     let test = c.loop-done-test.true in
-    let small = prepared-small (map piece c.args.extents.now) c.args.from c.args.count c.requires.apart c.requires.read (omega (arith, test)) in
+    let small = prepared-small (map piece c.args.extents.now) c.args.from c.args.count c.requires.apart c.requires.read
+    (omega (arith, test)) in
     omega (arith, test, small)
 
 pub overflow_add-to : goal.overflow_add-to
 overflow_add-to c =
     let test = c.loop-done-test.true in
-    let small = prepared-small (map piece c.args.extents.now) c.args.to c.args.count c.requires.apart c.requires.written (omega (arith, test)) in
+    let small = prepared-small (map piece c.args.extents.now) c.args.to c.args.count c.requires.apart c.requires.written
+    (omega (arith, test)) in
     omega (arith, test, small)
 
 pub copy_from_slice-requires : goal.copy_from_slice-requires
@@ -39,8 +41,9 @@ loop-done-preserved c =
       most = most;
       apart = c.write.ensures.apart;
       wrote = copied-more (map piece c.args.extents.now) t (map piece c.write.new.extents) c.args.from c.args.to c.args.count
-        c.loop-done.done n c.requires.disjoint most i.wrote
-        (wrote-like t (map piece c.write.new.extents) (c.args.to + c.loop-done.done) (length c.copy_from_slice.new.self) n
-            (λ k. get_or c.copy_from_slice.new.self k 0) (λ k. byte_of t (from + k)) c.write.ensures.wrote
-            (ap length is ∙ length-bytes_at (byte_of t) from n)
-            (λ k below. ap (λ (bs : List ℕ). get_or bs k 0) is ∙ get-bytes_at (byte_of t) from n k below)) }
+          c.loop-done.done n c.requires.disjoint most i.wrote
+          (wrote-like t (map piece c.write.new.extents) (c.args.to + c.loop-done.done) (length c.copy_from_slice.new.self) n
+          (λ k. get_or c.copy_from_slice.new.self k 0) (λ k. byte_of t (from + k)) c.write.ensures.wrote
+          (ap length is ∙ length-bytes_at (byte_of t) from n)
+          (λ k below. ap (λ (bs : List ℕ). get_or bs k 0) is ∙ get-bytes_at (byte_of t) from n k below));
+    }

@@ -1,4 +1,4 @@
-use Rattle.std.proofs.Common.{◌≡◌, ℕ, ◌+◌, ◌-◌, ◌<◌, ◌≤◌, Some, None, List, length, get_or, replicate, map, refl, sym, ◌∙◌, ap, subst, arith}
+use Rattle.std.proofs.Common.{◌≡◌, ◌+◌, ◌-◌, Some, None, length, get_or, map, sym, ◌∙◌, ap, subst, arith}
 use Rattle.std.specs.List.{position}
 use Rattle.bm_base.specs.Extent.{Extent}
 use Rattle.phys_store.specs.declared.extents.Held.{Held}
@@ -16,7 +16,7 @@ overflow_sub-from c =
     let size : c.range.inside.size ≡ c.args.range.size = ap (λ (r : Extent). r.size) c.range.view_is in
     let found = subst (λ a. position (λ d. inside (piece d) a) es ≡ Some c.in-Some.i) base (sym c.place_of.ensures ∙ c.in-Some.is) in
     let h = holds es c.args.range.base c.args.range.size c.in-Some.i e c.requires.apart c.requires.prepared
-        found (ap (λ (d : Held). get_or es c.in-Some.i d) c.index-extents-i.is) in
+    found (ap (λ (d : Held). get_or es c.in-Some.i d) c.index-extents-i.is) in
     omega (arith, h.low, base)
 
 pub slice_bounds-fill-end : goal.slice_bounds-fill-end
@@ -27,7 +27,7 @@ slice_bounds-fill-end c =
     let size : c.range.inside.size ≡ c.args.range.size = ap (λ (r : Extent). r.size) c.range.view_is in
     let found = subst (λ a. position (λ d. inside (piece d) a) es ≡ Some c.in-Some.i) base (sym c.place_of.ensures ∙ c.in-Some.is) in
     let h = holds es c.args.range.base c.args.range.size c.in-Some.i e c.requires.apart c.requires.prepared
-        found (ap (λ (d : Held). get_or es c.in-Some.i d) c.index-extents-i.is) in
+    found (ap (λ (d : Held). get_or es c.in-Some.i d) c.index-extents-i.is) in
     omega (arith, h.low, h.high, base, size, c.deref_mut.ensures.len, e.bytes.ok.0)
 
 pub returns-in-Some-clause-apart : goal.returns-in-Some-clause-apart
@@ -38,16 +38,17 @@ returns-in-Some-clause-apart c =
     let size : c.range.inside.size ≡ c.args.range.size = ap (λ (r : Extent). r.size) c.range.view_is in
     let found = subst (λ a. position (λ d. inside (piece d) a) es ≡ Some c.in-Some.i) base (sym c.place_of.ensures ∙ c.in-Some.is) in
     let h = holds es c.args.range.base c.args.range.size c.in-Some.i e c.requires.apart c.requires.prepared
-        found (ap (λ (d : Held). get_or es c.in-Some.i d) c.index-extents-i.is) in
+    found (ap (λ (d : Held). get_or es c.in-Some.i d) c.index-extents-i.is) in
     let k = c.range.inside.base - e.base in
     let m = c.range.inside.base - e.base + c.range.inside.size - (c.range.inside.base - e.base) in
     let xs = c.deref_mut.result.now in
     let count : m ≡ c.args.range.size = omega (arith, size) in
     let long : length xs ≡ length e.bytes.items = ap length c.deref_mut.ensures.value in
-    let bytes = filled k m xs c.fill.new.self c.args.byte (omega (arith, long, h.low, h.high, base, size)) (c.fill.ensures.after (λ y same. same)) in
+    let bytes = filled k m xs c.fill.new.self c.args.byte (omega (arith, long, h.low, h.high, base, size))
+    (c.fill.ensures.after (λ y same. same)) in
     let both = wrote-mid es c.args.range.base c.args.range.size c.in-Some.i e (λ _. c.args.byte) k m xs c.fill.new.self
-        c.requires.apart h (ap (λ b. b - e.base) base) count c.deref_mut.ensures.value (bytes.0 ∙ count)
-        (λ j below. bytes.1 j (omega (arith, below, count))) in
+    c.requires.apart h (ap (λ b. b - e.base) base) count c.deref_mut.ensures.value (bytes.0 ∙ count)
+    (λ j below. bytes.1 j (omega (arith, below, count))) in
     both.0
 
 pub returns-in-Some-clause-wrote : goal.returns-in-Some-clause-wrote
@@ -58,16 +59,17 @@ returns-in-Some-clause-wrote c =
     let size : c.range.inside.size ≡ c.args.range.size = ap (λ (r : Extent). r.size) c.range.view_is in
     let found = subst (λ a. position (λ d. inside (piece d) a) es ≡ Some c.in-Some.i) base (sym c.place_of.ensures ∙ c.in-Some.is) in
     let h = holds es c.args.range.base c.args.range.size c.in-Some.i e c.requires.apart c.requires.prepared
-        found (ap (λ (d : Held). get_or es c.in-Some.i d) c.index-extents-i.is) in
+    found (ap (λ (d : Held). get_or es c.in-Some.i d) c.index-extents-i.is) in
     let k = c.range.inside.base - e.base in
     let m = c.range.inside.base - e.base + c.range.inside.size - (c.range.inside.base - e.base) in
     let xs = c.deref_mut.result.now in
     let count : m ≡ c.args.range.size = omega (arith, size) in
     let long : length xs ≡ length e.bytes.items = ap length c.deref_mut.ensures.value in
-    let bytes = filled k m xs c.fill.new.self c.args.byte (omega (arith, long, h.low, h.high, base, size)) (c.fill.ensures.after (λ y same. same)) in
+    let bytes = filled k m xs c.fill.new.self c.args.byte (omega (arith, long, h.low, h.high, base, size))
+    (c.fill.ensures.after (λ y same. same)) in
     let both = wrote-mid es c.args.range.base c.args.range.size c.in-Some.i e (λ _. c.args.byte) k m xs c.fill.new.self
-        c.requires.apart h (ap (λ b. b - e.base) base) count c.deref_mut.ensures.value (bytes.0 ∙ count)
-        (λ j below. bytes.1 j (omega (arith, below, count))) in
+    c.requires.apart h (ap (λ b. b - e.base) base) count c.deref_mut.ensures.value (bytes.0 ∙ count)
+    (λ j below. bytes.1 j (omega (arith, below, count))) in
     both.1
 
 pub returns-in_default-clause-wrote : goal.returns-in_default-clause-wrote
@@ -75,4 +77,4 @@ returns-in_default-clause-wrote c =
     let base : c.range.inside.base ≡ c.args.range.base = ap (λ (r : Extent). r.base) c.range.view_is in
     let none = subst (λ a. position (λ d. inside (piece d) a) c.args.extents.now ≡ None) base (sym c.place_of.ensures ∙ c.in_default.is) in
     wrote-none (map piece c.args.extents.now) c.args.range.base c.args.range.size (λ _. c.args.byte)
-        (none_ready c.args.extents.now c.args.range.base c.args.range.size none c.requires.prepared)
+    (none_ready c.args.extents.now c.args.range.base c.args.range.size none c.requires.prepared)

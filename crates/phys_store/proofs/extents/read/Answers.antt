@@ -1,4 +1,4 @@
-use Rattle.std.proofs.Common.{◌≡◌, length, map, sym, ◌∙◌, ap, arith}
+use Rattle.std.proofs.Common.{length, map, sym, ◌∙◌, ap, arith}
 use Rattle.phys_store.specs.Bytes.{byte_of}
 use Rattle.phys_store.specs.Extents.{piece}
 use Rattle.phys_store.proofs.ByteLists.{length-bytes_at, told_bytes}
@@ -10,4 +10,5 @@ copy_from_slice-requires c =
 
 pub returns : goal.returns
 returns c =
-    told_bytes (byte_of (map piece c.args.extents.now)) c.args.at (length c.args.into.now) c.loop-k.into c.loop-k.auto.into (λ j less. c.loop-k.invariant j (omega arith))
+    told_bytes (byte_of (map piece c.args.extents.now)) c.args.at (length c.args.into.now) c.loop-k.into c.loop-k.auto.into
+    (λ j less. c.loop-k.invariant j (omega arith))

@@ -1,4 +1,4 @@
-use Rattle.std.proofs.Common.{◌≡◌, ℕ, ◌+◌, ◌-◌, ◌<◌, ◌≤◌, min, max, Some, None, List, length, get_or, map, refl, sym, ◌∙◌, ap, subst, arith}
+use Rattle.std.proofs.Common.{◌≡◌, ◌+◌, ◌-◌, min, max, Some, None, length, get_or, map, refl, sym, ◌∙◌, ap, subst, arith}
 use Rattle.std.specs.List.{position}
 use Rattle.phys_store.specs.declared.extents.Held.{Held}
 use Rattle.phys_store.specs.Bytes.{inside, byte_of}
@@ -13,10 +13,11 @@ overflow_sub-source c =
     let e = get_or es c.in-Some.i c.index-extents-i.result in
     let from = c.args.from in
     let to = c.args.to in
-    let found = subst (λ m. position (λ d. inside (piece d) m) es ≡ Some c.in-Some.i) c.min.ensures (sym c.place_of.ensures ∙ c.in-Some.is) in
+    let found = subst (λ m. position (λ d. inside (piece d) m) es ≡ Some c.in-Some.i) c.min.ensures
+    (sym c.place_of.ensures ∙ c.in-Some.is) in
     let h = holds es (min from to) (max from to - min from to + c.args.count) c.in-Some.i e c.requires.apart c.requires.prepared
-        found
-        (ap (λ (d : Held). get_or es c.in-Some.i d) c.index-extents-i.is) in
+    found
+    (ap (λ (d : Held). get_or es c.in-Some.i d) c.index-extents-i.is) in
     omega (arith, h.low)
 
 pub overflow_sub-target : goal.overflow_sub-target
@@ -25,10 +26,11 @@ overflow_sub-target c =
     let e = get_or es c.in-Some.i c.index-extents-i.result in
     let from = c.args.from in
     let to = c.args.to in
-    let found = subst (λ m. position (λ d. inside (piece d) m) es ≡ Some c.in-Some.i) c.min.ensures (sym c.place_of.ensures ∙ c.in-Some.is) in
+    let found = subst (λ m. position (λ d. inside (piece d) m) es ≡ Some c.in-Some.i) c.min.ensures
+    (sym c.place_of.ensures ∙ c.in-Some.is) in
     let h = holds es (min from to) (max from to - min from to + c.args.count) c.in-Some.i e c.requires.apart c.requires.prepared
-        found
-        (ap (λ (d : Held). get_or es c.in-Some.i d) c.index-extents-i.is) in
+    found
+    (ap (λ (d : Held). get_or es c.in-Some.i d) c.index-extents-i.is) in
     omega (arith, h.low)
 
 pub overflow_add-source : goal.overflow_add-source
@@ -37,10 +39,11 @@ overflow_add-source c =
     let e = get_or es c.in-Some.i c.index-extents-i.result in
     let from = c.args.from in
     let to = c.args.to in
-    let found = subst (λ m. position (λ d. inside (piece d) m) es ≡ Some c.in-Some.i) c.min.ensures (sym c.place_of.ensures ∙ c.in-Some.is) in
+    let found = subst (λ m. position (λ d. inside (piece d) m) es ≡ Some c.in-Some.i) c.min.ensures
+    (sym c.place_of.ensures ∙ c.in-Some.is) in
     let h = holds es (min from to) (max from to - min from to + c.args.count) c.in-Some.i e c.requires.apart c.requires.prepared
-        found
-        (ap (λ (d : Held). get_or es c.in-Some.i d) c.index-extents-i.is) in
+    found
+    (ap (λ (d : Held). get_or es c.in-Some.i d) c.index-extents-i.is) in
     omega (arith, h.low, h.high, h.small)
 
 pub copy_within-requires-clause-in_bounds : goal.copy_within-requires-clause-in_bounds
@@ -49,10 +52,11 @@ copy_within-requires-clause-in_bounds c =
     let e = get_or es c.in-Some.i c.index-extents-i.result in
     let from = c.args.from in
     let to = c.args.to in
-    let found = subst (λ m. position (λ d. inside (piece d) m) es ≡ Some c.in-Some.i) c.min.ensures (sym c.place_of.ensures ∙ c.in-Some.is) in
+    let found = subst (λ m. position (λ d. inside (piece d) m) es ≡ Some c.in-Some.i) c.min.ensures
+    (sym c.place_of.ensures ∙ c.in-Some.is) in
     let h = holds es (min from to) (max from to - min from to + c.args.count) c.in-Some.i e c.requires.apart c.requires.prepared
-        found
-        (ap (λ (d : Held). get_or es c.in-Some.i d) c.index-extents-i.is) in
+    found
+    (ap (λ (d : Held). get_or es c.in-Some.i d) c.index-extents-i.is) in
     omega (arith, h.low, h.high, e.bytes.ok.0)
 
 pub copy_within-requires-clause-dest_in_bounds : goal.copy_within-requires-clause-dest_in_bounds
@@ -61,10 +65,11 @@ copy_within-requires-clause-dest_in_bounds c =
     let e = get_or es c.in-Some.i c.index-extents-i.result in
     let from = c.args.from in
     let to = c.args.to in
-    let found = subst (λ m. position (λ d. inside (piece d) m) es ≡ Some c.in-Some.i) c.min.ensures (sym c.place_of.ensures ∙ c.in-Some.is) in
+    let found = subst (λ m. position (λ d. inside (piece d) m) es ≡ Some c.in-Some.i) c.min.ensures
+    (sym c.place_of.ensures ∙ c.in-Some.is) in
     let h = holds es (min from to) (max from to - min from to + c.args.count) c.in-Some.i e c.requires.apart c.requires.prepared
-        found
-        (ap (λ (d : Held). get_or es c.in-Some.i d) c.index-extents-i.is) in
+    found
+    (ap (λ (d : Held). get_or es c.in-Some.i d) c.index-extents-i.is) in
     omega (arith, h.low, h.high, e.bytes.ok.0)
 
 pub returns-in-Some-clause-apart : goal.returns-in-Some-clause-apart
@@ -73,16 +78,17 @@ returns-in-Some-clause-apart c =
     let e = get_or es c.in-Some.i c.index-extents-i.result in
     let from = c.args.from in
     let to = c.args.to in
-    let found = subst (λ m. position (λ d. inside (piece d) m) es ≡ Some c.in-Some.i) c.min.ensures (sym c.place_of.ensures ∙ c.in-Some.is) in
+    let found = subst (λ m. position (λ d. inside (piece d) m) es ≡ Some c.in-Some.i) c.min.ensures
+    (sym c.place_of.ensures ∙ c.in-Some.is) in
     let h = holds es (min from to) (max from to - min from to + c.args.count) c.in-Some.i e c.requires.apart c.requires.prepared
-        found
-        (ap (λ (d : Held). get_or es c.in-Some.i d) c.index-extents-i.is) in
+    found
+    (ap (λ (d : Held). get_or es c.in-Some.i d) c.index-extents-i.is) in
     let d : Held = record { base = e.base; bytes = c.copy_within.new.self } in
     let len : length d.bytes.items ≡ length e.bytes.items = omega (arith, d.bytes.ok.0, e.bytes.ok.0, c.copy_within.ensures.len) in
     let by = c.copy_within.ensures.by_index in
     let both = wrote-copied es (min from to) (max from to - min from to + c.args.count) c.in-Some.i e d from to c.args.count
-        (from - e.base + c.args.count - (from - e.base)) c.requires.apart h (omega arith) (omega arith) (omega arith) (omega arith)
-        refl len (omega arith) by.0 by.1 by.2 in
+    (from - e.base + c.args.count - (from - e.base)) c.requires.apart h (omega arith) (omega arith) (omega arith) (omega arith)
+    refl len (omega arith) by.0 by.1 by.2 in
     both.0
 
 pub returns-in-Some-clause-wrote : goal.returns-in-Some-clause-wrote
@@ -91,16 +97,17 @@ returns-in-Some-clause-wrote c =
     let e = get_or es c.in-Some.i c.index-extents-i.result in
     let from = c.args.from in
     let to = c.args.to in
-    let found = subst (λ m. position (λ d. inside (piece d) m) es ≡ Some c.in-Some.i) c.min.ensures (sym c.place_of.ensures ∙ c.in-Some.is) in
+    let found = subst (λ m. position (λ d. inside (piece d) m) es ≡ Some c.in-Some.i) c.min.ensures
+    (sym c.place_of.ensures ∙ c.in-Some.is) in
     let h = holds es (min from to) (max from to - min from to + c.args.count) c.in-Some.i e c.requires.apart c.requires.prepared
-        found
-        (ap (λ (d : Held). get_or es c.in-Some.i d) c.index-extents-i.is) in
+    found
+    (ap (λ (d : Held). get_or es c.in-Some.i d) c.index-extents-i.is) in
     let d : Held = record { base = e.base; bytes = c.copy_within.new.self } in
     let len : length d.bytes.items ≡ length e.bytes.items = omega (arith, d.bytes.ok.0, e.bytes.ok.0, c.copy_within.ensures.len) in
     let by = c.copy_within.ensures.by_index in
     let both = wrote-copied es (min from to) (max from to - min from to + c.args.count) c.in-Some.i e d from to c.args.count
-        (from - e.base + c.args.count - (from - e.base)) c.requires.apart h (omega arith) (omega arith) (omega arith) (omega arith)
-        refl len (omega arith) by.0 by.1 by.2 in
+    (from - e.base + c.args.count - (from - e.base)) c.requires.apart h (omega arith) (omega arith) (omega arith) (omega arith)
+    refl len (omega arith) by.0 by.1 by.2 in
     both.1
 
 pub returns-in_default-clause-wrote : goal.returns-in_default-clause-wrote

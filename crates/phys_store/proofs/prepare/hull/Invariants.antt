@@ -1,6 +1,6 @@
-use Rattle.std.proofs.Common.{◌≡◌, ℕ, ◌+◌, ◌-◌, ◌^◌, ◌<◌, ◌≤◌, ◌||◌, IsTrue, ◌++◌, ◌∷◌, take, drop, map, length, get_or, vec_len}
+use Rattle.std.proofs.Common.{ℕ, ◌-◌, ◌^◌, ◌<◌, ◌≤◌, ◌||◌, IsTrue, map, length}
 use Rattle.bm_base.specs.Extent.{end_of, covers}
-use Rattle.phys_store.specs.Bytes.{past, byte_of, is_ready}
+use Rattle.phys_store.specs.Bytes.{past, is_ready}
 use Rattle.phys_store.specs.Extents.{piece, nth}
 use Rattle.phys_store.proofs.prepare.hull.Given as goal
 
@@ -15,7 +15,8 @@ invariant-loop-behind l = record {
   below : (i : ℕ) → i < l.first → past (nth (map piece l.extents) i) < l.low;
   low : (i : ℕ) → l.first ≤ i → i < l.behind → l.low ≤ (nth (map piece l.extents) i).base;
   high : (i : ℕ) → l.first ≤ i → i < l.behind → past (nth (map piece l.extents) i) ≤ l.high;
-  ready : (x : ℕ) → l.low ≤ x → x < l.high → IsTrue (covers l.fn.range x || is_ready (map piece l.extents) x) }
+  ready : (x : ℕ) → l.low ≤ x → x < l.high → IsTrue (covers l.fn.range x || is_ready (map piece l.extents) x);
+}
 
 abbrev pub decreases-loop-behind : goal.decreases-loop-behind
 decreases-loop-behind l = length l.extents - l.behind

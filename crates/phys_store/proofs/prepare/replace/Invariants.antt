@@ -1,7 +1,4 @@
-use Rattle.std.proofs.Common.{◌≡◌, ℕ, ◌+◌, ◌-◌, ◌^◌, ◌<◌, ◌≤◌, ◌||◌, IsTrue, ◌++◌, ◌∷◌, take, drop, map, length, get_or, vec_len}
-use Rattle.bm_base.specs.Extent.{end_of, covers}
-use Rattle.phys_store.specs.Bytes.{past, byte_of, is_ready}
-use Rattle.phys_store.specs.Extents.{piece, nth}
+use Rattle.std.proofs.Common.{◌≡◌, ◌++◌, ◌∷◌, take, drop}
 use Rattle.phys_store.proofs.prepare.replace.Given as goal
 
 -- the extents behind the new one, up to the next, are gone
