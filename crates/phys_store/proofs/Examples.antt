@@ -1,0 +1,109 @@
+-- Small stores, computed: what the definitions say of one byte and of a write.
+use Rattle.std.proofs.Common.{◌≡◌, ℕ, ◌<◌, ◌≤◌, zero, suc, ◌||◌, nat_lt, nat_le, get_or, true, false, List, [], ◌∷◌, refl, arith, IsTrue}
+use Rattle.std.proofs.lemmas.Bool.{false≢true}
+use Rattle.std.proofs.lemmas.Bool.Decides.{nat_tests}
+use Rattle.phys_store.specs.Bytes.{Piece, past, inside, byte_of, is_ready, AreReady, bytes_at, Wrote}
+use Rattle.phys_store.specs.Extents.{piece, Apart, nth, Joins}
+use Rattle.phys_store.specs.declared.extents.Held.{Held}
+use Rattle.phys_store.proofs.Writes.{wrote-set}
+
+-- bytes 1, 2, 3 from address 4 on, and byte 9 at address 8
+abbrev low : Piece
+low = record { base = 4; bytes = 1 ∷ 2 ∷ 3 ∷ [] }
+
+abbrev high : Piece
+high = record { base = 8; bytes = 9 ∷ [] }
+
+abbrev store : List Piece
+store = low ∷ high ∷ []
+
+past_examples : (past low ≡ 7) × (past high ≡ 9)
+past_examples = (refl, refl)
+
+inside_examples : (inside low 3 ≡ false) × (inside low 4 ≡ true) × (inside low 6 ≡ true) × (inside low 7 ≡ false)
+inside_examples = (refl, refl, refl, refl)
+
+-- what lies in no piece is 0, and isn't prepared
+byte_examples : (byte_of store 4 ≡ 1) × (byte_of store 6 ≡ 3) × (byte_of store 7 ≡ 0) × (byte_of store 8 ≡ 9) × (byte_of [] 8 ≡ 0)
+byte_examples = (refl, refl, refl, refl, refl)
+
+ready_examples : (is_ready store 6 ≡ true) × (is_ready store 7 ≡ false) × (is_ready store 8 ≡ true) × (is_ready [] 8 ≡ false)
+ready_examples = (refl, refl, refl, refl)
+
+-- a range of one piece is prepared, and so is an empty one; a range with a gap isn't
+range_examples : AreReady (low ∷ []) 5 2 × AreReady [] 5 0 × ¬ AreReady store 6 3
+range_examples = (
+  (λ x from to. grind (arith, nat_tests)),
+  (λ x from to. absurd (omega arith)),
+  λ ready. cc
+      (ready 7 (omega arith) (omega arith)),
+)
+
+bytes_examples : (bytes_at (byte_of store) 6 3 ≡ 3 ∷ 0 ∷ 9 ∷ []) × (bytes_at (byte_of store) 6 0 ≡ [])
+unfolding bytes_at
+bytes_examples = (refl, refl)
+
+-- 7 is written at address 5; nothing else changes
+abbrev written : Piece
+written = record { base = 4; bytes = 1 ∷ 7 ∷ 3 ∷ [] }
+
+beside : (j : ℕ) → IsTrue (nat_lt j 1 || nat_le 2 j) → get_or written.bytes j 0 ≡ get_or low.bytes j 0
+beside zero off = refl
+beside (suc zero) off = absurd (false≢true off)
+beside (suc (suc j)) off = refl
+
+one_written : Wrote (low ∷ []) (written ∷ []) 5 1 (λ k. 7)
+one_written =
+    (wrote-set (low ∷ []) 0 low written 5 1 (λ k. 7) (omega arith, omega arith, omega arith, tt) (omega arith) refl refl refl
+    (omega arith) (omega arith)
+    (λ k below. let none : k ≡ 0 = omega arith in rw none refl) beside).1
+
+-- a write of nothing may stand anywhere
+none_written : Wrote store store 7 0 (λ k. k)
+none_written = record { within = λ k below. absurd (omega arith); outside = λ x off. refl; ready = λ x. refl }
+
+-- two pieces with a gap of one byte are apart; pieces that touch are not
+apart_examples : Apart 0 store × ¬ Apart 5 store × ¬ Apart 0 (low ∷ record { base = 7; bytes = 9 ∷ [] } ∷ [])
+apart_examples = (
+  (omega arith, omega arith, omega arith, (omega arith, omega arith, omega arith, tt)),
+  (λ no. absurd (omega (arith, no.0))),
+  λ no. absurd (omega (arith, no.3.0)),
+)
+
+nth_examples : (nth store 1 ≡ high) × (nth store 2 ≡ record { base = 0; bytes = [] })
+nth_examples = (refl, refl)
+
+-- the addresses from 4 up to 9 are those of both pieces and of the gap; address 20 touches none
+bases : (i : ℕ) → i < 2 → 4 ≤ (nth store i).base
+bases zero less = omega arith
+bases (suc zero) less = omega arith
+bases (suc (suc i)) less = absurd (omega arith)
+
+ends : (i : ℕ) → i < 2 → past (nth store i) ≤ 9
+ends zero less = omega arith
+ends (suc zero) less = omega arith
+ends (suc (suc i)) less = absurd (omega arith)
+
+gap_joins : Joins store 0 2 4 9
+gap_joins = record {
+  order = omega arith;
+  most = omega arith;
+  below = λ i less. absurd (omega arith);
+  low = λ i from to. bases i to;
+  high = λ i from to. ends i to;
+  above = λ i from to. absurd (omega arith);
+}
+
+far_joins : Joins store 2 2 20 21
+far_joins = record {
+  order = omega arith;
+  most = omega arith;
+  below = λ i less. let end = ends i less in omega arith;
+  low = λ i from to. absurd (omega arith);
+  high = λ i from to. absurd (omega arith);
+  above = λ i from to. absurd (omega arith);
+}
+
+-- an extent, as contracts see it
+piece_example : (e : Held) → (piece e).base ≡ e.base
+piece_example e = refl

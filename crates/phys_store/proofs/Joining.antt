@@ -1,0 +1,301 @@
+-- One piece in place of those that it covers.
+use Rattle.std.proofs.Common.{◌≡◌, ℕ, zero, suc, ◌+◌, ◌-◌, ◌^◌, ◌<◌, ◌≤◌, Bool, true, false, ◌||◌, List, [], ◌∷◌, ◌++◌, length, min, max, get_or, take, drop, map, refl, sym, ◌∙◌, ap, subst, arith, inl, inr, IsTrue}
+use Rattle.std.proofs.lemmas.Bool.{cases_Bool, cases_lt}
+use Rattle.std.proofs.lemmas.Bool.Decides.{nat_tests}
+use Rattle.std.proofs.lemmas.List.{get_or_default, get_or-map, drop_more, get_or-take, get_or-drop, length-take, map-append, take-map, drop-map, drop-drop}
+use Rattle.std.specs.List.{remove}
+use Rattle.bm_base.specs.Extent.{Extent, end_of, covers}
+use Rattle.phys_store.specs.declared.extents.Held.{Held}
+use Rattle.phys_store.specs.Bytes.{Piece, past, inside, byte_of, is_ready, AreReady}
+use Rattle.phys_store.specs.Extents.{piece, Apart, nth, Joins}
+use Rattle.phys_store.proofs.Writes.{mid-in, mid-out}
+use borrow.Rule.Slice.PartMut.{put_mid}
+use Rattle.phys_store.proofs.Lookup.{inside-low, inside-high, ready-below, byte-unready, at-least, fits, ready-at}
+
+-- the i-th extent, as it is read
+pub nth_piece : (es : List Held) (i : ℕ) (e : Held) → i < length es → e ≡ get_or es i e → nth (map piece es) i ≡ piece e
+nth_piece es i e count is = get_or-map piece es i e (record { base = 0; bytes = [] }) count ∙ ap piece (sym is)
+
+-- an earlier piece ends below a later one
+pub before : (e : ℕ) (ps : List Piece) (i j : ℕ) → Apart e ps → i < j → j < length ps → past (nth ps i) < (nth ps j).base
+before e [] i j apart less count = absurd (omega arith)
+before e (q ∷ ps) i zero apart less count = absurd (omega arith)
+before e (q ∷ ps) zero (suc j) apart less count =
+    let count' : j < length ps = omega arith in
+    let low = at-least (past q + 1) ps j (nth ps j) apart.3 count'
+    (get_or_default ps j (nth ps j) (record { base = 0; bytes = [] }) count') in omega (arith, low)
+before e (q ∷ ps) (suc i) (suc j) apart less count = before (past q + 1) ps i j apart.3 (omega arith) (omega arith)
+
+-- an address that no piece of the front has
+outside_front : (p : Piece) (n : ℕ) (ps : List Piece) → ((i : ℕ) → i < n → p.base ≤ (nth ps i).base) →
+    ((i : ℕ) → i < n → past (nth ps i) ≤ past p) →
+    (x : ℕ) → inside p x ≡ false → (byte_of (drop n ps) x ≡ byte_of ps x) × (is_ready (drop n ps) x ≡ is_ready ps x)
+outside_front p zero ps low high x out = (refl, refl)
+outside_front p (suc n) [] low high x out = (refl, refl)
+outside_front p (suc n) (q ∷ ps) low high x out =
+    let first : p.base ≤ q.base = low 0 (omega arith) in
+    let last : past q ≤ past p = high 0 (omega arith) in
+    let off : inside q x ≡ false = grind (arith, nat_tests) in
+    let rest = outside_front p n ps (λ i less. low (suc i) (omega arith)) (λ i less. high (suc i) (omega arith)) x out in
+    rw off rest
+
+-- below what is left only the front counts
+in_front : (e n h x : ℕ) (ps : List Piece) → Apart e ps → ((i : ℕ) → n ≤ i → i < length ps → h < (nth ps i).base) → x < h →
+    byte_of (take n ps) x ≡ byte_of ps x
+in_front e zero h x [] apart above below = refl
+in_front e zero h x (q ∷ ps) apart above below =
+    let first : h < q.base = above 0 (omega arith) (omega arith) in
+    let none = ready-below q.base (q ∷ ps) x (omega arith, apart.1, apart.2, apart.3) (omega arith) in
+    sym (byte-unready (q ∷ ps) x none)
+in_front e (suc n) h x [] apart above below = refl
+in_front e (suc n) h x (q ∷ ps) apart above below =
+    rw (in_front (past q + 1) n h x ps apart.3 (λ i from count. above (suc i) (omega arith) (omega arith)) below) refl
+
+-- what is left is apart from what ends below it
+apart_left : (e n h : ℕ) (ps : List Piece) → Apart e ps → ((i : ℕ) → n ≤ i → i < length ps → h < (nth ps i).base) →
+    Apart (h + 1) (drop n ps)
+apart_left e zero h [] apart above = tt
+apart_left e zero h (q ∷ ps) apart above =
+    let first : h < q.base = above 0 (omega arith) (omega arith) in
+    (omega arith, apart.1, apart.2, apart.3)
+apart_left e (suc n) h [] apart above = tt
+apart_left e (suc n) h (q ∷ ps) apart above = apart_left (past q + 1) n h ps apart.3
+    (λ i from count. above (suc i) (omega arith) (omega arith))
+
+-- what holds once the piece p stands in the list
+pub record Joined (e : ℕ) (ps : List Piece) (p : Piece) (new : List Piece) : Type 0 where
+  pub apart : Apart e new
+  pub bytes : (x : ℕ) → byte_of new x ≡ byte_of ps x
+  pub ready : (x : ℕ) → is_ready new x ≡ (inside p x || is_ready ps x)
+
+joined_first : (e n : ℕ) (ps : List Piece) (p : Piece) → Apart e ps → e ≤ p.base → 0 < length p.bytes → past p < 2 ^ 64 →
+    Joins ps 0 n p.base (past p) →
+    ((x : ℕ) → p.base ≤ x → x < past p → get_or p.bytes (x - p.base) 0 ≡ byte_of (take n ps) x) →
+    Joined e ps p (p ∷ drop n ps)
+joined_first e n ps p apart low some small joins told =
+    let off = outside_front p n ps (λ i less. joins.low i (omega arith) less) (λ i less. joins.high i (omega arith) less) in
+    record {
+      apart = (low, some, small, apart_left e n (past p) ps apart joins.above);
+      bytes = λ x. elim (cases_Bool (inside p x)) [
+        | inl lies ↦ let from = inside-low p x lies in let to = inside-high p x lies in
+            rw lies (told x from to ∙ in_front e n (past p) x ps apart joins.above to)
+        | inr out ↦ rw out (off x out).0
+      ];
+      ready = λ x. elim (cases_Bool (inside p x)) [
+        | inl lies ↦ rw lies refl
+        | inr out ↦ ap (λ b. inside p x || b) (off x out).1
+      ];
+    }
+
+-- whether an address is prepared doesn't depend on the order of three pieces
+swapped : (a b c : Bool) → (a || (b || c)) ≡ (b || (a || c))
+swapped true true c = refl
+swapped true false c = refl
+swapped false true c = refl
+swapped false false c = refl
+
+pub joined : (f e b n : ℕ) (ps : List Piece) (p : Piece) → Apart e ps → e ≤ p.base → 0 < length p.bytes → past p < 2 ^ 64 → b ≡ f + n →
+    Joins ps f b p.base (past p) →
+    ((x : ℕ) → p.base ≤ x → x < past p → get_or p.bytes (x - p.base) 0 ≡ byte_of (take n (drop f ps)) x) →
+    Joined e ps p (take f ps ++ p ∷ drop b ps)
+joined zero e b n ps p apart low some small count joins told =
+    let same : b ≡ n = omega (arith, count) in
+    joined_first e b ps p apart low some small joins (subst (λ m. (x : ℕ) → p.base ≤ x → x < past p →
+    get_or p.bytes (x - p.base) 0 ≡ byte_of (take m ps) x) (sym same) told)
+joined (suc f) e b n [] p apart low some small count joins told =
+    let most : b ≤ 0 = joins.most in absurd (omega (arith, count, most))
+joined (suc f) e zero n (q ∷ ps) p apart low some small count joins told = absurd (omega (arith, count))
+joined (suc f) e (suc b) n (q ∷ ps) p apart low some small count joins told =
+    let first : past q < p.base = joins.below 0 (omega arith) in
+    let rest = joined f (past q + 1) b n ps p apart.3 (omega arith) some small (omega (arith, count)) (record {
+      order = omega (arith, joins.order);
+      most = omega (arith, joins.most);
+      below = λ i less. joins.below (suc i) (omega arith);
+      low = λ i from to. joins.low (suc i) (omega arith) (omega arith);
+      high = λ i from to. joins.high (suc i) (omega arith) (omega arith);
+      above = λ i from to. joins.above (suc i) (omega arith) (omega arith);
+    }) told in
+    record {
+      apart = (apart.0, apart.1, apart.2, rest.apart);
+      bytes = λ x. rw (rest.bytes x) refl;
+      ready = λ x. rw (rest.ready x) (swapped (inside q x) (inside p x) (is_ready ps x));
+    }
+
+-- the i-th of several pieces that are apart: it ends in the address space, and its addresses are prepared
+there : (ps : List Piece) (i : ℕ) → i < length ps → get_or ps i (nth ps i) ≡ nth ps i
+there ps i count = get_or_default ps i (nth ps i) (record { base = 0; bytes = [] }) count
+
+pub nth-fits : (ps : List Piece) (i : ℕ) → Apart 0 ps → i < length ps → past (nth ps i) < 2 ^ 64
+nth-fits ps i apart count = fits 0 ps i (nth ps i) apart count (there ps i count)
+
+-- what a range and the extents so far make
+pub record Hull (ps : List Piece) (r : Extent) (first behind from to : ℕ) : Type 0 where
+  pub order : first ≤ behind
+  pub most : behind ≤ length ps
+  pub least : from ≤ r.base
+  pub end : end_of r ≤ to
+  pub small : to < 2 ^ 64
+  pub below : (i : ℕ) → i < first → past (nth ps i) < from
+  pub low : (i : ℕ) → first ≤ i → i < behind → from ≤ (nth ps i).base
+  pub high : (i : ℕ) → first ≤ i → i < behind → past (nth ps i) ≤ to
+  pub ready : (x : ℕ) → from ≤ x → x < to → IsTrue (covers r x || is_ready ps x)
+
+-- a piece from the first that reaches the range on reaches it too
+reaches : (ps : List Piece) (a i j : ℕ) → Apart 0 ps → i ≤ j → j < length ps → a ≤ past (nth ps i) → a ≤ past (nth ps j)
+reaches ps a i j apart less count reach =
+    elim (cases_lt i j) [
+      | inl before_it ↦ let far = before 0 ps i j apart before_it count in omega arith
+      | inr same ↦ let is : j ≡ i = omega arith in rw is reach
+    ]
+
+or_right : (a b : Bool) → b ≡ true → (a || b) ≡ true
+or_right true b is = refl
+or_right false b is = is
+
+-- the next piece, which begins by the end of what they make, is joined to them
+pub hull_more : (ps : List Piece) (r : Extent) (first behind from to : ℕ) → Apart 0 ps → behind < length ps →
+    r.base ≤ past (nth ps first) → (nth ps behind).base ≤ to → Hull ps r first behind from to →
+    Hull ps r first (behind + 1) (min from (nth ps behind).base) (max to (past (nth ps behind)))
+hull_more ps r first behind from to apart count reach touches h =
+    let p = nth ps behind in
+    let ends : past p < 2 ^ 64 = nth-fits ps behind apart count in
+    let far : r.base ≤ past p = reaches ps r.base first behind apart h.order count reach in
+    record {
+      order = omega (arith, h.order);
+      most = omega arith;
+      least = omega (arith, h.least);
+      end = omega (arith, h.end);
+      small = omega (arith, h.small, ends);
+      below = λ i less. let old = h.below i less in let now = before 0 ps i behind apart (omega (arith, h.order)) count in omega arith;
+      low = λ i from_first to_next. elim (cases_lt i behind) [
+        | inl old ↦ let is = h.low i from_first old in omega arith
+        | inr new ↦ let is : i ≡ behind = omega arith in rw is (omega arith)
+      ];
+      high = λ i from_first to_next. elim (cases_lt i behind) [
+        | inl old ↦ let is = h.high i from_first old in omega arith
+        | inr new ↦ let is : i ≡ behind = omega arith in rw is (omega arith)
+      ];
+      ready = λ x low high. elim (cases_lt x from) [
+        | inl under ↦ or_right (covers r x) (is_ready ps x)
+            (ready-at 0 ps behind p x apart count (there ps behind count) (omega arith) (omega (arith, h.least)))
+        | inr over ↦ elim (cases_lt x to) [
+          | inl within ↦ h.ready x over within
+          | inr above ↦ or_right (covers r x) (is_ready ps x)
+              (ready-at 0 ps behind p x apart count (there ps behind count) (omega arith) (omega arith))
+        ]
+      ];
+    }
+
+-- and where no further piece is joined they are those that are met or touched
+pub hull_joins : (ps : List Piece) (r : Extent) (first behind from to : ℕ) → Apart 0 ps → Hull ps r first behind from to →
+    (behind < length ps → to < (nth ps behind).base) → Joins ps first behind from to
+hull_joins ps r first behind from to apart h stop = record {
+  order = h.order;
+  most = h.most;
+  below = h.below;
+  low = h.low;
+  high = h.high;
+  above = λ i least count. elim (cases_lt behind i) [
+    | inl later ↦ let far = before 0 ps behind i apart later count in let here = stop (omega arith) in omega (arith, here, far)
+    | inr same ↦ let is : i ≡ behind = omega arith in rw is (stop (omega arith))
+  ];
+}
+
+-- the bytes of one more piece in front are gathered
+pub gathered_more : (ps : List Piece) (i from to k m : ℕ) (bs ys : List ℕ) → i < length ps → length bs ≡ to - from →
+    from ≤ (nth ps i).base → past (nth ps i) ≤ to → k ≡ (nth ps i).base - from → m ≡ length (nth ps i).bytes → ys ≡ (nth ps i).bytes →
+    ((x : ℕ) → from ≤ x → x < to → get_or bs (x - from) 0 ≡ byte_of (drop (i + 1) ps) x) →
+    (x : ℕ) → from ≤ x → x < to → get_or (put_mid k m bs ys) (x - from) 0 ≡ byte_of (drop i ps) x
+gathered_more ps i from to k m bs ys count len low high at long is told x least below =
+    let p = nth ps i in
+    let size : length ys ≡ m = ap length is ∙ sym long in
+    let within : k + m ≤ length bs = omega (arith, at, long, len) in
+    rw (drop_more ps i (record { base = 0; bytes = [] }) count) (elim (cases_Bool (inside p x)) [
+      | inl lies ↦ let from_it = inside-low p x lies in let to_it = inside-high p x lies in
+          rw lies (ap (λ j. get_or (put_mid k m bs ys) j 0) (omega (arith, at))
+          ∙ mid-in k m bs ys (x - p.base) size within (omega (arith, long)) ∙ ap (λ (zs : List ℕ). get_or zs (x - p.base) 0) is)
+      | inr out ↦ rw out (mid-out k m bs ys (x - from) size within (grind (arith, nat_tests)) ∙ told x least below)
+    ])
+
+-- the i-th of some extents of a list
+nth_part : (es : List Held) (f n i : ℕ) → i < length (take n (drop f es)) →
+    nth (map piece (take n (drop f es))) i ≡ nth (map piece es) (f + i)
+nth_part es f n i count =
+    let none : Piece = record { base = 0; bytes = [] } in
+    let short = length-take n (drop f es) in
+    let inner : i < n = omega (arith, short) in
+    ap (λ (ps : List Piece). get_or ps i none) (sym (take-map piece n (drop f es)) ∙ ap (take n) (sym (drop-map piece f es)))
+    ∙ get_or-take n (drop f (map piece es)) i none inner ∙ get_or-drop f (map piece es) i none
+
+module _ (es ds : List Held) (f b from to : ℕ) (joins : Joins (map piece es) f b from to) (same : ds ≡ es) (i : ℕ)
+    (count : i < length (take (b - f) (drop f ds))) where
+  part_inner : f + i < b
+  part_inner = let short = length-take (b - f) (drop f ds) in omega (arith, short, count, joins.order)
+
+  part_is : nth (map piece (take (b - f) (drop f ds))) i ≡ nth (map piece es) (f + i)
+  part_is = nth_part ds f (b - f) i count ∙ ap (λ (l : List Held). nth (map piece l) (f + i)) same
+
+  pub part_low : from ≤ (nth (map piece (take (b - f) (drop f ds))) i).base
+  part_low = rw part_is (joins.low (f + i) (omega arith) part_inner)
+
+  pub part_high : past (nth (map piece (take (b - f) (drop f ds))) i) ≤ to
+  part_high = rw part_is (joins.high (f + i) (omega arith) part_inner)
+
+-- the element right behind one is removed
+removed : (xs ys : List Held) (x : Held) → remove (xs ++ x ∷ ys) (suc (length xs)) ≡ xs ++ x ∷ drop 1 ys
+removed [] ys x = refl
+removed (a ∷ xs) ys x = ap (λ (l : List Held). a ∷ l) (removed xs ys x)
+
+pub removed_behind : (es new now : List Held) (x : Held) (f k : ℕ) → f ≤ length es → now ≡ take f es ++ x ∷ drop k es →
+    new ≡ remove now (f + 1) →
+    new ≡ take f es ++ x ∷ drop (k + 1) es
+removed_behind es new now x f k most was is =
+    let front : length (take f es) ≡ f = length-take f es ∙ omega arith in
+    let behind : f + 1 ≡ suc (length (take f es)) = omega (arith, front) in
+    is ∙ ap (λ (l : List Held). remove l (f + 1)) was ∙ ap (remove (take f es ++ x ∷ drop k es)) behind
+    ∙ removed (take f es) (drop k es) x ∙ ap (λ (l : List Held). take f es ++ x ∷ l) (drop-drop 1 k es)
+
+-- what holds once a range is prepared
+pub record Prepared (es new : List Held) (r : Extent) : Type 0 where
+  pub apart : Apart 0 (map piece new)
+  pub bytes : (x : ℕ) → byte_of (map piece new) x ≡ byte_of (map piece es) x
+  pub ready : (x : ℕ) → is_ready (map piece new) x ≡ (covers r x || is_ready (map piece es) x)
+
+some_size : (ps : List Piece) (r : Extent) → (AreReady ps r.base r.size → ⊥) → 0 < r.size
+some_size ps r not_ready = elim (cases_lt 0 r.size) [ inl some ↦ some | inr none ↦ absurd (not_ready (λ x low high. absurd (omega arith))) ]
+
+-- an address of the piece is of the range or was prepared, and an address of the range is of the piece
+exact : (ps : List Piece) (r : Extent) (p : Piece) → p.base ≤ r.base → end_of r ≤ past p →
+    ((x : ℕ) → p.base ≤ x → x < past p → IsTrue (covers r x || is_ready ps x)) → (x : ℕ) →
+    (inside p x || is_ready ps x) ≡ (covers r x || is_ready ps x)
+exact ps r p low high ready x = elim (cases_Bool (inside p x)) [
+  | inl lies ↦ rw lies (sym (ready x (inside-low p x lies) (inside-high p x lies)))
+  | inr out ↦ let off : covers r x ≡ false = grind (arith, nat_tests) in rw (out, off) refl
+]
+
+pub prepared : (es new : List Held) (e : Held) (r : Extent) (f b from to : ℕ) → Apart 0 (map piece es) → Joins (map piece es) f b from to →
+    from ≤ r.base → end_of r ≤ to → to < 2 ^ 64 → (AreReady (map piece es) r.base r.size → ⊥) →
+    ((x : ℕ) → from ≤ x → x < to → IsTrue (covers r x || is_ready (map piece es) x)) →
+    e.base ≡ from → length e.bytes.items ≡ to - from →
+    ((x : ℕ) → from ≤ x → x < to → get_or e.bytes.items (x - from) 0 ≡ byte_of (map piece (take (b - f) (drop f es))) x) →
+    new ≡ take f es ++ e ∷ drop b es → Prepared es new r
+prepared es new e r f b from to apart joins low high small not_ready ready base len told is =
+    let some : 0 < r.size = some_size (map piece es) r not_ready in
+    let end : past (piece e) ≡ to = omega (arith, base, len, low, high, some) in
+    let at : map piece new ≡ take f (map piece es) ++ piece e ∷ drop b (map piece es) =
+    ap (map piece) is ∙ map-append piece (take f es) (e ∷ drop b es)
+    ∙ rw (take-map piece f es, drop-map piece b es) refl in
+    let part : map piece (take (b - f) (drop f es)) ≡ take (b - f) (drop f (map piece es)) =
+    sym (take-map piece (b - f) (drop f es)) ∙ ap (take (b - f)) (sym (drop-map piece f es)) in
+    let j = joined f 0 b (b - f) (map piece es) (piece e) apart (omega arith) (omega (arith, len, low, high, some))
+    (omega (arith, end, small))
+    (omega (arith, joins.order))
+    (subst (λ m. Joins (map piece es) f b m (past (piece e))) (sym base) (subst (λ m. Joins (map piece es) f b from m) (sym end) joins))
+    (λ x least below. ap (λ m. get_or e.bytes.items (x - m) 0) base
+    ∙ told x (omega (arith, base, least)) (omega (arith, end, below)) ∙ ap (λ (ps : List Piece). byte_of ps x) part) in
+    record {
+      apart = rw at j.apart;
+      bytes = λ x. rw at (j.bytes x);
+      ready = λ x. rw at (j.ready x ∙ exact (map piece es) r (piece e) (omega (arith, base, low)) (omega (arith, end, high))
+          (λ y least below. ready y (omega (arith, base, least)) (omega (arith, end, below))) x);
+    }

@@ -1,0 +1,5 @@
+mod Examples
+pub mod ByteLists
+pub mod Joining
+pub mod Lookup
+pub mod Writes

@@ -1,0 +1,34 @@
+use Rattle.std.proofs.Common.{◌-◌, ◌<◌, length, map, sym, ◌∙◌, arith}
+use Rattle.std.proofs.lemmas.List.{get_or_read}
+use Rattle.phys_store.specs.Extents.{piece}
+use Rattle.phys_store.proofs.Lookup.{holds_one, byte-at, none-found, byte-unready}
+use Rattle.phys_store.proofs.extents.byte_at.Goals as goal
+
+pub overflow_sub-address : goal.overflow_sub-address
+overflow_sub-address c =
+    let e = c.index-extents-i.result in
+    let h = holds_one c.args.extents.now c.args.address c.in-Some.i e c.requires
+    (sym c.place_of.ensures ∙ c.in-Some.is) c.index-extents-i.is in
+    h.low
+
+pub index-requires : goal.index-requires
+index-requires c =
+    let e = c.index-extents-i.result in
+    let h = holds_one c.args.extents.now c.args.address c.in-Some.i e c.requires
+    (sym c.place_of.ensures ∙ c.in-Some.is) c.index-extents-i.is in
+    omega (arith, h.low, h.inner, e.bytes.ok.0)
+
+pub returns-in-Some : goal.returns-in-Some
+returns-in-Some c =
+    let e = c.index-extents-i.result in
+    let h = holds_one c.args.extents.now c.args.address c.in-Some.i e c.requires
+    (sym c.place_of.ensures ∙ c.in-Some.is) c.index-extents-i.is in
+    let k = c.args.address - e.base in
+    let below : k < length e.bytes.items = omega (arith, h.low, h.inner) in
+    get_or_read e.bytes.items k c.index.result.now below c.index.ensures 0
+    ∙ sym (byte-at 0 (map piece c.args.extents.now) c.in-Some.i (piece e) c.args.address c.requires h.count h.there h.low h.inner)
+
+pub returns-in-None : goal.returns-in-None
+returns-in-None c =
+    let es = c.args.extents.now in
+    sym (byte-unready (map piece es) c.args.address (none-found es c.args.address (sym c.place_of.ensures ∙ c.in-None.is)))

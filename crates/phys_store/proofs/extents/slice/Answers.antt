@@ -1,0 +1,53 @@
+use Rattle.std.proofs.Common.{◌≡◌, ◌+◌, ◌-◌, length, get_or, take, drop, map, refl, sym, ◌∙◌, ap, arith}
+use Rattle.std.proofs.lemmas.List.{get_or-take, get_or-drop, length-take, length-drop}
+use Rattle.phys_store.specs.Bytes.{byte_of, bytes_at}
+use Rattle.phys_store.specs.Extents.{piece}
+use Rattle.phys_store.proofs.Lookup.{holds, byte-at, none_ready}
+use Rattle.phys_store.proofs.ByteLists.{told_bytes}
+use Rattle.phys_store.proofs.extents.slice.Goals as goal
+
+pub overflow_sub-from : goal.overflow_sub-from
+overflow_sub-from c =
+    let e = c.index-extents-i.result in
+    let h = holds c.args.extents.now c.args.at c.args.count c.in-Some.i e c.requires.apart c.requires.prepared
+    (sym c.place_of.ensures ∙ c.in-Some.is) c.index-extents-i.is in
+    h.low
+
+pub overflow_add-result : goal.overflow_add-result
+overflow_add-result c =
+    let e = c.index-extents-i.result in
+    let h = holds c.args.extents.now c.args.at c.args.count c.in-Some.i e c.requires.apart c.requires.prepared
+    (sym c.place_of.ensures ∙ c.in-Some.is) c.index-extents-i.is in
+    omega (arith, h.low, h.high, h.small)
+
+pub slice_bounds-result-end : goal.slice_bounds-result-end
+slice_bounds-result-end c =
+    let e = c.index-extents-i.result in
+    let h = holds c.args.extents.now c.args.at c.args.count c.in-Some.i e c.requires.apart c.requires.prepared
+    (sym c.place_of.ensures ∙ c.in-Some.is) c.index-extents-i.is in
+    omega (arith, h.low, h.high, c.deref.ensures.len, e.bytes.ok.0)
+
+pub returns-in-Some : goal.returns-in-Some
+returns-in-Some c =
+    let e = c.index-extents-i.result in
+    let h = holds c.args.extents.now c.args.at c.args.count c.in-Some.i e c.requires.apart c.requires.prepared
+    (sym c.place_of.ensures ∙ c.in-Some.is) c.index-extents-i.is in
+    let m = c.args.at - e.base in
+    let n = c.args.at - e.base + c.args.count - (c.args.at - e.base) in
+    let ps = map piece c.args.extents.now in
+    let xs = c.deref.result.now in
+    let value : xs ≡ e.bytes.items = c.deref.ensures.value in
+    let long : length xs ≡ length e.bytes.items = ap length value in
+    told_bytes (byte_of ps) c.args.at c.args.count (take n (drop m xs))
+    (length-take n (drop m xs) ∙ omega (arith, length-drop m xs, long, h.low, h.high))
+    (λ k below.
+    get_or-take n (drop m xs) k 0 (omega arith) ∙ get_or-drop m xs k 0 ∙ ap (λ ys. get_or ys (m + k) 0) value
+    ∙ ap (λ j. get_or e.bytes.items j 0) (omega (arith, h.low))
+    ∙ sym (byte-at 0 ps c.in-Some.i (piece e) (c.args.at + k) c.requires.apart h.count h.there (omega (arith, h.low))
+    (omega (arith, h.high))))
+
+pub returns-in-None : goal.returns-in-None
+unfolding bytes_at
+returns-in-None c =
+    let none = none_ready c.args.extents.now c.args.at c.args.count (sym c.place_of.ensures ∙ c.in-None.is) c.requires.prepared in
+    rw none refl

@@ -1,0 +1,27 @@
+-- How the bytes are kept: in extents that are as long as they can be, so that a range that is prepared address by address
+-- lies in one of them.
+use Rattle.std.specs.Prelude.{ℕ, ◌+◌, ◌^◌, ◌<◌, ◌≤◌, List, [], ◌∷◌, length, slice_index_or}
+use Rattle.phys_store.specs.declared.extents.Held.{Held}
+use Rattle.phys_store.specs.Bytes.{Piece, past}
+
+-- an extent, as contracts see it
+abbrev pub piece : Held → Piece
+piece e = record { base = e.base; bytes = e.bytes.items }
+
+-- the pieces ascend from e on, none is empty, none touches the next, and none passes 2^64 - 1
+abbrev pub Apart : ℕ → List Piece → Type 0
+Apart e [] = Unit {0}
+Apart e (p ∷ ps) = (e ≤ p.base) × (0 < length p.bytes) × (p.base + length p.bytes < 2 ^ 64) × Apart (past p + 1) ps
+
+-- the i-th piece
+abbrev pub nth : List Piece → ℕ → Piece
+nth ps i = slice_index_or ps i (record { base = 0; bytes = [] })
+
+-- the pieces from the index `first` up to `behind` are those that the addresses from `from` up to `to` meet or touch
+pub record Joins (ps : List Piece) (first behind from to : ℕ) : Type 0 where
+  pub order : first ≤ behind
+  pub most : behind ≤ length ps
+  pub below : (i : ℕ) → i < first → past (nth ps i) < from
+  pub low : (i : ℕ) → first ≤ i → i < behind → from ≤ (nth ps i).base
+  pub high : (i : ℕ) → first ≤ i → i < behind → past (nth ps i) ≤ to
+  pub above : (i : ℕ) → behind ≤ i → i < length ps → to < (nth ps i).base
