@@ -25,6 +25,7 @@ mod layers;
 mod order;
 mod stretch;
 
+pub use builder::agree;
 pub use laws::{one_list_of_runs, runs_by_address};
 pub use layers::overlay_all;
 pub use stretch::{Overlay, Stretch};

@@ -1,0 +1,123 @@
+-- How many runs an edit adds at most: covering a range as many as it has bare pieces, taking the range out one, any other change two.
+use Rattle.std.proofs.Common.{◌≡◌, ℕ, ◌+◌, ◌-◌, ◌^◌, ◌≤◌, ◌==◌, Bool, true, false, ◌&&◌, if◌then◌else◌, is_none, Option, Some, None, List, length, refl, ◌∙◌, ap, inl, inr, arith}
+use Rattle.std.specs.Prelude.{unwrap_or}
+use Rattle.std.proofs.lemmas.Bool.Decides.{nat_tests}
+use Rattle.std.proofs.lemmas.Bool.{cases_Bool}
+use Rattle.bm_base.specs.Extent.{Extent, covers}
+use Rattle.address_runs.specs.Runs.{RunOf, Tells, value_at, AreRuns, IsRunsOf, runs_of}
+use Rattle.address_runs.specs.Edits.{amended, covered, uncovered, bare, NothingFrom}
+use Rattle.address_runs.proofs.RunsLaws.{by_address}
+use Rattle.address_runs.proofs.EditLaws.{not_covered}
+use Rattle.run_edits.specs.Records.{EndsNoRun}
+use Rattle.run_edits.specs.Ends.{total, edge, edges, spike, HasRoom}
+use Rattle.run_edits.proofs.EndLaws.{total-fewer, total-add, total-split, spikes_few, edge-self, edge-few, all_ends}
+
+-- where a range begins or ends between two neighbours
+begins_here : (r : Extent) (x : ℕ) → covers r x ≡ false → covers r (x + 1) ≡ true → (x + 1 == r.base) ≡ true
+begins_here r x out in_it = grind (arith, nat_tests)
+
+ends_here : (r : Extent) (x : ℕ) → covers r x ≡ true → covers r (x + 1) ≡ false → (x + 1 == r.base + r.size) ≡ true
+ends_here r x in_it out = grind (arith, nat_tests)
+
+pub spikes_two : (r : Extent) (n : ℕ) → total (λ x. spike r.base x + spike (r.base + r.size) x) 0 n ≤ 2
+spikes_two r n =
+    let both = total-add (spike r.base) (spike (r.base + r.size)) 0 n in
+    let one = spikes_few r.base 0 n in
+    let other = spikes_few (r.base + r.size) 0 n in
+    omega (arith, both, one, other)
+
+module _ {X : Type 0} where
+  -- a function that ends few more runs than another at each address has so many more runs
+  total-more : (same : X → X → Bool) (f g : ℕ → Option X) (s : ℕ → ℕ) (few x n : ℕ) → ((y : ℕ) → edges same g y ≤ edges same f y + s y) → total s x n ≤ few
+      → total (edges same g) x n ≤ total (edges same f) x n + few
+  total-more same f g s few x n each some =
+      let all : total (edges same g) x n ≤ total (λ y. edges same f y + s y) x n = total-fewer (edges same g) (λ y. edges same f y + s y) x n (λ y above under. each y) in
+      let parts : total (λ y. edges same f y + s y) x n ≡ total (edges same f) x n + total s x n = total-add (edges same f) s x n in
+      omega (arith, all, parts, some)
+
+  pub room_by : (same : X → X → Bool) → Tells same → (f g : ℕ → Option X) (s : ℕ → ℕ) (few room : ℕ) → ((y : ℕ) → edges same g y ≤ edges same f y + s y)
+      → ((at : ℕ) → at ≤ 2 ^ 64 → total s 0 at ≤ few) → total (edges same f) 0 (2 ^ 64) + few ≤ room → HasRoom same f g room
+  room_by same tells f g s few room each some fits at le =
+      let front : total (edges same g) 0 at ≤ total (edges same f) 0 at + few = total-more same f g s few 0 at each (some at le) in
+      let whole : total (edges same f) 0 (2 ^ 64) ≡ total (edges same f) 0 at + total (edges same f) at (2 ^ 64 - at) =
+      total-split (edges same f) 0 at (2 ^ 64 - at) (2 ^ 64) at (omega arith) (omega arith) in
+      omega (arith, front, whole, fits)
+
+  pub length_by : (same : X → X → Bool) → Tells same → (rs ss : List (RunOf X)) (s : ℕ → ℕ) (few : ℕ) → AreRuns rs → NothingFrom (2 ^ 64) (value_at rs) → AreRuns ss
+      → NothingFrom (2 ^ 64) (value_at ss) → ((y : ℕ) → edges same (value_at ss) y ≤ edges same (value_at rs) y + s y) → total s 0 (2 ^ 64) ≤ few → length ss ≤ length rs + few
+  length_by same tells rs ss s few runs none more none_too each some =
+      let first : length rs ≡ total (edges same (value_at rs)) 0 (2 ^ 64) = all_ends same tells rs runs none in
+      let second : length ss ≡ total (edges same (value_at ss)) 0 (2 ^ 64) = all_ends same tells ss more none_too in
+      let sums : total (edges same (value_at ss)) 0 (2 ^ 64) ≤ total (edges same (value_at rs)) 0 (2 ^ 64) + few = total-more same (value_at rs) (value_at ss) s few 0 (2 ^ 64) each some in
+      omega (arith, first, second, sums)
+
+  -- inside its range a change that ends no run ends none
+  inside_edges : (same : X → X → Bool) → Tells same → (change : Option X → Option X) → EndsNoRun change → (a b : Option X) → edge same (change a) (change b) ≤ edge same a b
+  inside_edges same tells change (inl stays) None b = rw stays (omega arith)
+  inside_edges same tells change (inl stays) (Some v) None = edge-few same (change (Some v)) (change None)
+  inside_edges same tells change (inl stays) (Some v) (Some w) =
+      elim (cases_Bool (same v w)) as (λ _. edge same (change (Some v)) (change (Some w)) ≤ edge same (Some v) (Some w)) [
+        | inl equal ↦
+            let is : change (Some v) ≡ change (Some w) = ap (λ (u : X). change (Some u)) (tells.true_is_equal v w equal) in
+            rw (is, edge-self same tells (change (Some w))) (omega arith)
+        | inr not ↦ let few = edge-few same (change (Some v)) (change (Some w)) in rw not few
+      ]
+  inside_edges same tells change (inr one) a b = rw (one a, one b, edge-self same tells (change None)) (omega arith)
+
+  -- so it ends one at the start of the range and one at its end
+  pub amended_edges : (same : X → X → Bool) → Tells same → (change : Option X → Option X) → EndsNoRun change → (r : Extent) (f : ℕ → Option X) (x : ℕ)
+      → edges same (amended change r f) x ≤ edges same f x + (spike r.base x + spike (r.base + r.size) x)
+  amended_edges same tells change plain r f x =
+      elim (cases_Bool (covers r x)) as (λ _. edges same (amended change r f) x ≤ edges same f x + (spike r.base x + spike (r.base + r.size) x)) [
+        | inl here ↦ elim (cases_Bool (covers r (x + 1))) as (λ _. edges same (amended change r f) x ≤ edges same f x + (spike r.base x + spike (r.base + r.size) x)) [
+          | inl next ↦ let few = inside_edges same tells change plain (f x) (f (x + 1)) in rw (here, next) (omega (arith, few))
+          | inr out ↦ let few = edge-few same (change (f x)) (f (x + 1)) in rw (here, out, ends_here r x here out) (omega (arith, few))
+        ]
+        | inr before ↦ elim (cases_Bool (covers r (x + 1))) as (λ _. edges same (amended change r f) x ≤ edges same f x + (spike r.base x + spike (r.base + r.size) x)) [
+          | inl next ↦ let few = edge-few same (f x) (change (f (x + 1))) in rw (before, next, begins_here r x before next) (omega (arith, few))
+          | inr out ↦ rw (before, out) (omega arith)
+        ]
+      ]
+
+  -- a range that is taken out ends no run at its end
+  pub uncovered_edges : (same : X → X → Bool) (r : Extent) (f : ℕ → Option X) (x : ℕ) → edges same (uncovered r f) x ≤ edges same f x + spike r.base x
+  uncovered_edges same r f x =
+      elim (cases_Bool (covers r x)) as (λ _. edges same (uncovered r f) x ≤ edges same f x + spike r.base x) [
+        | inl here ↦ rw here (omega arith)
+        | inr before ↦ elim (cases_Bool (covers r (x + 1))) as (λ _. edges same (uncovered r f) x ≤ edges same f x + spike r.base x) [
+          | inl next ↦ let few = edge-few same (f x) None in rw (before, next, begins_here r x before next) (omega (arith, few))
+          | inr out ↦ rw (before, out) (omega arith)
+        ]
+      ]
+
+  -- a range that is covered ends runs where its bare pieces do
+  cover_at : (same : X → X → Bool) → Tells same → (v w : X) (here next : Bool) (a b : Option X)
+      → edge same (if here then Some (unwrap_or a v) else a) (if next then Some (unwrap_or b v) else b)
+      ≤ edge same a b + edge same (if here && is_none a then Some w else None) (if next && is_none b then Some w else None)
+  cover_at same tells v w true true None None = rw (tells.equal_is_true v v refl, tells.equal_is_true w w refl) (omega arith)
+  cover_at same tells v w true true None (Some q) = edge-few same (Some v) (Some q)
+  cover_at same tells v w true true (Some p) None = edge-few same (Some p) (Some v)
+  cover_at same tells v w true true (Some p) (Some q) = omega arith
+  cover_at same tells v w true false None b = edge-few same (Some v) b
+  cover_at same tells v w true false (Some p) b = omega arith
+  cover_at same tells v w false true None b = omega arith
+  cover_at same tells v w false true (Some p) None = edge-few same (Some p) (Some v)
+  cover_at same tells v w false true (Some p) (Some q) = omega arith
+  cover_at same tells v w false false a b = omega arith
+
+  pub covered_edges : (same : X → X → Bool) → Tells same → (r : Extent) (v w : X) (f : ℕ → Option X) (x : ℕ)
+      → edges same (covered r v f) x ≤ edges same f x + edges same (bare r w f) x
+  covered_edges same tells r v w f x = cover_at same tells v w (covers r x) (covers r (x + 1)) (f x) (f (x + 1))
+
+  -- the bare pieces of a range, counted by their ends
+  bare_ends : (r : Extent) (w : X) (f : ℕ → Option X) → r.base + r.size ≤ 2 ^ 64 → NothingFrom (2 ^ 64) (bare r w f)
+  bare_ends r w f ends x le = let past : r.base + r.size ≤ x = omega arith in rw (not_covered r x past) refl
+
+  pub pieces_ends : (same : X → X → Bool) → Tells same → (r : Extent) (w : X) (f : ℕ → Option X) → r.base + r.size ≤ 2 ^ 64
+      → length (runs_of same (bare r w f)) ≡ total (edges same (bare r w f)) 0 (2 ^ 64)
+  pieces_ends same tells r w f ends =
+      let none : NothingFrom (2 ^ 64) (bare r w f) = bare_ends r w f ends in
+      let known : IsRunsOf (bare r w f) (runs_of same (bare r w f)) = by_address same tells (bare r w f) none in
+      let told : value_at (runs_of same (bare r w f)) ≡ bare r w f = λ k x. known.each x k in
+      all_ends same tells (runs_of same (bare r w f)) known.runs (λ x le. known.each x ∙ none x le)
+      ∙ ap (λ (h : ℕ → Option X). total (edges same h) 0 (2 ^ 64)) told

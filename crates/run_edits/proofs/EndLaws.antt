@@ -1,0 +1,186 @@
+-- Sums over addresses, and runs counted by the addresses at which they end.
+use Rattle.std.proofs.Common.{◌≡◌, ◌≢◌, ℕ, zero, suc, ◌+◌, ◌-◌, ◌^◌, ◌<◌, ◌≤◌, ◌==◌, Bool, false, Option, Some, None, List, [], ◌∷◌, length, refl, sym, ◌∙◌, ap, inl, inr, arith}
+use Rattle.std.proofs.lemmas.Bool.Decides.{nat_tests}
+use Rattle.std.proofs.lemmas.Bool.{cases_lt, cases_Bool}
+use Rattle.address_runs.specs.Runs.{RunOf, Tells, run_end, lies_in, value_at, AreRuns}
+use Rattle.address_runs.specs.Edits.{NothingFrom}
+use Rattle.address_runs.specs.Sweep.{StartFrom, EndBy, EndsBehind, IsSweptTo, IsRestFrom}
+use Rattle.address_runs.proofs.RunsLaws.{inside, behind, none_below, other_behind}
+use Rattle.address_runs.proofs.SweepLaws.{none_behind, behind_none, rest_whole}
+use Rattle.run_edits.specs.Ends.{total, edge, edges, spike}
+
+pub total-alike : (g h : ℕ → ℕ) (x n : ℕ) → ((y : ℕ) → x ≤ y → y < x + n → g y ≡ h y) → total g x n ≡ total h x n
+unfolding total
+total-alike g h x zero same = refl
+total-alike g h x (suc n) same =
+    let here : g x ≡ h x = same x (omega arith) (omega arith) in
+    let rest : total g (x + 1) n ≡ total h (x + 1) n = total-alike g h (x + 1) n (λ y above under. same y (omega arith) (omega arith)) in
+    rw (here, rest) refl
+
+pub total-fewer : (g h : ℕ → ℕ) (x n : ℕ) → ((y : ℕ) → x ≤ y → y < x + n → g y ≤ h y) → total g x n ≤ total h x n
+unfolding total
+total-fewer g h x zero few = omega arith
+total-fewer g h x (suc n) few =
+    let here : g x ≤ h x = few x (omega arith) (omega arith) in
+    let rest : total g (x + 1) n ≤ total h (x + 1) n = total-fewer g h (x + 1) n (λ y above under. few y (omega arith) (omega arith)) in
+    omega arith
+
+pub total-quiet : (g : ℕ → ℕ) (x n : ℕ) → ((y : ℕ) → x ≤ y → y < x + n → g y ≡ 0) → total g x n ≡ 0
+unfolding total
+total-quiet g x zero none = refl
+total-quiet g x (suc n) none =
+    let here : g x ≡ 0 = none x (omega arith) (omega arith) in
+    let rest : total g (x + 1) n ≡ 0 = total-quiet g (x + 1) n (λ y above under. none y (omega arith) (omega arith)) in
+    omega arith
+
+pub total-add : (g h : ℕ → ℕ) (x n : ℕ) → total (λ y. g y + h y) x n ≡ total g x n + total h x n
+unfolding total
+total-add g h x zero = refl
+total-add g h x (suc n) = let rest : total (λ y. g y + h y) (x + 1) n ≡ total g (x + 1) n + total h (x + 1) n = total-add g h (x + 1) n in omega arith
+
+-- the first m addresses, and the n behind them
+pub total-split : (g : ℕ → ℕ) (x m n all middle : ℕ) → all ≡ m + n → middle ≡ x + m → total g x all ≡ total g x m + total g middle n
+unfolding total
+total-split g x zero n all middle is at =
+    let few : all ≡ n = omega arith in
+    let here : x ≡ middle = omega arith in
+    let same : total g x all ≡ total g middle n = ap (λ (k : ℕ). total g x k) few ∙ ap (λ (y : ℕ). total g y n) here in
+    omega arith
+total-split g x (suc m) n all middle is at =
+    let more : all ≡ suc (m + n) = omega arith in
+    let whole : total g x all ≡ g x + total g (x + 1) (m + n) = ap (λ (k : ℕ). total g x k) more in
+    let rest : total g (x + 1) (m + n) ≡ total g (x + 1) m + total g middle n = total-split g (x + 1) m n (m + n) middle refl (omega arith) in
+    omega arith
+
+pub total-next : (g : ℕ → ℕ) (x n : ℕ) → total g x (suc n) ≡ g x + total g (x + 1) n
+unfolding total
+total-next g x n = refl
+
+-- the sum of one spike
+pub spikes_few : (b x n : ℕ) → total (spike b) x n ≤ 1
+unfolding total
+spikes_few b x zero = omega arith
+spikes_few b x (suc n) =
+    elim (cases_Bool (x + 1 == b)) as (λ _. total (spike b) x (suc n) ≤ 1) [
+      | inl here ↦
+          let is : x + 1 ≡ b = grind (arith, nat_tests) in
+          let rest : total (spike b) (x + 1) n ≡ 0 = total-quiet (spike b) (x + 1) n (λ y above under. let past : (y + 1 == b) ≡ false = grind (arith, nat_tests) in rw past refl) in
+          rw (here, rest) (omega arith)
+      | inr other ↦ rw other (let rest : total (spike b) (x + 1) n ≤ 1 = spikes_few b (x + 1) n in omega arith)
+    ]
+
+-- no run ends between two neighbours that carry the same, and one does where another value follows
+pub edge-self : {X : Type 0} (same : X → X → Bool) → Tells same → (a : Option X) → edge same a a ≡ 0
+edge-self same tells None = refl
+edge-self same tells (Some a) = rw (tells.equal_is_true a a refl) refl
+
+pub edge-few : {X : Type 0} (same : X → X → Bool) (a b : Option X) → edge same a b ≤ 1
+edge-few same None b = omega arith
+edge-few same (Some a) None = omega arith
+edge-few same (Some a) (Some b) = elim (cases_Bool (same a b)) as (λ _. edge same (Some a) (Some b) ≤ 1) [ inl equal ↦ rw equal (omega arith) | inr not ↦ rw not (omega arith) ]
+
+pub edge-other : {X : Type 0} (same : X → X → Bool) → Tells same → (v : X) (b : Option X) → b ≢ Some v → edge same (Some v) b ≡ 1
+edge-other same tells v None other = refl
+edge-other same tells v (Some w) other =
+    elim (cases_Bool (same v w)) as (λ _. edge same (Some v) (Some w) ≡ 1) [
+      | inl equal ↦ absurd (other (ap (λ u. Some u) (sym (tells.true_is_equal v w equal))))
+      | inr not ↦ rw not refl
+    ]
+
+-- the runs behind a run end behind its end
+pub behind_run : {X : Type 0} (r : RunOf X) (rs : List (RunOf X)) → AreRuns (r ∷ rs) → EndsBehind (run_end r) rs
+behind_run r [] runs = tt
+behind_run r (s ∷ ss) runs = let order = runs.1.0 in let some = runs.2.0 in omega arith
+
+-- up to its last address a run doesn't end
+quiet_inside : {X : Type 0} (same : X → X → Bool) → Tells same → (r : RunOf X) (rs : List (RunOf X)) (y : ℕ) → AreRuns (r ∷ rs) → y + 1 < run_end r
+    → edges same (value_at (r ∷ rs)) y ≡ 0
+quiet_inside same tells r rs y runs under =
+    elim (cases_lt y r.base) as (λ _. edges same (value_at (r ∷ rs)) y ≡ 0) [
+      | inl lt ↦ let starts : StartFrom r.base (r ∷ rs) = omega arith in let none : value_at (r ∷ rs) y ≡ None = none_below r.base y (r ∷ rs) runs starts lt in rw none refl
+      | inr ge ↦
+          let here : value_at (r ∷ rs) y ≡ Some r.value = rw (inside r y (omega arith) (omega arith)) refl in
+          let next : value_at (r ∷ rs) (y + 1) ≡ Some r.value = rw (inside r (y + 1) (omega arith) (omega arith)) refl in
+          rw (here, next) (edge-self same tells (Some r.value))
+    ]
+
+-- a list has as many runs as end at its addresses
+pub length_ends : {X : Type 0} (same : X → X → Bool) → Tells same → (rs : List (RunOf X)) (x n : ℕ) → AreRuns rs → EndsBehind x rs
+    → ((y : ℕ) → x + n ≤ y → value_at rs y ≡ None) → length rs ≡ total (edges same (value_at rs)) x n
+length_ends same tells [] x n runs ends none = sym (total-quiet (edges same (value_at [])) x n (λ y above under. refl))
+length_ends {X} same tells (r ∷ rs) x n runs ends none =
+    let f : ℕ → Option X = value_at (r ∷ rs) in
+    let e : ℕ = run_end r in
+    let some : 0 < r.size = runs.0 in
+    let behind_x : x < e = ends in
+    let last : f (e - 1) ≡ Some r.value = rw (inside r (e - 1) (omega arith) (omega arith)) refl in
+    let within : e ≤ x + n = elim (cases_lt (e - 1) (x + n)) as (λ _. e ≤ x + n) [
+      | inl lt ↦ omega arith
+      | inr ge ↦ let clash : Some r.value ≡ None = sym last ∙ none (e - 1) ge in cc
+    ] in
+    let first : ℕ = e - 1 - x in
+    let rest : ℕ = x + n - e in
+    let parts : total (edges same f) x n ≡ total (edges same f) x first + total (edges same f) (e - 1) (suc rest) =
+    total-split (edges same f) x first (suc rest) n (e - 1) (omega arith) (omega arith) in
+    let quiet : total (edges same f) x first ≡ 0 = total-quiet (edges same f) x first (λ y above under. quiet_inside same tells r rs y runs (omega arith)) in
+    let next : total (edges same f) (e - 1) (suc rest) ≡ edges same f (e - 1) + total (edges same f) (e - 1 + 1) rest = total-next (edges same f) (e - 1) rest in
+    let at_end : e - 1 + 1 ≡ e = omega arith in
+    let past : f e ≡ value_at rs e = rw (behind r e (omega arith)) refl in
+    let other : f e ≢ Some r.value = λ h. other_behind r rs runs (sym past ∙ h) in
+    let one : edges same f (e - 1) ≡ 1 = rw (last, at_end) (edge-other same tells r.value (f e) other) in
+    let alike : total (edges same f) e rest ≡ total (edges same (value_at rs)) e rest = total-alike (edges same f) (edges same (value_at rs)) e rest (λ y above under.
+    let here : f y ≡ value_at rs y = rw (behind r y (omega arith)) refl in
+    let there : f (y + 1) ≡ value_at rs (y + 1) = rw (behind r (y + 1) (omega arith)) refl in
+    rw (here, there) refl) in
+    let others : length rs ≡ total (edges same (value_at rs)) e rest = length_ends same tells rs e rest runs.2 (behind_run r rs runs)
+    (λ y far. sym (let here : f y ≡ value_at rs y = rw (behind r y (omega arith)) refl in here) ∙ none y (omega arith)) in
+    let moved : total (edges same f) (e - 1 + 1) rest ≡ total (edges same f) e rest = ap (λ (y : ℕ). total (edges same f) y rest) at_end in
+    omega arith
+
+-- what ends right at an address has another value than the one there
+last_other : {X : Type 0} (at y : ℕ) (v : Option X) (w : X) (rs : List (RunOf X)) → EndBy at v rs → y + 1 ≡ at → value_at rs y ≡ Some w → v ≢ Some w
+last_other at y v w [] ends next is = cc
+last_other at y v w (r ∷ rs) ends next is =
+    elim (cases_Bool (lies_in r y)) as (λ _. v ≢ Some w) [
+      | inl lies ↦
+          let value : Some r.value ≡ Some w = rw lies at is in
+          let under : y < run_end r = grind (arith, nat_tests, lies) in
+          let touch : run_end r ≡ at = omega arith in
+          λ same. ends.1 touch (same ∙ sym value)
+      | inr not_here ↦ last_other at y v w rs ends.2 next (rw not_here at is)
+    ]
+
+edge_at_end : {X : Type 0} (same : X → X → Bool) → Tells same → (a b : Option X) → ((w : X) → a ≡ Some w → b ≢ Some w) → edge same a None ≡ edge same a b
+edge_at_end same tells None b other = refl
+edge_at_end same tells (Some a) b other = sym (edge-other same tells a b (other a refl))
+
+-- what is swept has as many runs as end there
+pub swept_ends : {X : Type 0} (same : X → X → Bool) → Tells same → (g : ℕ → Option X) (at : ℕ) (xs : List (RunOf X)) → IsSweptTo g at xs
+    → length xs ≡ total (edges same g) 0 at
+swept_ends same tells g at xs swept =
+    length_ends same tells xs 0 at swept.runs (behind_none xs swept.runs) (λ y far. none_behind at y (g at) xs swept.ends (omega arith))
+    ∙ total-alike (edges same (value_at xs)) (edges same g) 0 at (λ y above under.
+    let here : value_at xs y ≡ g y = swept.each y (omega arith) in
+    elim (cases_lt (y + 1) at) as (λ _. edges same (value_at xs) y ≡ edges same g y) [
+      | inl lt ↦ let next : value_at xs (y + 1) ≡ g (y + 1) = swept.each (y + 1) lt in rw (here, next) refl
+      | inr ge ↦
+          let end : y + 1 ≡ at = omega arith in
+          let none : value_at xs (y + 1) ≡ None = none_behind at (y + 1) (g at) xs swept.ends (omega arith) in
+          let value : g (y + 1) ≡ g at = ap g end in
+          rw (here, none, value) (edge_at_end same tells (g y) (g at) (λ w is. last_other at y (g at) w xs swept.ends end (here ∙ is)))
+    ])
+
+-- and what is left as many as end from there on
+pub rest_ends : {X : Type 0} (same : X → X → Bool) → Tells same → (f : ℕ → Option X) (at : ℕ) (rs : List (RunOf X)) → IsRestFrom f at rs → NothingFrom (2 ^ 64) f → at ≤ 2 ^ 64
+    → length rs ≡ total (edges same f) at (2 ^ 64 - at)
+rest_ends same tells f at rs rest none le =
+    length_ends same tells rs at (2 ^ 64 - at) rest.runs rest.ends (λ y far. rest.each y (omega arith) ∙ none y (omega arith))
+    ∙ total-alike (edges same (value_at rs)) (edges same f) at (2 ^ 64 - at) (λ y above under.
+    let here : value_at rs y ≡ f y = rest.each y above in
+    let next : value_at rs (y + 1) ≡ f (y + 1) = rest.each (y + 1) (omega arith) in
+    rw (here, next) refl)
+
+-- so has the whole
+pub all_ends : {X : Type 0} (same : X → X → Bool) → Tells same → (rs : List (RunOf X)) → AreRuns rs → NothingFrom (2 ^ 64) (value_at rs)
+    → length rs ≡ total (edges same (value_at rs)) 0 (2 ^ 64)
+all_ends same tells rs runs none = rest_ends same tells (value_at rs) 0 rs (rest_whole rs runs) none (omega arith)

@@ -1,0 +1,41 @@
+use Rattle.std.proofs.Common.{◌≡◌, ◌+◌, ◌^◌, ℕ, Option, length, ◌∙◌, arith}
+use Rattle.std.proofs.lemmas.Grind.{common_steps}
+use Rattle.bm_base.specs.Extent.{Extent}
+use Rattle.address_runs.specs.Runs.{value_at}
+use Rattle.address_runs.specs.Edits.{amended, NothingFrom}
+use Rattle.run_edits.specs.Ends.{spike, edges, total}
+use Rattle.run_edits.proofs.EndLaws.{all_ends}
+use Rattle.run_edits.proofs.AmendLaws.{amended_ends}
+use Rattle.run_edits.proofs.CountLaws.{room_by, length_by, amended_edges, spikes_two}
+use Rattle.run_edits.proofs.edits.amend.Goals as goal
+
+pub rewrite-requires-clause-room : goal.rewrite-requires-clause-room
+rewrite-requires-clause-room g c =
+    let f : ℕ → Option g.row.S-Value.Denot = value_at (g.T.Rows.list c.args.table.now) in
+    let change = g.C.Change.makes c.args.change in
+    let r : Extent = c.args.range.now in
+    let same = c.requires.tells.0 in
+    let tells = c.requires.tells.1 in
+    let count : length (g.T.Rows.list c.args.table.now) ≡ total (edges same f) 0 (2 ^ 64) = all_ends same tells (g.T.Rows.list c.args.table.now) c.requires.runs c.requires.within in (
+      same,
+      tells,
+      room_by same tells f (amended change r f) (λ x. spike r.base x + spike (r.base + r.size) x) 2 (g.T.Slots.room c.args.table.now)
+          (amended_edges same tells change c.requires.change r f) (λ at le. spikes_two r at) (omega (arith, count, c.requires.room)),
+    )
+
+pub returns-clause-within : goal.returns-clause-within
+returns-clause-within g c = λ x le.
+    c.rewrite.ensures.list.each x
+    ∙ amended_ends (g.C.Change.makes c.args.change) c.args.range.now (value_at (g.T.Rows.list c.args.table.now)) (2 ^ 64) (grind (arith, common_steps)) c.requires.within x le
+
+pub returns-clause-few : goal.returns-clause-few
+returns-clause-few g c =
+    let f : ℕ → Option g.row.S-Value.Denot = value_at (g.T.Rows.list c.args.table.now) in
+    let change = g.C.Change.makes c.args.change in
+    let r : Extent = c.args.range.now in
+    let same = c.requires.tells.0 in
+    let tells = c.requires.tells.1 in
+    let now : NothingFrom (2 ^ 64) (value_at (g.T.Rows.list c.rewrite.new.table)) = returns-clause-within g c in
+    length_by same tells (g.T.Rows.list c.args.table.now) (g.T.Rows.list c.rewrite.new.table) (λ x. spike r.base x + spike (r.base + r.size) x) 2
+    c.requires.runs c.requires.within c.rewrite.ensures.list.runs now
+    (λ x. rw (c.rewrite.ensures.list.each x, c.rewrite.ensures.list.each (x + 1)) (amended_edges same tells change c.requires.change r f x)) (spikes_two r (2 ^ 64))

@@ -1,0 +1,119 @@
+ghost use Rattle.std.specs.Prelude.{◌≡◌, ◌+◌, ◌-◌, ◌^◌, ◌<◌, ◌≤◌, ℕ, Option, Some, None, [], ◌∷◌, length, take, drop, IsTrue, ◌↔◌, MatchOption};
+ghost use Rattle.bm_base.specs.Extent.{end_of};
+ghost use Rattle.address_runs.specs.Runs.{AreRuns, value_at};
+ghost use Rattle.address_runs.specs.Sweep.{IsRestFrom, StartFrom, EndsBehind, EndsFrom, Stays};
+ghost use Rattle.run_edits.specs.Records.{EndBefore, IsUncut};
+
+use crate::slots::Rows;
+use address_runs::{Stretch, agree};
+use bm_base::Range;
+
+/// The record at the index, if there is one.
+pub(crate) fn peek<S: Stretch, T: Rows<S>>(table: &T, i: u64) -> Option<S>
+    ensures record { MatchOption result (drop i (T.list table.now) ≡ [])
+        (λ r. drop i (T.list table.now) ≡ S.run r ∷ drop (i + 1) (T.list table.now)) }
+    ensures within { MatchOption result (length (T.list table.now) ≤ i) (λ r. i < length (T.list table.now)) }
+    ensures small { length (T.list table.now) < 2 ^ 64 }
+{
+    if i < table.count() {
+        Some(table.get(i))
+    } else {
+        None
+    }
+}
+
+/// The index of the first record that ends at the address or behind it.
+pub(crate) fn first_ending_from<S: Stretch, T: Rows<S>>(table: &T, at: u64) -> u64
+    requires { AreRuns (T.list table.now) }
+    ensures before { EndBefore at (take result (T.list table.now)) }
+    ensures from { EndsFrom at (drop result (T.list table.now)) }
+    ensures within { result ≤ length (T.list table.now) }
+{
+    let mut low = 0;
+    let mut high = table.count();
+    while low < high {
+        let middle = low + (high - low) / 2;
+        if table.get(middle).range().end() < at {
+            low = middle + 1;
+        } else {
+            high = middle;
+        }
+    }
+    low
+}
+
+/// The index behind the record at `read`, if that record ends by the address; else `read`.
+pub fn passed<S: Stretch, T: Rows<S>>(table: &T, read: u64, at: u64) -> u64
+    ensures rest { (f : ℕ → Option S.Value) (before : ℕ) → IsRestFrom f before (drop read (T.list table.now)) →
+        before ≤ at → EndsFrom at (drop read (T.list table.now)) →
+        IsRestFrom f at (drop result (T.list table.now)) }
+    ensures starts { (f : ℕ → Option S.Value) (before : ℕ) → IsRestFrom f before (drop read (T.list table.now)) →
+        EndsFrom at (drop read (T.list table.now)) → IsUncut at (drop read (T.list table.now)) →
+        StartFrom at (drop result (T.list table.now)) }
+    ensures order { read ≤ result }
+    ensures within { read ≤ length (T.list table.now) → result ≤ length (T.list table.now) }
+{
+    match peek(table, read) {
+        Some(record) if record.range().end() <= at => read + 1,
+        _ => read,
+    }
+}
+
+/// What the address `from` carries by the records from `read` on, and the first address behind it
+/// that carries something else; 2^64 - 1 where nothing is left.
+pub fn look<S: Stretch, T: Rows<S>>(table: &T, read: u64, from: u64) -> (Option<S::Value>, u64)
+    ensures value { (f : ℕ → Option S.Value) → IsRestFrom f from (drop read (T.list table.now)) →
+        result.0 ≡ f from }
+    ensures stays { (f : ℕ → Option S.Value) → IsRestFrom f from (drop read (T.list table.now)) →
+        Stays f from result.1 (f from) }
+    ensures another { (f : ℕ → Option S.Value) → IsRestFrom f from (drop read (T.list table.now)) →
+        f result.1 ≡ f from → f from ≡ None }
+    ensures behind { EndsBehind from (drop read (T.list table.now)) → from < 2 ^ 64 - 1 → from < result.1 }
+    ensures forward { EndsBehind from (drop read (T.list table.now)) → from < 2 ^ 64 → from ≤ result.1 }
+    ensures ends { EndsBehind from (drop read (T.list table.now)) →
+        EndsFrom result.1 (drop read (T.list table.now)) }
+    ensures uncut { IsUncut result.1 (drop read (T.list table.now)) }
+{
+    let Some(record) = peek(table, read) else {
+        return (None, u64::MAX);
+    };
+    let range = record.range();
+    if from < range.base {
+        (None, range.base)
+    } else {
+        (Some(record.value()), range.end())
+    }
+}
+
+/// The index from which on the records are what is left from the address on.
+pub fn seek<S: Stretch, T: Rows<S>>(table: &T, at: u64) -> u64
+    requires { AreRuns (T.list table.now) }
+    ensures rest { IsRestFrom (value_at (T.list table.now)) at (drop result (T.list table.now)) }
+    ensures within { result ≤ length (T.list table.now) }
+{
+    let first = first_ending_from(table, at);
+    passed(table, first, at)
+}
+
+/// What the address carries.
+pub fn value_of<S: Stretch, T: Rows<S>>(table: &T, x: u64) -> Option<S::Value>
+    requires { AreRuns (T.list table.now) }
+    ensures { result ≡ value_at (T.list table.now) x }
+{
+    let read = seek(table, x);
+    look(table, read, x).0
+}
+
+/// Whether each address of the range carries the value.
+pub fn holds<S: Stretch, T: Rows<S>>(table: &T, range: &Range, value: S::Value) -> bool
+    requires { AreRuns (T.list table.now) }
+    ensures { IsTrue result ↔ ((x : ℕ) → range.now.base ≤ x → x < end_of range.now →
+        value_at (T.list table.now) x ≡ Some value) }
+{
+    if range.size == 0 {
+        return true;
+    }
+    let read = seek(table, range.base);
+    let (here, next) = look(table, read, range.base);
+    agree::<S>(here, Some(value)) && range.end() <= next
+}
