@@ -2,28 +2,16 @@
 use Rattle.std.proofs.Common.{◌≡◌, ℕ, true, false, Option, Some, None, List, [], ◌∷◌, refl, ap, arith}
 use Rattle.std.specs.Option.{option_map_or}
 use Rattle.bm_base.specs.Extent.{Extent}
-use Rattle.memblock_model.specs.declared.owner.Owner.TheVariants as owner
 use Rattle.memblock_model.specs.declared.item.Item.{Item}
 use Rattle.memblock_model.specs.declared.item.Item.TheVariants as item
 use Rattle.bm_base.specs.Each.{each_from, each_in}
 use Rattle.memblock_model.specs.Labels.{Label, plain_label, with_node}
 use Rattle.memblock_model.specs.Items.{trimmed}
 use Rattle.boot_journal.specs.Contents.{Contents}
-use Rattle.boot_journal.specs.Newest.{newer, told_of, claimed_by, owned_range, owned}
 use Rattle.boot_journal.specs.Bytes.{is_trim, label_after, label_from, label_kept, Agrees, Differs, EdgesAgree, AllAgree}
 
 abbrev bytes : ℕ → ℕ → Extent
 bytes base size = record { base = base; size = size }
-
--- the newer item holds, be it a claim or a freeing
-newer_examples : (newer (Some (Some owner.Kernel)) (Some None) ≡ Some None) × (newer (Some None) (Some (Some owner.Soft)) ≡ Some (Some owner.Soft)) × (newer (Some (Some owner.Kernel)) None ≡ Some (Some owner.Kernel)) × (newer None None ≡ None)
-newer_examples = (refl, refl, refl, refl)
-
-claimed_examples : (claimed_by (item.Claim (bytes 4 2) owner.Kernel) ≡ Some (told_of (bytes 4 2) (Some owner.Kernel))) × (claimed_by (item.Free (bytes 4 2)) ≡ Some (told_of (bytes 4 2) None)) × (claimed_by (item.Mem (bytes 4 2)) ≡ None)
-claimed_examples = (refl, refl, refl)
-
-owned_examples : (owned (told_of (bytes 4 2) (Some owner.Soft)) ≡ owned_range 4 2 (Some owner.Soft)) × (owned_range 4 2 (Some owner.Soft) ≡ Some (record { base = 4; size = 2; value = owner.Soft })) × (owned (told_of (bytes 4 2) None) ≡ None)
-owned_examples = (refl, refl, refl)
 
 -- one item, and one byte
 trim_examples : (is_trim item.Trim ≡ true) × (is_trim (item.Free (bytes 4 2)) ≡ false)

@@ -1,3 +1,3 @@
-mod Examples
 pub mod ByteLaws
+mod Examples
 pub mod OwnerLaws

@@ -5,16 +5,17 @@
 //! kernel keeps merged records alone, and forgets for whom it reserved; the journal tells for each
 //! byte who owns it and whether it is memory of which node.
 //!
-//! [`Journal::owner_at`] and [`Journal::tag_at`] answer for one byte: its owner is the newest item's that
-//! claims or frees it, its tag what the items make of it in their order. [`Journal::owner_runs`] lists
-//! the owners of all bytes. What they answer is defined in `memblock_model`, `specs/Items.antt`.
+//! [`Journal::tag_at`] asks the items what a byte is to memory. Who owns a byte is asked more often, of
+//! many bytes, so the journal keeps the runs of bytes of one owner sorted beside its items, and each
+//! claim and freeing changes them in place: [`Journal::owners`] lends them, and [`Journal::owner_at`]
+//! and [`Journal::owns`] cost a look-up. What is answered is defined in `memblock_model`,
+//! `specs/Items.antt`, of the items alone.
 //!
 //! The layer above may rest on this: an item is appended or, where memory is wanted, the journal is
 //! as before; after [`Journal::ready`] so many items can be appended without wanting any. Contracts
 //! see a journal as its items beside the number `spare`. No item's range is empty.
 #![tactic(auto)]
 
-mod claimed;
 mod journal;
 mod owners;
 mod tags;

@@ -4,12 +4,9 @@ ghost use Rattle.memblock_model.specs.Labels.{tag_for};
 ghost use Rattle.memblock_model.specs.Items.{tag_of};
 ghost use Rattle.boot_journal.specs.Bytes.{is_trim, label_after, label_from, label_kept, Agrees, Differs, EdgesAgree, AllAgree};
 
-use bm_base::Range;
+use bm_base::{FRAME_SIZE, Range};
 use memblock_model::{Item, Tag};
 use std::marker::Model;
-
-/// A frame is 4,096 bytes.
-const FRAME: u64 = 4096;
 
 /// What a byte of memory carries: a label whose node may be any number.
 #[derive(Clone, Copy, PartialEq, Eq)]
@@ -62,7 +59,7 @@ fn edge_agrees(whole: &Option<Carried>, items: &[Item], first: u64, edge: u64) -
     ensures agrees { IsTrue result → Agrees whole.now items.now first edge }
     ensures differs { result ≡ false → Differs whole.now items.now first edge }
 {
-    if edge <= first || edge - first >= FRAME {
+    if edge <= first || edge - first >= FRAME_SIZE {
         return true;
     }
     after_all(whole, items, edge) == after_all(whole, items, first)
@@ -107,7 +104,7 @@ fn frame_agrees(whole: &Option<Carried>, items: &[Item], first: u64) -> bool
 fn kept(whole: &Option<Carried>, items: &[Item], x: u64) -> Option<Carried>
     ensures { result ≡ label_kept whole.now items.now x }
 {
-    let first = x - x % FRAME;
+    let first = x - x % FRAME_SIZE;
     if !frame_agrees(whole, items, first) {
         return None;
     }

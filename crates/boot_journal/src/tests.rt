@@ -139,6 +139,24 @@ fn owners(rt: HostRuntime) -> Result<(), Fail> {
         },
     ];
     assert_eq!(rt; runs.as_slice(), expected.as_slice());
+    assert_eq!(rt; journal.owners(), expected.as_slice());
+
+    let asked = [
+        (bytes(0x2400, 0xC00), Owner::Kernel, true),
+        (bytes(0x2400, 0xC01), Owner::Kernel, false),
+        (bytes(0x23FF, 2), Owner::Kernel, false),
+        (bytes(0x2480, 0x10), Owner::Kernel, true),
+        (bytes(0x2480, 0x10), Owner::Soft, false),
+        (bytes(0x2000, 0), Owner::Kernel, true),
+        (bytes(u64::MAX - 1, 1), Owner::Table(Which::Memory), true),
+    ];
+    for (range, owner, is_owned) in asked {
+        assert_eq!(rt;
+            journal.owns(&range, owner),
+            is_owned,
+            "{range:?} for {owner:?}"
+        );
+    }
     Ok(())
 }
 
@@ -166,7 +184,7 @@ fn items_stand_in_their_order(rt: HostRuntime) -> Result<(), Fail> {
     let text = format!(in rt.alloc(); "{journal:?}")?;
     assert_eq!(rt;
         text.as_str(),
-        "Journal { items: [Limit { at: 1048576 }, Grown { which: Reserved, place: 20480, room: 256 }], spare: 0 }"
+        "Journal { items: [Limit { at: 1048576 }, Grown { which: Reserved, place: 20480, room: 256 }], owners: [], spare: 0 }"
     );
     Ok(())
 }

@@ -1,4 +1,5 @@
 use crate::Owner;
+use address_runs::Stretch;
 use bm_base::Range;
 use std::marker::Model;
 
@@ -21,4 +22,26 @@ impl Model for OwnerRun {
     ghost invariant = { λ r. r.range.base + r.range.size < 2 ^ 64 };
 
     ghost inverse = { λ r. record { range = record { base = r.base; size = r.size }; owner = r.value } };
+}
+
+impl Stretch for OwnerRun {
+    type Value = Owner;
+
+    ghost run = { λ r. r };
+
+    fn of(range: Range, owner: Owner) -> OwnerRun {
+        OwnerRun { range, owner }
+    }
+
+    fn range(&self) -> Range {
+        self.range
+    }
+
+    fn value(&self) -> Owner {
+        self.owner
+    }
+
+    fn is_same(first: Owner, second: Owner) -> bool {
+        first == second
+    }
 }

@@ -1,16 +1,20 @@
-use Rattle.std.proofs.Common.{◌≡◌, ◌≤◌, ◌+◌, vec_len, vec_capacity, ap, arith}
+use Rattle.std.proofs.Common.{◌≡◌, ap, arith}
+use Rattle.address_runs.specs.Runs.{IsRunsOf}
+use Rattle.memblock_model.specs.Items.{owner_of}
 use Rattle.memblock_model.proofs.ItemLaws.{AreItems-push}
 use Rattle.boot_journal.specs.Contents.{Contents}
+use Rattle.boot_journal.proofs.OwnerLaws.{owners_pushed, owners_within}
 use Rattle.boot_journal.proofs.journal.Journal.push_ready.Goals as goal
-
-pub push_within_capacity-requires : goal.push_within_capacity-requires
-push_within_capacity-requires c =
-    let spare : c.self.inside.spare ≡ c.args.self.now.spare = ap (λ (v : Contents). v.spare) c.self.view_is in
-    let room : vec_len c.self.inside.items + c.self.inside.spare ≤ vec_capacity c.self.inside.items = c.self.invariant.0 in
-    omega arith
 
 pub invariant_of-self : goal.invariant_of-self
 invariant_of-self c =
     let spare : c.self.inside.spare ≡ c.args.self.now.spare = ap (λ (v : Contents). v.spare) c.self.view_is in
-    let room : vec_len c.self.inside.items + c.self.inside.spare ≤ vec_capacity c.self.inside.items = c.self.invariant.0 in
-    (omega arith, rw c.push_within_capacity.ensures.items (AreItems-push c.self.inside.items.items c.args.item c.self.invariant.1 c.requires.item))
+    let pushed = c.push_within_capacity.ensures.items in
+    let runs : IsRunsOf (owner_of c.push_within_capacity.new.items.items) c.note.new.owners.items =
+    rw pushed (owners_pushed c.self.inside.items.items c.args.item c.self.inside.owners.items c.note.new.owners.items c.self.invariant.3 c.note.ensures.runs) in (
+      omega (arith, c.self.invariant.0, c.push_within_capacity.ensures.len, c.push_within_capacity.ensures.capacity, c.requires.spare),
+      rw pushed (AreItems-push c.self.inside.items.items c.args.item c.self.invariant.1 c.requires.item),
+      omega (arith, c.self.invariant.2, c.note.ensures.len, c.note.ensures.capacity, c.requires.spare),
+      runs,
+      owners_within c.push_within_capacity.new.items.items c.note.new.owners.items runs c.note.ensures.within,
+    )
