@@ -1,0 +1,3 @@
+pub mod BootLaws
+mod Examples
+pub mod StageLaws
