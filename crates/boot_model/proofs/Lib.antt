@@ -1,3 +1,4 @@
 pub mod BootLaws
 mod Examples
 pub mod StageLaws
+pub mod StopLaws
