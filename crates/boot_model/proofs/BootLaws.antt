@@ -7,21 +7,25 @@ use Rattle.address_runs.specs.Runs.{RunOf, run_end, lies_in, value_at, AreRuns, 
 use Rattle.address_runs.proofs.RunsLaws.{IsRunsBetween, from_runs, none_below, rest_from}
 use Rattle.e820_model.specs.Claims.{Claims}
 use Rattle.e820_model.specs.Map.{kinds, map_of, same_kind}
-use Rattle.e820_model.specs.Usable.{is_memory, is_usable, usable_frames, all_below}
+use Rattle.e820_model.specs.Usable.{is_memory, is_usable, usable_frames}
+use Rattle.e820_model.specs.declared.room.TheConstants.{E820_MAX_ENTRIES}
+use Rattle.bm_base.specs.Each.{each_in}
+use Rattle.bm_base.specs.Frames.{bytes_of_frame}
+use Rattle.bm_base.proofs.EachLaws.{each_in-same}
+use Rattle.boot_model.specs.declared.limit.TheConstants.{MAX_PHYSMEM}
 use Rattle.e820_model.proofs.ClaimLaws.{tells_kinds}
-use Rattle.e820_model.proofs.UsableLaws.{usable_whole, all_same}
 use Rattle.e820_usable.specs.declared.stop.MapStop.{MapStop}
 use Rattle.e820_usable.specs.declared.stop.MapStop.TheVariants as reasons
 use Rattle.e820_usable.specs.Judged.{judged}
 use Rattle.boot_model.specs.declared.stop.Cause.{Cause}
-use Rattle.boot_model.specs.Boot.{Given, Made, begin, claims, has_frames, in_room, room, stages, unless_stopped, boot, lies_in_memory}
+use Rattle.boot_model.specs.Boot.{Given, Made, begin, claims, has_frames, has_room, stages, types_in_reach, unless_stopped, boot, lies_in_memory}
 use Rattle.boot_model.proofs.StageLaws.{AllKeep, passes, chain_keeps}
 
 -- what is known where the stages come to an end
 pub record GoesOn (given : Given) (made : Made) : Type 0 where
   pub map : made.map ≡ map_of (claims given)
-  pub fits : nat_lt room (length (map_of (claims given))) ≡ false
-  pub judged : judged (kinds (claims given)) ≡ None
+  pub fits : nat_lt E820_MAX_ENTRIES (length (map_of (claims given))) ≡ false
+  pub judged : judged (types_in_reach given) ≡ None
 
 -- the first two stages leave what was made as it is, and go on only where they find nothing to stop for
 room_passed : (full : Bool) (cause : Cause) (before after : Made) → (if full then Err cause else Ok before) ≡ Ok after → (full ≡ false) × (before ≡ after)
@@ -45,7 +49,7 @@ stages_keep given = (
 pub goes_on : (given : Given) (made : Made) → boot given ≡ Ok made → GoesOn given made
 unfolding boot
 goes_on given made ends =
-    let behind_room = passes in_room (drop 1 (stages given)) (begin given) made ends in
+    let behind_room = passes has_room (drop 1 (stages given)) (begin given) made ends in
     let behind_frames = passes (has_frames given) (drop 2 (stages given)) behind_room.middle made behind_room.rest in
     record {
       map = chain_keeps (λ (m : Made). m.map) (stages given) (stages_keep given) (begin given) made ends;
@@ -73,18 +77,17 @@ memory_lies (r ∷ rs) x runs =
     ]
 
 -- the runs tell which frames are usable
-pub usable_lies : (given : Given) (made : Made) (frame : ℕ) → boot given ≡ Ok made → frame < 2 ^ 34
-    → is_usable (kinds (claims given)) frame ≡ all_below (λ i. lies_in_memory made.map (4096 * frame + i)) 4096
+pub usable_lies : (given : Given) (made : Made) (frame : ℕ) → boot given ≡ Ok made → 4096 * frame + 4096 ≤ MAX_PHYSMEM
+    → is_usable (types_in_reach given) frame ≡ each_in (bytes_of_frame frame) (lies_in_memory made.map)
+unfolding is_usable
 usable_lies given made frame ends low =
     let c : Claims = claims given in
     let between = map_between c in
-    let each : (i : ℕ) → i < 4096 → is_memory (kinds c (4096 * frame + i)) ≡ lies_in_memory made.map (4096 * frame + i) =
-    λ i lt. (
-    let x : ℕ = 4096 * frame + i in
+    each_in-same (bytes_of_frame frame) _ _ (λ x from below. (
+    let reach : nat_lt x MAX_PHYSMEM ≡ true = grind (arith, nat_tests) in
     let value : value_at (map_of c) x ≡ kinds c x = between.within x (omega arith) (omega arith) in
     let told : is_memory (kinds c x) ≡ lies_in_memory (map_of c) x = ap is_memory (sym value) ∙ memory_lies (map_of c) x between.runs in
-    rw (goes_on given made ends).map told) in
-    usable_whole (kinds c) frame ∙ all_same _ _ 4096 each
+    rw (reach, (goes_on given made ends).map) told))
 
 -- each address below 2^64 has in the map the type that the claims give
 pub types_told : (given : Given) (made : Made) (x : ℕ) → boot given ≡ Ok made → x < 2 ^ 64 → value_at made.map x ≡ kinds (claims given) x
@@ -103,11 +106,11 @@ frames_within n fine = elim (cases_Bool (n == 0)) as (λ _. (0 < n) × (n ≤ 2 
 
 -- a map that isn't refused has usable frames, and not too many
 pub frames_told : (given : Given) (made : Made) → boot given ≡ Ok made
-    → (0 < usable_frames (kinds (claims given))) × (usable_frames (kinds (claims given)) ≤ 2 ^ 32)
-frames_told given made ends = frames_within (usable_frames (kinds (claims given))) (goes_on given made ends).judged
+    → (0 < usable_frames (types_in_reach given)) × (usable_frames (types_in_reach given) ≤ 2 ^ 32)
+frames_told given made ends = frames_within (usable_frames (types_in_reach given)) (goes_on given made ends).judged
 
 -- and it is in the table's room
-pub room_told : (given : Given) (made : Made) → boot given ≡ Ok made → length made.map ≤ 3200
+pub room_told : (given : Given) (made : Made) → boot given ≡ Ok made → length made.map ≤ E820_MAX_ENTRIES
 room_told given made ends =
     let known : GoesOn given made = goes_on given made ends in
     rw known.map (grind (arith, nat_tests, known.fits))

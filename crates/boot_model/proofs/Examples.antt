@@ -1,14 +1,15 @@
 -- Small boots and their parts: what the definitions say of them. A map isn't computed, since `map_of` goes over all
 -- addresses; that of empty entries follows from laws.
-use Rattle.std.proofs.Common.{◌≡◌, ℕ, ◌*◌, ◌^◌, ◌==◌, if◌then◌else◌, true, false, List, [], ◌∷◌, Some, None, Ok, Err, refl, sym, ap, arith}
+use Rattle.std.proofs.Common.{◌≡◌, ℕ, ◌*◌, ◌^◌, ◌==◌, nat_lt, if◌then◌else◌, Bool, true, false, List, [], ◌∷◌, Some, None, Ok, Err, refl, sym, arith}
 use Rattle.std.proofs.lemmas.Bool.Decides.{nat_tests}
 use Rattle.std.specs.Prelude.{Result}
 use Rattle.address_runs.specs.Runs.{RunOf}
 use Rattle.address_runs.proofs.RunsLaws.{one_list}
 use Rattle.e820_model.specs.declared.entry.Entry.{Entry}
-use Rattle.e820_model.specs.Claims.{Claims, claims_of_entries, type_of, settled, added, trimmed}
+use Rattle.e820_model.specs.Claims.{Claims, claims_of_entries, type_of, settled, with_claims, bios_trimmed}
 use Rattle.e820_model.specs.Map.{kinds, map_of}
-use Rattle.e820_model.specs.Usable.{is_memory, usable_frames}
+use Rattle.e820_model.specs.Usable.{is_memory, reachable, usable_frames}
+use Rattle.boot_model.specs.declared.limit.TheConstants.{MAX_PHYSMEM}
 use Rattle.e820_model.proofs.ClaimLaws.{greatest_is, map_runs}
 use Rattle.e820_model.proofs.UsableLaws.{count_none, usable_but}
 use Rattle.e820_usable.specs.declared.stop.MapStop.TheVariants as reasons
@@ -17,7 +18,7 @@ use Rattle.boot_model.specs.declared.booted.Booted.{Booted}
 use Rattle.boot_model.specs.declared.inputs.Inputs.{Inputs}
 use Rattle.boot_model.specs.declared.stop.Cause.TheVariants as causes
 use Rattle.boot_model.specs.declared.stop.Stop.TheVariants as stops
-use Rattle.boot_model.specs.Boot.{Given, Made, begin, boot, claims, in_room, unless_stopped, lies_in_memory}
+use Rattle.boot_model.specs.Boot.{Given, Made, begin, boot, claims, has_room, unless_stopped, lies_in_memory}
 use Rattle.boot_model.specs.Stages.{in_order}
 use Rattle.boot_model.specs.Stop.{cause_of, cause_of_map, stop_of}
 use Rattle.boot_model.specs.View.{inputs_view, booted_view}
@@ -45,7 +46,7 @@ no_options = record { edits = []; numa_off = false }
 abbrev made : Made
 made = record { map = two_runs; options = no_options }
 
-few_runs : in_room made ≡ Ok made
+few_runs : has_room made ≡ Ok made
 few_runs = refl
 
 unless_examples : (unless_stopped None made ≡ Ok made) × (unless_stopped (Some reasons.NoRam) made ≡ Err causes.NoRam)
@@ -85,7 +86,7 @@ nothing_settled : (c : Claims) → Nothing c → Nothing (settled c)
 unfolding Nothing
 nothing_settled c nothing x k = let none : type_of c x ≡ 0 = no_type c nothing x in grind (arith, nat_tests)
 
-nothing_trimmed : (c : Claims) → Nothing c → Nothing (trimmed c)
+nothing_trimmed : (c : Claims) → Nothing c → Nothing (bios_trimmed c)
 unfolding Nothing
 nothing_trimmed c nothing x k = rw (nothing x k, nothing x 1) (grind (arith, nat_tests))
 
@@ -97,11 +98,18 @@ no_runs c nothing =
     one_list (kinds c) (map_of c) [] (map_runs c (λ x far. no_kind c nothing x))
     (record { runs = tt; each = λ x. sym (no_kind c nothing x) })
 
-no_frame : (c : Claims) → Nothing c → usable_frames (kinds c) ≡ 0
+same_either : (within : Bool) → is_memory (if within then None else None) ≡ false
+same_either true = refl
+same_either false = refl
+
+no_type_in_reach : (c : Claims) → Nothing c → (x : ℕ) → is_memory (reachable MAX_PHYSMEM (kinds c) x) ≡ false
+no_type_in_reach c nothing x = rw (no_kind c nothing x) (same_either (nat_lt x MAX_PHYSMEM))
+
+no_frame : (c : Claims) → Nothing c → usable_frames (reachable MAX_PHYSMEM (kinds c)) ≡ 0
 unfolding usable_frames
 no_frame c nothing =
-    count_none _ (2 ^ 34) (λ frame low.
-    usable_but (kinds c) frame (4096 * frame) (omega arith) (omega arith) (ap is_memory (no_kind c nothing (4096 * frame))))
+    count_none _ (2 ^ 52) (λ frame low.
+    usable_but (reachable MAX_PHYSMEM (kinds c)) frame (4096 * frame) (omega arith) (omega arith) (no_type_in_reach c nothing (4096 * frame)))
 
 abbrev empty : Entry
 empty = record { addr = 0; size = 0; kind = 0 }
@@ -113,7 +121,7 @@ none_covers : Nothing (claims_of_entries (empty ∷ empty ∷ []))
 unfolding Nothing
 none_covers x k = grind (arith, nat_tests)
 
-nothing_added : (c : Claims) → Nothing c → Nothing (added c (claims_of_entries []))
+nothing_added : (c : Claims) → Nothing c → Nothing (with_claims c (claims_of_entries []))
 unfolding Nothing
 nothing_added c nothing x k = rw (nothing x k) refl
 

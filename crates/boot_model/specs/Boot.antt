@@ -5,10 +5,13 @@ use Rattle.address_runs.specs.Runs.{RunOf, lies_in}
 use Rattle.e820_model.specs.declared.types.TheConstants.{E820_TYPE_RAM, E820_TYPE_RESERVED_KERN}
 use Rattle.e820_model.specs.declared.entry.Entry.{Entry}
 use Rattle.e820_model.specs.Claims.{Claims, finished}
-use Rattle.e820_model.specs.Map.{kinds, map_of}
+use Rattle.e820_model.specs.Map.{TypeAt, kinds, map_of}
+use Rattle.e820_model.specs.Usable.{reachable}
+use Rattle.e820_model.specs.declared.room.TheConstants.{E820_MAX_ENTRIES}
 use Rattle.e820_usable.specs.declared.stop.MapStop.{MapStop}
 use Rattle.e820_usable.specs.Judged.{judged}
 use Rattle.boot_options.specs.Options.{Chosen}
+use Rattle.boot_model.specs.declared.limit.TheConstants.{MAX_PHYSMEM}
 use Rattle.boot_model.specs.declared.stop.Cause.{Cause}
 use Rattle.boot_model.specs.declared.stop.Cause.TheVariants as causes
 use Rattle.boot_model.specs.Stages.{in_order}
@@ -37,25 +40,25 @@ claims given = finished given.entries given.extension given.options.edits
 abbrev pub begin : Given → Made
 begin given = record { map = map_of (claims given); options = given.options }
 
--- the kernel's table has room for so many runs (`E820_MAX_ENTRIES`)
-abbrev pub room : ℕ
-room = 3200
+-- the types of addresses, as far as the kernel's tables of memory reach
+abbrev pub types_in_reach : Given → TypeAt
+types_in_reach given = reachable MAX_PHYSMEM (kinds (claims given))
 
--- the map is in that room
-abbrev pub in_room : Stage
-in_room made = if nat_lt room (length made.map) then Err (causes.MapFull (length made.map)) else Ok made
+-- the kernel's table has room for the runs of the map (`E820_MAX_ENTRIES`)
+abbrev pub has_room : Stage
+has_room made = if nat_lt E820_MAX_ENTRIES (length made.map) then Err (causes.MapFull (length made.map)) else Ok made
 
 abbrev pub unless_stopped : Option MapStop → Stage
 unless_stopped None made = Ok made
 unless_stopped (Some reason) made = Err (cause_of_map reason)
 
--- the map has usable frames, and not too many (`e820__memblock_setup`)
+-- the map has usable frames within reach, and not too many (`e820__memblock_setup`)
 abbrev pub has_frames : Given → Stage
-has_frames given made = unless_stopped (judged (kinds (claims given))) made
+has_frames given made = unless_stopped (judged (types_in_reach given)) made
 
 -- the stages in their order
 abbrev pub stages : Given → List Stage
-stages given = in_room ∷ has_frames given ∷ []
+stages given = has_room ∷ has_frames given ∷ []
 
 -- the boot (`setup_arch`), as far as the map
 unfoldable pub boot : Given → Result Made Cause

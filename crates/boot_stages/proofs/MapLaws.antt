@@ -1,82 +1,89 @@
 -- What the boot comes to by the table's answer for its map.
-use Rattle.std.proofs.Common.{◌≡◌, ℕ, true, false, nat_lt, List, length, Option, Some, None, Result, Ok, Err, Vec, Global, refl, subst, sym, ap, ◌∙◌, arith}
-use Rattle.std.proofs.lemmas.Bool.Decides.{nat_tests}
+use Rattle.std.proofs.Common.{◌≡◌, ℕ, Bool, true, false, nat_lt, if◌then◌else◌, List, length, Option, Some, None, Result, Ok, Err, Vec, Global, refl, subst, ap, ◌∙◌}
 use Rattle.std.specs.Prelude.{IfOk}
 use Rattle.address_runs.specs.Runs.{RunOf, value_at, IsRunsOf}
-use Rattle.bm_base.specs.ResultSteps.{◌>>=◌}
-use Rattle.e820_model.specs.Map.{kinds, map_of}
+use Rattle.bm_base.specs.Answers.{Answers}
+use Rattle.bm_base.specs.ResultSteps.{◌>>=◌, with_error}
+use Rattle.e820_model.specs.declared.room.TheConstants.{E820_MAX_ENTRIES}
+use Rattle.e820_model.specs.Map.{TypeAt, kinds, map_of}
+use Rattle.e820_model.specs.Usable.{reachable}
 use Rattle.e820_sanitise.specs.declared.fault.MapFault.TheVariants as faults
-use Rattle.e820_sanitise.specs.Gives.{MapGives}
+use Rattle.e820_sanitise.specs.Room.{in_room}
 use Rattle.e820_usable.specs.declared.stop.MapStop.{MapStop}
 use Rattle.e820_usable.specs.Judged.{judged}
+use Rattle.boot_model.specs.declared.booted.Booted.{Booted}
+use Rattle.boot_model.specs.declared.limit.TheConstants.{MAX_PHYSMEM}
 use Rattle.boot_model.specs.declared.stop.Cause.{Cause}
-use Rattle.boot_model.specs.declared.stop.Cause.TheVariants as causes
 use Rattle.boot_model.specs.declared.stop.Stop.{Stop}
 use Rattle.boot_model.specs.declared.stop.Stop.TheVariants as stops
-use Rattle.boot_model.specs.Boot.{Given, Made, begin, boot, claims, has_frames, room, unless_stopped as judged_stage}
-use Rattle.boot_model.specs.Stop.{cause_of, cause_of_map, stop_of}
-use Rattle.boot_model.specs.declared.booted.Booted.{Booted}
+use Rattle.boot_model.specs.Boot.{Given, Made, begin, boot, claims, has_frames, types_in_reach, unless_stopped as judged_stage}
+use Rattle.boot_model.specs.Stop.{stop_of}
 use Rattle.boot_model.specs.View.{booted_view}
-use Rattle.boot_model.proofs.StopLaws.{cause_of_stop}
-use Rattle.boot_stages.specs.Boots.{Boots, IsDecided, MapAnswer, Says, StopsBy, judged_answer, unless_stopped}
+use Rattle.boot_stages.specs.Boots.{IsDecided, MapAnswer, judged_answer, unless_stopped}
 
 -- the last stage's answer is the chain's
 last_stage : (answer : Result Made Cause) → (answer >>= λ made. Ok made) ≡ answer
 last_stage (Ok made) = refl
 last_stage (Err cause) = refl
 
-in_room_by : (given : Given) → nat_lt room (length (map_of (claims given))) ≡ false → boot given ≡ has_frames given (begin given)
-unfolding boot
-in_room_by given few = rw few (last_stage (has_frames given (begin given)))
+-- what a map in its room, and one that isn't, tells of its number of runs
+told : (full : Bool) (runs : ℕ) (map items : List (RunOf ℕ)) → (if full then Err (faults.MapFull runs) else Ok map) ≡ Ok items → (full ≡ false) × (map ≡ items)
+told true runs map items is = absurd (cc)
+told false runs map items is = (refl, cc)
 
-pub decided : (given : Given) (answer : MapAnswer) → MapGives answer (map_of (claims given)) → IsDecided given answer
-unfolding boot
-decided given (Ok runs) gives =
-    in_room_by given (grind (arith, nat_tests, gives.1))
-    ∙ ap (λ (map : List (RunOf ℕ)). has_frames given (record { map = map; options = given.options })) (sym gives.0)
-decided given (Err (faults.MapFull runs)) gives =
-    let full : nat_lt room (length (map_of (claims given))) ≡ true = grind (arith, nat_tests, gives.1) in
-    rw (full, gives.0) refl
-decided given (Err faults.Memory) gives = tt
+told_full : (full : Bool) (runs : ℕ) (map : List (RunOf ℕ)) (told : ℕ) → (if full then Err (faults.MapFull runs) else Ok map) ≡ Err (faults.MapFull told)
+    → (full ≡ true) × (runs ≡ told)
+told_full true runs map told is = (refl, cc)
+told_full false runs map told is = absurd (cc)
 
--- a judgement, as the stage of the boot has it and as the call answers it
-abbrev made_of : Given → Vec (RunOf ℕ) Global → Made
+pub decided : (given : Given) (answer : MapAnswer) → Answers faults.Memory (λ runs. runs.items) answer (in_room (map_of (claims given)))
+    → IsDecided given answer
+unfolding boot
+decided given (Ok runs) answers =
+    let c : List (RunOf ℕ) = map_of (claims given) in
+    let known = told (nat_lt E820_MAX_ENTRIES (length c)) (length c) c runs.items answers in
+    rw known.0 (last_stage (has_frames given (begin given)))
+    ∙ ap (λ (map : List (RunOf ℕ)). has_frames given (record { map = map; options = given.options })) known.1
+decided given (Err (faults.MapFull runs)) answers =
+    let c : List (RunOf ℕ) = map_of (claims given) in
+    let known = told_full (nat_lt E820_MAX_ENTRIES (length c)) (length c) c runs (answers (λ same. cc same)) in
+    rw (known.0, known.1) refl
+decided given (Err faults.Memory) answers = tt
+
+-- a judgement, as the call answers it and as the stage of the boot has it
+abbrev pub made_of : Given → Vec (RunOf ℕ) Global → Made
 made_of given runs = record { map = runs.items; options = given.options }
 
--- a stop that is that of the cause
-stops_by : (Y : Type 0) (cause : Cause) (stop : Stop) → stop_of cause ≡ stop → StopsBy {Y = Y} (cause_of stop) (Err cause)
-stops_by Y cause stop same =
-    let P : Stop → Type 0 = λ s. StopsBy {Y = Y} (cause_of s) (Err cause) in
-    subst P same (rw (cause_of_stop cause) refl)
-
-judged_boots : (given : Given) (reason : Option MapStop) (runs : Vec (RunOf ℕ) Global) (result : Result (Vec (RunOf ℕ) Global) Stop)
-    → Says (λ map. map.items) result (unless_stopped reason runs.items) → Boots (made_of given) result (judged_stage reason (made_of given runs))
-judged_boots given None runs (Ok map) says =
+judged_same : (given : Given) (reason : Option MapStop) (runs : Vec (RunOf ℕ) Global) (result : Result (Vec (RunOf ℕ) Global) Stop)
+    → Answers stops.Memory (λ map. map.items) result (unless_stopped reason runs.items)
+    → Answers stops.Memory (made_of given) result (with_error stop_of (judged_stage reason (made_of given runs)))
+judged_same given None runs (Ok map) answers =
     let same : runs.items ≡ map.items = cc in
     ap (λ (items : List (RunOf ℕ)). Ok (record { map = items; options = given.options })) same
-judged_boots given None runs (Err stop) says = absurd (cc)
-judged_boots given (Some reason) runs (Ok map) says = absurd (cc)
-judged_boots given (Some reason) runs (Err stop) says =
-    let same : stop_of (cause_of_map reason) ≡ stop = cc in stops_by Made (cause_of_map reason) stop same
+judged_same given None runs (Err stop) answers = λ other. absurd (cc (answers other))
+judged_same given (Some reason) runs (Ok map) answers = absurd (cc)
+judged_same given (Some reason) runs (Err stop) answers = λ other. (let is = answers other in cc)
 
-pub boots_by : (given : Given) (answer : MapAnswer) → MapGives answer (map_of (claims given))
+-- the answer, judged, is what the boot's definition comes to
+pub boot_answers : (given : Given) (answer : MapAnswer) → Answers faults.Memory (λ runs. runs.items) answer (in_room (map_of (claims given)))
     → IfOk answer (λ runs. IsRunsOf (kinds (claims given)) runs.items) → (result : Result (Vec (RunOf ℕ) Global) Stop)
-    → Says (λ map. map.items) result (judged_answer answer) → Boots (made_of given) result (boot given)
-boots_by given (Ok runs) gives are result says =
+    → Answers stops.Memory (λ map. map.items) result (judged_answer answer) → Answers stops.Memory (made_of given) result (with_error stop_of (boot given))
+boot_answers given (Ok runs) maps are result answers =
     let kinds_are : value_at runs.items ≡ kinds (claims given) = λ i x. are.each x i in
-    let known : Says (λ (map : Vec (RunOf ℕ) Global). map.items) result (unless_stopped (judged (kinds (claims given))) runs.items) =
-    subst (λ f. Says (λ (map : Vec (RunOf ℕ) Global). map.items) result (unless_stopped (judged f) runs.items)) kinds_are says in
-    rw (decided given (Ok runs) gives) (judged_boots given (judged (kinds (claims given))) runs result known)
-boots_by given (Err (faults.MapFull runs)) gives are (Ok map) says = absurd (cc)
-boots_by given (Err (faults.MapFull runs)) gives are (Err stop) says =
-    let same : stop_of (causes.MapFull runs) ≡ stop = cc in
-    rw (decided given (Err (faults.MapFull runs)) gives) (stops_by Made (causes.MapFull runs) stop same)
-boots_by given (Err faults.Memory) gives are (Ok map) says = absurd (cc)
-boots_by given (Err faults.Memory) gives are (Err stop) says =
-    let same : stops.Memory ≡ stop = cc in
-    let P : Stop → Type 0 = λ s. StopsBy (cause_of s) (boot given) in subst P same tt
+    let P : TypeAt → Type 0 = λ f. Answers stops.Memory (λ (map : Vec (RunOf ℕ) Global). map.items) result (unless_stopped (judged (reachable MAX_PHYSMEM f)) runs.items) in
+    rw (decided given (Ok runs) maps) (judged_same given (judged (types_in_reach given)) runs result (subst P kinds_are answers))
+boot_answers given (Err (faults.MapFull runs)) maps are (Ok map) answers = absurd (cc)
+boot_answers given (Err (faults.MapFull runs)) maps are (Err stop) answers =
+    λ other. (
+    let is : judged_answer (Err (faults.MapFull runs)) ≡ Err stop = answers other in
+    let same : stops.MapFull runs ≡ stop = cc in
+    rw (decided given (Err (faults.MapFull runs)) maps) (ap (λ (s : Stop). Err s) same))
+boot_answers given (Err faults.Memory) maps are (Ok map) answers = absurd (cc)
+boot_answers given (Err faults.Memory) maps are (Err stop) answers =
+    λ other. (let is : Err stops.Memory ≡ Err stop = answers other in absurd (other (cc)))
 
 -- what is decided for the map is decided for the boot, where `?` hands the error on
-pub boots_error : (given : Given) (answer : Result Booted Stop) (stop : Stop)
-    → answer ≡ Err stop → Boots (made_of given) (Err stop) (boot given) → Boots booted_view answer (boot given)
-boots_error given answer stop is boots = rw is boots
+pub boot_error : (given : Given) (answer : Result Booted Stop) (stop : Stop)
+    → answer ≡ Err stop → Answers stops.Memory (made_of given) (Err stop) (with_error stop_of (boot given))
+    → Answers stops.Memory booted_view answer (with_error stop_of (boot given))
+boot_error given answer stop is answers = rw is answers

@@ -1,4 +1,4 @@
--- How an answer of the boot stands to its definition.
+-- What the boot makes of the table's answer for its map.
 use Rattle.std.specs.Prelude.{◌≡◌, ℕ, List, Vec, Option, Some, None, Result, Ok, Err}
 use Rattle.std.specs.declared.alloc.Global.{Global}
 use Rattle.address_runs.specs.Runs.{RunOf, value_at}
@@ -6,33 +6,19 @@ use Rattle.e820_sanitise.specs.declared.fault.MapFault.{MapFault}
 use Rattle.e820_sanitise.specs.declared.fault.MapFault.TheVariants as faults
 use Rattle.e820_usable.specs.declared.stop.MapStop.{MapStop}
 use Rattle.e820_usable.specs.Judged.{judged}
-use Rattle.boot_model.specs.declared.stop.Cause.{Cause}
+use Rattle.e820_model.specs.Usable.{reachable}
+use Rattle.boot_model.specs.declared.limit.TheConstants.{MAX_PHYSMEM}
 use Rattle.boot_model.specs.declared.stop.Cause.TheVariants as causes
 use Rattle.boot_model.specs.declared.stop.Stop.{Stop}
 use Rattle.boot_model.specs.declared.stop.Stop.TheVariants as stops
 use Rattle.boot_model.specs.Boot.{Given, boot, has_frames}
-use Rattle.boot_model.specs.Stop.{cause_of, cause_of_map, stop_of}
-
--- the definition stops by the cause; want of memory has none, and says nothing
-abbrev pub StopsBy : {Y : Type 0} → Option Cause → Result Y Cause → Type 0
-StopsBy None said = Unit {0}
-StopsBy (Some cause) said = said ≡ Err cause
-
--- the boot's answer is the definition's, or want of memory
-abbrev pub Boots : {X Y : Type 0} → (X → Y) → Result X Stop → Result Y Cause → Type 0
-Boots view (Ok x) said = said ≡ Ok (view x)
-Boots view (Err stop) said = StopsBy (cause_of stop) said
-
--- the answer is what the definition says, each error too
-abbrev pub Says : {X Y E : Type 0} → (X → Y) → Result X E → Result Y E → Type 0
-Says view (Ok x) said = said ≡ Ok (view x)
-Says view (Err error) said = said ≡ Err error
+use Rattle.boot_model.specs.Stop.{cause_of_map, stop_of}
 
 -- what the table answers for its map (`Table::runs`)
 abbrev pub MapAnswer : Type 0
 MapAnswer = Result (Vec (RunOf ℕ) Global) MapFault
 
--- a map with too many runs stops the boot, and so does want of memory
+-- a map with too many runs stops the boot; want of memory is handed on
 abbrev pub stop_of_map : MapFault → Stop
 stop_of_map (faults.MapFull runs) = stops.MapFull runs
 stop_of_map faults.Memory = stops.Memory
@@ -43,7 +29,7 @@ unless_stopped (Some reason) map = Err (stop_of (cause_of_map reason))
 
 -- what is made of that answer: the map's own frames are judged
 abbrev pub judged_answer : MapAnswer → Result (List (RunOf ℕ)) Stop
-judged_answer (Ok runs) = unless_stopped (judged (value_at runs.items)) runs.items
+judged_answer (Ok runs) = unless_stopped (judged (reachable MAX_PHYSMEM (value_at runs.items))) runs.items
 judged_answer (Err fault) = Err (stop_of_map fault)
 
 -- by that answer the boot goes on to judge the frames, or stops; with no memory for it nothing is said

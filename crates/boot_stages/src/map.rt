@@ -4,11 +4,13 @@ ghost use Rattle.std.specs.Prelude.{◌≡◌, ◌↔◌, IfOk, IsErrOf, OnOk};
 ghost use Rattle.address_runs.specs.Runs.{AreRuns, value_at};
 ghost use Rattle.e820_model.specs.Claims.{EndInSpace, HaveTypes, finished, with_edits, with_extension};
 ghost use Rattle.e820_model.specs.Map.{claims_of};
+ghost use Rattle.bm_base.specs.Answers.{Answers};
+ghost use Rattle.e820_model.specs.Usable.{reachable};
 ghost use Rattle.e820_usable.specs.Judged.{judged};
-ghost use Rattle.boot_stages.specs.Boots.{Says, judged_answer, unless_stopped};
+ghost use Rattle.boot_stages.specs.Boots.{judged_answer, unless_stopped};
 
 use bm_base::Memory;
-use boot_model::{Cause, Stop};
+use boot_model::{Cause, MAX_PHYSMEM, Stop};
 use boot_options::Edit;
 use e820_sanitise::{MapFault, Run, Table};
 use e820_table::Entry;
@@ -55,11 +57,11 @@ fn edit_settled(table: &mut Table, edits: &[Edit]) -> Result<(), Memory>
     table.settle()
 }
 
-/// The map that the table answers, where a boot goes on with it: it has usable frames, and not too
-/// many. Takes no memory, so `Memory` is answered exactly where that was the table's own answer.
+/// The map that the table answers, where a boot goes on with it: it has usable frames within reach, and
+/// not too many. Takes no memory: `Memory` is answered exactly where that was the table's own answer.
 pub fn judged_map(answer: Result<Vec<Run>, MapFault>) -> Result<Vec<Run>, Stop>
     requires { IfOk answer (λ runs. AreRuns runs.items) }
-    ensures says { Says (λ runs. runs.items) result (judged_answer answer) }
+    ensures answers { Answers Stop.Memory (λ runs. runs.items) result (judged_answer answer) }
     ensures wanting { IsErrOf result Stop.Memory ↔ IsErrOf answer MapFault.Memory }
     ensures runs { IfOk result (λ runs. AreRuns runs.items) }
 {
@@ -70,15 +72,15 @@ pub fn judged_map(answer: Result<Vec<Run>, MapFault>) -> Result<Vec<Run>, Stop>
     }
 }
 
-/// The map, unless the boot stops at it.
+/// The map, unless the boot stops at it. Takes no memory.
 fn go_on(map: Vec<Run>) -> Result<Vec<Run>, Stop>
     requires { AreRuns map.items }
-    ensures says { Says (λ runs. runs.items) result
-        (unless_stopped (judged (value_at map.items)) map.items) }
+    ensures answers { Answers Stop.Memory (λ runs. runs.items) result
+        (unless_stopped (judged (reachable MAX_PHYSMEM (value_at map.items))) map.items) }
     ensures always { ¬ IsErrOf result Stop.Memory }
     ensures runs { IfOk result (λ runs. AreRuns runs.items) }
 {
-    match judge(&map) {
+    match judge(&map, MAX_PHYSMEM) {
         Some(reason) => Err(Stop::from(Cause::from(reason))),
         None => Ok(map),
     }

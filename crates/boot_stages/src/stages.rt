@@ -6,7 +6,9 @@ ghost use Rattle.e820_model.specs.Claims.{EndInSpace, HaveTypes};
 ghost use Rattle.e820_model.specs.Map.{claims_of};
 ghost use Rattle.boot_model.specs.Boot.{Given, boot, claims};
 ghost use Rattle.boot_model.specs.View.{booted_view, inputs_view};
-ghost use Rattle.boot_stages.specs.Boots.{Boots};
+ghost use Rattle.bm_base.specs.Answers.{Answers};
+ghost use Rattle.bm_base.specs.ResultSteps.{with_error};
+ghost use Rattle.boot_model.specs.Stop.{stop_of};
 
 use crate::map::{finished_table, judged_map};
 use boot_model::{Booted, Inputs, Stop};
@@ -23,7 +25,8 @@ pub fn boot(alloc: Global, inputs: Inputs) -> Result<Booted, Stop>
     requires entries_end { EndInSpace inputs.zero.entries.items }
     requires extension_ends { EndInSpace inputs.ext.items }
     requires types { HaveTypes inputs.options.edits.items }
-    ensures boots { Boots booted_view result (boot (inputs_view inputs)) }
+    ensures boots { Answers Stop.Memory booted_view result
+        (with_error stop_of (boot (inputs_view inputs))) }
     ensures runs { IfOk result (λ booted. AreRuns booted.map.items) }
 {
     let table = finished_table(
@@ -42,7 +45,8 @@ pub fn boot(alloc: Global, inputs: Inputs) -> Result<Booted, Stop>
 /// The map of the table's claims, where the boot goes on with it.
 fn settled_map(table: &Table) -> Result<Vec<Run>, Stop>
     ensures boots { (given : Given) → claims given ≡ claims_of table.now →
-        Boots (λ map. record { map = map.items; options = given.options }) result (boot given) }
+        Answers Stop.Memory (λ map. record { map = map.items; options = given.options }) result
+        (with_error stop_of (boot given)) }
     ensures runs { IfOk result (λ map. AreRuns map.items) }
 {
     judged_map(table.runs())
