@@ -1,0 +1,16 @@
+-- The input files: their limits, and their places in the order of work.
+use Rattle.std.specs.Prelude.{ℕ}
+use Rattle.boot_inputs.specs.declared.input.Input.{Input}
+use Rattle.boot_inputs.specs.declared.input.Input.TheVariants as inputs
+
+-- the most bytes of the file: a page, and of an extension 3,072 entries behind a header of 16 bytes
+abbrev pub limit_of : Input → ℕ
+limit_of inputs.ZeroPage = 4096
+limit_of inputs.Extension = 61456
+limit_of inputs.CommandLine = 4096
+
+-- the place of an input in the order of work
+abbrev pub place : Input → ℕ
+place inputs.ZeroPage = 0
+place inputs.Extension = 1
+place inputs.CommandLine = 2

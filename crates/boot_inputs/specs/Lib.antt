@@ -1,0 +1,5 @@
+pub mod Answers
+pub mod Faults
+pub mod Input
+pub mod Inputs
+pub mod Said

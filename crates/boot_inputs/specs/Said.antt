@@ -1,0 +1,33 @@
+-- What the bytes of each file say: a value, or their first fault.
+use Rattle.std.specs.Prelude.{ℕ, false, List, [], Option, Some, None, Result, Ok, Err}
+use Rattle.std.specs.Option.{option_map, option_and_then}
+use Rattle.e820_model.specs.declared.entry.Entry.{Entry}
+use Rattle.e820_table.specs.Extension.{ext_fault, ext_entries_of}
+use Rattle.e820_table.specs.ZeroPage.{zero_fault, entries_of}
+use Rattle.boot_options.specs.declared.fault.OptionFault.{OptionFault}
+use Rattle.boot_options.specs.Options.{Chosen, options_of}
+use Rattle.boot_inputs.specs.declared.fault.Fault.{Fault}
+use Rattle.boot_inputs.specs.Faults.{fault_of_extension, fault_of_option, fault_of_zero_page}
+
+-- the value, unless there is a fault
+abbrev pub unless_fault : {A : Type 0} → Option Fault → A → Result A Fault
+unless_fault None value = Ok value
+unless_fault (Some fault) value = Err fault
+
+abbrev pub zero_page_said : List ℕ → Result (List Entry) Fault
+zero_page_said bytes = unless_fault (option_map fault_of_zero_page (zero_fault bytes)) (entries_of bytes)
+
+abbrev pub extension_said : List ℕ → Result (List Entry) Fault
+extension_said bytes = unless_fault (option_and_then fault_of_extension (ext_fault bytes)) (ext_entries_of bytes)
+
+-- a command line of no words
+abbrev pub no_options : Chosen
+no_options = record { edits = []; numa_off = false }
+
+-- bytes never say that memory is wanting, so what stands there for it is of no account
+abbrev pub fault_told : Result Chosen OptionFault → Result Chosen Fault
+fault_told (Ok chosen) = Ok chosen
+fault_told (Err fault) = unless_fault (fault_of_option fault) no_options
+
+abbrev pub command_line_said : List ℕ → Result Chosen Fault
+command_line_said bytes = fault_told (options_of bytes)

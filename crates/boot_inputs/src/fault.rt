@@ -1,0 +1,100 @@
+//! What is wrong with the bytes of a file, in one type for all files. The crates that read them have
+//! their own, in which want of memory stands beside the faults; here the two are apart, so that nothing
+//! behind has to tell a fault that is none.
+
+ghost use Rattle.std.specs.Prelude.{◌≡◌};
+ghost use Rattle.boot_inputs.specs.Faults.{fault_of_extension, fault_of_option, fault_of_zero_page, misread_of};
+
+use boot_options::OptionFault;
+use e820_table::{ExtFault, ZeroFault};
+
+/// What is wrong with a file that could be read. With the file it says which fault that is.
+#[derive(Clone, Copy, Debug, PartialEq, Eq)]
+pub enum Fault {
+    /// The file has more bytes than its limit.
+    TooLong,
+    /// The zero page has more or fewer than 4,096 bytes.
+    WrongLength,
+    /// The zero page has fewer than 2 entries.
+    TooFew,
+    /// The zero page has more than 128 entries.
+    TooMany,
+    /// The entry's address plus size exceeds 2^64 - 1; the least such index, from 0.
+    EntryTooFar { index: u32 },
+    /// The extension has no whole header of its type.
+    Header,
+    /// The extension's length isn't the one that its header states, or isn't that of whole entries.
+    Length,
+    /// The command line has more than 2,047 bytes.
+    LineTooLong,
+    /// The number of `"` in the command line is odd.
+    OpenQuote,
+    /// The word, from 1 on, is a malformed `mem=`.
+    BadMem { word: u32 },
+    /// The word is a malformed `memmap=`.
+    BadMemmap { word: u32 },
+    /// Fewer than two adding pieces follow the last `exactmap`, which stands in this word.
+    UserMapInvalid { word: u32 },
+    /// The word is a malformed `numa=`.
+    BadNuma { word: u32 },
+}
+
+/// Why bytes give no value.
+#[derive(Clone, Copy, Debug, PartialEq, Eq)]
+pub enum Misread {
+    /// They have that fault first.
+    Fault(Fault),
+    /// The program's own memory ran out.
+    Memory,
+}
+
+impl Misread {
+    /// The fault, or want of memory where there is none.
+    pub fn of(fault: Option<Fault>) -> Misread
+        ensures { result ≡ misread_of fault }
+    {
+        match fault {
+            Some(fault) => Misread::Fault(fault),
+            None => Misread::Memory,
+        }
+    }
+}
+
+/// The fault of a zero page.
+pub fn fault_of_zero_page(fault: ZeroFault) -> Fault
+    ensures { result ≡ fault_of_zero_page fault }
+{
+    match fault {
+        ZeroFault::WrongLength => Fault::WrongLength,
+        ZeroFault::TooFew => Fault::TooFew,
+        ZeroFault::TooMany => Fault::TooMany,
+        ZeroFault::EntryTooFar { index } => Fault::EntryTooFar { index },
+    }
+}
+
+/// The fault of an extension; none for want of memory.
+pub fn fault_of_extension(fault: ExtFault) -> Option<Fault>
+    ensures { result ≡ fault_of_extension fault }
+{
+    match fault {
+        ExtFault::EntryTooFar { index } => Some(Fault::EntryTooFar { index }),
+        ExtFault::ExtHeader => Some(Fault::Header),
+        ExtFault::ExtLength => Some(Fault::Length),
+        ExtFault::Memory => None,
+    }
+}
+
+/// The fault of a command line; none for want of memory.
+pub fn fault_of_option(fault: OptionFault) -> Option<Fault>
+    ensures { result ≡ fault_of_option fault }
+{
+    match fault {
+        OptionFault::TooLong => Some(Fault::LineTooLong),
+        OptionFault::OpenQuote => Some(Fault::OpenQuote),
+        OptionFault::BadMem { word } => Some(Fault::BadMem { word }),
+        OptionFault::BadMemmap { word } => Some(Fault::BadMemmap { word }),
+        OptionFault::UserMapInvalid { word } => Some(Fault::UserMapInvalid { word }),
+        OptionFault::BadNuma { word } => Some(Fault::BadNuma { word }),
+        OptionFault::Memory => None,
+    }
+}

@@ -1,0 +1,29 @@
+//! Which files there are, in the order in which they are read.
+
+ghost use Rattle.std.specs.Prelude.{◌≡◌};
+ghost use Rattle.boot_inputs.specs.Input.{limit_of};
+
+/// An input file, in the order in which they are read.
+#[derive(Clone, Copy, Debug, PartialEq, Eq)]
+pub enum Input {
+    /// The zero page (`struct boot_params`).
+    ZeroPage,
+    /// The E820 extension (a `setup_data` node of type `SETUP_E820_EXT`).
+    Extension,
+    /// The command line of the kernel.
+    CommandLine,
+}
+
+impl Input {
+    /// The most bytes of the file. Of an extension's these are 3,072 entries behind the header, which
+    /// with the 128 of a zero page are as many as the kernel's table holds (`E820_MAX_ENTRIES`).
+    pub fn limit(self) -> u64
+        ensures { result ≡ limit_of self }
+    {
+        match self {
+            Input::ZeroPage => 4096,
+            Input::Extension => 61_456,
+            Input::CommandLine => 4096,
+        }
+    }
+}

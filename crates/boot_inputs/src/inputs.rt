@@ -1,0 +1,37 @@
+//! All files, in the order of work.
+
+ghost use Rattle.std.specs.Prelude.{IfOk, IfSome};
+ghost use Rattle.e820_model.specs.Claims.{EndInSpace, HaveTypes};
+ghost use Rattle.boot_model.specs.View.{inputs_view};
+ghost use Rattle.boot_inputs.specs.Answers.{Gives, HasCause};
+ghost use Rattle.boot_inputs.specs.Inputs.{inputs_of};
+
+use crate::command_line::CommandLines;
+use crate::extension::Extensions;
+use crate::fetching::fetch_input;
+use crate::names::Names;
+use crate::refusal::InputError;
+use crate::zero_page::ZeroPages;
+use bm_io::Files;
+use boot_model::Inputs;
+use std::alloc::Global;
+
+/// Fetches each file that is named, in the order of work, and judges it before the next; the first
+/// refusal is the answer.
+pub fn read_inputs<F: Files, N: Names>(
+    alloc: Global,
+    files: &mut F,
+    names: &N,
+) -> Result<Inputs, InputError>
+    ensures gives { IfSome (F.holds files.old) (λ held.
+        Gives inputs_view result (inputs_of held (N.named names.now))) }
+    ensures cause { HasCause (F.faults files.old) (F.faults files.new) (N.named names.now) result }
+    ensures entries_end { IfOk result (λ inputs. EndInSpace inputs.zero.entries.items) }
+    ensures extension_ends { IfOk result (λ inputs. EndInSpace inputs.ext.items) }
+    ensures types { IfOk result (λ inputs. HaveTypes inputs.options.edits.items) }
+{
+    let zero = fetch_input::<ZeroPages, F, N>(alloc, files, names)?;
+    let ext = fetch_input::<Extensions, F, N>(alloc, files, names)?;
+    let options = fetch_input::<CommandLines, F, N>(alloc, files, names)?;
+    Ok(Inputs { zero, ext, options })
+}

@@ -1,0 +1,52 @@
+//! The zero page as an input.
+
+ghost use Rattle.std.specs.Prelude.{◌≡◌, List, [], IfOk};
+ghost use Rattle.bm_base.specs.Answers.{Answers};
+ghost use Rattle.bm_base.specs.ResultSteps.{with_error};
+ghost use Rattle.e820_model.specs.Claims.{EndInSpace};
+ghost use Rattle.e820_model.specs.declared.entry.Entry.{Entry as AnyEntry};
+ghost use Rattle.boot_inputs.specs.Said.{zero_page_said};
+ghost use Rattle.boot_inputs.specs.declared.input.Input.TheVariants as inputs;
+
+use crate::fault::{Misread, fault_of_zero_page};
+use crate::input::Input;
+use crate::reader::Reader;
+use arrayvec::ArrayVec;
+use e820_table::{ZeroPage, read_zero_page};
+use std::alloc::Global;
+
+/// Reads a zero page; where none is named there are no entries.
+pub struct ZeroPages;
+
+impl Reader for ZeroPages {
+    type Value = ZeroPage;
+
+    ghost Seen = { List AnyEntry };
+
+    ghost seen = { λ zero. zero.entries.items };
+
+    ghost said = { zero_page_said };
+
+    ghost without = { [] };
+
+    ghost input = { inputs.ZeroPage };
+
+    ghost sound = { λ zero. EndInSpace zero.entries.items };
+
+    fn input() -> Input {
+        Input::ZeroPage
+    }
+
+    fn read(_alloc: Global, bytes: &[u8]) -> Result<ZeroPage, Misread> {
+        match read_zero_page(bytes) {
+            Ok(zero) => Ok(zero),
+            Err(fault) => Err(Misread::Fault(fault_of_zero_page(fault))),
+        }
+    }
+
+    fn without(_alloc: Global) -> ZeroPage {
+        ZeroPage {
+            entries: ArrayVec::new(),
+        }
+    }
+}

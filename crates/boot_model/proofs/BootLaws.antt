@@ -1,0 +1,116 @@
+-- What holds of a boot that isn't stopped.
+use Rattle.std.proofs.Common.{◌≡◌, ℕ, ◌+◌, ◌*◌, ◌^◌, ◌<◌, ◌≤◌, ◌∙◌, sym, ap, refl, arith, inl, inr, Bool, ◌||◌, true, false, ◌==◌, nat_lt, if◌then◌else◌, Option, Some, None, List, [], ◌∷◌, drop, length, Ok, Err}
+use Rattle.std.proofs.lemmas.Bool.{cases_Bool}
+use Rattle.std.proofs.lemmas.Bool.Decides.{nat_tests}
+use Rattle.std.proofs.Math.Bool.{or-false}
+use Rattle.address_runs.specs.Runs.{RunOf, run_end, lies_in, value_at, AreRuns, runs_of}
+use Rattle.address_runs.proofs.RunsLaws.{IsRunsBetween, from_runs, none_below, rest_from}
+use Rattle.e820_model.specs.Claims.{Claims}
+use Rattle.e820_model.specs.Map.{kinds, map_of, same_kind}
+use Rattle.e820_model.specs.Usable.{is_memory, is_usable, usable_frames}
+use Rattle.e820_model.specs.declared.room.TheConstants.{E820_MAX_ENTRIES}
+use Rattle.bm_base.specs.Each.{each_in}
+use Rattle.bm_base.specs.Frames.{bytes_of_frame}
+use Rattle.bm_base.proofs.EachLaws.{each_in-same}
+use Rattle.boot_model.specs.declared.limit.TheConstants.{MAX_PHYSMEM}
+use Rattle.e820_model.proofs.ClaimLaws.{tells_kinds}
+use Rattle.e820_usable.specs.declared.stop.MapStop.{MapStop}
+use Rattle.e820_usable.specs.declared.stop.MapStop.TheVariants as reasons
+use Rattle.e820_usable.specs.Judged.{judged}
+use Rattle.boot_model.specs.declared.stop.Cause.{Cause}
+use Rattle.boot_model.specs.Boot.{Given, Made, begin, claims, has_frames, has_room, stages, types_in_reach, unless_stopped, boot, lies_in_memory}
+use Rattle.boot_model.proofs.StageLaws.{AllKeep, passes, chain_keeps}
+
+-- what is known where the stages come to an end
+pub record GoesOn (given : Given) (made : Made) : Type 0 where
+  pub map : made.map ≡ map_of (claims given)
+  pub fits : nat_lt E820_MAX_ENTRIES (length (map_of (claims given))) ≡ false
+  pub judged : judged (types_in_reach given) ≡ None
+
+-- the first two stages leave what was made as it is, and go on only where they find nothing to stop for
+room_passed : (full : Bool) (cause : Cause) (before after : Made) → (if full then Err cause else Ok before) ≡ Ok after → (full ≡ false) × (before ≡ after)
+room_passed true cause before after ends = absurd (cc)
+room_passed false cause before after ends = (refl, cc)
+
+frames_passed : (reason : Option MapStop) (before after : Made) → unless_stopped reason before ≡ Ok after → (reason ≡ None) × (before ≡ after)
+frames_passed None before after ends = (refl, cc)
+frames_passed (Some reason) before after ends = absurd (cc)
+
+-- each stage leaves the map as it is: one fact a stage
+stages_keep : (given : Given) → AllKeep (λ (made : Made). made.map) (stages given)
+stages_keep given = (
+  λ before after ends. ap (λ (m : Made). m.map) (sym (room_passed _ _ before after ends).1),
+  (
+    λ before after ends. ap (λ (m : Made). m.map) (sym (frames_passed _ before after ends).1),
+    tt,
+  ),
+)
+
+pub goes_on : (given : Given) (made : Made) → boot given ≡ Ok made → GoesOn given made
+unfolding boot
+goes_on given made ends =
+    let behind_room = passes has_room (drop 1 (stages given)) (begin given) made ends in
+    let behind_frames = passes (has_frames given) (drop 2 (stages given)) behind_room.middle made behind_room.rest in
+    record {
+      map = chain_keeps (λ (m : Made). m.map) (stages given) (stages_keep given) (begin given) made ends;
+      fits = (room_passed _ _ (begin given) behind_room.middle behind_room.first).0;
+      judged = (frames_passed _ behind_room.middle behind_frames.middle behind_frames.first).0;
+    }
+
+-- the map has each address's type
+pub map_between : (c : Claims) → IsRunsBetween (kinds c) 0 (2 ^ 64) (map_of c)
+unfolding map_of runs_of
+map_between c = from_runs same_kind tells_kinds (kinds c) (2 ^ 64) 0
+
+-- an address lies in memory where the list gives memory
+pub memory_lies : (rs : List (RunOf ℕ)) (x : ℕ) → AreRuns rs → is_memory (value_at rs x) ≡ lies_in_memory rs x
+memory_lies [] x runs = refl
+memory_lies (r ∷ rs) x runs =
+    let rest : is_memory (value_at rs x) ≡ lies_in_memory rs x = memory_lies rs x runs.2 in
+    elim (cases_Bool (lies_in r x)) as (λ _. is_memory (value_at (r ∷ rs) x) ≡ lies_in_memory (r ∷ rs) x) [
+      | inl inside ↦
+          (let low : x < run_end r = grind (arith, nat_tests) in
+          let nothing : value_at rs x ≡ None = none_below (run_end r) x rs runs.2 (rest_from r rs runs) low in
+          let none : lies_in_memory rs x ≡ false = sym rest ∙ ap is_memory nothing in
+          rw (inside, none) (sym (or-false (r.value == 1 || r.value == 128))))
+      | inr outside ↦ (rw outside rest)
+    ]
+
+-- the runs tell which frames are usable
+pub usable_lies : (given : Given) (made : Made) (frame : ℕ) → boot given ≡ Ok made → 4096 * frame + 4096 ≤ MAX_PHYSMEM
+    → is_usable (types_in_reach given) frame ≡ each_in (bytes_of_frame frame) (lies_in_memory made.map)
+unfolding is_usable
+usable_lies given made frame ends low =
+    let c : Claims = claims given in
+    let between = map_between c in
+    each_in-same (bytes_of_frame frame) _ _ (λ x from below. (
+    let reach : nat_lt x MAX_PHYSMEM ≡ true = grind (arith, nat_tests) in
+    let value : value_at (map_of c) x ≡ kinds c x = between.within x (omega arith) (omega arith) in
+    let told : is_memory (kinds c x) ≡ lies_in_memory (map_of c) x = ap is_memory (sym value) ∙ memory_lies (map_of c) x between.runs in
+    rw (reach, (goes_on given made ends).map) told))
+
+-- each address below 2^64 has in the map the type that the claims give
+pub types_told : (given : Given) (made : Made) (x : ℕ) → boot given ≡ Ok made → x < 2 ^ 64 → value_at made.map x ≡ kinds (claims given) x
+types_told given made x ends low = rw (goes_on given made ends).map ((map_between (claims given)).within x (omega arith) (omega arith))
+
+-- a number of frames for which no stop is due
+frames_within : (n : ℕ) → (if n == 0 then Some reasons.NoRam else (if nat_lt (2 ^ 32) n then Some (reasons.TooMuchRam n) else None)) ≡ None
+    → (0 < n) × (n ≤ 2 ^ 32)
+frames_within n fine = elim (cases_Bool (n == 0)) as (λ _. (0 < n) × (n ≤ 2 ^ 32)) [
+  | inl none ↦ (let clash : Some reasons.NoRam ≡ None = rw none at fine in absurd (cc))
+  | inr some ↦ (elim (cases_Bool (nat_lt (2 ^ 32) n)) as (λ _. (0 < n) × (n ≤ 2 ^ 32)) [
+    | inl many ↦ (let clash : Some (reasons.TooMuchRam n) ≡ None = rw (some, many) at fine in absurd (cc))
+    | inr few ↦ (grind (arith, nat_tests), grind (arith, nat_tests))
+  ])
+]
+
+-- a map that isn't refused has usable frames, and not too many
+pub frames_told : (given : Given) (made : Made) → boot given ≡ Ok made
+    → (0 < usable_frames (types_in_reach given)) × (usable_frames (types_in_reach given) ≤ 2 ^ 32)
+frames_told given made ends = frames_within (usable_frames (types_in_reach given)) (goes_on given made ends).judged
+
+-- and it is in the table's room
+pub room_told : (given : Given) (made : Made) → boot given ≡ Ok made → length made.map ≤ E820_MAX_ENTRIES
+room_told given made ends =
+    let known : GoesOn given made = goes_on given made ends in
+    rw known.map (grind (arith, nat_tests, known.fits))

@@ -1,0 +1,137 @@
+-- Small boots and their parts: what the definitions say of them. A map isn't computed, since `map_of` goes over all
+-- addresses; that of empty entries follows from laws.
+use Rattle.std.proofs.Common.{◌≡◌, ℕ, ◌*◌, ◌^◌, ◌==◌, nat_lt, if◌then◌else◌, Bool, true, false, List, [], ◌∷◌, Some, None, Ok, Err, refl, sym, arith}
+use Rattle.std.proofs.lemmas.Bool.Decides.{nat_tests}
+use Rattle.std.specs.Prelude.{Result}
+use Rattle.address_runs.specs.Runs.{RunOf}
+use Rattle.address_runs.proofs.RunsLaws.{one_list}
+use Rattle.e820_model.specs.declared.entry.Entry.{Entry}
+use Rattle.e820_model.specs.Claims.{Claims, claims_of_entries, type_of, settled, with_claims, bios_trimmed}
+use Rattle.e820_model.specs.Map.{kinds, map_of}
+use Rattle.e820_model.specs.Usable.{is_memory, reachable, usable_frames}
+use Rattle.boot_model.specs.declared.limit.TheConstants.{MAX_PHYSMEM}
+use Rattle.e820_model.proofs.ClaimLaws.{greatest_is, map_runs}
+use Rattle.e820_model.proofs.UsableLaws.{count_none, usable_but}
+use Rattle.e820_usable.specs.declared.stop.MapStop.TheVariants as reasons
+use Rattle.boot_options.specs.Options.{Chosen, chosen}
+use Rattle.boot_model.specs.declared.booted.Booted.{Booted}
+use Rattle.boot_model.specs.declared.inputs.Inputs.{Inputs}
+use Rattle.boot_model.specs.declared.stop.Cause.TheVariants as causes
+use Rattle.boot_model.specs.declared.stop.Stop.TheVariants as stops
+use Rattle.boot_model.specs.Boot.{Given, Made, begin, boot, claims, has_room, unless_stopped, lies_in_memory}
+use Rattle.boot_model.specs.Stages.{in_order}
+use Rattle.boot_model.specs.Stop.{cause_of, cause_of_map, stop_of}
+use Rattle.boot_model.specs.View.{inputs_view, booted_view}
+
+-- a chain of two stages on numbers, of which the second stops at 2
+abbrev doubled : ℕ → Result ℕ ℕ
+doubled n = Ok (n * 2)
+
+abbrev not_two : ℕ → Result ℕ ℕ
+not_two n = if n == 2 then Err 9 else Ok n
+
+both_pass : in_order (doubled ∷ not_two ∷ []) 3 ≡ Ok 6
+both_pass = refl
+
+first_stop_is_the_answer : in_order (not_two ∷ doubled ∷ not_two ∷ []) 2 ≡ Err 9
+first_stop_is_the_answer = refl
+
+-- a map of few runs is in the table's room, and what is judged of a map stops the boot
+abbrev two_runs : List (RunOf ℕ)
+two_runs = record { base = 0x1000; size = 0x1000; value = 1 } ∷ record { base = 0x2000; size = 0x1000; value = 2 } ∷ []
+
+abbrev no_options : Chosen
+no_options = record { edits = []; numa_off = false }
+
+abbrev made : Made
+made = record { map = two_runs; options = no_options }
+
+few_runs : has_room made ≡ Ok made
+few_runs = refl
+
+unless_examples : (unless_stopped None made ≡ Ok made) × (unless_stopped (Some reasons.NoRam) made ≡ Err causes.NoRam)
+unless_examples = (refl, refl)
+
+-- the cause of a stop, and the stop of a cause
+cause_examples : (cause_of (stops.MapFull 3201) ≡ Some (causes.MapFull 3201)) × (cause_of stops.Memory ≡ None)
+cause_examples = (refl, refl)
+
+stop_examples : (stop_of causes.NoRam ≡ stops.NoRam) × (stop_of (causes.TooMuchRam 4294967297) ≡ stops.TooMuchRam 4294967297)
+stop_examples = (refl, refl)
+
+map_examples : (cause_of_map reasons.NoRam ≡ causes.NoRam) × (cause_of_map (reasons.TooMuchRam 4294967297) ≡ causes.TooMuchRam 4294967297)
+map_examples = (refl, refl)
+
+-- RAM and the kernel's own memory are memory; a reserved run isn't, nor is what lies in no run
+memory_examples : (lies_in_memory two_runs 0x1000 ≡ true) × (lies_in_memory two_runs 0x1FFF ≡ true) × (lies_in_memory two_runs 0x2000 ≡ false) × (lies_in_memory two_runs 0xFFF ≡ false)
+    × (lies_in_memory (record { base = 0; size = 1; value = 128 } ∷ []) 0 ≡ true)
+memory_examples = (refl, refl, refl, refl, refl)
+
+-- the values of a boot as its definition has them
+inputs_are_items : (i : Inputs) → ((inputs_view i).entries ≡ i.zero.entries.items) × ((inputs_view i).extension ≡ i.ext.items)
+inputs_are_items i = (refl, refl)
+
+booted_are_items : (b : Booted) → ((booted_view b).map ≡ b.map.items) × ((booted_view b).options ≡ chosen b.options)
+booted_are_items b = (refl, refl)
+
+-- two entries of size 0 claim nothing, so no frame is usable, and the boot stops
+Nothing : Claims → Type 0
+Nothing c = (x k : ℕ) → c x k ≡ false
+
+no_type : (c : Claims) → Nothing c → (x : ℕ) → type_of c x ≡ 0
+unfolding Nothing
+no_type c nothing x = greatest_is (c x) 0 (omega arith) (λ some. absurd (omega (arith, some))) (λ k higher small. nothing x k)
+
+nothing_settled : (c : Claims) → Nothing c → Nothing (settled c)
+unfolding Nothing
+nothing_settled c nothing x k = let none : type_of c x ≡ 0 = no_type c nothing x in grind (arith, nat_tests)
+
+nothing_trimmed : (c : Claims) → Nothing c → Nothing (bios_trimmed c)
+unfolding Nothing
+nothing_trimmed c nothing x k = rw (nothing x k, nothing x 1) (grind (arith, nat_tests))
+
+no_kind : (c : Claims) → Nothing c → (x : ℕ) → kinds c x ≡ None
+no_kind c nothing x = rw (no_type c nothing x) refl
+
+no_runs : (c : Claims) → Nothing c → map_of c ≡ []
+no_runs c nothing =
+    one_list (kinds c) (map_of c) [] (map_runs c (λ x far. no_kind c nothing x))
+    (record { runs = tt; each = λ x. sym (no_kind c nothing x) })
+
+same_either : (within : Bool) → is_memory (if within then None else None) ≡ false
+same_either true = refl
+same_either false = refl
+
+no_type_in_reach : (c : Claims) → Nothing c → (x : ℕ) → is_memory (reachable MAX_PHYSMEM (kinds c) x) ≡ false
+no_type_in_reach c nothing x = rw (no_kind c nothing x) (same_either (nat_lt x MAX_PHYSMEM))
+
+no_frame : (c : Claims) → Nothing c → usable_frames (reachable MAX_PHYSMEM (kinds c)) ≡ 0
+unfolding usable_frames
+no_frame c nothing =
+    count_none _ (2 ^ 52) (λ frame low.
+    usable_but (reachable MAX_PHYSMEM (kinds c)) frame (4096 * frame) (omega arith) (omega arith) (no_type_in_reach c nothing (4096 * frame)))
+
+abbrev empty : Entry
+empty = record { addr = 0; size = 0; kind = 0 }
+
+abbrev two_empty : Given
+two_empty = record { entries = empty ∷ empty ∷ []; extension = []; options = no_options }
+
+none_covers : Nothing (claims_of_entries (empty ∷ empty ∷ []))
+unfolding Nothing
+none_covers x k = grind (arith, nat_tests)
+
+nothing_added : (c : Claims) → Nothing c → Nothing (with_claims c (claims_of_entries []))
+unfolding Nothing
+nothing_added c nothing x k = rw (nothing x k) refl
+
+nothing_claimed : Nothing (claims two_empty)
+nothing_claimed =
+    nothing_trimmed _ (nothing_settled _ (nothing_settled _ (nothing_added _ (nothing_settled _ none_covers))))
+
+begins_without_a_run : (begin two_empty).map ≡ []
+begins_without_a_run = no_runs (claims two_empty) nothing_claimed
+
+no_ram : boot two_empty ≡ Err causes.NoRam
+unfolding boot
+no_ram = rw (no_runs (claims two_empty) nothing_claimed, no_frame (claims two_empty) nothing_claimed) refl

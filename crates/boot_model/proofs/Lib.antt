@@ -1,0 +1,4 @@
+pub mod BootLaws
+mod Examples
+pub mod StageLaws
+pub mod StopLaws

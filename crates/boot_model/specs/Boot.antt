@@ -1,0 +1,69 @@
+-- The boot: what `setup_arch` makes of the firmware's map and of the command line, stage by stage.
+use Rattle.std.specs.Prelude.{ℕ, ◌==◌, Bool, ◌&&◌, ◌||◌, List, [], ◌∷◌, length, nat_lt, if◌then◌else◌, Option, Some, None, Result, Ok, Err}
+use Rattle.std.specs.List.{list_any}
+use Rattle.address_runs.specs.Runs.{RunOf, lies_in}
+use Rattle.e820_model.specs.declared.types.TheConstants.{E820_TYPE_RAM, E820_TYPE_RESERVED_KERN}
+use Rattle.e820_model.specs.declared.entry.Entry.{Entry}
+use Rattle.e820_model.specs.Claims.{Claims, finished}
+use Rattle.e820_model.specs.Map.{TypeAt, kinds, map_of}
+use Rattle.e820_model.specs.Usable.{reachable}
+use Rattle.e820_model.specs.declared.room.TheConstants.{E820_MAX_ENTRIES}
+use Rattle.e820_usable.specs.declared.stop.MapStop.{MapStop}
+use Rattle.e820_usable.specs.Judged.{judged}
+use Rattle.boot_options.specs.Options.{Chosen}
+use Rattle.boot_model.specs.declared.limit.TheConstants.{MAX_PHYSMEM}
+use Rattle.boot_model.specs.declared.stop.Cause.{Cause}
+use Rattle.boot_model.specs.declared.stop.Cause.TheVariants as causes
+use Rattle.boot_model.specs.Stages.{in_order}
+use Rattle.boot_model.specs.Stop.{cause_of_map}
+
+-- what a boot is given: the zero page's entries, those of the extension, and the options
+pub record Given : Type 0 where
+  pub entries : List Entry
+  pub extension : List Entry
+  pub options : Chosen
+
+-- what a boot has made so far, and in the end what it makes
+pub record Made : Type 0 where
+  pub map : List (RunOf ℕ)
+  pub options : Chosen
+
+-- what a stage makes of what the stages before it made, or why the boot stops there
+abbrev pub Stage : Type 0
+Stage = Made → Result Made Cause
+
+-- the claims of the finished map
+abbrev pub claims : Given → Claims
+claims given = finished given.entries given.extension given.options.edits
+
+-- a boot begins with the map of these claims
+abbrev pub begin : Given → Made
+begin given = record { map = map_of (claims given); options = given.options }
+
+-- the types of addresses, as far as the kernel's tables of memory reach
+abbrev pub types_in_reach : Given → TypeAt
+types_in_reach given = reachable MAX_PHYSMEM (kinds (claims given))
+
+-- the kernel's table has room for the runs of the map (`E820_MAX_ENTRIES`)
+abbrev pub has_room : Stage
+has_room made = if nat_lt E820_MAX_ENTRIES (length made.map) then Err (causes.MapFull (length made.map)) else Ok made
+
+abbrev pub unless_stopped : Option MapStop → Stage
+unless_stopped None made = Ok made
+unless_stopped (Some reason) made = Err (cause_of_map reason)
+
+-- the map has usable frames within reach, and not too many (`e820__memblock_setup`)
+abbrev pub has_frames : Given → Stage
+has_frames given made = unless_stopped (judged (types_in_reach given)) made
+
+-- the stages in their order
+abbrev pub stages : Given → List Stage
+stages given = has_room ∷ has_frames given ∷ []
+
+-- the boot (`setup_arch`), as far as the map
+unfoldable pub boot : Given → Result Made Cause
+boot given = in_order (stages given) (begin given)
+
+-- whether the address lies in a run of RAM, or of memory of the kernel's own
+abbrev pub lies_in_memory : List (RunOf ℕ) → ℕ → Bool
+lies_in_memory map x = list_any (λ r. lies_in r x && (r.value == E820_TYPE_RAM || r.value == E820_TYPE_RESERVED_KERN)) map

@@ -1,0 +1,4 @@
+pub mod Boot
+pub mod Stages
+pub mod Stop
+pub mod View

@@ -1,0 +1,24 @@
+-- The causes of a stop. Want of memory is the one stop that has none.
+use Rattle.std.specs.Prelude.{Option, Some, None}
+use Rattle.e820_usable.specs.declared.stop.MapStop.{MapStop}
+use Rattle.e820_usable.specs.declared.stop.MapStop.TheVariants as reasons
+use Rattle.boot_model.specs.declared.stop.Cause.{Cause}
+use Rattle.boot_model.specs.declared.stop.Cause.TheVariants as causes
+use Rattle.boot_model.specs.declared.stop.Stop.{Stop}
+use Rattle.boot_model.specs.declared.stop.Stop.TheVariants as stops
+
+abbrev pub stop_of : Cause → Stop
+stop_of causes.NoRam = stops.NoRam
+stop_of (causes.TooMuchRam frames) = stops.TooMuchRam frames
+stop_of (causes.MapFull runs) = stops.MapFull runs
+
+abbrev pub cause_of : Stop → Option Cause
+cause_of stops.NoRam = Some causes.NoRam
+cause_of (stops.TooMuchRam frames) = Some (causes.TooMuchRam frames)
+cause_of (stops.MapFull runs) = Some (causes.MapFull runs)
+cause_of stops.Memory = None
+
+-- why a boot stops at its map, as the cause of a stop
+abbrev pub cause_of_map : MapStop → Cause
+cause_of_map reasons.NoRam = causes.NoRam
+cause_of_map (reasons.TooMuchRam frames) = causes.TooMuchRam frames

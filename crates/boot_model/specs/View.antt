@@ -1,0 +1,11 @@
+-- The values of a boot as its definition has them.
+use Rattle.boot_options.specs.Options.{chosen}
+use Rattle.boot_model.specs.declared.booted.Booted.{Booted}
+use Rattle.boot_model.specs.declared.inputs.Inputs.{Inputs}
+use Rattle.boot_model.specs.Boot.{Given, Made}
+
+abbrev pub inputs_view : Inputs → Given
+inputs_view i = record { entries = i.zero.entries.items; extension = i.ext.items; options = chosen i.options }
+
+abbrev pub booted_view : Booted → Made
+booted_view b = record { map = b.map.items; options = chosen b.options }

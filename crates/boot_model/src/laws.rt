@@ -1,0 +1,32 @@
+//! What holds of a boot that isn't stopped, for whoever reads its map.
+
+ghost use Rattle.std.specs.Prelude.{◌≡◌, ℕ, ◌+◌, ◌*◌, ◌^◌, ◌<◌, ◌≤◌, Ok, length};
+ghost use Rattle.address_runs.specs.Runs.{value_at};
+ghost use Rattle.e820_model.specs.Map.{kinds};
+ghost use Rattle.bm_base.specs.Each.{each_in};
+ghost use Rattle.bm_base.specs.Frames.{bytes_of_frame};
+ghost use Rattle.e820_model.specs.Usable.{is_usable, usable_frames};
+ghost use Rattle.e820_model.specs.declared.room.TheConstants.{E820_MAX_ENTRIES};
+ghost use Rattle.boot_model.specs.Boot.{Given, Made, boot, claims, lies_in_memory, types_in_reach};
+
+use crate::limit::MAX_PHYSMEM;
+
+/// A law: the map of a boot gives each address below 2^64 the type of its greatest claim, and has at
+/// most as many runs as the table has room for.
+pub fn map_gives_types()
+    ensures types { (given : Given) (made : Made) (x : ℕ) → boot given ≡ Ok made → x < 2 ^ 64 →
+        value_at made.map x ≡ kinds (claims given) x }
+    ensures room { (given : Given) (made : Made) → boot given ≡ Ok made → length made.map ≤ E820_MAX_ENTRIES }
+{}
+
+/// A law: a frame below [`MAX_PHYSMEM`] is usable exactly where each of its bytes lies in a run of RAM or of the
+/// kernel's own memory, of the map of a boot; and there are 1 to 2^32 such frames.
+pub fn map_gives_frames()
+    ensures each { (given : Given) (made : Made) (frame : ℕ) → boot given ≡ Ok made →
+        4096 * frame + 4096 ≤ MAX_PHYSMEM → is_usable (types_in_reach given) frame
+        ≡ each_in (bytes_of_frame frame) (lies_in_memory made.map) }
+    ensures some { (given : Given) (made : Made) → boot given ≡ Ok made →
+        0 < usable_frames (types_in_reach given) }
+    ensures few { (given : Given) (made : Made) → boot given ≡ Ok made →
+        usable_frames (types_in_reach given) ≤ 2 ^ 32 }
+{}

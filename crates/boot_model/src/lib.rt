@@ -1,0 +1,29 @@
+//! What a boot is given and what it makes: the words in which the program and its stages speak.
+//!
+//! [`Inputs`] are the values that the input files give, [`Booted`] is what the boot leaves, and
+//! [`Stop`] is why a boot stops; all are plain data. A [`Cause`] is a stop that lies in the inputs: the
+//! definitions know no other, and want of memory is none.
+//!
+//! The definition of the boot (`specs/Boot.antt`) is a chain of stages in the order of `setup_arch`,
+//! of which each makes its part of what the ones before it made, or stops the boot. One more stage is
+//! one more link: what is proved of a link speaks of that link and of those before it, and asks of
+//! those behind it only that they leave its part as it is, which each of them has as a law of its own.
+//!
+//! [`MAX_PHYSMEM`] is the limit of the addresses that the kernel's tables of memory reach. It stands
+//! here once; the boot hands it to what depends on it.
+//!
+//! The layers above may rest on the laws of this crate: the map of a boot that isn't stopped gives
+//! every address the type of its greatest claim, and tells which frames are usable.
+#![tactic(auto)]
+
+mod booted;
+mod inputs;
+mod laws;
+mod limit;
+mod stop;
+
+pub use booted::Booted;
+pub use inputs::Inputs;
+pub use laws::{map_gives_frames, map_gives_types};
+pub use limit::MAX_PHYSMEM;
+pub use stop::{Cause, Stop};

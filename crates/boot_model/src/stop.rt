@@ -1,0 +1,86 @@
+//! Why a boot stops. The causes by themselves are a type of their own, since what judges takes no
+//! memory and so never wants any.
+
+ghost use Rattle.std.specs.Prelude.{◌≡◌};
+ghost use Rattle.boot_model.specs.Stop.{cause_of};
+
+use bm_base::Memory;
+use e820_usable::MapStop;
+
+/// Why a boot stops, want of memory apart; in the order in which a boot comes to them.
+#[derive(Clone, Copy, Debug, PartialEq, Eq)]
+pub enum Cause {
+    /// No frame of the map is usable.
+    NoRam,
+    /// More than 2^32 frames of the map are usable: so many.
+    TooMuchRam { frames: u64 },
+    /// The map has more runs than the table has room for, which is 3,200: so many.
+    MapFull { runs: u64 },
+}
+
+/// Why a boot stops.
+#[derive(Clone, Copy, Debug, PartialEq, Eq)]
+pub enum Stop {
+    /// No frame of the map is usable.
+    NoRam,
+    /// More than 2^32 frames of the map are usable: so many.
+    TooMuchRam { frames: u64 },
+    /// The map has more runs than the table has room for, which is 3,200: so many.
+    MapFull { runs: u64 },
+    /// The program's own memory ran out.
+    Memory,
+}
+
+impl Stop {
+    /// The cause in the inputs; none for want of memory.
+    pub fn cause(self) -> Option<Cause>
+        ensures { result ≡ cause_of self }
+    {
+        match self {
+            Stop::NoRam => Some(Cause::NoRam),
+            Stop::TooMuchRam { frames } => Some(Cause::TooMuchRam { frames }),
+            Stop::MapFull { runs } => Some(Cause::MapFull { runs }),
+            Stop::Memory => None,
+        }
+    }
+}
+
+impl From<Cause> for Stop {
+    ghost use Rattle.std.specs.Prelude.{◌≡◌};
+    ghost use Rattle.boot_model.specs.Stop.{stop_of};
+
+    ghost from_gives = { λ cause stop. stop ≡ stop_of cause };
+
+    fn from(cause: Cause) -> Stop {
+        match cause {
+            Cause::NoRam => Stop::NoRam,
+            Cause::TooMuchRam { frames } => Stop::TooMuchRam { frames },
+            Cause::MapFull { runs } => Stop::MapFull { runs },
+        }
+    }
+}
+
+impl From<Memory> for Stop {
+    ghost use Rattle.std.specs.Prelude.{◌≡◌};
+    ghost use Rattle.boot_model.specs.declared.stop.Stop.TheVariants as stops;
+
+    ghost from_gives = { λ _ stop. stop ≡ stops.Memory };
+
+    fn from(_error: Memory) -> Stop {
+        Stop::Memory
+    }
+}
+
+impl From<MapStop> for Cause {
+    ghost use Rattle.std.specs.Prelude.{◌≡◌};
+    ghost use Rattle.boot_model.specs.Stop.{cause_of_map};
+
+    ghost from_gives = { λ reason cause. cause ≡ cause_of_map reason };
+
+    fn from(reason: MapStop) -> Cause {
+        match reason {
+            MapStop::NoRam => Cause::NoRam,
+            MapStop::TooMuchRam { frames } => Cause::TooMuchRam { frames },
+        }
+    }
+}

@@ -1,0 +1,89 @@
+-- What the boot comes to by the table's answer for its map.
+use Rattle.std.proofs.Common.{◌≡◌, ℕ, Bool, true, false, nat_lt, if◌then◌else◌, List, length, Option, Some, None, Result, Ok, Err, Vec, Global, refl, subst, ap, ◌∙◌}
+use Rattle.std.specs.Prelude.{IfOk}
+use Rattle.address_runs.specs.Runs.{RunOf, value_at, IsRunsOf}
+use Rattle.bm_base.specs.Answers.{Answers}
+use Rattle.bm_base.specs.ResultSteps.{◌>>=◌, with_error}
+use Rattle.e820_model.specs.declared.room.TheConstants.{E820_MAX_ENTRIES}
+use Rattle.e820_model.specs.Map.{TypeAt, kinds, map_of}
+use Rattle.e820_model.specs.Usable.{reachable}
+use Rattle.e820_sanitise.specs.declared.fault.MapFault.TheVariants as faults
+use Rattle.e820_sanitise.specs.Room.{in_room}
+use Rattle.e820_usable.specs.declared.stop.MapStop.{MapStop}
+use Rattle.e820_usable.specs.Judged.{judged}
+use Rattle.boot_model.specs.declared.booted.Booted.{Booted}
+use Rattle.boot_model.specs.declared.limit.TheConstants.{MAX_PHYSMEM}
+use Rattle.boot_model.specs.declared.stop.Cause.{Cause}
+use Rattle.boot_model.specs.declared.stop.Stop.{Stop}
+use Rattle.boot_model.specs.declared.stop.Stop.TheVariants as stops
+use Rattle.boot_model.specs.Boot.{Given, Made, begin, boot, claims, has_frames, types_in_reach, unless_stopped as judged_stage}
+use Rattle.boot_model.specs.Stop.{stop_of}
+use Rattle.boot_model.specs.View.{booted_view}
+use Rattle.boot_stages.specs.Boots.{IsDecided, MapAnswer, judged_answer, unless_stopped}
+
+-- the last stage's answer is the chain's
+last_stage : (answer : Result Made Cause) → (answer >>= λ made. Ok made) ≡ answer
+last_stage (Ok made) = refl
+last_stage (Err cause) = refl
+
+-- what a map in its room, and one that isn't, tells of its number of runs
+told : (full : Bool) (runs : ℕ) (map items : List (RunOf ℕ)) → (if full then Err (faults.MapFull runs) else Ok map) ≡ Ok items → (full ≡ false) × (map ≡ items)
+told true runs map items is = absurd (cc)
+told false runs map items is = (refl, cc)
+
+told_full : (full : Bool) (runs : ℕ) (map : List (RunOf ℕ)) (told : ℕ) → (if full then Err (faults.MapFull runs) else Ok map) ≡ Err (faults.MapFull told)
+    → (full ≡ true) × (runs ≡ told)
+told_full true runs map told is = (refl, cc)
+told_full false runs map told is = absurd (cc)
+
+pub decided : (given : Given) (answer : MapAnswer) → Answers faults.Memory (λ runs. runs.items) answer (in_room (map_of (claims given)))
+    → IsDecided given answer
+unfolding boot
+decided given (Ok runs) answers =
+    let c : List (RunOf ℕ) = map_of (claims given) in
+    let known = told (nat_lt E820_MAX_ENTRIES (length c)) (length c) c runs.items answers in
+    rw known.0 (last_stage (has_frames given (begin given)))
+    ∙ ap (λ (map : List (RunOf ℕ)). has_frames given (record { map = map; options = given.options })) known.1
+decided given (Err (faults.MapFull runs)) answers =
+    let c : List (RunOf ℕ) = map_of (claims given) in
+    let known = told_full (nat_lt E820_MAX_ENTRIES (length c)) (length c) c runs (answers (λ same. cc same)) in
+    rw (known.0, known.1) refl
+decided given (Err faults.Memory) answers = tt
+
+-- a judgement, as the call answers it and as the stage of the boot has it
+abbrev pub made_of : Given → Vec (RunOf ℕ) Global → Made
+made_of given runs = record { map = runs.items; options = given.options }
+
+judged_same : (given : Given) (reason : Option MapStop) (runs : Vec (RunOf ℕ) Global) (result : Result (Vec (RunOf ℕ) Global) Stop)
+    → Answers stops.Memory (λ map. map.items) result (unless_stopped reason runs.items)
+    → Answers stops.Memory (made_of given) result (with_error stop_of (judged_stage reason (made_of given runs)))
+judged_same given None runs (Ok map) answers =
+    let same : runs.items ≡ map.items = cc in
+    ap (λ (items : List (RunOf ℕ)). Ok (record { map = items; options = given.options })) same
+judged_same given None runs (Err stop) answers = λ other. absurd (cc (answers other))
+judged_same given (Some reason) runs (Ok map) answers = absurd (cc)
+judged_same given (Some reason) runs (Err stop) answers = λ other. (let is = answers other in cc)
+
+-- the answer, judged, is what the boot's definition comes to
+pub boot_answers : (given : Given) (answer : MapAnswer) → Answers faults.Memory (λ runs. runs.items) answer (in_room (map_of (claims given)))
+    → IfOk answer (λ runs. IsRunsOf (kinds (claims given)) runs.items) → (result : Result (Vec (RunOf ℕ) Global) Stop)
+    → Answers stops.Memory (λ map. map.items) result (judged_answer answer) → Answers stops.Memory (made_of given) result (with_error stop_of (boot given))
+boot_answers given (Ok runs) maps are result answers =
+    let kinds_are : value_at runs.items ≡ kinds (claims given) = λ i x. are.each x i in
+    let P : TypeAt → Type 0 = λ f. Answers stops.Memory (λ (map : Vec (RunOf ℕ) Global). map.items) result (unless_stopped (judged (reachable MAX_PHYSMEM f)) runs.items) in
+    rw (decided given (Ok runs) maps) (judged_same given (judged (types_in_reach given)) runs result (subst P kinds_are answers))
+boot_answers given (Err (faults.MapFull runs)) maps are (Ok map) answers = absurd (cc)
+boot_answers given (Err (faults.MapFull runs)) maps are (Err stop) answers =
+    λ other. (
+    let is : judged_answer (Err (faults.MapFull runs)) ≡ Err stop = answers other in
+    let same : stops.MapFull runs ≡ stop = cc in
+    rw (decided given (Err (faults.MapFull runs)) maps) (ap (λ (s : Stop). Err s) same))
+boot_answers given (Err faults.Memory) maps are (Ok map) answers = absurd (cc)
+boot_answers given (Err faults.Memory) maps are (Err stop) answers =
+    λ other. (let is : Err stops.Memory ≡ Err stop = answers other in absurd (other (cc)))
+
+-- what is decided for the map is decided for the boot, where `?` hands the error on
+pub boot_error : (given : Given) (answer : Result Booted Stop) (stop : Stop)
+    → answer ≡ Err stop → Answers stops.Memory (made_of given) (Err stop) (with_error stop_of (boot given))
+    → Answers stops.Memory booted_view answer (with_error stop_of (boot given))
+boot_error given answer stop is answers = rw is answers

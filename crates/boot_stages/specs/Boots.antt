@@ -1,0 +1,39 @@
+-- What the boot makes of the table's answer for its map.
+use Rattle.std.specs.Prelude.{◌≡◌, ℕ, List, Vec, Option, Some, None, Result, Ok, Err}
+use Rattle.std.specs.declared.alloc.Global.{Global}
+use Rattle.address_runs.specs.Runs.{RunOf, value_at}
+use Rattle.e820_sanitise.specs.declared.fault.MapFault.{MapFault}
+use Rattle.e820_sanitise.specs.declared.fault.MapFault.TheVariants as faults
+use Rattle.e820_usable.specs.declared.stop.MapStop.{MapStop}
+use Rattle.e820_usable.specs.Judged.{judged}
+use Rattle.e820_model.specs.Usable.{reachable}
+use Rattle.boot_model.specs.declared.limit.TheConstants.{MAX_PHYSMEM}
+use Rattle.boot_model.specs.declared.stop.Cause.TheVariants as causes
+use Rattle.boot_model.specs.declared.stop.Stop.{Stop}
+use Rattle.boot_model.specs.declared.stop.Stop.TheVariants as stops
+use Rattle.boot_model.specs.Boot.{Given, boot, has_frames}
+use Rattle.boot_model.specs.Stop.{cause_of_map, stop_of}
+
+-- what the table answers for its map (`Table::runs`)
+abbrev pub MapAnswer : Type 0
+MapAnswer = Result (Vec (RunOf ℕ) Global) MapFault
+
+-- a map with too many runs stops the boot; want of memory is handed on
+abbrev pub stop_of_map : MapFault → Stop
+stop_of_map (faults.MapFull runs) = stops.MapFull runs
+stop_of_map faults.Memory = stops.Memory
+
+abbrev pub unless_stopped : Option MapStop → List (RunOf ℕ) → Result (List (RunOf ℕ)) Stop
+unless_stopped None map = Ok map
+unless_stopped (Some reason) map = Err (stop_of (cause_of_map reason))
+
+-- what is made of that answer: the map's own frames are judged
+abbrev pub judged_answer : MapAnswer → Result (List (RunOf ℕ)) Stop
+judged_answer (Ok runs) = unless_stopped (judged (reachable MAX_PHYSMEM (value_at runs.items))) runs.items
+judged_answer (Err fault) = Err (stop_of_map fault)
+
+-- by that answer the boot goes on to judge the frames, or stops; with no memory for it nothing is said
+abbrev pub IsDecided : Given → MapAnswer → Type 0
+IsDecided given (Ok runs) = boot given ≡ has_frames given (record { map = runs.items; options = given.options })
+IsDecided given (Err (faults.MapFull runs)) = boot given ≡ Err (causes.MapFull runs)
+IsDecided given (Err faults.Memory) = Unit {0}

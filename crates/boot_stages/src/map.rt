@@ -1,0 +1,87 @@
+//! The first stages: the claims of the finished map, the map, and whether a boot goes on with it.
+
+ghost use Rattle.std.specs.Prelude.{◌≡◌, ◌↔◌, IfOk, IsErrOf, OnOk};
+ghost use Rattle.address_runs.specs.Runs.{AreRuns, value_at};
+ghost use Rattle.e820_model.specs.Claims.{EndInSpace, HaveTypes, finished, with_edits, with_extension};
+ghost use Rattle.e820_model.specs.Map.{claims_of};
+ghost use Rattle.bm_base.specs.Answers.{Answers};
+ghost use Rattle.e820_model.specs.Usable.{reachable};
+ghost use Rattle.e820_usable.specs.Judged.{judged};
+ghost use Rattle.boot_stages.specs.Boots.{judged_answer, unless_stopped};
+
+use bm_base::Memory;
+use boot_model::{Cause, MAX_PHYSMEM, Stop};
+use boot_options::Edit;
+use e820_sanitise::{MapFault, Run, Table};
+use e820_table::Entry;
+use e820_usable::judge;
+use std::alloc::Global;
+
+/// The table of the finished map.
+pub fn finished_table(
+    alloc: Global,
+    entries: &[Entry],
+    extension: &[Entry],
+    edits: &[Edit],
+) -> Result<Table, Memory>
+    requires entries_end { EndInSpace entries.now }
+    requires extension_ends { EndInSpace extension.now }
+    requires types { HaveTypes edits.now }
+    ensures { IfOk result (λ table. claims_of table ≡ finished entries.now extension.now edits.now) }
+{
+    let mut table = Table::new(alloc);
+    append_settled(&mut table, entries)?;
+    append_settled(&mut table, extension)?;
+    edit_settled(&mut table, edits)?;
+    table.trim_bios()?;
+    Ok(table)
+}
+
+/// Appends the entries, and settles the table (`e820__memory_setup`, `e820__memory_setup_extended`).
+fn append_settled(table: &mut Table, entries: &[Entry]) -> Result<(), Memory>
+    requires { EndInSpace entries.now }
+    ensures { OnOk result (claims_of table.new ≡ with_extension entries.now (claims_of table.old)) }
+{
+    table.append(entries)?;
+    table.settle()
+}
+
+/// Edits the table, and settles it (`e820__finish_early_params`).
+fn edit_settled(table: &mut Table, edits: &[Edit]) -> Result<(), Memory>
+    requires { HaveTypes edits.now }
+    ensures { OnOk result (claims_of table.new ≡ with_edits edits.now (claims_of table.old)) }
+{
+    for edit in edits {
+        table.edit(edit)?;
+    }
+    table.settle()
+}
+
+/// The map that the table answers, where a boot goes on with it: it has usable frames within reach, and
+/// not too many. Takes no memory: `Memory` is answered exactly where that was the table's own answer.
+pub fn judged_map(answer: Result<Vec<Run>, MapFault>) -> Result<Vec<Run>, Stop>
+    requires { IfOk answer (λ runs. AreRuns runs.items) }
+    ensures answers { Answers Stop.Memory (λ runs. runs.items) result (judged_answer answer) }
+    ensures wanting { IsErrOf result Stop.Memory ↔ IsErrOf answer MapFault.Memory }
+    ensures runs { IfOk result (λ runs. AreRuns runs.items) }
+{
+    match answer {
+        Ok(map) => go_on(map),
+        Err(MapFault::MapFull { runs }) => Err(Stop::MapFull { runs }),
+        Err(MapFault::Memory) => Err(Stop::Memory),
+    }
+}
+
+/// The map, unless the boot stops at it. Takes no memory.
+fn go_on(map: Vec<Run>) -> Result<Vec<Run>, Stop>
+    requires { AreRuns map.items }
+    ensures answers { Answers Stop.Memory (λ runs. runs.items) result
+        (unless_stopped (judged (reachable MAX_PHYSMEM (value_at map.items))) map.items) }
+    ensures always { ¬ IsErrOf result Stop.Memory }
+    ensures runs { IfOk result (λ runs. AreRuns runs.items) }
+{
+    match judge(&map, MAX_PHYSMEM) {
+        Some(reason) => Err(Stop::from(Cause::from(reason))),
+        None => Ok(map),
+    }
+}

@@ -1,0 +1,172 @@
+ghost use Rattle.std.specs.Prelude.{◌≡◌, ◌+◌, ◌*◌, ◌^◌, ◌<◌, ◌≤◌, length};
+
+use crate::boot;
+use bm_base::Range;
+use boot_model::{Inputs, Stop};
+use boot_options::read_options;
+use e820_sanitise::Run;
+use e820_table::{Entry, read_ext, read_zero_page};
+use std::alloc::Global;
+use std::process::Abort;
+use std::test::Fail;
+
+fn entry(addr: u64, size: u64, kind: u32) -> Entry {
+    Entry { addr, size, kind }
+}
+
+// The run from the first byte to the last.
+fn run(first: u64, last: u64, kind: u32) -> Run
+    requires ends { last + 1 < 2 ^ 64 }
+    requires order { first ≤ last }
+{
+    Run {
+        range: Range {
+            base: first,
+            size: last + 1 - first,
+        },
+        kind,
+    }
+}
+
+fn put_entry(bytes: &mut [u8], offset: usize, entry: Entry)
+    requires { offset + 20 ≤ length bytes.old }
+{
+    bytes[offset..offset + 8].copy_from_slice(&entry.addr.to_le_bytes());
+    bytes[offset + 8..offset + 16].copy_from_slice(&entry.size.to_le_bytes());
+    bytes[offset + 16..offset + 20].copy_from_slice(&entry.kind.to_le_bytes());
+}
+
+// A zero page with these entries.
+fn page(entries: &[Entry]) -> [u8; 4096]
+    requires { length entries.now ≤ 128 }
+{
+    let mut bytes = [0; 4096];
+    bytes[0x1E8] = entries.len() as u8;
+    for (index, entry) in entries.iter().enumerate() {
+        put_entry(&mut bytes, 0x2D0 + 20 * index, *entry);
+    }
+    bytes
+}
+
+// An extension without entries.
+const NO_ENTRIES: [u8; 16] = [0, 0, 0, 0, 0, 0, 0, 0, 1, 0, 0, 0, 0, 0, 0, 0];
+
+// The map of the boot of these files.
+fn booted(
+    alloc: Global,
+    page: &[u8],
+    ext: &[u8],
+    line: &[u8],
+) -> Result<Result<Vec<Run>, Stop>, Fail> {
+    let inputs = Inputs {
+        zero: read_zero_page(page)?,
+        ext: read_ext(alloc, ext)?,
+        options: read_options(alloc, line)?,
+    };
+    Ok(boot(alloc, inputs).map(|booted| booted.map))
+}
+
+fn expect(
+    rt: &impl Abort,
+    alloc: Global,
+    entries: &[Entry],
+    line: &[u8],
+    want: Result<&[Run], Stop>,
+) -> Result<(), Fail>
+    requires { length entries.now ≤ 128 }
+{
+    let map = booted(alloc, &page(entries), &NO_ENTRIES, line)?;
+    match map {
+        Ok(runs) => assert_eq!(rt; Ok(runs.as_slice()), want),
+        Err(stop) => assert_eq!(rt; Err(stop), want),
+    }
+    Ok(())
+}
+
+#[test]
+fn maps_and_stops(rt: HostRuntime) -> Result<(), Fail> {
+    let alloc = rt.alloc();
+    // edits act on a settled table: no RAM comes out from under the reserved range
+    let nested = [entry(0, 0x800_0000, 1), entry(0x20_0000, 0x10_0000, 2)];
+    let low = [run(0, 0xFFF, 2), run(0x1000, 0x9_FFFF, 1)];
+    expect(
+        &rt,
+        alloc,
+        &nested,
+        b"memmap=1M%0x200000-2",
+        Ok(&[
+            low[0],
+            low[1],
+            run(0x10_0000, 0x1F_FFFF, 1),
+            run(0x30_0000, 0x7FF_FFFF, 1),
+        ]),
+    )?;
+    let whole = [low[0], low[1], run(0x10_0000, 0x7FF_FFFF, 1)];
+    expect(&rt, alloc, &nested, b"memmap=1M%0x200000-2+1", Ok(&whole))?;
+    // a virtual machine of 128 MiB: its own map, RAM up to 64 MiB, and a map of the user's own
+    let machine = [
+        entry(0, 0x9_FC00, 1),
+        entry(0x9_FC00, 0x400, 2),
+        entry(0xF_0000, 0x1_0000, 2),
+        entry(0x10_0000, 0x7EE_0000, 1),
+        entry(0x7FE_0000, 0x2_0000, 2),
+        entry(0xFFFC_0000, 0x4_0000, 2),
+    ];
+    let own = [
+        low[0],
+        run(0x1000, 0x9_FBFF, 1),
+        run(0x9_FC00, 0x9_FFFF, 2),
+        run(0xF_0000, 0xF_FFFF, 2),
+        run(0x10_0000, 0x7FD_FFFF, 1),
+        run(0x7FE_0000, 0x7FF_FFFF, 2),
+        run(0xFFFC_0000, 0xFFFF_FFFF, 2),
+    ];
+    expect(&rt, alloc, &machine, b"", Ok(&own))?;
+    let cut = [
+        own[0],
+        own[1],
+        own[2],
+        own[3],
+        run(0x10_0000, 0x3FF_FFFF, 1),
+        own[5],
+        own[6],
+    ];
+    expect(&rt, alloc, &machine, b"mem=0x4000000 -- mem=0", Ok(&cut))?;
+    let exact = b"memmap=exactmap memmap=640K@0 memmap=127M@1M";
+    expect(&rt, alloc, &machine, exact, Ok(&whole))?;
+    // the stops
+    let reserved = [entry(0, 0x1000, 2), entry(0x10_0000, 0x1000, 2)];
+    expect(&rt, alloc, &reserved, b"", Err(Stop::NoRam))?;
+    let vast = [entry(0, 0xA_0000, 1), entry(0x10_0000, 0x1000_0000_0000, 1)];
+    let too_much = Stop::TooMuchRam {
+        frames: 4_294_967_455,
+    };
+    expect(&rt, alloc, &vast, b"", Err(too_much))
+}
+
+// RAM of 256 MiB from 1 MiB on with 3,199 reserved pages in it, each with a page before it: entry i.
+fn striped(index: usize) -> Entry
+    requires { index < 3200 }
+{
+    if index == 0 {
+        return entry(0x10_0000, 0x1000_0000, 1);
+    }
+    entry(0x10_0000 + 0x2000 * index as u64, 0x1000, 2)
+}
+
+#[test]
+fn a_map_beyond_the_table(rt: HostRuntime) -> Result<(), Fail> {
+    let mut first = [entry(0, 0, 0); 128];
+    for index in 0..128 {
+        first[index] = striped(index);
+    }
+    let mut ext = [0; 16 + 3072 * 20];
+    ext[8] = 1;
+    ext[12..16].copy_from_slice(&61440u32.to_le_bytes());
+    for index in 0..3072 {
+        put_entry(&mut ext, 16 + 20 * index, striped(128 + index));
+    }
+    let map = booted(rt.alloc(), &page(&first), &ext, b"")?;
+    assert_eq!(rt; map.err(), Some(Stop::MapFull { runs: 6399 }));
+    Ok(())
+}

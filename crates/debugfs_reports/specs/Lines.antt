@@ -1,0 +1,14 @@
+-- What reports are made of: lines, and the pieces that stand in them.
+use Rattle.std.specs.Prelude.{ℕ, ◌+◌, ◌-◌, List, [], ◌∷◌, ◌++◌, codes}
+use Rattle.bm_base.specs.Extent.{Extent, end_of}
+use Rattle.bm_base.specs.Text.{hex_text}
+
+-- the line of each element by its index, of which the first is n
+abbrev pub lines_from : {X : Type 0} → (ℕ → X → List ℕ) → ℕ → List X → List ℕ
+lines_from line n [] = []
+lines_from line n (x ∷ xs) = line n x ++ lines_from line (n + 1) xs
+
+-- a range: its first and its last byte. That of a range without an address is `0x0..0x0` where it begins at 0, and
+-- else ends before it begins
+abbrev pub range_text : Extent → List ℕ
+range_text r = hex_text r.base ++ codes ".." ++ hex_text (end_of r - 1)

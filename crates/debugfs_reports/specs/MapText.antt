@@ -1,0 +1,29 @@
+-- The line of a run of the map, where the kernel's `e820__print_table` has one for each entry. The form of the line
+-- is this project's own.
+use Rattle.std.specs.Prelude.{ℕ, ◌==◌, if◌then◌else◌, List, ◌++◌, codes, decimal}
+use Rattle.bm_base.specs.Extent.{Extent}
+use Rattle.address_runs.specs.Runs.{RunOf}
+use Rattle.e820_model.specs.declared.types.TheConstants.{E820_TYPE_RAM, E820_TYPE_RESERVED, E820_TYPE_ACPI, E820_TYPE_NVS, E820_TYPE_UNUSABLE, E820_TYPE_PMEM, E820_TYPE_PRAM, E820_TYPE_RESERVED_KERN, E820_TYPE_SOFT_RESERVED}
+use Rattle.debugfs_reports.specs.Lines.{range_text}
+
+-- the name of a type (`enum e820_type`)
+abbrev pub kind_name : ℕ → List ℕ
+kind_name k =
+    if k == E820_TYPE_RAM then codes "usable"
+    else (if k == E820_TYPE_RESERVED then codes "reserved"
+    else (if k == E820_TYPE_ACPI then codes "ACPI data"
+    else (if k == E820_TYPE_NVS then codes "ACPI NVS"
+    else (if k == E820_TYPE_UNUSABLE then codes "unusable"
+    else (if k == E820_TYPE_PMEM then codes "persistent"
+    else (if k == E820_TYPE_PRAM then codes "persistent legacy"
+    else (if k == E820_TYPE_RESERVED_KERN then codes "usable kernel"
+    else (if k == E820_TYPE_SOFT_RESERVED then codes "soft reserved"
+    else codes "other"))))))))
+
+-- the addresses of a run
+abbrev pub range_of : RunOf ℕ → Extent
+range_of r = record { base = r.base; size = r.size }
+
+-- the line of a run: its range, the number of its type and the type's name; the index isn't in it
+abbrev pub map_line : ℕ → RunOf ℕ → List ℕ
+map_line n r = range_text (range_of r) ++ codes " " ++ decimal r.value ++ codes " " ++ kind_name r.value ++ codes "\n"

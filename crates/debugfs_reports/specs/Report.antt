@@ -1,0 +1,25 @@
+-- The reports that there are: the name and the text of each.
+use Rattle.std.specs.Prelude.{ℕ, Bool, List, [], ◌∷◌, codes, Option, find}
+use Rattle.std.specs.Str.{bytes_eq}
+use Rattle.boot_model.specs.Boot.{Made}
+use Rattle.debugfs_reports.specs.declared.report.Report.{Report}
+use Rattle.debugfs_reports.specs.declared.report.Report.TheVariants as reports
+use Rattle.debugfs_reports.specs.Lines.{lines_from}
+use Rattle.debugfs_reports.specs.MapText.{map_line}
+
+abbrev pub name_of : Report → List ℕ
+name_of reports.Map = codes "map"
+
+abbrev pub all_reports : List Report
+all_reports = reports.Map ∷ []
+
+-- the first of the reports that has the name
+abbrev pub first_named : List Report → List ℕ → Option Report
+first_named reports name = find (λ report. bytes_eq name (name_of report)) reports
+
+abbrev pub report_named : List ℕ → Option Report
+report_named name = first_named all_reports name
+
+-- the text of a report, from what the boot made
+abbrev pub report_text : Report → Made → List ℕ
+report_text reports.Map made = lines_from map_line 0 made.map

@@ -1,0 +1,25 @@
+//! Lines, one for each element of a list.
+
+ghost use Rattle.std.specs.Prelude.{◌≡◌, ℕ, ◌<◌, ◌++◌, List, OnOk, length};
+ghost use Rattle.debugfs_reports.specs.Lines.{lines_from};
+
+use bm_base::Memory;
+
+/// Appends the line of each element, in their order. `put` appends the line of one, which it is handed
+/// with its index, from 0.
+pub fn put_lines<T, F: Fn(&mut Vec<u8>, u64, &T) -> Result<(), Memory>>(
+    text: &mut Vec<u8>,
+    items: &[T],
+    put: F,
+) -> Result<(), Memory>
+    requires { (t : _) (i : _) (x : _) → i < length items.now → F.pre put t i x }
+    ensures { (line : ℕ → T → List ℕ)
+        → ((t : _) (i : _) (x : _) (answer : _) (u : _) → F.post put t i x answer u
+        → OnOk answer (u.now.items ≡ t.now.items ++ line i x.now))
+        → OnOk result (text.new.items ≡ text.old.items ++ lines_from line 0 items.now) }
+{
+    for (index, item) in items.iter().enumerate() {
+        put(text, index as u64, item)?;
+    }
+    Ok(())
+}

@@ -1,0 +1,41 @@
+//! The report of the map: a line for each run.
+
+ghost use Rattle.std.specs.Prelude.{◌≡◌, ◌++◌, OnOk};
+ghost use Rattle.debugfs_reports.specs.MapText.{kind_name, map_line};
+
+use crate::pieces::put_range;
+use bm_base::{Memory, put_dec, put_text};
+use e820_model::{
+    E820_TYPE_ACPI, E820_TYPE_NVS, E820_TYPE_PMEM, E820_TYPE_PRAM, E820_TYPE_RAM,
+    E820_TYPE_RESERVED, E820_TYPE_RESERVED_KERN, E820_TYPE_SOFT_RESERVED, E820_TYPE_UNUSABLE, Run,
+};
+
+/// The name of a type (`enum e820_type`).
+fn kind_name(kind: u32) -> &'static str
+    ensures { result.now ≡ kind_name kind }
+{
+    match kind {
+        E820_TYPE_RAM => "usable",
+        E820_TYPE_RESERVED => "reserved",
+        E820_TYPE_ACPI => "ACPI data",
+        E820_TYPE_NVS => "ACPI NVS",
+        E820_TYPE_UNUSABLE => "unusable",
+        E820_TYPE_PMEM => "persistent",
+        E820_TYPE_PRAM => "persistent legacy",
+        E820_TYPE_RESERVED_KERN => "usable kernel",
+        E820_TYPE_SOFT_RESERVED => "soft reserved",
+        _ => "other",
+    }
+}
+
+/// Appends the line of a run.
+pub fn put_map_line(text: &mut Vec<u8>, index: u64, run: &Run) -> Result<(), Memory>
+    ensures { OnOk result (text.new.items ≡ text.old.items ++ map_line index run.now) }
+{
+    put_range(text, &run.range)?;
+    put_text(text, b" ")?;
+    put_dec(text, u64::from(run.kind), 0)?;
+    put_text(text, b" ")?;
+    put_text(text, kind_name(run.kind).as_bytes())?;
+    put_text(text, b"\n")
+}

@@ -1,0 +1,73 @@
+//! The reports that there are, their names and their texts.
+
+ghost use Rattle.std.specs.Prelude.{◌≡◌, ◌++◌, IfOk, OnOk};
+ghost use Rattle.std.specs.Str.{bytes_eq};
+ghost use Rattle.boot_model.specs.View.{booted_view};
+ghost use Rattle.debugfs_reports.specs.Report.{name_of, report_named, report_text};
+
+use crate::lines::put_lines;
+use crate::map::put_map_line;
+use bm_base::Memory;
+use boot_model::Booted;
+use std::alloc::Global;
+
+/// A report of a boot.
+#[derive(Clone, Copy, Debug, PartialEq, Eq)]
+pub enum Report {
+    /// The map: each run, with its type's number and name.
+    Map,
+}
+
+impl Report {
+    /// The name by which it is asked for.
+    pub fn name(self) -> &'static str
+        ensures { result.now ≡ name_of self }
+    {
+        match self {
+            Report::Map => "map",
+        }
+    }
+}
+
+/// The reports that there are.
+const REPORTS: [Report; 1] = [Report::Map];
+
+/// Whether that is the name of the report.
+fn is_named(report: Report, name: &[u8]) -> bool
+    ensures { result ≡ bytes_eq name.now (name_of report) }
+{
+    name == report.name().as_bytes()
+}
+
+/// The report of the name; `None` exactly where no report has it. Takes no memory.
+pub fn report_named(name: &[u8]) -> Option<Report>
+    ensures { result ≡ report_named name.now }
+{
+    let mut rest: &[Report] = &REPORTS;
+    while let [report, others @ ..] = rest {
+        if is_named(*report, name) {
+            return Some(*report);
+        }
+        rest = others;
+    }
+    None
+}
+
+/// The text of a report.
+pub fn render(alloc: Global, report: Report, booted: &Booted) -> Result<Vec<u8>, Memory>
+    ensures { IfOk result (λ text. text.items ≡ report_text report (booted_view booted.now)) }
+{
+    let mut text = Vec::new(alloc);
+    put_report(&mut text, report, booted)?;
+    Ok(text)
+}
+
+/// Appends the text of a report.
+fn put_report(text: &mut Vec<u8>, report: Report, booted: &Booted) -> Result<(), Memory>
+    ensures { OnOk result (text.new.items
+        ≡ text.old.items ++ report_text report (booted_view booted.now)) }
+{
+    match report {
+        Report::Map => put_lines(text, &booted.map, put_map_line),
+    }
+}
