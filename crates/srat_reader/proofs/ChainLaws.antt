@@ -141,13 +141,14 @@ not_memory bytes (at ∷ rest) is = by (not_memory bytes rest) (is_whole at byte
 few_offsets : (n at : ℕ) (bytes : List ℕ) → length (offsets_from n at bytes) ≤ n
 unfolding offsets_from
 few_offsets zero at bytes = omega arith
-few_offsets (suc n) at bytes = by (few_offsets n (at + length_at at bytes) bytes) (nat_le (length bytes) at) (is_whole at bytes) refl refl where
-  by : length (offsets_from n (at + length_at at bytes) bytes) ≤ n
-      → (ended whole : Bool) → nat_le (length bytes) at ≡ ended → is_whole at bytes ≡ whole
-      → length (offsets_from (suc n) at bytes) ≤ suc n
-  by behind true whole ended is = rw ended (omega arith)
-  by behind false false before broken = rw (before, broken) (omega arith)
-  by behind false true before whole = rw (before, whole) (omega arith)
+few_offsets (suc n) at bytes =
+    by (few_offsets n (at + length_at at bytes) bytes) (nat_le (length bytes) at) (is_whole at bytes) refl refl where
+      by : length (offsets_from n (at + length_at at bytes) bytes) ≤ n
+          → (ended whole : Bool) → nat_le (length bytes) at ≡ ended → is_whole at bytes ≡ whole
+          → length (offsets_from (suc n) at bytes) ≤ suc n
+      by behind true whole ended is = rw ended (omega arith)
+      by behind false false before broken = rw (before, broken) (omega arith)
+      by behind false true before whole = rw (before, whole) (omega arith)
 
 few_kept : {X : Type 0} (f : ℕ → Option X) (xs : List ℕ) → length (filter_map f xs) ≤ length xs
 few_kept f [] = omega arith

@@ -1,10 +1,10 @@
 -- Small tables, computed: what the definitions say of their bytes.
-use Rattle.std.proofs.Common.{◌≡◌, ℕ, true, false, List, [], ◌∷◌, ◌++◌, Some, None, refl}
+use Rattle.std.proofs.Common.{Ok, Err, ◌≡◌, ℕ, true, false, List, [], ◌∷◌, ◌++◌, Some, None, refl}
 use Rattle.std.specs.Prelude.{replicate, codes}
 use Rattle.srat_reader.specs.declared.entries.Said.TheVariants as said
 use Rattle.srat_reader.specs.declared.table.SratFault.TheVariants as faults
 use Rattle.srat_reader.specs.Entries.{number_at, revision_of, type_at, length_at, fits_type, is_whole, is_enabled, apic_domain, block_domain, x2apic_domain, where_enabled, memory_at, said_at, is_far}
-use Rattle.srat_reader.specs.Table.{header_fault, offsets_from, offsets_of, fault_at, first_fault, srat_fault, processor_of, block_of, processor_at, block_at, processors_of, blocks_of}
+use Rattle.srat_reader.specs.Table.{header_fault, offsets_from, offsets_of, fault_at, first_fault, srat_fault, processor_of, block_of, processor_at, block_at, processors_of, blocks_of, unless_fault, srat_of}
 
 -- the header of a table of that length (below 256), revision and checksum byte
 abbrev header : ℕ → ℕ → ℕ → List ℕ
@@ -42,7 +42,10 @@ two_bytes = refl
 third_revision : (revision_of (header 48 3 0) ≡ 3) × (revision_of (header 48 1 0) ≡ 1)
 third_revision = (refl, refl)
 
-begins_with : (type_at 1 (7 ∷ memory 1) ≡ 1) × (length_at 1 (7 ∷ memory 1) ≡ 40) × (type_at 0 (x2apic 0) ≡ 2) × (length_at 0 (x2apic 0) ≡ 24)
+begins_with : (type_at 1 (7 ∷ memory 1) ≡ 1)
+    × (length_at 1 (7 ∷ memory 1) ≡ 40)
+    × (type_at 0 (x2apic 0) ≡ 2)
+    × (length_at 0 (x2apic 0) ≡ 24)
 begins_with = (refl, refl, refl, refl)
 
 -- the lengths of the three types, and any length of another type
@@ -85,7 +88,8 @@ x2apic_of_any_revision = (refl, refl)
 enabled_alone : (where_enabled true (said.Processor 3) ≡ said.Processor 3) × (where_enabled false (said.Processor 3) ≡ said.Nothing)
 enabled_alone = (refl, refl)
 
-says_memory : (memory_at 48 (header 88 3 0 ++ memory 0) ≡ said.Block 0x105 0x2000 0x1000) × (said_at 48 (header 88 3 0 ++ memory 1) ≡ said.Block 0x105 0x2000 0x1000)
+says_memory : (memory_at 48 (header 88 3 0 ++ memory 0) ≡ said.Block 0x105 0x2000 0x1000)
+    × (said_at 48 (header 88 3 0 ++ memory 1) ≡ said.Block 0x105 0x2000 0x1000)
 unfolding said_at block_domain
 says_memory = (refl, refl)
 
@@ -93,12 +97,16 @@ says_nothing : (said_at 48 (header 88 3 0 ++ memory 2) ≡ said.Nothing) × (sai
 unfolding said_at
 says_nothing = (refl, refl)
 
-says_processors : (said_at 48 (header 64 3 0 ++ apic 1) ≡ said.Processor 0x04030201) × (said_at 48 (header 72 3 0 ++ x2apic 1) ≡ said.Processor 0x0C0D)
+says_processors : (said_at 48 (header 64 3 0 ++ apic 1) ≡ said.Processor 0x04030201)
+    × (said_at 48 (header 72 3 0 ++ x2apic 1) ≡ said.Processor 0x0C0D)
 unfolding said_at apic_domain
 says_processors = (refl, refl)
 
 -- 2^64 - 1 isn't too far, and 2^64 is
-far_memory : (is_far (said.Block 0 0xFFFFFFFFFFFFF000 0xFFF) ≡ false) × (is_far (said.Block 0 0xFFFFFFFFFFFFF000 0x1000) ≡ true) × (is_far (said.Processor 7) ≡ false) × (is_far said.Nothing ≡ false)
+far_memory : (is_far (said.Block 0 0xFFFFFFFFFFFFF000 0xFFF) ≡ false)
+    × (is_far (said.Block 0 0xFFFFFFFFFFFFF000 0x1000) ≡ true)
+    × (is_far (said.Processor 7) ≡ false)
+    × (is_far said.Nothing ≡ false)
 far_memory = (refl, refl, refl, refl)
 
 -- the faults of the header, in their order
@@ -132,7 +140,8 @@ fault_of_one : (fault_at (9 ∷ []) 0 ≡ Some (faults.EntryLength 0)) × (fault
 unfolding is_whole said_at
 fault_of_one = (refl, refl)
 
-far_at_48 : (fault_at (header 88 1 0 ++ last_memory 0 0x10) 48 ≡ Some (faults.BlockTooFar 48)) × (fault_at (header 88 1 0 ++ last_memory 0xFF 0x0F) 48 ≡ None)
+far_at_48 : (fault_at (header 88 1 0 ++ last_memory 0 0x10) 48 ≡ Some (faults.BlockTooFar 48))
+    × (fault_at (header 88 1 0 ++ last_memory 0xFF 0x0F) 48 ≡ None)
 unfolding is_whole said_at block_domain
 far_at_48 = (refl, refl)
 
@@ -161,22 +170,43 @@ then_the_entries = refl
 processor_told : (processor_of (said.Processor 7) ≡ Some 7) × (processor_of (said.Block 7 0 1) ≡ None) × (processor_of said.Nothing ≡ None)
 processor_told = (refl, refl, refl)
 
-block_told : (block_of (said.Block 7 2 1) ≡ Some (record { domain = 7; range = record { base = 2; size = 1 } })) × (block_of (said.Processor 7) ≡ None) × (block_of said.Nothing ≡ None)
+block_told : (block_of (said.Block 7 2 1) ≡ Some (record { domain = 7; range = record { base = 2; size = 1 } }))
+    × (block_of (said.Processor 7) ≡ None)
+    × (block_of said.Nothing ≡ None)
 block_told = (refl, refl, refl)
 
 told_by_the_entry : (processor_at (header 72 1 0 ++ x2apic 1) 48 ≡ Some 0x0C0D) × (block_at (header 72 1 0 ++ x2apic 1) 48 ≡ None)
 unfolding said_at
 told_by_the_entry = (refl, refl)
 
-told_of_memory : (processor_at (header 88 1 0 ++ memory 1) 48 ≡ None) × (block_at (header 88 1 0 ++ memory 1) 48 ≡ Some (record { domain = 5; range = record { base = 0x2000; size = 0x1000 } }))
+told_of_memory : (processor_at (header 88 1 0 ++ memory 1) 48 ≡ None)
+    × (block_at (header 88 1 0 ++ memory 1) 48 ≡ Some (record { domain = 5; range = record { base = 0x2000; size = 0x1000 } }))
 unfolding said_at block_domain
 told_of_memory = (refl, refl)
 
 both_lists : (processors_of (header 144 2 0 ++ x2apic 1 ++ memory 1 ++ apic 1 ++ apic 0) ≡ 0x0C0D ∷ 0x04030201 ∷ [])
-    × (blocks_of (header 144 2 0 ++ x2apic 1 ++ memory 1 ++ apic 1 ++ apic 0) ≡ record { domain = 0x105; range = record { base = 0x2000; size = 0x1000 } } ∷ [])
+    × (blocks_of (header 144 2 0 ++ x2apic 1 ++ memory 1 ++ apic 1 ++ apic 0)
+    ≡ record { domain = 0x105; range = record { base = 0x2000; size = 0x1000 } } ∷ [])
 unfolding offsets_from is_whole said_at apic_domain block_domain
 both_lists = (refl, refl)
 
 disabled_alone : (processors_of (header 104 2 0 ++ memory 0 ++ apic 2) ≡ []) × (blocks_of (header 104 2 0 ++ memory 0 ++ apic 2) ≡ [])
 unfolding offsets_from is_whole said_at apic_domain block_domain
 disabled_alone = (refl, refl)
+
+-- the whole: the lists, or the fault in their place
+lists_or_fault : (unless_fault None (record { processors = 7 ∷ []; blocks = [] }) ≡ Ok (record { processors = 7 ∷ []; blocks = [] }))
+    × (unless_fault (Some faults.Checksum) (record { processors = 7 ∷ []; blocks = [] }) ≡ Err faults.Checksum)
+lists_or_fault = (refl, refl)
+
+smallest_table : srat_of (header 48 1 0x95) ≡ Ok (record { processors = []; blocks = [] })
+unfolding offsets_from
+smallest_table = refl
+
+one_processor : srat_of (header 72 1 0x25 ++ x2apic 1) ≡ Ok (record { processors = 0x0C0D ∷ []; blocks = [] })
+unfolding offsets_from is_whole said_at
+one_processor = refl
+
+cut_entry : srat_of (header 50 1 0x92 ++ 1 ∷ 0 ∷ []) ≡ Err (faults.EntryLength 48)
+unfolding offsets_from is_whole
+cut_entry = refl

@@ -1,9 +1,10 @@
 -- The SRAT as a whole (`struct acpi_table_srat`): the first fault of its bytes, and the two lists of what its entries say.
-use Rattle.std.specs.Prelude.{ℕ, zero, suc, ◌+◌, ◌%◌, ◌==◌, not, nat_le, nat_lt, nat_eq, if◌then◌else◌, List, [], ◌∷◌, length, sum, codes, Option, Some, None}
+use Rattle.std.specs.Prelude.{ℕ, zero, suc, ◌+◌, ◌%◌, ◌==◌, not, nat_le, nat_lt, nat_eq, if◌then◌else◌, List, [], ◌∷◌, length, sum, codes, Option, Some, None, Result, Ok, Err}
 use Rattle.std.specs.List.{filter_map, starts_with}
 use Rattle.std.specs.Option.{option_or}
 use Rattle.srat_reader.specs.declared.entries.Said.{Said}
 use Rattle.srat_reader.specs.declared.entries.Said.TheVariants as said
+use Rattle.srat_reader.specs.declared.table.Srat.{Srat}
 use Rattle.srat_reader.specs.declared.table.SratBlock.{SratBlock}
 use Rattle.srat_reader.specs.declared.table.SratFault.{SratFault}
 use Rattle.srat_reader.specs.declared.table.SratFault.TheVariants as faults
@@ -69,3 +70,20 @@ processors_of bytes = filter_map (processor_at bytes) (offsets_of bytes)
 
 abbrev pub blocks_of : List ℕ → List SratBlock
 blocks_of bytes = filter_map (block_at bytes) (offsets_of bytes)
+
+-- what contracts see of a table: its two lists
+pub record Affinity : Type 0 where
+  pub processors : List ℕ
+  pub blocks : List SratBlock
+
+abbrev pub affinity : Srat → Affinity
+affinity srat = record { processors = srat.cpus.items; blocks = srat.blocks.items }
+
+-- the fault, where there is one, and else the lists
+abbrev pub unless_fault : Option SratFault → Affinity → Result Affinity SratFault
+unless_fault None lists = Ok lists
+unless_fault (Some fault) lists = Err fault
+
+-- what the bytes say as a whole, or their first fault
+abbrev pub srat_of : List ℕ → Result Affinity SratFault
+srat_of bytes = unless_fault (srat_fault bytes) (record { processors = processors_of bytes; blocks = blocks_of bytes })

@@ -8,7 +8,7 @@
 //! `acpi_numa_x2apic_affinity_init`, `acpi_numa_memory_affinity_init`).
 //!
 //! [`read_srat`] makes an [`Srat`] of such bytes, or names the first fault. Both are defined by offsets on
-//! the whole bytes, in `specs/Table.antt` over `specs/Entries.antt`. The bytes are gone over twice: once,
+//! the whole bytes: `srat_of` of `specs/Table.antt`, over `specs/Entries.antt`. The bytes are gone over twice: once,
 //! without memory, for a fault, and then for the values. So want of memory is answered only where the bytes
 //! have no fault.
 //!

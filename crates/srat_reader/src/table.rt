@@ -2,7 +2,8 @@
 ghost use Rattle.std.specs.Prelude.{◌≡◌, ◌≢◌, ℕ, None, Some, ◌^◌, ◌<◌, ◌≤◌, ◌%◌, ◌++◌, length, sum, IfOk, IfErr, IfNone, OnOk, false};
 ghost use Rattle.std.specs.Option.{option_to_list};
 ghost use Rattle.srat_reader.specs.Entries.{is_far};
-ghost use Rattle.srat_reader.specs.Table.{header_fault, offsets_of, first_fault, srat_fault, processor_of, block_of, processors_of, blocks_of};
+ghost use Rattle.bm_base.specs.Answers.{Answers};
+ghost use Rattle.srat_reader.specs.Table.{affinity, srat_of, header_fault, offsets_of, first_fault, srat_fault, processor_of, block_of, processors_of, blocks_of};
 
 use crate::entries::{Said, entry_length, is_too_far, is_whole_entry, read_entry};
 use bm_base::{Memory, Range};
@@ -67,11 +68,8 @@ impl From<Memory> for SratFault {
 /// Reads an SRAT of any revision: the domains of processors and the ranges of memory of its enabled
 /// entries. An enabled range of length 0 is read.
 pub fn read_srat(alloc: Global, bytes: &[u8]) -> Result<Srat, SratFault>
-    ensures fault { IfErr result (λ fault. fault ≢ SratFault.Memory → srat_fault bytes.now ≡ Some fault) }
-    ensures well_formed { OnOk result (srat_fault bytes.now ≡ None) }
+    ensures answers { Answers SratFault.Memory affinity result (srat_of bytes.now) }
     ensures memory { IfErr result (λ fault. fault ≡ SratFault.Memory → srat_fault bytes.now ≡ None) }
-    ensures processors { IfOk result (λ srat. srat.cpus.items ≡ processors_of bytes.now) }
-    ensures blocks { IfOk result (λ srat. srat.blocks.items ≡ blocks_of bytes.now) }
     ensures few_processors { IfOk result (λ srat. length srat.cpus.items < 2 ^ 32) }
     ensures few_blocks { IfOk result (λ srat. length srat.blocks.items < 2 ^ 32) }
 {

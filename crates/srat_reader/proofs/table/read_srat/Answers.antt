@@ -9,8 +9,10 @@ returns-in-Some-find_entry_fault-clause-memory c is =
 
 pub returns-clause-few_processors : goal.returns-clause-few_processors
 returns-clause-few_processors c =
-    rw c.in_ok-read_entries.ensures.processors (omega (arith, c.in_default.ensures.few, few_entries (processor_at c.args.bytes.now) c.args.bytes.now))
+    rw c.in_ok-read_entries.ensures.processors
+    (omega (arith, c.in_default.ensures.few, few_entries (processor_at c.args.bytes.now) c.args.bytes.now))
 
 pub returns-clause-few_blocks : goal.returns-clause-few_blocks
 returns-clause-few_blocks c =
-    rw c.in_ok-read_entries.ensures.blocks (omega (arith, c.in_default.ensures.few, few_entries (block_at c.args.bytes.now) c.args.bytes.now))
+    rw c.in_ok-read_entries.ensures.blocks
+    (omega (arith, c.in_default.ensures.few, few_entries (block_at c.args.bytes.now) c.args.bytes.now))
