@@ -1,0 +1,212 @@
+-- Small tables, computed: what the definitions say of their bytes.
+use Rattle.std.proofs.Common.{Ok, Err, ◌≡◌, ℕ, true, false, List, [], ◌∷◌, ◌++◌, Some, None, refl}
+use Rattle.std.specs.Prelude.{replicate, codes}
+use Rattle.srat_reader.specs.declared.entries.Said.TheVariants as said
+use Rattle.srat_reader.specs.declared.table.SratFault.TheVariants as faults
+use Rattle.srat_reader.specs.Entries.{number_at, revision_of, type_at, length_at, fits_type, is_whole, is_enabled, apic_domain, block_domain, x2apic_domain, where_enabled, memory_at, said_at, is_far}
+use Rattle.srat_reader.specs.Table.{header_fault, offsets_from, offsets_of, fault_at, first_fault, srat_fault, processor_of, block_of, processor_at, block_at, processors_of, blocks_of, unless_fault, srat_of}
+
+-- the header of a table of that length (below 256), revision and checksum byte
+abbrev header : ℕ → ℕ → ℕ → List ℕ
+header size revision check =
+    codes "SRAT" ++ (size ∷ 0 ∷ 0 ∷ 0 ∷ revision ∷ check ∷ []) ++ replicate 38 0
+
+-- the entries of a processor in domain 0x030201 + 2^24 * 4 by its APIC, of one in domain 0x0c0d by its x2APIC, and of
+-- 0x1000 bytes of memory at 0x2000 in domain 0x0105; those flags say whether they are enabled
+abbrev apic : ℕ → List ℕ
+apic flags = 0 ∷ 16 ∷ 1 ∷ 9 ∷ flags ∷ 0 ∷ 0 ∷ 0 ∷ 7 ∷ 2 ∷ 3 ∷ 4 ∷ 0 ∷ 0 ∷ 0 ∷ 0 ∷ []
+
+abbrev x2apic : ℕ → List ℕ
+x2apic flags = 2 ∷ 24 ∷ 0 ∷ 0 ∷ 0x0D ∷ 0x0C ∷ 0 ∷ 0 ∷ 9 ∷ 9 ∷ 9 ∷ 9 ∷ flags ∷ 0 ∷ 0 ∷ 0 ∷ replicate 8 0
+
+abbrev memory : ℕ → List ℕ
+memory flags =
+    1 ∷ 40 ∷ 5 ∷ 1 ∷ 0 ∷ 0 ∷ 0 ∷ 0 ∷
+    0 ∷ 0x20 ∷ 0 ∷ 0 ∷ 0 ∷ 0 ∷ 0 ∷ 0 ∷ 0 ∷ 0x10 ∷ 0 ∷ 0 ∷ 0 ∷ 0 ∷ 0 ∷ 0 ∷
+    0 ∷ 0 ∷ 0 ∷ 0 ∷ flags ∷ 0 ∷ 0 ∷ 0 ∷ replicate 8 0
+
+-- those of 0xFFF and of 0x1000 bytes at 2^64 - 0x1000: the first ends at 2^64 - 1, the second behind it
+abbrev last_memory : ℕ → ℕ → List ℕ
+last_memory low high =
+    1 ∷ 40 ∷ 0 ∷ 0 ∷ 0 ∷ 0 ∷ 0 ∷ 0 ∷
+    0 ∷ 0xF0 ∷ 0xFF ∷ 0xFF ∷ 0xFF ∷ 0xFF ∷ 0xFF ∷ 0xFF ∷ low ∷ high ∷ 0 ∷ 0 ∷ 0 ∷ 0 ∷ 0 ∷ 0 ∷
+    0 ∷ 0 ∷ 0 ∷ 0 ∷ 1 ∷ 0 ∷ 0 ∷ 0 ∷ replicate 8 0
+
+-- numbers, the lowest byte first; the revision; the type and the length of an entry
+low_byte_first : number_at 4 1 (9 ∷ 0x78 ∷ 0x56 ∷ 0x34 ∷ 0x12 ∷ []) ≡ 0x12345678
+low_byte_first = refl
+
+two_bytes : number_at 2 0 (0x34 ∷ 0x12 ∷ []) ≡ 0x1234
+two_bytes = refl
+
+third_revision : (revision_of (header 48 3 0) ≡ 3) × (revision_of (header 48 1 0) ≡ 1)
+third_revision = (refl, refl)
+
+begins_with : (type_at 1 (7 ∷ memory 1) ≡ 1)
+    × (length_at 1 (7 ∷ memory 1) ≡ 40)
+    × (type_at 0 (x2apic 0) ≡ 2)
+    × (length_at 0 (x2apic 0) ≡ 24)
+begins_with = (refl, refl, refl, refl)
+
+-- the lengths of the three types, and any length of another type
+own_lengths : (fits_type 0 16 ≡ true) × (fits_type 1 16 ≡ false) × (fits_type 2 24 ≡ true) × (fits_type 3 5 ≡ true)
+own_lengths = (refl, refl, refl, refl)
+
+-- an entry that isn't whole: one byte is left, it states less than its two bytes, or passes the end
+whole_entry : (is_whole 0 (memory 1) ≡ true) × (is_whole 0 (9 ∷ 2 ∷ []) ≡ true)
+unfolding is_whole
+whole_entry = (refl, refl)
+
+broken_entry : (is_whole 0 (9 ∷ []) ≡ false) × (is_whole 0 (9 ∷ 1 ∷ 0 ∷ []) ≡ false) × (is_whole 0 (9 ∷ 4 ∷ 0 ∷ []) ≡ false)
+unfolding is_whole
+broken_entry = (refl, refl, refl)
+
+of_another_length : (is_whole 0 (1 ∷ 2 ∷ []) ≡ false) × (is_whole 1 (7 ∷ apic 1) ≡ true)
+unfolding is_whole
+of_another_length = (refl, refl)
+
+-- bit 0 of the flags alone
+lowest_bit : (is_enabled 0 (1 ∷ 0 ∷ 0 ∷ 0 ∷ []) ≡ true) × (is_enabled 0 (3 ∷ 0 ∷ 0 ∷ 0 ∷ []) ≡ true)
+lowest_bit = (refl, refl)
+
+other_bits : (is_enabled 0 (0xFE ∷ 0xFF ∷ 0xFF ∷ 0xFF ∷ []) ≡ false) × (is_enabled 0 (0 ∷ 1 ∷ 0 ∷ 0 ∷ []) ≡ false)
+other_bits = (refl, refl)
+
+-- the upper bytes of a domain count from revision 2 on; an x2APIC's always
+domains_of_revision_1 : (apic_domain 48 (header 64 1 0 ++ apic 1) ≡ 1) × (block_domain 48 (header 88 1 0 ++ memory 1) ≡ 5)
+unfolding apic_domain block_domain
+domains_of_revision_1 = (refl, refl)
+
+domains_of_revision_2 : (apic_domain 48 (header 64 2 0 ++ apic 1) ≡ 0x04030201) × (block_domain 48 (header 88 2 0 ++ memory 1) ≡ 0x105)
+unfolding apic_domain block_domain
+domains_of_revision_2 = (refl, refl)
+
+x2apic_of_any_revision : (x2apic_domain 48 (header 72 1 0 ++ x2apic 1) ≡ 0x0C0D) × (x2apic_domain 0 (x2apic 0) ≡ 0x0C0D)
+x2apic_of_any_revision = (refl, refl)
+
+-- what an entry says, and nothing where it isn't enabled or is of another type
+enabled_alone : (where_enabled true (said.Processor 3) ≡ said.Processor 3) × (where_enabled false (said.Processor 3) ≡ said.Nothing)
+enabled_alone = (refl, refl)
+
+says_memory : (memory_at 48 (header 88 3 0 ++ memory 0) ≡ said.Block 0x105 0x2000 0x1000)
+    × (said_at 48 (header 88 3 0 ++ memory 1) ≡ said.Block 0x105 0x2000 0x1000)
+unfolding said_at block_domain
+says_memory = (refl, refl)
+
+says_nothing : (said_at 48 (header 88 3 0 ++ memory 2) ≡ said.Nothing) × (said_at 48 (header 50 3 0 ++ 9 ∷ 2 ∷ []) ≡ said.Nothing)
+unfolding said_at
+says_nothing = (refl, refl)
+
+says_processors : (said_at 48 (header 64 3 0 ++ apic 1) ≡ said.Processor 0x04030201)
+    × (said_at 48 (header 72 3 0 ++ x2apic 1) ≡ said.Processor 0x0C0D)
+unfolding said_at apic_domain
+says_processors = (refl, refl)
+
+-- 2^64 - 1 isn't too far, and 2^64 is
+far_memory : (is_far (said.Block 0 0xFFFFFFFFFFFFF000 0xFFF) ≡ false)
+    × (is_far (said.Block 0 0xFFFFFFFFFFFFF000 0x1000) ≡ true)
+    × (is_far (said.Processor 7) ≡ false)
+    × (is_far said.Nothing ≡ false)
+far_memory = (refl, refl, refl, refl)
+
+-- the faults of the header, in their order
+too_short : (header_fault [] ≡ Some faults.Short) × (header_fault (replicate 47 0) ≡ Some faults.Short)
+too_short = (refl, refl)
+
+other_signature : header_fault (replicate 48 0) ≡ Some faults.Signature
+other_signature = refl
+
+other_length : header_fault (header 49 1 0) ≡ Some faults.Length
+other_length = refl
+
+other_sum : (header_fault (header 48 1 0x96) ≡ Some faults.Checksum) × (header_fault (header 48 1 0x95) ≡ None)
+other_sum = (refl, refl)
+
+-- the entries' offsets: each behind the one before, up to the one that isn't whole
+two_offsets : offsets_of (header 128 1 0 ++ x2apic 1 ++ (9 ∷ 16 ∷ replicate 14 0) ++ memory 1) ≡ 48 ∷ 72 ∷ 88 ∷ []
+unfolding offsets_from is_whole
+two_offsets = refl
+
+up_to_the_broken_one : offsets_of (header 92 1 0 ++ x2apic 1 ++ (9 ∷ 1 ∷ []) ++ apic 1) ≡ 48 ∷ 72 ∷ []
+unfolding offsets_from is_whole
+up_to_the_broken_one = refl
+
+no_offset : (offsets_of (header 48 1 0) ≡ []) × (offsets_from 1 0 (x2apic 1 ++ x2apic 1) ≡ 0 ∷ [])
+unfolding offsets_from is_whole
+no_offset = (refl, refl)
+
+-- the fault of one entry: that it isn't whole goes before what it says
+fault_of_one : (fault_at (9 ∷ []) 0 ≡ Some (faults.EntryLength 0)) × (fault_at (header 50 1 0 ++ 9 ∷ 2 ∷ []) 48 ≡ None)
+unfolding is_whole said_at
+fault_of_one = (refl, refl)
+
+far_at_48 : (fault_at (header 88 1 0 ++ last_memory 0 0x10) 48 ≡ Some (faults.BlockTooFar 48))
+    × (fault_at (header 88 1 0 ++ last_memory 0xFF 0x0F) 48 ≡ None)
+unfolding is_whole said_at block_domain
+far_at_48 = (refl, refl)
+
+-- the first entry with a fault gives it, whichever of the two it is
+far_before_broken : first_fault (header 90 1 0 ++ last_memory 0 0x10 ++ 9 ∷ 1 ∷ []) (48 ∷ 88 ∷ []) ≡ Some (faults.BlockTooFar 48)
+unfolding is_whole said_at block_domain
+far_before_broken = refl
+
+broken_behind_near : first_fault (header 90 1 0 ++ last_memory 0xFF 0x0F ++ 9 ∷ 1 ∷ []) (48 ∷ 88 ∷ []) ≡ Some (faults.EntryLength 88)
+unfolding is_whole said_at block_domain
+broken_behind_near = refl
+
+no_entry_no_fault : first_fault (header 48 1 0) [] ≡ None
+no_entry_no_fault = refl
+
+-- the header's fault goes before an entry's; a table of 50 bytes whose entry states no length
+header_first : srat_fault (header 50 1 0 ++ 1 ∷ 0 ∷ []) ≡ Some faults.Checksum
+unfolding offsets_from is_whole
+header_first = refl
+
+then_the_entries : srat_fault (header 50 1 0x92 ++ 1 ∷ 0 ∷ []) ≡ Some (faults.EntryLength 48)
+unfolding offsets_from is_whole
+then_the_entries = refl
+
+-- the two lists, in the order of the table
+processor_told : (processor_of (said.Processor 7) ≡ Some 7) × (processor_of (said.Block 7 0 1) ≡ None) × (processor_of said.Nothing ≡ None)
+processor_told = (refl, refl, refl)
+
+block_told : (block_of (said.Block 7 2 1) ≡ Some (record { domain = 7; range = record { base = 2; size = 1 } }))
+    × (block_of (said.Processor 7) ≡ None)
+    × (block_of said.Nothing ≡ None)
+block_told = (refl, refl, refl)
+
+told_by_the_entry : (processor_at (header 72 1 0 ++ x2apic 1) 48 ≡ Some 0x0C0D) × (block_at (header 72 1 0 ++ x2apic 1) 48 ≡ None)
+unfolding said_at
+told_by_the_entry = (refl, refl)
+
+told_of_memory : (processor_at (header 88 1 0 ++ memory 1) 48 ≡ None)
+    × (block_at (header 88 1 0 ++ memory 1) 48 ≡ Some (record { domain = 5; range = record { base = 0x2000; size = 0x1000 } }))
+unfolding said_at block_domain
+told_of_memory = (refl, refl)
+
+both_lists : (processors_of (header 144 2 0 ++ x2apic 1 ++ memory 1 ++ apic 1 ++ apic 0) ≡ 0x0C0D ∷ 0x04030201 ∷ [])
+    × (blocks_of (header 144 2 0 ++ x2apic 1 ++ memory 1 ++ apic 1 ++ apic 0)
+    ≡ record { domain = 0x105; range = record { base = 0x2000; size = 0x1000 } } ∷ [])
+unfolding offsets_from is_whole said_at apic_domain block_domain
+both_lists = (refl, refl)
+
+disabled_alone : (processors_of (header 104 2 0 ++ memory 0 ++ apic 2) ≡ []) × (blocks_of (header 104 2 0 ++ memory 0 ++ apic 2) ≡ [])
+unfolding offsets_from is_whole said_at apic_domain block_domain
+disabled_alone = (refl, refl)
+
+-- the whole: the lists, or the fault in their place
+lists_or_fault : (unless_fault None (record { processors = 7 ∷ []; blocks = [] }) ≡ Ok (record { processors = 7 ∷ []; blocks = [] }))
+    × (unless_fault (Some faults.Checksum) (record { processors = 7 ∷ []; blocks = [] }) ≡ Err faults.Checksum)
+lists_or_fault = (refl, refl)
+
+smallest_table : srat_of (header 48 1 0x95) ≡ Ok (record { processors = []; blocks = [] })
+unfolding offsets_from
+smallest_table = refl
+
+one_processor : srat_of (header 72 1 0x25 ++ x2apic 1) ≡ Ok (record { processors = 0x0C0D ∷ []; blocks = [] })
+unfolding offsets_from is_whole said_at
+one_processor = refl
+
+cut_entry : srat_of (header 50 1 0x92 ++ 1 ∷ 0 ∷ []) ≡ Err (faults.EntryLength 48)
+unfolding offsets_from is_whole
+cut_entry = refl

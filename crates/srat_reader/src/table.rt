@@ -1,0 +1,168 @@
+//! The table as a whole: its header, the chain of its entries, the first fault and the two lists.
+ghost use Rattle.std.specs.Prelude.{◌≡◌, ◌≢◌, ℕ, None, Some, ◌^◌, ◌<◌, ◌≤◌, ◌%◌, ◌++◌, length, sum, IfOk, IfErr, IfNone, OnOk, false};
+ghost use Rattle.std.specs.Option.{option_to_list};
+ghost use Rattle.srat_reader.specs.Entries.{is_far};
+ghost use Rattle.bm_base.specs.Answers.{Answers};
+ghost use Rattle.srat_reader.specs.Table.{affinity, srat_of, header_fault, offsets_of, first_fault, srat_fault, processor_of, block_of, processors_of, blocks_of};
+
+use crate::entries::{Said, entry_length, is_too_far, is_whole_entry, read_entry};
+use bm_base::{Memory, Range};
+use byteorder::{ByteOrder, LittleEndian};
+use std::alloc::Global;
+
+/// The bytes before the first entry.
+const HEADER_BYTES: usize = 48;
+
+/// Where the table's length stands.
+const LENGTH_OFFSET: usize = 4;
+
+/// A range of memory and the domain that it is in.
+#[derive(Clone, Copy, Debug, PartialEq, Eq)]
+pub struct SratBlock {
+    /// The domain, as the firmware numbers it.
+    pub domain: u32,
+    /// Its addresses; there may be none.
+    pub range: Range,
+}
+
+/// What the enabled entries of a table say, each list in the order of the table.
+#[derive(Debug, Drop)]
+pub struct Srat {
+    /// The domains of processors.
+    pub cpus: Vec<u32>,
+    /// The ranges of memory with their domains.
+    pub blocks: Vec<SratBlock>,
+}
+
+/// Why bytes are no SRAT. The first four are tried in the order of this list, and then the entries by
+/// ascending offset: the first one that has a fault gives it.
+#[derive(Clone, Copy, Debug, PartialEq, Eq)]
+pub enum SratFault {
+    /// There are fewer than 48 bytes.
+    Short,
+    /// The first four bytes aren't `SRAT`.
+    Signature,
+    /// The stated length isn't the number of bytes.
+    Length,
+    /// The bytes don't sum to 0 modulo 256.
+    Checksum,
+    /// No whole entry begins at this offset: one byte alone is left, or the entry's length is below 2, or
+    /// passes the end, or the type is 0, 1 or 2 with another length than its own.
+    EntryLength { offset: u32 },
+    /// The entry at this offset is an enabled range of memory whose base plus length exceeds 2^64 - 1.
+    BlockTooFar { offset: u32 },
+    /// The program's own memory ran out; only where the bytes have none of the other faults.
+    Memory,
+}
+
+impl From<Memory> for SratFault {
+    ghost use Rattle.srat_reader.specs.declared.table.SratFault.TheVariants as faults;
+
+    ghost from_gives = { λ _ fault. fault ≡ faults.Memory };
+
+    fn from(_error: Memory) -> SratFault {
+        SratFault::Memory
+    }
+}
+
+/// Reads an SRAT of any revision: the domains of processors and the ranges of memory of its enabled
+/// entries. An enabled range of length 0 is read.
+pub fn read_srat(alloc: Global, bytes: &[u8]) -> Result<Srat, SratFault>
+    ensures answers { Answers SratFault.Memory affinity result (srat_of bytes.now) }
+    ensures memory { IfErr result (λ fault. fault ≡ SratFault.Memory → srat_fault bytes.now ≡ None) }
+    ensures few_processors { IfOk result (λ srat. length srat.cpus.items < 2 ^ 32) }
+    ensures few_blocks { IfOk result (λ srat. length srat.blocks.items < 2 ^ 32) }
+{
+    if let Some(fault) = find_header_fault(bytes) {
+        return Err(fault);
+    }
+    if let Some(fault) = find_entry_fault(bytes) {
+        return Err(fault);
+    }
+    Ok(read_entries(alloc, bytes)?)
+}
+
+/// The first fault of the header, the stated length and the checksum.
+fn find_header_fault(bytes: &[u8]) -> Option<SratFault>
+    ensures value { result ≡ header_fault bytes.now }
+    ensures few { IfNone result (length bytes.now < 2 ^ 32) }
+{
+    if bytes.len() < HEADER_BYTES {
+        return Some(SratFault::Short);
+    }
+    if !bytes.starts_with(b"SRAT") {
+        return Some(SratFault::Signature);
+    }
+    if LittleEndian::read_u32(&bytes[LENGTH_OFFSET..]) as usize != bytes.len() {
+        return Some(SratFault::Length);
+    }
+    if checksum(bytes) != 0 {
+        return Some(SratFault::Checksum);
+    }
+    None
+}
+
+/// The sum of the bytes modulo 256.
+fn checksum(bytes: &[u8]) -> u8
+    ensures { result ≡ sum bytes.now % 256 }
+{
+    let mut total: u8 = 0;
+    for byte in bytes {
+        total = total.wrapping_add(*byte);
+    }
+    total
+}
+
+/// The fault of the first entry that has one.
+fn find_entry_fault(bytes: &[u8]) -> Option<SratFault>
+    requires { length bytes.now < 2 ^ 32 }
+    ensures { result ≡ first_fault bytes.now (offsets_of bytes.now) }
+{
+    let mut at = HEADER_BYTES;
+    while at < bytes.len() {
+        let offset = at as u32;
+        if !is_whole_entry(bytes, at) {
+            return Some(SratFault::EntryLength { offset });
+        }
+        if is_too_far(read_entry(bytes, at)) {
+            return Some(SratFault::BlockTooFar { offset });
+        }
+        at += entry_length(bytes, at);
+    }
+    None
+}
+
+/// What the entries say, where none has a fault.
+fn read_entries(alloc: Global, bytes: &[u8]) -> Result<Srat, Memory>
+    requires { first_fault bytes.now (offsets_of bytes.now) ≡ None }
+    ensures processors { IfOk result (λ srat. srat.cpus.items ≡ processors_of bytes.now) }
+    ensures blocks { IfOk result (λ srat. srat.blocks.items ≡ blocks_of bytes.now) }
+{
+    let mut srat = Srat {
+        cpus: Vec::new(alloc),
+        blocks: Vec::new(alloc),
+    };
+    let mut at = HEADER_BYTES;
+    while at < bytes.len() {
+        keep(&mut srat, read_entry(bytes, at))?;
+        at += entry_length(bytes, at);
+    }
+    Ok(srat)
+}
+
+/// Adds what an entry says, behind what those before it said.
+fn keep(srat: &mut Srat, said: Said) -> Result<(), Memory>
+    requires { is_far said ≡ false }
+    ensures processors { OnOk result (srat.new.cpus.items ≡ srat.old.cpus.items ++ option_to_list (processor_of said)) }
+    ensures blocks { OnOk result (srat.new.blocks.items ≡ srat.old.blocks.items ++ option_to_list (block_of said)) }
+{
+    match said {
+        Said::Nothing => {}
+        Said::Processor { domain } => srat.cpus.push(domain)?,
+        Said::Block { domain, base, size } => {
+            let range = Range { base, size };
+            srat.blocks.push(SratBlock { domain, range })?;
+        }
+    }
+    Ok(())
+}
