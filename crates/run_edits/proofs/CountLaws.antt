@@ -1,13 +1,14 @@
 -- How many runs an edit adds at most: covering a range as many as it has bare pieces, taking the range out one, any other change two.
 use Rattle.std.proofs.Common.{◌≡◌, ℕ, ◌+◌, ◌-◌, ◌^◌, ◌≤◌, ◌==◌, Bool, true, false, ◌&&◌, if◌then◌else◌, is_none, Option, Some, None, List, length, refl, ◌∙◌, ap, inl, inr, arith}
 use Rattle.std.specs.Prelude.{unwrap_or}
+use Rattle.std.specs.Option.{option_map}
 use Rattle.std.proofs.lemmas.Bool.Decides.{nat_tests}
 use Rattle.std.proofs.lemmas.Bool.{cases_Bool}
 use Rattle.bm_base.specs.Extent.{Extent, covers}
 use Rattle.address_runs.specs.Runs.{RunOf, Tells, value_at, AreRuns, IsRunsOf, runs_of}
-use Rattle.address_runs.specs.Edits.{amended, covered, uncovered, bare, NothingFrom}
+use Rattle.address_runs.specs.Edits.{amended, covered, uncovered, relabelled, replaced, bare, NothingFrom}
 use Rattle.address_runs.proofs.RunsLaws.{by_address}
-use Rattle.address_runs.proofs.EditLaws.{not_covered}
+use Rattle.address_runs.proofs.EditLaws.{not_covered, nothing-covered, nothing-uncovered, nothing-relabelled, nothing-replaced}
 use Rattle.run_edits.specs.Records.{EndsNoRun}
 use Rattle.run_edits.specs.Ends.{total, edge, edges, spike, HasRoom}
 use Rattle.run_edits.proofs.EndLaws.{total-fewer, total-add, total-split, spikes_few, edge-self, edge-few, all_ends}
@@ -25,6 +26,12 @@ spikes_two r n =
     let one = spikes_few r.base 0 n in
     let other = spikes_few (r.base + r.size) 0 n in
     omega (arith, both, one, other)
+
+-- the sum up to an address is at most that of all
+total_start : (g : ℕ → ℕ) (at few : ℕ) → at ≤ 2 ^ 64 → total g 0 (2 ^ 64) ≤ few → total g 0 at ≤ few
+total_start g at few le all =
+    let parts : total g 0 (2 ^ 64) ≡ total g 0 at + total g at (2 ^ 64 - at) = total-split g 0 at (2 ^ 64 - at) (2 ^ 64) at (omega arith) (omega arith) in
+    omega (arith, all, parts)
 
 module _ {X : Type 0} where
   -- a function that ends few more runs than another at each address has so many more runs
@@ -121,3 +128,60 @@ module _ {X : Type 0} where
       let told : value_at (runs_of same (bare r w f)) ≡ bare r w f = λ k x. known.each x k in
       all_ends same tells (runs_of same (bare r w f)) known.runs (λ x le. known.each x ∙ none x le)
       ∙ ap (λ (h : ℕ → Option X). total (edges same h) 0 (2 ^ 64)) told
+
+  -- there is room on the way where there is room for the runs and for those that the edit may add
+  pub covered_room : (same : X → X → Bool) → Tells same → (r : Extent) (v w : X) (rs : List (RunOf X)) (room : ℕ) → r.base + r.size ≤ 2 ^ 64 → AreRuns rs → NothingFrom (2 ^ 64) (value_at rs)
+      → length rs + length (runs_of same (bare r w (value_at rs))) ≤ room → HasRoom same (value_at rs) (covered r v (value_at rs)) room
+  covered_room same tells r v w rs room ends runs none fits =
+      let f : ℕ → Option X = value_at rs in
+      let count : length rs ≡ total (edges same f) 0 (2 ^ 64) = all_ends same tells rs runs none in
+      let pieces : length (runs_of same (bare r w f)) ≡ total (edges same (bare r w f)) 0 (2 ^ 64) = pieces_ends same tells r w f ends in
+      room_by same tells f (covered r v f) (edges same (bare r w f)) (length (runs_of same (bare r w f))) room (covered_edges same tells r v w f)
+      (λ at le. total_start (edges same (bare r w f)) at (length (runs_of same (bare r w f))) le (omega (arith, pieces))) (omega (arith, count, fits))
+
+  pub uncovered_room : (same : X → X → Bool) → Tells same → (r : Extent) (rs : List (RunOf X)) (room : ℕ) → AreRuns rs → NothingFrom (2 ^ 64) (value_at rs)
+      → length rs + 1 ≤ room → HasRoom same (value_at rs) (uncovered r (value_at rs)) room
+  uncovered_room same tells r rs room runs none fits =
+      let f : ℕ → Option X = value_at rs in
+      let count : length rs ≡ total (edges same f) 0 (2 ^ 64) = all_ends same tells rs runs none in
+      room_by same tells f (uncovered r f) (spike r.base) 1 room (uncovered_edges same r f) (λ at le. spikes_few r.base 0 at) (omega (arith, count, fits))
+
+  -- how many runs there are after an edit
+  runs_told : (same : X → X → Bool) → Tells same → (f : ℕ → Option X) → NothingFrom (2 ^ 64) f → length (runs_of same f) ≡ total (edges same f) 0 (2 ^ 64)
+  runs_told same tells f none =
+      let known : IsRunsOf f (runs_of same f) = by_address same tells f none in
+      let told : value_at (runs_of same f) ≡ f = λ k x. known.each x k in
+      all_ends same tells (runs_of same f) known.runs (λ x le. known.each x ∙ none x le) ∙ ap (λ (h : ℕ → Option X). total (edges same h) 0 (2 ^ 64)) told
+
+  runs_more : (same : X → X → Bool) → Tells same → (f g : ℕ → Option X) (s : ℕ → ℕ) (few : ℕ) → NothingFrom (2 ^ 64) f → NothingFrom (2 ^ 64) g
+      → ((y : ℕ) → edges same g y ≤ edges same f y + s y) → total s 0 (2 ^ 64) ≤ few → length (runs_of same g) ≤ length (runs_of same f) + few
+  runs_more same tells f g s few none none_too each some =
+      let first = runs_told same tells f none in
+      let second = runs_told same tells g none_too in
+      let sums = total-more same f g s few 0 (2 ^ 64) each some in
+      omega (arith, first, second, sums)
+
+  pub covered_length : (same : X → X → Bool) → Tells same → (r : Extent) (v w : X) (f : ℕ → Option X) → r.base + r.size ≤ 2 ^ 64 → NothingFrom (2 ^ 64) f
+      → length (runs_of same (covered r v f)) ≤ length (runs_of same f) + length (runs_of same (bare r w f))
+  covered_length same tells r v w f ends none =
+      let pieces = pieces_ends same tells r w f ends in
+      runs_more same tells f (covered r v f) (edges same (bare r w f)) (length (runs_of same (bare r w f))) none (nothing-covered (2 ^ 64) r v f ends none)
+      (covered_edges same tells r v w f) (omega (arith, pieces))
+
+  pub uncovered_length : (same : X → X → Bool) → Tells same → (r : Extent) (f : ℕ → Option X) → NothingFrom (2 ^ 64) f
+      → length (runs_of same (uncovered r f)) ≤ length (runs_of same f) + 1
+  uncovered_length same tells r f none =
+      runs_more same tells f (uncovered r f) (spike r.base) 1 none (nothing-uncovered (2 ^ 64) r f none) (uncovered_edges same r f) (spikes_few r.base 0 (2 ^ 64))
+
+  pub amended_length : (same : X → X → Bool) → Tells same → (change : Option X → Option X) → EndsNoRun change → (r : Extent) (f : ℕ → Option X) → NothingFrom (2 ^ 64) f
+      → NothingFrom (2 ^ 64) (amended change r f) → length (runs_of same (amended change r f)) ≤ length (runs_of same f) + 2
+  amended_length same tells change plain r f none none_too =
+      runs_more same tells f (amended change r f) (λ x. spike r.base x + spike (r.base + r.size) x) 2 none none_too (amended_edges same tells change plain r f) (spikes_two r (2 ^ 64))
+
+  pub relabelled_length : (same : X → X → Bool) → Tells same → (r : Extent) (change : X → X) (f : ℕ → Option X) → NothingFrom (2 ^ 64) f
+      → length (runs_of same (relabelled r change f)) ≤ length (runs_of same f) + 2
+  relabelled_length same tells r change f none = amended_length same tells (option_map change) (inl refl) r f none (nothing-relabelled (2 ^ 64) r change f none)
+
+  pub replaced_length : (same : X → X → Bool) → Tells same → (r : Extent) (v : X) (f : ℕ → Option X) → r.base + r.size ≤ 2 ^ 64 → NothingFrom (2 ^ 64) f
+      → length (runs_of same (replaced r v f)) ≤ length (runs_of same f) + 2
+  replaced_length same tells r v f ends none = amended_length same tells (λ carried. Some v) (inr (λ carried. refl)) r f none (nothing-replaced (2 ^ 64) r v f ends none)

@@ -19,10 +19,12 @@
 
 mod change;
 mod edits;
+mod laws;
 mod reading;
 mod slots;
 
 pub use change::{Change, Cover, Replace, Uncover};
 pub use edits::{amend, emit, rewrite};
+pub use laws::edits_add_few;
 pub use reading::{holds, look, passed, seek, value_of};
 pub use slots::{Rows, Slots};
