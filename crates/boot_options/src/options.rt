@@ -32,7 +32,7 @@ pub struct Options {
 /// 2,047 bytes (`COMMAND_LINE_SIZE`). The word `--` ends the options. `Memory` comes only where
 /// the line has none of these faults and makes an edit.
 pub fn read_options(alloc: Global, bytes: &[u8]) -> Result<Options, OptionFault>
-    ensures gives { Answers OptionFault.Memory chosen result (options_of bytes.now) }
+    ensures answers { Answers OptionFault.Memory chosen result (options_of bytes.now) }
     ensures memory { result ≡ Err OptionFault.Memory →
         IsOkAnd (options_of bytes.now) (λ options. 0 < length options.edits) }
     ensures types { IfOk result (λ options. HaveTypes options.edits.items) }
@@ -66,7 +66,7 @@ fn read_line(bytes: &[u8]) -> Result<&[u8], OptionFault>
 /// The options, unless the user map wants further map options. It takes no memory, and tells
 /// where it was wanting for an edit.
 fn finish(reading: Reading) -> Result<Options, OptionFault>
-    ensures gives { (st : State) → HasReached reading st →
+    ensures answers { (st : State) → HasReached reading st →
         Answers OptionFault.Memory chosen result (at_line_end st) }
     ensures memory { result ≡ Err OptionFault.Memory → IsErr reading.edits }
     ensures complete { result ≡ Err OptionFault.Memory → (st : State) → HasReached reading st →

@@ -23,12 +23,12 @@ returns-in_err-reading-clause-words c =
     numbered-given c.args.bytes.now c.from_residual-in_err-reading.result answers
 
 -- the end of the line
-pub returns-clause-gives : goal.returns-clause-gives
-returns-clause-gives c =
+pub returns-clause-answers : goal.returns-clause-answers
+returns-clause-answers c =
     let end = reached c.in_ok-reading.reading _ c.in_ok-reading.ensures in
     let is : options_of c.args.bytes.now ≡ at_line_end end.0
     = options-read c.args.bytes.now c.in_ok-line.line.now end.0 c.in_ok-line.ensures.line end.2 in
-    rw is (c.finish.ensures.gives end.0 end.1)
+    rw is (c.finish.ensures.answers end.0 end.1)
 
 pub returns-clause-memory : goal.returns-clause-memory
 returns-clause-memory c =
@@ -38,10 +38,10 @@ returns-clause-memory c =
     rw is (λ told. c.finish.ensures.complete told end.0 end.1)
 
 pub returns-clause-types : goal.returns-clause-types
-returns-clause-types c = types-given c.args.bytes.now c.finish.result (returns-clause-gives c)
+returns-clause-types c = types-given c.args.bytes.now c.finish.result (returns-clause-answers c)
 
 pub returns-clause-ranges : goal.returns-clause-ranges
-returns-clause-ranges c = ranges-given c.args.bytes.now c.finish.result (returns-clause-gives c)
+returns-clause-ranges c = ranges-given c.args.bytes.now c.finish.result (returns-clause-answers c)
 
 pub returns-clause-words : goal.returns-clause-words
-returns-clause-words c = numbered-given c.args.bytes.now c.finish.result (returns-clause-gives c)
+returns-clause-words c = numbered-given c.args.bytes.now c.finish.result (returns-clause-answers c)
