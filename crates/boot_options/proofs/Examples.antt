@@ -14,22 +14,26 @@ use Rattle.boot_options.specs.declared.reading.Reading.{Reading}
 use Rattle.boot_options.specs.declared.reading.UserMap.{UserMap}
 use Rattle.boot_options.specs.MapOptions.{number_and_rest, front_size, front_number, at_end, whole_size, range_at, unless_empty, range_above, ram_above, adding_option, small_kind, kind_behind, retyped_to, retyped_from, retyped, changed, by_mark, sized_map_option, map_option_of, ram_up_to, mem_of, Spell, SpellsType}
 use Rattle.boot_options.specs.Options.{raw_line, is_closed, checked_line, line_of, Said, OfMap, NumaOff, map_options_of, memmap_of, of_one, numa_of, or_fault, said_by, at_cut, name_value_of, until_end, option_words, said_from, numbered, all_map_options, edit_of, edits_of, is_numa_off, count_adding, or_here, last_exact, Chosen, chosen, chosen_by, unless_incomplete, with_user_map, options_of, HasRange, HaveRanges, IsNumbered}
-use Rattle.boot_options.specs.Reading.{start, one_fewer, user_map_behind, after_map_option, after_map_options, after, after_all, read_on, read_all, read_map_options, when_complete, at_line_end, KeepsEdits, HasReached, Reaches, ReachesAs}
+use Rattle.boot_options.specs.Reading.{start, one_fewer, user_map_behind, after_map_option, after_map_options, after, after_all, read_on, read_all, read_map_options, when_complete, at_line_end, KeepsEdits, IsAt, IsAtSome, ReadsAs}
 
 abbrev range : ℕ → ℕ → Extent
 range base size = record { base = base; size = size }
 
 -- a size and a number at the front of a text, and what stands behind them
-fronts : (front_size (codes "1M@2M") ≡ Some (2 ^ 20, codes "@2M")) × (front_size (codes "@2M") ≡ None) × (front_number (codes "5+7") ≡ Some (5, codes "+7")) × (front_number (codes "5K") ≡ Some (5, codes "K"))
+fronts : (front_size (codes "1M@2M") ≡ Some (2 ^ 20, codes "@2M")) × (front_size (codes "@2M") ≡ None)
+    × (front_number (codes "5+7") ≡ Some (5, codes "+7")) × (front_number (codes "5K") ≡ Some (5, codes "K"))
 fronts = (refl, refl, refl, refl)
 
-fronts_of_answers : (number_and_rest (codes "5K") (Ok (5, 1)) ≡ Some (5, codes "K")) × (number_and_rest (codes "16E") (size_of (codes "16E")) ≡ None)
+fronts_of_answers : (number_and_rest (codes "5K") (Ok (5, 1)) ≡ Some (5, codes "K"))
+    × (number_and_rest (codes "16E") (size_of (codes "16E")) ≡ None)
 fronts_of_answers = (refl, refl)
 
 ends : (at_end {A = ℕ} [] (Some 5) ≡ Some 5) × (at_end {A = ℕ} (codes "K") (Some 5) ≡ None)
 ends = (refl, refl)
 
-whole_sizes : (whole_size (codes "640K") ≡ Some 655360) × (whole_size (codes "0x1E") ≡ Some 30) × (whole_size (codes "1E") ≡ Some (2 ^ 60)) × (whole_size (codes "08") ≡ None) × (whole_size (codes "16E") ≡ None) × (whole_size (codes "K") ≡ None)
+whole_sizes : (whole_size (codes "640K") ≡ Some 655360) × (whole_size (codes "0x1E") ≡ Some 30)
+    × (whole_size (codes "1E") ≡ Some (2 ^ 60)) × (whole_size (codes "08") ≡ None) × (whole_size (codes "16E") ≡ None)
+    × (whole_size (codes "K") ≡ None)
 whole_sizes = (refl, refl, refl, refl, refl, refl)
 
 -- base and size together are at most 2^64 - 1
@@ -40,7 +44,8 @@ empty_or_not : (unless_empty (range 0 1) Clear ≡ Some Clear) × (unless_empty 
 empty_or_not = (refl, refl)
 
 -- RAM from an address on, and where there is no address left
-above : (range_above (2 ^ 64 - 2) ≡ range (2 ^ 64 - 2) 1) × (range_above 0 ≡ range 0 (2 ^ 64 - 1)) × (ram_above (2 ^ 64 - 2) ≡ Some (Remove (range (2 ^ 64 - 2) 1) 1)) × (ram_above (2 ^ 64 - 1) ≡ None)
+above : (range_above (2 ^ 64 - 2) ≡ range (2 ^ 64 - 2) 1) × (range_above 0 ≡ range 0 (2 ^ 64 - 1))
+    × (ram_above (2 ^ 64 - 2) ≡ Some (Remove (range (2 ^ 64 - 2) 1) 1)) × (ram_above (2 ^ 64 - 1) ≡ None)
 above = (refl, refl, refl, refl)
 
 -- one map option of each form
@@ -77,24 +82,29 @@ removing_all_form = refl
 -- the widest range, the last byte, and RAM that ends at 0 or nowhere
 edges : (map_option_of (codes "0xFFFFFFFFFFFFFFFF@0") ≡ Some (Adding (Some (Add (range 0 (2 ^ 64 - 1)) 1))))
     × (map_option_of (codes "1@18446744073709551614") ≡ Some (Adding (Some (Add (range (2 ^ 64 - 2) 1) 1))))
-    × (map_option_of (codes "0") ≡ Some (Other (Some (Remove (range 0 (2 ^ 64 - 1)) 1)))) × (map_option_of (codes "0xFFFFFFFFFFFFFFFF") ≡ Some (Other None))
+    × (map_option_of (codes "0") ≡ Some (Other (Some (Remove (range 0 (2 ^ 64 - 1)) 1))))
+    × (map_option_of (codes "0xFFFFFFFFFFFFFFFF") ≡ Some (Other None))
 edges = (refl, refl, refl, refl)
 
 -- a type of 0 counts as not written
-types_of_zero : (map_option_of (codes "1%2-0+5") ≡ map_option_of (codes "1%2+5")) × (map_option_of (codes "1%2-5+0") ≡ map_option_of (codes "1%2-5"))
-    × (map_option_of (codes "1%2-0+0") ≡ Some (Other (Some (RemoveAll (range 2 1))))) × (map_option_of (codes "1%2-0") ≡ map_option_of (codes "1%2"))
+types_of_zero : (map_option_of (codes "1%2-0+5") ≡ map_option_of (codes "1%2+5"))
+    × (map_option_of (codes "1%2-5+0") ≡ map_option_of (codes "1%2-5"))
+    × (map_option_of (codes "1%2-0+0") ≡ Some (Other (Some (RemoveAll (range 2 1)))))
+    × (map_option_of (codes "1%2-0") ≡ map_option_of (codes "1%2"))
     × (map_option_of (codes "1%2+0") ≡ map_option_of (codes "1%2"))
 types_of_zero = (refl, refl, refl, refl, refl)
 
 -- types in other bases, and the greatest one
-types_as_numbers : (map_option_of (codes "1%2-0x10+021") ≡ Some (Other (Some (Change (range 2 1) 16 17)))) × (map_option_of (codes "1%2-4294967295") ≡ Some (Other (Some (Remove (range 2 1) (2 ^ 32 - 1)))))
+types_as_numbers : (map_option_of (codes "1%2-0x10+021") ≡ Some (Other (Some (Change (range 2 1) 16 17))))
+    × (map_option_of (codes "1%2-4294967295") ≡ Some (Other (Some (Remove (range 2 1) (2 ^ 32 - 1)))))
 types_as_numbers = (refl, refl)
 
 -- an empty range makes no edit, but the map option counts as adding memory; a range past the end is malformed
 empty_form : map_option_of (codes "0@1M") ≡ Some (Adding None)
 empty_form = refl
 
-malformed_options : (map_option_of [] ≡ None) × (map_option_of (codes "1M@") ≡ None) × (map_option_of (codes "1M@2MB") ≡ None) × (map_option_of (codes "1M&2M") ≡ None) × (map_option_of (codes "1M%2M-3+3") ≡ None) × (map_option_of (codes "15E@15E") ≡ None)
+malformed_options : (map_option_of [] ≡ None) × (map_option_of (codes "1M@") ≡ None) × (map_option_of (codes "1M@2MB") ≡ None)
+    × (map_option_of (codes "1M&2M") ≡ None) × (map_option_of (codes "1M%2M-3+3") ≡ None) × (map_option_of (codes "15E@15E") ≡ None)
 malformed_options = (refl, refl, refl, refl, refl, refl)
 
 -- rubbish in front, behind and between; names that are almost one; ranges past the end
@@ -110,33 +120,42 @@ no_types : (map_option_of (codes "1%2-") ≡ None) × (map_option_of (codes "1%2
 no_types = (refl, refl, refl, refl, refl, refl, refl, refl)
 
 -- the steps of a map option
-steps_of_adding : (adding_option 3 0x1000 (codes "2M") ≡ Some (Adding (Some (Add (range 0x200000 0x1000) 3)))) × (adding_option 3 0x1000 (codes "2M ") ≡ None)
+steps_of_adding : (adding_option 3 0x1000 (codes "2M") ≡ Some (Adding (Some (Add (range 0x200000 0x1000) 3))))
+    × (adding_option 3 0x1000 (codes "2M ") ≡ None)
 steps_of_adding = (refl, refl)
 
-steps_of_marks : (by_mark 0x1000 [] ≡ Some (Other (ram_above 0x1000))) × (by_mark 0x1000 (codes "!0") ≡ Some (Adding (Some (Add (range 0 0x1000) 12)))) × (by_mark 0x1000 (codes "x0") ≡ None)
+steps_of_marks : (by_mark 0x1000 [] ≡ Some (Other (ram_above 0x1000)))
+    × (by_mark 0x1000 (codes "!0") ≡ Some (Adding (Some (Add (range 0 0x1000) 12)))) × (by_mark 0x1000 (codes "x0") ≡ None)
 steps_of_marks = (refl, refl, refl)
 
-steps_of_sized : (sized_map_option (codes "4K$8K") ≡ Some (Adding (Some (Add (range 8192 4096) 2)))) × (sized_map_option (codes "exactmap") ≡ None)
+steps_of_sized : (sized_map_option (codes "4K$8K") ≡ Some (Adding (Some (Add (range 8192 4096) 2))))
+    × (sized_map_option (codes "exactmap") ≡ None)
 steps_of_sized = (refl, refl)
 
 -- a type is at most 2^32 - 1
 small_kinds : (small_kind (2 ^ 32 - 1, []) ≡ Some (2 ^ 32 - 1, [])) × (small_kind (2 ^ 32, []) ≡ None)
 small_kinds = (refl, refl)
 
-kinds_behind : (kind_behind 45 (codes "-3+4") ≡ Some (3, codes "+4")) × (kind_behind 45 (codes "+4") ≡ Some (0, codes "+4")) × (kind_behind 43 [] ≡ Some (0, [])) × (kind_behind 43 (codes "+") ≡ None)
+kinds_behind : (kind_behind 45 (codes "-3+4") ≡ Some (3, codes "+4")) × (kind_behind 45 (codes "+4") ≡ Some (0, codes "+4"))
+    × (kind_behind 43 [] ≡ Some (0, [])) × (kind_behind 43 (codes "+") ≡ None)
 kinds_behind = (refl, refl, refl, refl)
 
-steps_of_retyped : (retyped_to (range 0 8) 0 ≡ Some (Other (Some (RemoveAll (range 0 8))))) × (retyped_to (range 0 8) 7 ≡ Some (Adding (Some (Add (range 0 8) 7)))) × (retyped_from (range 0 8) 1 0 ≡ Some (Other (Some (Remove (range 0 8) 1)))) × (retyped_from (range 0 8) 1 1 ≡ None)
+steps_of_retyped : (retyped_to (range 0 8) 0 ≡ Some (Other (Some (RemoveAll (range 0 8)))))
+    × (retyped_to (range 0 8) 7 ≡ Some (Adding (Some (Add (range 0 8) 7))))
+    × (retyped_from (range 0 8) 1 0 ≡ Some (Other (Some (Remove (range 0 8) 1)))) × (retyped_from (range 0 8) 1 1 ≡ None)
 steps_of_retyped = (refl, refl, refl, refl)
 
-retyped_ranges : (retyped (range 0 8) 1 7 ≡ Some (Other (Some (Change (range 0 8) 1 7)))) × (retyped (range 0 8) 0 7 ≡ Some (Adding (Some (Add (range 0 8) 7))))
+retyped_ranges : (retyped (range 0 8) 1 7 ≡ Some (Other (Some (Change (range 0 8) 1 7))))
+    × (retyped (range 0 8) 0 7 ≡ Some (Adding (Some (Add (range 0 8) 7))))
 retyped_ranges = (refl, refl)
 
 changed_ranges : (changed 8 (codes "0-1+7") ≡ Some (Other (Some (Change (range 0 8) 1 7)))) × (changed 8 (codes "0+7-1") ≡ None)
 changed_ranges = (refl, refl)
 
 -- `mem=`: RAM ends somewhere above 0
-mem_values : (mem_of (codes "4G") ≡ Some (Other (Some (Remove (range 0x100000000 (2 ^ 64 - 1 - 0x100000000)) 1)))) × (mem_of (codes "nopentium") ≡ Some (Other None)) × (mem_of (codes "0") ≡ None) × (mem_of (codes "4G@0") ≡ None) × (mem_of (codes "0xFFFFFFFFFFFFFFFF") ≡ Some (Other None)) × (mem_of (codes "16E") ≡ None) × (mem_of [] ≡ None)
+mem_values : (mem_of (codes "4G") ≡ Some (Other (Some (Remove (range 0x100000000 (2 ^ 64 - 1 - 0x100000000)) 1))))
+    × (mem_of (codes "nopentium") ≡ Some (Other None)) × (mem_of (codes "0") ≡ None) × (mem_of (codes "4G@0") ≡ None)
+    × (mem_of (codes "0xFFFFFFFFFFFFFFFF") ≡ Some (Other None)) × (mem_of (codes "16E") ≡ None) × (mem_of [] ≡ None)
 mem_values = (refl, refl, refl, refl, refl, refl, refl)
 
 ends_of_ram : (ram_up_to 1 ≡ Some (Other (Some (Remove (range 1 (2 ^ 64 - 2)) 1)))) × (ram_up_to 0 ≡ None)
@@ -181,7 +200,9 @@ options_in_order = refl
 no_option_behind_a_comma : (memmap_of (codes "exactmap,") ≡ None) × (memmap_of [] ≡ None)
 no_option_behind_a_comma = (refl, refl)
 
-lists_of_map_options : (map_options_of [] ≡ Some []) × (map_options_of (codes "exactmap" ∷ codes "1@0" ∷ []) ≡ Some (ExactMap ∷ Adding (Some (Add (range 0 1) 1)) ∷ [])) × (map_options_of (codes "exactmap" ∷ codes "x" ∷ []) ≡ None)
+lists_of_map_options : (map_options_of [] ≡ Some [])
+    × (map_options_of (codes "exactmap" ∷ codes "1@0" ∷ []) ≡ Some (ExactMap ∷ Adding (Some (Add (range 0 1) 1)) ∷ []))
+    × (map_options_of (codes "exactmap" ∷ codes "x" ∷ []) ≡ None)
 lists_of_map_options = (refl, refl, refl)
 
 numa_values : (numa_of (codes "off") ≡ Some NumaOff) × (numa_of (codes "OFF") ≡ None)
@@ -191,21 +212,27 @@ said_or_fault : (or_fault (faults.BadNuma 3) None ≡ Err (faults.BadNuma 3)) ×
 said_or_fault = (refl, refl)
 
 -- name and value, which loses its quotation marks
-names : (name_value_of (codes "mem=\"4G\"") ≡ (codes "mem", Some (codes "4G"))) × (name_value_of (codes "quiet") ≡ (codes "quiet", None)) × (name_value_of (codes "mem=") ≡ (codes "mem", Some []))
+names : (name_value_of (codes "mem=\"4G\"") ≡ (codes "mem", Some (codes "4G")))
+    × (name_value_of (codes "quiet") ≡ (codes "quiet", None)) × (name_value_of (codes "mem=") ≡ (codes "mem", Some []))
 names = (refl, refl, refl)
 
-cuts : (at_cut (codes "quiet") None ≡ (codes "quiet", None)) × (at_cut (codes "a=\"b") (Some (codes "a", codes "\"b")) ≡ (codes "a", Some (codes "b")))
+cuts : (at_cut (codes "quiet") None ≡ (codes "quiet", None))
+    × (at_cut (codes "a=\"b") (Some (codes "a", codes "\"b")) ≡ (codes "a", Some (codes "b")))
 cuts = (refl, refl)
 
 -- what one word says: by its whole name, and with the word's number in its fault
-said_words : (said_by 2 (codes "mem", Some (codes "nopentium")) ≡ Ok (of_one (Other None))) × (said_by 2 (codes "numa", Some (codes "off")) ≡ Ok NumaOff) × (said_by 2 (codes "memory", Some (codes "4G")) ≡ Ok (OfMap []))
+said_words : (said_by 2 (codes "mem", Some (codes "nopentium")) ≡ Ok (of_one (Other None)))
+    × (said_by 2 (codes "numa", Some (codes "off")) ≡ Ok NumaOff) × (said_by 2 (codes "memory", Some (codes "4G")) ≡ Ok (OfMap []))
 said_words = (refl, refl, refl)
 
-faulty_words : (said_by 2 (codes "mem", None) ≡ Err (faults.BadMem 2)) × (said_by 3 (codes "memmap", Some (codes "1G!4X")) ≡ Err (faults.BadMemmap 3)) × (said_by 4 (codes "numa", Some (codes "fake=2")) ≡ Err (faults.BadNuma 4))
+faulty_words : (said_by 2 (codes "mem", None) ≡ Err (faults.BadMem 2))
+    × (said_by 3 (codes "memmap", Some (codes "1G!4X")) ≡ Err (faults.BadMemmap 3))
+    × (said_by 4 (codes "numa", Some (codes "fake=2")) ≡ Err (faults.BadNuma 4))
 faulty_words = (refl, refl, refl)
 
 -- the words up to `--`, each without its quotation marks
-words_up_to_the_end : (until_end (codes "a" ∷ codes "--" ∷ codes "b" ∷ []) ≡ codes "a" ∷ []) × (until_end (codes "a" ∷ codes "--x" ∷ []) ≡ codes "a" ∷ codes "--x" ∷ [])
+words_up_to_the_end : (until_end (codes "a" ∷ codes "--" ∷ codes "b" ∷ []) ≡ codes "a" ∷ [])
+    × (until_end (codes "a" ∷ codes "--x" ∷ []) ≡ codes "a" ∷ codes "--x" ∷ [])
 words_up_to_the_end = (refl, refl)
 
 words_of_options : option_words (codes "a \"b\" -- c") ≡ codes "a" ∷ codes "b" ∷ []
@@ -228,21 +255,25 @@ a_page = Adding (Some (Add (range 0 8) 1))
 abbrev three_words : List (ℕ × Said)
 three_words = (1, OfMap (ExactMap ∷ Adding None ∷ [])) ∷ (2, NumaOff) ∷ (3, OfMap (a_page ∷ [])) ∷ []
 
-options_with_words : (all_map_options three_words ≡ (1, ExactMap) ∷ (1, Adding None) ∷ (3, a_page) ∷ []) × (all_map_options ((2, NumaOff) ∷ []) ≡ [])
+options_with_words : (all_map_options three_words ≡ (1, ExactMap) ∷ (1, Adding None) ∷ (3, a_page) ∷ [])
+    × (all_map_options ((2, NumaOff) ∷ []) ≡ [])
 options_with_words = (refl, refl)
 
-numbered_options : (numbered 4 (ExactMap ∷ a_page ∷ []) [] ≡ (4, ExactMap) ∷ (4, a_page) ∷ []) × (numbered 4 [] ((5, a_page) ∷ []) ≡ (5, a_page) ∷ [])
+numbered_options : (numbered 4 (ExactMap ∷ a_page ∷ []) [] ≡ (4, ExactMap) ∷ (4, a_page) ∷ [])
+    × (numbered 4 [] ((5, a_page) ∷ []) ≡ (5, a_page) ∷ [])
 numbered_options = (refl, refl)
 
 -- an adding map option with an empty range makes no edit
-edits_of_options : (edits_of (all_map_options three_words) ≡ Clear ∷ Add (range 0 8) 1 ∷ []) × (edit_of (Adding None) ≡ None) × (edit_of ExactMap ≡ Some Clear) × (edits_of [] ≡ [])
+edits_of_options : (edits_of (all_map_options three_words) ≡ Clear ∷ Add (range 0 8) 1 ∷ []) × (edit_of (Adding None) ≡ None)
+    × (edit_of ExactMap ≡ Some Clear) × (edits_of [] ≡ [])
 edits_of_options = (refl, refl, refl, refl)
 
 numa_is_off : (is_numa_off three_words ≡ true) × (is_numa_off ((1, OfMap (ExactMap ∷ [])) ∷ []) ≡ false)
 numa_is_off = (refl, refl)
 
 -- the last `exactmap` counts, and the adding map options behind it
-two_behind_it : (last_exact (all_map_options three_words) ≡ Some (1, 2)) × (count_adding (all_map_options three_words) ≡ 2) × (count_adding ((1, ExactMap) ∷ (2, Other None) ∷ []) ≡ 0)
+two_behind_it : (last_exact (all_map_options three_words) ≡ Some (1, 2)) × (count_adding (all_map_options three_words) ≡ 2)
+    × (count_adding ((1, ExactMap) ∷ (2, Other None) ∷ []) ≡ 0)
 two_behind_it = (refl, refl, refl)
 
 one_behind_the_last : last_exact ((1, ExactMap) ∷ (1, a_page) ∷ (2, ExactMap) ∷ (3, a_page) ∷ (4, Other None) ∷ []) ≡ Some (2, 1)
@@ -251,21 +282,25 @@ one_behind_the_last = refl
 no_exactmap : last_exact ((1, a_page) ∷ (2, Other None) ∷ []) ≡ None
 no_exactmap = refl
 
-here_or_behind : (or_here None 3 ExactMap 2 ≡ Some (3, 2)) × (or_here (Some (5, 1)) 3 ExactMap 2 ≡ Some (5, 1)) × (or_here None 3 a_page 2 ≡ None)
+here_or_behind : (or_here None 3 ExactMap 2 ≡ Some (3, 2)) × (or_here (Some (5, 1)) 3 ExactMap 2 ≡ Some (5, 1))
+    × (or_here None 3 a_page 2 ≡ None)
 here_or_behind = (refl, refl, refl)
 
 -- a user map wants two adding map options
 abbrev nothing_chosen : Chosen
 nothing_chosen = record { edits = []; numa_off = false }
 
-user_maps : (unless_incomplete nothing_chosen (Some (3, 1)) ≡ Err (faults.UserMapInvalid 3)) × (unless_incomplete nothing_chosen (Some (3, 2)) ≡ Ok nothing_chosen) × (unless_incomplete nothing_chosen None ≡ Ok nothing_chosen)
+user_maps : (unless_incomplete nothing_chosen (Some (3, 1)) ≡ Err (faults.UserMapInvalid 3))
+    × (unless_incomplete nothing_chosen (Some (3, 2)) ≡ Ok nothing_chosen) × (unless_incomplete nothing_chosen None ≡ Ok nothing_chosen)
 user_maps = (refl, refl, refl)
 
-words_with_user_maps : (with_user_map three_words ≡ Ok (record { edits = Clear ∷ Add (range 0 8) 1 ∷ []; numa_off = true })) × (with_user_map ((1, OfMap (ExactMap ∷ a_page ∷ [])) ∷ []) ≡ Err (faults.UserMapInvalid 1))
+words_with_user_maps : (with_user_map three_words ≡ Ok (record { edits = Clear ∷ Add (range 0 8) 1 ∷ []; numa_off = true }))
+    × (with_user_map ((1, OfMap (ExactMap ∷ a_page ∷ [])) ∷ []) ≡ Err (faults.UserMapInvalid 1))
 words_with_user_maps = (refl, refl)
 
 -- what contracts see of options: the edits, without the vector that holds them, and whether the SRAT is read
-chosen_options : (options : Options) → options.edits.items ≡ Clear ∷ [] → options.numa_off ≡ true → chosen options ≡ record { edits = Clear ∷ []; numa_off = true }
+chosen_options : (options : Options) → options.edits.items ≡ Clear ∷ [] → options.numa_off ≡ true
+    → chosen options ≡ record { edits = Clear ∷ []; numa_off = true }
 chosen_options options edits off = rw (edits, off) refl
 
 chosen_nothing : (options : Options) → options.edits.items ≡ [] → options.numa_off ≡ false → chosen options ≡ nothing_chosen
@@ -276,7 +311,10 @@ chosen_words = (refl, refl)
 
 -- whole lines
 options_of_a_line : options_of (codes "quiet mem=4G memmap=1G!2G\n")
-    ≡ Ok (record { edits = Remove (range 0x100000000 (2 ^ 64 - 1 - 0x100000000)) 1 ∷ Add (range 0x80000000 0x40000000) 12 ∷ []; numa_off = false })
+    ≡ Ok (record {
+      edits = Remove (range 0x100000000 (2 ^ 64 - 1 - 0x100000000)) 1 ∷ Add (range 0x80000000 0x40000000) 12 ∷ [];
+      numa_off = false;
+    })
 options_of_a_line = refl
 
 nothing_behind_the_end : options_of (codes "numa=off -- mem=0") ≡ Ok (record { edits = []; numa_off = true })
@@ -305,10 +343,12 @@ numbered_faults : IsNumbered (faults.BadMem 1) × IsNumbered faults.OpenQuote
 numbered_faults = (omega arith, tt)
 
 -- a line half read: behind `exactmap` two adding map options are wanted, and each one that is read is one fewer
-read_three_words : after_all start three_words ≡ record { edits = Clear ∷ Add (range 0 8) 1 ∷ []; numa_off = true; user_map = Some (record { word = 1; wanting = 0 }) }
+read_three_words : after_all start three_words
+    ≡ record { edits = Clear ∷ Add (range 0 8) 1 ∷ []; numa_off = true; user_map = Some (record { word = 1; wanting = 0 }) }
 read_three_words = refl
 
-none_wanted : (at_line_end (after_all start three_words) ≡ with_user_map three_words) × (at_line_end (after 1 start (OfMap (ExactMap ∷ a_page ∷ []))) ≡ Err (faults.UserMapInvalid 1))
+none_wanted : (at_line_end (after_all start three_words) ≡ with_user_map three_words)
+    × (at_line_end (after 1 start (OfMap (ExactMap ∷ a_page ∷ []))) ≡ Err (faults.UserMapInvalid 1))
 none_wanted = (refl, refl)
 
 abbrev two_wanted : UserMap
@@ -317,19 +357,26 @@ two_wanted = record { word = 3; wanting = 2 }
 abbrev one_wanted : UserMap
 one_wanted = record { word = 3; wanting = 1 }
 
-wanted_behind : (user_map_behind 3 ExactMap None ≡ Some two_wanted) × (user_map_behind 4 a_page (Some two_wanted) ≡ Some one_wanted) × (user_map_behind 4 (Other None) (Some two_wanted) ≡ Some two_wanted) × (user_map_behind 4 a_page None ≡ None)
+wanted_behind : (user_map_behind 3 ExactMap None ≡ Some two_wanted) × (user_map_behind 4 a_page (Some two_wanted) ≡ Some one_wanted)
+    × (user_map_behind 4 (Other None) (Some two_wanted) ≡ Some two_wanted) × (user_map_behind 4 a_page None ≡ None)
 wanted_behind = (refl, refl, refl, refl)
 
 fewer_wanted : (one_fewer two_wanted ≡ one_wanted) × (one_fewer one_wanted ≡ record { word = 3; wanting = 0 })
 fewer_wanted = (refl, refl)
 
-complete_or_not : (when_complete nothing_chosen (Some one_wanted) ≡ Err (faults.UserMapInvalid 3)) × (when_complete nothing_chosen (Some (one_fewer one_wanted)) ≡ Ok nothing_chosen) × (when_complete nothing_chosen None ≡ Ok nothing_chosen)
+complete_or_not : (when_complete nothing_chosen (Some one_wanted) ≡ Err (faults.UserMapInvalid 3))
+    × (when_complete nothing_chosen (Some (one_fewer one_wanted)) ≡ Ok nothing_chosen)
+    × (when_complete nothing_chosen None ≡ Ok nothing_chosen)
 complete_or_not = (refl, refl, refl)
 
-steps_of_a_word : (after_map_options 3 start [] ≡ start) × (after_map_options 3 start (ExactMap ∷ a_page ∷ []) ≡ after_map_option 3 (after_map_option 3 start ExactMap) a_page) × (after 2 start NumaOff ≡ record { edits = []; numa_off = true; user_map = None })
+steps_of_a_word : (after_map_options 3 start [] ≡ start)
+    × (after_map_options 3 start (ExactMap ∷ a_page ∷ []) ≡ after_map_option 3 (after_map_option 3 start ExactMap) a_page)
+    × (after 2 start NumaOff ≡ record { edits = []; numa_off = true; user_map = None })
 steps_of_a_word = (refl, refl, refl)
 
-read_or_fault : (read_on 2 start (Err (faults.BadMem 2)) ≡ Err (faults.BadMem 2)) × (read_on 2 start (Ok NumaOff) ≡ Ok (after 2 start NumaOff)) × (read_map_options 2 start None ≡ None) × (read_map_options 2 start (Some []) ≡ Some start)
+read_or_fault : (read_on 2 start (Err (faults.BadMem 2)) ≡ Err (faults.BadMem 2))
+    × (read_on 2 start (Ok NumaOff) ≡ Ok (after 2 start NumaOff)) × (read_map_options 2 start None ≡ None)
+    × (read_map_options 2 start (Some []) ≡ Some start)
 read_or_fault = (refl, refl, refl, refl)
 
 read_all_or_fault : (read_all start (Err (faults.BadMem 2)) ≡ Err (faults.BadMem 2)) × (read_all start (Ok []) ≡ Ok start)
@@ -349,18 +396,18 @@ abbrev half_read : Memory → Reading
 half_read m = record { edits = Err m; numa_off = true; user_map = None }
 
 -- all but the edits it has, also without memory
-reached_without_memory : (m : Memory) → HasReached (half_read m) (after 1 (after_map_option 1 start (Other (Some Clear))) NumaOff)
-reached_without_memory m = record { edits = omega arith; numa_off = refl; user_map = refl }
+at_a_state_without_memory : (m : Memory) → IsAt (half_read m) (after 1 (after_map_option 1 start (Other (Some Clear))) NumaOff)
+at_a_state_without_memory m = record { edits = omega arith; numa_off = refl; user_map = refl }
 
-other_numa_off : (m : Memory) → HasReached (half_read m) (after_map_option 1 start (Other (Some Clear))) → ⊥
+other_numa_off : (m : Memory) → IsAt (half_read m) (after_map_option 1 start (Other (Some Clear))) → ⊥
 other_numa_off m has = let off = has.numa_off in cc off
 
 -- a reader that goes on has no fault, and one that answers a fault has the definition's
-reaches_no_fault : (m : Memory) → Reaches (half_read m) (Err (faults.BadMem 1)) → ⊥
-reaches_no_fault m reaches = reaches
+no_state_with_a_fault : (m : Memory) → IsAtSome (half_read m) (Err (faults.BadMem 1)) → ⊥
+no_state_with_a_fault m is = is
 
-same_fault : (m : Memory) → ReachesAs {X = ℕ} (λ _. half_read m) (Err (faults.BadMem 1)) (read_on 1 start (said_by 1 (codes "mem", None)))
+same_fault : (m : Memory) → ReadsAs {X = ℕ} (λ _. half_read m) (Err (faults.BadMem 1)) (read_on 1 start (said_by 1 (codes "mem", None)))
 same_fault m = refl
 
-no_other_fault : (m : Memory) → ReachesAs {X = ℕ} (λ _. half_read m) (Err faults.Memory) (read_on 1 start (said_by 1 (codes "mem", None))) → ⊥
+no_other_fault : (m : Memory) → ReadsAs {X = ℕ} (λ _. half_read m) (Err faults.Memory) (read_on 1 start (said_by 1 (codes "mem", None))) → ⊥
 no_other_fault m same = cc same

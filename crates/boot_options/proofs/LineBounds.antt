@@ -67,7 +67,8 @@ sound-said_by number word =
     (ifok-if IsSoundWord (bytes_eq word.0 (codes "memmap")) _ _
     (sound-or_fault (faults.BadMemmap number) _
     (ifsome-and_then IsSoundWord memmap_of word.1 (λ value.
-    ifsome-map AreSound IsSoundWord OfMap (map_options_of (parts_in (Byte 44) value)) (λ ps are. are) (sound-map_options (parts_in (Byte 44) value)))))
+    ifsome-map AreSound IsSoundWord OfMap (map_options_of (parts_in (Byte 44) value)) (λ ps are. are)
+    (sound-map_options (parts_in (Byte 44) value)))))
     (ifok-if IsSoundWord (bytes_eq word.0 (codes "numa")) _ _
     (sound-or_fault (faults.BadNuma number) _
     (ifsome-and_then IsSoundWord numa_of word.1 (λ value.
@@ -115,7 +116,8 @@ sound-numbered number (p ∷ ps) behind above are rest = (above, are.0, sound-nu
 
 pub sound-all_map_options : (said : List (ℕ × Said)) → AreSoundWords said → AreNumbered (all_map_options said)
 sound-all_map_options [] are = tt
-sound-all_map_options ((number, OfMap ps) ∷ said) are = sound-numbered number ps (all_map_options said) are.0 are.1 (sound-all_map_options said are.2)
+sound-all_map_options ((number, OfMap ps) ∷ said) are =
+    sound-numbered number ps (all_map_options said) are.0 are.1 (sound-all_map_options said are.2)
 sound-all_map_options ((number, NumaOff) ∷ said) are = sound-all_map_options said are.2
 
 -- their edits
@@ -153,7 +155,8 @@ sound-with_user_map said are = by_exact (last_exact (all_map_options said))
         ifok-if IsSoundChoice (nat_lt exact.1 2) _ _ tt (types-edits (all_map_options said) (sound-all_map_options said are))
 
 pub numbered-with_user_map : (said : List (ℕ × Said)) → AreSoundWords said → IfErr (with_user_map said) IsLineFault
-numbered-with_user_map said are = by_exact (last_exact (all_map_options said)) (numbered-last_exact (all_map_options said) (sound-all_map_options said are))
+numbered-with_user_map said are =
+    by_exact (last_exact (all_map_options said)) (numbered-last_exact (all_map_options said) (sound-all_map_options said are))
   where
     by_exact : (found : Option (ℕ × ℕ)) → IfSome found (λ exact. 0 < exact.0) → IfErr (unless_incomplete (chosen_by said) found) IsLineFault
     by_exact None is = tt
@@ -194,7 +197,8 @@ pub ranges-given : (bytes : List ℕ) (r : Result Options OptionFault) → Answe
 ranges-given bytes (Ok options) is = (rw is at (sound-options bytes)).1
 ranges-given bytes (Err fault) is = tt
 
-pub numbered-given : (bytes : List ℕ) (r : Result Options OptionFault) → Answers faults.Memory chosen r (options_of bytes) → IfErr r IsNumbered
+pub numbered-given : (bytes : List ℕ) (r : Result Options OptionFault) → Answers faults.Memory chosen r (options_of bytes)
+    → IfErr r IsNumbered
 numbered-given bytes (Ok options) is = tt
 numbered-given bytes (Err fault) is = by_fault fault is
   where

@@ -31,11 +31,13 @@ pub ifsome-then : {A B : Type 0} (P : B → Type 0) (o : Option A) (f : A → Op
 ifsome-then P None f each = tt
 ifsome-then P (Some a) f each = each a
 
-pub ifsome-and_then : {A B : Type 0} (P : B → Type 0) (f : A → Option B) (o : Option A) → ((a : A) → IfSome (f a) P) → IfSome (option_and_then f o) P
+pub ifsome-and_then : {A B : Type 0} (P : B → Type 0) (f : A → Option B) (o : Option A) → ((a : A) → IfSome (f a) P)
+    → IfSome (option_and_then f o) P
 ifsome-and_then P f None each = tt
 ifsome-and_then P f (Some a) each = each a
 
-pub ifsome-map : {A B : Type 0} (P : A → Type 0) (Q : B → Type 0) (f : A → B) (o : Option A) → ((a : A) → P a → Q (f a)) → IfSome o P → IfSome (option_map f o) Q
+pub ifsome-map : {A B : Type 0} (P : A → Type 0) (Q : B → Type 0) (f : A → B) (o : Option A) → ((a : A) → P a → Q (f a)) → IfSome o P
+    → IfSome (option_map f o) Q
 ifsome-map P Q f None each is = tt
 ifsome-map P Q f (Some a) each is = each a is
 
@@ -119,4 +121,5 @@ sound-map_options (text ∷ texts) = with_first (map_option_of text) (sound-map_
     with_first : (o : Option MapOption) → IfSome o IsSoundOption → IfSome (map_options_of texts) AreSound
         → IfSome (option_and_then (λ p. option_map (λ ps. p ∷ ps) (map_options_of texts)) o) AreSound
     with_first None is are = tt
-    with_first (Some p) is are = ifsome-map AreSound AreSound (λ (ps : List MapOption). p ∷ ps) (map_options_of texts) (λ ps all. (is, all)) are
+    with_first (Some p) is are =
+        ifsome-map AreSound AreSound (λ (ps : List MapOption). p ∷ ps) (map_options_of texts) (λ ps all. (is, all)) are

@@ -1,5 +1,5 @@
 -- Laws of a line that is read word by word: one word more, and what is left of the user map at the end.
-use Rattle.std.proofs.Common.{◌≡◌, ℕ, ◌+◌, false, List, ◌∷◌, refl, codes, Result, Ok, Err}
+use Rattle.std.proofs.Common.{◌≡◌, ℕ, ◌+◌, false, List, ◌∷◌, refl, sym, codes, Result, Ok, Err}
 use Rattle.std.specs.Str.{bytes_eq}
 use Rattle.text_words.specs.declared.separators.Separators.TheVariants.{CommandLine}
 use Rattle.text_words.specs.Words.{words_in, unquoted}
@@ -7,17 +7,24 @@ use Rattle.bm_base.specs.ResultSteps.{◌>>=◌}
 use Rattle.boot_options.specs.declared.fault.OptionFault.{OptionFault}
 use Rattle.boot_options.specs.Options.{Said, name_value_of, said_by, said_from, option_words}
 use Rattle.boot_options.specs.declared.reading.Reading.{Reading}
-use Rattle.boot_options.specs.Reading.{State, HasReached, Reaches, after, read_on, read_all}
+use Rattle.boot_options.specs.Reading.{State, IsAt, IsAtSome, after, read_on, read_all}
 
 -- the first word in front of the words behind it, where it isn't `--`
 pub option_words-step : (line word behind : List ℕ) → words_in CommandLine line ≡ word ∷ words_in CommandLine behind
     → bytes_eq (unquoted word) (codes "--") ≡ false → option_words line ≡ unquoted word ∷ option_words behind
 option_words-step line word behind is other = rw is (rw other refl)
 
--- the state that the reader has reached
-pub reached : (r : Reading) (d : Result State OptionFault) → Reaches r d → (st : State) × HasReached r st × (d ≡ Ok st)
-reached r (Ok st) has = (st, has, refl)
-reached r (Err fault) has = absurd has
+-- the same of what the reader compared
+pub option_words-read : (line word behind bare dashes : List ℕ) → words_in CommandLine line ≡ word ∷ words_in CommandLine behind
+    → bare ≡ unquoted word → dashes ≡ codes "--" → false ≡ bytes_eq bare dashes → option_words line ≡ bare ∷ option_words behind
+option_words-read line word behind bare dashes is unquotes marks test =
+    let other : bytes_eq (unquoted word) (codes "--") ≡ false = sym (rw (unquotes, marks) at test) in
+    rw unquotes (option_words-step line word behind is other)
+
+-- the state at which the reader is
+pub state_at : (r : Reading) (d : Result State OptionFault) → IsAtSome r d → (st : State) × IsAt r st × (d ≡ Ok st)
+state_at r (Ok st) has = (st, has, refl)
+state_at r (Err fault) has = absurd has
 
 -- the fault of a word is that of the line from there on
 pub read_all-fault : (number : ℕ) (st : State) (fault : OptionFault) (word : List ℕ) (words : List (List ℕ))

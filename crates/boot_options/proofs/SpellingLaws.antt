@@ -21,7 +21,8 @@ pub then-some : {A B : Type 0} (o : Option A) (f : A → Option B) (x : A) → o
 then-some o f x is = rw is refl
 
 -- what is read of a text up to the byte before the rest, or to its end
-pub number_and_rest-front : (s rest : List ℕ) (r : Result (ℕ × ℕ) NumFault) (n : ℕ) → r ≡ Ok (n, length s) → number_and_rest (s ++ rest) r ≡ Some (n, rest)
+pub number_and_rest-front : (s rest : List ℕ) (r : Result (ℕ × ℕ) NumFault) (n : ℕ) → r ≡ Ok (n, length s)
+    → number_and_rest (s ++ rest) r ≡ Some (n, rest)
 number_and_rest-front s rest r n is = rw (is, drop-append_seam s rest) refl
 
 pub number_and_rest-whole : (s : List ℕ) (r : Result (ℕ × ℕ) NumFault) (n : ℕ) → r ≡ Ok (n, length s) → number_and_rest s r ≡ Some (n, [])
@@ -128,7 +129,8 @@ pub kind_behind-mark : (mark : ℕ) (text : List ℕ) (kind next : ℕ) (rest : 
     → kind_behind mark (mark ∷ (text ++ (next ∷ rest))) ≡ Some (kind, next ∷ rest)
 kind_behind-mark mark text kind next rest spells is =
     rw (eq-eqb mark mark refl)
-    (then-some (front_number (text ++ (next ∷ rest))) small_kind (kind, next ∷ rest) (front_number-mark text kind next rest spells.number is)
+    (then-some (front_number (text ++ (next ∷ rest))) small_kind (kind, next ∷ rest)
+    (front_number-mark text kind next rest spells.number is)
     ∙ small_kind-below kind (next ∷ rest) spells.small)
 
 -- the forms with `%`: the address, the types, and nothing behind them
@@ -144,7 +146,8 @@ changed-spelled range place tail rest from to ends base is_from is_to =
 pub other_than_zero : (n : ℕ) → 0 < n → n == 0 ≡ false
 other_than_zero n above = grind (arith, nat_tests, above)
 
-pub map_option-every_type : (s a : List ℕ) (range : Extent) → Spell s a range → map_option_of (s ++ (37 ∷ a)) ≡ Some (Other (Some (RemoveAll range)))
+pub map_option-every_type : (s a : List ℕ) (range : Extent) → Spell s a range
+    → map_option_of (s ++ (37 ∷ a)) ≡ Some (Other (Some (RemoveAll range)))
 map_option-every_type s a range spell =
     map_option-mark s range.size 37 a spell.size refl
     ∙ changed-spelled range a [] [] 0 0 spell.ends (front_size-end a range.base spell.base) refl refl

@@ -75,17 +75,18 @@ abbrev pub KeepsEdits : Result (Vec Edit Global) Memory → List Edit → Type 0
 KeepsEdits (Ok kept) edits = kept.items ≡ edits
 KeepsEdits (Err memory) edits = 0 < length edits
 
--- the reader has reached the state; it may have run out of memory for its edits
-pub record HasReached (r : Reading) (st : State) : Type 0 where
+-- the reader is at that state; it may have run out of memory for its edits
+pub record IsAt (r : Reading) (st : State) : Type 0 where
   pub edits : KeepsEdits r.edits st.edits
   pub numa_off : r.numa_off ≡ st.numa_off
   pub user_map : r.user_map ≡ st.user_map
 
-abbrev pub Reaches : Reading → Result State OptionFault → Type 0
-Reaches r (Ok st) = HasReached r st
-Reaches r (Err fault) = ⊥
+-- there is such a state, and the reader is at it
+abbrev pub IsAtSome : Reading → Result State OptionFault → Type 0
+IsAtSome r (Ok st) = IsAt r st
+IsAtSome r (Err fault) = ⊥
 
--- the reader reaches the state that the definition has, or answers its fault
-abbrev pub ReachesAs : {X : Type 0} → (X → Reading) → Result X OptionFault → Result State OptionFault → Type 0
-ReachesAs view (Ok x) definition = Reaches (view x) definition
-ReachesAs view (Err fault) definition = definition ≡ Err fault
+-- the answer is the definition's: its state, at which the reader is, or its fault
+abbrev pub ReadsAs : {X : Type 0} → (X → Reading) → Result X OptionFault → Result State OptionFault → Type 0
+ReadsAs view (Ok x) definition = IsAtSome (view x) definition
+ReadsAs view (Err fault) definition = definition ≡ Err fault

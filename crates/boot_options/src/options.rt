@@ -1,14 +1,14 @@
 //! The options of a line: its bounds first, then its words, then what all of them must come to.
 //!
-//! This is the entry of the crate. What a file holds becomes a line here, and what the reader has
-//! reached at the end of the line becomes the options: a user map must be complete by then.
+//! This is the entry of the crate. What a file holds becomes a line here, and where the reader is
+//! at the end of the line, the options are told: a user map must be complete by then.
 
 ghost use Rattle.std.specs.Prelude.{◌≡◌, ℕ, ◌<◌, ◌≤◌, length, MatchResult, Ok, Err, IfOk, IfErr, IsOkAnd, IsErr};
 ghost use Rattle.bm_base.specs.Answers.{Answers};
 ghost use Rattle.boot_options.specs.declared.options.TheConstants.{LONGEST_LINE};
 ghost use Rattle.boot_options.specs.Options.{chosen, line_of, options_of, HaveRanges, IsNumbered};
 ghost use Rattle.e820_model.specs.Claims.{HaveTypes};
-ghost use Rattle.boot_options.specs.Reading.{State, HasReached, at_line_end};
+ghost use Rattle.boot_options.specs.Reading.{State, IsAt, at_line_end};
 
 use crate::fault::OptionFault;
 use crate::reading::{Reading, read_words};
@@ -66,10 +66,10 @@ fn read_line(bytes: &[u8]) -> Result<&[u8], OptionFault>
 /// The options, unless the user map wants further map options. It takes no memory, and tells
 /// where it was wanting for an edit.
 fn finish(reading: Reading) -> Result<Options, OptionFault>
-    ensures answers { (st : State) → HasReached reading st →
+    ensures answers { (st : State) → IsAt reading st →
         Answers OptionFault.Memory chosen result (at_line_end st) }
     ensures memory { result ≡ Err OptionFault.Memory → IsErr reading.edits }
-    ensures complete { result ≡ Err OptionFault.Memory → (st : State) → HasReached reading st →
+    ensures complete { result ≡ Err OptionFault.Memory → (st : State) → IsAt reading st →
         IsOkAnd (at_line_end st) (λ options. 0 < length options.edits) }
 {
     if let Some(map) = reading.user_map {

@@ -14,7 +14,7 @@ ghost use Rattle.e820_model.specs.declared.edit.Edit.{Edit as SomeEdit};
 ghost use Rattle.boot_options.specs.declared.fault.OptionFault.TheVariants as faults;
 ghost use Rattle.boot_options.specs.declared.options.TheConstants.{LONGEST_LINE};
 ghost use Rattle.boot_options.specs.Options.{name_value_of, said_by, said_from, option_words, or_fault, memmap_of};
-ghost use Rattle.boot_options.specs.Reading.{State, start, one_fewer as one_fewer_wanted, after_map_option, read_on, read_all, KeepsEdits, HasReached, ReachesAs};
+ghost use Rattle.boot_options.specs.Reading.{State, start, one_fewer as one_fewer_wanted, after_map_option, read_on, read_all, KeepsEdits, IsAt, ReadsAs};
 
 use crate::fault::OptionFault;
 use crate::map_option::{MapOption, read_map_option, read_mem};
@@ -43,7 +43,7 @@ pub struct UserMap {
 /// Reads the words of the line, up to `--`.
 pub fn read_words(alloc: Global, line: &[u8]) -> Result<Reading, OptionFault>
     requires { length line.now ≤ LONGEST_LINE }
-    ensures { ReachesAs (λ reading. reading) result
+    ensures { ReadsAs (λ reading. reading) result
         (read_all start (said_from 1 (option_words line.now))) }
 {
     let mut reading = Reading {
@@ -69,8 +69,8 @@ pub fn read_words(alloc: Global, line: &[u8]) -> Result<Reading, OptionFault>
 
 /// Reads one word, by its name; a word of another name is passed over.
 fn read_word(word: &[u8], number: u32, reading: &mut Reading) -> Result<(), OptionFault>
-    ensures { (st : State) → HasReached reading.old st →
-        ReachesAs (λ _. reading.new) result
+    ensures { (st : State) → IsAt reading.old st →
+        ReadsAs (λ _. reading.new) result
         (read_on number st (said_by number (name_value_of word.now))) }
 {
     let (name, value) = name_and_value(word);
@@ -105,8 +105,8 @@ fn name_and_value(word: &[u8]) -> (&[u8], Option<&[u8]>)
 
 /// Reads the map options of `memmap=`, one after the other.
 fn read_memmap(value: &[u8], number: u32, reading: &mut Reading) -> Result<(), OptionFault>
-    ensures { (st : State) → HasReached reading.old st →
-        ReachesAs (λ _. reading.new) result
+    ensures { (st : State) → IsAt reading.old st →
+        ReadsAs (λ _. reading.new) result
         (read_on number st (or_fault (faults.BadMemmap number) (memmap_of value.now))) }
 {
     let mut rest = Some(value);
@@ -123,8 +123,8 @@ fn read_memmap(value: &[u8], number: u32, reading: &mut Reading) -> Result<(), O
 
 /// Takes what one map option says.
 fn take_map_option(option: &MapOption, number: u32, reading: &mut Reading)
-    ensures { (st : State) → HasReached reading.old st →
-        HasReached reading.new (after_map_option number st option.now) }
+    ensures { (st : State) → IsAt reading.old st →
+        IsAt reading.new (after_map_option number st option.now) }
 {
     match option {
         MapOption::ExactMap => {

@@ -5,11 +5,13 @@ use Rattle.text_words.specs.Parts.{separates, quotes, quoted_behind, with_front,
 use Rattle.text_words.specs.Words.{is_word, words_in, without_last, unquoted, IsClosed, IsWord}
 
 -- blanks separate, and of a command line the bytes 0x09 to 0x0D; 0x08, 0x0E and 0xA0 don't
-line_separators : (separates CommandLine 0x20 ≡ true) × (separates CommandLine 0x09 ≡ true) × (separates CommandLine 0x0D ≡ true) × (separates CommandLine 0x08 ≡ false) × (separates CommandLine 0x0E ≡ false) × (separates CommandLine 0xA0 ≡ false)
+line_separators : (separates CommandLine 0x20 ≡ true) × (separates CommandLine 0x09 ≡ true) × (separates CommandLine 0x0D ≡ true)
+    × (separates CommandLine 0x08 ≡ false) × (separates CommandLine 0x0E ≡ false) × (separates CommandLine 0xA0 ≡ false)
 line_separators = (refl, refl, refl, refl, refl, refl)
 
 -- of a script's line a newline and a form feed don't
-script_separators : (separates Script 0x20 ≡ true) × (separates Script 0x09 ≡ true) × (separates Script 0x0D ≡ true) × (separates Script 0x0A ≡ false) × (separates Script 0x0C ≡ false)
+script_separators : (separates Script 0x20 ≡ true) × (separates Script 0x09 ≡ true) × (separates Script 0x0D ≡ true)
+    × (separates Script 0x0A ≡ false) × (separates Script 0x0C ≡ false)
 script_separators = (refl, refl, refl, refl, refl)
 
 -- and of a list with commas the comma alone
@@ -21,7 +23,8 @@ quoting : (quotes CommandLine 34 ≡ true) × (quotes CommandLine 39 ≡ false) 
 quoting = (refl, refl, refl, refl)
 
 -- a mark opens a quotation and closes it, another byte does neither
-quoted_after : (quoted_behind CommandLine false 34 ≡ true) × (quoted_behind CommandLine true 34 ≡ false) × (quoted_behind CommandLine true 97 ≡ true) × (quoted_behind Script false 34 ≡ false)
+quoted_after : (quoted_behind CommandLine false 34 ≡ true) × (quoted_behind CommandLine true 34 ≡ false)
+    × (quoted_behind CommandLine true 97 ≡ true) × (quoted_behind Script false 34 ≡ false)
 quoted_after = (refl, refl, refl, refl)
 
 fronts : (with_front 97 [] ≡ codes "a" ∷ []) × (with_front 97 (codes "b" ∷ codes "c" ∷ []) ≡ codes "ab" ∷ codes "c" ∷ [])
@@ -54,7 +57,8 @@ begun_in_a_quotation = refl
 begun_outside : parts_from CommandLine false (codes "a b\" c") ≡ codes "a" ∷ codes "b\" c" ∷ []
 begun_outside = refl
 
-behind_a_separator : (parts_behind (Byte 44) (Some (codes "b,c")) ≡ codes "b" ∷ codes "c" ∷ []) × (parts_behind (Byte 44) (Some []) ≡ [] ∷ []) × (parts_behind (Byte 44) None ≡ [])
+behind_a_separator : (parts_behind (Byte 44) (Some (codes "b,c")) ≡ codes "b" ∷ codes "c" ∷ [])
+    × (parts_behind (Byte 44) (Some []) ≡ [] ∷ []) × (parts_behind (Byte 44) None ≡ [])
 behind_a_separator = (refl, refl, refl)
 
 -- a line ends at the first zero byte, if it has one
@@ -88,11 +92,14 @@ no_words : words_in Script (codes " \t\r") ≡ []
 no_words = refl
 
 -- one mark at the end goes, and no more
-last_marks : (without_last 10 (codes "ab\n\n") ≡ codes "ab\n") × (without_last 10 (codes "\na") ≡ codes "\na") × (without_last 34 (codes "\"") ≡ []) × (without_last 34 [] ≡ [])
+last_marks : (without_last 10 (codes "ab\n\n") ≡ codes "ab\n") × (without_last 10 (codes "\na") ≡ codes "\na")
+    × (without_last 34 (codes "\"") ≡ []) × (without_last 34 [] ≡ [])
 last_marks = (refl, refl, refl, refl)
 
 -- a mark at the end alone stays, one in front goes alone
-unquoted_texts : (unquoted (codes "\"a b\"") ≡ codes "a b") × (unquoted (codes "\"a") ≡ codes "a") × (unquoted (codes "a\"") ≡ codes "a\"") × (unquoted (codes "\"") ≡ []) × (unquoted (codes "\"\"") ≡ [])
+unquoted_texts : (unquoted (codes "\"a b\"") ≡ codes "a b")
+    × (unquoted (codes "\"a") ≡ codes "a") × (unquoted (codes "a\"") ≡ codes "a\"") × (unquoted (codes "\"") ≡ [])
+    × (unquoted (codes "\"\"") ≡ [])
 unquoted_texts = (refl, refl, refl, refl, refl)
 
 -- a text with a quotation that closes is closed; with an open one, or a blank, it isn't

@@ -5,7 +5,7 @@ use Rattle.boot_options.specs.declared.fault.OptionFault.TheVariants.{Memory as 
 use Rattle.boot_options.specs.Options.{chosen, options_of}
 use Rattle.boot_options.specs.Reading.{at_line_end}
 use Rattle.boot_options.proofs.UserMapLaws.{options-read, options-fault}
-use Rattle.boot_options.proofs.ReadingLaws.{reached}
+use Rattle.boot_options.proofs.ReadingLaws.{state_at}
 use Rattle.boot_options.proofs.LineBounds.{types-given, ranges-given, numbered-given, options-remembered}
 use Rattle.boot_options.proofs.options.read_options.Goals as goal
 
@@ -25,14 +25,14 @@ returns-in_err-reading-clause-words c =
 -- the end of the line
 pub returns-clause-answers : goal.returns-clause-answers
 returns-clause-answers c =
-    let end = reached c.in_ok-reading.reading _ c.in_ok-reading.ensures in
+    let end = state_at c.in_ok-reading.reading _ c.in_ok-reading.ensures in
     let is : options_of c.args.bytes.now ≡ at_line_end end.0
     = options-read c.args.bytes.now c.in_ok-line.line.now end.0 c.in_ok-line.ensures.line end.2 in
     rw is (c.finish.ensures.answers end.0 end.1)
 
 pub returns-clause-memory : goal.returns-clause-memory
 returns-clause-memory c =
-    let end = reached c.in_ok-reading.reading _ c.in_ok-reading.ensures in
+    let end = state_at c.in_ok-reading.reading _ c.in_ok-reading.ensures in
     let is : options_of c.args.bytes.now ≡ at_line_end end.0
     = options-read c.args.bytes.now c.in_ok-line.line.now end.0 c.in_ok-line.ensures.line end.2 in
     rw is (λ told. c.finish.ensures.complete told end.0 end.1)
