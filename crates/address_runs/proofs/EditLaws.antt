@@ -26,10 +26,12 @@ module _ {X : Type 0} where
   agree-same same tells a b e = ap (λ o. agree same a o) (sym e) ∙ agree-self same tells a
 
   -- where nothing stands from an address on, an edit whose range ends by it leaves nothing there
-  pub nothing-covered : (at : ℕ) (r : Extent) (v : X) (f : ℕ → Option X) → r.base + r.size ≤ at → NothingFrom at f → NothingFrom at (covered r v f)
+  pub nothing-covered : (at : ℕ) (r : Extent) (v : X) (f : ℕ → Option X) → r.base + r.size ≤ at → NothingFrom at f
+      → NothingFrom at (covered r v f)
   nothing-covered at r v f ends none x le = let past : r.base + r.size ≤ x = omega arith in rw (not_covered r x past) (none x le)
 
-  pub nothing-replaced : (at : ℕ) (r : Extent) (v : X) (f : ℕ → Option X) → r.base + r.size ≤ at → NothingFrom at f → NothingFrom at (replaced r v f)
+  pub nothing-replaced : (at : ℕ) (r : Extent) (v : X) (f : ℕ → Option X) → r.base + r.size ≤ at → NothingFrom at f
+      → NothingFrom at (replaced r v f)
   nothing-replaced at r v f ends none x le = let past : r.base + r.size ≤ x = omega arith in rw (not_covered r x past) (none x le)
 
   -- and one that gives nothing to what carries nothing leaves none wherever it ends
@@ -37,7 +39,9 @@ module _ {X : Type 0} where
   nothing-uncovered at r f none x le =
       elim (cases_Bool (covers r x)) as (λ _. uncovered r f x ≡ None) [ inl inside ↦ rw inside refl | inr outside ↦ rw outside (none x le) ]
 
-  pub nothing-relabelled : (at : ℕ) (r : Extent) (change : X → X) (f : ℕ → Option X) → NothingFrom at f → NothingFrom at (relabelled r change f)
+  pub nothing-relabelled : (at : ℕ) (r : Extent) (change : X → X) (f : ℕ → Option X) → NothingFrom at f
+      → NothingFrom at (relabelled r change f)
   nothing-relabelled at r change f none x le =
       let here : f x ≡ None = none x le in
-      elim (cases_Bool (covers r x)) as (λ _. relabelled r change f x ≡ None) [ inl inside ↦ rw (inside, here) refl | inr outside ↦ rw outside here ]
+      elim (cases_Bool (covers r x)) as (λ _. relabelled r change f x ≡ None)
+      [ inl inside ↦ rw (inside, here) refl | inr outside ↦ rw outside here ]

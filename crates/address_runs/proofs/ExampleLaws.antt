@@ -11,7 +11,8 @@ run base size value = record { base = base; size = size; value = value }
 
 -- 0 and 1 have the value 1, 2 and 3 none, 4 and 5 the value 1 again, 6 the value 2
 abbrev gaps : ℕ → Option ℕ
-gaps x = if nat_lt x 2 then Some 1 else (if nat_lt x 4 then None else (if nat_lt x 6 then Some 1 else (if nat_lt x 7 then Some 2 else None)))
+gaps x = if nat_lt x 2 then Some 1 else (if nat_lt x 4 then None else
+    (if nat_lt x 6 then Some 1 else (if nat_lt x 7 then Some 2 else None)))
 
 -- a gap parts two runs of one value, and touching values are two runs
 gaps_part_runs : runs_from (λ a b. a == b) gaps 0 8 ≡ run 0 2 1 ∷ (run 4 2 1 ∷ (run 6 1 2 ∷ []))
@@ -24,12 +25,14 @@ unfolding runs_from run
 one_value_is_one_run = refl
 
 -- a run has its base and its last address, and not the one behind
-lies_examples : (lies_in (run 4 2 1) 3 ≡ false) × (lies_in (run 4 2 1) 4 ≡ true) × (lies_in (run 4 2 1) 5 ≡ true) × (lies_in (run 4 2 1) 6 ≡ false) × (run_end (run 4 2 1) ≡ 6) × (run_end (run 9 0 1) ≡ 9)
+lies_examples : (lies_in (run 4 2 1) 3 ≡ false) × (lies_in (run 4 2 1) 4 ≡ true) × (lies_in (run 4 2 1) 5 ≡ true)
+    × (lies_in (run 4 2 1) 6 ≡ false) × (run_end (run 4 2 1) ≡ 6) × (run_end (run 9 0 1) ≡ 9)
 unfolding run
 lies_examples = (refl, refl, refl, refl, refl, refl)
 
 -- a list gives the value of the first run that has the address
-value_examples : (value_at (run 0 2 1 ∷ (run 4 2 3 ∷ [])) 5 ≡ Some 3) × (value_at (run 0 2 1 ∷ (run 4 2 3 ∷ [])) 2 ≡ None) × (value_at (run 0 4 1 ∷ (run 2 4 3 ∷ [])) 3 ≡ Some 1)
+value_examples : (value_at (run 0 2 1 ∷ (run 4 2 3 ∷ [])) 5 ≡ Some 3) × (value_at (run 0 2 1 ∷ (run 4 2 3 ∷ [])) 2 ≡ None)
+    × (value_at (run 0 4 1 ∷ (run 2 4 3 ∷ [])) 3 ≡ Some 1)
 unfolding run
 value_examples = (refl, refl, refl)
 
@@ -49,7 +52,11 @@ not_before_the_same before = before.1 refl refl
 -- canonical: ascending, and another value where two runs touch, or a gap between
 touching_values_differ : AreRuns (run 0 2 1 ∷ (run 2 2 3 ∷ (run 6 1 3 ∷ [])))
 unfolding run
-touching_values_differ = (omega arith, (omega arith, λ touch same. absurd (omega arith)), (omega arith, (omega arith, λ touch. absurd (omega arith)), (omega arith, tt, tt)))
+touching_values_differ = (
+  omega arith,
+  (omega arith, λ touch same. absurd (omega arith)),
+  (omega arith, (omega arith, λ touch. absurd (omega arith)), (omega arith, tt, tt)),
+)
 
 -- not canonical: two runs that could be one, runs that overlap, an empty run
 could_be_one : ¬ AreRuns (run 0 2 1 ∷ (run 2 2 1 ∷ []))
@@ -65,8 +72,10 @@ unfolding run
 empty_run runs = let some : 0 < 0 = runs.0 in absurd (omega arith)
 
 -- an address in front of the runs behind it lengthens the first, begins one, or has no value
-led_examples : (led_by (λ a b. a == b) 3 (Some 1) (run 4 2 1 ∷ []) ≡ run 3 3 1 ∷ []) × (led_by (λ a b. a == b) 3 (Some 2) (run 4 2 1 ∷ []) ≡ run 3 1 2 ∷ (run 4 2 1 ∷ []))
-    × (led_by (λ a b. a == b) 2 (Some 1) (run 4 2 1 ∷ []) ≡ run 2 1 1 ∷ (run 4 2 1 ∷ [])) × (led_by (λ a b. a == b) 3 None (run 4 2 1 ∷ []) ≡ run 4 2 1 ∷ [])
+led_examples : (led_by (λ a b. a == b) 3 (Some 1) (run 4 2 1 ∷ []) ≡ run 3 3 1 ∷ [])
+    × (led_by (λ a b. a == b) 3 (Some 2) (run 4 2 1 ∷ []) ≡ run 3 1 2 ∷ (run 4 2 1 ∷ []))
+    × (led_by (λ a b. a == b) 2 (Some 1) (run 4 2 1 ∷ []) ≡ run 2 1 1 ∷ (run 4 2 1 ∷ []))
+    × (led_by (λ a b. a == b) 3 None (run 4 2 1 ∷ []) ≡ run 4 2 1 ∷ [])
 unfolding run
 led_examples = (refl, refl, refl, refl)
 
@@ -96,7 +105,8 @@ none_behind_the_page x far = grind (arith, nat_tests)
 
 runs_of_one_page : run 0x1000 0x1000 1 ∷ [] ≡ runs_of (λ a b. a == b) one_page
 unfolding one_page run
-runs_of_one_page = the_list (λ a b. a == b) tells_numbers one_page (run 0x1000 0x1000 1 ∷ []) none_behind_the_page (record { runs = (omega arith, tt, tt); each = λ x. refl })
+runs_of_one_page = the_list (λ a b. a == b) tells_numbers one_page (run 0x1000 0x1000 1 ∷ []) none_behind_the_page
+    (record { runs = (omega arith, tt, tt); each = λ x. refl })
 
 runs_of_nothing : [] ≡ runs_of {X = ℕ} (λ a b. a == b) (λ x. None)
 runs_of_nothing = the_list (λ a b. a == b) tells_numbers (λ x. None) [] (λ x far. refl) (record { runs = tt; each = λ x. refl })
@@ -107,14 +117,16 @@ sum_of None l = l
 sum_of (Some k) None = Some k
 sum_of (Some k) (Some l) = Some (k + l)
 
-overlaid_examples : (overlaid sum_of gaps (λ x. Some 10) 1 ≡ Some 11) × (overlaid sum_of gaps (λ x. Some 10) 2 ≡ Some 10) × (overlaid sum_of gaps (λ x. None) 2 ≡ None)
+overlaid_examples : (overlaid sum_of gaps (λ x. Some 10) 1 ≡ Some 11) × (overlaid sum_of gaps (λ x. Some 10) 2 ≡ Some 10)
+    × (overlaid sum_of gaps (λ x. None) 2 ≡ None)
 overlaid_examples = (refl, refl, refl)
 
 given_examples : (given_by (run 4 2 1) 5 ≡ Some 1) × (given_by (run 4 2 1) 6 ≡ None)
 unfolding run
 given_examples = (refl, refl)
 
-all_overlaid_examples : (all_overlaid sum_of (run 0 4 1 ∷ (run 2 4 3 ∷ [])) 3 ≡ Some 4) × (all_overlaid sum_of (run 0 4 1 ∷ (run 2 4 3 ∷ [])) 5 ≡ Some 3) × (all_overlaid sum_of (run 0 4 1 ∷ (run 2 4 3 ∷ [])) 6 ≡ None)
+all_overlaid_examples : (all_overlaid sum_of (run 0 4 1 ∷ (run 2 4 3 ∷ [])) 3 ≡ Some 4)
+    × (all_overlaid sum_of (run 0 4 1 ∷ (run 2 4 3 ∷ [])) 5 ≡ Some 3) × (all_overlaid sum_of (run 0 4 1 ∷ (run 2 4 3 ∷ [])) 6 ≡ None)
 unfolding run
 all_overlaid_examples = (refl, refl, refl)
 
@@ -126,7 +138,8 @@ changes_at_two : ¬ Stays gaps 0 3 (Some 1)
 changes_at_two stays = let at_two : None ≡ Some 1 = stays 2 (omega arith) (omega arith) in absurd (cc at_two)
 
 -- where a list begins and where it ends; a run that ends right at the address must have another value
-start_examples : StartFrom 4 (run 4 2 1 ∷ []) × EndBy 6 (Some 2) (run 4 2 1 ∷ []) × EndsBehind 5 (run 4 2 1 ∷ []) × EndsFrom 6 (run 4 2 1 ∷ [])
+start_examples : StartFrom 4 (run 4 2 1 ∷ []) × EndBy 6 (Some 2) (run 4 2 1 ∷ []) × EndsBehind 5 (run 4 2 1 ∷ [])
+    × EndsFrom 6 (run 4 2 1 ∷ [])
 unfolding run
 start_examples = (omega arith, (omega arith, λ touch same. absurd (cc same), tt), omega arith, omega arith)
 
@@ -145,7 +158,12 @@ begins_lower start = let higher : 5 ≤ 4 = start in absurd (omega arith)
 -- below 3 the function has one run, and from 3 on two; up to 6 one of them is built and one begun
 swept_to_three : IsSweptTo gaps 3 (run 0 2 1 ∷ [])
 unfolding run
-swept_to_three = record { runs = (omega arith, tt, tt); ends = (omega arith, λ touch. absurd (omega arith), tt); each = λ x below. grind (arith, nat_tests) }
+swept_to_three = record {
+  runs = (omega arith, tt, tt);
+  ends = (omega arith, λ touch. absurd (omega arith), tt);
+  each = λ x below. grind
+      (arith, nat_tests);
+}
 
 not_swept_to_five : ¬ IsSweptTo gaps 5 (run 0 2 1 ∷ [])
 unfolding run
@@ -173,7 +191,12 @@ built_to_six : IsBuiltTo gaps 6 (run 0 2 1 ∷ []) 4 (Some 1)
 unfolding run
 built_to_six = record {
   begun = omega arith;
-  swept = record { runs = (omega arith, tt, tt); ends = (omega arith, λ touch. absurd (omega arith), tt); each = λ x below. grind (arith, nat_tests) };
+  swept = record {
+    runs = (omega arith, tt, tt);
+    ends = (omega arith, λ touch. absurd (omega arith), tt);
+    each = λ x below. grind
+        (arith, nat_tests);
+  };
   stays = λ x from until. grind (arith, nat_tests);
 }
 

@@ -147,12 +147,14 @@ runs_led_some {X} same tells x v r rs runs start =
       | inl holds ↦
           let both : (r.base ≡ x + 1) × (same v r.value ≡ true) = touches (same v r.value) r.base (x + 1) holds in
           let ends : x + (r.size + 1) ≡ run_end r = omega arith in
-          let before : IsBefore (record { base = x; size = r.size + 1; value = v }) rs = before_longer x (r.size + 1) v r rs ends (tells.true_is_equal v r.value both.1) runs.1 in
+          let before : IsBefore (record { base = x; size = r.size + 1; value = v }) rs = before_longer x (r.size + 1) v r rs ends
+          (tells.true_is_equal v r.value both.1) runs.1 in
           let canonical : Canonical true = (omega arith, before, runs.2) in
           subst Canonical (sym holds) canonical
       | inr fails ↦
           let other : x + 1 ≡ r.base → v ≢ r.value =
-          λ touch equal. true≢false (sym (tells.equal_is_true v r.value equal) ∙ touches_not (same v r.value) r.base (x + 1) fails (sym touch)) in
+          λ touch equal. true≢false (sym (tells.equal_is_true v r.value equal)
+          ∙ touches_not (same v r.value) r.base (x + 1) fails (sym touch)) in
           let canonical : Canonical false = (omega arith, (start, other), runs) in
           subst Canonical (sym fails) canonical
     ]
@@ -163,7 +165,8 @@ runs_led same tells x None rs runs start = runs
 runs_led same tells x (Some v) [] runs start = (omega arith, tt, tt)
 runs_led same tells x (Some v) (r ∷ rs) runs start = runs_led_some same tells x v r rs runs start
 
-start_led : {X : Type 0} (same : X → X → Bool) (x : ℕ) (v : Option X) (rs : List (RunOf X)) → StartFrom (x + 1) rs → StartFrom x (led_by same x v rs)
+start_led : {X : Type 0} (same : X → X → Bool) (x : ℕ) (v : Option X) (rs : List (RunOf X)) → StartFrom (x + 1) rs
+    → StartFrom x (led_by same x v rs)
 start_led same x None [] start = tt
 start_led same x None (r ∷ rs) start = omega arith
 start_led same x (Some v) [] start = omega arith
@@ -174,7 +177,11 @@ start_led {X} same x (Some v) (r ∷ rs) start =
     let Starts : Bool → Type 0 = λ b. StartFrom x (if b then longer else another) in
     let first : Starts true = omega arith in
     let second : Starts false = omega arith in
-    elim (cases_Bool test) as (λ _. Starts test) [ inl holds ↦ subst Starts (sym holds) first | inr fails ↦ subst Starts (sym fails) second ]
+    elim (cases_Bool test) as (λ _. Starts test) [
+      | inl holds ↦ subst Starts (sym holds) first
+      | inr fails ↦ subst Starts (sym fails)
+          second
+    ]
 
 -- at the address itself the value leads, elsewhere the list behind it gives what it gave
 value_led : {X : Type 0} (same : X → X → Bool) → Tells same → (x : ℕ) (v : Option X) (rs : List (RunOf X)) (y : ℕ)
@@ -224,7 +231,8 @@ between_led {X} same tells f x n rs known = record {
 }
 
 -- the runs from 0 up to an address from which on there are none are all of them
-all_runs : {X : Type 0} (f : ℕ → Option X) (rs : List (RunOf X)) → IsRunsBetween f 0 (2 ^ 64) rs → ((x : ℕ) → 2 ^ 64 ≤ x → f x ≡ None) → IsRunsOf f rs
+all_runs : {X : Type 0} (f : ℕ → Option X) (rs : List (RunOf X)) → IsRunsBetween f 0 (2 ^ 64) rs → ((x : ℕ) → 2 ^ 64 ≤ x → f x ≡ None)
+    → IsRunsOf f rs
 all_runs f rs known none = record {
   runs = known.runs;
   each = λ x. elim (cases_lt x (2 ^ 64)) as (λ _. value_at rs x ≡ f x) [

@@ -41,14 +41,16 @@ label_after-step (item.Mem range) t y h = rw (covers-step range y h) refl
 label_after-step (item.Node range node) t y h = rw (covers-step range y h) refl
 label_after-step i t y h = refl
 
-label_from-step : (items : List Item) (t : Option Label) (y : ℕ) → edge_in items (y + 1) ≡ false → label_from t items (y + 1) ≡ label_from t items y
+label_from-step : (items : List Item) (t : Option Label) (y : ℕ) → edge_in items (y + 1) ≡ false → label_from t items (y + 1)
+    ≡ label_from t items y
 label_from-step [] t y h = refl
 label_from-step (i ∷ is) t y h =
     let both = either_false (edge_at i (y + 1)) (edge_in is (y + 1)) h in
     ap (λ (u : Option Label). label_from u is (y + 1)) (label_after-step i t y both.0) ∙ label_from-step is (label_after y t i) y both.1
 
 -- where all ends agree, each end does
-range_agrees-at : (whole : Option Label) (items : List Item) (first : ℕ) (r : Extent) (e : ℕ) → Agrees whole items first r.base → Agrees whole items first (end_of r)
+range_agrees-at : (whole : Option Label) (items : List Item) (first : ℕ) (r : Extent) (e : ℕ) → Agrees whole items first r.base
+    → Agrees whole items first (end_of r)
     → ((r.base == e) || (end_of r == e)) ≡ true → Agrees whole items first e
 range_agrees-at whole items first r e base_agrees end_agrees h =
     elim (either_true (r.base == e) (end_of r == e) h) as (λ _. Agrees whole items first e) [
@@ -56,12 +58,14 @@ range_agrees-at whole items first r e base_agrees end_agrees h =
       | inr at_end ↦ let is : end_of r ≡ e = grind (arith, nat_tests) in subst (λ (k : ℕ). Agrees whole items first k) is end_agrees
     ]
 
-edges_agree-at : (whole : Option Label) (items : List Item) (first : ℕ) (i : Item) (e : ℕ) → EdgesAgree whole items first i → edge_at i e ≡ true → Agrees whole items first e
+edges_agree-at : (whole : Option Label) (items : List Item) (first : ℕ) (i : Item) (e : ℕ) → EdgesAgree whole items first i → edge_at i e
+    ≡ true → Agrees whole items first e
 edges_agree-at whole items first (item.Mem range) e agree h = range_agrees-at whole items first range e agree.0 agree.1 h
 edges_agree-at whole items first (item.Node range node) e agree h = range_agrees-at whole items first range e agree.0 agree.1 h
 edges_agree-at whole items first i e agree h = absurd (true≢false (sym h))
 
-all_agree-at : (whole : Option Label) (items : List Item) (first : ℕ) (is : List Item) (e : ℕ) → AllAgree whole items first is → edge_in is e ≡ true → Agrees whole items first e
+all_agree-at : (whole : Option Label) (items : List Item) (first : ℕ) (is : List Item) (e : ℕ) → AllAgree whole items first is
+    → edge_in is e ≡ true → Agrees whole items first e
 all_agree-at whole items first [] e agree h = absurd (true≢false (sym h))
 all_agree-at whole items first (i ∷ is) e agree h =
     elim (either_true (edge_at i e) (edge_in is e) h) as (λ _. Agrees whole items first e) [
@@ -70,7 +74,8 @@ all_agree-at whole items first (i ∷ is) e agree h =
     ]
 
 -- then all bytes of the frame carry the same
-frame-agrees : (whole : Option Label) (items : List Item) (first : ℕ) → AllAgree whole items first items → (k y : ℕ) → y ≡ first + k → k < 4096
+frame-agrees : (whole : Option Label) (items : List Item) (first : ℕ) → AllAgree whole items first items → (k y : ℕ) → y ≡ first + k
+    → k < 4096
     → label_from whole items y ≡ label_from whole items first
 frame-agrees whole items first agree zero y is lt = let same : y ≡ first = omega arith in ap (λ (z : ℕ). label_from whole items z) same
 frame-agrees whole items first agree (suc k) y is lt =
@@ -85,17 +90,20 @@ frame-agrees whole items first agree (suc k) y is lt =
     ap (λ (u : ℕ). label_from whole items u) next ∙ there
 
 -- a trim keeps a frame whose ends agree
-pub kept-whole : (whole : Option Label) (items : List Item) (x : ℕ) → AllAgree whole items (x - x % 4096) items → label_kept whole items x ≡ label_from whole items (x - x % 4096)
+pub kept-whole : (whole : Option Label) (items : List Item) (x : ℕ) → AllAgree whole items (x - x % 4096) items → label_kept whole items x
+    ≡ label_from whole items (x - x % 4096)
 unfolding label_kept
 kept-whole whole items x agree =
     let first : ℕ = x - x % 4096 in
     let one : (y : ℕ) → IsInFrame x y → label_from whole items y ≡ label_from whole items first =
-    λ y in_frame. let a = in_frame.above in let b = in_frame.below in frame-agrees whole items first agree (y - first) y (omega arith) (omega arith) in
+    λ y in_frame. let a = in_frame.above in let b = in_frame.below in frame-agrees whole items first agree (y - first) y (omega arith)
+    (omega arith) in
     let here : label_from whole items x ≡ label_from whole items first = one x (in_own_frame x) in
     trimmed-whole (label_from whole items) x (λ y in_frame. one y in_frame ∙ sym here) ∙ here
 
 -- and leaves nothing of one where an end differs
-pub kept-parts : (whole : Option Label) (items : List Item) (x e : ℕ) → Differs whole items (x - x % 4096) e → label_kept whole items x ≡ None
+pub kept-parts : (whole : Option Label) (items : List Item) (x e : ℕ) → Differs whole items (x - x % 4096) e → label_kept whole items x
+    ≡ None
 unfolding label_kept
 kept-parts whole items x e differs =
     let first : ℕ = x - x % 4096 in
@@ -181,5 +189,6 @@ turn whole items i x found =
     ap (λ (is : List Item). label_after_all whole is x) apart ∙ trim_step whole (take i items) (drop (i + 1) items) x plain
 
 -- and the end
-pub last_turn : (whole : Option Label) (items : List Item) (x : ℕ) → position is_trim items ≡ None → label_after_all whole items x ≡ label_from whole items x
+pub last_turn : (whole : Option Label) (items : List Item) (x : ℕ) → position is_trim items ≡ None → label_after_all whole items x
+    ≡ label_from whole items x
 last_turn whole items x none = plain_end whole items x (position_none items none)

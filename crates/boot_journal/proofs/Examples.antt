@@ -21,15 +21,18 @@ abbrev of_node : ℕ → Label
 of_node node = with_node (Some node) plain_label
 
 -- memory keeps its node, and what isn't memory gets none
-after_examples : (label_after 5 None (item.Mem (bytes 4 2)) ≡ Some plain_label) × (label_after 5 (Some (of_node 1)) (item.Mem (bytes 4 2)) ≡ Some (of_node 1)) × (label_after 6 None (item.Mem (bytes 4 2)) ≡ None)
-    × (label_after 5 (Some plain_label) (item.Node (bytes 4 2) 3) ≡ Some (of_node 3)) × (label_after 5 None (item.Node (bytes 4 2) 3) ≡ None) × (label_after 5 (Some plain_label) item.Trim ≡ Some plain_label)
+after_examples : (label_after 5 None (item.Mem (bytes 4 2)) ≡ Some plain_label)
+    × (label_after 5 (Some (of_node 1)) (item.Mem (bytes 4 2)) ≡ Some (of_node 1)) × (label_after 6 None (item.Mem (bytes 4 2)) ≡ None)
+    × (label_after 5 (Some plain_label) (item.Node (bytes 4 2) 3) ≡ Some (of_node 3))
+    × (label_after 5 None (item.Node (bytes 4 2) 3) ≡ None) × (label_after 5 (Some plain_label) item.Trim ≡ Some plain_label)
 after_examples = (refl, refl, refl, refl, refl, refl)
 
 -- frame 1 becomes memory, and half of it gets node 3
 abbrev half : List Item
 half = item.Mem (bytes 4096 4096) ∷ (item.Node (bytes 4096 2048) 3 ∷ [])
 
-from_examples : (label_from None half 4096 ≡ Some (of_node 3)) × (label_from None half 6144 ≡ Some plain_label) × (label_from None half 0 ≡ None)
+from_examples : (label_from None half 4096 ≡ Some (of_node 3)) × (label_from None half 6144 ≡ Some plain_label)
+    × (label_from None half 0 ≡ None)
 from_examples = (refl, refl, refl)
 
 -- a trim leaves nothing of such a frame, and all of one that is memory without a node
@@ -54,8 +57,12 @@ middle_differs = record { behind = omega arith; inside = omega arith; other = pl
 agrees_examples : Agrees None half 4096 5000 × Agrees None half 4096 8192
 agrees_examples = ((λ behind inside. refl), λ behind inside. absurd (omega (arith, inside)))
 
-edges_examples : EdgesAgree None (item.Mem (bytes 4096 4096) ∷ []) 4096 (item.Mem (bytes 4096 4096)) × AllAgree None (item.Mem (bytes 4096 4096) ∷ []) 4096 (item.Mem (bytes 4096 4096) ∷ [])
-edges_examples = (((λ behind inside. absurd (omega (arith, behind))), (λ behind inside. absurd (omega (arith, inside)))), (((λ behind inside. absurd (omega (arith, behind))), (λ behind inside. absurd (omega (arith, inside)))), tt))
+edges_examples : EdgesAgree None (item.Mem (bytes 4096 4096) ∷ []) 4096 (item.Mem (bytes 4096 4096))
+    × AllAgree None (item.Mem (bytes 4096 4096) ∷ []) 4096 (item.Mem (bytes 4096 4096) ∷ [])
+edges_examples = (
+  ((λ behind inside. absurd (omega (arith, behind))), (λ behind inside. absurd (omega (arith, inside)))),
+  (((λ behind inside. absurd (omega (arith, behind))), (λ behind inside. absurd (omega (arith, inside)))), tt),
+)
 
 middle_is_an_edge : EdgesAgree None half 4096 (item.Node (bytes 4096 2048) 3) → ⊥
 middle_is_an_edge agree = plain_is_another (agree.1 (omega arith) (omega arith))

@@ -15,24 +15,30 @@ owners_told : (items : List Item) (rs : List (RunOf Owner)) → IsRunsOf (owner_
 owners_told items rs known = λ k x. known.each x k
 
 -- what one more item makes of the runs is what it makes of the owners
-pub owners_pushed : (items : List Item) (i : Item) (rs now : List (RunOf Owner)) → IsRunsOf (owner_of items) rs → IsRunsOf (owners_after (value_at rs) i) now
+pub owners_pushed : (items : List Item) (i : Item) (rs now : List (RunOf Owner)) → IsRunsOf (owner_of items) rs
+    → IsRunsOf (owners_after (value_at rs) i) now
     → IsRunsOf (owner_of (items ++ i ∷ [])) now
 owners_pushed items i rs now known new =
-    let same : owners_after (value_at rs) i ≡ owner_of (items ++ i ∷ []) = ap (λ (f : Owners). owners_after f i) (owners_told items rs known) ∙ sym (owner_of-push items i) in
+    let same : owners_after (value_at rs) i ≡ owner_of (items ++ i ∷ []) = ap (λ (f : Owners). owners_after f i)
+    (owners_told items rs known) ∙ sym (owner_of-push items i) in
     subst (λ (f : Owners). IsRunsOf f now) same new
 
 -- and they end where the runs do
-pub owners_within : (items : List Item) (rs : List (RunOf Owner)) → IsRunsOf (owner_of items) rs → NothingFrom (2 ^ 64) (value_at rs) → NothingFrom (2 ^ 64) (owner_of items)
+pub owners_within : (items : List Item) (rs : List (RunOf Owner)) → IsRunsOf (owner_of items) rs → NothingFrom (2 ^ 64) (value_at rs)
+    → NothingFrom (2 ^ 64) (owner_of items)
 owners_within items rs known none x le = sym (known.each x) ∙ none x le
 
-pub runs_within : (items : List Item) (rs : List (RunOf Owner)) → IsRunsOf (owner_of items) rs → NothingFrom (2 ^ 64) (owner_of items) → NothingFrom (2 ^ 64) (value_at rs)
+pub runs_within : (items : List Item) (rs : List (RunOf Owner)) → IsRunsOf (owner_of items) rs → NothingFrom (2 ^ 64) (owner_of items)
+    → NothingFrom (2 ^ 64) (value_at rs)
 runs_within items rs known none x le = known.each x ∙ none x le
 
 -- they are the list of the definitions
-pub owner_list : (items : List Item) (rs : List (RunOf Owner)) → IsRunsOf (owner_of items) rs → NothingFrom (2 ^ 64) (owner_of items) → rs ≡ owner_runs_of items
+pub owner_list : (items : List Item) (rs : List (RunOf Owner)) → IsRunsOf (owner_of items) rs → NothingFrom (2 ^ 64) (owner_of items) → rs
+    ≡ owner_runs_of items
 unfolding owner_runs_of
 owner_list items rs known none = the_list same_owner owner_tells (owner_of items) rs none known
 
 -- code that is generic in the record sees a run through a function that changes nothing
-pub owner_held : (items : List Item) (rs : List (RunOf Owner)) (x : ℕ) → IsRunsOf (owner_of items) rs → value_at (map (λ (r : RunOf Owner). r) rs) x ≡ owner_of items x
+pub owner_held : (items : List Item) (rs : List (RunOf Owner)) (x : ℕ) → IsRunsOf (owner_of items) rs
+    → value_at (map (λ (r : RunOf Owner). r) rs) x ≡ owner_of items x
 owner_held items rs x known = rw (map-id rs) (known.each x)

@@ -15,7 +15,8 @@ use Rattle.e820_sanitise.specs.Cuts.{between, between_if, parts, is_meant, left_
 -- one part
 between_test : (from until kind x k : ℕ) → claims_of (between from until kind) x k ≡ (nat_le from x && nat_lt x until && k == kind)
 between_test from until kind x k =
-    elim (cases_Bool (nat_lt from until)) as (λ _. claims_of (between from until kind) x k ≡ (nat_le from x && nat_lt x until && k == kind)) [
+    elim (cases_Bool (nat_lt from until)) as (λ _. claims_of (between from until kind) x k
+    ≡ (nat_le from x && nat_lt x until && k == kind)) [
       | inl some ↦ rw some (grind (arith, nat_tests))
       | inr none ↦ rw none (grind (arith, nat_tests))
     ]
@@ -46,7 +47,8 @@ remove_step : (lies in_range rest : Bool) (v kind k : ℕ)
     → ((lies && (if in_range then is_value (if v == kind then None else Some v) k else (k == v))) || (rest && not (in_range && k == kind)))
     ≡ (((lies && k == v) || rest) && not (in_range && k == kind))
 remove_step lies in_range rest v kind k =
-    elim (cases_Bool (v == kind)) as (λ _. ((lies && (if in_range then is_value (if v == kind then None else Some v) k else (k == v))) || (rest && not (in_range && k == kind)))
+    elim (cases_Bool (v == kind)) as (λ _. ((lies && (if in_range then is_value (if v == kind then None else Some v) k else (k == v)))
+    || (rest && not (in_range && k == kind)))
     ≡ (((lies && k == v) || rest) && not (in_range && k == kind))) [
       | inl equal ↦ rw equal (grind (arith, nat_tests))
       | inr other ↦ rw other (grind (arith, nat_tests))
@@ -59,11 +61,13 @@ remove_all_step lies in_range rest v k = grind (arith, nat_tests)
 change_step : (lies in_range rest rest_from : Bool) (v from to k : ℕ)
     → ((lies && (if in_range then is_value (if v == from then Some to else Some v) k else (k == v)))
     || (if in_range then ((rest_from && k == to) || (rest && not (k == from))) else rest))
-    ≡ (if in_range then ((((lies && from == v) || rest_from) && k == to) || (((lies && k == v) || rest) && not (k == from))) else ((lies && k == v) || rest))
+    ≡ (if in_range then ((((lies && from == v) || rest_from) && k == to) || (((lies && k == v) || rest) && not (k == from))) else
+    ((lies && k == v) || rest))
 change_step lies in_range rest rest_from v from to k =
     elim (cases_Bool (v == from)) as (λ _. ((lies && (if in_range then is_value (if v == from then Some to else Some v) k else (k == v)))
     || (if in_range then ((rest_from && k == to) || (rest && not (k == from))) else rest))
-    ≡ (if in_range then ((((lies && from == v) || rest_from) && k == to) || (((lies && k == v) || rest) && not (k == from))) else ((lies && k == v) || rest))) [
+    ≡ (if in_range then ((((lies && from == v) || rest_from) && k == to) || (((lies && k == v) || rest) && not (k == from))) else
+    ((lies && k == v) || rest))) [
       | inl equal ↦ rw equal (grind (arith, nat_tests))
       | inr other ↦ rw other (grind (arith, nat_tests))
     ]
@@ -73,14 +77,16 @@ remove_test : (range : Extent) (kind : ℕ) (rs : List (RunOf ℕ)) (x k : ℕ)
 remove_test range kind [] x k = refl
 remove_test range kind (r ∷ rs) x k =
     claims_append_at (parts range (left_inside (Some kind) None r.value) r) (cut_out range (Some kind) None rs) x k
-    ∙ rw (parts_test range (left_inside (Some kind) None r.value) r x k, remove_test range kind rs x k) (remove_step (lies_in r x) (covers range x) (claims_of rs x k) r.value kind k)
+    ∙ rw (parts_test range (left_inside (Some kind) None r.value) r x k, remove_test range kind rs x k)
+    (remove_step (lies_in r x) (covers range x) (claims_of rs x k) r.value kind k)
 
 remove_all_test : (range : Extent) (rs : List (RunOf ℕ)) (x k : ℕ)
     → claims_of (cut_out range None None rs) x k ≡ edited (edit.RemoveAll range) (claims_of rs) x k
 remove_all_test range [] x k = refl
 remove_all_test range (r ∷ rs) x k =
     claims_append_at (parts range None r) (cut_out range None None rs) x k
-    ∙ rw (parts_test range None r x k, remove_all_test range rs x k) (remove_all_step (lies_in r x) (covers range x) (claims_of rs x k) r.value k)
+    ∙ rw (parts_test range None r x k, remove_all_test range rs x k)
+    (remove_all_step (lies_in r x) (covers range x) (claims_of rs x k) r.value k)
 
 change_none : (b : Bool) → (if b then false else false) ≡ false
 change_none true = refl
@@ -111,7 +117,7 @@ add_test : (range : Extent) (kind : ℕ) (rs : List (RunOf ℕ)) (x k : ℕ)
     → claims_of (rs ++ between range.base (end_of range) kind) x k ≡ edited (edit.Add range kind) (claims_of rs) x k
 add_test range kind rs x k =
     claims_append_at rs (between range.base (end_of range) kind) x k
-        ∙ ap (λ b. claims_of rs x k || b) (between_test range.base (end_of range) kind x k)
+    ∙ ap (λ b. claims_of rs x k || b) (between_test range.base (end_of range) kind x k)
 
 pub add_same : (range : Extent) (kind : ℕ) (rs : List (RunOf ℕ))
     → claims_of (rs ++ between range.base (end_of range) kind) ≡ edited (edit.Add range kind) (claims_of rs)
@@ -140,7 +146,8 @@ are_between from until kind space some small =
     elim (cases_Bool (nat_lt from until)) as (λ _. AreClaims (between from until kind)) [
       | inl above ↦
           let lt : from < until = grind (arith, nat_tests) in
-          let one : AreClaims (record { base = from; size = until - from; value = kind } ∷ []) = (omega arith, omega arith, some, small, tt) in
+          let one : AreClaims (record { base = from; size = until - from; value = kind } ∷ []) =
+          (omega arith, omega arith, some, small, tt) in
           rw above one
       | inr none ↦ rw none tt
     ]
@@ -165,10 +172,13 @@ pub are_cut : (range : Extent) (meant instead : Option ℕ) (rs : List (RunOf �
     → AreClaims (cut_out range meant instead rs)
 are_cut range meant instead [] type claims = tt
 are_cut range meant instead (r ∷ rs) type claims =
-    let first : AreClaims (between r.base (min range.base (run_end r)) r.value) = are_between r.base (min range.base (run_end r)) r.value (omega arith) claims.2 claims.3 in
+    let first : AreClaims (between r.base (min range.base (run_end r)) r.value) = are_between r.base (min range.base (run_end r)) r.value
+    (omega arith) claims.2 claims.3 in
     let second : AreClaims (between_if (max range.base r.base) (min (end_of range) (run_end r)) (left_inside meant instead r.value)) =
-    are_between_if (max range.base r.base) (min (end_of range) (run_end r)) (left_inside meant instead r.value) (omega arith) (type_inside meant instead r.value type claims.2 claims.3) in
-    let third : AreClaims (between (max (end_of range) r.base) (run_end r) r.value) = are_between (max (end_of range) r.base) (run_end r) r.value (omega arith) claims.2 claims.3 in
+    are_between_if (max range.base r.base) (min (end_of range) (run_end r)) (left_inside meant instead r.value) (omega arith)
+    (type_inside meant instead r.value type claims.2 claims.3) in
+    let third : AreClaims (between (max (end_of range) r.base) (run_end r) r.value) = are_between (max (end_of range) r.base) (run_end r)
+    r.value (omega arith) claims.2 claims.3 in
     are_append _ _ (are_append _ _ (are_append _ _ first second) third) (are_cut range meant instead rs type claims.4)
 
 -- claims that changed as they should, or not at all, are claims

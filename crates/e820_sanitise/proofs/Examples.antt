@@ -36,7 +36,8 @@ inside_a_change : (left_inside (Some 1) (Some 4) 1 ≡ Some 4) × (left_inside (
 inside_a_change = (refl, refl, refl)
 
 -- RAM is taken away in the middle, and what is reserved there stays, though in three parts
-ram_removed : cut_out (range 4 2) (Some 1) None (run 0 10 1 ∷ run 0 10 2 ∷ []) ≡ run 0 4 1 ∷ run 6 4 1 ∷ run 0 4 2 ∷ run 4 2 2 ∷ run 6 4 2 ∷ []
+ram_removed : cut_out (range 4 2) (Some 1) None (run 0 10 1 ∷ run 0 10 2 ∷ [])
+    ≡ run 0 4 1 ∷ run 6 4 1 ∷ run 0 4 2 ∷ run 4 2 2 ∷ run 6 4 2 ∷ []
 ram_removed = refl
 
 all_removed : cut_out (range 0 10) None None (run 0 10 1 ∷ run 2 3 2 ∷ []) ≡ []

@@ -74,7 +74,8 @@ older_claim_stays = refl
 free_after_claim : owner_of (item.Claim (bytes 0 8) owner.Kernel ∷ (item.Free (bytes 4 2) ∷ [])) 5 ≡ None
 free_after_claim = refl
 
-claim_after_free : owner_of (item.Claim (bytes 0 8) owner.Kernel ∷ (item.Free (bytes 4 2) ∷ (item.Claim (bytes 5 1) owner.Soft ∷ []))) 5 ≡ Some owner.Soft
+claim_after_free : owner_of (item.Claim (bytes 0 8) owner.Kernel ∷ (item.Free (bytes 4 2) ∷ (item.Claim (bytes 5 1) owner.Soft ∷ []))) 5
+    ≡ Some owner.Soft
 claim_after_free = refl
 
 -- nothing else speaks of owners
@@ -98,10 +99,12 @@ added_new = refl
 node_of_nothing : tag_of (item.Node (bytes 0 4) 1 ∷ []) 3 ≡ tag.Absent
 node_of_nothing = refl
 
-later_node : memory_of (item.Mem (bytes 0 8) ∷ (item.Node (bytes 0 8) 1 ∷ (item.Node (bytes 4 4) 2 ∷ []))) 4 ≡ Some (with_node (Some 2) plain_label)
+later_node : memory_of (item.Mem (bytes 0 8) ∷ (item.Node (bytes 0 8) 1 ∷ (item.Node (bytes 4 4) 2 ∷ []))) 4
+    ≡ Some (with_node (Some 2) plain_label)
 later_node = refl
 
-earlier_node : memory_of (item.Mem (bytes 0 8) ∷ (item.Node (bytes 0 8) 1 ∷ (item.Node (bytes 4 4) 2 ∷ []))) 3 ≡ Some (with_node (Some 1) plain_label)
+earlier_node : memory_of (item.Mem (bytes 0 8) ∷ (item.Node (bytes 0 8) 1 ∷ (item.Node (bytes 4 4) 2 ∷ []))) 3
+    ≡ Some (with_node (Some 1) plain_label)
 earlier_node = refl
 
 -- nothing else speaks of memory
@@ -131,7 +134,8 @@ mixed_frame_goes = refl
 
 -- the first frame carries one label, the second too but for its last byte, which carries another, and the third but for one byte
 abbrev frames : Labels
-frames x = if nat_lt x 8191 then Some plain_label else (if x == 8191 then Some (with_node (Some 8) plain_label) else (if nat_lt x 12287 then Some plain_label else None))
+frames x = if nat_lt x 8191 then Some plain_label else (if x == 8191 then Some (with_node (Some 8) plain_label) else
+    (if nat_lt x 12287 then Some plain_label else None))
 
 whole_frame : trimmed frames 4095 ≡ Some plain_label
 unfolding trimmed each_in each_from
@@ -165,7 +169,8 @@ limit_set = refl
 limit_left : limit_after 7 (item.Free (bytes 0 4)) ≡ 7
 limit_left = refl
 
-limit_stays : limit_of (item.Limit 7 ∷ (item.Mem (bytes 0 8) ∷ (item.Node (bytes 0 8) 1 ∷ (item.Claim (bytes 0 8) owner.Kernel ∷ (item.Free (bytes 0 4)
+limit_stays : limit_of (item.Limit 7 ∷ (item.Mem (bytes 0 8) ∷ (item.Node (bytes 0 8) 1 ∷
+    (item.Claim (bytes 0 8) owner.Kernel ∷ (item.Free (bytes 0 4)
     ∷ (item.Grown which.Memory 4 256 ∷ [])))))) ≡ 7
 limit_stays = refl
 
@@ -175,7 +180,8 @@ claims_of_one_owner : runs_from same_owner (owner_of (item.Claim (bytes 1 2) own
 unfolding runs_from
 claims_of_one_owner = refl
 
-claims_of_two_owners : runs_from same_owner (owner_of (item.Claim (bytes 1 2) (owner.Script 1) ∷ (item.Claim (bytes 3 2) (owner.Script 2) ∷ []))) 0 8
+claims_of_two_owners : runs_from same_owner (owner_of (item.Claim (bytes 1 2) (owner.Script 1) ∷
+    (item.Claim (bytes 3 2) (owner.Script 2) ∷ []))) 0 8
     ≡ record { base = 1; size = 2; value = owner.Script 1 } ∷ (record { base = 3; size = 2; value = owner.Script 2 } ∷ [])
 unfolding runs_from
 claims_of_two_owners = refl
@@ -198,7 +204,8 @@ parted_are_runs = (omega arith, (omega arith, λ touch. absurd (omega arith)), (
 
 runs_of_parted : owner_runs_of parted ≡ parted_runs
 unfolding owner_runs_of
-runs_of_parted = sym (the_list same_owner owner_tells (owner_of parted) parted_runs parted_ends (record { runs = parted_are_runs; each = parted_each }))
+runs_of_parted = sym (the_list same_owner owner_tells (owner_of parted) parted_runs parted_ends
+    (record { runs = parted_are_runs; each = parted_each }))
 
 abbrev freed : List Item
 freed = item.Claim (bytes 1 3) owner.Kernel ∷ (item.Free (bytes 0 8) ∷ [])

@@ -62,10 +62,12 @@ table_of-push which.Reserved items i = ap reserved_of (owner_of-push items i) �
 covers_alike : (r : Extent) (v : Label) (f g : Labels) (y : ℕ) → f y ≡ g y → covered r v f y ≡ covered r v g y
 covers_alike r v f g y e = ap (λ o. if covers r y then Some (unwrap_or o v) else o) e
 
-relabels_alike : (r : Extent) (change : Label → Label) (f g : Labels) (y : ℕ) → f y ≡ g y → relabelled r change f y ≡ relabelled r change g y
+relabels_alike : (r : Extent) (change : Label → Label) (f g : Labels) (y : ℕ) → f y ≡ g y → relabelled r change f y
+    ≡ relabelled r change g y
 relabels_alike r change f g y e = ap (λ o. if covers r y then option_map change o else o) e
 
-pub memory_after-local : (f g : Labels) (i : Item) (x : ℕ) → ((y : ℕ) → IsInFrame x y → f y ≡ g y) → (y : ℕ) → IsInFrame x y → memory_after f i y ≡ memory_after g i y
+pub memory_after-local : (f g : Labels) (i : Item) (x : ℕ) → ((y : ℕ) → IsInFrame x y → f y ≡ g y) → (y : ℕ) → IsInFrame x y
+    → memory_after f i y ≡ memory_after g i y
 memory_after-local f g (item.Mem range) x alike y at_y = covers_alike range plain_label f g y (alike y at_y)
 memory_after-local f g item.Trim x alike y at_y = trimmed-local f g y (λ z at_z. alike z (frame_join y x z (frame_back x y at_y) at_z))
 memory_after-local f g (item.Node range node) x alike y at_y = relabels_alike range (with_node (Some node)) f g y (alike y at_y)
@@ -74,7 +76,8 @@ memory_after-local f g i x alike y at_y = alike y at_y
 pub memory_fold-local : (f g : Labels) (items : List Item) (x : ℕ) → ((y : ℕ) → IsInFrame x y → f y ≡ g y)
     → (y : ℕ) → IsInFrame x y → fold memory_after f items y ≡ fold memory_after g items y
 memory_fold-local f g [] x alike y at_y = alike y at_y
-memory_fold-local f g (i ∷ is) x alike y at_y = memory_fold-local (memory_after f i) (memory_after g i) is x (memory_after-local f g i x alike) y at_y
+memory_fold-local f g (i ∷ is) x alike y at_y = memory_fold-local (memory_after f i) (memory_after g i) is x
+    (memory_after-local f g i x alike) y at_y
 
 -- one more item whose range isn't empty
 pub AreItems-push : (items : List Item) (i : Item) → AreItems items → IsItem i → AreItems (items ++ i ∷ [])

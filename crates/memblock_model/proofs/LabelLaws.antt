@@ -35,7 +35,8 @@ pub trimmed-whole : (f : Labels) (x : ℕ)
 unfolding trimmed
 trimmed-whole f x all =
     let whole : each_in (frame_around x) (λ y. agree same_label (f y) (f x)) ≡ true =
-    each_in-all (frame_around x) (λ y. agree same_label (f y) (f x)) (λ y above below. agree-same same_label label_tells (f y) (f x) (all y (record { above = above; below = below }))) in
+    each_in-all (frame_around x) (λ y. agree same_label (f y) (f x))
+    (λ y above below. agree-same same_label label_tells (f y) (f x) (all y (record { above = above; below = below }))) in
     rw whole refl
 
 -- a frame of two labels becomes bare
@@ -47,7 +48,8 @@ trimmed-unlike f x y z at_y at_z unlike =
       | inl holds ↦
           let each : (u : ℕ) → x - x % 4096 ≤ u → u < x - x % 4096 + 4096 → agree same_label (f u) (f x) ≡ true =
           each_in-each (frame_around x) (λ u. agree same_label (f u) (f x)) holds in
-          absurd (unlike (agree-yes same_label label_tells (f y) (f x) (each y at_y.above at_y.below) ∙ sym (agree-yes same_label label_tells (f z) (f x) (each z at_z.above at_z.below))))
+          absurd (unlike (agree-yes same_label label_tells (f y) (f x) (each y at_y.above at_y.below)
+          ∙ sym (agree-yes same_label label_tells (f z) (f x) (each z at_z.above at_z.below))))
       | inr fails ↦ rw fails refl
     ]
 
@@ -56,8 +58,10 @@ pub trimmed-cases : (f : Labels) (x : ℕ)
     → ((y : ℕ) → IsInFrame x y → f y ≡ f x) ⊎ (trimmed f x ≡ None)
 unfolding trimmed
 trimmed-cases f x =
-    elim (cases_Bool (each_in (frame_around x) (λ u. agree same_label (f u) (f x)))) as (λ _. ((y : ℕ) → IsInFrame x y → f y ≡ f x) ⊎ (trimmed f x ≡ None)) [
-      | inl holds ↦ inl (λ y at_y. agree-yes same_label label_tells (f y) (f x) (each_in-each (frame_around x) (λ u. agree same_label (f u) (f x)) holds y at_y.above at_y.below))
+    elim (cases_Bool (each_in (frame_around x) (λ u. agree same_label (f u) (f x)))) as (λ _. ((y : ℕ) → IsInFrame x y → f y ≡ f x)
+    ⊎ (trimmed f x ≡ None)) [
+      | inl holds ↦ inl (λ y at_y. agree-yes same_label label_tells (f y) (f x)
+          (each_in-each (frame_around x) (λ u. agree same_label (f u) (f x)) holds y at_y.above at_y.below))
       | inr fails ↦ inr (rw fails refl)
     ]
 
@@ -83,9 +87,11 @@ pub trimmed-local : (f g : Labels) (x : ℕ) → ((y : ℕ) → IsInFrame x y �
 unfolding trimmed
 trimmed-local f g x alike =
     let here : f x ≡ g x = alike x (in_own_frame x) in
-    let tests : each_in (frame_around x) (λ y. agree same_label (f y) (f x)) ≡ each_in (frame_around x) (λ y. agree same_label (g y) (g x)) =
+    let tests : each_in (frame_around x) (λ y. agree same_label (f y) (f x))
+    ≡ each_in (frame_around x) (λ y. agree same_label (g y) (g x)) =
     each_in-same (frame_around x) (λ y. agree same_label (f y) (f x)) (λ y. agree same_label (g y) (g x))
-    (λ y above below. ap (λ o. agree same_label o (f x)) (alike y (record { above = above; below = below })) ∙ ap (λ o. agree same_label (g y) o) here) in
+    (λ y above below. ap (λ o. agree same_label o (f x)) (alike y (record { above = above; below = below }))
+    ∙ ap (λ o. agree same_label (g y) o) here) in
     rw (tests, here) refl
 
 -- the addresses of a frame, by the test

@@ -24,7 +24,8 @@ node_tells = record { true_is_equal = node_yes; equal_is_true = λ a b e. ap (λ
 
 -- labels are the same where their parts are
 label_yes : (a b : Label) → same_label a b ≡ true → a ≡ b
-label_yes a b h = let nodes : a.node ≡ b.node = node_yes a.node b.node h in ap (λ (n : Option ℕ). let label : Label = record { node = n } in label) nodes
+label_yes a b h = let nodes : a.node ≡ b.node = node_yes a.node b.node h in
+    ap (λ (n : Option ℕ). let label : Label = record { node = n } in label) nodes
 
 pub label_self : (a : Label) → same_label a a ≡ true
 label_self a = node_self a.node
@@ -37,7 +38,8 @@ numbered : ℕ → ℕ → Owner
 numbered v n =
     if v == 0 then owner.Kernel else (if v == 1 then owner.Low64K else (if v == 2 then owner.Initrd else (if v == 3 then owner.Low1M
     else (if v == 4 then owner.Soft else (if v == 5 then owner.Table (if n == 0 then which.Memory else which.Reserved)
-    else (if v == 6 then owner.NodeData n else (if v == 7 then owner.Crash else (if v == 8 then owner.CrashLow else (if v == 9 then owner.Roots
+    else (if v == 6 then owner.NodeData n else (if v == 7 then owner.Crash else
+    (if v == 8 then owner.CrashLow else (if v == 9 then owner.Roots
     else (if v == 10 then owner.Root n else (if v == 11 then owner.Usage n else (if v == 12 then owner.Map n else owner.Script n))))))))))))
 
 numbered_again : (o : Owner) → numbered (variant_of o) (owner_number o) ≡ o
@@ -67,7 +69,8 @@ numbers_both m n v w e f = grind (arith, nat_tests)
 owner_yes : (a b : Owner) → same_owner a b ≡ true → a ≡ b
 owner_yes a b h =
     let both = both_numbers (variant_of a) (variant_of b) (owner_number a) (owner_number b) h in
-    sym (numbered_again a) ∙ ap (λ (v : ℕ). numbered v (owner_number a)) both.0 ∙ ap (λ (n : ℕ). numbered (variant_of b) n) both.1 ∙ numbered_again b
+    sym (numbered_again a) ∙ ap (λ (v : ℕ). numbered v (owner_number a)) both.0 ∙ ap (λ (n : ℕ). numbered (variant_of b) n) both.1
+    ∙ numbered_again b
 
 pub owner_self : (a : Owner) → same_owner a a ≡ true
 owner_self a = numbers_both (variant_of a) (variant_of a) (owner_number a) (owner_number a) refl refl

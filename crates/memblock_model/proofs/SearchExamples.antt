@@ -149,13 +149,15 @@ nothing_fits b h =
     let high = place.high in
     let first = place.first in
     let free : reserved_of (owner_of crowded) b ≡ None = place.free b (omega arith) (omega arith) in
-    let held : reserved_of (owner_of crowded) b ≡ Some plain_label = (let inside : covers (bytes 0x1000 0xF000) b ≡ true = grind (arith, nat_tests) in rw inside refl) in
+    let held : reserved_of (owner_of crowded) b ≡ Some plain_label = (let inside : covers (bytes 0x1000 0xF000) b
+    ≡ true = grind (arith, nat_tests) in rw inside refl) in
     cc (free, held)
 
 no_best_in : best_in (table_of which.Memory crowded) (table_of which.Reserved crowded) page ≡ None
 no_best_in = best_in-fails (table_of which.Memory crowded) (table_of which.Reserved crowded) page
     (λ b lt. elim (cases_Bool (fits_in (table_of which.Memory crowded) (table_of which.Reserved crowded) page b))
-    as (λ _. fits_in (table_of which.Memory crowded) (table_of which.Reserved crowded) page b ≡ false) [ inl fits ↦ absurd (nothing_fits b fits) | inr fails ↦ fails ])
+    as (λ _. fits_in (table_of which.Memory crowded) (table_of which.Reserved crowded) page b ≡ false)
+    [ inl fits ↦ absurd (nothing_fits b fits) | inr fails ↦ fails ])
 
 nothing_best : best crowded page ≡ None
 unfolding best

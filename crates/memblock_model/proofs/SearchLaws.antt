@@ -40,7 +40,8 @@ unfolding last_below
 last_below-is p zero a h = cc
 last_below-is p (suc n) a h =
     elim (cases_Bool (p n)) as (λ _. IsLastBelow p (suc n) a) [
-      | inl passes ↦ let here : n ≡ a = same_Some n a (rw passes at h) in subst (λ (k : ℕ). IsLastBelow p (suc n) k) here (last_here p n passes)
+      | inl passes ↦ let here : n ≡ a = same_Some n a (rw passes at h) in subst (λ (k : ℕ). IsLastBelow p (suc n) k) here
+          (last_here p n passes)
       | inr fails ↦ last_more p n a fails (last_below-is p n a (rw fails at h))
     ]
 
@@ -75,30 +76,39 @@ last_below-last p (suc n) a known =
             | inl before ↦ before
             | inr ge ↦ absurd (true≢false (sym known.passes ∙ other (omega arith)))
           ] in
-          rw fails (last_below-last p n a (record { below = before; passes = known.passes; last = λ b less h. known.last b (omega arith) h }))
+          rw fails (last_below-last p n a (record {
+            below = before;
+            passes = known.passes;
+            last = λ b less h. known.last b (omega arith) h;
+          }))
     ]
 
 -- where none passes there is no answer
 pub last_below-fails : (p : ℕ → Bool) (n : ℕ) → ((b : ℕ) → b < n → p b ≡ false) → last_below p n ≡ None
 unfolding last_below
 last_below-fails p zero none = refl
-last_below-fails p (suc n) none = let here : p n ≡ false = none n (omega arith) in rw here (last_below-fails p n (λ b lt. none b (omega arith)))
+last_below-fails p (suc n) none = let here : p n ≡ false = none n (omega arith) in
+    rw here (last_below-fails p n (λ b lt. none b (omega arith)))
 
 -- the best place
-pub best_in-is : (memory reserved : Labels) (q : Query) (a : ℕ) → best_in memory reserved q ≡ Some a → IsLastBelow (fits_in memory reserved q) (2 ^ 64) a
+pub best_in-is : (memory reserved : Labels) (q : Query) (a : ℕ) → best_in memory reserved q ≡ Some a
+    → IsLastBelow (fits_in memory reserved q) (2 ^ 64) a
 unfolding best_in
 best_in-is memory reserved q a h = last_below-is (fits_in memory reserved q) (2 ^ 64) a h
 
-pub best_in-none : (memory reserved : Labels) (q : Query) → best_in memory reserved q ≡ None → (b : ℕ) → b < 2 ^ 64 → fits_in memory reserved q b ≡ false
+pub best_in-none : (memory reserved : Labels) (q : Query) → best_in memory reserved q ≡ None → (b : ℕ) → b < 2 ^ 64
+    → fits_in memory reserved q b ≡ false
 unfolding best_in
 best_in-none memory reserved q h b lt = last_below-none (fits_in memory reserved q) (2 ^ 64) h b lt
 
 -- and to prove that an address is it, or that there is none
-pub best_in-last : (memory reserved : Labels) (q : Query) (a : ℕ) → IsLastBelow (fits_in memory reserved q) (2 ^ 64) a → best_in memory reserved q ≡ Some a
+pub best_in-last : (memory reserved : Labels) (q : Query) (a : ℕ) → IsLastBelow (fits_in memory reserved q) (2 ^ 64) a
+    → best_in memory reserved q ≡ Some a
 unfolding best_in
 best_in-last memory reserved q a known = last_below-last (fits_in memory reserved q) (2 ^ 64) a known
 
-pub best_in-fails : (memory reserved : Labels) (q : Query) → ((b : ℕ) → b < 2 ^ 64 → fits_in memory reserved q b ≡ false) → best_in memory reserved q ≡ None
+pub best_in-fails : (memory reserved : Labels) (q : Query) → ((b : ℕ) → b < 2 ^ 64 → fits_in memory reserved q b ≡ false)
+    → best_in memory reserved q ≡ None
 unfolding best_in
 best_in-fails memory reserved q none = last_below-fails (fits_in memory reserved q) (2 ^ 64) none
 
@@ -148,8 +158,10 @@ fits_in-parts memory reserved q a h =
       high = grind (arith, nat_tests, is_high);
       held = (and_parts high (is_some (memory a)) at_held).1;
       allowed = (and_parts held (allows q.node (memory a)) at_allowed).1;
-      label = λ x above below. agree-yes same_label label_tells (memory x) (memory a) (and_parts (agree same_label (memory x) (memory a)) (is_none (reserved x)) (each x above below)).0;
-      free = λ x above below. no_label (reserved x) (and_parts (agree same_label (memory x) (memory a)) (is_none (reserved x)) (each x above below)).1;
+      label = λ x above below. agree-yes same_label label_tells (memory x) (memory a)
+          (and_parts (agree same_label (memory x) (memory a)) (is_none (reserved x)) (each x above below)).0;
+      free = λ x above below. no_label (reserved x) (and_parts (agree same_label (memory x) (memory a)) (is_none (reserved x))
+          (each x above below)).1;
     }
 
 pub fits_in-whole : (memory reserved : Labels) (q : Query) (a : ℕ) → IsPlace memory reserved q a → fits_in memory reserved q a ≡ true
@@ -175,5 +187,6 @@ fits_in-whole memory reserved q a known =
     let at_allowed : allowed ≡ true = and_from held (allows q.node (memory a)) at_held known.allowed in
     let each : each_in place test ≡ true = each_in-all place test (λ x above below.
     and_from (agree same_label (memory x) (memory a)) (is_none (reserved x))
-    (agree-same same_label label_tells (memory x) (memory a) (known.label x above below)) (none_is (reserved x) (known.free x above below))) in
+    (agree-same same_label label_tells (memory x) (memory a) (known.label x above below))
+    (none_is (reserved x) (known.free x above below))) in
     and_from allowed (each_in place test) at_allowed each

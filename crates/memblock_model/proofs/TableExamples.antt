@@ -62,7 +62,8 @@ memory_is_no_claim : table_after which.Reserved (reserved_of no_owners) (item.Me
 memory_is_no_claim = refl
 
 -- the reserved table doesn't say whose a byte is, so claims of two owners that touch are one record
-claims_are_one_record : runs_from same_label (table_of which.Reserved (item.Claim (bytes 1 2) owner.Kernel ∷ (item.Claim (bytes 3 2) owner.Soft ∷ []))) 0 8
+claims_are_one_record : runs_from same_label (table_of which.Reserved
+    (item.Claim (bytes 1 2) owner.Kernel ∷ (item.Claim (bytes 3 2) owner.Soft ∷ []))) 0 8
     ≡ record { base = 1; size = 4; value = plain_label } ∷ []
 unfolding runs_from
 claims_are_one_record = refl
@@ -94,7 +95,8 @@ memory_are_runs = (omega arith, (omega arith, λ touch. plain_is_another), (omeg
 
 records_of_memory : records_of which.Memory few ≡ memory_records
 unfolding records_of
-records_of_memory = sym (records_for-is (table_of which.Memory few) memory_records memory_ends (record { runs = memory_are_runs; each = memory_each }))
+records_of_memory = sym (records_for-is (table_of which.Memory few) memory_records memory_ends
+    (record { runs = memory_are_runs; each = memory_each }))
 
 abbrev reserved_records : List (RunOf Label)
 reserved_records = record { base = 2; size = 2; value = plain_label } ∷ []
@@ -110,7 +112,8 @@ reserved_are_runs = (omega arith, tt, tt)
 
 records_of_reserved : records_of which.Reserved few ≡ reserved_records
 unfolding records_of
-records_of_reserved = sym (records_for-is (table_of which.Reserved few) reserved_records reserved_ends (record { runs = reserved_are_runs; each = reserved_each }))
+records_of_reserved = sym (records_for-is (table_of which.Reserved few) reserved_records reserved_ends
+    (record { runs = reserved_are_runs; each = reserved_each }))
 
 -- a record in the middle of the range leaves two pieces that it doesn't cover
 two_bare_pieces : runs_from same_label (bare (bytes 1 6) plain_label (table_of which.Memory (item.Mem (bytes 3 2) ∷ []))) 0 8
@@ -139,7 +142,8 @@ bare_ends : NothingFrom (2 ^ 64) (bare (bytes 1 6) plain_label partly)
 bare_ends x le = grind (arith, nat_tests)
 
 records_for_bare : records_for (bare (bytes 1 6) plain_label partly) ≡ two_runs
-records_for_bare = sym (records_for-is (bare (bytes 1 6) plain_label partly) two_runs bare_ends (record { runs = two_runs_are_runs; each = two_runs_are_bare }))
+records_for_bare = sym (records_for-is (bare (bytes 1 6) plain_label partly) two_runs bare_ends
+    (record { runs = two_runs_are_runs; each = two_runs_are_bare }))
 
 two_pieces : pieces (bytes 1 6) partly ≡ 2
 unfolding pieces
@@ -152,14 +156,16 @@ covered_ends : NothingFrom (2 ^ 64) (bare (bytes 3 2) plain_label partly)
 covered_ends x le = grind (arith, nat_tests)
 
 records_for_nothing : records_for (bare (bytes 3 2) plain_label partly) ≡ []
-records_for_nothing = sym (records_for-is (bare (bytes 3 2) plain_label partly) [] covered_ends (record { runs = tt; each = no_pieces_are_bare }))
+records_for_nothing = sym (records_for-is (bare (bytes 3 2) plain_label partly) [] covered_ends
+    (record { runs = tt; each = no_pieces_are_bare }))
 
 no_pieces : pieces (bytes 3 2) partly ≡ 0
 unfolding pieces
 no_pieces = ap length records_for_nothing
 
 -- room doubles for the table that grew, whatever number the item has
-room_doubles : room_of which.Memory (item.Grown which.Memory 4096 256 ∷ (item.Grown which.Reserved 8192 256 ∷ (item.Grown which.Memory 12288 512 ∷ []))) ≡ 512
+room_doubles : room_of which.Memory (item.Grown which.Memory 4096 256 ∷
+    (item.Grown which.Reserved 8192 256 ∷ (item.Grown which.Memory 12288 512 ∷ []))) ≡ 512
 room_doubles = refl
 
 room_at_first : room_of which.Memory (item.Grown which.Reserved 8192 256 ∷ []) ≡ 128
@@ -173,7 +179,8 @@ room_of_the_other = refl
 
 -- nothing else speaks of room or place
 abbrev no_growth : List Item
-no_growth = item.Mem (bytes 1 4) ∷ (item.Node (bytes 3 2) 7 ∷ (item.Trim ∷ (item.Claim (bytes 2 2) owner.Kernel ∷ (item.Free (bytes 2 1) ∷ (item.Limit 4 ∷ [])))))
+no_growth = item.Mem (bytes 1 4) ∷ (item.Node (bytes 3 2) 7 ∷ (item.Trim ∷
+    (item.Claim (bytes 2 2) owner.Kernel ∷ (item.Free (bytes 2 1) ∷ (item.Limit 4 ∷ [])))))
 
 room_stays : room_of which.Reserved (item.Grown which.Reserved 8192 256 ∷ no_growth) ≡ 256
 room_stays = refl

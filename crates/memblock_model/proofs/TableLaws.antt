@@ -48,7 +48,8 @@ nothing-trimmed at f none x le =
 -- there is room for 128 records at least
 room_after-least : (w : Which) (n : ℕ) (i : Item) → 128 ≤ n → 128 ≤ room_after w n i
 room_after-least w n (item.Grown v place room) least =
-    elim (cases_Bool (same_which w v)) as (λ _. 128 ≤ room_after w n (item.Grown v place room)) [ inl this ↦ rw this (omega arith) | inr other ↦ rw other least ]
+    elim (cases_Bool (same_which w v)) as (λ _. 128 ≤ room_after w n (item.Grown v place room))
+    [ inl this ↦ rw this (omega arith) | inr other ↦ rw other least ]
 room_after-least w n i least = least
 
 room_fold-least : (w : Which) (n : ℕ) (items : List Item) → 128 ≤ n → 128 ≤ fold (room_after w) n items

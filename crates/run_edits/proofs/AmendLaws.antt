@@ -21,29 +21,37 @@ module _ {X : Type 0} where
   pub amended_below : (change : Option X → Option X) (r : Extent) (f : ℕ → Option X) (x : ℕ) → x < r.base → amended change r f x ≡ f x
   amended_below change r f x under = rw (below_range r x under) refl
 
-  pub amended_inside : (change : Option X → Option X) (r : Extent) (f : ℕ → Option X) (x : ℕ) → r.base ≤ x → x < r.base + r.size → amended change r f x ≡ change (f x)
+  pub amended_inside : (change : Option X → Option X) (r : Extent) (f : ℕ → Option X) (x : ℕ) → r.base ≤ x → x < r.base + r.size
+      → amended change r f x ≡ change (f x)
   amended_inside change r f x above under = rw (in_range r x above under) refl
 
-  pub amended_behind : (change : Option X → Option X) (r : Extent) (f : ℕ → Option X) (x : ℕ) → r.base + r.size ≤ x → amended change r f x ≡ f x
+  pub amended_behind : (change : Option X → Option X) (r : Extent) (f : ℕ → Option X) (x : ℕ) → r.base + r.size ≤ x → amended change r f x
+      ≡ f x
   amended_behind change r f x past = rw (not_covered r x past) refl
 
   -- where a function stays inside the range, the changed one does
-  pub amended_stays : (change : Option X → Option X) (r : Extent) (f : ℕ → Option X) (from to next : ℕ) (v : Option X) → r.base ≤ from → to ≤ r.base + r.size → to ≤ next
+  pub amended_stays : (change : Option X → Option X) (r : Extent) (f : ℕ → Option X) (from to next : ℕ) (v : Option X) → r.base ≤ from
+      → to ≤ r.base + r.size → to ≤ next
       → Stays f from next (f from) → v ≡ change (f from) → Stays (amended change r f) from to v
   amended_stays change r f from to next v first last order stays is x above under =
       amended_inside change r f x (omega arith) (omega arith) ∙ ap change (stays x above (omega arith)) ∙ sym is
 
-  pub amended_stays_behind : (change : Option X → Option X) (r : Extent) (f : ℕ → Option X) (from next : ℕ) (v : Option X) → r.base + r.size ≤ from
+  pub amended_stays_behind : (change : Option X → Option X) (r : Extent) (f : ℕ → Option X) (from next : ℕ) (v : Option X)
+      → r.base + r.size ≤ from
       → Stays f from next (f from) → v ≡ f from → Stays (amended change r f) from next v
-  amended_stays_behind change r f from next v past stays is x above under = amended_behind change r f x (omega arith) ∙ stays x above under ∙ sym is
+  amended_stays_behind change r f from next v past stays is x above under = amended_behind change r f x (omega arith)
+      ∙ stays x above under ∙ sym is
 
   -- nothing is changed far behind the range
-  pub amended_ends : (change : Option X → Option X) (r : Extent) (f : ℕ → Option X) (at : ℕ) → r.base + r.size ≤ at → NothingFrom at f → NothingFrom at (amended change r f)
+  pub amended_ends : (change : Option X → Option X) (r : Extent) (f : ℕ → Option X) (at : ℕ) → r.base + r.size ≤ at → NothingFrom at f
+      → NothingFrom at (amended change r f)
   amended_ends change r f at ends none x le = amended_behind change r f x (omega arith) ∙ none x le
 
   -- where the stretch that goes on is to be written and there is no free place, there is room for one more
-  pub room_here : (same : X → X → Bool) → Tells same → (f g : ℕ → Option X) (start from to : ℕ) (v : Option X) (rs : List (RunOf X)) (write read room : ℕ) → HasRoom same f g room
-      → NothingFrom (2 ^ 64) f → from ≤ to → to ≤ 2 ^ 64 → IsBuiltTo g from (take write rs) start v → (g from ≡ v → v ≡ None) → IsRestFrom f to (drop read rs)
+  pub room_here : (same : X → X → Bool) → Tells same → (f g : ℕ → Option X) (start from to : ℕ) (v : Option X) (rs : List (RunOf X))
+      (write read room : ℕ) → HasRoom same f g room
+      → NothingFrom (2 ^ 64) f → from ≤ to → to ≤ 2 ^ 64 → IsBuiltTo g from (take write rs) start v → (g from ≡ v → v ≡ None)
+      → IsRestFrom f to (drop read rs)
       → write ≡ read → read ≤ length rs → start < from → is_some v ≡ true → length rs < room
   room_here same tells f g start from to v rs write read room has none order le built other rest free within lt some =
       let swept = swept_stretch g start from v (take write rs) built.swept built.begun built.stays other in

@@ -30,19 +30,23 @@ spikes_two r n =
 -- the sum up to an address is at most that of all
 total_start : (g : ℕ → ℕ) (at few : ℕ) → at ≤ 2 ^ 64 → total g 0 (2 ^ 64) ≤ few → total g 0 at ≤ few
 total_start g at few le all =
-    let parts : total g 0 (2 ^ 64) ≡ total g 0 at + total g at (2 ^ 64 - at) = total-split g 0 at (2 ^ 64 - at) (2 ^ 64) at (omega arith) (omega arith) in
+    let parts : total g 0 (2 ^ 64) ≡ total g 0 at + total g at (2 ^ 64 - at) = total-split g 0 at (2 ^ 64 - at) (2 ^ 64) at (omega arith)
+    (omega arith) in
     omega (arith, all, parts)
 
 module _ {X : Type 0} where
   -- a function that ends few more runs than another at each address has so many more runs
-  total-more : (same : X → X → Bool) (f g : ℕ → Option X) (s : ℕ → ℕ) (few x n : ℕ) → ((y : ℕ) → edges same g y ≤ edges same f y + s y) → total s x n ≤ few
+  total-more : (same : X → X → Bool) (f g : ℕ → Option X) (s : ℕ → ℕ) (few x n : ℕ) → ((y : ℕ) → edges same g y ≤ edges same f y + s y)
+      → total s x n ≤ few
       → total (edges same g) x n ≤ total (edges same f) x n + few
   total-more same f g s few x n each some =
-      let all : total (edges same g) x n ≤ total (λ y. edges same f y + s y) x n = total-fewer (edges same g) (λ y. edges same f y + s y) x n (λ y above under. each y) in
+      let all : total (edges same g) x n ≤ total (λ y. edges same f y + s y) x n = total-fewer (edges same g) (λ y. edges same f y + s y)
+      x n (λ y above under. each y) in
       let parts : total (λ y. edges same f y + s y) x n ≡ total (edges same f) x n + total s x n = total-add (edges same f) s x n in
       omega (arith, all, parts, some)
 
-  pub room_by : (same : X → X → Bool) → Tells same → (f g : ℕ → Option X) (s : ℕ → ℕ) (few room : ℕ) → ((y : ℕ) → edges same g y ≤ edges same f y + s y)
+  pub room_by : (same : X → X → Bool) → Tells same → (f g : ℕ → Option X) (s : ℕ → ℕ) (few room : ℕ)
+      → ((y : ℕ) → edges same g y ≤ edges same f y + s y)
       → ((at : ℕ) → at ≤ 2 ^ 64 → total s 0 at ≤ few) → total (edges same f) 0 (2 ^ 64) + few ≤ room → HasRoom same f g room
   room_by same tells f g s few room each some fits at le =
       let front : total (edges same g) 0 at ≤ total (edges same f) 0 at + few = total-more same f g s few 0 at each (some at le) in
@@ -50,16 +54,20 @@ module _ {X : Type 0} where
       total-split (edges same f) 0 at (2 ^ 64 - at) (2 ^ 64) at (omega arith) (omega arith) in
       omega (arith, front, whole, fits)
 
-  pub length_by : (same : X → X → Bool) → Tells same → (rs ss : List (RunOf X)) (s : ℕ → ℕ) (few : ℕ) → AreRuns rs → NothingFrom (2 ^ 64) (value_at rs) → AreRuns ss
-      → NothingFrom (2 ^ 64) (value_at ss) → ((y : ℕ) → edges same (value_at ss) y ≤ edges same (value_at rs) y + s y) → total s 0 (2 ^ 64) ≤ few → length ss ≤ length rs + few
+  pub length_by : (same : X → X → Bool) → Tells same → (rs ss : List (RunOf X)) (s : ℕ → ℕ) (few : ℕ) → AreRuns rs
+      → NothingFrom (2 ^ 64) (value_at rs) → AreRuns ss
+      → NothingFrom (2 ^ 64) (value_at ss) → ((y : ℕ) → edges same (value_at ss) y ≤ edges same (value_at rs) y + s y)
+      → total s 0 (2 ^ 64) ≤ few → length ss ≤ length rs + few
   length_by same tells rs ss s few runs none more none_too each some =
       let first : length rs ≡ total (edges same (value_at rs)) 0 (2 ^ 64) = all_ends same tells rs runs none in
       let second : length ss ≡ total (edges same (value_at ss)) 0 (2 ^ 64) = all_ends same tells ss more none_too in
-      let sums : total (edges same (value_at ss)) 0 (2 ^ 64) ≤ total (edges same (value_at rs)) 0 (2 ^ 64) + few = total-more same (value_at rs) (value_at ss) s few 0 (2 ^ 64) each some in
+      let sums : total (edges same (value_at ss)) 0 (2 ^ 64) ≤ total (edges same (value_at rs)) 0 (2 ^ 64) + few = total-more same
+      (value_at rs) (value_at ss) s few 0 (2 ^ 64) each some in
       omega (arith, first, second, sums)
 
   -- inside its range a change that ends no run ends none
-  inside_edges : (same : X → X → Bool) → Tells same → (change : Option X → Option X) → EndsNoRun change → (a b : Option X) → edge same (change a) (change b) ≤ edge same a b
+  inside_edges : (same : X → X → Bool) → Tells same → (change : Option X → Option X) → EndsNoRun change → (a b : Option X)
+      → edge same (change a) (change b) ≤ edge same a b
   inside_edges same tells change (inl stays) None b = rw stays (omega arith)
   inside_edges same tells change (inl stays) (Some v) None = edge-few same (change (Some v)) (change None)
   inside_edges same tells change (inl stays) (Some v) (Some w) =
@@ -72,22 +80,28 @@ module _ {X : Type 0} where
   inside_edges same tells change (inr one) a b = rw (one a, one b, edge-self same tells (change None)) (omega arith)
 
   -- so it ends one at the start of the range and one at its end
-  pub amended_edges : (same : X → X → Bool) → Tells same → (change : Option X → Option X) → EndsNoRun change → (r : Extent) (f : ℕ → Option X) (x : ℕ)
+  pub amended_edges : (same : X → X → Bool) → Tells same → (change : Option X → Option X) → EndsNoRun change
+      → (r : Extent) (f : ℕ → Option X) (x : ℕ)
       → edges same (amended change r f) x ≤ edges same f x + (spike r.base x + spike (r.base + r.size) x)
   amended_edges same tells change plain r f x =
-      elim (cases_Bool (covers r x)) as (λ _. edges same (amended change r f) x ≤ edges same f x + (spike r.base x + spike (r.base + r.size) x)) [
-        | inl here ↦ elim (cases_Bool (covers r (x + 1))) as (λ _. edges same (amended change r f) x ≤ edges same f x + (spike r.base x + spike (r.base + r.size) x)) [
-          | inl next ↦ let few = inside_edges same tells change plain (f x) (f (x + 1)) in rw (here, next) (omega (arith, few))
-          | inr out ↦ let few = edge-few same (change (f x)) (f (x + 1)) in rw (here, out, ends_here r x here out) (omega (arith, few))
-        ]
-        | inr before ↦ elim (cases_Bool (covers r (x + 1))) as (λ _. edges same (amended change r f) x ≤ edges same f x + (spike r.base x + spike (r.base + r.size) x)) [
-          | inl next ↦ let few = edge-few same (f x) (change (f (x + 1))) in rw (before, next, begins_here r x before next) (omega (arith, few))
-          | inr out ↦ rw (before, out) (omega arith)
-        ]
+      elim (cases_Bool (covers r x)) as (λ _. edges same (amended change r f) x ≤ edges same f x +
+      (spike r.base x + spike (r.base + r.size) x)) [
+        | inl here ↦ elim (cases_Bool (covers r (x + 1))) as (λ _. edges same (amended change r f) x ≤ edges same f x +
+            (spike r.base x + spike (r.base + r.size) x)) [
+              | inl next ↦ let few = inside_edges same tells change plain (f x) (f (x + 1)) in rw (here, next) (omega (arith, few))
+              | inr out ↦ let few = edge-few same (change (f x)) (f (x + 1)) in rw (here, out, ends_here r x here out) (omega (arith, few))
+            ]
+        | inr before ↦ elim (cases_Bool (covers r (x + 1))) as (λ _. edges same (amended change r f) x ≤ edges same f x +
+            (spike r.base x + spike (r.base + r.size) x)) [
+              | inl next ↦ let few = edge-few same (f x) (change (f (x + 1))) in rw (before, next, begins_here r x before next)
+                  (omega (arith, few))
+              | inr out ↦ rw (before, out) (omega arith)
+            ]
       ]
 
   -- a range that is taken out ends no run at its end
-  pub uncovered_edges : (same : X → X → Bool) (r : Extent) (f : ℕ → Option X) (x : ℕ) → edges same (uncovered r f) x ≤ edges same f x + spike r.base x
+  pub uncovered_edges : (same : X → X → Bool) (r : Extent) (f : ℕ → Option X) (x : ℕ)
+      → edges same (uncovered r f) x ≤ edges same f x + spike r.base x
   uncovered_edges same r f x =
       elim (cases_Bool (covers r x)) as (λ _. edges same (uncovered r f) x ≤ edges same f x + spike r.base x) [
         | inl here ↦ rw here (omega arith)
@@ -130,58 +144,75 @@ module _ {X : Type 0} where
       ∙ ap (λ (h : ℕ → Option X). total (edges same h) 0 (2 ^ 64)) told
 
   -- there is room on the way where there is room for the runs and for those that the edit may add
-  pub covered_room : (same : X → X → Bool) → Tells same → (r : Extent) (v w : X) (rs : List (RunOf X)) (room : ℕ) → r.base + r.size ≤ 2 ^ 64 → AreRuns rs → NothingFrom (2 ^ 64) (value_at rs)
+  pub covered_room : (same : X → X → Bool) → Tells same → (r : Extent) (v w : X) (rs : List (RunOf X)) (room : ℕ)
+      → r.base + r.size ≤ 2 ^ 64 → AreRuns rs → NothingFrom (2 ^ 64) (value_at rs)
       → length rs + length (runs_of same (bare r w (value_at rs))) ≤ room → HasRoom same (value_at rs) (covered r v (value_at rs)) room
   covered_room same tells r v w rs room ends runs none fits =
       let f : ℕ → Option X = value_at rs in
       let count : length rs ≡ total (edges same f) 0 (2 ^ 64) = all_ends same tells rs runs none in
       let pieces : length (runs_of same (bare r w f)) ≡ total (edges same (bare r w f)) 0 (2 ^ 64) = pieces_ends same tells r w f ends in
-      room_by same tells f (covered r v f) (edges same (bare r w f)) (length (runs_of same (bare r w f))) room (covered_edges same tells r v w f)
-      (λ at le. total_start (edges same (bare r w f)) at (length (runs_of same (bare r w f))) le (omega (arith, pieces))) (omega (arith, count, fits))
+      room_by same tells f (covered r v f) (edges same (bare r w f)) (length (runs_of same (bare r w f))) room
+      (covered_edges same tells r v w f)
+      (λ at le. total_start (edges same (bare r w f)) at (length (runs_of same (bare r w f))) le (omega (arith, pieces)))
+      (omega (arith, count, fits))
 
-  pub uncovered_room : (same : X → X → Bool) → Tells same → (r : Extent) (rs : List (RunOf X)) (room : ℕ) → AreRuns rs → NothingFrom (2 ^ 64) (value_at rs)
+  pub uncovered_room : (same : X → X → Bool) → Tells same → (r : Extent) (rs : List (RunOf X)) (room : ℕ) → AreRuns rs
+      → NothingFrom (2 ^ 64) (value_at rs)
       → length rs + 1 ≤ room → HasRoom same (value_at rs) (uncovered r (value_at rs)) room
   uncovered_room same tells r rs room runs none fits =
       let f : ℕ → Option X = value_at rs in
       let count : length rs ≡ total (edges same f) 0 (2 ^ 64) = all_ends same tells rs runs none in
-      room_by same tells f (uncovered r f) (spike r.base) 1 room (uncovered_edges same r f) (λ at le. spikes_few r.base 0 at) (omega (arith, count, fits))
+      room_by same tells f (uncovered r f) (spike r.base) 1 room (uncovered_edges same r f) (λ at le. spikes_few r.base 0 at)
+      (omega (arith, count, fits))
 
   -- how many runs there are after an edit
-  runs_told : (same : X → X → Bool) → Tells same → (f : ℕ → Option X) → NothingFrom (2 ^ 64) f → length (runs_of same f) ≡ total (edges same f) 0 (2 ^ 64)
+  runs_told : (same : X → X → Bool) → Tells same → (f : ℕ → Option X) → NothingFrom (2 ^ 64) f → length (runs_of same f)
+      ≡ total (edges same f) 0 (2 ^ 64)
   runs_told same tells f none =
       let known : IsRunsOf f (runs_of same f) = by_address same tells f none in
       let told : value_at (runs_of same f) ≡ f = λ k x. known.each x k in
-      all_ends same tells (runs_of same f) known.runs (λ x le. known.each x ∙ none x le) ∙ ap (λ (h : ℕ → Option X). total (edges same h) 0 (2 ^ 64)) told
+      all_ends same tells (runs_of same f) known.runs (λ x le. known.each x ∙ none x le)
+      ∙ ap (λ (h : ℕ → Option X). total (edges same h) 0 (2 ^ 64)) told
 
-  runs_more : (same : X → X → Bool) → Tells same → (f g : ℕ → Option X) (s : ℕ → ℕ) (few : ℕ) → NothingFrom (2 ^ 64) f → NothingFrom (2 ^ 64) g
-      → ((y : ℕ) → edges same g y ≤ edges same f y + s y) → total s 0 (2 ^ 64) ≤ few → length (runs_of same g) ≤ length (runs_of same f) + few
+  runs_more : (same : X → X → Bool) → Tells same → (f g : ℕ → Option X) (s : ℕ → ℕ) (few : ℕ) → NothingFrom (2 ^ 64) f
+      → NothingFrom (2 ^ 64) g
+      → ((y : ℕ) → edges same g y ≤ edges same f y + s y) → total s 0 (2 ^ 64) ≤ few
+      → length (runs_of same g) ≤ length (runs_of same f) + few
   runs_more same tells f g s few none none_too each some =
       let first = runs_told same tells f none in
       let second = runs_told same tells g none_too in
       let sums = total-more same f g s few 0 (2 ^ 64) each some in
       omega (arith, first, second, sums)
 
-  pub covered_length : (same : X → X → Bool) → Tells same → (r : Extent) (v w : X) (f : ℕ → Option X) → r.base + r.size ≤ 2 ^ 64 → NothingFrom (2 ^ 64) f
+  pub covered_length : (same : X → X → Bool) → Tells same → (r : Extent) (v w : X) (f : ℕ → Option X) → r.base + r.size ≤ 2 ^ 64
+      → NothingFrom (2 ^ 64) f
       → length (runs_of same (covered r v f)) ≤ length (runs_of same f) + length (runs_of same (bare r w f))
   covered_length same tells r v w f ends none =
       let pieces = pieces_ends same tells r w f ends in
-      runs_more same tells f (covered r v f) (edges same (bare r w f)) (length (runs_of same (bare r w f))) none (nothing-covered (2 ^ 64) r v f ends none)
+      runs_more same tells f (covered r v f) (edges same (bare r w f)) (length (runs_of same (bare r w f))) none
+      (nothing-covered (2 ^ 64) r v f ends none)
       (covered_edges same tells r v w f) (omega (arith, pieces))
 
   pub uncovered_length : (same : X → X → Bool) → Tells same → (r : Extent) (f : ℕ → Option X) → NothingFrom (2 ^ 64) f
       → length (runs_of same (uncovered r f)) ≤ length (runs_of same f) + 1
   uncovered_length same tells r f none =
-      runs_more same tells f (uncovered r f) (spike r.base) 1 none (nothing-uncovered (2 ^ 64) r f none) (uncovered_edges same r f) (spikes_few r.base 0 (2 ^ 64))
+      runs_more same tells f (uncovered r f) (spike r.base) 1 none (nothing-uncovered (2 ^ 64) r f none) (uncovered_edges same r f)
+      (spikes_few r.base 0 (2 ^ 64))
 
-  pub amended_length : (same : X → X → Bool) → Tells same → (change : Option X → Option X) → EndsNoRun change → (r : Extent) (f : ℕ → Option X) → NothingFrom (2 ^ 64) f
+  pub amended_length : (same : X → X → Bool) → Tells same → (change : Option X → Option X) → EndsNoRun change
+      → (r : Extent) (f : ℕ → Option X) → NothingFrom (2 ^ 64) f
       → NothingFrom (2 ^ 64) (amended change r f) → length (runs_of same (amended change r f)) ≤ length (runs_of same f) + 2
   amended_length same tells change plain r f none none_too =
-      runs_more same tells f (amended change r f) (λ x. spike r.base x + spike (r.base + r.size) x) 2 none none_too (amended_edges same tells change plain r f) (spikes_two r (2 ^ 64))
+      runs_more same tells f (amended change r f) (λ x. spike r.base x + spike (r.base + r.size) x) 2 none none_too
+      (amended_edges same tells change plain r f) (spikes_two r (2 ^ 64))
 
   pub relabelled_length : (same : X → X → Bool) → Tells same → (r : Extent) (change : X → X) (f : ℕ → Option X) → NothingFrom (2 ^ 64) f
       → length (runs_of same (relabelled r change f)) ≤ length (runs_of same f) + 2
-  relabelled_length same tells r change f none = amended_length same tells (option_map change) (inl refl) r f none (nothing-relabelled (2 ^ 64) r change f none)
+  relabelled_length same tells r change f none = amended_length same tells (option_map change) (inl refl) r f none
+      (nothing-relabelled (2 ^ 64) r change f none)
 
-  pub replaced_length : (same : X → X → Bool) → Tells same → (r : Extent) (v : X) (f : ℕ → Option X) → r.base + r.size ≤ 2 ^ 64 → NothingFrom (2 ^ 64) f
+  pub replaced_length : (same : X → X → Bool) → Tells same → (r : Extent) (v : X) (f : ℕ → Option X) → r.base + r.size ≤ 2 ^ 64
+      → NothingFrom (2 ^ 64) f
       → length (runs_of same (replaced r v f)) ≤ length (runs_of same f) + 2
-  replaced_length same tells r v f ends none = amended_length same tells (λ carried. Some v) (inr (λ carried. refl)) r f none (nothing-replaced (2 ^ 64) r v f ends none)
+  replaced_length same tells r v f ends none = amended_length same tells (λ carried. Some v) (inr (λ carried. refl)) r f none
+      (nothing-replaced (2 ^ 64) r v f ends none)

@@ -36,7 +36,8 @@ total-quiet g x (suc n) none =
 pub total-add : (g h : ℕ → ℕ) (x n : ℕ) → total (λ y. g y + h y) x n ≡ total g x n + total h x n
 unfolding total
 total-add g h x zero = refl
-total-add g h x (suc n) = let rest : total (λ y. g y + h y) (x + 1) n ≡ total g (x + 1) n + total h (x + 1) n = total-add g h (x + 1) n in omega arith
+total-add g h x (suc n) = let rest : total (λ y. g y + h y) (x + 1) n ≡ total g (x + 1) n + total h (x + 1) n = total-add g h (x + 1) n in
+    omega arith
 
 -- the first m addresses, and the n behind them
 pub total-split : (g : ℕ → ℕ) (x m n all middle : ℕ) → all ≡ m + n → middle ≡ x + m → total g x all ≡ total g x m + total g middle n
@@ -49,7 +50,8 @@ total-split g x zero n all middle is at =
 total-split g x (suc m) n all middle is at =
     let more : all ≡ suc (m + n) = omega arith in
     let whole : total g x all ≡ g x + total g (x + 1) (m + n) = ap (λ (k : ℕ). total g x k) more in
-    let rest : total g (x + 1) (m + n) ≡ total g (x + 1) m + total g middle n = total-split g (x + 1) m n (m + n) middle refl (omega arith) in
+    let rest : total g (x + 1) (m + n) ≡ total g (x + 1) m + total g middle n = total-split g (x + 1) m n (m + n) middle refl
+    (omega arith) in
     omega arith
 
 pub total-next : (g : ℕ → ℕ) (x n : ℕ) → total g x (suc n) ≡ g x + total g (x + 1) n
@@ -64,7 +66,8 @@ spikes_few b x (suc n) =
     elim (cases_Bool (x + 1 == b)) as (λ _. total (spike b) x (suc n) ≤ 1) [
       | inl here ↦
           let is : x + 1 ≡ b = grind (arith, nat_tests) in
-          let rest : total (spike b) (x + 1) n ≡ 0 = total-quiet (spike b) (x + 1) n (λ y above under. let past : (y + 1 == b) ≡ false = grind (arith, nat_tests) in rw past refl) in
+          let rest : total (spike b) (x + 1) n ≡ 0 = total-quiet (spike b) (x + 1) n (λ y above under. let past : (y + 1 == b)
+          ≡ false = grind (arith, nat_tests) in rw past refl) in
           rw (here, rest) (omega arith)
       | inr other ↦ rw other (let rest : total (spike b) (x + 1) n ≤ 1 = spikes_few b (x + 1) n in omega arith)
     ]
@@ -77,7 +80,8 @@ edge-self same tells (Some a) = rw (tells.equal_is_true a a refl) refl
 pub edge-few : {X : Type 0} (same : X → X → Bool) (a b : Option X) → edge same a b ≤ 1
 edge-few same None b = omega arith
 edge-few same (Some a) None = omega arith
-edge-few same (Some a) (Some b) = elim (cases_Bool (same a b)) as (λ _. edge same (Some a) (Some b) ≤ 1) [ inl equal ↦ rw equal (omega arith) | inr not ↦ rw not (omega arith) ]
+edge-few same (Some a) (Some b) = elim (cases_Bool (same a b)) as (λ _. edge same (Some a) (Some b) ≤ 1)
+    [ inl equal ↦ rw equal (omega arith) | inr not ↦ rw not (omega arith) ]
 
 pub edge-other : {X : Type 0} (same : X → X → Bool) → Tells same → (v : X) (b : Option X) → b ≢ Some v → edge same (Some v) b ≡ 1
 edge-other same tells v None other = refl
@@ -93,11 +97,13 @@ behind_run r [] runs = tt
 behind_run r (s ∷ ss) runs = let order = runs.1.0 in let some = runs.2.0 in omega arith
 
 -- up to its last address a run doesn't end
-quiet_inside : {X : Type 0} (same : X → X → Bool) → Tells same → (r : RunOf X) (rs : List (RunOf X)) (y : ℕ) → AreRuns (r ∷ rs) → y + 1 < run_end r
+quiet_inside : {X : Type 0} (same : X → X → Bool) → Tells same → (r : RunOf X) (rs : List (RunOf X)) (y : ℕ) → AreRuns (r ∷ rs)
+    → y + 1 < run_end r
     → edges same (value_at (r ∷ rs)) y ≡ 0
 quiet_inside same tells r rs y runs under =
     elim (cases_lt y r.base) as (λ _. edges same (value_at (r ∷ rs)) y ≡ 0) [
-      | inl lt ↦ let starts : StartFrom r.base (r ∷ rs) = omega arith in let none : value_at (r ∷ rs) y ≡ None = none_below r.base y (r ∷ rs) runs starts lt in rw none refl
+      | inl lt ↦ let starts : StartFrom r.base (r ∷ rs) = omega arith in let none : value_at (r ∷ rs) y
+          ≡ None = none_below r.base y (r ∷ rs) runs starts lt in rw none refl
       | inr ge ↦
           let here : value_at (r ∷ rs) y ≡ Some r.value = rw (inside r y (omega arith) (omega arith)) refl in
           let next : value_at (r ∷ rs) (y + 1) ≡ Some r.value = rw (inside r (y + 1) (omega arith) (omega arith)) refl in
@@ -122,13 +128,16 @@ length_ends {X} same tells (r ∷ rs) x n runs ends none =
     let rest : ℕ = x + n - e in
     let parts : total (edges same f) x n ≡ total (edges same f) x first + total (edges same f) (e - 1) (suc rest) =
     total-split (edges same f) x first (suc rest) n (e - 1) (omega arith) (omega arith) in
-    let quiet : total (edges same f) x first ≡ 0 = total-quiet (edges same f) x first (λ y above under. quiet_inside same tells r rs y runs (omega arith)) in
-    let next : total (edges same f) (e - 1) (suc rest) ≡ edges same f (e - 1) + total (edges same f) (e - 1 + 1) rest = total-next (edges same f) (e - 1) rest in
+    let quiet : total (edges same f) x first ≡ 0 = total-quiet (edges same f) x first
+    (λ y above under. quiet_inside same tells r rs y runs (omega arith)) in
+    let next : total (edges same f) (e - 1) (suc rest) ≡ edges same f (e - 1) + total (edges same f) (e - 1 + 1) rest = total-next
+    (edges same f) (e - 1) rest in
     let at_end : e - 1 + 1 ≡ e = omega arith in
     let past : f e ≡ value_at rs e = rw (behind r e (omega arith)) refl in
     let other : f e ≢ Some r.value = λ h. other_behind r rs runs (sym past ∙ h) in
     let one : edges same f (e - 1) ≡ 1 = rw (last, at_end) (edge-other same tells r.value (f e) other) in
-    let alike : total (edges same f) e rest ≡ total (edges same (value_at rs)) e rest = total-alike (edges same f) (edges same (value_at rs)) e rest (λ y above under.
+    let alike : total (edges same f) e rest ≡ total (edges same (value_at rs)) e rest = total-alike (edges same f)
+    (edges same (value_at rs)) e rest (λ y above under.
     let here : f y ≡ value_at rs y = rw (behind r y (omega arith)) refl in
     let there : f (y + 1) ≡ value_at rs (y + 1) = rw (behind r (y + 1) (omega arith)) refl in
     rw (here, there) refl) in
@@ -138,7 +147,8 @@ length_ends {X} same tells (r ∷ rs) x n runs ends none =
     omega arith
 
 -- what ends right at an address has another value than the one there
-last_other : {X : Type 0} (at y : ℕ) (v : Option X) (w : X) (rs : List (RunOf X)) → EndBy at v rs → y + 1 ≡ at → value_at rs y ≡ Some w → v ≢ Some w
+last_other : {X : Type 0} (at y : ℕ) (v : Option X) (w : X) (rs : List (RunOf X)) → EndBy at v rs → y + 1 ≡ at → value_at rs y ≡ Some w
+    → v ≢ Some w
 last_other at y v w [] ends next is = cc
 last_other at y v w (r ∷ rs) ends next is =
     elim (cases_Bool (lies_in r y)) as (λ _. v ≢ Some w) [
@@ -150,7 +160,8 @@ last_other at y v w (r ∷ rs) ends next is =
       | inr not_here ↦ last_other at y v w rs ends.2 next (rw not_here at is)
     ]
 
-edge_at_end : {X : Type 0} (same : X → X → Bool) → Tells same → (a b : Option X) → ((w : X) → a ≡ Some w → b ≢ Some w) → edge same a None ≡ edge same a b
+edge_at_end : {X : Type 0} (same : X → X → Bool) → Tells same → (a b : Option X) → ((w : X) → a ≡ Some w → b ≢ Some w) → edge same a None
+    ≡ edge same a b
 edge_at_end same tells None b other = refl
 edge_at_end same tells (Some a) b other = sym (edge-other same tells a b (other a refl))
 
@@ -171,7 +182,8 @@ swept_ends same tells g at xs swept =
     ])
 
 -- and what is left as many as end from there on
-pub rest_ends : {X : Type 0} (same : X → X → Bool) → Tells same → (f : ℕ → Option X) (at : ℕ) (rs : List (RunOf X)) → IsRestFrom f at rs → NothingFrom (2 ^ 64) f → at ≤ 2 ^ 64
+pub rest_ends : {X : Type 0} (same : X → X → Bool) → Tells same → (f : ℕ → Option X) (at : ℕ) (rs : List (RunOf X)) → IsRestFrom f at rs
+    → NothingFrom (2 ^ 64) f → at ≤ 2 ^ 64
     → length rs ≡ total (edges same f) at (2 ^ 64 - at)
 rest_ends same tells f at rs rest none le =
     length_ends same tells rs at (2 ^ 64 - at) rest.runs rest.ends (λ y far. rest.each y (omega arith) ∙ none y (omega arith))

@@ -8,7 +8,8 @@ module _ {X : Type 0} where
       → (x : ℕ) → base ≤ x → x < until → f x ≡ Some v
   holds_so_far f base until next v first stays far x above under = stays x above (omega arith) ∙ first
 
-  pub holds_no_further : (f : ℕ → Option X) (base until next : ℕ) (v : X) → f base ≡ Some v → base ≤ next → (f next ≡ f base → f base ≡ None)
+  pub holds_no_further : (f : ℕ → Option X) (base until next : ℕ) (v : X) → f base ≡ Some v → base ≤ next
+      → (f next ≡ f base → f base ≡ None)
       → ((x : ℕ) → base ≤ x → x < until → f x ≡ Some v) → until ≤ next
   holds_no_further f base until next v first forward another each =
       elim (cases_lt next until) as (λ _. until ≤ next) [

@@ -23,7 +23,8 @@ module _ {X : Type 0} where
   runs_back [] ys runs = runs
   runs_back (x ∷ xs) ys runs = runs_back xs ys runs.2
 
-  before_joined : (at : ℕ) (v : Option X) (x : RunOf X) (rs : List (RunOf X)) → run_end x ≤ at → (run_end x ≡ at → v ≢ Some x.value) → AreRuns rs → StartFrom at rs
+  before_joined : (at : ℕ) (v : Option X) (x : RunOf X) (rs : List (RunOf X)) → run_end x ≤ at → (run_end x ≡ at → v ≢ Some x.value)
+      → AreRuns rs → StartFrom at rs
       → value_at rs at ≡ v → IsBefore x rs
   before_joined at v x [] by other runs starts is = tt
   before_joined at v x (s ∷ ss) by other runs starts is = (
@@ -35,13 +36,15 @@ module _ {X : Type 0} where
         other here (sym is ∙ first ∙ ap (λ u. Some u) (sym equal)),
   )
 
-  runs_join : (at : ℕ) (v : Option X) (xs rs : List (RunOf X)) → AreRuns xs → EndBy at v xs → AreRuns rs → StartFrom at rs → value_at rs at ≡ v → AreRuns (xs ++ rs)
+  runs_join : (at : ℕ) (v : Option X) (xs rs : List (RunOf X)) → AreRuns xs → EndBy at v xs → AreRuns rs → StartFrom at rs
+      → value_at rs at ≡ v → AreRuns (xs ++ rs)
   runs_join at v [] rs runs ends more starts is = more
   runs_join at v (x ∷ []) rs runs ends more starts is = (runs.0, before_joined at v x rs ends.0 ends.1 more starts is, more)
   runs_join at v (x ∷ (y ∷ ys)) rs runs ends more starts is = (runs.0, runs.1, runs_join at v (y ∷ ys) rs runs.2 ends.2 more starts is)
 
   -- what is swept up to an address and what is left from there on are all runs
-  pub swept_join : (f g : ℕ → Option X) (at : ℕ) (xs rs : List (RunOf X)) → IsSweptTo g at xs → IsRestFrom f at rs → StartFrom at rs → ((x : ℕ) → at ≤ x → g x ≡ f x)
+  pub swept_join : (f g : ℕ → Option X) (at : ℕ) (xs rs : List (RunOf X)) → IsSweptTo g at xs → IsRestFrom f at rs → StartFrom at rs
+      → ((x : ℕ) → at ≤ x → g x ≡ f x)
       → IsRunsOf g (xs ++ rs)
   swept_join f g at xs rs swept rest starts like = record {
     runs = runs_join at (g at) xs rs swept.runs swept.ends rest.runs starts (rest.each at (omega arith) ∙ sym (like at (omega arith)));
@@ -52,7 +55,8 @@ module _ {X : Type 0} where
   }
 
   -- one more stretch is swept
-  pub swept_stretch : (g : ℕ → Option X) (start until : ℕ) (v : Option X) (xs : List (RunOf X)) → IsSweptTo g start xs → start ≤ until → Stays g start until v
+  pub swept_stretch : (g : ℕ → Option X) (start until : ℕ) (v : Option X) (xs : List (RunOf X)) → IsSweptTo g start xs → start ≤ until
+      → Stays g start until v
       → (g until ≡ v → v ≡ None) → IsSweptTo g until (xs ++ stretch start until v)
   swept_stretch g start until None xs swept order stays other = rw (append-nil xs) (swept_over g start until xs swept order stays)
   swept_stretch g start until (Some v) xs swept order stays other =
@@ -68,7 +72,8 @@ module _ {X : Type 0} where
       ]
 
   -- so the stretch that goes on ends, and another begins
-  pub built_stretch : (g : ℕ → Option X) (start from until : ℕ) (v w : Option X) (xs : List (RunOf X)) → IsBuiltTo g from xs start v → g from ≡ w → v ≢ w → from ≤ until
+  pub built_stretch : (g : ℕ → Option X) (start from until : ℕ) (v w : Option X) (xs : List (RunOf X)) → IsBuiltTo g from xs start v
+      → g from ≡ w → v ≢ w → from ≤ until
       → Stays g from until w → IsBuiltTo g until (xs ++ stretch start from v) from w
   built_stretch g start from until v w xs built is other order stays = record {
     begun = order;
@@ -76,12 +81,17 @@ module _ {X : Type 0} where
     stays = stays;
   }
 
-  pub built_further : (g : ℕ → Option X) (start from until : ℕ) (v w : Option X) (xs : List (RunOf X)) → IsBuiltTo g from xs start v → v ≡ w → from ≤ until
+  pub built_further : (g : ℕ → Option X) (start from until : ℕ) (v w : Option X) (xs : List (RunOf X)) → IsBuiltTo g from xs start v → v
+      ≡ w → from ≤ until
       → Stays g from until w → IsBuiltTo g until xs start v
   built_further g start from until v w xs built is order stays = record {
     begun = let begun = built.begun in omega arith;
     swept = built.swept;
-    stays = λ x above under. elim (cases_lt x from) as (λ _. g x ≡ v) [ inl lt ↦ built.stays x above lt | inr ge ↦ stays x ge under ∙ sym is ];
+    stays = λ x above under. elim (cases_lt x from) as (λ _. g x ≡ v) [
+      | inl lt ↦ built.stays x above lt
+      | inr ge ↦ stays x ge under
+          ∙ sym is
+    ];
   }
 
   -- what stands in a list before a run ends by its base, with another value where it touches
@@ -95,9 +105,11 @@ module _ {X : Type 0} where
       let far : run_end y ≤ r.base = more.0 in
       (omega arith, (λ touch. absurd (omega arith)), more)
 
-  value_in : (xs rs : List (RunOf X)) (r : RunOf X) (x : ℕ) → AreRuns (xs ++ r ∷ rs) → r.base ≤ x → x < run_end r → value_at (xs ++ r ∷ rs) x ≡ Some r.value
+  value_in : (xs rs : List (RunOf X)) (r : RunOf X) (x : ℕ) → AreRuns (xs ++ r ∷ rs) → r.base ≤ x → x < run_end r
+      → value_at (xs ++ r ∷ rs) x ≡ Some r.value
   value_in xs rs r x runs above under =
-      value_append_none xs (r ∷ rs) x (none_behind r.base x (Some r.value) xs (ends_front xs rs r runs) above) ∙ rw (inside r x above under) refl
+      value_append_none xs (r ∷ rs) x (none_behind r.base x (Some r.value) xs (ends_front xs rs r runs) above)
+      ∙ rw (inside r x above under) refl
 
   -- an edit that begins inside a run or at its end begins with that run
   begun_in : (g : ℕ → Option X) (at : ℕ) (xs rs : List (RunOf X)) (r : RunOf X) → AreRuns (xs ++ r ∷ rs) → r.base < at → at ≤ run_end r
@@ -110,15 +122,18 @@ module _ {X : Type 0} where
         swept = record {
           runs = runs_front xs (r ∷ rs) runs;
           ends = rw first (ends_front xs rs r runs);
-          each = λ x under. sym (value_append_left xs (r ∷ rs) x (none_below r.base x (r ∷ rs) (runs_back xs (r ∷ rs) runs) starts under)) ∙ sym (like x (omega arith));
+          each = λ x under. sym (value_append_left xs (r ∷ rs) x (none_below r.base x (r ∷ rs) (runs_back xs (r ∷ rs) runs) starts under))
+              ∙ sym (like x (omega arith));
         };
         stays = λ x above under. like x under ∙ value_in xs rs r x runs above (omega arith);
       }
 
-  pub begun_inside : (whole : List (RunOf X)) (g : ℕ → Option X) (at : ℕ) (xs rs : List (RunOf X)) (r : RunOf X) → xs ++ r ∷ rs ≡ whole → AreRuns whole → r.base < at → at ≤ run_end r
+  pub begun_inside : (whole : List (RunOf X)) (g : ℕ → Option X) (at : ℕ) (xs rs : List (RunOf X)) (r : RunOf X) → xs ++ r ∷ rs ≡ whole
+      → AreRuns whole → r.base < at → at ≤ run_end r
       → ((x : ℕ) → x < at → g x ≡ value_at whole x) → IsBuiltTo g at xs r.base (Some r.value)
   begun_inside whole g at xs rs r is runs lt le like =
-      let Begun : List (RunOf X) → Type 0 = λ l. AreRuns l → ((x : ℕ) → x < at → g x ≡ value_at l x) → IsBuiltTo g at xs r.base (Some r.value) in
+      let Begun : List (RunOf X) → Type 0 = λ l. AreRuns l → ((x : ℕ) → x < at → g x ≡ value_at l x)
+      → IsBuiltTo g at xs r.base (Some r.value) in
       let begun : Begun (xs ++ r ∷ rs) = λ all same. begun_in g at xs rs r all lt le same in
       subst Begun is begun runs like
 
@@ -139,7 +154,8 @@ module _ {X : Type 0} where
     stays = λ x above under. absurd (omega arith);
   }
 
-  pub begun_outside : (whole : List (RunOf X)) (g : ℕ → Option X) (at : ℕ) (xs rs : List (RunOf X)) → xs ++ rs ≡ whole → AreRuns whole → EndBefore at xs → StartFrom at rs
+  pub begun_outside : (whole : List (RunOf X)) (g : ℕ → Option X) (at : ℕ) (xs rs : List (RunOf X)) → xs ++ rs ≡ whole → AreRuns whole
+      → EndBefore at xs → StartFrom at rs
       → ((x : ℕ) → x < at → g x ≡ value_at whole x) → IsBuiltTo g at xs at None
   begun_outside whole g at xs rs is runs ends starts like =
       let Begun : List (RunOf X) → Type 0 = λ l. AreRuns l → ((x : ℕ) → x < at → g x ≡ value_at l x) → IsBuiltTo g at xs at None in
@@ -155,7 +171,8 @@ module _ {X : Type 0} where
   ends_from at (r ∷ rs) runs ends = let some : 0 < r.size = runs.0 in omega arith
 
   -- the runs that don't end below an address are what is left from the address before it on
-  pub rest_before : (whole : List (RunOf X)) (at : ℕ) (xs rs : List (RunOf X)) → xs ++ rs ≡ whole → AreRuns whole → EndBefore at xs → EndsFrom at rs
+  pub rest_before : (whole : List (RunOf X)) (at : ℕ) (xs rs : List (RunOf X)) → xs ++ rs ≡ whole → AreRuns whole → EndBefore at xs
+      → EndsFrom at rs
       → IsRestFrom (value_at whole) (at - 1) rs
   rest_before whole at xs rs is runs ends from =
       let all : AreRuns (xs ++ rs) = rw is runs in
@@ -166,7 +183,8 @@ module _ {X : Type 0} where
       }
 
   -- a run that ends below an address stands behind others that do
-  ends_order : (r : RunOf X) (rs : List (RunOf X)) (i : ℕ) (xs ys : List (RunOf X)) (s : RunOf X) → AreRuns (r ∷ rs) → rs ≡ xs ++ s ∷ ys → run_end r ≤ s.base
+  ends_order : (r : RunOf X) (rs : List (RunOf X)) (i : ℕ) (xs ys : List (RunOf X)) (s : RunOf X) → AreRuns (r ∷ rs) → rs ≡ xs ++ s ∷ ys
+      → run_end r ≤ s.base
   ends_order r rs i [] ys s runs is = let before : IsBefore r (s ∷ ys) = rw is at runs.1 in before.0
   ends_order r rs i (x ∷ xs) ys s runs is =
       let more : AreRuns (x ∷ (xs ++ s ∷ ys)) = rw is at runs.2 in
@@ -183,7 +201,8 @@ module _ {X : Type 0} where
       let far : run_end x ≤ s.base = ends_order x (xs ++ s ∷ ys) 0 xs ys s runs refl in
       (omega arith, before_more at xs ys s runs.2 under)
 
-  pub before_index : (at i : ℕ) (rs : List (RunOf X)) (s : RunOf X) → AreRuns rs → i < length rs → s ≡ get_or rs i s → run_end s < at → EndBefore at (take (i + 1) rs)
+  pub before_index : (at i : ℕ) (rs : List (RunOf X)) (s : RunOf X) → AreRuns rs → i < length rs → s ≡ get_or rs i s → run_end s < at
+      → EndBefore at (take (i + 1) rs)
   before_index at i rs s runs lt is under =
       let back : s ∷ drop (i + 1) rs ≡ drop i rs = ap (λ (r : RunOf X). r ∷ drop (i + 1) rs) is ∙ sym (drop_more rs i s lt) in
       let parts : take i rs ++ s ∷ drop (i + 1) rs ≡ rs = ap (λ l. take i rs ++ l) back ∙ take-append-drop i rs in
@@ -191,7 +210,8 @@ module _ {X : Type 0} where
       rw more (before_more at (take i rs) (drop (i + 1) rs) s (rw parts runs) under)
 
   -- a run that ends right at the address is passed
-  pub passed_starts : (f : ℕ → Option X) (before at : ℕ) (r : RunOf X) (rs : List (RunOf X)) → IsRestFrom f before (r ∷ rs) → run_end r ≤ at → EndsFrom at (r ∷ rs)
+  pub passed_starts : (f : ℕ → Option X) (before at : ℕ) (r : RunOf X) (rs : List (RunOf X)) → IsRestFrom f before (r ∷ rs)
+      → run_end r ≤ at → EndsFrom at (r ∷ rs)
       → StartFrom at rs
   passed_starts f before at r rs rest by from =
       let end : run_end r ≡ at = omega arith in
@@ -202,15 +222,20 @@ module _ {X : Type 0} where
   length_stretch start until (Some v) lt some = let test : nat_lt start until ≡ true = grind (arith, nat_tests) in rw test refl
 
   -- where an edit writes a run and has no free place, there is room for one more
-  pub room_for : (same : X → X → Bool) → Tells same → (f g : ℕ → Option X) (start from to : ℕ) (v : Option X) (xs ys : List (RunOf X)) (room : ℕ) → HasRoom same f g room
-      → NothingFrom (2 ^ 64) f → from ≤ to → to ≤ 2 ^ 64 → IsSweptTo g from (xs ++ stretch start from v) → start < from → is_some v ≡ true → IsRestFrom f to ys
+  pub room_for : (same : X → X → Bool) → Tells same → (f g : ℕ → Option X) (start from to : ℕ) (v : Option X) (xs ys : List (RunOf X))
+      (room : ℕ) → HasRoom same f g room
+      → NothingFrom (2 ^ 64) f → from ≤ to → to ≤ 2 ^ 64 → IsSweptTo g from (xs ++ stretch start from v) → start < from → is_some v ≡ true
+      → IsRestFrom f to ys
       → length xs + length ys < room
   room_for same tells f g start from to v xs ys room has none order le swept lt some rest =
       let one : length (stretch start from v) ≡ 1 = length_stretch start from v lt some in
-      let front : length (xs ++ stretch start from v) ≡ total (edges same g) 0 from = swept_ends same tells g from (xs ++ stretch start from v) swept in
-      let parts : length (xs ++ stretch start from v) ≡ length xs + length (stretch start from v) = length-append xs (stretch start from v) in
+      let front : length (xs ++ stretch start from v) ≡ total (edges same g) 0 from = swept_ends same tells g from
+      (xs ++ stretch start from v) swept in
+      let parts : length (xs ++ stretch start from v) ≡ length xs + length (stretch start from v) = length-append xs
+      (stretch start from v) in
       let back : length ys ≡ total (edges same f) to (2 ^ 64 - to) = rest_ends same tells f to ys rest none le in
-      let split : total (edges same f) from (2 ^ 64 - from) ≡ total (edges same f) from (to - from) + total (edges same f) to (2 ^ 64 - to) =
+      let split : total (edges same f) from (2 ^ 64 - from) ≡ total (edges same f) from (to - from) + total (edges same f) to
+      (2 ^ 64 - to) =
       total-split (edges same f) from (to - from) (2 ^ 64 - to) (2 ^ 64 - from) to (omega arith) (omega arith) in
       let enough : total (edges same g) 0 from + total (edges same f) from (2 ^ 64 - from) ≤ room = has from (omega arith) in
       omega (arith, one, front, parts, back, split, enough)

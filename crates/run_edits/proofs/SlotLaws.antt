@@ -10,7 +10,8 @@ drop-map run (suc n) [] = refl
 drop-map run (suc n) (x ∷ xs) = drop-map run n xs
 
 -- one more record before the one at the index
-pub map_insert : {S R : Type 0} (run : S → R) (i : ℕ) (s : S) (xs : List S) → map run (take i xs ++ s ∷ drop i xs) ≡ take i (map run xs) ++ run s ∷ drop i (map run xs)
+pub map_insert : {S R : Type 0} (run : S → R) (i : ℕ) (s : S) (xs : List S) → map run (take i xs ++ s ∷ drop i xs) ≡ take i (map run xs)
+    ++ run s ∷ drop i (map run xs)
 map_insert run i s xs = map-append run (take i xs) (s ∷ drop i xs) ∙ rw (take-map run i xs, drop-map run i xs) refl
 
 -- n records fewer, those behind them moved down
@@ -25,11 +26,13 @@ closed i n count xs is fits =
     ∙ take-paste xs i (drop (i + n) xs) left (omega arith) enough
     ∙ ap (λ rest. take i xs ++ rest) (ap (λ (k : ℕ). take k (drop (i + n) xs)) behind ∙ take_rest xs (i + n))
 
-pub map_closed : {S R : Type 0} (run : S → R) (i n : ℕ) (xs : List S) → map run (take i xs ++ drop (i + n) xs) ≡ take i (map run xs) ++ drop (i + n) (map run xs)
+pub map_closed : {S R : Type 0} (run : S → R) (i n : ℕ) (xs : List S) → map run (take i xs ++ drop (i + n) xs) ≡ take i (map run xs)
+    ++ drop (i + n) (map run xs)
 map_closed run i n xs = map-append run (take i xs) (drop (i + n) xs) ∙ rw (take-map run i xs, drop-map run (i + n) xs) refl
 
 -- what stands before a place that is opened, with the record in it, and behind it
-pub take_insert : {R : Type 0} (i : ℕ) (r : R) (xs : List R) → i ≤ length xs → take (i + 1) (take i xs ++ r ∷ drop i xs) ≡ take i xs ++ r ∷ []
+pub take_insert : {R : Type 0} (i : ℕ) (r : R) (xs : List R) → i ≤ length xs → take (i + 1) (take i xs ++ r ∷ drop i xs) ≡ take i xs
+    ++ r ∷ []
 take_insert i r xs within =
     let len : length (take i xs ++ r ∷ []) ≡ i + 1 = grind (arith, length-take-le i xs within, length_push (take i xs) r) in
     ap (λ l. take (i + 1) l) (sym (append_assoc (take i xs) (r ∷ []) (drop i xs))) ∙ take_at (take i xs ++ r ∷ []) (drop i xs) (i + 1) len

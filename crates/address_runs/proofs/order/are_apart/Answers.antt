@@ -4,5 +4,6 @@ use Rattle.address_runs.proofs.order.are_apart.Goals as goal
 
 pub returns : goal.returns
 returns g c =
-    let exactly = apart_exactly g.S.Stretch.run c.args.first.now c.last-item.result _ (omega arith) c.last-item.is c.requires.first c.requires.second in
+    let exactly = apart_exactly g.S.Stretch.run c.args.first.now c.last-item.result _ (omega arith) c.last-item.is c.requires.first
+    c.requires.second in
     ((λ holds. exactly.0 (c.is_before.ensures.0 holds)), (λ runs. c.is_before.ensures.1 (exactly.1 runs)))

@@ -9,11 +9,14 @@ pub loop-i-preserved : goal.loop-i-preserved
 loop-i-preserved c =
     let rest : List Item = c.loop-i.rest.now in
     let i : ℕ = c.in-Some.i in
-    let all : take (length rest - (i + 1)) (drop (i + 1) rest) ≡ drop (i + 1) rest = take_all (length rest - (i + 1)) (drop (i + 1) rest) (omega (arith, length-drop (i + 1) rest)) in
+    let all : take (length rest - (i + 1)) (drop (i + 1) rest) ≡ drop (i + 1) rest = take_all (length rest - (i + 1)) (drop (i + 1) rest)
+    (omega (arith, length-drop (i + 1) rest)) in
     record {
       few = rw all (omega (arith, length-drop (i + 1) rest));
-      label = rw (all, c.kept-whole.ensures) (sym (turn c.loop-i.whole rest i c.args.x (sym c.in-Some.ensures.first)) ∙ c.loop-i.invariant.label);
+      label = rw (all, c.kept-whole.ensures) (sym (turn c.loop-i.whole rest i c.args.x (sym c.in-Some.ensures.first))
+          ∙ c.loop-i.invariant.label);
     }
 
 pub returns : goal.returns
-returns c = c.tag.ensures ∙ ap tag_for (c.after_all.ensures ∙ sym (last_turn c.loop-i.whole c.loop-i.rest.now c.args.x (sym c.in_default.ensures.first)) ∙ c.loop-i.invariant.label)
+returns c = c.tag.ensures ∙ ap tag_for (c.after_all.ensures ∙ sym
+    (last_turn c.loop-i.whole c.loop-i.rest.now c.args.x (sym c.in_default.ensures.first)) ∙ c.loop-i.invariant.label)

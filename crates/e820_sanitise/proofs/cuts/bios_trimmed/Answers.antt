@@ -23,6 +23,7 @@ pub returns-clause-claims : goal.returns-clause-claims
 returns-clause-claims c =
     let first : AreClaims (cut_out first_page (Some E820_TYPE_RAM) (Some E820_TYPE_RESERVED) c.args.claims.now) =
     are_cut first_page (Some E820_TYPE_RAM) (Some E820_TYPE_RESERVED) c.args.claims.now (omega arith, omega arith) c.requires in
-    let left : c.deref.result.now ≡ cut_out first_page (Some E820_TYPE_RAM) (Some E820_TYPE_RESERVED) c.args.claims.now = c.deref.ensures.value ∙ c.in_ok-reserved.ensures in
+    let left : c.deref.result.now ≡ cut_out first_page (Some E820_TYPE_RAM) (Some E820_TYPE_RESERVED)
+    c.args.claims.now = c.deref.ensures.value ∙ c.in_ok-reserved.ensures in
     IfOk-weaker c.cut_claims-2.result _ _
     (λ all is. rw (rw left at is) (are_cut bios_area (Some E820_TYPE_RAM) None _ tt first)) c.cut_claims-2.ensures

@@ -9,15 +9,18 @@ use Rattle.e820_sanitise.proofs.cuts.edit_claims.Goals as goal
 
 pub returns-in-Add-clause-same : goal.returns-in-Add-clause-same
 returns-in-Add-clause-same c =
-    let added : OnOk c.push_between.result (c.push_between.new.claims.items ≡ c.args.claims.now.items ++ between c.in-Add.range.base (end_of c.in-Add.range) c.in-Add.kind) = search rules in
+    let added : OnOk c.push_between.result (c.push_between.new.claims.items ≡ c.args.claims.now.items
+    ++ between c.in-Add.range.base (end_of c.in-Add.range) c.in-Add.kind) = search rules in
     on_ok_weaker c.push_between.result
-    (λ is. ap claims_of is ∙ add_same c.in-Add.range c.in-Add.kind c.args.claims.now.items ∙ ap (λ e. edited e (claims_of c.args.claims.now.items)) (sym c.in-Add.is))
+    (λ is. ap claims_of is ∙ add_same c.in-Add.range c.in-Add.kind c.args.claims.now.items
+    ∙ ap (λ e. edited e (claims_of c.args.claims.now.items)) (sym c.in-Add.is))
     added
 
 pub returns-in-Remove-clause-same : goal.returns-in-Remove-clause-same
 returns-in-Remove-clause-same c =
     on_ok_weaker c.cut.result
-    (λ is. ap claims_of is ∙ remove_same c.in-Remove.range c.in-Remove.kind c.args.claims.now.items ∙ ap (λ e. edited e (claims_of c.args.claims.now.items)) (sym c.in-Remove.is))
+    (λ is. ap claims_of is ∙ remove_same c.in-Remove.range c.in-Remove.kind c.args.claims.now.items
+    ∙ ap (λ e. edited e (claims_of c.args.claims.now.items)) (sym c.in-Remove.is))
     c.cut.ensures.ok
 
 pub returns-in-Remove-clause-claims : goal.returns-in-Remove-clause-claims
@@ -28,7 +31,8 @@ returns-in-Remove-clause-claims c =
 pub returns-in-RemoveAll-clause-same : goal.returns-in-RemoveAll-clause-same
 returns-in-RemoveAll-clause-same c =
     on_ok_weaker c.cut-in-RemoveAll.result
-    (λ is. ap claims_of is ∙ remove_all_same c.in-RemoveAll.range c.args.claims.now.items ∙ ap (λ e. edited e (claims_of c.args.claims.now.items)) (sym c.in-RemoveAll.is))
+    (λ is. ap claims_of is ∙ remove_all_same c.in-RemoveAll.range c.args.claims.now.items
+    ∙ ap (λ e. edited e (claims_of c.args.claims.now.items)) (sym c.in-RemoveAll.is))
     c.cut-in-RemoveAll.ensures.ok
 
 pub returns-in-RemoveAll-clause-claims : goal.returns-in-RemoveAll-clause-claims
@@ -47,4 +51,5 @@ pub returns-in-Change-clause-claims : goal.returns-in-Change-clause-claims
 returns-in-Change-clause-claims c =
     let types : 0 < c.in-Change.to = (rw c.in-Change.is at c.requires.types).1 in
     are_either c.cut-in-Change.result _ _ _ c.cut-in-Change.ensures.ok c.cut-in-Change.ensures.err
-    (are_cut c.in-Change.range (Some c.in-Change.from) (Some c.in-Change.to) c.args.claims.now.items (types, omega arith) c.requires.claims) c.requires.claims
+    (are_cut c.in-Change.range (Some c.in-Change.from) (Some c.in-Change.to) c.args.claims.now.items (types, omega arith)
+    c.requires.claims) c.requires.claims

@@ -16,7 +16,8 @@ rewrite-requires-clause-room g c =
     let r : Extent = c.args.range.now in
     let same = c.requires.tells.0 in
     let tells = c.requires.tells.1 in
-    let count : length (g.T.Rows.list c.args.table.now) ≡ total (edges same f) 0 (2 ^ 64) = all_ends same tells (g.T.Rows.list c.args.table.now) c.requires.runs c.requires.within in (
+    let count : length (g.T.Rows.list c.args.table.now) ≡ total (edges same f) 0 (2 ^ 64) = all_ends same tells
+    (g.T.Rows.list c.args.table.now) c.requires.runs c.requires.within in (
       same,
       tells,
       room_by same tells f (amended change r f) (λ x. spike r.base x + spike (r.base + r.size) x) 2 (g.T.Slots.room c.args.table.now)
@@ -26,7 +27,8 @@ rewrite-requires-clause-room g c =
 pub returns-clause-within : goal.returns-clause-within
 returns-clause-within g c = λ x le.
     c.rewrite.ensures.list.each x
-    ∙ amended_ends (g.C.Change.makes c.args.change) c.args.range.now (value_at (g.T.Rows.list c.args.table.now)) (2 ^ 64) (grind (arith, common_steps)) c.requires.within x le
+    ∙ amended_ends (g.C.Change.makes c.args.change) c.args.range.now (value_at (g.T.Rows.list c.args.table.now)) (2 ^ 64)
+    (grind (arith, common_steps)) c.requires.within x le
 
 pub returns-clause-few : goal.returns-clause-few
 returns-clause-few g c =
@@ -36,6 +38,8 @@ returns-clause-few g c =
     let same = c.requires.tells.0 in
     let tells = c.requires.tells.1 in
     let now : NothingFrom (2 ^ 64) (value_at (g.T.Rows.list c.rewrite.new.table)) = returns-clause-within g c in
-    length_by same tells (g.T.Rows.list c.args.table.now) (g.T.Rows.list c.rewrite.new.table) (λ x. spike r.base x + spike (r.base + r.size) x) 2
+    length_by same tells (g.T.Rows.list c.args.table.now) (g.T.Rows.list c.rewrite.new.table)
+    (λ x. spike r.base x + spike (r.base + r.size) x) 2
     c.requires.runs c.requires.within c.rewrite.ensures.list.runs now
-    (λ x. rw (c.rewrite.ensures.list.each x, c.rewrite.ensures.list.each (x + 1)) (amended_edges same tells change c.requires.change r f x)) (spikes_two r (2 ^ 64))
+    (λ x. rw (c.rewrite.ensures.list.each x, c.rewrite.ensures.list.each (x + 1))
+    (amended_edges same tells change c.requires.change r f x)) (spikes_two r (2 ^ 64))

@@ -9,10 +9,14 @@ use Rattle.run_edits.proofs.edits.begun.Goals.{in_default-via-in-Some+else-range
 pub returns-in-Some : goal.returns-in-Some
 returns-in-Some g c = λ f like.
     let base : c.result.inside.base ≡ (g.S.Stretch.run c.in-Some.record).base = grind (arith, common_steps) in
-    let parts : take c.args.first (g.T.Rows.list c.args.table.now) ++ g.S.Stretch.run c.in-Some.record ∷ drop (c.args.first + 1) (g.T.Rows.list c.args.table.now) ≡ g.T.Rows.list c.args.table.now =
-    ap (λ l. take c.args.first (g.T.Rows.list c.args.table.now) ++ l) (sym c.in-Some.ensures.record) ∙ take-append-drop c.args.first (g.T.Rows.list c.args.table.now) in
-    rw (base, c.value.ensures) (begun_inside (g.T.Rows.list c.args.table.now) f c.args.at (take c.args.first (g.T.Rows.list c.args.table.now)) (drop (c.args.first + 1) (g.T.Rows.list c.args.table.now))
-    (g.S.Stretch.run c.in-Some.record) parts c.requires.runs (grind (arith, common_steps)) (rw c.in-Some.ensures.record at c.requires.from) like)
+    let parts : take c.args.first (g.T.Rows.list c.args.table.now)
+    ++ g.S.Stretch.run c.in-Some.record ∷ drop (c.args.first + 1) (g.T.Rows.list c.args.table.now) ≡ g.T.Rows.list c.args.table.now =
+    ap (λ l. take c.args.first (g.T.Rows.list c.args.table.now) ++ l) (sym c.in-Some.ensures.record)
+    ∙ take-append-drop c.args.first (g.T.Rows.list c.args.table.now) in
+    rw (base, c.value.ensures) (begun_inside (g.T.Rows.list c.args.table.now) f c.args.at
+    (take c.args.first (g.T.Rows.list c.args.table.now)) (drop (c.args.first + 1) (g.T.Rows.list c.args.table.now))
+    (g.S.Stretch.run c.in-Some.record) parts c.requires.runs (grind (arith, common_steps))
+    (rw c.in-Some.ensures.record at c.requires.from) like)
 
 pub returns-in_default : goal.returns-in_default
 returns-in_default g c = λ f like.
@@ -20,5 +24,6 @@ returns-in_default g c = λ f like.
       | in_default-via-in-Some+else-range-at w ↦ rw w.in-Some.ensures.record (grind (arith, common_steps))
       | in_default-via-in_default w ↦ rw w.in_default.ensures.record tt
     ] in
-    begun_outside (g.T.Rows.list c.args.table.now) f c.args.at (take c.args.first (g.T.Rows.list c.args.table.now)) (drop c.args.first (g.T.Rows.list c.args.table.now))
+    begun_outside (g.T.Rows.list c.args.table.now) f c.args.at (take c.args.first (g.T.Rows.list c.args.table.now))
+    (drop c.args.first (g.T.Rows.list c.args.table.now))
     (take-append-drop c.args.first (g.T.Rows.list c.args.table.now)) c.requires.runs c.requires.before starts like

@@ -39,12 +39,16 @@ advance-sweep-requires-clause-room g c = λ free lt some other.
     let test : from < c.end-until.result = c.loop-from-test.true in
     let next : from < c.look-here.result.1 = c.look-here.ensures.behind i.rest.ends (omega arith) in
     let order : from ≤ c.min-to.result = omega arith in
-    let here : h from ≡ c.apply.result = amended_inside change r f from first (omega arith) ∙ ap change (sym (c.look-here.ensures.value f i.rest)) ∙ sym c.apply.ensures in
+    let here : h from ≡ c.apply.result = amended_inside change r f from first (omega arith)
+    ∙ ap change (sym (c.look-here.ensures.value f i.rest)) ∙ sym c.apply.ensures in
     let rest : IsRestFrom f c.min-to.result (drop c.passed.result (g.T.Rows.list c.loop-from.table)) =
-    c.passed.ensures.rest f from i.rest order (ends_sooner c.min-to.result c.look-here.result.1 _ (omega arith) (c.look-here.ensures.ends i.rest.ends)) in
+    c.passed.ensures.rest f from i.rest order (ends_sooner c.min-to.result c.look-here.result.1 _ (omega arith)
+    (c.look-here.ensures.ends i.rest.ends)) in
     let room : length (g.T.Rows.list c.loop-from.table) < g.T.Slots.room c.args.table.now =
-    room_here c.requires.room.0 c.requires.room.1 f h c.loop-from.sweep.start from c.min-to.result c.loop-from.sweep.value (g.T.Rows.list c.loop-from.table) c.loop-from.sweep.write c.passed.result
-    (g.T.Slots.room c.args.table.now) c.requires.room.2 c.requires.within order (omega arith) i.built (λ same. absurd (other (sym same ∙ here))) rest free (c.passed.ensures.within i.within) lt some in
+    room_here c.requires.room.0 c.requires.room.1 f h c.loop-from.sweep.start from c.min-to.result c.loop-from.sweep.value
+    (g.T.Rows.list c.loop-from.table) c.loop-from.sweep.write c.passed.result
+    (g.T.Slots.room c.args.table.now) c.requires.room.2 c.requires.within order (omega arith) i.built
+    (λ same. absurd (other (sym same ∙ here))) rest free (c.passed.ensures.within i.within) lt some in
     g.met.T.Slots.keeps_room c.args.table.now c.loop-from.table i.keeps (suc (length (g.T.Rows.list c.loop-from.table))) room
 
 pub loop-from-preserved : goal.loop-from-preserved
@@ -65,8 +69,10 @@ loop-from-preserved g c =
     let value : c.apply.result ≡ change (f from) = c.apply.ensures ∙ ap change (c.look-here.ensures.value f i.rest) in
     let here : h from ≡ c.apply.result = amended_inside change r f from first (omega arith) ∙ sym value in
     let rest : IsRestFrom f to (drop c.passed.result (g.T.Rows.list c.loop-from.table)) =
-    c.passed.ensures.rest f from i.rest order (ends_sooner to c.look-here.result.1 _ (omega arith) (c.look-here.ensures.ends i.rest.ends)) in
-    let stays : Stays h from to c.apply.result = amended_stays change r f from to c.look-here.result.1 c.apply.result first (omega arith) (omega arith) (c.look-here.ensures.stays f i.rest) value in
+    c.passed.ensures.rest f from i.rest order (ends_sooner to c.look-here.result.1 _ (omega arith) (c.look-here.ensures.ends i.rest.ends))
+    in
+    let stays : Stays h from to c.apply.result = amended_stays change r f from to c.look-here.result.1 c.apply.result first (omega arith)
+    (omega arith) (c.look-here.ensures.stays f i.rest) value in
     record {
       first = omega arith;
       last = omega arith;
@@ -90,15 +96,20 @@ advance-sweep-requires-2-clause-room g c = λ free lt some other.
     let at : c.loop-from.from ≡ until = omega (arith, i.last, c.loop-from-test.false) in
     let left : IsRestFrom f until (drop c.loop-from.sweep.read (g.T.Rows.list c.loop-from.table)) =
     subst (λ (n : ℕ). IsRestFrom f n (drop c.loop-from.sweep.read (g.T.Rows.list c.loop-from.table))) at i.rest in
-    let built : IsBuiltTo h until (take c.loop-from.sweep.write (g.T.Rows.list c.loop-from.table)) c.loop-from.sweep.start c.loop-from.sweep.value =
-    subst (λ (n : ℕ). IsBuiltTo h n (take c.loop-from.sweep.write (g.T.Rows.list c.loop-from.table)) c.loop-from.sweep.start c.loop-from.sweep.value) at i.built in
+    let built : IsBuiltTo h until (take c.loop-from.sweep.write (g.T.Rows.list c.loop-from.table)) c.loop-from.sweep.start
+    c.loop-from.sweep.value =
+    subst (λ (n : ℕ). IsBuiltTo h n (take c.loop-from.sweep.write (g.T.Rows.list c.loop-from.table)) c.loop-from.sweep.start
+    c.loop-from.sweep.value) at i.built in
     let order : until ≤ c.look-here-2.result.1 = c.look-here-2.ensures.forward left.ends (omega arith) in
-    let here : h until ≡ c.look-here-2.result.0 = amended_behind change r f until (omega arith) ∙ sym (c.look-here-2.ensures.value f left) in
+    let here : h until ≡ c.look-here-2.result.0 = amended_behind change r f until (omega arith)
+    ∙ sym (c.look-here-2.ensures.value f left) in
     let rest : IsRestFrom f c.look-here-2.result.1 (drop c.passed-2.result (g.T.Rows.list c.loop-from.table)) =
     c.passed-2.ensures.rest f until left order (c.look-here-2.ensures.ends left.ends) in
     let room : length (g.T.Rows.list c.loop-from.table) < g.T.Slots.room c.args.table.now =
-    room_here c.requires.room.0 c.requires.room.1 f h c.loop-from.sweep.start until c.look-here-2.result.1 c.loop-from.sweep.value (g.T.Rows.list c.loop-from.table) c.loop-from.sweep.write c.passed-2.result
-    (g.T.Slots.room c.args.table.now) c.requires.room.2 c.requires.within order (grind (arith, common_steps)) built (λ same. absurd (other (sym same ∙ here))) rest free (c.passed-2.ensures.within i.within) lt some in
+    room_here c.requires.room.0 c.requires.room.1 f h c.loop-from.sweep.start until c.look-here-2.result.1 c.loop-from.sweep.value
+    (g.T.Rows.list c.loop-from.table) c.loop-from.sweep.write c.passed-2.result
+    (g.T.Slots.room c.args.table.now) c.requires.room.2 c.requires.within order (grind (arith, common_steps)) built
+    (λ same. absurd (other (sym same ∙ here))) rest free (c.passed-2.ensures.within i.within) lt some in
     g.met.T.Slots.keeps_room c.args.table.now c.loop-from.table i.keeps (suc (length (g.T.Rows.list c.loop-from.table))) room
 
 pub emit-write-requires-clause-room : goal.emit-write-requires-clause-room
@@ -116,20 +127,26 @@ emit-write-requires-clause-room g c = λ free lt some.
     let at : c.loop-from.from ≡ until = omega (arith, i.last, c.loop-from-test.false) in
     let left : IsRestFrom f until (drop c.loop-from.sweep.read (g.T.Rows.list c.loop-from.table)) =
     subst (λ (n : ℕ). IsRestFrom f n (drop c.loop-from.sweep.read (g.T.Rows.list c.loop-from.table))) at i.rest in
-    let before : IsBuiltTo h until (take c.loop-from.sweep.write (g.T.Rows.list c.loop-from.table)) c.loop-from.sweep.start c.loop-from.sweep.value =
-    subst (λ (n : ℕ). IsBuiltTo h n (take c.loop-from.sweep.write (g.T.Rows.list c.loop-from.table)) c.loop-from.sweep.start c.loop-from.sweep.value) at i.built in
+    let before : IsBuiltTo h until (take c.loop-from.sweep.write (g.T.Rows.list c.loop-from.table)) c.loop-from.sweep.start
+    c.loop-from.sweep.value =
+    subst (λ (n : ℕ). IsBuiltTo h n (take c.loop-from.sweep.write (g.T.Rows.list c.loop-from.table)) c.loop-from.sweep.start
+    c.loop-from.sweep.value) at i.built in
     let order : until ≤ next = c.look-here-2.ensures.forward left.ends (omega arith) in
     let value : c.look-here-2.result.0 ≡ f until = c.look-here-2.ensures.value f left in
     let here : h until ≡ c.look-here-2.result.0 = amended_behind change r f until (omega arith) ∙ sym value in
-    let stays : Stays h until next c.look-here-2.result.0 = amended_stays_behind change r f until next c.look-here-2.result.0 (omega arith) (c.look-here-2.ensures.stays f left) value in
-    let built : IsBuiltTo h next (take a.result.write (g.T.Rows.list a.new.table)) a.result.start a.result.value = a.ensures.built h next before here order stays in
+    let stays : Stays h until next c.look-here-2.result.0 = amended_stays_behind change r f until next c.look-here-2.result.0
+    (omega arith) (c.look-here-2.ensures.stays f left) value in
+    let built : IsBuiltTo h next (take a.result.write (g.T.Rows.list a.new.table)) a.result.start a.result.value = a.ensures.built h next
+    before here order stays in
     let rest : IsRestFrom f next (drop a.result.read (g.T.Rows.list a.new.table)) =
     rw a.ensures.rest (c.passed-2.ensures.rest f until left order (c.look-here-2.ensures.ends left.ends)) in
     let last : a.result.value ≡ f until = a.ensures.value ∙ value in
     let room : length (g.T.Rows.list a.new.table) < g.T.Slots.room c.args.table.now =
-    room_here c.requires.room.0 c.requires.room.1 f h a.result.start next next a.result.value (g.T.Rows.list a.new.table) a.result.write a.result.read
+    room_here c.requires.room.0 c.requires.room.1 f h a.result.start next next a.result.value (g.T.Rows.list a.new.table) a.result.write
+    a.result.read
     (g.T.Slots.room c.args.table.now) c.requires.room.2 c.requires.within (omega arith) (grind (arith, common_steps)) built
-    (λ same. last ∙ c.look-here-2.ensures.another f left (sym (amended_behind change r f next (omega arith)) ∙ same ∙ last)) rest free a.ensures.within lt some in
+    (λ same. last ∙ c.look-here-2.ensures.another f left (sym (amended_behind change r f next (omega arith)) ∙ same ∙ last)) rest free
+    a.ensures.within lt some in
     let keeps = g.met.T.Slots.keeps_on c.args.table.now c.loop-from.table a.new.table i.keeps a.ensures.keeps in
     g.met.T.Slots.keeps_room c.args.table.now a.new.table keeps (suc (length (g.T.Rows.list a.new.table))) room
 
@@ -148,20 +165,27 @@ returns-clause-list g c =
     let at : c.loop-from.from ≡ until = omega (arith, i.last, c.loop-from-test.false) in
     let left : IsRestFrom f until (drop c.loop-from.sweep.read (g.T.Rows.list c.loop-from.table)) =
     subst (λ (n : ℕ). IsRestFrom f n (drop c.loop-from.sweep.read (g.T.Rows.list c.loop-from.table))) at i.rest in
-    let before : IsBuiltTo h until (take c.loop-from.sweep.write (g.T.Rows.list c.loop-from.table)) c.loop-from.sweep.start c.loop-from.sweep.value =
-    subst (λ (n : ℕ). IsBuiltTo h n (take c.loop-from.sweep.write (g.T.Rows.list c.loop-from.table)) c.loop-from.sweep.start c.loop-from.sweep.value) at i.built in
+    let before : IsBuiltTo h until (take c.loop-from.sweep.write (g.T.Rows.list c.loop-from.table)) c.loop-from.sweep.start
+    c.loop-from.sweep.value =
+    subst (λ (n : ℕ). IsBuiltTo h n (take c.loop-from.sweep.write (g.T.Rows.list c.loop-from.table)) c.loop-from.sweep.start
+    c.loop-from.sweep.value) at i.built in
     let order : until ≤ next = c.look-here-2.ensures.forward left.ends (omega arith) in
     let value : c.look-here-2.result.0 ≡ f until = c.look-here-2.ensures.value f left in
     let here : h until ≡ c.look-here-2.result.0 = amended_behind change r f until (omega arith) ∙ sym value in
-    let stays : Stays h until next c.look-here-2.result.0 = amended_stays_behind change r f until next c.look-here-2.result.0 (omega arith) (c.look-here-2.ensures.stays f left) value in
-    let built : IsBuiltTo h next (take a.result.write (g.T.Rows.list a.new.table)) a.result.start a.result.value = a.ensures.built h next before here order stays in
+    let stays : Stays h until next c.look-here-2.result.0 = amended_stays_behind change r f until next c.look-here-2.result.0
+    (omega arith) (c.look-here-2.ensures.stays f left) value in
+    let built : IsBuiltTo h next (take a.result.write (g.T.Rows.list a.new.table)) a.result.start a.result.value = a.ensures.built h next
+    before here order stays in
     let last : a.result.value ≡ f until = a.ensures.value ∙ value in
     let ends : EndsFrom next (drop c.loop-from.sweep.read (g.T.Rows.list c.loop-from.table)) = c.look-here-2.ensures.ends left.ends in
-    let passed : IsRestFrom f next (drop c.passed-2.result (g.T.Rows.list c.loop-from.table)) = c.passed-2.ensures.rest f until left order ends in
-    let starts : StartFrom next (drop c.passed-2.result (g.T.Rows.list c.loop-from.table)) = c.passed-2.ensures.starts f until left ends c.look-here-2.ensures.uncut in
+    let passed : IsRestFrom f next (drop c.passed-2.result (g.T.Rows.list c.loop-from.table)) = c.passed-2.ensures.rest f until left order
+    ends in
+    let starts : StartFrom next (drop c.passed-2.result (g.T.Rows.list c.loop-from.table)) = c.passed-2.ensures.starts f until left ends
+    c.look-here-2.ensures.uncut in
     let swept : IsSweptTo h next (take a.result.write (g.T.Rows.list a.new.table) ++ stretch a.result.start next a.result.value) =
     swept_stretch h a.result.start next a.result.value (take a.result.write (g.T.Rows.list a.new.table)) built.swept built.begun built.stays
     (λ same. last ∙ c.look-here-2.ensures.another f left (sym (amended_behind change r f next (omega arith)) ∙ same ∙ last)) in
-    let close : c.emit-write.result.0 + (c.emit-write.result.1 - c.emit-write.result.0) ≡ c.emit-write.result.1 = omega (arith, c.emit-write.ensures.order) in
+    let close : c.emit-write.result.0 + (c.emit-write.result.1 - c.emit-write.result.0)
+    ≡ c.emit-write.result.1 = omega (arith, c.emit-write.ensures.order) in
     rw (c.close.ensures.list, close, c.emit-write.ensures.written, c.emit-write.ensures.rest, a.ensures.rest)
     (swept_join f h next _ _ swept passed starts (λ x le. amended_behind change r f x (omega arith)))

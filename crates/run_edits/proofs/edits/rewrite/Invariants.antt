@@ -11,7 +11,8 @@ invariant-loop-from g l = record {
   last : l.from ≤ l.until;
   order : l.sweep.write ≤ l.sweep.read;
   within : l.sweep.read ≤ length (g.T.Rows.list l.table);
-  built : IsBuiltTo (amended (g.C.Change.makes l.fn.change) l.fn.range (value_at (g.T.Rows.list l.fn.table))) l.from (take l.sweep.write (g.T.Rows.list l.table)) l.sweep.start l.sweep.value;
+  built : IsBuiltTo (amended (g.C.Change.makes l.fn.change) l.fn.range (value_at (g.T.Rows.list l.fn.table))) l.from
+      (take l.sweep.write (g.T.Rows.list l.table)) l.sweep.start l.sweep.value;
   rest : IsRestFrom (value_at (g.T.Rows.list l.fn.table)) l.from (drop l.sweep.read (g.T.Rows.list l.table));
   keeps : g.T.Slots.keeps l.fn.table l.table;
 }

@@ -13,6 +13,7 @@ loop-low-preserved-then-end-at g c =
     record {
       order = omega arith;
       within = within;
-      before = before_index c.args.at middle (g.T.Rows.list c.args.table.now) (g.S.Stretch.run c.get.result) c.requires (omega arith) c.get.ensures under;
+      before = before_index c.args.at middle (g.T.Rows.list c.args.table.now) (g.S.Stretch.run c.get.result) c.requires (omega arith)
+          c.get.ensures under;
       from = c.loop-low.invariant.from;
     }

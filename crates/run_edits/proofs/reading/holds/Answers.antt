@@ -14,12 +14,15 @@ returns-then-agree g c =
     let base : from ≡ c.args.range.now.base = grind (arith, common_steps) in
     let end : c.end.result ≡ end_of c.args.range.now = c.end.ensures.value in
     let small : from < 2 ^ 64 = grind (arith, common_steps) in
-    let first : f from ≡ Some c.args.value = sym (c.look-here.ensures.value f c.seek-read.ensures.rest) ∙ c.agree.ensures.0 c.if-agree.true in (
+    let first : f from ≡ Some c.args.value = sym (c.look-here.ensures.value f c.seek-read.ensures.rest)
+    ∙ c.agree.ensures.0 c.if-agree.true in (
       λ far x above under.
           let until : end_of c.args.range.now ≤ next = grind (arith, nat_tests) in
-          holds_so_far f from (end_of c.args.range.now) next c.args.value first (c.look-here.ensures.stays f c.seek-read.ensures.rest) until x (omega arith) under,
+          holds_so_far f from (end_of c.args.range.now) next c.args.value first (c.look-here.ensures.stays f c.seek-read.ensures.rest)
+          until x (omega arith) under,
       λ each.
-          let until : end_of c.args.range.now ≤ next = holds_no_further f from (end_of c.args.range.now) next c.args.value first (c.look-here.ensures.forward c.seek-read.ensures.rest.ends small)
+          let until : end_of c.args.range.now ≤ next = holds_no_further f from (end_of c.args.range.now) next c.args.value first
+          (c.look-here.ensures.forward c.seek-read.ensures.rest.ends small)
           (c.look-here.ensures.another f c.seek-read.ensures.rest) (λ x above under. each x (omega arith) under) in
           grind (arith, nat_tests),
     )

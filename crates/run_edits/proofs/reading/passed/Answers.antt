@@ -5,4 +5,5 @@ use Rattle.run_edits.proofs.reading.passed.Goals as goal
 
 pub returns-in-Some-clause-starts : goal.returns-in-Some-clause-starts
 returns-in-Some-clause-starts g c = λ f before rest ends uncut.
-    passed_starts f before c.args.at (g.S.Stretch.run c.in-Some.record) _ (rw c.in-Some.ensures.record at rest) (grind (arith, common_steps)) (rw c.in-Some.ensures.record at ends)
+    passed_starts f before c.args.at (g.S.Stretch.run c.in-Some.record) _ (rw c.in-Some.ensures.record at rest)
+    (grind (arith, common_steps)) (rw c.in-Some.ensures.record at ends)

@@ -9,5 +9,9 @@ use Rattle.boot_journal.proofs.journal.Journal.owns.Goals as goal
 pub returns : goal.returns
 returns c =
     let told : (x : ℕ) → value_at (map (λ (r : RunOf Owner). r) c.self.inside.owners.items) x ≡ owner_of c.args.self.now.items x = λ x.
-    owner_held c.self.inside.items.items c.self.inside.owners.items x c.self.invariant.3 ∙ ap (λ (v : Contents). owner_of v.items x) c.self.view_is in
-    (λ holds x above under. sym (told x) ∙ c.holds.ensures.0 holds x above under, λ each. c.holds.ensures.1 (λ x above under. told x ∙ each x above under))
+    owner_held c.self.inside.items.items c.self.inside.owners.items x c.self.invariant.3
+    ∙ ap (λ (v : Contents). owner_of v.items x) c.self.view_is in (
+      λ holds x above under. sym (told x) ∙ c.holds.ensures.0 holds x above under,
+      λ each. c.holds.ensures.1 (λ x above under. told x
+          ∙ each x above under),
+    )

@@ -11,7 +11,8 @@ invariant_of-self c =
     let spare : c.self.inside.spare ≡ c.args.self.now.spare = ap (λ (v : Contents). v.spare) c.self.view_is in
     let pushed = c.push_within_capacity.ensures.items in
     let runs : IsRunsOf (owner_of c.push_within_capacity.new.items.items) c.note.new.owners.items =
-    rw pushed (owners_pushed c.self.inside.items.items c.args.item c.self.inside.owners.items c.note.new.owners.items c.self.invariant.3 c.note.ensures.runs) in (
+    rw pushed (owners_pushed c.self.inside.items.items c.args.item c.self.inside.owners.items c.note.new.owners.items c.self.invariant.3
+    c.note.ensures.runs) in (
       omega (arith, c.self.invariant.0, c.push_within_capacity.ensures.len, c.push_within_capacity.ensures.capacity, c.requires.spare),
       rw pushed (AreItems-push c.self.inside.items.items c.args.item c.self.invariant.1 c.requires.item),
       omega (arith, c.self.invariant.2, c.note.ensures.len, c.note.ensures.capacity, c.requires.spare),
