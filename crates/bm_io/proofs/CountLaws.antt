@@ -1,8 +1,8 @@
 -- Counts that were counted up rose, by the number that was counted.
-use Rattle.std.proofs.Common.{◌≡◌, ℕ, ◌^◌, ◌<◌, List, length, Option, Some, Result, Ok, Err, Vec, Global, refl, arith}
-use Rattle.std.specs.Prelude.{OnOk}
+use Rattle.std.proofs.Common.{◌≡◌, ℕ, ◌^◌, ◌<◌, ◌≤◌, List, length, Option, Some, Result, Ok, Err, Vec, Global, refl, arith, inl, inr}
+use Rattle.std.specs.Prelude.{OnOk, IsErrOf, ◌⊎◌}
 use Rattle.bm_io.specs.Counts.{counted, Rose, RoseByMoreThan}
-use Rattle.bm_io.specs.HeldFiles.{failures, bytes_taken}
+use Rattle.bm_io.specs.HeldFiles.{failures, bytes_taken, wants_of_memory}
 use Rattle.bm_io.specs.HeldOutput as output
 use Rattle.bm_io.specs.declared.reading.Fetch.{Fetch}
 use Rattle.bm_io.specs.declared.reading.Fetch.TheVariants as fetch
@@ -24,6 +24,12 @@ pub rose_by_failure : (answer : Result (Vec ℕ Global) Fetch) (before now : ℕ
 rose_by_failure answer before now failed grew =
     let one : failures answer ≡ 1 = rw failed refl in omega (arith, rw one at grew)
 
+-- a fetch that lacked memory was counted
+pub rose_by_want_of_fetch : (answer : Result (Vec ℕ Global) Fetch) (before now : ℕ)
+    → answer ≡ Err fetch.Memory → now ≡ counted before (wants_of_memory answer) → Rose before now
+rose_by_want_of_fetch answer before now wanting grew =
+    let one : wants_of_memory answer ≡ 1 = rw wanting refl in omega (arith, rw one at grew)
+
 -- a file that was too long was counted, with each of its bytes
 pub rose_by_file : (answer : Result (Vec ℕ Global) Fetch) (held : Option (List ℕ)) (bytes : List ℕ) (limit before now : ℕ)
     → answer ≡ Err fetch.TooLong → held ≡ Some bytes → limit < length bytes → now ≡ counted before (bytes_taken answer held)
@@ -42,3 +48,30 @@ pub rose_by_want : (answer : Result (Unit {0}) Put) (before now : ℕ)
     → answer ≡ Err put.Memory → now ≡ counted before (output.wants_of_memory answer) → Rose before now
 rose_by_want answer before now wanting grew =
     let one : output.wants_of_memory answer ≡ 1 = rw wanting refl in omega (arith, rw one at grew)
+
+-- a fault is counted only at a failure, and a want only where memory is wanting
+pub no_fault_but_failed : (answer : Result (Vec ℕ Global) Fetch) (before now : ℕ) → before ≤ now → now ≡ counted before (failures answer)
+    → IsErrOf answer fetch.Failed ⊎ ((any : List ℕ) → now ≡ before)
+no_fault_but_failed (Ok bytes) before now stays grew = inr (λ any. omega (arith, stays, grew))
+no_fault_but_failed (Err fetch.Failed) before now stays grew = inl refl
+no_fault_but_failed (Err fetch.TooLong) before now stays grew = inr (λ any. omega (arith, stays, grew))
+no_fault_but_failed (Err fetch.Memory) before now stays grew = inr (λ any. omega (arith, stays, grew))
+
+pub no_want_but_memory : (answer : Result (Vec ℕ Global) Fetch) (before now : ℕ) → before ≤ now → now ≡ counted before (wants_of_memory answer)
+    → IsErrOf answer fetch.Memory ⊎ (now ≡ before)
+no_want_but_memory (Ok bytes) before now stays grew = inr (omega (arith, stays, grew))
+no_want_but_memory (Err fetch.Failed) before now stays grew = inr (omega (arith, stays, grew))
+no_want_but_memory (Err fetch.TooLong) before now stays grew = inr (omega (arith, stays, grew))
+no_want_but_memory (Err fetch.Memory) before now stays grew = inl refl
+
+pub no_put_fault_but_failed : (answer : Result (Unit {0}) Put) (before now : ℕ) → before ≤ now → now ≡ counted before (output.failures answer)
+    → IsErrOf answer put.Failed ⊎ (now ≡ before)
+no_put_fault_but_failed (Ok done) before now stays grew = inr (omega (arith, stays, grew))
+no_put_fault_but_failed (Err put.Failed) before now stays grew = inl refl
+no_put_fault_but_failed (Err put.Memory) before now stays grew = inr (omega (arith, stays, grew))
+
+pub no_put_want_but_memory : (answer : Result (Unit {0}) Put) (before now : ℕ) → before ≤ now → now ≡ counted before (output.wants_of_memory answer)
+    → IsErrOf answer put.Memory ⊎ (now ≡ before)
+no_put_want_but_memory (Ok done) before now stays grew = inr (omega (arith, stays, grew))
+no_put_want_but_memory (Err put.Failed) before now stays grew = inr (omega (arith, stays, grew))
+no_put_want_but_memory (Err put.Memory) before now stays grew = inl refl

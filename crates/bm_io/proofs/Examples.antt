@@ -1,5 +1,5 @@
 -- Small counts, files and outputs: what the definitions say of them, by computing.
-use Rattle.std.proofs.Common.{◌≡◌, ℕ, ◌-◌, ◌^◌, true, false, Some, None, [], ◌∷◌, Vec, Ok, Err, codes, refl, inl, inr, arith}
+use Rattle.std.proofs.Common.{◌≡◌, ℕ, ◌-◌, ◌^◌, true, false, List, Option, Some, None, [], ◌∷◌, Vec, Ok, Err, codes, refl, inl, inr, arith}
 use Rattle.std.specs.declared.alloc.Global.{Global}
 use Rattle.bm_io.specs.declared.reading.Fetch.TheVariants as fetch
 use Rattle.bm_io.specs.declared.writing.Put.TheVariants as put
@@ -7,8 +7,10 @@ use Rattle.bm_io.specs.declared.writing.Sink.{Ghosts as SinkOf}
 use Rattle.bm_io.specs.declared.mem_files.MemFile.{MemFile}
 use Rattle.bm_io.specs.Counts.{counted, Rose, RoseByMoreThan}
 use Rattle.bm_io.specs.Told.{IsToldAs, IsToldLonger, AppendsFront}
-use Rattle.bm_io.specs.HeldFiles.{HeldFiles, held_file, held_files, is_named, bytes_of, HaveOwnNames, IsRefused, IsLonger, failures, bytes_taken}
+use Rattle.bm_io.specs.HeldFiles.{HeldFile, HeldFiles, held_file, held_files, is_named, bytes_of, HaveOwnNames, IsRefused, IsLonger, failures, bytes_taken, wants_of_memory as fetch_wants}
 use Rattle.bm_io.specs.Puts.{Puts}
+use Rattle.bm_io.specs.Known.{TakesKnown, GivesKnown}
+use Rattle.bm_io.specs.Calls.{HasTaken, nothing_taken, took, HasGiven, nothing_given, gave, IsPutBy, IsReadBy, IsFetchedBy}
 use Rattle.bm_io.specs.HeldOutput.{HeldOutput, failures as put_failures, wants_of_memory}
 
 -- a count goes up, and stands still at 2^64 - 1
@@ -53,6 +55,7 @@ two_files = record {
   calls = 0;
   faults = 0;
   taken = 0;
+  wants = 0;
 }
 
 bytes_by_name : (bytes_of two_files.files (codes "zp") ≡ Some (codes "abc")) × (bytes_of two_files.files (codes "line") ≡ Some []) × (bytes_of two_files.files (codes "z") ≡ None)
@@ -94,6 +97,9 @@ taken_bytes = (refl, refl, refl)
 given_bytes : (bytes : Vec ℕ Global) → (failures (Ok bytes) ≡ 0) × (bytes_taken (Ok bytes) (Some (codes "abc")) ≡ 3)
 given_bytes bytes = (refl, refl)
 
+wanted_for_a_file : (fetch_wants (Err fetch.Memory) ≡ 1) × (fetch_wants (Err fetch.Failed) ≡ 0) × (fetch_wants (Err fetch.TooLong) ≡ 0)
+wanted_for_a_file = (refl, refl, refl)
+
 -- failures and wants of an answer of `put`
 failed_puts : (put_failures (Ok tt) ≡ 0) × (put_failures (Err put.Failed) ≡ 1) × (put_failures (Err put.Memory) ≡ 0)
 failed_puts = (refl, refl, refl)
@@ -126,6 +132,8 @@ failed_put = record {
   failed = λ is. omega arith;
   wanting = λ is. cc;
   uncounted = tt;
+  no_fault = inl refl;
+  no_want = inr refl;
   faults_stay = omega arith;
   wants_stay = omega arith;
 }
@@ -135,3 +143,65 @@ no_cause puts = let rose = puts.failed refl in omega (arith, rose)
 
 fault_unheard : Puts held_sink before_failure behind_failure (Ok tt) (codes "c") → ⊥
 fault_unheard puts = let still = puts.uncounted.0 in omega (arith, still)
+
+-- a stream that tells its bytes took two of those that it was offered; a write that failed took none
+two_taken : TakesKnown (Some (codes "x")) (Some (codes "xab")) (codes "abc") (Some 2)
+two_taken = refl
+
+none_taken : TakesKnown (Some (codes "x")) (Some (codes "xa")) (codes "abc") None → ⊥
+none_taken kept = cc kept
+
+-- a file that tells its bytes gave the first two; one that has bytes left isn't at its end
+two_given : GivesKnown (Some (codes "abc")) (Some (codes "c")) (Some (codes "ab"))
+two_given = (refl, λ none. cc)
+
+not_at_the_end : GivesKnown (Some (codes "c")) (Some (codes "c")) (Some []) → ⊥
+not_at_the_end gives = let end : codes "c" ≡ [] = gives.1 refl in cc end
+
+-- three bytes by two writes: the second was offered what the first had left
+abbrev known_writes : List ℕ → List ℕ → Option ℕ → List ℕ → Type 0
+known_writes before bytes taken after = TakesKnown (Some before) (Some after) bytes taken
+
+by_two_writes : HasTaken known_writes (codes "abc") [] 3 (codes "abc")
+by_two_writes = took {k = 2} {n = 1} {mid = codes "ab"} (took {k = 0} {n = 2} {mid = []} nothing_taken refl (omega arith)) refl (omega arith)
+
+put_by_two_writes : IsPutBy known_writes [] (codes "abc") (Ok tt) (codes "abc")
+put_by_two_writes = by_two_writes
+
+-- the second write failed: that, and no length, is what a put fails by
+refused_by_a_write : IsPutBy known_writes [] (codes "abc") (Err put.Failed) (codes "ab")
+refused_by_a_write = (2, codes "ab", omega arith, took {k = 0} {n = 2} {mid = []} nothing_taken refl (omega arith), inl refl)
+
+refused_by_itself : (after : List ℕ) → IsPutBy known_writes [] [] (Err put.Failed) after → ⊥
+refused_by_itself after refused = let some = refused.2 in omega (arith, some)
+
+-- three bytes by two reads, and then the end
+abbrev known_reads : List ℕ → Option (List ℕ) → List ℕ → Type 0
+known_reads before given after = GivesKnown (Some before) (Some after) given
+
+by_two_reads : HasGiven known_reads (codes "abc") (codes "abc") []
+by_two_reads = gave {given = codes "ab"} {bytes = codes "c"} {mid = codes "c"}
+    (gave {given = []} {bytes = codes "ab"} {mid = codes "abc"} nothing_given (refl, λ none. cc) (omega arith)) (refl, λ none. refl) (omega arith)
+
+-- within a limit of two bytes the second read is one too many
+one_too_many : IsReadBy known_reads (codes "abc") 2 (Err fetch.TooLong) 3 []
+one_too_many = (
+  codes "ab",
+  codes "c",
+  codes "c",
+  gave {given = []} {bytes = codes "ab"} {mid = codes "abc"} nothing_given (refl, λ none. cc) (omega arith),
+  omega arith,
+  (refl, λ none. refl),
+  omega arith,
+  refl,
+)
+
+-- a fetch of a name that opens nothing, and of one that opens an empty file whose first read fails
+abbrev known_opens : List HeldFile → List ℕ → Option (List ℕ) → List HeldFile → Type 0
+known_opens before name opened after = (opened ≡ bytes_of before name) × (after ≡ before)
+
+unopened : IsFetchedBy known_opens known_reads two_files.files (codes "z") 9 (Err fetch.Failed) 0 two_files.files
+unopened = inl ((refl, refl), refl, refl)
+
+failed_at_once : IsFetchedBy known_opens known_reads two_files.files (codes "line") 9 (Err fetch.Failed) 0 two_files.files
+failed_at_once = inr ([], [], (refl, refl), ([], [], nothing_given, omega arith, refl, refl))

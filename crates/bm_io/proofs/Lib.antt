@@ -2,4 +2,5 @@ pub mod CountLaws
 pub mod HeldFilesLaws
 pub mod StreamLaws
 pub mod PutsLaws
+pub mod CallsLaws
 mod Examples

@@ -58,6 +58,8 @@ puts_refused sink old mid new answer error first bytes rest all is joined before
   failed = rw (← faults) refused.failed;
   wanting = rw (← wants) refused.wanting;
   uncounted = tt;
+  no_fault = rw (← faults) refused.no_fault;
+  no_want = rw (← wants) refused.no_want;
   faults_stay = rw (← faults) refused.faults_stay;
   wants_stay = rw (← wants) refused.wants_stay;
 }

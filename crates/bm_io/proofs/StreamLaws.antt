@@ -1,7 +1,7 @@
 -- Known bytes that grow piece by piece.
 use Rattle.std.proofs.Common.{◌≡◌, ℕ, ◌+◌, ◌-◌, ◌/◌, ◌≤◌, List, ◌++◌, length, take, drop, Option, Some, None, refl, sym, ◌∙◌, ap, arith, length-drop, append_assoc, append-nil, take_all, take-add, drop-drop, Result, Ok, Err}
 use Rattle.std.specs.Prelude.{OnErr, IsErrOf}
-use Rattle.std.specs.Io.KnownBytes.{Appends}
+use Rattle.std.specs.Io.KnownBytes.{Appends, Consumes}
 use Rattle.bm_io.specs.Told.{AppendsFront}
 use Rattle.bm_io.specs.declared.writing.Put.{Put}
 use Rattle.bm_io.specs.declared.writing.Put.TheVariants as put
@@ -15,6 +15,15 @@ appends_twice (Some xs) (Some ys) None first second a b = absurd b
 appends_twice (Some xs) (Some ys) (Some zs) first second a b =
     b ∙ ap (λ t. t ++ second) a ∙ append_assoc xs first second
 
+-- two reads that follow one another
+pub consumes_twice : (old mid new : Option (List ℕ)) (first second : List ℕ)
+    → Consumes old mid first → Consumes mid new second → Consumes old new (first ++ second)
+consumes_twice None mid new first second a b = tt
+consumes_twice (Some xs) None new first second a b = absurd a
+consumes_twice (Some xs) (Some ys) None first second a b = absurd b
+consumes_twice (Some xs) (Some ys) (Some zs) first second a b =
+    a ∙ ap (λ t. first ++ t) b ∙ sym (append_assoc first second zs)
+
 -- what is left once k more bytes are gone, as a slice of the rest has it
 abbrev pub left_of : List ℕ → ℕ → List ℕ
 left_of rest k = take (length rest - k) (drop k rest)
@@ -23,7 +32,7 @@ left_is : (rest : List ℕ) (k : ℕ) → left_of rest k ≡ drop k rest
 left_is rest k = take_all (length rest - k) (drop k rest) (rw (length-drop k rest) (omega arith))
 
 -- how much of the piece is gone
-gone_more : (piece rest : List ℕ) (k : ℕ) → rest ≡ drop (length piece - length rest) piece → k ≤ length rest
+pub gone_more : (piece rest : List ℕ) (k : ℕ) → rest ≡ drop (length piece - length rest) piece → k ≤ length rest
     → length piece - length (left_of rest k) ≡ (length piece - length rest) + k
 gone_more piece rest k left small =
     let all : length rest ≡ length piece - (length piece - length rest) =

@@ -1,12 +1,14 @@
--- What contracts see of the adapters of the operating system: their counters.
-use Rattle.std.specs.Prelude.{ℕ, List, Option}
+-- What contracts see of the adapters of the operating system: what they adapt, and their counters.
+use Rattle.std.specs.Prelude.{ℕ}
 
--- how many fetches failed, whatever the name, and how many bytes were read
-pub record ReadCounters : Type 0 where
+-- the files, how many fetches failed, whatever the name, how many bytes were read, and how many fetches lacked memory
+pub record ReadState (D : Type 0) : Type 0 where
+  pub files : D
   pub faults : ℕ
   pub taken : ℕ
+  pub wants : ℕ
 
--- what the stream holds, where it tells that, and how many puts failed
-pub record StreamState : Type 0 where
-  pub written : Option (List ℕ)
+-- the stream, and how many puts failed
+pub record StreamState (W : Type 0) : Type 0 where
+  pub stream : W
   pub faults : ℕ

@@ -4,3 +4,5 @@ pub mod HeldFiles
 pub mod HeldOutput
 pub mod Counters
 pub mod Puts
+pub mod Known
+pub mod Calls

@@ -6,7 +6,7 @@ ghost use Rattle.std.specs.Prelude.{◌≡◌, ℕ, ◌+◌, ◌-◌, ◌^◌, �
 ghost use Rattle.std.specs.Option.{option_copied};
 ghost use Rattle.bm_io.specs.Counts.{counted, Rose, RoseByMoreThan};
 ghost use Rattle.bm_io.specs.Told.{IsToldAs, IsToldLonger};
-ghost use Rattle.bm_io.specs.HeldFiles.{held_files, bytes_of, HaveOwnNames, IsRefused, IsLonger, is_named, failures, bytes_taken};
+ghost use Rattle.bm_io.specs.HeldFiles.{held_files, bytes_of, HaveOwnNames, IsRefused, IsLonger, is_named, failures, bytes_taken, wants_of_memory};
 
 use crate::reading::{Fetch, Files};
 use std::alloc::Global;
@@ -27,6 +27,7 @@ pub struct MemFiles {
     calls: u64,
     faults: u64,
     taken: u64,
+    wants: u64,
 }
 
 impl Model for MemFiles {
@@ -41,9 +42,10 @@ impl Model for MemFiles {
       calls = s.calls;
       faults = s.faults;
       taken = s.taken;
+      wants = s.wants;
     } };
 
-    ghost invariant = { λ s. (s.calls < 2 ^ 64) × (s.faults < 2 ^ 64) × (s.taken < 2 ^ 64) };
+    ghost invariant = { λ s. (s.calls < 2 ^ 64) × (s.faults < 2 ^ 64) × (s.taken < 2 ^ 64) × (s.wants < 2 ^ 64) };
 }
 
 impl MemFiles {
@@ -55,6 +57,7 @@ impl MemFiles {
         ensures calls { result.calls ≡ 0 }
         ensures faults { result.faults ≡ 0 }
         ensures taken { result.taken ≡ 0 }
+        ensures wants { result.wants ≡ 0 }
     {
         MemFiles {
             files,
@@ -62,6 +65,7 @@ impl MemFiles {
             calls: 0,
             faults: 0,
             taken: 0,
+            wants: 0,
         }
     }
 }
@@ -72,6 +76,8 @@ impl Files for MemFiles {
     ghost faults = { λ s name. s.faults };
 
     ghost taken = { λ s. s.taken };
+
+    ghost wants = { λ s. s.wants };
 
     /// `Failed` comes exactly where the number of the call is one that is to fail or the name isn't
     /// held, and `TooLong` exactly where it isn't that and the file has more than `limit` bytes.
@@ -89,9 +95,11 @@ impl Files for MemFiles {
         ensures faults { self.new.faults ≡ counted self.old.faults (failures result) }
         ensures taken { self.new.taken
             ≡ counted self.old.taken (bytes_taken result (bytes_of self.old.files name.now)) }
+        ensures wants { self.new.wants ≡ counted self.old.wants (wants_of_memory result) }
         ensures uncounted { OnOk result (self.new.faults ≡ self.old.faults) }
         ensures faults_stay { self.old.faults ≤ self.new.faults }
         ensures taken_stays { self.old.taken ≤ self.new.taken }
+        ensures wants_stay { self.old.wants ≤ self.new.wants }
     {
         self.calls = self.calls.saturating_add(1);
         let held = bytes_named(&self.files, name);
@@ -110,6 +118,7 @@ impl Files for MemFiles {
         }
         let mut copy = Vec::new(alloc);
         if copy.extend_from_slice(bytes).is_err() {
+            self.wants = self.wants.saturating_add(1);
             return Err(Fetch::Memory);
         }
         self.taken = self.taken.saturating_add(length);
@@ -157,7 +166,10 @@ mod tests {
                 "{name} up to {limit}"
             );
         }
-        assert_eq!(rt; (files.calls, files.faults, files.taken), (4, 2, 6));
+        assert_eq!(rt;
+            (files.calls, files.faults, files.taken, files.wants),
+            (4, 2, 6, 0)
+        );
         let answer = files.fetch(alloc, "zp", 3).expect(&rt, "the file");
         assert_eq!(rt; answer.as_slice(), b"\x01\x02\x03".as_slice());
         Ok(())

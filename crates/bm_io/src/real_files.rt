@@ -1,80 +1,83 @@
-//! The files of the operating system: the trusted edge on the side of reading.
+//! The files of the operating system.
 //!
-//! No contract can say what a real file holds, so opening is a few lines, and the loop that reads is proved for
-//! every reader: for one that tells its bytes it is exact.
+//! A read gives a part of a file, so a fetch is an opening and a loop over reads. It is generic over the files and is
+//! proved to be exactly those calls: it fails where one of them did, and nowhere else.
 ghost use Rattle.std.specs.Prelude.{◌≡◌, ℕ, ◌^◌, ◌<◌, ◌≤◌, length, None, IfSome, OnOk, IfOk, IsErrOf};
 ghost use Rattle.bm_io.specs.Counts.{counted, Rose, RoseByMoreThan};
 ghost use Rattle.bm_io.specs.Told.{IsToldAs};
-ghost use Rattle.bm_io.specs.HeldFiles.{failures};
+ghost use Rattle.bm_io.specs.HeldFiles.{failures, wants_of_memory};
+ghost use Rattle.bm_io.specs.Calls.{IsReadBy, IsFetchedBy};
 
+use crate::raw::{RawFiles, RawReader};
 use crate::reading::{Fetch, Files};
+use crate::system::SystemFiles;
 use std::alloc::Global;
-use std::io::Read;
 use std::marker::Model;
-use std::{fs, rt};
+use std::rt;
 
 /// The files of the operating system. They tell no content; one counter of faults serves all names,
-/// and what is taken is what each read gave. Once a file is open, each byte that its reader gives up
-/// to the end is answered, whichever reader it is.
+/// and what is taken is what each read gave.
 #[derive(Drop)]
-pub struct RealFiles<'a, R: rt::Files> {
-    runtime: &'a R,
+pub struct RealFiles<D: RawFiles + Drop> {
+    files: D,
     faults: u64,
     taken: u64,
+    wants: u64,
 }
 
-impl<'a, R: rt::Files> Model for RealFiles<'a, R> {
+impl<D: RawFiles + Drop> Model for RealFiles<D> {
     ghost use Rattle.std.specs.Prelude.{◌^◌, ◌<◌};
-    ghost use Rattle.bm_io.specs.Counters.{ReadCounters};
+    ghost use Rattle.bm_io.specs.Counters.{ReadState};
 
-    ghost Value = { ReadCounters };
+    ghost Value = { ReadState D };
 
-    ghost view = { λ s. record { faults = s.faults; taken = s.taken } };
+    ghost view = { λ s. record { files = s.files; faults = s.faults; taken = s.taken; wants = s.wants } };
 
-    ghost invariant = { λ s. (s.faults < 2 ^ 64) × (s.taken < 2 ^ 64) };
+    ghost invariant = { λ s. (s.faults < 2 ^ 64) × (s.taken < 2 ^ 64) × (s.wants < 2 ^ 64) };
 }
 
-impl<'a, R: rt::Files> RealFiles<'a, R> {
+impl<'a, R: rt::Files> RealFiles<SystemFiles<'a, R>> {
     /// The files that the runtime opens, with the counters at 0.
-    pub fn new(runtime: &'a R) -> RealFiles<'a, R>
+    pub fn new(runtime: &'a R) -> RealFiles<SystemFiles<'a, R>>
         ensures faults { result.faults ≡ 0 }
         ensures taken { result.taken ≡ 0 }
+        ensures wants { result.wants ≡ 0 }
     {
         RealFiles {
-            runtime,
+            files: SystemFiles { runtime },
             faults: 0,
             taken: 0,
+            wants: 0,
         }
     }
+}
 
-    /// The bytes of the reader up to its end, at most `limit` of them. What each read gives counts as
+impl<D: RawFiles + Drop> RealFiles<D> {
+    /// The bytes of the file up to its end, at most `limit` of them. What each read gives counts as
     /// taken, and a read that fails as a fault.
-    fn read_whole<F: Read>(
+    fn read_whole<F: RawReader>(
         &mut self,
         file: &mut F,
         alloc: Global,
         limit: u64,
     ) -> Result<Vec<u8>, Fetch>
+        ensures calls { (taken : ℕ) × IsReadBy F.reads file.old limit result taken file.new
+            × (self.new.taken ≡ counted self.old.taken taken) }
         ensures bounded { IfOk result (λ bytes. length bytes.items ≤ limit) }
         ensures whole { IfOk result (λ bytes. IfSome (F.remaining file.old) (λ all. bytes.items ≡ all)) }
-        ensures given { IfOk result (λ bytes.
-            self.new.taken ≡ counted self.old.taken (length bytes.items)) }
         ensures faults { self.new.faults ≡ counted self.old.faults (failures result) }
-        ensures failed { IsErrOf result Fetch.Failed → Rose self.old.faults self.new.faults }
+        ensures wants { self.new.wants ≡ counted self.old.wants (wants_of_memory result) }
         ensures too_long { IsErrOf result Fetch.TooLong
             → RoseByMoreThan limit self.old.taken self.new.taken }
         ensures longer { IsErrOf result Fetch.TooLong
             → IfSome (F.remaining file.old) (λ all. limit < length all) }
-        ensures uncounted { OnOk result (self.new.faults ≡ self.old.faults) }
-        ensures faults_stay { self.old.faults ≤ self.new.faults }
-        ensures faults_fit { self.new.faults < 2 ^ 64 }
+        ensures files { self.new.files ≡ self.old.files }
         ensures taken_stays { self.old.taken ≤ self.new.taken }
-        ensures taken_fits { self.new.taken < 2 ^ 64 }
     {
         let mut bytes = Vec::new(alloc);
         let mut buffer = [0u8; 4096];
         loop {
-            let Ok(count) = file.read(&mut buffer) else {
+            let Some(count) = file.read(&mut buffer) else {
                 self.faults = self.faults.saturating_add(1);
                 return Err(Fetch::Failed);
             };
@@ -86,27 +89,32 @@ impl<'a, R: rt::Files> RealFiles<'a, R> {
                 return Err(Fetch::TooLong);
             }
             if bytes.extend_from_slice(&buffer[..count]).is_err() {
+                self.wants = self.wants.saturating_add(1);
                 return Err(Fetch::Memory);
             }
         }
     }
 }
 
-impl<'a, R: rt::Files> Files for RealFiles<'a, R> {
+impl<D: RawFiles + Drop> Files for RealFiles<D> {
     ghost holds = { λ s. None };
 
     ghost faults = { λ s name. s.faults };
 
     ghost taken = { λ s. s.taken };
 
-    /// One fault is counted where the answer is `Failed`, and none else; the bytes that are answered were
-    /// counted as taken, all of them.
+    ghost wants = { λ s. s.wants };
+
+    /// Opens the file and reads it. `Failed` comes exactly where it couldn't be opened or a read failed; that
+    /// is one fault, and none else is counted. What the reads gave was counted as taken.
     fn fetch(&mut self, alloc: Global, name: &str, limit: u64) -> Result<Vec<u8>, Fetch>
+        ensures calls { (taken : ℕ)
+            × IsFetchedBy D.opens D.File.reads self.old.files name.now limit result taken self.new.files
+            × (self.new.taken ≡ counted self.old.taken taken) }
         ensures bounded { IfOk result (λ bytes. length bytes.items ≤ limit) }
         ensures told { IfOk result (λ bytes. IsToldAs None name.now bytes.items) }
-        ensures given { IfOk result (λ bytes.
-            self.new.taken ≡ counted self.old.taken (length bytes.items)) }
         ensures faults { self.new.faults ≡ counted self.old.faults (failures result) }
+        ensures wants { self.new.wants ≡ counted self.old.wants (wants_of_memory result) }
         ensures failed { IsErrOf result Fetch.Failed → Rose self.old.faults self.new.faults }
         ensures too_long { IsErrOf result Fetch.TooLong
             → RoseByMoreThan limit self.old.taken self.new.taken }
@@ -115,8 +123,10 @@ impl<'a, R: rt::Files> Files for RealFiles<'a, R> {
         ensures faults_fit { self.new.faults < 2 ^ 64 }
         ensures taken_stays { self.old.taken ≤ self.new.taken }
         ensures taken_fits { self.new.taken < 2 ^ 64 }
+        ensures wants_stay { self.old.wants ≤ self.new.wants }
+        ensures wants_fit { self.new.wants < 2 ^ 64 }
     {
-        let Ok(mut file) = fs::open(self.runtime, name) else {
+        let Some(mut file) = self.files.open(name) else {
             self.faults = self.faults.saturating_add(1);
             return Err(Fetch::Failed);
         };
@@ -127,8 +137,10 @@ impl<'a, R: rt::Files> Files for RealFiles<'a, R> {
 #[cfg(test)]
 mod tests {
     use super::*;
+    use crate::system::SystemStream;
+    use std::io::Read;
     use std::test::Fail;
-    use std::{io, process};
+    use std::{fs, io, process};
 
     /// A reader of so many bytes, up to three a call, whose call of that number fails.
     #[derive(Drop)]
@@ -163,11 +175,12 @@ mod tests {
         ];
         for (left, failing, limit, want) in cases {
             let mut files = RealFiles::new(&rt);
-            let mut reader = Slow {
+            let slow = Slow {
                 left,
                 calls: 0,
                 failing,
             };
+            let mut reader = SystemStream { inner: slow };
             let answer = files.read_whole(&mut reader, rt.alloc(), limit);
             assert_eq!(rt;
                 answer.map(|bytes| bytes.len()),

@@ -1,57 +1,67 @@
-//! An output over a stream of the operating system: the trusted edge on the side of writing.
+//! An output over a stream of the operating system.
 //!
-//! No contract can say what a real stream keeps, so this loop is short, and it is proved for every writer:
-//! for one that tells its bytes it is exact.
+//! A write may take a part of what it is offered, so a put is a loop over writes. It is generic over the stream
+//! and is proved to be exactly those writes: it fails where the stream did, and nowhere else.
 ghost use Rattle.std.specs.Prelude.{◌≡◌, ℕ, ◌^◌, ◌<◌, ◌≤◌, OnOk, OnErr, IsErrOf};
 ghost use Rattle.std.specs.Io.KnownBytes.{Appends};
 ghost use Rattle.bm_io.specs.Counts.{counted, Rose};
 ghost use Rattle.bm_io.specs.HeldOutput.{failures};
 ghost use Rattle.bm_io.specs.Told.{AppendsFront};
+ghost use Rattle.bm_io.specs.Calls.{IsPutBy};
 
+use crate::raw::RawWriter;
+use crate::system::SystemStream;
 use crate::writing::{Put, Sink};
 use std::io::Write;
 use std::marker::Model;
 
-/// A stream of the operating system, as its standard output. It tells what the writer tells, which
-/// is nothing where that is a real stream, and never answers want of memory.
+/// A stream of the operating system, as its standard output. It tells what the stream tells, which
+/// is nothing where that is a real one, and never answers want of memory.
 #[derive(Drop)]
-pub struct StdSink<W: Write + Drop> {
-    writer: W,
+pub struct StdSink<W: RawWriter + Drop> {
+    stream: W,
     faults: u64,
 }
 
-impl<W: Write + Drop> Model for StdSink<W> {
+impl<W: RawWriter + Drop> Model for StdSink<W> {
     ghost use Rattle.std.specs.Prelude.{◌^◌, ◌<◌};
     ghost use Rattle.bm_io.specs.Counters.{StreamState};
 
-    ghost Value = { StreamState };
+    ghost Value = { StreamState W };
 
-    ghost view = { λ s. record { written = W.contents s.writer; faults = s.faults } };
+    ghost view = { λ s. record { stream = s.stream; faults = s.faults } };
 
     ghost invariant = { λ s. s.faults < 2 ^ 64 };
 }
 
-impl<W: Write + Drop> StdSink<W> {
+impl<W: Write + Drop> StdSink<SystemStream<W>> {
     /// The stream, with the counter at 0.
-    pub fn new(writer: W) -> StdSink<W>
-        ensures written { result.written ≡ W.contents writer }
+    pub fn new(writer: W) -> StdSink<SystemStream<W>>
+        ensures stream { result.stream.inner ≡ writer }
         ensures faults { result.faults ≡ 0 }
     {
-        StdSink { writer, faults: 0 }
+        StdSink {
+            stream: SystemStream { inner: writer },
+            faults: 0,
+        }
     }
 }
 
-impl<W: Write + Drop> Sink for StdSink<W> {
-    ghost written = { λ s. s.written };
+impl<W: RawWriter + Drop> Sink for StdSink<W> {
+    ghost written = { λ s. W.contents s.stream };
 
     ghost faults = { λ s. s.faults };
 
     ghost wants = { λ s. 0 };
 
-    /// One fault is counted where the answer is `Failed`, and none else; want of memory never comes.
+    /// Writes what is left of the piece until nothing is. `Failed` comes exactly where a write failed or took
+    /// nothing; that is one fault, and none else is counted. Want of memory never comes.
     fn put(&mut self, piece: &[u8]) -> Result<(), Put>
-        ensures whole { OnOk result (Appends self.old.written self.new.written piece.now) }
-        ensures front { OnErr result (AppendsFront self.old.written self.new.written piece.now) }
+        ensures calls { IsPutBy W.writes self.old.stream piece.now result self.new.stream }
+        ensures whole { OnOk result
+            (Appends (W.contents self.old.stream) (W.contents self.new.stream) piece.now) }
+        ensures front { OnErr result
+            (AppendsFront (W.contents self.old.stream) (W.contents self.new.stream) piece.now) }
         ensures faults { self.new.faults ≡ counted self.old.faults (failures result) }
         ensures failed { IsErrOf result Put.Failed → Rose self.old.faults self.new.faults }
         ensures never { ¬ IsErrOf result Put.Memory }
@@ -61,8 +71,8 @@ impl<W: Write + Drop> Sink for StdSink<W> {
     {
         let mut rest = piece;
         while !rest.is_empty() {
-            match self.writer.write(rest) {
-                Ok(count) if count > 0 => rest = &rest[count..],
+            match self.stream.write(rest) {
+                Some(count) if count > 0 => rest = &rest[count..],
                 _ => {
                     self.faults = self.faults.saturating_add(1);
                     return Err(Put::Failed);

@@ -2,7 +2,7 @@
 //!
 //! One trait serves the report and the error line alike. It is apart from what implements it for the same
 //! reason as `Files`: the layers above know this contract alone.
-ghost use Rattle.std.specs.Prelude.{◌≡◌, ℕ, ◌^◌, ◌<◌, ◌≤◌, List, Option, OnOk, OnErr, IsErrOf};
+ghost use Rattle.std.specs.Prelude.{◌≡◌, ℕ, ◌^◌, ◌<◌, ◌≤◌, List, Option, OnOk, OnErr, IsErrOf, ◌⊎◌};
 ghost use Rattle.std.specs.Io.KnownBytes.{Appends};
 ghost use Rattle.bm_io.specs.Counts.{Rose};
 ghost use Rattle.bm_io.specs.Told.{AppendsFront};
@@ -36,8 +36,12 @@ pub trait Sink {
         ensures failed { IsErrOf result Put.Failed → Rose (faults self.old) (faults self.new) }
         ensures wanting { IsErrOf result Put.Memory → Rose (wants self.old) (wants self.new) }
 
-        // After `Ok` no count moved. None falls or passes its last value.
+        // A fault is counted only at `Failed`, a want only at `Memory`, so neither after `Ok`.
         ensures uncounted { OnOk result ((faults self.new ≡ faults self.old) × (wants self.new ≡ wants self.old)) }
+        ensures no_fault { IsErrOf result Put.Failed ⊎ (faults self.new ≡ faults self.old) }
+        ensures no_want { IsErrOf result Put.Memory ⊎ (wants self.new ≡ wants self.old) }
+
+        // No count falls or passes its last value.
         ensures faults_stay { faults self.old ≤ faults self.new }
         ensures faults_fit { faults self.new < 2 ^ 64 }
         ensures wants_stay { wants self.old ≤ wants self.new }

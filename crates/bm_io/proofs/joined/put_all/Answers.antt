@@ -12,7 +12,7 @@ returns-in_err-put_some-clause-puts g c =
     let p = err_from_is_err_and c.from_residual.result c.from_residual.ensures.1 in
     let item = c.piece-item in
     let bytes : c.as_slice.result.now ≡ g.P.AsSlice.items (get_or c.args.pieces.now l.piece-index item.result) = c.as_slice.ensures ∙ ap g.P.AsSlice.items item.is in
-    puts_refused g.S.Sink _ l.out _ _ c.in_err-put_some.field-0.0 _ (g.P.AsSlice.items (get_or c.args.pieces.now l.piece-index item.result)) _ _ (p.1 ∙ ap (λ (e : Put). Err e) p.2)
+    puts_refused g.S.Sink _ l.out c.put_some.new.out _ c.in_err-put_some.field-0.0 _ (g.P.AsSlice.items (get_or c.args.pieces.now l.piece-index item.result)) _ _ (p.1 ∙ ap (λ (e : Put). Err e) p.2)
     (joined_at g.P.AsSlice.items c.args.pieces.now l.piece-index item.result c.loop-piece-test.true)
     l.invariant.written l.invariant.faults l.invariant.wants (rw (← bytes) c.in_err-put_some.ensures.puts)
 

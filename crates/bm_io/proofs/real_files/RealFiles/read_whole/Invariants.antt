@@ -1,17 +1,21 @@
--- The bytes so far are what the reader gave, within the limit, and each of them was counted.
+-- The bytes so far are what the file gave, within the limit, and each of them was counted.
 use Rattle.std.proofs.Common.{◌≡◌, ◌-◌, ◌^◌, ◌<◌, ◌≤◌, vec_len, vec_items}
 use Rattle.std.specs.Io.KnownBytes.{Consumes}
 use Rattle.bm_io.specs.Counts.{counted}
+use Rattle.bm_io.specs.Calls.{HasGiven}
 use Rattle.bm_io.proofs.real_files.RealFiles.read_whole.Given as goal
 
 abbrev pub invariant-loop-count : goal.invariant-loop-count
 invariant-loop-count g l = record {
+  given : HasGiven g.F.RawReader.reads l.initial.file (vec_items l.bytes) l.file;
+  known : Consumes (g.F.RawReader.remaining l.initial.file) (g.F.RawReader.remaining l.file) (vec_items l.bytes);
   within : vec_len l.bytes ≤ l.limit;
-  given : Consumes (g.F.Read.remaining l.initial.file) (g.F.Read.remaining l.file) (vec_items l.bytes);
   taken : l.self-inside.taken ≡ counted l.fn.self.taken (vec_len l.bytes);
   taken_fits : l.self-inside.taken < 2 ^ 64;
   taken_stays : l.fn.self.taken ≤ l.self-inside.taken;
   faults : l.self-inside.faults ≡ l.fn.self.faults;
+  wants : l.self-inside.wants ≡ l.fn.self.wants;
+  files : l.self-inside.files ≡ l.fn.self.files;
 }
 
 abbrev pub decreases-loop-count : goal.decreases-loop-count

@@ -1,11 +1,13 @@
--- What the writer took so far is the front of the piece, and `rest` is what is left of it.
+-- The stream took the front of the piece, and `rest` is what is left of it.
 use Rattle.std.proofs.Common.{◌≡◌, ◌-◌, length, take, drop}
 use Rattle.std.specs.Io.KnownBytes.{Appends}
+use Rattle.bm_io.specs.Calls.{HasTaken}
 use Rattle.bm_io.proofs.std_sink.StdSinkSink.put.Given as goal
 
 abbrev pub invariant-loop-rest : goal.invariant-loop-rest
 invariant-loop-rest g l = record {
-  front : Appends l.fn.self.written (g.W.Write.contents l.self-inside.writer) (take (length l.piece - length l.rest) l.piece);
+  taken : HasTaken g.W.RawWriter.writes l.piece l.fn.self.stream (length l.piece - length l.rest) l.self-inside.stream;
+  front : Appends (g.W.RawWriter.contents l.fn.self.stream) (g.W.RawWriter.contents l.self-inside.stream) (take (length l.piece - length l.rest) l.piece);
   left : l.rest ≡ drop (length l.piece - length l.rest) l.piece;
   faults : l.self-inside.faults ≡ l.fn.self.faults;
 }

@@ -1,0 +1,50 @@
+-- What a put and a fetch are, in the calls of the operating system that they make. `writes`, `reads` and `opens` are one
+-- call each, as `RawWriter`, `RawReader` and `RawFiles` tell it.
+use Rattle.std.specs.Prelude.{◌≡◌, ℕ, ◌+◌, ◌<◌, ◌≤◌, List, [], ◌++◌, length, drop, Option, Some, None, Result, Ok, Err, ◌⊎◌, Vec}
+use Rattle.std.specs.declared.alloc.Global.{Global}
+use Rattle.bm_io.specs.declared.reading.Fetch.{Fetch}
+use Rattle.bm_io.specs.declared.reading.Fetch.TheVariants as fetch
+use Rattle.bm_io.specs.declared.writing.Put.{Put}
+use Rattle.bm_io.specs.declared.writing.Put.TheVariants as put
+
+-- the stream took the first bytes of those, so many, by writes that were each offered all that was left, and took some of it
+pub data HasTaken {W : Type 0} (writes : W → List ℕ → Option ℕ → W → Type 0) (bytes : List ℕ) (before : W) : ℕ → W → Type 0 where
+  nothing_taken : HasTaken writes bytes before 0 before
+  took : {k n : ℕ} {mid after : W} → HasTaken writes bytes before k mid
+      → writes mid (drop k bytes) (Some n) after → 0 < n → HasTaken writes bytes before (k + n) after
+
+-- the file gave those bytes, by reads that each gave some
+pub data HasGiven {F : Type 0} (reads : F → Option (List ℕ) → F → Type 0) (before : F) : List ℕ → F → Type 0 where
+  nothing_given : HasGiven reads before [] before
+  gave : {given bytes : List ℕ} {mid after : F} → HasGiven reads before given mid
+      → reads mid (Some bytes) after → 0 < length bytes → HasGiven reads before (given ++ bytes) after
+
+-- the answer of a put: Ok once all was taken, Failed at the first write that failed or took nothing of what was left
+abbrev pub IsPutBy : {W : Type 0} → (W → List ℕ → Option ℕ → W → Type 0) → W → List ℕ → Result (Unit {0}) Put → W → Type 0
+IsPutBy writes before bytes (Ok done) after = HasTaken writes bytes before (length bytes) after
+IsPutBy {W} writes before bytes (Err put.Failed) after =
+    (k : ℕ) × (mid : W) × (k < length bytes) × HasTaken writes bytes before k mid
+    × (writes mid (drop k bytes) None after ⊎ writes mid (drop k bytes) (Some 0) after)
+IsPutBy writes before bytes (Err put.Memory) after = ⊥
+
+-- the answer of a read up to a limit, and how many bytes it took: Ok at a read that gives none, Failed at the first that
+-- fails, TooLong at the first that passes the limit. Want of memory comes behind a read
+abbrev pub IsReadBy : {F : Type 0} → (F → Option (List ℕ) → F → Type 0) → F → ℕ → Result (Vec ℕ Global) Fetch → ℕ → F → Type 0
+IsReadBy {F} reads before limit (Ok bytes) taken after =
+    (end : F) × HasGiven reads before bytes.items end × (length bytes.items ≤ limit) × reads end (Some []) after
+    × (taken ≡ length bytes.items)
+IsReadBy {F} reads before limit (Err fetch.Failed) taken after =
+    (given : List ℕ) × (mid : F) × HasGiven reads before given mid × (length given ≤ limit) × reads mid None after
+    × (taken ≡ length given)
+IsReadBy {F} reads before limit (Err fetch.TooLong) taken after =
+    (given : List ℕ) × (last : List ℕ) × (mid : F) × HasGiven reads before given mid × (length given ≤ limit)
+    × reads mid (Some last) after × (limit < length given + length last) × (taken ≡ length given + length last)
+IsReadBy reads before limit (Err fetch.Memory) taken after =
+    (given : List ℕ) × HasGiven reads before given after × (0 < length given) × (length given ≤ limit) × (taken ≡ length given)
+
+-- the answer of a fetch, and how many bytes it took: the file of the name was opened and read, or couldn't be opened
+abbrev pub IsFetchedBy : {D F : Type 0} → (D → List ℕ → Option F → D → Type 0) → (F → Option (List ℕ) → F → Type 0)
+    → D → List ℕ → ℕ → Result (Vec ℕ Global) Fetch → ℕ → D → Type 0
+IsFetchedBy {D} {F} opens reads before name limit answer taken after =
+    (opens before name None after × (answer ≡ Err fetch.Failed) × (taken ≡ 0))
+    ⊎ ((file : F) × (end : F) × opens before name (Some file) after × IsReadBy reads file limit answer taken end)

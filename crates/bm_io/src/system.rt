@@ -1,0 +1,57 @@
+//! The operating system: its three calls, each passed on by one line.
+//!
+//! This is the trusted edge. Nothing here counts, loops or decides; that these lines reach the file and the
+//! stream that they were handed, no contract can say.
+ghost use Rattle.bm_io.specs.Known.{TakesKnown, GivesKnown};
+
+use crate::raw::{RawFiles, RawReader, RawWriter};
+use std::io::{Read, Write};
+use std::{fs, rt};
+
+/// A stream or an open file of the system.
+#[derive(Drop)]
+pub struct SystemStream<T: Drop> {
+    pub inner: T,
+}
+
+impl<W: Write + Drop> RawWriter for SystemStream<W> {
+    ghost contents = { λ s. W.contents s.inner };
+
+    // All that is known of a write.
+    ghost writes = { λ before bytes taken after.
+        TakesKnown (W.contents before.inner) (W.contents after.inner) bytes taken };
+
+    fn write(&mut self, bytes: &[u8]) -> Option<usize> {
+        self.inner.write(bytes).ok()
+    }
+}
+
+impl<F: Read + Drop> RawReader for SystemStream<F> {
+    ghost remaining = { λ s. F.remaining s.inner };
+
+    // All that is known of a read.
+    ghost reads = { λ before given after.
+        GivesKnown (F.remaining before.inner) (F.remaining after.inner) given };
+
+    fn read(&mut self, buffer: &mut [u8]) -> Option<usize> {
+        self.inner.read(buffer).ok()
+    }
+}
+
+/// The files that the runtime opens.
+#[derive(Drop)]
+pub struct SystemFiles<'a, R: rt::Files> {
+    pub runtime: &'a R,
+}
+
+impl<'a, R: rt::Files> RawFiles for SystemFiles<'a, R> {
+    type File = SystemStream<R::File>;
+
+    // Of what a name opens nothing is known.
+    ghost opens = { λ before name opened after. Unit {0} };
+
+    fn open(&mut self, name: &str) -> Option<SystemStream<R::File>> {
+        let inner = fs::open(self.runtime, name).ok()?;
+        Some(SystemStream { inner })
+    }
+}
