@@ -5,8 +5,8 @@ usage: bench/map.py [ROUNDS] [PROGRAM..]
 
 Each shape is a table of 3,200 entries (of 800 for the first column), of which the first 128 stand in
 the zero page and the others in the extension, with a command line. In each round every program runs
-once over every shape; of each the least time counts, and the least time of the same program over two
-entries is taken off. What is left is the map's own work, with the reading of its bytes and the
+once over every shape, in no fixed order; of each the least time counts, and the least time of the same
+program over two entries is taken off. What is left is the map's own work, with the reading of its bytes and the
 printing of its lines. Several programs are measured in the same rounds, so their figures compare.
 """
 import os
@@ -98,13 +98,14 @@ def one_run(program, words):
 
 
 def least_times(programs, inputs, rounds):
-    """The least time of each program on each input; all of them in turn in each round."""
-    least = {}
+    """The least time of each program on each input; all of them once in each round, in another order each time."""
+    order = [(program, name) for program in programs for name in inputs]
+    least = dict.fromkeys(order, float("inf"))
+    chance = random.Random(1)
     for _ in range(rounds):
-        for name, words in inputs.items():
-            for program in programs:
-                took = one_run(program, words)
-                least[program, name] = min(took, least.get((program, name), took))
+        chance.shuffle(order)
+        for program, name in order:
+            least[program, name] = min(least[program, name], one_run(program, inputs[name]))
     return least
 
 
