@@ -1,5 +1,5 @@
 -- The input files: their limits, and their places in the order of work.
-use Rattle.std.specs.Prelude.{ℕ}
+use Rattle.std.specs.Prelude.{ℕ, List, codes}
 use Rattle.boot_inputs.specs.declared.input.Input.{Input}
 use Rattle.boot_inputs.specs.declared.input.Input.TheVariants as inputs
 
@@ -14,3 +14,9 @@ abbrev pub place : Input → ℕ
 place inputs.ZeroPage = 0
 place inputs.Extension = 1
 place inputs.CommandLine = 2
+
+-- the word for an input in the line of its fault
+abbrev pub word_for : Input → List ℕ
+word_for inputs.ZeroPage = codes "zeropage"
+word_for inputs.Extension = codes "e820ext"
+word_for inputs.CommandLine = codes "cmdline"

@@ -1,6 +1,6 @@
 //! One step for every file: look up the name, fetch, read.
 
-ghost use Rattle.std.specs.Prelude.{◌≡◌, ℕ, ◌≤◌, List, Some, IfOk, IfSome, IsNone};
+ghost use Rattle.std.specs.Prelude.{◌≡◌, ℕ, ◌≤◌, List, Some, IfOk, IfSome, IsNone, OnOk};
 ghost use Rattle.boot_inputs.specs.Answers.{Gives, HasCause, IsCaused, IsOf};
 ghost use Rattle.boot_inputs.specs.Inputs.{file_step, or_faulty, step_if};
 
@@ -25,6 +25,7 @@ pub fn fetch_input<R: Reader, F: Files, N: Names>(
     ensures sound { IfOk result R.sound }
     ensures unfetched { IsNone (N.named names.now R.input) → files.new ≡ files.old }
     ensures kept { F.holds files.new ≡ F.holds files.old }
+    ensures uncounted { OnOk result ((any : List ℕ) → F.faults files.new any ≡ F.faults files.old any) }
     ensures faults_stay { (any : List ℕ) → F.faults files.old any ≤ F.faults files.new any }
 {
     match names.of(R::input()) {
@@ -45,6 +46,7 @@ fn fetch<R: Reader, F: Files>(
     ensures own { IsOf R.input result }
     ensures sound { IfOk result R.sound }
     ensures kept { F.holds files.new ≡ F.holds files.old }
+    ensures uncounted { OnOk result ((any : List ℕ) → F.faults files.new any ≡ F.faults files.old any) }
     ensures faults_stay { (any : List ℕ) → F.faults files.old any ≤ F.faults files.new any }
 {
     match files.fetch(alloc, name, R::input().limit()) {

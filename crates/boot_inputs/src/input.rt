@@ -1,7 +1,7 @@
 //! Which files there are, in the order in which they are read.
 
 ghost use Rattle.std.specs.Prelude.{◌≡◌};
-ghost use Rattle.boot_inputs.specs.Input.{limit_of};
+ghost use Rattle.boot_inputs.specs.Input.{limit_of, word_for};
 
 /// An input file, in the order in which they are read.
 #[derive(Clone, Copy, Debug, PartialEq, Eq)]
@@ -24,6 +24,17 @@ impl Input {
             Input::ZeroPage => 4096,
             Input::Extension => 61_456,
             Input::CommandLine => 4096,
+        }
+    }
+
+    /// The word for it in the line of its fault.
+    pub fn word(self) -> &'static str
+        ensures { result.now ≡ word_for self }
+    {
+        match self {
+            Input::ZeroPage => "zeropage",
+            Input::Extension => "e820ext",
+            Input::CommandLine => "cmdline",
         }
     }
 }

@@ -1,6 +1,6 @@
 //! All files, in the order of work.
 
-ghost use Rattle.std.specs.Prelude.{IfOk, IfSome};
+ghost use Rattle.std.specs.Prelude.{◌≡◌, ℕ, List, IfOk, IfSome, OnOk};
 ghost use Rattle.e820_model.specs.Claims.{EndInSpace, HaveTypes};
 ghost use Rattle.boot_model.specs.View.{inputs_view};
 ghost use Rattle.boot_inputs.specs.Answers.{Gives, HasCause};
@@ -26,6 +26,7 @@ pub fn read_inputs<F: Files, N: Names>(
     ensures gives { IfSome (F.holds files.old) (λ held.
         Gives inputs_view result (inputs_of held (N.named names.now))) }
     ensures cause { HasCause (F.faults files.old) (F.faults files.new) (N.named names.now) result }
+    ensures uncounted { OnOk result ((any : List ℕ) → F.faults files.new any ≡ F.faults files.old any) }
     ensures entries_end { IfOk result (λ inputs. EndInSpace inputs.zero.entries.items) }
     ensures extension_ends { IfOk result (λ inputs. EndInSpace inputs.ext.items) }
     ensures types { IfOk result (λ inputs. HaveTypes inputs.options.edits.items) }

@@ -1,0 +1,195 @@
+-- What small files come to, computed, and how answers stand to that.
+use Rattle.std.proofs.Common.{◌≡◌, ℕ, ◌-◌, ◌<◌, true, false, if◌then◌else◌, List, [], ◌∷◌, ◌++◌, codes, Option, Some, None, Ok, Err, refl, arith}
+use Rattle.std.specs.Prelude.{Result, replicate}
+use Rattle.std.specs.Str.{bytes_eq}
+use Rattle.e820_model.specs.declared.entry.Entry.{Entry}
+use Rattle.e820_table.specs.declared.zero_page.ZeroFault.TheVariants as zero
+use Rattle.e820_table.specs.declared.extension.ExtFault.TheVariants as extension
+use Rattle.e820_table.specs.Entries.{entry_at}
+use Rattle.boot_options.specs.declared.fault.OptionFault.TheVariants as options
+use Rattle.boot_inputs.specs.declared.fault.Fault.TheVariants as faults
+use Rattle.boot_inputs.specs.declared.fault.Misread.TheVariants as misreads
+use Rattle.boot_inputs.specs.declared.input.Input.TheVariants as inputs
+use Rattle.boot_inputs.specs.declared.refusal.Refusal.{Refusal}
+use Rattle.boot_inputs.specs.declared.refusal.Refusal.TheVariants as refusals
+use Rattle.boot_inputs.specs.declared.refusal.InputError.TheVariants as errors
+use Rattle.boot_inputs.specs.Answers.{ComesTo, Fits, FitsRefusal, Gives, HasCause, IsCaused, IsOf, RefusalHasCause, RoseAt, input_of}
+use Rattle.boot_inputs.specs.Faults.{fault_of_extension, fault_of_option, fault_of_zero_page, misread_of}
+use Rattle.boot_inputs.specs.Input.{limit_of, place, word_for}
+use Rattle.boot_inputs.specs.Inputs.{Held, Named, file_step, inputs_of, or_faulty, or_unread, step_if, within}
+use Rattle.boot_inputs.specs.Said.{command_line_said, extension_said, fault_told, no_options, unless_fault, zero_page_said}
+
+-- a zero page of so many entries, of which these 40 bytes are the first two
+abbrev page : ℕ → List ℕ → List ℕ
+page count entries =
+    replicate 0x1E8 0 ++ (count ∷ replicate (0x2D0 - 0x1E9) 0) ++ entries ++ replicate (4096 - 0x2D0 - 40) 0
+
+-- a page of RAM at 4 KiB, and a reserved one behind it
+abbrev ram_and_reserved : List ℕ
+ram_and_reserved =
+    0 ∷ 0x10 ∷ 0 ∷ 0 ∷ 0 ∷ 0 ∷ 0 ∷ 0 ∷ 0 ∷ 0x10 ∷ 0 ∷ 0 ∷ 0 ∷ 0 ∷ 0 ∷ 0 ∷ 1 ∷ 0 ∷ 0 ∷ 0 ∷
+    0 ∷ 0x20 ∷ 0 ∷ 0 ∷ 0 ∷ 0 ∷ 0 ∷ 0 ∷ 0 ∷ 0x10 ∷ 0 ∷ 0 ∷ 0 ∷ 0 ∷ 0 ∷ 0 ∷ 2 ∷ 0 ∷ 0 ∷ 0 ∷ []
+
+abbrev ram : Entry
+ram = record { addr = 0x1000; size = 0x1000; kind = 1 }
+
+abbrev reserved : Entry
+reserved = record { addr = 0x2000; size = 0x1000; kind = 2 }
+
+-- an extension of one entry, ACPI data at 12 KiB
+abbrev one_entry : List ℕ
+one_entry =
+    0 ∷ 0 ∷ 0 ∷ 0 ∷ 0 ∷ 0 ∷ 0 ∷ 0 ∷ 1 ∷ 0 ∷ 0 ∷ 0 ∷ 20 ∷ 0 ∷ 0 ∷ 0 ∷
+    0 ∷ 0x30 ∷ 0 ∷ 0 ∷ 0 ∷ 0 ∷ 0 ∷ 0 ∷ 0 ∷ 0x10 ∷ 0 ∷ 0 ∷ 0 ∷ 0 ∷ 0 ∷ 0 ∷ 3 ∷ 0 ∷ 0 ∷ 0 ∷ []
+
+abbrev acpi : Entry
+acpi = record { addr = 0x3000; size = 0x1000; kind = 3 }
+
+-- the files: a zero page, one that is too short and one that is too long; an extension, and one without a header; a
+-- command line, and one with a fault
+abbrev held : Held
+held name =
+    if bytes_eq name (codes "zp") then Some (page 2 ram_and_reserved)
+    else (if bytes_eq name (codes "short") then Some (replicate 4095 0)
+    else (if bytes_eq name (codes "long") then Some (replicate 4097 0)
+    else (if bytes_eq name (codes "ext") then Some one_entry
+    else (if bytes_eq name (codes "bad") then Some (replicate 15 0)
+    else (if bytes_eq name (codes "cmd") then Some (codes "quiet numa=off\n")
+    else (if bytes_eq name (codes "on") then Some (codes "numa=on")
+    else None))))))
+
+abbrev naming : List ℕ → Option (List ℕ) → Option (List ℕ) → Named
+naming zero_page ext command_line inputs.ZeroPage = Some zero_page
+naming zero_page ext command_line inputs.Extension = ext
+naming zero_page ext command_line inputs.CommandLine = command_line
+
+-- what bytes say
+page_said : zero_page_said (page 2 ram_and_reserved) ≡ Ok (ram ∷ reserved ∷ [])
+unfolding entry_at
+page_said = refl
+
+short_page_said : zero_page_said (replicate 4095 0) ≡ Err faults.WrongLength
+short_page_said = refl
+
+extension_is_said : extension_said one_entry ≡ Ok (acpi ∷ [])
+unfolding entry_at
+extension_is_said = refl
+
+bad_extension_said : extension_said (replicate 15 0) ≡ Err faults.Header
+bad_extension_said = refl
+
+line_said : (command_line_said (codes "quiet numa=off\n") ≡ Ok (record { edits = []; numa_off = true })) × (command_line_said (codes "numa=on") ≡ Err (faults.BadNuma 1))
+line_said = (refl, refl)
+
+-- the parts of those definitions
+unless_examples : (unless_fault {A = ℕ} None 7 ≡ Ok 7) × (unless_fault {A = ℕ} (Some faults.TooFew) 7 ≡ Err faults.TooFew)
+unless_examples = (refl, refl)
+
+told_examples : (fault_told (Ok no_options) ≡ Ok no_options) × (fault_told (Err options.OpenQuote) ≡ Err faults.OpenQuote)
+told_examples = (refl, refl)
+
+zero_examples : (fault_of_zero_page zero.TooFew ≡ faults.TooFew) × (fault_of_zero_page (zero.EntryTooFar 3) ≡ faults.EntryTooFar 3)
+zero_examples = (refl, refl)
+
+ext_examples : (fault_of_extension extension.ExtHeader ≡ Some faults.Header) × (fault_of_extension extension.Memory ≡ None)
+ext_examples = (refl, refl)
+
+option_examples : (fault_of_option (options.BadMem 2) ≡ Some (faults.BadMem 2)) × (fault_of_option options.Memory ≡ None)
+option_examples = (refl, refl)
+
+misread_examples : (misread_of None ≡ misreads.Memory) × (misread_of (Some faults.Length) ≡ misreads.Fault faults.Length)
+misread_examples = (refl, refl)
+
+-- a file is within its limit, held, and of its input
+limit_examples : (within 3 (1 ∷ 2 ∷ 3 ∷ []) ≡ Ok (1 ∷ 2 ∷ 3 ∷ [])) × (within 2 (1 ∷ 2 ∷ 3 ∷ []) ≡ Err faults.TooLong)
+limit_examples = (refl, refl)
+
+limits : (limit_of inputs.ZeroPage ≡ 4096) × (limit_of inputs.Extension ≡ 61456)
+limits = (refl, refl)
+
+faulty_examples : (or_faulty {A = ℕ} inputs.Extension (Ok 7) ≡ Ok 7) × (or_faulty {A = ℕ} inputs.Extension (Err faults.Length) ≡ Err (refusals.Faulty inputs.Extension faults.Length))
+faulty_examples = (refl, refl)
+
+unread_examples : (or_unread {A = List ℕ} inputs.ZeroPage None (λ bytes. Ok bytes) ≡ Err (refusals.Unread inputs.ZeroPage)) × (or_unread inputs.ZeroPage (Some (codes "a")) (λ bytes. Ok bytes) ≡ Ok (codes "a"))
+unread_examples = (refl, refl)
+
+file_examples : (file_step held inputs.CommandLine command_line_said (codes "cmd") ≡ Ok (record { edits = []; numa_off = true })) × (file_step held inputs.CommandLine command_line_said (codes "no") ≡ Err (refusals.Unread inputs.CommandLine))
+file_examples = (refl, refl)
+
+long_page : file_step held inputs.ZeroPage zero_page_said (codes "long") ≡ Err (refusals.Faulty inputs.ZeroPage faults.TooLong)
+long_page = refl
+
+if_examples : (step_if held inputs.Extension [] extension_said None ≡ Ok []) × (step_if held inputs.Extension [] extension_said (Some (codes "bad")) ≡ Err (refusals.Faulty inputs.Extension faults.Header))
+if_examples = (refl, refl)
+
+-- the inputs in their order: of several faults, the first input's
+all_inputs : inputs_of held (naming (codes "zp") (Some (codes "ext")) (Some (codes "cmd")))
+    ≡ Ok (record { entries = ram ∷ reserved ∷ []; extension = acpi ∷ []; options = record { edits = []; numa_off = true } })
+unfolding entry_at
+all_inputs = refl
+
+page_goes_first : inputs_of held (naming (codes "short") (Some (codes "bad")) (Some (codes "on"))) ≡ Err (refusals.Faulty inputs.ZeroPage faults.WrongLength)
+page_goes_first = refl
+
+fault_goes_before_a_missing_file : inputs_of held (naming (codes "short") (Some (codes "no")) None) ≡ Err (refusals.Faulty inputs.ZeroPage faults.WrongLength)
+fault_goes_before_a_missing_file = refl
+
+extension_goes_second : inputs_of held (naming (codes "zp") (Some (codes "bad")) (Some (codes "no"))) ≡ Err (refusals.Faulty inputs.Extension faults.Header)
+unfolding entry_at
+extension_goes_second = refl
+
+line_goes_last : inputs_of held (naming (codes "zp") (Some (codes "ext")) (Some (codes "no"))) ≡ Err (refusals.Unread inputs.CommandLine)
+unfolding entry_at
+line_goes_last = refl
+
+-- the inputs' places and words, and whose refusal it is
+place_examples : (place inputs.ZeroPage ≡ 0) × (place inputs.CommandLine ≡ 2)
+place_examples = (refl, refl)
+
+word_examples : (word_for inputs.ZeroPage ≡ codes "zeropage") × (word_for inputs.CommandLine ≡ codes "cmdline")
+word_examples = (refl, refl)
+
+input_examples : (input_of (refusals.Faulty inputs.Extension faults.TooLong) ≡ inputs.Extension) × (input_of (refusals.Unread inputs.CommandLine) ≡ inputs.CommandLine)
+input_examples = (refl, refl)
+
+-- the work comes to the extension's file where the command line is at fault, or nothing is; not where the zero page is
+comes_to_it : ComesTo {Y = List ℕ} inputs.Extension (Err (refusals.Unread inputs.CommandLine)) × ComesTo {Y = List ℕ} inputs.Extension (Ok [])
+comes_to_it = (omega arith, tt)
+
+never_comes_to_it : ComesTo {Y = List ℕ} inputs.Extension (Err (refusals.Faulty inputs.ZeroPage faults.TooFew)) → ⊥
+never_comes_to_it comes = omega (arith, comes)
+
+-- how an answer fits what is said
+abbrev few : Result (List ℕ) Refusal
+few = Err (refusals.Faulty inputs.ZeroPage faults.TooFew)
+
+refusal_fits : FitsRefusal (refusals.Faulty inputs.ZeroPage faults.TooFew) few × (FitsRefusal (refusals.Unread inputs.Extension) few → ⊥)
+refusal_fits = (refl, λ comes. omega (arith, comes))
+
+error_fits : Fits errors.Memory few × (Fits (errors.Refused (refusals.Faulty inputs.ZeroPage faults.TooMany)) few → ⊥)
+error_fits = (tt, λ same. cc same)
+
+gives_examples : Gives {X = ℕ} (λ n. codes "ab") (Ok 7) (Ok (codes "ab")) × (Gives {X = ℕ} (λ n. codes "ab") (Ok 7) few → ⊥)
+gives_examples = (refl, λ same. cc same)
+
+own_examples : IsOf {X = ℕ} inputs.Extension (Err (errors.Refused (refusals.Unread inputs.Extension))) × (IsOf {X = ℕ} inputs.Extension (Err (errors.Refused (refusals.Unread inputs.ZeroPage))) → ⊥)
+own_examples = (refl, λ same. cc same)
+
+-- before the call no fetch of any name had failed; after it one of each had
+abbrev before : List ℕ → ℕ
+before name = 0
+
+abbrev named : Named
+named = naming (codes "zp") (Some (codes "ext")) None
+
+rose_examples : RoseAt before (λ name. 1) (Some (codes "ext")) × (RoseAt before (λ name. 1) None → ⊥) × (RoseAt before before (Some (codes "ext")) → ⊥)
+rose_examples = (omega arith, (λ rose. rose), λ rose. omega (arith, rose))
+
+refusal_causes : RefusalHasCause before (λ name. 1) named (refusals.Unread inputs.Extension) × (RefusalHasCause before (λ name. 1) named (refusals.Unread inputs.CommandLine) → ⊥)
+refusal_causes = (omega arith, λ rose. rose)
+
+cause_examples : HasCause {X = ℕ} before before named (Ok 7) × (HasCause {X = ℕ} before before named (Err (errors.Refused (refusals.Unread inputs.ZeroPage))) → ⊥)
+cause_examples = (tt, λ rose. omega (arith, rose))
+
+caused_examples : IsCaused {X = ℕ} 3 4 (Err (errors.Refused (refusals.Unread inputs.ZeroPage))) × (IsCaused {X = ℕ} 3 3 (Err (errors.Refused (refusals.Unread inputs.ZeroPage))) → ⊥)
+caused_examples = (omega arith, λ rose. omega (arith, rose))
