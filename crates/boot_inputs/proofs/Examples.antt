@@ -1,5 +1,5 @@
 -- What small files come to, computed, and how answers stand to that.
-use Rattle.std.proofs.Common.{◌≡◌, ℕ, ◌-◌, ◌<◌, true, false, if◌then◌else◌, List, [], ◌∷◌, ◌++◌, codes, Option, Some, None, Ok, Err, refl, arith}
+use Rattle.std.proofs.Common.{◌≡◌, ℕ, ◌-◌, true, if◌then◌else◌, List, [], ◌∷◌, ◌++◌, codes, Option, Some, None, Ok, Err, refl, arith}
 use Rattle.std.specs.Prelude.{Result, replicate}
 use Rattle.std.specs.Str.{bytes_eq}
 use Rattle.e820_model.specs.declared.entry.Entry.{Entry}

@@ -1,6 +1,6 @@
 -- The first run, whole: `bootmem --report map zp`, where `zp` holds a zero page of two entries, of which the second
 -- reserves the end of the first. The map follows from laws, the rest is computed.
-use Rattle.std.proofs.Common.{◌≡◌, ℕ, ◌+◌, ◌*◌, ◌-◌, ◌^◌, ◌<◌, ◌≤◌, ◌==◌, ◌&&◌, nat_lt, nat_le, if◌then◌else◌, List, [], ◌∷◌, ◌++◌, codes, Some, None, Ok, refl, sym, ap, ◌∙◌, arith}
+use Rattle.std.proofs.Common.{◌≡◌, ℕ, ◌-◌, ◌^◌, ◌<◌, ◌≤◌, ◌==◌, ◌&&◌, nat_lt, nat_le, if◌then◌else◌, List, [], ◌∷◌, ◌++◌, codes, Some, None, Ok, refl, sym, ap, ◌∙◌, arith}
 use Rattle.std.proofs.lemmas.Bool.Decides.{nat_tests}
 use Rattle.std.specs.Fmt.{digits}
 use Rattle.std.specs.Prelude.{replicate}
@@ -8,15 +8,20 @@ use Rattle.std.specs.Str.{bytes_eq}
 use Rattle.address_runs.specs.Runs.{RunOf, value_at, AreRuns}
 use Rattle.address_runs.proofs.RunsLaws.{one_list}
 use Rattle.e820_model.specs.declared.entry.Entry.{Entry}
-use Rattle.e820_model.specs.Claims.{Claims, claims_of_entries, type_of, settled, added, trimmed}
+use Rattle.e820_model.specs.Claims.{Claims, claims_of_entries, type_of, settled, with_claims, bios_trimmed}
 use Rattle.e820_model.specs.Map.{kinds, map_of, some_kind}
-use Rattle.e820_model.specs.Usable.{is_memory, usable_frames}
+use Rattle.e820_model.specs.Usable.{is_memory, reachable, usable_frames}
 use Rattle.e820_model.proofs.ClaimLaws.{greatest_is, map_runs}
-use Rattle.e820_model.proofs.UsableLaws.{all_same, count_same, count_frames_between, usable_count}
+use Rattle.e820_model.proofs.UsableLaws.{count_same, count_frames_between, memory_reached, usable_count}
+use Rattle.bm_base.specs.Frames.{bytes_of_frame}
+use Rattle.bm_base.proofs.EachLaws.{each_in-same}
+use Rattle.boot_model.specs.declared.limit.TheConstants.{MAX_PHYSMEM}
 use Rattle.e820_table.specs.Entries.{entry_at}
-use Rattle.bootmem_cli.specs.Boot.{Given, boot, claims}
-use Rattle.bootmem_cli.specs.Words.{accepted}
-use Rattle.bootmem_cli.specs.Outcome.{Held, no_options, outcome}
+use Rattle.boot_model.specs.Boot.{Given, boot, claims}
+use Rattle.bootmem_cli.specs.Words.{accepted, name_in}
+use Rattle.boot_inputs.specs.Inputs.{Held}
+use Rattle.boot_inputs.specs.Said.{no_options}
+use Rattle.bootmem_cli.specs.Outcome.{outcome}
 
 -- RAM from 1 MiB up to 128 MiB
 abbrev ram : Entry
@@ -66,11 +71,11 @@ only_gives c only x = greatest_is (c x) (kind_at x) (small x)
     (λ some. rw (only x (kind_at x)) (grind (arith, nat_tests)))
     (λ k higher low. rw (only x k) (grind (arith, nat_tests)))
 
-only_added : (c : Claims) → IsOnly c → IsOnly (added c (claims_of_entries []))
+only_added : (c : Claims) → IsOnly c → IsOnly (with_claims c (claims_of_entries []))
 unfolding IsOnly
 only_added c only x k = rw (only x k) (grind (arith, nat_tests))
 
-only_trimmed : (c : Claims) → IsOnly c → IsOnly (trimmed c)
+only_trimmed : (c : Claims) → IsOnly c → IsOnly (bios_trimmed c)
 unfolding IsOnly kind_at
 only_trimmed c only x k = rw (only x k, only x 1) (grind (arith, nat_tests))
 
@@ -101,15 +106,15 @@ map_is =
     one_list (kinds (claims given)) _ _ (map_runs (claims given) none_above)
     (record { runs = are_runs; each = λ x. sym (kinds_are x) })
 
--- RAM makes 32,480 whole frames
-memory_is : (x : ℕ) → is_memory (kinds (claims given) x) ≡ (nat_le 0x100000 x && nat_lt x 0x7FE0000)
-memory_is x = rw (kinds_are x) (grind (arith, nat_tests))
+-- RAM makes 32,480 whole frames, all of them within reach
+memory_is : (x : ℕ) → is_memory (reachable MAX_PHYSMEM (kinds (claims given)) x) ≡ (nat_le 0x100000 x && nat_lt x 0x7FE0000)
+memory_is x = memory_reached MAX_PHYSMEM (kinds (claims given)) x ∙ rw (kinds_are x) (grind (arith, nat_tests))
 
-frames_are : usable_frames (kinds (claims given)) ≡ 32480
+frames_are : usable_frames (reachable MAX_PHYSMEM (kinds (claims given))) ≡ 32480
 frames_are =
-    usable_count (kinds (claims given))
-    ∙ count_same _ _ (2 ^ 34) (λ frame low. all_same _ _ 4096 (λ i below. memory_is (4096 * frame + i)))
-    ∙ count_frames_between 0x100000 0x7FE0000 (2 ^ 34)
+    usable_count (reachable MAX_PHYSMEM (kinds (claims given)))
+    ∙ count_same _ _ (2 ^ 52) (λ frame low. each_in-same (bytes_of_frame frame) _ _ (λ x from below. memory_is x))
+    ∙ count_frames_between 0x100000 0x7FE0000 (2 ^ 52)
 
 boot_is : boot given ≡ Ok (record { map = runs; options = no_options })
 unfolding boot
@@ -117,5 +122,5 @@ boot_is = rw (map_is, frames_are) refl
 
 first_run : outcome (accepted (codes "--report" ∷ codes "map" ∷ codes "zp" ∷ [])) held
     ≡ Ok (codes "0x0000000000100000..0x0000000007fdffff 1 usable\n0x0000000007fe0000..0x0000000007ffffff 2 reserved\n")
-unfolding entry_at digits
+unfolding entry_at digits name_in
 first_run = rw boot_is refl

@@ -1,38 +1,56 @@
 -- Small command lines of the program, and the ways in which it ends, computed.
-use Rattle.std.proofs.Common.{◌≡◌, ℕ, true, false, List, [], ◌∷◌, codes, Some, None, refl}
+use Rattle.std.proofs.Common.{◌≡◌, ℕ, true, false, List, [], ◌∷◌, codes, Option, Some, None, Ok, Err, refl}
 use Rattle.std.specs.Fmt.{digits}
-use Rattle.e820_sanitise.specs.declared.fault.MapFault.TheVariants as maps
-use Rattle.e820_table.specs.declared.zero_page.ZeroFault.TheVariants as zero
-use Rattle.e820_table.specs.declared.extension.ExtFault.TheVariants as extension
-use Rattle.boot_options.specs.declared.fault.OptionFault.TheVariants as options
-use Rattle.bootmem_cli.specs.declared.boot.Stop.TheVariants as stops
-use Rattle.bootmem_cli.specs.declared.failure.Input.TheVariants as inputs
-use Rattle.bootmem_cli.specs.declared.failure.InputFault.TheVariants as faults
-use Rattle.bootmem_cli.specs.declared.failure.Refusal.TheVariants as refusals
+use Rattle.std.specs.Option.{option_map}
+use Rattle.boot_inputs.specs.declared.fault.Fault.TheVariants as faults
+use Rattle.boot_inputs.specs.declared.input.Input.TheVariants as inputs
+use Rattle.boot_inputs.specs.declared.refusal.InputError.TheVariants as errors
+use Rattle.boot_inputs.specs.declared.refusal.Refusal.TheVariants as refusals
+use Rattle.boot_model.specs.declared.stop.Cause.TheVariants as causes
+use Rattle.boot_model.specs.declared.stop.Stop.TheVariants as stops
+use Rattle.debugfs_reports.specs.declared.report.Report.TheVariants as reports
+use Rattle.bootmem_cli.specs.declared.failure.Reason.TheVariants as reasons
 use Rattle.bootmem_cli.specs.declared.failure.Failure.TheVariants as failures
-use Rattle.bootmem_cli.specs.Words.{Named, is_value, is_option, are_spelled, word_behind, values_of, at_most_one, value_of, provided, is_report, accepted, name_of, name_text}
-use Rattle.bootmem_cli.specs.Status.{refusal_status, status_of, stop_of_map, failure_of_stop, failure_of_extension, failure_of_options}
-use Rattle.bootmem_cli.specs.Line.{input_text, zero_fault_line, ext_fault_line, word_line, option_fault_line, fault_line, stop_line, refusal_line, failure_line}
+use Rattle.bootmem_cli.specs.Words.{Wanted, is_value, is_option, are_good, are_spelled, word_behind, values_of, at_most_one, value_of, named_by, stand_once, name_in, provided, report_in, accepted, name_text}
+use Rattle.bootmem_cli.specs.Status.{refusal_status, reason_status, status_of, status_of_end, failure_by, failure_of_input, failure_of_stop}
+use Rattle.bootmem_cli.specs.Line.{whole_line, entry_line, word_line, fault_line, cause_line, refusal_line, reason_line, failure_line}
+
+-- what the words ask for, as three names and a report
+pub record Found : Type 0 where
+  pub zero_page : Option (List ℕ)
+  pub extension : Option (List ℕ)
+  pub command_line : Option (List ℕ)
+
+abbrev found : Wanted → Found
+found wanted = record { zero_page = wanted.named inputs.ZeroPage; extension = wanted.named inputs.Extension; command_line = wanted.named inputs.CommandLine }
+
+abbrev files_of : List (List ℕ) → Option Found
+files_of words = option_map found (accepted words)
 
 -- the words of the first run, `bootmem --report map zp`, and what they name
 abbrev first_words : List (List ℕ)
 first_words = codes "--report" ∷ codes "map" ∷ codes "zp" ∷ []
 
-abbrev zero_page_alone : Named
-zero_page_alone = record { zero_page = codes "zp"; extension = None; command_line = None }
+abbrev zero_page_alone : Found
+zero_page_alone = record { zero_page = Some (codes "zp"); extension = None; command_line = None }
 
 -- all words, in another order
 abbrev all_words : List (List ℕ)
 all_words = codes "--cmdline" ∷ codes "cmd" ∷ codes "--report" ∷ codes "map" ∷ codes "--e820ext" ∷ codes "ext" ∷ codes "zp" ∷ []
 
-abbrev all_named : Named
-all_named = record { zero_page = codes "zp"; extension = Some (codes "ext"); command_line = Some (codes "cmd") }
+abbrev all_found : Found
+all_found = record { zero_page = Some (codes "zp"); extension = Some (codes "ext"); command_line = Some (codes "cmd") }
 
-first_accepted : accepted first_words ≡ Some zero_page_alone
+first_accepted : files_of first_words ≡ Some zero_page_alone
+unfolding name_in
 first_accepted = refl
 
-all_accepted : accepted all_words ≡ Some all_named
+all_accepted : files_of all_words ≡ Some all_found
+unfolding name_in
 all_accepted = refl
+
+report_is_told : option_map (λ wanted. wanted.report) (accepted all_words) ≡ Some reports.Map
+report_is_told = refl
 
 -- refused: no word, no report, another report, no name, an option twice, a word behind the name, an option
 -- that there isn't, and a value or a name that looks like an option
@@ -71,7 +89,8 @@ name_with_a_dash : accepted (codes "--report" ∷ codes "map" ∷ codes "-zp" �
 name_with_a_dash = refl
 
 -- an empty word is a name; that there is no such file is found by reading it
-empty_name : accepted (codes "--report" ∷ codes "map" ∷ [] ∷ []) ≡ Some (record { zero_page = []; extension = None; command_line = None })
+empty_name : files_of (codes "--report" ∷ codes "map" ∷ [] ∷ []) ≡ Some (record { zero_page = Some []; extension = None; command_line = None })
+unfolding name_in
 empty_name = refl
 
 -- the parts of that definition
@@ -101,84 +120,83 @@ once_examples = (refl, refl, refl)
 value_of_examples : (value_of (codes "--report") all_words ≡ Some (Some (codes "map"))) × (value_of (codes "--cmdline") first_words ≡ Some None)
 value_of_examples = (refl, refl)
 
-report_examples : (is_report (Some (codes "map")) ≡ true) × (is_report (Some (codes "Map")) ≡ false) × (is_report None ≡ false)
+named_by_examples : (named_by (codes "--cmdline") all_words ≡ Some (codes "cmd")) × (named_by (codes "--cmdline") first_words ≡ None)
+named_by_examples = (refl, refl)
+
+once_in_words : (stand_once all_words ≡ true) × (stand_once (codes "--cmdline" ∷ codes "a" ∷ codes "--cmdline" ∷ codes "b" ∷ []) ≡ false)
+once_in_words = (refl, refl)
+
+good_examples : (are_good first_words ≡ true) × (are_good (codes "--report" ∷ codes "map" ∷ []) ≡ false)
+good_examples = (refl, refl)
+
+report_examples : (report_in first_words ≡ Some reports.Map) × (report_in (codes "--report" ∷ codes "Map" ∷ codes "zp" ∷ []) ≡ None) × (report_in (codes "zp" ∷ []) ≡ None)
 report_examples = (refl, refl, refl)
 
 provided_examples : (provided true ≡ Some tt) × (provided false ≡ None)
 provided_examples = (refl, refl)
 
 -- which file an input has
-name_examples : (name_of all_named inputs.ZeroPage ≡ Some (codes "zp")) × (name_of all_named inputs.Extension ≡ Some (codes "ext"))
-    × (name_of all_named inputs.CommandLine ≡ Some (codes "cmd")) × (name_of zero_page_alone inputs.Extension ≡ None)
-name_examples = (refl, refl, refl, refl)
+name_examples : (name_in all_words inputs.ZeroPage ≡ Some (codes "zp")) × (name_in all_words inputs.CommandLine ≡ Some (codes "cmd"))
+    × (name_in first_words inputs.Extension ≡ None)
+unfolding name_in
+name_examples = (refl, refl, refl)
 
-text_examples : (name_text (Some all_named) inputs.CommandLine ≡ codes "cmd") × (name_text (Some zero_page_alone) inputs.CommandLine ≡ []) × (name_text None inputs.ZeroPage ≡ [])
+text_examples : (name_text (accepted all_words) inputs.CommandLine ≡ codes "cmd") × (name_text (accepted first_words) inputs.CommandLine ≡ []) × (name_text None inputs.ZeroPage ≡ [])
+unfolding name_in
 text_examples = (refl, refl, refl)
 
 -- the status of each way to end
-refusal_examples : (refusal_status refusals.Usage ≡ 2) × (refusal_status (refusals.Unread inputs.Extension) ≡ 3)
-    × (refusal_status (refusals.Faulty (faults.TooLong inputs.ZeroPage)) ≡ 5) × (refusal_status (refusals.Stopped (stops.MapFull 3201)) ≡ 6)
-refusal_examples = (refl, refl, refl, refl)
+refusal_examples : (refusal_status (refusals.Unread inputs.Extension) ≡ 3) × (refusal_status (refusals.Faulty inputs.ZeroPage faults.TooLong) ≡ 5)
+refusal_examples = (refl, refl)
 
-status_examples : (status_of (failures.Refused (refusals.Stopped stops.NoRam)) ≡ 6) × (status_of failures.Unwritten ≡ 4) × (status_of failures.Memory ≡ 7)
+reason_examples : (reason_status reasons.Usage ≡ 2) × (reason_status (reasons.Stopped (causes.MapFull 3201)) ≡ 6)
+reason_examples = (refl, refl)
+
+status_examples : (status_of (failures.NoReport (reasons.Stopped causes.NoRam)) ≡ 6) × (status_of failures.Unwritten ≡ 4) × (status_of failures.Memory ≡ 7)
 status_examples = (refl, refl, refl)
 
--- want of memory is 7 wherever it comes from, and a fault of an input is never that
-map_examples : (stop_of_map (maps.MapFull 3201) ≡ stops.MapFull 3201) × (stop_of_map maps.Memory ≡ stops.Memory)
-map_examples = (refl, refl)
+end_examples : (status_of_end (Ok tt) ≡ 0) × (status_of_end (Err failures.Unwritten) ≡ 4)
+end_examples = (refl, refl)
 
-stop_examples : (failure_of_stop (stops.TooMuchRam 4294967297) ≡ failures.Refused (refusals.Stopped (stops.TooMuchRam 4294967297))) × (failure_of_stop stops.Memory ≡ failures.Memory)
+-- want of memory is 7 wherever it comes from
+by_examples : (failure_by None ≡ failures.Memory) × (failure_by (Some causes.NoRam) ≡ failures.NoReport (reasons.Stopped causes.NoRam))
+by_examples = (refl, refl)
+
+stop_examples : (failure_of_stop (stops.TooMuchRam 4294967297) ≡ failures.NoReport (reasons.Stopped (causes.TooMuchRam 4294967297))) × (failure_of_stop stops.Memory ≡ failures.Memory)
 stop_examples = (refl, refl)
 
-extension_examples : (failure_of_extension extension.ExtLength ≡ failures.Refused (refusals.Faulty (faults.Extension extension.ExtLength))) × (failure_of_extension extension.Memory ≡ failures.Memory)
-extension_examples = (refl, refl)
-
-options_examples : (failure_of_options (options.BadMem 2) ≡ failures.Refused (refusals.Faulty (faults.CommandLine (options.BadMem 2)))) × (failure_of_options options.Memory ≡ failures.Memory)
-options_examples = (refl, refl)
+input_error_examples : (failure_of_input (errors.Refused (refusals.Unread inputs.Extension)) ≡ failures.NoReport (reasons.Refused (refusals.Unread inputs.Extension)))
+    × (failure_of_input errors.Memory ≡ failures.Memory)
+input_error_examples = (refl, refl)
 
 -- the line of each way to end
-input_examples : (input_text inputs.ZeroPage ≡ codes "zeropage") × (input_text inputs.CommandLine ≡ codes "cmdline")
-input_examples = (refl, refl)
-
-zero_line : zero_fault_line (zero.EntryTooFar 3) ≡ codes "bootmem: zeropage: entry 3 too far\n"
+entry_lines : (fault_line (codes "zeropage") (faults.EntryTooFar 3) ≡ codes "bootmem: zeropage: entry 3 too far\n") × (entry_line (codes "e820ext") 3071 ≡ codes "bootmem: e820ext: entry 3071 too far\n")
 unfolding digits
-zero_line = refl
+entry_lines = (refl, refl)
 
-ext_line : ext_fault_line (extension.EntryTooFar 3071) ≡ codes "bootmem: e820ext: entry 3071 too far\n"
+word_lines : (fault_line (codes "cmdline") (faults.UserMapInvalid 12) ≡ codes "bootmem: cmdline: word 12: user map\n") × (word_line (codes "cmdline") 1 (codes "mem") ≡ codes "bootmem: cmdline: word 1: mem\n")
 unfolding digits
-ext_line = refl
-
-words_line : word_line 12 (codes "user map") ≡ codes "bootmem: cmdline: word 12: user map\n"
-unfolding digits
-words_line = refl
-
-option_line : option_fault_line (options.BadMemmap 3) ≡ codes "bootmem: cmdline: word 3: memmap\n"
-unfolding digits
-option_line = refl
+word_lines = (refl, refl)
 
 -- a file of too many bytes, and a line of too many
-fault_lines : (fault_line (faults.TooLong inputs.CommandLine) ≡ codes "bootmem: cmdline: too long\n")
-    × (fault_line (faults.CommandLine options.TooLong) ≡ codes "bootmem: cmdline: line too long\n")
-fault_lines = (refl, refl)
+long_lines : (refusal_line None (refusals.Faulty inputs.CommandLine faults.TooLong) ≡ codes "bootmem: cmdline: too long\n")
+    × (refusal_line None (refusals.Faulty inputs.CommandLine faults.LineTooLong) ≡ codes "bootmem: cmdline: line too long\n")
+long_lines = (refl, refl)
 
-stop_lines : (stop_line (stops.MapFull 3201) ≡ codes "bootmem: stopped: 3201 map runs\n") × (stop_line stops.NoRam ≡ codes "bootmem: stopped: no usable frame\n")
+plain_lines : (refusal_line None (refusals.Faulty inputs.ZeroPage faults.TooFew) ≡ codes "bootmem: zeropage: too few entries\n")
+    × (whole_line (codes "e820ext") (codes "header") ≡ codes "bootmem: e820ext: header\n")
+plain_lines = (refl, refl)
+
+cause_lines : (cause_line (causes.MapFull 3201) ≡ codes "bootmem: stopped: 3201 map runs\n") × (cause_line causes.NoRam ≡ codes "bootmem: stopped: no usable frame\n")
 unfolding digits
-stop_lines = (refl, refl)
+cause_lines = (refl, refl)
 
-unread_line : refusal_line (Some all_named) (refusals.Unread inputs.Extension) ≡ codes "bootmem: cannot read ext\n"
+unread_line : refusal_line (accepted all_words) (refusals.Unread inputs.Extension) ≡ codes "bootmem: cannot read ext\n"
+unfolding name_in
 unread_line = refl
 
-usage_line : failure_line None (failures.Refused refusals.Usage) ≡ codes "bootmem: usage\n"
-usage_line = refl
+usage_line : (reason_line None reasons.Usage ≡ codes "bootmem: usage\n") × (failure_line None (failures.NoReport reasons.Usage) ≡ codes "bootmem: usage\n")
+usage_line = (refl, refl)
 
-outside_lines : (failure_line (Some all_named) failures.Unwritten ≡ codes "bootmem: cannot write\n") × (failure_line None failures.Memory ≡ codes "bootmem: out of memory\n")
+outside_lines : (failure_line None failures.Unwritten ≡ codes "bootmem: cannot write\n") × (failure_line None failures.Memory ≡ codes "bootmem: out of memory\n")
 outside_lines = (refl, refl)
-
--- the other lines of each kind
-plain_lines : (zero_fault_line zero.TooFew ≡ codes "bootmem: zeropage: too few entries\n") × (ext_fault_line extension.ExtHeader ≡ codes "bootmem: e820ext: header\n")
-    × (option_fault_line options.OpenQuote ≡ codes "bootmem: cmdline: open quote\n") × (refusal_line None refusals.Usage ≡ codes "bootmem: usage\n")
-plain_lines = (refl, refl, refl, refl)
-
-first_word_line : word_line 1 (codes "mem") ≡ codes "bootmem: cmdline: word 1: mem\n"
-unfolding digits
-first_word_line = refl

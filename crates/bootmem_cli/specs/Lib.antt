@@ -1,7 +1,7 @@
-pub mod Boot
-pub mod Status
-pub mod Words
-pub mod View
+pub mod Answers
 pub mod Line
 pub mod Outcome
-pub mod Answers
+pub mod Run
+pub mod Status
+pub mod View
+pub mod Words

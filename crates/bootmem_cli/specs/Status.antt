@@ -1,47 +1,48 @@
 -- The ways to end, and the exit status of each.
-use Rattle.std.specs.Prelude.{ℕ}
-use Rattle.e820_sanitise.specs.declared.fault.MapFault.{MapFault}
-use Rattle.e820_sanitise.specs.declared.fault.MapFault.TheVariants as maps
-use Rattle.bootmem_cli.specs.declared.boot.Stop.{Stop}
-use Rattle.bootmem_cli.specs.declared.boot.Stop.TheVariants as stops
-use Rattle.e820_table.specs.declared.extension.ExtFault.{ExtFault}
-use Rattle.e820_table.specs.declared.extension.ExtFault.TheVariants as extension
-use Rattle.boot_options.specs.declared.fault.OptionFault.{OptionFault}
-use Rattle.boot_options.specs.declared.fault.OptionFault.TheVariants as options
-use Rattle.bootmem_cli.specs.declared.failure.InputFault.TheVariants as faults
-use Rattle.bootmem_cli.specs.declared.failure.Refusal.{Refusal}
-use Rattle.bootmem_cli.specs.declared.failure.Refusal.TheVariants as refusals
+use Rattle.std.specs.Prelude.{ℕ, Option, Some, None, Result, Ok, Err}
+use Rattle.boot_inputs.specs.declared.refusal.InputError.{InputError}
+use Rattle.boot_inputs.specs.declared.refusal.InputError.TheVariants as errors
+use Rattle.boot_inputs.specs.declared.refusal.Refusal.{Refusal}
+use Rattle.boot_inputs.specs.declared.refusal.Refusal.TheVariants as refusals
+use Rattle.boot_model.specs.declared.stop.Cause.{Cause}
+use Rattle.boot_model.specs.declared.stop.Stop.{Stop}
+use Rattle.boot_model.specs.Stop.{cause_of}
+use Rattle.bootmem_cli.specs.declared.failure.Reason.{Reason}
+use Rattle.bootmem_cli.specs.declared.failure.Reason.TheVariants as reasons
 use Rattle.bootmem_cli.specs.declared.failure.Failure.{Failure}
 use Rattle.bootmem_cli.specs.declared.failure.Failure.TheVariants as failures
 
 abbrev pub refusal_status : Refusal → ℕ
-refusal_status refusals.Usage = 2
 refusal_status (refusals.Unread input) = 3
-refusal_status (refusals.Faulty fault) = 5
-refusal_status (refusals.Stopped stop) = 6
+refusal_status (refusals.Faulty input fault) = 5
+
+abbrev pub reason_status : Reason → ℕ
+reason_status reasons.Usage = 2
+reason_status (reasons.Refused refusal) = refusal_status refusal
+reason_status (reasons.Stopped cause) = 6
 
 abbrev pub status_of : Failure → ℕ
-status_of (failures.Refused refusal) = refusal_status refusal
+status_of (failures.NoReport reason) = reason_status reason
 status_of failures.Unwritten = 4
 status_of failures.Memory = 7
 
--- a map with too many runs stops the boot
-abbrev pub stop_of_map : MapFault → Stop
-stop_of_map (maps.MapFull runs) = stops.MapFull runs
-stop_of_map maps.Memory = stops.Memory
+-- how a run ends
+abbrev pub End : Type 0
+End = Result (Unit {0}) Failure
 
--- want of memory is the one stop that isn't the input's
+abbrev pub status_of_end : End → ℕ
+status_of_end (Ok done) = 0
+status_of_end (Err failure) = status_of failure
+
+-- want of memory is no reason of the inputs
+abbrev pub failure_of_input : InputError → Failure
+failure_of_input (errors.Refused refusal) = failures.NoReport (reasons.Refused refusal)
+failure_of_input errors.Memory = failures.Memory
+
+-- a stop without a cause is want of memory
+abbrev pub failure_by : Option Cause → Failure
+failure_by None = failures.Memory
+failure_by (Some cause) = failures.NoReport (reasons.Stopped cause)
+
 abbrev pub failure_of_stop : Stop → Failure
-failure_of_stop stops.NoRam = failures.Refused (refusals.Stopped stops.NoRam)
-failure_of_stop (stops.TooMuchRam frames) = failures.Refused (refusals.Stopped (stops.TooMuchRam frames))
-failure_of_stop (stops.MapFull runs) = failures.Refused (refusals.Stopped (stops.MapFull runs))
-failure_of_stop stops.Memory = failures.Memory
-
--- want of memory is the one fault that isn't the input's
-abbrev pub failure_of_extension : ExtFault → Failure
-failure_of_extension extension.Memory = failures.Memory
-failure_of_extension fault = failures.Refused (refusals.Faulty (faults.Extension fault))
-
-abbrev pub failure_of_options : OptionFault → Failure
-failure_of_options options.Memory = failures.Memory
-failure_of_options fault = failures.Refused (refusals.Faulty (faults.CommandLine fault))
+failure_of_stop stop = failure_by (cause_of stop)

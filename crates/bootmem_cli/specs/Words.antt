@@ -1,19 +1,21 @@
 -- The words of the command line, those after the program's name: pairs of an option and its value, in any
 -- order, and then the name of the zero page.
-use Rattle.std.specs.Prelude.{ℕ, nat_eq, Bool, true, false, ◌&&◌, ◌||◌, not, if◌then◌else◌, List, [], ◌∷◌, map, codes, Option, Some, None, String, string_bytes, unwrap_or}
+use Rattle.std.specs.Prelude.{ℕ, nat_eq, Bool, true, false, ◌&&◌, ◌||◌, is_some, not, if◌then◌else◌, List, [], ◌∷◌, map, codes, Option, Some, None, String, string_bytes, unwrap_or}
 use Rattle.std.specs.List.{starts_with}
+use Rattle.std.specs.Option.{option_and_then}
 use Rattle.std.specs.Str.{bytes_eq}
 use Rattle.std.specs.declared.alloc.Global.{Global}
 use Rattle.bm_base.specs.OptionSteps.{◌>>=◌}
-use Rattle.bootmem_cli.specs.declared.failure.Input.{Input}
-use Rattle.bootmem_cli.specs.declared.failure.Input.TheVariants as inputs
+use Rattle.boot_inputs.specs.declared.input.Input.{Input}
+use Rattle.boot_inputs.specs.declared.input.Input.TheVariants as inputs
+use Rattle.boot_inputs.specs.Inputs.{Named}
+use Rattle.debugfs_reports.specs.declared.report.Report.{Report}
+use Rattle.debugfs_reports.specs.Report.{report_named}
 
--- the files that accepted words name: the zero page, and where they are wanted the E820 extension and the
--- command line of the kernel
-pub record Named : Type 0 where
-  pub zero_page : List ℕ
-  pub extension : Option (List ℕ)
-  pub command_line : Option (List ℕ)
+-- what accepted words ask for: the name of each input's file, where it has one, and the report
+pub record Wanted : Type 0 where
+  pub named : Named
+  pub report : Report
 
 abbrev pub texts : List (String Global) → List (List ℕ)
 texts words = map string_bytes words
@@ -54,33 +56,41 @@ at_most_one (first ∷ second ∷ rest) = None
 abbrev pub value_of : List ℕ → List (List ℕ) → Option (Option (List ℕ))
 value_of option words = at_most_one (values_of option words)
 
+-- no option stands twice
+abbrev pub stand_once : List (List ℕ) → Bool
+stand_once words =
+    is_some (value_of (codes "--report") words) && is_some (value_of (codes "--e820ext") words) && is_some (value_of (codes "--cmdline") words)
+
+-- the value of an option that stands once
+abbrev pub named_by : List ℕ → List (List ℕ) → Option (List ℕ)
+named_by option words = unwrap_or (value_of option words) None
+
+-- the name of an input's file
+unfoldable pub name_in : List (List ℕ) → Input → Option (List ℕ)
+name_in words inputs.ZeroPage = word_behind words
+name_in words inputs.Extension = named_by (codes "--e820ext") words
+name_in words inputs.CommandLine = named_by (codes "--cmdline") words
+
+-- the report that is asked for
+abbrev pub report_in : List (List ℕ) → Option Report
+report_in words = option_and_then report_named (named_by (codes "--report") words)
+
+abbrev pub are_good : List (List ℕ) → Bool
+are_good words = are_spelled words && stand_once words && is_some (word_behind words)
+
 -- the test holds
 abbrev pub provided : Bool → Option (Unit {0})
 provided false = None
 provided true = Some tt
 
--- the one report there is
-abbrev pub is_report : Option (List ℕ) → Bool
-is_report None = false
-is_report (Some report) = bytes_eq report (codes "map")
-
--- what the words name, where they are accepted
-abbrev pub accepted : List (List ℕ) → Option Named
+-- what the words ask for, where they are accepted
+abbrev pub accepted : List (List ℕ) → Option Wanted
 accepted words = do
-  zero_page ← word_behind words
-  report ← value_of (codes "--report") words
-  extension ← value_of (codes "--e820ext") words
-  command_line ← value_of (codes "--cmdline") words
-  good ← provided (are_spelled words && is_report report)
-  Some (record { zero_page = zero_page; extension = extension; command_line = command_line })
+  report ← report_in words
+  good ← provided (are_good words)
+  Some (record { named = name_in words; report = report })
 
--- the name of an input's file, where the words name one
-abbrev pub name_of : Named → Input → Option (List ℕ)
-name_of named inputs.ZeroPage = Some named.zero_page
-name_of named inputs.Extension = named.extension
-name_of named inputs.CommandLine = named.command_line
-
--- the name as a text, which is empty where there is none
-abbrev pub name_text : Option Named → Input → List ℕ
+-- the name of an input's file as a text, which is empty where there is none
+abbrev pub name_text : Option Wanted → Input → List ℕ
 name_text None input = []
-name_text (Some named) input = unwrap_or (name_of named input) []
+name_text (Some wanted) input = unwrap_or (wanted.named input) []

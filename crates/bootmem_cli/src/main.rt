@@ -7,10 +7,11 @@
 //! over any files, output and error output; `main` hands it those of the system.
 //!
 //! What the program answers is a definition, `outcome` of `specs/Outcome.antt`: from the words to
-//! the files that they name, from the files' bytes to the inputs, from those to the map by the boot
-//! (`specs/Boot.antt`), and from the map to its text, each step by cases. `run` answers what it says,
-//! but where the outside fails: a file that couldn't be read, an output that refused, want of
-//! memory. The first two have their cause in a count of the object that was handed in.
+//! the files that they name, from the files' bytes to the inputs (`boot_inputs`), from those to what
+//! the boot makes (`boot_model`), and from that to the text of the report (`debugfs_reports`), each
+//! step by cases. `run` answers what it says, but where the outside fails: a file that couldn't be
+//! read, an output that refused, want of memory. The first two have their cause in a count of the
+//! object that was handed in. The contract is the record `RanTo` of `specs/Run.antt`.
 //!
 //! Exit statuses: 0 written, 2 the words are refused, 3 a file couldn't be read, 4 the output
 //! failed, 5 an input has a fault, 6 the boot stops, 7 out of memory. All but 0 put one line on the
@@ -18,10 +19,8 @@
 //! a word that isn't UTF-8 and with 7 for want of memory.
 #![tactic(auto)]
 
-mod boot;
+mod clauses;
 mod failure;
-mod inputs;
-mod report;
 mod run;
 mod tell;
 #[cfg(test)]
@@ -29,7 +28,9 @@ mod tests;
 mod words;
 
 use bm_io::{RealFiles, StdSink};
-pub use boot::{Booted, Inputs, Stop, boot, map_gives_frames, map_gives_types};
+pub use boot_model::{Booted, Inputs, Stop, map_gives_frames, map_gives_types};
+pub use boot_stages::boot;
+pub use clauses::run_by_clauses;
 pub use run::run;
 use std::env;
 use std::io::ErrorKind;

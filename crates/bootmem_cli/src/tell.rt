@@ -1,157 +1,122 @@
+//! The line of a failure, piece by piece: it takes no memory, and no kind of failure that comes here can be
+//! want of memory under another name.
+
 ghost use Rattle.std.specs.Prelude.{◌≡◌, flat_map};
 ghost use Rattle.std.specs.Option.{option_map};
-ghost use Rattle.bootmem_cli.specs.Line.{Tells, failure_line, refusal_line, fault_line, zero_fault_line, ext_fault_line, option_fault_line, word_line, stop_line, input_text};
-ghost use Rattle.bootmem_cli.specs.View.{names_view};
+ghost use Rattle.bootmem_cli.specs.Line.{Tells, cause_line, entry_line, failure_line, fault_line, reason_line, refusal_line, whole_line, word_line};
+ghost use Rattle.bootmem_cli.specs.View.{wanted_view};
 
-use crate::boot::Stop;
-use crate::failure::{Failure, Input, InputFault, Refusal};
-use crate::words::{Names, name_text};
-use bm_io::Sink;
-use boot_options::OptionFault;
-use e820_table::{ExtFault, ZeroFault};
+use crate::failure::{Failure, Reason};
+use crate::words::{Wanted, name_text};
+use bm_io::{Sink, put_all};
+use boot_inputs::{Fault, Refusal};
+use boot_model::Cause;
 use itoa::Buffer;
 
-/// Puts the line of a failure on the error output. It takes no memory, and what the output answers
-/// changes nothing: the line goes out piece by piece, up to the first that is refused. Want of memory is a
-/// failure of its own, so the `Memory` of a fault or of a stop never comes to its line.
-pub fn tell<E: Sink>(err: &mut E, names: Option<Names<'_>>, failure: Failure)
-    ensures { Tells E.written E.faults E.wants err.old err.new
-        (failure_line (option_map names_view names.entry) failure) }
+/// Puts the line of a failure on the error output. What the output answers changes nothing: the line goes out
+/// piece by piece, up to the first that is refused.
+pub fn tell<E: Sink>(err: &mut E, wanted: &Option<Wanted<'_>>, failure: Failure)
+    ensures { Tells E.Sink err.old err.new (failure_line (option_map wanted_view wanted.now) failure) }
 {
     match failure {
-        Failure::Refused(refusal) => tell_refusal(err, names, refusal),
-        Failure::Unwritten => put_all(err, &["bootmem: cannot write\n"]),
-        Failure::Memory => put_all(err, &["bootmem: out of memory\n"]),
+        Failure::NoReport(reason) => tell_reason(err, wanted, reason),
+        Failure::Unwritten => put_line(err, &["bootmem: cannot write\n"]),
+        Failure::Memory => put_line(err, &["bootmem: out of memory\n"]),
     }
 }
 
-fn tell_refusal<E: Sink>(err: &mut E, names: Option<Names<'_>>, refusal: Refusal)
-    ensures { Tells E.written E.faults E.wants err.old err.new
-        (refusal_line (option_map names_view names.entry) refusal) }
+fn tell_reason<E: Sink>(err: &mut E, wanted: &Option<Wanted<'_>>, reason: Reason)
+    ensures { Tells E.Sink err.old err.new (reason_line (option_map wanted_view wanted.now) reason) }
+{
+    match reason {
+        Reason::Usage => put_line(err, &["bootmem: usage\n"]),
+        Reason::Refused(refusal) => tell_refusal(err, wanted, refusal),
+        Reason::Stopped(cause) => tell_cause(err, cause),
+    }
+}
+
+fn tell_refusal<E: Sink>(err: &mut E, wanted: &Option<Wanted<'_>>, refusal: Refusal)
+    ensures { Tells E.Sink err.old err.new
+        (refusal_line (option_map wanted_view wanted.now) refusal) }
 {
     match refusal {
-        Refusal::Usage => put_all(err, &["bootmem: usage\n"]),
         Refusal::Unread(input) => {
-            put_all(
+            put_line(
                 err,
-                &["bootmem: cannot read ", name_text(names, input), "\n"],
+                &["bootmem: cannot read ", name_text(wanted, input), "\n"],
             )
         }
-        Refusal::Faulty(fault) => tell_fault(err, fault),
-        Refusal::Stopped(stop) => tell_stop(err, stop),
+        Refusal::Faulty(input, fault) => tell_fault(err, input.word(), fault),
     }
 }
 
-fn tell_fault<E: Sink>(err: &mut E, fault: InputFault)
-    ensures { Tells E.written E.faults E.wants err.old err.new
-        (fault_line fault) }
+/// The line of a fault of the input of that name.
+fn tell_fault<E: Sink>(err: &mut E, name: &str, fault: Fault)
+    ensures { Tells E.Sink err.old err.new (fault_line name.now fault) }
 {
     match fault {
-        InputFault::TooLong(input) => {
-            put_all(err, &["bootmem: ", input_text(input), ": too long\n"])
-        }
-        InputFault::ZeroPage(fault) => tell_zero_fault(err, fault),
-        InputFault::Extension(fault) => tell_ext_fault(err, fault),
-        InputFault::CommandLine(fault) => tell_option_fault(err, fault),
+        Fault::TooLong => tell_whole(err, name, "too long"),
+        Fault::WrongLength => tell_whole(err, name, "wrong length"),
+        Fault::TooFew => tell_whole(err, name, "too few entries"),
+        Fault::TooMany => tell_whole(err, name, "too many entries"),
+        Fault::EntryTooFar { index } => tell_entry(err, name, index),
+        Fault::Header => tell_whole(err, name, "header"),
+        Fault::Length => tell_whole(err, name, "length"),
+        Fault::LineTooLong => tell_whole(err, name, "line too long"),
+        Fault::OpenQuote => tell_whole(err, name, "open quote"),
+        Fault::BadMem { word } => tell_word(err, name, word, "mem"),
+        Fault::BadMemmap { word } => tell_word(err, name, word, "memmap"),
+        Fault::UserMapInvalid { word } => tell_word(err, name, word, "user map"),
+        Fault::BadNuma { word } => tell_word(err, name, word, "numa"),
     }
 }
 
-fn tell_zero_fault<E: Sink>(err: &mut E, fault: ZeroFault)
-    ensures { Tells E.written E.faults E.wants err.old err.new
-        (zero_fault_line fault) }
+/// The line of a fault of the whole file.
+fn tell_whole<'a, E: Sink>(err: &mut E, name: &'a str, what: &'a str)
+    ensures { Tells E.Sink err.old err.new (whole_line name.now what.now) }
 {
-    match fault {
-        ZeroFault::WrongLength => put_all(err, &["bootmem: zeropage: wrong length\n"]),
-        ZeroFault::TooFew => put_all(err, &["bootmem: zeropage: too few entries\n"]),
-        ZeroFault::TooMany => put_all(err, &["bootmem: zeropage: too many entries\n"]),
-        ZeroFault::EntryTooFar { index } => {
-            let mut buffer = Buffer::new();
-            let index = buffer.format(index);
-            put_all(err, &["bootmem: zeropage: entry ", index, " too far\n"])
-        }
-    }
+    put_line(err, &["bootmem: ", name, ": ", what, "\n"])
 }
 
-fn tell_ext_fault<E: Sink>(err: &mut E, fault: ExtFault)
-    ensures { Tells E.written E.faults E.wants err.old err.new
-        (ext_fault_line fault) }
+/// The line of an entry that ends too far, numbered from 0.
+fn tell_entry<E: Sink>(err: &mut E, name: &str, index: u32)
+    ensures { Tells E.Sink err.old err.new (entry_line name.now index) }
 {
-    match fault {
-        ExtFault::EntryTooFar { index } => {
-            let mut buffer = Buffer::new();
-            let index = buffer.format(index);
-            put_all(err, &["bootmem: e820ext: entry ", index, " too far\n"])
-        }
-        ExtFault::ExtHeader => put_all(err, &["bootmem: e820ext: header\n"]),
-        ExtFault::ExtLength => put_all(err, &["bootmem: e820ext: length\n"]),
-        ExtFault::Memory => put_all(err, &["bootmem: out of memory\n"]),
-    }
+    let mut buffer = Buffer::new();
+    let index = buffer.format(index);
+    put_line(err, &["bootmem: ", name, ": entry ", index, " too far\n"])
 }
 
-fn tell_option_fault<E: Sink>(err: &mut E, fault: OptionFault)
-    ensures { Tells E.written E.faults E.wants err.old err.new
-        (option_fault_line fault) }
-{
-    match fault {
-        OptionFault::TooLong => put_all(err, &["bootmem: cmdline: line too long\n"]),
-        OptionFault::OpenQuote => put_all(err, &["bootmem: cmdline: open quote\n"]),
-        OptionFault::BadMem { word } => tell_word(err, word, "mem"),
-        OptionFault::BadMemmap { word } => tell_word(err, word, "memmap"),
-        OptionFault::UserMapInvalid { word } => tell_word(err, word, "user map"),
-        OptionFault::BadNuma { word } => tell_word(err, word, "numa"),
-        OptionFault::Memory => put_all(err, &["bootmem: out of memory\n"]),
-    }
-}
-
-/// The line of a word of the command line, numbered from 1.
-fn tell_word<E: Sink>(err: &mut E, word: u32, what: &str)
-    ensures { Tells E.written E.faults E.wants err.old err.new
-        (word_line word what.now) }
+/// The line of a word of the file, numbered from 1.
+fn tell_word<'a, E: Sink>(err: &mut E, name: &'a str, word: u32, what: &'a str)
+    ensures { Tells E.Sink err.old err.new (word_line name.now word what.now) }
 {
     let mut buffer = Buffer::new();
     let word = buffer.format(word);
-    put_all(err, &["bootmem: cmdline: word ", word, ": ", what, "\n"])
+    put_line(err, &["bootmem: ", name, ": word ", word, ": ", what, "\n"])
 }
 
-fn tell_stop<E: Sink>(err: &mut E, stop: Stop)
-    ensures { Tells E.written E.faults E.wants err.old err.new
-        (stop_line stop) }
+fn tell_cause<E: Sink>(err: &mut E, cause: Cause)
+    ensures { Tells E.Sink err.old err.new (cause_line cause) }
 {
-    match stop {
-        Stop::NoRam => put_all(err, &["bootmem: stopped: no usable frame\n"]),
-        Stop::TooMuchRam { frames } => {
+    match cause {
+        Cause::NoRam => put_line(err, &["bootmem: stopped: no usable frame\n"]),
+        Cause::TooMuchRam { frames } => {
             let mut buffer = Buffer::new();
             let frames = buffer.format(frames);
-            put_all(err, &["bootmem: stopped: ", frames, " usable frames\n"])
+            put_line(err, &["bootmem: stopped: ", frames, " usable frames\n"])
         }
-        Stop::MapFull { runs } => {
+        Cause::MapFull { runs } => {
             let mut buffer = Buffer::new();
             let runs = buffer.format(runs);
-            put_all(err, &["bootmem: stopped: ", runs, " map runs\n"])
+            put_line(err, &["bootmem: stopped: ", runs, " map runs\n"])
         }
-        Stop::Memory => put_all(err, &["bootmem: out of memory\n"]),
     }
 }
 
-/// The word for an input.
-fn input_text(input: Input) -> &'static str
-    ensures { result.now ≡ input_text input }
+/// Puts the pieces of a line, up to the first that is refused.
+fn put_line<E: Sink>(err: &mut E, pieces: &[&str])
+    ensures { Tells E.Sink err.old err.new (flat_map (λ piece. piece.now) pieces.now) }
 {
-    match input {
-        Input::ZeroPage => "zeropage",
-        Input::Extension => "e820ext",
-        Input::CommandLine => "cmdline",
-    }
-}
-
-/// Puts the pieces, up to the first that is refused.
-fn put_all<E: Sink>(err: &mut E, pieces: &[&str])
-    ensures { Tells E.written E.faults E.wants err.old err.new
-        (flat_map (λ piece. piece.now) pieces.now) }
-{
-    for piece in pieces {
-        if err.put(piece.as_bytes()).is_err() {
-            return;
-        }
-    }
+    let _put = put_all(err, pieces);
 }

@@ -1,67 +1,74 @@
+//! The words of the command line: which are accepted, and what they ask for.
+
 ghost use Rattle.std.specs.Prelude.{◌≡◌};
 ghost use Rattle.std.specs.Option.{option_map, option_copied};
-ghost use Rattle.bootmem_cli.specs.Words.{texts, accepted, are_spelled, is_option, is_report, is_value, name_of, name_text, value_of, word_behind};
-ghost use Rattle.bootmem_cli.specs.View.{names_view};
+ghost use Rattle.bootmem_cli.specs.Words.{texts, accepted, are_good, are_spelled, is_option, is_value, name_text, named_by, report_in, stand_once, value_of, word_behind};
+ghost use Rattle.bootmem_cli.specs.View.{wanted_view};
 
-use crate::failure::Input;
+use boot_inputs::{Input, Names};
+use debugfs_reports::{Report, report_named};
 
-/// The files that the words name.
+/// What accepted words ask for. The names of files are looked up in the words.
 #[derive(Clone, Copy, Debug)]
-pub struct Names<'w> {
-    /// The zero page.
-    pub zero_page: &'w str,
-    /// The E820 extension, if there is one.
-    pub extension: Option<&'w str>,
-    /// The command line of the kernel, if there is one.
-    pub command_line: Option<&'w str>,
+pub struct Wanted<'w> {
+    /// The words after the program's name.
+    pub words: &'w [String],
+    /// The report.
+    pub report: Report,
 }
 
-impl<'w> Names<'w> {
-    /// The name of an input's file, if there is one.
-    pub fn of(&self, input: Input) -> Option<&'w str>
-        ensures { option_copied result ≡ name_of (names_view self.now) input }
-    {
+impl<'w> Names for Wanted<'w> {
+    ghost use Rattle.bootmem_cli.specs.Words.{texts, name_in};
+
+    ghost named = { λ wanted. name_in (texts wanted.words.now) };
+
+    #[tactic(auto, unfolding(crate::specs::Words::name_in))]
+    fn of(&self, input: Input) -> Option<&str> {
         match input {
-            Input::ZeroPage => Some(self.zero_page),
-            Input::Extension => self.extension,
-            Input::CommandLine => self.command_line,
+            Input::ZeroPage => word_behind(self.words),
+            Input::Extension => named_by(self.words, "--e820ext"),
+            Input::CommandLine => named_by(self.words, "--cmdline"),
         }
     }
 }
 
 /// The name of an input's file, empty where there is none or the words weren't accepted.
-pub fn name_text<'w>(names: Option<Names<'w>>, input: Input) -> &'w str
-    ensures { result.now ≡ name_text (option_map names_view names.entry) input }
+pub fn name_text<'a>(wanted: &'a Option<Wanted<'_>>, input: Input) -> &'a str
+    ensures { result.now ≡ name_text (option_map wanted_view wanted.now) input }
 {
-    match names {
-        Some(names) => names.of(input).unwrap_or(""),
+    match wanted {
+        Some(wanted) => wanted.of(input).unwrap_or(""),
         None => "",
     }
 }
 
-/// The files that the words name; `None` exactly where the words aren't accepted.
-pub fn read_words(words: &[String]) -> Option<Names<'_>>
-    ensures { option_map names_view result ≡ accepted (texts words.now) }
+/// What the words ask for; `None` exactly where they aren't accepted.
+pub fn read_words(words: &[String]) -> Option<Wanted<'_>>
+    ensures { option_map wanted_view result ≡ accepted (texts words.now) }
 {
-    let zero_page = word_behind(words)?;
-    let report = value_of(words, "--report")?;
-    let extension = value_of(words, "--e820ext")?;
-    let command_line = value_of(words, "--cmdline")?;
-    if !(are_spelled(words) && is_report(report)) {
+    let report = report_in(words)?;
+    if !are_good(words) {
         return None;
     }
-    Some(Names {
-        zero_page,
-        extension,
-        command_line,
-    })
+    Some(Wanted { words, report })
 }
 
-/// Whether it is the report that there is.
-fn is_report(report: Option<&str>) -> bool
-    ensures { result ≡ is_report (option_copied report.entry) }
+/// The report that is asked for.
+fn report_in(words: &[String]) -> Option<Report>
+    ensures { result ≡ report_in (texts words.now) }
 {
-    report == Some("map")
+    match named_by(words, "--report") {
+        Some(name) => report_named(name.as_bytes()),
+        None => None,
+    }
+}
+
+/// Whether every option is known and stands once, every other word may stand where it stands, and
+/// there is a name behind the pairs.
+fn are_good(words: &[String]) -> bool
+    ensures { result ≡ are_good (texts words.now) }
+{
+    are_spelled(words) && stand_once(words) && word_behind(words).is_some()
 }
 
 /// Whether every option is known, and every other word may stand where it stands.
@@ -88,6 +95,15 @@ fn is_option(word: &str) -> bool
     word == "--report" || word == "--e820ext" || word == "--cmdline"
 }
 
+/// Whether no option stands twice.
+fn stand_once(words: &[String]) -> bool
+    ensures { result ≡ stand_once (texts words.now) }
+{
+    value_of(words, "--report").is_some()
+        && value_of(words, "--e820ext").is_some()
+        && value_of(words, "--cmdline").is_some()
+}
+
 /// Whether the word may stand where a value or a name is expected.
 fn is_value(word: &str) -> bool
     ensures { result ≡ is_value word.now }
@@ -106,6 +122,16 @@ fn word_behind(words: &[String]) -> Option<&str>
     match rest {
         [name] => Some(name.as_str()),
         _ => None,
+    }
+}
+
+/// The value of an option that stands once.
+fn named_by<'w>(words: &'w [String], option: &str) -> Option<&'w str>
+    ensures { option_copied result ≡ named_by option.now (texts words.now) }
+{
+    match value_of(words, option) {
+        Some(value) => value,
+        None => None,
     }
 }
 

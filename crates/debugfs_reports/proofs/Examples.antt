@@ -1,8 +1,7 @@
 -- Small reports and their parts, by computing.
-use Rattle.std.proofs.Common.{◌≡◌, ℕ, List, [], ◌∷◌, ◌++◌, codes, false, Some, None, decimal, refl}
+use Rattle.std.proofs.Common.{◌≡◌, ℕ, [], ◌∷◌, ◌++◌, codes, false, Some, None, decimal, refl}
 use Rattle.std.specs.Fmt.{digits}
 use Rattle.address_runs.specs.Runs.{RunOf}
-use Rattle.boot_model.specs.Boot.{Made}
 use Rattle.debugfs_reports.specs.declared.report.Report.TheVariants as reports
 use Rattle.debugfs_reports.specs.Lines.{lines_from, range_text}
 use Rattle.debugfs_reports.specs.MapText.{kind_name, map_line, range_of}

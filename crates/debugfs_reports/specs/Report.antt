@@ -1,5 +1,5 @@
 -- The reports that there are: the name and the text of each.
-use Rattle.std.specs.Prelude.{ℕ, Bool, List, [], ◌∷◌, codes, Option, find}
+use Rattle.std.specs.Prelude.{ℕ, List, [], ◌∷◌, codes, Option, find}
 use Rattle.std.specs.Str.{bytes_eq}
 use Rattle.boot_model.specs.Boot.{Made}
 use Rattle.debugfs_reports.specs.declared.report.Report.{Report}

@@ -2,6 +2,5 @@ mod ClaimExamples
 pub mod ClaimLaws
 pub mod GreaterLaws
 mod MapExamples
-mod MapTextExamples
 mod UsableExamples
 pub mod UsableLaws

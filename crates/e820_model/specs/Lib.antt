@@ -1,5 +1,4 @@
 pub mod Claims
 pub mod Greater
 pub mod Map
-pub mod MapText
 pub mod Usable

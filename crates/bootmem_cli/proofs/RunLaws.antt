@@ -1,0 +1,137 @@
+-- What follows of a run's record: the statuses that an outcome may end with, and the line of each failure.
+use Rattle.std.proofs.Common.{◌≡◌, ◌≢◌, ℕ, List, Option, Some, None, Result, Ok, Err, refl, inl, inr, sym, subst, ◌∙◌, arith}
+use Rattle.std.specs.Prelude.{IfSome, IsNone, IsSome}
+use Rattle.bm_base.specs.ResultSteps.{◌>>=◌}
+use Rattle.bm_io.specs.Told.{AppendsFront}
+use Rattle.bm_io.specs.declared.writing.Sink.{Ghosts as SinkOf}
+use Rattle.boot_inputs.specs.declared.input.Input.{Input}
+use Rattle.boot_inputs.specs.declared.refusal.Refusal.{Refusal}
+use Rattle.boot_inputs.specs.declared.refusal.Refusal.TheVariants as refusals
+use Rattle.boot_inputs.specs.Inputs.{Held, inputs_of}
+use Rattle.boot_model.specs.declared.stop.Cause.{Cause}
+use Rattle.boot_model.specs.Boot.{Given, Made, boot}
+use Rattle.debugfs_reports.specs.Report.{report_text}
+use Rattle.bootmem_cli.specs.declared.failure.Reason.{Reason}
+use Rattle.bootmem_cli.specs.declared.failure.Reason.TheVariants as reasons
+use Rattle.bootmem_cli.specs.declared.failure.Failure.{Failure}
+use Rattle.bootmem_cli.specs.declared.failure.Failure.TheVariants as failures
+use Rattle.bootmem_cli.specs.Answers.{EndFits, EndHasCause, Ends, FailureHasCause, IsText, ReachesFile, RoseFor, Writes}
+use Rattle.bootmem_cli.specs.Line.{Tells, failure_line}
+use Rattle.bootmem_cli.specs.Outcome.{or_refused, or_stopped, outcome, reported}
+use Rattle.bootmem_cli.specs.Run.{IsTold}
+use Rattle.bootmem_cli.specs.Status.{End, status_of, status_of_end}
+use Rattle.bootmem_cli.specs.Words.{Wanted}
+
+-- with accepted words the outcome isn't that they are refused: by the types of what comes behind them
+abbrev NotUsage : Result (List ℕ) Reason → Type 0
+NotUsage (Ok text) = Unit {0}
+NotUsage (Err reasons.Usage) = ⊥
+NotUsage (Err (reasons.Refused refusal)) = Unit {0}
+NotUsage (Err (reasons.Stopped cause)) = Unit {0}
+
+past_inputs : (said : Result Given Refusal) (next : Given → Result (List ℕ) Reason) → ((given : Given) → NotUsage (next given))
+    → NotUsage (or_refused said >>= next)
+past_inputs (Ok given) next later = later given
+past_inputs (Err refusal) next later = tt
+
+past_boot : (made : Result Made Cause) (shown : Made → List ℕ) → NotUsage (or_stopped made >>= λ m. Ok (shown m))
+past_boot (Ok made) shown = tt
+past_boot (Err cause) shown = tt
+
+past_words : (held : Held) (accepted : Option Wanted) → IsSome accepted → NotUsage (outcome accepted held)
+past_words held None some = cc
+past_words held (Some wanted) some =
+    past_inputs (inputs_of held wanted.named) (reported wanted.report) (λ given. past_boot (boot given) (report_text wanted.report))
+
+-- the statuses, by the outcome
+ends_unread : (said : Result (List ℕ) Reason) (input : Input) → ReachesFile input said → Ends said 3
+ends_unread (Ok text) input reaches = inr (inl refl)
+ends_unread (Err reasons.Usage) input reaches = absurd reaches
+ends_unread (Err (reasons.Refused (refusals.Unread other))) input reaches = inl refl
+ends_unread (Err (reasons.Refused (refusals.Faulty other fault))) input reaches = inr (inl refl)
+ends_unread (Err (reasons.Stopped cause)) input reaches = inr (inl refl)
+
+ends_unwritten : (said : Result (List ℕ) Reason) (P : List ℕ → Type 0) → IsText said P → Ends said 4
+ends_unwritten (Ok text) P is = inr (inr (inl refl))
+ends_unwritten (Err reason) P is = absurd is
+
+ends_wanting : (said : Result (List ℕ) Reason) → NotUsage said → Ends said 7
+ends_wanting (Ok text) past = inr (inr (inr refl))
+ends_wanting (Err reasons.Usage) past = absurd past
+ends_wanting (Err (reasons.Refused (refusals.Unread other))) past = inr refl
+ends_wanting (Err (reasons.Refused (refusals.Faulty other fault))) past = inr (inr refl)
+ends_wanting (Err (reasons.Stopped cause)) past = inr (inr refl)
+
+ends_by : (said : Result (List ℕ) Reason) (end : End) (old new : Option (List ℕ))
+    → (end ≡ Err failures.Memory → NotUsage said) → Writes old new end said → Ends said (status_of_end end)
+ends_by (Ok text) (Ok done) old new past writes = inl refl
+ends_by (Err reason) (Ok done) old new past writes = absurd writes
+ends_by said (Err (failures.NoReport reasons.Usage)) old new past writes =
+    let P : Result (List ℕ) Reason → Type 0 = λ s. Ends s 2 in subst P (sym writes) refl
+ends_by said (Err (failures.NoReport (reasons.Refused (refusals.Unread input)))) old new past writes = ends_unread said input writes
+ends_by said (Err (failures.NoReport (reasons.Refused (refusals.Faulty input fault)))) old new past writes =
+    let P : Result (List ℕ) Reason → Type 0 = λ s. Ends s 5 in subst P (sym writes) (inl refl)
+ends_by said (Err (failures.NoReport (reasons.Stopped cause))) old new past writes =
+    let P : Result (List ℕ) Reason → Type 0 = λ s. Ends s 6 in subst P (sym writes) (inl refl)
+ends_by said (Err failures.Unwritten) old new past writes = ends_unwritten said (λ text. AppendsFront old new text) writes
+ends_by said (Err failures.Memory) old new past writes = ends_wanting said (past refl)
+
+-- the status is one that the outcome may end with, where the files tell what they hold
+pub ran_answers : (holds : Option Held) (before now : List ℕ → ℕ) (accepted : Option Wanted) (end : End) (status : ℕ) (old new : Option (List ℕ))
+    → status ≡ status_of_end end → EndHasCause before now accepted end
+    → IfSome holds (λ held. Writes old new end (outcome accepted held)) → IfSome holds (λ held. Ends (outcome accepted held) status)
+ran_answers None before now accepted end status old new is cause writes = tt
+ran_answers (Some held) before now accepted end status old new is cause writes =
+    rw is (ends_by (outcome accepted held) end old new
+    (λ wanting. let P : End → Type 0 = λ e. EndHasCause before now accepted e in past_words held accepted (subst P wanting cause))
+    writes)
+
+-- a failure fits the outcome
+end_fits : (said : Result (List ℕ) Reason) (failure : Failure) (old new : Option (List ℕ)) → Writes old new (Err failure) said → EndFits failure said
+end_fits said (failures.NoReport reason) old new writes = writes
+end_fits (Ok text) failures.Unwritten old new writes = tt
+end_fits (Err reason) failures.Unwritten old new writes = absurd writes
+end_fits said failures.Memory old new writes = tt
+
+fits_held : (holds : Option Held) (accepted : Option Wanted) (failure : Failure) (old new : Option (List ℕ))
+    → IfSome holds (λ held. Writes old new (Err failure) (outcome accepted held)) → IfSome holds (λ held. EndFits failure (outcome accepted held))
+fits_held None accepted failure old new writes = tt
+fits_held (Some held) accepted failure old new writes = end_fits (outcome accepted held) failure old new writes
+
+-- after any status but 0 the line is that of a failure that has the status and its cause, and fits the outcome
+pub ran_line : {E : Type 0} (errors : SinkOf E) (holds : Option Held) (before now : List ℕ → ℕ) (accepted : Option Wanted) (end : End) (status : ℕ)
+    (err_old err_new : E) (old new : Option (List ℕ))
+    → status ≡ status_of_end end → EndHasCause before now accepted end → IsTold errors accepted err_old err_new end
+    → IfSome holds (λ held. Writes old new end (outcome accepted held)) → status ≢ 0
+    → (failure : Failure) × (status ≡ status_of failure) × Tells errors err_old err_new (failure_line accepted failure)
+    × FailureHasCause before now accepted failure × IfSome holds (λ held. EndFits failure (outcome accepted held))
+ran_line errors holds before now accepted (Ok done) status err_old err_new old new is cause told writes other = absurd (other is)
+ran_line errors holds before now accepted (Err failure) status err_old err_new old new is cause told writes other =
+    (failure, is, told, cause, fits_held holds accepted failure old new writes)
+
+-- status 2 comes exactly where the words are refused
+both : (accepted : Option Wanted) → IsSome accepted → IsNone accepted → ⊥
+both None some none = cc
+both (Some wanted) some none = cc
+
+named_some : (before now : List ℕ → ℕ) (accepted : Option Wanted) (input : Input) → RoseFor before now accepted input → IsSome accepted
+named_some before now None input rose = absurd rose
+named_some before now (Some wanted) input rose = refl
+
+not_two : (accepted : Option Wanted) (status other : ℕ) → status ≡ other → other ≢ 2 → IsSome accepted
+    → (status ≡ 2 → IsNone accepted) × (IsNone accepted → status ≡ 2)
+not_two accepted status other is differs some =
+    ((λ two. absurd (differs (sym is ∙ two))), λ none. absurd (both accepted some none))
+
+pub ran_usage : (before now : List ℕ → ℕ) (accepted : Option Wanted) (end : End) (status : ℕ) → status ≡ status_of_end end
+    → EndHasCause before now accepted end → (status ≡ 2 → IsNone accepted) × (IsNone accepted → status ≡ 2)
+ran_usage before now accepted (Ok done) status is cause = not_two accepted status 0 is (λ same. omega (arith, same)) cause
+ran_usage before now accepted (Err (failures.NoReport reasons.Usage)) status is cause = ((λ two. cause), λ none. is)
+ran_usage before now accepted (Err (failures.NoReport (reasons.Refused (refusals.Unread input)))) status is cause =
+    not_two accepted status 3 is (λ same. omega (arith, same)) (named_some before now accepted input cause)
+ran_usage before now accepted (Err (failures.NoReport (reasons.Refused (refusals.Faulty input fault)))) status is cause =
+    not_two accepted status 5 is (λ same. omega (arith, same)) cause
+ran_usage before now accepted (Err (failures.NoReport (reasons.Stopped cause_of))) status is cause =
+    not_two accepted status 6 is (λ same. omega (arith, same)) cause
+ran_usage before now accepted (Err failures.Unwritten) status is cause = not_two accepted status 4 is (λ same. omega (arith, same)) cause
+ran_usage before now accepted (Err failures.Memory) status is cause = not_two accepted status 7 is (λ same. omega (arith, same)) cause

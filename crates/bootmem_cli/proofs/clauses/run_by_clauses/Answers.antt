@@ -1,0 +1,16 @@
+-- The clauses that speak of the outcome's statuses and of the line, from the record.
+use Rattle.bootmem_cli.proofs.RunLaws.{ran_answers, ran_line, ran_usage}
+use Rattle.bootmem_cli.proofs.clauses.run_by_clauses.Goals as goal
+
+pub returns-clause-answers : goal.returns-clause-answers
+returns-clause-answers g c =
+    let ran = c.run.ensures.2 in
+    ran_answers _ _ _ _ c.run.ensures.0 _ _ _ c.run.ensures.1 ran.cause ran.said
+
+pub returns-clause-line : goal.returns-clause-line
+returns-clause-line g c =
+    let ran = c.run.ensures.2 in
+    ran_line g.E.Sink _ _ _ _ c.run.ensures.0 _ _ _ _ _ c.run.ensures.1 ran.cause ran.line ran.said
+
+pub returns-clause-usage : goal.returns-clause-usage
+returns-clause-usage g c = ran_usage _ _ _ c.run.ensures.0 _ c.run.ensures.1 c.run.ensures.2.cause
