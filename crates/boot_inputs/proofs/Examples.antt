@@ -78,7 +78,8 @@ extension_is_said = refl
 bad_extension_said : extension_said (replicate 15 0) ≡ Err faults.Header
 bad_extension_said = refl
 
-line_said : (command_line_said (codes "quiet numa=off\n") ≡ Ok (record { edits = []; numa_off = true })) × (command_line_said (codes "numa=on") ≡ Err (faults.BadNuma 1))
+line_said : (command_line_said (codes "quiet numa=off\n") ≡ Ok (record { edits = []; numa_off = true }))
+    × (command_line_said (codes "numa=on") ≡ Err (faults.BadNuma 1))
 line_said = (refl, refl)
 
 -- the parts of those definitions
@@ -107,19 +108,23 @@ limit_examples = (refl, refl)
 limits : (limit_of inputs.ZeroPage ≡ 4096) × (limit_of inputs.Extension ≡ 61456)
 limits = (refl, refl)
 
-faulty_examples : (or_faulty {A = ℕ} inputs.Extension (Ok 7) ≡ Ok 7) × (or_faulty {A = ℕ} inputs.Extension (Err faults.Length) ≡ Err (refusals.Faulty inputs.Extension faults.Length))
+faulty_examples : (or_faulty {A = ℕ} inputs.Extension (Ok 7) ≡ Ok 7)
+    × (or_faulty {A = ℕ} inputs.Extension (Err faults.Length) ≡ Err (refusals.Faulty inputs.Extension faults.Length))
 faulty_examples = (refl, refl)
 
-unread_examples : (or_unread {A = List ℕ} inputs.ZeroPage None (λ bytes. Ok bytes) ≡ Err (refusals.Unread inputs.ZeroPage)) × (or_unread inputs.ZeroPage (Some (codes "a")) (λ bytes. Ok bytes) ≡ Ok (codes "a"))
+unread_examples : (or_unread {A = List ℕ} inputs.ZeroPage None (λ bytes. Ok bytes) ≡ Err (refusals.Unread inputs.ZeroPage))
+    × (or_unread inputs.ZeroPage (Some (codes "a")) (λ bytes. Ok bytes) ≡ Ok (codes "a"))
 unread_examples = (refl, refl)
 
-file_examples : (file_step held inputs.CommandLine command_line_said (codes "cmd") ≡ Ok (record { edits = []; numa_off = true })) × (file_step held inputs.CommandLine command_line_said (codes "no") ≡ Err (refusals.Unread inputs.CommandLine))
+file_examples : (file_step held inputs.CommandLine command_line_said (codes "cmd") ≡ Ok (record { edits = []; numa_off = true }))
+    × (file_step held inputs.CommandLine command_line_said (codes "no") ≡ Err (refusals.Unread inputs.CommandLine))
 file_examples = (refl, refl)
 
 long_page : file_step held inputs.ZeroPage zero_page_said (codes "long") ≡ Err (refusals.Faulty inputs.ZeroPage faults.TooLong)
 long_page = refl
 
-if_examples : (step_if held inputs.Extension [] extension_said None ≡ Ok []) × (step_if held inputs.Extension [] extension_said (Some (codes "bad")) ≡ Err (refusals.Faulty inputs.Extension faults.Header))
+if_examples : (step_if held inputs.Extension [] extension_said None ≡ Ok [])
+    × (step_if held inputs.Extension [] extension_said (Some (codes "bad")) ≡ Err (refusals.Faulty inputs.Extension faults.Header))
 if_examples = (refl, refl)
 
 -- the inputs in their order: of several faults, the first input's
@@ -128,13 +133,16 @@ all_inputs : inputs_of held (naming (codes "zp") (Some (codes "ext")) (Some (cod
 unfolding entry_at
 all_inputs = refl
 
-page_goes_first : inputs_of held (naming (codes "short") (Some (codes "bad")) (Some (codes "on"))) ≡ Err (refusals.Faulty inputs.ZeroPage faults.WrongLength)
+page_goes_first : inputs_of held (naming (codes "short") (Some (codes "bad")) (Some (codes "on")))
+    ≡ Err (refusals.Faulty inputs.ZeroPage faults.WrongLength)
 page_goes_first = refl
 
-fault_goes_before_a_missing_file : inputs_of held (naming (codes "short") (Some (codes "no")) None) ≡ Err (refusals.Faulty inputs.ZeroPage faults.WrongLength)
+fault_goes_before_a_missing_file : inputs_of held (naming (codes "short") (Some (codes "no")) None)
+    ≡ Err (refusals.Faulty inputs.ZeroPage faults.WrongLength)
 fault_goes_before_a_missing_file = refl
 
-extension_goes_second : inputs_of held (naming (codes "zp") (Some (codes "bad")) (Some (codes "no"))) ≡ Err (refusals.Faulty inputs.Extension faults.Header)
+extension_goes_second : inputs_of held (naming (codes "zp") (Some (codes "bad")) (Some (codes "no")))
+    ≡ Err (refusals.Faulty inputs.Extension faults.Header)
 unfolding entry_at
 extension_goes_second = refl
 
@@ -149,11 +157,13 @@ place_examples = (refl, refl)
 word_examples : (word_for inputs.ZeroPage ≡ codes "zeropage") × (word_for inputs.CommandLine ≡ codes "cmdline")
 word_examples = (refl, refl)
 
-input_examples : (input_of (refusals.Faulty inputs.Extension faults.TooLong) ≡ inputs.Extension) × (input_of (refusals.Unread inputs.CommandLine) ≡ inputs.CommandLine)
+input_examples : (input_of (refusals.Faulty inputs.Extension faults.TooLong) ≡ inputs.Extension)
+    × (input_of (refusals.Unread inputs.CommandLine) ≡ inputs.CommandLine)
 input_examples = (refl, refl)
 
 -- the work comes to the extension's file where the command line is at fault, or nothing is; not where the zero page is
-comes_to_it : ComesTo {Y = List ℕ} inputs.Extension (Err (refusals.Unread inputs.CommandLine)) × ComesTo {Y = List ℕ} inputs.Extension (Ok [])
+comes_to_it : ComesTo {Y = List ℕ} inputs.Extension (Err (refusals.Unread inputs.CommandLine))
+    × ComesTo {Y = List ℕ} inputs.Extension (Ok [])
 comes_to_it = (omega arith, tt)
 
 never_comes_to_it : ComesTo {Y = List ℕ} inputs.Extension (Err (refusals.Faulty inputs.ZeroPage faults.TooFew)) → ⊥
@@ -172,7 +182,8 @@ error_fits = (tt, λ same. cc same)
 gives_examples : Gives {X = ℕ} (λ n. codes "ab") (Ok 7) (Ok (codes "ab")) × (Gives {X = ℕ} (λ n. codes "ab") (Ok 7) few → ⊥)
 gives_examples = (refl, λ same. cc same)
 
-own_examples : IsOf {X = ℕ} inputs.Extension (Err (errors.Refused (refusals.Unread inputs.Extension))) × (IsOf {X = ℕ} inputs.Extension (Err (errors.Refused (refusals.Unread inputs.ZeroPage))) → ⊥)
+own_examples : IsOf {X = ℕ} inputs.Extension (Err (errors.Refused (refusals.Unread inputs.Extension)))
+    × (IsOf {X = ℕ} inputs.Extension (Err (errors.Refused (refusals.Unread inputs.ZeroPage))) → ⊥)
 own_examples = (refl, λ same. cc same)
 
 -- before the call no fetch of any name had failed; after it one of each had
@@ -182,14 +193,18 @@ before name = 0
 abbrev named : Named
 named = naming (codes "zp") (Some (codes "ext")) None
 
-rose_examples : RoseAt before (λ name. 1) (Some (codes "ext")) × (RoseAt before (λ name. 1) None → ⊥) × (RoseAt before before (Some (codes "ext")) → ⊥)
+rose_examples : RoseAt before (λ name. 1) (Some (codes "ext")) × (RoseAt before (λ name. 1) None → ⊥)
+    × (RoseAt before before (Some (codes "ext")) → ⊥)
 rose_examples = (omega arith, (λ rose. rose), λ rose. omega (arith, rose))
 
-refusal_causes : RefusalHasCause before (λ name. 1) named (refusals.Unread inputs.Extension) × (RefusalHasCause before (λ name. 1) named (refusals.Unread inputs.CommandLine) → ⊥)
+refusal_causes : RefusalHasCause before (λ name. 1) named (refusals.Unread inputs.Extension)
+    × (RefusalHasCause before (λ name. 1) named (refusals.Unread inputs.CommandLine) → ⊥)
 refusal_causes = (omega arith, λ rose. rose)
 
-cause_examples : HasCause {X = ℕ} before before named (Ok 7) × (HasCause {X = ℕ} before before named (Err (errors.Refused (refusals.Unread inputs.ZeroPage))) → ⊥)
+cause_examples : HasCause {X = ℕ} before before named (Ok 7) × (HasCause {X = ℕ} before before named
+    (Err (errors.Refused (refusals.Unread inputs.ZeroPage))) → ⊥)
 cause_examples = (tt, λ rose. omega (arith, rose))
 
-caused_examples : IsCaused {X = ℕ} 3 4 (Err (errors.Refused (refusals.Unread inputs.ZeroPage))) × (IsCaused {X = ℕ} 3 3 (Err (errors.Refused (refusals.Unread inputs.ZeroPage))) → ⊥)
+caused_examples : IsCaused {X = ℕ} 3 4 (Err (errors.Refused (refusals.Unread inputs.ZeroPage)))
+    × (IsCaused {X = ℕ} 3 3 (Err (errors.Refused (refusals.Unread inputs.ZeroPage))) → ⊥)
 caused_examples = (omega arith, λ rose. omega (arith, rose))

@@ -28,11 +28,13 @@ pub record GoesOn (given : Given) (made : Made) : Type 0 where
   pub judged : judged (types_in_reach given) ≡ None
 
 -- the first two stages leave what was made as it is, and go on only where they find nothing to stop for
-room_passed : (full : Bool) (cause : Cause) (before after : Made) → (if full then Err cause else Ok before) ≡ Ok after → (full ≡ false) × (before ≡ after)
+room_passed : (full : Bool) (cause : Cause) (before after : Made) → (if full then Err cause else Ok before) ≡ Ok after → (full ≡ false)
+    × (before ≡ after)
 room_passed true cause before after ends = absurd (cc)
 room_passed false cause before after ends = (refl, cc)
 
-frames_passed : (reason : Option MapStop) (before after : Made) → unless_stopped reason before ≡ Ok after → (reason ≡ None) × (before ≡ after)
+frames_passed : (reason : Option MapStop) (before after : Made) → unless_stopped reason before ≡ Ok after → (reason ≡ None)
+    × (before ≡ after)
 frames_passed None before after ends = (refl, cc)
 frames_passed (Some reason) before after ends = absurd (cc)
 

@@ -63,7 +63,8 @@ map_examples : (cause_of_map reasons.NoRam ≡ causes.NoRam) × (cause_of_map (r
 map_examples = (refl, refl)
 
 -- RAM and the kernel's own memory are memory; a reserved run isn't, nor is what lies in no run
-memory_examples : (lies_in_memory two_runs 0x1000 ≡ true) × (lies_in_memory two_runs 0x1FFF ≡ true) × (lies_in_memory two_runs 0x2000 ≡ false) × (lies_in_memory two_runs 0xFFF ≡ false)
+memory_examples : (lies_in_memory two_runs 0x1000 ≡ true) × (lies_in_memory two_runs 0x1FFF ≡ true)
+    × (lies_in_memory two_runs 0x2000 ≡ false) × (lies_in_memory two_runs 0xFFF ≡ false)
     × (lies_in_memory (record { base = 0; size = 1; value = 128 } ∷ []) 0 ≡ true)
 memory_examples = (refl, refl, refl, refl, refl)
 
@@ -109,7 +110,8 @@ no_frame : (c : Claims) → Nothing c → usable_frames (reachable MAX_PHYSMEM (
 unfolding usable_frames
 no_frame c nothing =
     count_none _ (2 ^ 52) (λ frame low.
-    usable_but (reachable MAX_PHYSMEM (kinds c)) frame (4096 * frame) (omega arith) (omega arith) (no_type_in_reach c nothing (4096 * frame)))
+    usable_but (reachable MAX_PHYSMEM (kinds c)) frame (4096 * frame) (omega arith) (omega arith)
+        (no_type_in_reach c nothing (4096 * frame)))
 
 abbrev empty : Entry
 empty = record { addr = 0; size = 0; kind = 0 }

@@ -27,11 +27,13 @@ last_stage (Ok made) = refl
 last_stage (Err cause) = refl
 
 -- what a map in its room, and one that isn't, tells of its number of runs
-told : (full : Bool) (runs : ℕ) (map items : List (RunOf ℕ)) → (if full then Err (faults.MapFull runs) else Ok map) ≡ Ok items → (full ≡ false) × (map ≡ items)
+told : (full : Bool) (runs : ℕ) (map items : List (RunOf ℕ)) → (if full then Err (faults.MapFull runs) else Ok map) ≡ Ok items
+    → (full ≡ false) × (map ≡ items)
 told true runs map items is = absurd (cc)
 told false runs map items is = (refl, cc)
 
-told_full : (full : Bool) (runs : ℕ) (map : List (RunOf ℕ)) (told : ℕ) → (if full then Err (faults.MapFull runs) else Ok map) ≡ Err (faults.MapFull told)
+told_full : (full : Bool) (runs : ℕ) (map : List (RunOf ℕ)) (told : ℕ) → (if full then Err (faults.MapFull runs) else Ok map)
+    ≡ Err (faults.MapFull told)
     → (full ≡ true) × (runs ≡ told)
 told_full true runs map told is = (refl, cc)
 told_full false runs map told is = absurd (cc)
@@ -65,12 +67,15 @@ judged_same given (Some reason) runs (Ok map) answers = absurd (cc)
 judged_same given (Some reason) runs (Err stop) answers = λ other. (let is = answers other in cc)
 
 -- the answer, judged, is what the boot's definition comes to
-pub boot_answers : (given : Given) (answer : MapAnswer) → Answers faults.Memory (λ runs. runs.items) answer (in_room (map_of (claims given)))
+pub boot_answers : (given : Given) (answer : MapAnswer) → Answers faults.Memory (λ runs. runs.items) answer
+    (in_room (map_of (claims given)))
     → IfOk answer (λ runs. IsRunsOf (kinds (claims given)) runs.items) → (result : Result (Vec (RunOf ℕ) Global) Stop)
-    → Answers stops.Memory (λ map. map.items) result (judged_answer answer) → Answers stops.Memory (made_of given) result (with_error stop_of (boot given))
+    → Answers stops.Memory (λ map. map.items) result (judged_answer answer)
+        → Answers stops.Memory (made_of given) result (with_error stop_of (boot given))
 boot_answers given (Ok runs) maps are result answers =
     let kinds_are : value_at runs.items ≡ kinds (claims given) = λ i x. are.each x i in
-    let P : TypeAt → Type 0 = λ f. Answers stops.Memory (λ (map : Vec (RunOf ℕ) Global). map.items) result (unless_stopped (judged (reachable MAX_PHYSMEM f)) runs.items) in
+    let P : TypeAt → Type 0 = λ f. Answers stops.Memory (λ (map : Vec (RunOf ℕ) Global). map.items) result
+        (unless_stopped (judged (reachable MAX_PHYSMEM f)) runs.items) in
     rw (decided given (Ok runs) maps) (judged_same given (judged (types_in_reach given)) runs result (subst P kinds_are answers))
 boot_answers given (Err (faults.MapFull runs)) maps are (Ok map) answers = absurd (cc)
 boot_answers given (Err (faults.MapFull runs)) maps are (Err stop) answers =

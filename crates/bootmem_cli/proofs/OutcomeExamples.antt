@@ -22,7 +22,8 @@ use Rattle.bootmem_cli.specs.View.{wanted_view}
 use Rattle.bootmem_cli.specs.Words.{Wanted, name_in, texts}
 
 abbrev wanting : List ℕ → Wanted
-wanting zero_page = record { named = λ input. (elim input [ inputs.ZeroPage ↦ Some zero_page | inputs.Extension ↦ Some (codes "ext") | inputs.CommandLine ↦ None ]); report = reports.Map }
+wanting zero_page = record { named = λ input. (elim input [ inputs.ZeroPage ↦ Some zero_page | inputs.Extension ↦ Some (codes "ext") |
+    inputs.CommandLine ↦ None ]); report = reports.Map }
 
 -- one file, a zero page that is too short
 abbrev held : Held
@@ -35,14 +36,16 @@ refused_words h = refl
 without_a_page : outcome (Some (wanting (codes "no"))) held ≡ Err (reasons.Refused (refusals.Unread inputs.ZeroPage))
 without_a_page = refl
 
-with_a_short_page : outcome (Some (wanting (codes "short"))) held ≡ Err (reasons.Refused (refusals.Faulty inputs.ZeroPage faults.WrongLength))
+with_a_short_page : outcome (Some (wanting (codes "short"))) held
+    ≡ Err (reasons.Refused (refusals.Faulty inputs.ZeroPage faults.WrongLength))
 with_a_short_page = refl
 
 -- the parts of that definition
 usage_examples : (or_usage None ≡ Err reasons.Usage) × (or_usage (Some (wanting (codes "zp"))) ≡ Ok (wanting (codes "zp")))
 usage_examples = (refl, refl)
 
-refused_examples : (or_refused {A = ℕ} (Ok 7) ≡ Ok 7) × (or_refused {A = ℕ} (Err (refusals.Unread inputs.ZeroPage)) ≡ Err (reasons.Refused (refusals.Unread inputs.ZeroPage)))
+refused_examples : (or_refused {A = ℕ} (Ok 7) ≡ Ok 7) × (or_refused {A = ℕ} (Err (refusals.Unread inputs.ZeroPage))
+    ≡ Err (reasons.Refused (refusals.Unread inputs.ZeroPage)))
 refused_examples = (refl, refl)
 
 stopped_examples : (or_stopped {A = ℕ} (Ok 7) ≡ Ok 7) × (or_stopped {A = ℕ} (Err causes.NoRam) ≡ Err (reasons.Stopped causes.NoRam))
@@ -58,7 +61,8 @@ abbrev too_few : Result (List ℕ) Reason
 too_few = Err (reasons.Refused (refusals.Faulty inputs.ZeroPage faults.TooFew))
 
 -- the work comes to the extension's file where nothing is at fault; not where the zero page is, or the words are
-reaches_examples : ReachesFile inputs.Extension text × (ReachesFile inputs.Extension too_few → ⊥) × (ReachesFile {Y = ℕ} inputs.Extension (Err reasons.Usage) → ⊥)
+reaches_examples : ReachesFile inputs.Extension text × (ReachesFile inputs.Extension too_few → ⊥)
+    × (ReachesFile {Y = ℕ} inputs.Extension (Err reasons.Usage) → ⊥)
 reaches_examples = (tt, (λ comes. omega (arith, comes)), λ comes. comes)
 
 file_fits : FitsFile (refusals.Faulty inputs.ZeroPage faults.TooFew) too_few × FitsFile (refusals.Unread inputs.CommandLine) text
@@ -71,7 +75,8 @@ reason_fits = (refl, λ same. cc same)
 failure_fits : FitsFailure failures.Memory text × (FitsFailure failures.Unwritten text → ⊥)
 failure_fits = (tt, λ fits. fits)
 
-makes_examples : Makes (λ (n : ℕ). codes "ab") (Ok 7) text × (Makes {X = ℕ} (λ n. codes "ab") (Err (failures.NoReport reasons.Usage)) text → ⊥)
+makes_examples : Makes (λ (n : ℕ). codes "ab") (Ok 7) text × (Makes {X = ℕ} (λ n. codes "ab") (Err (failures.NoReport reasons.Usage)) text
+    → ⊥)
 makes_examples = (refl, λ same. cc same)
 
 -- before the call no fetch of any name had failed; after it one of each had
@@ -81,17 +86,21 @@ before name = 0
 abbrev wanted : Option Wanted
 wanted = Some (wanting (codes "zp"))
 
-rose_examples : RoseFor before (λ name. 1) wanted inputs.Extension × (RoseFor before (λ name. 1) wanted inputs.CommandLine → ⊥) × (RoseFor before before wanted inputs.ZeroPage → ⊥)
+rose_examples : RoseFor before (λ name. 1) wanted inputs.Extension × (RoseFor before (λ name. 1) wanted inputs.CommandLine → ⊥)
+    × (RoseFor before before wanted inputs.ZeroPage → ⊥)
 rose_examples = (omega arith, (λ rose. rose), λ rose. omega (arith, rose))
 
-file_causes : FileHasCause before (λ name. 1) wanted (refusals.Unread inputs.Extension) × (FileHasCause before before None (refusals.Faulty inputs.ZeroPage faults.TooFew) → ⊥)
+file_causes : FileHasCause before (λ name. 1) wanted (refusals.Unread inputs.Extension)
+    × (FileHasCause before before None (refusals.Faulty inputs.ZeroPage faults.TooFew) → ⊥)
 file_causes = (omega arith, λ some. cc some)
 
 -- refused words are the cause of status 2 alone
-reason_causes : ReasonHasCause before before None reasons.Usage × (ReasonHasCause before before wanted (reasons.Refused (refusals.Unread inputs.Extension)) → ⊥)
+reason_causes : ReasonHasCause before before None reasons.Usage
+    × (ReasonHasCause before before wanted (reasons.Refused (refusals.Unread inputs.Extension)) → ⊥)
 reason_causes = (refl, λ rose. omega (arith, rose))
 
-report_causes : ReportHasCause {X = ℕ} before before wanted (Ok 7) × (ReportHasCause {X = ℕ} before before wanted (Err failures.Unwritten) → ⊥)
+report_causes : ReportHasCause {X = ℕ} before before wanted (Ok 7)
+    × (ReportHasCause {X = ℕ} before before wanted (Err failures.Unwritten) → ⊥)
 report_causes = (refl, λ cause. cause)
 
 failure_causes : FailureHasCause before before wanted failures.Memory × (FailureHasCause before before None failures.Memory → ⊥)
@@ -100,7 +109,8 @@ failure_causes = (refl, λ some. cc some)
 end_causes : EndHasCause before before wanted (Ok tt) × (EndHasCause before before None (Ok tt) → ⊥)
 end_causes = (refl, λ some. cc some)
 
-boot_examples : IsOfBoot {X = ℕ} (Err (failures.NoReport (reasons.Stopped causes.NoRam))) × (IsOfBoot {X = ℕ} (Err (failures.NoReport reasons.Usage)) → ⊥)
+boot_examples : IsOfBoot {X = ℕ} (Err (failures.NoReport (reasons.Stopped causes.NoRam)))
+    × (IsOfBoot {X = ℕ} (Err (failures.NoReport reasons.Usage)) → ⊥)
 boot_examples = (tt, λ of_boot. of_boot)
 
 -- an outcome is a text, a fault or a stop
@@ -127,14 +137,16 @@ stop_ends : Ends (Err (reasons.Stopped causes.NoRam)) 6 × (Ends (Err (reasons.S
 stop_ends = (inl refl, λ ends. grind arith)
 
 -- written whole, in part, and not at all
-writes_examples : Writes (Some []) (Some (codes "ab")) (Ok tt) text × Writes (Some []) (Some (codes "a")) (Err failures.Unwritten) text × Writes (Some []) (Some []) (Err failures.Memory) text
+writes_examples : Writes (Some []) (Some (codes "ab")) (Ok tt) text × Writes (Some []) (Some (codes "a")) (Err failures.Unwritten) text
+    × Writes (Some []) (Some []) (Err failures.Memory) text
 writes_examples = (refl, (1, omega arith, refl), inl refl)
 
 written_short : Writes (Some []) (Some (codes "a")) (Ok tt) text → ⊥
 written_short same = cc same
 
 -- an output object that is a count of faults: it rose where a put failed, and is as it was where nothing was put
-writing_examples : WritingHasCause {S = ℕ} (λ s. s) (λ s. 0) 3 4 (Err failures.Unwritten) × WritingHasCause {S = ℕ} (λ s. s) (λ s. 0) 3 3 (Err (failures.NoReport reasons.Usage))
+writing_examples : WritingHasCause {S = ℕ} (λ s. s) (λ s. 0) 3 4 (Err failures.Unwritten)
+    × WritingHasCause {S = ℕ} (λ s. s) (λ s. 0) 3 3 (Err (failures.NoReport reasons.Usage))
 writing_examples = (omega arith, refl)
 
 writing_without_a_cause : WritingHasCause {S = ℕ} (λ s. s) (λ s. 0) 3 3 (Err failures.Unwritten) → ⊥

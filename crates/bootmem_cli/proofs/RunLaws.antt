@@ -77,7 +77,8 @@ ends_by said (Err failures.Unwritten) old new past writes = ends_unwritten said 
 ends_by said (Err failures.Memory) old new past writes = ends_wanting said (past refl)
 
 -- the status is one that the outcome may end with, where the files tell what they hold
-pub ran_answers : (holds : Option Held) (before now : List ℕ → ℕ) (accepted : Option Wanted) (end : End) (status : ℕ) (old new : Option (List ℕ))
+pub ran_answers : (holds : Option Held) (before now : List ℕ → ℕ) (accepted : Option Wanted) (end : End) (status : ℕ)
+    (old new : Option (List ℕ))
     → status ≡ status_of_end end → EndHasCause before now accepted end
     → IfSome holds (λ held. Writes old new end (outcome accepted held)) → IfSome holds (λ held. Ends (outcome accepted held) status)
 ran_answers None before now accepted end status old new is cause writes = tt
@@ -87,19 +88,22 @@ ran_answers (Some held) before now accepted end status old new is cause writes =
     writes)
 
 -- a failure fits the outcome
-end_fits : (said : Result (List ℕ) Reason) (failure : Failure) (old new : Option (List ℕ)) → Writes old new (Err failure) said → EndFits failure said
+end_fits : (said : Result (List ℕ) Reason) (failure : Failure) (old new : Option (List ℕ)) → Writes old new (Err failure) said
+    → EndFits failure said
 end_fits said (failures.NoReport reason) old new writes = writes
 end_fits (Ok text) failures.Unwritten old new writes = tt
 end_fits (Err reason) failures.Unwritten old new writes = absurd writes
 end_fits said failures.Memory old new writes = tt
 
 fits_held : (holds : Option Held) (accepted : Option Wanted) (failure : Failure) (old new : Option (List ℕ))
-    → IfSome holds (λ held. Writes old new (Err failure) (outcome accepted held)) → IfSome holds (λ held. EndFits failure (outcome accepted held))
+    → IfSome holds (λ held. Writes old new (Err failure) (outcome accepted held))
+        → IfSome holds (λ held. EndFits failure (outcome accepted held))
 fits_held None accepted failure old new writes = tt
 fits_held (Some held) accepted failure old new writes = end_fits (outcome accepted held) failure old new writes
 
 -- after any status but 0 the line is that of a failure that has the status and its cause, and fits the outcome
-pub ran_line : {E : Type 0} (errors : SinkOf E) (holds : Option Held) (before now : List ℕ → ℕ) (accepted : Option Wanted) (end : End) (status : ℕ)
+pub ran_line : {E : Type 0} (errors : SinkOf E) (holds : Option Held) (before now : List ℕ → ℕ) (accepted : Option Wanted) (end : End)
+    (status : ℕ)
     (err_old err_new : E) (old new : Option (List ℕ))
     → status ≡ status_of_end end → EndHasCause before now accepted end → IsTold errors accepted err_old err_new end
     → IfSome holds (λ held. Writes old new end (outcome accepted held)) → status ≢ 0

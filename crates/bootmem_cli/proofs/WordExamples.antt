@@ -22,7 +22,8 @@ pub record Found : Type 0 where
   pub command_line : Option (List ℕ)
 
 abbrev found : Wanted → Found
-found wanted = record { zero_page = wanted.named inputs.ZeroPage; extension = wanted.named inputs.Extension; command_line = wanted.named inputs.CommandLine }
+found wanted = record { zero_page = wanted.named inputs.ZeroPage; extension = wanted.named inputs.Extension; command_line = wanted.named
+    inputs.CommandLine }
 
 abbrev files_of : List (List ℕ) → Option Found
 files_of words = option_map found (accepted words)
@@ -69,7 +70,8 @@ no_name = refl
 report_twice : accepted (codes "--report" ∷ codes "map" ∷ codes "--report" ∷ codes "map" ∷ codes "zp" ∷ []) ≡ None
 report_twice = refl
 
-extension_twice : accepted (codes "--report" ∷ codes "map" ∷ codes "--e820ext" ∷ codes "a" ∷ codes "--e820ext" ∷ codes "b" ∷ codes "zp" ∷ []) ≡ None
+extension_twice : accepted (codes "--report" ∷ codes "map" ∷ codes "--e820ext" ∷ codes "a" ∷ codes "--e820ext" ∷ codes "b" ∷ codes "zp" ∷
+    []) ≡ None
 extension_twice = refl
 
 words_behind_the_name : (accepted (codes "--report" ∷ codes "map" ∷ codes "zp" ∷ codes "zp" ∷ []) ≡ None)
@@ -89,15 +91,18 @@ name_with_a_dash : accepted (codes "--report" ∷ codes "map" ∷ codes "-zp" �
 name_with_a_dash = refl
 
 -- an empty word is a name; that there is no such file is found by reading it
-empty_name : files_of (codes "--report" ∷ codes "map" ∷ [] ∷ []) ≡ Some (record { zero_page = Some []; extension = None; command_line = None })
+empty_name : files_of (codes "--report" ∷ codes "map" ∷ [] ∷ [])
+    ≡ Some (record { zero_page = Some []; extension = None; command_line = None })
 unfolding name_in
 empty_name = refl
 
 -- the parts of that definition
-value_examples : (is_value (codes "zp") ≡ true) × (is_value (codes "z-p") ≡ true) × (is_value [] ≡ true) × (is_value (codes "-") ≡ false) × (is_value (codes "--report") ≡ false)
+value_examples : (is_value (codes "zp") ≡ true) × (is_value (codes "z-p") ≡ true) × (is_value [] ≡ true) × (is_value (codes "-") ≡ false)
+    × (is_value (codes "--report") ≡ false)
 value_examples = (refl, refl, refl, refl, refl)
 
-option_examples : (is_option (codes "--cmdline") ≡ true) × (is_option (codes "--report") ≡ true) × (is_option (codes "--reports") ≡ false) × (is_option (codes "-report") ≡ false)
+option_examples : (is_option (codes "--cmdline") ≡ true) × (is_option (codes "--report") ≡ true) × (is_option (codes "--reports") ≡ false)
+    × (is_option (codes "-report") ≡ false)
 option_examples = (refl, refl, refl, refl)
 
 -- the words by themselves: an option that stands twice is for `value_of` to refuse
@@ -110,14 +115,17 @@ behind_examples : (word_behind all_words ≡ Some (codes "zp")) × (word_behind 
 behind_examples = (refl, refl)
 
 -- in the order of the words; a value that is spelled like the option is no option
-values_examples : (values_of (codes "-a") (codes "-a" ∷ codes "1" ∷ codes "-b" ∷ codes "-a" ∷ codes "-a" ∷ codes "2" ∷ codes "-a" ∷ []) ≡ codes "1" ∷ codes "2" ∷ [])
+values_examples : (values_of (codes "-a") (codes "-a" ∷ codes "1" ∷ codes "-b" ∷ codes "-a" ∷ codes "-a" ∷ codes "2" ∷ codes "-a" ∷ [])
+    ≡ codes "1" ∷ codes "2" ∷ [])
     × (values_of (codes "--e820ext") first_words ≡ [])
 values_examples = (refl, refl)
 
-once_examples : (at_most_one [] ≡ Some None) × (at_most_one (codes "a" ∷ []) ≡ Some (Some (codes "a"))) × (at_most_one (codes "a" ∷ codes "a" ∷ []) ≡ None)
+once_examples : (at_most_one [] ≡ Some None) × (at_most_one (codes "a" ∷ []) ≡ Some (Some (codes "a")))
+    × (at_most_one (codes "a" ∷ codes "a" ∷ []) ≡ None)
 once_examples = (refl, refl, refl)
 
-value_of_examples : (value_of (codes "--report") all_words ≡ Some (Some (codes "map"))) × (value_of (codes "--cmdline") first_words ≡ Some None)
+value_of_examples : (value_of (codes "--report") all_words ≡ Some (Some (codes "map")))
+    × (value_of (codes "--cmdline") first_words ≡ Some None)
 value_of_examples = (refl, refl)
 
 named_by_examples : (named_by (codes "--cmdline") all_words ≡ Some (codes "cmd")) × (named_by (codes "--cmdline") first_words ≡ None)
@@ -129,7 +137,8 @@ once_in_words = (refl, refl)
 good_examples : (are_good first_words ≡ true) × (are_good (codes "--report" ∷ codes "map" ∷ []) ≡ false)
 good_examples = (refl, refl)
 
-report_examples : (report_in first_words ≡ Some reports.Map) × (report_in (codes "--report" ∷ codes "Map" ∷ codes "zp" ∷ []) ≡ None) × (report_in (codes "zp" ∷ []) ≡ None)
+report_examples : (report_in first_words ≡ Some reports.Map) × (report_in (codes "--report" ∷ codes "Map" ∷ codes "zp" ∷ []) ≡ None)
+    × (report_in (codes "zp" ∷ []) ≡ None)
 report_examples = (refl, refl, refl)
 
 provided_examples : (provided true ≡ Some tt) × (provided false ≡ None)
@@ -141,18 +150,21 @@ name_examples : (name_in all_words inputs.ZeroPage ≡ Some (codes "zp")) × (na
 unfolding name_in
 name_examples = (refl, refl, refl)
 
-text_examples : (name_text (accepted all_words) inputs.CommandLine ≡ codes "cmd") × (name_text (accepted first_words) inputs.CommandLine ≡ []) × (name_text None inputs.ZeroPage ≡ [])
+text_examples : (name_text (accepted all_words) inputs.CommandLine ≡ codes "cmd")
+    × (name_text (accepted first_words) inputs.CommandLine ≡ []) × (name_text None inputs.ZeroPage ≡ [])
 unfolding name_in
 text_examples = (refl, refl, refl)
 
 -- the status of each way to end
-refusal_examples : (refusal_status (refusals.Unread inputs.Extension) ≡ 3) × (refusal_status (refusals.Faulty inputs.ZeroPage faults.TooLong) ≡ 5)
+refusal_examples : (refusal_status (refusals.Unread inputs.Extension) ≡ 3)
+    × (refusal_status (refusals.Faulty inputs.ZeroPage faults.TooLong) ≡ 5)
 refusal_examples = (refl, refl)
 
 reason_examples : (reason_status reasons.Usage ≡ 2) × (reason_status (reasons.Stopped (causes.MapFull 3201)) ≡ 6)
 reason_examples = (refl, refl)
 
-status_examples : (status_of (failures.NoReport (reasons.Stopped causes.NoRam)) ≡ 6) × (status_of failures.Unwritten ≡ 4) × (status_of failures.Memory ≡ 7)
+status_examples : (status_of (failures.NoReport (reasons.Stopped causes.NoRam)) ≡ 6) × (status_of failures.Unwritten ≡ 4)
+    × (status_of failures.Memory ≡ 7)
 status_examples = (refl, refl, refl)
 
 end_examples : (status_of_end (Ok tt) ≡ 0) × (status_of_end (Err failures.Unwritten) ≡ 4)
@@ -162,19 +174,23 @@ end_examples = (refl, refl)
 by_examples : (failure_by None ≡ failures.Memory) × (failure_by (Some causes.NoRam) ≡ failures.NoReport (reasons.Stopped causes.NoRam))
 by_examples = (refl, refl)
 
-stop_examples : (failure_of_stop (stops.TooMuchRam 4294967297) ≡ failures.NoReport (reasons.Stopped (causes.TooMuchRam 4294967297))) × (failure_of_stop stops.Memory ≡ failures.Memory)
+stop_examples : (failure_of_stop (stops.TooMuchRam 4294967297) ≡ failures.NoReport (reasons.Stopped (causes.TooMuchRam 4294967297)))
+    × (failure_of_stop stops.Memory ≡ failures.Memory)
 stop_examples = (refl, refl)
 
-input_error_examples : (failure_of_input (errors.Refused (refusals.Unread inputs.Extension)) ≡ failures.NoReport (reasons.Refused (refusals.Unread inputs.Extension)))
+input_error_examples : (failure_of_input (errors.Refused (refusals.Unread inputs.Extension))
+    ≡ failures.NoReport (reasons.Refused (refusals.Unread inputs.Extension)))
     × (failure_of_input errors.Memory ≡ failures.Memory)
 input_error_examples = (refl, refl)
 
 -- the line of each way to end
-entry_lines : (fault_line (codes "zeropage") (faults.EntryTooFar 3) ≡ codes "bootmem: zeropage: entry 3 too far\n") × (entry_line (codes "e820ext") 3071 ≡ codes "bootmem: e820ext: entry 3071 too far\n")
+entry_lines : (fault_line (codes "zeropage") (faults.EntryTooFar 3) ≡ codes "bootmem: zeropage: entry 3 too far\n")
+    × (entry_line (codes "e820ext") 3071 ≡ codes "bootmem: e820ext: entry 3071 too far\n")
 unfolding digits
 entry_lines = (refl, refl)
 
-word_lines : (fault_line (codes "cmdline") (faults.UserMapInvalid 12) ≡ codes "bootmem: cmdline: word 12: user map\n") × (word_line (codes "cmdline") 1 (codes "mem") ≡ codes "bootmem: cmdline: word 1: mem\n")
+word_lines : (fault_line (codes "cmdline") (faults.UserMapInvalid 12) ≡ codes "bootmem: cmdline: word 12: user map\n")
+    × (word_line (codes "cmdline") 1 (codes "mem") ≡ codes "bootmem: cmdline: word 1: mem\n")
 unfolding digits
 word_lines = (refl, refl)
 
@@ -187,7 +203,8 @@ plain_lines : (refusal_line None (refusals.Faulty inputs.ZeroPage faults.TooFew)
     × (whole_line (codes "e820ext") (codes "header") ≡ codes "bootmem: e820ext: header\n")
 plain_lines = (refl, refl)
 
-cause_lines : (cause_line (causes.MapFull 3201) ≡ codes "bootmem: stopped: 3201 map runs\n") × (cause_line causes.NoRam ≡ codes "bootmem: stopped: no usable frame\n")
+cause_lines : (cause_line (causes.MapFull 3201) ≡ codes "bootmem: stopped: 3201 map runs\n")
+    × (cause_line causes.NoRam ≡ codes "bootmem: stopped: no usable frame\n")
 unfolding digits
 cause_lines = (refl, refl)
 
@@ -195,8 +212,10 @@ unread_line : refusal_line (accepted all_words) (refusals.Unread inputs.Extensio
 unfolding name_in
 unread_line = refl
 
-usage_line : (reason_line None reasons.Usage ≡ codes "bootmem: usage\n") × (failure_line None (failures.NoReport reasons.Usage) ≡ codes "bootmem: usage\n")
+usage_line : (reason_line None reasons.Usage ≡ codes "bootmem: usage\n")
+    × (failure_line None (failures.NoReport reasons.Usage) ≡ codes "bootmem: usage\n")
 usage_line = (refl, refl)
 
-outside_lines : (failure_line None failures.Unwritten ≡ codes "bootmem: cannot write\n") × (failure_line None failures.Memory ≡ codes "bootmem: out of memory\n")
+outside_lines : (failure_line None failures.Unwritten ≡ codes "bootmem: cannot write\n")
+    × (failure_line None failures.Memory ≡ codes "bootmem: out of memory\n")
 outside_lines = (refl, refl)

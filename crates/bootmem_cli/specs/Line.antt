@@ -66,4 +66,5 @@ failure_line accepted failures.Memory = codes "bootmem: out of memory\n"
 -- output's kind tells
 pub record Tells {S : Type 0} (sink : SinkOf S) (old new : S) (line : List ℕ) : Type 0 where
   pub front : AppendsFront (sink.written old) (sink.written new) line
-  pub whole : Appends (sink.written old) (sink.written new) line ⊎ Rose (sink.faults old) (sink.faults new) ⊎ Rose (sink.wants old) (sink.wants new)
+  pub whole : Appends (sink.written old) (sink.written new) line ⊎ Rose (sink.faults old) (sink.faults new)
+      ⊎ Rose (sink.wants old) (sink.wants new)

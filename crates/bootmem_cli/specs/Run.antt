@@ -25,7 +25,8 @@ pub record RanTo {F S E : Type 0} (files : FilesOf F) (sink : SinkOf S) (errors 
   -- the output is as it was, or has the cause of what became of it
   pub output : WritingHasCause sink.faults sink.wants out_before out_now end
   -- after status 0 no fault was counted, of any file or of the output
-  pub uncounted : OnOk end (((any : List ℕ) → files.faults held_now any ≡ files.faults held_before any) × (sink.faults out_now ≡ sink.faults out_before))
+  pub uncounted : OnOk end (((any : List ℕ) → files.faults held_now any ≡ files.faults held_before any)
+      × (sink.faults out_now ≡ sink.faults out_before))
   -- where the files tell what they hold, the end and the output are those of the outcome
   pub said : IfSome (files.holds held_before) (λ held. Writes (sink.written out_before) (sink.written out_now) end (outcome accepted held))
   -- the line of a failure goes to the error output

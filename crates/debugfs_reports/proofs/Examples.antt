@@ -47,7 +47,8 @@ range_of_run = refl
 kind_examples : (kind_name 0xEFFFFFFF ≡ codes "soft reserved") × (kind_name 6 ≡ codes "other") × (kind_name 128 ≡ codes "usable kernel")
 kind_examples = (refl, refl, refl)
 
-name_examples : (name_of reports.Map ≡ codes "map") × (report_named (codes "map") ≡ Some reports.Map) × (report_named (codes "Map") ≡ None) × (report_named [] ≡ None)
+name_examples : (name_of reports.Map ≡ codes "map") × (report_named (codes "map") ≡ Some reports.Map)
+    × (report_named (codes "Map") ≡ None) × (report_named [] ≡ None)
 name_examples = (refl, refl, refl, refl)
 
 first_examples : (first_named [] (codes "map") ≡ None) × (first_named (reports.Map ∷ reports.Map ∷ []) (codes "map") ≡ Some reports.Map)
