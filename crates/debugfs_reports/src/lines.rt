@@ -5,8 +5,11 @@ ghost use Rattle.debugfs_reports.specs.Lines.{lines_from};
 
 use bm_base::Memory;
 
+/// The bytes that most lines take at most, the map's among them.
+const LINE_ROOM: usize = 56;
+
 /// Appends the line of each element, in their order. `put` appends the line of one, which it is handed
-/// with its index, from 0.
+/// with its index, from 0. Room for [`LINE_ROOM`] bytes a line is taken in advance.
 pub fn put_lines<T, F: Fn(&mut Vec<u8>, u64, &T) -> Result<(), Memory>>(
     text: &mut Vec<u8>,
     items: &[T],
@@ -18,6 +21,7 @@ pub fn put_lines<T, F: Fn(&mut Vec<u8>, u64, &T) -> Result<(), Memory>>(
         → OnOk answer (u.now.items ≡ t.now.items ++ line i x.now))
         → OnOk result (text.new.items ≡ text.old.items ++ lines_from line 0 items.now) }
 {
+    text.reserve(items.len().saturating_mul(LINE_ROOM))?;
     for (index, item) in items.iter().enumerate() {
         put(text, index as u64, item)?;
     }
