@@ -48,7 +48,8 @@ front_then old mid new first bytes rest before front =
     )
 
 -- a refusal behind bytes that went out whole is the refusal of all
-pub puts_refused : {S : Type 0} (sink : SinkOf S) (old mid new : S) (answer : Result (Unit {0}) Put) (error : Put) (first bytes rest all : List ℕ)
+pub puts_refused : {S : Type 0} (sink : SinkOf S) (old mid new : S) (answer : Result (Unit {0}) Put) (error : Put)
+    (first bytes rest all : List ℕ)
     → answer ≡ Err error → first ++ (bytes ++ rest) ≡ all → Appends (sink.written old) (sink.written mid) first
     → sink.faults mid ≡ sink.faults old → sink.wants mid ≡ sink.wants old
     → Puts sink mid new (Err error) bytes → Puts sink old new answer all

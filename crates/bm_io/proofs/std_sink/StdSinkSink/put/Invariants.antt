@@ -7,7 +7,8 @@ use Rattle.bm_io.proofs.std_sink.StdSinkSink.put.Given as goal
 abbrev pub invariant-loop-rest : goal.invariant-loop-rest
 invariant-loop-rest g l = record {
   taken : HasTaken g.W.RawWriter.writes l.piece l.fn.self.stream (length l.piece - length l.rest) l.self-inside.stream;
-  front : Appends (g.W.RawWriter.contents l.fn.self.stream) (g.W.RawWriter.contents l.self-inside.stream) (take (length l.piece - length l.rest) l.piece);
+  front : Appends (g.W.RawWriter.contents l.fn.self.stream) (g.W.RawWriter.contents l.self-inside.stream)
+      (take (length l.piece - length l.rest) l.piece);
   left : l.rest ≡ drop (length l.piece - length l.rest) l.piece;
   faults : l.self-inside.faults ≡ l.fn.self.faults;
 }
