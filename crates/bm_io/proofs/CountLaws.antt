@@ -50,30 +50,31 @@ rose_by_want answer before now wanting grew =
     let one : output.wants_of_memory answer ≡ 1 = rw wanting refl in omega (arith, rw one at grew)
 
 -- a fault is counted only at a failure, and a want only where memory is wanting
-pub no_fault_but_failed : (answer : Result (Vec ℕ Global) Fetch) (before now : ℕ) → before ≤ now → now ≡ counted before (failures answer)
+pub no_fault_but_failed : (answer : Result (Vec ℕ Global) Fetch) (before now : ℕ) → before ≤ now
+    → now ≡ counted before (failures answer)
     → IsErrOf answer fetch.Failed ⊎ ((any : List ℕ) → now ≡ before)
 no_fault_but_failed (Ok bytes) before now stays grew = inr (λ any. omega (arith, stays, grew))
 no_fault_but_failed (Err fetch.Failed) before now stays grew = inl refl
 no_fault_but_failed (Err fetch.TooLong) before now stays grew = inr (λ any. omega (arith, stays, grew))
 no_fault_but_failed (Err fetch.Memory) before now stays grew = inr (λ any. omega (arith, stays, grew))
 
-pub no_want_but_memory : (answer : Result (Vec ℕ Global) Fetch) (before now : ℕ) → before ≤ now → now
-    ≡ counted before (wants_of_memory answer)
+pub no_want_but_memory : (answer : Result (Vec ℕ Global) Fetch) (before now : ℕ) → before ≤ now
+    → now ≡ counted before (wants_of_memory answer)
     → IsErrOf answer fetch.Memory ⊎ (now ≡ before)
 no_want_but_memory (Ok bytes) before now stays grew = inr (omega (arith, stays, grew))
 no_want_but_memory (Err fetch.Failed) before now stays grew = inr (omega (arith, stays, grew))
 no_want_but_memory (Err fetch.TooLong) before now stays grew = inr (omega (arith, stays, grew))
 no_want_but_memory (Err fetch.Memory) before now stays grew = inl refl
 
-pub no_put_fault_but_failed : (answer : Result (Unit {0}) Put) (before now : ℕ) → before ≤ now → now
-    ≡ counted before (output.failures answer)
+pub no_put_fault_but_failed : (answer : Result (Unit {0}) Put) (before now : ℕ) → before ≤ now
+    → now ≡ counted before (output.failures answer)
     → IsErrOf answer put.Failed ⊎ (now ≡ before)
 no_put_fault_but_failed (Ok done) before now stays grew = inr (omega (arith, stays, grew))
 no_put_fault_but_failed (Err put.Failed) before now stays grew = inl refl
 no_put_fault_but_failed (Err put.Memory) before now stays grew = inr (omega (arith, stays, grew))
 
-pub no_put_want_but_memory : (answer : Result (Unit {0}) Put) (before now : ℕ) → before ≤ now → now
-    ≡ counted before (output.wants_of_memory answer)
+pub no_put_want_but_memory : (answer : Result (Unit {0}) Put) (before now : ℕ) → before ≤ now
+    → now ≡ counted before (output.wants_of_memory answer)
     → IsErrOf answer put.Memory ⊎ (now ≡ before)
 no_put_want_but_memory (Ok done) before now stays grew = inr (omega (arith, stays, grew))
 no_put_want_but_memory (Err put.Failed) before now stays grew = inr (omega (arith, stays, grew))

@@ -58,7 +58,8 @@ two_files = record {
   wants = 0;
 }
 
-bytes_by_name : (bytes_of two_files.files (codes "zp") ≡ Some (codes "abc")) × (bytes_of two_files.files (codes "line") ≡ Some [])
+bytes_by_name : (bytes_of two_files.files (codes "zp") ≡ Some (codes "abc"))
+    × (bytes_of two_files.files (codes "line") ≡ Some [])
     × (bytes_of two_files.files (codes "z") ≡ None)
 bytes_by_name = (refl, refl, refl)
 
@@ -92,8 +93,8 @@ named_zp f is = (rw is refl, rw is refl)
 failed_fetches : (failures (Err fetch.Failed) ≡ 1) × (failures (Err fetch.TooLong) ≡ 0) × (failures (Err fetch.Memory) ≡ 0)
 failed_fetches = (refl, refl, refl)
 
-taken_bytes : (bytes_taken (Err fetch.TooLong) (Some (codes "abc")) ≡ 3) × (bytes_taken (Err fetch.Failed) (Some (codes "abc")) ≡ 0)
-    × (bytes_taken (Err fetch.Failed) None ≡ 0)
+taken_bytes : (bytes_taken (Err fetch.TooLong) (Some (codes "abc")) ≡ 3)
+    × (bytes_taken (Err fetch.Failed) (Some (codes "abc")) ≡ 0) × (bytes_taken (Err fetch.Failed) None ≡ 0)
 taken_bytes = (refl, refl, refl)
 
 given_bytes : (bytes : Vec ℕ Global) → (failures (Ok bytes) ≡ 0) × (bytes_taken (Ok bytes) (Some (codes "abc")) ≡ 3)
@@ -166,8 +167,8 @@ abbrev known_writes : List ℕ → List ℕ → Option ℕ → List ℕ → Type
 known_writes before bytes taken after = TakesKnown (Some before) (Some after) bytes taken
 
 by_two_writes : HasTaken known_writes (codes "abc") [] 3 (codes "abc")
-by_two_writes = took {k = 2} {n = 1} {mid = codes "ab"} (took {k = 0} {n = 2} {mid = []} nothing_taken refl (omega arith)) refl
-    (omega arith)
+by_two_writes = took {k = 2} {n = 1} {mid = codes "ab"}
+    (took {k = 0} {n = 2} {mid = []} nothing_taken refl (omega arith)) refl (omega arith)
 
 put_by_two_writes : IsPutBy known_writes [] (codes "abc") (Ok tt) (codes "abc")
 put_by_two_writes = by_two_writes
@@ -185,8 +186,8 @@ known_reads before given after = GivesKnown (Some before) (Some after) given
 
 by_two_reads : HasGiven known_reads (codes "abc") (codes "abc") []
 by_two_reads = gave {given = codes "ab"} {bytes = codes "c"} {mid = codes "c"}
-    (gave {given = []} {bytes = codes "ab"} {mid = codes "abc"} nothing_given (refl, λ none. cc) (omega arith)) (refl, λ none. refl)
-        (omega arith)
+    (gave {given = []} {bytes = codes "ab"} {mid = codes "abc"} nothing_given (refl, λ none. cc) (omega arith))
+    (refl, λ none. refl) (omega arith)
 
 -- within a limit of two bytes the second read is one too many
 one_too_many : IsReadBy known_reads (codes "abc") 2 (Err fetch.TooLong) 3 []

@@ -1,8 +1,9 @@
 //! A text that goes out in pieces: one call for all of them, with the contract of one put.
 //!
-//! A line of a report or of a failure is known in parts, of which some stand in the program and some
-//! are written into a buffer of a few bytes. Put one after another they need no memory for the whole.
-//! It stands here, and not above, since what it promises is `Sink::put`'s own promise for the joined bytes.
+//! A line of a report or of a failure is known in parts, of which some stand in the program and
+//! some are written into a buffer of a few bytes. Put one after another they need no memory for the
+//! whole. It stands here, and not above, since what it promises is `Sink::put`'s own promise for
+//! the joined bytes.
 ghost use Rattle.std.specs.Prelude.{◌≡◌, []};
 ghost use Rattle.std.specs.List.{flat_map};
 ghost use Rattle.bm_io.specs.Puts.{Puts};

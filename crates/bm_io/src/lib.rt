@@ -1,21 +1,22 @@
 //! The outside of the program: where its inputs come from and where its output goes.
 //!
-//! A boot reads a few whole files and writes reports. [`Files`] is what it reads from, by name and up
-//! to a limit in bytes; [`Sink`] is what it writes to, in pieces. Both may fail at any call, and the
-//! contracts of the layers above are about every implementation of them.
+//! A boot reads a few whole files and writes reports. [`Files`] is what it reads from, by name and
+//! up to a limit in bytes; [`Sink`] is what it writes to, in pieces. Both may fail at any call, and
+//! the contracts of the layers above are about every implementation of them.
 //!
 //! What an implementation means is said by members that only contracts see: the bytes that a name
 //! holds and those that were written, where the object tells them, and counts of what happened. A
-//! count never falls. It is a `u64` that stands still at its last value, 2^64 - 1; that it rose in a
-//! call means that it is greater afterwards, or stands there. Each refusal has its cause in such a
-//! count, and no other answer moves it, so a caller can tell a refusal of the outside from a mistake of
-//! the program.
+//! count never falls. It is a `u64` that stands still at its last value, 2^64 - 1; that it rose in
+//! a call means that it is greater afterwards, or stands there. Each refusal has its cause in such
+//! a count, and no other answer moves it, so a caller can tell a refusal of the outside from a
+//! mistake of the program.
 //!
-//! [`MemFiles`] and [`MemSink`] live in memory, tell everything, and fail at the calls that they were
-//! told to fail at: tests and proofs use them. [`RealFiles`] and [`StdSink`] are for the files and streams
-//! of the operating system. They stand on one call of the system at a time ([`RawFiles`],
-//! [`RawReader`], [`RawWriter`]), and which calls they make is proved, so they fail where the system did
-//! and nowhere else. The trusted edge is what makes those calls, [`SystemFiles`] and [`SystemStream`]: a line each.
+//! [`MemFiles`] and [`MemSink`] live in memory, tell everything, and fail at the calls that they
+//! were told to fail at: tests and proofs use them. [`RealFiles`] and [`StdSink`] are for the files
+//! and streams of the operating system. They stand on one call of the system at a time
+//! ([`RawFiles`], [`RawReader`], [`RawWriter`]), and which calls they make is proved, so they fail
+//! where the system did and nowhere else. The trusted edge is what makes those calls,
+//! [`SystemFiles`] and [`SystemStream`]: a line each.
 #![tactic(auto)]
 
 mod joined;

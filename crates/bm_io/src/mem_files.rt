@@ -1,7 +1,7 @@
 //! Files in memory that tell everything: what tests and proofs read from.
 //!
-//! Their failures are planned, by the numbers of calls. Names are looked up in the order of the list; no
-//! name stands twice.
+//! Their failures are planned, by the numbers of calls. Names are looked up in the order of the
+//! list; no name stands twice.
 ghost use Rattle.std.specs.Prelude.{◌≡◌, ℕ, ◌+◌, ◌-◌, ◌^◌, ◌<◌, ◌≤◌, ◌↔◌, List, length, min, Option, Some, OnOk, IfOk, IsErrOf, find};
 ghost use Rattle.std.specs.Option.{option_copied};
 ghost use Rattle.bm_io.specs.Counts.{counted, Rose, RoseByMoreThan};
@@ -45,7 +45,8 @@ impl Model for MemFiles {
       wants = s.wants;
     } };
 
-    ghost invariant = { λ s. (s.calls < 2 ^ 64) × (s.faults < 2 ^ 64) × (s.taken < 2 ^ 64) × (s.wants < 2 ^ 64) };
+    ghost invariant = { λ s. (s.calls < 2 ^ 64) × (s.faults < 2 ^ 64)
+        × (s.taken < 2 ^ 64) × (s.wants < 2 ^ 64) };
 }
 
 impl MemFiles {

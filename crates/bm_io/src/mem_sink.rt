@@ -1,7 +1,7 @@
 //! An output in memory that tells everything: what tests and proofs write to.
 //!
-//! Its failures are planned, by the numbers of calls, so a test can have each call fail in turn and see what
-//! the layers above make of it.
+//! Its failures are planned, by the numbers of calls, so a test can have each call fail in turn and
+//! see what the layers above make of it.
 ghost use Rattle.std.specs.Prelude.{◌≡◌, ℕ, ◌+◌, ◌-◌, ◌/◌, ◌^◌, ◌<◌, ◌≤◌, List, [], ◌++◌, length, take, min, Option, Some, Contains, OnOk, OnErr, IsErrOf};
 ghost use Rattle.std.specs.Io.KnownBytes.{Appends};
 ghost use Rattle.bm_io.specs.Counts.{counted, Rose};

@@ -1,10 +1,10 @@
 //! One call of the operating system at a time, as the loops of this crate see it.
 //!
-//! What a real file gives and what a real stream keeps is known to no contract. But which calls were made, in
-//! which order and with which answers, can be said: each trait has a relation of a call's beginning, its
-//! answer and its end, and a loop that is proved for every such relation knows nothing of it but what its own
-//! calls gave. So a loop that gives up by itself, tries again or drops a failure is refused. `crate::system` has
-//! the few lines that make these calls.
+//! What a real file gives and what a real stream keeps is known to no contract. But which calls
+//! were made, in which order and with which answers, can be said: each trait has a relation of a
+//! call's beginning, its answer and its end, and a loop that is proved for every such relation
+//! knows nothing of it but what its own calls gave. So a loop that gives up by itself, tries again
+//! or drops a failure is refused. `crate::system` has the few lines that make these calls.
 ghost use Rattle.std.specs.Prelude.{ℕ, ◌<◌, ◌≤◌, List, length, take, Option, IfSome};
 ghost use Rattle.std.specs.Option.{option_map};
 ghost use Rattle.bm_io.specs.Known.{TakesKnown, GivesKnown};
@@ -47,7 +47,8 @@ pub trait RawReader {
 pub trait RawFiles {
     type File: RawReader + Drop;
 
-    // One opening: the files before, of which name, the opened file, where it didn't fail, and the files after.
+    // One opening: the files before, the name, the opened file, where it didn't fail, and the files
+    // after.
     ghost opens: { Self → List ℕ → Option Self.File → Self → Type 0 };
 
     /// The file of the name, from its front. `None` where it couldn't be opened.

@@ -1,8 +1,8 @@
 //! What the program reads: named files, each fetched whole up to a limit.
 //!
-//! A boot's inputs are small (a zero page has 4,096 bytes), so a file is one value and there are no streams
-//! above this crate. The trait stands apart from what implements it: a layer that is generic over `Files` knows
-//! this contract and nothing else.
+//! A boot's inputs are small (a zero page has 4,096 bytes), so a file is one value and there are no
+//! streams above this crate. The trait stands apart from what implements it: a layer that is
+//! generic over `Files` knows this contract and nothing else.
 ghost use Rattle.std.specs.Prelude.{◌≡◌, ℕ, ◌^◌, ◌<◌, ◌≤◌, List, length, Option, OnOk, IfOk, IsErrOf, ◌⊎◌};
 ghost use Rattle.bm_io.specs.Counts.{Rose, RoseByMoreThan};
 ghost use Rattle.bm_io.specs.Told.{IsToldAs, IsToldLonger};

@@ -1,7 +1,8 @@
 //! The files of the operating system.
 //!
-//! A read gives a part of a file, so a fetch is an opening and a loop over reads. It is generic over the files and is
-//! proved to be exactly those calls: it fails where one of them did, and nowhere else.
+//! A read gives a part of a file, so a fetch is an opening and a loop over reads. It is generic
+//! over the files and is proved to be exactly those calls: it fails where one of them did, and
+//! nowhere else.
 ghost use Rattle.std.specs.Prelude.{◌≡◌, ℕ, ◌^◌, ◌<◌, ◌≤◌, length, None, IfSome, OnOk, IfOk, IsErrOf};
 ghost use Rattle.bm_io.specs.Counts.{counted, Rose, RoseByMoreThan};
 ghost use Rattle.bm_io.specs.Told.{IsToldAs};

@@ -1,7 +1,8 @@
 //! An output over a stream of the operating system.
 //!
-//! A write may take a part of what it is offered, so a put is a loop over writes. It is generic over the stream
-//! and is proved to be exactly those writes: it fails where the stream did, and nowhere else.
+//! A write may take a part of what it is offered, so a put is a loop over writes. It is generic
+//! over the stream and is proved to be exactly those writes: it fails where the stream did, and
+//! nowhere else.
 ghost use Rattle.std.specs.Prelude.{◌≡◌, ℕ, ◌^◌, ◌<◌, ◌≤◌, OnOk, OnErr, IsErrOf};
 ghost use Rattle.std.specs.Io.KnownBytes.{Appends};
 ghost use Rattle.bm_io.specs.Counts.{counted, Rose};

@@ -1,7 +1,7 @@
 //! The operating system: its three calls, each passed on by one line.
 //!
-//! This is the trusted edge. Nothing here counts, loops or decides; that these lines reach the file and the
-//! stream that they were handed, no contract can say.
+//! This is the trusted edge. Nothing here counts, loops or decides; that these lines reach the file
+//! and the stream that they were handed, no contract can say.
 ghost use Rattle.bm_io.specs.Known.{TakesKnown, GivesKnown};
 
 use crate::raw::{RawFiles, RawReader, RawWriter};

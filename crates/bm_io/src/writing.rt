@@ -1,7 +1,7 @@
 //! What the program writes: an output that takes bytes in pieces.
 //!
-//! One trait serves the report and the error line alike. It is apart from what implements it for the same
-//! reason as `Files`: the layers above know this contract alone.
+//! One trait serves the report and the error line alike. It is apart from what implements it for
+//! the same reason as `Files`: the layers above know this contract alone.
 ghost use Rattle.std.specs.Prelude.{◌≡◌, ℕ, ◌^◌, ◌<◌, ◌≤◌, List, Option, OnOk, OnErr, IsErrOf, ◌⊎◌};
 ghost use Rattle.std.specs.Io.KnownBytes.{Appends};
 ghost use Rattle.bm_io.specs.Counts.{Rose};
@@ -37,7 +37,8 @@ pub trait Sink {
         ensures wanting { IsErrOf result Put.Memory → Rose (wants self.old) (wants self.new) }
 
         // A fault is counted only at `Failed`, a want only at `Memory`, so neither after `Ok`.
-        ensures uncounted { OnOk result ((faults self.new ≡ faults self.old) × (wants self.new ≡ wants self.old)) }
+        ensures uncounted { OnOk result
+            ((faults self.new ≡ faults self.old) × (wants self.new ≡ wants self.old)) }
         ensures no_fault { IsErrOf result Put.Failed ⊎ (faults self.new ≡ faults self.old) }
         ensures no_want { IsErrOf result Put.Memory ⊎ (wants self.new ≡ wants self.old) }
 

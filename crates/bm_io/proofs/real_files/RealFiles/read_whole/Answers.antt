@@ -9,8 +9,8 @@ use Rattle.bm_io.proofs.real_files.RealFiles.read_whole.Goals as goal
 
 pub loop-count-init : goal.loop-count-init
 loop-count-init g c = let before = c.args.file.now in
-    let given : HasGiven g.F.RawReader.reads before (vec_items c.new-bytes.result) before = rw c.new-bytes.ensures.items nothing_given in
-        search rules
+    let given : HasGiven g.F.RawReader.reads before (vec_items c.new-bytes.result) before =
+    rw c.new-bytes.ensures.items nothing_given in search rules
 
 pub returns-then-count-limit-clause-calls : goal.returns-then-count-limit-clause-calls
 returns-then-count-limit-clause-calls g c =
@@ -56,10 +56,10 @@ loop-count-preserved g c =
     let l = c.loop-count in
     let extended : is_ok c.extend_from_slice.result ≡ true = search rules in
     let long : length (take c.in-Some.count c.read.new.buffer) ≡ c.in-Some.count = length-take-le _ _ c.in-Some.ensures.bound in
-    let items : vec_items c.extend_from_slice.new.self ≡ vec_items l.bytes
-        ++ take c.in-Some.count c.read.new.buffer = rw extended at c.extend_from_slice.ensures.items in
-    let len : vec_len c.extend_from_slice.new.self ≡ vec_len l.bytes + length (take c.in-Some.count c.read.new.buffer) = rw extended at
-        c.extend_from_slice.ensures.len in
+    let items : vec_items c.extend_from_slice.new.self ≡ vec_items l.bytes ++ take c.in-Some.count c.read.new.buffer =
+    rw extended at c.extend_from_slice.ensures.items in
+    let len : vec_len c.extend_from_slice.new.self ≡ vec_len l.bytes + length (take c.in-Some.count c.read.new.buffer) =
+    rw extended at c.extend_from_slice.ensures.len in
     let counted = c.saturating_add-self-inside-in-loop-count.ensures in
     record {
       given = given_more _ _ _ _ _ _ _ _ l.invariant.given c.in-Some.ensures.call c.in-Some.ensures.bound (omega arith) items;
