@@ -1,0 +1,189 @@
+//! Which files are fetched, and in what order. No clause can count fetches, so the numbers of those that fail do
+//! it here.
+
+ghost use Rattle.std.specs.Prelude.{IfOk};
+ghost use Rattle.bm_io.specs.HeldFiles.{held_files, HaveOwnNames};
+
+use crate::{Fault, Input, InputError, Names, Refusal, read_inputs};
+use bm_io::{MemFile, MemFiles};
+use std::alloc::Global;
+use std::process::Abort;
+use std::test::Fail;
+
+/// The name of each file.
+#[derive(Clone, Copy)]
+struct Three<'a> {
+    zp: &'a str,
+    ext: &'a str,
+    cmd: &'a str,
+}
+
+impl<'a> Names for Three<'a> {
+    ghost use Rattle.std.specs.Prelude.{Some};
+    ghost use Rattle.boot_inputs.specs.declared.input.Input.TheVariants as inputs;
+
+    ghost named = { λ three input. elim input [
+      | inputs.ZeroPage ↦ Some three.zp.now
+      | inputs.Extension ↦ Some three.ext.now
+      | inputs.CommandLine ↦ Some three.cmd.now
+    ] };
+
+    fn of(&self, input: Input) -> Option<&str> {
+        match input {
+            Input::ZeroPage => Some(self.zp),
+            Input::Extension => Some(self.ext),
+            Input::CommandLine => Some(self.cmd),
+        }
+    }
+}
+
+/// The bytes of the files `zp`, `ext` and `cmd`.
+#[derive(Clone, Copy)]
+struct Held<'a> {
+    zp: &'a [u8],
+    ext: &'a [u8],
+    cmd: &'a [u8],
+}
+
+fn files_of(alloc: Global, held: &Held<'_>) -> Result<Vec<MemFile>, Fail>
+    ensures { IfOk result (λ files. HaveOwnNames (held_files files.items)) }
+{
+    let zp = MemFile {
+        name: String::from_str(alloc, "zp")?,
+        bytes: Vec::from_slice(alloc, held.zp)?,
+    };
+    let ext = MemFile {
+        name: String::from_str(alloc, "ext")?,
+        bytes: Vec::from_slice(alloc, held.ext)?,
+    };
+    let cmd = MemFile {
+        name: String::from_str(alloc, "cmd")?,
+        bytes: Vec::from_slice(alloc, held.cmd)?,
+    };
+    Ok(vec![in alloc; zp, ext, cmd]?)
+}
+
+/// Reads the files, where the fetch of that number fails, and compares the refusal.
+fn expect(
+    rt: &impl Abort,
+    alloc: Global,
+    names: &Three<'_>,
+    held: &Held<'_>,
+    failing: u64,
+    want: Option<Refusal>,
+) -> Result<(), Fail> {
+    let failing = vec![in alloc; failing]?;
+    let mut files = MemFiles::new(files_of(alloc, held)?, failing);
+    let answer = read_inputs(alloc, &mut files, names);
+    assert_eq!(rt; answer.err(), want.map(InputError::Refused));
+    Ok(())
+}
+
+/// Each file missing, faulty and too long in turn. So many files are fetched and no more: where the last of
+/// these fetches fails its file is unread, and where the next one would, nothing changes.
+#[test]
+fn files_in_their_order(rt: HostRuntime) -> Result<(), Fail> {
+    let alloc = rt.alloc();
+    let mut zp = [0; 4096];
+    zp[0x1e8] = 2;
+    let long = vec![in alloc; 0; 61_457]?;
+    let long = long.as_slice();
+    let good = Held {
+        zp: &zp,
+        ext: &[0, 0, 0, 0, 0, 0, 0, 0, 1, 0, 0, 0, 0, 0, 0, 0],
+        cmd: b"quiet",
+    };
+    let all = Three {
+        zp: "zp",
+        ext: "ext",
+        cmd: "cmd",
+    };
+    let faulty = |input, fault| Some(Refusal::Faulty(input, fault));
+    let page = Input::ZeroPage;
+    let ext = Input::Extension;
+    let line = Input::CommandLine;
+    let cases: [(Three, Held, u64, Input, Option<Refusal>); 10] = [
+        (all, good, 3, line, None),
+        (
+            Three { zp: "none", ..all },
+            good,
+            1,
+            page,
+            Some(Refusal::Unread(page)),
+        ),
+        (
+            all,
+            Held {
+                zp: &zp[..4095],
+                ..good
+            },
+            1,
+            page,
+            faulty(page, Fault::WrongLength),
+        ),
+        (
+            all,
+            Held { zp: long, ..good },
+            1,
+            page,
+            faulty(page, Fault::TooLong),
+        ),
+        (
+            Three { ext: "none", ..all },
+            good,
+            2,
+            ext,
+            Some(Refusal::Unread(ext)),
+        ),
+        (
+            all,
+            Held { ext: &zp, ..good },
+            2,
+            ext,
+            faulty(ext, Fault::Header),
+        ),
+        (
+            all,
+            Held { ext: long, ..good },
+            2,
+            ext,
+            faulty(ext, Fault::TooLong),
+        ),
+        (
+            Three { cmd: "none", ..all },
+            good,
+            3,
+            line,
+            Some(Refusal::Unread(line)),
+        ),
+        (
+            all,
+            Held {
+                cmd: b"numa=on",
+                ..good
+            },
+            3,
+            line,
+            faulty(line, Fault::BadNuma { word: 1 }),
+        ),
+        (
+            all,
+            Held { cmd: long, ..good },
+            3,
+            line,
+            faulty(line, Fault::TooLong),
+        ),
+    ];
+    for (names, held, fetches, last, want) in &cases {
+        expect(
+            &rt,
+            alloc,
+            names,
+            held,
+            *fetches,
+            Some(Refusal::Unread(*last)),
+        )?;
+        expect(&rt, alloc, names, held, fetches.saturating_add(1), *want)?;
+    }
+    Ok(())
+}

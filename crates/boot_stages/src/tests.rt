@@ -1,16 +1,22 @@
-ghost use Rattle.std.specs.Prelude.{◌≡◌, ◌+◌, ◌*◌, ◌^◌, ◌<◌, ◌≤◌, length};
+//! The boot on maps that overlap, are edited and stop it, by runs from outside.
+
+ghost use Rattle.std.specs.Prelude.{◌≡◌, ◌+◌, ◌^◌, ◌<◌, ◌≤◌};
+ghost use Rattle.e820_model.specs.Claims.{EndInSpace};
 
 use crate::boot;
+use arrayvec::ArrayVec;
 use bm_base::Range;
 use boot_model::{Inputs, Stop};
 use boot_options::read_options;
 use e820_sanitise::Run;
-use e820_table::{Entry, read_ext, read_zero_page};
+use e820_table::{Entry, ZeroPage};
 use std::alloc::Global;
 use std::process::Abort;
 use std::test::Fail;
 
-fn entry(addr: u64, size: u64, kind: u32) -> Entry {
+fn entry(addr: u64, size: u64, kind: u32) -> Entry
+    ensures { result ≡ record { addr = addr; size = size; kind = kind } }
+{
     Entry { addr, size, kind }
 }
 
@@ -28,39 +34,15 @@ fn run(first: u64, last: u64, kind: u32) -> Run
     }
 }
 
-fn put_entry(bytes: &mut [u8], offset: usize, entry: Entry)
-    requires { offset + 20 ≤ length bytes.old }
+// The map of the boot of these entries, which come as an extension, and of this line.
+fn booted(alloc: Global, entries: &[Entry], line: &[u8]) -> Result<Result<Vec<Run>, Stop>, Fail>
+    requires { EndInSpace entries.now }
 {
-    bytes[offset..offset + 8].copy_from_slice(&entry.addr.to_le_bytes());
-    bytes[offset + 8..offset + 16].copy_from_slice(&entry.size.to_le_bytes());
-    bytes[offset + 16..offset + 20].copy_from_slice(&entry.kind.to_le_bytes());
-}
-
-// A zero page with these entries.
-fn page(entries: &[Entry]) -> [u8; 4096]
-    requires { length entries.now ≤ 128 }
-{
-    let mut bytes = [0; 4096];
-    bytes[0x1E8] = entries.len() as u8;
-    for (index, entry) in entries.iter().enumerate() {
-        put_entry(&mut bytes, 0x2D0 + 20 * index, *entry);
-    }
-    bytes
-}
-
-// An extension without entries.
-const NO_ENTRIES: [u8; 16] = [0, 0, 0, 0, 0, 0, 0, 0, 1, 0, 0, 0, 0, 0, 0, 0];
-
-// The map of the boot of these files.
-fn booted(
-    alloc: Global,
-    page: &[u8],
-    ext: &[u8],
-    line: &[u8],
-) -> Result<Result<Vec<Run>, Stop>, Fail> {
     let inputs = Inputs {
-        zero: read_zero_page(page)?,
-        ext: read_ext(alloc, ext)?,
+        zero: ZeroPage {
+            entries: ArrayVec::new(),
+        },
+        ext: Vec::from_slice(alloc, entries)?,
         options: read_options(alloc, line)?,
     };
     Ok(boot(alloc, inputs).map(|booted| booted.map))
@@ -73,9 +55,9 @@ fn expect(
     line: &[u8],
     want: Result<&[Run], Stop>,
 ) -> Result<(), Fail>
-    requires { length entries.now ≤ 128 }
+    requires { EndInSpace entries.now }
 {
-    let map = booted(alloc, &page(entries), &NO_ENTRIES, line)?;
+    let map = booted(alloc, entries, line)?;
     match map {
         Ok(runs) => assert_eq!(rt; Ok(runs.as_slice()), want),
         Err(stop) => assert_eq!(rt; Err(stop), want),
@@ -142,31 +124,4 @@ fn maps_and_stops(rt: HostRuntime) -> Result<(), Fail> {
         frames: 4_294_967_455,
     };
     expect(&rt, alloc, &vast, b"", Err(too_much))
-}
-
-// RAM of 256 MiB from 1 MiB on with 3,199 reserved pages in it, each with a page before it: entry i.
-fn striped(index: usize) -> Entry
-    requires { index < 3200 }
-{
-    if index == 0 {
-        return entry(0x10_0000, 0x1000_0000, 1);
-    }
-    entry(0x10_0000 + 0x2000 * index as u64, 0x1000, 2)
-}
-
-#[test]
-fn a_map_beyond_the_table(rt: HostRuntime) -> Result<(), Fail> {
-    let mut first = [entry(0, 0, 0); 128];
-    for index in 0..128 {
-        first[index] = striped(index);
-    }
-    let mut ext = [0; 16 + 3072 * 20];
-    ext[8] = 1;
-    ext[12..16].copy_from_slice(&61440u32.to_le_bytes());
-    for index in 0..3072 {
-        put_entry(&mut ext, 16 + 20 * index, striped(128 + index));
-    }
-    let map = booted(rt.alloc(), &page(&first), &ext, b"")?;
-    assert_eq!(rt; map.err(), Some(Stop::MapFull { runs: 6399 }));
-    Ok(())
 }
