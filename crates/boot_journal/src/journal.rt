@@ -1,3 +1,9 @@
+//! The journal itself: its items and, beside them, the runs of who owns what.
+//!
+//! Both are kept here because they change together: an item that claims or frees is noted in the runs before it is
+//! appended, so a look-up never walks the items. Memory for both is taken in one place (`ready`), before anything
+//! changes.
+
 ghost use Rattle.std.specs.Prelude.{◌≡◌, ◌++◌, ◌∷◌, ◌+◌, ◌-◌, ◌^◌, ◌<◌, ◌≤◌, ℕ, Some, [], ◌↔◌, IsTrue, max, OnOk, OnErr, IfOk, vec_len, vec_capacity};
 ghost use Rattle.bm_base.specs.Extent.{end_of};
 ghost use Rattle.address_runs.specs.Runs.{IsRunsOf};

@@ -1,3 +1,9 @@
+//! The runs of equal owner, as the items come.
+//!
+//! A claim replaces whoever had the bytes and a freeing leaves them to nobody (`memblock_reserve`, `memblock_phys_free`); each
+//! is one edit of a list of runs that stays sorted (`run_edits`). It stands apart from the journal so that the edit
+//! is said over any list that is that of the items.
+
 ghost use Rattle.std.specs.Prelude.{◌+◌, ◌^◌, ◌<◌, ◌≤◌, vec_len, vec_capacity};
 ghost use Rattle.address_runs.specs.Runs.{AreRuns, IsRunsOf, value_at};
 ghost use Rattle.address_runs.specs.Edits.{amended, NothingFrom};

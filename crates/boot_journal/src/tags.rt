@@ -1,3 +1,9 @@
+//! What one byte carries as memory, followed through the items.
+//!
+//! Nothing is kept for this: it is asked for a byte here and there, and the memory table has the records. Between two trims the
+//! items are followed for the byte alone; at a trim its whole frame is looked at, by the ends of ranges that lie in it
+//! (`memblock_trim_memory`).
+
 ghost use Rattle.std.specs.Prelude.{◌≡◌, ◌<◌, ℕ, IsTrue, IfSome, None, false, length, position};
 ghost use Rattle.bm_base.specs.Extent.{end_of};
 ghost use Rattle.memblock_model.specs.Labels.{tag_for};

@@ -1,3 +1,5 @@
+//! A journal in use: tags around a trim, claims over one another, runs of owners, by values worked out by hand.
+
 ghost use Rattle.std.specs.Prelude.{◌≡◌, ◌+◌, ◌^◌, ◌<◌};
 
 use crate::{Item, Journal, Owner, OwnerRun, Tag, Which};

@@ -11,10 +11,10 @@ bytes base size = record { base = base; size = size }
 new_memory : plain_label.node ≡ None
 new_memory = refl
 
-gets_a_node : with_node (Some 1) plain_label ≡ record { node = Some 1 }
+gets_a_node : (with_node (Some 1) plain_label).node ≡ Some 1
 gets_a_node = refl
 
-gets_another : with_node (Some 2) (with_node (Some 1) plain_label) ≡ record { node = Some 2 }
+gets_another : with_node (Some 2) (with_node (Some 1) plain_label) ≡ with_node (Some 2) plain_label
 gets_another = refl
 
 loses_its_node : with_node None (with_node (Some 1) plain_label) ≡ plain_label

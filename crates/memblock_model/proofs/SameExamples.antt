@@ -46,11 +46,11 @@ first_variant = refl
 last_variant : variant_of (owner.Script 7) ≡ 13
 last_variant = refl
 
-owner_number_of_a_root : owner_number (owner.Root 7) ≡ 7
-owner_number_of_a_root = refl
+number_of_a_root : owner_number (owner.Root 7) ≡ 7
+number_of_a_root = refl
 
-owner_number_of_a_table : owner_number (owner.Table which.Reserved) ≡ 1
-owner_number_of_a_table = refl
+number_of_a_table : owner_number (owner.Table which.Reserved) ≡ 1
+number_of_a_table = refl
 
 -- an owner is another where its variant is, or its number
 one_owner : same_owner (owner.Script 7) (owner.Script 7) ≡ true

@@ -1,3 +1,8 @@
+//! The items of a journal: what may happen to memory between the map and the handover.
+//!
+//! Each is one call of memblock that changes something. They stand below the crates that write and read them, since
+//! all definitions go over lists of them.
+
 use crate::{Owner, Which};
 use bm_base::Range;
 

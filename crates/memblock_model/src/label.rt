@@ -1,3 +1,7 @@
+//! What a byte of memory carries, as a value: the one place where a node's number is held below 1,024.
+//!
+//! It is a record, so that a further mark of memory is a further field here, in its test and in the item that sets it.
+
 use std::marker::Model;
 
 /// What a table says of the bytes that a record covers: the node, or none yet.

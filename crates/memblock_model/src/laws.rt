@@ -1,3 +1,7 @@
+//! The laws of the definitions, as functions that do nothing: what the layers above may rest on.
+//!
+//! A law that no function's contract names could stay unproved; so each stands here as one.
+
 ghost use Rattle.std.specs.Prelude.{◌≡◌, ℕ, ◌^◌, ◌<◌, ◌≤◌, Bool, true, false, Option, Some, None, List, [], ◌∷◌, ◌++◌};
 ghost use Rattle.bm_base.specs.Extent.{covers};
 ghost use Rattle.address_runs.specs.Runs.{Tells, IsRunsOf};

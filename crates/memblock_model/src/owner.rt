@@ -1,3 +1,8 @@
+//! For whom memory is claimed: every owner that a boot can have.
+//!
+//! The kernel's reserved table forgets it. Here it is kept to the end, so that each frame that isn't handed out can name
+//! its owner.
+
 use crate::Which;
 
 /// For whom bytes are claimed. The kernel's own table doesn't say; it is known where it reserves.

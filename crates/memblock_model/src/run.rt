@@ -1,3 +1,5 @@
+//! A range and its owner: the record in which the journal keeps and tells who has what.
+
 use crate::Owner;
 use address_runs::Stretch;
 use bm_base::Range;

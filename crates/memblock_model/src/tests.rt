@@ -1,3 +1,5 @@
+//! The plain data of this crate: values that differ in one part differ, and they print their parts.
+
 ghost use Rattle.std.specs.Prelude.{◌≡◌, ◌+◌, ◌^◌, ◌<◌};
 ghost use Rattle.memblock_model.specs.declared.owner.Owner.{Owner as AnyOwner};
 

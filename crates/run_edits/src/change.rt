@@ -1,3 +1,8 @@
+//! What a change makes of one address.
+//!
+//! A change is a value with a function over what an address carries, or nothing; the sweep applies it and knows no more of
+//! it. So a caller's own change, such as a new node for a label, needs nothing here.
+
 ghost use Rattle.std.specs.Prelude.{◌≡◌, Option, Some, None, unwrap_or};
 
 /// A change of what an address carries. Where a range is changed, each of its addresses is.

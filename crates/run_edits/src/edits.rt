@@ -1,3 +1,9 @@
+//! The sweep: one body for all edits.
+//!
+//! It goes over the records that meet the range or touch it, from the lowest address on, with a place to read at and a
+//! place to write at; what it reads it has already taken out of the way, so the table is changed in place. Records
+//! behind it are moved once. `memblock_add_range` and its kin each have a loop of their own for this, and merge afterwards.
+
 ghost use Rattle.std.specs.Prelude.{◌≡◌, ◌≢◌, ◌+◌, ◌-◌, ◌^◌, ◌<◌, ◌≤◌, ℕ, Bool, true, Option, Some, None, ◌++◌, length, take, drop, is_some};
 ghost use Rattle.address_runs.specs.Runs.{Tells, AreRuns, IsRunsOf, value_at};
 ghost use Rattle.address_runs.specs.Edits.{amended, NothingFrom};

@@ -1,3 +1,6 @@
+//! How many runs an edit may add, said of functions alone: a layer that sees to the room of a table rests on this before
+//! it edits.
+
 ghost use Rattle.std.specs.Prelude.{◌≡◌, ℕ, ◌+◌, ◌^◌, ◌≤◌, Bool, Option, length};
 ghost use Rattle.bm_base.specs.Extent.{Extent, end_of};
 ghost use Rattle.address_runs.specs.Runs.{Tells, runs_of};

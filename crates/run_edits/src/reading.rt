@@ -1,3 +1,8 @@
+//! Reading a table of runs: where an address lies, what it carries, how far that goes.
+//!
+//! A binary search finds the first record that ends behind an address; a look tells what holds there and up to where. The sweep,
+//! look-ups and whatever walks over a table are made of these.
+
 ghost use Rattle.std.specs.Prelude.{◌≡◌, ◌+◌, ◌-◌, ◌^◌, ◌<◌, ◌≤◌, ℕ, Option, Some, None, [], ◌∷◌, length, take, drop, IsTrue, ◌↔◌, MatchOption};
 ghost use Rattle.bm_base.specs.Extent.{end_of};
 ghost use Rattle.address_runs.specs.Runs.{AreRuns, value_at};

@@ -1,3 +1,9 @@
+//! The seam between the sweep and where a table lies.
+//!
+//! The journal keeps its runs in a list, memblock keeps its tables in the bytes that they describe; both are records in a
+//! row that can be read, written, opened at a place and closed. Reading is a trait of its own, since it needs no table
+//! to change.
+
 ghost use Rattle.std.specs.Prelude.{◌≡◌, ◌+◌, ◌^◌, ◌<◌, ◌≤◌, ℕ, List, ◌∷◌, ◌++◌, length, get_or, take, drop, set, map, vec_capacity};
 ghost use Rattle.address_runs.specs.Runs.{RunOf};
 
