@@ -33,7 +33,7 @@ pub enum Fault {
     BadMem { word: u32 },
     /// The word is a malformed `memmap=`.
     BadMemmap { word: u32 },
-    /// Fewer than two adding pieces follow the last `exactmap`, which stands in this word.
+    /// Fewer than two adding map options follow the last `exactmap`, which stands in this word.
     UserMapInvalid { word: u32 },
     /// The word is a malformed `numa=`.
     BadNuma { word: u32 },

@@ -111,7 +111,7 @@ unfolding usable_frames
 no_frame c nothing =
     count_none _ (2 ^ 52) (λ frame low.
     usable_but (reachable MAX_PHYSMEM (kinds c)) frame (4096 * frame) (omega arith) (omega arith)
-        (no_type_in_reach c nothing (4096 * frame)))
+    (no_type_in_reach c nothing (4096 * frame)))
 
 abbrev empty : Entry
 empty = record { addr = 0; size = 0; kind = 0 }

@@ -71,11 +71,11 @@ pub boot_answers : (given : Given) (answer : MapAnswer) → Answers faults.Memor
     (in_room (map_of (claims given)))
     → IfOk answer (λ runs. IsRunsOf (kinds (claims given)) runs.items) → (result : Result (Vec (RunOf ℕ) Global) Stop)
     → Answers stops.Memory (λ map. map.items) result (judged_answer answer)
-        → Answers stops.Memory (made_of given) result (with_error stop_of (boot given))
+    → Answers stops.Memory (made_of given) result (with_error stop_of (boot given))
 boot_answers given (Ok runs) maps are result answers =
     let kinds_are : value_at runs.items ≡ kinds (claims given) = λ i x. are.each x i in
     let P : TypeAt → Type 0 = λ f. Answers stops.Memory (λ (map : Vec (RunOf ℕ) Global). map.items) result
-        (unless_stopped (judged (reachable MAX_PHYSMEM f)) runs.items) in
+    (unless_stopped (judged (reachable MAX_PHYSMEM f)) runs.items) in
     rw (decided given (Ok runs) maps) (judged_same given (judged (types_in_reach given)) runs result (subst P kinds_are answers))
 boot_answers given (Err (faults.MapFull runs)) maps are (Ok map) answers = absurd (cc)
 boot_answers given (Err (faults.MapFull runs)) maps are (Err stop) answers =

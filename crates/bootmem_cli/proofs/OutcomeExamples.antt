@@ -22,8 +22,14 @@ use Rattle.bootmem_cli.specs.View.{wanted_view}
 use Rattle.bootmem_cli.specs.Words.{Wanted, name_in, texts}
 
 abbrev wanting : List ℕ → Wanted
-wanting zero_page = record { named = λ input. (elim input [ inputs.ZeroPage ↦ Some zero_page | inputs.Extension ↦ Some (codes "ext") |
-    inputs.CommandLine ↦ None ]); report = reports.Map }
+wanting zero_page = record {
+  named = λ input. (elim input [
+    | inputs.ZeroPage ↦ Some zero_page
+    | inputs.Extension ↦ Some (codes "ext")
+    | inputs.CommandLine ↦ None
+  ]);
+  report = reports.Map;
+}
 
 -- one file, a zero page that is too short
 abbrev held : Held

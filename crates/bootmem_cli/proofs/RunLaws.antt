@@ -97,7 +97,7 @@ end_fits said failures.Memory old new writes = tt
 
 fits_held : (holds : Option Held) (accepted : Option Wanted) (failure : Failure) (old new : Option (List ℕ))
     → IfSome holds (λ held. Writes old new (Err failure) (outcome accepted held))
-        → IfSome holds (λ held. EndFits failure (outcome accepted held))
+    → IfSome holds (λ held. EndFits failure (outcome accepted held))
 fits_held None accepted failure old new writes = tt
 fits_held (Some held) accepted failure old new writes = end_fits (outcome accepted held) failure old new writes
 

@@ -22,8 +22,12 @@ pub record Found : Type 0 where
   pub command_line : Option (List ℕ)
 
 abbrev found : Wanted → Found
-found wanted = record { zero_page = wanted.named inputs.ZeroPage; extension = wanted.named inputs.Extension; command_line = wanted.named
-    inputs.CommandLine }
+found wanted = record {
+  zero_page = wanted.named inputs.ZeroPage;
+  extension = wanted.named inputs.Extension;
+  command_line = wanted.named
+      inputs.CommandLine;
+}
 
 abbrev files_of : List (List ℕ) → Option Found
 files_of words = option_map found (accepted words)

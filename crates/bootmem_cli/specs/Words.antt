@@ -60,7 +60,7 @@ value_of option words = at_most_one (values_of option words)
 abbrev pub stand_once : List (List ℕ) → Bool
 stand_once words =
     is_some (value_of (codes "--report") words) && is_some (value_of (codes "--e820ext") words)
-        && is_some (value_of (codes "--cmdline") words)
+    && is_some (value_of (codes "--cmdline") words)
 
 -- the value of an option that stands once
 abbrev pub named_by : List ℕ → List (List ℕ) → Option (List ℕ)

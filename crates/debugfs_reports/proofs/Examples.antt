@@ -4,7 +4,7 @@ use Rattle.std.specs.Fmt.{digits}
 use Rattle.address_runs.specs.Runs.{RunOf}
 use Rattle.debugfs_reports.specs.declared.report.Report.TheVariants as reports
 use Rattle.debugfs_reports.specs.Lines.{lines_from, range_text}
-use Rattle.debugfs_reports.specs.MapText.{kind_name, map_line, range_of}
+use Rattle.debugfs_reports.specs.MapText.{kind_name, map_line}
 use Rattle.debugfs_reports.specs.Report.{first_named, name_of, report_named, report_text}
 
 ram_at_1M : RunOf ℕ
@@ -39,10 +39,6 @@ range_examples : (range_text (record { base = 0x1000; size = 1 }) ≡ codes "0x0
     × (range_text (record { base = 0; size = 0 }) ≡ codes "0x0000000000000000..0x0000000000000000")
 unfolding digits
 range_examples = (refl, refl)
-
-range_of_run : range_of ram_at_1M ≡ record { base = 0x100000; size = 0x7EE0000 }
-unfolding ram_at_1M
-range_of_run = refl
 
 kind_examples : (kind_name 0xEFFFFFFF ≡ codes "soft reserved") × (kind_name 6 ≡ codes "other") × (kind_name 128 ≡ codes "usable kernel")
 kind_examples = (refl, refl, refl)

@@ -1,4 +1,4 @@
--- What reports are made of: lines, and the pieces that stand in them.
+-- What reports are made of: lines, and what stands in them.
 use Rattle.std.specs.Prelude.{ℕ, ◌+◌, ◌-◌, List, [], ◌∷◌, ◌++◌, codes}
 use Rattle.bm_base.specs.Extent.{Extent, end_of}
 use Rattle.bm_base.specs.Text.{hex_text}

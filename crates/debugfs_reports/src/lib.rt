@@ -8,7 +8,7 @@
 //! A report of a list is three things: the definition of the line of one element (`specs/MapText.antt`
 //! has the map's), the function that puts that line, and one call of `put_lines`, which takes the
 //! function. `put_lines` is proved once for all of them. Indices, ranges and numbers are put by the
-//! functions of `pieces`, whose definitions stand in `specs/Lines.antt`, and are the same in every
+//! functions of `ranges`, whose definitions stand in `specs/Lines.antt`, and are the same in every
 //! report.
 //!
 //! Only the text grows. A text is whole before any of it is written, so a report that memory doesn't
@@ -17,7 +17,7 @@
 
 mod lines;
 mod map;
-mod pieces;
+mod ranges;
 mod report;
 #[cfg(test)]
 mod tests;

@@ -7,5 +7,5 @@ use Rattle.debugfs_reports.proofs.lines.put_lines.Given as goal
 abbrev pub invariant-loop-index : goal.invariant-loop-index
 invariant-loop-index g l = (line : ℕ → g.row.T.Denot → List ℕ)
     → ((t : _) (i : _) (x : _) (answer : _) (u : _) → goal.F-post g l.put t i x answer u
-        → OnOk answer (u.now.items ≡ t.now.items ++ line i x.now))
+    → OnOk answer (u.now.items ≡ t.now.items ++ line i x.now))
     → l.text.items ++ lines_from line l.index (drop l.index l.items) ≡ l.fn.text.items ++ lines_from line 0 l.items
