@@ -3,7 +3,7 @@
 ghost use Rattle.std.specs.Prelude.{◌≡◌, ◌++◌, OnOk};
 ghost use Rattle.debugfs_reports.specs.MapText.{kind_name, map_line};
 
-use crate::pieces::put_range;
+use crate::ranges::put_range;
 use bm_base::{Memory, put_dec, put_text};
 use e820_model::{
     E820_TYPE_ACPI, E820_TYPE_NVS, E820_TYPE_PMEM, E820_TYPE_PRAM, E820_TYPE_RAM,
