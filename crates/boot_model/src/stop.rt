@@ -7,7 +7,7 @@ ghost use Rattle.boot_model.specs.Stop.{cause_of};
 use bm_base::Memory;
 use e820_usable::MapStop;
 
-/// Why a boot stops, want of memory apart; in the order in which a boot comes to them.
+/// Why a boot stops, want of memory apart; numbered from 1 in this order.
 #[derive(Clone, Copy, Debug, PartialEq, Eq)]
 pub enum Cause {
     /// No frame of the map is usable.

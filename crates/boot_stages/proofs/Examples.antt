@@ -5,12 +5,12 @@ use Rattle.e820_sanitise.specs.declared.fault.MapFault.TheVariants as faults
 use Rattle.e820_usable.specs.declared.stop.MapStop.TheVariants as reasons
 use Rattle.boot_model.specs.declared.stop.Stop.TheVariants as stops
 use Rattle.boot_model.specs.Boot.{Given}
-use Rattle.boot_stages.specs.Boots.{IsDecided, judged_answer, stop_of_map, unless_stopped}
+use Rattle.boot_stages.specs.Boots.{IsDecided, judged_answer, stop_of_map, goes_on_with}
 
 abbrev one_run : List (RunOf ℕ)
 one_run = record { base = 0x1000; size = 0x1000; value = 1 } ∷ []
 
-unless_examples : (unless_stopped None one_run ≡ Ok one_run) × (unless_stopped (Some reasons.NoRam) one_run ≡ Err stops.NoRam)
+unless_examples : (goes_on_with None one_run ≡ Ok one_run) × (goes_on_with (Some reasons.NoRam) one_run ≡ Err stops.NoRam)
 unless_examples = (refl, refl)
 
 fault_examples : (stop_of_map (faults.MapFull 3201) ≡ stops.MapFull 3201) × (stop_of_map faults.Memory ≡ stops.Memory)

@@ -16,10 +16,10 @@ use Rattle.boot_model.specs.declared.limit.TheConstants.{MAX_PHYSMEM}
 use Rattle.boot_model.specs.declared.stop.Cause.{Cause}
 use Rattle.boot_model.specs.declared.stop.Stop.{Stop}
 use Rattle.boot_model.specs.declared.stop.Stop.TheVariants as stops
-use Rattle.boot_model.specs.Boot.{Given, Made, begin, boot, claims, has_frames, types_in_reach, unless_stopped as judged_stage}
+use Rattle.boot_model.specs.Boot.{Given, Made, begin, boot, claims, has_frames, types_in_reach, unless_stopped}
 use Rattle.boot_model.specs.Stop.{stop_of}
 use Rattle.boot_model.specs.View.{booted_view}
-use Rattle.boot_stages.specs.Boots.{IsDecided, MapAnswer, judged_answer, unless_stopped}
+use Rattle.boot_stages.specs.Boots.{IsDecided, MapAnswer, judged_answer, goes_on_with}
 
 -- the last stage's answer is the chain's
 last_stage : (answer : Result Made Cause) → (answer >>= λ made. Ok made) ≡ answer
@@ -57,8 +57,8 @@ abbrev pub made_of : Given → Vec (RunOf ℕ) Global → Made
 made_of given runs = record { map = runs.items; options = given.options }
 
 judged_same : (given : Given) (reason : Option MapStop) (runs : Vec (RunOf ℕ) Global) (result : Result (Vec (RunOf ℕ) Global) Stop)
-    → Answers stops.Memory (λ map. map.items) result (unless_stopped reason runs.items)
-    → Answers stops.Memory (made_of given) result (with_error stop_of (judged_stage reason (made_of given runs)))
+    → Answers stops.Memory (λ map. map.items) result (goes_on_with reason runs.items)
+    → Answers stops.Memory (made_of given) result (with_error stop_of (unless_stopped reason (made_of given runs)))
 judged_same given None runs (Ok map) answers =
     let same : runs.items ≡ map.items = cc in
     ap (λ (items : List (RunOf ℕ)). Ok (record { map = items; options = given.options })) same
@@ -75,7 +75,7 @@ pub boot_answers : (given : Given) (answer : MapAnswer) → Answers faults.Memor
 boot_answers given (Ok runs) maps are result answers =
     let kinds_are : value_at runs.items ≡ kinds (claims given) = λ i x. are.each x i in
     let P : TypeAt → Type 0 = λ f. Answers stops.Memory (λ (map : Vec (RunOf ℕ) Global). map.items) result
-    (unless_stopped (judged (reachable MAX_PHYSMEM f)) runs.items) in
+    (goes_on_with (judged (reachable MAX_PHYSMEM f)) runs.items) in
     rw (decided given (Ok runs) maps) (judged_same given (judged (types_in_reach given)) runs result (subst P kinds_are answers))
 boot_answers given (Err (faults.MapFull runs)) maps are (Ok map) answers = absurd (cc)
 boot_answers given (Err (faults.MapFull runs)) maps are (Err stop) answers =

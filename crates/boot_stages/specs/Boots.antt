@@ -23,13 +23,13 @@ abbrev pub stop_of_map : MapFault → Stop
 stop_of_map (faults.MapFull runs) = stops.MapFull runs
 stop_of_map faults.Memory = stops.Memory
 
-abbrev pub unless_stopped : Option MapStop → List (RunOf ℕ) → Result (List (RunOf ℕ)) Stop
-unless_stopped None map = Ok map
-unless_stopped (Some reason) map = Err (stop_of (cause_of_map reason))
+abbrev pub goes_on_with : Option MapStop → List (RunOf ℕ) → Result (List (RunOf ℕ)) Stop
+goes_on_with None map = Ok map
+goes_on_with (Some reason) map = Err (stop_of (cause_of_map reason))
 
 -- what is made of that answer: the map's own frames are judged
 abbrev pub judged_answer : MapAnswer → Result (List (RunOf ℕ)) Stop
-judged_answer (Ok runs) = unless_stopped (judged (reachable MAX_PHYSMEM (value_at runs.items))) runs.items
+judged_answer (Ok runs) = goes_on_with (judged (reachable MAX_PHYSMEM (value_at runs.items))) runs.items
 judged_answer (Err fault) = Err (stop_of_map fault)
 
 -- by that answer the boot goes on to judge the frames, or stops; with no memory for it nothing is said

@@ -7,7 +7,7 @@ ghost use Rattle.e820_model.specs.Map.{claims_of};
 ghost use Rattle.bm_base.specs.Answers.{Answers};
 ghost use Rattle.e820_model.specs.Usable.{reachable};
 ghost use Rattle.e820_usable.specs.Judged.{judged};
-ghost use Rattle.boot_stages.specs.Boots.{judged_answer, unless_stopped};
+ghost use Rattle.boot_stages.specs.Boots.{judged_answer, goes_on_with};
 
 use bm_base::Memory;
 use boot_model::{Cause, MAX_PHYSMEM, Stop};
@@ -76,7 +76,7 @@ pub fn judged_map(answer: Result<Vec<Run>, MapFault>) -> Result<Vec<Run>, Stop>
 fn go_on(map: Vec<Run>) -> Result<Vec<Run>, Stop>
     requires { AreRuns map.items }
     ensures answers { Answers Stop.Memory (λ runs. runs.items) result
-        (unless_stopped (judged (reachable MAX_PHYSMEM (value_at map.items))) map.items) }
+        (goes_on_with (judged (reachable MAX_PHYSMEM (value_at map.items))) map.items) }
     ensures always { ¬ IsErrOf result Stop.Memory }
     ensures runs { IfOk result (λ runs. AreRuns runs.items) }
 {

@@ -7,9 +7,8 @@
 //!
 //! A report of a list is three things: the definition of the line of one element (`specs/MapText.antt`
 //! has the map's), the function that puts that line, and one call of `put_lines`, which takes the
-//! function. `put_lines` is proved once for all of them. Indices, ranges and numbers are put by the
-//! functions of `ranges`, whose definitions stand in `specs/Lines.antt`, and are the same in every
-//! report.
+//! function. `put_lines` is proved once for all of them. Ranges and numbers are put by `put_range` and by
+//! the functions of `bm_base`, and are the same in every report.
 //!
 //! Only the text grows. A text is whole before any of it is written, so a report that memory doesn't
 //! suffice for writes nothing.

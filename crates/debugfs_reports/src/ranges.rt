@@ -1,4 +1,4 @@
-//! What lines are made of: ranges and their like, the same in every report.
+//! Ranges in lines, the same in every report.
 
 ghost use Rattle.std.specs.Prelude.{◌≡◌, ◌++◌, OnOk};
 ghost use Rattle.debugfs_reports.specs.Lines.{range_text};
