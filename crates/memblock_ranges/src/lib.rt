@@ -1,0 +1,6 @@
+//! The two tables.
+#![tactic(auto)]
+
+mod region;
+
+pub use region::Region;
