@@ -1,2 +1,3 @@
-pub mod SpellLaws
 pub mod ByteEdits
+pub mod EditLaws
+pub mod SpellLaws
