@@ -1,3 +1,5 @@
 pub mod ByteEdits
 pub mod EditLaws
+pub mod PieceLaws
 pub mod SpellLaws
+pub mod TrimLaws

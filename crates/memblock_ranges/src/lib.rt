@@ -2,8 +2,11 @@
 #![tactic(auto)]
 
 mod edits;
+mod lent;
 mod live;
+mod pieces;
 mod record;
 mod region;
+mod trim;
 
 pub use region::{Head, Heads, Region, region_at};
