@@ -67,7 +67,7 @@ written_is : (s t : List Piece) (at n : ℕ) (bs : List ℕ) → Wrote s t at n 
 written_is s t at n bs w count long =
     sym (told_bytes (byte_of t) at 24 bs long (λ k below. sym (w.within k (omega (arith, below, count)))))
 
-record_there : (f g : ℕ → ℕ) (a b : ℕ) → ((k : ℕ) → k < 24 → g (b + k) ≡ f (a + k)) → IsRecord (bytes_at f a 24) → IsRecord (bytes_at g b 24)
+pub record_there : (f g : ℕ → ℕ) (a b : ℕ) → ((k : ℕ) → k < 24 → g (b + k) ≡ f (a + k)) → IsRecord (bytes_at f a 24) → IsRecord (bytes_at g b 24)
 record_there f g a b same known = subst IsRecord (sym (same_bytes f g a b 24 same)) known
 
 -- what an edit of a table comes to

@@ -10,6 +10,7 @@ use phys_store::Store;
 use run_edits::{Rows, Slots};
 
 /// A table in the bytes that it describes, lent to be read.
+#[derive(Clone, Copy)]
 pub struct Seen<'a> {
     pub store: &'a Store,
     pub head: &'a Head,
@@ -22,6 +23,21 @@ pub struct Live<'a> {
     pub store: &'a mut Store,
     pub head: &'a mut Head,
     ghost table: { IsTable (byte_of store.now) (is_ready store.now) head.now.place head.now.room head.now.count } by { Prim.hlevel props },
+}
+
+impl Rows<Record> for Seen<'_> {
+    ghost use Rattle.phys_store.specs.Bytes.{byte_of};
+    ghost use Rattle.memblock_ranges.specs.Spelling.{records_at};
+
+    ghost list = { λ l. records_at (byte_of l.store.now) l.head.now.place l.head.now.count };
+
+    fn count(&self) -> u64 {
+        self.head.count
+    }
+
+    fn get(&self, i: u64) -> Record {
+        read_record(self.store.slice(self.head.place + RECORD_SIZE * i, RECORD_SIZE))
+    }
 }
 
 impl Rows<Record> for Live<'_> {
