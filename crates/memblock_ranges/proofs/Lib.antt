@@ -1,6 +1,9 @@
 pub mod ByteEdits
 pub mod EditLaws
 pub mod MoveLaws
+pub mod NewLaws
+pub mod PairLaws
 pub mod PieceLaws
 pub mod SpellLaws
+pub mod TableSpelling
 pub mod TrimLaws

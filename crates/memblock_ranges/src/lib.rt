@@ -7,6 +7,8 @@ mod live;
 mod pieces;
 mod record;
 mod region;
+mod tables;
 mod trim;
 
 pub use region::{Head, Heads, Region, region_at};
+pub use tables::Tables;
