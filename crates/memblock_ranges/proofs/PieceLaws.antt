@@ -30,11 +30,11 @@ stretch_ends same tells g from to v less stays =
     let here : edges same g last ≡ edge same v (g to) = rw (stays last (omega arith) (omega arith), at_end) refl in
     omega (arith, parts, quiet, one, rest, here)
 
-abbrev bare_label : Bool → Option Label
+abbrev pub bare_label : Bool → Option Label
 bare_label b = if b then Some plain_label else None
 
 -- what a bare byte carries, and its neighbour
-edge_bare : (a b : Bool) → edge same_label (bare_label a) (bare_label b) ≡ (if a && not b then 1 else 0)
+pub edge_bare : (a b : Bool) → edge same_label (bare_label a) (bare_label b) ≡ (if a && not b then 1 else 0)
 edge_bare true true = refl
 edge_bare true false = refl
 edge_bare false b = refl
