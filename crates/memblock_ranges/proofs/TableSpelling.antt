@@ -8,9 +8,9 @@ use Rattle.phys_store.proofs.ByteLists.{told_bytes}
 use Rattle.address_runs.specs.Runs.{RunOf}
 use Rattle.memblock_model.specs.Labels.{Label}
 use Rattle.memblock_ranges.specs.declared.region.Head.{Head}
-use Rattle.memblock_ranges.specs.Spelling.{base_in, size_in, node_in, fields_of, label_of, node_field, run_in, spelling_of, records_at, spelled_table, IsRecord}
+use Rattle.memblock_ranges.specs.Spelling.{base_in, size_in, flags_in, node_in, region_in, region_of, fields_of, label_of, node_field, run_in, spelling_of, records_at, spelled_table, IsRecord}
 use Rattle.memblock_ranges.specs.Tables.{IsTable, HasTable, AreRecords, list_in, table_by, head_of, StandsIn}
-use Rattle.memblock_ranges.proofs.SpellLaws.{length-records_at}
+use Rattle.memblock_ranges.proofs.SpellLaws.{length-records_at, get-records_at, flags-fields_of}
 
 -- a label is read from the field that it is written to
 pub node_field-label_of : (n : ℕ) → node_field (label_of n) ≡ n
@@ -54,6 +54,13 @@ spelled_from f (suc count) (suc room) a few known zeros =
     ∙ sym (ap (λ (bs : List ℕ). bs ++ spelled_table (records_at f (a + 24) count) (suc room - 1)) first
         ∙ ap (λ n. bytes_at f a 24 ++ spelled_table (records_at f (a + 24) count) n) left)
 
+-- the record that the bytes spell is the one of the list
+region_back : (bs : List ℕ) → IsRecord bs → region_in bs ≡ region_of (run_in bs)
+region_back bs known =
+    let flags : flags_in bs ≡ 0 = ap flags_in known.spells ∙ flags-fields_of (base_in bs) (size_in bs) (node_in bs) in
+    let node : node_in bs ≡ node_field (label_of (node_in bs)) = sym (node_field-label_of (node_in bs)) in
+    λ j. record { base = base_in bs; size = size_in bs; flags = flags j; node = node j }
+
 pub stands : (s : List Piece) (h : Head) → HasTable s h → AreRecords (list_in s h) → StandsIn (table_by s h) s
 stands s h table known =
     let count = length-records_at (byte_of s) h.place h.count in
@@ -62,6 +69,10 @@ stands s h table known =
       fits = table.fits;
       records = known;
       bytes = spelled_from (byte_of s) h.count h.room h.place table.few table.records table.zeros;
+      regions = λ i r less.
+        let inner : i < h.count = omega (arith, less, count) in
+        region_back (bytes_at (byte_of s) (h.place + 24 * i) 24) (table.records i inner)
+        ∙ sym (ap region_of (get-records_at (byte_of s) h.place h.count i r inner));
       prepared = table.prepared }
 
 pub head_is : (s : List Piece) (h : Head) → h ≡ head_of (table_by s h)

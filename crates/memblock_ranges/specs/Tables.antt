@@ -1,5 +1,5 @@
 -- A table in the bytes that it describes, and both of them.
-use Rattle.std.specs.Prelude.{◌≡◌, ℕ, ◌+◌, ◌*◌, ◌^◌, ◌<◌, ◌≤◌, Bool, true, false, ◌&&◌, nat_le, nat_lt, if◌then◌else◌, Some, List, length, IsTrue}
+use Rattle.std.specs.Prelude.{◌≡◌, ℕ, ◌+◌, ◌*◌, ◌^◌, ◌<◌, ◌≤◌, Bool, true, false, ◌&&◌, nat_le, nat_lt, if◌then◌else◌, Some, List, length, get_or, IsTrue}
 use Rattle.bm_base.specs.Extent.{Extent, covers, Meet}
 use Rattle.phys_store.specs.Bytes.{Piece, byte_of, is_ready, AreReady, bytes_at}
 use Rattle.address_runs.specs.Runs.{RunOf, AreRuns, value_at}
@@ -7,7 +7,7 @@ use Rattle.address_runs.specs.Edits.{NothingFrom}
 use Rattle.memblock_model.specs.Labels.{Label, plain_label}
 use Rattle.memblock_model.specs.declared.which.Which.{Which}
 use Rattle.memblock_model.specs.declared.which.Which.TheVariants as which
-use Rattle.memblock_ranges.specs.Spelling.{IsRecord, records_at, spelled_table}
+use Rattle.memblock_ranges.specs.Spelling.{IsRecord, region_in, region_of, records_at, spelled_table}
 use Rattle.memblock_ranges.specs.declared.region.Head.{Head}
 
 -- at `place` stands a table with room for so many records, of which the first `count` are there: all its bytes are prepared, its
@@ -98,13 +98,14 @@ Overlaps t r = (w : Which) × Meet (bytes_in w t) r
 abbrev pub head_of : Table → Head
 head_of t = record { place = t.place; room = t.room; count = length t.records }
 
--- the table lies in the store: its records are in order and fit, the bytes at its place are those of the records and then zeros,
--- and all of them are prepared
+-- the table lies in the store: its records are in order and fit, the bytes at its place are those of the records and then zeros, so that
+-- each record is read from its 24 bytes, and all of them are prepared
 pub record StandsIn (t : Table) (store : List Piece) : Type 0 where
   pub few : length t.records ≤ t.room
   pub fits : t.place + 24 * t.room < 2 ^ 64
   pub records : AreRecords t.records
   pub bytes : bytes_at (byte_of store) t.place (24 * t.room) ≡ spelled_table t.records t.room
+  pub regions : (i : ℕ) (r : RunOf Label) → i < length t.records → region_in (bytes_at (byte_of store) (t.place + 24 * i) 24) ≡ region_of (get_or t.records i r)
   pub prepared : AreReady store t.place (24 * t.room)
 
 -- which nodes a record of a table may have: the reserved table's have none (`memblock_add_range` with `MAX_NUMNODES`)

@@ -1,3 +1,5 @@
+//! The edits of one table, whatever its slots are: each is a change of what one address carries, handed to
+//! the sweep of `run_edits`, with the room that it needs.
 ghost use Rattle.std.specs.Prelude.{◌≡◌, ◌+◌, ◌<◌, ◌≤◌, Some, length};
 ghost use Rattle.std.specs.Option.{option_map};
 ghost use Rattle.address_runs.specs.Runs.{value_at};

@@ -1,3 +1,5 @@
+//! A table in its bytes as slots for records: where the sweep of `run_edits` meets the store. The fact that
+//! a table stands at the head's place is lent with it, and holds again after each step.
 ghost use Rattle.std.specs.Prelude.{◌≡◌, ◌≤◌, ◌<◌, refl};
 ghost use Rattle.std.proofs.Props.{props};
 ghost use Rattle.phys_store.specs.Bytes.{byte_of, is_ready};

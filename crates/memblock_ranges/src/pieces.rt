@@ -1,3 +1,4 @@
+//! The count that `memblock_add_range` makes in its first round: how many records covering a range adds.
 ghost use Rattle.std.specs.Prelude.{◌≡◌, Bool, true, false, ◌&&◌, ◌||◌, not, if◌then◌else◌};
 ghost use Rattle.address_runs.specs.Runs.{value_at};
 ghost use Rattle.memblock_model.specs.Tables.{pieces};

@@ -1,3 +1,5 @@
+//! A record as an edit sees it, a run of addresses that carry one label, and its bytes: here bytes become
+//! records and records bytes, and nowhere else.
 ghost use Rattle.std.specs.Prelude.{◌≡◌, ◌+◌, ◌^◌, ◌<◌, ◌≤◌, length};
 ghost use Rattle.memblock_ranges.specs.Spelling.{fields_of, label_of, node_field, run_in, spelling_of, region_of, FitsRecord, IsRecord};
 

@@ -1,3 +1,5 @@
+//! Records and heads as callers see them: plain numbers. [`region_at`] gives whatever 24 bytes say, so a
+//! [`Region`] has no invariant; the records of a table are read through it where no `Tables` is at hand.
 ghost use Rattle.std.specs.Prelude.{◌≡◌, ◌+◌, ◌*◌, ◌^◌, ◌<◌, ◌≤◌, length};
 ghost use Rattle.phys_store.specs.Bytes.{byte_of, bytes_at};
 ghost use Rattle.memblock_ranges.specs.Spelling.{region_in};

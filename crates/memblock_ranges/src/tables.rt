@@ -1,5 +1,6 @@
+//! Both tables in one store. Each call is that of one table; what is argued here is that the other stays.
 ghost use Rattle.std.specs.Prelude.{◌≡◌, ℕ, ◌+◌, ◌-◌, ◌*◌, ◌^◌, ◌<◌, ◌≤◌, ◌↔◌, ◌||◌, Bool, true, false, Some, [], length, get_or, OnOk, OnErr, IfOk, IsTrue};
-ghost use Rattle.bm_base.specs.Extent.{covers, end_of};
+ghost use Rattle.bm_base.specs.Extent.{covers, end_of, Meet};
 ghost use Rattle.phys_store.specs.Bytes.{byte_of, is_ready, AreReady, Wrote, bytes_at};
 ghost use Rattle.address_runs.specs.Runs.{RunOf, value_at};
 ghost use Rattle.address_runs.specs.Edits.{covered, uncovered, relabelled};
@@ -9,7 +10,7 @@ ghost use Rattle.memblock_model.specs.Labels.{Label as AnyLabel, with_node};
 ghost use Rattle.memblock_model.specs.Items.{trimmed};
 ghost use Rattle.memblock_model.specs.Tables.{records_for, pieces, built_in};
 ghost use Rattle.memblock_ranges.specs.Spelling.{label_of, region_of};
-ghost use Rattle.memblock_ranges.specs.Tables.{table_in, other_in, records_in, place_in, room_in, bytes_in, head_of, Overlaps, StandsIn, IsNodeOf};
+ghost use Rattle.memblock_ranges.specs.Tables.{table_in, other_in, records_in, place_in, room_in, bytes_of, bytes_in, head_of, Overlaps, StandsIn, IsNodeOf, HaveNoNode};
 
 use crate::lent;
 use crate::record::label_of;
@@ -19,6 +20,9 @@ use memblock_model::Which;
 use phys_store::Store;
 use std::alloc::Global;
 use std::marker::Model;
+
+#[cfg(test)]
+mod tests;
 
 /// The records that a table has room for at first (`INIT_MEMBLOCK_REGIONS`).
 const FIRST_ROOM: u64 = 128;
@@ -66,6 +70,8 @@ impl Tables {
     pub fn head(&self, which: Which) -> Head
         ensures head { result ≡ head_of (table_in which self.now) }
         ensures table { StandsIn (table_in which self.now) self.now.store }
+        ensures apart { ¬ Meet (bytes_of self.now.memory) (bytes_of self.now.reserved) }
+        ensures plain { HaveNoNode self.now.reserved.records }
     {
         match which {
             Which::Memory => self.heads.memory,
@@ -231,6 +237,7 @@ impl Tables {
         ensures heads { result.1 ≡ record { memory = head_of self.memory; reserved = head_of self.reserved } }
         ensures memory { StandsIn self.memory result.0 }
         ensures reserved { StandsIn self.reserved result.0 }
+        ensures plain { HaveNoNode self.reserved.records }
     {
         let Tables { store, heads } = self;
         (store, heads)

@@ -1,3 +1,5 @@
+//! Trimming: each record is cut to whole frames where it stands, in one pass from the lowest on. A record
+//! never needs two, so the pass wants no room.
 ghost use Rattle.std.specs.Prelude.{◌≡◌, ◌+◌, ◌-◌, ◌%◌, ◌<◌, ◌≤◌};
 ghost use Rattle.bm_base.specs.Extent.{end_of};
 ghost use Rattle.address_runs.specs.Runs.{value_at};
