@@ -1,10 +1,9 @@
 -- The edits of records: their room, and that the runs that they leave are the records.
-use Rattle.std.proofs.Common.{◌≡◌, ℕ, ◌+◌, ◌-◌, ◌^◌, ◌<◌, ◌≤◌, false, Option, Some, None, List, length, refl, sym, ◌∙◌, ap, arith}
-use Rattle.std.specs.Prelude.{unwrap_or}
+use Rattle.std.proofs.Common.{◌≡◌, ℕ, ◌+◌, ◌-◌, ◌^◌, ◌≤◌, false, Option, List, length, refl, sym, ◌∙◌, arith}
 use Rattle.std.proofs.lemmas.Bool.Decides.{nat_tests}
 use Rattle.bm_base.specs.Extent.{Extent, covers}
-use Rattle.address_runs.specs.Runs.{RunOf, value_at, AreRuns, IsRunsOf}
-use Rattle.address_runs.specs.Edits.{amended, covered, bare, NothingFrom}
+use Rattle.address_runs.specs.Runs.{RunOf, value_at, IsRunsOf}
+use Rattle.address_runs.specs.Edits.{amended, covered, bare}
 use Rattle.run_edits.specs.Ends.{edges, total, HasRoom}
 use Rattle.run_edits.proofs.EndLaws.{all_ends, total-split}
 use Rattle.run_edits.proofs.AmendLaws.{amended_ends}
@@ -29,10 +28,10 @@ cover_room rs r v room known ends fits =
     let count : length rs ≡ total (edges same_label f) 0 (2 ^ 64) = all_ends same_label label_tells rs known.runs known.within in
     let more = pieces_are r f ends in
     room_by same_label label_tells f (covered r v f) (edges same_label (bare r plain_label f)) (pieces r f) room
-        (covered_edges same_label label_tells r v plain_label f)
-        (λ at le. let parts = total-split (edges same_label (bare r plain_label f)) 0 at (2 ^ 64 - at) (2 ^ 64) at (omega arith) (omega arith) in
-            omega (arith, parts, more))
-        (omega (arith, count, fits))
+    (covered_edges same_label label_tells r v plain_label f)
+    (λ at le. let parts = total-split (edges same_label (bare r plain_label f)) 0 at (2 ^ 64 - at) (2 ^ 64) at (omega arith) (omega arith) in
+    omega (arith, parts, more))
+    (omega (arith, count, fits))
 
 -- what an edit leaves are the records of what the addresses carry then
 pub edited_list : (change : Option Label → Option Label) (r : Extent) (rs now : List (RunOf Label)) → AreRecords rs → r.base + r.size ≤ 2 ^ 64 →

@@ -1,3 +1,4 @@
+mod Examples
 pub mod ByteEdits
 pub mod CountLaws
 pub mod EditLaws

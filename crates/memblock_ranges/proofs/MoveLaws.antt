@@ -1,8 +1,8 @@
 -- A table moves to another place.
-use Rattle.std.proofs.Common.{◌≡◌, ℕ, ◌+◌, ◌-◌, ◌*◌, ◌^◌, ◌<◌, ◌≤◌, List, true, false, ◌&&◌, ◌||◌, max, nat_le, refl, sym, ◌∙◌, ap, arith, inl, inr, IsTrue}
+use Rattle.std.proofs.Common.{◌≡◌, ℕ, ◌+◌, ◌-◌, ◌*◌, ◌^◌, ◌<◌, ◌≤◌, List, true, ◌||◌, max, nat_le, refl, sym, ◌∙◌, ap, arith, inl, inr, IsTrue}
 use Rattle.std.proofs.lemmas.Bool.{cases_lt}
 use Rattle.std.proofs.lemmas.Bool.Decides.{nat_tests}
-use Rattle.bm_base.specs.Extent.{Extent, covers, Meet}
+use Rattle.bm_base.specs.Extent.{Extent, Meet}
 use Rattle.phys_store.specs.Bytes.{Piece, byte_of, is_ready, AreReady, Wrote}
 use Rattle.memblock_ranges.specs.declared.region.Head.{Head}
 use Rattle.memblock_ranges.specs.Tables.{HasTable, bytes_by, Moves}
@@ -24,7 +24,9 @@ copied_apart old room count place few apart =
       | inr before ↦ grind (arith, nat_tests)
       | inl under ↦ elim (cases_lt old (place + 24 * count)) as (λ _. (nat_le (old + 24 * count) place || nat_le (place + 24 * count) old) ≡ true) [
         | inr behind ↦ grind (arith, nat_tests)
-        | inl over ↦ absurd (apart (both (bytes old (24 * room)) (bytes place (48 * room)) (max old place) (omega arith) (omega arith) (omega arith) (omega arith))) ] ]
+        | inl over ↦ absurd (apart (both (bytes old (24 * room)) (bytes place (48 * room)) (max old place) (omega arith) (omega arith) (omega arith) (omega arith)))
+      ]
+    ]
 
 pub moves : (s t u v : List Piece) (g : Head) (place used free size : ℕ) → HasTable s g → place + 48 * g.room < 2 ^ 64 → AreReady s place (48 * g.room) →
     ¬ Meet (bytes_by g) (bytes place (48 * g.room)) →
@@ -35,16 +37,18 @@ moves s t u v g place used free size table small prepared apart copied cleared z
     let old : ℕ = g.place in
     let few = table.few in
     let off : (x : ℕ) → place ≤ x → x < place + 48 * g.room → byte_of v x ≡ byte_of u x = λ x low high.
-        elim (cases_lt x old) as (λ _. byte_of v x ≡ byte_of u x) [
-          | inl under ↦ zeroed.outside x (grind (arith, nat_tests))
-          | inr over ↦ elim (cases_lt x (old + 24 * g.room)) as (λ _. byte_of v x ≡ byte_of u x) [
-            | inl within ↦ absurd (apart (both (bytes_by g) (bytes place (48 * g.room)) x over within low high))
-            | inr behind ↦ zeroed.outside x (grind (arith, nat_tests)) ] ] in
+    elim (cases_lt x old) as (λ _. byte_of v x ≡ byte_of u x) [
+      | inl under ↦ zeroed.outside x (grind (arith, nat_tests))
+      | inr over ↦ elim (cases_lt x (old + 24 * g.room)) as (λ _. byte_of v x ≡ byte_of u x) [
+        | inl within ↦ absurd (apart (both (bytes_by g) (bytes place (48 * g.room)) x over within low high))
+        | inr behind ↦ zeroed.outside x (grind (arith, nat_tests))
+      ]
+    ] in
     let there : (k : ℕ) → k < 24 * g.count → byte_of v (place + k) ≡ byte_of s (old + k) = λ k less.
-        off (place + k) (omega arith) (omega arith) ∙ cleared.outside (place + k) (grind (arith, nat_tests)) ∙ copied.within k (omega (arith, used_is, less)) in
+    off (place + k) (omega arith) (omega arith) ∙ cleared.outside (place + k) (grind (arith, nat_tests)) ∙ copied.within k (omega (arith, used_is, less)) in
     let behind : (x : ℕ) → place + 24 * g.count ≤ x → x < place + 48 * g.room → byte_of v x ≡ 0 = λ x low high.
-        let here : place + used + (x - (place + used)) ≡ x = omega (arith, used_is, low) in
-        off x (omega arith) high ∙ ap (byte_of u) (sym here) ∙ cleared.within (x - (place + used)) (omega (arith, used_is, free_is, low, high)) in
+    let here : place + used + (x - (place + used)) ≡ x = omega (arith, used_is, low) in
+    off x (omega arith) high ∙ ap (byte_of u) (sym here) ∙ cleared.within (x - (place + used)) (omega (arith, used_is, free_is, low, high)) in
     let ready : (x : ℕ) → is_ready v x ≡ is_ready s x = λ x. zeroed.ready x ∙ cleared.ready x ∙ copied.ready x in
     record {
       list_is = same_records (byte_of s) (byte_of v) old place g.count there;
@@ -53,17 +57,19 @@ moves s t u v g place used free size table small prepared apart copied cleared z
         fits = omega (arith, small);
         records = λ i less. record_there (byte_of s) (byte_of v) (old + 24 * i) (place + 24 * i)
             (λ k in_it.
-                let here : place + 24 * i + k ≡ place + (24 * i + k) = omega arith in
-                let from : old + (24 * i + k) ≡ old + 24 * i + k = omega arith in
-                ap (byte_of v) here ∙ there (24 * i + k) (omega arith) ∙ ap (byte_of s) from) (table.records i less);
+            let here : place + 24 * i + k ≡ place + (24 * i + k) = omega arith in
+            let from : old + (24 * i + k) ≡ old + 24 * i + k = omega arith in
+            ap (byte_of v) here ∙ there (24 * i + k) (omega arith) ∙ ap (byte_of s) from) (table.records i less);
         zeros = λ x low high. behind x low (omega (arith, high));
-        prepared = λ x low high. ready x ∙ prepared x low (omega (arith, high)) };
+        prepared = λ x low high. ready x ∙ prepared x low (omega (arith, high));
+      };
       place_is = refl;
       room_is = refl;
       left = λ x lies.
-        let low : old ≤ x = grind (arith, nat_tests) in
-        let here : old + (x - old) ≡ x = omega arith in
-        ap (byte_of v) (sym here) ∙ zeroed.within (x - old) (grind (arith, nat_tests));
+          let low : old ≤ x = grind (arith, nat_tests) in
+          let here : old + (x - old) ≡ x = omega arith in
+          ap (byte_of v) (sym here) ∙ zeroed.within (x - old) (grind (arith, nat_tests));
       elsewhere = λ x out_new out_old. zeroed.outside x (grind (arith, nat_tests)) ∙ cleared.outside x (grind (arith, nat_tests))
-        ∙ copied.outside x (grind (arith, nat_tests));
-      ready = ready }
+          ∙ copied.outside x (grind (arith, nat_tests));
+      ready = ready;
+    }

@@ -1,8 +1,8 @@
 -- Two empty tables.
-use Rattle.std.proofs.Common.{◌≡◌, ℕ, ◌+◌, ◌-◌, ◌*◌, ◌^◌, ◌<◌, ◌≤◌, Bool, true, false, ◌||◌, ◌&&◌, Some, None, List, [], refl, sym, ◌∙◌, ap, subst, arith}
+use Rattle.std.proofs.Common.{◌≡◌, ℕ, ◌+◌, ◌-◌, ◌*◌, ◌^◌, ◌<◌, ◌≤◌, true, ◌||◌, ◌&&◌, List, [], refl, ◌∙◌, ap, arith}
 use Rattle.std.proofs.lemmas.Bool.{or_left, or_right}
 use Rattle.std.proofs.lemmas.Bool.Decides.{nat_tests}
-use Rattle.bm_base.specs.Extent.{Extent, covers, Meet, end_of}
+use Rattle.bm_base.specs.Extent.{covers}
 use Rattle.phys_store.specs.Bytes.{Piece, byte_of, is_ready}
 use Rattle.address_runs.specs.Runs.{RunOf}
 use Rattle.memblock_model.specs.Labels.{Label}
@@ -27,8 +27,12 @@ none_noded = λ x label is. cc is
 empty_table : (s : List Piece) (place : ℕ) → place + 24 * 128 < 2 ^ 64 → ((x : ℕ) → byte_of s x ≡ 0) →
     ((x : ℕ) → covers (bytes_by (first_head place)) x ≡ true → is_ready s x ≡ true) → HasTable s (first_head place)
 empty_table s place fits zeros ready = record {
-  few = omega arith; fits = fits; records = λ i less. absurd (omega arith); zeros = λ x low high. zeros x;
-  prepared = λ x low high. ready x (grind (arith, nat_tests)) }
+  few = omega arith;
+  fits = fits;
+  records = λ i less. absurd (omega arith);
+  zeros = λ x low high. zeros x;
+  prepared = λ x low high. ready x (grind (arith, nat_tests));
+}
 
 parted : (end x : ℕ) → 8192 ≤ end → (covers (bytes_by (first_head (end - 8192))) x && covers (bytes_by (first_head (end - 4096))) x) ≡ true → ⊥
 parted end x long lies =
@@ -45,7 +49,8 @@ new_tables s end long small zeros ready = record {
   apart = λ both. let x = both.0 in let lies = both.1 in absurd (parted end x long lies);
   memory_records = rw (no_records s (end - 8192)) none_known;
   reserved_records = rw (no_records s (end - 4096)) none_known;
-  plain = rw (no_records s (end - 4096)) none_noded }
+  plain = rw (no_records s (end - 4096)) none_noded;
+}
 
 pub first_table : (s : List Piece) (place : ℕ) → table_by s (first_head place) ≡ record { records = []; place = place; room = 128 }
 first_table s place = ap (λ (rs : List (RunOf Label)). let t : Table = record { records = rs; place = place; room = 128 } in t) (no_records s place)

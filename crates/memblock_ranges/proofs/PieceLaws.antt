@@ -1,5 +1,5 @@
 -- The pieces of a range that a table doesn't cover, counted from the lowest address on by where they end.
-use Rattle.std.proofs.Common.{◌≡◌, ℕ, ◌+◌, ◌-◌, ◌^◌, ◌<◌, ◌≤◌, Bool, true, false, not, ◌&&◌, if◌then◌else◌, nat_lt, Option, Some, None, List, refl, sym, ◌∙◌, ap, arith}
+use Rattle.std.proofs.Common.{◌≡◌, ℕ, ◌+◌, ◌-◌, ◌^◌, ◌<◌, ◌≤◌, Bool, true, false, not, ◌&&◌, if◌then◌else◌, nat_lt, Option, Some, None, refl, sym, ◌∙◌, ap, arith}
 use Rattle.std.specs.Prelude.{is_none, is_some}
 use Rattle.std.proofs.lemmas.Bool.{false≢true}
 use Rattle.std.proofs.lemmas.Bool.Decides.{nat_tests}
@@ -24,7 +24,7 @@ stretch_ends same tells g from to v less stays =
     let at_end : last + 1 ≡ to = omega arith in
     let parts = total-split (edges same g) from inner 1 (to - from) last (omega arith) (omega arith) in
     let quiet : total (edges same g) from inner ≡ 0 = total-quiet (edges same g) from inner
-        (λ y above under. rw (stays y above (omega arith), stays (y + 1) (omega arith) (omega arith)) (edge-self same tells v)) in
+    (λ y above under. rw (stays y above (omega arith), stays (y + 1) (omega arith) (omega arith)) (edge-self same tells v)) in
     let one = total-next (edges same g) last 0 in
     let rest : total (edges same g) (last + 1) 0 ≡ 0 = total-quiet (edges same g) (last + 1) 0 (λ y above under. absurd (omega arith)) in
     let here : edges same g last ≡ edge same v (g to) = rw (stays last (omega arith) (omega arith), at_end) refl in
@@ -64,11 +64,11 @@ module _ (r : Extent) (f : Labels) where
   more_pieces from to next count more here there low less high far stays is_here is_there ends so_far =
       let g = bare r plain_label f in
       let steady : Stays g from to (bare_label (is_none (f from))) = λ x above under.
-          bare_inside x (omega arith) (omega arith) ∙ ap (λ o. bare_label (is_none o)) (stays x above (omega arith)) in
+      bare_inside x (omega arith) (omega arith) ∙ ap (λ o. bare_label (is_none o)) (stays x above (omega arith)) in
       let stretch = stretch_ends same_label label_tells g from to (bare_label (is_none (f from))) less steady in
       let at_to : edge same_label (bare_label (is_none (f from))) (g to) ≡ more =
-          ap (edge same_label (bare_label (is_none (f from)))) (bare_from to (omega arith))
-          ∙ edge_bare (is_none (f from)) (nat_lt to (r.base + r.size) && is_none (f to)) ∙ rw (← is_here, ← is_there) (sym ends) in
+      ap (edge same_label (bare_label (is_none (f from)))) (bare_from to (omega arith))
+      ∙ edge_bare (is_none (f from)) (nat_lt to (r.base + r.size) && is_none (f to)) ∙ rw (← is_here, ← is_there) (sym ends) in
       let parts = total-split (edges same_label g) 0 from (to - from) to from (omega arith) (omega arith) in
       omega (arith, parts, stretch, at_to, so_far)
 

@@ -1,14 +1,13 @@
 -- Records as bytes: where they stand, and that what was written is read back.
-use Rattle.std.proofs.Common.{◌≡◌, ℕ, zero, suc, ◌+◌, ◌-◌, ◌*◌, ◌^◌, ◌<◌, ◌≤◌, ◌==◌, Some, None, List, [], ◌∷◌, ◌++◌, length, get_or, take, drop, replicate, refl, sym, ◌∙◌, ap, subst, arith, length-append, append_assoc}
-use Rattle.std.specs.Prelude.{unwrap_or}
+use Rattle.std.proofs.Common.{◌≡◌, ℕ, zero, suc, ◌+◌, ◌*◌, ◌^◌, ◌<◌, List, [], ◌∷◌, ◌++◌, length, get_or, drop, refl, sym, ◌∙◌, ap, arith, length-append, append_assoc}
 use Rattle.std.proofs.lemmas.List.{drop_at}
 use Rattle.byteorder.specs.Endian.{little_number, little_bytes}
-use Rattle.byteorder.specs.Numbers.{little_number-reads_back, length-bytes_low_first, little_from-append}
+use Rattle.byteorder.specs.Numbers.{little_number-reads_back, length-bytes_low_first}
 use Rattle.phys_store.specs.Bytes.{bytes_at}
 use Rattle.phys_store.proofs.ByteLists.{length-bytes_at, get-bytes_at, told_bytes}
-use Rattle.address_runs.specs.Runs.{RunOf, run_end}
+use Rattle.address_runs.specs.Runs.{RunOf}
 use Rattle.memblock_model.specs.Labels.{Label}
-use Rattle.memblock_ranges.specs.Spelling.{base_in, size_in, flags_in, node_in, fields_of, label_of, node_field, run_in, spelling_of, records_at, FitsRecord, IsRecord}
+use Rattle.memblock_ranges.specs.Spelling.{base_in, size_in, flags_in, node_in, fields_of, node_field, run_in, spelling_of, records_at, FitsRecord, IsRecord}
 
 -- the same bytes at two places
 pub same_bytes : (f g : ℕ → ℕ) (a b n : ℕ) → ((k : ℕ) → k < n → g (b + k) ≡ f (a + k)) → bytes_at g b n ≡ bytes_at f a n
@@ -34,7 +33,7 @@ split_records f a (suc m) n =
     let there : a + 24 + 24 * m ≡ a + 24 * suc m = omega arith in
     ap (λ k. records_at f a k) more
     ∙ ap (λ (rs : List (RunOf Label)). run_in (bytes_at f a 24) ∷ rs)
-        (split_records f (a + 24) m n ∙ ap (λ x. records_at f (a + 24) m ++ records_at f x n) there)
+    (split_records f (a + 24) m n ∙ ap (λ x. records_at f (a + 24) m ++ records_at f x n) there)
 
 pub length-records_at : (f : ℕ → ℕ) (a n : ℕ) → length (records_at f a n) ≡ n
 unfolding records_at
@@ -59,8 +58,16 @@ pub length-fields_of : (base size node : ℕ) → length (fields_of base size no
 unfolding fields_of
 length-fields_of base size node =
     let a = long8 base in let b = long8 size in let c = long4 0 in let d = long4 node in
-    omega (arith, a, b, c, d, length-append (little_bytes 8 base) (little_bytes 8 size ++ (little_bytes 4 0 ++ little_bytes 4 node)),
-        length-append (little_bytes 8 size) (little_bytes 4 0 ++ little_bytes 4 node), length-append (little_bytes 4 0) (little_bytes 4 node))
+    omega (
+      arith,
+      a,
+      b,
+      c,
+      d,
+      length-append (little_bytes 8 base) (little_bytes 8 size ++ (little_bytes 4 0 ++ little_bytes 4 node)),
+      length-append (little_bytes 8 size) (little_bytes 4 0 ++ little_bytes 4 node),
+      length-append (little_bytes 4 0) (little_bytes 4 node),
+    )
 
 behind_two : (a b rest : List ℕ) → length a ≡ 8 → length b ≡ 8 → drop 16 (a ++ (b ++ rest)) ≡ rest
 behind_two a b rest first second =

@@ -1,8 +1,7 @@
 -- Tables follow the items one by one.
-use Rattle.std.proofs.Common.{◌≡◌, ℕ, ◌+◌, ◌^◌, ◌≤◌, Option, Some, None, List, [], ◌∷◌, ◌++◌, refl, sym, ◌∙◌, ap, subst, arith}
+use Rattle.std.proofs.Common.{◌≡◌, ◌^◌, Option, Some, None, List, [], ◌∷◌, ◌++◌, sym, ◌∙◌, ap, subst}
 use Rattle.std.specs.Prelude.{unwrap_or}
 use Rattle.std.specs.Option.{option_map}
-use Rattle.bm_base.specs.Extent.{Extent, end_of}
 use Rattle.address_runs.specs.Runs.{RunOf, value_at}
 use Rattle.address_runs.specs.Edits.{NothingFrom}
 use Rattle.run_edits.proofs.AmendLaws.{amended_ends}

@@ -11,12 +11,11 @@ ghost use Rattle.memblock_model.specs.Tables.{records_for, pieces};
 ghost use Rattle.memblock_ranges.specs.Spelling.{region_of};
 ghost use Rattle.memblock_ranges.specs.Tables.{HasTable, list_in, bytes_by, Edits, Moves, AreRecords};
 
-use crate::edits;
 use crate::live::{Live, Seen};
 use crate::pieces::count_pieces;
 use crate::record::region_of;
 use crate::region::{Head, RECORD_SIZE, Region};
-use crate::trim;
+use crate::{edits, trim};
 use bm_base::Range;
 use memblock_model::Label;
 use phys_store::Store;

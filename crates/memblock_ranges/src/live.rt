@@ -38,7 +38,10 @@ impl Rows<Record> for Seen<'_> {
     }
 
     fn get(&self, i: u64) -> Record {
-        read_record(self.store.slice(self.head.place + RECORD_SIZE * i, RECORD_SIZE))
+        read_record(
+            self.store
+                .slice(self.head.place + RECORD_SIZE * i, RECORD_SIZE),
+        )
     }
 }
 
@@ -53,7 +56,10 @@ impl Rows<Record> for Live<'_> {
     }
 
     fn get(&self, i: u64) -> Record {
-        read_record(self.store.slice(self.head.place + RECORD_SIZE * i, RECORD_SIZE))
+        read_record(
+            self.store
+                .slice(self.head.place + RECORD_SIZE * i, RECORD_SIZE),
+        )
     }
 }
 

@@ -116,7 +116,11 @@ pub fn spell(record: &Record) -> [u8; 24]
     ensures bytes { result ≡ spelling_of record.now }
     ensures fits { FitsRecord record.now }
 {
-    write_fields(record.range.base, record.range.size, node_field(record.label))
+    write_fields(
+        record.range.base,
+        record.range.size,
+        node_field(record.label),
+    )
 }
 
 /// The record as callers see it.

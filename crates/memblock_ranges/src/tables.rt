@@ -40,7 +40,10 @@ impl Model for Tables {
     ghost Value = { Contents };
 
     ghost view = { λ t. record {
-        memory = table_by t.store t.heads.memory; reserved = table_by t.store t.heads.reserved; store = t.store } };
+      memory = table_by t.store t.heads.memory;
+      reserved = table_by t.store t.heads.reserved;
+      store = t.store;
+    } };
 
     ghost invariant = { λ t. AreTables t.store t.heads.memory t.heads.reserved };
 }
@@ -108,7 +111,8 @@ impl Tables {
         requires node { IsNodeOf which node }
         requires room { length (records_in which self.old) + pieces range (value_at (records_in which self.old)) ≤ room_in which self.old }
         ensures table { table_in which self.new ≡ record (table_in which self.old) {
-            records = records_for (covered range (label_of node) (value_at (records_in which self.old))) } }
+          records = records_for (covered range (label_of node) (value_at (records_in which self.old)));
+        } }
         ensures other { other_in which self.new ≡ other_in which self.old }
         ensures elsewhere { (x : ℕ) → covers (bytes_in which self.old) x ≡ false → byte_of self.new.store x ≡ byte_of self.old.store x }
         ensures ready { (x : ℕ) → is_ready self.new.store x ≡ is_ready self.old.store x }
@@ -129,7 +133,8 @@ impl Tables {
     pub fn remove(&mut self, which: Which, range: Range)
         requires { length (records_in which self.old) + 2 ≤ room_in which self.old }
         ensures table { table_in which self.new ≡ record (table_in which self.old) {
-            records = records_for (uncovered range (value_at (records_in which self.old))) } }
+          records = records_for (uncovered range (value_at (records_in which self.old)));
+        } }
         ensures other { other_in which self.new ≡ other_in which self.old }
         ensures elsewhere { (x : ℕ) → covers (bytes_in which self.old) x ≡ false → byte_of self.new.store x ≡ byte_of self.old.store x }
         ensures ready { (x : ℕ) → is_ready self.new.store x ≡ is_ready self.old.store x }
@@ -150,7 +155,8 @@ impl Tables {
         requires node { node < 1024 }
         requires room { length self.old.memory.records + 2 ≤ self.old.memory.room }
         ensures memory { self.new.memory ≡ record self.old.memory {
-            records = records_for (relabelled range (with_node (Some node)) (value_at self.old.memory.records)) } }
+          records = records_for (relabelled range (with_node (Some node)) (value_at self.old.memory.records));
+        } }
         ensures reserved { self.new.reserved ≡ self.old.reserved }
         ensures elsewhere { (x : ℕ) → covers (bytes_in which.Memory self.old) x ≡ false → byte_of self.new.store x ≡ byte_of self.old.store x }
         ensures ready { (x : ℕ) → is_ready self.new.store x ≡ is_ready self.old.store x }

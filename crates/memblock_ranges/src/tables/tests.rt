@@ -194,7 +194,14 @@ fn nodes_gaps_and_the_last_address(rt: HostRuntime) -> Result<(), Fail> {
 
     let last = u64::MAX - 0x1000;
     assert!(rt; act(&mut tables, Step::Add(last, 0x1000, 7)));
-    assert_eq!(rt; tables.region(Which::Memory, 4).base, last);
+    let with_last = [
+        (0x1000, 0x800, 0),
+        (0x1800, 0x3800, 1),
+        (0x9000, 0x800, 1),
+        (0x9800, 0x800, 1024),
+        (last, 0x1000, 7),
+    ];
+    assert!(rt; has(&tables, Which::Memory, &with_last));
     assert!(rt; act(&mut tables, Step::Trim));
     assert!(rt; has(&tables, Which::Memory, &[(0x2000, 0x3000, 1)]));
 
@@ -282,6 +289,12 @@ fn a_table_moves_and_leaves_zeros(rt: HostRuntime) -> Result<(), Fail> {
         flags: 0,
         node: 1024,
     };
+    let built_in = Head {
+        place: 0x2FFE000,
+        room: 128,
+        count: 1,
+    };
+    assert_eq!(rt; heads.memory, built_in);
     assert_eq!(rt; heads.reserved, expected);
     assert_eq!(rt; region_at(&store, &heads.reserved, 0), first);
     assert_eq!(rt; region_at(&store, &heads.memory, 0).size, 0x9E000);

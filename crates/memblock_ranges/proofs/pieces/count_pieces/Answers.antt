@@ -1,4 +1,4 @@
-use Rattle.std.proofs.Common.{◌≡◌, ◌≢◌, ℕ, ◌+◌, ◌-◌, ◌^◌, ◌<◌, ◌≤◌, min, Bool, not, ◌&&◌, nat_lt, if◌then◌else◌, Option, drop, refl, sym, ◌∙◌, ap, subst, arith}
+use Rattle.std.proofs.Common.{◌≡◌, ℕ, ◌+◌, ◌^◌, ◌<◌, ◌≤◌, min, not, ◌&&◌, nat_lt, if◌then◌else◌, Option, drop, sym, ◌∙◌, ap, arith}
 use Rattle.std.specs.Prelude.{is_none}
 use Rattle.bm_base.specs.Extent.{Extent, end_of}
 use Rattle.address_runs.specs.Runs.{value_at}
@@ -26,7 +26,8 @@ loop-from-init g c =
       ends = c.look-first.ensures.ends rest.ends;
       behind = c.look-first.ensures.behind rest.ends;
       few = omega arith;
-      count = sym (ap (λ n. total (edges same_label (bare r plain_label f)) 0 n) base ∙ no_pieces r f) }
+      count = sym (ap (λ n. total (edges same_label (bare r plain_label f)) 0 n) base ∙ no_pieces r f);
+    }
 
 pub loop-from-preserved : goal.loop-from-preserved
 loop-from-preserved g c =
@@ -45,10 +46,10 @@ loop-from-preserved g c =
     let by_next : to ≤ next = omega (arith, less) in
     let by_end : to ≤ r.base + r.size = omega (arith, less, until) in
     let rest : IsRestFrom f to (drop c.passed-read.result (g.T.Rows.list c.args.table.now)) =
-        c.passed-read.ensures.rest f from i.rest (omega (arith, order)) (ends_sooner to next (drop c.loop-from.read (g.T.Rows.list c.args.table.now)) by_next i.ends) in
+    c.passed-read.ensures.rest f from i.rest (omega (arith, order)) (ends_sooner to next (drop c.loop-from.read (g.T.Rows.list c.args.table.now)) by_next i.ends) in
     let value = c.look-there.ensures.value f rest in
     let ends : c.ends_piece-count.result ≡ (if c.loop-from.bare && not (nat_lt to (r.base + r.size) && c.is_none.result) then 1 else 0) =
-        c.ends_piece-count.ensures ∙ ap (λ n. if c.loop-from.bare && not (nat_lt to n && c.is_none.result) then 1 else 0) until in
+    c.ends_piece-count.ensures ∙ ap (λ n. if c.loop-from.bare && not (nat_lt to n && c.is_none.result) then 1 else 0) until in
     let few = one_at_most (c.loop-from.bare && not (nat_lt to (r.base + r.size) && c.is_none.result)) in
     record {
       first = omega (arith, i.first, order);
@@ -60,7 +61,8 @@ loop-from-preserved g c =
       behind = c.look-there.ensures.behind rest.ends;
       few = omega (arith, i.few, order, few, ends);
       count = more_pieces r f from to next c.loop-from.count c.ends_piece-count.result c.loop-from.bare c.is_none.result i.first order by_end by_next
-        i.stays i.here (none_told c.is_none.result c.look-there.result.0 c.is_none.ensures ∙ ap is_none value) ends i.count }
+          i.stays i.here (none_told c.is_none.result c.look-there.result.0 c.is_none.ensures ∙ ap is_none value) ends i.count;
+    }
 
 pub returns : goal.returns
 returns g c =
@@ -69,4 +71,4 @@ returns g c =
     let i = c.loop-from.invariant in
     let at : c.loop-from.from ≡ r.base + r.size = omega (arith, i.last, c.loop-from-test.false, c.end-until.ensures.value) in
     all_pieces r f c.loop-from.count (omega (arith, c.end-until.ensures.small))
-        (i.count ∙ ap (λ n. total (edges same_label (bare r plain_label f)) 0 n) at)
+    (i.count ∙ ap (λ n. total (edges same_label (bare r plain_label f)) 0 n) at)

@@ -1,4 +1,4 @@
-use Rattle.std.proofs.Common.{◌≡◌, ℕ, ◌+◌, ◌-◌, ◌^◌, ◌<◌, ◌≤◌, Option, drop}
+use Rattle.std.proofs.Common.{◌≡◌, ℕ, ◌-◌, ◌^◌, ◌<◌, ◌≤◌, Option, drop}
 use Rattle.std.specs.Prelude.{is_none}
 use Rattle.bm_base.specs.Extent.{end_of}
 use Rattle.address_runs.specs.Runs.{value_at}
@@ -21,7 +21,8 @@ invariant-loop-from g l =
       ends : EndsFrom l.next (drop l.read (g.T.Rows.list l.table));
       behind : l.from < 2 ^ 64 - 1 → l.from < l.next;
       few : l.count ≤ l.from;
-      count : l.count ≡ total (edges same_label (bare l.range plain_label f)) 0 l.from }
+      count : l.count ≡ total (edges same_label (bare l.range plain_label f)) 0 l.from;
+    }
 
 abbrev pub decreases-loop-from : goal.decreases-loop-from
 decreases-loop-from g l = l.until - l.from

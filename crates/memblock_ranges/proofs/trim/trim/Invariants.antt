@@ -1,4 +1,4 @@
-use Rattle.std.proofs.Common.{ℕ, ◌-◌, ◌≤◌, Option, length, take, drop}
+use Rattle.std.proofs.Common.{ℕ, ◌≤◌, Option, length, take, drop}
 use Rattle.address_runs.specs.Runs.{value_at}
 use Rattle.address_runs.specs.Sweep.{IsSweptTo}
 use Rattle.memblock_model.specs.Labels.{Label}
@@ -13,7 +13,8 @@ invariant-loop-read g l =
       order : l.write ≤ l.read;
       within : l.read ≤ length (g.T.Rows.list l.table);
       keeps : g.T.Slots.keeps l.fn.table l.table;
-      swept : (at : ℕ) × IsSweptTo (trimmed f) at (take l.write (g.T.Rows.list l.table)) × Turns f at (drop l.read (g.T.Rows.list l.table)) }
+      swept : (at : ℕ) × IsSweptTo (trimmed f) at (take l.write (g.T.Rows.list l.table)) × Turns f at (drop l.read (g.T.Rows.list l.table));
+    }
 
 abbrev pub decreases-loop-read : goal.decreases-loop-read
 decreases-loop-read g l = length (drop l.read (g.T.Rows.list l.table))

@@ -1,7 +1,7 @@
-use Rattle.std.proofs.Common.{◌≡◌, ◌+◌, ◌*◌, ◌<◌, length, sym, ◌∙◌, ap, subst, arith}
+use Rattle.std.proofs.Common.{◌+◌, ◌*◌, length, sym, ◌∙◌, ap, subst, arith}
 use Rattle.phys_store.specs.Bytes.{byte_of}
 use Rattle.phys_store.proofs.ByteLists.{length-bytes_at}
-use Rattle.memblock_ranges.specs.Spelling.{run_in, IsRecord, records_at}
+use Rattle.memblock_ranges.specs.Spelling.{run_in, IsRecord}
 use Rattle.memblock_ranges.proofs.SpellLaws.{length-records_at, get-records_at}
 use Rattle.memblock_ranges.proofs.live.LiveRowsRecord.get.Goals as goal
 

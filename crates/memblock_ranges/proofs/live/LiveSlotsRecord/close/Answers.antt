@@ -1,4 +1,4 @@
-use Rattle.std.proofs.Common.{◌≡◌, ◌+◌, ◌-◌, ◌*◌, ◌<◌, ◌≤◌, length, refl, ◌∙◌, ap, arith}
+use Rattle.std.proofs.Common.{◌+◌, ◌-◌, ◌*◌, refl, ◌∙◌, arith}
 use Rattle.phys_store.specs.Bytes.{byte_of}
 use Rattle.memblock_ranges.proofs.SpellLaws.{length-records_at}
 use Rattle.memblock_ranges.proofs.ByteEdits.{close_table}
@@ -131,7 +131,7 @@ invariant_of-self c =
     let i = c.args.i in
     let n = c.args.n in
     let e = close_table s c.move_bytes.new.self c.fill.new.self h.place h.room h.count i n (h.place + 24 * (i + n)) (h.place + 24 * i) (24 * (h.count - (i + n)))
-        (h.place + 24 * (h.count - n)) (24 * n) t (omega (arith, c.requires, low)) c.move_bytes.ensures c.fill.ensures refl refl refl refl refl in
+    (h.place + 24 * (h.count - n)) (24 * n) t (omega (arith, c.requires, low)) c.move_bytes.ensures c.fill.ensures refl refl refl refl refl in
     record { table = e.table }
 
 pub returns-clause-list : goal.returns-clause-list
@@ -144,7 +144,7 @@ returns-clause-list c =
     let i = c.args.i in
     let n = c.args.n in
     let e = close_table s c.move_bytes.new.self c.fill.new.self h.place h.room h.count i n (h.place + 24 * (i + n)) (h.place + 24 * i) (24 * (h.count - (i + n)))
-        (h.place + 24 * (h.count - n)) (24 * n) t (omega (arith, c.requires, low)) c.move_bytes.ensures c.fill.ensures refl refl refl refl refl in
+    (h.place + 24 * (h.count - n)) (24 * n) t (omega (arith, c.requires, low)) c.move_bytes.ensures c.fill.ensures refl refl refl refl refl in
     e.list_is
 
 pub returns-clause-keeps : goal.returns-clause-keeps
@@ -157,5 +157,5 @@ returns-clause-keeps c =
     let i = c.args.i in
     let n = c.args.n in
     let e = close_table s c.move_bytes.new.self c.fill.new.self h.place h.room h.count i n (h.place + 24 * (i + n)) (h.place + 24 * i) (24 * (h.count - (i + n)))
-        (h.place + 24 * (h.count - n)) (24 * n) t (omega (arith, c.requires, low)) c.move_bytes.ensures c.fill.ensures refl refl refl refl refl in
+    (h.place + 24 * (h.count - n)) (24 * n) t (omega (arith, c.requires, low)) c.move_bytes.ensures c.fill.ensures refl refl refl refl refl in
     (refl, refl, λ j. record { place = h.place; room = h.room; others = e.others j; ready = e.ready j })

@@ -1,7 +1,6 @@
-use Rattle.std.proofs.Common.{◌≡◌, ◌+◌, ◌-◌, ◌*◌, ◌<◌, ◌≤◌, length, refl, ◌∙◌, ap, arith}
+use Rattle.std.proofs.Common.{◌+◌, ◌-◌, ◌*◌, length, refl, arith}
 use Rattle.phys_store.specs.Bytes.{byte_of}
-use Rattle.memblock_ranges.specs.Spelling.{node_field}
-use Rattle.memblock_ranges.proofs.SpellLaws.{length-records_at, length-fields_of}
+use Rattle.memblock_ranges.proofs.SpellLaws.{length-records_at}
 use Rattle.memblock_ranges.proofs.ByteEdits.{insert_table}
 use Rattle.memblock_ranges.proofs.live.LiveSlotsRecord.insert.Goals as goal
 
@@ -33,8 +32,8 @@ invariant_of-self c =
     let i = c.args.i in
     let at = h.place + 24 * i in
     let e = insert_table s c.move_bytes.new.self c.write.new.self h.place h.room h.count i (at + 24) (24 * (h.count - i)) at (length c.spell.result)
-        c.args.item c.spell.result t (omega (arith, c.requires.within, low)) (omega (arith, c.requires.room, low)) c.spell.ensures.fits c.spell.ensures.bytes
-        c.move_bytes.ensures c.write.ensures refl refl refl refl in
+    c.args.item c.spell.result t (omega (arith, c.requires.within, low)) (omega (arith, c.requires.room, low)) c.spell.ensures.fits c.spell.ensures.bytes
+    c.move_bytes.ensures c.write.ensures refl refl refl refl in
     record { table = e.table }
 
 pub returns-clause-list : goal.returns-clause-list
@@ -47,8 +46,8 @@ returns-clause-list c =
     let i = c.args.i in
     let at = h.place + 24 * i in
     let e = insert_table s c.move_bytes.new.self c.write.new.self h.place h.room h.count i (at + 24) (24 * (h.count - i)) at (length c.spell.result)
-        c.args.item c.spell.result t (omega (arith, c.requires.within, low)) (omega (arith, c.requires.room, low)) c.spell.ensures.fits c.spell.ensures.bytes
-        c.move_bytes.ensures c.write.ensures refl refl refl refl in
+    c.args.item c.spell.result t (omega (arith, c.requires.within, low)) (omega (arith, c.requires.room, low)) c.spell.ensures.fits c.spell.ensures.bytes
+    c.move_bytes.ensures c.write.ensures refl refl refl refl in
     e.list_is
 
 pub returns-clause-small : goal.returns-clause-small

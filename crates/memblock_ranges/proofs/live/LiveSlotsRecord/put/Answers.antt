@@ -1,4 +1,4 @@
-use Rattle.std.proofs.Common.{◌≡◌, ◌+◌, ◌*◌, ◌<◌, ◌≤◌, length, refl, ◌∙◌, ap, arith}
+use Rattle.std.proofs.Common.{◌≡◌, ◌+◌, ◌*◌, length, refl, ◌∙◌, ap, arith}
 use Rattle.phys_store.specs.Bytes.{byte_of}
 use Rattle.memblock_ranges.specs.Spelling.{node_field}
 use Rattle.memblock_ranges.proofs.SpellLaws.{length-records_at, length-fields_of}
@@ -41,7 +41,7 @@ invariant_of-self c =
     let t = l.table in
     let low = length-records_at (byte_of s) h.place h.count in
     let e = put_table s c.write.new.self h.place h.room h.count c.args.i (h.place + 24 * c.args.i) (length c.spell.result) c.args.item c.spell.result t
-        (omega (arith, c.requires, low)) c.spell.ensures.fits c.spell.ensures.bytes c.write.ensures refl refl in
+    (omega (arith, c.requires, low)) c.spell.ensures.fits c.spell.ensures.bytes c.write.ensures refl refl in
     record { table = e.table }
 
 pub returns-clause-list : goal.returns-clause-list
@@ -52,7 +52,7 @@ returns-clause-list c =
     let t = l.table in
     let low = length-records_at (byte_of s) h.place h.count in
     let e = put_table s c.write.new.self h.place h.room h.count c.args.i (h.place + 24 * c.args.i) (length c.spell.result) c.args.item c.spell.result t
-        (omega (arith, c.requires, low)) c.spell.ensures.fits c.spell.ensures.bytes c.write.ensures refl refl in
+    (omega (arith, c.requires, low)) c.spell.ensures.fits c.spell.ensures.bytes c.write.ensures refl refl in
     e.list_is
 
 pub returns-clause-keeps : goal.returns-clause-keeps
@@ -63,5 +63,5 @@ returns-clause-keeps c =
     let t = l.table in
     let low = length-records_at (byte_of s) h.place h.count in
     let e = put_table s c.write.new.self h.place h.room h.count c.args.i (h.place + 24 * c.args.i) (length c.spell.result) c.args.item c.spell.result t
-        (omega (arith, c.requires, low)) c.spell.ensures.fits c.spell.ensures.bytes c.write.ensures refl refl in
+    (omega (arith, c.requires, low)) c.spell.ensures.fits c.spell.ensures.bytes c.write.ensures refl refl in
     (refl, refl, λ j. record { place = h.place; room = h.room; others = e.others j; ready = e.ready j })

@@ -1,4 +1,3 @@
-use Rattle.std.proofs.Common.{◌≡◌}
 use Rattle.memblock_ranges.proofs.PairLaws.{filled_stay}
 use Rattle.memblock_ranges.proofs.tables.Tables.fill.Goals as goal
 

@@ -1,12 +1,11 @@
-use Rattle.std.proofs.Common.{◌≡◌, ℕ, ◌+◌, ◌^◌, ◌≤◌, Some, List, refl, sym, ◌∙◌, ap, subst, arith}
-use Rattle.address_runs.specs.Runs.{RunOf, value_at}
-use Rattle.address_runs.specs.Edits.{covered, uncovered, relabelled}
-use Rattle.memblock_model.specs.Labels.{Label, plain_label, with_node}
-use Rattle.memblock_model.specs.Items.{trimmed}
+use Rattle.std.proofs.Common.{◌≡◌, ◌+◌, ◌^◌, ◌≤◌, sym, ◌∙◌, ap, subst, arith}
+use Rattle.address_runs.specs.Runs.{value_at}
+use Rattle.address_runs.specs.Edits.{covered}
+use Rattle.memblock_model.specs.Labels.{Label, plain_label}
 use Rattle.memblock_model.specs.Tables.{records_for}
 use Rattle.memblock_ranges.specs.Spelling.{label_of}
 use Rattle.memblock_ranges.specs.Tables.{list_in, HaveNoNode}
-use Rattle.memblock_ranges.proofs.PairLaws.{pair_memory, pair_reserved, edited_at, edited_ready, plain_covered, plain_uncovered}
+use Rattle.memblock_ranges.proofs.PairLaws.{pair_memory, pair_reserved, edited_at, edited_ready, plain_covered}
 use Rattle.memblock_ranges.proofs.tables.Tables.insert.Goals as goal
 
 pub invariant_of-self : goal.invariant_of-self
@@ -56,7 +55,7 @@ invariant_of-self-in-Reserved c =
     let none = rw c.in-Reserved.is at c.requires.node in
     let label : c.label_of-label.result ≡ plain_label = c.label_of-label.ensures ∙ ap label_of none in
     let plain : HaveNoNode list = subst (λ (l : Label). HaveNoNode (records_for (covered c.args.range l (value_at (list_in s r))))) (sym label)
-        (plain_covered c.args.range (list_in s r) both.reserved_records both.plain end) in
+    (plain_covered c.args.range (list_in s r) both.reserved_records both.plain end) in
     let p = pair_reserved s c.cover-in-Reserved.new.store m r c.cover-in-Reserved.new.head list both c.cover-in-Reserved.ensures.edits c.cover-in-Reserved.ensures.records plain in
     p.0
 
@@ -71,7 +70,7 @@ returns-in-Reserved-clause-other c =
     let none = rw c.in-Reserved.is at c.requires.node in
     let label : c.label_of-label.result ≡ plain_label = c.label_of-label.ensures ∙ ap label_of none in
     let plain : HaveNoNode list = subst (λ (l : Label). HaveNoNode (records_for (covered c.args.range l (value_at (list_in s r))))) (sym label)
-        (plain_covered c.args.range (list_in s r) both.reserved_records both.plain end) in
+    (plain_covered c.args.range (list_in s r) both.reserved_records both.plain end) in
     let p = pair_reserved s c.cover-in-Reserved.new.store m r c.cover-in-Reserved.new.head list both c.cover-in-Reserved.ensures.edits c.cover-in-Reserved.ensures.records plain in
     rw (← c.self.view_is, c.in-Reserved.is) p.1
 

@@ -1,4 +1,3 @@
-use Rattle.std.proofs.Common.{◌≡◌}
 use Rattle.memblock_ranges.proofs.TableSpelling.{stands, head_is}
 use Rattle.memblock_ranges.proofs.tables.Tables.into_parts.Goals as goal
 

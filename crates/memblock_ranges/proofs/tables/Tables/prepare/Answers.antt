@@ -1,4 +1,3 @@
-use Rattle.std.proofs.Common.{◌≡◌}
 use Rattle.memblock_ranges.proofs.PairLaws.{prepared_stay}
 use Rattle.memblock_ranges.proofs.tables.Tables.prepare.Goals as goal
 

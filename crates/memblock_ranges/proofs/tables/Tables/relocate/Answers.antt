@@ -1,4 +1,3 @@
-use Rattle.std.proofs.Common.{◌≡◌}
 use Rattle.memblock_model.specs.declared.which.Which.TheVariants as which
 use Rattle.memblock_ranges.proofs.PairLaws.{move_memory, move_reserved}
 use Rattle.memblock_ranges.proofs.tables.Tables.relocate.Goals as goal

@@ -1,12 +1,10 @@
-use Rattle.std.proofs.Common.{◌≡◌, ℕ, ◌+◌, ◌^◌, ◌≤◌, Some, List, refl, sym, ◌∙◌, ap, subst, arith}
-use Rattle.address_runs.specs.Runs.{RunOf, value_at}
-use Rattle.address_runs.specs.Edits.{covered, uncovered, relabelled}
-use Rattle.memblock_model.specs.Labels.{Label, plain_label, with_node}
-use Rattle.memblock_model.specs.Items.{trimmed}
+use Rattle.std.proofs.Common.{Some}
+use Rattle.address_runs.specs.Runs.{value_at}
+use Rattle.address_runs.specs.Edits.{relabelled}
+use Rattle.memblock_model.specs.Labels.{with_node}
 use Rattle.memblock_model.specs.Tables.{records_for}
-use Rattle.memblock_ranges.specs.Spelling.{label_of}
-use Rattle.memblock_ranges.specs.Tables.{list_in, HaveNoNode}
-use Rattle.memblock_ranges.proofs.PairLaws.{pair_memory, pair_reserved, edited_at, edited_ready, plain_covered, plain_uncovered}
+use Rattle.memblock_ranges.specs.Tables.{list_in}
+use Rattle.memblock_ranges.proofs.PairLaws.{pair_memory, edited_at, edited_ready}
 use Rattle.memblock_ranges.proofs.tables.Tables.set_node.Goals as goal
 
 pub invariant_of-self : goal.invariant_of-self
