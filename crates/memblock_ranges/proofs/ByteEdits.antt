@@ -16,7 +16,8 @@ module _ (f g : ℕ → ℕ) (a i : ℕ) (below : (x : ℕ) → a ≤ x → x < 
   front : records_at g a i ≡ records_at f a i
   front = same_records f g a a i (λ k less. below (a + k) (omega arith) (omega arith))
 
-  pub put_list : (m : ℕ) (bs : List ℕ) → bytes_at g (a + 24 * i) 24 ≡ bs → ((x : ℕ) → a + 24 * i + 24 ≤ x → x < a + 24 * (i + suc m) → g x ≡ f x) →
+  pub put_list : (m : ℕ) (bs : List ℕ) → bytes_at g (a + 24 * i) 24 ≡ bs →
+      ((x : ℕ) → a + 24 * i + 24 ≤ x → x < a + 24 * (i + suc m) → g x ≡ f x) →
       records_at g a (i + suc m) ≡ set (records_at f a (i + suc m)) i (run_in bs)
   unfolding records_at
   put_list m bs new behind =
@@ -24,9 +25,11 @@ module _ (f g : ℕ → ℕ) (a i : ℕ) (below : (x : ℕ) → a ≤ x → x < 
       same_records f g (a + 24 * i + 24) (a + 24 * i + 24) m (λ k less. behind (a + 24 * i + 24 + k) (omega arith) (omega arith)) in
       split_records g a i (suc m) ∙ rw (front, new, back) refl
       ∙ sym (ap (λ (rs : List (RunOf Label)). set rs i (run_in bs)) (split_records f a i (suc m))
-      ∙ set_at (records_at f a i) (run_in (bytes_at f (a + 24 * i) 24)) (records_at f (a + 24 * i + 24) m) (run_in bs) i (length-records_at f a i))
+      ∙ set_at (records_at f a i) (run_in (bytes_at f (a + 24 * i) 24)) (records_at f (a + 24 * i + 24) m) (run_in bs) i
+      (length-records_at f a i))
 
-  pub insert_list : (m : ℕ) (bs : List ℕ) → bytes_at g (a + 24 * i) 24 ≡ bs → ((k : ℕ) → k < 24 * m → g (a + 24 * i + 24 + k) ≡ f (a + 24 * i + k)) →
+  pub insert_list : (m : ℕ) (bs : List ℕ) → bytes_at g (a + 24 * i) 24 ≡ bs →
+      ((k : ℕ) → k < 24 * m → g (a + 24 * i + 24 + k) ≡ f (a + 24 * i + k)) →
       records_at g a (i + suc m) ≡ take i (records_at f a (i + m)) ++ run_in bs ∷ drop i (records_at f a (i + m))
   unfolding records_at
   insert_list m bs new moved =
@@ -41,7 +44,8 @@ module _ (f g : ℕ → ℕ) (a i : ℕ) (below : (x : ℕ) → a ≤ x → x < 
   pub close_list : (n m : ℕ) → ((k : ℕ) → k < 24 * m → g (a + 24 * i + k) ≡ f (a + 24 * (i + n) + k)) →
       records_at g a (i + m) ≡ take i (records_at f a (i + n + m)) ++ drop (i + n) (records_at f a (i + n + m))
   close_list n m moved =
-      let back : records_at g (a + 24 * i) m ≡ records_at f (a + 24 * (i + n)) m = same_records f g (a + 24 * (i + n)) (a + 24 * i) m moved in
+      let back : records_at g (a + 24 * i) m ≡ records_at f (a + 24 * (i + n)) m =
+      same_records f g (a + 24 * (i + n)) (a + 24 * i) m moved in
       let more : i + n + m ≡ i + (n + m) = omega arith in
       let parts = ap (λ k. records_at f a k) more ∙ split_records f a i (n + m) in
       let first : take i (records_at f a (i + n + m)) ≡ records_at f a i =
@@ -64,11 +68,13 @@ pub same_outside : (f g : ℕ → ℕ) (place room : ℕ) → ((x : ℕ) → IsT
 same_outside f g place room same = λ j x. same_at f g place room same x j
 
 -- what was written stands there
-written_is : (s t : List Piece) (at n : ℕ) (bs : List ℕ) → Wrote s t at n (λ k. get_or bs k 0) → n ≡ 24 → length bs ≡ 24 → bytes_at (byte_of t) at 24 ≡ bs
+written_is : (s t : List Piece) (at n : ℕ) (bs : List ℕ) → Wrote s t at n (λ k. get_or bs k 0) → n ≡ 24 → length bs ≡ 24 →
+    bytes_at (byte_of t) at 24 ≡ bs
 written_is s t at n bs w count long =
     sym (told_bytes (byte_of t) at 24 bs long (λ k below. sym (w.within k (omega (arith, below, count)))))
 
-pub record_there : (f g : ℕ → ℕ) (a b : ℕ) → ((k : ℕ) → k < 24 → g (b + k) ≡ f (a + k)) → IsRecord (bytes_at f a 24) → IsRecord (bytes_at g b 24)
+pub record_there : (f g : ℕ → ℕ) (a b : ℕ) → ((k : ℕ) → k < 24 → g (b + k) ≡ f (a + k)) → IsRecord (bytes_at f a 24) →
+    IsRecord (bytes_at g b 24)
 record_there f g a b same known = subst IsRecord (sym (same_bytes f g a b 24 same)) known
 
 -- what an edit of a table comes to
@@ -79,7 +85,8 @@ pub record Edited (s u : List Piece) (place room count : ℕ) (list : List (RunO
   pub ready : is_ready u ≡ is_ready s
 
 -- a record is written over the i-th
-pub put_table : (s t : List Piece) (place room count i at n : ℕ) (r : RunOf Label) (bs : List ℕ) → IsTable (byte_of s) (is_ready s) place room count →
+pub put_table : (s t : List Piece) (place room count i at n : ℕ) (r : RunOf Label) (bs : List ℕ) →
+    IsTable (byte_of s) (is_ready s) place room count →
     i < count → FitsRecord r → bs ≡ spelling_of r → Wrote s t at n (λ k. get_or bs k 0) → at ≡ place + 24 * i → n ≡ length bs →
     Edited s t place room count (set (records_at (byte_of s) place count) i r)
 put_table s t place room count i at n r bs table less fits is w here size =
@@ -87,23 +94,29 @@ put_table s t place room count i at n r bs table less fits is w here size =
     let g = byte_of t in
     let long : length bs ≡ 24 = ap length is ∙ length-fields_of r.base r.size _ in
     let count_is : n ≡ 24 = size ∙ long in
-    let off : (x : ℕ) → IsTrue (nat_lt x (place + 24 * i) || nat_le (place + 24 * i + 24) x) → g x ≡ f x = λ x beside. w.outside x (rw (here, count_is) beside) in
+    let off : (x : ℕ) → IsTrue (nat_lt x (place + 24 * i) || nat_le (place + 24 * i + 24) x) → g x ≡ f x =
+    λ x beside. w.outside x (rw (here, count_is) beside) in
     let few = table.few in
     let new : bytes_at g (place + 24 * i) 24 ≡ bs = ap (λ x. bytes_at g x 24) (sym here) ∙ written_is s t at n bs w count_is long in
     let m : ℕ = count - suc i in
     let whole : i + suc m ≡ count = omega arith in
-    let list = put_list f g place i (λ x from to. off x (grind (arith, nat_tests))) m bs new (λ x from to. off x (grind (arith, nat_tests))) in
+    let list = put_list f g place i (λ x from to. off x (grind (arith, nat_tests))) m bs new
+    (λ x from to. off x (grind (arith, nat_tests))) in
     let back : run_in bs ≡ r = ap run_in is ∙ run_back r fits in
     record {
-      list_is = subst (λ c. records_at g place c ≡ set (records_at f place c) i r) whole (list ∙ ap (set (records_at f place (i + suc m)) i) back);
+      list_is = subst (λ c. records_at g place c ≡ set (records_at f place c) i r) whole
+          (list ∙ ap (set (records_at f place (i + suc m)) i) back);
       table = record {
         few = table.few;
         fits = table.fits;
         records = λ j below. elim (cases_order j i) [
-          | inl same ↦ subst (λ k. IsRecord (bytes_at g (place + 24 * k) 24)) (sym same) (subst IsRecord (sym (new ∙ is)) (is_record r fits))
+          | inl same ↦ subst (λ k. IsRecord (bytes_at g (place + 24 * k) 24)) (sym same)
+              (subst IsRecord (sym (new ∙ is)) (is_record r fits))
           | inr other ↦ elim other [
-            | inl before ↦ record_there f g (place + 24 * j) (place + 24 * j) (λ k in_it. off (place + 24 * j + k) (grind (arith, nat_tests))) (table.records j below)
-            | inr after ↦ record_there f g (place + 24 * j) (place + 24 * j) (λ k in_it. off (place + 24 * j + k) (grind (arith, nat_tests))) (table.records j below)
+            | inl before ↦ record_there f g (place + 24 * j) (place + 24 * j)
+                (λ k in_it. off (place + 24 * j + k) (grind (arith, nat_tests))) (table.records j below)
+            | inr after ↦ record_there f g (place + 24 * j) (place + 24 * j)
+                (λ k in_it. off (place + 24 * j + k) (grind (arith, nat_tests))) (table.records j below)
           ]
         ];
         zeros = λ x from to. off x (grind (arith, nat_tests)) ∙ table.zeros x from to;
@@ -114,7 +127,8 @@ put_table s t place room count i at n r bs table less fits is w here size =
     }
 
 -- the records from the i-th on move up, and a record is written in the gap
-pub insert_table : (s t u : List Piece) (place room count i to rest at n : ℕ) (r : RunOf Label) (bs : List ℕ) → IsTable (byte_of s) (is_ready s) place room count →
+pub insert_table : (s t u : List Piece) (place room count i to rest at n : ℕ) (r : RunOf Label) (bs : List ℕ) →
+    IsTable (byte_of s) (is_ready s) place room count →
     i ≤ count → count < room → FitsRecord r → bs ≡ spelling_of r →
     Wrote s t to rest (λ k. byte_of s (at + k)) → Wrote t u at n (λ k. get_or bs k 0) →
     at ≡ place + 24 * i → to ≡ at + 24 → rest ≡ 24 * (count - i) → n ≡ length bs →
@@ -144,11 +158,14 @@ insert_table s t u place room count i to rest at n r bs table less space fits is
         few = omega arith;
         fits = table.fits;
         records = λ j below. elim (cases_order j i) [
-          | inl same ↦ subst (λ k. IsRecord (bytes_at g (place + 24 * k) 24)) (sym same) (subst IsRecord (sym (new ∙ is)) (is_record r fits))
+          | inl same ↦ subst (λ k. IsRecord (bytes_at g (place + 24 * k) 24)) (sym same)
+              (subst IsRecord (sym (new ∙ is)) (is_record r fits))
           | inr other ↦ elim other [
-            | inl before ↦ record_there f g (place + 24 * j) (place + 24 * j) (λ k in_it. off (place + 24 * j + k) (grind (arith, nat_tests))) (table.records j (omega arith))
+            | inl before ↦ record_there f g (place + 24 * j) (place + 24 * j)
+                (λ k in_it. off (place + 24 * j + k) (grind (arith, nat_tests))) (table.records j (omega arith))
             | inr after ↦ record_there f g (place + 24 * (j - 1)) (place + 24 * j)
-                (λ k in_it. ap g (omega arith) ∙ moved (24 * (j - 1 - i) + k) (omega arith) ∙ ap f (omega arith)) (table.records (j - 1) (omega arith))
+                (λ k in_it. ap g (omega arith) ∙ moved (24 * (j - 1 - i) + k) (omega arith) ∙ ap f (omega arith))
+                (table.records (j - 1) (omega arith))
           ]
         ];
         zeros = λ x from below. off x (grind (arith, nat_tests)) ∙ table.zeros x (omega arith) below;
@@ -177,14 +194,17 @@ close_table s t u place room count i n from to rest at size table less v w from_
     let fewer : i + m ≡ count - n = omega arith in
     let list = close_list f g place i (λ x low high. off x (grind (arith, nat_tests))) n m moved in
     record {
-      list_is = ap (λ c. records_at g place c) (sym fewer) ∙ list ∙ ap (λ c. take i (records_at f place c) ++ drop (i + n) (records_at f place c)) whole;
+      list_is = ap (λ c. records_at g place c) (sym fewer) ∙ list
+          ∙ ap (λ c. take i (records_at f place c) ++ drop (i + n) (records_at f place c)) whole;
       table = record {
         few = omega arith;
         fits = table.fits;
         records = λ j below. elim (cases_lt j i) [
-          | inl before ↦ record_there f g (place + 24 * j) (place + 24 * j) (λ k in_it. off (place + 24 * j + k) (grind (arith, nat_tests))) (table.records j (omega arith))
+          | inl before ↦ record_there f g (place + 24 * j) (place + 24 * j)
+              (λ k in_it. off (place + 24 * j + k) (grind (arith, nat_tests))) (table.records j (omega arith))
           | inr after ↦ record_there f g (place + 24 * (j + n)) (place + 24 * j)
-              (λ k in_it. ap g (omega arith) ∙ moved (24 * (j - i) + k) (omega arith) ∙ ap f (omega arith)) (table.records (j + n) (omega arith))
+              (λ k in_it. ap g (omega arith) ∙ moved (24 * (j - i) + k) (omega arith) ∙ ap f (omega arith))
+              (table.records (j + n) (omega arith))
         ];
         zeros = λ x low high. elim (cases_lt x (place + 24 * count)) [
           | inl freed ↦ ap g (omega (arith, at_is, low)) ∙ w.within (x - at) (omega (arith, at_is, size_is, low, freed))

@@ -27,7 +27,8 @@ pub length-covered : (r : Extent) (v : Label) (f : Labels) → end_of r ≤ 2 ^ 
 unfolding records_for pieces
 length-covered r v f ends none = covered_length same_label label_tells r v plain_label f ends none
 
-pub length-uncovered : (r : Extent) (f : Labels) → NothingFrom (2 ^ 64) f → length (records_for (uncovered r f)) ≤ length (records_for f) + 1
+pub length-uncovered : (r : Extent) (f : Labels) → NothingFrom (2 ^ 64) f →
+    length (records_for (uncovered r f)) ≤ length (records_for f) + 1
 unfolding records_for
 length-uncovered r f none = uncovered_length same_label label_tells r f none
 
@@ -136,7 +137,8 @@ few-pieces r f ends none =
     omega (arith, count, is, ended, begun, few, parts, first)
 
 -- where nothing of the range is covered it is one piece
-pub one-piece : (r : Extent) (f : Labels) → end_of r ≤ 2 ^ 64 → 0 < r.size → ((x : ℕ) → r.base ≤ x → x < end_of r → f x ≡ None) → pieces r f ≡ 1
+pub one-piece : (r : Extent) (f : Labels) → end_of r ≤ 2 ^ 64 → 0 < r.size → ((x : ℕ) → r.base ≤ x → x < end_of r → f x ≡ None) →
+    pieces r f ≡ 1
 unfolding pieces
 one-piece r f ends some blank =
     let g = bare r plain_label f in

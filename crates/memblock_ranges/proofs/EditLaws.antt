@@ -16,7 +16,8 @@ use Rattle.memblock_model.proofs.TableLaws.{records_for-is}
 use Rattle.memblock_ranges.specs.Tables.{AreRecords}
 
 -- the pieces of a range are as many as the runs of its bare bytes that end
-pub pieces_are : (r : Extent) (f : Labels) → r.base + r.size ≤ 2 ^ 64 → pieces r f ≡ total (edges same_label (bare r plain_label f)) 0 (2 ^ 64)
+pub pieces_are : (r : Extent) (f : Labels) → r.base + r.size ≤ 2 ^ 64 →
+    pieces r f ≡ total (edges same_label (bare r plain_label f)) 0 (2 ^ 64)
 unfolding pieces records_for
 pieces_are r f ends = pieces_ends same_label label_tells r plain_label f ends
 
@@ -29,12 +30,14 @@ cover_room rs r v room known ends fits =
     let more = pieces_are r f ends in
     room_by same_label label_tells f (covered r v f) (edges same_label (bare r plain_label f)) (pieces r f) room
     (covered_edges same_label label_tells r v plain_label f)
-    (λ at le. let parts = total-split (edges same_label (bare r plain_label f)) 0 at (2 ^ 64 - at) (2 ^ 64) at (omega arith) (omega arith) in
+    (λ at le. let parts = total-split (edges same_label (bare r plain_label f)) 0 at (2 ^ 64 - at) (2 ^ 64) at (omega arith)
+    (omega arith) in
     omega (arith, parts, more))
     (omega (arith, count, fits))
 
 -- what an edit leaves are the records of what the addresses carry then
-pub edited_list : (change : Option Label → Option Label) (r : Extent) (rs now : List (RunOf Label)) → AreRecords rs → r.base + r.size ≤ 2 ^ 64 →
+pub edited_list : (change : Option Label → Option Label) (r : Extent) (rs now : List (RunOf Label)) → AreRecords rs →
+    r.base + r.size ≤ 2 ^ 64 →
     IsRunsOf (amended change r (value_at rs)) now → now ≡ records_for (amended change r (value_at rs))
 edited_list change r rs now known ends runs =
     records_for-is (amended change r (value_at rs)) now (amended_ends change r (value_at rs) (2 ^ 64) ends known.within) runs

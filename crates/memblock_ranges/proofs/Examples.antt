@@ -31,16 +31,19 @@ first_run = record { base = 0x1000; size = 0x9E000; value = in_node_0 }
 abbrev kernel_run : RunOf Label
 kernel_run = record { base = 0x1000000; size = 0x2000000; value = plain_label }
 
-number_examples : (base_in first_record ≡ 0x1000) × (size_in first_record ≡ 0x9E000) × (flags_in first_record ≡ 0) × (node_in first_record ≡ 0)
+number_examples : (base_in first_record ≡ 0x1000) × (size_in first_record ≡ 0x9E000) × (flags_in first_record ≡ 0)
+    × (node_in first_record ≡ 0)
 unfolding base_in size_in flags_in node_in
 number_examples = (refl, refl, refl, refl)
 
-reserved_numbers : (base_in (spelling_of kernel_run) ≡ 0x1000000) × (size_in (spelling_of kernel_run) ≡ 0x2000000) × (flags_in (spelling_of kernel_run) ≡ 0)
+reserved_numbers : (base_in (spelling_of kernel_run) ≡ 0x1000000) × (size_in (spelling_of kernel_run) ≡ 0x2000000)
+    × (flags_in (spelling_of kernel_run) ≡ 0)
     × (node_in (spelling_of kernel_run) ≡ 1024)
 unfolding base_in size_in flags_in node_in fields_of
 reserved_numbers = (refl, refl, refl, refl)
 
-region_examples : (region_in first_record ≡ region_of first_run) × (region_of kernel_run ≡ record { base = 0x1000000; size = 0x2000000; flags = 0; node = 1024 })
+region_examples : (region_in first_record ≡ region_of first_run)
+    × (region_of kernel_run ≡ record { base = 0x1000000; size = 0x2000000; flags = 0; node = 1024 })
 unfolding base_in size_in flags_in node_in
 region_examples = (refl, refl)
 
@@ -57,11 +60,18 @@ label_examples : (label_of 0 ≡ in_node_0) × (label_of 1024 ≡ plain_label) �
 label_examples = (refl, refl, refl, refl)
 
 fits_examples : FitsRecord first_run × FitsRecord kernel_run
-fits_examples = (record { small = omega arith; node = omega arith; back = refl }, record { small = omega arith; node = omega arith; back = refl })
+fits_examples = (
+  record { small = omega arith; node = omega arith; back = refl },
+  record { small = omega arith; node = omega arith; back = refl },
+)
 
 -- a label of node 1,024 would be read back as one without a node, and an end of 2^64 has no record
-no_fit : ¬ FitsRecord (record { base = 0; size = 1; value = record { node = Some 1024 } }) × ¬ FitsRecord (record { base = 1; size = 2 ^ 64 - 1; value = plain_label })
-no_fit = ((λ fits. let clash : None ≡ Some 1024 = ap (λ (l : Label). l.node) fits.back in cc clash), λ fits. absurd (omega (arith, fits.small)))
+no_fit : ¬ FitsRecord (record { base = 0; size = 1; value = record { node = Some 1024 } })
+    × ¬ FitsRecord (record { base = 1; size = 2 ^ 64 - 1; value = plain_label })
+no_fit = (
+  (λ fits. let clash : None ≡ Some 1024 = ap (λ (l : Label). l.node) fits.back in cc clash),
+  λ fits. absurd (omega (arith, fits.small)),
+)
 
 record_examples : IsRecord (spelling_of first_run) × IsRecord (spelling_of kernel_run)
 record_examples = (is_record first_run fits_examples.0, is_record kernel_run fits_examples.1)
@@ -85,7 +95,10 @@ table_examples = (refl, refl)
 
 -- records in order; records that touch and agree are none
 ordered : AreRecords [] × AreRecords (first_run ∷ [])
-ordered = (record { runs = tt; within = λ x le. refl }, record { runs = (omega arith, tt, tt); within = λ x le. rw (behind first_run x (omega (arith, le))) refl })
+ordered = (
+  record { runs = tt; within = λ x le. refl },
+  record { runs = (omega arith, tt, tt); within = λ x le. rw (behind first_run x (omega (arith, le))) refl },
+)
 
 -- an empty table of no room stands anywhere
 abbrev nowhere : ℕ → Head
@@ -111,10 +124,12 @@ empty_table : HasTable [] (nowhere 5) × ¬ HasTable [] (first_head 5)
 empty_table = (no_table 5 (omega arith), λ table. cc (table.prepared 5 (omega arith) (omega arith)))
 
 -- bytes beside a table, and in it
-outside_examples : (outside (λ x. 7) 24 1 23 ≡ 7) × (outside (λ x. 7) 24 1 24 ≡ 0) × (outside (λ x. 7) 24 1 47 ≡ 0) × (outside (λ x. 7) 24 1 48 ≡ 7)
+outside_examples : (outside (λ x. 7) 24 1 23 ≡ 7) × (outside (λ x. 7) 24 1 24 ≡ 0) × (outside (λ x. 7) 24 1 47 ≡ 0)
+    × (outside (λ x. 7) 24 1 48 ≡ 7)
 outside_examples = (refl, refl, refl, refl)
 
-kept_examples : ((kept_of two (nowhere 5)).room ≡ 0) × ((kept_of two (nowhere 5)).others 1 ≡ 0x10) × ((kept_of two (record { place = 0; room = 2; count = 2 })).others 1 ≡ 0)
+kept_examples : ((kept_of two (nowhere 5)).room ≡ 0) × ((kept_of two (nowhere 5)).others 1 ≡ 0x10)
+    × ((kept_of two (record { place = 0; room = 2; count = 2 })).others 1 ≡ 0)
 kept_examples = (refl, refl, refl)
 
 list_examples : (list_in two (record { place = 0; room = 2; count = 1 }) ≡ first_run ∷ []) × (list_in two (nowhere 5) ≡ [])
@@ -138,13 +153,16 @@ reserved = record { records = kernel_run ∷ []; place = 0x2FFF000; room = 128 }
 abbrev both : Contents
 both = record { memory = memory; reserved = reserved; store = [] }
 
-which_examples : (table_in which.Memory both ≡ memory) × (table_in which.Reserved both ≡ reserved) × (other_in which.Memory both ≡ reserved) × (other_in which.Reserved both ≡ memory)
+which_examples : (table_in which.Memory both ≡ memory) × (table_in which.Reserved both ≡ reserved)
+    × (other_in which.Memory both ≡ reserved) × (other_in which.Reserved both ≡ memory)
 which_examples = (refl, refl, refl, refl)
 
-word_examples : (records_in which.Reserved both ≡ kernel_run ∷ []) × (place_in which.Memory both ≡ 0x2FFE000) × (room_in which.Reserved both ≡ 128)
+word_examples : (records_in which.Reserved both ≡ kernel_run ∷ []) × (place_in which.Memory both ≡ 0x2FFE000)
+    × (room_in which.Reserved both ≡ 128)
 word_examples = (refl, refl, refl)
 
-bytes_examples : (bytes_of memory ≡ record { base = 0x2FFE000; size = 3072 }) × (bytes_in which.Reserved both ≡ record { base = 0x2FFF000; size = 3072 })
+bytes_examples : (bytes_of memory ≡ record { base = 0x2FFE000; size = 3072 })
+    × (bytes_in which.Reserved both ≡ record { base = 0x2FFF000; size = 3072 })
     × (bytes_by (nowhere 5) ≡ record { base = 5; size = 0 })
 bytes_examples = (refl, refl, refl)
 
@@ -160,7 +178,11 @@ node_examples : IsNodeOf which.Memory 1024 × IsNodeOf which.Memory 3 × IsNodeO
 node_examples = (omega arith, omega arith, refl, λ no. absurd (omega (arith, no)))
 
 no_nodes : HaveNoNode [] × ¬ HaveNoNode (first_run ∷ [])
-no_nodes = ((λ x label is. cc is), λ plain. let clash : Some 0 ≡ None = ap (λ (l : Label). l.node) (plain 0x1000 in_node_0 refl) in cc clash)
+no_nodes = (
+  (λ x label is. cc is),
+  λ plain. let clash : Some 0 ≡ None = ap (λ (l : Label). l.node) (plain 0x1000 in_node_0 refl) in
+      cc clash,
+)
 
 -- an empty table stands in a store, as contracts see it
 standing : StandsIn (table_by [] (nowhere 5)) []
@@ -170,7 +192,14 @@ no_bytes : (x : ℕ) → IsTrue (covers (bytes_by (nowhere 5)) x && covers (byte
 no_bytes x lies = let low : 5 ≤ x = grind (arith, nat_tests) in let high : x < 5 = grind (arith, nat_tests) in absurd (omega arith)
 
 two_empty : AreTables [] (nowhere 5) (nowhere 5)
-two_empty = record { memory = empty_table.0; reserved = empty_table.0; apart = λ meet. no_bytes meet.0 meet.1; memory_records = no_records 5; reserved_records = no_records 5; plain = rw (no_list 5) no_nodes.0 }
+two_empty = record {
+  memory = empty_table.0;
+  reserved = empty_table.0;
+  apart = λ meet. no_bytes meet.0 meet.1;
+  memory_records = no_records 5;
+  reserved_records = no_records 5;
+  plain = rw (no_list 5) no_nodes.0;
+}
 
 -- a table of no room moves
 moving : Moves [] [] (nowhere 5) (nowhere 9) 9
@@ -184,5 +213,6 @@ moving = record {
   ready = λ x. refl;
 }
 
-space_examples : EndsInSpace (item.Claim (record { base = 0x1000; size = 0x1000 }) owner.Kernel) × EndsInSpace item.Trim × ¬ EndsInSpace (item.Free (record { base = 1; size = 2 ^ 64 }))
+space_examples : EndsInSpace (item.Claim (record { base = 0x1000; size = 0x1000 }) owner.Kernel) × EndsInSpace item.Trim
+    × ¬ EndsInSpace (item.Free (record { base = 1; size = 2 ^ 64 }))
 space_examples = (omega arith, tt, λ ends. absurd (omega (arith, ends)))

@@ -22,13 +22,16 @@ pub copied_apart : (old room count place : ℕ) → count ≤ room → ¬ Meet (
 copied_apart old room count place few apart =
     elim (cases_lt place (old + 24 * count)) as (λ _. (nat_le (old + 24 * count) place || nat_le (place + 24 * count) old) ≡ true) [
       | inr before ↦ grind (arith, nat_tests)
-      | inl under ↦ elim (cases_lt old (place + 24 * count)) as (λ _. (nat_le (old + 24 * count) place || nat_le (place + 24 * count) old) ≡ true) [
-        | inr behind ↦ grind (arith, nat_tests)
-        | inl over ↦ absurd (apart (both (bytes old (24 * room)) (bytes place (48 * room)) (max old place) (omega arith) (omega arith) (omega arith) (omega arith)))
-      ]
+      | inl under ↦ elim (cases_lt old (place + 24 * count)) as
+          (λ _. (nat_le (old + 24 * count) place || nat_le (place + 24 * count) old) ≡ true) [
+            | inr behind ↦ grind (arith, nat_tests)
+            | inl over ↦ absurd (apart (both (bytes old (24 * room)) (bytes place (48 * room)) (max old place) (omega arith) (omega arith)
+                (omega arith) (omega arith)))
+          ]
     ]
 
-pub moves : (s t u v : List Piece) (g : Head) (place used free size : ℕ) → HasTable s g → place + 48 * g.room < 2 ^ 64 → AreReady s place (48 * g.room) →
+pub moves : (s t u v : List Piece) (g : Head) (place used free size : ℕ) → HasTable s g → place + 48 * g.room < 2 ^ 64 →
+    AreReady s place (48 * g.room) →
     ¬ Meet (bytes_by g) (bytes place (48 * g.room)) →
     Wrote s t place used (λ k. byte_of s (g.place + k)) → Wrote t u (place + used) free (λ _. 0) → Wrote u v g.place size (λ _. 0) →
     used ≡ 24 * g.count → free ≡ 48 * g.room - used → size ≡ 24 * g.room →
@@ -45,10 +48,12 @@ moves s t u v g place used free size table small prepared apart copied cleared z
       ]
     ] in
     let there : (k : ℕ) → k < 24 * g.count → byte_of v (place + k) ≡ byte_of s (old + k) = λ k less.
-    off (place + k) (omega arith) (omega arith) ∙ cleared.outside (place + k) (grind (arith, nat_tests)) ∙ copied.within k (omega (arith, used_is, less)) in
+    off (place + k) (omega arith) (omega arith) ∙ cleared.outside (place + k) (grind (arith, nat_tests))
+    ∙ copied.within k (omega (arith, used_is, less)) in
     let behind : (x : ℕ) → place + 24 * g.count ≤ x → x < place + 48 * g.room → byte_of v x ≡ 0 = λ x low high.
     let here : place + used + (x - (place + used)) ≡ x = omega (arith, used_is, low) in
-    off x (omega arith) high ∙ ap (byte_of u) (sym here) ∙ cleared.within (x - (place + used)) (omega (arith, used_is, free_is, low, high)) in
+    off x (omega arith) high ∙ ap (byte_of u) (sym here)
+    ∙ cleared.within (x - (place + used)) (omega (arith, used_is, free_is, low, high)) in
     let ready : (x : ℕ) → is_ready v x ≡ is_ready s x = λ x. zeroed.ready x ∙ cleared.ready x ∙ copied.ready x in
     record {
       list_is = same_records (byte_of s) (byte_of v) old place g.count there;

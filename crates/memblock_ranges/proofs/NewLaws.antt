@@ -34,7 +34,8 @@ empty_table s place fits zeros ready = record {
   prepared = λ x low high. ready x (grind (arith, nat_tests));
 }
 
-parted : (end x : ℕ) → 8192 ≤ end → (covers (bytes_by (first_head (end - 8192))) x && covers (bytes_by (first_head (end - 4096))) x) ≡ true → ⊥
+parted : (end x : ℕ) → 8192 ≤ end → (covers (bytes_by (first_head (end - 8192))) x && covers
+    (bytes_by (first_head (end - 4096))) x) ≡ true → ⊥
 parted end x long lies =
     let low : x < end - 8192 + 3072 = grind (arith, nat_tests) in
     let high : end - 4096 ≤ x = grind (arith, nat_tests) in
@@ -44,8 +45,10 @@ pub new_tables : (s : List Piece) (end : ℕ) → 8192 ≤ end → end < 2 ^ 64 
     ((x : ℕ) → is_ready s x ≡ (covers (bytes_by (first_head (end - 4096))) x || covers (bytes_by (first_head (end - 8192))) x)) →
     AreTables s (first_head (end - 8192)) (first_head (end - 4096))
 new_tables s end long small zeros ready = record {
-  memory = empty_table s (end - 8192) (omega arith) zeros (λ x lies. ready x ∙ or_right (covers (bytes_by (first_head (end - 4096))) x) (covers (bytes_by (first_head (end - 8192))) x) lies);
-  reserved = empty_table s (end - 4096) (omega arith) zeros (λ x lies. ready x ∙ or_left (covers (bytes_by (first_head (end - 4096))) x) (covers (bytes_by (first_head (end - 8192))) x) lies);
+  memory = empty_table s (end - 8192) (omega arith) zeros
+      (λ x lies. ready x ∙ or_right (covers (bytes_by (first_head (end - 4096))) x) (covers (bytes_by (first_head (end - 8192))) x) lies);
+  reserved = empty_table s (end - 4096) (omega arith) zeros
+      (λ x lies. ready x ∙ or_left (covers (bytes_by (first_head (end - 4096))) x) (covers (bytes_by (first_head (end - 8192))) x) lies);
   apart = λ both. let x = both.0 in let lies = both.1 in absurd (parted end x long lies);
   memory_records = rw (no_records s (end - 8192)) none_known;
   reserved_records = rw (no_records s (end - 4096)) none_known;
@@ -53,4 +56,5 @@ new_tables s end long small zeros ready = record {
 }
 
 pub first_table : (s : List Piece) (place : ℕ) → table_by s (first_head place) ≡ record { records = []; place = place; room = 128 }
-first_table s place = ap (λ (rs : List (RunOf Label)). let t : Table = record { records = rs; place = place; room = 128 } in t) (no_records s place)
+first_table s place = ap (λ (rs : List (RunOf Label)). let t : Table = record { records = rs; place = place; room = 128 } in
+    t) (no_records s place)

@@ -42,11 +42,13 @@ pub stays : (s t : List Piece) (h : Head) → ((x : ℕ) → covers (bytes_by h)
     ((x : ℕ) → is_ready s x ≡ true → is_ready t x ≡ true) → HasTable s h → HasTable t h × (table_by t h ≡ table_by s h)
 stays s t h same ready table =
     let few = table.few in
-    let at : (x : ℕ) → h.place ≤ x → x < h.place + 24 * h.room → byte_of t x ≡ byte_of s x = λ x low high. same x (grind (arith, nat_tests)) in (
+    let at : (x : ℕ) → h.place ≤ x → x < h.place + 24 * h.room → byte_of t x ≡ byte_of s x =
+    λ x low high. same x (grind (arith, nat_tests)) in (
       record {
         few = table.few;
         fits = table.fits;
-        records = λ i less. record_there (byte_of s) (byte_of t) (h.place + 24 * i) (h.place + 24 * i) (λ k in_it. at (h.place + 24 * i + k) (omega arith) (omega arith)) (table.records i less);
+        records = λ i less. record_there (byte_of s) (byte_of t) (h.place + 24 * i) (h.place + 24 * i)
+            (λ k in_it. at (h.place + 24 * i + k) (omega arith) (omega arith)) (table.records i less);
         zeros = λ x low high. at x (omega arith) high ∙ table.zeros x low high;
         prepared = λ x low high. ready x (table.prepared x low high);
       },
@@ -55,7 +57,8 @@ stays s t h same ready table =
     )
 
 -- beside the table that is edited no byte changes
-pub edited_at : (s t : List Piece) (g h : Head) (list : List (RunOf Label)) → Edits s t g h list → (x : ℕ) → covers (bytes_by g) x ≡ false → byte_of t x ≡ byte_of s x
+pub edited_at : (s t : List Piece) (g h : Head) (list : List (RunOf Label)) → Edits s t g h list → (x : ℕ) →
+    covers (bytes_by g) x ≡ false → byte_of t x ≡ byte_of s x
 edited_at s t g h list e x out = rw out at (ap (λ (o : ℕ → ℕ). o x) e.others)
 
 ready_at : (s t : List Piece) (g h : Head) (list : List (RunOf Label)) → Edits s t g h list → (x : ℕ) → is_ready t x ≡ is_ready s x
@@ -70,10 +73,12 @@ pub edited_table : (s t : List Piece) (g h : Head) (list : List (RunOf Label)) �
     table_by t h ≡ record { records = list; place = g.place; room = g.room }
 edited_table s t g h list e = rw (e.list_is, e.place_is, e.room_is) refl
 
-pub pair_memory : (s t : List Piece) (m r h : Head) (list : List (RunOf Label)) → AreTables s m r → Edits s t m h list → AreRecords (list_in t h) →
+pub pair_memory : (s t : List Piece) (m r h : Head) (list : List (RunOf Label)) → AreTables s m r → Edits s t m h list →
+    AreRecords (list_in t h) →
     AreTables t h r × (table_by t r ≡ table_by s r)
 pair_memory s t m r h list both e known =
-    let other = stays s t r (λ x lies. edited_at s t m h list e x (beside (bytes_by m) (bytes_by r) x both.apart lies)) (λ x was. ready_at s t m h list e x ∙ was) both.reserved in
+    let other = stays s t r (λ x lies. edited_at s t m h list e x (beside (bytes_by m) (bytes_by r) x both.apart lies))
+    (λ x was. ready_at s t m h list e x ∙ was) both.reserved in
     let same : list_in t r ≡ list_in s r = ap (λ (q : Table). q.records) other.1 in (
       record {
         memory = e.table;
@@ -86,10 +91,12 @@ pair_memory s t m r h list both e known =
       other.1,
     )
 
-pub pair_reserved : (s t : List Piece) (m r h : Head) (list : List (RunOf Label)) → AreTables s m r → Edits s t r h list → AreRecords (list_in t h) →
+pub pair_reserved : (s t : List Piece) (m r h : Head) (list : List (RunOf Label)) → AreTables s m r → Edits s t r h list →
+    AreRecords (list_in t h) →
     HaveNoNode list → AreTables t m h × (table_by t m ≡ table_by s m)
 pair_reserved s t m r h list both e known plain =
-    let other = stays s t m (λ x lies. edited_at s t r h list e x (beside (bytes_by r) (bytes_by m) x (turned (bytes_by m) (bytes_by r) both.apart) lies))
+    let other = stays s t m (λ x lies. edited_at s t r h list e x
+    (beside (bytes_by r) (bytes_by m) x (turned (bytes_by m) (bytes_by r) both.apart) lies))
     (λ x was. ready_at s t r h list e x ∙ was) both.memory in
     let same : list_in t m ≡ list_in s m = ap (λ (q : Table). q.records) other.1 in (
       record {
@@ -107,14 +114,17 @@ pub edited_ready : (s t : List Piece) (g h : Head) (list : List (RunOf Label)) �
 edited_ready s t g h list e x = ready_at s t g h list e x
 
 -- no edit of the reserved table gives a record a node
-plain_list : (g : Labels) → NothingFrom (2 ^ 64) g → ((x : ℕ) (label : Label) → g x ≡ Some label → label ≡ plain_label) → HaveNoNode (records_for g)
+plain_list : (g : Labels) → NothingFrom (2 ^ 64) g → ((x : ℕ) (label : Label) → g x ≡ Some label → label ≡ plain_label) →
+    HaveNoNode (records_for g)
 plain_list g none plain = λ x label is. plain x label (sym (ap (λ (f : Labels). f x) (value_at-records g none)) ∙ is)
 
-plain_or : (o : Option Label) (label : Label) → ((l : Label) → o ≡ Some l → l ≡ plain_label) → Some (unwrap_or o plain_label) ≡ Some label → label ≡ plain_label
+plain_or : (o : Option Label) (label : Label) → ((l : Label) → o ≡ Some l → l ≡ plain_label) →
+    Some (unwrap_or o plain_label) ≡ Some label → label ≡ plain_label
 plain_or None label plain is = sym (cc is)
 plain_or (Some l) label plain is = plain label is
 
-pub plain_covered : (r : Extent) (rs : List (RunOf Label)) → AreRecords rs → HaveNoNode rs → r.base + r.size ≤ 2 ^ 64 → HaveNoNode (records_for (covered r plain_label (value_at rs)))
+pub plain_covered : (r : Extent) (rs : List (RunOf Label)) → AreRecords rs → HaveNoNode rs → r.base + r.size ≤ 2 ^ 64 →
+    HaveNoNode (records_for (covered r plain_label (value_at rs)))
 plain_covered r rs known plain ends =
     let f = value_at rs in
     plain_list (covered r plain_label f) (amended_ends (λ carried. Some (unwrap_or carried plain_label)) r f (2 ^ 64) ends known.within)
@@ -123,7 +133,8 @@ plain_covered r rs known plain ends =
       | inr out ↦ plain x label (rw out at is)
     ])
 
-pub plain_uncovered : (r : Extent) (rs : List (RunOf Label)) → AreRecords rs → HaveNoNode rs → r.base + r.size ≤ 2 ^ 64 → HaveNoNode (records_for (uncovered r (value_at rs)))
+pub plain_uncovered : (r : Extent) (rs : List (RunOf Label)) → AreRecords rs → HaveNoNode rs → r.base + r.size ≤ 2 ^ 64 →
+    HaveNoNode (records_for (uncovered r (value_at rs)))
 plain_uncovered r rs known plain ends =
     let f = value_at rs in
     plain_list (uncovered r f) (amended_ends (λ (carried : Option Label). None) r f (2 ^ 64) ends known.within)
@@ -133,12 +144,15 @@ plain_uncovered r rs known plain ends =
     ])
 
 -- a table that moves beside another one
-moved_apart : (s t : List Piece) (g h o : Head) (place : ℕ) → Moves s t g h place → ¬ Meet (bytes_by o) (record { base = place; size = 48 * g.room }) → ¬ Meet (bytes_by o) (bytes_by h)
+moved_apart : (s t : List Piece) (g h o : Head) (place : ℕ) → Moves s t g h place →
+    ¬ Meet (bytes_by o) (record { base = place; size = 48 * g.room }) → ¬ Meet (bytes_by o) (bytes_by h)
 moved_apart s t g h o place e apart both =
     let size : 24 * h.room ≡ 48 * g.room = omega (arith, e.room_is) in
-    apart (subst (λ (r : Extent). Meet (bytes_by o) r) (let at : bytes_by h ≡ record { base = place; size = 48 * g.room } = rw (e.place_is, size) refl in at) both)
+    apart (subst (λ (r : Extent). Meet (bytes_by o) r)
+    (let at : bytes_by h ≡ record { base = place; size = 48 * g.room } = rw (e.place_is, size) refl in at) both)
 
-moved_other : (s t : List Piece) (g h o : Head) (place : ℕ) → Moves s t g h place → ¬ Meet (bytes_by o) (bytes_by g) → ¬ Meet (bytes_by o) (record { base = place; size = 48 * g.room }) →
+moved_other : (s t : List Piece) (g h o : Head) (place : ℕ) → Moves s t g h place → ¬ Meet (bytes_by o) (bytes_by g) →
+    ¬ Meet (bytes_by o) (record { base = place; size = 48 * g.room }) →
     HasTable s o → HasTable t o × (table_by t o ≡ table_by s o)
 moved_other s t g h o place e old new table =
     let new_too = moved_apart s t g h o place e new in
@@ -208,9 +222,11 @@ pub filled_stay : (s t : List Piece) (m r : Head) (range : Extent) (g : ℕ → 
     AreTables t m r × (table_by t m ≡ table_by s m) × (table_by t r ≡ table_by s r)
 filled_stay s t m r range g both w apart =
     both_stay s t m r both
-    (λ x lies. let off : covers range x ≡ false = beside range (bytes_by m) x (λ meet. apart (which.Memory, swapped range (bytes_by m) meet)) lies in
+    (λ x lies. let off : covers range x ≡ false = beside range (bytes_by m) x
+    (λ meet. apart (which.Memory, swapped range (bytes_by m) meet)) lies in
     w.outside x (grind (arith, nat_tests)))
-    (λ x lies. let off : covers range x ≡ false = beside range (bytes_by r) x (λ meet. apart (which.Reserved, swapped range (bytes_by r) meet)) lies in
+    (λ x lies. let off : covers range x ≡ false = beside range (bytes_by r) x
+    (λ meet. apart (which.Reserved, swapped range (bytes_by r) meet)) lies in
     w.outside x (grind (arith, nat_tests)))
     (λ x was. w.ready x ∙ was)
 
@@ -220,6 +236,7 @@ or_right false b is = is
 
 -- more is prepared, and no byte changes
 pub prepared_stay : (s t : List Piece) (m r : Head) (range : Extent) → AreTables s m r → ((x : ℕ) → byte_of t x ≡ byte_of s x) →
-    ((x : ℕ) → is_ready t x ≡ (covers range x || is_ready s x)) → AreTables t m r × (table_by t m ≡ table_by s m) × (table_by t r ≡ table_by s r)
+    ((x : ℕ) → is_ready t x ≡ (covers range x || is_ready s x)) → AreTables t m r × (table_by t m ≡ table_by s m)
+    × (table_by t r ≡ table_by s r)
 prepared_stay s t m r range both bytes ready =
     both_stay s t m r both (λ x lies. bytes x) (λ x lies. bytes x) (λ x was. ready x ∙ or_right (covers range x) (is_ready s x) was)

@@ -16,7 +16,8 @@ use Rattle.memblock_model.proofs.SameLaws.{label_tells}
 use Rattle.memblock_ranges.proofs.EditLaws.{pieces_are}
 
 -- where a function stays, a run ends at most at the last address
-stretch_ends : {X : Type 0} (same : X → X → Bool) → Tells same → (g : ℕ → Option X) (from to : ℕ) (v : Option X) → from < to → Stays g from to v →
+stretch_ends : {X : Type 0} (same : X → X → Bool) → Tells same → (g : ℕ → Option X) (from to : ℕ) (v : Option X) → from < to →
+    Stays g from to v →
     total (edges same g) from (to - from) ≡ edge same v (g to)
 stretch_ends same tells g from to v less stays =
     let inner : ℕ = to - from - 1 in
@@ -73,7 +74,8 @@ module _ (r : Extent) (f : Labels) where
       omega (arith, parts, stretch, at_to, so_far)
 
   -- behind the range no further piece ends
-  pub all_pieces : (count : ℕ) → r.base + r.size ≤ 2 ^ 64 → count ≡ total (edges same_label (bare r plain_label f)) 0 (r.base + r.size) → count ≡ pieces r f
+  pub all_pieces : (count : ℕ) → r.base + r.size ≤ 2 ^ 64 → count ≡ total (edges same_label (bare r plain_label f)) 0 (r.base + r.size) →
+      count ≡ pieces r f
   all_pieces count ends so_far =
       let g = bare r plain_label f in
       let until : ℕ = r.base + r.size in

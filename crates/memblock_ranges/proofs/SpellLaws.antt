@@ -84,7 +84,8 @@ behind_base base size node = drop_at (little_bytes 8 base) (little_bytes 8 size 
 
 behind_size : (base size node : ℕ) → drop 16 (fields_of base size node) ≡ little_bytes 4 0 ++ little_bytes 4 node
 unfolding fields_of
-behind_size base size node = behind_two (little_bytes 8 base) (little_bytes 8 size) (little_bytes 4 0 ++ little_bytes 4 node) (long8 base) (long8 size)
+behind_size base size node = behind_two (little_bytes 8 base) (little_bytes 8 size) (little_bytes 4 0 ++ little_bytes 4 node) (long8 base)
+    (long8 size)
 
 behind_flags : (base size node : ℕ) → drop 20 (fields_of base size node) ≡ little_bytes 4 node
 unfolding fields_of
@@ -94,7 +95,8 @@ behind_flags base size node =
 -- what was written is read back
 pub base-fields_of : (base size node : ℕ) → base < 2 ^ 64 → base_in (fields_of base size node) ≡ base
 unfolding base_in fields_of
-base-fields_of base size node small = little_number-reads_back 8 base (little_bytes 8 size ++ (little_bytes 4 0 ++ little_bytes 4 node)) small
+base-fields_of base size node small = little_number-reads_back 8 base
+    (little_bytes 8 size ++ (little_bytes 4 0 ++ little_bytes 4 node)) small
 
 pub size-fields_of : (base size node : ℕ) → size < 2 ^ 64 → size_in (fields_of base size node) ≡ size
 unfolding size_in

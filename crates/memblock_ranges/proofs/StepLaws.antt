@@ -27,7 +27,8 @@ unfolding records_of
 untouched-items w items i old was same = was ∙ ap records_for (sym (table_of-push w items i ∙ same))
 
 after_within : (w : Which) (f : Labels) (i : Item) → EndsInSpace i → NothingFrom (2 ^ 64) f → NothingFrom (2 ^ 64) (table_after w f i)
-after_within which.Memory f (item.Mem range) ends none = amended_ends (λ carried. Some (unwrap_or carried plain_label)) range f (2 ^ 64) ends none
+after_within which.Memory f (item.Mem range) ends none =
+    amended_ends (λ carried. Some (unwrap_or carried plain_label)) range f (2 ^ 64) ends none
 after_within which.Memory f item.Trim ends none = nothing-trimmed (2 ^ 64) f none
 after_within which.Memory f (item.Node range node) ends none = amended_ends (option_map (with_node (Some node))) range f (2 ^ 64) ends none
 after_within which.Memory f (item.Claim range owner) ends none = none
@@ -37,7 +38,8 @@ after_within which.Memory f (item.Grown v place room) ends none = none
 after_within which.Reserved f (item.Mem range) ends none = none
 after_within which.Reserved f item.Trim ends none = none
 after_within which.Reserved f (item.Node range node) ends none = none
-after_within which.Reserved f (item.Claim range owner) ends none = amended_ends (λ carried. Some (unwrap_or carried plain_label)) range f (2 ^ 64) ends none
+after_within which.Reserved f (item.Claim range owner) ends none =
+    amended_ends (λ carried. Some (unwrap_or carried plain_label)) range f (2 ^ 64) ends none
 after_within which.Reserved f (item.Free range) ends none = amended_ends (λ (carried : Option Label). None) range f (2 ^ 64) ends none
 after_within which.Reserved f (item.Limit at) ends none = none
 after_within which.Reserved f (item.Grown v place room) ends none = none

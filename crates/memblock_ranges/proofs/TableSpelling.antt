@@ -45,7 +45,8 @@ spelled_from f (suc count) (suc room) a few known zeros =
     spell_back (bytes_at f a 24) (subst (λ x. IsRecord (bytes_at f x 24)) here (known 0 (omega arith))) in
     let left : suc room - 1 ≡ room = omega arith in
     let rest = spelled_from f count room (a + 24) (omega arith)
-    (λ i less. let there : a + 24 * suc i ≡ a + 24 + 24 * i = omega arith in subst (λ x. IsRecord (bytes_at f x 24)) there (known (suc i) (omega arith)))
+    (λ i less. let there : a + 24 * suc i ≡ a + 24 + 24 * i = omega arith in
+    subst (λ x. IsRecord (bytes_at f x 24)) there (known (suc i) (omega arith)))
     (λ x low high. zeros x (omega arith) (omega arith)) in
     ap (λ n. bytes_at f a n) long ∙ split_bytes f a 24 (24 * room)
     ∙ ap (λ (bs : List ℕ). bytes_at f a 24 ++ bs) rest
@@ -75,4 +76,5 @@ stands s h table known =
     }
 
 pub head_is : (s : List Piece) (h : Head) → h ≡ head_of (table_by s h)
-head_is s h = ap (λ (n : ℕ). let g : Head = record { place = h.place; room = h.room; count = n } in g) (sym (length-records_at (byte_of s) h.place h.count))
+head_is s h = ap (λ (n : ℕ). let g : Head = record { place = h.place; room = h.room; count = n } in
+    g) (sym (length-records_at (byte_of s) h.place h.count))

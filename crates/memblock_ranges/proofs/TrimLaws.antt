@@ -64,7 +64,8 @@ module _ (f : Labels) (at : ℕ) (r : RunOf Label) (rs : List (RunOf Label)) (tu
       let size : 0 < r.size = turns.runs.0 in
       elim (cases_lt at r.base) as (λ _. f (r.base - 1) ≢ f r.base) [
         | inl gap ↦ λ same.
-            let clash : None ≡ Some r.value = sym (before_run (r.base - 1) (omega arith) (omega arith)) ∙ same ∙ in_run r.base (omega arith) (omega arith) in cc clash
+            let clash : None ≡ Some r.value = sym (before_run (r.base - 1) (omega arith) (omega arith)) ∙ same
+            ∙ in_run r.base (omega arith) (omega arith) in cc clash
         | inr touch ↦ let is : at ≡ r.base = omega arith in subst (λ n. f (n - 1) ≢ f n) is (turns.turn (omega arith))
       ]
 

@@ -105,7 +105,8 @@ pub record StandsIn (t : Table) (store : List Piece) : Type 0 where
   pub fits : t.place + 24 * t.room < 2 ^ 64
   pub records : AreRecords t.records
   pub bytes : bytes_at (byte_of store) t.place (24 * t.room) ≡ spelled_table t.records t.room
-  pub regions : (i : ℕ) (r : RunOf Label) → i < length t.records → region_in (bytes_at (byte_of store) (t.place + 24 * i) 24) ≡ region_of (get_or t.records i r)
+  pub regions : (i : ℕ) (r : RunOf Label) → i < length t.records →
+      region_in (bytes_at (byte_of store) (t.place + 24 * i) 24) ≡ region_of (get_or t.records i r)
   pub prepared : AreReady store t.place (24 * t.room)
 
 -- which nodes a record of a table may have: the reserved table's have none (`memblock_add_range` with `MAX_NUMNODES`)

@@ -158,7 +158,7 @@ impl Tables {
           records = records_for (relabelled range (with_node (Some node)) (value_at self.old.memory.records));
         } }
         ensures reserved { self.new.reserved ≡ self.old.reserved }
-        ensures elsewhere { (x : ℕ) → covers (bytes_in which.Memory self.old) x ≡ false → byte_of self.new.store x ≡ byte_of self.old.store x }
+        ensures elsewhere { (x : ℕ) → covers (bytes_of self.old.memory) x ≡ false → byte_of self.new.store x ≡ byte_of self.old.store x }
         ensures ready { (x : ℕ) → is_ready self.new.store x ≡ is_ready self.old.store x }
     {
         lent::set_node(&mut self.store, &mut self.heads.memory, &range, node);
@@ -169,7 +169,7 @@ impl Tables {
     pub fn trim(&mut self)
         ensures memory { self.new.memory ≡ record self.old.memory { records = records_for (trimmed (value_at self.old.memory.records)) } }
         ensures reserved { self.new.reserved ≡ self.old.reserved }
-        ensures elsewhere { (x : ℕ) → covers (bytes_in which.Memory self.old) x ≡ false → byte_of self.new.store x ≡ byte_of self.old.store x }
+        ensures elsewhere { (x : ℕ) → covers (bytes_of self.old.memory) x ≡ false → byte_of self.new.store x ≡ byte_of self.old.store x }
         ensures ready { (x : ℕ) → is_ready self.new.store x ≡ is_ready self.old.store x }
     {
         lent::trim(&mut self.store, &mut self.heads.memory);

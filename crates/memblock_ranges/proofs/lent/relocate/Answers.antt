@@ -10,5 +10,7 @@ copy-requires-clause-disjoint c =
 pub returns : goal.returns
 returns c =
     let h = c.args.head.now in
-    moves c.args.store.now c.copy.new.self c.fill.new.self c.fill-2.new.self h c.args.place (24 * h.count) (2 * 24 * h.room - 24 * h.count) (24 * h.room)
-    c.requires.table c.requires.small c.requires.prepared c.requires.apart c.copy.ensures c.fill.ensures c.fill-2.ensures refl (omega arith) refl
+    moves c.args.store.now c.copy.new.self c.fill.new.self c.fill-2.new.self h c.args.place (24 * h.count)
+    (2 * 24 * h.room - 24 * h.count) (24 * h.room)
+    c.requires.table c.requires.small c.requires.prepared c.requires.apart c.copy.ensures c.fill.ensures c.fill-2.ensures refl
+    (omega arith) refl

@@ -46,7 +46,8 @@ loop-from-preserved g c =
     let by_next : to ≤ next = omega (arith, less) in
     let by_end : to ≤ r.base + r.size = omega (arith, less, until) in
     let rest : IsRestFrom f to (drop c.passed-read.result (g.T.Rows.list c.args.table.now)) =
-    c.passed-read.ensures.rest f from i.rest (omega (arith, order)) (ends_sooner to next (drop c.loop-from.read (g.T.Rows.list c.args.table.now)) by_next i.ends) in
+    c.passed-read.ensures.rest f from i.rest (omega (arith, order))
+    (ends_sooner to next (drop c.loop-from.read (g.T.Rows.list c.args.table.now)) by_next i.ends) in
     let value = c.look-there.ensures.value f rest in
     let ends : c.ends_piece-count.result ≡ (if c.loop-from.bare && not (nat_lt to (r.base + r.size) && c.is_none.result) then 1 else 0) =
     c.ends_piece-count.ensures ∙ ap (λ n. if c.loop-from.bare && not (nat_lt to n && c.is_none.result) then 1 else 0) until in
@@ -60,7 +61,8 @@ loop-from-preserved g c =
       ends = c.look-there.ensures.ends rest.ends;
       behind = c.look-there.ensures.behind rest.ends;
       few = omega (arith, i.few, order, few, ends);
-      count = more_pieces r f from to next c.loop-from.count c.ends_piece-count.result c.loop-from.bare c.is_none.result i.first order by_end by_next
+      count = more_pieces r f from to next c.loop-from.count c.ends_piece-count.result c.loop-from.bare c.is_none.result i.first order
+          by_end by_next
           i.stays i.here (none_told c.is_none.result c.look-there.result.0 c.is_none.ensures ∙ ap is_none value) ends i.count;
     }
 

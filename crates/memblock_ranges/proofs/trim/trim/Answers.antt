@@ -33,7 +33,8 @@ loop-read-preserved g c =
     let step = trim_step f at r rest turns up down (ap (λ n. n + (4096 - n % 4096) % 4096) base) (ap (λ n. n - n % 4096) ends)
     c.frames-start.result.0 c.frames-start.result.1 (take c.loop-read.write t) i.swept.1
     c.frames-start.ensures.start c.frames-start.ensures.until c.frames-start.ensures.none in
-    let with_value : Label → List (RunOf Label) = λ v. take c.loop-read.write t ++ stretch c.frames-start.result.0 c.frames-start.result.1 (Some v) in
+    let with_value : Label → List (RunOf Label) = λ v. take c.loop-read.write t ++ stretch c.frames-start.result.0 c.frames-start.result.1
+    (Some v) in
     let told : take c.emit.result.0 (g.T.Rows.list c.emit.new.table) ≡ with_value c.value.result = c.emit.ensures.written in
     let same : with_value c.value.result ≡ with_value r.value = ap with_value c.value.ensures in
     let written : take c.emit.result.0 (g.T.Rows.list c.emit.new.table) ≡ with_value r.value = told ∙ same in
@@ -48,19 +49,22 @@ loop-read-preserved g c =
       );
     }
 
-all_cut : (f : ℕ → Option Label) (at write read : ℕ) (t new : List (RunOf Label)) → IsSweptTo (trimmed f) at (take write t) → Turns f at (drop read t) →
+all_cut : (f : ℕ → Option Label) (at write read : ℕ) (t new : List (RunOf Label)) → IsSweptTo (trimmed f) at (take write t) →
+    Turns f at (drop read t) →
     length t ≤ read → new ≡ take write t ++ drop (write + (read - write)) t → write ≤ read → IsRunsOf (trimmed f) new
 all_cut f at write read t new swept turns done is order =
     let none : drop read t ≡ [] = drop_all read t done in
     let same : write + (read - write) ≡ read = omega arith in
-    let whole : new ≡ take write t = is ∙ ap (λ n. take write t ++ drop n t) same ∙ ap (λ (l : List (RunOf Label)). take write t ++ l) none ∙ append-nil (take write t) in
+    let whole : new ≡ take write t = is ∙ ap (λ n. take write t ++ drop n t) same
+    ∙ ap (λ (l : List (RunOf Label)). take write t ++ l) none ∙ append-nil (take write t) in
     subst (λ xs. IsRunsOf (trimmed f) xs) (sym whole) (trim_all f at (take write t) swept (subst (λ rs. Turns f at rs) none turns))
 
 pub returns-clause-list : goal.returns-clause-list
 returns-clause-list g c =
     let f : ℕ → Option Label = value_at (g.T.Rows.list c.args.table.now) in
     let i = c.loop-read.invariant in
-    let runs = all_cut f i.swept.0 c.loop-read.write c.loop-read.read (g.T.Rows.list c.loop-read.table) (g.T.Rows.list c.close.new.self) i.swept.1 i.swept.2
+    let runs = all_cut f i.swept.0 c.loop-read.write c.loop-read.read (g.T.Rows.list c.loop-read.table)
+    (g.T.Rows.list c.close.new.self) i.swept.1 i.swept.2
     (omega (arith, c.loop-read-test.false, c.count.ensures)) c.close.ensures.list i.order in
     records_for-is (trimmed f) (g.T.Rows.list c.close.new.self) (nothing-trimmed (2 ^ 64) f c.requires.within) runs
 
@@ -68,6 +72,7 @@ pub returns-clause-records : goal.returns-clause-records
 returns-clause-records g c =
     let f : ℕ → Option Label = value_at (g.T.Rows.list c.args.table.now) in
     let i = c.loop-read.invariant in
-    let runs = all_cut f i.swept.0 c.loop-read.write c.loop-read.read (g.T.Rows.list c.loop-read.table) (g.T.Rows.list c.close.new.self) i.swept.1 i.swept.2
+    let runs = all_cut f i.swept.0 c.loop-read.write c.loop-read.read (g.T.Rows.list c.loop-read.table)
+    (g.T.Rows.list c.close.new.self) i.swept.1 i.swept.2
     (omega (arith, c.loop-read-test.false, c.count.ensures)) c.close.ensures.list i.order in
     record { runs = runs.runs; within = λ x le. runs.each x ∙ nothing-trimmed (2 ^ 64) f c.requires.within x le }

@@ -130,8 +130,13 @@ invariant_of-self c =
     let low = length-records_at (byte_of s) h.place h.count in
     let i = c.args.i in
     let n = c.args.n in
-    let e = close_table s c.move_bytes.new.self c.fill.new.self h.place h.room h.count i n (h.place + 24 * (i + n)) (h.place + 24 * i) (24 * (h.count - (i + n)))
-    (h.place + 24 * (h.count - n)) (24 * n) t (omega (arith, c.requires, low)) c.move_bytes.ensures c.fill.ensures refl refl refl refl refl in
+    let e = close_table s c.move_bytes.new.self c.fill.new.self h.place h.room h.count i n (h.place + 24 * (i + n)) (h.place + 24 * i)
+    (24 * (h.count - (i + n)))
+    (h.place + 24 * (h.count - n)) (24 * n) t (omega (
+      arith,
+      c.requires,
+      low,
+    )) c.move_bytes.ensures c.fill.ensures refl refl refl refl refl in
     record { table = e.table }
 
 pub returns-clause-list : goal.returns-clause-list
@@ -143,8 +148,13 @@ returns-clause-list c =
     let low = length-records_at (byte_of s) h.place h.count in
     let i = c.args.i in
     let n = c.args.n in
-    let e = close_table s c.move_bytes.new.self c.fill.new.self h.place h.room h.count i n (h.place + 24 * (i + n)) (h.place + 24 * i) (24 * (h.count - (i + n)))
-    (h.place + 24 * (h.count - n)) (24 * n) t (omega (arith, c.requires, low)) c.move_bytes.ensures c.fill.ensures refl refl refl refl refl in
+    let e = close_table s c.move_bytes.new.self c.fill.new.self h.place h.room h.count i n (h.place + 24 * (i + n)) (h.place + 24 * i)
+    (24 * (h.count - (i + n)))
+    (h.place + 24 * (h.count - n)) (24 * n) t (omega (
+      arith,
+      c.requires,
+      low,
+    )) c.move_bytes.ensures c.fill.ensures refl refl refl refl refl in
     e.list_is
 
 pub returns-clause-keeps : goal.returns-clause-keeps
@@ -156,6 +166,11 @@ returns-clause-keeps c =
     let low = length-records_at (byte_of s) h.place h.count in
     let i = c.args.i in
     let n = c.args.n in
-    let e = close_table s c.move_bytes.new.self c.fill.new.self h.place h.room h.count i n (h.place + 24 * (i + n)) (h.place + 24 * i) (24 * (h.count - (i + n)))
-    (h.place + 24 * (h.count - n)) (24 * n) t (omega (arith, c.requires, low)) c.move_bytes.ensures c.fill.ensures refl refl refl refl refl in
+    let e = close_table s c.move_bytes.new.self c.fill.new.self h.place h.room h.count i n (h.place + 24 * (i + n)) (h.place + 24 * i)
+    (24 * (h.count - (i + n)))
+    (h.place + 24 * (h.count - n)) (24 * n) t (omega (
+      arith,
+      c.requires,
+      low,
+    )) c.move_bytes.ensures c.fill.ensures refl refl refl refl refl in
     (refl, refl, λ j. record { place = h.place; room = h.room; others = e.others j; ready = e.ready j })

@@ -31,8 +31,10 @@ invariant_of-self c =
     let low = length-records_at (byte_of s) h.place h.count in
     let i = c.args.i in
     let at = h.place + 24 * i in
-    let e = insert_table s c.move_bytes.new.self c.write.new.self h.place h.room h.count i (at + 24) (24 * (h.count - i)) at (length c.spell.result)
-    c.args.item c.spell.result t (omega (arith, c.requires.within, low)) (omega (arith, c.requires.room, low)) c.spell.ensures.fits c.spell.ensures.bytes
+    let e = insert_table s c.move_bytes.new.self c.write.new.self h.place h.room h.count i (at + 24) (24 * (h.count - i)) at
+    (length c.spell.result)
+    c.args.item c.spell.result t (omega (arith, c.requires.within, low))
+    (omega (arith, c.requires.room, low)) c.spell.ensures.fits c.spell.ensures.bytes
     c.move_bytes.ensures c.write.ensures refl refl refl refl in
     record { table = e.table }
 
@@ -45,8 +47,10 @@ returns-clause-list c =
     let low = length-records_at (byte_of s) h.place h.count in
     let i = c.args.i in
     let at = h.place + 24 * i in
-    let e = insert_table s c.move_bytes.new.self c.write.new.self h.place h.room h.count i (at + 24) (24 * (h.count - i)) at (length c.spell.result)
-    c.args.item c.spell.result t (omega (arith, c.requires.within, low)) (omega (arith, c.requires.room, low)) c.spell.ensures.fits c.spell.ensures.bytes
+    let e = insert_table s c.move_bytes.new.self c.write.new.self h.place h.room h.count i (at + 24) (24 * (h.count - i)) at
+    (length c.spell.result)
+    c.args.item c.spell.result t (omega (arith, c.requires.within, low))
+    (omega (arith, c.requires.room, low)) c.spell.ensures.fits c.spell.ensures.bytes
     c.move_bytes.ensures c.write.ensures refl refl refl refl in
     e.list_is
 

@@ -30,7 +30,8 @@ write-requires c =
     let h = l.head.now in
     let t = l.table in
     let low = length-records_at (byte_of s) h.place h.count in
-    let long : length c.spell.result ≡ 24 = ap length c.spell.ensures.bytes ∙ length-fields_of c.args.item.base c.args.item.size (node_field c.args.item.value) in
+    let long : length c.spell.result ≡ 24 = ap length c.spell.ensures.bytes
+    ∙ length-fields_of c.args.item.base c.args.item.size (node_field c.args.item.value) in
     λ x from to. t.prepared x (omega (arith, from)) (omega (arith, to, long, t.few, c.requires, low))
 
 pub invariant_of-self : goal.invariant_of-self
@@ -40,7 +41,8 @@ invariant_of-self c =
     let h = l.head.now in
     let t = l.table in
     let low = length-records_at (byte_of s) h.place h.count in
-    let e = put_table s c.write.new.self h.place h.room h.count c.args.i (h.place + 24 * c.args.i) (length c.spell.result) c.args.item c.spell.result t
+    let e = put_table s c.write.new.self h.place h.room h.count c.args.i (h.place + 24 * c.args.i)
+    (length c.spell.result) c.args.item c.spell.result t
     (omega (arith, c.requires, low)) c.spell.ensures.fits c.spell.ensures.bytes c.write.ensures refl refl in
     record { table = e.table }
 
@@ -51,7 +53,8 @@ returns-clause-list c =
     let h = l.head.now in
     let t = l.table in
     let low = length-records_at (byte_of s) h.place h.count in
-    let e = put_table s c.write.new.self h.place h.room h.count c.args.i (h.place + 24 * c.args.i) (length c.spell.result) c.args.item c.spell.result t
+    let e = put_table s c.write.new.self h.place h.room h.count c.args.i (h.place + 24 * c.args.i)
+    (length c.spell.result) c.args.item c.spell.result t
     (omega (arith, c.requires, low)) c.spell.ensures.fits c.spell.ensures.bytes c.write.ensures refl refl in
     e.list_is
 
@@ -62,6 +65,7 @@ returns-clause-keeps c =
     let h = l.head.now in
     let t = l.table in
     let low = length-records_at (byte_of s) h.place h.count in
-    let e = put_table s c.write.new.self h.place h.room h.count c.args.i (h.place + 24 * c.args.i) (length c.spell.result) c.args.item c.spell.result t
+    let e = put_table s c.write.new.self h.place h.room h.count c.args.i (h.place + 24 * c.args.i)
+    (length c.spell.result) c.args.item c.spell.result t
     (omega (arith, c.requires, low)) c.spell.ensures.fits c.spell.ensures.bytes c.write.ensures refl refl in
     (refl, refl, λ j. record { place = h.place; room = h.room; others = e.others j; ready = e.ready j })

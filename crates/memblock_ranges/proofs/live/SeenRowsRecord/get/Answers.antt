@@ -22,7 +22,8 @@ slice-requires c =
     λ x from to. l.table.prepared x (omega (arith, from)) (omega (arith, to, l.table.few, c.requires, low))
 
 pub read_record-requires-clause-long : goal.read_record-requires-clause-long
-read_record-requires-clause-long c = ap length c.slice.ensures ∙ length-bytes_at (byte_of c.args.self.now.store.now) (c.args.self.now.head.now.place + 24 * c.args.i) 24
+read_record-requires-clause-long c = ap length c.slice.ensures
+    ∙ length-bytes_at (byte_of c.args.self.now.store.now) (c.args.self.now.head.now.place + 24 * c.args.i) 24
 
 pub read_record-requires-clause-record : goal.read_record-requires-clause-record
 read_record-requires-clause-record c =
@@ -35,4 +36,5 @@ returns c =
     let l = c.args.self.now in
     let low = length-records_at (byte_of l.store.now) l.head.now.place l.head.now.count in
     c.read_record.ensures ∙ ap run_in c.slice.ensures
-    ∙ sym (get-records_at (byte_of l.store.now) l.head.now.place l.head.now.count c.args.i c.read_record.result (omega (arith, c.requires, low)))
+    ∙ sym (get-records_at (byte_of l.store.now) l.head.now.place l.head.now.count c.args.i c.read_record.result
+    (omega (arith, c.requires, low)))

@@ -54,9 +54,11 @@ invariant_of-self-in-Reserved c =
     let end : c.args.range.base + c.args.range.size ≤ 2 ^ 64 = omega (arith, c.end-end.ensures.small) in
     let none = rw c.in-Reserved.is at c.requires.node in
     let label : c.label_of-label.result ≡ plain_label = c.label_of-label.ensures ∙ ap label_of none in
-    let plain : HaveNoNode list = subst (λ (l : Label). HaveNoNode (records_for (covered c.args.range l (value_at (list_in s r))))) (sym label)
+    let plain : HaveNoNode list = subst (λ (l : Label). HaveNoNode (records_for (covered c.args.range l (value_at (list_in s r)))))
+    (sym label)
     (plain_covered c.args.range (list_in s r) both.reserved_records both.plain end) in
-    let p = pair_reserved s c.cover-in-Reserved.new.store m r c.cover-in-Reserved.new.head list both c.cover-in-Reserved.ensures.edits c.cover-in-Reserved.ensures.records plain in
+    let p = pair_reserved s c.cover-in-Reserved.new.store m r c.cover-in-Reserved.new.head list both c.cover-in-Reserved.ensures.edits
+    c.cover-in-Reserved.ensures.records plain in
     p.0
 
 pub returns-in-Reserved-clause-other : goal.returns-in-Reserved-clause-other
@@ -69,9 +71,11 @@ returns-in-Reserved-clause-other c =
     let end : c.args.range.base + c.args.range.size ≤ 2 ^ 64 = omega (arith, c.end-end.ensures.small) in
     let none = rw c.in-Reserved.is at c.requires.node in
     let label : c.label_of-label.result ≡ plain_label = c.label_of-label.ensures ∙ ap label_of none in
-    let plain : HaveNoNode list = subst (λ (l : Label). HaveNoNode (records_for (covered c.args.range l (value_at (list_in s r))))) (sym label)
+    let plain : HaveNoNode list = subst (λ (l : Label). HaveNoNode (records_for (covered c.args.range l (value_at (list_in s r)))))
+    (sym label)
     (plain_covered c.args.range (list_in s r) both.reserved_records both.plain end) in
-    let p = pair_reserved s c.cover-in-Reserved.new.store m r c.cover-in-Reserved.new.head list both c.cover-in-Reserved.ensures.edits c.cover-in-Reserved.ensures.records plain in
+    let p = pair_reserved s c.cover-in-Reserved.new.store m r c.cover-in-Reserved.new.head list both c.cover-in-Reserved.ensures.edits
+    c.cover-in-Reserved.ensures.records plain in
     rw (← c.self.view_is, c.in-Reserved.is) p.1
 
 pub returns-in-Reserved-clause-elsewhere : goal.returns-in-Reserved-clause-elsewhere
@@ -80,7 +84,8 @@ returns-in-Reserved-clause-elsewhere c =
     let m = c.self.inside.heads.memory in
     let r = c.self.inside.heads.reserved in
     let both = c.self.invariant in
-    rw (← c.self.view_is, c.in-Reserved.is) (edited_at s c.cover-in-Reserved.new.store r c.cover-in-Reserved.new.head _ c.cover-in-Reserved.ensures.edits)
+    rw (← c.self.view_is, c.in-Reserved.is)
+    (edited_at s c.cover-in-Reserved.new.store r c.cover-in-Reserved.new.head _ c.cover-in-Reserved.ensures.edits)
 
 pub returns-in-Reserved-clause-ready : goal.returns-in-Reserved-clause-ready
 returns-in-Reserved-clause-ready c =

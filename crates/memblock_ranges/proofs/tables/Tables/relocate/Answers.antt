@@ -9,7 +9,8 @@ invariant_of-self c =
     let r = c.self.inside.heads.reserved in
     let both = c.self.invariant in
     let apart = rw (← c.self.view_is, c.in-Memory.is) at c.requires.apart in
-    let p = move_memory s c.relocate.new.store m r c.relocate.new.head c.args.place both c.relocate.ensures (λ meet. apart (which.Reserved, meet)) in
+    let p = move_memory s c.relocate.new.store m r c.relocate.new.head c.args.place both c.relocate.ensures
+    (λ meet. apart (which.Reserved, meet)) in
     p.0
 
 pub invariant_of-self-in-Reserved : goal.invariant_of-self-in-Reserved
@@ -19,7 +20,8 @@ invariant_of-self-in-Reserved c =
     let r = c.self.inside.heads.reserved in
     let both = c.self.invariant in
     let apart = rw (← c.self.view_is, c.in-Reserved.is) at c.requires.apart in
-    let p = move_reserved s c.relocate-in-Reserved.new.store m r c.relocate-in-Reserved.new.head c.args.place both c.relocate-in-Reserved.ensures (λ meet. apart (which.Memory, meet)) in
+    let p = move_reserved s c.relocate-in-Reserved.new.store m r c.relocate-in-Reserved.new.head c.args.place both
+    c.relocate-in-Reserved.ensures (λ meet. apart (which.Memory, meet)) in
     p.0
 
 pub returns-in-Memory-clause-other : goal.returns-in-Memory-clause-other
@@ -29,7 +31,8 @@ returns-in-Memory-clause-other c =
     let r = c.self.inside.heads.reserved in
     let both = c.self.invariant in
     let apart = rw (← c.self.view_is, c.in-Memory.is) at c.requires.apart in
-    let p = move_memory s c.relocate.new.store m r c.relocate.new.head c.args.place both c.relocate.ensures (λ meet. apart (which.Reserved, meet)) in
+    let p = move_memory s c.relocate.new.store m r c.relocate.new.head c.args.place both c.relocate.ensures
+    (λ meet. apart (which.Reserved, meet)) in
     rw (← c.self.view_is, c.in-Memory.is) p.1
 
 pub returns-in-Reserved-clause-other : goal.returns-in-Reserved-clause-other
@@ -39,5 +42,6 @@ returns-in-Reserved-clause-other c =
     let r = c.self.inside.heads.reserved in
     let both = c.self.invariant in
     let apart = rw (← c.self.view_is, c.in-Reserved.is) at c.requires.apart in
-    let p = move_reserved s c.relocate-in-Reserved.new.store m r c.relocate-in-Reserved.new.head c.args.place both c.relocate-in-Reserved.ensures (λ meet. apart (which.Memory, meet)) in
+    let p = move_reserved s c.relocate-in-Reserved.new.store m r c.relocate-in-Reserved.new.head c.args.place both
+    c.relocate-in-Reserved.ensures (λ meet. apart (which.Memory, meet)) in
     rw (← c.self.view_is, c.in-Reserved.is) p.1

@@ -51,7 +51,8 @@ invariant_of-self-in-Reserved c =
     let list = records_for (uncovered c.args.range (value_at (list_in s r))) in
     let end : c.args.range.base + c.args.range.size ≤ 2 ^ 64 = omega (arith, c.end-end.ensures.small) in
     let plain = plain_uncovered c.args.range (list_in s r) both.reserved_records both.plain end in
-    let p = pair_reserved s c.uncover-in-Reserved.new.store m r c.uncover-in-Reserved.new.head list both c.uncover-in-Reserved.ensures.edits c.uncover-in-Reserved.ensures.records plain in
+    let p = pair_reserved s c.uncover-in-Reserved.new.store m r c.uncover-in-Reserved.new.head list both
+    c.uncover-in-Reserved.ensures.edits c.uncover-in-Reserved.ensures.records plain in
     p.0
 
 pub returns-in-Reserved-clause-other : goal.returns-in-Reserved-clause-other
@@ -63,7 +64,8 @@ returns-in-Reserved-clause-other c =
     let list = records_for (uncovered c.args.range (value_at (list_in s r))) in
     let end : c.args.range.base + c.args.range.size ≤ 2 ^ 64 = omega (arith, c.end-end.ensures.small) in
     let plain = plain_uncovered c.args.range (list_in s r) both.reserved_records both.plain end in
-    let p = pair_reserved s c.uncover-in-Reserved.new.store m r c.uncover-in-Reserved.new.head list both c.uncover-in-Reserved.ensures.edits c.uncover-in-Reserved.ensures.records plain in
+    let p = pair_reserved s c.uncover-in-Reserved.new.store m r c.uncover-in-Reserved.new.head list both
+    c.uncover-in-Reserved.ensures.edits c.uncover-in-Reserved.ensures.records plain in
     rw (← c.self.view_is, c.in-Reserved.is) p.1
 
 pub returns-in-Reserved-clause-elsewhere : goal.returns-in-Reserved-clause-elsewhere
@@ -72,7 +74,8 @@ returns-in-Reserved-clause-elsewhere c =
     let m = c.self.inside.heads.memory in
     let r = c.self.inside.heads.reserved in
     let both = c.self.invariant in
-    rw (← c.self.view_is, c.in-Reserved.is) (edited_at s c.uncover-in-Reserved.new.store r c.uncover-in-Reserved.new.head _ c.uncover-in-Reserved.ensures.edits)
+    rw (← c.self.view_is, c.in-Reserved.is)
+    (edited_at s c.uncover-in-Reserved.new.store r c.uncover-in-Reserved.new.head _ c.uncover-in-Reserved.ensures.edits)
 
 pub returns-in-Reserved-clause-ready : goal.returns-in-Reserved-clause-ready
 returns-in-Reserved-clause-ready c =
@@ -80,4 +83,5 @@ returns-in-Reserved-clause-ready c =
     let m = c.self.inside.heads.memory in
     let r = c.self.inside.heads.reserved in
     let both = c.self.invariant in
-    rw (← c.self.view_is) (edited_ready s c.uncover-in-Reserved.new.store r c.uncover-in-Reserved.new.head _ c.uncover-in-Reserved.ensures.edits)
+    rw (← c.self.view_is)
+    (edited_ready s c.uncover-in-Reserved.new.store r c.uncover-in-Reserved.new.head _ c.uncover-in-Reserved.ensures.edits)
