@@ -1,0 +1,80 @@
+-- A table moves to another place.
+use Rattle.std.proofs.Common.{◌≡◌, ℕ, ◌+◌, ◌-◌, ◌*◌, ◌^◌, ◌<◌, ◌≤◌, List, true, ◌||◌, max, nat_le, refl, sym, ◌∙◌, ap, arith, inl, inr, IsTrue}
+use Rattle.std.proofs.lemmas.Bool.{cases_lt}
+use Rattle.std.proofs.lemmas.Bool.Decides.{nat_tests}
+use Rattle.bm_base.specs.Extent.{Extent, Meet}
+use Rattle.phys_store.specs.Bytes.{Piece, byte_of, is_ready, AreReady, Wrote}
+use Rattle.memblock_ranges.specs.declared.region.Head.{Head}
+use Rattle.memblock_ranges.specs.Tables.{HasTable, bytes_by, Moves}
+use Rattle.memblock_ranges.proofs.SpellLaws.{same_records}
+use Rattle.memblock_ranges.proofs.ByteEdits.{record_there}
+
+abbrev bytes : ℕ → ℕ → Extent
+bytes base size = record { base = base; size = size }
+
+-- an address of both ranges
+both : (r s : Extent) (x : ℕ) → r.base ≤ x → x < r.base + r.size → s.base ≤ x → x < s.base + s.size → Meet r s
+both r s x a b c d = (x, grind (arith, nat_tests))
+
+-- what is copied lies apart from where it is copied to
+pub copied_apart : (old room count place : ℕ) → count ≤ room → ¬ Meet (bytes old (24 * room)) (bytes place (48 * room)) →
+    IsTrue (nat_le (old + 24 * count) place || nat_le (place + 24 * count) old)
+copied_apart old room count place few apart =
+    elim (cases_lt place (old + 24 * count)) as (λ _. (nat_le (old + 24 * count) place || nat_le (place + 24 * count) old) ≡ true) [
+      | inr before ↦ grind (arith, nat_tests)
+      | inl under ↦ elim (cases_lt old (place + 24 * count)) as
+          (λ _. (nat_le (old + 24 * count) place || nat_le (place + 24 * count) old) ≡ true) [
+            | inr behind ↦ grind (arith, nat_tests)
+            | inl over ↦ absurd (apart (both (bytes old (24 * room)) (bytes place (48 * room)) (max old place) (omega arith) (omega arith)
+                (omega arith) (omega arith)))
+          ]
+    ]
+
+pub moves : (s t u v : List Piece) (g : Head) (place used free size : ℕ) → HasTable s g → place + 48 * g.room < 2 ^ 64 →
+    AreReady s place (48 * g.room) →
+    ¬ Meet (bytes_by g) (bytes place (48 * g.room)) →
+    Wrote s t place used (λ k. byte_of s (g.place + k)) → Wrote t u (place + used) free (λ _. 0) → Wrote u v g.place size (λ _. 0) →
+    used ≡ 24 * g.count → free ≡ 48 * g.room - used → size ≡ 24 * g.room →
+    Moves s v g (record { place = place; room = 2 * g.room; count = g.count }) place
+moves s t u v g place used free size table small prepared apart copied cleared zeroed used_is free_is size_is =
+    let old : ℕ = g.place in
+    let few = table.few in
+    let off : (x : ℕ) → place ≤ x → x < place + 48 * g.room → byte_of v x ≡ byte_of u x = λ x low high.
+    elim (cases_lt x old) as (λ _. byte_of v x ≡ byte_of u x) [
+      | inl under ↦ zeroed.outside x (grind (arith, nat_tests))
+      | inr over ↦ elim (cases_lt x (old + 24 * g.room)) as (λ _. byte_of v x ≡ byte_of u x) [
+        | inl within ↦ absurd (apart (both (bytes_by g) (bytes place (48 * g.room)) x over within low high))
+        | inr behind ↦ zeroed.outside x (grind (arith, nat_tests))
+      ]
+    ] in
+    let there : (k : ℕ) → k < 24 * g.count → byte_of v (place + k) ≡ byte_of s (old + k) = λ k less.
+    off (place + k) (omega arith) (omega arith) ∙ cleared.outside (place + k) (grind (arith, nat_tests))
+    ∙ copied.within k (omega (arith, used_is, less)) in
+    let behind : (x : ℕ) → place + 24 * g.count ≤ x → x < place + 48 * g.room → byte_of v x ≡ 0 = λ x low high.
+    let here : place + used + (x - (place + used)) ≡ x = omega (arith, used_is, low) in
+    off x (omega arith) high ∙ ap (byte_of u) (sym here)
+    ∙ cleared.within (x - (place + used)) (omega (arith, used_is, free_is, low, high)) in
+    let ready : (x : ℕ) → is_ready v x ≡ is_ready s x = λ x. zeroed.ready x ∙ cleared.ready x ∙ copied.ready x in
+    record {
+      list_is = same_records (byte_of s) (byte_of v) old place g.count there;
+      table = record {
+        few = omega arith;
+        fits = omega (arith, small);
+        records = λ i less. record_there (byte_of s) (byte_of v) (old + 24 * i) (place + 24 * i)
+            (λ k in_it.
+            let here : place + 24 * i + k ≡ place + (24 * i + k) = omega arith in
+            let from : old + (24 * i + k) ≡ old + 24 * i + k = omega arith in
+            ap (byte_of v) here ∙ there (24 * i + k) (omega arith) ∙ ap (byte_of s) from) (table.records i less);
+        zeros = λ x low high. behind x low (omega (arith, high));
+        prepared = λ x low high. ready x ∙ prepared x low (omega (arith, high));
+      };
+      place_is = refl;
+      room_is = refl;
+      left = λ x lies.
+          let low : old ≤ x = grind (arith, nat_tests) in
+          let here : old + (x - old) ≡ x = omega arith in
+          ap (byte_of v) (sym here) ∙ zeroed.within (x - old) (grind (arith, nat_tests));
+      elsewhere = λ x out_new out_old. zeroed.outside x (grind (arith, nat_tests)) ∙ cleared.outside x (grind (arith, nat_tests))
+          ∙ copied.outside x (grind (arith, nat_tests));
+      ready = ready;
+    }

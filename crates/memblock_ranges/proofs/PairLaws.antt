@@ -1,0 +1,242 @@
+-- Two tables in one store: while one is edited, the other stays.
+use Rattle.std.proofs.Common.{◌≡◌, ℕ, ◌+◌, ◌*◌, ◌^◌, ◌<◌, ◌≤◌, Bool, true, false, ◌||◌, Option, Some, None, List, refl, sym, ◌∙◌, ap, subst, arith, inl, inr}
+use Rattle.std.specs.Prelude.{unwrap_or}
+use Rattle.std.proofs.lemmas.Bool.{cases_Bool, and_from}
+use Rattle.std.proofs.lemmas.Bool.Decides.{nat_tests}
+use Rattle.bm_base.specs.Extent.{Extent, covers, Meet}
+use Rattle.phys_store.specs.Bytes.{Piece, byte_of, is_ready, Wrote}
+use Rattle.address_runs.specs.Runs.{RunOf, value_at}
+use Rattle.address_runs.specs.Edits.{covered, uncovered, NothingFrom}
+use Rattle.memblock_model.specs.Labels.{Label, Labels, plain_label}
+use Rattle.memblock_model.specs.Tables.{records_for}
+use Rattle.memblock_model.proofs.TableLaws.{value_at-records}
+use Rattle.run_edits.proofs.AmendLaws.{amended_ends}
+use Rattle.memblock_model.specs.declared.which.Which.TheVariants as which
+use Rattle.memblock_ranges.specs.declared.region.Head.{Head}
+use Rattle.memblock_ranges.specs.Tables.{HasTable, list_in, Contents, Overlaps, table_by, bytes_by, Table, Edits, Moves, AreRecords, AreTables, HaveNoNode}
+use Rattle.memblock_ranges.proofs.SpellLaws.{same_records}
+use Rattle.memblock_ranges.proofs.ByteEdits.{record_there}
+
+-- an address of both ranges makes them meet
+meeting : (r s : Extent) (x : ℕ) → covers r x ≡ true → covers s x ≡ true → Meet r s
+meeting r s x here there = (x, and_from (covers r x) (covers s x) here there)
+
+pub beside : (r s : Extent) (x : ℕ) → ¬ Meet r s → covers s x ≡ true → covers r x ≡ false
+beside r s x apart lies = elim (cases_Bool (covers r x)) as (λ _. covers r x ≡ false) [
+  | inl both ↦ absurd (apart (meeting r s x both lies))
+  | inr out ↦ out
+]
+
+swapped : (r s : Extent) → Meet r s → Meet s r
+swapped r s both =
+    let x = both.0 in
+    let lies : covers r x ≡ true = grind (arith, nat_tests, both.1) in
+    let too : covers s x ≡ true = grind (arith, nat_tests, both.1) in
+    meeting s r x too lies
+
+pub turned : (r s : Extent) → ¬ Meet r s → ¬ Meet s r
+turned r s apart both = apart (swapped s r both)
+
+-- a table whose bytes stay stays
+pub stays : (s t : List Piece) (h : Head) → ((x : ℕ) → covers (bytes_by h) x ≡ true → byte_of t x ≡ byte_of s x) →
+    ((x : ℕ) → is_ready s x ≡ true → is_ready t x ≡ true) → HasTable s h → HasTable t h × (table_by t h ≡ table_by s h)
+stays s t h same ready table =
+    let few = table.few in
+    let at : (x : ℕ) → h.place ≤ x → x < h.place + 24 * h.room → byte_of t x ≡ byte_of s x =
+    λ x low high. same x (grind (arith, nat_tests)) in (
+      record {
+        few = table.few;
+        fits = table.fits;
+        records = λ i less. record_there (byte_of s) (byte_of t) (h.place + 24 * i) (h.place + 24 * i)
+            (λ k in_it. at (h.place + 24 * i + k) (omega arith) (omega arith)) (table.records i less);
+        zeros = λ x low high. at x (omega arith) high ∙ table.zeros x low high;
+        prepared = λ x low high. ready x (table.prepared x low high);
+      },
+      ap (λ (rs : List (RunOf Label)). let q : Table = record { records = rs; place = h.place; room = h.room } in q)
+          (same_records (byte_of s) (byte_of t) h.place h.place h.count (λ k in_it. at (h.place + k) (omega arith) (omega arith))),
+    )
+
+-- beside the table that is edited no byte changes
+pub edited_at : (s t : List Piece) (g h : Head) (list : List (RunOf Label)) → Edits s t g h list → (x : ℕ) →
+    covers (bytes_by g) x ≡ false → byte_of t x ≡ byte_of s x
+edited_at s t g h list e x out = rw out at (ap (λ (o : ℕ → ℕ). o x) e.others)
+
+ready_at : (s t : List Piece) (g h : Head) (list : List (RunOf Label)) → Edits s t g h list → (x : ℕ) → is_ready t x ≡ is_ready s x
+ready_at s t g h list e x = ap (λ (o : ℕ → Bool). o x) e.ready
+
+same_bytes_by : (s t : List Piece) (g h : Head) (list : List (RunOf Label)) → Edits s t g h list → bytes_by h ≡ bytes_by g
+same_bytes_by s t g h list e =
+    rw (e.place_is, e.room_is) refl
+
+-- the table that was edited, as contracts see it
+pub edited_table : (s t : List Piece) (g h : Head) (list : List (RunOf Label)) → Edits s t g h list →
+    table_by t h ≡ record { records = list; place = g.place; room = g.room }
+edited_table s t g h list e = rw (e.list_is, e.place_is, e.room_is) refl
+
+pub pair_memory : (s t : List Piece) (m r h : Head) (list : List (RunOf Label)) → AreTables s m r → Edits s t m h list →
+    AreRecords (list_in t h) →
+    AreTables t h r × (table_by t r ≡ table_by s r)
+pair_memory s t m r h list both e known =
+    let other = stays s t r (λ x lies. edited_at s t m h list e x (beside (bytes_by m) (bytes_by r) x both.apart lies))
+    (λ x was. ready_at s t m h list e x ∙ was) both.reserved in
+    let same : list_in t r ≡ list_in s r = ap (λ (q : Table). q.records) other.1 in (
+      record {
+        memory = e.table;
+        reserved = other.0;
+        apart = λ meet. both.apart (subst (λ (q : Extent). Meet q (bytes_by r)) (same_bytes_by s t m h list e) meet);
+        memory_records = known;
+        reserved_records = rw same both.reserved_records;
+        plain = rw same both.plain;
+      },
+      other.1,
+    )
+
+pub pair_reserved : (s t : List Piece) (m r h : Head) (list : List (RunOf Label)) → AreTables s m r → Edits s t r h list →
+    AreRecords (list_in t h) →
+    HaveNoNode list → AreTables t m h × (table_by t m ≡ table_by s m)
+pair_reserved s t m r h list both e known plain =
+    let other = stays s t m (λ x lies. edited_at s t r h list e x
+    (beside (bytes_by r) (bytes_by m) x (turned (bytes_by m) (bytes_by r) both.apart) lies))
+    (λ x was. ready_at s t r h list e x ∙ was) both.memory in
+    let same : list_in t m ≡ list_in s m = ap (λ (q : Table). q.records) other.1 in (
+      record {
+        memory = other.0;
+        reserved = e.table;
+        apart = λ meet. both.apart (subst (λ (q : Extent). Meet (bytes_by m) q) (same_bytes_by s t r h list e) meet);
+        memory_records = rw same both.memory_records;
+        reserved_records = known;
+        plain = rw e.list_is plain;
+      },
+      other.1,
+    )
+
+pub edited_ready : (s t : List Piece) (g h : Head) (list : List (RunOf Label)) → Edits s t g h list → (x : ℕ) → is_ready t x ≡ is_ready s x
+edited_ready s t g h list e x = ready_at s t g h list e x
+
+-- no edit of the reserved table gives a record a node
+plain_list : (g : Labels) → NothingFrom (2 ^ 64) g → ((x : ℕ) (label : Label) → g x ≡ Some label → label ≡ plain_label) →
+    HaveNoNode (records_for g)
+plain_list g none plain = λ x label is. plain x label (sym (ap (λ (f : Labels). f x) (value_at-records g none)) ∙ is)
+
+plain_or : (o : Option Label) (label : Label) → ((l : Label) → o ≡ Some l → l ≡ plain_label) →
+    Some (unwrap_or o plain_label) ≡ Some label → label ≡ plain_label
+plain_or None label plain is = sym (cc is)
+plain_or (Some l) label plain is = plain label is
+
+pub plain_covered : (r : Extent) (rs : List (RunOf Label)) → AreRecords rs → HaveNoNode rs → r.base + r.size ≤ 2 ^ 64 →
+    HaveNoNode (records_for (covered r plain_label (value_at rs)))
+plain_covered r rs known plain ends =
+    let f = value_at rs in
+    plain_list (covered r plain_label f) (amended_ends (λ carried. Some (unwrap_or carried plain_label)) r f (2 ^ 64) ends known.within)
+    (λ x label is. elim (cases_Bool (covers r x)) as (λ _. label ≡ plain_label) [
+      | inl lies ↦ plain_or (f x) label (plain x) (rw lies at is)
+      | inr out ↦ plain x label (rw out at is)
+    ])
+
+pub plain_uncovered : (r : Extent) (rs : List (RunOf Label)) → AreRecords rs → HaveNoNode rs → r.base + r.size ≤ 2 ^ 64 →
+    HaveNoNode (records_for (uncovered r (value_at rs)))
+plain_uncovered r rs known plain ends =
+    let f = value_at rs in
+    plain_list (uncovered r f) (amended_ends (λ (carried : Option Label). None) r f (2 ^ 64) ends known.within)
+    (λ x label is. elim (cases_Bool (covers r x)) as (λ _. label ≡ plain_label) [
+      | inl lies ↦ let clash : None ≡ Some label = rw lies at is in cc clash
+      | inr out ↦ plain x label (rw out at is)
+    ])
+
+-- a table that moves beside another one
+moved_apart : (s t : List Piece) (g h o : Head) (place : ℕ) → Moves s t g h place →
+    ¬ Meet (bytes_by o) (record { base = place; size = 48 * g.room }) → ¬ Meet (bytes_by o) (bytes_by h)
+moved_apart s t g h o place e apart both =
+    let size : 24 * h.room ≡ 48 * g.room = omega (arith, e.room_is) in
+    apart (subst (λ (r : Extent). Meet (bytes_by o) r)
+    (let at : bytes_by h ≡ record { base = place; size = 48 * g.room } = rw (e.place_is, size) refl in at) both)
+
+moved_other : (s t : List Piece) (g h o : Head) (place : ℕ) → Moves s t g h place → ¬ Meet (bytes_by o) (bytes_by g) →
+    ¬ Meet (bytes_by o) (record { base = place; size = 48 * g.room }) →
+    HasTable s o → HasTable t o × (table_by t o ≡ table_by s o)
+moved_other s t g h o place e old new table =
+    let new_too = moved_apart s t g h o place e new in
+    stays s t o (λ x lies. e.elsewhere x (beside (bytes_by h) (bytes_by o) x (turned (bytes_by o) (bytes_by h) new_too) lies)
+    (beside (bytes_by g) (bytes_by o) x (turned (bytes_by o) (bytes_by g) old) lies)) (λ x was. e.ready x ∙ was) table
+
+pub moved_table : (s t : List Piece) (g h : Head) (place : ℕ) → Moves s t g h place →
+    table_by t h ≡ record { records = list_in s g; place = place; room = 2 * g.room }
+moved_table s t g h place e = rw (e.list_is, e.place_is, e.room_is) refl
+
+pub move_memory : (s t : List Piece) (m r h : Head) (place : ℕ) → AreTables s m r → Moves s t m h place →
+    ¬ Meet (bytes_by r) (record { base = place; size = 48 * m.room }) → AreTables t h r × (table_by t r ≡ table_by s r)
+move_memory s t m r h place both e apart =
+    let other = moved_other s t m h r place e (turned (bytes_by m) (bytes_by r) both.apart) apart both.reserved in
+    let same : list_in t r ≡ list_in s r = ap (λ (q : Table). q.records) other.1 in (
+      record {
+        memory = e.table;
+        reserved = other.0;
+        apart = turned (bytes_by r) (bytes_by h) (moved_apart s t m h r place e apart);
+        memory_records = rw e.list_is both.memory_records;
+        reserved_records = rw same both.reserved_records;
+        plain = rw same both.plain;
+      },
+      other.1,
+    )
+
+pub move_reserved : (s t : List Piece) (m r h : Head) (place : ℕ) → AreTables s m r → Moves s t r h place →
+    ¬ Meet (bytes_by m) (record { base = place; size = 48 * r.room }) → AreTables t m h × (table_by t m ≡ table_by s m)
+move_reserved s t m r h place both e apart =
+    let other = moved_other s t r h m place e both.apart apart both.memory in
+    let same : list_in t m ≡ list_in s m = ap (λ (q : Table). q.records) other.1 in (
+      record {
+        memory = other.0;
+        reserved = e.table;
+        apart = moved_apart s t r h m place e apart;
+        memory_records = rw same both.memory_records;
+        reserved_records = rw e.list_is both.reserved_records;
+        plain = rw e.list_is both.plain;
+      },
+      other.1,
+    )
+
+-- a change of no byte of either table
+pub both_stay : (s t : List Piece) (m r : Head) → AreTables s m r → ((x : ℕ) → covers (bytes_by m) x ≡ true → byte_of t x ≡ byte_of s x) →
+    ((x : ℕ) → covers (bytes_by r) x ≡ true → byte_of t x ≡ byte_of s x) → ((x : ℕ) → is_ready s x ≡ true → is_ready t x ≡ true) →
+    AreTables t m r × (table_by t m ≡ table_by s m) × (table_by t r ≡ table_by s r)
+both_stay s t m r both at_memory at_reserved ready =
+    let first = stays s t m at_memory ready both.memory in
+    let second = stays s t r at_reserved ready both.reserved in
+    let same : list_in t m ≡ list_in s m = ap (λ (q : Table). q.records) first.1 in
+    let same_too : list_in t r ≡ list_in s r = ap (λ (q : Table). q.records) second.1 in (
+      record {
+        memory = first.0;
+        reserved = second.0;
+        apart = both.apart;
+        memory_records = rw same both.memory_records;
+        reserved_records = rw same_too both.reserved_records;
+        plain = rw same_too both.plain;
+      },
+      first.1,
+      second.1,
+    )
+
+-- bytes that belong to no table are filled
+pub filled_stay : (s t : List Piece) (m r : Head) (range : Extent) (g : ℕ → ℕ) → AreTables s m r → Wrote s t range.base range.size g →
+    ¬ Overlaps (let v : Contents = record { memory = table_by s m; reserved = table_by s r; store = s } in v) range →
+    AreTables t m r × (table_by t m ≡ table_by s m) × (table_by t r ≡ table_by s r)
+filled_stay s t m r range g both w apart =
+    both_stay s t m r both
+    (λ x lies. let off : covers range x ≡ false = beside range (bytes_by m) x
+    (λ meet. apart (which.Memory, swapped range (bytes_by m) meet)) lies in
+    w.outside x (grind (arith, nat_tests)))
+    (λ x lies. let off : covers range x ≡ false = beside range (bytes_by r) x
+    (λ meet. apart (which.Reserved, swapped range (bytes_by r) meet)) lies in
+    w.outside x (grind (arith, nat_tests)))
+    (λ x was. w.ready x ∙ was)
+
+or_right : (a b : Bool) → b ≡ true → (a || b) ≡ true
+or_right true b is = refl
+or_right false b is = is
+
+-- more is prepared, and no byte changes
+pub prepared_stay : (s t : List Piece) (m r : Head) (range : Extent) → AreTables s m r → ((x : ℕ) → byte_of t x ≡ byte_of s x) →
+    ((x : ℕ) → is_ready t x ≡ (covers range x || is_ready s x)) → AreTables t m r × (table_by t m ≡ table_by s m)
+    × (table_by t r ≡ table_by s r)
+prepared_stay s t m r range both bytes ready =
+    both_stay s t m r both (λ x lies. bytes x) (λ x lies. bytes x) (λ x was. ready x ∙ or_right (covers range x) (is_ready s x) was)

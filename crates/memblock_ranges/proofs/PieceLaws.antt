@@ -1,0 +1,96 @@
+-- The pieces of a range that a table doesn't cover, counted from the lowest address on by where they end.
+use Rattle.std.proofs.Common.{◌≡◌, ℕ, ◌+◌, ◌-◌, ◌^◌, ◌<◌, ◌≤◌, Bool, true, false, not, ◌&&◌, if◌then◌else◌, nat_lt, Option, Some, None, refl, sym, ◌∙◌, ap, arith}
+use Rattle.std.specs.Prelude.{is_none, is_some}
+use Rattle.std.proofs.lemmas.Bool.{false≢true}
+use Rattle.std.proofs.lemmas.Bool.Decides.{nat_tests}
+use Rattle.bm_base.specs.Extent.{Extent, covers}
+use Rattle.address_runs.specs.Runs.{Tells}
+use Rattle.address_runs.specs.Edits.{bare}
+use Rattle.address_runs.specs.Sweep.{Stays}
+use Rattle.run_edits.specs.Ends.{edge, edges, total}
+use Rattle.run_edits.proofs.EndLaws.{total-split, total-quiet, total-next, edge-self}
+use Rattle.memblock_model.specs.Labels.{Label, Labels, plain_label}
+use Rattle.memblock_model.specs.Same.{same_label}
+use Rattle.memblock_model.specs.Tables.{pieces}
+use Rattle.memblock_model.proofs.SameLaws.{label_tells}
+use Rattle.memblock_ranges.proofs.EditLaws.{pieces_are}
+
+-- where a function stays, a run ends at most at the last address
+stretch_ends : {X : Type 0} (same : X → X → Bool) → Tells same → (g : ℕ → Option X) (from to : ℕ) (v : Option X) → from < to →
+    Stays g from to v →
+    total (edges same g) from (to - from) ≡ edge same v (g to)
+stretch_ends same tells g from to v less stays =
+    let inner : ℕ = to - from - 1 in
+    let last : ℕ = to - 1 in
+    let at_end : last + 1 ≡ to = omega arith in
+    let parts = total-split (edges same g) from inner 1 (to - from) last (omega arith) (omega arith) in
+    let quiet : total (edges same g) from inner ≡ 0 = total-quiet (edges same g) from inner
+    (λ y above under. rw (stays y above (omega arith), stays (y + 1) (omega arith) (omega arith)) (edge-self same tells v)) in
+    let one = total-next (edges same g) last 0 in
+    let rest : total (edges same g) (last + 1) 0 ≡ 0 = total-quiet (edges same g) (last + 1) 0 (λ y above under. absurd (omega arith)) in
+    let here : edges same g last ≡ edge same v (g to) = rw (stays last (omega arith) (omega arith), at_end) refl in
+    omega (arith, parts, quiet, one, rest, here)
+
+abbrev pub bare_label : Bool → Option Label
+bare_label b = if b then Some plain_label else None
+
+-- what a bare byte carries, and its neighbour
+pub edge_bare : (a b : Bool) → edge same_label (bare_label a) (bare_label b) ≡ (if a && not b then 1 else 0)
+edge_bare true true = refl
+edge_bare true false = refl
+edge_bare false b = refl
+
+module _ (r : Extent) (f : Labels) where
+  bare_inside : (x : ℕ) → r.base ≤ x → x < r.base + r.size → bare r plain_label f x ≡ bare_label (is_none (f x))
+  bare_inside x low high = let lies : covers r x ≡ true = grind (arith, nat_tests) in rw lies refl
+
+  bare_from : (x : ℕ) → r.base ≤ x → bare r plain_label f x ≡ bare_label (nat_lt x (r.base + r.size) && is_none (f x))
+  bare_from x low = let lies : covers r x ≡ nat_lt x (r.base + r.size) = grind (arith, nat_tests) in rw lies refl
+
+  bare_below : (x : ℕ) → x < r.base → bare r plain_label f x ≡ None
+  bare_below x low = let off : covers r x ≡ false = grind (arith, nat_tests) in rw off refl
+
+  bare_behind : (x : ℕ) → r.base + r.size ≤ x → bare r plain_label f x ≡ None
+  bare_behind x high = let off : covers r x ≡ false = grind (arith, nat_tests) in rw off refl
+
+  -- no piece ends below the range
+  pub no_pieces : total (edges same_label (bare r plain_label f)) 0 r.base ≡ 0
+  no_pieces = total-quiet (edges same_label (bare r plain_label f)) 0 r.base (λ y above under. rw (bare_below y (omega arith)) refl)
+
+  -- over one more stretch that the table covers, or doesn't, a piece ends at most at its end
+  pub more_pieces : (from to next count more : ℕ) (here there : Bool) → r.base ≤ from → from < to → to ≤ r.base + r.size → to ≤ next →
+      Stays f from next (f from) → here ≡ is_none (f from) → there ≡ is_none (f to) →
+      more ≡ (if here && not (nat_lt to (r.base + r.size) && there) then 1 else 0) →
+      count ≡ total (edges same_label (bare r plain_label f)) 0 from → count + more ≡ total (edges same_label (bare r plain_label f)) 0 to
+  more_pieces from to next count more here there low less high far stays is_here is_there ends so_far =
+      let g = bare r plain_label f in
+      let steady : Stays g from to (bare_label (is_none (f from))) = λ x above under.
+      bare_inside x (omega arith) (omega arith) ∙ ap (λ o. bare_label (is_none o)) (stays x above (omega arith)) in
+      let stretch = stretch_ends same_label label_tells g from to (bare_label (is_none (f from))) less steady in
+      let at_to : edge same_label (bare_label (is_none (f from))) (g to) ≡ more =
+      ap (edge same_label (bare_label (is_none (f from)))) (bare_from to (omega arith))
+      ∙ edge_bare (is_none (f from)) (nat_lt to (r.base + r.size) && is_none (f to)) ∙ rw (← is_here, ← is_there) (sym ends) in
+      let parts = total-split (edges same_label g) 0 from (to - from) to from (omega arith) (omega arith) in
+      omega (arith, parts, stretch, at_to, so_far)
+
+  -- behind the range no further piece ends
+  pub all_pieces : (count : ℕ) → r.base + r.size ≤ 2 ^ 64 → count ≡ total (edges same_label (bare r plain_label f)) 0 (r.base + r.size) →
+      count ≡ pieces r f
+  all_pieces count ends so_far =
+      let g = bare r plain_label f in
+      let until : ℕ = r.base + r.size in
+      let parts = total-split (edges same_label g) 0 until (2 ^ 64 - until) (2 ^ 64) until (omega arith) (omega arith) in
+      let quiet = total-quiet (edges same_label g) until (2 ^ 64 - until) (λ y above under. rw (bare_behind y above) refl) in
+      let is = pieces_are r f ends in
+      omega (arith, parts, quiet, is, so_far)
+
+pub one_at_most : (b : Bool) → (if b then 1 else 0) ≤ 1
+one_at_most true = omega arith
+one_at_most false = omega arith
+
+-- what a test for nothing tells
+pub none_told : (b : Bool) (o : Option Label) → is_some o ≡ not b → b ≡ is_none o
+none_told true None told = refl
+none_told true (Some l) told = absurd (false≢true (sym told))
+none_told false None told = absurd (false≢true told)
+none_told false (Some l) told = refl

@@ -1,0 +1,128 @@
+-- Records as bytes: where they stand, and that what was written is read back.
+use Rattle.std.proofs.Common.{◌≡◌, ℕ, zero, suc, ◌+◌, ◌*◌, ◌^◌, ◌<◌, List, [], ◌∷◌, ◌++◌, length, get_or, drop, refl, sym, ◌∙◌, ap, arith, length-append, append_assoc}
+use Rattle.std.proofs.lemmas.List.{drop_at}
+use Rattle.byteorder.specs.Endian.{little_number, little_bytes}
+use Rattle.byteorder.specs.Numbers.{little_number-reads_back, length-bytes_low_first}
+use Rattle.phys_store.specs.Bytes.{bytes_at}
+use Rattle.phys_store.proofs.ByteLists.{length-bytes_at, get-bytes_at, told_bytes}
+use Rattle.address_runs.specs.Runs.{RunOf}
+use Rattle.memblock_model.specs.Labels.{Label}
+use Rattle.memblock_ranges.specs.Spelling.{base_in, size_in, flags_in, node_in, fields_of, node_field, run_in, spelling_of, records_at, FitsRecord, IsRecord}
+
+-- the same bytes at two places
+pub same_bytes : (f g : ℕ → ℕ) (a b n : ℕ) → ((k : ℕ) → k < n → g (b + k) ≡ f (a + k)) → bytes_at g b n ≡ bytes_at f a n
+same_bytes f g a b n same = told_bytes f a n (bytes_at g b n) (length-bytes_at g b n) (λ k below. get-bytes_at g b n k below ∙ same k below)
+
+pub same_records : (f g : ℕ → ℕ) (a b n : ℕ) → ((k : ℕ) → k < 24 * n → g (b + k) ≡ f (a + k)) → records_at g b n ≡ records_at f a n
+unfolding records_at
+same_records f g a b zero same = refl
+same_records f g a b (suc n) same =
+    let first : bytes_at g b 24 ≡ bytes_at f a 24 = same_bytes f g a b 24 (λ k below. same k (omega arith)) in
+    let rest = same_records f g (a + 24) (b + 24) n (λ k below. ap g (omega arith) ∙ same (24 + k) (omega arith) ∙ ap f (omega arith)) in
+    rw (first, rest) refl
+
+-- the records of two parts of a table
+pub split_records : (f : ℕ → ℕ) (a m n : ℕ) → records_at f a (m + n) ≡ records_at f a m ++ records_at f (a + 24 * m) n
+unfolding records_at
+split_records f a zero n =
+    let none : 0 + n ≡ n = omega arith in
+    let here : a ≡ a + 24 * 0 = omega arith in
+    ap (λ k. records_at f a k) none ∙ ap (λ x. records_at f x n) here
+split_records f a (suc m) n =
+    let more : suc m + n ≡ suc (m + n) = omega arith in
+    let there : a + 24 + 24 * m ≡ a + 24 * suc m = omega arith in
+    ap (λ k. records_at f a k) more
+    ∙ ap (λ (rs : List (RunOf Label)). run_in (bytes_at f a 24) ∷ rs)
+    (split_records f (a + 24) m n ∙ ap (λ x. records_at f (a + 24) m ++ records_at f x n) there)
+
+pub length-records_at : (f : ℕ → ℕ) (a n : ℕ) → length (records_at f a n) ≡ n
+unfolding records_at
+length-records_at f a zero = refl
+length-records_at f a (suc n) = let rest = length-records_at f (a + 24) n in omega (arith, rest)
+
+pub get-records_at : (f : ℕ → ℕ) (a n i : ℕ) (d : RunOf Label) → i < n → get_or (records_at f a n) i d ≡ run_in (bytes_at f (a + 24 * i) 24)
+unfolding records_at
+get-records_at f a zero i d below = absurd (omega arith)
+get-records_at f a (suc n) zero d below = ap (λ x. run_in (bytes_at f x 24)) (omega arith)
+get-records_at f a (suc n) (suc i) d below =
+    get-records_at f (a + 24) n i d (omega arith) ∙ ap (λ x. run_in (bytes_at f x 24)) (omega arith)
+
+-- the parts of a record's bytes
+long8 : (n : ℕ) → length (little_bytes 8 n) ≡ 8
+long8 n = length-bytes_low_first 0 8 n
+
+long4 : (n : ℕ) → length (little_bytes 4 n) ≡ 4
+long4 n = length-bytes_low_first 0 4 n
+
+pub length-fields_of : (base size node : ℕ) → length (fields_of base size node) ≡ 24
+unfolding fields_of
+length-fields_of base size node =
+    let a = long8 base in let b = long8 size in let c = long4 0 in let d = long4 node in
+    omega (
+      arith,
+      a,
+      b,
+      c,
+      d,
+      length-append (little_bytes 8 base) (little_bytes 8 size ++ (little_bytes 4 0 ++ little_bytes 4 node)),
+      length-append (little_bytes 8 size) (little_bytes 4 0 ++ little_bytes 4 node),
+      length-append (little_bytes 4 0) (little_bytes 4 node),
+    )
+
+behind_two : (a b rest : List ℕ) → length a ≡ 8 → length b ≡ 8 → drop 16 (a ++ (b ++ rest)) ≡ rest
+behind_two a b rest first second =
+    ap (drop 16) (sym (append_assoc a b rest)) ∙ drop_at (a ++ b) rest 16 (omega (arith, first, second, length-append a b))
+
+behind_three : (a b c rest : List ℕ) → length a ≡ 8 → length b ≡ 8 → length c ≡ 4 → drop 20 (a ++ (b ++ (c ++ rest))) ≡ rest
+behind_three a b c rest first second third =
+    ap (λ (l : List ℕ). drop 20 (a ++ l)) (sym (append_assoc b c rest)) ∙ ap (drop 20) (sym (append_assoc a (b ++ c) rest))
+    ∙ drop_at (a ++ (b ++ c)) rest 20 (omega (arith, first, second, third, length-append a (b ++ c), length-append b c))
+
+behind_base : (base size node : ℕ) → drop 8 (fields_of base size node) ≡ little_bytes 8 size ++ (little_bytes 4 0 ++ little_bytes 4 node)
+unfolding fields_of
+behind_base base size node = drop_at (little_bytes 8 base) (little_bytes 8 size ++ (little_bytes 4 0 ++ little_bytes 4 node)) 8 (long8 base)
+
+behind_size : (base size node : ℕ) → drop 16 (fields_of base size node) ≡ little_bytes 4 0 ++ little_bytes 4 node
+unfolding fields_of
+behind_size base size node = behind_two (little_bytes 8 base) (little_bytes 8 size) (little_bytes 4 0 ++ little_bytes 4 node) (long8 base)
+    (long8 size)
+
+behind_flags : (base size node : ℕ) → drop 20 (fields_of base size node) ≡ little_bytes 4 node
+unfolding fields_of
+behind_flags base size node =
+    behind_three (little_bytes 8 base) (little_bytes 8 size) (little_bytes 4 0) (little_bytes 4 node) (long8 base) (long8 size) (long4 0)
+
+-- what was written is read back
+pub base-fields_of : (base size node : ℕ) → base < 2 ^ 64 → base_in (fields_of base size node) ≡ base
+unfolding base_in fields_of
+base-fields_of base size node small = little_number-reads_back 8 base
+    (little_bytes 8 size ++ (little_bytes 4 0 ++ little_bytes 4 node)) small
+
+pub size-fields_of : (base size node : ℕ) → size < 2 ^ 64 → size_in (fields_of base size node) ≡ size
+unfolding size_in
+size-fields_of base size node small =
+    ap (little_number 8) (behind_base base size node) ∙ little_number-reads_back 8 size (little_bytes 4 0 ++ little_bytes 4 node) small
+
+pub flags-fields_of : (base size node : ℕ) → flags_in (fields_of base size node) ≡ 0
+unfolding flags_in
+flags-fields_of base size node =
+    ap (little_number 4) (behind_size base size node) ∙ little_number-reads_back 4 0 (little_bytes 4 node) (omega arith)
+
+pub node-fields_of : (base size node : ℕ) → node < 2 ^ 32 → node_in (fields_of base size node) ≡ node
+unfolding node_in
+node-fields_of base size node small =
+    ap (little_number 4) (behind_flags base size node) ∙ little_number-reads_back 4 node [] small
+
+pub run_back : (r : RunOf Label) → FitsRecord r → run_in (spelling_of r) ≡ r
+run_back r fits =
+    let base = base-fields_of r.base r.size (node_field r.value) (omega (arith, fits.small)) in
+    let size = size-fields_of r.base r.size (node_field r.value) (omega (arith, fits.small)) in
+    let node = node-fields_of r.base r.size (node_field r.value) (omega (arith, fits.node)) in
+    rw (base, size, node) (ap (λ (l : Label). record { base = r.base; size = r.size; value = l }) fits.back)
+
+pub is_record : (r : RunOf Label) → FitsRecord r → IsRecord (spelling_of r)
+is_record r fits =
+    let base = base-fields_of r.base r.size (node_field r.value) (omega (arith, fits.small)) in
+    let size = size-fields_of r.base r.size (node_field r.value) (omega (arith, fits.small)) in
+    let node = node-fields_of r.base r.size (node_field r.value) (omega (arith, fits.node)) in
+    record { spells = rw (base, size, node) refl; within = omega (arith, base, size, fits.small); node = omega (arith, node, fits.node) }

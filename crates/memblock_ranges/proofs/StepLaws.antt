@@ -1,0 +1,50 @@
+-- Tables follow the items one by one.
+use Rattle.std.proofs.Common.{◌≡◌, ◌^◌, Option, Some, None, List, [], ◌∷◌, ◌++◌, sym, ◌∙◌, ap, subst}
+use Rattle.std.specs.Prelude.{unwrap_or}
+use Rattle.std.specs.Option.{option_map}
+use Rattle.address_runs.specs.Runs.{RunOf, value_at}
+use Rattle.address_runs.specs.Edits.{NothingFrom}
+use Rattle.run_edits.proofs.AmendLaws.{amended_ends}
+use Rattle.memblock_model.specs.declared.which.Which.{Which}
+use Rattle.memblock_model.specs.declared.which.Which.TheVariants as which
+use Rattle.memblock_model.specs.declared.item.Item.{Item}
+use Rattle.memblock_model.specs.declared.item.Item.TheVariants as item
+use Rattle.memblock_model.specs.Labels.{Label, Labels, plain_label, with_node}
+use Rattle.memblock_model.specs.Tables.{table_of, table_after, records_for, records_of}
+use Rattle.memblock_model.proofs.ItemLaws.{table_of-push}
+use Rattle.memblock_model.proofs.TableLaws.{records-edit, nothing-trimmed}
+use Rattle.memblock_ranges.specs.Steps.{EndsInSpace}
+
+pub edited-items : (w : Which) (items : List Item) (i : Item) (old new : List (RunOf Label)) → NothingFrom (2 ^ 64) (table_of w items) →
+    old ≡ records_of w items → new ≡ records_for (table_after w (value_at old) i) → new ≡ records_of w (items ++ i ∷ [])
+unfolding records_of
+edited-items w items i old new none was is =
+    records-edit (λ f. table_after w f i) (table_of w items) (table_of w (items ++ i ∷ [])) old new none was is (table_of-push w items i)
+
+pub untouched-items : (w : Which) (items : List Item) (i : Item) (old : List (RunOf Label)) → old ≡ records_of w items →
+    table_after w (table_of w items) i ≡ table_of w items → old ≡ records_of w (items ++ i ∷ [])
+unfolding records_of
+untouched-items w items i old was same = was ∙ ap records_for (sym (table_of-push w items i ∙ same))
+
+after_within : (w : Which) (f : Labels) (i : Item) → EndsInSpace i → NothingFrom (2 ^ 64) f → NothingFrom (2 ^ 64) (table_after w f i)
+after_within which.Memory f (item.Mem range) ends none =
+    amended_ends (λ carried. Some (unwrap_or carried plain_label)) range f (2 ^ 64) ends none
+after_within which.Memory f item.Trim ends none = nothing-trimmed (2 ^ 64) f none
+after_within which.Memory f (item.Node range node) ends none = amended_ends (option_map (with_node (Some node))) range f (2 ^ 64) ends none
+after_within which.Memory f (item.Claim range owner) ends none = none
+after_within which.Memory f (item.Free range) ends none = none
+after_within which.Memory f (item.Limit at) ends none = none
+after_within which.Memory f (item.Grown v place room) ends none = none
+after_within which.Reserved f (item.Mem range) ends none = none
+after_within which.Reserved f item.Trim ends none = none
+after_within which.Reserved f (item.Node range node) ends none = none
+after_within which.Reserved f (item.Claim range owner) ends none =
+    amended_ends (λ carried. Some (unwrap_or carried plain_label)) range f (2 ^ 64) ends none
+after_within which.Reserved f (item.Free range) ends none = amended_ends (λ (carried : Option Label). None) range f (2 ^ 64) ends none
+after_within which.Reserved f (item.Limit at) ends none = none
+after_within which.Reserved f (item.Grown v place room) ends none = none
+
+pub items-within : (w : Which) (items : List Item) (i : Item) → EndsInSpace i → NothingFrom (2 ^ 64) (table_of w items) →
+    NothingFrom (2 ^ 64) (table_of w (items ++ i ∷ []))
+items-within w items i ends none =
+    subst (λ (f : Labels). NothingFrom (2 ^ 64) f) (sym (table_of-push w items i)) (after_within w (table_of w items) i ends none)

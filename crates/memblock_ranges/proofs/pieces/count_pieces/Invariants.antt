@@ -1,0 +1,28 @@
+use Rattle.std.proofs.Common.{◌≡◌, ℕ, ◌-◌, ◌^◌, ◌<◌, ◌≤◌, Option, drop}
+use Rattle.std.specs.Prelude.{is_none}
+use Rattle.bm_base.specs.Extent.{end_of}
+use Rattle.address_runs.specs.Runs.{value_at}
+use Rattle.address_runs.specs.Edits.{bare}
+use Rattle.address_runs.specs.Sweep.{Stays, IsRestFrom, EndsFrom}
+use Rattle.run_edits.specs.Ends.{edges, total}
+use Rattle.memblock_model.specs.Labels.{Label, plain_label}
+use Rattle.memblock_model.specs.Same.{same_label}
+use Rattle.memblock_ranges.proofs.pieces.count_pieces.Given as goal
+
+-- the pieces that end below the address are counted
+abbrev pub invariant-loop-from : goal.invariant-loop-from
+invariant-loop-from g l =
+    let f : ℕ → Option Label = value_at (g.T.Rows.list l.table) in record {
+      first : l.range.base ≤ l.from;
+      last : l.from ≤ end_of l.range;
+      rest : IsRestFrom f l.from (drop l.read (g.T.Rows.list l.table));
+      here : l.bare ≡ is_none (f l.from);
+      stays : Stays f l.from l.next (f l.from);
+      ends : EndsFrom l.next (drop l.read (g.T.Rows.list l.table));
+      behind : l.from < 2 ^ 64 - 1 → l.from < l.next;
+      few : l.count ≤ l.from;
+      count : l.count ≡ total (edges same_label (bare l.range plain_label f)) 0 l.from;
+    }
+
+abbrev pub decreases-loop-from : goal.decreases-loop-from
+decreases-loop-from g l = l.until - l.from

@@ -1,0 +1,48 @@
+use Rattle.std.proofs.Common.{◌≡◌, ℕ, ◌-◌, Bool, ◌||◌, List, sym, ◌∙◌, ap, subst, arith}
+use Rattle.std.proofs.Math.Bool.{or-false}
+use Rattle.bm_base.specs.Extent.{Extent, covers, end_of}
+use Rattle.phys_store.specs.Bytes.{Piece, byte_of, is_ready}
+use Rattle.memblock_ranges.specs.declared.region.Head.{Head}
+use Rattle.memblock_ranges.specs.Tables.{bytes_by, table_by, AreTables}
+use Rattle.memblock_ranges.proofs.NewLaws.{first_head, new_tables, first_table}
+use Rattle.memblock_ranges.proofs.tables.Tables.new.Goals as goal
+
+pub invariant_of-result : goal.invariant_of-result
+invariant_of-result c =
+    let end : ℕ = end_of c.args.kernel in
+    let s = c.prepare-2.new.self in
+    let m : c.built_in.result ≡ first_head (end - 8192) = c.built_in.ensures.head in
+    let r : c.built_in-2.result ≡ first_head (end - 4096) = c.built_in-2.ensures.head in
+    let t = c.prepare.new.self in
+    let none = c.new-store.ensures in
+    let second : c.bytes-2.result ≡ bytes_by (first_head (end - 4096)) = c.bytes-2.ensures ∙ ap bytes_by r in
+    let first : c.bytes.result ≡ bytes_by (first_head (end - 8192)) = c.bytes.ensures ∙ ap bytes_by m in
+    let zeros : (x : ℕ) → byte_of s x ≡ 0 = λ x. c.prepare-2.ensures.bytes x ∙ c.prepare.ensures.bytes x
+    ∙ ap (λ (l : List Piece). byte_of l x) none in
+    let one : (x : ℕ) → is_ready t x ≡ covers (bytes_by (first_head (end - 8192))) x = λ x.
+    c.in_ok-prepare.ensures.ready x ∙ ap (λ (l : List Piece). covers c.bytes.result x || is_ready l x) none
+    ∙ or-false (covers c.bytes.result x) ∙ ap (λ (e : Extent). covers e x) first in
+    let two : (x : ℕ) → is_ready s x ≡ (covers (bytes_by (first_head (end - 4096))) x || covers (bytes_by (first_head (end - 8192))) x) =
+    λ x.
+    c.in_ok-prepare-2.ensures.ready x ∙ ap (λ (b : Bool). covers c.bytes-2.result x || b) (one x)
+    ∙ ap (λ (e : Extent). covers e x || covers (bytes_by (first_head (end - 8192))) x) second in
+    let known : AreTables s (first_head (end - 8192)) (first_head (end - 4096)) =
+    new_tables s end (omega (arith, c.requires)) c.built_in.ensures.small zeros two in
+    subst (λ (h : Head). AreTables s h c.built_in-2.result) (sym m)
+    (subst (λ (h : Head). AreTables s (first_head (end - 8192)) h) (sym r) known)
+
+pub returns-clause-memory : goal.returns-clause-memory
+returns-clause-memory c =
+    let end : ℕ = end_of c.args.kernel in
+    let s = c.prepare-2.new.self in
+    let m : c.built_in.result ≡ first_head (end - 8192) = c.built_in.ensures.head in
+    let r : c.built_in-2.result ≡ first_head (end - 4096) = c.built_in-2.ensures.head in
+    ap (table_by s) m ∙ first_table s (end - 8192)
+
+pub returns-clause-reserved : goal.returns-clause-reserved
+returns-clause-reserved c =
+    let end : ℕ = end_of c.args.kernel in
+    let s = c.prepare-2.new.self in
+    let m : c.built_in.result ≡ first_head (end - 8192) = c.built_in.ensures.head in
+    let r : c.built_in-2.result ≡ first_head (end - 4096) = c.built_in-2.ensures.head in
+    ap (table_by s) r ∙ first_table s (end - 4096)

@@ -1,0 +1,68 @@
+-- The record of a table as bytes (`struct memblock_region`), little-endian: base (u64 at 0), size (u64 at 8), flags (u32 at 16), node
+-- (u32 at 20), 24 bytes without padding. The flags are 0; the node 1,024 means no node (`MAX_NUMNODES`).
+use Rattle.std.specs.Prelude.{◌≡◌, ℕ, zero, suc, ◌+◌, ◌-◌, ◌*◌, ◌^◌, ◌<◌, ◌≤◌, ◌==◌, if◌then◌else◌, Some, List, [], ◌∷◌, ◌++◌, drop, replicate, unwrap_or}
+use Rattle.byteorder.specs.Endian.{little_number, little_bytes}
+use Rattle.phys_store.specs.Bytes.{bytes_at}
+use Rattle.address_runs.specs.Runs.{RunOf, run_end}
+use Rattle.memblock_model.specs.Labels.{Label, plain_label}
+use Rattle.memblock_ranges.specs.declared.region.Region.{Region}
+
+-- the numbers at the offsets of a record
+unfoldable pub base_in : List ℕ → ℕ
+base_in bs = little_number 8 bs
+
+unfoldable pub size_in : List ℕ → ℕ
+size_in bs = little_number 8 (drop 8 bs)
+
+unfoldable pub flags_in : List ℕ → ℕ
+flags_in bs = little_number 4 (drop 16 bs)
+
+unfoldable pub node_in : List ℕ → ℕ
+node_in bs = little_number 4 (drop 20 bs)
+
+-- the four numbers, whatever they are
+abbrev pub region_in : List ℕ → Region
+region_in bs = record { base = base_in bs; size = size_in bs; flags = flags_in bs; node = node_in bs }
+
+-- the bytes of a base, a size and a node, with no flag
+unfoldable pub fields_of : ℕ → ℕ → ℕ → List ℕ
+fields_of base size node = little_bytes 8 base ++ (little_bytes 8 size ++ (little_bytes 4 0 ++ little_bytes 4 node))
+
+-- the label that a node field stands for, and the node field of a label
+abbrev pub label_of : ℕ → Label
+label_of node = if node == 1024 then plain_label else record { node = Some node }
+
+abbrev pub node_field : Label → ℕ
+node_field label = unwrap_or label.node 1024
+
+-- the run that a record stands for, and the region and the bytes of a run
+abbrev pub run_in : List ℕ → RunOf Label
+run_in bs = record { base = base_in bs; size = size_in bs; value = label_of (node_in bs) }
+
+abbrev pub region_of : RunOf Label → Region
+region_of r = record { base = r.base; size = r.size; flags = 0; node = node_field r.value }
+
+abbrev pub spelling_of : RunOf Label → List ℕ
+spelling_of r = fields_of r.base r.size (node_field r.value)
+
+-- the runs of the n records from the address a on
+unfoldable pub records_at : (ℕ → ℕ) → ℕ → ℕ → List (RunOf Label)
+records_at f a zero = []
+records_at f a (suc n) = run_in (bytes_at f a 24) ∷ records_at f (a + 24) n
+
+-- the records of a table with room for n: the bytes of its runs, then zeros
+unfoldable pub spelled_table : List (RunOf Label) → ℕ → List ℕ
+spelled_table [] n = replicate (24 * n) 0
+spelled_table (r ∷ rs) n = spelling_of r ++ spelled_table rs (n - 1)
+
+-- the run can be written as a record, and is read back
+pub record FitsRecord (r : RunOf Label) : Type 0 where
+  pub small : run_end r < 2 ^ 64
+  pub node : node_field r.value ≤ 1024
+  pub back : label_of (node_field r.value) ≡ r.value
+
+-- the 24 bytes are those of a record: no flag, a node of at most 1,024, and an end in the address space
+pub record IsRecord (bs : List ℕ) : Type 0 where
+  pub spells : bs ≡ fields_of (base_in bs) (size_in bs) (node_in bs)
+  pub within : base_in bs + size_in bs < 2 ^ 64
+  pub node : node_in bs ≤ 1024

@@ -1,0 +1,145 @@
+-- A table in the bytes that it describes, and both of them.
+use Rattle.std.specs.Prelude.{◌≡◌, ℕ, ◌+◌, ◌*◌, ◌^◌, ◌<◌, ◌≤◌, Bool, true, false, ◌&&◌, nat_le, nat_lt, if◌then◌else◌, Some, List, length, get_or, IsTrue}
+use Rattle.bm_base.specs.Extent.{Extent, covers, Meet}
+use Rattle.phys_store.specs.Bytes.{Piece, byte_of, is_ready, AreReady, bytes_at}
+use Rattle.address_runs.specs.Runs.{RunOf, AreRuns, value_at}
+use Rattle.address_runs.specs.Edits.{NothingFrom}
+use Rattle.memblock_model.specs.Labels.{Label, plain_label}
+use Rattle.memblock_model.specs.declared.which.Which.{Which}
+use Rattle.memblock_model.specs.declared.which.Which.TheVariants as which
+use Rattle.memblock_ranges.specs.Spelling.{IsRecord, region_in, region_of, records_at, spelled_table}
+use Rattle.memblock_ranges.specs.declared.region.Head.{Head}
+
+-- at `place` stands a table with room for so many records, of which the first `count` are there: all its bytes are prepared, its
+-- records are records, and behind them it is zeros (`struct memblock_type`)
+pub record IsTable (f : ℕ → ℕ) (ready : ℕ → Bool) (place room count : ℕ) : Type 0 where
+  pub few : count ≤ room
+  pub fits : place + 24 * room < 2 ^ 64
+  pub records : (i : ℕ) → i < count → IsRecord (bytes_at f (place + 24 * i) 24)
+  pub zeros : (x : ℕ) → place + 24 * count ≤ x → x < place + 24 * room → f x ≡ 0
+  pub prepared : (x : ℕ) → place ≤ x → x < place + 24 * room → IsTrue (ready x)
+
+-- the bytes beside the table, and 0 in it
+abbrev pub outside : (ℕ → ℕ) → ℕ → ℕ → ℕ → ℕ
+outside f place room x = if nat_le place x && nat_lt x (place + 24 * room) then 0 else f x
+
+-- what an edit of a table's records leaves as it is: where it lies and its room, the bytes beside it, and what is prepared
+pub record Kept : Type 0 where
+  pub place : ℕ
+  pub room : ℕ
+  pub others : ℕ → ℕ
+  pub ready : ℕ → Bool
+
+abbrev pub kept_of : List Piece → Head → Kept
+kept_of s h = record { place = h.place; room = h.room; others = outside (byte_of s) h.place h.room; ready = is_ready s }
+
+-- the table of a head in a store
+abbrev pub list_in : List Piece → Head → List (RunOf Label)
+list_in s h = records_at (byte_of s) h.place h.count
+
+abbrev pub HasTable : List Piece → Head → Type 0
+HasTable s h = IsTable (byte_of s) (is_ready s) h.place h.room h.count
+
+-- the head's table has other records then, and all else is as it was
+pub record Edits (s t : List Piece) (g h : Head) (list : List (RunOf Label)) : Type 0 where
+  pub list_is : list_in t h ≡ list
+  pub table : HasTable t h
+  pub place_is : h.place ≡ g.place
+  pub room_is : h.room ≡ g.room
+  pub others : outside (byte_of t) g.place g.room ≡ outside (byte_of s) g.place g.room
+  pub ready : is_ready t ≡ is_ready s
+
+-- records in order, none empty, no two that could be one, and none passes the end of addresses
+pub record AreRecords (rs : List (RunOf Label)) : Type 0 where
+  pub runs : AreRuns rs
+  pub within : NothingFrom (2 ^ 64) (value_at rs)
+
+-- a table as contracts see it: its records as runs, where it lies, and how many records it has room for
+pub record Table : Type 0 where
+  pub records : List (RunOf Label)
+  pub place : ℕ
+  pub room : ℕ
+
+-- both tables, and the store in which they lie
+pub record Contents : Type 0 where
+  pub memory : Table
+  pub reserved : Table
+  pub store : List Piece
+
+abbrev pub table_in : Which → Contents → Table
+table_in which.Memory t = t.memory
+table_in which.Reserved t = t.reserved
+
+abbrev pub other_in : Which → Contents → Table
+other_in which.Memory t = t.reserved
+other_in which.Reserved t = t.memory
+
+abbrev pub records_in : Which → Contents → List (RunOf Label)
+records_in w t = (table_in w t).records
+
+abbrev pub place_in : Which → Contents → ℕ
+place_in w t = (table_in w t).place
+
+abbrev pub room_in : Which → Contents → ℕ
+room_in w t = (table_in w t).room
+
+-- the bytes of a table: 24 for each record that there is room for
+abbrev pub bytes_of : Table → Extent
+bytes_of t = record { base = t.place; size = 24 * t.room }
+
+abbrev pub bytes_in : Which → Contents → Extent
+bytes_in w t = bytes_of (table_in w t)
+
+-- some address of the range belongs to a table
+abbrev pub Overlaps : Contents → Extent → Type 0
+Overlaps t r = (w : Which) × Meet (bytes_in w t) r
+
+-- where a table lies and how full it is
+abbrev pub head_of : Table → Head
+head_of t = record { place = t.place; room = t.room; count = length t.records }
+
+-- the table lies in the store: its records are in order and fit, the bytes at its place are those of the records and then zeros, so that
+-- each record is read from its 24 bytes, and all of them are prepared
+pub record StandsIn (t : Table) (store : List Piece) : Type 0 where
+  pub few : length t.records ≤ t.room
+  pub fits : t.place + 24 * t.room < 2 ^ 64
+  pub records : AreRecords t.records
+  pub bytes : bytes_at (byte_of store) t.place (24 * t.room) ≡ spelled_table t.records t.room
+  pub regions : (i : ℕ) (r : RunOf Label) → i < length t.records →
+      region_in (bytes_at (byte_of store) (t.place + 24 * i) 24) ≡ region_of (get_or t.records i r)
+  pub prepared : AreReady store t.place (24 * t.room)
+
+-- which nodes a record of a table may have: the reserved table's have none (`memblock_add_range` with `MAX_NUMNODES`)
+abbrev pub IsNodeOf : Which → ℕ → Type 0
+IsNodeOf which.Memory node = node ≤ 1024
+IsNodeOf which.Reserved node = node ≡ 1024
+
+-- no record has a node
+abbrev pub HaveNoNode : List (RunOf Label) → Type 0
+HaveNoNode rs = (x : ℕ) (label : Label) → value_at rs x ≡ Some label → label ≡ plain_label
+
+-- the table of a head, as contracts see it
+abbrev pub table_by : List Piece → Head → Table
+table_by s h = record { records = list_in s h; place = h.place; room = h.room }
+
+abbrev pub bytes_by : Head → Extent
+bytes_by h = record { base = h.place; size = 24 * h.room }
+
+-- two heads in one store: both tables stand there, in order, and have no byte in common
+pub record AreTables (s : List Piece) (m r : Head) : Type 0 where
+  pub memory : HasTable s m
+  pub reserved : HasTable s r
+  pub apart : ¬ Meet (bytes_by m) (bytes_by r)
+  pub memory_records : AreRecords (list_in s m)
+  pub reserved_records : AreRecords (list_in s r)
+  pub plain : HaveNoNode (list_in s r)
+
+-- the head's table lies at another place then, with twice the room; what it left is zeros, and nothing else changed
+pub record Moves (s t : List Piece) (g h : Head) (place : ℕ) : Type 0 where
+  pub list_is : list_in t h ≡ list_in s g
+  pub table : HasTable t h
+  pub place_is : h.place ≡ place
+  pub room_is : h.room ≡ 2 * g.room
+  pub left : (x : ℕ) → covers (bytes_by g) x ≡ true → byte_of t x ≡ 0
+  pub elsewhere : (x : ℕ) → covers (bytes_by h) x ≡ false → covers (bytes_by g) x ≡ false → byte_of t x ≡ byte_of s x
+  pub ready : (x : ℕ) → is_ready t x ≡ is_ready s x

@@ -1,0 +1,76 @@
+//! The edits of one table, whatever its slots are: each is a change of what one address carries, handed to
+//! the sweep of `run_edits`, with the room that it needs.
+ghost use Rattle.std.specs.Prelude.{◌≡◌, ◌+◌, ◌<◌, ◌≤◌, Some, length};
+ghost use Rattle.std.specs.Option.{option_map};
+ghost use Rattle.address_runs.specs.Runs.{value_at};
+ghost use Rattle.address_runs.specs.Edits.{covered, uncovered, relabelled};
+ghost use Rattle.memblock_model.specs.Labels.{with_node};
+ghost use Rattle.memblock_model.specs.Tables.{records_for, pieces};
+ghost use Rattle.memblock_ranges.specs.Tables.{AreRecords};
+
+use crate::record::Record;
+use bm_base::Range;
+use memblock_model::Label;
+use run_edits::{Change, Cover, Slots, Uncover, amend, rewrite};
+
+/// What carries a label gets the node; what carries nothing stays so (`memblock_set_node`).
+#[derive(Clone, Copy)]
+struct SetNode {
+    node: u32,
+    ghost small: { node < 1024 },
+}
+
+impl Change<Label> for SetNode {
+    ghost makes = { λ c carried. option_map (with_node (Some c.node)) carried };
+
+    fn apply(self, carried: Option<Label>) -> Option<Label>
+        ensures { result ≡ option_map (with_node (Some self.node)) carried }
+    {
+        match carried {
+            Some(label) => Some(label.with_node(self.node)),
+            None => None,
+        }
+    }
+}
+
+/// The bytes of the range that aren't covered get the label.
+pub fn cover<T: Slots<Record>>(table: &mut T, range: &Range, label: Label)
+    requires some { 0 < range.now.size }
+    requires records { AreRecords (T.list table.old) }
+    requires room { length (T.list table.old) + pieces range.now (value_at (T.list table.old)) ≤ T.room table.old }
+    ensures list { T.list table.new ≡ records_for (covered range.now label (value_at (T.list table.old))) }
+    ensures records { AreRecords (T.list table.new) }
+    ensures keeps { T.keeps table.old table.new }
+{
+    let _end = range.end();
+    rewrite(table, range, Cover(label));
+}
+
+/// The bytes of the range aren't covered any more.
+pub fn uncover<T: Slots<Record>>(table: &mut T, range: &Range)
+    requires records { AreRecords (T.list table.old) }
+    requires room { length (T.list table.old) + 2 ≤ T.room table.old }
+    ensures list { T.list table.new ≡ records_for (uncovered range.now (value_at (T.list table.old))) }
+    ensures records { AreRecords (T.list table.new) }
+    ensures keeps { T.keeps table.old table.new }
+{
+    if range.size == 0 {
+        return;
+    }
+    amend(table, range, Uncover);
+}
+
+/// The covered bytes of the range get the node.
+pub fn set_node<T: Slots<Record>>(table: &mut T, range: &Range, node: u32)
+    requires node { node < 1024 }
+    requires records { AreRecords (T.list table.old) }
+    requires room { length (T.list table.old) + 2 ≤ T.room table.old }
+    ensures list { T.list table.new ≡ records_for (relabelled range.now (with_node (Some node)) (value_at (T.list table.old))) }
+    ensures records { AreRecords (T.list table.new) }
+    ensures keeps { T.keeps table.old table.new }
+{
+    if range.size == 0 {
+        return;
+    }
+    amend(table, range, SetNode { node });
+}

@@ -1,0 +1,48 @@
+//! What the layer above needs beside the calls: how many records an edit may add, and that tables which are
+//! those of a list of items stay so when the edit of one more item is carried out.
+ghost use Rattle.std.specs.Prelude.{◌≡◌, ℕ, ◌+◌, ◌^◌, ◌<◌, ◌≤◌, None, List, [], ◌∷◌, ◌++◌, length};
+ghost use Rattle.bm_base.specs.Extent.{Extent, end_of};
+ghost use Rattle.address_runs.specs.Runs.{RunOf, value_at};
+ghost use Rattle.address_runs.specs.Edits.{covered, uncovered, relabelled, NothingFrom};
+ghost use Rattle.memblock_model.specs.declared.which.Which.{Which};
+ghost use Rattle.memblock_model.specs.declared.item.Item.{Item};
+ghost use Rattle.memblock_model.specs.Labels.{Label, Labels};
+ghost use Rattle.memblock_model.specs.Items.{trimmed};
+ghost use Rattle.memblock_model.specs.Tables.{table_of, table_after, records_for, records_of, pieces};
+ghost use Rattle.memblock_ranges.specs.Steps.{EndsInSpace};
+
+/// A law: to cover a range adds at most as many records as it has pieces that aren't covered
+/// (`memblock_add_range`, its count), to uncover one adds one, to give it a node two
+/// (`memblock_isolate_range`), and to trim none.
+pub fn edits_add_few_records()
+    ensures covered { (r : Extent) (label : Label) (f : Labels) → end_of r ≤ 2 ^ 64 → NothingFrom (2 ^ 64) f →
+        length (records_for (covered r label f)) ≤ length (records_for f) + pieces r f }
+    ensures uncovered { (r : Extent) (f : Labels) → NothingFrom (2 ^ 64) f →
+        length (records_for (uncovered r f)) ≤ length (records_for f) + 1 }
+    ensures relabelled { (r : Extent) (change : Label → Label) (f : Labels) → NothingFrom (2 ^ 64) f →
+        length (records_for (relabelled r change f)) ≤ length (records_for f) + 2 }
+    ensures trimmed { (f : Labels) → NothingFrom (2 ^ 64) f →
+        length (records_for (trimmed f)) ≤ length (records_for f) }
+{}
+
+/// A law: a range has at most one piece more than there are records, and one piece where nothing of it
+/// is covered.
+pub fn pieces_are_few()
+    ensures few { (r : Extent) (f : Labels) → end_of r ≤ 2 ^ 64 → NothingFrom (2 ^ 64) f →
+        pieces r f ≤ length (records_for f) + 1 }
+    ensures one { (r : Extent) (f : Labels) → end_of r ≤ 2 ^ 64 → 0 < r.size →
+        ((x : ℕ) → r.base ≤ x → x < end_of r → f x ≡ None) → pieces r f ≡ 1 }
+{}
+
+/// A law: where a table has the records of a list of items, and then what an item makes of them, it has
+/// the records of the list with the item; and where the item changes nothing of it, the records stay.
+pub fn edits_follow_the_items()
+    ensures edited { (w : Which) (items : List Item) (i : Item) (old new : List (RunOf Label)) →
+        NothingFrom (2 ^ 64) (table_of w items) → old ≡ records_of w items →
+        new ≡ records_for (table_after w (value_at old) i) → new ≡ records_of w (items ++ i ∷ []) }
+    ensures untouched { (w : Which) (items : List Item) (i : Item) (old : List (RunOf Label)) →
+        old ≡ records_of w items → table_after w (table_of w items) i ≡ table_of w items →
+        old ≡ records_of w (items ++ i ∷ []) }
+    ensures within { (w : Which) (items : List Item) (i : Item) → EndsInSpace i →
+        NothingFrom (2 ^ 64) (table_of w items) → NothingFrom (2 ^ 64) (table_of w (items ++ i ∷ [])) }
+{}

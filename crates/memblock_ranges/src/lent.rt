@@ -1,0 +1,137 @@
+//! The calls on one table of a store, for the time that store and head are lent: what each makes of its
+//! records, and that nothing else in the store changes.
+ghost use Rattle.std.specs.Prelude.{◌≡◌, ◌+◌, ◌*◌, ◌^◌, ◌<◌, ◌≤◌, Some, length, get_or};
+ghost use Rattle.bm_base.specs.Extent.{Meet};
+ghost use Rattle.phys_store.specs.Bytes.{AreReady};
+ghost use Rattle.address_runs.specs.Runs.{RunOf, value_at};
+ghost use Rattle.address_runs.specs.Edits.{covered, uncovered, relabelled};
+ghost use Rattle.memblock_model.specs.Labels.{Label as AnyLabel, with_node};
+ghost use Rattle.memblock_model.specs.Items.{trimmed};
+ghost use Rattle.memblock_model.specs.Tables.{records_for, pieces};
+ghost use Rattle.memblock_ranges.specs.Spelling.{region_of};
+ghost use Rattle.memblock_ranges.specs.Tables.{HasTable, list_in, bytes_by, Edits, Moves, AreRecords};
+
+use crate::live::{Live, Seen};
+use crate::pieces::count_pieces;
+use crate::record::region_of;
+use crate::region::{Head, RECORD_SIZE, Region};
+use crate::{edits, trim};
+use bm_base::Range;
+use memblock_model::Label;
+use phys_store::Store;
+use run_edits::Rows;
+
+/// The bytes of the range that the head's table doesn't cover get the label.
+pub fn cover(store: &mut Store, head: &mut Head, range: &Range, label: Label)
+    requires table { HasTable store.old head.old }
+    requires records { AreRecords (list_in store.old head.old) }
+    requires some { 0 < range.now.size }
+    requires room { length (list_in store.old head.old) + pieces range.now (value_at (list_in store.old head.old)) ≤ head.old.room }
+    ensures records { AreRecords (list_in store.new head.new) }
+    ensures edits { Edits store.old store.new head.old head.new
+        (records_for (covered range.now label (value_at (list_in store.old head.old)))) }
+{
+    let mut live = Live { store, head };
+    edits::cover(&mut live, range, label);
+}
+
+/// The head's table doesn't cover the bytes of the range any more.
+pub fn uncover(store: &mut Store, head: &mut Head, range: &Range)
+    requires table { HasTable store.old head.old }
+    requires records { AreRecords (list_in store.old head.old) }
+    requires room { length (list_in store.old head.old) + 2 ≤ head.old.room }
+    ensures records { AreRecords (list_in store.new head.new) }
+    ensures edits { Edits store.old store.new head.old head.new
+        (records_for (uncovered range.now (value_at (list_in store.old head.old)))) }
+{
+    let mut live = Live { store, head };
+    edits::uncover(&mut live, range);
+}
+
+/// The bytes of the range that the head's table covers get the node.
+pub fn set_node(store: &mut Store, head: &mut Head, range: &Range, node: u32)
+    requires table { HasTable store.old head.old }
+    requires records { AreRecords (list_in store.old head.old) }
+    requires node { node < 1024 }
+    requires room { length (list_in store.old head.old) + 2 ≤ head.old.room }
+    ensures records { AreRecords (list_in store.new head.new) }
+    ensures edits { Edits store.old store.new head.old head.new
+        (records_for (relabelled range.now (with_node (Some node)) (value_at (list_in store.old head.old)))) }
+{
+    let mut live = Live { store, head };
+    edits::set_node(&mut live, range, node);
+}
+
+/// The head's table is cut to whole frames.
+pub fn trim(store: &mut Store, head: &mut Head)
+    requires table { HasTable store.old head.old }
+    requires records { AreRecords (list_in store.old head.old) }
+    ensures records { AreRecords (list_in store.new head.new) }
+    ensures edits { Edits store.old store.new head.old head.new
+        (records_for (trimmed (value_at (list_in store.old head.old)))) }
+{
+    let mut live = Live { store, head };
+    trim::trim(&mut live);
+}
+
+/// The head's table moves to the place, with twice the room, and leaves zeros.
+pub fn relocate(store: &mut Store, head: &mut Head, place: u64)
+    requires table { HasTable store.old head.old }
+    requires small { place + 48 * head.old.room < 2 ^ 64 }
+    requires prepared { AreReady store.old place (48 * head.old.room) }
+    requires apart { ¬ Meet (bytes_by head.old) (record { base = place; size = 48 * head.old.room }) }
+    ensures { Moves store.old store.new head.old head.new place }
+{
+    let Head {
+        place: old,
+        room,
+        count,
+    } = *head;
+    let used = RECORD_SIZE * count;
+    store.copy(old, place, used);
+    let free = Range {
+        base: place + used,
+        size: 2 * RECORD_SIZE * room - used,
+    };
+    store.fill(free, 0);
+    let left = Range {
+        base: old,
+        size: RECORD_SIZE * room,
+    };
+    store.fill(left, 0);
+    *head = Head {
+        place,
+        room: 2 * room,
+        count,
+    };
+}
+
+/// How many runs there are of the range's bytes that the head's table doesn't cover.
+pub fn pieces(store: &Store, head: &Head, range: &Range) -> u64
+    requires table { HasTable store.now head.now }
+    requires records { AreRecords (list_in store.now head.now) }
+    ensures { result ≡ pieces range.now (value_at (list_in store.now head.now)) }
+{
+    count_pieces(&Seen { store, head }, range)
+}
+
+/// The record at the index, as callers see it.
+pub fn region(store: &Store, head: &Head, i: u64) -> Region
+    requires table { HasTable store.now head.now }
+    requires within { i < length (list_in store.now head.now) }
+    ensures { (r : RunOf AnyLabel) → result ≡ region_of (get_or (list_in store.now head.now) i r) }
+{
+    let seen = Seen { store, head };
+    region_of(&seen.get(i))
+}
+
+/// The bytes of the head's table.
+pub fn bytes(head: &Head) -> Range
+    requires { head.now.place + 24 * head.now.room < 2 ^ 64 }
+    ensures { result ≡ bytes_by head.now }
+{
+    Range {
+        base: head.place,
+        size: RECORD_SIZE * head.room,
+    }
+}

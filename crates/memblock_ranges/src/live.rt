@@ -1,0 +1,112 @@
+//! A table in its bytes as slots for records: where the sweep of `run_edits` meets the store. The fact that
+//! a table stands at the head's place is lent with it, and holds again after each step.
+ghost use Rattle.std.specs.Prelude.{◌≡◌, ◌≤◌, ◌<◌, refl};
+ghost use Rattle.std.proofs.Props.{props};
+ghost use Rattle.phys_store.specs.Bytes.{byte_of, is_ready};
+ghost use Rattle.memblock_ranges.specs.Tables.{IsTable};
+
+use crate::record::{Record, read_record, spell};
+use crate::region::{Head, RECORD_SIZE};
+use bm_base::Range;
+use phys_store::Store;
+use run_edits::{Rows, Slots};
+
+/// A table in the bytes that it describes, lent to be read.
+#[derive(Clone, Copy)]
+pub struct Seen<'a> {
+    pub store: &'a Store,
+    pub head: &'a Head,
+    ghost table: { IsTable (byte_of store.now) (is_ready store.now) head.now.place head.now.room head.now.count } by { Prim.hlevel props },
+}
+
+/// A table in the bytes that it describes, lent to be edited.
+#[derive(Drop)]
+pub struct Live<'a> {
+    pub store: &'a mut Store,
+    pub head: &'a mut Head,
+    ghost table: { IsTable (byte_of store.now) (is_ready store.now) head.now.place head.now.room head.now.count } by { Prim.hlevel props },
+}
+
+impl Rows<Record> for Seen<'_> {
+    ghost use Rattle.phys_store.specs.Bytes.{byte_of};
+    ghost use Rattle.memblock_ranges.specs.Spelling.{records_at};
+
+    ghost list = { λ l. records_at (byte_of l.store.now) l.head.now.place l.head.now.count };
+
+    fn count(&self) -> u64 {
+        self.head.count
+    }
+
+    fn get(&self, i: u64) -> Record {
+        read_record(
+            self.store
+                .slice(self.head.place + RECORD_SIZE * i, RECORD_SIZE),
+        )
+    }
+}
+
+impl Rows<Record> for Live<'_> {
+    ghost use Rattle.phys_store.specs.Bytes.{byte_of};
+    ghost use Rattle.memblock_ranges.specs.Spelling.{records_at};
+
+    ghost list = { λ l. records_at (byte_of l.store.now) l.head.now.place l.head.now.count };
+
+    fn count(&self) -> u64 {
+        self.head.count
+    }
+
+    fn get(&self, i: u64) -> Record {
+        read_record(
+            self.store
+                .slice(self.head.place + RECORD_SIZE * i, RECORD_SIZE),
+        )
+    }
+}
+
+impl Slots<Record> for Live<'_> {
+    ghost use Rattle.std.specs.Prelude.{◌≡◌, ◌≤◌, List, [], ◌∷◌, ℕ};
+    ghost use Rattle.std.proofs.Common.{refl, sym, ◌∙◌, subst, ap};
+    ghost use Rattle.memblock_ranges.specs.Tables.{Kept, kept_of};
+
+    ghost room = { λ l. l.head.now.room };
+
+    ghost keeps = { λ l m. (m.store.ghost_name ≡ l.store.ghost_name) × (m.head.ghost_name ≡ l.head.ghost_name)
+        × (kept_of m.store.now m.head.now ≡ kept_of l.store.now l.head.now) };
+
+    fn put(&mut self, i: u64, item: Record) {
+        self.store
+            .write(self.head.place + RECORD_SIZE * i, &spell(&item));
+    }
+
+    fn insert(&mut self, i: u64, item: Record) {
+        let at = self.head.place + RECORD_SIZE * i;
+        let rest = RECORD_SIZE * (self.head.count - i);
+        self.store.move_bytes(at, at + RECORD_SIZE, rest);
+        self.store.write(at, &spell(&item));
+        self.head.count += 1;
+    }
+
+    fn close(&mut self, i: u64, n: u64) {
+        if n == 0 {
+            return;
+        }
+        let Head { place, count, .. } = *self.head;
+        self.store.move_bytes(
+            place + RECORD_SIZE * (i + n),
+            place + RECORD_SIZE * i,
+            RECORD_SIZE * (count - (i + n)),
+        );
+        let freed = Range {
+            base: place + RECORD_SIZE * (count - n),
+            size: RECORD_SIZE * n,
+        };
+        self.store.fill(freed, 0);
+        self.head.count = count - n;
+    }
+
+    ghost keeps_itself = { λ l. (refl, refl, refl) };
+
+    ghost keeps_on = { λ l m n first second. (second.0 ∙ first.0, second.1 ∙ first.1, second.2 ∙ first.2) };
+
+    ghost keeps_room = { λ l m kept k few. subst (λ (o : Kept). k ≤ o.room) (sym kept.2) few };
+}

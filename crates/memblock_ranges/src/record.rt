@@ -1,0 +1,136 @@
+//! A record as an edit sees it, a run of addresses that carry one label, and its bytes: here bytes become
+//! records and records bytes, and nowhere else.
+ghost use Rattle.std.specs.Prelude.{◌≡◌, ◌+◌, ◌^◌, ◌<◌, ◌≤◌, length};
+ghost use Rattle.memblock_ranges.specs.Spelling.{fields_of, label_of, node_field, run_in, spelling_of, region_of, FitsRecord, IsRecord};
+
+use crate::region::{RECORD_SIZE, Region, read_region};
+use address_runs::Stretch;
+use bm_base::Range;
+use byteorder::{ByteOrder, LittleEndian};
+use memblock_model::Label;
+use std::marker::Model;
+
+/// The node of a record that has none.
+pub const NO_NODE: u32 = 1024;
+
+/// A record as an edit sees it: a run of addresses that carry one label.
+#[derive(Clone, Copy)]
+pub struct Record {
+    range: Range,
+    label: Label,
+}
+
+impl Model for Record {
+    ghost use Rattle.std.specs.Prelude.{◌+◌, ◌^◌, ◌<◌};
+    ghost use Rattle.address_runs.specs.Runs.{RunOf};
+    ghost use Rattle.memblock_model.specs.Labels.{Label as AnyLabel};
+
+    ghost Value = { RunOf AnyLabel };
+
+    ghost view = { λ r. record { base = r.range.base; size = r.range.size; value = r.label } };
+
+    ghost invariant = { λ r. r.range.base + r.range.size < 2 ^ 64 };
+
+    ghost inverse = { λ r. record { range = record { base = r.base; size = r.size }; label = r.value } };
+}
+
+impl Stretch for Record {
+    type Value = Label;
+
+    ghost run = { λ r. r };
+
+    fn of(range: Range, value: Label) -> Record {
+        Record {
+            range,
+            label: value,
+        }
+    }
+
+    fn range(&self) -> Range {
+        self.range
+    }
+
+    fn value(&self) -> Label {
+        self.label
+    }
+
+    fn is_same(first: Label, second: Label) -> bool {
+        first == second
+    }
+}
+
+/// The label of that node; 1,024 means none.
+pub fn label_of(node: u32) -> Label
+    requires { node ≤ 1024 }
+    ensures { result ≡ label_of node }
+{
+    if node == NO_NODE {
+        Label::plain()
+    } else {
+        Label { node: Some(node) }
+    }
+}
+
+/// The node field of a label.
+fn node_field(label: Label) -> u32
+    ensures value { result ≡ node_field label }
+    ensures most { result ≤ 1024 }
+    ensures back { label_of result ≡ label }
+{
+    match label.node {
+        Some(node) => node,
+        None => NO_NODE,
+    }
+}
+
+/// The record that the 24 bytes spell.
+pub fn read_record(bytes: &[u8]) -> Record
+    requires long { length bytes.now ≡ 24 }
+    requires record { IsRecord bytes.now }
+    ensures { result ≡ run_in bytes.now }
+{
+    let region = read_region(bytes);
+    Record {
+        range: Range {
+            base: region.base,
+            size: region.size,
+        },
+        label: label_of(region.node),
+    }
+}
+
+/// The bytes of a base, a size and a node.
+#[tactic(auto, unfolding(crate::specs::Spelling::fields_of))]
+fn write_fields(base: u64, size: u64, node: u32) -> [u8; 24]
+    ensures { result ≡ fields_of base size node }
+{
+    let mut bytes = [0; RECORD_SIZE as usize];
+    LittleEndian::write_u64(&mut bytes, base);
+    LittleEndian::write_u64(&mut bytes[8..], size);
+    LittleEndian::write_u32(&mut bytes[20..], node);
+    bytes
+}
+
+/// The bytes of a record, which can be read back.
+pub fn spell(record: &Record) -> [u8; 24]
+    ensures bytes { result ≡ spelling_of record.now }
+    ensures fits { FitsRecord record.now }
+{
+    write_fields(
+        record.range.base,
+        record.range.size,
+        node_field(record.label),
+    )
+}
+
+/// The record as callers see it.
+pub fn region_of(record: &Record) -> Region
+    ensures { result ≡ region_of record.now }
+{
+    Region {
+        base: record.range.base,
+        size: record.range.size,
+        flags: 0,
+        node: node_field(record.label),
+    }
+}

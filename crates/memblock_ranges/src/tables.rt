@@ -1,0 +1,265 @@
+//! Both tables in one store. Each call is that of one table; what is argued here is that the other stays.
+ghost use Rattle.std.specs.Prelude.{◌≡◌, ℕ, ◌+◌, ◌-◌, ◌*◌, ◌^◌, ◌<◌, ◌≤◌, ◌↔◌, ◌||◌, Bool, true, false, Some, [], length, get_or, OnOk, OnErr, IfOk, IsTrue};
+ghost use Rattle.bm_base.specs.Extent.{covers, end_of, Meet};
+ghost use Rattle.phys_store.specs.Bytes.{byte_of, is_ready, AreReady, Wrote, bytes_at};
+ghost use Rattle.address_runs.specs.Runs.{RunOf, value_at};
+ghost use Rattle.address_runs.specs.Edits.{covered, uncovered, relabelled};
+ghost use Rattle.memblock_model.specs.declared.which.Which.{Which as AnyWhich};
+ghost use Rattle.memblock_model.specs.declared.which.Which.TheVariants as which;
+ghost use Rattle.memblock_model.specs.Labels.{Label as AnyLabel, with_node};
+ghost use Rattle.memblock_model.specs.Items.{trimmed};
+ghost use Rattle.memblock_model.specs.Tables.{records_for, pieces, built_in};
+ghost use Rattle.memblock_ranges.specs.Spelling.{label_of, region_of};
+ghost use Rattle.memblock_ranges.specs.Tables.{table_in, other_in, records_in, place_in, room_in, bytes_of, bytes_in, head_of, Overlaps, StandsIn, IsNodeOf, HaveNoNode};
+
+use crate::lent;
+use crate::record::label_of;
+use crate::region::{Head, Heads, Region};
+use bm_base::{FRAME_SIZE, Memory, Range};
+use memblock_model::Which;
+use phys_store::Store;
+use std::alloc::Global;
+use std::marker::Model;
+
+#[cfg(test)]
+mod tests;
+
+/// The records that a table has room for at first (`INIT_MEMBLOCK_REGIONS`).
+const FIRST_ROOM: u64 = 128;
+
+/// Both tables, in the bytes of the memory that they describe.
+#[derive(Debug, Drop)]
+pub struct Tables {
+    store: Store,
+    heads: Heads,
+}
+
+impl Model for Tables {
+    ghost use Rattle.memblock_ranges.specs.Tables.{Contents, table_by, AreTables};
+
+    ghost Value = { Contents };
+
+    ghost view = { λ t. record {
+      memory = table_by t.store t.heads.memory;
+      reserved = table_by t.store t.heads.reserved;
+      store = t.store;
+    } };
+
+    ghost invariant = { λ t. AreTables t.store t.heads.memory t.heads.reserved };
+}
+
+impl Tables {
+    /// Both tables empty, in the last two frames of the kernel's image, which is at least 8,192 bytes
+    /// long. Their bytes are prepared.
+    pub fn new(alloc: Global, kernel: Range) -> Result<Tables, Memory>
+        requires { 8192 ≤ kernel.size }
+        ensures memory { IfOk result (λ t. t.memory ≡ record { records = []; place = built_in which.Memory kernel; room = 128 }) }
+        ensures reserved { IfOk result (λ t. t.reserved ≡ record { records = []; place = built_in which.Reserved kernel; room = 128 }) }
+        ensures bytes { IfOk result (λ t. (x : ℕ) → byte_of t.store x ≡ 0) }
+        ensures ready { IfOk result (λ t. (x : ℕ) →
+            is_ready t.store x ≡ (covers (bytes_in which.Reserved t) x || covers (bytes_in which.Memory t) x)) }
+    {
+        let heads = Heads {
+            memory: built_in(kernel, 2),
+            reserved: built_in(kernel, 1),
+        };
+        let mut store = Store::new(alloc);
+        store.prepare(lent::bytes(&heads.memory))?;
+        store.prepare(lent::bytes(&heads.reserved))?;
+        Ok(Tables { store, heads })
+    }
+
+    /// Where the table lies, and how full it is.
+    pub fn head(&self, which: Which) -> Head
+        ensures head { result ≡ head_of (table_in which self.now) }
+        ensures table { StandsIn (table_in which self.now) self.now.store }
+        ensures apart { ¬ Meet (bytes_of self.now.memory) (bytes_of self.now.reserved) }
+        ensures plain { HaveNoNode self.now.reserved.records }
+    {
+        match which {
+            Which::Memory => self.heads.memory,
+            Which::Reserved => self.heads.reserved,
+        }
+    }
+
+    /// The record of that index, from 0, which is below the table's count.
+    pub fn region(&self, which: Which, i: u64) -> Region
+        requires { i < length (records_in which self.now) }
+        ensures { (r : RunOf AnyLabel) → result ≡ region_of (get_or (records_in which self.now) i r) }
+    {
+        match which {
+            Which::Memory => lent::region(&self.store, &self.heads.memory, i),
+            Which::Reserved => lent::region(&self.store, &self.heads.reserved, i),
+        }
+    }
+
+    /// How many runs there are of the range's bytes that the table doesn't cover: covering the range adds
+    /// so many records at most.
+    pub fn pieces(&self, which: Which, range: Range) -> u64
+        ensures { result ≡ pieces range (value_at (records_in which self.now)) }
+    {
+        match which {
+            Which::Memory => lent::pieces(&self.store, &self.heads.memory, &range),
+            Which::Reserved => lent::pieces(&self.store, &self.heads.reserved, &range),
+        }
+    }
+
+    /// The bytes of the range that the table doesn't cover get the node; 1,024 means none, and the
+    /// reserved table knows no other (`memblock_add_range`).
+    pub fn insert(&mut self, which: Which, range: Range, node: u32)
+        requires some { 0 < range.size }
+        requires node { IsNodeOf which node }
+        requires room { length (records_in which self.old) + pieces range (value_at (records_in which self.old)) ≤ room_in which self.old }
+        ensures table { table_in which self.new ≡ record (table_in which self.old) {
+          records = records_for (covered range (label_of node) (value_at (records_in which self.old)));
+        } }
+        ensures other { other_in which self.new ≡ other_in which self.old }
+        ensures elsewhere { (x : ℕ) → covers (bytes_in which self.old) x ≡ false → byte_of self.new.store x ≡ byte_of self.old.store x }
+        ensures ready { (x : ℕ) → is_ready self.new.store x ≡ is_ready self.old.store x }
+    {
+        let _end = range.end();
+        let label = label_of(node);
+        match which {
+            Which::Memory => {
+                lent::cover(&mut self.store, &mut self.heads.memory, &range, label);
+            }
+            Which::Reserved => {
+                lent::cover(&mut self.store, &mut self.heads.reserved, &range, label);
+            }
+        }
+    }
+
+    /// The table doesn't cover the bytes of the range any more (`memblock_remove_range`).
+    pub fn remove(&mut self, which: Which, range: Range)
+        requires { length (records_in which self.old) + 2 ≤ room_in which self.old }
+        ensures table { table_in which self.new ≡ record (table_in which self.old) {
+          records = records_for (uncovered range (value_at (records_in which self.old)));
+        } }
+        ensures other { other_in which self.new ≡ other_in which self.old }
+        ensures elsewhere { (x : ℕ) → covers (bytes_in which self.old) x ≡ false → byte_of self.new.store x ≡ byte_of self.old.store x }
+        ensures ready { (x : ℕ) → is_ready self.new.store x ≡ is_ready self.old.store x }
+    {
+        let _end = range.end();
+        match which {
+            Which::Memory => {
+                lent::uncover(&mut self.store, &mut self.heads.memory, &range);
+            }
+            Which::Reserved => {
+                lent::uncover(&mut self.store, &mut self.heads.reserved, &range);
+            }
+        }
+    }
+
+    /// The memory bytes of the range get the node (`memblock_set_node`).
+    pub fn set_node(&mut self, range: Range, node: u32)
+        requires node { node < 1024 }
+        requires room { length self.old.memory.records + 2 ≤ self.old.memory.room }
+        ensures memory { self.new.memory ≡ record self.old.memory {
+          records = records_for (relabelled range (with_node (Some node)) (value_at self.old.memory.records));
+        } }
+        ensures reserved { self.new.reserved ≡ self.old.reserved }
+        ensures elsewhere { (x : ℕ) → covers (bytes_of self.old.memory) x ≡ false → byte_of self.new.store x ≡ byte_of self.old.store x }
+        ensures ready { (x : ℕ) → is_ready self.new.store x ≡ is_ready self.old.store x }
+    {
+        lent::set_node(&mut self.store, &mut self.heads.memory, &range, node);
+    }
+
+    /// Memory is cut to whole frames: a byte keeps its label where all bytes of its frame have it, and
+    /// else is memory no more (`memblock_trim_memory`).
+    pub fn trim(&mut self)
+        ensures memory { self.new.memory ≡ record self.old.memory { records = records_for (trimmed (value_at self.old.memory.records)) } }
+        ensures reserved { self.new.reserved ≡ self.old.reserved }
+        ensures elsewhere { (x : ℕ) → covers (bytes_of self.old.memory) x ≡ false → byte_of self.new.store x ≡ byte_of self.old.store x }
+        ensures ready { (x : ℕ) → is_ready self.new.store x ≡ is_ready self.old.store x }
+    {
+        lent::trim(&mut self.store, &mut self.heads.memory);
+    }
+
+    /// Prepares each address of the range, as the store's call of that name.
+    pub fn prepare(&mut self, range: Range) -> Result<(), Memory>
+        ensures memory { self.new.memory ≡ self.old.memory }
+        ensures reserved { self.new.reserved ≡ self.old.reserved }
+        ensures bytes { (x : ℕ) → byte_of self.new.store x ≡ byte_of self.old.store x }
+        ensures ready { OnOk result ((x : ℕ) → is_ready self.new.store x ≡ (covers range x || is_ready self.old.store x)) }
+        ensures err { OnErr result (self.new.store ≡ self.old.store) }
+    {
+        self.store.prepare(range)?;
+        Ok(())
+    }
+
+    /// The table moves to the place, and has twice the room there. What it leaves is zeros. The new bytes
+    /// are prepared, and belong to no table (`memblock_double_array`).
+    pub fn relocate(&mut self, which: Which, place: u64)
+        requires small { place + 48 * room_in which self.old < 2 ^ 64 }
+        requires prepared { AreReady self.old.store place (48 * room_in which self.old) }
+        requires apart { ¬ Overlaps self.old (record { base = place; size = 48 * room_in which self.old }) }
+        ensures table { table_in which self.new ≡ record (table_in which self.old) { place = place; room = 2 * room_in which self.old } }
+        ensures other { other_in which self.new ≡ other_in which self.old }
+        ensures left { (x : ℕ) → covers (bytes_in which self.old) x ≡ true → byte_of self.new.store x ≡ 0 }
+        ensures elsewhere { (x : ℕ) → covers (bytes_in which self.new) x ≡ false → covers (bytes_in which self.old) x ≡ false →
+            byte_of self.new.store x ≡ byte_of self.old.store x }
+        ensures ready { (x : ℕ) → is_ready self.new.store x ≡ is_ready self.old.store x }
+    {
+        match which {
+            Which::Memory => {
+                lent::relocate(&mut self.store, &mut self.heads.memory, place);
+            }
+            Which::Reserved => {
+                lent::relocate(&mut self.store, &mut self.heads.reserved, place);
+            }
+        }
+    }
+
+    /// Whether some address of the range belongs to a table.
+    pub fn overlaps_table(&self, range: Range) -> bool
+        ensures { IsTrue result ↔ Overlaps self.now range }
+    {
+        lent::bytes(&self.heads.memory).overlaps(&range)
+            || lent::bytes(&self.heads.reserved).overlaps(&range)
+    }
+
+    /// Writes the byte to each address of the range, which is prepared and belongs to no table.
+    pub fn fill(&mut self, range: Range, byte: u8)
+        requires prepared { AreReady self.old.store range.base range.size }
+        requires apart { ¬ Overlaps self.old range }
+        ensures memory { self.new.memory ≡ self.old.memory }
+        ensures reserved { self.new.reserved ≡ self.old.reserved }
+        ensures bytes { Wrote self.old.store self.new.store range.base range.size (λ _. byte) }
+    {
+        self.store.fill(range, byte);
+    }
+
+    /// Reads the bytes from the address on, the tables' own too.
+    pub fn read(&self, at: u64, into: &mut [u8])
+        requires { at + length into.old < 2 ^ 64 }
+        ensures { into.new ≡ bytes_at (byte_of self.now.store) at (length into.old) }
+    {
+        self.store.read(at, into);
+    }
+
+    /// The store and the heads: whoever has both has the tables.
+    pub fn into_parts(self) -> (Store, Heads)
+        ensures store { result.0 ≡ self.store }
+        ensures heads { result.1 ≡ record { memory = head_of self.memory; reserved = head_of self.reserved } }
+        ensures memory { StandsIn self.memory result.0 }
+        ensures reserved { StandsIn self.reserved result.0 }
+        ensures plain { HaveNoNode self.reserved.records }
+    {
+        let Tables { store, heads } = self;
+        (store, heads)
+    }
+}
+
+/// The head of an empty table, at the start of one of the last frames of the kernel's image.
+fn built_in(kernel: Range, frames: u64) -> Head
+    requires size { 8192 ≤ kernel.size }
+    requires frames { frames ≤ 2 }
+    ensures head { result ≡ record { place = end_of kernel - 4096 * frames; room = 128; count = 0 } }
+    ensures small { end_of kernel < 2 ^ 64 }
+{
+    Head {
+        place: kernel.end() - FRAME_SIZE * frames,
+        room: FIRST_ROOM,
+        count: 0,
+    }
+}

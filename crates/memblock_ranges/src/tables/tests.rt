@@ -1,0 +1,303 @@
+//! The tables as a machine's boot leaves them, list by list and byte by byte.
+ghost use Rattle.std.specs.Prelude.{◌≡◌, ◌+◌, ◌^◌, ◌<◌, ◌≤◌};
+
+use super::Tables;
+use crate::{Head, Heads, Region, region_at};
+use bm_base::{Memory, Range};
+use memblock_model::Which;
+use phys_store::Store;
+use std::test::Fail;
+
+fn bytes(base: u64, size: u64) -> Range
+    requires { base + size < 2 ^ 64 }
+    ensures { result ≡ record { base = base; size = size } }
+{
+    Range { base, size }
+}
+
+// An edit, its addresses and the node.
+#[derive(Clone, Copy)]
+enum Step {
+    Add(u64, u64, u32),
+    Reserve(u64, u64),
+    Free(u64, u64),
+    Node(u64, u64, u32),
+    Trim,
+}
+
+// Whether the edit's conditions hold; then it is carried out.
+fn act(tables: &mut Tables, step: Step) -> bool {
+    match step {
+        Step::Add(base, size, node) => cover_memory(tables, base, size, node),
+        Step::Reserve(base, size) => reserve(tables, base, size),
+        Step::Free(base, size) => free(tables, base, size),
+        Step::Node(base, size, node) => set_node(tables, base, size, node),
+        Step::Trim => {
+            tables.trim();
+            true
+        }
+    }
+}
+
+fn cover_memory(tables: &mut Tables, base: u64, size: u64, node: u32) -> bool {
+    let Some(range) = Range::new(base, size) else {
+        return false;
+    };
+    let head = tables.head(Which::Memory);
+    let pieces = tables.pieces(Which::Memory, range);
+    if size == 0 || node > 1024 || pieces > head.room - head.count {
+        return false;
+    }
+    tables.insert(Which::Memory, range, node);
+    true
+}
+
+fn reserve(tables: &mut Tables, base: u64, size: u64) -> bool {
+    let Some(range) = Range::new(base, size) else {
+        return false;
+    };
+    let head = tables.head(Which::Reserved);
+    let pieces = tables.pieces(Which::Reserved, range);
+    if size == 0 || pieces > head.room - head.count {
+        return false;
+    }
+    tables.insert(Which::Reserved, range, 1024);
+    true
+}
+
+fn free(tables: &mut Tables, base: u64, size: u64) -> bool {
+    let Some(range) = Range::new(base, size) else {
+        return false;
+    };
+    let head = tables.head(Which::Reserved);
+    if head.room - head.count < 2 {
+        return false;
+    }
+    tables.remove(Which::Reserved, range);
+    true
+}
+
+fn set_node(tables: &mut Tables, base: u64, size: u64, node: u32) -> bool {
+    let Some(range) = Range::new(base, size) else {
+        return false;
+    };
+    let head = tables.head(Which::Memory);
+    if node >= 1024 || head.room - head.count < 2 {
+        return false;
+    }
+    tables.set_node(range, node);
+    true
+}
+
+// Whether the table's records are these: base, size, node.
+fn has(tables: &Tables, which: Which, records: &[(u64, u64, u32)]) -> bool {
+    if tables.head(which).count != records.len() as u64 {
+        return false;
+    }
+    for i in 0..tables.head(which).count {
+        let (base, size, node) = records[i as usize];
+        let expected = Region {
+            base,
+            size,
+            flags: 0,
+            node,
+        };
+        if tables.region(which, i) != expected {
+            return false;
+        }
+    }
+    true
+}
+
+// A virtual machine of 128 MiB, through the node data; the kernel's image is 0x1000000..0x2ffffff.
+#[test]
+fn a_virtual_machine_of_128_mib(rt: HostRuntime) -> Result<(), Fail> {
+    let mut tables = Tables::new(rt.alloc(), bytes(0x1000000, 0x2000000))?;
+    let steps = [
+        Step::Reserve(0x1000000, 0x2000000),
+        Step::Reserve(0, 0x10000),
+        Step::Add(0x1000, 0x9EC00, 1024),
+        Step::Add(0x100000, 0x7EE0000, 1024),
+        Step::Trim,
+        Step::Reserve(0, 0x100000),
+        Step::Node(0, 0x7FE0000, 0),
+        Step::Reserve(0x7FB5000, 0x2B000),
+        Step::Reserve(0x7FB1000, 0x4000),
+        Step::Reserve(0x7FB0000, 0x1000),
+        Step::Reserve(0x7FAFFC0, 0x28),
+        Step::Reserve(0x7C00000, 0x200000),
+    ];
+    for step in steps {
+        assert!(rt; act(&mut tables, step));
+    }
+    let memory = [(0x1000, 0x9E000, 0), (0x100000, 0x7EE0000, 0)];
+    let reserved = [
+        (0, 0x100000, 1024),
+        (0x1000000, 0x2000000, 1024),
+        (0x7C00000, 0x200000, 1024),
+        (0x7FAFFC0, 0x28, 1024),
+        (0x7FB0000, 0x30000, 1024),
+    ];
+    assert!(rt; has(&tables, Which::Memory, &memory));
+    assert!(rt; has(&tables, Which::Reserved, &reserved));
+
+    // The memory table lies two frames before the image's end: its first record, and zeros behind its two.
+    let mut record = [0; 24];
+    tables.read(0x2FFE000, &mut record);
+    let worked = [
+        0, 0x10, 0, 0, 0, 0, 0, 0, 0, 0xE0, 9, 0, 0, 0, 0, 0, 0, 0, 0, 0, 0, 0, 0, 0,
+    ];
+    assert_eq!(rt; record, worked);
+    tables.read(0x2FFE030, &mut record);
+    assert_eq!(rt; record, [0; 24]);
+
+    // The end of the reserved table's last record, and zeros behind it.
+    tables.read(0x2FFF064, &mut record);
+    let across = [
+        0, 0, 0, 0, 0, 0, 3, 0, 0, 0, 0, 0, 0, 0, 0, 0, 0, 4, 0, 0, 0, 0, 0, 0,
+    ];
+    assert_eq!(rt; record, across);
+    Ok(())
+}
+
+// Records of two nodes that touch, bare parts between records, a frame that two nodes share, the last
+// address.
+//
+//     0x1000     0x2000     0x3000     0x4000     0x5000    0x9000     0xA000
+//     |0000000000|1111111111|.....................|          |..........|
+#[test]
+fn nodes_gaps_and_the_last_address(rt: HostRuntime) -> Result<(), Fail> {
+    let mut tables = Tables::new(rt.alloc(), bytes(0x1000000, 0x2000000))?;
+    assert!(rt; act(&mut tables, Step::Add(0x1000, 0x1000, 0)));
+    assert!(rt; act(&mut tables, Step::Add(0x2000, 0x1000, 1)));
+    assert!(rt; act(&mut tables, Step::Add(0x1000, 0x4000, 1024)));
+    assert!(rt; act(&mut tables, Step::Add(0x9000, 0x1000, 1024)));
+    let records = [
+        (0x1000, 0x1000, 0),
+        (0x2000, 0x1000, 1),
+        (0x3000, 0x2000, 1024),
+        (0x9000, 0x1000, 1024),
+    ];
+    assert!(rt; has(&tables, Which::Memory, &records));
+    assert_eq!(rt; tables.pieces(Which::Memory, bytes(0, 0xB000)), 3);
+    assert_eq!(rt; tables.pieces(Which::Memory, bytes(0x1000, 0x4000)), 0);
+    assert_eq!(rt; tables.pieces(Which::Reserved, bytes(0x1000, 0x4000)), 1);
+
+    assert!(rt; act(&mut tables, Step::Node(0x1800, 0x8000, 1)));
+    let records = [
+        (0x1000, 0x800, 0),
+        (0x1800, 0x3800, 1),
+        (0x9000, 0x800, 1),
+        (0x9800, 0x800, 1024),
+    ];
+    assert!(rt; has(&tables, Which::Memory, &records));
+
+    let last = u64::MAX - 0x1000;
+    assert!(rt; act(&mut tables, Step::Add(last, 0x1000, 7)));
+    let with_last = [
+        (0x1000, 0x800, 0),
+        (0x1800, 0x3800, 1),
+        (0x9000, 0x800, 1),
+        (0x9800, 0x800, 1024),
+        (last, 0x1000, 7),
+    ];
+    assert!(rt; has(&tables, Which::Memory, &with_last));
+    assert!(rt; act(&mut tables, Step::Trim));
+    assert!(rt; has(&tables, Which::Memory, &[(0x2000, 0x3000, 1)]));
+
+    for step in [
+        Step::Reserve(0x1000, 0x1000),
+        Step::Reserve(0x3000, 0x1000),
+        Step::Reserve(0x2000, 0x1000),
+        Step::Reserve(u64::MAX - 1, 1),
+        Step::Free(0x1800, 0x1000),
+        Step::Free(0, 0),
+    ] {
+        assert!(rt; act(&mut tables, step));
+    }
+    let reserved = [
+        (0x1000, 0x800, 1024),
+        (0x2800, 0x1800, 1024),
+        (u64::MAX - 1, 1, 1024),
+    ];
+    assert!(rt; has(&tables, Which::Reserved, &reserved));
+    assert!(rt; has(&tables, Which::Memory, &[(0x2000, 0x3000, 1)]));
+    Ok(())
+}
+
+// Whether the place is free of tables; then the table moves there.
+fn moved(tables: &mut Tables, which: Which, place: u64) -> Result<bool, Memory> {
+    let head = tables.head(which);
+    let Some(size) = head.room.checked_mul(48) else {
+        return Ok(false);
+    };
+    let Some(range) = Range::new(place, size) else {
+        return Ok(false);
+    };
+    tables.prepare(range)?;
+    if tables.overlaps_table(range) {
+        return Ok(false);
+    }
+    tables.relocate(which, place);
+    Ok(true)
+}
+
+#[test]
+fn a_table_moves_and_leaves_zeros(rt: HostRuntime) -> Result<(), Fail> {
+    let mut tables = Tables::new(rt.alloc(), bytes(0x1000000, 0x2000000))?;
+    assert!(rt; act(&mut tables, Step::Reserve(0x1000000, 0x2000000)));
+    assert!(rt; act(&mut tables, Step::Add(0x1000, 0x9E000, 0)));
+    assert!(rt; tables.overlaps_table(bytes(0x2FFFBFF, 1)));
+    assert!(rt; !tables.overlaps_table(bytes(0x2FFFC00, 0x400)));
+    assert!(rt; !moved(&mut tables, Which::Reserved, 0x2FFEBFF)?);
+    assert!(rt; moved(&mut tables, Which::Reserved, 0x100000)?);
+
+    let head = tables.head(Which::Reserved);
+    let expected = Head {
+        place: 0x100000,
+        room: 256,
+        count: 1,
+    };
+    assert_eq!(rt; head, expected);
+    let reserved = [(0x1000000, 0x2000000, 1024)];
+    assert!(rt; has(&tables, Which::Reserved, &reserved));
+    assert!(rt; has(&tables, Which::Memory, &[(0x1000, 0x9E000, 0)]));
+    let mut record = [9; 24];
+    tables.read(0x2FFF000, &mut record);
+    assert_eq!(rt; record, [0; 24]);
+
+    // What it left may be written now; a read goes across the end of the memory table's bytes, which are
+    // followed by others there.
+    let freed = bytes(0x2FFF000, 0x10);
+    assert!(rt; !tables.overlaps_table(freed));
+    tables.prepare(bytes(0x2FFEC00, 8))?;
+    let behind = bytes(0x2FFEC00, 8);
+    if !tables.overlaps_table(behind) {
+        tables.fill(behind, 7);
+    }
+    let mut across = [9; 12];
+    tables.read(0x2FFEBFC, &mut across);
+    assert_eq!(rt; across, [0, 0, 0, 0, 7, 7, 7, 7, 7, 7, 7, 7]);
+
+    // The two fields are all that there is, and each record is read from the bytes.
+    let Tables { store, heads } = tables;
+    let store: Store = store;
+    let heads: Heads = heads;
+    let first = Region {
+        base: 0x1000000,
+        size: 0x2000000,
+        flags: 0,
+        node: 1024,
+    };
+    let built_in = Head {
+        place: 0x2FFE000,
+        room: 128,
+        count: 1,
+    };
+    assert_eq!(rt; heads.memory, built_in);
+    assert_eq!(rt; heads.reserved, expected);
+    assert_eq!(rt; region_at(&store, &heads.reserved, 0), first);
+    assert_eq!(rt; region_at(&store, &heads.memory, 0).size, 0x9E000);
+    assert_eq!(rt; region_at(&store, &heads.memory, 1).size, 0);
+    Ok(())
+}

@@ -1,0 +1,44 @@
+//! Trimming: each record is cut to whole frames where it stands, in one pass from the lowest on. A record
+//! never needs two, so the pass wants no room.
+ghost use Rattle.std.specs.Prelude.{◌≡◌, ◌+◌, ◌-◌, ◌%◌, ◌<◌, ◌≤◌};
+ghost use Rattle.bm_base.specs.Extent.{end_of};
+ghost use Rattle.address_runs.specs.Runs.{value_at};
+ghost use Rattle.memblock_model.specs.Items.{trimmed};
+ghost use Rattle.memblock_model.specs.Tables.{records_for};
+ghost use Rattle.memblock_ranges.specs.Tables.{AreRecords};
+
+use crate::record::Record;
+use address_runs::Stretch;
+use bm_base::{FRAME_SIZE, Range};
+use run_edits::{Slots, emit};
+
+/// Where the whole frames of the range begin and end; nothing lies between where there are none.
+fn frames(range: &Range) -> (u64, u64)
+    ensures start { result.0 < result.1 → result.0 ≡ range.now.base + (4096 - range.now.base % 4096) % 4096 }
+    ensures until { result.1 ≡ end_of range.now - end_of range.now % 4096 }
+    ensures none { result.1 ≤ result.0 →
+        end_of range.now - end_of range.now % 4096 ≤ range.now.base + (4096 - range.now.base % 4096) % 4096 }
+{
+    let end = range.end();
+    let until = end - end % FRAME_SIZE;
+    let past = (FRAME_SIZE - range.base % FRAME_SIZE) % FRAME_SIZE;
+    let start = range.base.saturating_add(past);
+    (start, until)
+}
+
+/// Each record is cut to whole frames, and dropped where it has none.
+pub fn trim<T: Slots<Record>>(table: &mut T)
+    requires { AreRecords (T.list table.old) }
+    ensures list { T.list table.new ≡ records_for (trimmed (value_at (T.list table.old))) }
+    ensures records { AreRecords (T.list table.new) }
+    ensures keeps { T.keeps table.old table.new }
+{
+    let mut write = 0;
+    let mut read = 0;
+    while read < table.count() {
+        let record = table.get(read);
+        let (start, until) = frames(&record.range());
+        (write, read) = emit(table, write, read + 1, start, until, Some(record.value()));
+    }
+    table.close(write, read - write);
+}
