@@ -1,0 +1,7 @@
+use Rattle.std.proofs.Common.{◌≡◌, ◌++◌, drop}
+use Rattle.node_hulls.specs.Kept.{kept_from, kept_of, in_any}
+use Rattle.node_hulls.proofs.kept.keep_blocks.Given as goal
+
+abbrev pub invariant-loop-index : goal.invariant-loop-index
+invariant-loop-index l =
+    l.kept.items ++ kept_from (in_any l.memory) l.domains l.index (drop l.index l.blocks) ≡ kept_of (in_any l.memory) l.domains l.blocks
