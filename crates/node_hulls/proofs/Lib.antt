@@ -1,3 +1,4 @@
 pub mod FilledLaws
 pub mod InListLaws
 pub mod KeptLaws
+pub mod NodesLaws
