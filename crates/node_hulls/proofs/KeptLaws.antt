@@ -1,19 +1,21 @@
 -- Which blocks are kept, and which overlap: what one look at a range tells.
-use Rattle.std.proofs.Common.{◌≡◌, ◌↔◌, ℕ, zero, suc, ◌+◌, ◌<◌, ◌≤◌, ◌==◌, Bool, true, false, not, nat_lt, nat_le, max, min, List, [], ◌∷◌, length, get_or, drop, add-one, if◌then◌else◌, ◌++◌, Some, refl, subst, sym, ◌∙◌, ap, inl, inr, arith}
+use Rattle.std.proofs.Common.{◌≡◌, ◌↔◌, ℕ, zero, suc, ◌+◌, ◌^◌, ◌<◌, ◌≤◌, ◌==◌, Bool, true, false, not, nat_lt, nat_le, max, min, List, [], ◌∷◌, length, get_or, drop, add-one, if◌then◌else◌, ◌++◌, Some, refl, subst, sym, ◌∙◌, ap, inl, inr, arith}
 use Rattle.std.proofs.lemmas.Bool.{cases_lt, cases_Bool, true≢false}
 use Rattle.std.proofs.lemmas.Bool.Decides.{nat_tests}
 use Rattle.std.proofs.lemmas.List.Folds.{list_any_at}
-use Rattle.std.proofs.lemmas.List.{get_or_default}
+use Rattle.std.proofs.lemmas.List.{get_or_default, append-nil}
 use Rattle.std.proofs.Math.Seq.{drop-cons}
 use Rattle.std.specs.Prelude.{IsTrue, find}
 use Rattle.bm_base.specs.Each.{each_in}
 use Rattle.bm_base.specs.Extent.{Extent, covers, end_of, Meet}
 use Rattle.bm_base.proofs.EachLaws.{each_in-all, each_in-fails}
+use Rattle.address_runs.specs.Overlay.{HaveAddresses}
 use Rattle.address_runs.specs.Runs.{run_end, extent_of}
 use Rattle.srat_reader.specs.declared.table.SratBlock.{SratBlock}
 use Rattle.node_hulls.specs.declared.kept.KeptBlock.{KeptBlock}
 use Rattle.node_hulls.specs.Hulls.{Block, meets}
-use Rattle.node_hulls.specs.Kept.{in_any, has_memory, of_node, kept_one, kept_from}
+use Rattle.node_hulls.specs.Kept.{blocks_of, in_any, has_memory, of_node, kept_one, kept_from, kept_of}
+use Rattle.node_hulls.specs.Steps.{EndInSpace}
 
 -- a range that shares an address with one of memory has memory
 pub memory_met : (memory : List Extent) (i : ℕ) (part r : Extent) → i < length memory → part ≡ get_or memory i part → Meet part r
@@ -69,5 +71,38 @@ find_from p xs i x lt is = rw (drop-cons xs i x lt, ← is, add-one) refl
 pub kept_step : (memory : ℕ → Bool) (domains : List ℕ) (blocks : List SratBlock) (i : ℕ) (b : SratBlock) → i < length blocks
     → b ≡ get_or blocks i b
     → kept_from memory domains i (drop i blocks)
-        ≡ kept_one memory i (of_node domains b) ++ kept_from memory domains (i + 1) (drop (i + 1) blocks)
+    ≡ kept_one memory i (of_node domains b) ++ kept_from memory domains (i + 1) (drop (i + 1) blocks)
 kept_step memory domains blocks i b lt is = rw (drop-cons blocks i b lt, ← is, add-one) refl
+
+-- with one block more, if it is kept, the kept blocks still end in the address space
+pub kept_space : (memory : ℕ → Bool) (kept : List KeptBlock) (i : ℕ) (b : Block) → EndInSpace (blocks_of kept) → run_end b < 2 ^ 64
+    → EndInSpace (blocks_of (kept ++ kept_one memory i b))
+kept_space memory kept i b space ends =
+    elim (cases_Bool (has_memory memory (extent_of b))) as (λ _. EndInSpace (blocks_of (kept ++ kept_one memory i b))) [
+      | inl some ↦ rw some (space_behind kept i b space ends)
+      | inr none ↦ rw (none, append-nil kept) space
+    ] where
+      space_behind : (ks : List KeptBlock) (j : ℕ) (c : Block) → EndInSpace (blocks_of ks) → run_end c < 2 ^ 64
+          → EndInSpace (blocks_of (ks ++ record { number = j; block = c } ∷ []))
+      space_behind [] j c ok last = (last, tt)
+      space_behind (k ∷ ks) j c ok last = (ok.0, space_behind ks j c ok.1 last)
+
+-- a block that is kept has an address: a byte of memory
+has_address : (memory : ℕ → Bool) (b : Block) → has_memory memory (extent_of b) ≡ true → 0 < b.size
+has_address memory b some = elim (cases_lt 0 b.size) as (λ _. 0 < b.size) [
+  | inl lt ↦ lt
+  | inr none ↦
+      let all : each_in (extent_of b) (λ y. not (memory y)) ≡ true = each_in-all (extent_of b) (λ y. not (memory y)) (λ y low high. absurd (omega arith)) in
+      absurd (true≢false (sym some ∙ rw all refl))
+]
+
+kept_addresses : (memory : ℕ → Bool) (domains : List ℕ) (i : ℕ) (bs : List SratBlock) → HaveAddresses (blocks_of (kept_from memory domains i bs))
+kept_addresses memory domains i [] = tt
+kept_addresses memory domains i (b ∷ bs) = by (has_memory memory (extent_of (of_node domains b))) refl (kept_addresses memory domains (i + 1) bs) where
+  by : (some : Bool) → has_memory memory (extent_of (of_node domains b)) ≡ some → HaveAddresses (blocks_of (kept_from memory domains (i + 1) bs))
+      → HaveAddresses (blocks_of (kept_from memory domains i (b ∷ bs)))
+  by true some rest = rw some (has_address memory (of_node domains b) some, rest)
+  by false none rest = rw none rest
+
+pub addresses_kept : (memory : ℕ → Bool) (domains : List ℕ) (bs : List SratBlock) → HaveAddresses (blocks_of (kept_of memory domains bs))
+addresses_kept memory domains bs = kept_addresses memory domains 0 bs

@@ -1,4 +1,6 @@
+pub mod DomainLaws
 pub mod FilledLaws
 pub mod InListLaws
 pub mod KeptLaws
 pub mod NodesLaws
+pub mod RestLaws

@@ -85,10 +85,10 @@ own_node blocks n a b c own member meeting =
     let passes : ((c.value == n) || not (meets a.base (run_end b) c)) ≡ true = all_member _ blocks c own member in
     let alone : (c.value == n) ≡ true = either (c.value == n) (meets a.base (run_end b) c) passes meeting in
     grind (arith, nat_tests) where
-  either : (p q : Bool) → (p || not q) ≡ true → q ≡ true → p ≡ true
-  either true q h meets_too = refl
-  either false true h meets_too = h
-  either false false h meets_too = meets_too
+      either : (p q : Bool) → (p || not q) ≡ true → q ≡ true → p ≡ true
+      either true q h meets_too = refl
+      either false true h meets_too = h
+      either false false h meets_too = meets_too
 
 -- what an address has is given there, or lies around it
 joined_around : (blocks : List Block) (n x : ℕ) → Apart blocks → HaveAddresses blocks → joins blocks n x ≡ true → IsAround (value_at blocks) x n
@@ -189,22 +189,22 @@ around_joins blocks n x apart around not_held =
     member_any _ blocks a lower.member
     (and_from (a.value == n) (list_any (λ (d : Block). (d.value == n) && (is_between a d x && is_own blocks n a d)) blocks)
     (grind (arith, nat_tests, lower.node)) inner) where
-  one_own : (c : Block) → IsIn c blocks
-      → ((c.value == n) || not (meets (given_by_block blocks around.low n around.at_low).block.base
-        (run_end (given_by_block blocks around.high n around.at_high).block) c)) ≡ true
-  one_own c in_c =
-      let lower = given_by_block blocks around.low n around.at_low in
-      let upper = given_by_block blocks around.high n around.at_high in
-      let a = lower.block in
-      let b = upper.block in
-      elim (cases_Bool (meets a.base (run_end b) c)) as (λ _. ((c.value == n) || not (meets a.base (run_end b) c)) ≡ true) [
-        | inl meeting ↦
-            let node : c.value ≡ n = hull_own blocks n x a b c apart around lower.member lower.node lower.lies
-            upper.member upper.node upper.lies in_c meeting in
-            let same : (c.value == n) ≡ true = grind (arith, nat_tests) in
-            rw same refl
-        | inr apart_from ↦ rw apart_from (or_true (c.value == n))
-      ]
+      one_own : (c : Block) → IsIn c blocks
+          → ((c.value == n) || not (meets (given_by_block blocks around.low n around.at_low).block.base
+          (run_end (given_by_block blocks around.high n around.at_high).block) c)) ≡ true
+      one_own c in_c =
+          let lower = given_by_block blocks around.low n around.at_low in
+          let upper = given_by_block blocks around.high n around.at_high in
+          let a = lower.block in
+          let b = upper.block in
+          elim (cases_Bool (meets a.base (run_end b) c)) as (λ _. ((c.value == n) || not (meets a.base (run_end b) c)) ≡ true) [
+            | inl meeting ↦
+                let node : c.value ≡ n = hull_own blocks n x a b c apart around lower.member lower.node lower.lies
+                upper.member upper.node upper.lies in_c meeting in
+                let same : (c.value == n) ≡ true = grind (arith, nat_tests) in
+                rw same refl
+            | inr apart_from ↦ rw apart_from (or_true (c.value == n))
+          ]
 
 filled_has : (blocks : List Block) (n x : ℕ) → Apart blocks → IsFilled (value_at blocks) x n → has blocks n x ≡ true
 filled_has blocks n x apart (inl here) =
@@ -254,6 +254,7 @@ unfolding node_at
 node_given blocks rs ts x apart some known joined = by (value_at ts x) (first_had blocks x blocks) refl refl where
   same : value_at rs ≡ value_at blocks
   same = λ i y. known.each y i
+
   by : (g h : Option ℕ) → value_at ts x ≡ g → first_had blocks x blocks ≡ h → value_at ts x ≡ first_had blocks x blocks
   by g (Some m) at had =
       let filling : IsFilled (value_at blocks) x m = has_filled blocks m x apart some (first_has blocks x m blocks had) in

@@ -1,6 +1,6 @@
 -- Whether the firmware's table of domains is used, the reason where it isn't, and what it gives where it is
 -- (`numa_init`, `numa_cleanup_meminfo`, `numa_meminfo_cover_memory`).
-use Rattle.std.specs.Prelude.{ℕ, ◌*◌, ◌^◌, Bool, ◌&&◌, not, nat_le, nat_lt, min, if◌then◌else◌, Option, Some, None, List, [], ◌∷◌, length, is_some, is_none}
+use Rattle.std.specs.Prelude.{ℕ, ◌*◌, ◌^◌, Bool, ◌&&◌, not, nat_le, nat_lt, min, if◌then◌else◌, Option, Some, None, List, [], ◌∷◌, fold, length, is_some, is_none}
 use Rattle.address_runs.specs.Runs.{runs_of}
 use Rattle.bm_base.specs.declared.frame.TheConstants.{FRAME_SIZE}
 use Rattle.e820_model.specs.Usable.{count_below}
@@ -22,10 +22,12 @@ unfoldable pub frames_given : (ℕ → Option ℕ) → ℕ
 frames_given nodes = count_below (λ frame. is_some (nodes (FRAME_SIZE * frame))) (2 ^ 52)
 
 -- the lowest node of the blocks; 0 where there is none
+abbrev pub lower : ℕ → Block → ℕ
+lower n b = min n b.value
+
 abbrev pub lowest : List Block → ℕ
 lowest [] = 0
-lowest (b ∷ []) = b.value
-lowest (b ∷ (c ∷ bs)) = min b.value (lowest (c ∷ bs))
+lowest (b ∷ bs) = fold lower b.value bs
 
 -- the domains, the blocks that are kept, the node of each address by them, and the memory that is left over
 module _ (memory : ℕ → Bool) (lists : Affinity) where

@@ -1,5 +1,5 @@
 -- Words for the steps of the code, which private clauses and proofs cite.
-use Rattle.std.specs.Prelude.{ℕ, ◌-◌, ◌==◌, Bool, true, false, nat_le, if◌then◌else◌, List, [], ◌∷◌, length}
+use Rattle.std.specs.Prelude.{ℕ, ◌+◌, ◌/◌, ◌-◌, ◌^◌, ◌<◌, ◌==◌, Bool, true, false, nat_le, if◌then◌else◌, List, [], ◌∷◌, length}
 use Rattle.address_runs.specs.Runs.{RunOf, run_end}
 use Rattle.bm_base.specs.Extent.{Extent}
 use Rattle.srat_reader.specs.declared.table.SratBlock.{SratBlock}
@@ -32,7 +32,18 @@ abbrev pub noded : Block → RunOf Bool
 noded r = record { base = r.base; size = r.size; value = true }
 
 -- the runs without a node, each with the node that it gets
+abbrev pub with_node : ℕ → RunOf Bool → Block
+with_node node r = record { base = r.base; size = r.size; value = node }
+
 abbrev pub bare_runs : ℕ → List (RunOf Bool) → List Block
 bare_runs node [] = []
-bare_runs node (r ∷ rs) =
-    if r.value then bare_runs node rs else record { base = r.base; size = r.size; value = node } ∷ bare_runs node rs
+bare_runs node (r ∷ rs) = if r.value then bare_runs node rs else with_node node r ∷ bare_runs node rs
+
+-- each run ends in the address space
+abbrev pub EndInSpace : List Block → Type 0
+EndInSpace [] = Unit {0}
+EndInSpace (r ∷ rs) = (run_end r < 2 ^ 64) × EndInSpace rs
+
+-- how many frames begin below an address
+abbrev pub begun_before : ℕ → ℕ
+begun_before x = (x + 4095) / 4096

@@ -1,8 +1,10 @@
 //! Which blocks of the table are kept: those of which a byte is memory, in whole frames (`numa_cleanup_meminfo`
 //! cuts blocks to memory and removes the empty ones). And which of them overlap.
 
-ghost use Rattle.std.specs.Prelude.{◌≡◌, ℕ, ◌^◌, ◌<◌, ◌≤◌, IfOk, length, option_map, find, is_some};
-ghost use Rattle.node_hulls.specs.Kept.{in_any, framed, has_memory, of_node, kept_of, any_kept, count_some, clash, first_clash};
+ghost use Rattle.std.specs.Prelude.{◌≡◌, ℕ, ◌+◌, ◌++◌, ◌^◌, ◌<◌, ◌≤◌, OnOk, IfOk, length, option_map, find, is_some};
+ghost use Rattle.address_runs.specs.Runs.{run_end};
+ghost use Rattle.node_hulls.specs.Kept.{in_any, blocks_of, framed, kept_one, has_memory, of_node, kept_of, any_kept, count_some, clash, first_clash};
+ghost use Rattle.node_hulls.specs.Steps.{EndInSpace};
 
 use crate::domains::node_of;
 use crate::node_range::NodeRange;
@@ -71,23 +73,37 @@ pub fn keep_blocks(
 ) -> Result<Vec<KeptBlock>, Memory>
     requires nodes { length domains.now ≤ 1024 }
     requires few { length blocks.now < 2 ^ 32 }
-    ensures { IfOk result (λ kept. kept.items ≡ kept_of (in_any memory.now) domains.now blocks.now) }
+    ensures value { IfOk result (λ kept. kept.items ≡ kept_of (in_any memory.now) domains.now blocks.now) }
+    ensures space { IfOk result (λ kept. EndInSpace (blocks_of kept.items)) }
 {
     let mut kept = Vec::new(alloc);
     for (index, block) in blocks.iter().enumerate() {
         let block = in_frames(domains, block);
-        if has_memory(memory, &block.range) {
-            let number = index as u32;
-            kept.push(KeptBlock { number, block })?;
-        }
+        keep_one(&mut kept, memory, index as u32, block)?;
     }
     Ok(kept)
+}
+
+/// Keeps the block of that number, if a byte of it is memory.
+fn keep_one(
+    kept: &mut Vec<KeptBlock>,
+    memory: &[Range],
+    number: u32,
+    block: NodeRange,
+) -> Result<(), Memory>
+    ensures { OnOk result (kept.new.items ≡ kept.old.items ++ kept_one (in_any memory.now) number block) }
+{
+    if has_memory(memory, &block.range) {
+        kept.push(KeptBlock { number, block })?;
+    }
+    Ok(())
 }
 
 /// The block in whole frames, in the node of its domain.
 fn in_frames(domains: &[u32], block: &SratBlock) -> NodeRange
     requires { length domains.now ≤ 1024 }
-    ensures { result ≡ of_node domains.now block.now }
+    ensures value { result ≡ of_node domains.now block.now }
+    ensures space { run_end result < 2 ^ 64 }
 {
     NodeRange {
         range: framed(&block.range),

@@ -136,5 +136,12 @@ fn unused(alloc: Global, why: Why) -> Judged
 fn lowest_node(kept: &[KeptBlock]) -> u32
     ensures { result ≡ lowest (blocks_of kept.now) }
 {
-    kept.iter().map(|one| one.block.node).min().unwrap_or(0)
+    let [first, others @ ..] = kept else {
+        return 0;
+    };
+    let mut lowest = first.block.node;
+    for other in others {
+        lowest = lowest.min(other.block.node);
+    }
+    lowest
 }

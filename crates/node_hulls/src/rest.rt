@@ -1,12 +1,12 @@
 //! The memory that no block covers, and how many frames of it there are: the kernel counts them by what is left of its
 //! map (`numa_meminfo_cover_memory`).
 
-ghost use Rattle.std.specs.Prelude.{◌≡◌, ℕ, ◌+◌, ◌<◌, ◌≤◌, ◌++◌, OnOk, IfOk, map};
+ghost use Rattle.std.specs.Prelude.{◌≡◌, ℕ, ◌+◌, ◌-◌, ◌^◌, ◌<◌, ◌≤◌, ◌++◌, [], ◌∷◌, if◌then◌else◌, OnOk, IfOk, map};
 ghost use Rattle.address_runs.specs.Overlay.{HaveAddresses};
-ghost use Rattle.address_runs.specs.Runs.{AreRuns, IsRunsOf, value_at};
+ghost use Rattle.address_runs.specs.Runs.{AreRuns, IsRunsOf, run_end, value_at};
 ghost use Rattle.node_hulls.specs.Judgement.{left_over, frames_given};
 ghost use Rattle.node_hulls.specs.Kept.{in_any, HaveBytes};
-ghost use Rattle.node_hulls.specs.Steps.{bare, noded, bare_runs};
+ghost use Rattle.node_hulls.specs.Steps.{bare, noded, bare_runs, with_node, begun_before, EndInSpace};
 
 use crate::cover::Covered;
 use crate::node_range::NodeRange;
@@ -23,7 +23,8 @@ pub fn left_over_runs(
 ) -> Result<Vec<NodeRange>, Memory>
     requires memory { HaveBytes memory.now }
     requires joined { AreRuns joined.now }
-    ensures { IfOk result (λ rest. IsRunsOf (left_over (in_any memory.now) (value_at joined.now) node) rest.items) }
+    ensures runs { IfOk result (λ rest. IsRunsOf (left_over (in_any memory.now) (value_at joined.now) node) rest.items) }
+    ensures space { IfOk result (λ rest. EndInSpace rest.items) }
 {
     let told = tell(alloc, memory, joined)?;
     let covered = overlay_all(alloc, &told)?;
@@ -72,18 +73,29 @@ fn tell_nodes(told: &mut Vec<Covered>, joined: &[NodeRange]) -> Result<(), Memor
 
 /// The runs that have no node, each with the node that it gets.
 fn without_node(alloc: Global, covered: &[Covered], node: u32) -> Result<Vec<NodeRange>, Memory>
-    ensures { IfOk result (λ rest. rest.items ≡ bare_runs node covered.now) }
+    ensures value { IfOk result (λ rest. rest.items ≡ bare_runs node covered.now) }
+    ensures space { IfOk result (λ rest. EndInSpace rest.items) }
 {
     let mut rest = Vec::new(alloc);
     for run in covered {
-        if !run.has_node {
-            rest.push(NodeRange {
-                range: run.range,
-                node,
-            })?;
-        }
+        give_node(&mut rest, run, node)?;
     }
     Ok(rest)
+}
+
+/// Gives the run the node, if it has none.
+fn give_node(rest: &mut Vec<NodeRange>, run: &Covered, node: u32) -> Result<(), Memory>
+    ensures value { OnOk result (rest.new.items ≡
+        (if run.now.value then rest.old.items else rest.old.items ++ with_node node run.now ∷ [])) }
+    ensures space { run_end run.now < 2 ^ 64 }
+{
+    if !run.has_node {
+        rest.push(NodeRange {
+            range: run.range,
+            node,
+        })?;
+    }
+    Ok(())
 }
 
 /// How many frames begin in the runs.
@@ -92,8 +104,19 @@ pub fn count_frames(runs: &[NodeRange]) -> u64
     ensures { result ≡ frames_given (value_at runs.now) }
 {
     let mut frames = 0;
-    for run in runs {
-        frames += run.range.end().div_ceil(FRAME_SIZE) - run.range.base.div_ceil(FRAME_SIZE);
+    let mut rest = runs;
+    while let [run, others @ ..] = rest {
+        frames += frames_begun(run);
+        rest = others;
     }
     frames
+}
+
+/// How many frames begin in the run.
+fn frames_begun(run: &NodeRange) -> u64
+    ensures value { result ≡ begun_before (run_end run.now) - begun_before run.now.base }
+    ensures space { run_end run.now < 2 ^ 64 }
+{
+    let end = run.range.end();
+    end.div_ceil(FRAME_SIZE) - run.range.base.div_ceil(FRAME_SIZE)
 }
