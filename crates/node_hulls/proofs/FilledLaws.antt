@@ -1,10 +1,10 @@
 -- Runs joined with their neighbours: what they give is what the runs give, and what lies between two places of one node with no
 -- other node between these.
-use Rattle.std.proofs.Common.{◌≡◌, ◌≢◌, ℕ, ◌+◌, ◌-◌, ◌<◌, ◌≤◌, ◌==◌, ◌⊎◌, true, false, Option, Some, None, List, [], ◌∷◌, refl, sym, ◌∙◌, ap, subst, inl, inr, arith}
+use Rattle.std.proofs.Common.{◌≡◌, ◌≢◌, ℕ, ◌-◌, ◌<◌, ◌≤◌, ◌==◌, ◌⊎◌, Option, Some, None, List, [], ◌∷◌, refl, sym, ◌∙◌, ap, subst, inl, inr, arith}
 use Rattle.std.proofs.lemmas.Bool.{cases_lt, cases_Bool}
 use Rattle.std.proofs.lemmas.Bool.Decides.{nat_tests}
 use Rattle.std.proofs.lemmas.Option.{none-some, same_Some}
-use Rattle.address_runs.specs.Runs.{RunOf, run_end, lies_in, value_at, AreRuns, IsBefore}
+use Rattle.address_runs.specs.Runs.{run_end, value_at, AreRuns, IsBefore}
 use Rattle.address_runs.specs.Sweep.{StartFrom}
 use Rattle.address_runs.proofs.RunsLaws.{none_below, rest_from, inside, below, behind}
 use Rattle.node_hulls.specs.Hulls.{Block}

@@ -1,19 +1,19 @@
 -- Which blocks are kept, and which overlap: what one look at a range tells.
-use Rattle.std.proofs.Common.{◌≡◌, ◌↔◌, ℕ, zero, suc, ◌+◌, ◌^◌, ◌<◌, ◌≤◌, ◌==◌, Bool, true, false, not, nat_lt, nat_le, max, min, List, [], ◌∷◌, length, get_or, drop, add-one, if◌then◌else◌, ◌++◌, Some, refl, subst, sym, ◌∙◌, ap, inl, inr, arith}
+use Rattle.std.proofs.Common.{◌≡◌, ℕ, zero, suc, ◌+◌, ◌^◌, ◌<◌, ◌≤◌, Bool, true, false, not, List, [], ◌∷◌, length, get_or, drop, add-one, if◌then◌else◌, ◌++◌, Some, refl, subst, sym, ◌∙◌, ap, inl, inr, arith}
 use Rattle.std.proofs.lemmas.Bool.{cases_lt, cases_Bool, true≢false}
 use Rattle.std.proofs.lemmas.Bool.Decides.{nat_tests}
 use Rattle.std.proofs.lemmas.List.Folds.{list_any_at}
 use Rattle.std.proofs.lemmas.List.{get_or_default, append-nil}
 use Rattle.std.proofs.Math.Seq.{drop-cons}
-use Rattle.std.specs.Prelude.{IsTrue, find}
+use Rattle.std.specs.Prelude.{find}
 use Rattle.bm_base.specs.Each.{each_in}
-use Rattle.bm_base.specs.Extent.{Extent, covers, end_of, Meet}
+use Rattle.bm_base.specs.Extent.{Extent, covers, Meet}
 use Rattle.bm_base.proofs.EachLaws.{each_in-all, each_in-fails}
 use Rattle.address_runs.specs.Overlay.{HaveAddresses}
 use Rattle.address_runs.specs.Runs.{run_end, extent_of}
 use Rattle.srat_reader.specs.declared.table.SratBlock.{SratBlock}
 use Rattle.node_hulls.specs.declared.kept.KeptBlock.{KeptBlock}
-use Rattle.node_hulls.specs.Hulls.{Block, meets}
+use Rattle.node_hulls.specs.Hulls.{Block}
 use Rattle.node_hulls.specs.Kept.{blocks_of, in_any, has_memory, of_node, kept_one, kept_from, kept_of}
 use Rattle.node_hulls.specs.Steps.{EndInSpace}
 

@@ -1,6 +1,7 @@
 pub mod DomainLaws
 pub mod FilledLaws
 pub mod InListLaws
+pub mod JudgedLaws
 pub mod KeptLaws
 pub mod NodesLaws
 pub mod RestLaws

@@ -1,20 +1,20 @@
 -- Blocks of different nodes that share no address: the joined runs of their nodes are the runs of what each address has.
-use Rattle.std.proofs.Common.{◌≡◌, ◌≢◌, ℕ, ◌+◌, ◌-◌, ◌^◌, ◌<◌, ◌≤◌, ◌==◌, ◌⊎◌, Bool, true, false, ◌&&◌, ◌||◌, not, nat_le, nat_lt, max, min, Option, Some, None, List, [], ◌∷◌, map, refl, sym, ◌∙◌, ap, subst, inl, inr, arith}
+use Rattle.std.proofs.Common.{◌≡◌, ◌≢◌, ℕ, ◌^◌, ◌<◌, ◌≤◌, ◌==◌, Bool, true, false, ◌&&◌, ◌||◌, not, nat_le, nat_lt, max, min, Option, Some, None, List, [], ◌∷◌, refl, sym, ◌∙◌, ap, subst, inl, inr, arith}
 use Rattle.std.proofs.lemmas.Bool.{cases_lt, cases_Bool, and_parts, and_from, true≢false}
 use Rattle.std.proofs.lemmas.Bool.Decides.{nat_tests}
 use Rattle.std.proofs.lemmas.Option.{none-some, same_Some}
-use Rattle.std.specs.List.{list_any, list_all}
-use Rattle.std.specs.Option.{option_map, option_or}
+use Rattle.std.specs.List.{list_any}
+use Rattle.std.specs.Option.{option_or}
 use Rattle.std.specs.Prelude.{find}
-use Rattle.address_runs.specs.Overlay.{all_overlaid, given_by, HaveAddresses}
-use Rattle.address_runs.specs.Runs.{RunOf, run_end, lies_in, value_at, AreRuns, IsRunsOf}
+use Rattle.address_runs.specs.Overlay.{all_overlaid, HaveAddresses}
+use Rattle.address_runs.specs.Runs.{run_end, lies_in, value_at, IsRunsOf}
 use Rattle.address_runs.proofs.RunsLaws.{inside}
 use Rattle.node_hulls.specs.declared.kept.KeptBlock.{KeptBlock}
 use Rattle.node_hulls.specs.Hulls.{Block, meets, is_between, is_own, holds, joins, has, first_had, node_at}
 use Rattle.node_hulls.specs.Kept.{blocks_of, clash, first_clash}
-use Rattle.node_hulls.specs.Steps.{filled}
+use Rattle.node_hulls.specs.Steps.{filled, EndInSpace}
 use Rattle.node_hulls.proofs.FilledLaws.{IsAround, IsFilled, IsFilledBy, filled_by}
-use Rattle.node_hulls.proofs.InListLaws.{IsIn, Passes, any_member, member_any, all_member, member_all}
+use Rattle.node_hulls.proofs.InListLaws.{IsIn, any_member, member_any, all_member, member_all}
 
 -- two blocks that share an address are of one node
 abbrev pub Apart : List Block → Type 0
@@ -330,3 +330,39 @@ apart_blocks ks none a b x in_a in_b lies_a lies_b =
     let at_a : lies_in one.0.block x ≡ true = ap (λ (c : Block). lies_in c x) (sym one.2) ∙ lies_a in
     let at_b : lies_in two.0.block x ≡ true = ap (λ (c : Block). lies_in c x) (sym two.2) ∙ lies_b in
     ap (λ (c : Block). c.value) one.2 ∙ kept_apart ks none one.0 two.0 x one.1 two.1 at_a at_b ∙ ap (λ (c : Block). c.value) (sym two.2)
+
+-- an address that has a node lies below the end of a block
+has_bound : (blocks : List Block) (n x : ℕ) → has blocks n x ≡ true → (b : Block) × IsIn b blocks × (x < run_end b)
+has_bound blocks n x had = elim (cases_Bool (holds blocks n x)) as (λ _. (b : Block) × IsIn b blocks × (x < run_end b)) [
+  | inl held ↦
+      let found = any_member _ blocks held in
+      let parts = and_parts (found.one.value == n) (lies_in found.one x) found.passes in
+      (found.one, found.member, (bounds found.one x parts.1).1)
+  | inr not_held ↦
+      let joined : joins blocks n x ≡ true = rw not_held at had in
+      let outer = any_member _ blocks joined in
+      let a = outer.one in
+      let inner = any_member _ blocks (and_parts (a.value == n) _ outer.passes).1 in
+      let b = inner.one in
+      let sides = and_parts (nat_le (run_end a) x) (nat_lt x b.base)
+      (and_parts (is_between a b x) (is_own blocks n a b) (and_parts (b.value == n) _ inner.passes).1).0 in
+      let before : x < b.base = grind (arith, nat_tests, sides.1) in
+      (b, inner.member, omega arith)
+]
+
+space_of : (blocks : List Block) (b : Block) → EndInSpace blocks → IsIn b blocks → run_end b < 2 ^ 64
+space_of [] b space member = absurd member
+space_of (c ∷ cs) b space (inl here) = subst (λ (d : Block). run_end d < 2 ^ 64) (sym here) space.0
+space_of (c ∷ cs) b space (inr later) = space_of cs b space.1 later
+
+-- so behind the address space none has a node
+pub node_none : (blocks : List Block) (x : ℕ) → EndInSpace blocks → 2 ^ 64 ≤ x → node_at blocks x ≡ None
+unfolding node_at
+node_none blocks x space far = by (first_had blocks x blocks) refl where
+  by : (o : Option ℕ) → first_had blocks x blocks ≡ o → first_had blocks x blocks ≡ None
+  by None at = at
+  by (Some m) at =
+      let block = has_bound blocks m x (first_has blocks x m blocks at) in
+      let ends : run_end block.0 < 2 ^ 64 = space_of blocks block.0 space block.1 in
+      let under = block.2 in
+      absurd (omega arith)

@@ -1,13 +1,12 @@
 -- Memory without a node, by laying memory and the runs with a node over one another; and the frames that begin in runs.
-use Rattle.std.proofs.Common.{◌≡◌, ◌≢◌, ℕ, ◌+◌, ◌-◌, ◌*◌, ◌/◌, ◌^◌, ◌<◌, ◌≤◌, ◌==◌, Bool, true, false, ◌&&◌, ◌||◌, not, nat_le, nat_lt, min, if◌then◌else◌, Option, Some, None, List, [], ◌∷◌, ◌++◌, map, suc, add-one, drop, take, length, get_or, append_assoc, refl, sym, ◌∙◌, ap, subst, inl, inr, arith}
-use Rattle.std.proofs.lemmas.Bool.{cases_lt, cases_Bool, true≢false}
+use Rattle.std.proofs.Common.{◌≡◌, ℕ, ◌+◌, ◌-◌, ◌*◌, ◌^◌, ◌<◌, ◌≤◌, Bool, true, false, ◌&&◌, ◌||◌, nat_le, nat_lt, if◌then◌else◌, Option, Some, None, List, [], ◌∷◌, ◌++◌, map, suc, add-one, drop, take, length, get_or, append_assoc, refl, sym, ◌∙◌, ap, subst, inl, inr, arith}
+use Rattle.std.proofs.lemmas.Bool.{cases_lt, cases_Bool}
 use Rattle.std.proofs.lemmas.Bool.Decides.{nat_tests}
 use Rattle.std.proofs.lemmas.List.{take_all}
-use Rattle.std.proofs.lemmas.Option.{none-some, same_Some}
+use Rattle.std.proofs.lemmas.Option.{none-some}
 use Rattle.std.proofs.Math.Seq.{drop-cons}
-use Rattle.std.specs.List.{list_any}
 use Rattle.std.specs.Prelude.{is_some, is_none}
-use Rattle.address_runs.specs.Overlay.{overlaid, all_overlaid, given_by, HaveAddresses}
+use Rattle.address_runs.specs.Overlay.{all_overlaid, HaveAddresses}
 use Rattle.address_runs.specs.Runs.{RunOf, run_end, lies_in, value_at, AreRuns, IsBefore, IsRunsOf}
 use Rattle.address_runs.specs.Sweep.{StartFrom}
 use Rattle.address_runs.proofs.OverlayLaws.{all_append}
@@ -202,3 +201,8 @@ frames_first r (s ∷ ss) n some count is runs space =
     let ends : run_end s < 2 ^ 64 = subst (λ (t : Block). run_end t < 2 ^ 64) is space in
     let all : take (n - 1) ss ≡ ss = take_all (n - 1) ss (omega arith) in
     (rw all runs.2, rw (all, is) (frames_step s ss runs ends))
+
+-- with no run left no frame is
+pub frames_last : (rs : List Block) → length rs < 1 → frames_given (value_at rs) ≡ 0
+frames_last [] none = frames_none
+frames_last (r ∷ rs) none = absurd (omega arith)

@@ -1,5 +1,5 @@
 -- Which node an address has, by the blocks of memory that lie in nodes (`numa_cleanup_meminfo`, `numa_register_memblks`).
-use Rattle.std.specs.Prelude.{ℕ, ◌<◌, ◌==◌, Bool, ◌&&◌, ◌||◌, not, nat_le, nat_lt, max, min, if◌then◌else◌, Option, Some, None, List, [], ◌∷◌}
+use Rattle.std.specs.Prelude.{ℕ, ◌==◌, Bool, ◌&&◌, ◌||◌, not, nat_le, nat_lt, max, min, if◌then◌else◌, Option, Some, None, List, [], ◌∷◌}
 use Rattle.std.specs.List.{list_any, list_all}
 use Rattle.address_runs.specs.Runs.{RunOf, run_end, lies_in}
 

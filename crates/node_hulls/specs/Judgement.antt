@@ -4,11 +4,12 @@ use Rattle.std.specs.Prelude.{ℕ, ◌*◌, ◌^◌, Bool, ◌&&◌, not, nat_le
 use Rattle.address_runs.specs.Runs.{runs_of}
 use Rattle.bm_base.specs.declared.frame.TheConstants.{FRAME_SIZE}
 use Rattle.e820_model.specs.Usable.{count_below}
-use Rattle.srat_reader.specs.declared.table.SratBlock.{SratBlock}
 use Rattle.srat_reader.specs.Table.{Affinity}
+use Rattle.node_hulls.specs.declared.kept.KeptBlock.{KeptBlock}
 use Rattle.node_hulls.specs.declared.reasons.Judged.{Judged}
 use Rattle.node_hulls.specs.declared.reasons.Why.{Why}
 use Rattle.node_hulls.specs.declared.reasons.Why.TheVariants as why
+use Rattle.node_hulls.specs.declared.reasons.TheConstants.{MAX_NODES, MAX_BLOCKS, UNCOVERED_FRAMES}
 use Rattle.node_hulls.specs.Domains.{domains_named}
 use Rattle.node_hulls.specs.Hulls.{Block, node_at, same_node}
 use Rattle.node_hulls.specs.Kept.{any_kept, blocks_of, count_some, first_clash, kept_of}
@@ -29,33 +30,6 @@ abbrev pub lowest : List Block → ℕ
 lowest [] = 0
 lowest (b ∷ bs) = fold lower b.value bs
 
--- the domains, the blocks that are kept, the node of each address by them, and the memory that is left over
-module _ (memory : ℕ → Bool) (lists : Affinity) where
-  abbrev pub domains_of : List ℕ
-  domains_of = domains_named lists.processors lists.blocks
-
-  abbrev pub node_blocks : List Block
-  node_blocks = blocks_of (kept_of memory domains_of lists.blocks)
-
-  abbrev pub nodes_by_blocks : ℕ → Option ℕ
-  nodes_by_blocks = node_at node_blocks
-
-  abbrev pub left_by_blocks : ℕ → Option ℕ
-  left_by_blocks = left_over memory nodes_by_blocks (lowest node_blocks)
-
-  -- the last two reasons: blocks of different nodes overlap, or 256 or more frames have no node
-  abbrev pub why_apart : Option (ℕ × ℕ) → ℕ → Why
-  why_apart (Some pair) frames = why.Overlap pair.0 pair.1
-  why_apart None frames = if nat_le 256 frames then why.NotCovered frames else why.Used
-
-  -- the first reason that holds, in this order; none of them: the table is used
-  abbrev pub why_of : Why
-  why_of =
-      if not (any_kept memory lists.blocks) then why.NoBlocks
-      else (if nat_lt 1024 (length domains_of) then why.TooManyDomains
-      else (if nat_lt 2048 (count_some lists.blocks) then why.TooManyBlocks
-      else why_apart (first_clash (kept_of memory domains_of lists.blocks)) (frames_given left_by_blocks)))
-
 -- what contracts see of a judgement
 pub record Judgement : Type 0 where
   pub why : Why
@@ -71,29 +45,47 @@ judgement j = record { why = j.why; domains = j.domains.items; joined = j.joined
 abbrev pub unused : Why → Judgement
 unused reason = record { why = reason; domains = []; joined = []; rest = []; uncovered = 0 }
 
--- where it is used: the domains in the order of their nodes, the runs of one node, the runs of memory that get the lowest
--- node, and how many frames these have
-abbrev pub used : (ℕ → Bool) → Affinity → Judgement
-used memory lists = record {
+-- where it is used: the domain of each node, the runs of addresses of one node, the runs of memory that is left over, and how
+-- many frames these have
+abbrev pub used : List ℕ → (ℕ → Option ℕ) → (ℕ → Option ℕ) → Judgement
+used domains nodes left = record {
   why = why.Used;
-  domains = domains_of memory lists;
-  joined = runs_of same_node (nodes_by_blocks memory lists);
-  rest = runs_of same_node (left_by_blocks memory lists);
-  uncovered = frames_given (left_by_blocks memory lists);
+  domains = domains;
+  joined = runs_of same_node nodes;
+  rest = runs_of same_node left;
+  uncovered = frames_given left;
 }
 
-abbrev pub for_reason : Why → Judgement → Judgement
-for_reason why.Used given = given
-for_reason why.Off given = unused why.Off
-for_reason why.Absent given = unused why.Absent
-for_reason why.NoBlocks given = unused why.NoBlocks
-for_reason why.TooManyDomains given = unused why.TooManyDomains
-for_reason why.TooManyBlocks given = unused why.TooManyBlocks
-for_reason (why.Overlap i j) given = unused (why.Overlap i j)
-for_reason (why.NotCovered frames) given = unused (why.NotCovered frames)
+-- the last reason: so many frames of memory are left over
+abbrev pub if_covering : List ℕ → (ℕ → Option ℕ) → (ℕ → Option ℕ) → Judgement
+if_covering domains nodes left =
+    if nat_le UNCOVERED_FRAMES (frames_given left) then unused (why.NotCovered (frames_given left)) else used domains nodes left
 
-abbrev pub judged_table : (ℕ → Bool) → Affinity → Judgement
-judged_table memory lists = for_reason (why_of memory lists) (used memory lists)
+-- the one before: kept blocks of different nodes overlap
+abbrev pub if_apart : Option (ℕ × ℕ) → Judgement → Judgement
+if_apart (Some numbers) given = unused (why.Overlap numbers.0 numbers.1)
+if_apart None given = given
+
+-- the node of each address by the kept blocks, and the memory that they leave over
+abbrev pub nodes_by : List KeptBlock → ℕ → Option ℕ
+nodes_by kept = node_at (blocks_of kept)
+
+abbrev pub left_by : (ℕ → Bool) → List KeptBlock → ℕ → Option ℕ
+left_by memory kept = left_over memory (nodes_by kept) (lowest (blocks_of kept))
+
+unfoldable pub judged_kept : (ℕ → Bool) → List ℕ → List KeptBlock → Judgement
+judged_kept memory domains kept = if_apart (first_clash kept) (if_covering domains (nodes_by kept) (left_by memory kept))
+
+-- the reasons in their order: no block is kept, too many domains, too many blocks, and then those of the kept blocks
+abbrev pub names_of : Affinity → List ℕ
+names_of lists = domains_named lists.processors lists.blocks
+
+unfoldable pub judged_table : (ℕ → Bool) → Affinity → Judgement
+judged_table memory lists =
+    if not (any_kept memory lists.blocks) then unused why.NoBlocks
+    else (if nat_lt MAX_NODES (length (names_of lists)) then unused why.TooManyDomains
+    else (if nat_lt MAX_BLOCKS (count_some lists.blocks) then unused why.TooManyBlocks
+    else judged_kept memory (names_of lists) (kept_of memory (names_of lists) lists.blocks)))
 
 -- `numa=off` goes before the table, and no table before what it says
 abbrev pub judged : (ℕ → Bool) → Bool → Option Affinity → Judgement

@@ -2,9 +2,11 @@
 
 ghost use Rattle.std.specs.Prelude.{◌≡◌, ℕ, ◌^◌, ◌<◌, ◌≤◌, IfOk, length};
 ghost use Rattle.std.specs.Option.{ForSome, option_map, option_copied};
+ghost use Rattle.address_runs.specs.Overlay.{HaveAddresses};
 ghost use Rattle.srat_reader.specs.Table.{affinity};
-ghost use Rattle.node_hulls.specs.Judgement.{lowest, judgement, judged, judged_table, unused, used};
+ghost use Rattle.node_hulls.specs.Judgement.{lowest, judgement, judged, judged_kept, judged_table, unused};
 ghost use Rattle.node_hulls.specs.Kept.{in_any, blocks_of, HaveBytes};
+ghost use Rattle.node_hulls.specs.Steps.{EndInSpace};
 
 use crate::domains::name_domains;
 use crate::hulls::join_blocks;
@@ -12,7 +14,7 @@ use crate::kept::{KeptBlock, count_with_addresses, first_overlap, is_any_kept, k
 use crate::node_range::NodeRange;
 use crate::rest::{count_frames, left_over_runs};
 use bm_base::{Memory, Range};
-use srat_reader::Srat;
+use srat_reader::{Srat, SratBlock};
 use std::alloc::Global;
 
 /// The most nodes that there may be (`MAX_NUMNODES`).
@@ -80,32 +82,53 @@ pub fn judge(
     }
     match srat {
         None => Ok(unused(alloc, Why::Absent)),
-        Some(table) => judge_table(alloc, memory, table),
+        Some(table) => judge_table(alloc, memory, &table.cpus, &table.blocks),
     }
 }
 
-/// Judges a table that is there.
-fn judge_table(alloc: Global, memory: &[Range], table: &Srat) -> Result<Judged, Memory>
+/// Judges a table that is there, as far as its blocks aren't cut to memory.
+fn judge_table(
+    alloc: Global,
+    memory: &[Range],
+    processors: &[u32],
+    blocks: &[SratBlock],
+) -> Result<Judged, Memory>
     requires memory { HaveBytes memory.now }
-    requires few { length table.now.blocks.items < 2 ^ 32 }
-    ensures { IfOk result (λ found. judgement found ≡ judged_table (in_any memory.now) (affinity table.now)) }
+    requires few { length blocks.now < 2 ^ 32 }
+    ensures { IfOk result (λ found. judgement found ≡
+        judged_table (in_any memory.now) (record { processors = processors.now; blocks = blocks.now })) }
 {
-    if !is_any_kept(memory, &table.blocks) {
+    if !is_any_kept(memory, blocks) {
         return Ok(unused(alloc, Why::NoBlocks));
     }
-    let domains = name_domains(alloc, &table.cpus, &table.blocks)?;
+    let domains = name_domains(alloc, processors, blocks)?;
     if domains.len() > MAX_NODES {
         return Ok(unused(alloc, Why::TooManyDomains));
     }
-    if count_with_addresses(&table.blocks) > MAX_BLOCKS {
+    if count_with_addresses(blocks) > MAX_BLOCKS {
         return Ok(unused(alloc, Why::TooManyBlocks));
     }
-    let kept = keep_blocks(alloc, memory, &domains, &table.blocks)?;
-    if let Some((i, j)) = first_overlap(&kept) {
+    let kept = keep_blocks(alloc, memory, &domains, blocks)?;
+    judge_kept(alloc, memory, domains, &kept)
+}
+
+/// Judges the table by the blocks that are kept.
+fn judge_kept(
+    alloc: Global,
+    memory: &[Range],
+    domains: Vec<u32>,
+    kept: &[KeptBlock],
+) -> Result<Judged, Memory>
+    requires memory { HaveBytes memory.now }
+    requires some { HaveAddresses (blocks_of kept.now) }
+    requires space { EndInSpace (blocks_of kept.now) }
+    ensures { IfOk result (λ found. judgement found ≡ judged_kept (in_any memory.now) domains.items kept.now) }
+{
+    if let Some((i, j)) = first_overlap(kept) {
         return Ok(unused(alloc, Why::Overlap { i, j }));
     }
-    let joined = join_blocks(alloc, &kept)?;
-    let rest = left_over_runs(alloc, memory, &joined, lowest_node(&kept))?;
+    let joined = join_blocks(alloc, kept)?;
+    let rest = left_over_runs(alloc, memory, &joined, lowest_node(kept))?;
     let uncovered = count_frames(&rest);
     if uncovered >= UNCOVERED_FRAMES {
         return Ok(unused(alloc, Why::NotCovered { frames: uncovered }));

@@ -1,5 +1,3 @@
-use Rattle.std.proofs.Common.{◌≡◌, [], fold, ap, sym, ◌∙◌}
-use Rattle.node_hulls.specs.Steps.{with_name_in_room, named_by_block}
 use Rattle.node_hulls.proofs.DomainLaws.{named_in_room}
 use Rattle.node_hulls.proofs.domains.name_domains.Goals as goal
 

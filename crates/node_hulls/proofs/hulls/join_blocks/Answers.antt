@@ -1,12 +1,11 @@
-use Rattle.std.proofs.Common.{◌≡◌, List, map, sym, ◌∙◌, ap, subst}
+use Rattle.std.proofs.Common.{List, ◌∙◌, subst}
 use Rattle.std.proofs.lemmas.Result.{IfOk-weaker}
 use Rattle.std.specs.Option.{option_or}
-use Rattle.address_runs.specs.Overlay.{all_overlaid, HaveAddresses}
+use Rattle.address_runs.specs.Overlay.{all_overlaid}
 use Rattle.address_runs.specs.Runs.{IsRunsOf}
-use Rattle.address_runs.proofs.OverlayLaws.{plain_addresses, plain_runs}
-use Rattle.node_hulls.specs.Hulls.{Block, node_at}
+use Rattle.address_runs.proofs.OverlayLaws.{plain_runs}
+use Rattle.node_hulls.specs.Hulls.{Block}
 use Rattle.node_hulls.specs.Kept.{blocks_of}
-use Rattle.node_hulls.specs.Steps.{filled}
 use Rattle.node_hulls.proofs.NodesLaws.{apart_blocks, joined_blocks}
 use Rattle.node_hulls.proofs.hulls.join_blocks.Goals as goal
 

@@ -1,6 +1,5 @@
-use Rattle.std.proofs.Common.{ℕ, ◌+◌, ◌<◌, get_or, sym, ◌∙◌, arith}
+use Rattle.std.proofs.Common.{sym, ◌∙◌, arith}
 use Rattle.std.proofs.lemmas.Bool.{true≢false}
-use Rattle.bm_base.specs.Extent.{Extent, Meet}
 use Rattle.node_hulls.proofs.KeptLaws.{memory_met, memory_missed, missed_more}
 use Rattle.node_hulls.proofs.kept.has_memory.Goals as goal
 

@@ -1,4 +1,4 @@
-use Rattle.std.proofs.Common.{◌≡◌, ◌+◌, ◌++◌, drop, ap, sym, ◌∙◌, append_assoc, arith}
+use Rattle.std.proofs.Common.{◌+◌, ◌++◌, drop, ap, sym, ◌∙◌, append_assoc, arith}
 use Rattle.node_hulls.specs.Kept.{in_any, kept_from, kept_one, of_node}
 use Rattle.node_hulls.proofs.KeptLaws.{kept_step, kept_space}
 use Rattle.node_hulls.proofs.kept.keep_blocks.Goals as goal

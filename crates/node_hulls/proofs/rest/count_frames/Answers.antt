@@ -1,7 +1,7 @@
-use Rattle.std.proofs.Common.{◌≡◌, ◌+◌, ◌≤◌, ◌^◌, length, refl, arith, ap, ◌∙◌, sym}
+use Rattle.std.proofs.Common.{◌≤◌, ◌^◌, length, refl, arith}
 use Rattle.address_runs.specs.Runs.{value_at}
 use Rattle.node_hulls.specs.Judgement.{frames_given}
-use Rattle.node_hulls.proofs.RestLaws.{frames_first, frames_few, frames_none}
+use Rattle.node_hulls.proofs.RestLaws.{frames_first, frames_few, frames_last}
 use Rattle.node_hulls.proofs.rest.count_frames.Goals as goal
 
 pub overflow_add-frames : goal.overflow_add-frames
@@ -27,4 +27,6 @@ loop-rest-preserved c =
     }
 
 pub returns : goal.returns
-returns c = ?
+returns c =
+    let counted = c.loop-rest.invariant.counted in
+    omega (arith, frames_last c.loop-rest.rest.now c.in_default.len_below)

@@ -1,10 +1,10 @@
-use Rattle.std.proofs.Common.{◌≡◌, ◌++◌, List, map, sym, ◌∙◌, ap, subst}
+use Rattle.std.proofs.Common.{◌++◌, List, map, ◌∙◌, subst}
 use Rattle.std.proofs.lemmas.Result.{IfOk-weaker}
-use Rattle.address_runs.specs.Overlay.{all_overlaid, HaveAddresses}
+use Rattle.address_runs.specs.Overlay.{all_overlaid}
 use Rattle.address_runs.specs.Runs.{RunOf, IsRunsOf}
 use Rattle.address_runs.proofs.OverlayLaws.{plain_addresses, plain_runs}
 use Rattle.node_hulls.specs.First.{either}
-use Rattle.node_hulls.specs.Steps.{bare, noded, bare_runs}
+use Rattle.node_hulls.specs.Steps.{bare, noded}
 use Rattle.node_hulls.proofs.RestLaws.{told_addresses, left_runs}
 use Rattle.node_hulls.proofs.rest.left_over_runs.Goals as goal
 

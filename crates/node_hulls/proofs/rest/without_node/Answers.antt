@@ -1,4 +1,4 @@
-use Rattle.std.proofs.Common.{◌≡◌, ◌∙◌, sym, ap, arith}
+use Rattle.std.proofs.Common.{◌∙◌}
 use Rattle.node_hulls.proofs.RestLaws.{bare_step, space_given}
 use Rattle.node_hulls.proofs.rest.without_node.Goals as goal
 
