@@ -1,4 +1,5 @@
 pub mod DomainLaws
+mod Examples
 pub mod FilledLaws
 pub mod InListLaws
 pub mod JudgedLaws
