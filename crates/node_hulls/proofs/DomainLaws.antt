@@ -1,0 +1,57 @@
+-- Naming domains up to one more than there may be nodes gives the front of the list of all of them.
+use Rattle.std.proofs.Common.{◌≡◌, ℕ, ◌<◌, ◌≤◌, ◌==◌, true, false, List, [], ◌∷◌, ◌++◌, map, fold, length, take, refl, sym, ◌∙◌, inl, inr, arith}
+use Rattle.std.proofs.lemmas.Bool.{cases_lt, cases_Bool}
+use Rattle.std.proofs.lemmas.Bool.Decides.{nat_tests}
+use Rattle.std.proofs.lemmas.List.{take_all, take-append-le, length-append, length-take-le}
+use Rattle.std.specs.List.{list_any}
+use Rattle.std.specs.Prelude.{nat_le}
+use Rattle.srat_reader.specs.declared.table.SratBlock.{SratBlock}
+use Rattle.node_hulls.specs.Domains.{with_name, named_once, domains_named}
+use Rattle.node_hulls.specs.Steps.{with_name_in_room, named_by_block}
+
+-- one name more
+step_in_room : (full : List ℕ) (d : ℕ) → length full ≤ 1024 → with_name_in_room (take 1025 full) d ≡ take 1025 (with_name full d)
+step_in_room full d few =
+    let whole : take 1025 full ≡ full = take_all 1025 full (omega arith) in
+    let room : nat_le (length full) 1024 ≡ true = grind (arith, nat_tests) in
+    rw (whole, room) (elim (cases_Bool (list_any (λ e. e == d) full)) as (λ _. with_name full d ≡ take 1025 (with_name full d)) [
+      | inl named ↦ rw named (sym whole)
+      | inr new ↦ rw new (sym (take_all 1025 (full ++ d ∷ []) (omega (arith, length-append full (d ∷ [])))))
+    ])
+
+step_past : (full : List ℕ) (d : ℕ) → 1024 < length full → with_name_in_room (take 1025 full) d ≡ take 1025 (with_name full d)
+step_past full d many =
+    let counted : length (take 1025 full) ≡ 1025 = length-take-le 1025 full (omega arith) in
+    let none : nat_le (length (take 1025 full)) 1024 ≡ false = grind (arith, nat_tests) in
+    rw none (elim (cases_Bool (list_any (λ e. e == d) full)) as (λ _. take 1025 full ≡ take 1025 (with_name full d)) [
+      | inl named ↦ rw named refl
+      | inr new ↦ rw new (sym (take-append-le 1025 full (d ∷ []) (omega arith)))
+    ])
+
+step_name : (full : List ℕ) (d : ℕ) → with_name_in_room (take 1025 full) d ≡ take 1025 (with_name full d)
+step_name full d = elim (cases_lt 1024 (length full)) as (λ _. with_name_in_room (take 1025 full) d ≡ take 1025 (with_name full d)) [
+  | inl many ↦ step_past full d many
+  | inr few ↦ step_in_room full d few
+]
+
+-- all names
+names_in_room : (full names : List ℕ) → fold with_name_in_room (take 1025 full) names ≡ take 1025 (fold with_name full names)
+names_in_room full [] = refl
+names_in_room full (d ∷ ds) = rw (step_name full d) (names_in_room (with_name full d) ds)
+
+by_blocks : (domains : List ℕ) (blocks : List SratBlock)
+    → fold named_by_block domains blocks ≡ fold with_name_in_room domains (map (λ (b : SratBlock). b.domain) blocks)
+by_blocks domains [] = refl
+by_blocks domains (b ∷ bs) = by_blocks (named_by_block domains b) bs
+
+fold_append : (start xs ys : List ℕ) → fold with_name_in_room (fold with_name_in_room start xs) ys ≡ fold with_name_in_room start (xs ++ ys)
+fold_append start [] ys = refl
+fold_append start (x ∷ xs) ys = fold_append (with_name_in_room start x) xs ys
+
+pub named_in_room : (processors : List ℕ) (blocks : List SratBlock)
+    → fold named_by_block (fold with_name_in_room [] processors) blocks ≡ take 1025 (domains_named processors blocks)
+unfolding named_once
+named_in_room processors blocks =
+    by_blocks (fold with_name_in_room [] processors) blocks
+    ∙ fold_append [] processors (map (λ (b : SratBlock). b.domain) blocks)
+    ∙ names_in_room [] (processors ++ map (λ (b : SratBlock). b.domain) blocks)

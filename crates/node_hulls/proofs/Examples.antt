@@ -1,0 +1,227 @@
+-- Small machines, computed: what the definitions say of a few addresses, blocks and domains.
+use Rattle.std.proofs.Common.{◌≡◌, ℕ, Bool, true, false, List, [], ◌∷◌, Some, None, refl, ◌∙◌, lit<, lit≤, arith}
+use Rattle.std.specs.Prelude.{◌==◌, nat_lt, ◌||◌, replicate}
+use Rattle.std.specs.List.{range_with_len}
+use Rattle.address_runs.specs.Runs.{AreRuns, runs_from, value_at}
+use Rattle.bm_base.specs.Each.{each_from, each_in}
+use Rattle.bm_base.specs.Extent.{Extent}
+use Rattle.srat_reader.specs.declared.table.SratBlock.{SratBlock}
+use Rattle.node_hulls.specs.declared.kept.KeptBlock.{KeptBlock}
+use Rattle.node_hulls.specs.declared.reasons.Why.TheVariants as why
+use Rattle.node_hulls.specs.Domains.{with_name, named_once, domains_named, node_of}
+use Rattle.node_hulls.specs.Hulls.{Block, meets, is_between, is_own, holds, joins, has, first_had, node_at, same_node}
+use Rattle.node_hulls.specs.Judgement.{left_over, frames_given, lower, lowest, unused, used, if_covering, if_apart, nodes_by, left_by, names_of, judged_kept, judged_table, judged}
+use Rattle.node_hulls.proofs.RestLaws.{frames_none, frames_step}
+use Rattle.node_hulls.specs.Kept.{in_any, frame_base, framed, has_memory, of_node, kept_one, kept_from, kept_of, blocks_of, any_kept, count_some, clash, first_clash}
+
+abbrev block : ℕ → ℕ → ℕ → Block
+block n base size = record { base = base; size = size; value = n }
+
+-- a stretch meets a block where some address of the block lies in it
+meets_examples : (meets 2 5 (block 0 4 3) ≡ true) × (meets 2 4 (block 0 4 3) ≡ false) × (meets 7 9 (block 0 4 3) ≡ false)
+meets_examples = (refl, refl, refl)
+
+-- between two blocks, and not in either
+between_examples : (is_between (block 0 1 2) (block 0 5 1) 3 ≡ true) × (is_between (block 0 1 2) (block 0 5 1) 2 ≡ false)
+    × (is_between (block 0 1 2) (block 0 5 1) 5 ≡ false)
+between_examples = (refl, refl, refl)
+
+-- node 0 at 1 and 2 and at 8 and 9, node 1 at 5: told in another order
+abbrev one_between : List Block
+one_between = block 0 8 2 ∷ block 1 5 1 ∷ block 0 1 2 ∷ []
+
+-- node 0 on both sides of a hole, and node 1 behind them
+abbrev hole : List Block
+hole = block 0 1 2 ∷ block 1 9 2 ∷ block 0 5 2 ∷ []
+
+own_examples : (is_own hole 0 (block 0 1 2) (block 0 5 2) ≡ true) × (is_own one_between 0 (block 0 1 2) (block 0 8 2) ≡ false)
+own_examples = (refl, refl)
+
+holds_examples : (holds hole 0 2 ≡ true) × (holds hole 0 3 ≡ false) × (holds hole 1 2 ≡ false)
+holds_examples = (refl, refl, refl)
+
+joins_examples : (joins hole 0 3 ≡ true) × (joins hole 0 7 ≡ false) × (joins one_between 0 4 ≡ false)
+joins_examples = (refl, refl, refl)
+
+has_examples : (has hole 0 2 ≡ true) × (has hole 0 4 ≡ true) × (has hole 1 4 ≡ false) × (has hole 1 10 ≡ true)
+has_examples = (refl, refl, refl, refl)
+
+first_examples : (first_had hole 4 hole ≡ Some 0) × (first_had hole 8 hole ≡ None)
+first_examples = (refl, refl)
+
+node_examples : (node_at hole 10 ≡ Some 1) × (node_at one_between 5 ≡ Some 1) × (node_at one_between 6 ≡ None)
+unfolding node_at
+node_examples = (refl, refl, refl)
+
+same_examples : (same_node 3 3 ≡ true) × (same_node 3 4 ≡ false)
+same_examples = (refl, refl)
+
+-- the runs of nodes over twelve addresses: the hole is filled, and what lies around another node isn't
+hole_filled : runs_from same_node (node_at hole) 0 12 ≡ block 0 1 6 ∷ block 1 9 2 ∷ []
+unfolding runs_from node_at
+hole_filled = refl
+
+nothing_filled : runs_from same_node (node_at one_between) 0 12 ≡ block 0 1 2 ∷ block 1 5 1 ∷ block 0 8 2 ∷ []
+unfolding runs_from node_at
+nothing_filled = refl
+
+-- a block within another one of its node, and two that touch
+within : runs_from same_node (node_at (block 2 3 1 ∷ block 2 1 5 ∷ block 2 6 1 ∷ [])) 0 12 ≡ block 2 1 6 ∷ []
+unfolding runs_from node_at
+within = refl
+
+-- domains in the order of first naming, each once
+with_name_examples : (with_name (5 ∷ []) 2 ≡ 5 ∷ 2 ∷ []) × (with_name (5 ∷ 2 ∷ []) 5 ≡ 5 ∷ 2 ∷ [])
+with_name_examples = (refl, refl)
+
+named_once_examples : (named_once (7 ∷ 3 ∷ 7 ∷ 1 ∷ 3 ∷ []) ≡ 7 ∷ 3 ∷ 1 ∷ []) × (named_once [] ≡ [])
+unfolding named_once
+named_once_examples = (refl, refl)
+
+abbrev told : ℕ → ℕ → ℕ → SratBlock
+told domain base size = record { domain = domain; range = record { base = base; size = size } }
+
+-- those of processors come first, though memory names others
+processors_first : (domains_named (12 ∷ 11 ∷ []) (told 3 0 1 ∷ told 12 1 1 ∷ []) ≡ 12 ∷ 11 ∷ 3 ∷ [])
+    × (domains_named [] (told 3 0 1 ∷ told 12 1 1 ∷ []) ≡ 3 ∷ 12 ∷ [])
+unfolding named_once
+processors_first = (refl, refl)
+
+node_of_examples : (node_of (12 ∷ 11 ∷ 3 ∷ []) 12 ≡ 0) × (node_of (12 ∷ 11 ∷ 3 ∷ []) 3 ≡ 2)
+node_of_examples = (refl, refl)
+
+-- memory as ranges: 0x1000 to 0x2FFF and one byte at 0x5000
+abbrev memory : ℕ → Bool
+memory = in_any (record { base = 0x1000; size = 0x2000 } ∷ record { base = 0x5000; size = 1 } ∷ [])
+
+in_any_examples : (memory 0x1000 ≡ true) × (memory 0x3000 ≡ false) × (memory 0x5000 ≡ true) × (memory 0x5001 ≡ false)
+in_any_examples = (refl, refl, refl, refl)
+
+frame_base_examples : (frame_base 0x1FFF ≡ 0x1000) × (frame_base 0x2000 ≡ 0x2000)
+frame_base_examples = (refl, refl)
+
+abbrev range : ℕ → ℕ → Extent
+range base size = record { base = base; size = size }
+
+-- both ends are rounded down, so a range within one frame is empty
+framed_examples : (framed (range 0x1800 0x1000) ≡ range 0x1000 0x1000) × (framed (range 0x1800 0x7FF) ≡ range 0x1000 0)
+framed_examples = (refl, refl)
+
+-- one byte is enough, and no byte isn't
+has_memory_examples : (has_memory memory (range 0x4FFE 4) ≡ true) × (has_memory memory (range 0x4FFE 2) ≡ false) × (has_memory memory (range 0x1000 0) ≡ false)
+unfolding each_in each_from
+has_memory_examples = (refl, refl, refl)
+
+-- over a test of a few addresses, so that whole frames compute
+abbrev some_frames : ℕ → Bool
+some_frames x = (x == 0x1000) || (x == 0x3000)
+
+of_node_examples : (of_node (8 ∷ 5 ∷ []) (told 5 0x1800 0x1000) ≡ block 1 0x1000 0x1000) × (of_node (8 ∷ 5 ∷ []) (told 8 0 0xFFF) ≡ block 0 0 0)
+of_node_examples = (refl, refl)
+
+kept_one_examples : (kept_one memory 7 (block 3 0x5000 2) ≡ record { number = 7; block = block 3 0x5000 2 } ∷ []) × (kept_one memory 7 (block 3 0x5001 2) ≡ [])
+unfolding each_in each_from
+kept_one_examples = (refl, refl)
+
+-- the numbers count the blocks that aren't kept too: here the first one, which is empty in whole frames
+kept_examples : (kept_of some_frames (5 ∷ 6 ∷ []) (told 5 0 0xFFF ∷ told 6 0x1000 0x1000 ∷ []) ≡ record { number = 1; block = block 1 0x1000 0x1000 } ∷ [])
+    × (kept_from some_frames (5 ∷ []) 4 (told 5 0 0x800 ∷ []) ≡ [])
+unfolding each_in each_from
+kept_examples = (refl, refl)
+
+abbrev kept : ℕ → Block → KeptBlock
+kept i b = record { number = i; block = b }
+
+blocks_examples : (blocks_of (kept 2 (block 0 1 1) ∷ kept 4 (block 1 2 2) ∷ []) ≡ block 0 1 1 ∷ block 1 2 2 ∷ []) × (blocks_of [] ≡ [])
+blocks_examples = (refl, refl)
+
+any_kept_examples : (any_kept some_frames (told 5 0 0xFFF ∷ told 6 0x1000 0x1000 ∷ []) ≡ true) × (any_kept some_frames (told 5 0 0xFFF ∷ []) ≡ false)
+unfolding each_in each_from
+any_kept_examples = (refl, refl)
+
+-- by the length that the table states, before it is rounded
+count_examples : (count_some (told 5 0 1 ∷ told 6 9 0 ∷ told 7 9 2 ∷ []) ≡ 2) × (count_some [] ≡ 0)
+count_examples = (refl, refl)
+
+-- blocks of different nodes that share an address; touching isn't sharing, and one node may lie over itself
+clash_examples : (clash (kept 0 (block 0 1 2)) (kept 1 (block 1 2 2)) ≡ true) × (clash (kept 0 (block 0 1 2)) (kept 1 (block 1 3 2)) ≡ false)
+    × (clash (kept 0 (block 0 1 2)) (kept 1 (block 0 2 2)) ≡ false)
+clash_examples = (refl, refl, refl)
+
+-- the least pair by the first number and then by the second
+least_pair : first_clash (kept 1 (block 0 9 1) ∷ kept 2 (block 0 1 4) ∷ kept 5 (block 1 7 1) ∷ kept 6 (block 1 3 1) ∷ kept 8 (block 2 2 1) ∷ []) ≡ Some (2, 6)
+least_pair = refl
+
+no_pair : first_clash (kept 0 (block 0 1 2) ∷ kept 1 (block 1 3 2) ∷ []) ≡ None
+no_pair = refl
+
+-- memory without a node gets the node that is given, what has one and what is no memory gets none
+abbrev below_4 : ℕ → Bool
+below_4 x = nat_lt x 4
+
+left_over_examples : (left_over below_4 (node_at hole) 6 0 ≡ Some 6) × (left_over below_4 (node_at hole) 6 1 ≡ None) × (left_over below_4 (node_at hole) 6 20 ≡ None)
+unfolding node_at
+left_over_examples = (refl, refl, refl)
+
+lowest_examples : (lower 3 (block 1 0 1) ≡ 1) × (lower 0 (block 1 0 1) ≡ 0) × (lowest (block 3 0 1 ∷ block 1 2 1 ∷ block 2 4 1 ∷ []) ≡ 1) × (lowest [] ≡ 0)
+lowest_examples = (refl, refl, refl, refl)
+
+-- the node of an address by the kept blocks, and what they leave over, which goes to the lowest node
+by_kept_examples : (nodes_by (kept 3 (block 2 1 1) ∷ kept 4 (block 2 3 1) ∷ []) 2 ≡ Some 2) × (left_by below_4 (kept 3 (block 2 1 1) ∷ kept 4 (block 2 3 1) ∷ []) 0 ≡ Some 2)
+    × (left_by below_4 (kept 3 (block 2 1 1) ∷ kept 4 (block 2 3 1) ∷ []) 2 ≡ None)
+unfolding node_at
+by_kept_examples = (refl, refl, refl)
+
+-- the reasons: those of the table before those of the kept blocks, and `numa=off` before all
+names_examples : (names_of (record { processors = 4 ∷ []; blocks = told 2 0 1 ∷ [] }) ≡ 4 ∷ 2 ∷ []) × (names_of (record { processors = []; blocks = [] }) ≡ [])
+unfolding named_once
+names_examples = (refl, refl)
+
+no_block_kept : judged_table some_frames (record { processors = 4 ∷ []; blocks = told 2 0 0xFFF ∷ [] }) ≡ unused why.NoBlocks
+unfolding judged_table each_in each_from
+no_block_kept = refl
+
+two_overlap : judged_kept below_4 (5 ∷ 6 ∷ []) (kept 3 (block 0 1 2) ∷ kept 4 (block 1 2 1) ∷ []) ≡ unused (why.Overlap 3 4)
+unfolding judged_kept
+two_overlap = refl
+
+if_apart_examples : (if_apart (Some (3, 4)) (unused why.Used) ≡ unused (why.Overlap 3 4)) × (if_apart None (unused why.NoBlocks) ≡ unused why.NoBlocks)
+if_apart_examples = (refl, refl)
+
+off_or_absent : (judged below_4 true (Some (record { processors = []; blocks = [] })) ≡ unused why.Off) × (judged below_4 true None ≡ unused why.Off)
+    × (judged below_4 false None ≡ unused why.Absent)
+off_or_absent = (refl, refl, refl)
+
+-- frames that begin in runs: a frame that begins before a run isn't counted, and one that ends behind it is
+frames_of_runs : frames_given (value_at (block 0 0x800 0x1000 ∷ (block 1 0x3000 0x2001 ∷ []))) ≡ 4
+frames_of_runs =
+    let runs : AreRuns (block 0 0x800 0x1000 ∷ (block 1 0x3000 0x2001 ∷ [])) = (lit< tt, (lit≤ tt, λ touch. absurd (omega arith)), (lit< tt, tt, tt)) in
+    frames_step (block 0 0x800 0x1000) (block 1 0x3000 0x2001 ∷ []) runs (lit< tt)
+    ∙ rw (frames_step (block 1 0x3000 0x2001) [] runs.2 (lit< tt), frames_none) refl
+
+one_mebibyte : frames_given (value_at (block 0 0 0x100000 ∷ [])) ≡ 256
+one_mebibyte = frames_step (block 0 0 0x100000) [] (lit< tt, tt, tt) (lit< tt) ∙ rw frames_none refl
+
+-- 256 frames are too many, none is few enough
+too_much_left : if_covering (5 ∷ []) (value_at []) (value_at (block 0 0 0x100000 ∷ [])) ≡ unused (why.NotCovered 256)
+too_much_left = rw one_mebibyte refl
+
+nothing_left : if_covering (5 ∷ []) (value_at (block 0 0 1 ∷ [])) (value_at []) ≡ used (5 ∷ []) (value_at (block 0 0 1 ∷ [])) (value_at [])
+nothing_left = rw frames_none refl
+
+-- what is given where the table is used, and where it isn't
+used_gives : ((used (5 ∷ []) (value_at []) (value_at (block 0 0 0x100000 ∷ []))).uncovered ≡ 256) × ((used (5 ∷ []) (value_at []) (value_at [])).domains ≡ 5 ∷ [])
+used_gives = (one_mebibyte, refl)
+
+unused_gives : ((unused why.NoBlocks).domains ≡ []) × ((unused (why.Overlap 1 2)).why ≡ why.Overlap 1 2)
+unused_gives = (refl, refl)
+
+-- 2,048 blocks with an address aren't too many, as one without an address doesn't count; 2,049 are
+many_blocks : judged_table some_frames (record { processors = []; blocks = replicate 2049 (told 5 0x1000 0x1000) }) ≡ unused why.TooManyBlocks
+unfolding judged_table named_once each_in each_from
+many_blocks = refl
+
+-- 1,025 domains are too many
+many_domains : judged_table some_frames (record { processors = range_with_len 0 1025; blocks = told 5 0x1000 0x1000 ∷ [] }) ≡ unused why.TooManyDomains
+unfolding judged_table named_once each_in each_from
+many_domains = refl

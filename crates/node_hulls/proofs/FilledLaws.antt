@@ -1,0 +1,312 @@
+-- Runs joined with their neighbours: what they give is what the runs give, and what lies between two places of one node with no
+-- other node between these.
+use Rattle.std.proofs.Common.{◌≡◌, ◌≢◌, ℕ, ◌-◌, ◌<◌, ◌≤◌, ◌==◌, ◌⊎◌, Option, Some, None, List, [], ◌∷◌, refl, sym, ◌∙◌, ap, subst, inl, inr, arith}
+use Rattle.std.proofs.lemmas.Bool.{cases_lt, cases_Bool}
+use Rattle.std.proofs.lemmas.Bool.Decides.{nat_tests}
+use Rattle.std.proofs.lemmas.Option.{none-some, same_Some}
+use Rattle.address_runs.specs.Runs.{run_end, value_at, AreRuns, IsBefore}
+use Rattle.address_runs.specs.Sweep.{StartFrom}
+use Rattle.address_runs.proofs.RunsLaws.{none_below, rest_from, inside, below, behind}
+use Rattle.node_hulls.specs.Hulls.{Block}
+use Rattle.node_hulls.specs.Steps.{filled, led_by_run}
+
+-- a lower and a higher place give the node, and none between them gives another one
+pub record IsAround (f : ℕ → Option ℕ) (x n : ℕ) : Type 0 where
+  pub low : ℕ
+  pub high : ℕ
+  pub under : low < x
+  pub over : x < high
+  pub at_low : f low ≡ Some n
+  pub at_high : f high ≡ Some n
+  pub only : (y m : ℕ) → low ≤ y → y ≤ high → f y ≡ Some m → m ≡ n
+
+abbrev pub IsFilled : (ℕ → Option ℕ) → ℕ → ℕ → Type 0
+IsFilled f x n = (f x ≡ Some n) ⊎ IsAround f x n
+
+-- the second list is canonical and gives what the first gives, and what lies around
+pub record IsFilledBy (rs ts : List Block) : Type 0 where
+  pub runs : AreRuns ts
+  pub sound : (x n : ℕ) → value_at ts x ≡ Some n → IsFilled (value_at rs) x n
+  pub complete : (x n : ℕ) → IsFilled (value_at rs) x n → value_at ts x ≡ Some n
+
+-- where the first run of a canonical list lies against an address
+data Place (r : Block) (x : ℕ) : Type 0 where
+  Below : x < r.base → Place r x
+  Inside : r.base ≤ x → x < run_end r → Place r x
+  Behind : run_end r ≤ x → Place r x
+
+place : (r : Block) (x : ℕ) → Place r x
+place r x = elim (cases_lt x r.base) as (λ _. Place r x) [
+  | inl lt ↦ Below lt
+  | inr ge ↦ elim (cases_lt x (run_end r)) as (λ _. Place r x) [
+    | inl under ↦ Inside ge under
+    | inr from ↦ Behind from
+  ]
+]
+
+at_below : (r : Block) (rs : List Block) (x : ℕ) → AreRuns (r ∷ rs) → x < r.base → value_at (r ∷ rs) x ≡ None
+at_below r rs x runs lt = let start : StartFrom r.base (r ∷ rs) = omega arith in none_below r.base x (r ∷ rs) runs start lt
+
+at_inside : (r : Block) (rs : List Block) (x : ℕ) → r.base ≤ x → x < run_end r → value_at (r ∷ rs) x ≡ Some r.value
+at_inside r rs x above under = rw (inside r x above under) refl
+
+at_behind : (r : Block) (rs : List Block) (x : ℕ) → run_end r ≤ x → value_at (r ∷ rs) x ≡ value_at rs x
+at_behind r rs x from = rw (behind r x from) refl
+
+-- what gives a value in the rest lies behind the first run
+rest_behind : (r : Block) (rs : List Block) (x n : ℕ) → AreRuns (r ∷ rs) → value_at rs x ≡ Some n → run_end r ≤ x
+rest_behind r rs x n runs some = elim (cases_lt x (run_end r)) as (λ _. run_end r ≤ x) [
+  | inl lt ↦ absurd (none-some n (sym (none_below (run_end r) x rs runs.2 (rest_from r rs runs) lt) ∙ some))
+  | inr ge ↦ ge
+]
+
+-- what the rest fills the whole list fills
+lifted : (r : Block) (rs : List Block) (x n : ℕ) → AreRuns (r ∷ rs) → IsFilled (value_at rs) x n → IsFilled (value_at (r ∷ rs)) x n
+lifted r rs x n runs (inl here) = inl (at_behind r rs x (rest_behind r rs x n runs here) ∙ here)
+lifted r rs x n runs (inr around) =
+    let from : run_end r ≤ around.low = rest_behind r rs around.low n runs around.at_low in
+    let under = around.under in
+    let over = around.over in
+    inr (record {
+      low = around.low;
+      high = around.high;
+      under = around.under;
+      over = around.over;
+      at_low = at_behind r rs around.low from ∙ around.at_low;
+      at_high = at_behind r rs around.high (omega arith) ∙ around.at_high;
+      only = λ y m above below_high some.
+          around.only y m above below_high (sym (at_behind r rs y (omega arith)) ∙ some);
+    })
+
+-- and what the whole list fills behind the first run, from places behind it, the rest fills
+lowered : (r : Block) (rs : List Block) (x n : ℕ) → (around : IsAround (value_at (r ∷ rs)) x n) → run_end r ≤ around.low
+    → IsAround (value_at rs) x n
+lowered r rs x n around from =
+    let under = around.under in
+    let over = around.over in
+    record {
+      low = around.low;
+      high = around.high;
+      under = around.under;
+      over = around.over;
+      at_low = sym (at_behind r rs around.low from) ∙ around.at_low;
+      at_high = sym (at_behind r rs around.high (omega arith)) ∙ around.at_high;
+      only = λ y m above below_high some. around.only y m above below_high (at_behind r rs y (omega arith) ∙ some);
+    }
+
+-- the base of the first joined run is that of a run
+first_value : (rs : List Block) (t : Block) (us : List Block) → IsFilledBy rs (t ∷ us) → value_at rs t.base ≡ Some t.value
+first_value rs t us known =
+    let some : value_at (t ∷ us) t.base ≡ Some t.value = at_inside t us t.base (omega arith) (omega (arith, known.runs.0)) in
+    elim (known.sound t.base t.value some) as (λ _. value_at rs t.base ≡ Some t.value) [
+      | inl here ↦ here
+      | inr around ↦
+          let given : value_at (t ∷ us) around.low ≡ Some t.value = known.complete around.low t.value (inl around.at_low) in
+          absurd (none-some t.value (sym (at_below t us around.low known.runs around.under) ∙ given))
+    ]
+
+-- a value of the whole list at a place from which on the first run gives its own
+low_value : (r : Block) (rs : List Block) (x n : ℕ) → AreRuns (r ∷ rs) → value_at (r ∷ rs) x ≡ Some n → x < run_end r → r.value ≡ n
+low_value r rs x n runs some under = elim (place r x) as (λ _. r.value ≡ n) [
+  | Below lt ↦ absurd (none-some n (sym (at_below r rs x runs lt) ∙ some))
+  | Inside above in_run ↦ same_Some r.value n (sym (at_inside r rs x above in_run) ∙ some)
+  | Behind from ↦ absurd (omega arith)
+]
+
+-- from a place in the first run to one behind it: the first joined run behind it has the node too
+next_value : (r : Block) (rs : List Block) (t : Block) (us : List Block) (x n : ℕ) → AreRuns (r ∷ rs) → IsFilledBy rs (t ∷ us)
+    → (around : IsAround (value_at (r ∷ rs)) x n) → around.low < run_end r → run_end r ≤ x → t.value ≡ n
+next_value r rs t us x n runs known around low_in from =
+    let over = around.over in
+    let first : value_at rs t.base ≡ Some t.value = first_value rs t us known in
+    let above : run_end r ≤ t.base = rest_behind r rs t.base t.value runs first in
+    let high : value_at rs around.high ≡ Some n = sym (at_behind r rs around.high (omega arith)) ∙ around.at_high in
+    let reached : value_at (t ∷ us) around.high ≡ Some n = known.complete around.high n (inl high) in
+    elim (cases_lt around.high t.base) as (λ _. t.value ≡ n) [
+      | inl short ↦ absurd (none-some n (sym (at_below t us around.high known.runs short) ∙ reached))
+      | inr long ↦ around.only t.base t.value (omega arith) long (at_behind r rs t.base above ∙ first)
+    ]
+
+-- what the whole list fills at an address: the first run's own node there, what the rest fills, or what lies between a place in
+-- the first run and one behind the address
+data Reached (r : Block) (rs : List Block) (x n : ℕ) : Type 0 where
+  InFirst : r.base ≤ x → x < run_end r → r.value ≡ n → Reached r rs x n
+  InRest : run_end r ≤ x → IsFilled (value_at rs) x n → Reached r rs x n
+  Across : run_end r ≤ x → (around : IsAround (value_at (r ∷ rs)) x n) → around.low < run_end r → r.value ≡ n → Reached r rs x n
+
+reached_by : (r : Block) (rs : List Block) (x n : ℕ) → AreRuns (r ∷ rs) → Place r x → IsFilled (value_at (r ∷ rs)) x n → Reached r rs x n
+reached_by r rs x n runs (Below lt) (inl here) = absurd (none-some n (sym (at_below r rs x runs lt) ∙ here))
+reached_by r rs x n runs (Below lt) (inr around) =
+    let under = around.under in
+    absurd (none-some n (sym (at_below r rs around.low runs (omega arith)) ∙ around.at_low))
+reached_by r rs x n runs (Inside above under) (inl here) = InFirst above under (low_value r rs x n runs here under)
+reached_by r rs x n runs (Inside above under) (inr around) =
+    let low = around.under in
+    let high = around.over in
+    InFirst above under (around.only x r.value (omega arith) (omega arith) (at_inside r rs x above under))
+reached_by r rs x n runs (Behind from) (inl here) = InRest from (inl (sym (at_behind r rs x from) ∙ here))
+reached_by r rs x n runs (Behind from) (inr around) = elim (cases_lt around.low (run_end r)) as (λ _. Reached r rs x n) [
+  | inl in_run ↦ Across from around in_run (low_value r rs around.low n runs around.at_low in_run)
+  | inr behind_run ↦ InRest from (inr (lowered r rs x n around behind_run))
+]
+
+reached : (r : Block) (rs : List Block) (x n : ℕ) → AreRuns (r ∷ rs) → IsFilled (value_at (r ∷ rs)) x n → Reached r rs x n
+reached r rs x n runs filling = reached_by r rs x n runs (place r x) filling
+
+-- where nothing is joined behind the first run, nothing is behind it
+last_step : (r : Block) (rs : List Block) → AreRuns (r ∷ rs) → IsFilledBy rs [] → IsFilledBy (r ∷ rs) (r ∷ [])
+last_step r rs runs known = record {
+  runs = (runs.0, tt, tt);
+  sound = λ x n some. elim (place r x) as (λ _. IsFilled (value_at (r ∷ rs)) x n) [
+    | Below lt ↦ absurd (none-some n (sym (rw (below r x lt) refl) ∙ some))
+    | Inside above under ↦ inl (at_inside r rs x above under ∙ sym (at_inside r [] x above under) ∙ some)
+    | Behind from ↦ absurd (none-some n (sym (at_behind r [] x from) ∙ some))
+  ];
+  complete = λ x n filling. elim (reached r rs x n runs filling) as (λ _. value_at (r ∷ []) x ≡ Some n) [
+    | InFirst above under same ↦ at_inside r [] x above under ∙ ap (λ m. Some m) same
+    | InRest from rest ↦ absurd (none-some n (known.complete x n rest))
+    | Across from around low_in same ↦
+        let over = around.over in
+        absurd (none-some n (known.complete around.high n (inl (sym (at_behind r rs around.high (omega arith)) ∙ around.at_high))))
+  ];
+}
+
+-- where the next joined run has another node, the first run stands alone
+apart_step : (r : Block) (rs : List Block) (t : Block) (us : List Block) → AreRuns (r ∷ rs) → IsFilledBy rs (t ∷ us) → r.value ≢ t.value
+    → IsFilledBy (r ∷ rs) (r ∷ (t ∷ us))
+apart_step r rs t us runs known other =
+    let above : run_end r ≤ t.base = rest_behind r rs t.base t.value runs (first_value rs t us known) in
+    let canonical : AreRuns (r ∷ (t ∷ us)) = (runs.0, (above, λ touch. other), known.runs) in
+    record {
+      runs = canonical;
+      sound = λ x n some. elim (place r x) as (λ _. IsFilled (value_at (r ∷ rs)) x n) [
+        | Below lt ↦ absurd (none-some n (sym (at_below r (t ∷ us) x canonical lt) ∙ some))
+        | Inside in_run under ↦ inl (at_inside r rs x in_run under ∙ sym (at_inside r (t ∷ us) x in_run under) ∙ some)
+        | Behind from ↦ lifted r rs x n runs (known.sound x n (sym (at_behind r (t ∷ us) x from) ∙ some))
+      ];
+      complete = λ x n filling. elim (reached r rs x n runs filling) as (λ _. value_at (r ∷ (t ∷ us)) x ≡ Some n) [
+        | InFirst in_run under same ↦ at_inside r (t ∷ us) x in_run under ∙ ap (λ m. Some m) same
+        | InRest from rest ↦ at_behind r (t ∷ us) x from ∙ known.complete x n rest
+        | Across from around low_in same ↦ absurd (other (same ∙ sym (next_value r rs t us x n runs known around low_in from)))
+      ];
+    }
+
+-- where it has the same node, the first run reaches to its end
+abbrev spanning : Block → Block → Block
+spanning r t = record { base = r.base; size = run_end t - r.base; value = r.value }
+
+before_same : (r t : Block) (us : List Block) → r.base ≤ run_end t → r.value ≡ t.value → IsBefore t us → IsBefore (spanning r t) us
+before_same r t [] order same before = tt
+before_same r t (u ∷ us) order same before = (omega arith, λ touch equal. before.1 (omega arith) (sym same ∙ equal))
+
+-- from the base of the next joined run on it gives what was given before
+span_same : (r t : Block) (us : List Block) (x : ℕ) → r.base ≤ t.base → r.value ≡ t.value → t.base ≤ x
+    → value_at (spanning r t ∷ us) x ≡ value_at (t ∷ us) x
+span_same r t us x order same from = elim (cases_lt x (run_end t)) as (λ _. value_at (spanning r t ∷ us) x ≡ value_at (t ∷ us) x) [
+  | inl under ↦ at_inside (spanning r t) us x (omega arith) (omega arith) ∙ ap (λ m. Some m) same ∙ sym (at_inside t us x from under)
+  | inr past ↦ at_behind (spanning r t) us x (omega arith) ∙ sym (at_behind t us x past)
+]
+
+-- and between the first run and that base the node of both
+gap_around : (r : Block) (rs : List Block) (t : Block) (us : List Block) (x : ℕ) → AreRuns (r ∷ rs) → IsFilledBy rs (t ∷ us)
+    → r.value ≡ t.value → run_end r ≤ x → x < t.base → IsAround (value_at (r ∷ rs)) x r.value
+gap_around r rs t us x runs known same from under =
+    let first : value_at rs t.base ≡ Some t.value = first_value rs t us known in
+    let some : 0 < r.size = runs.0 in
+    record {
+      low = r.base;
+      high = t.base;
+      under = omega arith;
+      over = under;
+      at_low = at_inside r rs r.base (omega arith) (omega arith);
+      at_high = at_behind r rs t.base (omega arith) ∙ first ∙ ap (λ m. Some m) (sym same);
+      only = λ y m above below_high given. elim (cases_lt y (run_end r)) as (λ _. m ≡ r.value) [
+        | inl in_run ↦ sym (low_value r rs y m runs given in_run)
+        | inr past ↦
+            let rest : value_at rs y ≡ Some m = sym (at_behind r rs y past) ∙ given in
+            let joined : value_at (t ∷ us) y ≡ Some m = known.complete y m (inl rest) in
+            elim (cases_lt y t.base) as (λ _. m ≡ r.value) [
+              | inl short ↦ absurd (none-some m (sym (at_below t us y known.runs short) ∙ joined))
+              | inr long ↦
+                  let here : t.base ≡ y = omega arith in
+                  let at : value_at rs y ≡ Some t.value = ap (value_at rs) (sym here) ∙ first in
+                  sym (same_Some t.value m (sym at ∙ rest)) ∙ sym same
+            ]
+      ];
+    }
+
+-- what lies across, from the base of the next joined run on
+across_rest : (r : Block) (rs : List Block) (t : Block) (us : List Block) (x n : ℕ) → AreRuns (r ∷ rs) → IsFilledBy rs (t ∷ us)
+    → (around : IsAround (value_at (r ∷ rs)) x n) → around.low < run_end r → run_end r ≤ x → t.base ≤ x → value_at (t ∷ us) x ≡ Some n
+across_rest r rs t us x n runs known around low_in from reach =
+    let node : t.value ≡ n = next_value r rs t us x n runs known around low_in from in
+    let first : value_at rs t.base ≡ Some t.value = first_value rs t us known in
+    let above : run_end r ≤ t.base = rest_behind r rs t.base t.value runs first in
+    let over = around.over in
+    elim (cases_lt t.base x) as (λ _. value_at (t ∷ us) x ≡ Some n) [
+      | inl past ↦ known.complete x n (inr (record {
+        low = t.base;
+        high = around.high;
+        under = past;
+        over = around.over;
+        at_low = first ∙ ap (λ m. Some m) node;
+        at_high = sym (at_behind r rs around.high (omega arith)) ∙ around.at_high;
+        only = λ y m from_low to_high some. around.only y m (omega arith) to_high (at_behind r rs y (omega arith) ∙ some);
+      }))
+      | inr here ↦
+          let at : t.base ≡ x = omega arith in
+          known.complete x n (inl (ap (value_at rs) (sym at) ∙ first ∙ ap (λ m. Some m) node))
+    ]
+
+same_step : (r : Block) (rs : List Block) (t : Block) (us : List Block) → AreRuns (r ∷ rs) → IsFilledBy rs (t ∷ us) → r.value ≡ t.value
+    → IsFilledBy (r ∷ rs) (spanning r t ∷ us)
+same_step r rs t us runs known same =
+    let above : run_end r ≤ t.base = rest_behind r rs t.base t.value runs (first_value rs t us known) in
+    let some : 0 < r.size = runs.0 in
+    let order : r.base ≤ t.base = omega arith in
+    let canonical : AreRuns (spanning r t ∷ us) =
+    (omega (arith, known.runs.0), before_same r t us (omega arith) same known.runs.1, known.runs.2) in
+    let span_in : (x : ℕ) → r.base ≤ x → x < t.base → value_at (spanning r t ∷ us) x ≡ Some r.value = λ x from under.
+    at_inside (spanning r t) us x from (omega arith) in
+    record {
+      runs = canonical;
+      sound = λ x n given. elim (place r x) as (λ _. IsFilled (value_at (r ∷ rs)) x n) [
+        | Below lt ↦ absurd (none-some n (sym (at_below (spanning r t) us x canonical lt) ∙ given))
+        | Inside in_run under ↦ inl (at_inside r rs x in_run under ∙ sym (span_in x in_run (omega arith)) ∙ given)
+        | Behind from ↦ elim (cases_lt x t.base) as (λ _. IsFilled (value_at (r ∷ rs)) x n) [
+          | inl short ↦
+              let node : r.value ≡ n = same_Some r.value n (sym (span_in x (omega arith) short) ∙ given) in
+              inr (subst (λ (m : ℕ). IsAround (value_at (r ∷ rs)) x m) node (gap_around r rs t us x runs known same from short))
+          | inr long ↦ lifted r rs x n runs (known.sound x n (sym (span_same r t us x order same long) ∙ given))
+        ]
+      ];
+      complete = λ x n filling. elim (reached r rs x n runs filling) as (λ _. value_at (spanning r t ∷ us) x ≡ Some n) [
+        | InFirst in_run under node ↦ span_in x in_run (omega arith) ∙ ap (λ m. Some m) node
+        | InRest from rest ↦
+            let joined : value_at (t ∷ us) x ≡ Some n = known.complete x n rest in
+            elim (cases_lt x t.base) as (λ _. value_at (spanning r t ∷ us) x ≡ Some n) [
+              | inl short ↦ absurd (none-some n (sym (at_below t us x known.runs short) ∙ joined))
+              | inr long ↦ span_same r t us x order same long ∙ joined
+            ]
+        | Across from around low_in node ↦ elim (cases_lt x t.base) as (λ _. value_at (spanning r t ∷ us) x ≡ Some n) [
+          | inl short ↦ span_in x (omega arith) short ∙ ap (λ m. Some m) node
+          | inr long ↦ span_same r t us x order same long ∙ across_rest r rs t us x n runs known around low_in from long
+        ]
+      ];
+    }
+
+led_step : (r : Block) (rs ts : List Block) → AreRuns (r ∷ rs) → IsFilledBy rs ts → IsFilledBy (r ∷ rs) (led_by_run r ts)
+led_step r rs [] runs known = last_step r rs runs known
+led_step r rs (t ∷ us) runs known = elim (cases_Bool (r.value == t.value)) as (λ _. IsFilledBy (r ∷ rs) (led_by_run r (t ∷ us))) [
+  | inl equal ↦ rw equal (same_step r rs t us runs known (grind (arith, nat_tests)))
+  | inr differs ↦ rw differs (apart_step r rs t us runs known (grind (arith, nat_tests)))
+]
+
+-- so the joined runs give what the runs give, and what lies around
+pub filled_by : (rs : List Block) → AreRuns rs → IsFilledBy rs (filled rs)
+filled_by [] runs = record {
+  runs = tt;
+  sound = λ x n some. absurd (none-some n some);
+  complete = λ x n filling. elim filling as (λ _. value_at {X = ℕ} [] x ≡ Some n) [ inl here ↦ here | inr around ↦ around.at_low ];
+}
+filled_by (r ∷ rs) runs = led_step r rs (filled rs) runs (filled_by rs runs.2)

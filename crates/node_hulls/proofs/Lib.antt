@@ -1,0 +1,8 @@
+pub mod DomainLaws
+mod Examples
+pub mod FilledLaws
+pub mod InListLaws
+pub mod JudgedLaws
+pub mod KeptLaws
+pub mod NodesLaws
+pub mod RestLaws

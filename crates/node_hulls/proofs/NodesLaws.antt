@@ -1,0 +1,368 @@
+-- Blocks of different nodes that share no address: the joined runs of their nodes are the runs of what each address has.
+use Rattle.std.proofs.Common.{◌≡◌, ◌≢◌, ℕ, ◌^◌, ◌<◌, ◌≤◌, ◌==◌, Bool, true, false, ◌&&◌, ◌||◌, not, nat_le, nat_lt, max, min, Option, Some, None, List, [], ◌∷◌, refl, sym, ◌∙◌, ap, subst, inl, inr, arith}
+use Rattle.std.proofs.lemmas.Bool.{cases_lt, cases_Bool, and_parts, and_from, true≢false}
+use Rattle.std.proofs.lemmas.Bool.Decides.{nat_tests}
+use Rattle.std.proofs.lemmas.Option.{none-some, same_Some}
+use Rattle.std.specs.List.{list_any}
+use Rattle.std.specs.Option.{option_or}
+use Rattle.std.specs.Prelude.{find}
+use Rattle.address_runs.specs.Overlay.{all_overlaid, HaveAddresses}
+use Rattle.address_runs.specs.Runs.{run_end, lies_in, value_at, IsRunsOf}
+use Rattle.address_runs.proofs.RunsLaws.{inside}
+use Rattle.node_hulls.specs.declared.kept.KeptBlock.{KeptBlock}
+use Rattle.node_hulls.specs.Hulls.{Block, meets, is_between, is_own, holds, joins, has, first_had, node_at}
+use Rattle.node_hulls.specs.Kept.{blocks_of, clash, first_clash}
+use Rattle.node_hulls.specs.Steps.{filled, EndInSpace}
+use Rattle.node_hulls.proofs.FilledLaws.{IsAround, IsFilled, IsFilledBy, filled_by}
+use Rattle.node_hulls.proofs.InListLaws.{IsIn, any_member, member_any, all_member, member_all}
+
+-- two blocks that share an address are of one node
+abbrev pub Apart : List Block → Type 0
+Apart blocks = (a b : Block) (x : ℕ) → IsIn a blocks → IsIn b blocks → lies_in a x ≡ true → lies_in b x ≡ true → a.value ≡ b.value
+
+-- no block is empty
+some_address : (blocks : List Block) (b : Block) → HaveAddresses blocks → IsIn b blocks → 0 < b.size
+some_address [] b some member = absurd member
+some_address (c ∷ cs) b some (inl here) = subst (λ (d : Block). 0 < d.size) (sym here) some.0
+some_address (c ∷ cs) b some (inr later) = some_address cs b some.1 later
+
+-- the blocks laid over one another give the first one's node
+pub first_given : (blocks : List Block) (x : ℕ) → all_overlaid option_or blocks x ≡ value_at blocks x
+first_given [] x = refl
+first_given (b ∷ bs) x = elim (cases_Bool (lies_in b x)) as (λ _. all_overlaid option_or (b ∷ bs) x ≡ value_at (b ∷ bs) x) [
+  | inl lies ↦ rw lies refl
+  | inr outside ↦ rw outside (first_given bs x)
+]
+
+-- which is the node of each of them
+given : (blocks : List Block) (b : Block) (x : ℕ) → Apart blocks → IsIn b blocks → lies_in b x ≡ true → value_at blocks x ≡ Some b.value
+given [] b x apart member lies = absurd member
+given (c ∷ cs) b x apart member lies = elim (cases_Bool (lies_in c x)) as (λ _. value_at (c ∷ cs) x ≡ Some b.value) [
+  | inl first ↦ rw first (ap (λ n. Some n) (apart c b x (inl refl) member first lies))
+  | inr outside ↦ elim member as (λ _. value_at (c ∷ cs) x ≡ Some b.value) [
+    | inl here ↦ absurd (true≢false (sym lies ∙ ap (λ (d : Block). lies_in d x) here ∙ outside))
+    | inr later ↦ rw outside (given cs b x (λ d e y one two. apart d e y (inr one) (inr two)) later lies)
+  ]
+]
+
+-- and the other way round
+pub record Covers (blocks : List Block) (x n : ℕ) : Type 0 where
+  pub block : Block
+  pub member : IsIn block blocks
+  pub lies : lies_in block x ≡ true
+  pub node : block.value ≡ n
+
+given_by_block : (blocks : List Block) (x n : ℕ) → value_at blocks x ≡ Some n → Covers blocks x n
+given_by_block [] x n some = absurd (none-some n some)
+given_by_block (c ∷ cs) x n some = elim (cases_Bool (lies_in c x)) as (λ _. Covers (c ∷ cs) x n) [
+  | inl lies ↦ record { block = c; member = inl refl; lies = lies; node = same_Some c.value n (rw lies at some) }
+  | inr outside ↦
+      let found : Covers cs x n = given_by_block cs x n (rw outside at some) in
+      record { block = found.block; member = inr found.member; lies = found.lies; node = found.node }
+]
+
+-- an address in a block, by its ends
+bounds : (b : Block) (x : ℕ) → lies_in b x ≡ true → (b.base ≤ x) × (x < run_end b)
+bounds b x lies = (grind (arith, nat_tests), grind (arith, nat_tests))
+
+-- a block that a stretch meets has an address in it
+met_at : (from until : ℕ) (c : Block) (x : ℕ) → lies_in c x ≡ true → from ≤ x → x < until → meets from until c ≡ true
+met_at from until c x lies above under =
+    let ends : (c.base ≤ x) × (x < run_end c) = bounds c x lies in
+    let low = ends.0 in
+    let high = ends.1 in
+    grind (arith, nat_tests)
+
+meeting_place : (from until : ℕ) (c : Block) → meets from until c ≡ true
+    → (from ≤ max from c.base) × (max from c.base < until) × (lies_in c (max from c.base) ≡ true)
+meeting_place from until c meeting =
+    let before : max from c.base < min until (run_end c) = grind (arith, nat_tests) in
+    (omega arith, omega arith, inside c (max from c.base) (omega arith) (omega arith))
+
+-- each block that meets an own hull is of the node
+own_node : (blocks : List Block) (n : ℕ) (a b c : Block) → is_own blocks n a b ≡ true → IsIn c blocks → meets a.base (run_end b) c ≡ true → c.value ≡ n
+own_node blocks n a b c own member meeting =
+    let passes : ((c.value == n) || not (meets a.base (run_end b) c)) ≡ true = all_member _ blocks c own member in
+    let alone : (c.value == n) ≡ true = either (c.value == n) (meets a.base (run_end b) c) passes meeting in
+    grind (arith, nat_tests) where
+      either : (p q : Bool) → (p || not q) ≡ true → q ≡ true → p ≡ true
+      either true q h meets_too = refl
+      either false true h meets_too = h
+      either false false h meets_too = meets_too
+
+-- what an address has is given there, or lies around it
+joined_around : (blocks : List Block) (n x : ℕ) → Apart blocks → HaveAddresses blocks → joins blocks n x ≡ true → IsAround (value_at blocks) x n
+joined_around blocks n x apart some joined =
+    let outer = any_member _ blocks joined in
+    let a = outer.one in
+    let of_a = and_parts (a.value == n) _ outer.passes in
+    let inner = any_member _ blocks of_a.1 in
+    let b = inner.one in
+    let of_b = and_parts (b.value == n) _ inner.passes in
+    let between_own = and_parts (is_between a b x) (is_own blocks n a b) of_b.1 in
+    let sides = and_parts (nat_le (run_end a) x) (nat_lt x b.base) between_own.0 in
+    let a_behind : run_end a ≤ x = grind (arith, nat_tests, sides.0) in
+    let b_before : x < b.base = grind (arith, nat_tests, sides.1) in
+    let a_some : 0 < a.size = some_address blocks a some outer.member in
+    let b_some : 0 < b.size = some_address blocks b some inner.member in
+    let a_node : a.value ≡ n = grind (arith, nat_tests, of_a.0) in
+    let b_node : b.value ≡ n = grind (arith, nat_tests, of_b.0) in
+    record {
+      low = a.base;
+      high = b.base;
+      under = omega arith;
+      over = b_before;
+      at_low = given blocks a a.base apart outer.member (inside a a.base (omega arith) (omega arith)) ∙ ap (λ m. Some m) a_node;
+      at_high = given blocks b b.base apart inner.member (inside b b.base (omega arith) (omega arith)) ∙ ap (λ m. Some m) b_node;
+      only = λ y m above below_high at.
+          let found = given_by_block blocks y m at in
+          sym found.node ∙ own_node blocks n a b found.block between_own.1 found.member
+          (met_at a.base (run_end b) found.block y found.lies above (omega arith));
+    }
+
+has_filled : (blocks : List Block) (n x : ℕ) → Apart blocks → HaveAddresses blocks → has blocks n x ≡ true → IsFilled (value_at blocks) x n
+has_filled blocks n x apart some had = elim (cases_Bool (holds blocks n x)) as (λ _. IsFilled (value_at blocks) x n) [
+  | inl held ↦
+      let found = any_member _ blocks held in
+      let parts = and_parts (found.one.value == n) (lies_in found.one x) found.passes in
+      let node : found.one.value ≡ n = grind (arith, nat_tests, parts.0) in
+      inl (given blocks found.one x apart found.member parts.1 ∙ ap (λ m. Some m) node)
+  | inr not_held ↦ inr (joined_around blocks n x apart some (rw not_held at had))
+]
+
+-- a block that holds the address makes it have the node
+held_by : (blocks : List Block) (b : Block) (n x : ℕ) → IsIn b blocks → b.value ≡ n → lies_in b x ≡ true → holds blocks n x ≡ true
+held_by blocks b n x member node lies = member_any _ blocks b member (and_from (b.value == n) (lies_in b x) (grind (arith, nat_tests)) lies)
+
+-- a block that the hull of two places meets is of their node
+hull_own : (blocks : List Block) (n x : ℕ) (a b c : Block) → Apart blocks → (around : IsAround (value_at blocks) x n)
+    → IsIn a blocks → a.value ≡ n → lies_in a around.low ≡ true → IsIn b blocks → b.value ≡ n → lies_in b around.high ≡ true
+    → IsIn c blocks → meets a.base (run_end b) c ≡ true → c.value ≡ n
+hull_own blocks n x a b c apart around in_a node_a lies_a in_b node_b lies_b in_c meeting =
+    let met = meeting_place a.base (run_end b) c meeting in
+    let y : ℕ = max a.base c.base in
+    let above : a.base ≤ y = met.0 in
+    let below_end : y < run_end b = met.1 in
+    let here : lies_in c y ≡ true = met.2 in
+    let low : (a.base ≤ around.low) × (around.low < run_end a) = bounds a around.low lies_a in
+    let high : (b.base ≤ around.high) × (around.high < run_end b) = bounds b around.high lies_b in
+    let low_under = low.1 in
+    let high_above = high.0 in
+    elim (cases_lt y around.low) as (λ _. c.value ≡ n) [
+      | inl lower ↦ sym (apart a c y in_a in_c (inside a y above (omega arith)) here) ∙ node_a
+      | inr not_lower ↦ elim (cases_lt around.high y) as (λ _. c.value ≡ n) [
+        | inl higher ↦ sym (apart b c y in_b in_c (inside b y (omega arith) below_end) here) ∙ node_b
+        | inr between ↦ around.only y c.value not_lower between (given blocks c y apart in_c here)
+      ]
+    ]
+
+or_true : (p : Bool) → (p || true) ≡ true
+or_true true = refl
+or_true false = refl
+
+around_joins : (blocks : List Block) (n x : ℕ) → Apart blocks → IsAround (value_at blocks) x n → holds blocks n x ≡ false → joins blocks n x ≡ true
+around_joins blocks n x apart around not_held =
+    let lower = given_by_block blocks around.low n around.at_low in
+    let upper = given_by_block blocks around.high n around.at_high in
+    let a = lower.block in
+    let b = upper.block in
+    let low : (a.base ≤ around.low) × (around.low < run_end a) = bounds a around.low lower.lies in
+    let high : (b.base ≤ around.high) × (around.high < run_end b) = bounds b around.high upper.lies in
+    let low_from = low.0 in
+    let high_to = high.1 in
+    let under = around.under in
+    let over = around.over in
+    let a_behind : run_end a ≤ x = elim (cases_lt x (run_end a)) as (λ _. run_end a ≤ x) [
+      | inl short ↦ absurd (true≢false (sym (held_by blocks a n x lower.member lower.node (inside a x (omega arith) short)) ∙ not_held))
+      | inr long ↦ long
+    ] in
+    let b_before : x < b.base = elim (cases_lt x b.base) as (λ _. x < b.base) [
+      | inl lt ↦ lt
+      | inr ge ↦ absurd (true≢false (sym (held_by blocks b n x upper.member upper.node (inside b x ge (omega arith))) ∙ not_held))
+    ] in
+    let own : is_own blocks n a b ≡ true = member_all _ blocks (λ c in_c. one_own c in_c) in
+    let between : is_between a b x ≡ true = grind (arith, nat_tests) in
+    let inner : list_any (λ (d : Block). (d.value == n) && (is_between a d x && is_own blocks n a d)) blocks ≡ true =
+    member_any _ blocks b upper.member
+    (and_from (b.value == n) (is_between a b x && is_own blocks n a b) (grind (arith, nat_tests, upper.node))
+    (and_from (is_between a b x) (is_own blocks n a b) between own)) in
+    member_any _ blocks a lower.member
+    (and_from (a.value == n) (list_any (λ (d : Block). (d.value == n) && (is_between a d x && is_own blocks n a d)) blocks)
+    (grind (arith, nat_tests, lower.node)) inner) where
+      one_own : (c : Block) → IsIn c blocks
+          → ((c.value == n) || not (meets (given_by_block blocks around.low n around.at_low).block.base
+          (run_end (given_by_block blocks around.high n around.at_high).block) c)) ≡ true
+      one_own c in_c =
+          let lower = given_by_block blocks around.low n around.at_low in
+          let upper = given_by_block blocks around.high n around.at_high in
+          let a = lower.block in
+          let b = upper.block in
+          elim (cases_Bool (meets a.base (run_end b) c)) as (λ _. ((c.value == n) || not (meets a.base (run_end b) c)) ≡ true) [
+            | inl meeting ↦
+                let node : c.value ≡ n = hull_own blocks n x a b c apart around lower.member lower.node lower.lies
+                upper.member upper.node upper.lies in_c meeting in
+                let same : (c.value == n) ≡ true = grind (arith, nat_tests) in
+                rw same refl
+            | inr apart_from ↦ rw apart_from (or_true (c.value == n))
+          ]
+
+filled_has : (blocks : List Block) (n x : ℕ) → Apart blocks → IsFilled (value_at blocks) x n → has blocks n x ≡ true
+filled_has blocks n x apart (inl here) =
+    let found = given_by_block blocks x n here in
+    rw (held_by blocks found.block n x found.member found.node found.lies) refl
+filled_has blocks n x apart (inr around) = elim (cases_Bool (holds blocks n x)) as (λ _. has blocks n x ≡ true) [
+  | inl held ↦ rw held refl
+  | inr not_held ↦ rw not_held (around_joins blocks n x apart around not_held)
+]
+
+-- the node of an address is one that it has; where it has that of a block it has one
+first_has : (blocks : List Block) (x m : ℕ) (bs : List Block) → first_had blocks x bs ≡ Some m → has blocks m x ≡ true
+first_has blocks x m [] some = absurd (none-some m some)
+first_has blocks x m (b ∷ bs) some = elim (cases_Bool (has blocks b.value x)) as (λ _. has blocks m x ≡ true) [
+  | inl had ↦ let same : b.value ≡ m = same_Some b.value m (rw had at some) in subst (λ (k : ℕ). has blocks k x ≡ true) same had
+  | inr not_had ↦ first_has blocks x m bs (rw not_had at some)
+]
+
+first_some : (blocks : List Block) (x : ℕ) (bs : List Block) (b : Block) → IsIn b bs → has blocks b.value x ≡ true → first_had blocks x bs ≢ None
+first_some blocks x [] b member had none = member
+first_some blocks x (c ∷ cs) b member had none = elim (cases_Bool (has blocks c.value x)) as (λ _. ⊥) [
+  | inl first ↦ none-some c.value (sym none ∙ rw first refl)
+  | inr not_first ↦ elim member as (λ _. ⊥) [
+    | inl here ↦ true≢false (sym had ∙ ap (λ (d : Block). has blocks d.value x) here ∙ not_first)
+    | inr later ↦ first_some blocks x cs b later had (rw not_first at none)
+  ]
+]
+
+-- a node that an address has is that of a block
+node_block : (blocks : List Block) (n x : ℕ) → has blocks n x ≡ true → (b : Block) × IsIn b blocks × (b.value ≡ n)
+node_block blocks n x had = elim (cases_Bool (holds blocks n x)) as (λ _. (b : Block) × IsIn b blocks × (b.value ≡ n)) [
+  | inl held ↦
+      let found = any_member _ blocks held in
+      let parts = and_parts (found.one.value == n) (lies_in found.one x) found.passes in
+      (found.one, found.member, grind (arith, nat_tests, parts.0))
+  | inr not_held ↦
+      let joined : joins blocks n x ≡ true = rw not_held at had in
+      let found = any_member _ blocks joined in
+      let parts = and_parts (found.one.value == n) _ found.passes in
+      (found.one, found.member, grind (arith, nat_tests, parts.0))
+]
+
+-- so the joined runs give the node of each address
+node_given : (blocks rs ts : List Block) (x : ℕ) → Apart blocks → HaveAddresses blocks → IsRunsOf (value_at blocks) rs → IsFilledBy rs ts
+    → value_at ts x ≡ node_at blocks x
+unfolding node_at
+node_given blocks rs ts x apart some known joined = by (value_at ts x) (first_had blocks x blocks) refl refl where
+  same : value_at rs ≡ value_at blocks
+  same = λ i y. known.each y i
+
+  by : (g h : Option ℕ) → value_at ts x ≡ g → first_had blocks x blocks ≡ h → value_at ts x ≡ first_had blocks x blocks
+  by g (Some m) at had =
+      let filling : IsFilled (value_at blocks) x m = has_filled blocks m x apart some (first_has blocks x m blocks had) in
+      joined.complete x m (subst (λ (f : ℕ → Option ℕ). IsFilled f x m) (sym same) filling) ∙ sym had
+  by None None at had = at ∙ sym had
+  by (Some n) None at had =
+      let filling : IsFilled (value_at blocks) x n = subst (λ (f : ℕ → Option ℕ). IsFilled f x n) same (joined.sound x n at) in
+      let has_it : has blocks n x ≡ true = filled_has blocks n x apart filling in
+      let block = node_block blocks n x has_it in
+      let of_block : has blocks block.0.value x ≡ true = subst (λ (k : ℕ). has blocks k x ≡ true) (sym block.2) has_it in
+      absurd (first_some blocks x blocks block.0 block.1 of_block had)
+
+pub joined_blocks : (blocks rs : List Block) → Apart blocks → HaveAddresses blocks → IsRunsOf (all_overlaid option_or blocks) rs
+    → IsRunsOf (node_at blocks) (filled rs)
+joined_blocks blocks rs apart some known =
+    let runs_of_blocks : IsRunsOf (value_at blocks) rs = record { runs = known.runs; each = λ x. known.each x ∙ first_given blocks x } in
+    let joined : IsFilledBy rs (filled rs) = filled_by rs known.runs in
+    record { runs = joined.runs; each = λ x. node_given blocks rs (filled rs) x apart some runs_of_blocks joined }
+
+-- where no two kept blocks clash, blocks of different nodes share no address
+no_clash : (a b : KeptBlock) (x : ℕ) → clash a b ≡ false → lies_in a.block x ≡ true → lies_in b.block x ≡ true → a.block.value ≡ b.block.value
+no_clash a b x none lies_a lies_b =
+    let in_a : (a.block.base ≤ x) × (x < run_end a.block) = bounds a.block x lies_a in
+    let low = in_a.0 in
+    let high = in_a.1 in
+    let meeting : meets a.block.base (run_end a.block) b.block ≡ true = met_at a.block.base (run_end a.block) b.block x lies_b low high in
+    elim (cases_Bool (a.block.value == b.block.value)) as (λ _. a.block.value ≡ b.block.value) [
+      | inl same ↦ grind (arith, nat_tests)
+      | inr other ↦ absurd (true≢false (sym (rw (other, meeting) refl) ∙ none))
+    ]
+
+find_none : {X : Type 0} (p : X → Bool) (xs : List X) (x : X) → find p xs ≡ None → IsIn x xs → p x ≡ false
+find_none p [] x none member = absurd member
+find_none p (y ∷ ys) x none member = elim (cases_Bool (p y)) as (λ _. p x ≡ false) [
+  | inl here ↦ absurd (none-some y (sym none ∙ rw here refl))
+  | inr not_here ↦ elim member as (λ _. p x ≡ false) [
+    | inl same ↦ ap p same ∙ not_here
+    | inr later ↦ find_none p ys x (rw not_here at none) later
+  ]
+]
+
+-- the kept block of a block
+kept_member : (ks : List KeptBlock) (b : Block) → IsIn b (blocks_of ks) → (k : KeptBlock) × IsIn k ks × (b ≡ k.block)
+kept_member [] b member = absurd member
+kept_member (k ∷ ks) b (inl here) = (k, inl refl, here)
+kept_member (k ∷ ks) b (inr later) = let found = kept_member ks b later in (found.0, inr found.1, found.2)
+
+first_none_parts : (a : KeptBlock) (rest : List KeptBlock) → first_clash (a ∷ rest) ≡ None → (find (clash a) rest ≡ None) × (first_clash rest ≡ None)
+first_none_parts a rest none = by (find (clash a) rest) refl where
+  by : (o : Option KeptBlock) → find (clash a) rest ≡ o → (find (clash a) rest ≡ None) × (first_clash rest ≡ None)
+  by None at = (at, rw at at none)
+  by (Some b) at = absurd (none-some (a.number, b.number) (sym (rw at at none)))
+
+kept_apart : (ks : List KeptBlock) → first_clash ks ≡ None → (a b : KeptBlock) (x : ℕ) → IsIn a ks → IsIn b ks
+    → lies_in a.block x ≡ true → lies_in b.block x ≡ true → a.block.value ≡ b.block.value
+kept_apart [] none a b x in_a in_b lies_a lies_b = absurd in_a
+kept_apart (k ∷ ks) none a b x (inl first) (inl second) lies_a lies_b = ap (λ (c : KeptBlock). c.block.value) (first ∙ sym second)
+kept_apart (k ∷ ks) none a b x (inl first) (inr later) lies_a lies_b =
+    let parts = first_none_parts k ks none in
+    ap (λ (c : KeptBlock). c.block.value) first
+    ∙ no_clash k b x (find_none (clash k) ks b parts.0 later) (ap (λ (c : KeptBlock). lies_in c.block x) (sym first) ∙ lies_a) lies_b
+kept_apart (k ∷ ks) none a b x (inr later) (inl second) lies_a lies_b =
+    let parts = first_none_parts k ks none in
+    sym (ap (λ (c : KeptBlock). c.block.value) second
+    ∙ no_clash k a x (find_none (clash k) ks a parts.0 later) (ap (λ (c : KeptBlock). lies_in c.block x) (sym second) ∙ lies_b) lies_a)
+kept_apart (k ∷ ks) none a b x (inr in_a) (inr in_b) lies_a lies_b =
+    kept_apart ks (first_none_parts k ks none).1 a b x in_a in_b lies_a lies_b
+
+pub apart_blocks : (ks : List KeptBlock) → first_clash ks ≡ None → Apart (blocks_of ks)
+apart_blocks ks none a b x in_a in_b lies_a lies_b =
+    let one = kept_member ks a in_a in
+    let two = kept_member ks b in_b in
+    let at_a : lies_in one.0.block x ≡ true = ap (λ (c : Block). lies_in c x) (sym one.2) ∙ lies_a in
+    let at_b : lies_in two.0.block x ≡ true = ap (λ (c : Block). lies_in c x) (sym two.2) ∙ lies_b in
+    ap (λ (c : Block). c.value) one.2 ∙ kept_apart ks none one.0 two.0 x one.1 two.1 at_a at_b ∙ ap (λ (c : Block). c.value) (sym two.2)
+
+-- an address that has a node lies below the end of a block
+has_bound : (blocks : List Block) (n x : ℕ) → has blocks n x ≡ true → (b : Block) × IsIn b blocks × (x < run_end b)
+has_bound blocks n x had = elim (cases_Bool (holds blocks n x)) as (λ _. (b : Block) × IsIn b blocks × (x < run_end b)) [
+  | inl held ↦
+      let found = any_member _ blocks held in
+      let parts = and_parts (found.one.value == n) (lies_in found.one x) found.passes in
+      (found.one, found.member, (bounds found.one x parts.1).1)
+  | inr not_held ↦
+      let joined : joins blocks n x ≡ true = rw not_held at had in
+      let outer = any_member _ blocks joined in
+      let a = outer.one in
+      let inner = any_member _ blocks (and_parts (a.value == n) _ outer.passes).1 in
+      let b = inner.one in
+      let sides = and_parts (nat_le (run_end a) x) (nat_lt x b.base)
+      (and_parts (is_between a b x) (is_own blocks n a b) (and_parts (b.value == n) _ inner.passes).1).0 in
+      let before : x < b.base = grind (arith, nat_tests, sides.1) in
+      (b, inner.member, omega arith)
+]
+
+space_of : (blocks : List Block) (b : Block) → EndInSpace blocks → IsIn b blocks → run_end b < 2 ^ 64
+space_of [] b space member = absurd member
+space_of (c ∷ cs) b space (inl here) = subst (λ (d : Block). run_end d < 2 ^ 64) (sym here) space.0
+space_of (c ∷ cs) b space (inr later) = space_of cs b space.1 later
+
+-- so behind the address space none has a node
+pub node_none : (blocks : List Block) (x : ℕ) → EndInSpace blocks → 2 ^ 64 ≤ x → node_at blocks x ≡ None
+unfolding node_at
+node_none blocks x space far = by (first_had blocks x blocks) refl where
+  by : (o : Option ℕ) → first_had blocks x blocks ≡ o → first_had blocks x blocks ≡ None
+  by None at = at
+  by (Some m) at =
+      let block = has_bound blocks m x (first_has blocks x m blocks at) in
+      let ends : run_end block.0 < 2 ^ 64 = space_of blocks block.0 space block.1 in
+      let under = block.2 in
+      absurd (omega arith)

@@ -1,0 +1,208 @@
+-- Memory without a node, by laying memory and the runs with a node over one another; and the frames that begin in runs.
+use Rattle.std.proofs.Common.{◌≡◌, ℕ, ◌+◌, ◌-◌, ◌*◌, ◌^◌, ◌<◌, ◌≤◌, Bool, true, false, ◌&&◌, ◌||◌, nat_le, nat_lt, if◌then◌else◌, Option, Some, None, List, [], ◌∷◌, ◌++◌, map, suc, add-one, drop, take, length, get_or, append_assoc, refl, sym, ◌∙◌, ap, subst, inl, inr, arith}
+use Rattle.std.proofs.lemmas.Bool.{cases_lt, cases_Bool}
+use Rattle.std.proofs.lemmas.Bool.Decides.{nat_tests}
+use Rattle.std.proofs.lemmas.List.{take_all}
+use Rattle.std.proofs.lemmas.Option.{none-some}
+use Rattle.std.proofs.Math.Seq.{drop-cons}
+use Rattle.std.specs.Prelude.{is_some, is_none}
+use Rattle.address_runs.specs.Overlay.{all_overlaid, HaveAddresses}
+use Rattle.address_runs.specs.Runs.{RunOf, run_end, lies_in, value_at, AreRuns, IsBefore, IsRunsOf}
+use Rattle.address_runs.specs.Sweep.{StartFrom}
+use Rattle.address_runs.proofs.OverlayLaws.{all_append}
+use Rattle.address_runs.proofs.RunsLaws.{none_below, rest_from, other_behind, inside, behind}
+use Rattle.bm_base.specs.Extent.{Extent, covers}
+use Rattle.e820_model.specs.Usable.{count_below}
+use Rattle.e820_model.proofs.UsableLaws.{count_same, count_none, count_either, count_interval, count_at_most}
+use Rattle.node_hulls.specs.First.{either, either_none, either_grouped}
+use Rattle.node_hulls.specs.Hulls.{Block}
+use Rattle.node_hulls.specs.Judgement.{left_over, frames_given}
+use Rattle.node_hulls.specs.Kept.{in_any, HaveBytes}
+use Rattle.node_hulls.specs.Steps.{bare, noded, bare_runs, with_node, begun_before, EndInSpace}
+
+-- what memory alone says, and what the runs with a node alone say
+bare_given : (memory : List Extent) (x : ℕ) → all_overlaid either (map bare memory) x ≡ (if in_any memory x then Some false else None)
+bare_given [] x = refl
+bare_given (r ∷ rs) x = elim (cases_Bool (covers r x)) as (λ _. all_overlaid either (map bare (r ∷ rs)) x ≡ (if in_any (r ∷ rs) x then Some false else None)) [
+  | inl here ↦ rw (here, bare_given rs x) (elim (cases_Bool (in_any rs x)) as (λ _. either (Some false) (if in_any rs x then Some false else None) ≡ Some false) [
+    | inl also ↦ rw also refl
+    | inr alone ↦ rw alone refl
+  ])
+  | inr elsewhere ↦ rw elsewhere (bare_given rs x)
+]
+
+noded_given : (joined : List Block) (x : ℕ) → all_overlaid either (map noded joined) x ≡ (if is_some (value_at joined x) then Some true else None)
+noded_given [] x = refl
+noded_given (r ∷ rs) x =
+    elim (cases_Bool (lies_in r x)) as (λ _. all_overlaid either (map noded (r ∷ rs)) x ≡ (if is_some (value_at (r ∷ rs) x) then Some true else None)) [
+      | inl here ↦ rw (here, noded_given rs x) (elim (cases_Bool (is_some (value_at rs x))) as (λ _. either (Some true) (if is_some (value_at rs x) then Some true else None) ≡ Some true) [
+        | inl also ↦ rw also refl
+        | inr alone ↦ rw alone refl
+      ])
+      | inr elsewhere ↦ rw elsewhere (noded_given rs x)
+    ]
+
+-- each as a stretch has an address
+bare_addresses : (memory : List Extent) (ss : List (RunOf Bool)) → HaveBytes memory → HaveAddresses ss → HaveAddresses (map bare memory ++ ss)
+bare_addresses [] ss some behind_some = behind_some
+bare_addresses (r ∷ rs) ss some behind_some = (some.0, bare_addresses rs ss some.1 behind_some)
+
+noded_addresses : (joined : List Block) → AreRuns joined → HaveAddresses (map noded joined)
+noded_addresses [] runs = tt
+noded_addresses (r ∷ rs) runs = (runs.0, noded_addresses rs runs.2)
+
+pub told_addresses : (memory : List Extent) (joined : List Block) → HaveBytes memory → AreRuns joined → HaveAddresses (map bare memory ++ map noded joined)
+told_addresses memory joined some runs = bare_addresses memory (map noded joined) some (noded_addresses joined runs)
+
+-- a run without a node gives the node, one with a node gives none
+abbrev pub bare_of : ℕ → Option Bool → Option ℕ
+bare_of n None = None
+bare_of n (Some true) = None
+bare_of n (Some false) = Some n
+
+-- both over one another: memory without a node
+told_over : (memory : List Extent) (joined : List Block) (n x : ℕ)
+    → bare_of n (all_overlaid either (map bare memory ++ map noded joined) x) ≡ left_over (in_any memory) (value_at joined) n x
+told_over memory joined n x =
+    rw (sym (all_append either either_none either_grouped (map bare memory) (map noded joined) x), bare_given memory x, noded_given joined x)
+    (by (in_any memory x) (value_at joined x)) where
+      by : (m : Bool) (o : Option ℕ)
+          → bare_of n (either (if m then Some false else None) (if is_some o then Some true else None)) ≡ (if m && is_none o then Some n else None)
+      by true (Some k) = refl
+      by true None = refl
+      by false (Some k) = refl
+      by false None = refl
+
+-- the runs without a node, each with the node that it gets
+bare_value : (n : ℕ) (cs : List (RunOf Bool)) (x : ℕ) → AreRuns cs → value_at (bare_runs n cs) x ≡ bare_of n (value_at cs x)
+bare_value n [] x runs = refl
+bare_value n (c ∷ cs) x runs = by c.value (lies_in c x) refl refl (bare_value n cs x runs.2) where
+  by : (v inside_c : Bool) → c.value ≡ v → lies_in c x ≡ inside_c → value_at (bare_runs n cs) x ≡ bare_of n (value_at cs x)
+      → value_at (bare_runs n (c ∷ cs)) x ≡ bare_of n (value_at (c ∷ cs) x)
+  by true true value lies rest =
+      let short : x < run_end c = grind (arith, nat_tests) in
+      let none : value_at cs x ≡ None = none_below (run_end c) x cs runs.2 (rest_from c cs runs) short in
+      rw (lies, value, rest, none) refl
+  by true false value lies rest = rw (lies, value, rest) refl
+  by false true value lies rest = rw (value, lies) refl
+  by false false value lies rest = rw (value, lies, rest) refl
+
+-- they are canonical: two that touch would be one run already
+bare_start : (n at : ℕ) (cs : List (RunOf Bool)) (d : Block) (ds : List Block) → AreRuns cs → StartFrom at cs → AreRuns (bare_runs n cs)
+    → bare_runs n cs ≡ d ∷ ds → at ≤ d.base
+bare_start n at cs d ds runs start canonical is =
+    let first : value_at (d ∷ ds) d.base ≡ Some d.value = rw (inside d d.base (omega arith) (omega (arith, some))) refl in
+    elim (cases_lt d.base at) as (λ _. at ≤ d.base) [
+      | inl lower ↦
+          let none : value_at cs d.base ≡ None = none_below at d.base cs runs start lower in
+          let given : bare_of n (value_at cs d.base) ≡ Some d.value =
+          sym (bare_value n cs d.base runs) ∙ ap (λ (es : List Block). value_at es d.base) is ∙ first in
+          absurd (none-some d.value (ap (bare_of n) (sym none) ∙ given))
+      | inr ge ↦ ge
+    ] where
+      some : 0 < d.size
+      some = (subst (λ (es : List Block). AreRuns es) is canonical).0
+
+bare_before : (n : ℕ) (c : RunOf Bool) (cs : List (RunOf Bool)) → AreRuns (c ∷ cs) → c.value ≡ false → (es : List Block) → bare_runs n cs ≡ es → AreRuns es
+    → IsBefore (record { base = c.base; size = c.size; value = n }) es
+bare_before n c cs runs value [] is canonical = tt
+bare_before n c cs runs value (d ∷ ds) is canonical =
+    let start : run_end c ≤ d.base = bare_start n (run_end c) cs d ds runs.2 (rest_from c cs runs) (subst (λ (es : List Block). AreRuns es) (sym is) canonical) is in (
+      start,
+      λ touch same.
+          let first : value_at (d ∷ ds) (run_end c) ≡ Some d.value = rw (inside d (run_end c) (omega arith) (omega (arith, canonical.0))) refl in
+          let given : bare_of n (value_at cs (run_end c)) ≡ Some d.value =
+          sym (bare_value n cs (run_end c) runs.2) ∙ ap (λ (es : List Block). value_at es (run_end c)) is ∙ first in
+          other_behind c cs runs (bare_some n d.value (value_at cs (run_end c)) given ∙ ap (λ b. Some b) (sym value)),
+    ) where
+      bare_some : (m k : ℕ) (o : Option Bool) → bare_of m o ≡ Some k → o ≡ Some false
+      bare_some m k None given = absurd (none-some k given)
+      bare_some m k (Some true) given = absurd (none-some k given)
+      bare_some m k (Some false) given = refl
+
+bare_canonical : (n : ℕ) (cs : List (RunOf Bool)) → AreRuns cs → AreRuns (bare_runs n cs)
+bare_canonical n [] runs = tt
+bare_canonical n (c ∷ cs) runs = by c.value refl (bare_canonical n cs runs.2) where
+  by : (v : Bool) → c.value ≡ v → AreRuns (bare_runs n cs) → AreRuns (bare_runs n (c ∷ cs))
+  by true value rest = rw value rest
+  by false value rest = rw value (runs.0, bare_before n c cs runs value (bare_runs n cs) refl rest, rest)
+
+pub left_runs : (memory : List Extent) (joined : List Block) (n : ℕ) (cs : List (RunOf Bool))
+    → IsRunsOf (all_overlaid either (map bare memory ++ map noded joined)) cs
+    → IsRunsOf (left_over (in_any memory) (value_at joined) n) (bare_runs n cs)
+left_runs memory joined n cs known = record {
+  runs = bare_canonical n cs known.runs;
+  each = λ x. bare_value n cs x known.runs ∙ ap (bare_of n) (known.each x) ∙ told_over memory joined n x;
+}
+
+-- one run more
+pub bare_step : (n : ℕ) (before : List Block) (covered : List (RunOf Bool)) (i : ℕ) (c : RunOf Bool) → i < length covered → c ≡ get_or covered i c
+    → (if c.value then before else before ++ with_node n c ∷ []) ++ bare_runs n (drop (i + 1) covered) ≡ before ++ bare_runs n (drop i covered)
+bare_step n before covered i c lt is = rw (drop-cons covered i c lt, ← is, add-one) (by c.value refl) where
+  by : (v : Bool) → c.value ≡ v
+      → (if c.value then before else before ++ with_node n c ∷ []) ++ bare_runs n (drop (suc i) covered)
+      ≡ before ++ bare_runs n (c ∷ drop (suc i) covered)
+  by true value = rw value refl
+  by false value = rw value (append_assoc before (with_node n c ∷ []) (bare_runs n (drop (suc i) covered)))
+
+pub space_push : (rs : List Block) (r : Block) → EndInSpace rs → run_end r < 2 ^ 64 → EndInSpace (rs ++ r ∷ [])
+space_push [] r space ends = (ends, tt)
+space_push (s ∷ ss) r space ends = (space.0, space_push ss r space.1 ends)
+
+pub space_given : (n : ℕ) (before : List Block) (c : RunOf Bool) → EndInSpace before → run_end c < 2 ^ 64
+    → EndInSpace (if c.value then before else before ++ with_node n c ∷ [])
+space_given n before c space ends = by c.value refl where
+  by : (v : Bool) → c.value ≡ v → EndInSpace (if c.value then before else before ++ with_node n c ∷ [])
+  by true value = rw value space
+  by false value = rw value (space_push before (with_node n c) space ends)
+
+-- runs that end in the address space give nothing behind it
+pub space_none : (rs : List Block) (x : ℕ) → EndInSpace rs → 2 ^ 64 ≤ x → value_at rs x ≡ None
+space_none [] x space far = refl
+space_none (r ∷ rs) x space far =
+    let past : run_end r ≤ x = omega (arith, space.0) in
+    rw (behind r x past) (space_none rs x space.1 far)
+
+-- frames that begin in a run, and in those behind it
+begun_in : (r : Block) (frame : ℕ) → lies_in r (4096 * frame) ≡ (nat_le (begun_before r.base) frame && nat_lt frame (begun_before (run_end r)))
+begun_in r frame = grind (arith, nat_tests)
+
+pub frames_none : frames_given (value_at {X = ℕ} []) ≡ 0
+unfolding frames_given
+frames_none = count_none (λ frame. is_some (value_at {X = ℕ} [] (4096 * frame))) (2 ^ 52) (λ i lt. refl)
+
+pub frames_step : (r : Block) (rs : List Block) → AreRuns (r ∷ rs) → run_end r < 2 ^ 64
+    → frames_given (value_at (r ∷ rs)) ≡ (begun_before (run_end r) - begun_before r.base) + frames_given (value_at rs)
+unfolding frames_given
+frames_step r rs runs space =
+    let here : ℕ → Bool = λ frame. nat_le (begun_before r.base) frame && nat_lt frame (begun_before (run_end r)) in
+    let later : ℕ → Bool = λ frame. is_some (value_at rs (4096 * frame)) in
+    let both : (frame : ℕ) → frame < 2 ^ 52 → is_some (value_at (r ∷ rs) (4096 * frame)) ≡ (here frame || later frame) = λ frame lt.
+    rw (sym (begun_in r frame)) (elim (cases_Bool (lies_in r (4096 * frame))) as (λ _. is_some (value_at (r ∷ rs) (4096 * frame)) ≡ (lies_in r (4096 * frame) || later frame)) [
+      | inl lies ↦ rw lies refl
+      | inr outside ↦ rw outside refl
+    ]) in
+    let apart : (frame : ℕ) → frame < 2 ^ 52 → here frame ≡ true → later frame ≡ false = λ frame lt in_run.
+    let short : 4096 * frame < run_end r = grind (arith, nat_tests, begun_in r frame) in
+    rw (none_below (run_end r) (4096 * frame) rs runs.2 (rest_from r rs runs) short) refl in
+    count_same _ _ (2 ^ 52) both ∙ count_either here later (2 ^ 52) apart
+    ∙ ap (λ n. n + count_below later (2 ^ 52)) (count_interval (begun_before r.base) (begun_before (run_end r)) (2 ^ 52) ∙ omega arith)
+
+pub frames_few : (f : ℕ → Option ℕ) → frames_given f ≤ 2 ^ 52
+unfolding frames_given
+frames_few f = count_at_most (λ frame. is_some (f (4096 * frame))) (2 ^ 52)
+
+-- the first of the runs that are left, and those behind it
+pub frames_first : (r : Block) (rs : List Block) (n : ℕ) → 1 ≤ length rs → n ≡ length rs → r ≡ get_or rs 0 r → AreRuns rs → run_end r < 2 ^ 64
+    → AreRuns (take (n - 1) (drop 1 rs))
+    × (frames_given (value_at rs) ≡ (begun_before (run_end r) - begun_before r.base) + frames_given (value_at (take (n - 1) (drop 1 rs))))
+frames_first r [] n some count is runs space = absurd (omega arith)
+frames_first r (s ∷ ss) n some count is runs space =
+    let ends : run_end s < 2 ^ 64 = subst (λ (t : Block). run_end t < 2 ^ 64) is space in
+    let all : take (n - 1) ss ≡ ss = take_all (n - 1) ss (omega arith) in
+    (rw all runs.2, rw (all, is) (frames_step s ss runs ends))
+
+-- with no run left no frame is
+pub frames_last : (rs : List Block) → length rs < 1 → frames_given (value_at rs) ≡ 0
+frames_last [] none = frames_none
+frames_last (r ∷ rs) none = absurd (omega arith)

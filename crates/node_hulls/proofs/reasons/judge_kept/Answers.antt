@@ -1,0 +1,47 @@
+use Rattle.std.proofs.Common.{ℕ, List, sym, ◌∙◌, ap, subst}
+use Rattle.address_runs.specs.Runs.{IsRunsOf, value_at}
+use Rattle.node_hulls.specs.Hulls.{Block}
+use Rattle.node_hulls.specs.Judgement.{frames_given, left_over}
+use Rattle.node_hulls.specs.Kept.{in_any}
+use Rattle.node_hulls.proofs.JudgedLaws.{Found, found_overlap, found_uncovered, found_used}
+use Rattle.node_hulls.proofs.reasons.judge_kept.Goals as goal
+
+pub returns-in-Some : goal.returns-in-Some
+returns-in-Some c =
+    c.unused.ensures
+    ∙ sym (found_overlap (in_any c.args.memory.now) c.args.domains.items c.args.kept.now c.in-Some.i c.in-Some.j (sym c.first_overlap.ensures ∙ c.in-Some.is))
+
+pub returns-then-uncovered-ge-UNCOVERED_FRAMES : goal.returns-then-uncovered-ge-UNCOVERED_FRAMES
+returns-then-uncovered-ge-UNCOVERED_FRAMES c =
+    let memory = in_any c.args.memory.now in
+    let kept = c.args.kept.now in
+    let joined = c.in_ok-joined.joined.items in
+    let rest = c.in_ok-rest.rest.items in
+    let found : Found memory kept joined rest c.count_frames-uncovered.result = record {
+      apart = sym c.first_overlap.ensures ∙ c.in_default.is;
+      kept_space = c.requires.space;
+      hulls = c.in_ok-joined.ensures;
+      left = subst (λ (n : ℕ). IsRunsOf (left_over memory (value_at joined) n) rest) c.lowest_node.ensures
+          (subst (λ (js : List Block). IsRunsOf (left_over memory (value_at js) c.lowest_node.result) rest) c.deref.ensures.value c.in_ok-rest.ensures.runs);
+      left_space = c.in_ok-rest.ensures.space;
+      counted = c.count_frames-uncovered.ensures ∙ ap (λ (rs : List Block). frames_given (value_at rs)) c.deref-2.ensures.value;
+    } in
+    c.unused-then-uncovered-ge-UNCOVERED_FRAMES.ensures
+    ∙ sym (found_uncovered memory kept joined rest c.count_frames-uncovered.result found c.args.domains.items c.if-uncovered-ge-UNCOVERED_FRAMES.true)
+
+pub returns : goal.returns
+returns c =
+    let memory = in_any c.args.memory.now in
+    let kept = c.args.kept.now in
+    let joined = c.in_ok-joined.joined.items in
+    let rest = c.in_ok-rest.rest.items in
+    let found : Found memory kept joined rest c.count_frames-uncovered.result = record {
+      apart = sym c.first_overlap.ensures ∙ c.in_default.is;
+      kept_space = c.requires.space;
+      hulls = c.in_ok-joined.ensures;
+      left = subst (λ (n : ℕ). IsRunsOf (left_over memory (value_at joined) n) rest) c.lowest_node.ensures
+          (subst (λ (js : List Block). IsRunsOf (left_over memory (value_at js) c.lowest_node.result) rest) c.deref.ensures.value c.in_ok-rest.ensures.runs);
+      left_space = c.in_ok-rest.ensures.space;
+      counted = c.count_frames-uncovered.ensures ∙ ap (λ (rs : List Block). frames_given (value_at rs)) c.deref-2.ensures.value;
+    } in
+    sym (found_used memory kept joined rest c.count_frames-uncovered.result found c.args.domains.items c.if-uncovered-ge-UNCOVERED_FRAMES.false)

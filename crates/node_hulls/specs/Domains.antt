@@ -1,0 +1,20 @@
+-- The numbers of nodes: domains in the order in which the firmware first names them (`acpi_map_pxm_to_node`).
+use Rattle.std.specs.Prelude.{ℕ, ◌==◌, if◌then◌else◌, List, [], ◌∷◌, ◌++◌, map, fold, unwrap_or}
+use Rattle.std.specs.List.{list_any, position}
+use Rattle.srat_reader.specs.declared.table.SratBlock.{SratBlock}
+
+-- the names so far with one more, which stands once however often it is named
+abbrev pub with_name : List ℕ → ℕ → List ℕ
+with_name domains d = if list_any (λ e. e == d) domains then domains else domains ++ d ∷ []
+
+-- each domain of a list once, in the order of first naming
+unfoldable pub named_once : List ℕ → List ℕ
+named_once names = fold with_name [] names
+
+-- the domains that the enabled entries name: first those of processors, then those of memory
+abbrev pub domains_named : List ℕ → List SratBlock → List ℕ
+domains_named processors blocks = named_once (processors ++ map (λ (b : SratBlock). b.domain) blocks)
+
+-- the node of a domain: its place among the domains, from 0
+abbrev pub node_of : List ℕ → ℕ → ℕ
+node_of domains d = unwrap_or (position (λ e. e == d) domains) 0

@@ -1,0 +1,46 @@
+-- Which node an address has, by the blocks of memory that lie in nodes (`numa_cleanup_meminfo`, `numa_register_memblks`).
+use Rattle.std.specs.Prelude.{ℕ, ◌==◌, Bool, ◌&&◌, ◌||◌, not, nat_le, nat_lt, max, min, if◌then◌else◌, Option, Some, None, List, [], ◌∷◌}
+use Rattle.std.specs.List.{list_any, list_all}
+use Rattle.address_runs.specs.Runs.{RunOf, run_end, lies_in}
+
+-- a block: a range of addresses, and the node that it lies in (`struct numa_memblk`)
+abbrev pub Block : Type 0
+Block = RunOf ℕ
+
+-- some address of the block lies from the one address on and below the other
+abbrev pub meets : ℕ → ℕ → Block → Bool
+meets from until c = nat_lt (max from c.base) (min until (run_end c))
+
+-- the address lies between two blocks, of which the first lies lower
+abbrev pub is_between : Block → Block → ℕ → Bool
+is_between a b x = nat_le (run_end a) x && nat_lt x b.base
+
+-- the hull of two blocks of node n, of which the first lies lower, meets no block of another node
+abbrev pub is_own : List Block → ℕ → Block → Block → Bool
+is_own blocks n a b = list_all (λ c. (c.value == n) || not (meets a.base (run_end b) c)) blocks
+
+-- the address lies in a block of node n
+abbrev pub holds : List Block → ℕ → ℕ → Bool
+holds blocks n x = list_any (λ b. (b.value == n) && lies_in b x) blocks
+
+-- the address lies between two blocks of node n whose hull meets no block of another node
+abbrev pub joins : List Block → ℕ → ℕ → Bool
+joins blocks n x =
+    list_any (λ a. (a.value == n) && list_any (λ b. (b.value == n) && (is_between a b x && is_own blocks n a b)) blocks) blocks
+
+-- the address has node n
+abbrev pub has : List Block → ℕ → ℕ → Bool
+has blocks n x = holds blocks n x || joins blocks n x
+
+-- the node of an address: the first that it has, in the order of the blocks. Where blocks of different nodes share no
+-- address it has one at most
+abbrev pub first_had : List Block → ℕ → List Block → Option ℕ
+first_had blocks x [] = None
+first_had blocks x (b ∷ bs) = if has blocks b.value x then Some b.value else first_had blocks x bs
+
+unfoldable pub node_at : List Block → ℕ → Option ℕ
+node_at blocks x = first_had blocks x blocks
+
+-- whether two nodes are the same
+abbrev pub same_node : ℕ → ℕ → Bool
+same_node a b = a == b

@@ -1,0 +1,68 @@
+-- Which blocks of the firmware's table count, and which of them overlap (`numa_add_memblk`, `numa_cleanup_meminfo`).
+use Rattle.std.specs.Prelude.{ℕ, ◌+◌, ◌-◌, ◌<◌, ◌==◌, Bool, ◌&&◌, not, nat_lt, if◌then◌else◌, Option, None, List, [], ◌∷◌, ◌++◌, map, find, count_by}
+use Rattle.std.specs.List.{list_any}
+use Rattle.std.specs.Option.{option_map, option_or}
+use Rattle.address_runs.specs.Runs.{run_end, extent_of}
+use Rattle.bm_base.specs.Each.{each_in}
+use Rattle.bm_base.specs.Extent.{Extent, covers, end_of}
+use Rattle.bm_base.specs.Frames.{frame_around}
+use Rattle.srat_reader.specs.declared.table.SratBlock.{SratBlock}
+use Rattle.node_hulls.specs.declared.kept.KeptBlock.{KeptBlock}
+use Rattle.node_hulls.specs.Domains.{node_of}
+use Rattle.node_hulls.specs.Hulls.{Block, meets}
+
+-- memory as a list of ranges: an address is memory where it lies in one of them. None of them is empty
+abbrev pub in_any : List Extent → ℕ → Bool
+in_any ranges x = list_any (λ r. covers r x) ranges
+
+abbrev pub HaveBytes : List Extent → Type 0
+HaveBytes [] = Unit {0}
+HaveBytes (r ∷ rs) = (0 < r.size) × HaveBytes rs
+
+-- the first address of the frame in which the address lies
+abbrev pub frame_base : ℕ → ℕ
+frame_base x = (frame_around x).base
+
+-- a range with both ends rounded down to frames
+abbrev pub framed : Extent → Extent
+framed r = record { base = frame_base r.base; size = frame_base (end_of r) - frame_base r.base }
+
+-- some byte of the range is memory
+abbrev pub has_memory : (ℕ → Bool) → Extent → Bool
+has_memory memory r = not (each_in r (λ y. not (memory y)))
+
+-- a block of the table in whole frames, in the node of its domain
+abbrev pub of_node : List ℕ → SratBlock → Block
+of_node domains b = record { base = (framed b.range).base; size = (framed b.range).size; value = node_of domains b.domain }
+
+-- the blocks that are kept: those of which a byte is memory, each with its number in the table
+abbrev pub kept_one : (ℕ → Bool) → ℕ → Block → List KeptBlock
+kept_one memory i b = if has_memory memory (extent_of b) then record { number = i; block = b } ∷ [] else []
+
+abbrev pub kept_from : (ℕ → Bool) → List ℕ → ℕ → List SratBlock → List KeptBlock
+kept_from memory domains i [] = []
+kept_from memory domains i (b ∷ bs) = kept_one memory i (of_node domains b) ++ kept_from memory domains (i + 1) bs
+
+abbrev pub kept_of : (ℕ → Bool) → List ℕ → List SratBlock → List KeptBlock
+kept_of memory domains blocks = kept_from memory domains 0 blocks
+
+-- the blocks alone
+abbrev pub blocks_of : List KeptBlock → List Block
+blocks_of kept = map (λ (k : KeptBlock). k.block) kept
+
+-- whether any is kept
+abbrev pub any_kept : (ℕ → Bool) → List SratBlock → Bool
+any_kept memory blocks = list_any (λ (b : SratBlock). has_memory memory (framed b.range)) blocks
+
+-- the blocks with an address, as the table has them before they are rounded
+abbrev pub count_some : List SratBlock → ℕ
+count_some blocks = count_by (λ (b : SratBlock). nat_lt 0 b.range.size) blocks
+
+-- two kept blocks of different nodes share an address
+abbrev pub clash : KeptBlock → KeptBlock → Bool
+clash a b = not (a.block.value == b.block.value) && meets a.block.base (run_end a.block) b.block
+
+-- the numbers of the first kept block that clashes with a later one, and of the first that it clashes with
+abbrev pub first_clash : List KeptBlock → Option (ℕ × ℕ)
+first_clash [] = None
+first_clash (a ∷ rest) = option_or (option_map (λ (b : KeptBlock). (a.number, b.number)) (find (clash a) rest)) (first_clash rest)

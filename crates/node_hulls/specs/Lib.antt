@@ -1,0 +1,6 @@
+pub mod Domains
+pub mod First
+pub mod Hulls
+pub mod Judgement
+pub mod Kept
+pub mod Steps

@@ -1,0 +1,49 @@
+-- Words for the steps of the code, which private clauses and proofs cite.
+use Rattle.std.specs.Prelude.{ℕ, ◌+◌, ◌/◌, ◌-◌, ◌^◌, ◌<◌, ◌==◌, Bool, true, false, nat_le, if◌then◌else◌, List, [], ◌∷◌, length}
+use Rattle.address_runs.specs.Runs.{RunOf, run_end}
+use Rattle.bm_base.specs.Extent.{Extent}
+use Rattle.srat_reader.specs.declared.table.SratBlock.{SratBlock}
+use Rattle.node_hulls.specs.Domains.{with_name}
+use Rattle.node_hulls.specs.Hulls.{Block}
+
+-- one more name where there are at most 1,024 so far
+abbrev pub with_name_in_room : List ℕ → ℕ → List ℕ
+with_name_in_room domains d = if nat_le (length domains) 1024 then with_name domains d else domains
+
+abbrev pub named_by_block : List ℕ → SratBlock → List ℕ
+named_by_block domains b = with_name_in_room domains b.domain
+
+-- a run and the runs behind it, where the first of them is joined to it if it has the same node
+abbrev pub led_by_run : Block → List Block → List Block
+led_by_run r [] = r ∷ []
+led_by_run r (s ∷ ss) =
+    if r.value == s.value then record { base = r.base; size = run_end s - r.base; value = r.value } ∷ ss else r ∷ (s ∷ ss)
+
+-- runs, where each is joined with its next neighbour of the same node
+abbrev pub filled : List Block → List Block
+filled [] = []
+filled (r ∷ rs) = led_by_run r (filled rs)
+
+-- a range of memory, and a run with a node, as they cover their addresses: without a node, and with one
+abbrev pub bare : Extent → RunOf Bool
+bare r = record { base = r.base; size = r.size; value = false }
+
+abbrev pub noded : Block → RunOf Bool
+noded r = record { base = r.base; size = r.size; value = true }
+
+-- the runs without a node, each with the node that it gets
+abbrev pub with_node : ℕ → RunOf Bool → Block
+with_node node r = record { base = r.base; size = r.size; value = node }
+
+abbrev pub bare_runs : ℕ → List (RunOf Bool) → List Block
+bare_runs node [] = []
+bare_runs node (r ∷ rs) = if r.value then bare_runs node rs else with_node node r ∷ bare_runs node rs
+
+-- each run ends in the address space
+abbrev pub EndInSpace : List Block → Type 0
+EndInSpace [] = Unit {0}
+EndInSpace (r ∷ rs) = (run_end r < 2 ^ 64) × EndInSpace rs
+
+-- how many frames begin below an address
+abbrev pub begun_before : ℕ → ℕ
+begun_before x = (x + 4095) / 4096

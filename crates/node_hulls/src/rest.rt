@@ -1,0 +1,122 @@
+//! The memory that no block covers, and how many frames of it there are: the kernel counts them by what is left of its
+//! map (`numa_meminfo_cover_memory`).
+
+ghost use Rattle.std.specs.Prelude.{◌≡◌, ℕ, ◌+◌, ◌-◌, ◌^◌, ◌<◌, ◌≤◌, ◌++◌, [], ◌∷◌, if◌then◌else◌, OnOk, IfOk, map};
+ghost use Rattle.address_runs.specs.Overlay.{HaveAddresses};
+ghost use Rattle.address_runs.specs.Runs.{AreRuns, IsRunsOf, run_end, value_at};
+ghost use Rattle.node_hulls.specs.Judgement.{left_over, frames_given};
+ghost use Rattle.node_hulls.specs.Kept.{in_any, HaveBytes};
+ghost use Rattle.node_hulls.specs.Steps.{bare, noded, bare_runs, with_node, begun_before, EndInSpace};
+
+use crate::cover::Covered;
+use crate::node_range::NodeRange;
+use address_runs::overlay_all;
+use bm_base::{FRAME_SIZE, Memory, Range};
+use std::alloc::Global;
+
+/// The runs of memory that have no node, ascending, each with the node.
+pub fn left_over_runs(
+    alloc: Global,
+    memory: &[Range],
+    joined: &[NodeRange],
+    node: u32,
+) -> Result<Vec<NodeRange>, Memory>
+    requires memory { HaveBytes memory.now }
+    requires joined { AreRuns joined.now }
+    ensures runs { IfOk result (λ rest. IsRunsOf (left_over (in_any memory.now) (value_at joined.now) node) rest.items) }
+    ensures space { IfOk result (λ rest. EndInSpace rest.items) }
+{
+    let told = tell(alloc, memory, joined)?;
+    let covered = overlay_all(alloc, &told)?;
+    without_node(alloc, &covered, node)
+}
+
+/// Memory and the runs with a node, each as it covers its addresses.
+fn tell(alloc: Global, memory: &[Range], joined: &[NodeRange]) -> Result<Vec<Covered>, Memory>
+    ensures { IfOk result (λ told. told.items ≡ map bare memory.now ++ map noded joined.now) }
+{
+    let mut told = Vec::new(alloc);
+    tell_memory(&mut told, memory)?;
+    tell_nodes(&mut told, joined)?;
+    Ok(told)
+}
+
+/// Memory as it covers its addresses.
+fn tell_memory(told: &mut Vec<Covered>, memory: &[Range]) -> Result<(), Memory>
+    ensures { OnOk result (told.new.items ≡ told.old.items ++ map bare memory.now) }
+{
+    for part in memory {
+        let range = Range {
+            base: part.base,
+            size: part.size,
+        };
+        told.push(Covered {
+            range,
+            has_node: false,
+        })?;
+    }
+    Ok(())
+}
+
+/// The runs with a node as they cover their addresses.
+fn tell_nodes(told: &mut Vec<Covered>, joined: &[NodeRange]) -> Result<(), Memory>
+    ensures { OnOk result (told.new.items ≡ told.old.items ++ map noded joined.now) }
+{
+    for run in joined {
+        told.push(Covered {
+            range: run.range,
+            has_node: true,
+        })?;
+    }
+    Ok(())
+}
+
+/// The runs that have no node, each with the node that it gets.
+fn without_node(alloc: Global, covered: &[Covered], node: u32) -> Result<Vec<NodeRange>, Memory>
+    ensures value { IfOk result (λ rest. rest.items ≡ bare_runs node covered.now) }
+    ensures space { IfOk result (λ rest. EndInSpace rest.items) }
+{
+    let mut rest = Vec::new(alloc);
+    for run in covered {
+        give_node(&mut rest, run, node)?;
+    }
+    Ok(rest)
+}
+
+/// Gives the run the node, if it has none.
+fn give_node(rest: &mut Vec<NodeRange>, run: &Covered, node: u32) -> Result<(), Memory>
+    ensures value { OnOk result (rest.new.items ≡
+        (if run.now.value then rest.old.items else rest.old.items ++ with_node node run.now ∷ [])) }
+    ensures space { run_end run.now < 2 ^ 64 }
+{
+    if !run.has_node {
+        rest.push(NodeRange {
+            range: run.range,
+            node,
+        })?;
+    }
+    Ok(())
+}
+
+/// How many frames begin in the runs.
+pub fn count_frames(runs: &[NodeRange]) -> u64
+    requires { AreRuns runs.now }
+    ensures { result ≡ frames_given (value_at runs.now) }
+{
+    let mut frames = 0;
+    let mut rest = runs;
+    while let [run, others @ ..] = rest {
+        frames += frames_begun(run);
+        rest = others;
+    }
+    frames
+}
+
+/// How many frames begin in the run.
+fn frames_begun(run: &NodeRange) -> u64
+    ensures value { result ≡ begun_before (run_end run.now) - begun_before run.now.base }
+    ensures space { run_end run.now < 2 ^ 64 }
+{
+    let end = run.range.end();
+    end.div_ceil(FRAME_SIZE) - run.range.base.div_ceil(FRAME_SIZE)
+}
