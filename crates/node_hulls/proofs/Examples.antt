@@ -108,7 +108,8 @@ framed_examples : (framed (range 0x1800 0x1000) ≡ range 0x1000 0x1000) × (fra
 framed_examples = (refl, refl)
 
 -- one byte is enough, and no byte isn't
-has_memory_examples : (has_memory memory (range 0x4FFE 4) ≡ true) × (has_memory memory (range 0x4FFE 2) ≡ false) × (has_memory memory (range 0x1000 0) ≡ false)
+has_memory_examples : (has_memory memory (range 0x4FFE 4) ≡ true) × (has_memory memory (range 0x4FFE 2) ≡ false)
+    × (has_memory memory (range 0x1000 0) ≡ false)
 unfolding each_in each_from
 has_memory_examples = (refl, refl, refl)
 
@@ -116,15 +117,18 @@ has_memory_examples = (refl, refl, refl)
 abbrev some_frames : ℕ → Bool
 some_frames x = (x == 0x1000) || (x == 0x3000)
 
-of_node_examples : (of_node (8 ∷ 5 ∷ []) (told 5 0x1800 0x1000) ≡ block 1 0x1000 0x1000) × (of_node (8 ∷ 5 ∷ []) (told 8 0 0xFFF) ≡ block 0 0 0)
+of_node_examples : (of_node (8 ∷ 5 ∷ []) (told 5 0x1800 0x1000) ≡ block 1 0x1000 0x1000)
+    × (of_node (8 ∷ 5 ∷ []) (told 8 0 0xFFF) ≡ block 0 0 0)
 of_node_examples = (refl, refl)
 
-kept_one_examples : (kept_one memory 7 (block 3 0x5000 2) ≡ record { number = 7; block = block 3 0x5000 2 } ∷ []) × (kept_one memory 7 (block 3 0x5001 2) ≡ [])
+kept_one_examples : (kept_one memory 7 (block 3 0x5000 2) ≡ record { number = 7; block = block 3 0x5000 2 } ∷ [])
+    × (kept_one memory 7 (block 3 0x5001 2) ≡ [])
 unfolding each_in each_from
 kept_one_examples = (refl, refl)
 
 -- the numbers count the blocks that aren't kept too: here the first one, which is empty in whole frames
-kept_examples : (kept_of some_frames (5 ∷ 6 ∷ []) (told 5 0 0xFFF ∷ told 6 0x1000 0x1000 ∷ []) ≡ record { number = 1; block = block 1 0x1000 0x1000 } ∷ [])
+kept_examples : (kept_of some_frames (5 ∷ 6 ∷ []) (told 5 0 0xFFF ∷ told 6 0x1000 0x1000 ∷ [])
+    ≡ record { number = 1; block = block 1 0x1000 0x1000 } ∷ [])
     × (kept_from some_frames (5 ∷ []) 4 (told 5 0 0x800 ∷ []) ≡ [])
 unfolding each_in each_from
 kept_examples = (refl, refl)
@@ -135,7 +139,8 @@ kept i b = record { number = i; block = b }
 blocks_examples : (blocks_of (kept 2 (block 0 1 1) ∷ kept 4 (block 1 2 2) ∷ []) ≡ block 0 1 1 ∷ block 1 2 2 ∷ []) × (blocks_of [] ≡ [])
 blocks_examples = (refl, refl)
 
-any_kept_examples : (any_kept some_frames (told 5 0 0xFFF ∷ told 6 0x1000 0x1000 ∷ []) ≡ true) × (any_kept some_frames (told 5 0 0xFFF ∷ []) ≡ false)
+any_kept_examples : (any_kept some_frames (told 5 0 0xFFF ∷ told 6 0x1000 0x1000 ∷ []) ≡ true)
+    × (any_kept some_frames (told 5 0 0xFFF ∷ []) ≡ false)
 unfolding each_in each_from
 any_kept_examples = (refl, refl)
 
@@ -144,12 +149,14 @@ count_examples : (count_some (told 5 0 1 ∷ told 6 9 0 ∷ told 7 9 2 ∷ []) �
 count_examples = (refl, refl)
 
 -- blocks of different nodes that share an address; touching isn't sharing, and one node may lie over itself
-clash_examples : (clash (kept 0 (block 0 1 2)) (kept 1 (block 1 2 2)) ≡ true) × (clash (kept 0 (block 0 1 2)) (kept 1 (block 1 3 2)) ≡ false)
+clash_examples : (clash (kept 0 (block 0 1 2)) (kept 1 (block 1 2 2)) ≡ true)
+    × (clash (kept 0 (block 0 1 2)) (kept 1 (block 1 3 2)) ≡ false)
     × (clash (kept 0 (block 0 1 2)) (kept 1 (block 0 2 2)) ≡ false)
 clash_examples = (refl, refl, refl)
 
 -- the least pair by the first number and then by the second
-least_pair : first_clash (kept 1 (block 0 9 1) ∷ kept 2 (block 0 1 4) ∷ kept 5 (block 1 7 1) ∷ kept 6 (block 1 3 1) ∷ kept 8 (block 2 2 1) ∷ []) ≡ Some (2, 6)
+least_pair : first_clash (kept 1 (block 0 9 1) ∷ kept 2 (block 0 1 4) ∷ kept 5 (block 1 7 1) ∷ kept 6 (block 1 3 1) ∷ kept 8 (block 2 2 1)
+    ∷ []) ≡ Some (2, 6)
 least_pair = refl
 
 no_pair : first_clash (kept 0 (block 0 1 2) ∷ kept 1 (block 1 3 2) ∷ []) ≡ None
@@ -159,21 +166,25 @@ no_pair = refl
 abbrev below_4 : ℕ → Bool
 below_4 x = nat_lt x 4
 
-left_over_examples : (left_over below_4 (node_at hole) 6 0 ≡ Some 6) × (left_over below_4 (node_at hole) 6 1 ≡ None) × (left_over below_4 (node_at hole) 6 20 ≡ None)
+left_over_examples : (left_over below_4 (node_at hole) 6 0 ≡ Some 6) × (left_over below_4 (node_at hole) 6 1 ≡ None)
+    × (left_over below_4 (node_at hole) 6 20 ≡ None)
 unfolding node_at
 left_over_examples = (refl, refl, refl)
 
-lowest_examples : (lower 3 (block 1 0 1) ≡ 1) × (lower 0 (block 1 0 1) ≡ 0) × (lowest (block 3 0 1 ∷ block 1 2 1 ∷ block 2 4 1 ∷ []) ≡ 1) × (lowest [] ≡ 0)
+lowest_examples : (lower 3 (block 1 0 1) ≡ 1) × (lower 0 (block 1 0 1) ≡ 0) × (lowest (block 3 0 1 ∷ block 1 2 1 ∷ block 2 4 1 ∷ []) ≡ 1)
+    × (lowest [] ≡ 0)
 lowest_examples = (refl, refl, refl, refl)
 
 -- the node of an address by the kept blocks, and what they leave over, which goes to the lowest node
-by_kept_examples : (nodes_by (kept 3 (block 2 1 1) ∷ kept 4 (block 2 3 1) ∷ []) 2 ≡ Some 2) × (left_by below_4 (kept 3 (block 2 1 1) ∷ kept 4 (block 2 3 1) ∷ []) 0 ≡ Some 2)
+by_kept_examples : (nodes_by (kept 3 (block 2 1 1) ∷ kept 4 (block 2 3 1) ∷ []) 2 ≡ Some 2)
+    × (left_by below_4 (kept 3 (block 2 1 1) ∷ kept 4 (block 2 3 1) ∷ []) 0 ≡ Some 2)
     × (left_by below_4 (kept 3 (block 2 1 1) ∷ kept 4 (block 2 3 1) ∷ []) 2 ≡ None)
 unfolding node_at
 by_kept_examples = (refl, refl, refl)
 
 -- the reasons: those of the table before those of the kept blocks, and `numa=off` before all
-names_examples : (names_of (record { processors = 4 ∷ []; blocks = told 2 0 1 ∷ [] }) ≡ 4 ∷ 2 ∷ []) × (names_of (record { processors = []; blocks = [] }) ≡ [])
+names_examples : (names_of (record { processors = 4 ∷ []; blocks = told 2 0 1 ∷ [] }) ≡ 4 ∷ 2 ∷ [])
+    × (names_of (record { processors = []; blocks = [] }) ≡ [])
 unfolding named_once
 names_examples = (refl, refl)
 
@@ -185,17 +196,20 @@ two_overlap : judged_kept below_4 (5 ∷ 6 ∷ []) (kept 3 (block 0 1 2) ∷ kep
 unfolding judged_kept
 two_overlap = refl
 
-if_apart_examples : (if_apart (Some (3, 4)) (unused why.Used) ≡ unused (why.Overlap 3 4)) × (if_apart None (unused why.NoBlocks) ≡ unused why.NoBlocks)
+if_apart_examples : (if_apart (Some (3, 4)) (unused why.Used) ≡ unused (why.Overlap 3 4))
+    × (if_apart None (unused why.NoBlocks) ≡ unused why.NoBlocks)
 if_apart_examples = (refl, refl)
 
-off_or_absent : (judged below_4 true (Some (record { processors = []; blocks = [] })) ≡ unused why.Off) × (judged below_4 true None ≡ unused why.Off)
+off_or_absent : (judged below_4 true (Some (record { processors = []; blocks = [] })) ≡ unused why.Off)
+    × (judged below_4 true None ≡ unused why.Off)
     × (judged below_4 false None ≡ unused why.Absent)
 off_or_absent = (refl, refl, refl)
 
 -- frames that begin in runs: a frame that begins before a run isn't counted, and one that ends behind it is
 frames_of_runs : frames_given (value_at (block 0 0x800 0x1000 ∷ (block 1 0x3000 0x2001 ∷ []))) ≡ 4
 frames_of_runs =
-    let runs : AreRuns (block 0 0x800 0x1000 ∷ (block 1 0x3000 0x2001 ∷ [])) = (lit< tt, (lit≤ tt, λ touch. absurd (omega arith)), (lit< tt, tt, tt)) in
+    let runs : AreRuns (block 0 0x800 0x1000 ∷ (block 1 0x3000 0x2001 ∷ [])) =
+    (lit< tt, (lit≤ tt, λ touch. absurd (omega arith)), (lit< tt, tt, tt)) in
     frames_step (block 0 0x800 0x1000) (block 1 0x3000 0x2001 ∷ []) runs (lit< tt)
     ∙ rw (frames_step (block 1 0x3000 0x2001) [] runs.2 (lit< tt), frames_none) refl
 
@@ -210,18 +224,21 @@ nothing_left : if_covering (5 ∷ []) (value_at (block 0 0 1 ∷ [])) (value_at 
 nothing_left = rw frames_none refl
 
 -- what is given where the table is used, and where it isn't
-used_gives : ((used (5 ∷ []) (value_at []) (value_at (block 0 0 0x100000 ∷ []))).uncovered ≡ 256) × ((used (5 ∷ []) (value_at []) (value_at [])).domains ≡ 5 ∷ [])
+used_gives : ((used (5 ∷ []) (value_at []) (value_at (block 0 0 0x100000 ∷ []))).uncovered ≡ 256)
+    × ((used (5 ∷ []) (value_at []) (value_at [])).domains ≡ 5 ∷ [])
 used_gives = (one_mebibyte, refl)
 
 unused_gives : ((unused why.NoBlocks).domains ≡ []) × ((unused (why.Overlap 1 2)).why ≡ why.Overlap 1 2)
 unused_gives = (refl, refl)
 
 -- 2,048 blocks with an address aren't too many, as one without an address doesn't count; 2,049 are
-many_blocks : judged_table some_frames (record { processors = []; blocks = replicate 2049 (told 5 0x1000 0x1000) }) ≡ unused why.TooManyBlocks
+many_blocks : judged_table some_frames (record { processors = []; blocks = replicate 2049 (told 5 0x1000 0x1000) })
+    ≡ unused why.TooManyBlocks
 unfolding judged_table named_once each_in each_from
 many_blocks = refl
 
 -- 1,025 domains are too many
-many_domains : judged_table some_frames (record { processors = range_with_len 0 1025; blocks = told 5 0x1000 0x1000 ∷ [] }) ≡ unused why.TooManyDomains
+many_domains : judged_table some_frames (record { processors = range_with_len 0 1025; blocks = told 5 0x1000 0x1000 ∷ [] })
+    ≡ unused why.TooManyDomains
 unfolding judged_table named_once each_in each_from
 many_domains = refl

@@ -46,7 +46,8 @@ record Spoken (memory : ℕ → Bool) (kept : List KeptBlock) (joined rest : Lis
   left : rest ≡ runs_of same_node (left_by memory kept)
   counted : frames_given (left_by memory kept) ≡ frames
 
-module _ (memory : ℕ → Bool) (kept : List KeptBlock) (joined rest : List Block) (frames : ℕ) (found : Found memory kept joined rest frames) where
+module _ (memory : ℕ → Bool) (kept : List KeptBlock) (joined rest : List Block) (frames : ℕ)
+    (found : Found memory kept joined rest frames) where
   spoken : Spoken memory kept joined rest frames
   spoken =
       let at_nodes : value_at joined ≡ nodes_by kept = λ i x. found.hulls.each x i in
@@ -54,7 +55,8 @@ module _ (memory : ℕ → Bool) (kept : List KeptBlock) (joined rest : List Blo
       subst (λ (f : ℕ → Option ℕ). IsRunsOf (left_over memory f (lowest (blocks_of kept))) rest) at_nodes found.left in
       let at_left : value_at rest ≡ left_by memory kept = λ i x. left.each x i in
       record {
-        hulls = the_list same_node tells_nodes (nodes_by kept) joined (λ x far. node_none (blocks_of kept) x found.kept_space far) found.hulls;
+        hulls = the_list same_node tells_nodes (nodes_by kept) joined (λ x far. node_none (blocks_of kept) x found.kept_space far)
+            found.hulls;
         left = the_list same_node tells_nodes (left_by memory kept) rest
             (λ x far. sym (left.each x) ∙ space_none rest x found.left_space far) left;
         counted = ap (λ (f : ℕ → Option ℕ). frames_given f) (sym at_left) ∙ sym found.counted;
@@ -86,7 +88,8 @@ module _ (memory : ℕ → Bool) (lists : Affinity) where
   unfolding judged_table
   no_blocks none = rw none refl
 
-  pub too_many_domains : any_kept memory lists.blocks ≡ true → 1024 < length (names_of lists) → judged_table memory lists ≡ unused why.TooManyDomains
+  pub too_many_domains : any_kept memory lists.blocks ≡ true → 1024 < length (names_of lists) → judged_table memory lists
+      ≡ unused why.TooManyDomains
   unfolding judged_table
   too_many_domains some many =
       let test : nat_lt 1024 (length (names_of lists)) ≡ true = grind (arith, nat_tests) in
@@ -106,6 +109,7 @@ module _ (memory : ℕ → Bool) (lists : Affinity) where
   unfolding judged_table
   by_kept some domains names few few_blocks kept is =
       let whole : domains ≡ names_of lists = whole_domains domains (names_of lists) names few in
-      let count : nat_lt 1024 (length (names_of lists)) ≡ false = grind (arith, nat_tests, few_domains domains (names_of lists) names few) in
+      let count : nat_lt 1024 (length (names_of lists)) ≡ false = grind
+      (arith, nat_tests, few_domains domains (names_of lists) names few) in
       let blocks : nat_lt 2048 (count_some lists.blocks) ≡ false = grind (arith, nat_tests) in
       rw (some, count, blocks, is, whole) refl

@@ -92,17 +92,21 @@ has_address : (memory : ℕ → Bool) (b : Block) → has_memory memory (extent_
 has_address memory b some = elim (cases_lt 0 b.size) as (λ _. 0 < b.size) [
   | inl lt ↦ lt
   | inr none ↦
-      let all : each_in (extent_of b) (λ y. not (memory y)) ≡ true = each_in-all (extent_of b) (λ y. not (memory y)) (λ y low high. absurd (omega arith)) in
+      let all : each_in (extent_of b) (λ y. not (memory y)) ≡ true = each_in-all (extent_of b) (λ y. not (memory y))
+      (λ y low high. absurd (omega arith)) in
       absurd (true≢false (sym some ∙ rw all refl))
 ]
 
-kept_addresses : (memory : ℕ → Bool) (domains : List ℕ) (i : ℕ) (bs : List SratBlock) → HaveAddresses (blocks_of (kept_from memory domains i bs))
+kept_addresses : (memory : ℕ → Bool) (domains : List ℕ) (i : ℕ) (bs : List SratBlock)
+    → HaveAddresses (blocks_of (kept_from memory domains i bs))
 kept_addresses memory domains i [] = tt
-kept_addresses memory domains i (b ∷ bs) = by (has_memory memory (extent_of (of_node domains b))) refl (kept_addresses memory domains (i + 1) bs) where
-  by : (some : Bool) → has_memory memory (extent_of (of_node domains b)) ≡ some → HaveAddresses (blocks_of (kept_from memory domains (i + 1) bs))
-      → HaveAddresses (blocks_of (kept_from memory domains i (b ∷ bs)))
-  by true some rest = rw some (has_address memory (of_node domains b) some, rest)
-  by false none rest = rw none rest
+kept_addresses memory domains i (b ∷ bs) = by (has_memory memory (extent_of (of_node domains b))) refl
+    (kept_addresses memory domains (i + 1) bs) where
+      by : (some : Bool) → has_memory memory (extent_of (of_node domains b)) ≡ some
+          → HaveAddresses (blocks_of (kept_from memory domains (i + 1) bs))
+          → HaveAddresses (blocks_of (kept_from memory domains i (b ∷ bs)))
+      by true some rest = rw some (has_address memory (of_node domains b) some, rest)
+      by false none rest = rw none rest
 
 pub addresses_kept : (memory : ℕ → Bool) (domains : List ℕ) (bs : List SratBlock) → HaveAddresses (blocks_of (kept_of memory domains bs))
 addresses_kept memory domains bs = kept_addresses memory domains 0 bs

@@ -80,7 +80,8 @@ meeting_place from until c meeting =
     (omega arith, omega arith, inside c (max from c.base) (omega arith) (omega arith))
 
 -- each block that meets an own hull is of the node
-own_node : (blocks : List Block) (n : ℕ) (a b c : Block) → is_own blocks n a b ≡ true → IsIn c blocks → meets a.base (run_end b) c ≡ true → c.value ≡ n
+own_node : (blocks : List Block) (n : ℕ) (a b c : Block) → is_own blocks n a b ≡ true → IsIn c blocks → meets a.base (run_end b) c ≡ true
+    → c.value ≡ n
 own_node blocks n a b c own member meeting =
     let passes : ((c.value == n) || not (meets a.base (run_end b) c)) ≡ true = all_member _ blocks c own member in
     let alone : (c.value == n) ≡ true = either (c.value == n) (meets a.base (run_end b) c) passes meeting in
@@ -91,7 +92,8 @@ own_node blocks n a b c own member meeting =
       either false false h meets_too = meets_too
 
 -- what an address has is given there, or lies around it
-joined_around : (blocks : List Block) (n x : ℕ) → Apart blocks → HaveAddresses blocks → joins blocks n x ≡ true → IsAround (value_at blocks) x n
+joined_around : (blocks : List Block) (n x : ℕ) → Apart blocks → HaveAddresses blocks → joins blocks n x ≡ true
+    → IsAround (value_at blocks) x n
 joined_around blocks n x apart some joined =
     let outer = any_member _ blocks joined in
     let a = outer.one in
@@ -160,7 +162,8 @@ or_true : (p : Bool) → (p || true) ≡ true
 or_true true = refl
 or_true false = refl
 
-around_joins : (blocks : List Block) (n x : ℕ) → Apart blocks → IsAround (value_at blocks) x n → holds blocks n x ≡ false → joins blocks n x ≡ true
+around_joins : (blocks : List Block) (n x : ℕ) → Apart blocks → IsAround (value_at blocks) x n → holds blocks n x ≡ false
+    → joins blocks n x ≡ true
 around_joins blocks n x apart around not_held =
     let lower = given_by_block blocks around.low n around.at_low in
     let upper = given_by_block blocks around.high n around.at_high in
@@ -223,7 +226,8 @@ first_has blocks x m (b ∷ bs) some = elim (cases_Bool (has blocks b.value x)) 
   | inr not_had ↦ first_has blocks x m bs (rw not_had at some)
 ]
 
-first_some : (blocks : List Block) (x : ℕ) (bs : List Block) (b : Block) → IsIn b bs → has blocks b.value x ≡ true → first_had blocks x bs ≢ None
+first_some : (blocks : List Block) (x : ℕ) (bs : List Block) (b : Block) → IsIn b bs → has blocks b.value x ≡ true
+    → first_had blocks x bs ≢ None
 first_some blocks x [] b member had none = member
 first_some blocks x (c ∷ cs) b member had none = elim (cases_Bool (has blocks c.value x)) as (λ _. ⊥) [
   | inl first ↦ none-some c.value (sym none ∙ rw first refl)
@@ -275,7 +279,8 @@ joined_blocks blocks rs apart some known =
     record { runs = joined.runs; each = λ x. node_given blocks rs (filled rs) x apart some runs_of_blocks joined }
 
 -- where no two kept blocks clash, blocks of different nodes share no address
-no_clash : (a b : KeptBlock) (x : ℕ) → clash a b ≡ false → lies_in a.block x ≡ true → lies_in b.block x ≡ true → a.block.value ≡ b.block.value
+no_clash : (a b : KeptBlock) (x : ℕ) → clash a b ≡ false → lies_in a.block x ≡ true → lies_in b.block x ≡ true → a.block.value
+    ≡ b.block.value
 no_clash a b x none lies_a lies_b =
     let in_a : (a.block.base ≤ x) × (x < run_end a.block) = bounds a.block x lies_a in
     let low = in_a.0 in
@@ -302,7 +307,8 @@ kept_member [] b member = absurd member
 kept_member (k ∷ ks) b (inl here) = (k, inl refl, here)
 kept_member (k ∷ ks) b (inr later) = let found = kept_member ks b later in (found.0, inr found.1, found.2)
 
-first_none_parts : (a : KeptBlock) (rest : List KeptBlock) → first_clash (a ∷ rest) ≡ None → (find (clash a) rest ≡ None) × (first_clash rest ≡ None)
+first_none_parts : (a : KeptBlock) (rest : List KeptBlock) → first_clash (a ∷ rest) ≡ None → (find (clash a) rest ≡ None)
+    × (first_clash rest ≡ None)
 first_none_parts a rest none = by (find (clash a) rest) refl where
   by : (o : Option KeptBlock) → find (clash a) rest ≡ o → (find (clash a) rest ≡ None) × (first_clash rest ≡ None)
   by None at = (at, rw at at none)

@@ -23,27 +23,33 @@ use Rattle.node_hulls.specs.Steps.{bare, noded, bare_runs, with_node, begun_befo
 -- what memory alone says, and what the runs with a node alone say
 bare_given : (memory : List Extent) (x : ℕ) → all_overlaid either (map bare memory) x ≡ (if in_any memory x then Some false else None)
 bare_given [] x = refl
-bare_given (r ∷ rs) x = elim (cases_Bool (covers r x)) as (λ _. all_overlaid either (map bare (r ∷ rs)) x ≡ (if in_any (r ∷ rs) x then Some false else None)) [
-  | inl here ↦ rw (here, bare_given rs x) (elim (cases_Bool (in_any rs x)) as (λ _. either (Some false) (if in_any rs x then Some false else None) ≡ Some false) [
-    | inl also ↦ rw also refl
-    | inr alone ↦ rw alone refl
-  ])
-  | inr elsewhere ↦ rw elsewhere (bare_given rs x)
-]
+bare_given (r ∷ rs) x = elim (cases_Bool (covers r x)) as (λ _. all_overlaid either (map bare (r ∷ rs)) x
+    ≡ (if in_any (r ∷ rs) x then Some false else None)) [
+      | inl here ↦ rw (here, bare_given rs x) (elim (cases_Bool (in_any rs x)) as
+          (λ _. either (Some false) (if in_any rs x then Some false else None) ≡ Some false) [
+            | inl also ↦ rw also refl
+            | inr alone ↦ rw alone refl
+          ])
+      | inr elsewhere ↦ rw elsewhere (bare_given rs x)
+    ]
 
-noded_given : (joined : List Block) (x : ℕ) → all_overlaid either (map noded joined) x ≡ (if is_some (value_at joined x) then Some true else None)
+noded_given : (joined : List Block) (x : ℕ) → all_overlaid either (map noded joined) x
+    ≡ (if is_some (value_at joined x) then Some true else None)
 noded_given [] x = refl
 noded_given (r ∷ rs) x =
-    elim (cases_Bool (lies_in r x)) as (λ _. all_overlaid either (map noded (r ∷ rs)) x ≡ (if is_some (value_at (r ∷ rs) x) then Some true else None)) [
-      | inl here ↦ rw (here, noded_given rs x) (elim (cases_Bool (is_some (value_at rs x))) as (λ _. either (Some true) (if is_some (value_at rs x) then Some true else None) ≡ Some true) [
-        | inl also ↦ rw also refl
-        | inr alone ↦ rw alone refl
-      ])
+    elim (cases_Bool (lies_in r x)) as (λ _. all_overlaid either (map noded (r ∷ rs)) x
+    ≡ (if is_some (value_at (r ∷ rs) x) then Some true else None)) [
+      | inl here ↦ rw (here, noded_given rs x) (elim (cases_Bool (is_some (value_at rs x))) as
+          (λ _. either (Some true) (if is_some (value_at rs x) then Some true else None) ≡ Some true) [
+            | inl also ↦ rw also refl
+            | inr alone ↦ rw alone refl
+          ])
       | inr elsewhere ↦ rw elsewhere (noded_given rs x)
     ]
 
 -- each as a stretch has an address
-bare_addresses : (memory : List Extent) (ss : List (RunOf Bool)) → HaveBytes memory → HaveAddresses ss → HaveAddresses (map bare memory ++ ss)
+bare_addresses : (memory : List Extent) (ss : List (RunOf Bool)) → HaveBytes memory → HaveAddresses ss
+    → HaveAddresses (map bare memory ++ ss)
 bare_addresses [] ss some behind_some = behind_some
 bare_addresses (r ∷ rs) ss some behind_some = (some.0, bare_addresses rs ss some.1 behind_some)
 
@@ -51,7 +57,8 @@ noded_addresses : (joined : List Block) → AreRuns joined → HaveAddresses (ma
 noded_addresses [] runs = tt
 noded_addresses (r ∷ rs) runs = (runs.0, noded_addresses rs runs.2)
 
-pub told_addresses : (memory : List Extent) (joined : List Block) → HaveBytes memory → AreRuns joined → HaveAddresses (map bare memory ++ map noded joined)
+pub told_addresses : (memory : List Extent) (joined : List Block) → HaveBytes memory → AreRuns joined
+    → HaveAddresses (map bare memory ++ map noded joined)
 told_addresses memory joined some runs = bare_addresses memory (map noded joined) some (noded_addresses joined runs)
 
 -- a run without a node gives the node, one with a node gives none
@@ -64,10 +71,16 @@ bare_of n (Some false) = Some n
 told_over : (memory : List Extent) (joined : List Block) (n x : ℕ)
     → bare_of n (all_overlaid either (map bare memory ++ map noded joined) x) ≡ left_over (in_any memory) (value_at joined) n x
 told_over memory joined n x =
-    rw (sym (all_append either either_none either_grouped (map bare memory) (map noded joined) x), bare_given memory x, noded_given joined x)
+    rw (
+      sym (all_append either either_none either_grouped (map bare memory) (map noded joined) x),
+      bare_given memory x,
+      noded_given joined
+          x,
+    )
     (by (in_any memory x) (value_at joined x)) where
       by : (m : Bool) (o : Option ℕ)
-          → bare_of n (either (if m then Some false else None) (if is_some o then Some true else None)) ≡ (if m && is_none o then Some n else None)
+          → bare_of n (either (if m then Some false else None) (if is_some o then Some true else None))
+          ≡ (if m && is_none o then Some n else None)
       by true (Some k) = refl
       by true None = refl
       by false (Some k) = refl
@@ -103,14 +116,17 @@ bare_start n at cs d ds runs start canonical is =
       some : 0 < d.size
       some = (subst (λ (es : List Block). AreRuns es) is canonical).0
 
-bare_before : (n : ℕ) (c : RunOf Bool) (cs : List (RunOf Bool)) → AreRuns (c ∷ cs) → c.value ≡ false → (es : List Block) → bare_runs n cs ≡ es → AreRuns es
+bare_before : (n : ℕ) (c : RunOf Bool) (cs : List (RunOf Bool)) → AreRuns (c ∷ cs) → c.value ≡ false → (es : List Block) → bare_runs n cs
+    ≡ es → AreRuns es
     → IsBefore (record { base = c.base; size = c.size; value = n }) es
 bare_before n c cs runs value [] is canonical = tt
 bare_before n c cs runs value (d ∷ ds) is canonical =
-    let start : run_end c ≤ d.base = bare_start n (run_end c) cs d ds runs.2 (rest_from c cs runs) (subst (λ (es : List Block). AreRuns es) (sym is) canonical) is in (
+    let start : run_end c ≤ d.base = bare_start n (run_end c) cs d ds runs.2 (rest_from c cs runs)
+    (subst (λ (es : List Block). AreRuns es) (sym is) canonical) is in (
       start,
       λ touch same.
-          let first : value_at (d ∷ ds) (run_end c) ≡ Some d.value = rw (inside d (run_end c) (omega arith) (omega (arith, canonical.0))) refl in
+          let first : value_at (d ∷ ds) (run_end c) ≡ Some d.value = rw (inside d (run_end c) (omega arith) (omega (arith, canonical.0)))
+          refl in
           let given : bare_of n (value_at cs (run_end c)) ≡ Some d.value =
           sym (bare_value n cs (run_end c) runs.2) ∙ ap (λ (es : List Block). value_at es (run_end c)) is ∙ first in
           other_behind c cs runs (bare_some n d.value (value_at cs (run_end c)) given ∙ ap (λ b. Some b) (sym value)),
@@ -136,8 +152,10 @@ left_runs memory joined n cs known = record {
 }
 
 -- one run more
-pub bare_step : (n : ℕ) (before : List Block) (covered : List (RunOf Bool)) (i : ℕ) (c : RunOf Bool) → i < length covered → c ≡ get_or covered i c
-    → (if c.value then before else before ++ with_node n c ∷ []) ++ bare_runs n (drop (i + 1) covered) ≡ before ++ bare_runs n (drop i covered)
+pub bare_step : (n : ℕ) (before : List Block) (covered : List (RunOf Bool)) (i : ℕ) (c : RunOf Bool) → i < length covered → c
+    ≡ get_or covered i c
+    → (if c.value then before else before ++ with_node n c ∷ []) ++ bare_runs n (drop (i + 1) covered) ≡ before
+    ++ bare_runs n (drop i covered)
 bare_step n before covered i c lt is = rw (drop-cons covered i c lt, ← is, add-one) (by c.value refl) where
   by : (v : Bool) → c.value ≡ v
       → (if c.value then before else before ++ with_node n c ∷ []) ++ bare_runs n (drop (suc i) covered)
@@ -164,7 +182,8 @@ space_none (r ∷ rs) x space far =
     rw (behind r x past) (space_none rs x space.1 far)
 
 -- frames that begin in a run, and in those behind it
-begun_in : (r : Block) (frame : ℕ) → lies_in r (4096 * frame) ≡ (nat_le (begun_before r.base) frame && nat_lt frame (begun_before (run_end r)))
+begun_in : (r : Block) (frame : ℕ) → lies_in r (4096 * frame) ≡ (nat_le (begun_before r.base) frame
+    && nat_lt frame (begun_before (run_end r)))
 begun_in r frame = grind (arith, nat_tests)
 
 pub frames_none : frames_given (value_at {X = ℕ} []) ≡ 0
@@ -178,7 +197,8 @@ frames_step r rs runs space =
     let here : ℕ → Bool = λ frame. nat_le (begun_before r.base) frame && nat_lt frame (begun_before (run_end r)) in
     let later : ℕ → Bool = λ frame. is_some (value_at rs (4096 * frame)) in
     let both : (frame : ℕ) → frame < 2 ^ 52 → is_some (value_at (r ∷ rs) (4096 * frame)) ≡ (here frame || later frame) = λ frame lt.
-    rw (sym (begun_in r frame)) (elim (cases_Bool (lies_in r (4096 * frame))) as (λ _. is_some (value_at (r ∷ rs) (4096 * frame)) ≡ (lies_in r (4096 * frame) || later frame)) [
+    rw (sym (begun_in r frame)) (elim (cases_Bool (lies_in r (4096 * frame))) as (λ _. is_some (value_at (r ∷ rs) (4096 * frame))
+    ≡ (lies_in r (4096 * frame) || later frame)) [
       | inl lies ↦ rw lies refl
       | inr outside ↦ rw outside refl
     ]) in
@@ -193,7 +213,8 @@ unfolding frames_given
 frames_few f = count_at_most (λ frame. is_some (f (4096 * frame))) (2 ^ 52)
 
 -- the first of the runs that are left, and those behind it
-pub frames_first : (r : Block) (rs : List Block) (n : ℕ) → 1 ≤ length rs → n ≡ length rs → r ≡ get_or rs 0 r → AreRuns rs → run_end r < 2 ^ 64
+pub frames_first : (r : Block) (rs : List Block) (n : ℕ) → 1 ≤ length rs → n ≡ length rs → r ≡ get_or rs 0 r → AreRuns rs
+    → run_end r < 2 ^ 64
     → AreRuns (take (n - 1) (drop 1 rs))
     × (frames_given (value_at rs) ≡ (begun_before (run_end r) - begun_before r.base) + frames_given (value_at (take (n - 1) (drop 1 rs))))
 frames_first r [] n some count is runs space = absurd (omega arith)

@@ -12,7 +12,8 @@ loop-index-preserved c =
     let b = c.index-blocks-index.result in
     record {
       kept_so_far = rw (c.in_ok-keep_one.ensures, c.in_frames-block.ensures.value)
-          (append_assoc l.kept.items (kept_one memory l.index (of_node domains b)) (kept_from memory domains (l.index + 1) (drop (l.index + 1) blocks))
+          (append_assoc l.kept.items (kept_one memory l.index (of_node domains b))
+          (kept_from memory domains (l.index + 1) (drop (l.index + 1) blocks))
           ∙ ap (λ ks. l.kept.items ++ ks) (sym (kept_step memory domains blocks l.index b (omega arith) c.index-blocks-index.is))
           ∙ l.invariant.kept_so_far);
       space = rw c.in_ok-keep_one.ensures

@@ -9,7 +9,8 @@ use Rattle.node_hulls.proofs.reasons.judge_kept.Goals as goal
 pub returns-in-Some : goal.returns-in-Some
 returns-in-Some c =
     c.unused.ensures
-    ∙ sym (found_overlap (in_any c.args.memory.now) c.args.domains.items c.args.kept.now c.in-Some.i c.in-Some.j (sym c.first_overlap.ensures ∙ c.in-Some.is))
+    ∙ sym (found_overlap (in_any c.args.memory.now) c.args.domains.items c.args.kept.now c.in-Some.i c.in-Some.j
+    (sym c.first_overlap.ensures ∙ c.in-Some.is))
 
 pub returns-then-uncovered-ge-UNCOVERED_FRAMES : goal.returns-then-uncovered-ge-UNCOVERED_FRAMES
 returns-then-uncovered-ge-UNCOVERED_FRAMES c =
@@ -22,12 +23,14 @@ returns-then-uncovered-ge-UNCOVERED_FRAMES c =
       kept_space = c.requires.space;
       hulls = c.in_ok-joined.ensures;
       left = subst (λ (n : ℕ). IsRunsOf (left_over memory (value_at joined) n) rest) c.lowest_node.ensures
-          (subst (λ (js : List Block). IsRunsOf (left_over memory (value_at js) c.lowest_node.result) rest) c.deref.ensures.value c.in_ok-rest.ensures.runs);
+          (subst (λ (js : List Block). IsRunsOf (left_over memory (value_at js) c.lowest_node.result) rest) c.deref.ensures.value
+          c.in_ok-rest.ensures.runs);
       left_space = c.in_ok-rest.ensures.space;
       counted = c.count_frames-uncovered.ensures ∙ ap (λ (rs : List Block). frames_given (value_at rs)) c.deref-2.ensures.value;
     } in
     c.unused-then-uncovered-ge-UNCOVERED_FRAMES.ensures
-    ∙ sym (found_uncovered memory kept joined rest c.count_frames-uncovered.result found c.args.domains.items c.if-uncovered-ge-UNCOVERED_FRAMES.true)
+    ∙ sym (found_uncovered memory kept joined rest c.count_frames-uncovered.result found c.args.domains.items
+    c.if-uncovered-ge-UNCOVERED_FRAMES.true)
 
 pub returns : goal.returns
 returns c =
@@ -40,8 +43,10 @@ returns c =
       kept_space = c.requires.space;
       hulls = c.in_ok-joined.ensures;
       left = subst (λ (n : ℕ). IsRunsOf (left_over memory (value_at joined) n) rest) c.lowest_node.ensures
-          (subst (λ (js : List Block). IsRunsOf (left_over memory (value_at js) c.lowest_node.result) rest) c.deref.ensures.value c.in_ok-rest.ensures.runs);
+          (subst (λ (js : List Block). IsRunsOf (left_over memory (value_at js) c.lowest_node.result) rest) c.deref.ensures.value
+          c.in_ok-rest.ensures.runs);
       left_space = c.in_ok-rest.ensures.space;
       counted = c.count_frames-uncovered.ensures ∙ ap (λ (rs : List Block). frames_given (value_at rs)) c.deref-2.ensures.value;
     } in
-    sym (found_used memory kept joined rest c.count_frames-uncovered.result found c.args.domains.items c.if-uncovered-ge-UNCOVERED_FRAMES.false)
+    sym (found_used memory kept joined rest c.count_frames-uncovered.result found c.args.domains.items
+    c.if-uncovered-ge-UNCOVERED_FRAMES.false)

@@ -30,12 +30,15 @@ returns-then-count_with_addresses-gt-MAX_BLOCKS c =
 
 pub judge_kept-requires-clause-some : goal.judge_kept-requires-clause-some
 judge_kept-requires-clause-some c =
-    rw (c.deref-2.ensures.value, c.in_ok-kept.ensures.value) (addresses_kept (in_any c.args.memory.now) c.deref.result.now c.args.blocks.now)
+    rw (c.deref-2.ensures.value, c.in_ok-kept.ensures.value) (addresses_kept (in_any c.args.memory.now) c.deref.result.now
+    c.args.blocks.now)
 
 pub returns : goal.returns
 returns c =
     let lists : Affinity = record { processors = c.args.processors.now; blocks = c.args.blocks.now } in
     let few : length c.in_ok-domains.domains.items ≤ 1024 = omega (arith, c.in_ok-domains.domains.ok.0) in
-    let whole = by_kept (in_any c.args.memory.now) lists (sym c.is_any_kept.ensures ∙ c.if-not-is_any_kept.false) c.in_ok-domains.domains.items
-    c.in_ok-domains.ensures few (omega arith) c.deref-2.result.now (c.deref-2.ensures.value ∙ rw c.deref.ensures.value at c.in_ok-kept.ensures.value) in
+    let whole = by_kept (in_any c.args.memory.now) lists (sym c.is_any_kept.ensures ∙ c.if-not-is_any_kept.false)
+    c.in_ok-domains.domains.items
+    c.in_ok-domains.ensures few (omega arith) c.deref-2.result.now (c.deref-2.ensures.value
+    ∙ rw c.deref.ensures.value at c.in_ok-kept.ensures.value) in
     IfOk-weaker c.judge_kept.result _ _ (λ found is. is ∙ whole) c.judge_kept.ensures

@@ -6,7 +6,9 @@ pub loop-run-preserved : goal.loop-run-preserved
 loop-run-preserved c =
     let l = c.loop-run in
     record {
-      told = rw c.in_ok-give_node.ensures.value (bare_step c.args.node l.rest.items c.args.covered.now l.run-index c.run-item.result c.loop-run-test.true c.run-item.is
+      told = rw c.in_ok-give_node.ensures.value (bare_step c.args.node l.rest.items c.args.covered.now l.run-index c.run-item.result
+          c.loop-run-test.true c.run-item.is
           ∙ l.invariant.told);
-      space = rw c.in_ok-give_node.ensures.value (space_given c.args.node l.rest.items c.run-item.result l.invariant.space c.give_node.ensures.space);
+      space = rw c.in_ok-give_node.ensures.value (space_given c.args.node l.rest.items c.run-item.result l.invariant.space
+          c.give_node.ensures.space);
     }
