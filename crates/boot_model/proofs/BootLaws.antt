@@ -18,8 +18,9 @@ use Rattle.e820_usable.specs.declared.stop.MapStop.{MapStop}
 use Rattle.e820_usable.specs.declared.stop.MapStop.TheVariants as reasons
 use Rattle.e820_usable.specs.Judged.{judged}
 use Rattle.boot_model.specs.declared.stop.Cause.{Cause}
-use Rattle.boot_model.specs.Boot.{Given, Made, begin, claims, has_frames, has_room, stages, types_in_reach, unless_stopped, boot, lies_in_memory}
-use Rattle.boot_model.proofs.StageLaws.{AllKeep, passes, chain_keeps}
+use Rattle.boot_model.specs.Boot.{Given, Made, begin, claims, has_frames, has_room, later_stages, map_judged, map_stages, types_in_reach, unless_stopped, boot, lies_in_memory}
+use Rattle.boot_model.proofs.StageLaws.{AllKeep, chain_keeps, goes_by, passes}
+use Rattle.boot_model.specs.Stages.{in_order}
 
 -- what is known where the stages come to an end
 pub record GoesOn (given : Given) (made : Made) : Type 0 where
@@ -39,22 +40,24 @@ frames_passed None before after ends = (refl, cc)
 frames_passed (Some reason) before after ends = absurd (cc)
 
 -- each stage leaves the map as it is: one fact a stage
-stages_keep : (given : Given) → AllKeep (λ (made : Made). made.map) (stages given)
-stages_keep given = (
-  λ before after ends. ap (λ (m : Made). m.map) (sym (room_passed _ _ before after ends).1),
-  (
-    λ before after ends. ap (λ (m : Made). m.map) (sym (frames_passed _ before after ends).1),
-    tt,
-  ),
-)
+map_keep : (given : Given) → AllKeep (λ (made : Made). made.map) (map_stages given)
+map_keep given =
+    (λ before after ends. ap (λ (m : Made). m.map) (sym (room_passed _ _ before after ends).1),
+    (λ before after ends. ap (λ (m : Made). m.map) (sym (frames_passed _ before after ends).1),
+    tt))
+
+later_keep : (given : Given) → AllKeep (λ (made : Made). made.map) (later_stages given)
+later_keep given = tt
 
 pub goes_on : (given : Given) (made : Made) → boot given ≡ Ok made → GoesOn given made
 unfolding boot
 goes_on given made ends =
-    let behind_room = passes has_room (drop 1 (stages given)) (begin given) made ends in
-    let behind_frames = passes (has_frames given) (drop 2 (stages given)) behind_room.middle made behind_room.rest in
+    let judged_map = goes_by (map_judged given) (λ m. in_order (later_stages given) m) made ends in
+    let behind_room = passes has_room (drop 1 (map_stages given)) (begin given) judged_map.middle judged_map.first in
+    let behind_frames = passes (has_frames given) (drop 2 (map_stages given)) behind_room.middle judged_map.middle behind_room.rest in
     record {
-      map = chain_keeps (λ (m : Made). m.map) (stages given) (stages_keep given) (begin given) made ends;
+      map = chain_keeps (λ (m : Made). m.map) (later_stages given) (later_keep given) judged_map.middle made judged_map.rest
+          ∙ chain_keeps (λ (m : Made). m.map) (map_stages given) (map_keep given) (begin given) judged_map.middle judged_map.first;
       fits = (room_passed _ _ (begin given) behind_room.middle behind_room.first).0;
       judged = (frames_passed _ behind_room.middle behind_frames.middle behind_frames.first).0;
     }

@@ -9,7 +9,7 @@ pub record GoesBy {S E : Type 0} (answer : Result S E) (others : S → Result S 
   pub first : answer ≡ Ok middle
   pub rest : others middle ≡ Ok made
 
-goes_by : {S E : Type 0} (answer : Result S E) (others : S → Result S E) (made : S)
+pub goes_by : {S E : Type 0} (answer : Result S E) (others : S → Result S E) (made : S)
     → (answer >>= others) ≡ Ok made → GoesBy answer others made
 goes_by (Ok middle) others made ends = record { middle = middle; first = refl; rest = ends }
 goes_by (Err error) others made ends = absurd (cc)

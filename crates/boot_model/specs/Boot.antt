@@ -11,6 +11,7 @@ use Rattle.e820_model.specs.declared.room.TheConstants.{E820_MAX_ENTRIES}
 use Rattle.e820_usable.specs.declared.stop.MapStop.{MapStop}
 use Rattle.e820_usable.specs.Judged.{judged}
 use Rattle.boot_options.specs.Options.{Chosen}
+use Rattle.bm_base.specs.ResultSteps.{◌>>=◌}
 use Rattle.boot_model.specs.declared.limit.TheConstants.{MAX_PHYSMEM}
 use Rattle.boot_model.specs.declared.stop.Cause.{Cause}
 use Rattle.boot_model.specs.declared.stop.Cause.TheVariants as causes
@@ -56,13 +57,20 @@ unless_stopped (Some reason) made = Err (cause_of_map reason)
 abbrev pub has_frames : Given → Stage
 has_frames given made = unless_stopped (judged (types_in_reach given)) made
 
--- the stages in their order
-abbrev pub stages : Given → List Stage
-stages given = has_room ∷ has_frames given ∷ []
+-- the first stages, which judge the map
+abbrev pub map_stages : Given → List Stage
+map_stages given = has_room ∷ has_frames given ∷ []
+
+abbrev pub map_judged : Given → Result Made Cause
+map_judged given = in_order (map_stages given) (begin given)
+
+-- the stages behind them, in their order
+abbrev pub later_stages : Given → List Stage
+later_stages given = []
 
 -- the boot (`setup_arch`), as far as the map
 unfoldable pub boot : Given → Result Made Cause
-boot given = in_order (stages given) (begin given)
+boot given = map_judged given >>= λ made. in_order (later_stages given) made
 
 -- whether the address lies in a run of RAM, or of memory of the kernel's own
 abbrev pub lies_in_memory : List (RunOf ℕ) → ℕ → Bool

@@ -16,7 +16,8 @@ use Rattle.boot_model.specs.declared.limit.TheConstants.{MAX_PHYSMEM}
 use Rattle.boot_model.specs.declared.stop.Cause.{Cause}
 use Rattle.boot_model.specs.declared.stop.Stop.{Stop}
 use Rattle.boot_model.specs.declared.stop.Stop.TheVariants as stops
-use Rattle.boot_model.specs.Boot.{Given, Made, begin, boot, claims, has_frames, types_in_reach, unless_stopped}
+use Rattle.boot_model.specs.Boot.{Given, Made, begin, boot, claims, has_frames, later_stages, map_judged, types_in_reach, unless_stopped}
+use Rattle.boot_model.specs.Stages.{in_order}
 use Rattle.boot_model.specs.Stop.{stop_of}
 use Rattle.boot_model.specs.View.{booted_view}
 use Rattle.boot_stages.specs.Boots.{IsDecided, MapAnswer, judged_answer, goes_on_with}
@@ -40,7 +41,6 @@ told_full false runs map told is = absurd (cc)
 
 pub decided : (given : Given) (answer : MapAnswer) → Answers faults.Memory (λ runs. runs.items) answer (in_room (map_of (claims given)))
     → IsDecided given answer
-unfolding boot
 decided given (Ok runs) answers =
     let c : List (RunOf ℕ) = map_of (claims given) in
     let known = told (nat_lt E820_MAX_ENTRIES (length c)) (length c) c runs.items answers in
@@ -66,29 +66,40 @@ judged_same given None runs (Err stop) answers = λ other. absurd (cc (answers o
 judged_same given (Some reason) runs (Ok map) answers = absurd (cc)
 judged_same given (Some reason) runs (Err stop) answers = λ other. (let is = answers other in cc)
 
--- the answer, judged, is what the boot's definition comes to
-pub boot_answers : (given : Given) (answer : MapAnswer) → Answers faults.Memory (λ runs. runs.items) answer
+-- the answer, judged, is what the first stages come to
+pub map_answers : (given : Given) (answer : MapAnswer) → Answers faults.Memory (λ runs. runs.items) answer
     (in_room (map_of (claims given)))
     → IfOk answer (λ runs. IsRunsOf (kinds (claims given)) runs.items) → (result : Result (Vec (RunOf ℕ) Global) Stop)
     → Answers stops.Memory (λ map. map.items) result (judged_answer answer)
-    → Answers stops.Memory (made_of given) result (with_error stop_of (boot given))
-boot_answers given (Ok runs) maps are result answers =
+    → Answers stops.Memory (made_of given) result (with_error stop_of (map_judged given))
+map_answers given (Ok runs) maps are result answers =
     let kinds_are : value_at runs.items ≡ kinds (claims given) = λ i x. are.each x i in
     let P : TypeAt → Type 0 = λ f. Answers stops.Memory (λ (map : Vec (RunOf ℕ) Global). map.items) result
     (goes_on_with (judged (reachable MAX_PHYSMEM f)) runs.items) in
     rw (decided given (Ok runs) maps) (judged_same given (judged (types_in_reach given)) runs result (subst P kinds_are answers))
-boot_answers given (Err (faults.MapFull runs)) maps are (Ok map) answers = absurd (cc)
-boot_answers given (Err (faults.MapFull runs)) maps are (Err stop) answers =
+map_answers given (Err (faults.MapFull runs)) maps are (Ok map) answers = absurd (cc)
+map_answers given (Err (faults.MapFull runs)) maps are (Err stop) answers =
     λ other. (
     let is : judged_answer (Err (faults.MapFull runs)) ≡ Err stop = answers other in
     let same : stops.MapFull runs ≡ stop = cc in
     rw (decided given (Err (faults.MapFull runs)) maps) (ap (λ (s : Stop). Err s) same))
-boot_answers given (Err faults.Memory) maps are (Ok map) answers = absurd (cc)
-boot_answers given (Err faults.Memory) maps are (Err stop) answers =
+map_answers given (Err faults.Memory) maps are (Ok map) answers = absurd (cc)
+map_answers given (Err faults.Memory) maps are (Err stop) answers =
     λ other. (let is : Err stops.Memory ≡ Err stop = answers other in absurd (other (cc)))
 
--- what is decided for the map is decided for the boot, where `?` hands the error on
-pub boot_error : (given : Given) (answer : Result Booted Stop) (stop : Stop)
-    → answer ≡ Err stop → Answers stops.Memory (made_of given) (Err stop) (with_error stop_of (boot given))
+-- a boot that stops at its map stops, and else goes on with the stages behind it, of which there is none yet
+stopped : (said : Result Made Cause) (later : Made → Result Made Cause) (stop : Stop)
+    → with_error stop_of said ≡ Err stop → with_error stop_of (said >>= later) ≡ Err stop
+stopped (Ok made) later stop is = absurd (cc)
+stopped (Err cause) later stop is = is
+
+pub boot_stops : (given : Given) (answer : Result Booted Stop) (stop : Stop)
+    → answer ≡ Err stop → Answers stops.Memory (made_of given) (Err stop) (with_error stop_of (map_judged given))
     → Answers stops.Memory booted_view answer (with_error stop_of (boot given))
-boot_error given answer stop is answers = rw is answers
+unfolding boot
+boot_stops given answer stop is answers =
+    rw is (λ other. stopped (map_judged given) (λ made. in_order (later_stages given) made) stop (answers other))
+
+pub boot_goes_on : (given : Given) (made : Made) → with_error stop_of (map_judged given) ≡ Ok made → with_error stop_of (boot given) ≡ Ok made
+unfolding boot
+boot_goes_on given made is = rw (last_stage (map_judged given)) is
