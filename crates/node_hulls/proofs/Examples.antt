@@ -8,11 +8,11 @@ use Rattle.bm_base.specs.Extent.{Extent}
 use Rattle.srat_reader.specs.declared.table.SratBlock.{SratBlock}
 use Rattle.node_hulls.specs.declared.kept.KeptBlock.{KeptBlock}
 use Rattle.node_hulls.specs.declared.reasons.Why.TheVariants as why
-use Rattle.node_hulls.specs.Domains.{with_name, named_once, domains_named, node_of}
+use Rattle.node_hulls.specs.Domains.{is_named, with_name, named_once, domains_named, node_of}
 use Rattle.node_hulls.specs.Hulls.{Block, meets, is_between, is_own, holds, joins, has, first_had, node_at, same_node}
 use Rattle.node_hulls.specs.Judgement.{left_over, frames_given, lower, lowest, unused, used, if_covering, if_apart, nodes_by, left_by, names_of, judged_kept, judged_table, judged}
 use Rattle.node_hulls.proofs.RestLaws.{frames_none, frames_step}
-use Rattle.node_hulls.specs.Kept.{in_any, frame_base, framed, has_memory, of_node, kept_one, kept_from, kept_of, blocks_of, any_kept, count_some, clash, first_clash}
+use Rattle.node_hulls.specs.Kept.{in_any, frame_base, framed, has_memory, of_node, kept_one, kept_from, kept_of, blocks_of, is_node_of, any_kept, count_some, clash, first_clash}
 
 abbrev block : ℕ → ℕ → ℕ → Block
 block n base size = record { base = base; size = size; value = n }
@@ -71,6 +71,9 @@ unfolding runs_from node_at
 within = refl
 
 -- domains in the order of first naming, each once
+is_named_examples : (is_named (5 ∷ 2 ∷ []) 2 ≡ true) × (is_named (5 ∷ 2 ∷ []) 3 ≡ false)
+is_named_examples = (refl, refl)
+
 with_name_examples : (with_name (5 ∷ []) 2 ≡ 5 ∷ 2 ∷ []) × (with_name (5 ∷ 2 ∷ []) 5 ≡ 5 ∷ 2 ∷ [])
 with_name_examples = (refl, refl)
 
@@ -138,6 +141,9 @@ kept i b = record { number = i; block = b }
 
 blocks_examples : (blocks_of (kept 2 (block 0 1 1) ∷ kept 4 (block 1 2 2) ∷ []) ≡ block 0 1 1 ∷ block 1 2 2 ∷ []) × (blocks_of [] ≡ [])
 blocks_examples = (refl, refl)
+
+is_node_of_examples : (is_node_of (kept 2 (block 0 1 1) ∷ kept 4 (block 1 2 2) ∷ []) 1 ≡ true) × (is_node_of [] 0 ≡ false)
+is_node_of_examples = (refl, refl)
 
 any_kept_examples : (any_kept some_frames (told 5 0 0xFFF ∷ told 6 0x1000 0x1000 ∷ []) ≡ true)
     × (any_kept some_frames (told 5 0 0xFFF ∷ []) ≡ false)

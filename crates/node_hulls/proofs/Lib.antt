@@ -4,5 +4,6 @@ pub mod FilledLaws
 pub mod InListLaws
 pub mod JudgedLaws
 pub mod KeptLaws
+pub mod MeaningLaws
 pub mod NodesLaws
 pub mod RestLaws

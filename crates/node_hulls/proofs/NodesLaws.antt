@@ -122,7 +122,7 @@ joined_around blocks n x apart some joined =
           (met_at a.base (run_end b) found.block y found.lies above (omega arith));
     }
 
-has_filled : (blocks : List Block) (n x : ℕ) → Apart blocks → HaveAddresses blocks → has blocks n x ≡ true → IsFilled (value_at blocks) x n
+pub has_filled : (blocks : List Block) (n x : ℕ) → Apart blocks → HaveAddresses blocks → has blocks n x ≡ true → IsFilled (value_at blocks) x n
 has_filled blocks n x apart some had = elim (cases_Bool (holds blocks n x)) as (λ _. IsFilled (value_at blocks) x n) [
   | inl held ↦
       let found = any_member _ blocks held in
@@ -133,7 +133,7 @@ has_filled blocks n x apart some had = elim (cases_Bool (holds blocks n x)) as (
 ]
 
 -- a block that holds the address makes it have the node
-held_by : (blocks : List Block) (b : Block) (n x : ℕ) → IsIn b blocks → b.value ≡ n → lies_in b x ≡ true → holds blocks n x ≡ true
+pub held_by : (blocks : List Block) (b : Block) (n x : ℕ) → IsIn b blocks → b.value ≡ n → lies_in b x ≡ true → holds blocks n x ≡ true
 held_by blocks b n x member node lies = member_any _ blocks b member (and_from (b.value == n) (lies_in b x) (grind (arith, nat_tests)) lies)
 
 -- a block that the hull of two places meets is of their node
@@ -219,14 +219,14 @@ filled_has blocks n x apart (inr around) = elim (cases_Bool (holds blocks n x)) 
 ]
 
 -- the node of an address is one that it has; where it has that of a block it has one
-first_has : (blocks : List Block) (x m : ℕ) (bs : List Block) → first_had blocks x bs ≡ Some m → has blocks m x ≡ true
+pub first_has : (blocks : List Block) (x m : ℕ) (bs : List Block) → first_had blocks x bs ≡ Some m → has blocks m x ≡ true
 first_has blocks x m [] some = absurd (none-some m some)
 first_has blocks x m (b ∷ bs) some = elim (cases_Bool (has blocks b.value x)) as (λ _. has blocks m x ≡ true) [
   | inl had ↦ let same : b.value ≡ m = same_Some b.value m (rw had at some) in subst (λ (k : ℕ). has blocks k x ≡ true) same had
   | inr not_had ↦ first_has blocks x m bs (rw not_had at some)
 ]
 
-first_some : (blocks : List Block) (x : ℕ) (bs : List Block) (b : Block) → IsIn b bs → has blocks b.value x ≡ true
+pub first_some : (blocks : List Block) (x : ℕ) (bs : List Block) (b : Block) → IsIn b bs → has blocks b.value x ≡ true
     → first_had blocks x bs ≢ None
 first_some blocks x [] b member had none = member
 first_some blocks x (c ∷ cs) b member had none = elim (cases_Bool (has blocks c.value x)) as (λ _. ⊥) [
@@ -238,7 +238,7 @@ first_some blocks x (c ∷ cs) b member had none = elim (cases_Bool (has blocks 
 ]
 
 -- a node that an address has is that of a block
-node_block : (blocks : List Block) (n x : ℕ) → has blocks n x ≡ true → (b : Block) × IsIn b blocks × (b.value ≡ n)
+pub node_block : (blocks : List Block) (n x : ℕ) → has blocks n x ≡ true → (b : Block) × IsIn b blocks × (b.value ≡ n)
 node_block blocks n x had = elim (cases_Bool (holds blocks n x)) as (λ _. (b : Block) × IsIn b blocks × (b.value ≡ n)) [
   | inl held ↦
       let found = any_member _ blocks held in
@@ -302,7 +302,7 @@ find_none p (y ∷ ys) x none member = elim (cases_Bool (p y)) as (λ _. p x ≡
 ]
 
 -- the kept block of a block
-kept_member : (ks : List KeptBlock) (b : Block) → IsIn b (blocks_of ks) → (k : KeptBlock) × IsIn k ks × (b ≡ k.block)
+pub kept_member : (ks : List KeptBlock) (b : Block) → IsIn b (blocks_of ks) → (k : KeptBlock) × IsIn k ks × (b ≡ k.block)
 kept_member [] b member = absurd member
 kept_member (k ∷ ks) b (inl here) = (k, inl refl, here)
 kept_member (k ∷ ks) b (inr later) = let found = kept_member ks b later in (found.0, inr found.1, found.2)

@@ -1,11 +1,15 @@
 -- The numbers of nodes: domains in the order in which the firmware first names them (`acpi_map_pxm_to_node`).
-use Rattle.std.specs.Prelude.{ℕ, ◌==◌, if◌then◌else◌, List, [], ◌∷◌, ◌++◌, map, fold, unwrap_or}
+use Rattle.std.specs.Prelude.{ℕ, ◌==◌, Bool, if◌then◌else◌, List, [], ◌∷◌, ◌++◌, map, fold, unwrap_or}
 use Rattle.std.specs.List.{list_any, position}
 use Rattle.srat_reader.specs.declared.table.SratBlock.{SratBlock}
 
+-- whether a domain is among the named ones
+abbrev pub is_named : List ℕ → ℕ → Bool
+is_named domains d = list_any (λ e. e == d) domains
+
 -- the names so far with one more, which stands once however often it is named
 abbrev pub with_name : List ℕ → ℕ → List ℕ
-with_name domains d = if list_any (λ e. e == d) domains then domains else domains ++ d ∷ []
+with_name domains d = if is_named domains d then domains else domains ++ d ∷ []
 
 -- each domain of a list once, in the order of first naming
 unfoldable pub named_once : List ℕ → List ℕ

@@ -50,6 +50,10 @@ kept_of memory domains blocks = kept_from memory domains 0 blocks
 abbrev pub blocks_of : List KeptBlock → List Block
 blocks_of kept = map (λ (k : KeptBlock). k.block) kept
 
+-- whether a kept block is of the node
+abbrev pub is_node_of : List KeptBlock → ℕ → Bool
+is_node_of kept n = list_any (λ (k : KeptBlock). k.block.value == n) kept
+
 -- whether any is kept
 abbrev pub any_kept : (ℕ → Bool) → List SratBlock → Bool
 any_kept memory blocks = list_any (λ (b : SratBlock). has_memory memory (framed b.range)) blocks

@@ -1,0 +1,253 @@
+-- What the words mean to each other: one node an address, one node a domain, one node a frame, and memory for each node.
+use Rattle.std.proofs.Common.{◌≡◌, ◌≢◌, ◌↔◌, ℕ, zero, suc, ◌+◌, ◌%◌, ◌<◌, ◌≤◌, ◌==◌, ◌⊎◌, Bool, true, false, ◌&&◌, not, Option, Some, None, List, [], ◌∷◌, fold, length, get_or, refl, sym, ◌∙◌, ap, subst, inl, inr, arith}
+use Rattle.std.proofs.lemmas.Bool.{cases_lt, cases_Bool, true≢false}
+use Rattle.std.proofs.lemmas.Bool.Decides.{nat_tests}
+use Rattle.std.proofs.lemmas.Iterator.Adapters.{position_from-zero}
+use Rattle.std.proofs.lemmas.List.Quantifiers.{position-Some}
+use Rattle.std.proofs.lemmas.Option.{none-some, same_Some}
+use Rattle.std.specs.List.{list_any, position, position_from}
+use Rattle.std.specs.Prelude.{is_none}
+use Rattle.address_runs.specs.Overlay.{HaveAddresses}
+use Rattle.address_runs.specs.Runs.{run_end, lies_in, value_at, extent_of}
+use Rattle.bm_base.specs.Each.{each_from, each_in}
+use Rattle.srat_reader.specs.declared.table.SratBlock.{SratBlock}
+use Rattle.node_hulls.specs.declared.kept.KeptBlock.{KeptBlock}
+use Rattle.node_hulls.specs.Domains.{is_named, node_of}
+use Rattle.node_hulls.specs.Hulls.{Block, is_between, holds, joins, has, first_had, node_at}
+use Rattle.node_hulls.specs.Judgement.{lower, lowest, nodes_by, left_by}
+use Rattle.node_hulls.specs.Kept.{blocks_of, first_clash, frame_base, has_memory, is_node_of, of_node, kept_from, kept_of}
+use Rattle.node_hulls.proofs.FilledLaws.{IsAround, IsFilled}
+use Rattle.node_hulls.proofs.InListLaws.{IsIn, any_member, member_any}
+use Rattle.node_hulls.proofs.KeptLaws.{addresses_kept}
+use Rattle.node_hulls.proofs.NodesLaws.{Apart, apart_blocks, has_filled, first_has, first_some, node_block, held_by, kept_member}
+
+-- an address isn't around places of two nodes
+one_around : (f : ℕ → Option ℕ) (x m n : ℕ) → IsAround f x m → IsAround f x n → m ≡ n
+one_around f x m n first second =
+    let under = first.under in
+    let over = first.over in
+    let under_too = second.under in
+    let over_too = second.over in
+    elim (cases_lt first.low second.low) as (λ _. m ≡ n) [
+      | inl lower_first ↦ sym (first.only second.low n (omega arith) (omega arith) second.at_low)
+      | inr lower_second ↦ second.only first.low m lower_second (omega arith) first.at_low
+    ]
+
+one_filled : (f : ℕ → Option ℕ) (x m n : ℕ) → IsFilled f x m → IsFilled f x n → m ≡ n
+one_filled f x m n (inl first) (inl second) = same_Some m n (sym first ∙ second)
+one_filled f x m n (inl first) (inr around) =
+    let under = around.under in
+    let over = around.over in
+    around.only x m (omega arith) (omega arith) first
+one_filled f x m n (inr around) (inl second) =
+    let under = around.under in
+    let over = around.over in
+    sym (around.only x n (omega arith) (omega arith) second)
+one_filled f x m n (inr first) (inr second) = one_around f x m n first second
+
+-- so the node of an address is the one that it has
+node_had : (blocks : List Block) (x n : ℕ) → Apart blocks → HaveAddresses blocks → has blocks n x ≡ true → node_at blocks x ≡ Some n
+unfolding node_at
+node_had blocks x n apart some had = by (first_had blocks x blocks) refl where
+  by : (o : Option ℕ) → first_had blocks x blocks ≡ o → first_had blocks x blocks ≡ Some n
+  by (Some m) at =
+      let other : has blocks m x ≡ true = first_has blocks x m blocks at in
+      at ∙ ap (λ k. Some k) (one_filled (value_at blocks) x m n (has_filled blocks m x apart some other) (has_filled blocks n x apart some had))
+  by None at =
+      let block = node_block blocks n x had in
+      absurd (first_some blocks x blocks block.0 block.1 (subst (λ (k : ℕ). has blocks k x ≡ true) (sym block.2) had) at)
+
+node_has : (blocks : List Block) (x n : ℕ) → node_at blocks x ≡ Some n → has blocks n x ≡ true
+unfolding node_at
+node_has blocks x n at = first_has blocks x n blocks at
+
+pub one_node : (kept : List KeptBlock) → first_clash kept ≡ None → HaveAddresses (blocks_of kept)
+    → (x n : ℕ) → (has (blocks_of kept) n x ≡ true) ↔ (nodes_by kept x ≡ Some n)
+one_node kept apart some x n =
+    ((λ had. node_had (blocks_of kept) x n (apart_blocks kept apart) some had), (λ at. node_has (blocks_of kept) x n at))
+
+-- a domain that is named has a place
+no_place : (p : ℕ → Bool) (i : ℕ) (xs : List ℕ) → position_from p i xs ≡ None → list_any p xs ≡ false
+no_place p i [] none = refl
+no_place p i (x ∷ xs) none = elim (cases_Bool (p x)) as (λ _. list_any p (x ∷ xs) ≡ false) [
+  | inl here ↦ absurd (none-some i (sym none ∙ rw here refl))
+  | inr not_here ↦ rw not_here (no_place p (i + 1) xs (rw not_here at none))
+]
+
+pub record HasPlace (domains : List ℕ) (d : ℕ) : Type 0 where
+  pub below : node_of domains d < length domains
+  pub there : get_or domains (node_of domains d) 0 ≡ d
+
+place_of : (domains : List ℕ) (d : ℕ) → is_named domains d ≡ true → HasPlace domains d
+place_of domains d named = by (position (λ e. e == d) domains) refl where
+  by : (o : Option ℕ) → position (λ e. e == d) domains ≡ o → HasPlace domains d
+  by None at =
+      let none : position_from (λ e. e == d) 0 domains ≡ None = sym (position_from-zero (λ e. e == d) domains) ∙ at in
+      absurd (true≢false (sym named ∙ no_place (λ e. e == d) 0 domains none))
+  by (Some i) at =
+      let node : node_of domains d ≡ i = rw at refl in
+      let found = position-Some (λ e. e == d) domains i 0 at in
+      record {
+        below = rw node found.0;
+        there = rw node (grind (arith, nat_tests, found.1));
+      }
+
+pub one_domain : (domains : List ℕ) (d e : ℕ) → is_named domains d ≡ true → is_named domains e ≡ true → node_of domains d ≡ node_of domains e → d ≡ e
+one_domain domains d e named_d named_e same =
+    sym (place_of domains d named_d).there ∙ ap (λ (i : ℕ). get_or domains i 0) same ∙ (place_of domains e named_e).there
+
+pub node_below : (domains : List ℕ) (d : ℕ) → is_named domains d ≡ true → node_of domains d < length domains
+node_below domains d named = (place_of domains d named).below
+
+-- blocks that begin and end at frames
+abbrev pub Framed : List Block → Type 0
+Framed blocks = (b : Block) → IsIn b blocks → (b.base % 4096 ≡ 0) × (run_end b % 4096 ≡ 0)
+
+in_frame : (b : Block) (x : ℕ) → b.base % 4096 ≡ 0 → run_end b % 4096 ≡ 0 → lies_in b x ≡ lies_in b (frame_base x)
+in_frame b x first last = grind (arith, nat_tests)
+
+between_frame : (a b : Block) (x : ℕ) → run_end a % 4096 ≡ 0 → b.base % 4096 ≡ 0 → is_between a b x ≡ is_between a b (frame_base x)
+between_frame a b x first last = grind (arith, nat_tests)
+
+any_same : {X : Type 0} (p q : X → Bool) (xs : List X) → ((x : X) → IsIn x xs → p x ≡ q x) → list_any p xs ≡ list_any q xs
+any_same p q [] same = refl
+any_same p q (x ∷ xs) same = rw (same x (inl refl), any_same p q xs (λ y member. same y (inr member))) refl
+
+has_frame : (blocks : List Block) (n x : ℕ) → Framed blocks → has blocks n x ≡ has blocks n (frame_base x)
+has_frame blocks n x framed =
+    let held : holds blocks n x ≡ holds blocks n (frame_base x) = any_same _ _ blocks (λ b member.
+    rw (in_frame b x (framed b member).0 (framed b member).1) refl) in
+    let joined : joins blocks n x ≡ joins blocks n (frame_base x) = any_same _ _ blocks (λ a in_a.
+    ap (λ (t : Bool). (a.value == n) && t) (any_same _ _ blocks (λ b in_b.
+    rw (between_frame a b x (framed a in_a).1 (framed b in_b).0) refl))) in
+    rw (held, joined) refl
+
+first_frame : (blocks : List Block) (x : ℕ) (bs : List Block) → Framed blocks → first_had blocks x bs ≡ first_had blocks (frame_base x) bs
+first_frame blocks x [] framed = refl
+first_frame blocks x (b ∷ bs) framed = rw (has_frame blocks b.value x framed, first_frame blocks x bs framed) refl
+
+node_frame : (blocks : List Block) (x : ℕ) → Framed blocks → node_at blocks x ≡ node_at blocks (frame_base x)
+unfolding node_at
+node_frame blocks x framed = first_frame blocks x blocks framed
+
+framed_one : (domains : List ℕ) (b : SratBlock) → ((of_node domains b).base % 4096 ≡ 0) × (run_end (of_node domains b) % 4096 ≡ 0)
+framed_one domains b = (omega arith, omega arith)
+
+framed_kept : (memory : ℕ → Bool) (domains : List ℕ) (i : ℕ) (bs : List SratBlock) → Framed (blocks_of (kept_from memory domains i bs))
+framed_kept memory domains i [] c member = absurd member
+framed_kept memory domains i (b ∷ bs) c member =
+    by (has_memory memory (extent_of (of_node domains b))) refl (framed_kept memory domains (i + 1) bs) member where
+      by : (some : Bool) → has_memory memory (extent_of (of_node domains b)) ≡ some → Framed (blocks_of (kept_from memory domains (i + 1) bs))
+          → IsIn c (blocks_of (kept_from memory domains i (b ∷ bs))) → (c.base % 4096 ≡ 0) × (run_end c % 4096 ≡ 0)
+      by true some rest here = elim (rw some at here) as (λ _. (c.base % 4096 ≡ 0) × (run_end c % 4096 ≡ 0)) [
+        | inl first ↦ subst (λ (d : Block). (d.base % 4096 ≡ 0) × (run_end d % 4096 ≡ 0)) (sym first) (framed_one domains b)
+        | inr later ↦ rest c later
+      ]
+      by false none rest here = rest c (rw none at here)
+
+pub left_frame : (memory : ℕ → Bool) → ((x : ℕ) → memory x ≡ memory (frame_base x)) → (domains : List ℕ) (blocks : List SratBlock) (x : ℕ)
+    → left_by memory (kept_of memory domains blocks) x ≡ left_by memory (kept_of memory domains blocks) (frame_base x)
+left_frame memory whole domains blocks x =
+    let node : nodes_by (kept_of memory domains blocks) x ≡ nodes_by (kept_of memory domains blocks) (frame_base x) =
+    node_frame (blocks_of (kept_of memory domains blocks)) x (framed_kept memory domains 0 blocks) in
+    rw (whole x, node) refl
+
+pub nodes_frame : (memory : ℕ → Bool) (domains : List ℕ) (blocks : List SratBlock) (x : ℕ)
+    → nodes_by (kept_of memory domains blocks) x ≡ nodes_by (kept_of memory domains blocks) (frame_base x)
+nodes_frame memory domains blocks x = node_frame (blocks_of (kept_of memory domains blocks)) x (framed_kept memory domains 0 blocks)
+
+-- a byte of memory in a range that has memory
+pub record MemoryIn (memory : ℕ → Bool) (from n : ℕ) : Type 0 where
+  pub at : ℕ
+  pub above : from ≤ at
+  pub under : at < from + n
+  pub is : memory at ≡ true
+
+memory_from : (memory : ℕ → Bool) (x n : ℕ) → each_from (λ y. not (memory y)) x n ≡ false → MemoryIn memory x n
+unfolding each_from
+memory_from memory x zero some = absurd (true≢false some)
+memory_from memory x (suc n) some = elim (cases_Bool (memory x)) as (λ _. MemoryIn memory x (suc n)) [
+  | inl here ↦ record { at = x; above = omega arith; under = omega arith; is = here }
+  | inr not_here ↦
+      let later : MemoryIn memory (x + 1) n = memory_from memory (x + 1) n (rw not_here at some) in
+      let above = later.above in
+      let under = later.under in
+      record { at = later.at; above = omega arith; under = omega arith; is = later.is }
+]
+
+memory_in : (memory : ℕ → Bool) (b : Block) → has_memory memory (extent_of b) ≡ true → MemoryIn memory b.base b.size
+unfolding each_in
+memory_in memory b some = memory_from memory b.base b.size (by (each_from (λ y. not (memory y)) b.base b.size) refl) where
+  by : (t : Bool) → each_from (λ y. not (memory y)) b.base b.size ≡ t → each_from (λ y. not (memory y)) b.base b.size ≡ false
+  by true all = absurd (true≢false (sym some ∙ rw all refl))
+  by false at = at
+
+kept_memory : (memory : ℕ → Bool) (domains : List ℕ) (i : ℕ) (bs : List SratBlock) (k : KeptBlock) → IsIn k (kept_from memory domains i bs)
+    → has_memory memory (extent_of k.block) ≡ true
+kept_memory memory domains i [] k member = absurd member
+kept_memory memory domains i (b ∷ bs) k member = by (has_memory memory (extent_of (of_node domains b))) refl (kept_memory memory domains (i + 1) bs k) member where
+  by : (some : Bool) → has_memory memory (extent_of (of_node domains b)) ≡ some
+      → (IsIn k (kept_from memory domains (i + 1) bs) → has_memory memory (extent_of k.block) ≡ true)
+      → IsIn k (kept_from memory domains i (b ∷ bs)) → has_memory memory (extent_of k.block) ≡ true
+  by true some rest here = elim (rw some at here) as (λ _. has_memory memory (extent_of k.block) ≡ true) [
+    | inl first ↦ ap (λ (j : KeptBlock). has_memory memory (extent_of j.block)) first ∙ some
+    | inr later ↦ rest later
+  ]
+  by false none rest here = rest (rw none at here)
+
+block_in : (ks : List KeptBlock) (k : KeptBlock) → IsIn k ks → IsIn k.block (blocks_of ks)
+block_in [] k member = absurd member
+block_in (j ∷ js) k (inl here) = inl (ap (λ (i : KeptBlock). i.block) here)
+block_in (j ∷ js) k (inr later) = inr (block_in js k later)
+
+-- so the node of each kept block has memory
+pub node_memory : (memory : ℕ → Bool) (domains : List ℕ) (blocks : List SratBlock) → first_clash (kept_of memory domains blocks) ≡ None
+    → (n : ℕ) → is_node_of (kept_of memory domains blocks) n ≡ true
+    → (x : ℕ) × (memory x ≡ true) × (nodes_by (kept_of memory domains blocks) x ≡ Some n)
+node_memory memory domains blocks apart n of_block =
+    let kept : List KeptBlock = kept_of memory domains blocks in
+    let found = any_member _ kept of_block in
+    let k : KeptBlock = found.one in
+    let node : k.block.value ≡ n = grind (arith, nat_tests, found.passes) in
+    let place = memory_in memory k.block (kept_memory memory domains 0 blocks k found.member) in
+    let above = place.above in
+    let under = place.under in
+    let lies : lies_in k.block place.at ≡ true = grind (arith, nat_tests) in
+    let held : holds (blocks_of kept) n place.at ≡ true = held_by (blocks_of kept) k.block n place.at (block_in kept k found.member) node lies in
+    (place.at, place.is, node_had (blocks_of kept) place.at n (apart_blocks kept apart) (addresses_kept memory domains blocks) (rw held refl))
+
+-- and each node that memory gets is that of a kept block
+node_kept : (ks : List KeptBlock) (b : Block) (n : ℕ) → IsIn b (blocks_of ks) → b.value ≡ n → is_node_of ks n ≡ true
+node_kept ks b n member node =
+    let found = kept_member ks b member in
+    let same : found.0.block.value ≡ n = ap (λ (c : Block). c.value) (sym found.2) ∙ node in
+    member_any _ ks found.0 found.1 (grind (arith, nat_tests))
+
+least_in : (start : ℕ) (bs : List Block) → (fold lower start bs ≡ start) ⊎ ((b : Block) × IsIn b bs × (b.value ≡ fold lower start bs))
+least_in start [] = inl refl
+least_in start (b ∷ bs) = elim (least_in (lower start b) bs) as (λ _. (fold lower start (b ∷ bs) ≡ start) ⊎ ((c : Block) × IsIn c (b ∷ bs) × (c.value ≡ fold lower start (b ∷ bs)))) [
+  | inr later ↦ inr (later.0, inr later.1, later.2)
+  | inl first ↦ elim (cases_lt start b.value) as (λ _. (fold lower start (b ∷ bs) ≡ start) ⊎ ((c : Block) × IsIn c (b ∷ bs) × (c.value ≡ fold lower start (b ∷ bs)))) [
+    | inl keeps ↦ inl (first ∙ omega arith)
+    | inr takes ↦ inr (b, inl refl, omega (arith, first))
+  ]
+]
+
+lowest_kept : (ks : List KeptBlock) → ks ≢ [] → is_node_of ks (lowest (blocks_of ks)) ≡ true
+lowest_kept [] some = absurd (some refl)
+lowest_kept (k ∷ ks) some = elim (least_in k.block.value (blocks_of ks)) as (λ _. is_node_of (k ∷ ks) (lowest (blocks_of (k ∷ ks))) ≡ true) [
+  | inl first ↦ node_kept (k ∷ ks) k.block (lowest (blocks_of (k ∷ ks))) (inl refl) (sym first)
+  | inr later ↦ node_kept (k ∷ ks) later.0 (lowest (blocks_of (k ∷ ks))) (inr later.1) later.2
+]
+
+pub node_of_kept : (memory : ℕ → Bool) (kept : List KeptBlock) → kept ≢ [] → (x n : ℕ) → (nodes_by kept x ≡ Some n) ⊎ (left_by memory kept x ≡ Some n)
+    → is_node_of kept n ≡ true
+node_of_kept memory kept some x n (inl at) =
+    let block = node_block (blocks_of kept) n x (node_has (blocks_of kept) x n at) in
+    node_kept kept block.0 n block.1 block.2
+node_of_kept memory kept some x n (inr left) = by (memory x && is_none (nodes_by kept x)) refl where
+  by : (t : Bool) → (memory x && is_none (nodes_by kept x)) ≡ t → is_node_of kept n ≡ true
+  by true at =
+      let same : lowest (blocks_of kept) ≡ n = same_Some (lowest (blocks_of kept)) n (rw at at left) in
+      subst (λ (m : ℕ). is_node_of kept m ≡ true) same (lowest_kept kept some)
+  by false at = absurd (none-some n (rw at at left))

@@ -1,0 +1,47 @@
+//! What holds of the words themselves, as calls that the crates above may cite: an address has one node at most, nodes
+//! are domains by other numbers, the addresses of a frame have one node, and each node of a kept block has memory.
+
+ghost use Rattle.std.specs.Prelude.{◌≡◌, ◌≢◌, ◌↔◌, ◌⊎◌, ℕ, ◌<◌, Bool, true, None, Some, List, [], length};
+ghost use Rattle.address_runs.specs.Overlay.{HaveAddresses};
+ghost use Rattle.srat_reader.specs.declared.table.SratBlock.{SratBlock as AnyBlock};
+ghost use Rattle.node_hulls.specs.declared.kept.KeptBlock.{KeptBlock as AnyKept};
+ghost use Rattle.node_hulls.specs.Domains.{is_named, node_of};
+ghost use Rattle.node_hulls.specs.Hulls.{has};
+ghost use Rattle.node_hulls.specs.Judgement.{left_by, nodes_by};
+ghost use Rattle.node_hulls.specs.Kept.{blocks_of, first_clash, frame_base, is_node_of, kept_of};
+
+/// A law: where no two kept blocks clash, the node of an address is the one node that it has, if any.
+pub fn one_node_an_address()
+    ensures { (kept : List AnyKept) → first_clash kept ≡ None → HaveAddresses (blocks_of kept) →
+        (x n : ℕ) → (has (blocks_of kept) n x ≡ true) ↔ (nodes_by kept x ≡ Some n) }
+{}
+
+/// A law: domains that are named are one where their nodes are, and each has a node below their number. So blocks of
+/// different nodes are blocks of different domains.
+pub fn one_node_a_domain()
+    ensures one { (domains : List ℕ) (d e : ℕ) → is_named domains d ≡ true → is_named domains e ≡ true →
+        node_of domains d ≡ node_of domains e → d ≡ e }
+    ensures below { (domains : List ℕ) (d : ℕ) → is_named domains d ≡ true → node_of domains d < length domains }
+{}
+
+/// A law: an address has the node of its frame's first one; and where memory is whole frames, it is left over where that
+/// one is. So the frames that begin in memory without a node are the frames of memory without a node.
+pub fn one_node_a_frame()
+    ensures node { (memory : ℕ → Bool) (domains : List ℕ) (blocks : List AnyBlock) (x : ℕ) →
+        nodes_by (kept_of memory domains blocks) x ≡ nodes_by (kept_of memory domains blocks) (frame_base x) }
+    ensures left { (memory : ℕ → Bool) → ((x : ℕ) → memory x ≡ memory (frame_base x)) →
+        (domains : List ℕ) (blocks : List AnyBlock) (x : ℕ) →
+        left_by memory (kept_of memory domains blocks) x
+        ≡ left_by memory (kept_of memory domains blocks) (frame_base x) }
+{}
+
+/// A law: a node has memory exactly where a kept block is of it: the node of each kept block has a byte of memory, and each
+/// node that an address gets, by the blocks or because it is left over, is that of a kept block.
+pub fn nodes_with_memory()
+    ensures memory { (memory : ℕ → Bool) (domains : List ℕ) (blocks : List AnyBlock) →
+        first_clash (kept_of memory domains blocks) ≡ None →
+        (n : ℕ) → is_node_of (kept_of memory domains blocks) n ≡ true →
+        (x : ℕ) × (memory x ≡ true) × (nodes_by (kept_of memory domains blocks) x ≡ Some n) }
+    ensures block { (memory : ℕ → Bool) (kept : List AnyKept) → kept ≢ [] →
+        (x n : ℕ) → (nodes_by kept x ≡ Some n) ⊎ (left_by memory kept x ≡ Some n) → is_node_of kept n ≡ true }
+{}
