@@ -22,7 +22,8 @@ in_front number (Some act) lines = refl
 with_others : (front : List Line) (number : ℕ) (act : Option Act) (others : Result (List Line) ScriptFault)
     → behind front (others >>= λ lines. Ok (with_line number act lines)) ≡ behind (front ++ with_line number act []) others
 with_others front number act (Ok lines) =
-    ap (λ (ls : List Line). Ok ls) (ap (λ (ls : List Line). front ++ ls) (in_front number act lines) ∙ sym (append_assoc front (with_line number act []) lines))
+    ap (λ (ls : List Line). Ok ls)
+    (ap (λ (ls : List Line). front ++ ls) (in_front number act lines) ∙ sym (append_assoc front (with_line number act []) lines))
 with_others front number act (Err fault) = refl
 
 -- a line that was read, and those behind it
@@ -51,7 +52,8 @@ kept_are (Ok kept) (Ok before) front added line are = line ∙ ap (λ (ls : List
 kept_are (Ok kept) (Err memory) front added line are = absurd line
 kept_are (Err memory) lines front added line are = tt
 
-some_in_front : (front : List Line) (number : ℕ) (act : Option Act) → (0 < length front) ⊎ IsSome act → 0 < length (front ++ with_line number act [])
+some_in_front : (front : List Line) (number : ℕ) (act : Option Act) → (0 < length front) ⊎ IsSome act
+    → 0 < length (front ++ with_line number act [])
 some_in_front front number None some = elim some [ inl more ↦ rw (length-append front []) (omega (arith, more)) | inr asks ↦ cc asks ]
 some_in_front front number (Some act) some = rw (length-append front (with_line number (Some act) [])) (omega arith)
 

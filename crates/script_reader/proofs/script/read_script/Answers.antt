@@ -21,7 +21,8 @@ loop-rest-preserved c =
       bounds = c.keep-lines.ensures.bounds l.invariant.bounds c.in-Ok.ensures.bounds;
       lines = (
         front ++ with_line l.number act [],
-        rw c.seen_behind-seen.ensures (sym (line_read l.seen l.number front c.next_part.result.0.now others act (sym c.in-Ok.ensures.value)) ∙ parts),
+        rw c.seen_behind-seen.ensures
+            (sym (line_read l.seen l.number front c.next_part.result.0.now others act (sym c.in-Ok.ensures.value)) ∙ parts),
         kept_are c.keep-lines.result l.lines front _ c.keep-lines.ensures.line l.invariant.lines.2,
         wanting_for_some c.keep-lines.result l.lines front _ act c.keep-lines.ensures.memory l.invariant.lines.3,
       );

@@ -15,7 +15,8 @@ invariant-loop-rest l = record {
   few : l.number + left l.rest ≤ length l.fn.bytes + 2;
   bounds : IfOk l.lines (λ kept. All (λ (line : Line). HasBounds line.act) kept.items);
   lines : (front : List Line)
-      × (behind front (lines_from l.seen l.number (parts_behind (separators.Byte 10) (option_map (λ text. text.now) l.rest))) ≡ script_of l.fn.bytes)
+      × (behind front (lines_from l.seen l.number (parts_behind (separators.Byte 10) (option_map (λ text. text.now) l.rest)))
+      ≡ script_of l.fn.bytes)
       × IfOk l.lines (λ kept. kept.items ≡ front) × IfErr l.lines (λ _. 0 < length front);
 }
 
