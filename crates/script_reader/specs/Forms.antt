@@ -1,0 +1,154 @@
+-- The forms of a line: the words behind its first, and what they ask for. The order of the steps is that of the faults: the
+-- form, all numbers, the alignment, sizes of 0, a second `sections`, a range that goes too far.
+use Rattle.std.specs.Prelude.{ℕ, ◌+◌, ◌-◌, ◌^◌, ◌<◌, ◌≤◌, ◌==◌, Bool, true, false, IsTrue, if◌then◌else◌, List, [], ◌∷◌, codes, Option, Some, None, unwrap_or, Result, Ok, Err}
+use Rattle.std.specs.Int.{is_power_of_two}
+use Rattle.std.specs.Str.{bytes_eq}
+use Rattle.bm_base.specs.ResultSteps.{◌>>=◌}
+use Rattle.script_reader.specs.declared.act.Act.{Act}
+use Rattle.script_reader.specs.declared.act.Act.TheVariants as acts
+use Rattle.script_reader.specs.declared.fault.Wrong.{Wrong}
+use Rattle.script_reader.specs.declared.fault.Wrong.TheVariants as wrong
+use Rattle.script_reader.specs.Numbers.{Words, no_words, first_word, one_word, two_words, three_words, optional, number, bounded, optional_number, power, some, range_at}
+
+-- the bounds of an ID, a node, a byte's value and the length of a `peek`
+abbrev pub greatest_id : ℕ
+greatest_id = 2 ^ 32 - 1
+
+abbrev pub greatest_node : ℕ
+greatest_node = 1023
+
+abbrev pub greatest_byte : ℕ
+greatest_byte = 255
+
+abbrev pub greatest_len : ℕ
+greatest_len = 64
+
+-- any u64
+abbrev pub greatest : ℕ
+greatest = 2 ^ 64 - 1
+
+-- the words of `alloc ID SIZE ALIGN [min A] [max A] [node N [exact]]` behind the first
+pub record AllocWords : Type 0 where
+  pub id : List ℕ
+  pub size : List ℕ
+  pub align : List ℕ
+  pub min : Option (List ℕ)
+  pub max : Option (List ℕ)
+  pub node : Option (List ℕ)
+  pub exact : Bool
+
+-- `exact` stands behind a node alone
+abbrev pub optional_exact : Option (List ℕ) → Words → Bool × Words
+optional_exact None words = (false, words)
+optional_exact (Some node) [] = (false, [])
+optional_exact (Some node) (w ∷ ws) = if bytes_eq w (codes "exact") then (true, ws) else (false, w ∷ ws)
+
+abbrev pub alloc_words : Words → Result AllocWords Wrong
+alloc_words words = do
+  id ← first_word words
+  size ← first_word id.1
+  align ← first_word size.1
+  let min = optional (codes "min") align.1
+  let max = optional (codes "max") min.1
+  let node = optional (codes "node") max.1
+  let exact = optional_exact node.0 node.1
+  none ← no_words exact.1
+  Ok (record { id = id.0; size = size.0; align = align.0; min = min.0; max = max.0; node = node.0; exact = exact.0 })
+
+-- alloc ID SIZE ALIGN [min A] [max A] [node N [exact]]
+abbrev pub alloc_line : Words → Result Act Wrong
+alloc_line words = do
+  said ← alloc_words words
+  id ← bounded greatest_id said.id
+  size ← number said.size
+  align ← number said.align
+  min ← optional_number greatest said.min
+  max ← optional_number greatest said.max
+  node ← optional_number greatest_node said.node
+  aligned ← power align
+  large ← some size
+  Ok (acts.Alloc id (record { size = large; align = aligned; min = unwrap_or min 0; max = max; node = node; exact = said.exact }))
+
+-- reserve ID BASE SIZE
+abbrev pub reserve_line : Words → Result Act Wrong
+reserve_line words = do
+  said ← three_words words
+  id ← bounded greatest_id said.0
+  base ← number said.1
+  size ← number said.2
+  large ← some size
+  range ← range_at base large
+  Ok (acts.Reserve id range)
+
+-- free ID
+abbrev pub free_line : Words → Result Act Wrong
+free_line words = do
+  said ← one_word words
+  id ← bounded greatest_id said
+  Ok (acts.Free id)
+
+-- trim ID KEEP
+abbrev pub trim_line : Words → Result Act Wrong
+trim_line words = do
+  said ← two_words words
+  id ← bounded greatest_id said.0
+  keep ← number said.1
+  large ← some keep
+  Ok (acts.Trim id large)
+
+-- fill ID BYTE
+abbrev pub fill_line : Words → Result Act Wrong
+fill_line words = do
+  said ← two_words words
+  id ← bounded greatest_id said.0
+  byte ← bounded greatest_byte said.1
+  Ok (acts.Fill id byte)
+
+-- peek ADDR LEN
+abbrev pub peek_line : Words → Result Act Wrong
+peek_line words = do
+  said ← two_words words
+  at ← number said.0
+  len ← bounded greatest_len said.1
+  large ← some len
+  range ← range_at at large
+  Ok (acts.Peek range.base range.size)
+
+-- sections, where no earlier line has placed them
+abbrev pub sections_line : Bool → Words → Result Act Wrong
+sections_line seen words = do
+  none ← no_words words
+  if seen then Err wrong.SecondSections else Ok acts.Sections
+
+-- by the first word of the line; `seen` says whether an earlier line is `sections`
+abbrev pub by_name : Bool → List ℕ → Words → Result Act Wrong
+by_name seen name words =
+    if bytes_eq name (codes "alloc") then alloc_line words else
+    (if bytes_eq name (codes "reserve") then reserve_line words else
+    (if bytes_eq name (codes "free") then free_line words else
+    (if bytes_eq name (codes "trim") then trim_line words else
+    (if bytes_eq name (codes "fill") then fill_line words else
+    (if bytes_eq name (codes "peek") then peek_line words else
+    (if bytes_eq name (codes "sections") then sections_line seen words else Err wrong.Form))))))
+
+-- a word that begins with `#` begins a comment
+abbrev pub is_comment : List ℕ → Bool
+is_comment [] = false
+is_comment (b ∷ bs) = b == 35
+
+-- what the words of a line ask for: nothing where there are none, or the first begins a comment
+abbrev pub asked_by : Bool → Words → Result (Option Act) Wrong
+asked_by seen [] = Ok None
+asked_by seen (name ∷ words) = if is_comment name then Ok None else (do
+  act ← by_name seen name words
+  Ok (Some act))
+
+-- the bounds that running an act asks for
+abbrev pub HasBounds : Act → Type 0
+HasBounds (acts.Alloc id request) = (0 < request.size) × IsTrue (is_power_of_two request.align)
+HasBounds (acts.Reserve id range) = 0 < range.size
+HasBounds (acts.Free id) = Unit {0}
+HasBounds (acts.Trim id keep) = 0 < keep
+HasBounds (acts.Fill id byte) = Unit {0}
+HasBounds (acts.Peek at len) = (0 < len) × (len ≤ greatest_len) × (at + len < 2 ^ 64)
+HasBounds acts.Sections = Unit {0}

@@ -1,0 +1,81 @@
+-- The words of a line, and the numbers among them.
+use Rattle.std.specs.Prelude.{ℕ, ◌+◌, ◌^◌, ◌==◌, nat_le, nat_lt, if◌then◌else◌, List, [], ◌∷◌, length, Option, Some, None, Result, Ok, Err}
+use Rattle.std.specs.Int.{is_power_of_two}
+use Rattle.std.specs.Str.{bytes_eq}
+use Rattle.bm_base.specs.Extent.{Extent}
+use Rattle.bm_base.specs.ResultSteps.{◌>>=◌}
+use Rattle.bm_base.specs.Size.{size_of}
+use Rattle.bm_base.specs.declared.size.NumFault.{NumFault}
+use Rattle.script_reader.specs.declared.fault.Wrong.{Wrong}
+use Rattle.script_reader.specs.declared.fault.Wrong.TheVariants as wrong
+
+-- the words of a line or of its rest
+abbrev pub Words : Type 0
+Words = List (List ℕ)
+
+-- no word, and the first word with those behind it
+abbrev pub no_words : Words → Result (Unit {0}) Wrong
+no_words [] = Ok tt
+no_words (w ∷ ws) = Err wrong.Form
+
+abbrev pub first_word : Words → Result (List ℕ × Words) Wrong
+first_word [] = Err wrong.Form
+first_word (w ∷ ws) = Ok (w, ws)
+
+-- exactly one word, two words, three words
+abbrev pub one_word : Words → Result (List ℕ) Wrong
+one_word words = do
+  first ← first_word words
+  none ← no_words first.1
+  Ok first.0
+
+abbrev pub two_words : Words → Result (List ℕ × List ℕ) Wrong
+two_words words = do
+  first ← first_word words
+  second ← one_word first.1
+  Ok (first.0, second)
+
+abbrev pub three_words : Words → Result (List ℕ × List ℕ × List ℕ) Wrong
+three_words words = do
+  first ← first_word words
+  others ← two_words first.1
+  Ok (first.0, others.0, others.1)
+
+-- the word behind a key, where the words begin with the key and one more, and the words that are left
+abbrev pub optional : List ℕ → Words → Option (List ℕ) × Words
+optional key [] = (None, [])
+optional key (w ∷ []) = (None, w ∷ [])
+optional key (w ∷ v ∷ ws) = if bytes_eq w key then (Some v, ws) else (None, w ∷ v ∷ ws)
+
+-- a number: one size that takes its whole word, up to a bound
+abbrev pub whole : List ℕ → Result (ℕ × ℕ) NumFault → Result ℕ Wrong
+whole word (Ok found) = if found.1 == length word then Ok found.0 else Err wrong.Number
+whole word (Err fault) = Err wrong.Number
+
+abbrev pub number : List ℕ → Result ℕ Wrong
+number word = whole word (size_of word)
+
+abbrev pub within : ℕ → ℕ → Result ℕ Wrong
+within most n = if nat_le n most then Ok n else Err wrong.Number
+
+abbrev pub bounded : ℕ → List ℕ → Result ℕ Wrong
+bounded most word = do
+  n ← number word
+  within most n
+
+-- a number that may be left out
+abbrev pub optional_number : ℕ → Option (List ℕ) → Result (Option ℕ) Wrong
+optional_number most None = Ok None
+optional_number most (Some word) = do
+  n ← bounded most word
+  Ok (Some n)
+
+-- an alignment, a size, and a range of addresses
+abbrev pub power : ℕ → Result ℕ Wrong
+power n = if is_power_of_two n then Ok n else Err wrong.Align
+
+abbrev pub some : ℕ → Result ℕ Wrong
+some n = if n == 0 then Err wrong.ZeroSize else Ok n
+
+abbrev pub range_at : ℕ → ℕ → Result Extent Wrong
+range_at base size = if nat_lt (base + size) (2 ^ 64) then Ok (record { base = base; size = size }) else Err wrong.TooFar

@@ -1,0 +1,224 @@
+//! What one line asks for: its form by its first word, and the steps of each form in the order of the
+//! faults.
+
+ghost use Rattle.std.specs.Prelude.{◌≡◌, ℕ, ◌<◌, ◌≤◌, ◌^◌, List, length, Option, Some, Ok, Err, MatchResult, IfOk, IfErr, IfSome};
+ghost use Rattle.std.specs.Option.{option_map};
+ghost use Rattle.text_words.specs.Words.{words_in};
+ghost use Rattle.text_words.specs.declared.separators.Separators.TheVariants as separators;
+ghost use Rattle.script_reader.specs.Forms.{AllocWords as SaidWords, alloc_words as words_of_alloc, optional_exact as exact_word, alloc_line as alloc_of, reserve_line as reserve_of, free_line as free_of, trim_line as trim_of, fill_line as fill_of, peek_line as peek_of, sections_line as sections_of, by_name as named_line, HasBounds};
+ghost use Rattle.script_reader.specs.Script.{asked};
+
+use crate::act::Act;
+use crate::fault::Wrong;
+use crate::words::{
+    bounded, first_word, no_words, number, one_word, optional, optional_number, power, range_at,
+    some, three_words, two_words,
+};
+use memblock_model::Request;
+use std::marker::Model;
+use text_words::{Separators, next_word};
+
+/// What the line asks for, if anything. `seen` says whether an earlier line is `sections`.
+pub fn read_line(seen: bool, text: &[u8]) -> Result<Option<Act>, Wrong>
+    ensures value { result ≡ asked seen text.now }
+    ensures bounds { IfOk result (λ act. IfSome act HasBounds) }
+    ensures asks { IfOk result (λ act. IfSome act (λ _. 0 < length text.now)) }
+    ensures wrong { IfErr result (λ _. 0 < length text.now) }
+{
+    let Some((name, rest)) = next_word(text, Separators::Script) else {
+        return Ok(None);
+    };
+    if name.first() == Some(&b'#') {
+        return Ok(None);
+    }
+    Ok(Some(by_name(seen, name, rest)?))
+}
+
+/// By the first word of the line.
+fn by_name(seen: bool, name: &[u8], rest: &[u8]) -> Result<Act, Wrong>
+    ensures value { result ≡ named_line seen name.now (words_in separators.Script rest.now) }
+    ensures bounds { IfOk result HasBounds }
+{
+    if name == b"alloc".as_slice() {
+        return alloc_line(rest);
+    }
+    if name == b"reserve".as_slice() {
+        return reserve_line(rest);
+    }
+    if name == b"free".as_slice() {
+        return free_line(rest);
+    }
+    if name == b"trim".as_slice() {
+        return trim_line(rest);
+    }
+    if name == b"fill".as_slice() {
+        return fill_line(rest);
+    }
+    if name == b"peek".as_slice() {
+        return peek_line(rest);
+    }
+    if name == b"sections".as_slice() {
+        return sections_line(seen, rest);
+    }
+    Err(Wrong::Form)
+}
+
+/// The words of an `alloc` behind the first.
+#[derive(Clone, Copy)]
+struct AllocWords<'a> {
+    id: &'a [u8],
+    size: &'a [u8],
+    align: &'a [u8],
+    min: Option<&'a [u8]>,
+    max: Option<&'a [u8]>,
+    node: Option<&'a [u8]>,
+    exact: bool,
+}
+
+/// The words of `ID SIZE ALIGN [min A] [max A] [node N [exact]]`.
+fn alloc_words(text: &[u8]) -> Result<AllocWords<'_>, Wrong>
+    ensures { MatchResult result
+        (λ said. words_of_alloc (words_in separators.Script text.now) ≡ Ok (record {
+          id = said.id.now;
+          size = said.size.now;
+          align = said.align.now;
+          min = option_map (λ word. word.now) said.min;
+          max = option_map (λ word. word.now) said.max;
+          node = option_map (λ word. word.now) said.node;
+          exact = said.exact;
+        }))
+        (λ wrong. words_of_alloc (words_in separators.Script text.now) ≡ Err wrong) }
+{
+    let (id, rest) = first_word(text)?;
+    let (size, rest) = first_word(rest)?;
+    let (align, rest) = first_word(rest)?;
+    let (min, rest) = optional(b"min", rest);
+    let (max, rest) = optional(b"max", rest);
+    let (node, rest) = optional(b"node", rest);
+    let (exact, rest) = optional_exact(node, rest);
+    no_words(rest)?;
+    Ok(AllocWords {
+        id,
+        size,
+        align,
+        min,
+        max,
+        node,
+        exact,
+    })
+}
+
+/// Whether `exact` follows a node, and the rest.
+fn optional_exact<'a>(node: Option<&'a [u8]>, text: &'a [u8]) -> (bool, &'a [u8])
+    ensures { exact_word (option_map (λ word. word.now) node.entry) (words_in separators.Script text.now)
+        ≡ (result.0, words_in separators.Script result.1.now) }
+{
+    if node.is_none() {
+        return (false, text);
+    }
+    match next_word(text, Separators::Script) {
+        Some((word, rest)) if word == b"exact".as_slice() => (true, rest),
+        _ => (false, text),
+    }
+}
+
+fn alloc_line(text: &[u8]) -> Result<Act, Wrong>
+    ensures value { result ≡ alloc_of (words_in separators.Script text.now) }
+    ensures bounds { IfOk result HasBounds }
+{
+    let said = alloc_words(text)?;
+    let id = bounded(GREATEST_ID, said.id)? as u32;
+    let size = number(said.size)?;
+    let align = number(said.align)?;
+    let min = optional_number(u64::MAX, said.min)?;
+    let max = optional_number(u64::MAX, said.max)?;
+    let node = optional_number(GREATEST_NODE, said.node)?;
+    let align = power(align)?;
+    let size = some(size)?;
+    let request = Request {
+        size,
+        align,
+        min: min.unwrap_or(0),
+        max,
+        node: node.map(|node| node as u32),
+        exact: said.exact,
+    };
+    Ok(Act::Alloc { id, request })
+}
+
+/// The greatest ID.
+const GREATEST_ID: u64 = 0xFFFF_FFFF;
+
+/// The greatest number of a node.
+const GREATEST_NODE: u64 = 1023;
+
+/// The greatest value of a byte.
+const GREATEST_BYTE: u64 = 255;
+
+/// The greatest length of a `peek`, in bytes.
+const GREATEST_LEN: u64 = 64;
+
+fn reserve_line(text: &[u8]) -> Result<Act, Wrong>
+    ensures value { result ≡ reserve_of (words_in separators.Script text.now) }
+    ensures bounds { IfOk result HasBounds }
+{
+    let (id, base, size) = three_words(text)?;
+    let id = bounded(GREATEST_ID, id)? as u32;
+    let base = number(base)?;
+    let size = some(number(size)?)?;
+    let range = range_at(base, size)?;
+    Ok(Act::Reserve { id, range })
+}
+
+fn free_line(text: &[u8]) -> Result<Act, Wrong>
+    ensures value { result ≡ free_of (words_in separators.Script text.now) }
+    ensures bounds { IfOk result HasBounds }
+{
+    let id = bounded(GREATEST_ID, one_word(text)?)? as u32;
+    Ok(Act::Free { id })
+}
+
+fn trim_line(text: &[u8]) -> Result<Act, Wrong>
+    ensures value { result ≡ trim_of (words_in separators.Script text.now) }
+    ensures bounds { IfOk result HasBounds }
+{
+    let (id, keep) = two_words(text)?;
+    let id = bounded(GREATEST_ID, id)? as u32;
+    let keep = some(number(keep)?)?;
+    Ok(Act::Trim { id, keep })
+}
+
+fn fill_line(text: &[u8]) -> Result<Act, Wrong>
+    ensures value { result ≡ fill_of (words_in separators.Script text.now) }
+    ensures bounds { IfOk result HasBounds }
+{
+    let (id, byte) = two_words(text)?;
+    let id = bounded(GREATEST_ID, id)? as u32;
+    let byte = bounded(GREATEST_BYTE, byte)? as u8;
+    Ok(Act::Fill { id, byte })
+}
+
+fn peek_line(text: &[u8]) -> Result<Act, Wrong>
+    ensures value { result ≡ peek_of (words_in separators.Script text.now) }
+    ensures bounds { IfOk result HasBounds }
+{
+    let (at, len) = two_words(text)?;
+    let at = number(at)?;
+    let len = some(bounded(GREATEST_LEN, len)?)?;
+    let range = range_at(at, len)?;
+    Ok(Act::Peek {
+        at: range.base,
+        len: len as u32,
+    })
+}
+
+fn sections_line(seen: bool, text: &[u8]) -> Result<Act, Wrong>
+    ensures value { result ≡ sections_of seen (words_in separators.Script text.now) }
+    ensures bounds { IfOk result HasBounds }
+{
+    no_words(text)?;
+    if seen {
+        return Err(Wrong::SecondSections);
+    }
+    Ok(Act::Sections)
+}

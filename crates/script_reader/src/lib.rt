@@ -1,0 +1,30 @@
+//! The early script: which allocations a user wants made behind the boot's own, before hand-over.
+//!
+//! In the kernel, drivers and architecture code call memblock between the set-up of its tables and
+//! the buddy allocator's start. Here a text says what such callers would ask for: a line claims a
+//! place by a search or by its address (`memblock_alloc_range_nid`, `memblock_reserve`), gives it
+//! back whole or in part (`memblock_phys_free`), writes and reads its bytes, or says when sections
+//! are placed. The text is the program's own form; no kernel reads it.
+//!
+//! [`read_script`] makes [`Line`]s of the text, each an [`Act`] with its line's number, or names the
+//! first fault: that of the lowest line that has one, and of a line the first in the order of
+//! [`ScriptFault`]. `specs/Forms.antt` has the forms, a row each, whose steps are in the order of the
+//! faults; `specs/Script.antt` goes over the lines. Words are those of `text_words`, numbers are
+//! sizes of `bm_base` that take their whole word.
+//!
+//! The layer above, which runs the lines, may rest on this: each act has the bounds that running it
+//! asks for (`HasBounds`), `sections` comes at most once, and want of memory comes only where no line
+//! has a fault.
+#![tactic(auto)]
+
+mod act;
+mod fault;
+mod forms;
+mod script;
+#[cfg(test)]
+mod tests;
+mod words;
+
+pub use act::{Act, Line};
+pub use fault::ScriptFault;
+pub use script::read_script;

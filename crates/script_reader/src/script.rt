@@ -1,0 +1,94 @@
+//! A script as a whole: its lines one after the other, up to the first that has a fault.
+//!
+//! Memory is taken here alone, for the lines. Where it runs out the script is still read on without
+//! them, so that a fault is told wherever it stands.
+
+ghost use Rattle.std.specs.Prelude.{◌≡◌, ◌≢◌, ℕ, ◌<◌, ◌≤◌, ◌^◌, List, [], ◌∷◌, ◌++◌, length, All, Option, Ok, Err, IfOk, IsErr, IsSome, IfSome, IsOkAnd, ◌⊎◌};
+ghost use Rattle.bm_base.specs.Answers.{Answers};
+ghost use Rattle.script_reader.specs.declared.act.Line.{Line as SomeLine};
+ghost use Rattle.script_reader.specs.Forms.{HasBounds};
+ghost use Rattle.script_reader.specs.Script.{fault_at as line_fault, seen_behind as sections_seen, with_line, script_of};
+
+use crate::act::{Act, Line};
+use crate::fault::{ScriptFault, Wrong};
+use crate::forms::read_line;
+use bm_base::Memory;
+use std::alloc::Global;
+use text_words::{Separators, next_part};
+
+/// The lines of a script that ask for something, in order, or the first fault: that of the lowest line
+/// that has one, and of its faults the first in the order of [`ScriptFault`].
+///
+/// Lines end with a newline; the last one may lack it. The bytes 0x20, 0x09 and 0x0D separate words. A
+/// line without words, and one whose first word begins with `#`, asks for nothing. The bytes are fewer
+/// than 2^32. `Memory` comes only where no line has a fault and some line asks for something.
+pub fn read_script(alloc: Global, bytes: &[u8]) -> Result<Vec<Line>, ScriptFault>
+    requires { length bytes.now < 2 ^ 32 }
+    ensures answers { Answers ScriptFault.Memory (λ lines. lines.items) result (script_of bytes.now) }
+    ensures memory { result ≡ Err ScriptFault.Memory →
+        IsOkAnd (script_of bytes.now) (λ lines. 0 < length lines) }
+    ensures bounds { IfOk result (λ lines. All (λ line. HasBounds line.act) lines.items) }
+{
+    let mut lines = Ok(Vec::new(alloc));
+    let mut seen = false;
+    let mut number: u64 = 1;
+    let mut rest = Some(bytes);
+    while let Some(text) = rest {
+        let (text, behind) = next_part(text, Separators::Byte(b'\n'));
+        let act = match read_line(seen, text) {
+            Ok(act) => act,
+            Err(wrong) => return Err(fault_at(number as u32, wrong)),
+        };
+        seen = seen_behind(seen, &act);
+        lines = keep(lines, number, act);
+        number += 1;
+        rest = behind;
+    }
+    Ok(lines?)
+}
+
+/// The lines with one more, where it asks for something. Memory is wanting only where it was, or
+/// where there is one more.
+fn keep(
+    lines: Result<Vec<Line>, Memory>,
+    number: u64,
+    act: Option<Act>,
+) -> Result<Vec<Line>, Memory>
+    requires { IfSome act (λ _. number < 2 ^ 32) }
+    ensures line { IfOk result (λ kept. IsOkAnd lines (λ before.
+        kept.items ≡ before.items ++ with_line number act [])) }
+    ensures bounds { IfOk lines (λ before. All (λ line. HasBounds line.act) before.items)
+        → IfSome act HasBounds
+        → IfOk result (λ kept. All (λ line. HasBounds line.act) kept.items) }
+    ensures memory { IsErr result → IsErr lines ⊎ IsSome act }
+{
+    let mut lines = lines?;
+    if let Some(act) = act {
+        lines.push(Line {
+            number: number as u32,
+            act,
+        })?;
+    }
+    Ok(lines)
+}
+
+/// Whether `sections` was seen by the end of the line.
+fn seen_behind(seen: bool, act: &Option<Act>) -> bool
+    ensures { result ≡ sections_seen seen act.now }
+{
+    seen || matches!(act, Some(Act::Sections))
+}
+
+/// What is wrong with the line of that number.
+fn fault_at(line: u32, wrong: Wrong) -> ScriptFault
+    ensures { result ≡ line_fault line wrong }
+{
+    match wrong {
+        Wrong::Form => ScriptFault::BadLine { line },
+        Wrong::Number => ScriptFault::BadNumber { line },
+        Wrong::Align => ScriptFault::BadAlign { line },
+        Wrong::ZeroSize => ScriptFault::ZeroSize { line },
+        Wrong::SecondSections => ScriptFault::SecondSections { line },
+        Wrong::TooFar => ScriptFault::TooFar { line },
+    }
+}
