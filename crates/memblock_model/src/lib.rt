@@ -10,7 +10,7 @@
 //! (`specs/Labels.antt`): one more part of it is one more field there, in its test of sameness
 //! (`specs/Same.antt`), and in the item that sets it; every law here stays.
 //!
-//! [`Item`], [`Owner`], [`Label`], [`Tag`], [`Which`], [`OwnerRun`], [`Query`] and [`Request`] are plain data. They stand
+//! [`Item`], [`Owner`], [`Label`], [`Tag`], [`Which`], [`OwnerRun`] and [`Query`] are plain data. They stand
 //! here, below the crates that keep and answer them, because the definitions speak of them.
 //!
 //! The functions are laws over the definitions: they do nothing, and their contracts are proved.
@@ -21,7 +21,6 @@ mod label;
 mod laws;
 mod owner;
 mod query;
-mod request;
 mod run;
 mod tag;
 mod which;
@@ -34,7 +33,6 @@ pub use laws::{
 };
 pub use owner::Owner;
 pub use query::Query;
-pub use request::Request;
 pub use run::OwnerRun;
 pub use tag::Tag;
 pub use which::Which;

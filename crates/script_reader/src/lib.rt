@@ -20,6 +20,7 @@
 mod act;
 mod fault;
 mod forms;
+mod request;
 mod script;
 #[cfg(test)]
 mod tests;
@@ -27,4 +28,5 @@ mod words;
 
 pub use act::{Act, Line};
 pub use fault::ScriptFault;
+pub use request::Request;
 pub use script::read_script;

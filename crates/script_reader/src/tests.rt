@@ -1,6 +1,7 @@
-use crate::{Act, Line, ScriptFault, read_script};
+//! Each form of a line once, and each fault with the neighbours that one line can have at once.
+
+use crate::{Act, Line, Request, ScriptFault, read_script};
 use bm_base::Range;
-use memblock_model::Request;
 use std::test::Fail;
 
 #[test]
