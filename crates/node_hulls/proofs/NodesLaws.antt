@@ -122,7 +122,8 @@ joined_around blocks n x apart some joined =
           (met_at a.base (run_end b) found.block y found.lies above (omega arith));
     }
 
-pub has_filled : (blocks : List Block) (n x : ℕ) → Apart blocks → HaveAddresses blocks → has blocks n x ≡ true → IsFilled (value_at blocks) x n
+pub has_filled : (blocks : List Block) (n x : ℕ) → Apart blocks → HaveAddresses blocks → has blocks n x ≡ true
+    → IsFilled (value_at blocks) x n
 has_filled blocks n x apart some had = elim (cases_Bool (holds blocks n x)) as (λ _. IsFilled (value_at blocks) x n) [
   | inl held ↦
       let found = any_member _ blocks held in
