@@ -52,8 +52,8 @@ node_had blocks x n apart some had = by (first_had blocks x blocks) refl where
   by : (o : Option ℕ) → first_had blocks x blocks ≡ o → first_had blocks x blocks ≡ Some n
   by (Some m) at =
       let other : has blocks m x ≡ true = first_has blocks x m blocks at in
-      at ∙ ap (λ k. Some k) (one_filled (value_at blocks) x m n (has_filled blocks m x apart some other)
-      (has_filled blocks n x apart some had))
+      at ∙ ap (λ k. Some k)
+      (one_filled (value_at blocks) x m n (has_filled blocks m x apart some other) (has_filled blocks n x apart some had))
   by None at =
       let block = node_block blocks n x had in
       absurd (first_some blocks x blocks block.0 block.1 (subst (λ (k : ℕ). has blocks k x ≡ true) (sym block.2) had) at)
@@ -93,8 +93,8 @@ place_of domains d named = by (position (λ e. e == d) domains) refl where
         there = rw node (grind (arith, nat_tests, found.1));
       }
 
-pub one_domain : (domains : List ℕ) (d e : ℕ) → is_named domains d ≡ true → is_named domains e ≡ true → node_of domains d
-    ≡ node_of domains e → d ≡ e
+pub one_domain : (domains : List ℕ) (d e : ℕ) → is_named domains d ≡ true → is_named domains e ≡ true
+    → node_of domains d ≡ node_of domains e → d ≡ e
 one_domain domains d e named_d named_e same =
     sym (place_of domains d named_d).there ∙ ap (λ (i : ℕ). get_or domains i 0) same ∙ (place_of domains e named_e).there
 
@@ -188,8 +188,8 @@ memory_in memory b some = memory_from memory b.base b.size (by (each_from (λ y.
 kept_memory : (memory : ℕ → Bool) (domains : List ℕ) (i : ℕ) (bs : List SratBlock) (k : KeptBlock) → IsIn k (kept_from memory domains i bs)
     → has_memory memory (extent_of k.block) ≡ true
 kept_memory memory domains i [] k member = absurd member
-kept_memory memory domains i (b ∷ bs) k member = by (has_memory memory (extent_of (of_node domains b))) refl
-    (kept_memory memory domains (i + 1) bs k) member where
+kept_memory memory domains i (b ∷ bs) k member =
+    by (has_memory memory (extent_of (of_node domains b))) refl (kept_memory memory domains (i + 1) bs k) member where
       by : (some : Bool) → has_memory memory (extent_of (of_node domains b)) ≡ some
           → (IsIn k (kept_from memory domains (i + 1) bs) → has_memory memory (extent_of k.block) ≡ true)
           → IsIn k (kept_from memory domains i (b ∷ bs)) → has_memory memory (extent_of k.block) ≡ true
@@ -217,12 +217,11 @@ node_memory memory domains blocks apart n of_block =
     let above = place.above in
     let under = place.under in
     let lies : lies_in k.block place.at ≡ true = grind (arith, nat_tests) in
-    let held : holds (blocks_of kept) n place.at ≡ true = held_by (blocks_of kept) k.block n place.at (block_in kept k found.member) node
-    lies in (
+    let held : holds (blocks_of kept) n place.at ≡ true =
+    held_by (blocks_of kept) k.block n place.at (block_in kept k found.member) node lies in (
       place.at,
       place.is,
-      node_had (blocks_of kept) place.at n (apart_blocks kept apart) (addresses_kept memory domains blocks)
-          (rw held refl),
+      node_had (blocks_of kept) place.at n (apart_blocks kept apart) (addresses_kept memory domains blocks) (rw held refl),
     )
 
 -- and each node that memory gets is that of a kept block
@@ -232,28 +231,29 @@ node_kept ks b n member node =
     let same : found.0.block.value ≡ n = ap (λ (c : Block). c.value) (sym found.2) ∙ node in
     member_any _ ks found.0 found.1 (grind (arith, nat_tests))
 
-least_in : (start : ℕ) (bs : List Block) → (fold lower start bs ≡ start) ⊎ ((b : Block) × IsIn b bs × (b.value ≡ fold lower start bs))
+abbrev IsLeast : ℕ → List Block → Type 0
+IsLeast start bs = (fold lower start bs ≡ start) ⊎ ((b : Block) × IsIn b bs × (b.value ≡ fold lower start bs))
+
+least_in : (start : ℕ) (bs : List Block) → IsLeast start bs
 least_in start [] = inl refl
-least_in start (b ∷ bs) = elim (least_in (lower start b) bs) as (λ _. (fold lower start (b ∷ bs) ≡ start)
-    ⊎ ((c : Block) × IsIn c (b ∷ bs) × (c.value ≡ fold lower start (b ∷ bs)))) [
-      | inr later ↦ inr (later.0, inr later.1, later.2)
-      | inl first ↦ elim (cases_lt start b.value) as (λ _. (fold lower start (b ∷ bs) ≡ start)
-          ⊎ ((c : Block) × IsIn c (b ∷ bs) × (c.value ≡ fold lower start (b ∷ bs)))) [
-            | inl keeps ↦ inl (first ∙ omega arith)
-            | inr takes ↦ inr (b, inl refl, omega (arith, first))
-          ]
-    ]
+least_in start (b ∷ bs) = elim (least_in (lower start b) bs) as (λ _. IsLeast start (b ∷ bs)) [
+  | inr later ↦ inr (later.0, inr later.1, later.2)
+  | inl first ↦ elim (cases_lt start b.value) as (λ _. IsLeast start (b ∷ bs)) [
+    | inl keeps ↦ inl (first ∙ omega arith)
+    | inr takes ↦ inr (b, inl refl, omega (arith, first))
+  ]
+]
 
 lowest_kept : (ks : List KeptBlock) → ks ≢ [] → is_node_of ks (lowest (blocks_of ks)) ≡ true
 lowest_kept [] some = absurd (some refl)
-lowest_kept (k ∷ ks) some = elim (least_in k.block.value (blocks_of ks)) as (λ _. is_node_of (k ∷ ks) (lowest (blocks_of (k ∷ ks)))
-    ≡ true) [
+lowest_kept (k ∷ ks) some =
+    elim (least_in k.block.value (blocks_of ks)) as (λ _. is_node_of (k ∷ ks) (lowest (blocks_of (k ∷ ks))) ≡ true) [
       | inl first ↦ node_kept (k ∷ ks) k.block (lowest (blocks_of (k ∷ ks))) (inl refl) (sym first)
       | inr later ↦ node_kept (k ∷ ks) later.0 (lowest (blocks_of (k ∷ ks))) (inr later.1) later.2
     ]
 
-pub node_of_kept : (memory : ℕ → Bool) (kept : List KeptBlock) → kept ≢ [] → (x n : ℕ) → (nodes_by kept x ≡ Some n)
-    ⊎ (left_by memory kept x ≡ Some n)
+pub node_of_kept : (memory : ℕ → Bool) (kept : List KeptBlock) → kept ≢ [] → (x n : ℕ)
+    → (nodes_by kept x ≡ Some n) ⊎ (left_by memory kept x ≡ Some n)
     → is_node_of kept n ≡ true
 node_of_kept memory kept some x n (inl at) =
     let block = node_block (blocks_of kept) n x (node_has (blocks_of kept) x n at) in
