@@ -41,10 +41,13 @@ frames_passed (Some reason) before after ends = absurd (cc)
 
 -- each stage leaves the map as it is: one fact a stage
 map_keep : (given : Given) → AllKeep (λ (made : Made). made.map) (map_stages given)
-map_keep given =
-    (λ before after ends. ap (λ (m : Made). m.map) (sym (room_passed _ _ before after ends).1),
-    (λ before after ends. ap (λ (m : Made). m.map) (sym (frames_passed _ before after ends).1),
-    tt))
+map_keep given = (
+  λ before after ends. ap (λ (m : Made). m.map) (sym (room_passed _ _ before after ends).1),
+  (
+    λ before after ends. ap (λ (m : Made). m.map) (sym (frames_passed _ before after ends).1),
+    tt,
+  ),
+)
 
 later_keep : (given : Given) → AllKeep (λ (made : Made). made.map) (later_stages given)
 later_keep given = tt

@@ -100,6 +100,7 @@ unfolding boot
 boot_stops given answer stop is answers =
     rw is (λ other. stopped (map_judged given) (λ made. in_order (later_stages given) made) stop (answers other))
 
-pub boot_goes_on : (given : Given) (made : Made) → with_error stop_of (map_judged given) ≡ Ok made → with_error stop_of (boot given) ≡ Ok made
+pub boot_goes_on : (given : Given) (made : Made) → with_error stop_of (map_judged given) ≡ Ok made → with_error stop_of (boot given)
+    ≡ Ok made
 unfolding boot
 boot_goes_on given made is = rw (last_stage (map_judged given)) is
