@@ -3,7 +3,7 @@ use Rattle.std.proofs.Common.{◌≡◌, ℕ, suc, ◌+◌, ◌-◌, ◌*◌, �
 use Rattle.std.proofs.lemmas.Bool.{cases_Bool, cases_lt, cases_order}
 use Rattle.std.proofs.lemmas.Bool.Decides.{nat_tests}
 use Rattle.std.proofs.lemmas.List.{set_at, take_at, drop_at}
-use Rattle.phys_store.specs.Bytes.{Piece, byte_of, is_ready, bytes_at, Wrote}
+use Rattle.phys_store.specs.Bytes.{Stored, byte_of, is_ready, bytes_at, Wrote}
 use Rattle.phys_store.proofs.ByteLists.{told_bytes}
 use Rattle.address_runs.specs.Runs.{RunOf}
 use Rattle.memblock_model.specs.Labels.{Label}
@@ -68,7 +68,7 @@ pub same_outside : (f g : ℕ → ℕ) (place room : ℕ) → ((x : ℕ) → IsT
 same_outside f g place room same = λ j x. same_at f g place room same x j
 
 -- what was written stands there
-written_is : (s t : List Piece) (at n : ℕ) (bs : List ℕ) → Wrote s t at n (λ k. get_or bs k 0) → n ≡ 24 → length bs ≡ 24 →
+written_is : (s t : List Stored) (at n : ℕ) (bs : List ℕ) → Wrote s t at n (λ k. get_or bs k 0) → n ≡ 24 → length bs ≡ 24 →
     bytes_at (byte_of t) at 24 ≡ bs
 written_is s t at n bs w count long =
     sym (told_bytes (byte_of t) at 24 bs long (λ k below. sym (w.within k (omega (arith, below, count)))))
@@ -78,14 +78,14 @@ pub record_there : (f g : ℕ → ℕ) (a b : ℕ) → ((k : ℕ) → k < 24 →
 record_there f g a b same known = subst IsRecord (sym (same_bytes f g a b 24 same)) known
 
 -- what an edit of a table comes to
-pub record Edited (s u : List Piece) (place room count : ℕ) (list : List (RunOf Label)) : Type 0 where
+pub record Edited (s u : List Stored) (place room count : ℕ) (list : List (RunOf Label)) : Type 0 where
   pub list_is : records_at (byte_of u) place count ≡ list
   pub table : IsTable (byte_of u) (is_ready u) place room count
   pub others : outside (byte_of u) place room ≡ outside (byte_of s) place room
   pub ready : is_ready u ≡ is_ready s
 
 -- a record is written over the i-th
-pub put_table : (s t : List Piece) (place room count i at n : ℕ) (r : RunOf Label) (bs : List ℕ) →
+pub put_table : (s t : List Stored) (place room count i at n : ℕ) (r : RunOf Label) (bs : List ℕ) →
     IsTable (byte_of s) (is_ready s) place room count →
     i < count → FitsRecord r → bs ≡ spelling_of r → Wrote s t at n (λ k. get_or bs k 0) → at ≡ place + 24 * i → n ≡ length bs →
     Edited s t place room count (set (records_at (byte_of s) place count) i r)
@@ -127,7 +127,7 @@ put_table s t place room count i at n r bs table less fits is w here size =
     }
 
 -- the records from the i-th on move up, and a record is written in the gap
-pub insert_table : (s t u : List Piece) (place room count i to rest at n : ℕ) (r : RunOf Label) (bs : List ℕ) →
+pub insert_table : (s t u : List Stored) (place room count i to rest at n : ℕ) (r : RunOf Label) (bs : List ℕ) →
     IsTable (byte_of s) (is_ready s) place room count →
     i ≤ count → count < room → FitsRecord r → bs ≡ spelling_of r →
     Wrote s t to rest (λ k. byte_of s (at + k)) → Wrote t u at n (λ k. get_or bs k 0) →
@@ -176,7 +176,8 @@ insert_table s t u place room count i to rest at n r bs table less space fits is
     }
 
 -- the records behind n ones from the i-th on move down, and what they leave is zeros
-pub close_table : (s t u : List Piece) (place room count i n from to rest at size : ℕ) → IsTable (byte_of s) (is_ready s) place room count →
+pub close_table : (s t u : List Stored) (place room count i n from to rest at size : ℕ)
+    → IsTable (byte_of s) (is_ready s) place room count →
     i + n ≤ count → Wrote s t to rest (λ k. byte_of s (from + k)) → Wrote t u at size (λ _. 0) →
     from ≡ place + 24 * (i + n) → to ≡ place + 24 * i → rest ≡ 24 * (count - (i + n)) → at ≡ place + 24 * (count - n) → size ≡ 24 * n →
     Edited s u place room (count - n) (take i (records_at (byte_of s) place count) ++ drop (i + n) (records_at (byte_of s) place count))

@@ -3,7 +3,7 @@ use Rattle.std.proofs.Common.{◌≡◌, ℕ, ◌-◌, ◌^◌, ◌<◌, ◌≤�
 use Rattle.bm_base.specs.Extent.{covers}
 use Rattle.address_runs.proofs.RunsLaws.{behind}
 use Rattle.std.proofs.lemmas.Bool.Decides.{nat_tests}
-use Rattle.phys_store.specs.Bytes.{Piece, byte_of, bytes_at}
+use Rattle.phys_store.specs.Bytes.{Stored, byte_of, bytes_at}
 use Rattle.address_runs.specs.Runs.{RunOf}
 use Rattle.memblock_model.specs.Labels.{Label, plain_label}
 use Rattle.memblock_model.specs.declared.which.Which.TheVariants as which
@@ -82,7 +82,7 @@ unfolding fields_of
 no_record known = cc known.spells
 
 -- two records side by side, and a table of no record
-abbrev two : List Piece
+abbrev two : List Stored
 two = record { base = 0; bytes = first_record ++ first_record } ∷ []
 
 two_records : (records_at (byte_of two) 0 2 ≡ first_run ∷ (first_run ∷ [])) × (records_at (byte_of two) 0 0 ≡ [])

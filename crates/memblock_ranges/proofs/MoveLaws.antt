@@ -3,7 +3,7 @@ use Rattle.std.proofs.Common.{◌≡◌, ℕ, ◌+◌, ◌-◌, ◌*◌, ◌^◌
 use Rattle.std.proofs.lemmas.Bool.{cases_lt}
 use Rattle.std.proofs.lemmas.Bool.Decides.{nat_tests}
 use Rattle.bm_base.specs.Extent.{Extent, Meet}
-use Rattle.phys_store.specs.Bytes.{Piece, byte_of, is_ready, AreReady, Wrote}
+use Rattle.phys_store.specs.Bytes.{Stored, byte_of, is_ready, AreReady, Wrote}
 use Rattle.memblock_ranges.specs.declared.region.Head.{Head}
 use Rattle.memblock_ranges.specs.Tables.{HasTable, bytes_by, Moves}
 use Rattle.memblock_ranges.proofs.SpellLaws.{same_records}
@@ -30,7 +30,7 @@ copied_apart old room count place few apart =
           ]
     ]
 
-pub moves : (s t u v : List Piece) (g : Head) (place used free size : ℕ) → HasTable s g → place + 48 * g.room < 2 ^ 64 →
+pub moves : (s t u v : List Stored) (g : Head) (place used free size : ℕ) → HasTable s g → place + 48 * g.room < 2 ^ 64 →
     AreReady s place (48 * g.room) →
     ¬ Meet (bytes_by g) (bytes place (48 * g.room)) →
     Wrote s t place used (λ k. byte_of s (g.place + k)) → Wrote t u (place + used) free (λ _. 0) → Wrote u v g.place size (λ _. 0) →

@@ -3,7 +3,7 @@ use Rattle.std.proofs.Common.{◌≡◌, ℕ, ◌+◌, ◌-◌, ◌*◌, ◌^◌
 use Rattle.std.proofs.lemmas.Bool.{or_left, or_right}
 use Rattle.std.proofs.lemmas.Bool.Decides.{nat_tests}
 use Rattle.bm_base.specs.Extent.{covers}
-use Rattle.phys_store.specs.Bytes.{Piece, byte_of, is_ready}
+use Rattle.phys_store.specs.Bytes.{Stored, byte_of, is_ready}
 use Rattle.address_runs.specs.Runs.{RunOf}
 use Rattle.memblock_model.specs.Labels.{Label}
 use Rattle.memblock_ranges.specs.declared.region.Head.{Head}
@@ -14,7 +14,7 @@ use Rattle.memblock_ranges.specs.Tables.{HasTable, list_in, Table, table_by, byt
 abbrev pub first_head : ℕ → Head
 first_head place = record { place = place; room = 128; count = 0 }
 
-no_records : (s : List Piece) (place : ℕ) → list_in s (first_head place) ≡ []
+no_records : (s : List Stored) (place : ℕ) → list_in s (first_head place) ≡ []
 unfolding records_at
 no_records s place = refl
 
@@ -24,7 +24,7 @@ none_known = record { runs = tt; within = λ x le. refl }
 none_noded : HaveNoNode []
 none_noded = λ x label is. cc is
 
-empty_table : (s : List Piece) (place : ℕ) → place + 24 * 128 < 2 ^ 64 → ((x : ℕ) → byte_of s x ≡ 0) →
+empty_table : (s : List Stored) (place : ℕ) → place + 24 * 128 < 2 ^ 64 → ((x : ℕ) → byte_of s x ≡ 0) →
     ((x : ℕ) → covers (bytes_by (first_head place)) x ≡ true → is_ready s x ≡ true) → HasTable s (first_head place)
 empty_table s place fits zeros ready = record {
   few = omega arith;
@@ -41,7 +41,7 @@ parted end x long lies =
     let high : end - 4096 ≤ x = grind (arith, nat_tests) in
     absurd (omega arith)
 
-pub new_tables : (s : List Piece) (end : ℕ) → 8192 ≤ end → end < 2 ^ 64 → ((x : ℕ) → byte_of s x ≡ 0) →
+pub new_tables : (s : List Stored) (end : ℕ) → 8192 ≤ end → end < 2 ^ 64 → ((x : ℕ) → byte_of s x ≡ 0) →
     ((x : ℕ) → is_ready s x ≡ (covers (bytes_by (first_head (end - 4096))) x || covers (bytes_by (first_head (end - 8192))) x)) →
     AreTables s (first_head (end - 8192)) (first_head (end - 4096))
 new_tables s end long small zeros ready = record {
@@ -55,6 +55,6 @@ new_tables s end long small zeros ready = record {
   plain = rw (no_records s (end - 4096)) none_noded;
 }
 
-pub first_table : (s : List Piece) (place : ℕ) → table_by s (first_head place) ≡ record { records = []; place = place; room = 128 }
+pub first_table : (s : List Stored) (place : ℕ) → table_by s (first_head place) ≡ record { records = []; place = place; room = 128 }
 first_table s place = ap (λ (rs : List (RunOf Label)). let t : Table = record { records = rs; place = place; room = 128 } in
     t) (no_records s place)

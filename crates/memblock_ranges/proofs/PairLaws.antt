@@ -4,7 +4,7 @@ use Rattle.std.specs.Prelude.{unwrap_or}
 use Rattle.std.proofs.lemmas.Bool.{cases_Bool, and_from}
 use Rattle.std.proofs.lemmas.Bool.Decides.{nat_tests}
 use Rattle.bm_base.specs.Extent.{Extent, covers, Meet}
-use Rattle.phys_store.specs.Bytes.{Piece, byte_of, is_ready, Wrote}
+use Rattle.phys_store.specs.Bytes.{Stored, byte_of, is_ready, Wrote}
 use Rattle.address_runs.specs.Runs.{RunOf, value_at}
 use Rattle.address_runs.specs.Edits.{covered, uncovered, NothingFrom}
 use Rattle.memblock_model.specs.Labels.{Label, Labels, plain_label}
@@ -38,7 +38,7 @@ pub turned : (r s : Extent) → ¬ Meet r s → ¬ Meet s r
 turned r s apart both = apart (swapped s r both)
 
 -- a table whose bytes stay stays
-pub stays : (s t : List Piece) (h : Head) → ((x : ℕ) → covers (bytes_by h) x ≡ true → byte_of t x ≡ byte_of s x) →
+pub stays : (s t : List Stored) (h : Head) → ((x : ℕ) → covers (bytes_by h) x ≡ true → byte_of t x ≡ byte_of s x) →
     ((x : ℕ) → is_ready s x ≡ true → is_ready t x ≡ true) → HasTable s h → HasTable t h × (table_by t h ≡ table_by s h)
 stays s t h same ready table =
     let few = table.few in
@@ -57,23 +57,23 @@ stays s t h same ready table =
     )
 
 -- beside the table that is edited no byte changes
-pub edited_at : (s t : List Piece) (g h : Head) (list : List (RunOf Label)) → Edits s t g h list → (x : ℕ) →
+pub edited_at : (s t : List Stored) (g h : Head) (list : List (RunOf Label)) → Edits s t g h list → (x : ℕ) →
     covers (bytes_by g) x ≡ false → byte_of t x ≡ byte_of s x
 edited_at s t g h list e x out = rw out at (ap (λ (o : ℕ → ℕ). o x) e.others)
 
-ready_at : (s t : List Piece) (g h : Head) (list : List (RunOf Label)) → Edits s t g h list → (x : ℕ) → is_ready t x ≡ is_ready s x
+ready_at : (s t : List Stored) (g h : Head) (list : List (RunOf Label)) → Edits s t g h list → (x : ℕ) → is_ready t x ≡ is_ready s x
 ready_at s t g h list e x = ap (λ (o : ℕ → Bool). o x) e.ready
 
-same_bytes_by : (s t : List Piece) (g h : Head) (list : List (RunOf Label)) → Edits s t g h list → bytes_by h ≡ bytes_by g
+same_bytes_by : (s t : List Stored) (g h : Head) (list : List (RunOf Label)) → Edits s t g h list → bytes_by h ≡ bytes_by g
 same_bytes_by s t g h list e =
     rw (e.place_is, e.room_is) refl
 
 -- the table that was edited, as contracts see it
-pub edited_table : (s t : List Piece) (g h : Head) (list : List (RunOf Label)) → Edits s t g h list →
+pub edited_table : (s t : List Stored) (g h : Head) (list : List (RunOf Label)) → Edits s t g h list →
     table_by t h ≡ record { records = list; place = g.place; room = g.room }
 edited_table s t g h list e = rw (e.list_is, e.place_is, e.room_is) refl
 
-pub pair_memory : (s t : List Piece) (m r h : Head) (list : List (RunOf Label)) → AreTables s m r → Edits s t m h list →
+pub pair_memory : (s t : List Stored) (m r h : Head) (list : List (RunOf Label)) → AreTables s m r → Edits s t m h list →
     AreRecords (list_in t h) →
     AreTables t h r × (table_by t r ≡ table_by s r)
 pair_memory s t m r h list both e known =
@@ -91,7 +91,7 @@ pair_memory s t m r h list both e known =
       other.1,
     )
 
-pub pair_reserved : (s t : List Piece) (m r h : Head) (list : List (RunOf Label)) → AreTables s m r → Edits s t r h list →
+pub pair_reserved : (s t : List Stored) (m r h : Head) (list : List (RunOf Label)) → AreTables s m r → Edits s t r h list →
     AreRecords (list_in t h) →
     HaveNoNode list → AreTables t m h × (table_by t m ≡ table_by s m)
 pair_reserved s t m r h list both e known plain =
@@ -110,7 +110,7 @@ pair_reserved s t m r h list both e known plain =
       other.1,
     )
 
-pub edited_ready : (s t : List Piece) (g h : Head) (list : List (RunOf Label)) → Edits s t g h list → (x : ℕ) → is_ready t x ≡ is_ready s x
+pub edited_ready : (s t : List Stored) (g h : Head) (list : List (RunOf Label)) → Edits s t g h list → (x : ℕ) → is_ready t x ≡ is_ready s x
 edited_ready s t g h list e x = ready_at s t g h list e x
 
 -- no edit of the reserved table gives a record a node
@@ -144,14 +144,14 @@ plain_uncovered r rs known plain ends =
     ])
 
 -- a table that moves beside another one
-moved_apart : (s t : List Piece) (g h o : Head) (place : ℕ) → Moves s t g h place →
+moved_apart : (s t : List Stored) (g h o : Head) (place : ℕ) → Moves s t g h place →
     ¬ Meet (bytes_by o) (record { base = place; size = 48 * g.room }) → ¬ Meet (bytes_by o) (bytes_by h)
 moved_apart s t g h o place e apart both =
     let size : 24 * h.room ≡ 48 * g.room = omega (arith, e.room_is) in
     apart (subst (λ (r : Extent). Meet (bytes_by o) r)
     (let at : bytes_by h ≡ record { base = place; size = 48 * g.room } = rw (e.place_is, size) refl in at) both)
 
-moved_other : (s t : List Piece) (g h o : Head) (place : ℕ) → Moves s t g h place → ¬ Meet (bytes_by o) (bytes_by g) →
+moved_other : (s t : List Stored) (g h o : Head) (place : ℕ) → Moves s t g h place → ¬ Meet (bytes_by o) (bytes_by g) →
     ¬ Meet (bytes_by o) (record { base = place; size = 48 * g.room }) →
     HasTable s o → HasTable t o × (table_by t o ≡ table_by s o)
 moved_other s t g h o place e old new table =
@@ -159,11 +159,11 @@ moved_other s t g h o place e old new table =
     stays s t o (λ x lies. e.elsewhere x (beside (bytes_by h) (bytes_by o) x (turned (bytes_by o) (bytes_by h) new_too) lies)
     (beside (bytes_by g) (bytes_by o) x (turned (bytes_by o) (bytes_by g) old) lies)) (λ x was. e.ready x ∙ was) table
 
-pub moved_table : (s t : List Piece) (g h : Head) (place : ℕ) → Moves s t g h place →
+pub moved_table : (s t : List Stored) (g h : Head) (place : ℕ) → Moves s t g h place →
     table_by t h ≡ record { records = list_in s g; place = place; room = 2 * g.room }
 moved_table s t g h place e = rw (e.list_is, e.place_is, e.room_is) refl
 
-pub move_memory : (s t : List Piece) (m r h : Head) (place : ℕ) → AreTables s m r → Moves s t m h place →
+pub move_memory : (s t : List Stored) (m r h : Head) (place : ℕ) → AreTables s m r → Moves s t m h place →
     ¬ Meet (bytes_by r) (record { base = place; size = 48 * m.room }) → AreTables t h r × (table_by t r ≡ table_by s r)
 move_memory s t m r h place both e apart =
     let other = moved_other s t m h r place e (turned (bytes_by m) (bytes_by r) both.apart) apart both.reserved in
@@ -179,7 +179,7 @@ move_memory s t m r h place both e apart =
       other.1,
     )
 
-pub move_reserved : (s t : List Piece) (m r h : Head) (place : ℕ) → AreTables s m r → Moves s t r h place →
+pub move_reserved : (s t : List Stored) (m r h : Head) (place : ℕ) → AreTables s m r → Moves s t r h place →
     ¬ Meet (bytes_by m) (record { base = place; size = 48 * r.room }) → AreTables t m h × (table_by t m ≡ table_by s m)
 move_reserved s t m r h place both e apart =
     let other = moved_other s t r h m place e both.apart apart both.memory in
@@ -196,7 +196,7 @@ move_reserved s t m r h place both e apart =
     )
 
 -- a change of no byte of either table
-pub both_stay : (s t : List Piece) (m r : Head) → AreTables s m r → ((x : ℕ) → covers (bytes_by m) x ≡ true → byte_of t x ≡ byte_of s x) →
+pub both_stay : (s t : List Stored) (m r : Head) → AreTables s m r → ((x : ℕ) → covers (bytes_by m) x ≡ true → byte_of t x ≡ byte_of s x) →
     ((x : ℕ) → covers (bytes_by r) x ≡ true → byte_of t x ≡ byte_of s x) → ((x : ℕ) → is_ready s x ≡ true → is_ready t x ≡ true) →
     AreTables t m r × (table_by t m ≡ table_by s m) × (table_by t r ≡ table_by s r)
 both_stay s t m r both at_memory at_reserved ready =
@@ -217,7 +217,7 @@ both_stay s t m r both at_memory at_reserved ready =
     )
 
 -- bytes that belong to no table are filled
-pub filled_stay : (s t : List Piece) (m r : Head) (range : Extent) (g : ℕ → ℕ) → AreTables s m r → Wrote s t range.base range.size g →
+pub filled_stay : (s t : List Stored) (m r : Head) (range : Extent) (g : ℕ → ℕ) → AreTables s m r → Wrote s t range.base range.size g →
     ¬ Overlaps (let v : Contents = record { memory = table_by s m; reserved = table_by s r; store = s } in v) range →
     AreTables t m r × (table_by t m ≡ table_by s m) × (table_by t r ≡ table_by s r)
 filled_stay s t m r range g both w apart =
@@ -235,7 +235,7 @@ or_right true b is = refl
 or_right false b is = is
 
 -- more is prepared, and no byte changes
-pub prepared_stay : (s t : List Piece) (m r : Head) (range : Extent) → AreTables s m r → ((x : ℕ) → byte_of t x ≡ byte_of s x) →
+pub prepared_stay : (s t : List Stored) (m r : Head) (range : Extent) → AreTables s m r → ((x : ℕ) → byte_of t x ≡ byte_of s x) →
     ((x : ℕ) → is_ready t x ≡ (covers range x || is_ready s x)) → AreTables t m r × (table_by t m ≡ table_by s m)
     × (table_by t r ≡ table_by s r)
 prepared_stay s t m r range both bytes ready =

@@ -2,7 +2,7 @@
 use Rattle.std.proofs.Common.{◌≡◌, ℕ, zero, suc, ◌+◌, ◌-◌, ◌*◌, ◌<◌, ◌≤◌, ◌==◌, List, ◌∷◌, ◌++◌, replicate, refl, sym, ◌∙◌, ap, subst, arith, inl, inr}
 use Rattle.std.proofs.lemmas.Bool.{cases_Bool, eqb-true}
 use Rattle.std.proofs.lemmas.List.{get_or-replicate, length-replicate}
-use Rattle.phys_store.specs.Bytes.{Piece, byte_of, bytes_at}
+use Rattle.phys_store.specs.Bytes.{Stored, byte_of, bytes_at}
 use Rattle.phys_store.proofs.ByteLists.{told_bytes}
 use Rattle.memblock_ranges.specs.declared.region.Head.{Head}
 use Rattle.memblock_ranges.specs.Spelling.{base_in, size_in, flags_in, node_in, region_in, region_of, fields_of, label_of, node_field, run_in, spelling_of, records_at, spelled_table, IsRecord}
@@ -60,7 +60,7 @@ region_back bs known =
     let node : node_in bs ≡ node_field (label_of (node_in bs)) = sym (node_field-label_of (node_in bs)) in
     λ j. record { base = base_in bs; size = size_in bs; flags = flags j; node = node j }
 
-pub stands : (s : List Piece) (h : Head) → HasTable s h → AreRecords (list_in s h) → StandsIn (table_by s h) s
+pub stands : (s : List Stored) (h : Head) → HasTable s h → AreRecords (list_in s h) → StandsIn (table_by s h) s
 stands s h table known =
     let count = length-records_at (byte_of s) h.place h.count in
     record {
@@ -75,6 +75,6 @@ stands s h table known =
       prepared = table.prepared;
     }
 
-pub head_is : (s : List Piece) (h : Head) → h ≡ head_of (table_by s h)
+pub head_is : (s : List Stored) (h : Head) → h ≡ head_of (table_by s h)
 head_is s h = ap (λ (n : ℕ). let g : Head = record { place = h.place; room = h.room; count = n } in
     g) (sym (length-records_at (byte_of s) h.place h.count))

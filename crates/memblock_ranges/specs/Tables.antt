@@ -1,7 +1,7 @@
 -- A table in the bytes that it describes, and both of them.
 use Rattle.std.specs.Prelude.{◌≡◌, ℕ, ◌+◌, ◌*◌, ◌^◌, ◌<◌, ◌≤◌, Bool, true, false, ◌&&◌, nat_le, nat_lt, if◌then◌else◌, Some, List, length, get_or, IsTrue}
 use Rattle.bm_base.specs.Extent.{Extent, covers, Meet}
-use Rattle.phys_store.specs.Bytes.{Piece, byte_of, is_ready, AreReady, bytes_at}
+use Rattle.phys_store.specs.Bytes.{Stored, byte_of, is_ready, AreReady, bytes_at}
 use Rattle.address_runs.specs.Runs.{RunOf, AreRuns, value_at}
 use Rattle.address_runs.specs.Edits.{NothingFrom}
 use Rattle.memblock_model.specs.Labels.{Label, plain_label}
@@ -30,18 +30,18 @@ pub record Kept : Type 0 where
   pub others : ℕ → ℕ
   pub ready : ℕ → Bool
 
-abbrev pub kept_of : List Piece → Head → Kept
+abbrev pub kept_of : List Stored → Head → Kept
 kept_of s h = record { place = h.place; room = h.room; others = outside (byte_of s) h.place h.room; ready = is_ready s }
 
 -- the table of a head in a store
-abbrev pub list_in : List Piece → Head → List (RunOf Label)
+abbrev pub list_in : List Stored → Head → List (RunOf Label)
 list_in s h = records_at (byte_of s) h.place h.count
 
-abbrev pub HasTable : List Piece → Head → Type 0
+abbrev pub HasTable : List Stored → Head → Type 0
 HasTable s h = IsTable (byte_of s) (is_ready s) h.place h.room h.count
 
 -- the head's table has other records then, and all else is as it was
-pub record Edits (s t : List Piece) (g h : Head) (list : List (RunOf Label)) : Type 0 where
+pub record Edits (s t : List Stored) (g h : Head) (list : List (RunOf Label)) : Type 0 where
   pub list_is : list_in t h ≡ list
   pub table : HasTable t h
   pub place_is : h.place ≡ g.place
@@ -64,7 +64,7 @@ pub record Table : Type 0 where
 pub record Contents : Type 0 where
   pub memory : Table
   pub reserved : Table
-  pub store : List Piece
+  pub store : List Stored
 
 abbrev pub table_in : Which → Contents → Table
 table_in which.Memory t = t.memory
@@ -100,7 +100,7 @@ head_of t = record { place = t.place; room = t.room; count = length t.records }
 
 -- the table lies in the store: its records are in order and fit, the bytes at its place are those of the records and then zeros, so that
 -- each record is read from its 24 bytes, and all of them are prepared
-pub record StandsIn (t : Table) (store : List Piece) : Type 0 where
+pub record StandsIn (t : Table) (store : List Stored) : Type 0 where
   pub few : length t.records ≤ t.room
   pub fits : t.place + 24 * t.room < 2 ^ 64
   pub records : AreRecords t.records
@@ -119,14 +119,14 @@ abbrev pub HaveNoNode : List (RunOf Label) → Type 0
 HaveNoNode rs = (x : ℕ) (label : Label) → value_at rs x ≡ Some label → label ≡ plain_label
 
 -- the table of a head, as contracts see it
-abbrev pub table_by : List Piece → Head → Table
+abbrev pub table_by : List Stored → Head → Table
 table_by s h = record { records = list_in s h; place = h.place; room = h.room }
 
 abbrev pub bytes_by : Head → Extent
 bytes_by h = record { base = h.place; size = 24 * h.room }
 
 -- two heads in one store: both tables stand there, in order, and have no byte in common
-pub record AreTables (s : List Piece) (m r : Head) : Type 0 where
+pub record AreTables (s : List Stored) (m r : Head) : Type 0 where
   pub memory : HasTable s m
   pub reserved : HasTable s r
   pub apart : ¬ Meet (bytes_by m) (bytes_by r)
@@ -135,7 +135,7 @@ pub record AreTables (s : List Piece) (m r : Head) : Type 0 where
   pub plain : HaveNoNode (list_in s r)
 
 -- the head's table lies at another place then, with twice the room; what it left is zeros, and nothing else changed
-pub record Moves (s t : List Piece) (g h : Head) (place : ℕ) : Type 0 where
+pub record Moves (s t : List Stored) (g h : Head) (place : ℕ) : Type 0 where
   pub list_is : list_in t h ≡ list_in s g
   pub table : HasTable t h
   pub place_is : h.place ≡ place

@@ -2,19 +2,19 @@
 use Rattle.std.proofs.Common.{◌≡◌, ℕ, ◌<◌, ◌≤◌, zero, suc, ◌||◌, nat_lt, nat_le, get_or, true, false, List, [], ◌∷◌, refl, arith, IsTrue}
 use Rattle.std.proofs.lemmas.Bool.{false≢true}
 use Rattle.std.proofs.lemmas.Bool.Decides.{nat_tests}
-use Rattle.phys_store.specs.Bytes.{Piece, past, inside, byte_of, is_ready, AreReady, bytes_at, Wrote}
-use Rattle.phys_store.specs.Extents.{piece, Apart, nth, Joins}
+use Rattle.phys_store.specs.Bytes.{Stored, past, inside, byte_of, is_ready, AreReady, bytes_at, Wrote}
+use Rattle.phys_store.specs.Extents.{stored, Apart, nth, Joins}
 use Rattle.phys_store.specs.declared.extents.Held.{Held}
 use Rattle.phys_store.proofs.Writes.{wrote-set}
 
 -- bytes 1, 2, 3 from address 4 on, and byte 9 at address 8
-abbrev low : Piece
+abbrev low : Stored
 low = record { base = 4; bytes = 1 ∷ 2 ∷ 3 ∷ [] }
 
-abbrev high : Piece
+abbrev high : Stored
 high = record { base = 8; bytes = 9 ∷ [] }
 
-abbrev store : List Piece
+abbrev store : List Stored
 store = low ∷ high ∷ []
 
 past_examples : (past low ≡ 7) × (past high ≡ 9)
@@ -23,14 +23,14 @@ past_examples = (refl, refl)
 inside_examples : (inside low 3 ≡ false) × (inside low 4 ≡ true) × (inside low 6 ≡ true) × (inside low 7 ≡ false)
 inside_examples = (refl, refl, refl, refl)
 
--- what lies in no piece is 0, and isn't prepared
+-- what lies in no extent is 0, and isn't prepared
 byte_examples : (byte_of store 4 ≡ 1) × (byte_of store 6 ≡ 3) × (byte_of store 7 ≡ 0) × (byte_of store 8 ≡ 9) × (byte_of [] 8 ≡ 0)
 byte_examples = (refl, refl, refl, refl, refl)
 
 ready_examples : (is_ready store 6 ≡ true) × (is_ready store 7 ≡ false) × (is_ready store 8 ≡ true) × (is_ready [] 8 ≡ false)
 ready_examples = (refl, refl, refl, refl)
 
--- a range of one piece is prepared, and so is an empty one; a range with a gap isn't
+-- a range of one extent is prepared, and so is an empty one; a range with a gap isn't
 range_examples : AreReady (low ∷ []) 5 2 × AreReady [] 5 0 × ¬ AreReady store 6 3
 range_examples = (
   (λ x from to. grind (arith, nat_tests)),
@@ -44,7 +44,7 @@ unfolding bytes_at
 bytes_examples = (refl, refl)
 
 -- 7 is written at address 5; nothing else changes
-abbrev written : Piece
+abbrev written : Stored
 written = record { base = 4; bytes = 1 ∷ 7 ∷ 3 ∷ [] }
 
 beside : (j : ℕ) → IsTrue (nat_lt j 1 || nat_le 2 j) → get_or written.bytes j 0 ≡ get_or low.bytes j 0
@@ -62,7 +62,7 @@ one_written =
 none_written : Wrote store store 7 0 (λ k. k)
 none_written = record { within = λ k below. absurd (omega arith); outside = λ x off. refl; ready = λ x. refl }
 
--- two pieces with a gap of one byte are apart; pieces that touch are not
+-- two extents with a gap of one byte are apart; extents that touch are not
 apart_examples : Apart 0 store × ¬ Apart 5 store × ¬ Apart 0 (low ∷ record { base = 7; bytes = 9 ∷ [] } ∷ [])
 apart_examples = (
   (omega arith, omega arith, omega arith, (omega arith, omega arith, omega arith, tt)),
@@ -73,7 +73,7 @@ apart_examples = (
 nth_examples : (nth store 1 ≡ high) × (nth store 2 ≡ record { base = 0; bytes = [] })
 nth_examples = (refl, refl)
 
--- the addresses from 4 up to 9 are those of both pieces and of the gap; address 20 touches none
+-- the addresses from 4 up to 9 are those of both extents and of the gap; address 20 touches none
 bases : (i : ℕ) → i < 2 → 4 ≤ (nth store i).base
 bases zero less = omega arith
 bases (suc zero) less = omega arith
@@ -105,5 +105,5 @@ far_joins = record {
 }
 
 -- an extent, as contracts see it
-piece_example : (e : Held) → (piece e).base ≡ e.base
+piece_example : (e : Held) → (stored e).base ≡ e.base
 piece_example e = refl

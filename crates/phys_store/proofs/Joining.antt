@@ -1,4 +1,4 @@
--- One piece in place of those that it covers.
+-- One extent in place of those that it covers.
 use Rattle.std.proofs.Common.{◌≡◌, ℕ, zero, suc, ◌+◌, ◌-◌, ◌^◌, ◌<◌, ◌≤◌, Bool, true, false, ◌||◌, List, [], ◌∷◌, ◌++◌, length, min, max, get_or, take, drop, map, refl, sym, ◌∙◌, ap, subst, arith, inl, inr, IsTrue}
 use Rattle.std.proofs.lemmas.Bool.{cases_Bool, cases_lt}
 use Rattle.std.proofs.lemmas.Bool.Decides.{nat_tests}
@@ -6,18 +6,18 @@ use Rattle.std.proofs.lemmas.List.{get_or_default, get_or-map, drop_more, get_or
 use Rattle.std.specs.List.{remove}
 use Rattle.bm_base.specs.Extent.{Extent, end_of, covers}
 use Rattle.phys_store.specs.declared.extents.Held.{Held}
-use Rattle.phys_store.specs.Bytes.{Piece, past, inside, byte_of, is_ready, AreReady}
-use Rattle.phys_store.specs.Extents.{piece, Apart, nth, Joins}
+use Rattle.phys_store.specs.Bytes.{Stored, past, inside, byte_of, is_ready, AreReady}
+use Rattle.phys_store.specs.Extents.{stored, Apart, nth, Joins}
 use Rattle.phys_store.proofs.Writes.{mid-in, mid-out}
 use borrow.Rule.Slice.PartMut.{put_mid}
 use Rattle.phys_store.proofs.Lookup.{inside-low, inside-high, ready-below, byte-unready, at-least, fits, ready-at}
 
 -- the i-th extent, as it is read
-pub nth_piece : (es : List Held) (i : ℕ) (e : Held) → i < length es → e ≡ get_or es i e → nth (map piece es) i ≡ piece e
-nth_piece es i e count is = get_or-map piece es i e (record { base = 0; bytes = [] }) count ∙ ap piece (sym is)
+pub nth_piece : (es : List Held) (i : ℕ) (e : Held) → i < length es → e ≡ get_or es i e → nth (map stored es) i ≡ stored e
+nth_piece es i e count is = get_or-map stored es i e (record { base = 0; bytes = [] }) count ∙ ap stored (sym is)
 
--- an earlier piece ends below a later one
-pub before : (e : ℕ) (ps : List Piece) (i j : ℕ) → Apart e ps → i < j → j < length ps → past (nth ps i) < (nth ps j).base
+-- an earlier extent ends below a later one
+pub before : (e : ℕ) (ps : List Stored) (i j : ℕ) → Apart e ps → i < j → j < length ps → past (nth ps i) < (nth ps j).base
 before e [] i j apart less count = absurd (omega arith)
 before e (q ∷ ps) i zero apart less count = absurd (omega arith)
 before e (q ∷ ps) zero (suc j) apart less count =
@@ -26,8 +26,8 @@ before e (q ∷ ps) zero (suc j) apart less count =
     (get_or_default ps j (nth ps j) (record { base = 0; bytes = [] }) count') in omega (arith, low)
 before e (q ∷ ps) (suc i) (suc j) apart less count = before (past q + 1) ps i j apart.3 (omega arith) (omega arith)
 
--- an address that no piece of the front has
-outside_front : (p : Piece) (n : ℕ) (ps : List Piece) → ((i : ℕ) → i < n → p.base ≤ (nth ps i).base) →
+-- an address that no extent of the front has
+outside_front : (p : Stored) (n : ℕ) (ps : List Stored) → ((i : ℕ) → i < n → p.base ≤ (nth ps i).base) →
     ((i : ℕ) → i < n → past (nth ps i) ≤ past p) →
     (x : ℕ) → inside p x ≡ false → (byte_of (drop n ps) x ≡ byte_of ps x) × (is_ready (drop n ps) x ≡ is_ready ps x)
 outside_front p zero ps low high x out = (refl, refl)
@@ -40,7 +40,7 @@ outside_front p (suc n) (q ∷ ps) low high x out =
     rw off rest
 
 -- below what is left only the front counts
-in_front : (e n h x : ℕ) (ps : List Piece) → Apart e ps → ((i : ℕ) → n ≤ i → i < length ps → h < (nth ps i).base) → x < h →
+in_front : (e n h x : ℕ) (ps : List Stored) → Apart e ps → ((i : ℕ) → n ≤ i → i < length ps → h < (nth ps i).base) → x < h →
     byte_of (take n ps) x ≡ byte_of ps x
 in_front e zero h x [] apart above below = refl
 in_front e zero h x (q ∷ ps) apart above below =
@@ -52,7 +52,7 @@ in_front e (suc n) h x (q ∷ ps) apart above below =
     rw (in_front (past q + 1) n h x ps apart.3 (λ i from count. above (suc i) (omega arith) (omega arith)) below) refl
 
 -- what is left is apart from what ends below it
-apart_left : (e n h : ℕ) (ps : List Piece) → Apart e ps → ((i : ℕ) → n ≤ i → i < length ps → h < (nth ps i).base) →
+apart_left : (e n h : ℕ) (ps : List Stored) → Apart e ps → ((i : ℕ) → n ≤ i → i < length ps → h < (nth ps i).base) →
     Apart (h + 1) (drop n ps)
 apart_left e zero h [] apart above = tt
 apart_left e zero h (q ∷ ps) apart above =
@@ -62,13 +62,13 @@ apart_left e (suc n) h [] apart above = tt
 apart_left e (suc n) h (q ∷ ps) apart above = apart_left (past q + 1) n h ps apart.3
     (λ i from count. above (suc i) (omega arith) (omega arith))
 
--- what holds once the piece p stands in the list
-pub record Joined (e : ℕ) (ps : List Piece) (p : Piece) (new : List Piece) : Type 0 where
+-- what holds once the extent p stands in the list
+pub record Joined (e : ℕ) (ps : List Stored) (p : Stored) (new : List Stored) : Type 0 where
   pub apart : Apart e new
   pub bytes : (x : ℕ) → byte_of new x ≡ byte_of ps x
   pub ready : (x : ℕ) → is_ready new x ≡ (inside p x || is_ready ps x)
 
-joined_first : (e n : ℕ) (ps : List Piece) (p : Piece) → Apart e ps → e ≤ p.base → 0 < length p.bytes → past p < 2 ^ 64 →
+joined_first : (e n : ℕ) (ps : List Stored) (p : Stored) → Apart e ps → e ≤ p.base → 0 < length p.bytes → past p < 2 ^ 64 →
     Joins ps 0 n p.base (past p) →
     ((x : ℕ) → p.base ≤ x → x < past p → get_or p.bytes (x - p.base) 0 ≡ byte_of (take n ps) x) →
     Joined e ps p (p ∷ drop n ps)
@@ -87,14 +87,14 @@ joined_first e n ps p apart low some small joins told =
       ];
     }
 
--- whether an address is prepared doesn't depend on the order of three pieces
+-- whether an address is prepared doesn't depend on the order of three extents
 swapped : (a b c : Bool) → (a || (b || c)) ≡ (b || (a || c))
 swapped true true c = refl
 swapped true false c = refl
 swapped false true c = refl
 swapped false false c = refl
 
-pub joined : (f e b n : ℕ) (ps : List Piece) (p : Piece) → Apart e ps → e ≤ p.base → 0 < length p.bytes → past p < 2 ^ 64 → b ≡ f + n →
+pub joined : (f e b n : ℕ) (ps : List Stored) (p : Stored) → Apart e ps → e ≤ p.base → 0 < length p.bytes → past p < 2 ^ 64 → b ≡ f + n →
     Joins ps f b p.base (past p) →
     ((x : ℕ) → p.base ≤ x → x < past p → get_or p.bytes (x - p.base) 0 ≡ byte_of (take n (drop f ps)) x) →
     Joined e ps p (take f ps ++ p ∷ drop b ps)
@@ -121,15 +121,15 @@ joined (suc f) e (suc b) n (q ∷ ps) p apart low some small count joins told =
       ready = λ x. rw (rest.ready x) (swapped (inside q x) (inside p x) (is_ready ps x));
     }
 
--- the i-th of several pieces that are apart: it ends in the address space, and its addresses are prepared
-there : (ps : List Piece) (i : ℕ) → i < length ps → get_or ps i (nth ps i) ≡ nth ps i
+-- the i-th of several extents that are apart: it ends in the address space, and its addresses are prepared
+there : (ps : List Stored) (i : ℕ) → i < length ps → get_or ps i (nth ps i) ≡ nth ps i
 there ps i count = get_or_default ps i (nth ps i) (record { base = 0; bytes = [] }) count
 
-pub nth-fits : (ps : List Piece) (i : ℕ) → Apart 0 ps → i < length ps → past (nth ps i) < 2 ^ 64
+pub nth-fits : (ps : List Stored) (i : ℕ) → Apart 0 ps → i < length ps → past (nth ps i) < 2 ^ 64
 nth-fits ps i apart count = fits 0 ps i (nth ps i) apart count (there ps i count)
 
 -- what a range and the extents so far make
-pub record Hull (ps : List Piece) (r : Extent) (first behind from to : ℕ) : Type 0 where
+pub record Hull (ps : List Stored) (r : Extent) (first behind from to : ℕ) : Type 0 where
   pub order : first ≤ behind
   pub most : behind ≤ length ps
   pub least : from ≤ r.base
@@ -140,8 +140,8 @@ pub record Hull (ps : List Piece) (r : Extent) (first behind from to : ℕ) : Ty
   pub high : (i : ℕ) → first ≤ i → i < behind → past (nth ps i) ≤ to
   pub ready : (x : ℕ) → from ≤ x → x < to → IsTrue (covers r x || is_ready ps x)
 
--- a piece from the first that reaches the range on reaches it too
-reaches : (ps : List Piece) (a i j : ℕ) → Apart 0 ps → i ≤ j → j < length ps → a ≤ past (nth ps i) → a ≤ past (nth ps j)
+-- a extent from the first that reaches the range on reaches it too
+reaches : (ps : List Stored) (a i j : ℕ) → Apart 0 ps → i ≤ j → j < length ps → a ≤ past (nth ps i) → a ≤ past (nth ps j)
 reaches ps a i j apart less count reach =
     elim (cases_lt i j) [
       | inl before_it ↦ let far = before 0 ps i j apart before_it count in omega arith
@@ -152,8 +152,8 @@ or_right : (a b : Bool) → b ≡ true → (a || b) ≡ true
 or_right true b is = refl
 or_right false b is = is
 
--- the next piece, which begins by the end of what they make, is joined to them
-pub hull_more : (ps : List Piece) (r : Extent) (first behind from to : ℕ) → Apart 0 ps → behind < length ps →
+-- the next extent, which begins by the end of what they make, is joined to them
+pub hull_more : (ps : List Stored) (r : Extent) (first behind from to : ℕ) → Apart 0 ps → behind < length ps →
     r.base ≤ past (nth ps first) → (nth ps behind).base ≤ to → Hull ps r first behind from to →
     Hull ps r first (behind + 1) (min from (nth ps behind).base) (max to (past (nth ps behind)))
 hull_more ps r first behind from to apart count reach touches h =
@@ -186,8 +186,8 @@ hull_more ps r first behind from to apart count reach touches h =
       ];
     }
 
--- and where no further piece is joined they are those that are met or touched
-pub hull_joins : (ps : List Piece) (r : Extent) (first behind from to : ℕ) → Apart 0 ps → Hull ps r first behind from to →
+-- and where no further extent is joined they are those that are met or touched
+pub hull_joins : (ps : List Stored) (r : Extent) (first behind from to : ℕ) → Apart 0 ps → Hull ps r first behind from to →
     (behind < length ps → to < (nth ps behind).base) → Joins ps first behind from to
 hull_joins ps r first behind from to apart h stop = record {
   order = h.order;
@@ -201,8 +201,8 @@ hull_joins ps r first behind from to apart h stop = record {
   ];
 }
 
--- the bytes of one more piece in front are gathered
-pub gathered_more : (ps : List Piece) (i from to k m : ℕ) (bs ys : List ℕ) → i < length ps → length bs ≡ to - from →
+-- the bytes of one more extent in front are gathered
+pub gathered_more : (ps : List Stored) (i from to k m : ℕ) (bs ys : List ℕ) → i < length ps → length bs ≡ to - from →
     from ≤ (nth ps i).base → past (nth ps i) ≤ to → k ≡ (nth ps i).base - from → m ≡ length (nth ps i).bytes → ys ≡ (nth ps i).bytes →
     ((x : ℕ) → from ≤ x → x < to → get_or bs (x - from) 0 ≡ byte_of (drop (i + 1) ps) x) →
     (x : ℕ) → from ≤ x → x < to → get_or (put_mid k m bs ys) (x - from) 0 ≡ byte_of (drop i ps) x
@@ -219,26 +219,26 @@ gathered_more ps i from to k m bs ys count len low high at long is told x least 
 
 -- the i-th of some extents of a list
 nth_part : (es : List Held) (f n i : ℕ) → i < length (take n (drop f es)) →
-    nth (map piece (take n (drop f es))) i ≡ nth (map piece es) (f + i)
+    nth (map stored (take n (drop f es))) i ≡ nth (map stored es) (f + i)
 nth_part es f n i count =
-    let none : Piece = record { base = 0; bytes = [] } in
+    let none : Stored = record { base = 0; bytes = [] } in
     let short = length-take n (drop f es) in
     let inner : i < n = omega (arith, short) in
-    ap (λ (ps : List Piece). get_or ps i none) (sym (take-map piece n (drop f es)) ∙ ap (take n) (sym (drop-map piece f es)))
-    ∙ get_or-take n (drop f (map piece es)) i none inner ∙ get_or-drop f (map piece es) i none
+    ap (λ (ps : List Stored). get_or ps i none) (sym (take-map stored n (drop f es)) ∙ ap (take n) (sym (drop-map stored f es)))
+    ∙ get_or-take n (drop f (map stored es)) i none inner ∙ get_or-drop f (map stored es) i none
 
-module _ (es ds : List Held) (f b from to : ℕ) (joins : Joins (map piece es) f b from to) (same : ds ≡ es) (i : ℕ)
+module _ (es ds : List Held) (f b from to : ℕ) (joins : Joins (map stored es) f b from to) (same : ds ≡ es) (i : ℕ)
     (count : i < length (take (b - f) (drop f ds))) where
   part_inner : f + i < b
   part_inner = let short = length-take (b - f) (drop f ds) in omega (arith, short, count, joins.order)
 
-  part_is : nth (map piece (take (b - f) (drop f ds))) i ≡ nth (map piece es) (f + i)
-  part_is = nth_part ds f (b - f) i count ∙ ap (λ (l : List Held). nth (map piece l) (f + i)) same
+  part_is : nth (map stored (take (b - f) (drop f ds))) i ≡ nth (map stored es) (f + i)
+  part_is = nth_part ds f (b - f) i count ∙ ap (λ (l : List Held). nth (map stored l) (f + i)) same
 
-  pub part_low : from ≤ (nth (map piece (take (b - f) (drop f ds))) i).base
+  pub part_low : from ≤ (nth (map stored (take (b - f) (drop f ds))) i).base
   part_low = rw part_is (joins.low (f + i) (omega arith) part_inner)
 
-  pub part_high : past (nth (map piece (take (b - f) (drop f ds))) i) ≤ to
+  pub part_high : past (nth (map stored (take (b - f) (drop f ds))) i) ≤ to
   part_high = rw part_is (joins.high (f + i) (omega arith) part_inner)
 
 -- the element right behind one is removed
@@ -257,15 +257,15 @@ removed_behind es new now x f k most was is =
 
 -- what holds once a range is prepared
 pub record Prepared (es new : List Held) (r : Extent) : Type 0 where
-  pub apart : Apart 0 (map piece new)
-  pub bytes : (x : ℕ) → byte_of (map piece new) x ≡ byte_of (map piece es) x
-  pub ready : (x : ℕ) → is_ready (map piece new) x ≡ (covers r x || is_ready (map piece es) x)
+  pub apart : Apart 0 (map stored new)
+  pub bytes : (x : ℕ) → byte_of (map stored new) x ≡ byte_of (map stored es) x
+  pub ready : (x : ℕ) → is_ready (map stored new) x ≡ (covers r x || is_ready (map stored es) x)
 
-some_size : (ps : List Piece) (r : Extent) → (AreReady ps r.base r.size → ⊥) → 0 < r.size
+some_size : (ps : List Stored) (r : Extent) → (AreReady ps r.base r.size → ⊥) → 0 < r.size
 some_size ps r not_ready = elim (cases_lt 0 r.size) [ inl some ↦ some | inr none ↦ absurd (not_ready (λ x low high. absurd (omega arith))) ]
 
--- an address of the piece is of the range or was prepared, and an address of the range is of the piece
-exact : (ps : List Piece) (r : Extent) (p : Piece) → p.base ≤ r.base → end_of r ≤ past p →
+-- an address of the extent is of the range or was prepared, and an address of the range is of the extent
+exact : (ps : List Stored) (r : Extent) (p : Stored) → p.base ≤ r.base → end_of r ≤ past p →
     ((x : ℕ) → p.base ≤ x → x < past p → IsTrue (covers r x || is_ready ps x)) → (x : ℕ) →
     (inside p x || is_ready ps x) ≡ (covers r x || is_ready ps x)
 exact ps r p low high ready x = elim (cases_Bool (inside p x)) [
@@ -273,29 +273,30 @@ exact ps r p low high ready x = elim (cases_Bool (inside p x)) [
   | inr out ↦ let off : covers r x ≡ false = grind (arith, nat_tests) in rw (out, off) refl
 ]
 
-pub prepared : (es new : List Held) (e : Held) (r : Extent) (f b from to : ℕ) → Apart 0 (map piece es) → Joins (map piece es) f b from to →
-    from ≤ r.base → end_of r ≤ to → to < 2 ^ 64 → (AreReady (map piece es) r.base r.size → ⊥) →
-    ((x : ℕ) → from ≤ x → x < to → IsTrue (covers r x || is_ready (map piece es) x)) →
+pub prepared : (es new : List Held) (e : Held) (r : Extent) (f b from to : ℕ) → Apart 0 (map stored es)
+    → Joins (map stored es) f b from to →
+    from ≤ r.base → end_of r ≤ to → to < 2 ^ 64 → (AreReady (map stored es) r.base r.size → ⊥) →
+    ((x : ℕ) → from ≤ x → x < to → IsTrue (covers r x || is_ready (map stored es) x)) →
     e.base ≡ from → length e.bytes.items ≡ to - from →
-    ((x : ℕ) → from ≤ x → x < to → get_or e.bytes.items (x - from) 0 ≡ byte_of (map piece (take (b - f) (drop f es))) x) →
+    ((x : ℕ) → from ≤ x → x < to → get_or e.bytes.items (x - from) 0 ≡ byte_of (map stored (take (b - f) (drop f es))) x) →
     new ≡ take f es ++ e ∷ drop b es → Prepared es new r
 prepared es new e r f b from to apart joins low high small not_ready ready base len told is =
-    let some : 0 < r.size = some_size (map piece es) r not_ready in
-    let end : past (piece e) ≡ to = omega (arith, base, len, low, high, some) in
-    let at : map piece new ≡ take f (map piece es) ++ piece e ∷ drop b (map piece es) =
-    ap (map piece) is ∙ map-append piece (take f es) (e ∷ drop b es)
-    ∙ rw (take-map piece f es, drop-map piece b es) refl in
-    let part : map piece (take (b - f) (drop f es)) ≡ take (b - f) (drop f (map piece es)) =
-    sym (take-map piece (b - f) (drop f es)) ∙ ap (take (b - f)) (sym (drop-map piece f es)) in
-    let j = joined f 0 b (b - f) (map piece es) (piece e) apart (omega arith) (omega (arith, len, low, high, some))
+    let some : 0 < r.size = some_size (map stored es) r not_ready in
+    let end : past (stored e) ≡ to = omega (arith, base, len, low, high, some) in
+    let at : map stored new ≡ take f (map stored es) ++ stored e ∷ drop b (map stored es) =
+    ap (map stored) is ∙ map-append stored (take f es) (e ∷ drop b es)
+    ∙ rw (take-map stored f es, drop-map stored b es) refl in
+    let part : map stored (take (b - f) (drop f es)) ≡ take (b - f) (drop f (map stored es)) =
+    sym (take-map stored (b - f) (drop f es)) ∙ ap (take (b - f)) (sym (drop-map stored f es)) in
+    let j = joined f 0 b (b - f) (map stored es) (stored e) apart (omega arith) (omega (arith, len, low, high, some))
     (omega (arith, end, small))
     (omega (arith, joins.order))
-    (subst (λ m. Joins (map piece es) f b m (past (piece e))) (sym base) (subst (λ m. Joins (map piece es) f b from m) (sym end) joins))
+    (subst (λ m. Joins (map stored es) f b m (past (stored e))) (sym base) (subst (λ m. Joins (map stored es) f b from m) (sym end) joins))
     (λ x least below. ap (λ m. get_or e.bytes.items (x - m) 0) base
-    ∙ told x (omega (arith, base, least)) (omega (arith, end, below)) ∙ ap (λ (ps : List Piece). byte_of ps x) part) in
+    ∙ told x (omega (arith, base, least)) (omega (arith, end, below)) ∙ ap (λ (ps : List Stored). byte_of ps x) part) in
     record {
       apart = rw at j.apart;
       bytes = λ x. rw at (j.bytes x);
-      ready = λ x. rw at (j.ready x ∙ exact (map piece es) r (piece e) (omega (arith, base, low)) (omega (arith, end, high))
+      ready = λ x. rw at (j.ready x ∙ exact (map stored es) r (stored e) (omega (arith, base, low)) (omega (arith, end, high))
           (λ y least below. ready y (omega (arith, base, least)) (omega (arith, end, below))) x);
     }

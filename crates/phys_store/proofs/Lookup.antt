@@ -1,4 +1,4 @@
--- What lies in one of several pieces that are apart, and what a look-up finds.
+-- What lies in one of several extents that are apart, and what a look-up finds.
 use Rattle.std.proofs.Common.{◌≡◌, ℕ, zero, suc, ◌+◌, ◌-◌, ◌^◌, ◌<◌, ◌≤◌, Bool, true, false, not, cond, ◌||◌, Some, None, List, [], ◌∷◌, length, get_or, map, refl, sym, ◌∙◌, ap, subst, arith, inl, inr, nat_lt}
 use Rattle.std.proofs.lemmas.Bool.{cases_lt, false≢true}
 use Rattle.std.proofs.lemmas.Bool.Decides.{nat_tests}
@@ -8,69 +8,69 @@ use Rattle.std.proofs.lemmas.List.Quantifiers.{position-Some}
 use Rattle.std.proofs.lemmas.Option.{none-some}
 use Rattle.std.specs.List.{position, position_or_len}
 use Rattle.phys_store.specs.declared.extents.Held.{Held}
-use Rattle.phys_store.specs.Bytes.{Piece, past, inside, byte_of, is_ready, AreReady}
-use Rattle.phys_store.specs.Extents.{piece, Apart}
+use Rattle.phys_store.specs.Bytes.{Stored, past, inside, byte_of, is_ready, AreReady}
+use Rattle.phys_store.specs.Extents.{stored, Apart}
 
--- an address in a piece, below it and above it
-pub inside-in : (p : Piece) (x : ℕ) → p.base ≤ x → x < past p → inside p x ≡ true
+-- an address in a extent, below it and above it
+pub inside-in : (p : Stored) (x : ℕ) → p.base ≤ x → x < past p → inside p x ≡ true
 inside-in p x low high = grind (arith, nat_tests)
 
-pub inside-below : (p : Piece) (x : ℕ) → x < p.base → inside p x ≡ false
+pub inside-below : (p : Stored) (x : ℕ) → x < p.base → inside p x ≡ false
 inside-below p x below = grind (arith, nat_tests)
 
-pub inside-above : (p : Piece) (x : ℕ) → past p ≤ x → inside p x ≡ false
+pub inside-above : (p : Stored) (x : ℕ) → past p ≤ x → inside p x ≡ false
 inside-above p x above = grind (arith, nat_tests)
 
-pub inside-low : (p : Piece) (x : ℕ) → inside p x ≡ true → p.base ≤ x
+pub inside-low : (p : Stored) (x : ℕ) → inside p x ≡ true → p.base ≤ x
 inside-low p x lies = grind (arith, nat_tests)
 
-pub inside-high : (p : Piece) (x : ℕ) → inside p x ≡ true → x < past p
+pub inside-high : (p : Stored) (x : ℕ) → inside p x ≡ true → x < past p
 inside-high p x lies = grind (arith, nat_tests)
 
--- nothing is prepared below where the pieces begin
-pub ready-below : (e : ℕ) (ps : List Piece) (x : ℕ) → Apart e ps → x < e → is_ready ps x ≡ false
+-- nothing is prepared below where the extents begin
+pub ready-below : (e : ℕ) (ps : List Stored) (x : ℕ) → Apart e ps → x < e → is_ready ps x ≡ false
 ready-below e [] x apart below = refl
 ready-below e (p ∷ ps) x apart below =
     let low : e ≤ p.base = apart.0 in
     rw (inside-below p x (omega arith)) (ready-below (past p + 1) ps x apart.3 (omega arith))
 
 -- what isn't prepared is 0
-byte_without : (p : Piece) (ps : List Piece) (x : ℕ) (b : Bool) → inside p x ≡ b → (inside p x || is_ready ps x) ≡ false →
+byte_without : (p : Stored) (ps : List Stored) (x : ℕ) (b : Bool) → inside p x ≡ b → (inside p x || is_ready ps x) ≡ false →
     (is_ready ps x ≡ false → byte_of ps x ≡ 0) → byte_of (p ∷ ps) x ≡ 0
 byte_without p ps x true is none rest = absurd (false≢true (sym none ∙ ap (λ b. b || is_ready ps x) is))
 byte_without p ps x false is none rest = rw is (rest (sym (ap (λ b. b || is_ready ps x) is) ∙ none))
 
-pub byte-unready : (ps : List Piece) (x : ℕ) → is_ready ps x ≡ false → byte_of ps x ≡ 0
+pub byte-unready : (ps : List Stored) (x : ℕ) → is_ready ps x ≡ false → byte_of ps x ≡ 0
 byte-unready [] x none = refl
 byte-unready (p ∷ ps) x none = byte_without p ps x (inside p x) refl none (byte-unready ps x)
 
--- each piece begins behind the bound, and ends in the address space
-pub at-least : (e : ℕ) (ps : List Piece) (i : ℕ) (p : Piece) → Apart e ps → i < length ps → get_or ps i p ≡ p → e ≤ p.base
+-- each extent begins behind the bound, and ends in the address space
+pub at-least : (e : ℕ) (ps : List Stored) (i : ℕ) (p : Stored) → Apart e ps → i < length ps → get_or ps i p ≡ p → e ≤ p.base
 at-least e [] i p apart count there = absurd (omega arith)
-at-least e (q ∷ ps) zero p apart count there = subst (λ (r : Piece). e ≤ r.base) there apart.0
+at-least e (q ∷ ps) zero p apart count there = subst (λ (r : Stored). e ≤ r.base) there apart.0
 at-least e (q ∷ ps) (suc i) p apart count there =
     let rest = at-least (past q + 1) ps i p apart.3 (omega arith) there in
     let low : e ≤ q.base = apart.0 in
     omega (arith, rest, low)
 
-pub fits : (e : ℕ) (ps : List Piece) (i : ℕ) (p : Piece) → Apart e ps → i < length ps → get_or ps i p ≡ p → past p < 2 ^ 64
+pub fits : (e : ℕ) (ps : List Stored) (i : ℕ) (p : Stored) → Apart e ps → i < length ps → get_or ps i p ≡ p → past p < 2 ^ 64
 fits e [] i p apart count there = absurd (omega arith)
-fits e (q ∷ ps) zero p apart count there = subst (λ (r : Piece). past r < 2 ^ 64) there apart.2
+fits e (q ∷ ps) zero p apart count there = subst (λ (r : Stored). past r < 2 ^ 64) there apart.2
 fits e (q ∷ ps) (suc i) p apart count there = fits (past q + 1) ps i p apart.3 (omega arith) there
 
--- the address behind a piece isn't prepared
-pub unready-past : (e : ℕ) (ps : List Piece) (i : ℕ) (p : Piece) → Apart e ps → i < length ps → get_or ps i p ≡ p →
+-- the address behind a extent isn't prepared
+pub unready-past : (e : ℕ) (ps : List Stored) (i : ℕ) (p : Stored) → Apart e ps → i < length ps → get_or ps i p ≡ p →
     is_ready ps (past p) ≡ false
 unready-past e [] i p apart count there = absurd (omega arith)
 unready-past e (q ∷ ps) zero p apart count there =
-    subst (λ (r : Piece). is_ready (q ∷ ps) (past r) ≡ false) there
+    subst (λ (r : Stored). is_ready (q ∷ ps) (past r) ≡ false) there
     (rw (inside-above q (past q) (omega arith)) (ready-below (past q + 1) ps (past q) apart.3 (omega arith)))
 unready-past e (q ∷ ps) (suc i) p apart count there =
     let low = at-least (past q + 1) ps i p apart.3 (omega arith) there in
     rw (inside-above q (past p) (omega (arith, low))) (unready-past (past q + 1) ps i p apart.3 (omega arith) there)
 
--- a prepared range that begins in a piece lies in it as a whole
-pub whole : (e : ℕ) (ps : List Piece) (i : ℕ) (p : Piece) (a n : ℕ) → Apart e ps → i < length ps → get_or ps i p ≡ p →
+-- a prepared range that begins in a extent lies in it as a whole
+pub whole : (e : ℕ) (ps : List Stored) (i : ℕ) (p : Stored) (a n : ℕ) → Apart e ps → i < length ps → get_or ps i p ≡ p →
     p.base ≤ a → a < past p → AreReady ps a n → a + n ≤ past p
 whole e ps i p a n apart count there low high ready =
     elim (cases_lt (past p) (a + n)) [
@@ -78,74 +78,74 @@ whole e ps i p a n apart count there low high ready =
       | inr ends ↦ ends
     ]
 
--- the byte at an address of a piece is that of the piece, whichever it is, and it is prepared
-pub byte-at : (e : ℕ) (ps : List Piece) (i : ℕ) (p : Piece) (x : ℕ) → Apart e ps → i < length ps → get_or ps i p ≡ p →
+-- the byte at an address of a extent is that of the extent, whichever it is, and it is prepared
+pub byte-at : (e : ℕ) (ps : List Stored) (i : ℕ) (p : Stored) (x : ℕ) → Apart e ps → i < length ps → get_or ps i p ≡ p →
     p.base ≤ x → x < past p → byte_of ps x ≡ get_or p.bytes (x - p.base) 0
 byte-at e [] i p x apart count there low high = absurd (omega arith)
 byte-at e (q ∷ ps) zero p x apart count there low high =
-    subst (λ (r : Piece). byte_of (r ∷ ps) x ≡ get_or p.bytes (x - p.base) 0) (sym there) (rw (inside-in p x low high) refl)
+    subst (λ (r : Stored). byte_of (r ∷ ps) x ≡ get_or p.bytes (x - p.base) 0) (sym there) (rw (inside-in p x low high) refl)
 byte-at e (q ∷ ps) (suc i) p x apart count there low high =
     let base = at-least (past q + 1) ps i p apart.3 (omega arith) there in
     rw (inside-above q x (omega (arith, base))) (byte-at (past q + 1) ps i p x apart.3 (omega arith) there low high)
 
-pub ready-at : (e : ℕ) (ps : List Piece) (i : ℕ) (p : Piece) (x : ℕ) → Apart e ps → i < length ps → get_or ps i p ≡ p →
+pub ready-at : (e : ℕ) (ps : List Stored) (i : ℕ) (p : Stored) (x : ℕ) → Apart e ps → i < length ps → get_or ps i p ≡ p →
     p.base ≤ x → x < past p → is_ready ps x ≡ true
 ready-at e [] i p x apart count there low high = absurd (omega arith)
 ready-at e (q ∷ ps) zero p x apart count there low high =
-    subst (λ (r : Piece). is_ready (r ∷ ps) x ≡ true) (sym there) (rw (inside-in p x low high) refl)
+    subst (λ (r : Stored). is_ready (r ∷ ps) x ≡ true) (sym there) (rw (inside-in p x low high) refl)
 ready-at e (q ∷ ps) (suc i) p x apart count there low high =
     let base = at-least (past q + 1) ps i p apart.3 (omega arith) there in
     rw (inside-above q x (omega (arith, base))) (ready-at (past q + 1) ps i p x apart.3 (omega arith) there low high)
 
 -- the i-th extent holds the n bytes from a on
 pub record Holds (es : List Held) (a n i : ℕ) (e : Held) : Type 0 where
-  pub count : i < length (map piece es)
-  pub there : get_or (map piece es) i (piece e) ≡ piece e
+  pub count : i < length (map stored es)
+  pub there : get_or (map stored es) i (stored e) ≡ stored e
   pub low : e.base ≤ a
   pub inner : a < e.base + length e.bytes.items
   pub high : a + n ≤ e.base + length e.bytes.items
   pub small : e.base + length e.bytes.items < 2 ^ 64
 
 -- what the look-up finds holds the whole of a prepared range
-pub holds : (es : List Held) (a n i : ℕ) (e : Held) → Apart 0 (map piece es) → AreReady (map piece es) a n →
-    position (λ d. inside (piece d) a) es ≡ Some i → e ≡ get_or es i e → Holds es a n i e
+pub holds : (es : List Held) (a n i : ℕ) (e : Held) → Apart 0 (map stored es) → AreReady (map stored es) a n →
+    position (λ d. inside (stored d) a) es ≡ Some i → e ≡ get_or es i e → Holds es a n i e
 holds es a n i e apart ready found is =
-    let at = position-Some (λ d. inside (piece d) a) es i e found in
-    let count : i < length (map piece es) = rw length-map at.0 in
-    let there : get_or (map piece es) i (piece e) ≡ piece e = get_or-map piece es i e (piece e) at.0 ∙ ap piece (sym is) in
-    let lies : inside (piece e) a ≡ true = rw (← is) at at.1 in
-    let low = inside-low (piece e) a lies in
-    let high = inside-high (piece e) a lies in
+    let at = position-Some (λ d. inside (stored d) a) es i e found in
+    let count : i < length (map stored es) = rw length-map at.0 in
+    let there : get_or (map stored es) i (stored e) ≡ stored e = get_or-map stored es i e (stored e) at.0 ∙ ap stored (sym is) in
+    let lies : inside (stored e) a ≡ true = rw (← is) at at.1 in
+    let low = inside-low (stored e) a lies in
+    let high = inside-high (stored e) a lies in
     record {
       count = count;
       there = there;
       low = low;
       inner = high;
-      high = whole 0 (map piece es) i (piece e) a n apart count there low high ready;
-      small = fits 0 (map piece es) i (piece e) apart count there;
+      high = whole 0 (map stored es) i (stored e) a n apart count there low high ready;
+      small = fits 0 (map stored es) i (stored e) apart count there;
     }
 
 -- the same of one byte, prepared or not
-pub holds_one : (es : List Held) (a i : ℕ) (e : Held) → Apart 0 (map piece es) →
-    position (λ d. inside (piece d) a) es ≡ Some i → e ≡ get_or es i e → Holds es a 0 i e
+pub holds_one : (es : List Held) (a i : ℕ) (e : Held) → Apart 0 (map stored es) →
+    position (λ d. inside (stored d) a) es ≡ Some i → e ≡ get_or es i e → Holds es a 0 i e
 holds_one es a i e apart found is = holds es a 0 i e apart (λ x low high. absurd (omega arith)) found is
 
 -- where no extent has the address it isn't prepared
-none_at : (e : Held) (es : List Held) (x : ℕ) (b : Bool) → inside (piece e) x ≡ b →
-    cond (not (inside (piece e) x)) (1 + position_or_len (λ d. inside (piece d) x) es) 0 ≡ length (e ∷ es) →
-    (position_or_len (λ d. inside (piece d) x) es ≡ length es → is_ready (map piece es) x ≡ false) →
-    is_ready (map piece (e ∷ es)) x ≡ false
+none_at : (e : Held) (es : List Held) (x : ℕ) (b : Bool) → inside (stored e) x ≡ b →
+    cond (not (inside (stored e) x)) (1 + position_or_len (λ d. inside (stored d) x) es) 0 ≡ length (e ∷ es) →
+    (position_or_len (λ d. inside (stored d) x) es ≡ length es → is_ready (map stored es) x ≡ false) →
+    is_ready (map stored (e ∷ es)) x ≡ false
 none_at e es x true is all rest =
-    let zero_is : 0 ≡ suc (length es) = sym (ap (λ b. cond (not b) (1 + position_or_len (λ d. inside (piece d) x) es) 0) is) ∙ all in
+    let zero_is : 0 ≡ suc (length es) = sym (ap (λ b. cond (not b) (1 + position_or_len (λ d. inside (stored d) x) es) 0) is) ∙ all in
     absurd (omega arith)
 none_at e es x false is all rest =
-    let more : 1 + position_or_len (λ d. inside (piece d) x) es ≡ suc (length es) =
-    sym (ap (λ b. cond (not b) (1 + position_or_len (λ d. inside (piece d) x) es) 0) is) ∙ all in
+    let more : 1 + position_or_len (λ d. inside (stored d) x) es ≡ suc (length es) =
+    sym (ap (λ b. cond (not b) (1 + position_or_len (λ d. inside (stored d) x) es) 0) is) ∙ all in
     rw is (rest (omega arith))
 
-none_passes : (es : List Held) (x : ℕ) → position_or_len (λ d. inside (piece d) x) es ≡ length es → is_ready (map piece es) x ≡ false
+none_passes : (es : List Held) (x : ℕ) → position_or_len (λ d. inside (stored d) x) es ≡ length es → is_ready (map stored es) x ≡ false
 none_passes [] x all = refl
-none_passes (e ∷ es) x all = none_at e es x (inside (piece e) x) refl all (none_passes es x)
+none_passes (e ∷ es) x all = none_at e es x (inside (stored e) x) refl all (none_passes es x)
 
 none_cond : (m n : ℕ) → m ≤ n → cond (nat_lt m n) (Some m) None ≡ None → m ≡ n
 none_cond m n most none =
@@ -156,27 +156,27 @@ none_cond m n most none =
     ]
 
 -- where the look-up finds nothing the address isn't prepared
-pub none-found : (es : List Held) (x : ℕ) → position (λ d. inside (piece d) x) es ≡ None → is_ready (map piece es) x ≡ false
+pub none-found : (es : List Held) (x : ℕ) → position (λ d. inside (stored d) x) es ≡ None → is_ready (map stored es) x ≡ false
 none-found es x none =
-    none_passes es x (none_cond _ _ (prefix_len-le-length (λ d. not (inside (piece d) x)) es) none)
+    none_passes es x (none_cond _ _ (prefix_len-le-length (λ d. not (inside (stored d) x)) es) none)
 
 -- so a prepared range that begins there is empty
-pub none_ready : (es : List Held) (a n : ℕ) → position (λ d. inside (piece d) a) es ≡ None → AreReady (map piece es) a n → n ≡ 0
+pub none_ready : (es : List Held) (a n : ℕ) → position (λ d. inside (stored d) a) es ≡ None → AreReady (map stored es) a n → n ≡ 0
 none_ready es a zero none ready = refl
 none_ready es a (suc n) none ready =
     absurd (false≢true (sym (none-found es a none) ∙ ready a (omega arith) (omega arith)))
 
 -- what is prepared lies below 2^64 - 1
-small_in : (p : Piece) (ps : List Piece) (x : ℕ) (b : Bool) → inside p x ≡ b → past p < 2 ^ 64 → (inside p x || is_ready ps x) ≡ true →
+small_in : (p : Stored) (ps : List Stored) (x : ℕ) (b : Bool) → inside p x ≡ b → past p < 2 ^ 64 → (inside p x || is_ready ps x) ≡ true →
     (is_ready ps x ≡ true → x + 1 < 2 ^ 64) → x + 1 < 2 ^ 64
 small_in p ps x true is small ready rest = let high = inside-high p x is in omega (arith, high, small)
 small_in p ps x false is small ready rest = rest (sym (ap (λ b. b || is_ready ps x) is) ∙ ready)
 
-ready-small : (e : ℕ) (ps : List Piece) (x : ℕ) → Apart e ps → is_ready ps x ≡ true → x + 1 < 2 ^ 64
+ready-small : (e : ℕ) (ps : List Stored) (x : ℕ) → Apart e ps → is_ready ps x ≡ true → x + 1 < 2 ^ 64
 ready-small e [] x apart ready = absurd (false≢true ready)
 ready-small e (p ∷ ps) x apart ready = small_in p ps x (inside p x) refl apart.2 ready (ready-small (past p + 1) ps x apart.3)
 
-pub prepared-small : (ps : List Piece) (a n : ℕ) → Apart 0 ps → AreReady ps a n → 0 < n → a + n < 2 ^ 64
+pub prepared-small : (ps : List Stored) (a n : ℕ) → Apart 0 ps → AreReady ps a n → 0 < n → a + n < 2 ^ 64
 prepared-small ps a n apart ready some =
     let last = ready-small 0 ps (a + n - 1) apart (ready (a + n - 1) (omega arith) (omega arith)) in
     omega (arith, last)

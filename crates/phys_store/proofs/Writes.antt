@@ -1,4 +1,4 @@
--- A piece gets other bytes: what then is at each address.
+-- A extent gets other bytes: what then is at each address.
 use Rattle.std.proofs.Common.{◌≡◌, ℕ, zero, suc, ◌+◌, ◌-◌, ◌^◌, ◌<◌, ◌≤◌, false, ◌||◌, List, [], ◌∷◌, length, get_or, set, map, refl, sym, ◌∙◌, ap, subst, arith, rules, length-set, take, drop, replicate, nat_lt, nat_le, IsTrue, inl, inr}
 use Rattle.std.proofs.lemmas.Bool.{cases_lt, cases_Bool}
 use Rattle.std.proofs.lemmas.Bool.Decides.{nat_tests}
@@ -6,46 +6,46 @@ use Rattle.std.proofs.lemmas.List.{get_or-set_same, get_or-replicate, length-rep
 use Rattle.std.specs.Vec.{with_items}
 use Rattle.std.specs.List.{CopiedTo, SameBelow, SameFrom}
 use borrow.Rule.Slice.PartMut.{put_mid}
-use Rattle.phys_store.specs.Bytes.{Piece, past, inside, byte_of, is_ready, AreReady, Wrote}
+use Rattle.phys_store.specs.Bytes.{Stored, past, inside, byte_of, is_ready, AreReady, Wrote}
 use Rattle.phys_store.specs.declared.extents.Held.{Held}
-use Rattle.phys_store.specs.Extents.{piece, Apart}
+use Rattle.phys_store.specs.Extents.{stored, Apart}
 use Rattle.phys_store.proofs.Lookup.{Holds, inside-low, inside-high, byte-at}
 
--- another piece of the same place and length
-module _ (p q : Piece) (base : q.base ≡ p.base) (len : length q.bytes ≡ length p.bytes) where
+-- another extent of the same place and length
+module _ (p q : Stored) (base : q.base ≡ p.base) (len : length q.bytes ≡ length p.bytes) where
   same_inside : (x : ℕ) → inside q x ≡ inside p x
   same_inside x = rw (base, len) refl
 
   same_past : past q ≡ past p
   same_past = omega (arith, base, len)
 
-  pub apart-set : (e : ℕ) (ps : List Piece) (i : ℕ) → Apart e ps → get_or ps i p ≡ p → Apart e (set ps i q)
+  pub apart-set : (e : ℕ) (ps : List Stored) (i : ℕ) → Apart e ps → get_or ps i p ≡ p → Apart e (set ps i q)
   apart-set e [] i apart there = tt
   apart-set e (r ∷ ps) zero apart there =
-      let low : e ≤ p.base = subst (λ (s : Piece). e ≤ s.base) there apart.0 in
-      let some : 0 < length p.bytes = subst (λ (s : Piece). 0 < length s.bytes) there apart.1 in
-      let small : past p < 2 ^ 64 = subst (λ (s : Piece). past s < 2 ^ 64) there apart.2 in (
+      let low : e ≤ p.base = subst (λ (s : Stored). e ≤ s.base) there apart.0 in
+      let some : 0 < length p.bytes = subst (λ (s : Stored). 0 < length s.bytes) there apart.1 in
+      let small : past p < 2 ^ 64 = subst (λ (s : Stored). past s < 2 ^ 64) there apart.2 in (
         omega (arith, low, base),
         omega (arith, some, len),
         omega (arith, small, base, len),
-        subst (λ m. Apart (m + 1) ps) (sym same_past) (subst (λ (s : Piece). Apart (past s + 1) ps) there apart.3),
+        subst (λ m. Apart (m + 1) ps) (sym same_past) (subst (λ (s : Stored). Apart (past s + 1) ps) there apart.3),
       )
   apart-set e (r ∷ ps) (suc i) apart there = (apart.0, apart.1, apart.2, apart-set (past r + 1) ps i apart.3 there)
 
-  pub ready-set : (ps : List Piece) (i : ℕ) (x : ℕ) → get_or ps i p ≡ p → is_ready (set ps i q) x ≡ is_ready ps x
+  pub ready-set : (ps : List Stored) (i : ℕ) (x : ℕ) → get_or ps i p ≡ p → is_ready (set ps i q) x ≡ is_ready ps x
   ready-set [] i x there = refl
-  ready-set (r ∷ ps) zero x there = ap (λ b. b || is_ready ps x) (same_inside x ∙ ap (λ (s : Piece). inside s x) (sym there))
+  ready-set (r ∷ ps) zero x there = ap (λ b. b || is_ready ps x) (same_inside x ∙ ap (λ (s : Stored). inside s x) (sym there))
   ready-set (r ∷ ps) (suc i) x there = ap (λ b. inside r x || b) (ready-set ps i x there)
 
-  pub byte-set_other : (ps : List Piece) (i : ℕ) (x : ℕ) → get_or ps i p ≡ p → inside p x ≡ false → byte_of (set ps i q) x ≡ byte_of ps x
+  pub byte-set_other : (ps : List Stored) (i : ℕ) (x : ℕ) → get_or ps i p ≡ p → inside p x ≡ false → byte_of (set ps i q) x ≡ byte_of ps x
   byte-set_other [] i x there out = refl
   byte-set_other (r ∷ ps) zero x there out =
-      let old : inside r x ≡ false = ap (λ (s : Piece). inside s x) there ∙ out in
+      let old : inside r x ≡ false = ap (λ (s : Stored). inside s x) there ∙ out in
       rw (same_inside x, out, old) refl
   byte-set_other (r ∷ ps) (suc i) x there out = rw (byte-set_other ps i x there out) refl
 
--- the i-th piece gets bytes that are those of `g` in a part, and the old ones elsewhere
-pub wrote-set : (ps : List Piece) (i : ℕ) (p q : Piece) (a n : ℕ) (g : ℕ → ℕ) → Apart 0 ps → i < length ps → get_or ps i p ≡ p →
+-- the i-th extent gets bytes that are those of `g` in a part, and the old ones elsewhere
+pub wrote-set : (ps : List Stored) (i : ℕ) (p q : Stored) (a n : ℕ) (g : ℕ → ℕ) → Apart 0 ps → i < length ps → get_or ps i p ≡ p →
     q.base ≡ p.base → length q.bytes ≡ length p.bytes → p.base ≤ a → a + n ≤ past p →
     ((k : ℕ) → k < n → get_or q.bytes (a - p.base + k) 0 ≡ g k) →
     ((j : ℕ) → IsTrue (nat_lt j (a - p.base) || nat_le (a - p.base + n) j) → get_or q.bytes j 0 ≡ get_or p.bytes j 0) →
@@ -81,18 +81,19 @@ pub mid-out : (k m : ℕ) (xs ys : List ℕ) (j : ℕ) → length ys ≡ m → k
 mid-out k m xs ys j len within off = grind (arith, places, nat_tests)
 
 -- the extent that holds a range gets other bytes there
-pub wrote-mid : (es : List Held) (a n i : ℕ) (e : Held) (g : ℕ → ℕ) (k m : ℕ) (xs ys : List ℕ) → Apart 0 (map piece es) → Holds es a n i e →
+pub wrote-mid : (es : List Held) (a n i : ℕ) (e : Held) (g : ℕ → ℕ) (k m : ℕ) (xs ys : List ℕ) → Apart 0 (map stored es)
+    → Holds es a n i e →
     k ≡ a - e.base → m ≡ n → xs ≡ e.bytes.items → length ys ≡ n → ((j : ℕ) → j < n → get_or ys j 0 ≡ g j) →
     let new = set es i (record { base = e.base; bytes = with_items e.bytes (put_mid k m xs ys) }) in
-    Apart 0 (map piece new) × Wrote (map piece es) (map piece new) a n g
+    Apart 0 (map stored new) × Wrote (map stored es) (map stored new) a n g
 wrote-mid es a n i e g k m xs ys apart h at count value len told =
     let d : Held = record { base = e.base; bytes = with_items e.bytes (put_mid k m xs ys) } in
     let long : length xs ≡ length e.bytes.items = ap length value in
     let within : k + m ≤ length xs = omega (arith, long, h.low, h.high) in
     let is : (with_items e.bytes (put_mid k m xs ys)).items ≡ put_mid k m xs ys =
     with_items_is e.bytes (put_mid k m xs ys) (length-mid k m xs ys (len ∙ sym count) within ∙ long ∙ sym e.bytes.ok.0) in
-    rw (map-set piece es i d)
-    (wrote-set (map piece es) i (piece e) (piece d) a n g apart h.count h.there refl
+    rw (map-set stored es i d)
+    (wrote-set (map stored es) i (stored e) (stored d) a n g apart h.count h.there refl
     (ap length is ∙ length-mid k m xs ys (len ∙ sym count) within ∙ long) h.low h.high
     (λ j below. ap (λ (zs : List ℕ). get_or zs (a - e.base + j) 0) is ∙ ap (λ l. get_or (put_mid k m xs ys) (l + j) 0) (sym at)
     ∙ mid-in k m xs ys j (len ∙ sym count) within (omega (arith, below, count)) ∙ told j below)
@@ -100,7 +101,7 @@ wrote-mid es a n i e g k m xs ys apart h at count value len told =
     ∙ mid-out k m xs ys j (len ∙ sym count) within (rw (at, count) off) ∙ ap (λ (zs : List ℕ). get_or zs j 0) value))
 
 -- nothing is written
-pub wrote-none : (ps : List Piece) (a n : ℕ) (g : ℕ → ℕ) → n ≡ 0 → Wrote ps ps a n g
+pub wrote-none : (ps : List Stored) (a n : ℕ) (g : ℕ → ℕ) → n ≡ 0 → Wrote ps ps a n g
 wrote-none ps a n g none = record { within = λ k below. absurd (omega arith); outside = λ x off. refl; ready = λ x. refl }
 
 -- what a part holds once each byte of it is the same
@@ -114,27 +115,27 @@ filled k m xs ys b within is =
     )
 
 -- the extent that holds two ranges gets in the one what stood in the other
-pub wrote-copied : (es : List Held) (a n i : ℕ) (e d : Held) (from to count m : ℕ) → Apart 0 (map piece es) → Holds es a n i e →
+pub wrote-copied : (es : List Held) (a n i : ℕ) (e d : Held) (from to count m : ℕ) → Apart 0 (map stored es) → Holds es a n i e →
     a ≤ from → a ≤ to → from + count ≤ a + n → to + count ≤ a + n → d.base ≡ e.base → length d.bytes.items ≡ length e.bytes.items →
     m ≡ count →
     CopiedTo e.bytes.items d.bytes.items (from - e.base) (to - e.base) m →
     SameBelow e.bytes.items d.bytes.items (to - e.base) → SameFrom e.bytes.items d.bytes.items (to - e.base + m) →
     let new = set es i d in
-    Apart 0 (map piece new) × Wrote (map piece es) (map piece new) to count (λ k. byte_of (map piece es) (from + k))
+    Apart 0 (map stored new) × Wrote (map stored es) (map stored new) to count (λ k. byte_of (map stored es) (from + k))
 wrote-copied es a n i e d from to count m apart h from_low to_low from_high to_high base len at copied below behind =
-    rw (map-set piece es i d)
-    (wrote-set (map piece es) i (piece e) (piece d) to count (λ k. byte_of (map piece es) (from + k)) apart h.count h.there base len
+    rw (map-set stored es i d)
+    (wrote-set (map stored es) i (stored e) (stored d) to count (λ k. byte_of (map stored es) (from + k)) apart h.count h.there base len
     (omega (arith, h.low)) (omega (arith, h.high))
     (λ k less. copied (to - e.base + k) 0 (omega arith) (omega (arith, at))
     ∙ ap (λ j. get_or e.bytes.items j 0) (omega (arith, h.low))
-    ∙ sym (byte-at 0 (map piece es) i (piece e) (from + k) apart h.count h.there (omega (arith, h.low)) (omega (arith, h.high))))
+    ∙ sym (byte-at 0 (map stored es) i (stored e) (from + k) apart h.count h.there (omega (arith, h.low)) (omega (arith, h.high))))
     (λ j off. elim (cases_lt j (to - e.base)) [
       | inl less ↦ below j 0 less
       | inr more ↦ behind j 0 (grind (arith, nat_tests))
     ]))
 
 -- one write behind another is one write
-pub wrote-more : (s t u : List Piece) (a n m : ℕ) (g : ℕ → ℕ) → Wrote s t a n g → Wrote t u (a + n) m (λ k. g (n + k)) →
+pub wrote-more : (s t u : List Stored) (a n m : ℕ) (g : ℕ → ℕ) → Wrote s t a n g → Wrote t u (a + n) m (λ k. g (n + k)) →
     Wrote s u a (n + m) g
 wrote-more s t u a n m g first second = record {
   within = λ k below. elim (cases_lt k n) [
@@ -146,11 +147,11 @@ wrote-more s t u a n m g first second = record {
 }
 
 -- what was prepared before a write is prepared behind it
-pub ready_kept : (s t : List Piece) (a n : ℕ) → ((x : ℕ) → is_ready t x ≡ is_ready s x) → AreReady s a n → AreReady t a n
+pub ready_kept : (s t : List Stored) (a n : ℕ) → ((x : ℕ) → is_ready t x ≡ is_ready s x) → AreReady s a n → AreReady t a n
 ready_kept s t a n same ready = λ x low high. same x ∙ ready x low high
 
 -- a write told by another function that gives the same bytes
-pub wrote-like : (s t : List Piece) (a n m : ℕ) (f g : ℕ → ℕ) → Wrote s t a n f → n ≡ m → ((k : ℕ) → k < m → f k ≡ g k) → Wrote s t a m g
+pub wrote-like : (s t : List Stored) (a n m : ℕ) (f g : ℕ → ℕ) → Wrote s t a n f → n ≡ m → ((k : ℕ) → k < m → f k ≡ g k) → Wrote s t a m g
 wrote-like s t a n m f g w same alike = record {
   within = λ k below. w.within k (omega (arith, same)) ∙ alike k below;
   outside = λ x off. w.outside x (rw same off);
@@ -158,7 +159,7 @@ wrote-like s t a n m f g w same alike = record {
 }
 
 -- the next part of a copy, where what is read lies apart from what is written
-pub copied-more : (s t u : List Piece) (from to count n m : ℕ) → IsTrue (nat_le (from + count) to || nat_le (to + count) from) →
+pub copied-more : (s t u : List Stored) (from to count n m : ℕ) → IsTrue (nat_le (from + count) to || nat_le (to + count) from) →
     n + m ≤ count →
     Wrote s t to n (λ k. byte_of s (from + k)) → Wrote t u (to + n) m (λ k. byte_of t (from + n + k)) →
     Wrote s u to (n + m) (λ k. byte_of s (from + k))

@@ -3,30 +3,30 @@
 use Rattle.std.specs.Prelude.{◌≡◌, ℕ, zero, suc, ◌+◌, ◌-◌, ◌<◌, ◌≤◌, Bool, false, ◌&&◌, ◌||◌, nat_le, nat_lt, if◌then◌else◌, List, [], ◌∷◌, length, slice_index, IsTrue}
 
 -- some consecutive bytes: the address of the first, and what they are
-pub record Piece : Type 0 where
+pub record Stored : Type 0 where
   pub base : ℕ
   pub bytes : List ℕ
 
 -- the address behind the last byte
-abbrev pub past : Piece → ℕ
+abbrev pub past : Stored → ℕ
 past p = p.base + length p.bytes
 
--- whether the address lies in the piece
-abbrev pub inside : Piece → ℕ → Bool
+-- whether the address lies in the extent
+abbrev pub inside : Stored → ℕ → Bool
 inside p x = nat_le p.base x && nat_lt x (past p)
 
--- the byte at an address: that of the first piece that it lies in, and 0 where it lies in none
-abbrev pub byte_of : List Piece → ℕ → ℕ
+-- the byte at an address: that of the first extent that it lies in, and 0 where it lies in none
+abbrev pub byte_of : List Stored → ℕ → ℕ
 byte_of [] x = 0
 byte_of (p ∷ ps) x = if inside p x then slice_index p.bytes (x - p.base) else byte_of ps x
 
--- whether the address is prepared: it lies in some piece
-abbrev pub is_ready : List Piece → ℕ → Bool
+-- whether the address is prepared: it lies in some extent
+abbrev pub is_ready : List Stored → ℕ → Bool
 is_ready [] x = false
 is_ready (p ∷ ps) x = inside p x || is_ready ps x
 
 -- each of the n addresses from a on is prepared
-abbrev pub AreReady : List Piece → ℕ → ℕ → Type 0
+abbrev pub AreReady : List Stored → ℕ → ℕ → Type 0
 AreReady ps a n = (x : ℕ) → a ≤ x → x < a + n → IsTrue (is_ready ps x)
 
 -- the n bytes from a on that a function gives at each address
@@ -35,7 +35,7 @@ bytes_at f a zero = []
 bytes_at f a (suc n) = f a ∷ bytes_at f (a + 1) n
 
 -- after a write the k-th of the n bytes from a on is `g k`, every other byte is what it was, and the same addresses are prepared
-pub record Wrote (old new : List Piece) (a n : ℕ) (g : ℕ → ℕ) : Type 0 where
+pub record Wrote (old new : List Stored) (a n : ℕ) (g : ℕ → ℕ) : Type 0 where
   pub within : (k : ℕ) → k < n → byte_of new (a + k) ≡ g k
   pub outside : (x : ℕ) → IsTrue (nat_lt x a || nat_le (a + n) x) → byte_of new x ≡ byte_of old x
   pub ready : (x : ℕ) → is_ready new x ≡ is_ready old x

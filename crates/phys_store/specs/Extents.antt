@@ -2,23 +2,23 @@
 -- lies in one of them.
 use Rattle.std.specs.Prelude.{ℕ, ◌+◌, ◌^◌, ◌<◌, ◌≤◌, List, [], ◌∷◌, length, slice_index_or}
 use Rattle.phys_store.specs.declared.extents.Held.{Held}
-use Rattle.phys_store.specs.Bytes.{Piece, past}
+use Rattle.phys_store.specs.Bytes.{Stored, past}
 
 -- an extent, as contracts see it
-abbrev pub piece : Held → Piece
-piece e = record { base = e.base; bytes = e.bytes.items }
+abbrev pub stored : Held → Stored
+stored e = record { base = e.base; bytes = e.bytes.items }
 
--- the pieces ascend from e on, none is empty, none touches the next, and none passes 2^64 - 1
-abbrev pub Apart : ℕ → List Piece → Type 0
+-- the extents ascend from e on, none is empty, none touches the next, and none passes 2^64 - 1
+abbrev pub Apart : ℕ → List Stored → Type 0
 Apart e [] = Unit {0}
 Apart e (p ∷ ps) = (e ≤ p.base) × (0 < length p.bytes) × (p.base + length p.bytes < 2 ^ 64) × Apart (past p + 1) ps
 
--- the i-th piece
-abbrev pub nth : List Piece → ℕ → Piece
+-- the i-th extent
+abbrev pub nth : List Stored → ℕ → Stored
 nth ps i = slice_index_or ps i (record { base = 0; bytes = [] })
 
--- the pieces from the index `first` up to `behind` are those that the addresses from `from` up to `to` meet or touch
-pub record Joins (ps : List Piece) (first behind from to : ℕ) : Type 0 where
+-- the extents from the index `first` up to `behind` are those that the addresses from `from` up to `to` meet or touch
+pub record Joins (ps : List Stored) (first behind from to : ℕ) : Type 0 where
   pub order : first ≤ behind
   pub most : behind ≤ length ps
   pub below : (i : ℕ) → i < first → past (nth ps i) < from

@@ -3,7 +3,7 @@
 //! extents being apart, so no call goes from one extent to the next.
 ghost use Rattle.std.specs.Prelude.{◌≡◌, ℕ, ◌+◌, ◌-◌, ◌^◌, ◌<◌, ◌≤◌, ◌↔◌, Bool, true, ◌||◌, nat_le, min, max, map, length, slice_index, position, IsTrue};
 ghost use Rattle.phys_store.specs.Bytes.{inside, byte_of, AreReady, Wrote, bytes_at};
-ghost use Rattle.phys_store.specs.Extents.{piece, Apart};
+ghost use Rattle.phys_store.specs.Extents.{stored, Apart};
 
 use bm_base::Range;
 
@@ -17,15 +17,15 @@ pub struct Held {
 
 /// The index of the extent in which the address lies.
 fn place_of(extents: &[Held], address: u64) -> Option<usize>
-    ensures { result ≡ position (λ e. inside (piece e) address) extents.now }
+    ensures { result ≡ position (λ e. inside (stored e) address) extents.now }
 {
     extents.iter().position(|e| e.base <= address && address - e.base < e.bytes.len() as u64)
 }
 
 /// Whether each address of the range is prepared.
 pub fn are_ready(extents: &[Held], range: Range) -> bool
-    requires { Apart 0 (map piece extents.now) }
-    ensures { IsTrue result ↔ AreReady (map piece extents.now) range.base range.size }
+    requires { Apart 0 (map stored extents.now) }
+    ensures { IsTrue result ↔ AreReady (map stored extents.now) range.base range.size }
 {
     if range.size == 0 {
         return true;
@@ -41,8 +41,8 @@ pub fn are_ready(extents: &[Held], range: Range) -> bool
 
 /// The byte at the address; 0 where it isn't prepared.
 pub fn byte_at(extents: &[Held], address: u64) -> u8
-    requires { Apart 0 (map piece extents.now) }
-    ensures { result ≡ byte_of (map piece extents.now) address }
+    requires { Apart 0 (map stored extents.now) }
+    ensures { result ≡ byte_of (map stored extents.now) address }
 {
     match place_of(extents, address) {
         Some(i) => {
@@ -55,9 +55,9 @@ pub fn byte_at(extents: &[Held], address: u64) -> u8
 
 /// The bytes of a prepared range, in place.
 pub fn slice(extents: &[Held], at: u64, count: u64) -> &[u8]
-    requires apart { Apart 0 (map piece extents.now) }
-    requires prepared { AreReady (map piece extents.now) at count }
-    ensures { result.now ≡ bytes_at (byte_of (map piece extents.now)) at count }
+    requires apart { Apart 0 (map stored extents.now) }
+    requires prepared { AreReady (map stored extents.now) at count }
+    ensures { result.now ≡ bytes_at (byte_of (map stored extents.now)) at count }
 {
     match place_of(extents, at) {
         Some(i) => {
@@ -71,10 +71,10 @@ pub fn slice(extents: &[Held], at: u64, count: u64) -> &[u8]
 
 /// The bytes are written at the address.
 pub fn write(extents: &mut [Held], at: u64, bytes: &[u8])
-    requires apart { Apart 0 (map piece extents.old) }
-    requires prepared { AreReady (map piece extents.old) at (length bytes.now) }
-    ensures apart { Apart 0 (map piece extents.new) }
-    ensures wrote { Wrote (map piece extents.old) (map piece extents.new) at (length bytes.now) (slice_index bytes.now) }
+    requires apart { Apart 0 (map stored extents.old) }
+    requires prepared { AreReady (map stored extents.old) at (length bytes.now) }
+    ensures apart { Apart 0 (map stored extents.new) }
+    ensures wrote { Wrote (map stored extents.old) (map stored extents.new) at (length bytes.now) (slice_index bytes.now) }
 {
     if let Some(i) = place_of(extents, at) {
         let extent = &mut extents[i];
@@ -85,10 +85,10 @@ pub fn write(extents: &mut [Held], at: u64, bytes: &[u8])
 
 /// Each address of the range gets the byte.
 pub fn fill(extents: &mut [Held], range: Range, byte: u8)
-    requires apart { Apart 0 (map piece extents.old) }
-    requires prepared { AreReady (map piece extents.old) range.base range.size }
-    ensures apart { Apart 0 (map piece extents.new) }
-    ensures wrote { Wrote (map piece extents.old) (map piece extents.new) range.base range.size (λ _. byte) }
+    requires apart { Apart 0 (map stored extents.old) }
+    requires prepared { AreReady (map stored extents.old) range.base range.size }
+    ensures apart { Apart 0 (map stored extents.new) }
+    ensures wrote { Wrote (map stored extents.old) (map stored extents.new) range.base range.size (λ _. byte) }
 {
     if let Some(i) = place_of(extents, range.base) {
         let extent = &mut extents[i];
@@ -100,10 +100,10 @@ pub fn fill(extents: &mut [Held], range: Range, byte: u8)
 /// The `count` bytes from `from` on are written from `to` on as well; the two ranges may overlap, and
 /// all addresses of both and between them are prepared.
 pub fn shift(extents: &mut [Held], from: u64, to: u64, count: u64)
-    requires apart { Apart 0 (map piece extents.old) }
-    requires prepared { AreReady (map piece extents.old) (min from to) (max from to - min from to + count) }
-    ensures apart { Apart 0 (map piece extents.new) }
-    ensures wrote { Wrote (map piece extents.old) (map piece extents.new) to count (λ k. byte_of (map piece extents.old) (from + k)) }
+    requires apart { Apart 0 (map stored extents.old) }
+    requires prepared { AreReady (map stored extents.old) (min from to) (max from to - min from to + count) }
+    ensures apart { Apart 0 (map stored extents.new) }
+    ensures wrote { Wrote (map stored extents.old) (map stored extents.new) to count (λ k. byte_of (map stored extents.old) (from + k)) }
 {
     if let Some(i) = place_of(extents, from.min(to)) {
         let extent = &mut extents[i];
@@ -121,12 +121,12 @@ const CHUNK: usize = 256;
 /// The `count` bytes from `from` on are written from `to` on as well, where the two ranges have no
 /// address in common. Both are prepared.
 pub fn copy(extents: &mut [Held], from: u64, to: u64, count: u64)
-    requires apart { Apart 0 (map piece extents.old) }
-    requires read { AreReady (map piece extents.old) from count }
-    requires written { AreReady (map piece extents.old) to count }
+    requires apart { Apart 0 (map stored extents.old) }
+    requires read { AreReady (map stored extents.old) from count }
+    requires written { AreReady (map stored extents.old) to count }
     requires disjoint { IsTrue (nat_le (from + count) to || nat_le (to + count) from) }
-    ensures apart { Apart 0 (map piece extents.new) }
-    ensures wrote { Wrote (map piece extents.old) (map piece extents.new) to count (λ k. byte_of (map piece extents.old) (from + k)) }
+    ensures apart { Apart 0 (map stored extents.new) }
+    ensures wrote { Wrote (map stored extents.old) (map stored extents.new) to count (λ k. byte_of (map stored extents.old) (from + k)) }
 {
     let mut chunk = [0; CHUNK];
     let mut done = 0;
@@ -141,9 +141,9 @@ pub fn copy(extents: &mut [Held], from: u64, to: u64, count: u64)
 
 /// Reads the bytes from the address on; what isn't prepared is 0.
 pub fn read(extents: &[Held], at: u64, into: &mut [u8])
-    requires apart { Apart 0 (map piece extents.now) }
+    requires apart { Apart 0 (map stored extents.now) }
     requires small { at + length into.old < 2 ^ 64 }
-    ensures { into.new ≡ bytes_at (byte_of (map piece extents.now)) at (length into.old) }
+    ensures { into.new ≡ bytes_at (byte_of (map stored extents.now)) at (length into.old) }
 {
     let count = into.len() as u64;
     if are_ready(

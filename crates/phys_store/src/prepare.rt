@@ -3,7 +3,7 @@
 ghost use Rattle.std.specs.Prelude.{◌≡◌, ℕ, ◌+◌, ◌-◌, ◌^◌, ◌<◌, ◌≤◌, ◌||◌, IsTrue, ◌++◌, ◌∷◌, take, drop, map, length, slice_index, IfOk, OnOk, OnErr};
 ghost use Rattle.bm_base.specs.Extent.{end_of, covers};
 ghost use Rattle.phys_store.specs.Bytes.{past, byte_of, is_ready};
-ghost use Rattle.phys_store.specs.Extents.{piece, nth, Apart, Joins};
+ghost use Rattle.phys_store.specs.Extents.{stored, nth, Apart, Joins};
 
 use crate::extents::{Held, are_ready};
 use bm_base::{Memory, Range};
@@ -20,18 +20,18 @@ struct Reach {
 
 /// The address behind the extent's last byte.
 fn end_of(extent: &Held) -> u64
-    requires { past (piece extent.now) < 2 ^ 64 }
-    ensures { result ≡ past (piece extent.now) }
+    requires { past (stored extent.now) < 2 ^ 64 }
+    ensures { result ≡ past (stored extent.now) }
 {
     extent.base + extent.bytes.len() as u64
 }
 
 /// The index of the first extent that ends at the address or behind it.
 fn first_reaching(extents: &[Held], address: u64) -> usize
-    requires { Apart 0 (map piece extents.now) }
+    requires { Apart 0 (map stored extents.now) }
     ensures most { result ≤ length extents.now }
-    ensures below { (i : ℕ) → i < result → past (nth (map piece extents.now) i) < address }
-    ensures reaches { result < length extents.now → address ≤ past (nth (map piece extents.now) result) }
+    ensures below { (i : ℕ) → i < result → past (nth (map stored extents.now) i) < address }
+    ensures reaches { result < length extents.now → address ≤ past (nth (map stored extents.now) result) }
 {
     let mut first = 0;
     while first < extents.len() && end_of(&extents[first]) < address {
@@ -42,12 +42,12 @@ fn first_reaching(extents: &[Held], address: u64) -> usize
 
 /// The range, and each extent that it meets or touches, as one.
 fn hull(extents: &[Held], range: Range) -> Reach
-    requires { Apart 0 (map piece extents.now) }
-    ensures joins { Joins (map piece extents.now) result.first result.behind result.low result.high }
+    requires { Apart 0 (map stored extents.now) }
+    ensures joins { Joins (map stored extents.now) result.first result.behind result.low result.high }
     ensures low { result.low ≤ range.base }
     ensures high { end_of range ≤ result.high }
     ensures small { result.high < 2 ^ 64 }
-    ensures ready { (x : ℕ) → result.low ≤ x → x < result.high → IsTrue (covers range x || is_ready (map piece extents.now) x) }
+    ensures ready { (x : ℕ) → result.low ≤ x → x < result.high → IsTrue (covers range x || is_ready (map stored extents.now) x) }
 {
     let first = first_reaching(extents, range.base);
     let mut behind = first;
@@ -70,11 +70,11 @@ fn hull(extents: &[Held], range: Range) -> Reach
 /// The bytes from `low` up to `high`: those of the extents, and 0 between them.
 fn gathered(alloc: Global, extents: &[Held], low: u64, high: u64) -> Result<Vec<u8>, Memory>
     requires order { low ≤ high }
-    requires within_low { (i : ℕ) → i < length extents.now → low ≤ (nth (map piece extents.now) i).base }
-    requires within_high { (i : ℕ) → i < length extents.now → past (nth (map piece extents.now) i) ≤ high }
+    requires within_low { (i : ℕ) → i < length extents.now → low ≤ (nth (map stored extents.now) i).base }
+    requires within_high { (i : ℕ) → i < length extents.now → past (nth (map stored extents.now) i) ≤ high }
     ensures count { IfOk result (λ bytes. length bytes.items ≡ high - low) }
     ensures bytes { IfOk result (λ bytes. (x : ℕ) → low ≤ x → x < high →
-        slice_index bytes.items (x - low) ≡ byte_of (map piece extents.now) x) }
+        slice_index bytes.items (x - low) ≡ byte_of (map stored extents.now) x) }
 {
     let mut bytes = vec![in alloc; 0; (high - low) as usize]?;
     let mut i = extents.len();
@@ -104,11 +104,11 @@ fn replace(extents: &mut Vec<Held>, first: usize, behind: usize, extent: Held) -
 /// Each address of the range is prepared, and what was so stays. All memory is taken before anything
 /// changes.
 pub fn prepare(extents: &mut Vec<Held>, range: Range) -> Result<(), Memory>
-    requires { Apart 0 (map piece extents.old.items) }
-    ensures apart { Apart 0 (map piece extents.new.items) }
-    ensures bytes { (x : ℕ) → byte_of (map piece extents.new.items) x ≡ byte_of (map piece extents.old.items) x }
+    requires { Apart 0 (map stored extents.old.items) }
+    ensures apart { Apart 0 (map stored extents.new.items) }
+    ensures bytes { (x : ℕ) → byte_of (map stored extents.new.items) x ≡ byte_of (map stored extents.old.items) x }
     ensures ready { OnOk result ((x : ℕ) →
-        is_ready (map piece extents.new.items) x ≡ (covers range x || is_ready (map piece extents.old.items) x)) }
+        is_ready (map stored extents.new.items) x ≡ (covers range x || is_ready (map stored extents.old.items) x)) }
     ensures err { OnErr result (extents.new.items ≡ extents.old.items) }
 {
     if are_ready(extents, range) {

@@ -20,15 +20,15 @@ pub struct Store {
 
 impl Model for Store {
     ghost use Rattle.std.specs.Prelude.{List, map};
-    ghost use Rattle.phys_store.specs.Bytes.{Piece};
+    ghost use Rattle.phys_store.specs.Bytes.{Stored};
 
-    ghost Value = { List Piece };
+    ghost Value = { List Stored };
 
-    ghost use Rattle.phys_store.specs.Extents.{piece, Apart};
+    ghost use Rattle.phys_store.specs.Extents.{stored, Apart};
 
-    ghost view = { λ s. map piece s.extents.items };
+    ghost view = { λ s. map stored s.extents.items };
 
-    ghost invariant = { λ s. Apart 0 (map piece s.extents.items) };
+    ghost invariant = { λ s. Apart 0 (map stored s.extents.items) };
 }
 
 impl Store {

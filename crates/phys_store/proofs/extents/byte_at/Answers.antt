@@ -1,6 +1,6 @@
 use Rattle.std.proofs.Common.{◌-◌, ◌<◌, length, map, sym, ◌∙◌, arith}
 use Rattle.std.proofs.lemmas.List.{get_or_read}
-use Rattle.phys_store.specs.Extents.{piece}
+use Rattle.phys_store.specs.Extents.{stored}
 use Rattle.phys_store.proofs.Lookup.{holds_one, byte-at, none-found, byte-unready}
 use Rattle.phys_store.proofs.extents.byte_at.Goals as goal
 
@@ -26,9 +26,9 @@ returns-in-Some c =
     let k = c.args.address - e.base in
     let below : k < length e.bytes.items = omega (arith, h.low, h.inner) in
     get_or_read e.bytes.items k c.index.result.now below c.index.ensures 0
-    ∙ sym (byte-at 0 (map piece c.args.extents.now) c.in-Some.i (piece e) c.args.address c.requires h.count h.there h.low h.inner)
+    ∙ sym (byte-at 0 (map stored c.args.extents.now) c.in-Some.i (stored e) c.args.address c.requires h.count h.there h.low h.inner)
 
 pub returns-in-None : goal.returns-in-None
 returns-in-None c =
     let es = c.args.extents.now in
-    sym (byte-unready (map piece es) c.args.address (none-found es c.args.address (sym c.place_of.ensures ∙ c.in-None.is)))
+    sym (byte-unready (map stored es) c.args.address (none-found es c.args.address (sym c.place_of.ensures ∙ c.in-None.is)))

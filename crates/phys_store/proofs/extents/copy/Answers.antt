@@ -1,7 +1,7 @@
 use Rattle.std.proofs.Common.{◌≡◌, ℕ, ◌+◌, ◌≤◌, List, length, get_or, map, ◌∙◌, ap, arith}
 use Rattle.std.proofs.lemmas.List.{length-take}
 use Rattle.phys_store.specs.Bytes.{byte_of}
-use Rattle.phys_store.specs.Extents.{piece}
+use Rattle.phys_store.specs.Extents.{stored}
 use Rattle.phys_store.proofs.Lookup.{prepared-small}
 use Rattle.phys_store.proofs.ByteLists.{length-bytes_at, get-bytes_at}
 use Rattle.phys_store.proofs.Writes.{wrote-like, copied-more}
@@ -10,14 +10,14 @@ use Rattle.phys_store.proofs.extents.copy.Goals as goal
 pub overflow_add-from : goal.overflow_add-from
 overflow_add-from c =
     let test = c.loop-done-test.true in
-    let small = prepared-small (map piece c.args.extents.now) c.args.from c.args.count c.requires.apart c.requires.read
+    let small = prepared-small (map stored c.args.extents.now) c.args.from c.args.count c.requires.apart c.requires.read
     (omega (arith, test)) in
     omega (arith, test, small)
 
 pub overflow_add-to : goal.overflow_add-to
 overflow_add-to c =
     let test = c.loop-done-test.true in
-    let small = prepared-small (map piece c.args.extents.now) c.args.to c.args.count c.requires.apart c.requires.written
+    let small = prepared-small (map stored c.args.extents.now) c.args.to c.args.count c.requires.apart c.requires.written
     (omega (arith, test)) in
     omega (arith, test, small)
 
@@ -25,7 +25,7 @@ pub copy_from_slice-requires : goal.copy_from_slice-requires
 copy_from_slice-requires c =
     let n = c.min-n.result in
     let part = length-take n c.loop-done.chunk in
-    let long = length-bytes_at (byte_of (map piece c.loop-done.extents)) (c.args.from + c.loop-done.done) n in
+    let long = length-bytes_at (byte_of (map stored c.loop-done.extents)) (c.args.from + c.loop-done.done) n in
     let same : length c.slice.result.now ≡ n = ap length c.slice.ensures ∙ long in
     omega (arith, part, same, c.min-n.array_long, c.min-n.ensures)
 
@@ -33,16 +33,16 @@ pub loop-done-preserved : goal.loop-done-preserved
 loop-done-preserved c =
     let i = c.loop-done.invariant in
     let n = c.min-n.result in
-    let t = map piece c.loop-done.extents in
+    let t = map stored c.loop-done.extents in
     let from = c.args.from + c.loop-done.done in
     let most : c.loop-done.done + n ≤ c.args.count = omega (arith, c.min-n.ensures, c.loop-done-test.true) in
     let is = c.copy_from_slice.ensures.after ∙ c.slice.ensures in
     record {
       most = most;
       apart = c.write.ensures.apart;
-      wrote = copied-more (map piece c.args.extents.now) t (map piece c.write.new.extents) c.args.from c.args.to c.args.count
+      wrote = copied-more (map stored c.args.extents.now) t (map stored c.write.new.extents) c.args.from c.args.to c.args.count
           c.loop-done.done n c.requires.disjoint most i.wrote
-          (wrote-like t (map piece c.write.new.extents) (c.args.to + c.loop-done.done) (length c.copy_from_slice.new.self) n
+          (wrote-like t (map stored c.write.new.extents) (c.args.to + c.loop-done.done) (length c.copy_from_slice.new.self) n
           (λ k. get_or c.copy_from_slice.new.self k 0) (λ k. byte_of t (from + k)) c.write.ensures.wrote
           (ap length is ∙ length-bytes_at (byte_of t) from n)
           (λ k below. ap (λ (bs : List ℕ). get_or bs k 0) is ∙ get-bytes_at (byte_of t) from n k below));

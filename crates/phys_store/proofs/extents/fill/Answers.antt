@@ -3,7 +3,7 @@ use Rattle.std.specs.List.{position}
 use Rattle.bm_base.specs.Extent.{Extent}
 use Rattle.phys_store.specs.declared.extents.Held.{Held}
 use Rattle.phys_store.specs.Bytes.{inside}
-use Rattle.phys_store.specs.Extents.{piece}
+use Rattle.phys_store.specs.Extents.{stored}
 use Rattle.phys_store.proofs.Lookup.{holds, none_ready}
 use Rattle.phys_store.proofs.Writes.{wrote-mid, wrote-none, filled}
 use Rattle.phys_store.proofs.extents.fill.Goals as goal
@@ -14,7 +14,7 @@ overflow_sub-from c =
     let e = get_or es c.in-Some.i c.index-extents-i.result in
     let base : c.range.inside.base ≡ c.args.range.base = ap (λ (r : Extent). r.base) c.range.view_is in
     let size : c.range.inside.size ≡ c.args.range.size = ap (λ (r : Extent). r.size) c.range.view_is in
-    let found = subst (λ a. position (λ d. inside (piece d) a) es ≡ Some c.in-Some.i) base (sym c.place_of.ensures ∙ c.in-Some.is) in
+    let found = subst (λ a. position (λ d. inside (stored d) a) es ≡ Some c.in-Some.i) base (sym c.place_of.ensures ∙ c.in-Some.is) in
     let h = holds es c.args.range.base c.args.range.size c.in-Some.i e c.requires.apart c.requires.prepared
     found (ap (λ (d : Held). get_or es c.in-Some.i d) c.index-extents-i.is) in
     omega (arith, h.low, base)
@@ -25,7 +25,7 @@ slice_bounds-fill-end c =
     let e = get_or es c.in-Some.i c.index-extents-i.result in
     let base : c.range.inside.base ≡ c.args.range.base = ap (λ (r : Extent). r.base) c.range.view_is in
     let size : c.range.inside.size ≡ c.args.range.size = ap (λ (r : Extent). r.size) c.range.view_is in
-    let found = subst (λ a. position (λ d. inside (piece d) a) es ≡ Some c.in-Some.i) base (sym c.place_of.ensures ∙ c.in-Some.is) in
+    let found = subst (λ a. position (λ d. inside (stored d) a) es ≡ Some c.in-Some.i) base (sym c.place_of.ensures ∙ c.in-Some.is) in
     let h = holds es c.args.range.base c.args.range.size c.in-Some.i e c.requires.apart c.requires.prepared
     found (ap (λ (d : Held). get_or es c.in-Some.i d) c.index-extents-i.is) in
     omega (arith, h.low, h.high, base, size, c.deref_mut.ensures.len, e.bytes.ok.0)
@@ -36,7 +36,7 @@ returns-in-Some-clause-apart c =
     let e = get_or es c.in-Some.i c.index-extents-i.result in
     let base : c.range.inside.base ≡ c.args.range.base = ap (λ (r : Extent). r.base) c.range.view_is in
     let size : c.range.inside.size ≡ c.args.range.size = ap (λ (r : Extent). r.size) c.range.view_is in
-    let found = subst (λ a. position (λ d. inside (piece d) a) es ≡ Some c.in-Some.i) base (sym c.place_of.ensures ∙ c.in-Some.is) in
+    let found = subst (λ a. position (λ d. inside (stored d) a) es ≡ Some c.in-Some.i) base (sym c.place_of.ensures ∙ c.in-Some.is) in
     let h = holds es c.args.range.base c.args.range.size c.in-Some.i e c.requires.apart c.requires.prepared
     found (ap (λ (d : Held). get_or es c.in-Some.i d) c.index-extents-i.is) in
     let k = c.range.inside.base - e.base in
@@ -57,7 +57,7 @@ returns-in-Some-clause-wrote c =
     let e = get_or es c.in-Some.i c.index-extents-i.result in
     let base : c.range.inside.base ≡ c.args.range.base = ap (λ (r : Extent). r.base) c.range.view_is in
     let size : c.range.inside.size ≡ c.args.range.size = ap (λ (r : Extent). r.size) c.range.view_is in
-    let found = subst (λ a. position (λ d. inside (piece d) a) es ≡ Some c.in-Some.i) base (sym c.place_of.ensures ∙ c.in-Some.is) in
+    let found = subst (λ a. position (λ d. inside (stored d) a) es ≡ Some c.in-Some.i) base (sym c.place_of.ensures ∙ c.in-Some.is) in
     let h = holds es c.args.range.base c.args.range.size c.in-Some.i e c.requires.apart c.requires.prepared
     found (ap (λ (d : Held). get_or es c.in-Some.i d) c.index-extents-i.is) in
     let k = c.range.inside.base - e.base in
@@ -75,6 +75,6 @@ returns-in-Some-clause-wrote c =
 pub returns-in_default-clause-wrote : goal.returns-in_default-clause-wrote
 returns-in_default-clause-wrote c =
     let base : c.range.inside.base ≡ c.args.range.base = ap (λ (r : Extent). r.base) c.range.view_is in
-    let none = subst (λ a. position (λ d. inside (piece d) a) c.args.extents.now ≡ None) base (sym c.place_of.ensures ∙ c.in_default.is) in
-    wrote-none (map piece c.args.extents.now) c.args.range.base c.args.range.size (λ _. c.args.byte)
+    let none = subst (λ a. position (λ d. inside (stored d) a) c.args.extents.now ≡ None) base (sym c.place_of.ensures ∙ c.in_default.is) in
+    wrote-none (map stored c.args.extents.now) c.args.range.base c.args.range.size (λ _. c.args.byte)
     (none_ready c.args.extents.now c.args.range.base c.args.range.size none c.requires.prepared)

@@ -2,7 +2,7 @@ use Rattle.std.proofs.Common.{◌≡◌, ◌+◌, ◌-◌, min, max, Some, None,
 use Rattle.std.specs.List.{position}
 use Rattle.phys_store.specs.declared.extents.Held.{Held}
 use Rattle.phys_store.specs.Bytes.{inside, byte_of}
-use Rattle.phys_store.specs.Extents.{piece}
+use Rattle.phys_store.specs.Extents.{stored}
 use Rattle.phys_store.proofs.Lookup.{holds, none_ready}
 use Rattle.phys_store.proofs.Writes.{wrote-copied, wrote-none}
 use Rattle.phys_store.proofs.extents.shift.Goals as goal
@@ -13,7 +13,7 @@ overflow_sub-source c =
     let e = get_or es c.in-Some.i c.index-extents-i.result in
     let from = c.args.from in
     let to = c.args.to in
-    let found = subst (λ m. position (λ d. inside (piece d) m) es ≡ Some c.in-Some.i) c.min.ensures
+    let found = subst (λ m. position (λ d. inside (stored d) m) es ≡ Some c.in-Some.i) c.min.ensures
     (sym c.place_of.ensures ∙ c.in-Some.is) in
     let h = holds es (min from to) (max from to - min from to + c.args.count) c.in-Some.i e c.requires.apart c.requires.prepared
     found
@@ -26,7 +26,7 @@ overflow_sub-target c =
     let e = get_or es c.in-Some.i c.index-extents-i.result in
     let from = c.args.from in
     let to = c.args.to in
-    let found = subst (λ m. position (λ d. inside (piece d) m) es ≡ Some c.in-Some.i) c.min.ensures
+    let found = subst (λ m. position (λ d. inside (stored d) m) es ≡ Some c.in-Some.i) c.min.ensures
     (sym c.place_of.ensures ∙ c.in-Some.is) in
     let h = holds es (min from to) (max from to - min from to + c.args.count) c.in-Some.i e c.requires.apart c.requires.prepared
     found
@@ -39,7 +39,7 @@ overflow_add-source c =
     let e = get_or es c.in-Some.i c.index-extents-i.result in
     let from = c.args.from in
     let to = c.args.to in
-    let found = subst (λ m. position (λ d. inside (piece d) m) es ≡ Some c.in-Some.i) c.min.ensures
+    let found = subst (λ m. position (λ d. inside (stored d) m) es ≡ Some c.in-Some.i) c.min.ensures
     (sym c.place_of.ensures ∙ c.in-Some.is) in
     let h = holds es (min from to) (max from to - min from to + c.args.count) c.in-Some.i e c.requires.apart c.requires.prepared
     found
@@ -52,7 +52,7 @@ copy_within-requires-clause-in_bounds c =
     let e = get_or es c.in-Some.i c.index-extents-i.result in
     let from = c.args.from in
     let to = c.args.to in
-    let found = subst (λ m. position (λ d. inside (piece d) m) es ≡ Some c.in-Some.i) c.min.ensures
+    let found = subst (λ m. position (λ d. inside (stored d) m) es ≡ Some c.in-Some.i) c.min.ensures
     (sym c.place_of.ensures ∙ c.in-Some.is) in
     let h = holds es (min from to) (max from to - min from to + c.args.count) c.in-Some.i e c.requires.apart c.requires.prepared
     found
@@ -65,7 +65,7 @@ copy_within-requires-clause-dest_in_bounds c =
     let e = get_or es c.in-Some.i c.index-extents-i.result in
     let from = c.args.from in
     let to = c.args.to in
-    let found = subst (λ m. position (λ d. inside (piece d) m) es ≡ Some c.in-Some.i) c.min.ensures
+    let found = subst (λ m. position (λ d. inside (stored d) m) es ≡ Some c.in-Some.i) c.min.ensures
     (sym c.place_of.ensures ∙ c.in-Some.is) in
     let h = holds es (min from to) (max from to - min from to + c.args.count) c.in-Some.i e c.requires.apart c.requires.prepared
     found
@@ -78,7 +78,7 @@ returns-in-Some-clause-apart c =
     let e = get_or es c.in-Some.i c.index-extents-i.result in
     let from = c.args.from in
     let to = c.args.to in
-    let found = subst (λ m. position (λ d. inside (piece d) m) es ≡ Some c.in-Some.i) c.min.ensures
+    let found = subst (λ m. position (λ d. inside (stored d) m) es ≡ Some c.in-Some.i) c.min.ensures
     (sym c.place_of.ensures ∙ c.in-Some.is) in
     let h = holds es (min from to) (max from to - min from to + c.args.count) c.in-Some.i e c.requires.apart c.requires.prepared
     found
@@ -97,7 +97,7 @@ returns-in-Some-clause-wrote c =
     let e = get_or es c.in-Some.i c.index-extents-i.result in
     let from = c.args.from in
     let to = c.args.to in
-    let found = subst (λ m. position (λ d. inside (piece d) m) es ≡ Some c.in-Some.i) c.min.ensures
+    let found = subst (λ m. position (λ d. inside (stored d) m) es ≡ Some c.in-Some.i) c.min.ensures
     (sym c.place_of.ensures ∙ c.in-Some.is) in
     let h = holds es (min from to) (max from to - min from to + c.args.count) c.in-Some.i e c.requires.apart c.requires.prepared
     found
@@ -115,6 +115,6 @@ returns-in_default-clause-wrote c =
     let from = c.args.from in
     let to = c.args.to in
     let es = c.args.extents.now in
-    let none = subst (λ m. position (λ d. inside (piece d) m) es ≡ None) c.min.ensures (sym c.place_of.ensures ∙ c.in_default.is) in
+    let none = subst (λ m. position (λ d. inside (stored d) m) es ≡ None) c.min.ensures (sym c.place_of.ensures ∙ c.in_default.is) in
     let n = none_ready es (min from to) (max from to - min from to + c.args.count) none c.requires.prepared in
-    wrote-none (map piece es) to c.args.count (λ k. byte_of (map piece es) (from + k)) (omega (arith, n))
+    wrote-none (map stored es) to c.args.count (λ k. byte_of (map stored es) (from + k)) (omega (arith, n))

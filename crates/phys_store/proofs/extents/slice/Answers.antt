@@ -1,7 +1,7 @@
 use Rattle.std.proofs.Common.{◌≡◌, ◌+◌, ◌-◌, length, get_or, take, drop, map, refl, sym, ◌∙◌, ap, arith}
 use Rattle.std.proofs.lemmas.List.{get_or-take, get_or-drop, length-take, length-drop}
 use Rattle.phys_store.specs.Bytes.{byte_of, bytes_at}
-use Rattle.phys_store.specs.Extents.{piece}
+use Rattle.phys_store.specs.Extents.{stored}
 use Rattle.phys_store.proofs.Lookup.{holds, byte-at, none_ready}
 use Rattle.phys_store.proofs.ByteLists.{told_bytes}
 use Rattle.phys_store.proofs.extents.slice.Goals as goal
@@ -34,7 +34,7 @@ returns-in-Some c =
     (sym c.place_of.ensures ∙ c.in-Some.is) c.index-extents-i.is in
     let m = c.args.at - e.base in
     let n = c.args.at - e.base + c.args.count - (c.args.at - e.base) in
-    let ps = map piece c.args.extents.now in
+    let ps = map stored c.args.extents.now in
     let xs = c.deref.result.now in
     let value : xs ≡ e.bytes.items = c.deref.ensures.value in
     let long : length xs ≡ length e.bytes.items = ap length value in
@@ -43,7 +43,7 @@ returns-in-Some c =
     (λ k below.
     get_or-take n (drop m xs) k 0 (omega arith) ∙ get_or-drop m xs k 0 ∙ ap (λ ys. get_or ys (m + k) 0) value
     ∙ ap (λ j. get_or e.bytes.items j 0) (omega (arith, h.low))
-    ∙ sym (byte-at 0 ps c.in-Some.i (piece e) (c.args.at + k) c.requires.apart h.count h.there (omega (arith, h.low))
+    ∙ sym (byte-at 0 ps c.in-Some.i (stored e) (c.args.at + k) c.requires.apart h.count h.there (omega (arith, h.low))
     (omega (arith, h.high))))
 
 pub returns-in-None : goal.returns-in-None

@@ -1,6 +1,6 @@
 use Rattle.std.proofs.Common.{ℕ, ◌+◌, ◌-◌, List, length, get_or, map, refl, sym, ◌∙◌, ap, arith}
 use Rattle.phys_store.specs.declared.extents.Held.{Held}
-use Rattle.phys_store.specs.Extents.{piece}
+use Rattle.phys_store.specs.Extents.{stored}
 use Rattle.phys_store.proofs.Lookup.{holds, none_ready}
 use Rattle.phys_store.proofs.Writes.{wrote-mid, wrote-none}
 use Rattle.phys_store.proofs.extents.write.Goals as goal
@@ -61,4 +61,4 @@ pub returns-in_default-clause-wrote : goal.returns-in_default-clause-wrote
 returns-in_default-clause-wrote c =
     let n = length c.args.bytes.now in
     let none = none_ready c.args.extents.now c.args.at n (sym c.place_of.ensures ∙ c.in_default.is) c.requires.prepared in
-    wrote-none (map piece c.args.extents.now) c.args.at n (λ j. get_or c.args.bytes.now j 0) none
+    wrote-none (map stored c.args.extents.now) c.args.at n (λ j. get_or c.args.bytes.now j 0) none

@@ -2,8 +2,8 @@ use Rattle.std.proofs.Common.{◌≡◌, ◌<◌, ◌≤◌, map, min, max, ap, 
 use Rattle.std.proofs.lemmas.List.{length-map}
 use Rattle.bm_base.specs.Extent.{Extent}
 use Rattle.phys_store.specs.declared.extents.Held.{Held}
-use Rattle.phys_store.specs.Bytes.{Piece, past}
-use Rattle.phys_store.specs.Extents.{piece, nth}
+use Rattle.phys_store.specs.Bytes.{Stored, past}
+use Rattle.phys_store.specs.Extents.{stored, nth}
 use Rattle.phys_store.proofs.Joining.{nth_piece, nth-fits, Hull, hull_more, hull_joins}
 use Rattle.phys_store.proofs.prepare.hull.Goals as goal
 
@@ -12,17 +12,17 @@ end_of-requires c =
     let es = c.args.extents.now in
     let b = c.loop-behind.behind in
     let i = c.loop-behind.invariant in
-    let long = length-map es piece in
+    let long = length-map es stored in
     let is = nth_piece es b c.index-extents-behind-in-loop-behind.result c.loop-behind-test.true c.index-extents-behind-in-loop-behind.is in
-    subst (λ (q : Piece). past q < 2 ^ 64) is (nth-fits (map piece es) b c.requires (omega (arith, long, c.loop-behind-test.true)))
+    subst (λ (q : Stored). past q < 2 ^ 64) is (nth-fits (map stored es) b c.requires (omega (arith, long, c.loop-behind-test.true)))
 
 pub loop-behind-preserved : goal.loop-behind-preserved
 loop-behind-preserved c =
     let es = c.args.extents.now in
     let b = c.loop-behind.behind in
     let i = c.loop-behind.invariant in
-    let long = length-map es piece in
-    let h : Hull (map piece es) c.args.range c.first_reaching-first.result b c.loop-behind.low c.loop-behind.high = record {
+    let long = length-map es stored in
+    let h : Hull (map stored es) c.args.range c.first_reaching-first.result b c.loop-behind.low c.loop-behind.high = record {
       order = i.order;
       most = omega (arith, long, i.most);
       least = i.least;
@@ -37,14 +37,15 @@ loop-behind-preserved c =
     let is = nth_piece es b e c.loop-behind-test.true c.index-extents-behind-in-loop-behind.is in
     let first = nth_piece es b c.index-extents-behind.result c.loop-behind-test.true c.index-extents-behind.is in
     let base : c.range.inside.base ≡ c.args.range.base = ap (λ (r : Extent). r.base) c.range.view_is in
-    let touches : (nth (map piece es) b).base ≤ c.loop-behind.high = rw first
+    let touches : (nth (map stored es) b).base ≤ c.loop-behind.high = rw first
     (subst (λ (d : Held). d.base ≤ c.loop-behind.high) (sym c.index-extents-behind.is) c.if-extents-behind.true) in
-    let reach : c.args.range.base ≤ past (nth (map piece es) c.first_reaching-first.result) = rw (← base)
+    let reach : c.args.range.base ≤ past (nth (map stored es) c.first_reaching-first.result) = rw (← base)
     (c.first_reaching-first.ensures.reaches (omega (arith, i.order, c.loop-behind-test.true))) in
-    let low : min c.loop-behind.low (nth (map piece es) b).base ≡ c.min-low.result = rw is (sym c.min-low.ensures) in
-    let high : max c.loop-behind.high (past (nth (map piece es) b)) ≡ c.max-high.result = rw is
+    let low : min c.loop-behind.low (nth (map stored es) b).base ≡ c.min-low.result = rw is (sym c.min-low.ensures) in
+    let high : max c.loop-behind.high (past (nth (map stored es) b)) ≡ c.max-high.result = rw is
     (ap (max c.loop-behind.high) (sym c.end_of.ensures) ∙ sym c.max-high.ensures) in
-    let more = rw (low, high) at (hull_more (map piece es) c.args.range c.first_reaching-first.result b c.loop-behind.low c.loop-behind.high
+    let more = rw (low, high) at (hull_more (map stored es) c.args.range c.first_reaching-first.result b c.loop-behind.low
+    c.loop-behind.high
     c.requires (omega (arith, long, c.loop-behind-test.true)) reach touches h) in
     record {
       order = more.order;
@@ -64,8 +65,8 @@ returns-else-extents-behind-clause-joins c =
     let es = c.args.extents.now in
     let b = c.loop-behind.behind in
     let i = c.loop-behind.invariant in
-    let long = length-map es piece in
-    let h : Hull (map piece es) c.args.range c.first_reaching-first.result b c.loop-behind.low c.loop-behind.high = record {
+    let long = length-map es stored in
+    let h : Hull (map stored es) c.args.range c.first_reaching-first.result b c.loop-behind.low c.loop-behind.high = record {
       order = i.order;
       most = omega (arith, long, i.most);
       least = i.least;
@@ -76,6 +77,6 @@ returns-else-extents-behind-clause-joins c =
       high = i.high;
       ready = i.ready;
     } in
-    hull_joins (map piece es) c.args.range c.first_reaching-first.result b c.loop-behind.low c.loop-behind.high c.requires h
+    hull_joins (map stored es) c.args.range c.first_reaching-first.result b c.loop-behind.low c.loop-behind.high c.requires h
     (λ count. let first = nth_piece es b c.index-extents-behind.result c.loop-behind-test.true c.index-extents-behind.is in
     rw first (subst (λ (d : Held). c.loop-behind.high < d.base) (sym c.index-extents-behind.is) c.if-extents-behind.false))

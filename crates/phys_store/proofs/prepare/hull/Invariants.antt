@@ -1,7 +1,7 @@
 use Rattle.std.proofs.Common.{ℕ, ◌-◌, ◌^◌, ◌<◌, ◌≤◌, ◌||◌, IsTrue, map, length}
 use Rattle.bm_base.specs.Extent.{end_of, covers}
 use Rattle.phys_store.specs.Bytes.{past, is_ready}
-use Rattle.phys_store.specs.Extents.{piece, nth}
+use Rattle.phys_store.specs.Extents.{stored, nth}
 use Rattle.phys_store.proofs.prepare.hull.Given as goal
 
 -- the extents so far are joined to the range
@@ -12,10 +12,10 @@ invariant-loop-behind l = record {
   least : l.low ≤ l.fn.range.base;
   end : end_of l.fn.range ≤ l.high;
   small : l.high < 2 ^ 64;
-  below : (i : ℕ) → i < l.first → past (nth (map piece l.extents) i) < l.low;
-  low : (i : ℕ) → l.first ≤ i → i < l.behind → l.low ≤ (nth (map piece l.extents) i).base;
-  high : (i : ℕ) → l.first ≤ i → i < l.behind → past (nth (map piece l.extents) i) ≤ l.high;
-  ready : (x : ℕ) → l.low ≤ x → x < l.high → IsTrue (covers l.fn.range x || is_ready (map piece l.extents) x);
+  below : (i : ℕ) → i < l.first → past (nth (map stored l.extents) i) < l.low;
+  low : (i : ℕ) → l.first ≤ i → i < l.behind → l.low ≤ (nth (map stored l.extents) i).base;
+  high : (i : ℕ) → l.first ≤ i → i < l.behind → past (nth (map stored l.extents) i) ≤ l.high;
+  ready : (x : ℕ) → l.low ≤ x → x < l.high → IsTrue (covers l.fn.range x || is_ready (map stored l.extents) x);
 }
 
 abbrev pub decreases-loop-behind : goal.decreases-loop-behind

@@ -1,7 +1,7 @@
 use Rattle.std.proofs.Common.{◌≡◌, ℕ, ◌-◌, Bool, ◌||◌, List, sym, ◌∙◌, ap, subst, arith}
 use Rattle.std.proofs.Math.Bool.{or-false}
 use Rattle.bm_base.specs.Extent.{Extent, covers, end_of}
-use Rattle.phys_store.specs.Bytes.{Piece, byte_of, is_ready}
+use Rattle.phys_store.specs.Bytes.{Stored, byte_of, is_ready}
 use Rattle.memblock_ranges.specs.declared.region.Head.{Head}
 use Rattle.memblock_ranges.specs.Tables.{bytes_by, table_by, AreTables}
 use Rattle.memblock_ranges.proofs.NewLaws.{first_head, new_tables, first_table}
@@ -18,9 +18,9 @@ invariant_of-result c =
     let second : c.bytes-2.result ≡ bytes_by (first_head (end - 4096)) = c.bytes-2.ensures ∙ ap bytes_by r in
     let first : c.bytes.result ≡ bytes_by (first_head (end - 8192)) = c.bytes.ensures ∙ ap bytes_by m in
     let zeros : (x : ℕ) → byte_of s x ≡ 0 = λ x. c.prepare-2.ensures.bytes x ∙ c.prepare.ensures.bytes x
-    ∙ ap (λ (l : List Piece). byte_of l x) none in
+    ∙ ap (λ (l : List Stored). byte_of l x) none in
     let one : (x : ℕ) → is_ready t x ≡ covers (bytes_by (first_head (end - 8192))) x = λ x.
-    c.in_ok-prepare.ensures.ready x ∙ ap (λ (l : List Piece). covers c.bytes.result x || is_ready l x) none
+    c.in_ok-prepare.ensures.ready x ∙ ap (λ (l : List Stored). covers c.bytes.result x || is_ready l x) none
     ∙ or-false (covers c.bytes.result x) ∙ ap (λ (e : Extent). covers e x) first in
     let two : (x : ℕ) → is_ready s x ≡ (covers (bytes_by (first_head (end - 4096))) x || covers (bytes_by (first_head (end - 8192))) x) =
     λ x.
