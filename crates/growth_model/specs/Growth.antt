@@ -1,0 +1,116 @@
+-- The growth of the two tables (`memblock_double_array`), and the changes that may need it. A table that grows claims its new place before
+-- it frees its old one, and the bytes that it leaves become 0: that order is this project's own.
+use Rattle.std.specs.Prelude.{ℕ, ◌+◌, ◌*◌, ◌/◌, Bool, nat_lt, min, Option, Some, None, List, [], ◌∷◌, length}
+use Rattle.std.specs.Option.{option_map, option_or}
+use Rattle.bm_base.specs.Extent.{Extent, end_of}
+use Rattle.memblock_model.specs.declared.which.Which.{Which}
+use Rattle.memblock_model.specs.declared.which.Which.TheVariants as which
+use Rattle.memblock_model.specs.declared.owner.Owner.{Owner}
+use Rattle.memblock_model.specs.declared.owner.Owner.TheVariants as owner
+use Rattle.memblock_model.specs.declared.query.Query.{Query}
+use Rattle.memblock_model.specs.declared.item.Item.{Item}
+use Rattle.memblock_model.specs.declared.item.Item.TheVariants as item
+use Rattle.memblock_model.specs.Items.{limit_of}
+use Rattle.memblock_model.specs.Tables.{table_of, records_of, room_of, moved_to, pieces}
+use Rattle.memblock_model.specs.Search.{best}
+use Rattle.growth_model.specs.Outcome.{Outcome, Change, ◌>>◌, nothing, step, write, refuse, if_due, whatever_refused}
+
+-- that many bytes, rounded up to frames
+abbrev pub frames_of : ℕ → ℕ
+frames_of n = (n + 4095) / 4096 * 4096
+
+-- the frames from the address on that hold so many bytes
+abbrev pub frames_at : ℕ → ℕ → Extent
+frames_at place n = record { base = place; size = frames_of n }
+
+-- the number of records of a table
+abbrev pub count : Which → List Item → ℕ
+count w items = length (records_of w items)
+
+-- what a table with that room looks for: the frames of twice as many records of 24 bytes, in the window, of any node
+abbrev pub table_query : ℕ → ℕ → ℕ → Query
+table_query room lo hi = record { lo = lo; hi = hi; size = frames_of (48 * room); align = 4096; node = None }
+
+-- the new place of the reserved table: the best one above the range that is being claimed or freed, else the best one below it; and
+-- below the limit both times
+abbrev pub place_beside : Extent → ℕ → List Item → Option ℕ
+place_beside avoid room items = option_or
+    (best items (table_query room (end_of avoid) (limit_of items)))
+    (best items (table_query room 0 (min avoid.base (limit_of items))))
+
+-- the frames of a table's old place are freed, where it isn't the built-in one
+abbrev pub left : ℕ → Option ℕ → List Item
+left room None = []
+left room (Some place) = item.Free (frames_at place (24 * room)) ∷ []
+
+-- what the reserved table writes when it goes from its old place, if it ever moved, to the new one: all as one step
+unfoldable pub reserved_items : ℕ → Option ℕ → ℕ → List Item
+reserved_items room old place =
+    item.Grown which.Reserved place (2 * room)
+    ∷ (item.Claim (frames_at place (48 * room)) (owner.Table which.Reserved)
+    ∷ left room old)
+
+unfoldable pub reserved_growth_at : ℕ → Option ℕ → Option ℕ → Change
+reserved_growth_at room old None = refuse which.Reserved room
+reserved_growth_at room old (Some place) = step (reserved_items room old place)
+
+-- the growth of the reserved table before the range is claimed or freed
+unfoldable pub reserved_growth : Extent → Change
+reserved_growth avoid items =
+    reserved_growth_at (room_of which.Reserved items) (moved_to which.Reserved items)
+    (place_beside avoid (room_of which.Reserved items) items) items
+
+-- whether the table's records, and so many more, exceed its room
+abbrev pub is_full : Which → (List Item → ℕ) → List Item → Bool
+is_full w more items = nat_lt (room_of w items) (count w items + more items)
+
+-- how many runs of the range's bytes the table doesn't cover yet
+abbrev pub new_in : Which → Extent → List Item → ℕ
+new_in w range items = pieces range (table_of w items)
+
+-- an edit inside a table may split a record at both ends of its range
+abbrev pub two : List Item → ℕ
+two items = 2
+
+-- the table grows while it is full. Two growths are always enough
+abbrev pub grown : Which → (List Item → ℕ) → Change → Change
+grown w more growth = if_due (is_full w more) growth >> if_due (is_full w more) growth
+
+-- a range is claimed (`memblock_reserve`)
+unfoldable pub claimed : Extent → Owner → Change
+claimed range who = grown which.Reserved (new_in which.Reserved range) (reserved_growth range) >> write (item.Claim range who)
+
+-- a range is freed (`memblock_phys_free`)
+unfoldable pub freed : Extent → Change
+freed range = grown which.Reserved two (reserved_growth range) >> write (item.Free range)
+
+-- the frames of a table's old place, where it isn't the built-in one
+abbrev pub old_frames : ℕ → Option ℕ → Option Extent
+old_frames room old = option_map (λ place. frames_at place (24 * room)) old
+
+-- the old place is freed. Where that needs a growth which is refused, the old place stays claimed, and that is all
+abbrev pub leave : Option Extent → Change
+leave None = nothing
+leave (Some frames) = whatever_refused (freed frames)
+
+-- the memory table goes to the new place: its claim, which may make the reserved table grow, then the move
+unfoldable pub memory_growth_at : ℕ → Option ℕ → Option ℕ → Change
+memory_growth_at room old None = refuse which.Memory room
+memory_growth_at room old (Some place) =
+    claimed (frames_at place (48 * room)) (owner.Table which.Memory)
+    >> write (item.Grown which.Memory place (2 * room))
+    >> leave (old_frames room old)
+
+-- the growth of the memory table
+unfoldable pub memory_growth : Change
+memory_growth items =
+    memory_growth_at (room_of which.Memory items) (moved_to which.Memory items)
+    (best items (table_query (room_of which.Memory items) 0 (limit_of items))) items
+
+-- a range becomes memory (`memblock_add`)
+unfoldable pub added : Extent → Change
+added range = grown which.Memory (new_in which.Memory range) memory_growth >> write (item.Mem range)
+
+-- the memory of a range gets the node (`memblock_set_node`)
+unfoldable pub noded : Extent → ℕ → Change
+noded range node = grown which.Memory two memory_growth >> write (item.Node range node)

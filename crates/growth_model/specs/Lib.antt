@@ -1,0 +1,7 @@
+pub mod Outcome
+pub mod Growth
+pub mod Request
+pub mod Ends
+pub mod Sound
+
+pub mod Bytes

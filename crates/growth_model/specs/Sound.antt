@@ -1,0 +1,76 @@
+-- What holds of the items of a boot after each call: both tables lie in frames that are claimed and that nobody else may have, and each
+-- has room for its records.
+use Rattle.std.specs.Prelude.{◌≡◌, ◌≢◌, ◌⊎◌, ℕ, ◌/◌, ◌%◌, ◌≤◌, Bool, true, false, Option, Some, None, List, [], ◌∷◌}
+use Rattle.bm_base.specs.Extent.{Extent, end_of, covers}
+use Rattle.memblock_model.specs.declared.which.Which.{Which}
+use Rattle.memblock_model.specs.declared.which.Which.TheVariants as which
+use Rattle.memblock_model.specs.declared.owner.Owner.{Owner}
+use Rattle.memblock_model.specs.declared.owner.Owner.TheVariants as owner
+use Rattle.memblock_model.specs.declared.item.Item.{Item}
+use Rattle.memblock_model.specs.declared.item.Item.TheVariants as item
+use Rattle.memblock_model.specs.Items.{Owners, owner_of}
+use Rattle.memblock_model.specs.Tables.{room_of, live}
+use Rattle.growth_model.specs.Growth.{count}
+
+-- an owner in whose bytes a table may lie: any but an allocation of the early script
+abbrev pub keeps : Option Owner → Bool
+keeps None = false
+keeps (Some (owner.Script id)) = false
+keeps (Some o) = true
+
+-- a place of a table: it begins with a frame, and each of its bytes has such an owner
+pub record Spot (own : Owners) (a : Extent) : Type 0 where
+  pub aligned : a.base % 4096 ≡ 0
+  pub kept : (x : ℕ) → covers a x ≡ true → keeps (own x) ≡ true
+
+-- no frame has bytes of both ranges
+abbrev pub Apart : Extent → Extent → Type 0
+Apart a b = (x y : ℕ) → covers a x ≡ true → covers b y ≡ true → x / 4096 ≢ y / 4096
+
+-- no byte lies in both ranges
+abbrev pub Clear : Extent → Extent → Type 0
+Clear a b = (x : ℕ) → covers a x ≡ true → covers b x ≡ true → ⊥
+
+-- no byte of the range has an owner
+abbrev pub Unclaimed : Owners → Extent → Type 0
+Unclaimed own a = (x : ℕ) → covers a x ≡ true → own x ≡ None
+
+-- the places of both tables
+pub record Spots (own : Owners) (memory reserved : Extent) : Type 0 where
+  pub first : Spot own memory
+  pub second : Spot own reserved
+  pub apart : Apart memory reserved
+
+-- the kernel's image is claimed first, and both tables lie in places of theirs
+pub record Placed (kernel : Extent) (items : List Item) : Type 0 where
+  pub rest : List Item
+  pub first : items ≡ item.Claim kernel owner.Kernel ∷ rest
+  pub spots : Spots (owner_of items) (live which.Memory kernel items) (live which.Reserved kernel items)
+
+-- each table has room for its records
+abbrev pub Fits : List Item → Type 0
+Fits items = (w : Which) → count w items ≤ room_of w items
+
+-- both of these hold
+pub record Sound (kernel : Extent) (items : List Item) : Type 0 where
+  pub placed : Placed kernel items
+  pub fits : Fits items
+
+-- the image holds both built-in places: it ends with a frame, and has two frames at least
+pub record IsImage (kernel : Extent) : Type 0 where
+  pub whole : end_of kernel % 4096 ≡ 0
+  pub large : 8192 ≤ kernel.size
+
+-- something happened already: the kernel's image was claimed
+abbrev pub HasBegun : List Item → Type 0
+HasBegun [] = ⊥
+HasBegun (i ∷ is) = Unit {0}
+
+-- the range meets neither table
+abbrev pub IsAway : Extent → Extent → List Item → Type 0
+IsAway kernel range items = Clear range (live which.Memory kernel items) × Clear range (live which.Reserved kernel items)
+
+-- what may be claimed: first the kernel's image for the kernel; then any range, but for the script one that meets neither table
+abbrev pub MayClaim : Extent → List Item → Extent → Owner → Type 0
+MayClaim kernel [] range who = (range ≡ kernel) × (who ≡ owner.Kernel)
+MayClaim kernel (i ∷ is) range who = (keeps (Some who) ≡ true) ⊎ IsAway kernel range (i ∷ is)

@@ -1,0 +1,27 @@
+//! How memblock's tables change and grow: the words in which growth, claims and allocations are spoken of.
+//!
+//! A table of memblock has room for so many records. When a change may need more, the table first doubles
+//! (`memblock_double_array`): it finds a new place by the search that serves everyone, claims that place like
+//! any other, and frees the place that it leaves. So a claim may write several items, a growth may set off a growth
+//! of the other table, and a place may be wanting. Here each change is a function of the items so far
+//! (`specs/Outcome.antt`): the items that it writes, step by step, and the growth that was refused, if one was.
+//!
+//! - `specs/Growth.antt`: the growths of both tables, and the four changes that may need them: a claim, a free,
+//!   an added range, a range that gets a node.
+//! - `specs/Request.antt`: what an allocation tries, in its order.
+//! - `specs/Ends.antt`: how a call may end that carries a change out: as the definition says, or, for want of the
+//!   program's own memory, after some whole steps of it.
+//! - `specs/Sound.antt`: what holds of the items of each boot: both tables lie in claimed frames, apart from each
+//!   other, and each has room for its records.
+//! - `specs/Bytes.antt`: the byte at each address, from the items and the fills, and what a call makes of it.
+//!
+//! [`Request`] and [`Refusal`] are plain data. They stand here, below the crates that ask and answer them,
+//! because the definitions speak of them. The functions are laws over the definitions: they do nothing, and their
+//! contracts are proved.
+#![tactic(auto)]
+
+mod refusal;
+mod request;
+
+pub use refusal::Refusal;
+pub use request::Request;

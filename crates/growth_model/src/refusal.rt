@@ -1,0 +1,15 @@
+//! Why a call that changes memory was refused.
+
+use memblock_model::Which;
+
+/// Why a call that may need a place gave up.
+#[derive(Clone, Copy, Debug, PartialEq, Eq)]
+pub enum Refusal {
+    /// No address fits the request, by any of its attempts.
+    NoGap,
+    /// The table had to grow and no place was found for it; `room` is the number of records that was too small
+    /// (`memblock_double_array`).
+    NoGapForTable { which: Which, room: u64 },
+    /// The program's own memory ran out.
+    Memory,
+}
