@@ -3,5 +3,5 @@ pub mod Growth
 pub mod Request
 pub mod Ends
 pub mod Sound
-
 pub mod Bytes
+pub mod Carried

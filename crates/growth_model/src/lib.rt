@@ -14,14 +14,17 @@
 //! - `specs/Sound.antt`: what holds of the items of each boot: both tables lie in claimed frames, apart from each
 //!   other, and each has room for its records.
 //! - `specs/Bytes.antt`: the byte at each address, from the items and the fills, and what a call makes of it.
+//! - `specs/Carried.antt`: items that are wanted, carried out one after another; and which items speak of memory.
 //!
 //! [`Request`] and [`Refusal`] are plain data. They stand here, below the crates that ask and answer them,
 //! because the definitions speak of them. The functions are laws over the definitions: they do nothing, and their
 //! contracts are proved.
 #![tactic(auto)]
 
+mod memory_laws;
 mod refusal;
 mod request;
 
+pub use memory_laws::{claims_leave_memory, memory_items_decide, wanted_items_make_memory};
 pub use refusal::Refusal;
 pub use request::Request;

@@ -1,0 +1,4 @@
+mod CarriedExamples
+pub mod CarriedLaws
+pub mod MemoryItemLaws
+pub mod QuietLaws
