@@ -2,3 +2,5 @@ pub mod EndLaws
 pub mod CutLaws
 pub mod SpotLaws
 pub mod FoundLaws
+pub mod PlacedLaws
+pub mod PlacedReservedLaws
