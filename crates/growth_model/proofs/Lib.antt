@@ -4,3 +4,4 @@ pub mod SpotLaws
 pub mod FoundLaws
 pub mod PlacedLaws
 pub mod PlacedReservedLaws
+pub mod PlacedMemoryLaws

@@ -74,7 +74,7 @@ unfolding reserved_items
 grew-owners-again t q place = owners-of t (reserved_items (room_of which.Reserved t) (Some q) place)
 
 -- the place itself lies in its frames
-place-inside : (room place x : ℕ) → covers (record { base = place; size = 24 * (2 * room) }) x ≡ true
+pub place-inside : (room place x : ℕ) → covers (record { base = place; size = 24 * (2 * room) }) x ≡ true
     → covers (frames_at place (48 * room)) x ≡ true
 place-inside room place x at =
     let e : 24 * (2 * room) ≡ 48 * room = omega arith in
