@@ -5,3 +5,5 @@ pub mod FoundLaws
 pub mod PlacedLaws
 pub mod PlacedReservedLaws
 pub mod PlacedMemoryLaws
+pub mod FirstLaws
+pub mod SoundLaws
