@@ -26,13 +26,21 @@ no_records : (f : Labels) → ((x : ℕ) → f x ≡ None) → length (records_f
 no_records f none = ap length (sym (records_for-is f [] (λ x le. none x) (record { runs = tt; each = λ x. sym (none x) })))
 
 -- so the first claim, of one run, finds room
-first-full : (r : Extent) → end_of r ≤ 2 ^ 64 → is_full which.Reserved (new_in which.Reserved r) [] ≡ false
+pub first-full : (r : Extent) → end_of r ≤ 2 ^ 64 → is_full which.Reserved (new_in which.Reserved r) [] ≡ false
 unfolding records_of
 first-full r small =
     let f = table_of which.Reserved [] in
     let few = few-pieces r f small (λ x le. refl) in
     let none = no_records f (λ x. refl) in
     let enough : length (records_for f) + pieces r f ≤ 128 = omega arith in
+    grind (arith, nat_tests, enough)
+
+pub first-full_by_two : is_full which.Reserved two [] ≡ false
+unfolding records_of
+first-full_by_two =
+    let f = table_of which.Reserved [] in
+    let none = no_records f (λ x. refl) in
+    let enough : length (records_for f) + 2 ≤ 128 = omega arith in
     grind (arith, nat_tests, enough)
 
 -- and writes its item alone

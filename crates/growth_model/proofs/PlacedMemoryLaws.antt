@@ -1,5 +1,5 @@
 -- The places of both tables stay good throughout a growth of the memory table, and the changes that may need one.
-use Rattle.std.proofs.Common.{◌≡◌, ◌⊎◌, ℕ, ◌+◌, ◌*◌, ◌%◌, Bool, true, false, Option, Some, None, List, [], ◌∷◌, ◌++◌, refl, sym, ◌∙◌, ap, subst, inl, inr, arith}
+use Rattle.std.proofs.Common.{◌≡◌, ◌⊎◌, ℕ, ◌+◌, ◌*◌, ◌%◌, Bool, true, false, Option, Some, None, List, [], ◌∷◌, ◌++◌, Result, Ok, refl, sym, ◌∙◌, ap, subst, inl, inr, arith}
 use Rattle.bm_base.specs.Extent.{Extent, covers}
 use Rattle.address_runs.specs.Edits.{replaced}
 use Rattle.memblock_model.specs.declared.which.Which.{Which}
@@ -15,6 +15,7 @@ use Rattle.growth_model.specs.declared.request.Request.{Request}
 use Rattle.growth_model.specs.Outcome.{after, write, ◌>>◌}
 use Rattle.growth_model.specs.Growth.{frames_at, table_query, new_in, two, grown, claimed, freed, old_frames, leave, memory_growth_at, memory_growth, added, noded}
 use Rattle.growth_model.specs.Request.{place_for}
+use Rattle.growth_model.specs.Ends.{Ends}
 use Rattle.growth_model.specs.Sound.{Clear, Unclaimed, Spot, Spots, Placed, IsAway}
 use Rattle.growth_model.proofs.CutLaws.{EachCut, cuts-last, cuts-then, cuts-grown}
 use Rattle.growth_model.proofs.SpotLaws.{frames, apart-clear, old-clear, Spots-swap, Clear-swap}
@@ -28,10 +29,10 @@ pub record IsFree (t : List Item) (place : ℕ) : Type 0 where
   pub free : Unclaimed (owner_of t) (frames_at place (48 * room_of which.Memory t))
 
 -- behind the claim of the new place, and behind the move
-abbrev taken : List Item → ℕ → List Item
+abbrev pub taken : List Item → ℕ → List Item
 taken t place = t ++ item.Claim (frames_at place (48 * room_of which.Memory t)) (for_table which.Memory) ∷ []
 
-abbrev moved : List Item → ℕ → List Item
+abbrev pub moved : List Item → ℕ → List Item
 moved t place = taken t place ++ item.Grown which.Memory place (2 * room_of which.Memory t) ∷ []
 
 abbrev new_live : List Item → ℕ → Extent
@@ -60,10 +61,22 @@ module _ (kernel : Extent) (t : List Item) (place : ℕ) where
       (moves-of which.Reserved u (grows ∷ []) ∙ moves-of which.Reserved t (item.Claim a (for_table which.Memory) ∷ []))
       (rooms-of which.Reserved u (grows ∷ []) ∙ rooms-of which.Reserved t (item.Claim a (for_table which.Memory) ∷ []))
 
-  taken-placed : Placed kernel t → Placed kernel u
+  pub taken-placed : Placed kernel t → Placed kernel u
   taken-placed placed = claim-placed kernel t a (for_table which.Memory) (inl refl) placed
 
-  moved-placed : IsFree t place → Placed kernel t → Placed kernel (moved t place)
+  -- the new place meets neither table yet
+  taken-away : IsFree t place → Placed kernel t → IsAway kernel a u
+  taken-away new placed =
+      let away = unclaimed-away kernel a t placed new.free in (
+        subst (λ (e : Extent). Clear a e) (sym (live-same which.Memory kernel t u
+            (moves-of which.Memory t (item.Claim a (for_table which.Memory) ∷ []))
+            (rooms-of which.Memory t (item.Claim a (for_table which.Memory) ∷ [])))) away.0,
+        subst (λ (e : Extent). Clear a e) (sym (live-same which.Reserved kernel t u
+            (moves-of which.Reserved t (item.Claim a (for_table which.Memory) ∷ []))
+            (rooms-of which.Reserved t (item.Claim a (for_table which.Memory) ∷ [])))) away.1,
+      )
+
+  pub moved-placed : IsFree t place → Placed kernel t → Placed kernel (moved t place)
   moved-placed new placed =
       placed-more kernel u (grows ∷ []) (replaced a (for_table which.Memory) (owner_of t)) (new_live t place)
       (live which.Reserved kernel t) (taken-placed placed) moved-owners moved-memory moved-reserved
@@ -73,7 +86,7 @@ module _ (kernel : Extent) (t : List Item) (place : ℕ) where
       (Spots-swap (owner_of t) (live which.Memory kernel t) (live which.Reserved kernel t) placed.spots)))
 
   -- the frames of the old place meet neither table then
-  old-away : (q : ℕ) → moved_to which.Memory t ≡ Some q → IsFree t place → Placed kernel t
+  pub old-away : (q : ℕ) → moved_to which.Memory t ≡ Some q → IsFree t place → Placed kernel t
       → IsAway kernel (frames_at q (24 * room_of which.Memory t)) (moved t place)
   old-away q was new placed =
       let room = room_of which.Memory t in
@@ -126,6 +139,57 @@ along kernel t room old place wide was aligned free placed =
     (subst (λ (n : ℕ). EachCut (Placed kernel) (t ++ item.Claim (frames_at place (48 * n)) (for_table which.Memory) ∷ [])
     (rest_of n (moved_to which.Memory t) place (t ++ item.Claim (frames_at place (48 * n)) (for_table which.Memory) ∷ []))) wide
     (move-cuts kernel t place new placed))
+
+-- behind the claim of the new place of the memory table, whose room and place were these: what the move and the freeing of the old place
+-- ask for
+pub record IsTaken (kernel : Extent) (u : List Item) (room : ℕ) (old : Option ℕ) (place : ℕ) : Type 0 where
+  pub placed : Placed kernel u
+  pub wide : room_of which.Memory u ≡ room
+  pub was : moved_to which.Memory u ≡ old
+  pub away : IsAway kernel (frames_at place (48 * room)) u
+  pub next : Placed kernel (u ++ item.Grown which.Memory place (2 * room) ∷ [])
+  pub left : (q : ℕ) → old ≡ Some q → IsAway kernel (frames_at q (24 * room)) (u ++ item.Grown which.Memory place (2 * room) ∷ [])
+
+taken-is : (kernel : Extent) (t : List Item) (place : ℕ) → IsFree t place → Placed kernel t
+    → IsTaken kernel (taken t place) (room_of which.Memory t) (moved_to which.Memory t) place
+taken-is kernel t place new placed = record {
+  placed = taken-placed kernel t place placed;
+  wide = rooms-of which.Memory t (item.Claim (frames_at place (48 * room_of which.Memory t)) (for_table which.Memory) ∷ []);
+  was = moves-of which.Memory t (item.Claim (frames_at place (48 * room_of which.Memory t)) (for_table which.Memory) ∷ []);
+  away = taken-away kernel t place new placed;
+  next = moved-placed kernel t place new placed;
+  left = λ q was. old-away kernel t place q was new placed;
+}
+
+taken-along : (kernel : Extent) (t : List Item) (room : ℕ) (old : Option ℕ) (place : ℕ) → room_of which.Memory t ≡ room
+    → moved_to which.Memory t ≡ old → place % 4096 ≡ 0 → Unclaimed (owner_of t) (frames_at place (48 * room)) → Placed kernel t
+    → IsTaken kernel (t ++ item.Claim (frames_at place (48 * room)) (for_table which.Memory) ∷ []) room old place
+taken-along kernel t room old place wide was aligned free placed =
+    let new : IsFree t place = record {
+      aligned = aligned;
+      free = subst (λ (n : ℕ). Unclaimed (owner_of t) (frames_at place (48 * n))) (sym wide) free;
+    } in
+    subst (λ (o : Option ℕ). IsTaken kernel (t ++ item.Claim (frames_at place (48 * room)) (for_table which.Memory) ∷ []) room o place) was
+    (subst (λ (n : ℕ). IsTaken kernel (t ++ item.Claim (frames_at place (48 * n)) (for_table which.Memory) ∷ []) n
+    (moved_to which.Memory t) place) wide
+    (taken-is kernel t place new placed))
+
+pub claimed-taken : {T : Type 0} (x : T) (kernel : Extent) (items u : List Item) (place : ℕ) → Placed kernel items
+    → best items (table_query (room_of which.Memory items) 0 (limit_of items)) ≡ Some place
+    → Ends (Ok x) items u (claimed (frames_at place (48 * room_of which.Memory items)) (for_table which.Memory))
+    → IsTaken kernel u (room_of which.Memory items) (moved_to which.Memory items) place
+claimed-taken x kernel items u place placed is ends =
+    let room = room_of which.Memory items in
+    let old = moved_to which.Memory items in
+    let q = table_query room 0 (limit_of items) in
+    let a = frames_at place (48 * room) in
+    let t = roomy a (new_in which.Reserved a) items in
+    let going = room-going kernel a (new_in which.Reserved a) items placed in
+    let fits = found-fits items q place is in
+    subst (λ (v : List Item). IsTaken kernel v room old place)
+    (sym (ends.1 ∙ claimed-after items a (for_table which.Memory) ends.0))
+    (taken-along kernel t room old place going.aside.wide going.aside.place fits.aligned
+    (going.aside.free (found-unclaimed items q place is)) going.placed)
 
 growth-at : (kernel : Extent) (items : List Item) (found : Option ℕ)
     → best items (table_query (room_of which.Memory items) 0 (limit_of items)) ≡ found → Placed kernel items
