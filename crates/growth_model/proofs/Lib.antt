@@ -1,0 +1,9 @@
+pub mod EndLaws
+pub mod CutLaws
+pub mod SpotLaws
+pub mod FoundLaws
+pub mod PlacedLaws
+pub mod PlacedReservedLaws
+pub mod PlacedMemoryLaws
+pub mod FirstLaws
+pub mod SoundLaws
