@@ -1,3 +1,5 @@
 pub mod BytesLaws
 pub mod FollowLaws
 pub mod ToldLaws
+pub mod StandLaws
+pub mod FillLaws
