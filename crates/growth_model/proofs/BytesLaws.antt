@@ -13,7 +13,7 @@ use Rattle.memblock_model.specs.declared.item.Item.TheVariants as item
 use Rattle.memblock_model.specs.Tables.{room_after, room_of, moved_after, moved_to, built_in, live}
 use Rattle.memblock_model.proofs.ItemLaws.{room_of-push, moved_to-push}
 use Rattle.memblock_ranges.specs.Tables.{Table, bytes_of}
-use Rattle.growth_model.specs.Bytes.{table_for, spelled_at, shown_by, shown, leaves, is_left, beyond, byte_after, Filled, filled, written, byte, AreMadeBy}
+use Rattle.growth_model.specs.Bytes.{table_for, spelled_at, shown_by, shown, leaves, is_left, byte_after, Filled, filled, written, byte, AreMadeBy}
 
 -- a table's bytes behind one more item
 live-push : (w : Which) (kernel : Extent) (items : List Item) (i : Item) →

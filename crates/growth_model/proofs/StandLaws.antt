@@ -1,9 +1,8 @@
 -- Where both tables lie apart, the bytes at the place of each are those of its records.
-use Rattle.std.proofs.Common.{◌≡◌, ℕ, zero, suc, ◌+◌, ◌-◌, ◌*◌, ◌/◌, ◌<◌, ◌≤◌, Bool, true, false, if◌then◌else◌, List, [], ◌∷◌, ◌++◌, length, get_or, replicate, refl, sym, ◌∙◌, ap, arith, length-append, inl, inr}
+use Rattle.std.proofs.Common.{◌≡◌, ℕ, zero, suc, ◌+◌, ◌-◌, ◌*◌, ◌<◌, ◌≤◌, Bool, true, false, if◌then◌else◌, List, [], ◌∷◌, ◌++◌, length, get_or, refl, sym, ◌∙◌, ap, arith, length-append, inl, inr}
 use Rattle.std.proofs.lemmas.Bool.{cases_Bool}
 use Rattle.std.proofs.lemmas.Bool.Decides.{nat_tests}
 use Rattle.std.proofs.lemmas.List.{length-replicate}
-use Rattle.byteorder.specs.Endian.{little_bytes}
 use Rattle.bm_base.specs.Extent.{Extent, covers}
 use Rattle.phys_store.specs.Bytes.{bytes_at}
 use Rattle.phys_store.proofs.ByteLists.{told_bytes}
@@ -13,11 +12,11 @@ use Rattle.memblock_model.specs.declared.which.Which.{Which}
 use Rattle.memblock_model.specs.declared.which.Which.TheVariants as which
 use Rattle.memblock_model.specs.declared.item.Item.{Item}
 use Rattle.memblock_model.specs.Tables.{records_of, room_of, place_of, live}
-use Rattle.memblock_ranges.specs.Spelling.{spelled_table, spelling_of, node_field, fields_of}
-use Rattle.memblock_ranges.specs.Tables.{Table, bytes_of}
+use Rattle.memblock_ranges.specs.Spelling.{spelled_table, spelling_of, node_field}
+use Rattle.memblock_ranges.specs.Tables.{bytes_of}
 use Rattle.memblock_ranges.proofs.SpellLaws.{length-fields_of}
 use Rattle.growth_model.specs.Sound.{Placed, Fits, Clear}
-use Rattle.growth_model.specs.Bytes.{table_for, spelled_at, shown_by, AreSpelled}
+use Rattle.growth_model.specs.Bytes.{table_for, spelled_at, AreSpelled}
 
 memory_first : (here : Bool) (a c : ℕ) → here ≡ true → (if here then a else c) ≡ a
 memory_first true a c h = refl
