@@ -3,3 +3,4 @@ pub mod FollowLaws
 pub mod ToldLaws
 pub mod StandLaws
 pub mod FillLaws
+mod BytesExamples
