@@ -7,3 +7,9 @@ pub mod PlacedReservedLaws
 pub mod PlacedMemoryLaws
 pub mod FirstLaws
 pub mod SoundLaws
+pub mod BytesLaws
+pub mod FollowLaws
+pub mod ToldLaws
+pub mod StandLaws
+pub mod FillLaws
+mod BytesExamples
