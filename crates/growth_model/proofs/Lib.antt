@@ -13,3 +13,7 @@ pub mod ToldLaws
 pub mod StandLaws
 pub mod FillLaws
 mod BytesExamples
+mod CarriedExamples
+pub mod CarriedLaws
+pub mod MemoryItemLaws
+pub mod QuietLaws
