@@ -89,7 +89,7 @@ look_lower rs from at look known above under other = record {
 }
 
 -- what is unclaimed follows from what both tables say
-unclaimed_is : (memory reserved : Labels) (x : ℕ) (a b : Option Label) → memory x ≡ a → reserved x ≡ b
+pub unclaimed_is : (memory reserved : Labels) (x : ℕ) (a b : Option Label) → memory x ≡ a → reserved x ≡ b
     → unclaimed memory reserved x ≡ (if is_none b then a else None)
 unclaimed_is memory reserved x a b m r =
     ap (λ (o : Option Label). if is_none o then memory x else None) r ∙ ap (λ (o : Option Label). if is_none b then o else None) m

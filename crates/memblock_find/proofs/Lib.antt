@@ -1,3 +1,4 @@
 pub mod SlotLaws
 pub mod DownLaws
 pub mod PlaceLaws
+pub mod UpLaws

@@ -40,6 +40,7 @@ pub record IsLookUp (rs : List (RunOf Label)) (at : ℕ) (look : Look) : Type 0 
   pub another : look.label ≢ None → value_at rs look.bound ≢ look.label
   pub other : look.bound < 2 ^ 64 - 1 → value_at rs look.bound ≢ look.label
   pub next : EndedBy look.bound rs look.slot
+  pub small : look.bound < 2 ^ 64
   pub order : at ≤ look.bound
   pub ahead : at < 2 ^ 64 - 1 → at < look.bound
   pub left : at ≡ look.bound → NothingFrom at (value_at rs)

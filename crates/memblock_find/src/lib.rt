@@ -14,7 +14,10 @@
 
 mod cursor;
 mod down;
+mod free;
 mod search;
+mod up;
 
+pub use free::{FreeRange, next_free, prev_free};
 pub use memblock_model::Query;
 pub use search::find;
