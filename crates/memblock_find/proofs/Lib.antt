@@ -2,3 +2,4 @@ pub mod SlotLaws
 pub mod DownLaws
 pub mod PlaceLaws
 pub mod UpLaws
+pub mod OneLaws

@@ -11,7 +11,6 @@ use Rattle.memblock_find.specs.declared.cursor.Cursor.{Cursor}
 use Rattle.memblock_find.specs.Free.{unclaimed, free_in, IsUpTo}
 use Rattle.memblock_find.specs.Walk.{run_at, EndedBy, IsLookUp, IsUpAt, label_at}
 use Rattle.memblock_find.proofs.SlotLaws.{ends_before, ends_ascend, bases_ascend, size_at, value_in, none_beside, other_past}
-use Rattle.memblock_find.proofs.DownLaws.{unclaimed_is, unclaimed_changes}
 
 -- with every record behind it nothing is at the address or above
 none_left : (rs : List (RunOf Label)) (at : ℕ) → EndedBy at rs (length rs) → NothingFrom at (value_at rs)
@@ -109,57 +108,6 @@ look_higher rs from at look known above under other = record {
   ahead = λ _. omega arith;
   left = λ is. absurd (other (sym is));
 }
-
--- the addresses of a cursor's stretch carry its label
-pub stretch_rises : (t : Contents) (c : Cursor) (until : ℕ) (label : Option Label) → IsUpAt t c
-    → until ≡ min c.memory.bound c.reserved.bound → label ≡ label_at c → Stays (free_in t) c.at until label
-stretch_rises t c until label known until_is label_is x above under =
-    unclaimed_is (value_at t.memory.records) (value_at t.reserved.records) x c.memory.label c.reserved.label
-    (known.memory.stays x above (omega arith)) (known.reserved.stays x above (omega arith)) ∙ sym label_is
-
-stretch_tops : (memory reserved : Labels) (m r until : ℕ) (a b : Option Label) → (a ≢ None → memory m ≢ a)
-    → (r < m → reserved r ≢ b) → until ≡ min m r → (if is_none b then a else None) ≢ None
-    → unclaimed memory reserved until ≢ (if is_none b then a else None)
-stretch_tops memory reserved m r until a (Some v) other_m other_r is some = absurd (some refl)
-stretch_tops memory reserved m r until a None other_m other_r is some =
-    elim (cases_lt r m) as (λ _. unclaimed memory reserved until ≢ a) [
-      | inl lt ↦
-          let here : r ≡ until = omega arith in
-          unclaimed_changes (memory until) (reserved until) a (inr (subst (λ (y : ℕ). reserved y ≢ None) here (other_r lt))) some
-      | inr ge ↦
-          let here : m ≡ until = omega arith in
-          unclaimed_changes (memory until) (reserved until) a (inl (subst (λ (y : ℕ). memory y ≢ a) here (other_m some))) some
-    ]
-
--- and where they are unclaimed memory, the address behind them carries something else
-pub stretch_up : (t : Contents) (c : Cursor) (until : ℕ) (label : Option Label) → IsUpAt t c
-    → until ≡ min c.memory.bound c.reserved.bound → label ≡ label_at c → label ≢ None → IsUpTo (free_in t) c.at until label
-stretch_up t c until label known until_is label_is some =
-    let held : label_at c ≢ None = subst (λ (o : Option Label). o ≢ None) label_is some in
-    let m_small = known.memory.small in
-    let ends : free_in t until ≢ label_at c =
-    stretch_tops (value_at t.memory.records) (value_at t.reserved.records) c.memory.bound c.reserved.bound until
-    c.memory.label c.reserved.label known.memory.another (λ less. known.reserved.other (omega arith)) until_is held in
-    record {
-      stays = stretch_rises t c until label known until_is label_is;
-      another = λ same. ends (same ∙ label_is);
-    }
-
-bare_there : (carried claimed : Option Label) → carried ≡ None → (if is_none claimed then carried else None) ≡ None
-bare_there carried None is = is
-bare_there carried (Some v) is = refl
-
--- at the top of the addresses nothing is left
-pub none_at_top : (t : Contents) (c : Cursor) (from : ℕ) → IsUpAt t c → 2 ^ 64 - 1 ≤ c.at → Stays (free_in t) from c.at None
-    → NothingFrom from (free_in t)
-none_at_top t c from known top before x above =
-    let order = known.memory.order in
-    let small = known.memory.small in
-    let left : NothingFrom c.at (value_at t.memory.records) = known.memory.left (omega arith) in
-    elim (cases_lt x c.at) as (λ _. free_in t x ≡ None) [
-      | inl lt ↦ before x above lt
-      | inr ge ↦ bare_there (value_at t.memory.records x) (value_at t.reserved.records x) (left x ge)
-    ]
 
 -- the records of a table that is searched for those that end by an address
 pub ended_so_far : (rs : List (RunOf Label)) (at middle : ℕ) → AreRuns rs → middle < length rs → run_end (run_at rs middle) ≤ at

@@ -15,9 +15,11 @@
 mod cursor;
 mod down;
 mod free;
+mod laws;
 mod search;
 mod up;
 
 pub use free::{FreeRange, next_free, prev_free};
+pub use laws::{runs_are_one, searches_follow_the_items};
 pub use memblock_model::Query;
 pub use search::find;
