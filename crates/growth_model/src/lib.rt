@@ -20,8 +20,13 @@
 //! contracts are proved.
 #![tactic(auto)]
 
+mod laws;
 mod refusal;
 mod request;
 
+pub use laws::{
+    allocations_keep_places, claims_keep_places, ends_add_up, first_claim_places_tables,
+    found_places_are_free, memory_keeps_places,
+};
 pub use refusal::Refusal;
 pub use request::Request;
