@@ -18,11 +18,11 @@ use Rattle.memblock_ranges.proofs.CountLaws.{few-pieces}
 use Rattle.growth_model.specs.Outcome.{Outcome, nothing, write, ◌>>◌, if_due}
 use Rattle.growth_model.specs.Growth.{count, is_full, new_in, two, grown, reserved_growth, claimed}
 use Rattle.growth_model.specs.Sound.{keeps, Spot, Apart, Spots, Placed, IsImage}
-use Rattle.growth_model.proofs.EndLaws.{skips}
+use Rattle.growth_model.proofs.IdleLaws.{claimed-idle}
 use Rattle.growth_model.proofs.SpotLaws.{covers-from, covers-to, Spot-new}
 
 -- a table that says nothing has no records
-no_records : (f : Labels) → ((x : ℕ) → f x ≡ None) → length (records_for f) ≡ 0
+pub no_records : (f : Labels) → ((x : ℕ) → f x ≡ None) → length (records_for f) ≡ 0
 no_records f none = ap length (sym (records_for-is f [] (λ x le. none x) (record { runs = tt; each = λ x. sym (none x) })))
 
 -- so the first claim, of one run, finds room
@@ -45,13 +45,7 @@ first-full_by_two =
 
 -- and writes its item alone
 pub first-claimed : (r : Extent) (o : Owner) → end_of r ≤ 2 ^ 64 → claimed r o [] ≡ write (item.Claim r o) []
-unfolding claimed
-first-claimed r o small =
-    let due = is_full which.Reserved (new_in which.Reserved r) in
-    let once = if_due due (reserved_growth r) in
-    let idle : once [] ≡ nothing [] = rw (first-full r small) refl in
-    let twice : (once >> once) [] ≡ nothing [] = skips once once [] idle ∙ idle in
-    skips (once >> once) (write (item.Claim r o)) [] twice
+first-claimed r o small = claimed-idle [] r o (first-full r small)
 
 -- the built-in places, in the last two frames of the image
 abbrev first_items : Extent → List Item
