@@ -12,7 +12,7 @@ use Rattle.memblock_model.specs.declared.item.Item.{Item}
 use Rattle.memblock_model.specs.declared.item.Item.TheVariants as item
 use Rattle.memblock_model.specs.Labels.{Label, Labels}
 use Rattle.memblock_model.specs.Items.{Owners, no_owners, owner_of}
-use Rattle.memblock_model.specs.Tables.{table_of, records_for, records_of, pieces, live}
+use Rattle.memblock_model.specs.Tables.{table_of, records_for, records_of, pieces, room_of, live}
 use Rattle.memblock_model.proofs.TableLaws.{records_for-is}
 use Rattle.memblock_ranges.proofs.CountLaws.{few-pieces}
 use Rattle.growth_model.specs.Outcome.{Outcome, nothing, write, ◌>>◌, if_due}
@@ -24,6 +24,10 @@ use Rattle.growth_model.proofs.SpotLaws.{covers-from, covers-to, Spot-new}
 -- a table that says nothing has no records
 pub no_records : (f : Labels) → ((x : ℕ) → f x ≡ None) → length (records_for f) ≡ 0
 no_records f none = ap length (sym (records_for-is f [] (λ x le. none x) (record { runs = tt; each = λ x. sym (none x) })))
+
+nothing_said : (w : Which) (x : ℕ) → table_of w [] x ≡ None
+nothing_said which.Memory x = refl
+nothing_said which.Reserved x = refl
 
 -- so the first claim, of one run, finds room
 pub first-full : (r : Extent) → end_of r ≤ 2 ^ 64 → is_full which.Reserved (new_in which.Reserved r) [] ≡ false
@@ -43,7 +47,12 @@ first-full_by_two =
     let enough : length (records_for f) + 2 ≤ 128 = omega arith in
     grind (arith, nat_tests, enough)
 
--- and writes its item alone
+-- so each table fits at first
+pub no_table_full : (w : Which) → count w [] ≤ room_of w []
+unfolding records_of
+no_table_full w = let none = no_records (table_of w []) (nothing_said w) in omega arith
+
+-- and the first claim writes its item alone
 pub first-claimed : (r : Extent) (o : Owner) → end_of r ≤ 2 ^ 64 → claimed r o [] ≡ write (item.Claim r o) []
 first-claimed r o small = claimed-idle [] r o (first-full r small)
 

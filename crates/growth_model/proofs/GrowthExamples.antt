@@ -297,3 +297,192 @@ an_added_frame = added-idle small (frame 64) add_has_room
 
 a_node : noded (frame 1) 3 small ≡ write (item.Node (frame 1) 3) small
 a_node = noded-idle small (frame 1) 3 memory_has_room_for_two
+
+-- a table that is full grows until it isn't, twice at most
+abbrev moves : Change
+moves = write (item.Grown which.Memory 4096 256)
+
+none_behind_a_move : count which.Memory (item.Grown which.Memory 4096 256 ∷ []) ≡ 0
+unfolding records_of
+none_behind_a_move = no_records (table_of which.Memory (item.Grown which.Memory 4096 256 ∷ [])) (λ x. refl)
+
+first_full : (n : ℕ) → 128 < n → is_full which.Memory (λ items. n) [] ≡ true
+first_full n many = let full : 128 < count which.Memory [] + n = omega arith in grind (arith, nat_tests, full)
+
+then_room : (n : ℕ) → n ≤ 256 → is_full which.Memory (λ items. n) (item.Grown which.Memory 4096 256 ∷ []) ≡ false
+then_room n few =
+    let enough : count which.Memory (item.Grown which.Memory 4096 256 ∷ []) + n ≤ 256 = omega (arith, none_behind_a_move) in
+    grind (arith, nat_tests, enough)
+
+then_full : (n : ℕ) → 256 < n → is_full which.Memory (λ items. n) (item.Grown which.Memory 4096 256 ∷ []) ≡ true
+then_full n many =
+    let full : 256 < count which.Memory (item.Grown which.Memory 4096 256 ∷ []) + n = omega arith in grind (arith, nat_tests, full)
+
+due_moves : (more : List Item → ℕ) (items : List Item) → is_full which.Memory more items ≡ true
+    → if_due (is_full which.Memory more) moves items ≡ moves items
+due_moves more items full = rw full refl
+
+idle_moves : (more : List Item → ℕ) (items : List Item) → is_full which.Memory more items ≡ false
+    → if_due (is_full which.Memory more) moves items ≡ nothing items
+idle_moves more items room = rw room refl
+
+once : grown which.Memory (λ items. 200) moves [] ≡ moves []
+once =
+    let due = is_full which.Memory (λ items. 200) in
+    ap (λ (o : Outcome). followed_by o o.refused (if_due due moves (after [] o))) (due_moves (λ items. 200) [] (first_full 200 (omega arith)))
+    ∙ ap (λ (o : Outcome). let both : Outcome = record { steps = (moves []).steps ++ o.steps; refused = o.refused } in both)
+    (idle_moves (λ items. 200) (item.Grown which.Memory 4096 256 ∷ []) (then_room 200 (omega arith)))
+
+twice : grown which.Memory (λ items. 300) moves [] ≡ (moves >> moves) []
+twice =
+    let due = is_full which.Memory (λ items. 300) in
+    ap (λ (o : Outcome). followed_by o o.refused (if_due due moves (after [] o))) (due_moves (λ items. 300) [] (first_full 300 (omega arith)))
+    ∙ ap (λ (o : Outcome). let both : Outcome = record { steps = (moves []).steps ++ o.steps; refused = o.refused } in both)
+    (due_moves (λ items. 300) (item.Grown which.Memory 4096 256 ∷ []) (then_full 300 (omega arith)))
+
+-- the old place of the memory table
+no_old_frames : old_frames 128 None ≡ None
+no_old_frames = refl
+
+two_old_frames : old_frames 256 (Some 65536) ≡ Some (record { base = 65536; size = 8192 })
+two_old_frames = refl
+
+nothing_to_leave : leave None small ≡ nothing small
+nothing_to_leave = refl
+
+a_frame_to_leave : leave (Some (frame 16)) small ≡ write (item.Free (frame 16)) small
+a_frame_to_leave = ap (λ (o : Outcome). let whole : Outcome = record { steps = o.steps; refused = None } in whole) a_free
+
+-- the growth of the memory table: the claim of its new place, and the move
+place_claimed : claimed (frames_at 253952 6144) (owner.Table which.Memory) small
+    ≡ write (item.Claim (record { base = 253952; size = 8192 }) (owner.Table which.Memory)) small
+place_claimed = claimed-idle small (frames_at 253952 6144) (owner.Table which.Memory)
+    (let few = few_new which.Reserved (frames_at 253952 6144) (omega arith) reserved_ends reserved_count in
+    let enough : count which.Reserved small + new_in which.Reserved (frames_at 253952 6144) small ≤ 128 =
+    omega (arith, reserved_count, few) in
+    grind (arith, nat_tests, enough))
+
+abbrev first_growth : Outcome
+first_growth = record {
+  steps = (item.Claim (record { base = 253952; size = 8192 }) (owner.Table which.Memory) ∷ [])
+      ∷ ((item.Grown which.Memory 253952 256 ∷ []) ∷ []);
+  refused = None;
+}
+
+place_taken : memory_growth_at 128 None (Some 253952) small ≡ first_growth
+unfolding memory_growth_at
+place_taken = ap (λ (o : Outcome). followed_by o o.refused ((write (item.Grown which.Memory 253952 256) >> leave None) (after small o)))
+    place_claimed
+
+no_place_taken : memory_growth_at 128 None None small ≡ refuse which.Memory 128 small
+unfolding memory_growth_at
+no_place_taken = refl
+
+memory_grows : memory_growth small ≡ first_growth
+unfolding memory_growth
+memory_grows = ap (λ (o : Option ℕ). memory_growth_at 128 None o small)
+    (window_place 0 262144 253952 refl (omega arith) refl (omega arith) (omega arith)) ∙ place_taken
+
+without_memory : memory_growth [] ≡ refuse which.Memory 128 []
+unfolding memory_growth memory_growth_at best
+without_memory = ap (λ (o : Option ℕ). memory_growth_at 128 None o [])
+    (best_in-fails (table_of which.Memory []) (table_of which.Reserved []) (table_query 128 0 0) (λ b lt.
+    elim (cases_Bool (fits_in (table_of which.Memory []) (table_of which.Reserved []) (table_query 128 0 0) b))
+    as (λ _. fits_in (table_of which.Memory []) (table_of which.Reserved []) (table_query 128 0 0) b ≡ false) [
+      | inl passes ↦
+          let known = fits_in-parts (table_of which.Memory []) (table_of which.Reserved []) (table_query 128 0 0) b passes in
+          let high = known.high in
+          absurd (omega arith)
+      | inr fails ↦ fails
+    ]))
+
+-- the searches of an allocation: one frame, from 128 KiB on if it can be, of node 1 if it can be
+abbrev a_frame : Request
+a_frame = record { size = 4096; align = 4096; min = 0; max = None; node = None; exact = false }
+
+abbrev from_the_middle : Request
+from_the_middle = record { size = 4096; align = 8192; min = 131072; max = Some 196608; node = Some 1; exact = false }
+
+abbrev of_node_one : Request
+of_node_one = record from_the_middle { exact = true }
+
+the_limit_ends_it : attempt a_frame 262144 0 None ≡ record { lo = 0; hi = 262144; size = 4096; align = 4096; node = None }
+the_limit_ends_it = refl
+
+the_maximum_ends_it : attempt from_the_middle 262144 131072 (Some 1)
+    ≡ record { lo = 131072; hi = 196608; size = 4096; align = 8192; node = Some 1 }
+the_maximum_ends_it = refl
+
+any_node_behind_it : anywhere from_the_middle 262144 0 (Some 1) ≡ attempt from_the_middle 262144 0 None ∷ []
+any_node_behind_it = refl
+
+no_other_node : anywhere of_node_one 262144 0 (Some 1) ≡ []
+no_other_node = refl
+
+no_node_to_leave : anywhere a_frame 262144 0 None ≡ []
+no_node_to_leave = refl
+
+a_round_of_two : round from_the_middle 262144 131072
+    ≡ attempt from_the_middle 262144 131072 (Some 1) ∷ (attempt from_the_middle 262144 131072 None ∷ [])
+a_round_of_two = refl
+
+a_round_of_one : round of_node_one 262144 131072 ≡ attempt of_node_one 262144 131072 (Some 1) ∷ []
+a_round_of_one = refl
+
+four_attempts : attempts from_the_middle 262144 ≡ attempt from_the_middle 262144 131072 (Some 1)
+    ∷ (attempt from_the_middle 262144 131072 None ∷ (attempt from_the_middle 262144 0 (Some 1)
+    ∷ (attempt from_the_middle 262144 0 None ∷ [])))
+four_attempts = refl
+
+one_attempt : attempts a_frame 262144 ≡ attempt a_frame 262144 0 None ∷ []
+one_attempt = refl
+
+no_search : first_best small [] ≡ None
+no_search = refl
+
+second_search : first_best small (table_query 128 5 5 ∷ (table_query 128 0 262144 ∷ [])) ≡ Some 253952
+second_search = ap (λ (o : Option ℕ). option_or o (first_best small (table_query 128 0 262144 ∷ []))) (no_window 5 5 (omega arith))
+    ∙ ap (λ (o : Option ℕ). option_or o None) (window_place 0 262144 253952 refl (omega arith) refl (omega arith) (omega arith))
+
+-- eight KiB go to the top of memory; half a MiB doesn't fit
+abbrev two_frames_please : Request
+two_frames_please = record a_frame { size = 8192 }
+
+place_at_the_top : place_for two_frames_please small ≡ Some 253952
+place_at_the_top =
+    ap (λ (o : Option ℕ). option_or o None) (window_place 0 262144 253952 refl (omega arith) refl (omega arith) (omega arith))
+
+no_place_so_low : place_for (record two_frames_please { max = Some 0 }) small ≡ None
+no_place_so_low = ap (λ (o : Option ℕ). option_or o None) (no_window 0 0 (omega arith))
+
+-- how calls end: all of it, one step of two, nothing at all
+all_of_two : IsCut [] (joined two_steps.steps) two_steps
+all_of_two = record { count = 2; within = omega arith; stands = refl }
+
+one_of_two : IsCut [] (item.Trim ∷ (item.Limit 5 ∷ [])) two_steps
+one_of_two = record { count = 1; within = omega arith; stands = refl }
+
+ends_well : EndsBy {T = ℕ} (Ok 3) [] (item.Trim ∷ (item.Limit 5 ∷ (item.Limit 7 ∷ []))) two_steps
+ends_well = (refl, refl)
+
+ends_refused : EndsBy {T = ℕ} (Err (refusal.NoGapForTable which.Memory 128)) [] (item.Trim ∷ []) stopped
+ends_refused = (refl, refl)
+
+never_without_gap : EndsBy {T = ℕ} (Err refusal.NoGap) [] [] two_steps → ⊥
+never_without_gap h = h
+
+a_claim_ends : Ends {T = ℕ} (Ok 3) small (small ++ item.Trim ∷ []) (write item.Trim)
+a_claim_ends = (refl, refl)
+
+memory_ran_out : Ends {T = ℕ} (Err refusal.Memory) small small (write item.Trim)
+memory_ran_out = record { count = 0; within = omega arith; stands = refl }
+
+no_gap : Allocates (Err refusal.NoGap) small small None 4096 owner.Soft
+no_gap = (refl, refl)
+
+a_gap : Allocates (Ok 131072) small (small ++ item.Claim (frame 32) owner.Soft ∷ []) (Some 131072) 4096 owner.Soft
+a_gap = (
+  refl,
+  subst (λ (o : Outcome). EndsBy {T = ℕ} (Ok 131072) small (small ++ item.Claim (frame 32) owner.Soft ∷ []) o) (sym a_claim)
+      (refl, refl),
+)

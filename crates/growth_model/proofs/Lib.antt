@@ -9,3 +9,4 @@ pub mod IdleLaws
 pub mod FirstLaws
 pub mod SoundLaws
 mod GrowthExamples
+mod SoundExamples
