@@ -67,7 +67,8 @@ memory-inside : (kernel : Extent) (x : ℕ) → 8192 ≤ kernel.size → covers 
 memory-inside kernel x large at =
     let inside = covers-from (first_live which.Memory kernel) x at in covers-to kernel x (omega arith) (omega arith)
 
-reserved-inside : (kernel : Extent) (x : ℕ) → 8192 ≤ kernel.size → covers (first_live which.Reserved kernel) x ≡ true → covers kernel x ≡ true
+reserved-inside : (kernel : Extent) (x : ℕ) → 8192 ≤ kernel.size → covers (first_live which.Reserved kernel) x ≡ true
+    → covers kernel x ≡ true
 reserved-inside kernel x large at =
     let inside = covers-from (first_live which.Reserved kernel) x at in covers-to kernel x (omega arith) (omega arith)
 

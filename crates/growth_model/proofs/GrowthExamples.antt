@@ -329,14 +329,16 @@ idle_moves more items room = rw room refl
 once : grown which.Memory (λ items. 200) moves [] ≡ moves []
 once =
     let due = is_full which.Memory (λ items. 200) in
-    ap (λ (o : Outcome). followed_by o o.refused (if_due due moves (after [] o))) (due_moves (λ items. 200) [] (first_full 200 (omega arith)))
+    ap (λ (o : Outcome). followed_by o o.refused (if_due due moves (after [] o)))
+    (due_moves (λ items. 200) [] (first_full 200 (omega arith)))
     ∙ ap (λ (o : Outcome). let both : Outcome = record { steps = (moves []).steps ++ o.steps; refused = o.refused } in both)
     (idle_moves (λ items. 200) (item.Grown which.Memory 4096 256 ∷ []) (then_room 200 (omega arith)))
 
 twice : grown which.Memory (λ items. 300) moves [] ≡ (moves >> moves) []
 twice =
     let due = is_full which.Memory (λ items. 300) in
-    ap (λ (o : Outcome). followed_by o o.refused (if_due due moves (after [] o))) (due_moves (λ items. 300) [] (first_full 300 (omega arith)))
+    ap (λ (o : Outcome). followed_by o o.refused (if_due due moves (after [] o)))
+    (due_moves (λ items. 300) [] (first_full 300 (omega arith)))
     ∙ ap (λ (o : Outcome). let both : Outcome = record { steps = (moves []).steps ++ o.steps; refused = o.refused } in both)
     (due_moves (λ items. 300) (item.Grown which.Memory 4096 256 ∷ []) (then_full 300 (omega arith)))
 
