@@ -3,5 +3,4 @@ pub mod Growth
 pub mod Request
 pub mod Ends
 pub mod Sound
-
 pub mod Bytes

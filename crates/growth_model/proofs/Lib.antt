@@ -1,0 +1,4 @@
+pub mod EndLaws
+pub mod CutLaws
+pub mod SpotLaws
+pub mod FoundLaws
