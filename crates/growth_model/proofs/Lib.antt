@@ -2,3 +2,8 @@ pub mod EndLaws
 pub mod CutLaws
 pub mod SpotLaws
 pub mod FoundLaws
+pub mod BytesLaws
+pub mod FollowLaws
+pub mod ToldLaws
+pub mod StandLaws
+pub mod FillLaws

@@ -20,8 +20,12 @@
 //! contracts are proved.
 #![tactic(auto)]
 
+mod byte_laws;
 mod refusal;
 mod request;
 
+pub use byte_laws::{
+    bytes_follow_calls, bytes_go_by_parts, edits_are_told, newest_fill_decides, tables_are_spelled,
+};
 pub use refusal::Refusal;
 pub use request::Request;
