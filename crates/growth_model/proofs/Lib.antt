@@ -10,3 +10,8 @@ pub mod FirstLaws
 pub mod SoundLaws
 mod GrowthExamples
 mod SoundExamples
+pub mod BytesLaws
+pub mod FollowLaws
+pub mod ToldLaws
+pub mod StandLaws
+pub mod FillLaws
