@@ -15,3 +15,4 @@ pub mod FollowLaws
 pub mod ToldLaws
 pub mod StandLaws
 pub mod FillLaws
+mod BytesExamples
