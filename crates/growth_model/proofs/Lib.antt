@@ -16,3 +16,7 @@ pub mod ToldLaws
 pub mod StandLaws
 pub mod FillLaws
 mod BytesExamples
+mod CarriedExamples
+pub mod CarriedLaws
+pub mod MemoryItemLaws
+pub mod QuietLaws
