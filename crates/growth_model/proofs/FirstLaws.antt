@@ -12,18 +12,22 @@ use Rattle.memblock_model.specs.declared.item.Item.{Item}
 use Rattle.memblock_model.specs.declared.item.Item.TheVariants as item
 use Rattle.memblock_model.specs.Labels.{Label, Labels}
 use Rattle.memblock_model.specs.Items.{Owners, no_owners, owner_of}
-use Rattle.memblock_model.specs.Tables.{table_of, records_for, records_of, pieces, live}
+use Rattle.memblock_model.specs.Tables.{table_of, records_for, records_of, pieces, room_of, live}
 use Rattle.memblock_model.proofs.TableLaws.{records_for-is}
 use Rattle.memblock_ranges.proofs.CountLaws.{few-pieces}
 use Rattle.growth_model.specs.Outcome.{Outcome, nothing, write, ◌>>◌, if_due}
 use Rattle.growth_model.specs.Growth.{count, is_full, new_in, two, grown, reserved_growth, claimed}
 use Rattle.growth_model.specs.Sound.{keeps, Spot, Apart, Spots, Placed, IsImage}
-use Rattle.growth_model.proofs.EndLaws.{skips}
+use Rattle.growth_model.proofs.IdleLaws.{claimed-idle}
 use Rattle.growth_model.proofs.SpotLaws.{covers-from, covers-to, Spot-new}
 
 -- a table that says nothing has no records
-no_records : (f : Labels) → ((x : ℕ) → f x ≡ None) → length (records_for f) ≡ 0
+pub no_records : (f : Labels) → ((x : ℕ) → f x ≡ None) → length (records_for f) ≡ 0
 no_records f none = ap length (sym (records_for-is f [] (λ x le. none x) (record { runs = tt; each = λ x. sym (none x) })))
+
+nothing_said : (w : Which) (x : ℕ) → table_of w [] x ≡ None
+nothing_said which.Memory x = refl
+nothing_said which.Reserved x = refl
 
 -- so the first claim, of one run, finds room
 pub first-full : (r : Extent) → end_of r ≤ 2 ^ 64 → is_full which.Reserved (new_in which.Reserved r) [] ≡ false
@@ -43,15 +47,14 @@ first-full_by_two =
     let enough : length (records_for f) + 2 ≤ 128 = omega arith in
     grind (arith, nat_tests, enough)
 
--- and writes its item alone
+-- so each table fits at first
+pub no_table_full : (w : Which) → count w [] ≤ room_of w []
+unfolding records_of
+no_table_full w = let none = no_records (table_of w []) (nothing_said w) in omega arith
+
+-- and the first claim writes its item alone
 pub first-claimed : (r : Extent) (o : Owner) → end_of r ≤ 2 ^ 64 → claimed r o [] ≡ write (item.Claim r o) []
-unfolding claimed
-first-claimed r o small =
-    let due = is_full which.Reserved (new_in which.Reserved r) in
-    let once = if_due due (reserved_growth r) in
-    let idle : once [] ≡ nothing [] = rw (first-full r small) refl in
-    let twice : (once >> once) [] ≡ nothing [] = skips once once [] idle ∙ idle in
-    skips (once >> once) (write (item.Claim r o)) [] twice
+first-claimed r o small = claimed-idle [] r o (first-full r small)
 
 -- the built-in places, in the last two frames of the image
 abbrev first_items : Extent → List Item
@@ -64,7 +67,8 @@ memory-inside : (kernel : Extent) (x : ℕ) → 8192 ≤ kernel.size → covers 
 memory-inside kernel x large at =
     let inside = covers-from (first_live which.Memory kernel) x at in covers-to kernel x (omega arith) (omega arith)
 
-reserved-inside : (kernel : Extent) (x : ℕ) → 8192 ≤ kernel.size → covers (first_live which.Reserved kernel) x ≡ true → covers kernel x ≡ true
+reserved-inside : (kernel : Extent) (x : ℕ) → 8192 ≤ kernel.size → covers (first_live which.Reserved kernel) x ≡ true
+    → covers kernel x ≡ true
 reserved-inside kernel x large at =
     let inside = covers-from (first_live which.Reserved kernel) x at in covers-to kernel x (omega arith) (omega arith)
 

@@ -5,8 +5,11 @@ pub mod FoundLaws
 pub mod PlacedLaws
 pub mod PlacedReservedLaws
 pub mod PlacedMemoryLaws
+pub mod IdleLaws
 pub mod FirstLaws
 pub mod SoundLaws
+mod GrowthExamples
+mod SoundExamples
 pub mod BytesLaws
 pub mod FollowLaws
 pub mod ToldLaws

@@ -80,13 +80,18 @@ memory-stands kernel r old new stands begun ends =
     stands-by kernel r old new (memory_growth old) (λ placed. memory-cuts kernel old placed) stands begun ends
 
 -- an allocation, whoever it is for
+pub alloc-placed : (kernel : Extent) (r : Result ℕ Refusal) (old new : List Item) (q : Request) (who : Owner)
+    → Placed kernel old → (found : Option ℕ) → place_for q old ≡ found → Allocates r old new found q.size who → Placed kernel new
+alloc-placed kernel r old new q who placed None is ends = subst (Placed kernel) (sym ends.1) placed
+alloc-placed kernel r old new q who placed (Some place) is ends =
+    cuts-ends (Placed kernel) r old new (claimed (record { base = place; size = q.size }) who old)
+    (allocated-cuts kernel old q place who is placed) ends.1
+
 pub alloc-stands : (kernel : Extent) (r : Result ℕ Refusal) (old new : List Item) (q : Request) (who : Owner)
     → Stands kernel old → HasBegun old → (found : Option ℕ) → place_for q old ≡ found → Allocates r old new found q.size who
     → Stands kernel new
-alloc-stands kernel r old new q who stands begun None is ends = subst (Stands kernel) (sym ends.1) stands
-alloc-stands kernel r old new q who stands begun (Some place) is ends =
-    stands-by kernel r old new (claimed (record { base = place; size = q.size }) who old)
-    (λ placed. allocated-cuts kernel old q place who is placed) stands begun ends.1
+alloc-stands kernel r old new q who stands begun found is ends =
+    λ _. alloc-placed kernel r old new q who (stands begun) found is ends
 
 -- items that are written alone
 pub trim-stands : (kernel : Extent) (old new : List Item) → Stands kernel old → HasBegun old → new ≡ old ++ item.Trim ∷ []
