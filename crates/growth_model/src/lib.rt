@@ -21,10 +21,19 @@
 //! contracts are proved.
 #![tactic(auto)]
 
+mod byte_laws;
+mod laws;
 mod memory_laws;
 mod refusal;
 mod request;
 
+pub use byte_laws::{
+    bytes_follow_calls, bytes_go_by_parts, edits_are_told, newest_fill_decides, tables_are_spelled,
+};
+pub use laws::{
+    allocations_keep_places, claims_keep_places, ends_add_up, first_claim_places_tables,
+    found_places_are_free, memory_keeps_places,
+};
 pub use memory_laws::{claims_leave_memory, memory_items_decide, wanted_items_make_memory};
 pub use refusal::Refusal;
 pub use request::Request;

@@ -1,5 +1,6 @@
 //! Why a call that changes memory was refused.
 
+use bm_base::Memory;
 use memblock_model::Which;
 
 /// Why a call that may need a place gave up.
@@ -12,4 +13,15 @@ pub enum Refusal {
     NoGapForTable { which: Which, room: u64 },
     /// The program's own memory ran out.
     Memory,
+}
+
+impl From<Memory> for Refusal {
+    ghost use Rattle.std.specs.Prelude.{◌≡◌};
+    ghost use Rattle.growth_model.specs.declared.refusal.Refusal.TheVariants as refusal;
+
+    ghost from_gives = { λ _ answer. answer ≡ refusal.Memory };
+
+    fn from(_error: Memory) -> Refusal {
+        Refusal::Memory
+    }
 }

@@ -1,0 +1,197 @@
+-- Why what stands behind further items may be told in parts: a table lies at an address until an item moves it away from there, and
+-- where it lies the older bytes don't count.
+use Rattle.std.proofs.Common.{◌≡◌, ℕ, ◌+◌, ◌*◌, ◌<◌, ◌≤◌, ◌==◌, Bool, true, false, ◌&&◌, ◌||◌, if◌then◌else◌, List, [], ◌∷◌, ◌++◌, length, refl, sym, ◌∙◌, ap, subst, append_assoc, arith, length-append}
+use Rattle.std.specs.Prelude.{unwrap_or}
+use Rattle.std.proofs.lemmas.Bool.{ne_eqb}
+use Rattle.std.proofs.lemmas.List.{append-nil}
+use Rattle.std.proofs.Math.Seq.{drop-append_seam}
+use Rattle.bm_base.specs.Extent.{Extent, covers}
+use Rattle.memblock_model.specs.declared.which.Which.{Which}
+use Rattle.memblock_model.specs.declared.which.Which.TheVariants as which
+use Rattle.memblock_model.specs.declared.item.Item.{Item}
+use Rattle.memblock_model.specs.declared.item.Item.TheVariants as item
+use Rattle.memblock_model.specs.Tables.{room_after, room_of, moved_after, moved_to, built_in, live}
+use Rattle.memblock_model.proofs.ItemLaws.{room_of-push, moved_to-push}
+use Rattle.memblock_ranges.specs.Tables.{Table, bytes_of}
+use Rattle.growth_model.specs.Bytes.{table_for, spelled_at, shown_by, shown, leaves, is_left, byte_after, Filled, filled, written, byte, AreMadeBy}
+
+-- a table's bytes behind one more item
+live-push : (w : Which) (kernel : Extent) (items : List Item) (i : Item) →
+    live w kernel (items ++ i ∷ [])
+    ≡ record { base = unwrap_or (moved_after w (moved_to w items) i) (built_in w kernel); size = 24 * room_after w (room_of w items) i }
+live-push w kernel items i = λ k. record {
+  base = unwrap_or (moved_to-push w items i k) (built_in w kernel);
+  size = 24 * room_of-push w items i k;
+}
+
+-- an item that doesn't move a table away from an address leaves it there
+stays_at : (w : Which) (kernel : Extent) (items : List Item) (i : Item) (x : ℕ) → covers (live w kernel items) x ≡ true →
+    leaves kernel items i x ≡ false →
+    covers (record { base = unwrap_or (moved_after w (moved_to w items) i) (built_in w kernel); size = 24 * room_after w (room_of w items) i }) x
+    ≡ true
+stays_at which.Memory kernel items (item.Grown which.Memory place room) x here stays = cc
+stays_at which.Memory kernel items (item.Grown which.Reserved place room) x here stays = here
+stays_at which.Reserved kernel items (item.Grown which.Memory place room) x here stays = here
+stays_at which.Reserved kernel items (item.Grown which.Reserved place room) x here stays = cc
+stays_at w kernel items i x here stays = here
+
+pub stays_or_left : (w : Which) (kernel : Extent) (items : List Item) (i : Item) (x : ℕ) → covers (live w kernel items) x ≡ true →
+    leaves kernel items i x ≡ false → covers (live w kernel (items ++ i ∷ [])) x ≡ true
+stays_or_left w kernel items i x here stays =
+    subst (λ (r : Extent). covers r x ≡ true) (sym (live-push w kernel items i)) (stays_at w kernel items i x here stays)
+
+or_first : (a b : Bool) → (a || b) ≡ false → a ≡ false
+or_first true b h = cc
+or_first false b h = refl
+
+or_second : (a b : Bool) → (a || b) ≡ false → b ≡ false
+or_second true b h = cc
+or_second false b h = h
+
+-- so do several
+pub still_live : (w : Which) (kernel : Extent) (items more : List Item) (x : ℕ) → covers (live w kernel items) x ≡ true →
+    is_left kernel items more x ≡ false → covers (live w kernel (items ++ more)) x ≡ true
+still_live w kernel items [] x here stays = subst (λ (is : List Item). covers (live w kernel is) x ≡ true) (sym (append-nil items)) here
+still_live w kernel items (i ∷ more) x here stays =
+    let now = or_first (leaves kernel items i x) (is_left kernel (items ++ i ∷ []) more x) stays in
+    let later = or_second (leaves kernel items i x) (is_left kernel (items ++ i ∷ []) more x) stays in
+    subst (λ (is : List Item). covers (live w kernel is) x ≡ true) (append_assoc items (i ∷ []) more)
+    (still_live w kernel (items ++ i ∷ []) more x (stays_or_left w kernel items i x here now) later)
+
+-- the byte of two tables that lie where the others lay hides what those showed
+over_bools : (m r n s : Bool) (a b d e c : ℕ) → (m ≡ true → n ≡ true) → (r ≡ true → s ≡ true) →
+    (if n then a else (if s then b else (if m then d else (if r then e else c)))) ≡ (if n then a else (if s then b else c))
+over_bools m r true s a b d e c first second = refl
+over_bools m r false true a b d e c first second = refl
+over_bools true r false false a b d e c first second = let clash : false ≡ true = first refl in cc clash
+over_bools false true false false a b d e c first second = let clash : false ≡ true = second refl in cc clash
+over_bools false false false false a b d e c first second = refl
+
+pub shown_by-over : (m r n s : Table) (x c : ℕ) → (covers (bytes_of m) x ≡ true → covers (bytes_of n) x ≡ true) →
+    (covers (bytes_of r) x ≡ true → covers (bytes_of s) x ≡ true) → shown_by n s x (shown_by m r x c) ≡ shown_by n s x c
+shown_by-over m r n s x c first second =
+    over_bools (covers (bytes_of m) x) (covers (bytes_of r) x) (covers (bytes_of n) x) (covers (bytes_of s) x)
+    (spelled_at n x) (spelled_at s x) (spelled_at m x) (spelled_at r x) c first second
+
+-- what two tables show, they show again
+pub shown_by-again : (m r : Table) (x c : ℕ) → shown_by m r x (shown_by m r x c) ≡ shown_by m r x c
+shown_by-again m r x c = shown_by-over m r m r x c (λ here. here) (λ here. here)
+
+pub shown-further : (kernel : Extent) (items more : List Item) (x c : ℕ) → is_left kernel items more x ≡ false →
+    shown kernel (items ++ more) x (shown kernel items x c) ≡ shown kernel (items ++ more) x c
+shown-further kernel items more x c stays =
+    shown_by-over (table_for which.Memory kernel items) (table_for which.Reserved kernel items)
+    (table_for which.Memory kernel (items ++ more)) (table_for which.Reserved kernel (items ++ more)) x c
+    (λ here. still_live which.Memory kernel items more x here stays)
+    (λ here. still_live which.Reserved kernel items more x here stays)
+
+or_assoc : (a b c : Bool) → (a || (b || c)) ≡ ((a || b) || c)
+or_assoc true b c = refl
+or_assoc false b c = refl
+
+-- an address is left by items and further ones where it is by the first, or by the second behind them
+pub is_left-append : (kernel : Extent) (items more further : List Item) (x : ℕ) →
+    is_left kernel items (more ++ further) x ≡ (is_left kernel items more x || is_left kernel (items ++ more) further x)
+is_left-append kernel items [] further x = ap (λ (is : List Item). is_left kernel is further x) (sym (append-nil items))
+is_left-append kernel items (i ∷ more) further x =
+    ap (λ (b : Bool). leaves kernel items i x || b)
+    (is_left-append kernel (items ++ i ∷ []) more further x
+    ∙ ap (λ (is : List Item). is_left kernel (items ++ i ∷ []) more x || is_left kernel is further x) (append_assoc items (i ∷ []) more))
+    ∙ or_assoc (leaves kernel items i x) (is_left kernel (items ++ i ∷ []) more x) (is_left kernel (items ++ i ∷ more) further x)
+
+pub after-is : (kernel : Extent) (items more : List Item) (x b : ℕ) →
+    byte_after kernel items (items ++ more) x b ≡ shown kernel (items ++ more) x (if is_left kernel items more x then 0 else b)
+unfolding byte_after
+after-is kernel items more x b =
+    ap (λ (is : List Item). shown kernel (items ++ more) x (if is_left kernel items is x then 0 else b)) (drop-append_seam items more)
+
+pub after-along : (kernel : Extent) (items more longer : List Item) (x b : ℕ) → longer ≡ items ++ more →
+    byte_after kernel items longer x b ≡ shown kernel longer x (if is_left kernel items more x then 0 else b)
+after-along kernel items more longer x b goes =
+    subst (λ (l : List Item). byte_after kernel items l x b ≡ shown kernel l x (if is_left kernel items more x then 0 else b)) (sym goes)
+    (after-is kernel items more x b)
+
+-- what was left behind in two parts
+left_twice : (g h : ℕ → ℕ) (first second : Bool) (b : ℕ) → (second ≡ false → (c : ℕ) → g (h c) ≡ g c) →
+    g (if second then 0 else h (if first then 0 else b)) ≡ g (if first || second then 0 else b)
+left_twice g h true true b hides = refl
+left_twice g h false true b hides = refl
+left_twice g h true false b hides = hides refl 0
+left_twice g h false false b hides = hides refl b
+
+-- what stands behind items and further ones is what the further ones make of what stands behind the first
+pub after-after : (kernel : Extent) (items more further : List Item) (x b : ℕ) →
+    byte_after kernel (items ++ more) ((items ++ more) ++ further) x (byte_after kernel items (items ++ more) x b)
+    ≡ byte_after kernel items ((items ++ more) ++ further) x b
+after-after kernel items more further x b =
+    after-is kernel (items ++ more) further x (byte_after kernel items (items ++ more) x b)
+    ∙ ap (λ (n : ℕ). shown kernel ((items ++ more) ++ further) x (if is_left kernel (items ++ more) further x then 0 else n))
+    (after-is kernel items more x b)
+    ∙ left_twice (shown kernel ((items ++ more) ++ further) x) (shown kernel (items ++ more) x) (is_left kernel items more x)
+    (is_left kernel (items ++ more) further x) b (λ stays c. shown-further kernel (items ++ more) further x c stays)
+    ∙ sym (after-along kernel items (more ++ further) ((items ++ more) ++ further) x b (append_assoc items more further)
+    ∙ ap (λ (t : Bool). shown kernel ((items ++ more) ++ further) x (if t then 0 else b)) (is_left-append kernel items more further x))
+
+pub after-chain : (kernel : Extent) (items more further mid last : List Item) (x b : ℕ) → mid ≡ items ++ more → last ≡ mid ++ further →
+    byte_after kernel mid last x (byte_after kernel items mid x b) ≡ byte_after kernel items last x b
+after-chain kernel items more further mid last x b goes goes_on =
+    let P : List Item → Type 0 = λ m. byte_after kernel m (m ++ further) x (byte_after kernel items m x b)
+    ≡ byte_after kernel items (m ++ further) x b in
+    subst (λ (l : List Item). byte_after kernel mid l x (byte_after kernel items mid x b) ≡ byte_after kernel items l x b) (sym goes_on)
+    (subst P (sym goes) (after-after kernel items more further x b))
+
+-- fills that were made before change nothing later
+filled-later : (n m : ℕ) (fills : List Filled) (x b : ℕ) → AreMadeBy n fills → n < m → filled m fills x b ≡ b
+filled-later n m [] x b made less = refl
+filled-later n m (f ∷ fills) x b made less =
+    let earlier : f.at ≤ n = made.0 in
+    let other : (f.at == m) ≡ false = ne_eqb f.at m (λ same. omega arith) in
+    ap (λ (t : Bool). filled m fills x (if t && covers f.range x then f.byte else b)) other ∙ filled-later n m fills x b made.1 less
+
+pub AreMadeBy-more : (n m : ℕ) (fills : List Filled) → n ≤ m → AreMadeBy n fills → AreMadeBy m fills
+AreMadeBy-more n m [] less made = tt
+AreMadeBy-more n m (f ∷ fills) less made = let earlier : f.at ≤ n = made.0 in (omega arith, AreMadeBy-more n m fills less made.1)
+
+pub written-append : (kernel : Extent) (fills : List Filled) (items more further : List Item) (x b : ℕ) →
+    written kernel fills items (more ++ further) x b ≡ written kernel fills (items ++ more) further x (written kernel fills items more x b)
+written-append kernel fills items [] further x b = ap (λ (is : List Item). written kernel fills is further x b) (sym (append-nil items))
+written-append kernel fills items (i ∷ more) further x b =
+    let now = filled (length items + 1) fills x (if leaves kernel items i x then 0 else b) in
+    written-append kernel fills (items ++ i ∷ []) more further x now
+    ∙ ap (λ (is : List Item). written kernel fills is further x (written kernel fills (items ++ i ∷ []) more x now))
+    (append_assoc items (i ∷ []) more)
+
+zero_twice : (first second : Bool) (b : ℕ) → (if second then 0 else (if first then 0 else b)) ≡ (if first || second then 0 else b)
+zero_twice true true b = refl
+zero_twice true false b = refl
+zero_twice false second b = refl
+
+-- behind the last fill only moves write
+written-beyond : (kernel : Extent) (fills : List Filled) (items more : List Item) (x b : ℕ) → AreMadeBy (length items) fills →
+    written kernel fills items more x b ≡ (if is_left kernel items more x then 0 else b)
+written-beyond kernel fills items [] x b made = refl
+written-beyond kernel fills items (i ∷ more) x b made =
+    let now : ℕ = if leaves kernel items i x then 0 else b in
+    let long : length (items ++ i ∷ []) ≡ length items + 1 = length-append items (i ∷ []) in
+    ap (λ (n : ℕ). written kernel fills (items ++ i ∷ []) more x n)
+    (filled-later (length items) (length items + 1) fills x now made (omega arith))
+    ∙ written-beyond kernel fills (items ++ i ∷ []) more x now
+    (AreMadeBy-more (length items) (length (items ++ i ∷ [])) fills (omega arith) made)
+    ∙ zero_twice (leaves kernel items i x) (is_left kernel (items ++ i ∷ []) more x) b
+
+left_once : (g h : ℕ → ℕ) (left : Bool) (b : ℕ) → (left ≡ false → (c : ℕ) → g (h c) ≡ g c) →
+    g (if left then 0 else h b) ≡ g (if left then 0 else b)
+left_once g h true b hides = refl
+left_once g h false b hides = hides refl b
+
+-- the byte of the longer list is what the further items make of the byte
+pub after-byte : (kernel : Extent) (items more : List Item) (fills : List Filled) (x : ℕ) → AreMadeBy (length items) fills →
+    byte_after kernel items (items ++ more) x (byte kernel items fills x) ≡ byte kernel (items ++ more) fills x
+unfolding byte
+after-byte kernel items more fills x made =
+    let old = written kernel fills [] items x (filled 0 fills x 0) in
+    after-is kernel items more x (shown kernel items x old)
+    ∙ left_once (shown kernel (items ++ more) x) (shown kernel items x) (is_left kernel items more x) old
+    (λ stays c. shown-further kernel items more x c stays)
+    ∙ ap (λ (n : ℕ). shown kernel (items ++ more) x n)
+    (sym (written-append kernel fills [] items more x (filled 0 fills x 0) ∙ written-beyond kernel fills items more x old made))

@@ -1,0 +1,215 @@
+-- A place that a search found: nobody has its bytes, so neither table lies there.
+use Rattle.std.proofs.Common.{◌≡◌, ℕ, ◌+◌, ◌*◌, ◌%◌, ◌<◌, ◌≤◌, Bool, true, false, ◌&&◌, ◌==◌, if◌then◌else◌, min, Option, Some, None, List, [], ◌∷◌, ◌++◌, refl, sym, ◌∙◌, ap, subst, inl, inr, ◌⊎◌, arith}
+use Rattle.std.proofs.lemmas.Bool.{and_parts, and_from}
+use Rattle.std.specs.Option.{option_or}
+use Rattle.bm_base.specs.Extent.{Extent, end_of, covers, Meet}
+use Rattle.memblock_model.specs.declared.which.Which.{Which}
+use Rattle.memblock_model.specs.declared.which.Which.TheVariants as which
+use Rattle.memblock_model.specs.declared.owner.Owner.{Owner}
+use Rattle.memblock_model.specs.declared.query.Query.{Query}
+use Rattle.memblock_model.specs.declared.item.Item.{Item}
+use Rattle.memblock_model.specs.Items.{Owners, owner_of, limit_of}
+use Rattle.memblock_model.specs.Tables.{without_owner, table_of, live}
+use Rattle.memblock_model.specs.Search.{best}
+use Rattle.memblock_model.proofs.SearchLaws.{IsPlace, best_in-is, fits_in-parts}
+use Rattle.memblock_ranges.specs.Tables.{Contents, bytes_of, bytes_in, Overlaps}
+use Rattle.growth_model.specs.Growth.{frames_of, frames_at, table_query, place_beside}
+use Rattle.growth_model.specs.declared.request.Request.{Request}
+use Rattle.growth_model.specs.Request.{attempt, anywhere, round, attempts, first_best, place_for}
+use Rattle.growth_model.specs.Sound.{Clear, Unclaimed, Placed, IsAway}
+use Rattle.growth_model.specs.Bytes.{table_for}
+use Rattle.growth_model.proofs.SpotLaws.{covers-from, frames-more, unclaimed-clear}
+
+-- a best place fits
+pub found-fits : (items : List Item) (q : Query) (place : ℕ) → best items q ≡ Some place
+    → IsPlace (table_of which.Memory items) (table_of which.Reserved items) q place
+unfolding best
+found-fits items q place found =
+    fits_in-parts (table_of which.Memory items) (table_of which.Reserved items) q place
+    (best_in-is (table_of which.Memory items) (table_of which.Reserved items) q place found).passes
+
+no_owner : (o : Option Owner) → without_owner o ≡ None → o ≡ None
+no_owner None e = refl
+no_owner (Some o) e = cc
+
+-- nobody has a byte of it
+pub found-unclaimed : (items : List Item) (q : Query) (place : ℕ) → best items q ≡ Some place
+    → Unclaimed (owner_of items) (record { base = place; size = q.size })
+found-unclaimed items q place found x at =
+    let known = found-fits items q place found in
+    let inside = covers-from (record { base = place; size = q.size }) x at in
+    no_owner (owner_of items x) (known.free x inside.0 inside.1)
+
+or_cases : (a b : Option ℕ) (place : ℕ) → option_or a b ≡ Some place → (a ≡ Some place) ⊎ (b ≡ Some place)
+or_cases None b place h = inr h
+or_cases (Some x) b place h = inl h
+
+-- a new place for a table with that room: aligned, nobody's, in the address space, and beside the range
+pub record IsNew (items : List Item) (avoid : Extent) (room place : ℕ) : Type 0 where
+  pub aligned : place % 4096 ≡ 0
+  pub free : Unclaimed (owner_of items) (frames_at place (48 * room))
+  pub within : place + frames_of (48 * room) ≤ limit_of items
+  pub clear : Clear avoid (frames_at place (48 * room))
+
+new_above : (items : List Item) (avoid : Extent) (room place : ℕ)
+    → best items (table_query room (end_of avoid) (limit_of items)) ≡ Some place → IsNew items avoid room place
+new_above items avoid room place found =
+    let known = found-fits items (table_query room (end_of avoid) (limit_of items)) place found in
+    record {
+      aligned = known.aligned;
+      free = found-unclaimed items (table_query room (end_of avoid) (limit_of items)) place found;
+      within = known.high;
+      clear = λ x at_a at_p. let a = covers-from avoid x at_a in
+          let p = covers-from (frames_at place (48 * room)) x at_p in let low = known.low in omega arith;
+    }
+
+new_below : (items : List Item) (avoid : Extent) (room place : ℕ)
+    → best items (table_query room 0 (min avoid.base (limit_of items))) ≡ Some place → IsNew items avoid room place
+new_below items avoid room place found =
+    let known = found-fits items (table_query room 0 (min avoid.base (limit_of items))) place found in
+    let high : place + frames_of (48 * room) ≤ min avoid.base (limit_of items) = known.high in
+    record {
+      aligned = known.aligned;
+      free = found-unclaimed items (table_query room 0 (min avoid.base (limit_of items))) place found;
+      within = omega arith;
+      clear = λ x at_a at_p. let a = covers-from avoid x at_a in
+          let p = covers-from (frames_at place (48 * room)) x at_p in omega arith;
+    }
+
+pub beside-new : (items : List Item) (avoid : Extent) (room place : ℕ) → place_beside avoid room items ≡ Some place
+    → IsNew items avoid room place
+beside-new items avoid room place found =
+    elim (or_cases (best items (table_query room (end_of avoid) (limit_of items)))
+    (best items (table_query room 0 (min avoid.base (limit_of items)))) place found) as (λ _. IsNew items avoid room place)
+    [ inl above ↦ new_above items avoid room place above | inr below ↦ new_below items avoid room place below ]
+
+-- what an allocation tries
+pub record IsTried (r : Request) (limit : ℕ) (q : Query) : Type 0 where
+  pub sized : q.size ≡ r.size
+  pub aligned : q.align ≡ r.align
+  pub high : q.hi ≤ limit
+
+abbrev AreTried : Request → ℕ → List Query → Type 0
+AreTried r limit [] = Unit {0}
+AreTried r limit (q ∷ qs) = IsTried r limit q × AreTried r limit qs
+
+tried_append : (r : Request) (limit : ℕ) (ps qs : List Query) → AreTried r limit ps → AreTried r limit qs → AreTried r limit (ps ++ qs)
+tried_append r limit [] qs h k = k
+tried_append r limit (p ∷ ps) qs h k = (h.0, tried_append r limit ps qs h.1 k)
+
+tried_if : (r : Request) (limit : ℕ) (b : Bool) (ps qs : List Query) → AreTried r limit ps → AreTried r limit qs
+    → AreTried r limit (if b then ps else qs)
+tried_if r limit true ps qs h k = h
+tried_if r limit false ps qs h k = k
+
+tried_attempt : (r : Request) (limit lo : ℕ) (wanted : Option ℕ) → IsTried r limit (attempt r limit lo wanted)
+tried_attempt r limit lo wanted = record { sized = refl; aligned = refl; high = omega arith }
+
+tried_anywhere : (r : Request) (limit lo : ℕ) (wanted : Option ℕ) → AreTried r limit (anywhere r limit lo wanted)
+tried_anywhere r limit lo None = tt
+tried_anywhere r limit lo (Some node) =
+    tried_if r limit r.exact [] (attempt r limit lo None ∷ []) tt (tried_attempt r limit lo None, tt)
+
+tried_round : (r : Request) (limit lo : ℕ) → AreTried r limit (round r limit lo)
+tried_round r limit lo = (tried_attempt r limit lo r.node, tried_anywhere r limit lo r.node)
+
+tried_all : (r : Request) (limit : ℕ) → AreTried r limit (attempts r limit)
+tried_all r limit = tried_append r limit (round r limit r.min) (if r.min == 0 then [] else round r limit 0)
+    (tried_round r limit r.min) (tried_if r limit (r.min == 0) [] (round r limit 0) tt (tried_round r limit 0))
+
+-- a search of it found the place
+pub record IsFound (r : Request) (items : List Item) (limit place : ℕ) : Type 0 where
+  pub query : Query
+  pub tried : IsTried r limit query
+  pub found : best items query ≡ Some place
+
+first_found : (r : Request) (items : List Item) (limit place : ℕ) (qs : List Query) → AreTried r limit qs
+    → first_best items qs ≡ Some place → IsFound r items limit place
+first_found r items limit place [] tried h = cc
+first_found r items limit place (q ∷ qs) tried h =
+    elim (or_cases (best items q) (first_best items qs) place h) as (λ _. IsFound r items limit place) [
+      | inl here ↦ record { query = q; tried = tried.0; found = here }
+      | inr later ↦ first_found r items limit place qs tried.1 later
+    ]
+
+pub place-found : (r : Request) (items : List Item) (place : ℕ) → place_for r items ≡ Some place
+    → IsFound r items (limit_of items) place
+place-found r items place h = first_found r items (limit_of items) place (attempts r (limit_of items)) (tried_all r (limit_of items)) h
+
+-- the place of an allocation is nobody's, and ends below the limit
+pub place-unclaimed : (r : Request) (items : List Item) (place : ℕ) → place_for r items ≡ Some place
+    → Unclaimed (owner_of items) (record { base = place; size = r.size })
+place-unclaimed r items place h =
+    let was = place-found r items place h in
+    subst (λ (n : ℕ). Unclaimed (owner_of items) (record { base = place; size = n })) was.tried.sized
+    (found-unclaimed items was.query place was.found)
+
+pub place-within : (r : Request) (items : List Item) (place : ℕ) → place_for r items ≡ Some place → place + r.size ≤ limit_of items
+place-within r items place h =
+    let was = place-found r items place h in
+    let known = found-fits items was.query place was.found in
+    let high = known.high in
+    let tried = was.tried in
+    omega arith
+
+-- bytes without an owner meet no table
+pub unclaimed-away : (kernel a : Extent) (items : List Item) → Placed kernel items → Unclaimed (owner_of items) a → IsAway kernel a items
+unclaimed-away kernel a items placed free = (
+  unclaimed-clear (owner_of items) a (live which.Memory kernel items) free placed.spots.first,
+  unclaimed-clear (owner_of items) a (live which.Reserved kernel items) free placed.spots.second,
+)
+
+pub found-away : (kernel : Extent) (items : List Item) (q : Query) (place : ℕ) → Placed kernel items → best items q ≡ Some place
+    → IsAway kernel (record { base = place; size = q.size }) items
+found-away kernel items q place placed found =
+    unclaimed-away kernel (record { base = place; size = q.size }) items placed (found-unclaimed items q place found)
+
+-- a part of a range that is away is away
+pub away-within : (kernel a b : Extent) (items : List Item) → ((x : ℕ) → covers b x ≡ true → covers a x ≡ true) → IsAway kernel a items
+    → IsAway kernel b items
+away-within kernel a b items inside away = (λ x at. away.0 x (inside x at), λ x at. away.1 x (inside x at))
+
+-- such a range overlaps neither table, as the tables see it, and the other way round
+away_at : (kernel a : Extent) (items : List Item) (w : Which) → IsAway kernel a items → Meet (live w kernel items) a → ⊥
+away_at kernel a items which.Memory away (x, both) =
+    let parts = and_parts (covers (live which.Memory kernel items) x) (covers a x) both in away.0 x parts.1 parts.0
+away_at kernel a items which.Reserved away (x, both) =
+    let parts = and_parts (covers (live which.Reserved kernel items) x) (covers a x) both in away.1 x parts.1 parts.0
+
+live_bytes : (kernel : Extent) (items : List Item) (t : Contents) (w : Which) → t.memory ≡ table_for which.Memory kernel items
+    → t.reserved ≡ table_for which.Reserved kernel items → bytes_in w t ≡ live w kernel items
+live_bytes kernel items t which.Memory memory reserved = ap bytes_of memory
+live_bytes kernel items t which.Reserved memory reserved = ap bytes_of reserved
+
+pub away-apart : (kernel a : Extent) (items : List Item) (t : Contents) → t.memory ≡ table_for which.Memory kernel items
+    → t.reserved ≡ table_for which.Reserved kernel items → IsAway kernel a items → ¬ Overlaps t a
+away-apart kernel a items t memory reserved away (w, meet) =
+    away_at kernel a items w away (subst (λ (e : Extent). Meet e a) (live_bytes kernel items t w memory reserved) meet)
+
+meet_at : (a b : Extent) (x : ℕ) → covers a x ≡ true → covers b x ≡ true → Meet b a
+meet_at a b x at_a at_b = (x, and_from (covers b x) (covers a x) at_b at_a)
+
+pub apart-away : (kernel a : Extent) (items : List Item) (t : Contents) → t.memory ≡ table_for which.Memory kernel items
+    → t.reserved ≡ table_for which.Reserved kernel items → ¬ Overlaps t a → IsAway kernel a items
+apart-away kernel a items t memory reserved apart = (
+  λ x at_a at_t. apart (
+    which.Memory,
+    subst (λ (e : Extent). Meet e a) (sym (live_bytes kernel items t which.Memory memory reserved))
+        (meet_at a (live which.Memory kernel items) x at_a at_t),
+  ),
+  λ x at_a at_t. apart (
+    which.Reserved,
+    subst (λ (e : Extent). Meet e a) (sym (live_bytes kernel items t which.Reserved memory reserved))
+        (meet_at a (live which.Reserved kernel items) x at_a at_t),
+  ),
+)
+
+-- a place that was found, for a table with twice the room: what `Tables::relocate` wants
+pub found-apart : (kernel : Extent) (items : List Item) (t : Contents) (room place : ℕ) → t.memory ≡ table_for which.Memory kernel items
+    → t.reserved ≡ table_for which.Reserved kernel items → Placed kernel items
+    → Unclaimed (owner_of items) (frames_at place (48 * room)) → ¬ Overlaps t (record { base = place; size = 48 * room })
+found-apart kernel items t room place memory reserved placed free =
+    away-apart kernel (record { base = place; size = 48 * room }) items t memory reserved
+    (away-within kernel (frames_at place (48 * room)) (record { base = place; size = 48 * room }) items
+    (frames-more (record { base = place; size = 48 * room }))
+    (unclaimed-away kernel (frames_at place (48 * room)) items placed free))

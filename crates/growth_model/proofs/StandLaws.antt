@@ -1,0 +1,89 @@
+-- Where both tables lie apart, the bytes at the place of each are those of its records.
+use Rattle.std.proofs.Common.{◌≡◌, ℕ, zero, suc, ◌+◌, ◌-◌, ◌*◌, ◌<◌, ◌≤◌, Bool, true, false, if◌then◌else◌, List, [], ◌∷◌, ◌++◌, length, get_or, refl, sym, ◌∙◌, ap, arith, length-append, inl, inr}
+use Rattle.std.proofs.lemmas.Bool.{cases_Bool}
+use Rattle.std.proofs.lemmas.Bool.Decides.{nat_tests}
+use Rattle.std.proofs.lemmas.List.{length-replicate}
+use Rattle.bm_base.specs.Extent.{Extent, covers}
+use Rattle.phys_store.specs.Bytes.{bytes_at}
+use Rattle.phys_store.proofs.ByteLists.{told_bytes}
+use Rattle.address_runs.specs.Runs.{RunOf}
+use Rattle.memblock_model.specs.Labels.{Label}
+use Rattle.memblock_model.specs.declared.which.Which.{Which}
+use Rattle.memblock_model.specs.declared.which.Which.TheVariants as which
+use Rattle.memblock_model.specs.declared.item.Item.{Item}
+use Rattle.memblock_model.specs.Tables.{records_of, room_of, place_of, live}
+use Rattle.memblock_ranges.specs.Spelling.{spelled_table, spelling_of, node_field}
+use Rattle.memblock_ranges.specs.Tables.{bytes_of}
+use Rattle.memblock_ranges.proofs.SpellLaws.{length-fields_of}
+use Rattle.growth_model.specs.Sound.{Placed, Fits, Clear}
+use Rattle.growth_model.specs.Bytes.{table_for, spelled_at, AreSpelled}
+
+memory_first : (here : Bool) (a c : ℕ) → here ≡ true → (if here then a else c) ≡ a
+memory_first true a c h = refl
+memory_first false a c h = cc
+
+reserved_next : (first second : Bool) (a b c : ℕ) → first ≡ false → second ≡ true → (if first then a else (if second then b else c)) ≡ b
+reserved_next true second a b c out here = cc
+reserved_next false true a b c out here = refl
+reserved_next false false a b c out here = cc
+
+-- no byte lies in both tables
+pub live-clear : (kernel : Extent) (items : List Item) → Placed kernel items →
+    Clear (live which.Memory kernel items) (live which.Reserved kernel items)
+live-clear kernel items placed = λ x here too. placed.spots.apart x x here too refl
+
+beside_memory : (kernel : Extent) (items : List Item) (x : ℕ) → Placed kernel items →
+    covers (live which.Reserved kernel items) x ≡ true → covers (live which.Memory kernel items) x ≡ false
+beside_memory kernel items x placed here =
+    elim (cases_Bool (covers (live which.Memory kernel items) x)) as (λ _. covers (live which.Memory kernel items) x ≡ false) [
+      | inl too ↦ absurd (live-clear kernel items placed x too here)
+      | inr out ↦ out
+    ]
+
+-- the byte at an address of a table's place is that of the spelling
+pub journal-stands : (w : Which) (kernel : Extent) (items : List Item) (f : ℕ → ℕ) (x : ℕ) → Placed kernel items →
+    AreSpelled (table_for which.Memory kernel items) (table_for which.Reserved kernel items) f → covers (live w kernel items) x ≡ true →
+    f x ≡ spelled_at (table_for w kernel items) x
+journal-stands which.Memory kernel items f x placed spelled here =
+    let m = table_for which.Memory kernel items in
+    let r = table_for which.Reserved kernel items in
+    spelled x ∙ memory_first (covers (live which.Memory kernel items) x) (spelled_at m x)
+    (if covers (bytes_of r) x then spelled_at r x else f x) here
+journal-stands which.Reserved kernel items f x placed spelled here =
+    let m = table_for which.Memory kernel items in
+    let r = table_for which.Reserved kernel items in
+    spelled x ∙ reserved_next (covers (live which.Memory kernel items) x) (covers (live which.Reserved kernel items) x)
+    (spelled_at m x) (spelled_at r x) (f x) (beside_memory kernel items x placed here) here
+
+-- a table with room for its records has 24 bytes for each
+pub length-spelled_table : (rs : List (RunOf Label)) (n : ℕ) → length rs ≤ n → length (spelled_table rs n) ≡ 24 * n
+unfolding spelled_table
+length-spelled_table [] n few = length-replicate (24 * n) 0
+length-spelled_table (r ∷ rs) zero few = absurd (omega arith)
+length-spelled_table (r ∷ rs) (suc n) few =
+    let left : suc n - 1 ≡ n = omega arith in
+    let rest = length-spelled_table rs n (omega arith) in
+    let first = length-fields_of r.base r.size (node_field r.value) in
+    ap (λ (k : ℕ). length (spelling_of r ++ spelled_table rs k)) left ∙ length-append (spelling_of r) (spelled_table rs n)
+    ∙ omega (arith, first, rest)
+
+lies : (a n k : ℕ) → k < n → covers (record { base = a; size = n }) (a + k) ≡ true
+lies a n k below = grind (arith, nat_tests)
+
+spelled_here : (w : Which) (kernel : Extent) (items : List Item) (f : ℕ → ℕ) (k : ℕ) → Placed kernel items →
+    AreSpelled (table_for which.Memory kernel items) (table_for which.Reserved kernel items) f → k < 24 * room_of w items →
+    get_or (spelled_table (records_of w items) (room_of w items)) k 0 ≡ f (place_of w kernel items + k)
+spelled_here w kernel items f k placed spelled below =
+    let place = place_of w kernel items in
+    let back : place + k - place ≡ k = omega arith in
+    sym (journal-stands w kernel items f (place + k) placed spelled (lies place (24 * room_of w items) k below)
+    ∙ ap (λ (i : ℕ). get_or (spelled_table (records_of w items) (room_of w items)) i 0) back)
+
+-- the same as one list: the bytes at the place of a table are the spelling of its records
+pub list-stands : (w : Which) (kernel : Extent) (items : List Item) (f : ℕ → ℕ) → Placed kernel items → Fits items →
+    AreSpelled (table_for which.Memory kernel items) (table_for which.Reserved kernel items) f →
+    bytes_at f (place_of w kernel items) (24 * room_of w items) ≡ spelled_table (records_of w items) (room_of w items)
+list-stands w kernel items f placed fits spelled =
+    sym (told_bytes f (place_of w kernel items) (24 * room_of w items) (spelled_table (records_of w items) (room_of w items))
+    (length-spelled_table (records_of w items) (room_of w items) (fits w))
+    (λ k below. spelled_here w kernel items f k placed spelled below))

@@ -1,0 +1,78 @@
+-- What the edits of the two tables make of each byte, as one equation for all addresses.
+use Rattle.std.proofs.Common.{◌≡◌, ℕ, ◌+◌, ◌-◌, ◌*◌, ◌<◌, ◌≤◌, Bool, true, false, if◌then◌else◌, List, get_or, refl, sym, ◌∙◌, ap, arith}
+use Rattle.std.proofs.lemmas.Bool.Decides.{nat_tests}
+use Rattle.bm_base.specs.Extent.{covers}
+use Rattle.phys_store.specs.Bytes.{Stored, byte_of}
+use Rattle.phys_store.proofs.ByteLists.{get-bytes_at}
+use Rattle.address_runs.specs.Runs.{RunOf}
+use Rattle.memblock_model.specs.Labels.{Label}
+use Rattle.memblock_model.specs.declared.which.Which.{Which}
+use Rattle.memblock_model.specs.declared.which.Which.TheVariants as which
+use Rattle.memblock_ranges.specs.Tables.{Table, Contents, table_in, bytes_of, bytes_in, StandsIn}
+use Rattle.growth_model.specs.Bytes.{spelled_at, shown_by, AreSpelled, left_by}
+
+-- a byte of a table that stands in the store is that of the table's spelling
+pub table-told : (t : Table) (s : List Stored) (x : ℕ) → StandsIn t s → covers (bytes_of t) x ≡ true → byte_of s x ≡ spelled_at t x
+table-told t s x stands here =
+    let low : t.place ≤ x = grind (arith, nat_tests) in
+    let high : x < t.place + 24 * t.room = grind (arith, nat_tests) in
+    let back : t.place + (x - t.place) ≡ x = omega arith in
+    sym (ap (λ (bs : List ℕ). get_or bs (x - t.place) 0) (sym stands.bytes)
+    ∙ get-bytes_at (byte_of s) t.place (24 * t.room) (x - t.place) (omega arith) ∙ ap (byte_of s) back)
+
+chosen : (m r : Bool) (y a b c : ℕ) → (m ≡ true → y ≡ a) → (r ≡ true → y ≡ b) → (m ≡ false → r ≡ false → y ≡ c) →
+    y ≡ (if m then a else (if r then b else c))
+chosen true r y a b c first second neither = first refl
+chosen false true y a b c first second neither = second refl
+chosen false false y a b c first second neither = neither refl refl
+
+-- every byte of a store in which both tables stand, from those beside them
+pub all-told : (m r : Table) (s : List Stored) (g : ℕ → ℕ) → StandsIn m s → StandsIn r s →
+    ((x : ℕ) → covers (bytes_of m) x ≡ false → covers (bytes_of r) x ≡ false → byte_of s x ≡ g x) → (x : ℕ) →
+    byte_of s x ≡ shown_by m r x (g x)
+all-told m r s g first second beside x =
+    chosen (covers (bytes_of m) x) (covers (bytes_of r) x) (byte_of s x) (spelled_at m x) (spelled_at r x) (g x)
+    (table-told m s x first) (table-told r s x second) (beside x)
+
+-- two tables that stand in a store lie in its bytes
+pub both-spelled : (m r : Table) (s : List Stored) → StandsIn m s → StandsIn r s → AreSpelled m r (byte_of s)
+both-spelled m r s first second = all-told m r s (byte_of s) first second (λ x beside too. refl)
+
+-- beside both tables no byte lies in either
+beside-one : (w : Which) (t : Contents) (x : ℕ) → covers (bytes_of t.memory) x ≡ false → covers (bytes_of t.reserved) x ≡ false →
+    covers (bytes_in w t) x ≡ false
+beside-one which.Memory t x first second = first
+beside-one which.Reserved t x first second = second
+
+-- after an edit of one table's records (`insert`, `remove`, and at the memory table `set_node`, `trim`)
+pub edit-told : (w : Which) (old new : Contents) (records : List (RunOf Label)) →
+    table_in w new ≡ record (table_in w old) { records = records } →
+    ((x : ℕ) → covers (bytes_in w old) x ≡ false → byte_of new.store x ≡ byte_of old.store x) → StandsIn new.memory new.store →
+    StandsIn new.reserved new.store → (x : ℕ) → byte_of new.store x ≡ shown_by new.memory new.reserved x (byte_of old.store x)
+edit-told w old new records edited elsewhere first second =
+    all-told new.memory new.reserved new.store (byte_of old.store) first second
+    (λ x out too. elsewhere x (ap (λ (t : Table). covers (bytes_of t) x) (sym edited) ∙ beside-one w new x out too))
+
+left_or : (left : Bool) (y b : ℕ) → (left ≡ true → y ≡ 0) → (left ≡ false → y ≡ b) → y ≡ (if left then 0 else b)
+left_or true y b gone stays = gone refl
+left_or false y b gone stays = stays refl
+
+-- after a move of one table (`relocate`)
+pub move-told : (w : Which) (old new : Contents) → ((x : ℕ) → covers (bytes_in w old) x ≡ true → byte_of new.store x ≡ 0) →
+    ((x : ℕ) → covers (bytes_in w new) x ≡ false → covers (bytes_in w old) x ≡ false → byte_of new.store x ≡ byte_of old.store x) →
+    StandsIn new.memory new.store → StandsIn new.reserved new.store → (x : ℕ) →
+    byte_of new.store x ≡ shown_by new.memory new.reserved x (left_by (table_in w old) x (byte_of old.store x))
+move-told w old new gone elsewhere first second =
+    all-told new.memory new.reserved new.store (λ x. left_by (table_in w old) x (byte_of old.store x)) first second
+    (λ x out too. left_or (covers (bytes_in w old) x) (byte_of new.store x) (byte_of old.store x) (gone x)
+    (λ away. elsewhere x (beside-one w new x out too) away))
+
+-- after a call that changes neither table nor a byte (`prepare`)
+pub still-told : (old new : Contents) → new.memory ≡ old.memory → new.reserved ≡ old.reserved →
+    ((x : ℕ) → byte_of new.store x ≡ byte_of old.store x) → AreSpelled old.memory old.reserved (byte_of old.store) →
+    AreSpelled new.memory new.reserved (byte_of new.store)
+still-told old new first second same spelled = λ x.
+    same x ∙ spelled x
+    ∙ sym (ap (λ (n : ℕ). shown_by new.memory new.reserved x n) (same x)
+    ∙ ap (λ (t : Table). shown_by t new.reserved x (byte_of old.store x)) first
+    ∙ ap (λ (t : Table). shown_by old.memory t x (byte_of old.store x)) second)

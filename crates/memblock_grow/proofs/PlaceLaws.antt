@@ -1,0 +1,168 @@
+-- The places that the tables' own search finds are those of the items, and what a table leaves is what the items say.
+use Rattle.std.proofs.Common.{◌≡◌, ◌≢◌, ℕ, ◌+◌, ◌*◌, ◌^◌, ◌<◌, ◌≤◌, ◌==◌, Bool, true, false, min, if◌then◌else◌, Option, Some, None, List, [], ◌∷◌, ◌++◌, length, refl, sym, ◌∙◌, ap, subst, inl, inr, ◌⊎◌, fold, arith}
+use Rattle.std.proofs.lemmas.Bool.{cases_Bool, eq-eqb, eqb-true}
+use Rattle.std.proofs.lemmas.Bool.Decides.{nat_tests}
+use Rattle.std.specs.Prelude.{unwrap_or}
+use Rattle.std.specs.Option.{option_map, option_or, SomeIff}
+use Rattle.bm_base.specs.Extent.{Extent, end_of}
+use Rattle.address_runs.specs.Runs.{value_at}
+use Rattle.memblock_model.specs.declared.which.Which.{Which}
+use Rattle.memblock_model.specs.declared.which.Which.TheVariants as which
+use Rattle.memblock_model.specs.declared.query.Query.{Query}
+use Rattle.memblock_model.specs.declared.item.Item.{Item}
+use Rattle.memblock_model.specs.declared.item.Item.TheVariants as item
+use Rattle.memblock_model.specs.Labels.{Labels}
+use Rattle.memblock_model.specs.Same.{same_which}
+use Rattle.memblock_model.specs.Items.{limit_of}
+use Rattle.memblock_model.specs.Tables.{table_of, room_of, room_after, moved_to, moved_after, place_of, built_in}
+use Rattle.memblock_model.specs.Search.{fits_in, best_in, best}
+use Rattle.memblock_model.proofs.SearchLaws.{best_in-is, best_in-fails, fits_in-parts}
+use Rattle.memblock_ranges.specs.Tables.{Contents, records_in, room_in, place_in}
+use Rattle.growth_model.specs.Growth.{frames_of, frames_at, table_query, place_beside, old_frames}
+use Rattle.memblock_grow.specs.Kept.{AreKept}
+use Rattle.memblock_grow.specs.Places.{best_of, frames_between, frames_beside, left_frames}
+use Rattle.memblock_grow.proofs.KeptLaws.{values-are, room-is, place-is}
+
+-- a window that is too small has no place
+pub best_in-large : (memory reserved : Labels) (q : Query) → q.hi < q.size → best_in memory reserved q ≡ None
+best_in-large memory reserved q small =
+    best_in-fails memory reserved q (λ b lt.
+    elim (cases_Bool (fits_in memory reserved q b)) as (λ _. fits_in memory reserved q b ≡ false) [
+      | inl fits ↦ let high = (fits_in-parts memory reserved q b fits).high in absurd (omega arith)
+      | inr fails ↦ fails
+    ])
+
+-- what is found ends in the window
+pub best_in-high : (memory reserved : Labels) (q : Query) (place : ℕ) → best_in memory reserved q ≡ Some place → place + q.size ≤ q.hi
+best_in-high memory reserved q place found =
+    (fits_in-parts memory reserved q place (best_in-is memory reserved q place found).passes).high
+
+-- the best by the tables is the best by the items
+pub best-is : (kernel : Extent) (items : List Item) (t : Contents) (at : ℕ) (q : Query) → AreKept kernel items t at
+    → best_of t q ≡ best items q
+unfolding best
+best-is kernel items t at q kept =
+    ap (λ (f : Labels). best_in f (value_at t.reserved.records) q) (values-are which.Memory kernel items t at kept)
+    ∙ ap (λ (f : Labels). best_in (table_of which.Memory items) f q) (values-are which.Reserved kernel items t at kept)
+
+pub between-is : (kernel : Extent) (items : List Item) (t : Contents) (at lo hi : ℕ) → AreKept kernel items t at
+    → frames_between t (room_in which.Memory t) lo hi
+    ≡ option_map (λ place. frames_at place (48 * room_of which.Memory items)) (best items (table_query (room_of which.Memory items) lo hi))
+between-is kernel items t at lo hi kept =
+    ap (λ (n : ℕ). frames_between t n lo hi) (room-is which.Memory kernel items t at kept)
+    ∙ ap (λ (o : Option ℕ). option_map (λ place. frames_at place (48 * room_of which.Memory items)) o)
+    (best-is kernel items t at (table_query (room_of which.Memory items) lo hi) kept)
+
+pub beside-is : (kernel : Extent) (items : List Item) (t : Contents) (at : ℕ) (avoid : Extent) → AreKept kernel items t at
+    → frames_beside t (room_in which.Reserved t) at avoid
+    ≡ option_map (λ place. frames_at place (48 * room_of which.Reserved items)) (place_beside avoid (room_of which.Reserved items) items)
+beside-is kernel items t at avoid kept =
+    let n = room_of which.Reserved items in
+    let frames : Option ℕ → Option Extent = λ o. option_map (λ place. frames_at place (48 * n)) o in
+    ap (λ (m : ℕ). frames_beside t m at avoid) (room-is which.Reserved kernel items t at kept)
+    ∙ ap (λ (m : ℕ). frames_beside t n m avoid) (sym kept.limit)
+    ∙ ap (λ (o : Option ℕ). frames (option_or o (best_of t (table_query n 0 (min avoid.base (limit_of items))))))
+    (best-is kernel items t at (table_query n (end_of avoid) (limit_of items)) kept)
+    ∙ ap (λ (o : Option ℕ). frames (option_or (best items (table_query n (end_of avoid) (limit_of items))) o))
+    (best-is kernel items t at (table_query n 0 (min avoid.base (limit_of items))) kept)
+
+-- what is found among frames is found
+pub record IsPlaceOf (o : Option ℕ) (n : ℕ) (place : Extent) : Type 0 where
+  pub found : o ≡ Some place.base
+  pub is : place ≡ frames_at place.base n
+
+pub mapped-some : (o : Option ℕ) (n : ℕ) (place : Extent) → option_map (λ (p : ℕ). frames_at p n) o ≡ Some place → IsPlaceOf o n place
+mapped-some None n place h = cc
+mapped-some (Some p) n place h =
+    let is : frames_at p n ≡ place = cc in
+    let base : p ≡ place.base = ap (λ (e : Extent). e.base) is in
+    record {
+      found = ap (λ (x : ℕ). Some x) base;
+      is = sym is ∙ ap (λ (x : ℕ). frames_at x n) base;
+    }
+
+pub mapped-none : (o : Option ℕ) (n : ℕ) → option_map (λ (p : ℕ). frames_at p n) o ≡ None → o ≡ None
+mapped-none None n h = refl
+mapped-none (Some p) n h = cc
+
+-- a table has moved exactly where its room isn't the first
+Moved : ℕ → Option ℕ → Type 0
+Moved n None = n ≡ 128
+Moved n (Some p) = 256 ≤ n
+
+moved-by : (same : Bool) (n : ℕ) (o : Option ℕ) (place : ℕ) → Moved n o → Moved (if same then 2 * n else n) (if same then Some place else o)
+unfolding Moved
+moved-by false n o place h = h
+moved-by true n None place h = omega arith
+moved-by true n (Some p) place h = omega arith
+
+moved-after : (w : Which) (n : ℕ) (o : Option ℕ) (i : Item) → Moved n o → Moved (room_after w n i) (moved_after w o i)
+moved-after w n o (item.Grown v place room) h = moved-by (same_which w v) n o place h
+moved-after w n o i h = h
+
+moved-fold : (w : Which) (n : ℕ) (o : Option ℕ) (items : List Item) → Moved n o
+    → Moved (fold (room_after w) n items) (fold (moved_after w) o items)
+moved-fold w n o [] h = h
+moved-fold w n o (i ∷ is) h = moved-fold w (room_after w n i) (moved_after w o i) is (moved-after w n o i h)
+
+moved-is : (w : Which) (items : List Item) → Moved (room_of w items) (moved_to w items)
+unfolding Moved
+moved-is w items = moved-fold w 128 None items refl
+
+left-by : (n built : ℕ) (o : Option ℕ) → Moved n o → left_frames (unwrap_or o built) n ≡ old_frames n o
+unfolding Moved
+left-by n built None h = let first : (n == 128) ≡ true = eq-eqb n 128 h in rw first refl
+left-by n built (Some p) h = let later : (n == 128) ≡ false = grind (arith, nat_tests) in rw later refl
+
+-- what a table leaves is what the items say of its old place
+pub left-is : (w : Which) (kernel : Extent) (items : List Item) (t : Contents) (at : ℕ) → AreKept kernel items t at
+    → left_frames (place_in w t) (room_in w t) ≡ old_frames (room_of w items) (moved_to w items)
+left-is w kernel items t at kept =
+    ap (λ (n : ℕ). left_frames n (room_in w t)) (place-is w kernel items t at kept)
+    ∙ ap (λ (n : ℕ). left_frames (place_of w kernel items) n) (room-is w kernel items t at kept)
+    ∙ left-by (room_of w items) (built_in w kernel) (moved_to w items) (moved-is w items)
+
+far-by : (n built : ℕ) (o : Option ℕ) → Moved n o → n ≢ 128 → ((p : ℕ) → o ≡ Some p → p + frames_of (24 * n) < 2 ^ 64)
+    → unwrap_or o built + frames_of (24 * n) < 2 ^ 64
+unfolding Moved
+far-by n built None h other far = absurd (other h)
+far-by n built (Some p) h other far = far p refl
+
+pub left-far : (w : Which) (kernel : Extent) (items : List Item) (t : Contents) (at : ℕ) → AreKept kernel items t at
+    → room_in w t ≢ 128 → place_in w t + frames_of (24 * room_in w t) < 2 ^ 64
+left-far w kernel items t at kept other =
+    let n = room-is w kernel items t at kept in
+    let here = far-by (room_of w items) (built_in w kernel) (moved_to w items) (moved-is w items) (λ e. other (n ∙ e)) (kept.far w) in
+    subst (λ (m : ℕ). m + frames_of (24 * room_in w t) < 2 ^ 64) (sym (place-is w kernel items t at kept))
+    (subst (λ (m : ℕ). place_of w kernel items + frames_of (24 * m) < 2 ^ 64) (sym n) here)
+
+-- the answers of the search among frames
+pub between-none : (t : Contents) (room lo hi : ℕ) → hi < 2 ^ 64 → ¬ (frames_of (48 * room) < 2 ^ 64) → None ≡ frames_between t room lo hi
+between-none t room lo hi small large =
+    let high : hi < frames_of (48 * room) = omega (arith, large) in
+    sym (ap (λ (o : Option ℕ). option_map (λ place. frames_at place (48 * room)) o)
+    (best_in-large (value_at t.memory.records) (value_at t.reserved.records) (table_query room lo hi) high))
+
+abbrev sized : ℕ → ℕ → ℕ → Query
+sized lo hi size = record { lo = lo; hi = hi; size = size; align = 4096; node = None }
+
+new_some : (o : Option Extent) (base size : ℕ) → SomeIff o (base + size < 2 ^ 64) (record { base = base; size = size })
+    → base + size < 2 ^ 64 → o ≡ Some (record { base = base; size = size })
+new_some None base size h small = absurd (h small)
+new_some (Some e) base size h small = ap (λ (x : Extent). Some x) h.1
+
+pub between-some : (t : Contents) (room lo hi size base : ℕ) (o : Option Extent) → size ≡ frames_of (48 * room)
+    → best_of t (sized lo hi size) ≡ Some base → SomeIff o (base + size < 2 ^ 64) (record { base = base; size = size }) → hi < 2 ^ 64
+    → o ≡ frames_between t room lo hi
+between-some t room lo hi size base o is found new small =
+    let high : base + size ≤ hi = best_in-high (value_at t.memory.records) (value_at t.reserved.records) (sized lo hi size) base found in
+    new_some o base size new (omega arith)
+    ∙ ap (λ (n : ℕ). Some (let e : Extent = record { base = base; size = n } in e)) is
+    ∙ sym (ap (λ (o : Option ℕ). option_map (λ place. frames_at place (48 * room)) o)
+    (sym (ap (λ (n : ℕ). best_of t (sized lo hi n)) is) ∙ found))
+
+pub between-nowhere : (t : Contents) (room lo hi size : ℕ) → size ≡ frames_of (48 * room) → best_of t (sized lo hi size) ≡ None
+    → None ≡ frames_between t room lo hi
+between-nowhere t room lo hi size is none =
+    sym (ap (λ (o : Option ℕ). option_map (λ place. frames_at place (48 * room)) o)
+    (sym (ap (λ (n : ℕ). best_of t (sized lo hi n)) is) ∙ none))

@@ -1,0 +1,7 @@
+use Rattle.growth_model.proofs.ToldLaws.{move-told}
+use Rattle.memblock_grow.proofs.edits.relocate.Goals as goal
+
+pub returns-clause-bytes : goal.returns-clause-bytes
+returns-clause-bytes c =
+    move-told c.args.which c.args.tables.now c.relocate.new.self c.relocate.ensures.left c.relocate.ensures.elsewhere
+    c.look.ensures.memory c.look.ensures.reserved

@@ -1,0 +1,34 @@
+-- How many records an edit may add, and what growths come to.
+use Rattle.std.specs.Prelude.{◌≡◌, ℕ, ◌+◌, ◌*◌, ◌^◌, ◌<◌, ◌≤◌, List, length}
+use Rattle.bm_base.specs.Extent.{end_of}
+use Rattle.address_runs.specs.Runs.{value_at}
+use Rattle.memblock_model.specs.declared.which.Which.{Which}
+use Rattle.memblock_model.specs.declared.item.Item.{Item}
+use Rattle.memblock_model.specs.Tables.{pieces}
+use Rattle.memblock_ranges.specs.Tables.{Table}
+use Rattle.growth_model.specs.Growth.{new_in, two}
+use Rattle.memblock_grow.specs.declared.more.More.{More}
+use Rattle.memblock_grow.specs.declared.more.More.TheVariants as more
+
+-- by the items, and by a table
+abbrev pub more_by : Which → More → List Item → ℕ
+more_by w (more.PiecesOf range) = new_in w range
+more_by w more.Two = two
+
+abbrev pub more_in : More → Table → ℕ
+more_in (more.PiecesOf range) t = pieces range (value_at t.records)
+more_in more.Two t = 2
+
+-- the table has room for them
+abbrev pub HasRoom : More → Table → Type 0
+HasRoom m t = length t.records + more_in m t ≤ t.room
+
+-- a table has grown once: it has twice the room, and at most three records more
+pub record Grew (old new : Table) : Type 0 where
+  pub room : new.room ≡ 2 * old.room
+  pub few : length new.records ≤ length old.records + 3
+
+-- a range of them ends in the address space
+abbrev pub EndsBefore : More → Type 0
+EndsBefore (more.PiecesOf range) = end_of range < 2 ^ 64
+EndsBefore more.Two = Unit {0}

@@ -1,0 +1,104 @@
+//! The edits of the tables as growth needs them: beside what becomes of the records, what becomes of each byte, as one equation.
+ghost use Rattle.std.specs.Prelude.{◌≡◌, ℕ, ◌+◌, ◌*◌, ◌^◌, ◌<◌, ◌≤◌, Some, length};
+ghost use Rattle.address_runs.specs.Runs.{value_at};
+ghost use Rattle.address_runs.specs.Edits.{covered, uncovered, relabelled};
+ghost use Rattle.phys_store.specs.Bytes.{byte_of, AreReady};
+ghost use Rattle.memblock_model.specs.Labels.{plain_label, with_node};
+ghost use Rattle.memblock_model.specs.Items.{trimmed};
+ghost use Rattle.memblock_model.specs.Tables.{records_for, pieces};
+ghost use Rattle.bm_base.specs.Extent.{end_of};
+ghost use Rattle.memblock_ranges.specs.Tables.{table_in, other_in, records_in, room_in, Overlaps, StandsIn};
+ghost use Rattle.growth_model.specs.Bytes.{shown_by, left_by};
+ghost use Rattle.memblock_grow.specs.Kept.{AreTold, StayReady};
+
+use bm_base::Range;
+use memblock_model::Which;
+use memblock_ranges::Tables;
+
+/// The node of a record that has none (`MAX_NUMNODES`).
+const NO_NODE: u32 = 1024;
+
+/// The bytes of both tables: a look at their heads, for what it tells of the bytes there.
+fn look(tables: &Tables)
+    ensures memory { StandsIn tables.now.memory tables.now.store }
+    ensures reserved { StandsIn tables.now.reserved tables.now.store }
+{
+    let _memory = tables.head(Which::Memory);
+    let _reserved = tables.head(Which::Reserved);
+}
+
+/// The table covers the range: what it didn't cover yet has no node.
+pub fn cover(tables: &mut Tables, which: Which, range: Range)
+    requires some { 0 < range.size }
+    requires room { length (records_in which tables.old) + pieces range (value_at (records_in which tables.old)) ≤ room_in which tables.old }
+    ensures table { table_in which tables.new ≡ record (table_in which tables.old) {
+      records = records_for (covered range plain_label (value_at (records_in which tables.old)));
+    } }
+    ensures other { other_in which tables.new ≡ other_in which tables.old }
+    ensures bytes { AreTold tables.old tables.new }
+    ensures still_ready { StayReady tables.old.store tables.new.store }
+    ensures within { end_of range < 2 ^ 64 }
+{
+    let _end = range.end();
+    tables.insert(which, range, NO_NODE);
+    look(tables);
+}
+
+/// The reserved table doesn't cover the range any more.
+pub fn uncover(tables: &mut Tables, range: Range)
+    requires { length tables.old.reserved.records + 2 ≤ tables.old.reserved.room }
+    ensures reserved { tables.new.reserved ≡ record tables.old.reserved {
+      records = records_for (uncovered range (value_at tables.old.reserved.records));
+    } }
+    ensures memory { tables.new.memory ≡ tables.old.memory }
+    ensures bytes { AreTold tables.old tables.new }
+    ensures still_ready { StayReady tables.old.store tables.new.store }
+    ensures within { end_of range < 2 ^ 64 }
+{
+    let _end = range.end();
+    tables.remove(Which::Reserved, range);
+    look(tables);
+}
+
+/// The memory of the range gets the node.
+pub fn relabel(tables: &mut Tables, range: Range, node: u32)
+    requires node { node < 1024 }
+    requires room { length tables.old.memory.records + 2 ≤ tables.old.memory.room }
+    ensures memory { tables.new.memory ≡ record tables.old.memory {
+      records = records_for (relabelled range (with_node (Some node)) (value_at tables.old.memory.records));
+    } }
+    ensures reserved { tables.new.reserved ≡ tables.old.reserved }
+    ensures bytes { AreTold tables.old tables.new }
+    ensures still_ready { StayReady tables.old.store tables.new.store }
+    ensures within { end_of range < 2 ^ 64 }
+{
+    let _end = range.end();
+    tables.set_node(range, node);
+    look(tables);
+}
+
+/// Memory is cut to whole frames.
+pub fn trim(tables: &mut Tables)
+    ensures memory { tables.new.memory ≡ record tables.old.memory { records = records_for (trimmed (value_at tables.old.memory.records)) } }
+    ensures reserved { tables.new.reserved ≡ tables.old.reserved }
+    ensures bytes { AreTold tables.old tables.new }
+    ensures still_ready { StayReady tables.old.store tables.new.store }
+{
+    tables.trim();
+    look(tables);
+}
+
+/// The table moves to the place, which is prepared and meets no table, and has twice the room.
+pub fn relocate(tables: &mut Tables, which: Which, place: u64)
+    requires small { place + 48 * room_in which tables.old < 2 ^ 64 }
+    requires prepared { AreReady tables.old.store place (48 * room_in which tables.old) }
+    requires apart { ¬ Overlaps tables.old (record { base = place; size = 48 * room_in which tables.old }) }
+    ensures table { table_in which tables.new ≡ record (table_in which tables.old) { place = place; room = 2 * room_in which tables.old } }
+    ensures other { other_in which tables.new ≡ other_in which tables.old }
+    ensures bytes { (x : ℕ) → byte_of tables.new.store x ≡
+        shown_by tables.new.memory tables.new.reserved x (left_by (table_in which tables.old) x (byte_of tables.old.store x)) }
+    ensures still_ready { StayReady tables.old.store tables.new.store }
+{
+    tables.relocate(which, place);
+    look(tables);
+}

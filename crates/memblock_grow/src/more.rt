@@ -1,0 +1,35 @@
+//! Whether a table has room for an edit. An edit inside a table may split a record at both ends of its range, so it adds two at most;
+//! one that covers a range adds a record for each piece of it that isn't covered yet (`memblock_add_range`, its count).
+ghost use Rattle.std.specs.Prelude.{◌≡◌, ◌+◌, nat_lt, length};
+ghost use Rattle.memblock_ranges.specs.Tables.{table_in, records_in, room_in};
+ghost use Rattle.memblock_grow.specs.More.{more_in, EndsBefore};
+
+use bm_base::Range;
+use memblock_model::Which;
+use memblock_ranges::Tables;
+
+/// How many records an edit may add to a table.
+#[derive(Clone, Copy, Debug, PartialEq, Eq)]
+pub enum More {
+    /// One for each run of the range's bytes that the table doesn't cover.
+    PiecesOf(Range),
+    /// Two.
+    Two,
+}
+
+/// Whether the table's records, and so many more, exceed its room.
+pub fn is_full(tables: &Tables, which: Which, more: &More) -> bool
+    ensures full { result ≡
+        nat_lt (room_in which tables.now) (length (records_in which tables.now) + more_in more.now (table_in which tables.now)) }
+    ensures within { EndsBefore more.now }
+{
+    let head = tables.head(which);
+    let free = head.room - head.count;
+    match more {
+        More::PiecesOf(range) => {
+            let _end = range.end();
+            free < tables.pieces(which, *range)
+        }
+        More::Two => free < 2,
+    }
+}

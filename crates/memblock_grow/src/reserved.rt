@@ -1,0 +1,150 @@
+//! The reserved table: its growth, claims and freeings.
+//!
+//! The growth avoids the range that is being claimed or freed, so that the table never lands in it. Its new place is claimed
+//! like any other, and what it leaves is freed. A claim doubles the table up to twice before it writes anything.
+ghost use Rattle.std.specs.Prelude.{◌≡◌, ◌+◌, ◌-◌, ◌<◌, ◌≤◌, ◌⊎◌, false, OnOk, OnErr, IsOk, length};
+ghost use Rattle.memblock_model.specs.declared.which.Which.TheVariants as tables_of;
+ghost use Rattle.growth_model.specs.Outcome.{if_due};
+ghost use Rattle.growth_model.specs.Growth.{reserved_growth, grown, claimed, freed, new_in, two, is_full as is_full_by};
+ghost use Rattle.growth_model.specs.Ends.{Ends};
+ghost use Rattle.growth_model.specs.Sound.{HasBegun};
+ghost use Rattle.memblock_grow.specs.Kept.{IsKept, AllowsClaim, AllowsFree, Keeps, KeepsBytes, StayReady};
+ghost use Rattle.memblock_grow.specs.More.{more_by, HasRoom, Grew};
+
+use crate::edits::{cover, relocate, uncover};
+use crate::more::{More, is_full};
+use crate::places::{left_place, place_beside};
+use bm_base::Range;
+use boot_journal::{Item, Journal, Owner, Which};
+use growth_model::Refusal;
+use memblock_ranges::Tables;
+
+/// The table doubles, at a place beside the range (`memblock_double_array`): one step of three items, or of two where it
+/// lay in the kernel's image. Nothing is written where it finds no place, or where memory runs out.
+fn grow_reserved(journal: &mut Journal, tables: &mut Tables, limit: u64, avoid: Range) -> Result<(), Refusal>
+    requires kept { IsKept journal.old.items tables.old limit }
+    requires begun { HasBegun journal.old.items }
+    ensures ends { Ends result journal.old.items journal.new.items (reserved_growth avoid) }
+    ensures kept { Keeps journal.old.items tables.old journal.new.items tables.new limit }
+    ensures bytes { KeepsBytes journal.old.items tables.old journal.new.items tables.new limit }
+    ensures still_ready { StayReady tables.old.store tables.new.store }
+    ensures memory { tables.new.memory ≡ tables.old.memory }
+    ensures grew { OnOk result (Grew tables.old.reserved tables.new.reserved) }
+{
+    let head = tables.head(Which::Reserved);
+    let Some(place) = place_beside(tables, head.room, limit, avoid) else {
+        return Err(Refusal::NoGapForTable {
+            which: Which::Reserved,
+            room: head.room,
+        });
+    };
+    let left = left_place(head);
+    tables.prepare(place)?;
+    journal.ready(3)?;
+    relocate(tables, Which::Reserved, place.base);
+    journal.push_ready(Item::Grown {
+        which: Which::Reserved,
+        place: place.base,
+        room: 2 * head.room,
+    });
+    journal.push_ready(Item::Claim {
+        range: place,
+        owner: Owner::Table(Which::Reserved),
+    });
+    cover(tables, Which::Reserved, place);
+    match left {
+        Some(range) => {
+            journal.push_ready(Item::Free { range });
+            uncover(tables, range);
+            Ok(())
+        }
+        None => Ok(()),
+    }
+}
+
+/// The table doubles if it is full.
+fn grow_reserved_once(
+    journal: &mut Journal,
+    tables: &mut Tables,
+    limit: u64,
+    avoid: Range,
+    more: &More,
+) -> Result<(), Refusal>
+    requires { IsKept journal.old.items tables.old limit }
+    ensures ends { Ends result journal.old.items journal.new.items
+        (if_due (is_full_by tables_of.Reserved (more_by tables_of.Reserved more.now)) (reserved_growth avoid)) }
+    ensures kept { Keeps journal.old.items tables.old journal.new.items tables.new limit }
+    ensures bytes { KeepsBytes journal.old.items tables.old journal.new.items tables.new limit }
+    ensures still_ready { StayReady tables.old.store tables.new.store }
+    ensures memory { tables.new.memory ≡ tables.old.memory }
+    ensures grew { OnOk result (HasRoom more.now tables.new.reserved ⊎ Grew tables.old.reserved tables.new.reserved) }
+    ensures idle { HasRoom more.now tables.old.reserved →
+        IsOk result × (journal.new ≡ journal.old) × (tables.new ≡ tables.old) }
+{
+    if is_full(tables, Which::Reserved, more) {
+        grow_reserved(journal, tables, limit, avoid)
+    } else {
+        Ok(())
+    }
+}
+
+/// The table has room for so many more records: it doubles while it is full, twice at most.
+fn make_reserved_room(
+    journal: &mut Journal,
+    tables: &mut Tables,
+    limit: u64,
+    avoid: Range,
+    more: &More,
+) -> Result<(), Refusal>
+    requires { IsKept journal.old.items tables.old limit }
+    ensures ends { Ends result journal.old.items journal.new.items
+        (grown tables_of.Reserved (more_by tables_of.Reserved more.now) (reserved_growth avoid)) }
+    ensures kept { Keeps journal.old.items tables.old journal.new.items tables.new limit }
+    ensures bytes { KeepsBytes journal.old.items tables.old journal.new.items tables.new limit }
+    ensures still_ready { StayReady tables.old.store tables.new.store }
+    ensures memory { tables.new.memory ≡ tables.old.memory }
+    ensures room { OnOk result (HasRoom more.now tables.new.reserved) }
+    ensures idle { HasRoom more.now tables.old.reserved →
+        IsOk result × (journal.new ≡ journal.old) × (tables.new ≡ tables.old) }
+{
+    grow_reserved_once(journal, tables, limit, avoid, more)?;
+    grow_reserved_once(journal, tables, limit, avoid, more)
+}
+
+/// The range is claimed for the owner (`memblock_reserve`). Where an item can be appended without wanting memory and the
+/// table has room, the call takes none.
+pub fn claim(journal: &mut Journal, tables: &mut Tables, limit: u64, range: Range, owner: Owner) -> Result<(), Refusal>
+    requires some { 0 < range.size }
+    requires may { AllowsClaim journal.old.items tables.old limit range owner }
+    ensures ends { Ends result journal.old.items journal.new.items (claimed range owner) }
+    ensures kept { Keeps journal.old.items tables.old journal.new.items tables.new limit }
+    ensures bytes { KeepsBytes journal.old.items tables.old journal.new.items tables.new limit }
+    ensures still_ready { StayReady tables.old.store tables.new.store }
+    ensures memory { tables.new.memory ≡ tables.old.memory }
+    ensures ready { 0 < journal.old.spare → is_full_by tables_of.Reserved (new_in tables_of.Reserved range) journal.old.items ≡ false →
+        IsOk result × (journal.new.spare ≡ journal.old.spare - 1) }
+{
+    make_reserved_room(journal, tables, limit, range, &More::PiecesOf(range))?;
+    journal.push(Item::Claim { range, owner })?;
+    cover(tables, Which::Reserved, range);
+    Ok(())
+}
+
+/// The range is freed (`memblock_phys_free`). It takes no memory where a claim wouldn't.
+pub fn free(journal: &mut Journal, tables: &mut Tables, limit: u64, range: Range) -> Result<(), Refusal>
+    requires some { 0 < range.size }
+    requires begun { HasBegun journal.old.items }
+    requires away { AllowsFree journal.old.items tables.old limit range }
+    ensures ends { Ends result journal.old.items journal.new.items (freed range) }
+    ensures kept { Keeps journal.old.items tables.old journal.new.items tables.new limit }
+    ensures bytes { KeepsBytes journal.old.items tables.old journal.new.items tables.new limit }
+    ensures still_ready { StayReady tables.old.store tables.new.store }
+    ensures memory { tables.new.memory ≡ tables.old.memory }
+    ensures ready { 0 < journal.old.spare → is_full_by tables_of.Reserved two journal.old.items ≡ false →
+        IsOk result × (journal.new.spare ≡ journal.old.spare - 1) }
+{
+    make_reserved_room(journal, tables, limit, range, &More::Two)?;
+    journal.push(Item::Free { range })?;
+    uncover(tables, range);
+    Ok(())
+}
