@@ -2,6 +2,7 @@
 use Rattle.std.specs.Prelude.{ℕ, ◌==◌, Bool, ◌&&◌, ◌||◌, List, [], ◌∷◌, length, nat_lt, if◌then◌else◌, Option, Some, None, Result, Ok, Err}
 use Rattle.std.specs.List.{list_any}
 use Rattle.address_runs.specs.Runs.{RunOf, lies_in}
+use Rattle.bm_base.specs.Extent.{Extent}
 use Rattle.e820_model.specs.declared.types.TheConstants.{E820_TYPE_RAM, E820_TYPE_RESERVED_KERN}
 use Rattle.e820_model.specs.declared.entry.Entry.{Entry}
 use Rattle.e820_model.specs.Claims.{Claims, finished}
@@ -18,11 +19,12 @@ use Rattle.boot_model.specs.declared.stop.Cause.TheVariants as causes
 use Rattle.boot_model.specs.Stages.{in_order}
 use Rattle.boot_model.specs.Stop.{cause_of_map}
 
--- what a boot is given: the zero page's entries, those of the extension, and the options
+-- what a boot is given: the zero page's entries, those of the extension, the options, and where the kernel lies
 pub record Given : Type 0 where
   pub entries : List Entry
   pub extension : List Entry
   pub options : Chosen
+  pub kernel : Extent
 
 -- what a boot has made so far, and in the end what it makes
 pub record Made : Type 0 where

@@ -1,5 +1,8 @@
-//! What a boot is given: one field an input file.
+//! What a boot is given: one field an input file, and where the kernel lies.
 
+ghost use Rattle.boot_model.specs.Kernel.{IsKernel};
+
+use bm_base::Range;
 use boot_options::Options;
 use e820_table::{Entry, ZeroPage};
 
@@ -12,4 +15,7 @@ pub struct Inputs {
     pub ext: Vec<Entry>,
     /// The options of the command line.
     pub options: Options,
+    /// Where the kernel's image lies.
+    pub kernel: Range,
+    ghost kernel_fits: { IsKernel kernel },
 }
