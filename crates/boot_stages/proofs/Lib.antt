@@ -1,2 +1,4 @@
 mod Examples
+pub mod CarriesLaws
 pub mod MapLaws
+pub mod MemoryLaws

@@ -1,5 +1,5 @@
 -- What the boot comes to by the table's answer for its map.
-use Rattle.std.proofs.Common.{◌≡◌, ℕ, Bool, true, false, nat_lt, if◌then◌else◌, List, length, Option, Some, None, Result, Ok, Err, Vec, Global, refl, subst, ap, ◌∙◌}
+use Rattle.std.proofs.Common.{◌≡◌, ◌≢◌, ℕ, Bool, true, false, nat_lt, if◌then◌else◌, List, [], length, Option, Some, None, Result, Ok, Err, Vec, Global, refl, subst, ap, ◌∙◌}
 use Rattle.std.specs.Prelude.{IfOk}
 use Rattle.address_runs.specs.Runs.{RunOf, value_at, IsRunsOf}
 use Rattle.bm_base.specs.Answers.{Answers}
@@ -16,9 +16,14 @@ use Rattle.boot_model.specs.declared.limit.TheConstants.{MAX_PHYSMEM}
 use Rattle.boot_model.specs.declared.stop.Cause.{Cause}
 use Rattle.boot_model.specs.declared.stop.Stop.{Stop}
 use Rattle.boot_model.specs.declared.stop.Stop.TheVariants as stops
-use Rattle.boot_model.specs.Boot.{Given, Made, begin, boot, claims, has_frames, later_stages, map_judged, types_in_reach, unless_stopped}
+use Rattle.boot_model.specs.Boot.{Given, Made, begin, boot, claims, has_frames, has_memory, later_stages, map_judged, types_in_reach, unless_stopped, with_items}
+use Rattle.memblock_model.specs.declared.item.Item.{Item}
+use Rattle.growth_model.specs.Outcome.{Refused}
+use Rattle.growth_model.specs.Carried.{carried_out}
+use Rattle.early_stages.specs.Wanted.{first_items}
+use Rattle.boot_stages.specs.Carries.{or_stop}
 use Rattle.boot_model.specs.Stages.{in_order}
-use Rattle.boot_model.specs.Stop.{stop_of}
+use Rattle.boot_model.specs.Stop.{cause_of_growth, stop_of}
 use Rattle.boot_model.specs.View.{booted_view}
 use Rattle.boot_stages.specs.Boots.{IsDecided, MapAnswer, judged_answer, goes_on_with}
 
@@ -45,7 +50,7 @@ decided given (Ok runs) answers =
     let c : List (RunOf ℕ) = map_of (claims given) in
     let known = told (nat_lt E820_MAX_ENTRIES (length c)) (length c) c runs.items answers in
     rw known.0 (last_stage (has_frames given (begin given)))
-    ∙ ap (λ (map : List (RunOf ℕ)). has_frames given (record { map = map; options = given.options })) known.1
+    ∙ ap (λ (map : List (RunOf ℕ)). has_frames given (record { map = map; options = given.options; items = [] })) known.1
 decided given (Err (faults.MapFull runs)) answers =
     let c : List (RunOf ℕ) = map_of (claims given) in
     let known = told_full (nat_lt E820_MAX_ENTRIES (length c)) (length c) c runs (answers (λ same. cc same)) in
@@ -54,14 +59,14 @@ decided given (Err faults.Memory) answers = tt
 
 -- a judgement, as the call answers it and as the stage of the boot has it
 abbrev pub made_of : Given → Vec (RunOf ℕ) Global → Made
-made_of given runs = record { map = runs.items; options = given.options }
+made_of given runs = record { map = runs.items; options = given.options; items = [] }
 
 judged_same : (given : Given) (reason : Option MapStop) (runs : Vec (RunOf ℕ) Global) (result : Result (Vec (RunOf ℕ) Global) Stop)
     → Answers stops.Memory (λ map. map.items) result (goes_on_with reason runs.items)
     → Answers stops.Memory (made_of given) result (with_error stop_of (unless_stopped reason (made_of given runs)))
 judged_same given None runs (Ok map) answers =
     let same : runs.items ≡ map.items = cc in
-    ap (λ (items : List (RunOf ℕ)). Ok (record { map = items; options = given.options })) same
+    ap (λ (items : List (RunOf ℕ)). Ok (record { map = items; options = given.options; items = [] })) same
 judged_same given None runs (Err stop) answers = λ other. absurd (cc (answers other))
 judged_same given (Some reason) runs (Ok map) answers = absurd (cc)
 judged_same given (Some reason) runs (Err stop) answers = λ other. (let is = answers other in cc)
@@ -87,7 +92,7 @@ map_answers given (Err faults.Memory) maps are (Ok map) answers = absurd (cc)
 map_answers given (Err faults.Memory) maps are (Err stop) answers =
     λ other. (let is : Err stops.Memory ≡ Err stop = answers other in absurd (other (cc)))
 
--- a boot that stops at its map stops, and else goes on with the stages behind it, of which there is none yet
+-- a boot that stops at its map stops, and else goes on with memory
 stopped : (said : Result Made Cause) (later : Made → Result Made Cause) (stop : Stop)
     → with_error stop_of said ≡ Err stop → with_error stop_of (said >>= later) ≡ Err stop
 stopped (Ok made) later stop is = absurd (cc)
@@ -100,7 +105,42 @@ unfolding boot
 boot_stops given answer stop is answers =
     rw is (λ other. stopped (map_judged given) (λ made. in_order (later_stages given) made) stop (answers other))
 
-pub boot_goes_on : (given : Given) (made : Made) → with_error stop_of (map_judged given) ≡ Ok made → with_error stop_of (boot given)
-    ≡ Ok made
+went_on : (said : Result Made Cause) (later : Made → Result Made Cause) (made : Made) → with_error stop_of said ≡ Ok made
+    → (said >>= later) ≡ later made
+went_on (Ok before) later made is = let same : before ≡ made = cc in ap later same
+went_on (Err cause) later made is = absurd (cc)
+
+pub boot_goes_on : (given : Given) (made : Made) → with_error stop_of (map_judged given) ≡ Ok made
+    → with_error stop_of (boot given) ≡ with_error stop_of (has_memory given made)
 unfolding boot
-boot_goes_on given made is = rw (last_stage (map_judged given)) is
+boot_goes_on given made is =
+    ap (with_error stop_of) (went_on (map_judged given) (λ m. in_order (later_stages given) m) made is ∙ last_stage (has_memory given made))
+
+-- what is carried out is what is made, and a growth that is refused is the stop
+items_made : (made : Made) (said : Result (List Item) Refused) (items : List Item) → or_stop said ≡ Ok items
+    → with_error stop_of (with_items made said) ≡ Ok (record made { items = items })
+items_made made (Ok carried) items is =
+    let same : carried ≡ items = cc in ap (λ (is : List Item). Ok (record made { items = is })) same
+items_made made (Err refused) items is = absurd (cc)
+
+items_stop : (made : Made) (said : Result (List Item) Refused) (stop : Stop) → or_stop said ≡ Err stop
+    → with_error stop_of (with_items made said) ≡ Err stop
+items_stop made (Ok carried) stop is = absurd (cc)
+items_stop made (Err refused) stop is =
+    let same : stop_of (cause_of_growth refused) ≡ stop = cc in ap (λ (s : Stop). Err s) same
+
+-- the items that the stage of memory wants
+abbrev pub memory_said : Given → Made → Result (List Item) Refused
+memory_said given made = carried_out (first_items MAX_PHYSMEM given.kernel given.initrd made.map) made.items
+
+pub memory_stops : (given : Given) (made : Made) (answer : Result Booted Stop) (stop : Stop) → answer ≡ Err stop
+    → with_error stop_of (map_judged given) ≡ Ok made → (stop ≢ stops.Memory → or_stop (memory_said given made) ≡ Err stop)
+    → Answers stops.Memory booted_view answer (with_error stop_of (boot given))
+memory_stops given made answer stop is judged answers =
+    rw is (λ other. boot_goes_on given made judged ∙ items_stop made (memory_said given made) stop (answers other))
+
+pub memory_goes_on : (given : Given) (made : Made) (items : List Item) → with_error stop_of (map_judged given) ≡ Ok made
+    → or_stop (memory_said given made) ≡ Ok items
+    → with_error stop_of (boot given) ≡ Ok (record made { items = items })
+memory_goes_on given made items judged answers =
+    boot_goes_on given made judged ∙ items_made made (memory_said given made) items answers

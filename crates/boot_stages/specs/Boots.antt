@@ -1,5 +1,5 @@
 -- What the boot makes of the table's answer for its map.
-use Rattle.std.specs.Prelude.{◌≡◌, ℕ, List, Vec, Option, Some, None, Result, Ok, Err}
+use Rattle.std.specs.Prelude.{◌≡◌, ℕ, List, [], Vec, Option, Some, None, Result, Ok, Err}
 use Rattle.std.specs.declared.alloc.Global.{Global}
 use Rattle.address_runs.specs.Runs.{RunOf, value_at}
 use Rattle.e820_sanitise.specs.declared.fault.MapFault.{MapFault}
@@ -34,6 +34,6 @@ judged_answer (Err fault) = Err (stop_of_map fault)
 
 -- by that answer the boot goes on to judge the frames, or stops; with no memory for it nothing is said
 abbrev pub IsDecided : Given → MapAnswer → Type 0
-IsDecided given (Ok runs) = map_judged given ≡ has_frames given (record { map = runs.items; options = given.options })
+IsDecided given (Ok runs) = map_judged given ≡ has_frames given (record { map = runs.items; options = given.options; items = [] })
 IsDecided given (Err (faults.MapFull runs)) = map_judged given ≡ Err (causes.MapFull runs)
 IsDecided given (Err faults.Memory) = Unit {0}

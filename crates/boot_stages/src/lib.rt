@@ -5,6 +5,10 @@
 //! trimmed, and the map of what is claimed is judged. Each step's contract is the link of the chain
 //! that it carries out.
 //!
+//! Behind the map memory comes up (`src/memory.rt`): the first claims, the runs of the map as memory, whole
+//! frames of it, and the first MiB, each a call of memblock in the order of what is wanted. A table that has to grow and
+//! finds no place stops the boot.
+//!
 //! What judges takes no memory: it answers a [`Cause`](boot_model::Cause), which want of memory isn't.
 //! So a boot that stops at its map says so whenever the table could tell the map at all
 //! ([`map_is_judged`]).
@@ -14,6 +18,7 @@
 
 mod laws;
 mod map;
+mod memory;
 mod stages;
 #[cfg(test)]
 mod tests;

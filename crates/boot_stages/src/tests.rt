@@ -1,4 +1,4 @@
-//! The boot on maps that overlap, are edited and stop it, by runs from outside.
+//! The boot on maps that overlap, are edited and stop it, by runs from outside, and what it does to memory.
 
 ghost use Rattle.std.specs.Prelude.{◌≡◌, ◌+◌, ◌^◌, ◌<◌, ◌≤◌};
 ghost use Rattle.e820_model.specs.Claims.{EndInSpace};
@@ -6,7 +6,8 @@ ghost use Rattle.e820_model.specs.Claims.{EndInSpace};
 use crate::boot;
 use arrayvec::ArrayVec;
 use bm_base::Range;
-use boot_model::{Inputs, Stop};
+use boot_journal::{Item, Owner};
+use boot_model::{Booted, Inputs, Stop};
 use boot_options::read_options;
 use e820_sanitise::Run;
 use e820_table::{Entry, ZeroPage};
@@ -20,22 +21,30 @@ fn entry(addr: u64, size: u64, kind: u32) -> Entry
     Entry { addr, size, kind }
 }
 
+// The range from the first byte to the last.
+fn range(first: u64, last: u64) -> Range
+    requires ends { last + 1 < 2 ^ 64 }
+    requires order { first ≤ last }
+{
+    Range {
+        base: first,
+        size: last + 1 - first,
+    }
+}
+
 // The run from the first byte to the last.
 fn run(first: u64, last: u64, kind: u32) -> Run
     requires ends { last + 1 < 2 ^ 64 }
     requires order { first ≤ last }
 {
     Run {
-        range: Range {
-            base: first,
-            size: last + 1 - first,
-        },
+        range: range(first, last),
         kind,
     }
 }
 
-// The map of the boot of these entries, which come as an extension, and of this line.
-fn booted(alloc: Global, entries: &[Entry], line: &[u8]) -> Result<Result<Vec<Run>, Stop>, Fail>
+// The boot of these entries, which come as an extension, and of this line.
+fn booted(alloc: Global, entries: &[Entry], line: &[u8]) -> Result<Result<Booted, Stop>, Fail>
     requires { EndInSpace entries.now }
 {
     let inputs = Inputs {
@@ -50,7 +59,7 @@ fn booted(alloc: Global, entries: &[Entry], line: &[u8]) -> Result<Result<Vec<Ru
             size: 0x200_0000,
         },
     };
-    Ok(boot(alloc, inputs).map(|booted| booted.map))
+    Ok(boot(alloc, inputs))
 }
 
 fn expect(
@@ -62,9 +71,8 @@ fn expect(
 ) -> Result<(), Fail>
     requires { EndInSpace entries.now }
 {
-    let map = booted(alloc, entries, line)?;
-    match map {
-        Ok(runs) => assert_eq!(rt; Ok(runs.as_slice()), want),
+    match booted(alloc, entries, line)? {
+        Ok(booted) => assert_eq!(rt; Ok(booted.map.as_slice()), want),
         Err(stop) => assert_eq!(rt; Err(stop), want),
     }
     Ok(())
@@ -129,4 +137,46 @@ fn maps_and_stops(rt: HostRuntime) -> Result<(), Fail> {
         frames: 4_294_967_455,
     };
     expect(&rt, alloc, &vast, b"", Err(too_much))
+}
+
+// A virtual machine of 128 MiB: the first claims, two runs of RAM, of which the first ends within a frame, and
+// the limit at the end of the second.
+#[test]
+fn journal_of_a_virtual_machine(rt: HostRuntime) -> Result<(), Fail> {
+    let machine = [
+        entry(0, 0x9_FC00, 1),
+        entry(0x9_FC00, 0x400, 2),
+        entry(0xF_0000, 0x1_0000, 2),
+        entry(0x10_0000, 0x7EE_0000, 1),
+        entry(0x7FE_0000, 0x2_0000, 2),
+        entry(0xFFFC_0000, 0x4_0000, 2),
+    ];
+    let want = [
+        Item::Claim {
+            range: range(0x100_0000, 0x2FF_FFFF),
+            owner: Owner::Kernel,
+        },
+        Item::Claim {
+            range: range(0, 0xFFFF),
+            owner: Owner::Low64K,
+        },
+        Item::Limit { at: 0x10_0000 },
+        Item::Mem {
+            range: range(0x1000, 0x9_FBFF),
+        },
+        Item::Mem {
+            range: range(0x10_0000, 0x7FD_FFFF),
+        },
+        Item::Trim,
+        Item::Limit { at: 0x7FE_0000 },
+        Item::Claim {
+            range: range(0, 0xF_FFFF),
+            owner: Owner::Low1M,
+        },
+    ];
+    match booted(rt.alloc(), &machine, b"")? {
+        Ok(booted) => assert_eq!(rt; booted.journal.items(), want.as_slice()),
+        Err(stop) => assert_eq!(rt; Err::<(), Stop>(stop), Ok(())),
+    }
+    Ok(())
 }

@@ -1,11 +1,18 @@
--- What is decided for the map is decided for the boot.
-use Rattle.std.proofs.Common.{◌≡◌, Err, ap, ◌∙◌, rules}
+-- What is decided for the map is decided for the boot, and behind it what memory comes to.
+use Rattle.std.proofs.Common.{◌≡◌, ◌≢◌, ℕ, List, [], Ok, Err, ap, sym, ◌∙◌, subst, rules}
 use Rattle.std.proofs.lemmas.Result.{err_from_is_err_and}
+use Rattle.address_runs.specs.Runs.{RunOf}
 use Rattle.e820_model.specs.Map.{claims_of}
+use Rattle.growth_model.specs.Carried.{carried_out}
+use Rattle.early_stages.specs.Wanted.{first_items}
+use Rattle.boot_journal.specs.Contents.{Contents}
+use Rattle.boot_model.specs.declared.limit.TheConstants.{MAX_PHYSMEM}
 use Rattle.boot_model.specs.declared.stop.Stop.{Stop}
-use Rattle.boot_model.specs.Boot.{claims}
+use Rattle.boot_model.specs.declared.stop.Stop.TheVariants as stops
+use Rattle.boot_model.specs.Boot.{Made, claims}
 use Rattle.boot_model.specs.View.{inputs_view}
-use Rattle.boot_stages.proofs.MapLaws.{boot_goes_on, boot_stops}
+use Rattle.boot_stages.specs.Carries.{or_stop}
+use Rattle.boot_stages.proofs.MapLaws.{boot_stops, made_of, memory_goes_on, memory_stops}
 use Rattle.boot_stages.proofs.stages.boot.Goals as goal
 
 pub returns-in_err-map-clause-boots : goal.returns-in_err-map-clause-boots
@@ -15,7 +22,25 @@ returns-in_err-map-clause-boots c =
     boot_stops (inputs_view c.args.inputs) _ c.in_err-map.field-0.0 (p.1 ∙ ap (λ (s : Stop). Err s) p.2)
     (c.in_err-map.ensures.answers (inputs_view c.args.inputs) same)
 
+pub returns-in_err-memblock-clause-boots : goal.returns-in_err-memblock-clause-boots
+returns-in_err-memblock-clause-boots c =
+    let same : claims (inputs_view c.args.inputs) ≡ claims_of c.in_ok-table.table = search rules in
+    let r = c.from_residual-in_err-memblock.result in
+    let p = err_from_is_err_and r c.from_residual-in_err-memblock.ensures.1 in
+    let stop : Stop = c.in_err-memblock.field-0.0 in
+    let Stops : List (RunOf ℕ) → Type 0 = λ map. stop ≢ stops.Memory
+    → or_stop (carried_out (first_items MAX_PHYSMEM c.args.inputs.kernel c.args.inputs.zero.initrd map) []) ≡ Err stop in
+    memory_stops (inputs_view c.args.inputs) (made_of (inputs_view c.args.inputs) c.in_ok-map.map) r stop
+    (p.1 ∙ ap (λ (s : Stop). Err s) p.2) (c.in_ok-map.ensures.answers (inputs_view c.args.inputs) same)
+    (subst Stops c.deref-4.ensures.value c.in_err-memblock.ensures.answers)
+
 pub returns-clause-boots : goal.returns-clause-boots
 returns-clause-boots c =
     let same : claims (inputs_view c.args.inputs) ≡ claims_of c.in_ok-table.table = search rules in
-    boot_goes_on (inputs_view c.args.inputs) _ (c.in_ok-map.ensures.answers (inputs_view c.args.inputs) same)
+    let made : Made = made_of (inputs_view c.args.inputs) c.in_ok-map.map in
+    let Goes : List (RunOf ℕ) → Type 0 = λ map. or_stop (carried_out (first_items MAX_PHYSMEM c.args.inputs.kernel
+    c.args.inputs.zero.initrd map) []) ≡ Ok c.in_ok-memblock.memblock.journal.items in
+    memory_goes_on (inputs_view c.args.inputs) made c.in_ok-memblock.memblock.journal.items
+    (c.in_ok-map.ensures.answers (inputs_view c.args.inputs) same)
+    (subst Goes c.deref-4.ensures.value c.in_ok-memblock.ensures.answers)
+    ∙ ap (λ (j : Contents). Ok (record made { items = j.items })) (sym c.into_parts-store.ensures.journal)

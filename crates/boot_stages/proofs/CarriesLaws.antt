@@ -1,0 +1,157 @@
+-- Calls that carry out what is wanted, one after another.
+use Rattle.std.proofs.Common.{◌≡◌, ◌≢◌, ℕ, Option, Some, None, List, [], ◌∷◌, ◌++◌, Result, Ok, Err, refl, sym, ◌∙◌, ap, subst}
+use Rattle.std.proofs.lemmas.List.{append_assoc}
+use Rattle.std.specs.Prelude.{OnOk}
+use Rattle.bm_base.specs.ResultSteps.{◌>>=◌}
+use Rattle.bm_base.specs.Extent.{Extent}
+use Rattle.memblock_model.specs.declared.which.Which.TheVariants as which
+use Rattle.memblock_model.specs.declared.owner.Owner.{Owner}
+use Rattle.memblock_model.specs.declared.item.Item.{Item}
+use Rattle.memblock_model.specs.declared.item.Item.TheVariants as item
+use Rattle.growth_model.specs.declared.refusal.Refusal.{Refusal}
+use Rattle.growth_model.specs.declared.refusal.Refusal.TheVariants as refusal
+use Rattle.growth_model.specs.Outcome.{Refused, Outcome, Change, after, followed_by, joined, write}
+use Rattle.growth_model.specs.Growth.{claimed, grown, new_in, reserved_growth}
+use Rattle.growth_model.specs.Sound.{HasBegun}
+use Rattle.growth_model.specs.Ends.{Ends}
+use Rattle.growth_model.specs.Carried.{carried_out, change, ended, unless_refused}
+use Rattle.growth_model.proofs.CarriedLaws.{carried-append}
+use Rattle.growth_model.proofs.EndLaws.{joined-append}
+use Rattle.boot_model.specs.declared.stop.Stop.{Stop}
+use Rattle.boot_model.specs.declared.stop.Stop.TheVariants as stops
+use Rattle.boot_stages.specs.Carries.{Carries, or_stop, stop_for}
+
+-- one item is what its change comes to
+one_carried : (i : Item) (old : List Item) → carried_out (i ∷ []) old ≡ (ended old (change i old) >>= λ next. Ok next)
+unfolding carried_out
+one_carried i old = refl
+
+answered : (said : Result (List Item) Refused) → (said >>= λ next. Ok next) ≡ said
+answered (Ok items) = refl
+answered (Err refused) = refl
+
+one_ends : (i : Item) (old : List Item) → carried_out (i ∷ []) old ≡ ended old (change i old)
+one_ends i old = one_carried i old ∙ answered (ended old (change i old))
+
+pub carries-change : (r : Result (Unit {0}) Refusal) (i : Item) (old new : List Item) → Ends r old new (change i)
+    → Carries r (i ∷ []) old new
+carries-change (Ok x) i old new ends =
+    one_ends i old ∙ ap (λ (n : Option Refused). unless_refused n (after old (change i old))) ends.0
+    ∙ ap (λ (items : List Item). Ok items) (sym ends.1)
+carries-change (Err refusal.NoGap) i old new ends = ends
+carries-change (Err (refusal.NoGapForTable w room)) i old new ends =
+    one_ends i old ∙ ap (λ (n : Option Refused). unless_refused n (after old (change i old))) ends.0
+carries-change (Err refusal.Memory) i old new ends = tt
+
+-- a trim, a limit
+pub carries-trim : (old new : List Item) → new ≡ old ++ item.Trim ∷ [] → carried_out (item.Trim ∷ []) old ≡ Ok new
+carries-trim old new same = one_ends item.Trim old ∙ ap (λ (items : List Item). Ok items) (sym same)
+
+pub carries-limit : (at : ℕ) (old new : List Item) → new ≡ old ++ item.Limit at ∷ [] → carried_out (item.Limit at ∷ []) old ≡ Ok new
+carries-limit at old new same = one_ends (item.Limit at) old ∙ ap (λ (items : List Item). Ok items) (sym same)
+
+-- nothing
+pub carries-nothing : (items : List Item) → carried_out [] items ≡ Ok items
+unfolding carried_out
+carries-nothing items = refl
+
+-- the first part was carried out, and the second ends so
+pub carried-on : (is js old mid : List Item) → carried_out is old ≡ Ok mid → carried_out (is ++ js) old ≡ carried_out js mid
+carried-on is js old mid first =
+    carried-append is js old ∙ ap (λ (said : Result (List Item) Refused). said >>= λ next. carried_out js next) first
+
+pub carries-second : (r : Result (Unit {0}) Refusal) (is js old mid new : List Item) → carried_out is old ≡ Ok mid
+    → Carries r js mid new → Carries r (is ++ js) old new
+carries-second (Ok x) is js old mid new first rest = carried-on is js old mid first ∙ rest
+carries-second (Err refusal.NoGap) is js old mid new first rest = rest
+carries-second (Err (refusal.NoGapForTable w room)) is js old mid new first rest = carried-on is js old mid first ∙ rest
+carries-second (Err refusal.Memory) is js old mid new first rest = tt
+
+-- the first part ended with an error
+pub carries-first : (e : Refusal) (is js old new : List Item) → Carries {T = Unit {0}} (Err e) is old new
+    → Carries {T = Unit {0}} (Err e) (is ++ js) old new
+carries-first refusal.NoGap is js old new first = first
+carries-first (refusal.NoGapForTable w room) is js old new first =
+    carried-append is js old ∙ ap (λ (said : Result (List Item) Refused). said >>= λ next. carried_out js next) first
+carries-first refusal.Memory is js old new first = tt
+
+-- a `?` that hands the error on
+pub carries-exit : (e : Refusal) (r : Result (Unit {0}) Refusal) (is js old new : List Item) (y : Refusal) → r ≡ Err y → y ≡ e
+    → Carries {T = Unit {0}} (Err e) is old new → Carries r (is ++ js) old new
+carries-exit e r is js old new y same from first =
+    let at : r ≡ Err e = same ∙ ap (λ (z : Refusal). Err z) from in
+    rw at (carries-first e is js old new first)
+
+-- the first item was carried out, or not
+pub change-second : (x : Unit {0}) (r : Result (Unit {0}) Refusal) (i : Item) (js old mid new : List Item) → Ends (Ok x) old mid (change i)
+    → Carries r js mid new → Carries r (i ∷ js) old new
+change-second x r i js old mid new ends rest = carries-second r (i ∷ []) js old mid new (carries-change (Ok x) i old mid ends) rest
+
+pub change-exit : (e : Refusal) (r : Result (Unit {0}) Refusal) (i : Item) (js old new : List Item) (y : Refusal) → r ≡ Err y → y ≡ e
+    → Ends {T = Unit {0}} (Err e) old new (change i) → Carries r (i ∷ js) old new
+change-exit e r i js old new y same from ends =
+    carries-exit e r (i ∷ []) js old new y same from (carries-change (Err e) i old new ends)
+
+-- what holds anyway
+pub on_ok : (r : Result (Unit {0}) Refusal) (P : Type 0) → P → OnOk r P
+on_ok (Ok x) P holds = holds
+on_ok (Err e) P holds = tt
+
+-- something happened behind a claim
+last_begun : (items : List Item) (i : Item) → HasBegun (items ++ i ∷ [])
+last_begun [] i = tt
+last_begun (j ∷ is) i = tt
+
+behind_begun : (first : Outcome) (r : Option Refused) (i : Item) (old new : List Item) → first.refused ≡ r
+    → (followed_by first r (write i (after old first))).refused ≡ None
+    → new ≡ after old (followed_by first r (write i (after old first))) → HasBegun new
+behind_begun first None i old new is unrefused same =
+    let last : new ≡ (old ++ joined first.steps) ++ i ∷ [] =
+    same ∙ ap (λ (t : List Item). old ++ t) (joined-append first.steps ((i ∷ []) ∷ []))
+    ∙ sym (append_assoc old (joined first.steps) (i ∷ [])) in
+    subst HasBegun (sym last) (last_begun (old ++ joined first.steps) i)
+behind_begun first (Some refused) i old new is unrefused same = let clash : Some refused ≡ None = sym is ∙ unrefused in absurd (cc)
+
+pub claim-begun : (x : Unit {0}) (old new : List Item) (range : Extent) (who : Owner) → Ends (Ok x) old new (claimed range who)
+    → HasBegun new
+unfolding claimed
+claim-begun x old new range who ends =
+    let growth : Change = grown which.Reserved (new_in which.Reserved range) (reserved_growth range) in
+    behind_begun (growth old) (growth old).refused (item.Claim range who) old new refl ends.0 ends.1
+
+-- want of memory says nothing
+pub carries-wanting : (r : Result (Unit {0}) Refusal) (wanted old new : List Item) (y : Refusal) → r ≡ Err y → y ≡ refusal.Memory
+    → Carries r wanted old new
+carries-wanting r wanted old new y same is = let at : r ≡ Err refusal.Memory = same ∙ ap (λ (z : Refusal). Err z) is in rw at tt
+
+-- as what is left ends, so does all of it
+pub carries-left : (r : Result (Unit {0}) Refusal) (all left old mid new : List Item) → carried_out left mid ≡ carried_out all old
+    → Carries r left mid new → Carries r all old new
+carries-left (Ok x) all left old mid new same ends = sym same ∙ ends
+carries-left (Err refusal.NoGap) all left old mid new same ends = ends
+carries-left (Err (refusal.NoGapForTable w room)) all left old mid new same ends = sym same ∙ ends
+carries-left (Err refusal.Memory) all left old mid new same ends = tt
+
+-- an item behind others
+pub written-begun : (old new : List Item) (i : Item) → new ≡ old ++ i ∷ [] → HasBegun new
+written-begun old new i same = subst HasBegun (sym same) (last_begun old i)
+
+-- along equal answers
+pub carries-along : (r s : Result (Unit {0}) Refusal) (wanted old new : List Item) → s ≡ r → Carries r wanted old new
+    → Carries s wanted old new
+carries-along r s wanted old new same ends = rw same ends
+
+-- no gap is never the answer
+pub carries-gap : (r : Result (Unit {0}) Refusal) (wanted old new : List Item) → Carries r wanted old new → r ≢ Err refusal.NoGap
+carries-gap (Ok x) wanted old new ends = λ same. cc same
+carries-gap (Err refusal.NoGap) wanted old new ends = absurd ends
+carries-gap (Err (refusal.NoGapForTable w room)) wanted old new ends = λ same. cc same
+carries-gap (Err refusal.Memory) wanted old new ends = λ same. cc same
+
+-- the stop of a refused growth
+pub carries-stop : (e : Refusal) (wanted old new : List Item) (stop : Stop) → stop ≡ stop_for e
+    → Carries {T = Unit {0}} (Err e) wanted old new → stop ≢ stops.Memory → or_stop (carried_out wanted old) ≡ Err stop
+carries-stop refusal.NoGap wanted old new stop is ends other = absurd ends
+carries-stop (refusal.NoGapForTable w room) wanted old new stop is ends other =
+    ap or_stop ends ∙ ap (λ (s : Stop). Err s) (sym is)
+carries-stop refusal.Memory wanted old new stop is ends other = absurd (other is)

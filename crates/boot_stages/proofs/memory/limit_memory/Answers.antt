@@ -1,0 +1,19 @@
+-- A limit, and a claim behind it.
+use Rattle.std.proofs.Common.{[], ◌∷◌, Result, subst}
+use Rattle.bm_base.specs.Extent.{Extent}
+use Rattle.memblock_model.specs.declared.owner.Owner.TheVariants as owner
+use Rattle.memblock_model.specs.declared.item.Item.TheVariants as item
+use Rattle.boot_stages.specs.Carries.{Carries}
+use Rattle.boot_stages.proofs.CarriesLaws.{carries-change, carries-limit, carries-second}
+use Rattle.boot_stages.proofs.memory.limit_memory.Goals as goal
+
+pub returns-clause-carries : goal.returns-clause-carries
+returns-clause-carries c =
+    let old = c.args.memblock.now.journal.items in
+    let mid = c.set_limit.new.self.journal.items in
+    let new = c.claim.new.self.journal.items in
+    let r : Result (Unit {0}) _ = c.claim.result in
+    let Ends : Extent → Type 0 = λ low. Carries r (item.Limit c.args.end ∷ item.Claim low owner.Low1M ∷ []) old new in
+    subst Ends c.up_to.ensures (carries-second r (item.Limit c.args.end ∷ []) (item.Claim c.up_to.result owner.Low1M ∷ []) old mid new
+    (carries-limit c.args.end old mid c.in_ok-set_limit.ensures.ok)
+    (carries-change r (item.Claim c.up_to.result owner.Low1M) mid new c.claim.ensures.ends))

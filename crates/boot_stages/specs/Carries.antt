@@ -1,0 +1,29 @@
+-- How a call ends that carries out what is wanted.
+use Rattle.std.specs.Prelude.{◌≡◌, List, Result, Ok, Err}
+use Rattle.bm_base.specs.ResultSteps.{with_error}
+use Rattle.memblock_model.specs.declared.item.Item.{Item}
+use Rattle.growth_model.specs.declared.refusal.Refusal.{Refusal}
+use Rattle.growth_model.specs.declared.refusal.Refusal.TheVariants as refusal
+use Rattle.growth_model.specs.Outcome.{Refused}
+use Rattle.growth_model.specs.Carried.{carried_out}
+use Rattle.boot_model.specs.declared.stop.Stop.{Stop}
+use Rattle.boot_model.specs.declared.stop.Stop.TheVariants as stops
+use Rattle.boot_model.specs.Stop.{cause_of_growth, stop_of}
+
+-- with the items behind all that is wanted, or with the first growth that was refused. Where memory was wanting nothing is said of the
+-- items: the boot that stops drops them
+abbrev pub Carries : {T : Type 0} → Result T Refusal → List Item → List Item → List Item → Type 0
+Carries (Ok x) wanted old new = carried_out wanted old ≡ Ok new
+Carries (Err refusal.NoGap) wanted old new = ⊥
+Carries (Err (refusal.NoGapForTable w room)) wanted old new = carried_out wanted old ≡ Err (record { which = w; room = room })
+Carries (Err refusal.Memory) wanted old new = Unit {0}
+
+-- why a boot stops where a call was refused that looks for no gap; `NoGap` stands for nothing there
+abbrev pub stop_for : Refusal → Stop
+stop_for refusal.NoGap = stops.Memory
+stop_for (refusal.NoGapForTable w room) = stops.NoTablePlace w room
+stop_for refusal.Memory = stops.Memory
+
+-- a refused growth stops the boot
+abbrev pub or_stop : Result (List Item) Refused → Result (List Item) Stop
+or_stop said = with_error (λ refused. stop_of (cause_of_growth refused)) said
