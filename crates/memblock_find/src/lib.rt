@@ -23,3 +23,6 @@ pub use free::{FreeRange, next_free, prev_free};
 pub use laws::{runs_are_one, searches_follow_the_items};
 pub use memblock_model::Query;
 pub use search::find;
+
+#[cfg(test)]
+mod tests;
