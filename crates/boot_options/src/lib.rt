@@ -16,13 +16,16 @@
 //! numbered from 1, and want of memory comes only where the line has no fault and makes an edit.
 #![tactic(auto)]
 
+mod crash;
 mod fault;
+mod kept;
 mod map_option;
 mod options;
 mod reading;
 #[cfg(test)]
 mod tests;
 
+pub use crash::{CrashOption, CrashPlain, CrashRange};
 pub use e820_model::Edit;
 pub use fault::OptionFault;
 pub use map_option::map_options_of_spelling;

@@ -196,8 +196,9 @@ entry_lines = (refl, refl, refl)
 
 word_lines : (fault_line (codes "cmdline") (faults.UserMapInvalid 12) ≡ codes "bootmem: cmdline: word 12: user map\n")
     × (word_line (codes "cmdline") 1 (codes "mem") ≡ codes "bootmem: cmdline: word 1: mem\n")
+    × (fault_line (codes "cmdline") (faults.BadCrash 1) ≡ codes "bootmem: cmdline: word 1: crashkernel\n")
 unfolding digits
-word_lines = (refl, refl)
+word_lines = (refl, refl, refl)
 
 -- a file of too many bytes, and a line of too many
 long_lines : (refusal_line None (refusals.Faulty inputs.CommandLine faults.TooLong) ≡ codes "bootmem: cmdline: too long\n")

@@ -67,6 +67,7 @@ fn tell_fault<E: Sink>(err: &mut E, name: &str, fault: Fault)
         Fault::OpenQuote => tell_whole(err, name, "open quote"),
         Fault::BadMem { word } => tell_word(err, name, word, "mem"),
         Fault::BadMemmap { word } => tell_word(err, name, word, "memmap"),
+        Fault::BadCrash { word } => tell_word(err, name, word, "crashkernel"),
         Fault::UserMapInvalid { word } => tell_word(err, name, word, "user map"),
         Fault::BadNuma { word } => tell_word(err, name, word, "numa"),
     }

@@ -152,6 +152,13 @@ fn extension_and_command_line(rt: HostRuntime) -> Result<(), Fail> {
         ("mem=0x4000000 -- mem=0", 0, shorter, ""),
         ("x memmap=1M@", 5, "", "bootmem: cmdline: word 2: memmap\n"),
         (
+            "crashkernel=64M-32M:8M",
+            5,
+            "",
+            "bootmem: cmdline: word 1: crashkernel\n",
+        ),
+        ("crashkernel=64M crashkernel=0", 0, longer, ""),
+        (
             "memmap=exactmap memmap=4K$8K memmap=4K$16K",
             6,
             "",

@@ -2,6 +2,8 @@
 use Rattle.std.proofs.Common.{◌≡◌, ℕ, [], ◌∷◌, ◌++◌, codes, false, Some, None, decimal, refl}
 use Rattle.std.specs.Fmt.{digits}
 use Rattle.address_runs.specs.Runs.{RunOf}
+use Rattle.boot_options.specs.Crash.{no_crash}
+use Rattle.boot_options.specs.Options.{Chosen}
 use Rattle.debugfs_reports.specs.declared.report.Report.TheVariants as reports
 use Rattle.debugfs_reports.specs.Lines.{lines_from, range_text}
 use Rattle.debugfs_reports.specs.MapText.{kind_name, map_line}
@@ -21,12 +23,15 @@ line_of_reserved : map_line 1 reserved_behind ≡ codes "0x0000000007fe0000..0x0
 unfolding reserved_behind digits
 line_of_reserved = refl
 
-two_lines : report_text reports.Map (record { map = ram_at_1M ∷ reserved_behind ∷ []; options = record { edits = []; numa_off = false } })
+abbrev no_options : Chosen
+no_options = record { edits = []; crash = no_crash; numa_off = false }
+
+two_lines : report_text reports.Map (record { map = ram_at_1M ∷ reserved_behind ∷ []; options = no_options })
     ≡ codes "0x0000000000100000..0x0000000007fdffff 1 usable\n0x0000000007fe0000..0x0000000007ffffff 2 reserved\n"
 unfolding ram_at_1M reserved_behind digits
 two_lines = refl
 
-no_lines : report_text reports.Map (record { map = []; options = record { edits = []; numa_off = false } }) ≡ []
+no_lines : report_text reports.Map (record { map = []; options = no_options }) ≡ []
 no_lines = refl
 
 -- elements are numbered one by one

@@ -2,7 +2,7 @@
 
 use crate::{Booted, Report, render, report_named};
 use bm_base::Range;
-use boot_options::Options;
+use boot_options::{CrashOption, Options};
 use e820_model::Run;
 use std::test::Fail;
 
@@ -28,6 +28,11 @@ fn reports_of_a_small_map(rt: HostRuntime) -> Result<(), Fail> {
         map: vec![in alloc; low, soft]?,
         options: Options {
             edits: Vec::new(alloc),
+            crash: CrashOption {
+                plain: None,
+                high: None,
+                low: None,
+            },
             numa_off: false,
         },
     };

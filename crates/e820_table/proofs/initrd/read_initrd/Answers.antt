@@ -1,10 +1,9 @@
-use Rattle.std.proofs.Common.{◌≡◌, Bool, true, false, if◌then◌else◌, Option, Some, None, Result, Ok, Err, refl, ap, ◌∙◌}
+use Rattle.std.proofs.Common.{◌≡◌, Bool, false, if◌then◌else◌, Option, Some, None, Result, Ok, Err, refl}
 use Rattle.std.specs.Prelude.{OnOk}
 use Rattle.bm_base.specs.declared.range.Range.{Range}
 use Rattle.e820_table.specs.declared.zero_page.ZeroFault.{ZeroFault}
 use Rattle.e820_table.specs.declared.zero_page.ZeroFault.TheVariants.{InitrdTooFar}
-use Rattle.e820_table.specs.Initrd.{image_of, is_far, is_initrd_far, loader_of}
-use Rattle.e820_table.specs.ZeroPage.{initrd_fault}
+use Rattle.e820_table.specs.Initrd.{is_initrd_far}
 use Rattle.e820_table.proofs.initrd.read_initrd.Goals as goal
 
 -- where the reader goes on, there is no fault
