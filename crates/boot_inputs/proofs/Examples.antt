@@ -8,6 +8,7 @@ use Rattle.e820_table.specs.declared.extension.ExtFault.TheVariants as extension
 use Rattle.e820_table.specs.Entries.{entry_at}
 use Rattle.e820_table.specs.Initrd.{initrd_of, is_initrd_far}
 use Rattle.boot_options.specs.Crash.{no_crash}
+use Rattle.bm_base.specs.Extent.{Extent}
 use Rattle.boot_options.specs.declared.fault.OptionFault.TheVariants as options
 use Rattle.boot_inputs.specs.declared.fault.Fault.TheVariants as faults
 use Rattle.boot_inputs.specs.declared.fault.Misread.TheVariants as misreads
@@ -133,31 +134,37 @@ if_examples : (step_if held inputs.Extension [] extension_said None ≡ Ok [])
     × (step_if held inputs.Extension [] extension_said (Some (codes "bad")) ≡ Err (refusals.Faulty inputs.Extension faults.Header))
 if_examples = (refl, refl)
 
+-- where the kernel lies
+abbrev image : Extent
+image = record { base = 0x1000000; size = 0x2000000 }
+
 -- the inputs in their order: of several faults, the first input's
-all_inputs : inputs_of held (naming (codes "zp") (Some (codes "ext")) (Some (codes "cmd")))
+all_inputs : inputs_of held (naming (codes "zp") (Some (codes "ext")) (Some (codes "cmd"))) image
     ≡ Ok (record {
       entries = ram ∷ reserved ∷ [];
       initrd = None;
       extension = acpi ∷ [];
       options = record { edits = []; crash = no_crash; numa_off = true };
+      kernel = image;
     })
 unfolding entry_at initrd_of is_initrd_far
 all_inputs = refl
 
-page_goes_first : inputs_of held (naming (codes "short") (Some (codes "bad")) (Some (codes "on")))
+page_goes_first : inputs_of held (naming (codes "short") (Some (codes "bad")) (Some (codes "on"))) image
     ≡ Err (refusals.Faulty inputs.ZeroPage faults.WrongLength)
 page_goes_first = refl
 
-fault_goes_before_a_missing_file : inputs_of held (naming (codes "short") (Some (codes "no")) None)
+fault_goes_before_a_missing_file : inputs_of held (naming (codes "short") (Some (codes "no")) None) image
     ≡ Err (refusals.Faulty inputs.ZeroPage faults.WrongLength)
 fault_goes_before_a_missing_file = refl
 
-extension_goes_second : inputs_of held (naming (codes "zp") (Some (codes "bad")) (Some (codes "no")))
+extension_goes_second : inputs_of held (naming (codes "zp") (Some (codes "bad")) (Some (codes "no"))) image
     ≡ Err (refusals.Faulty inputs.Extension faults.Header)
 unfolding entry_at is_initrd_far
 extension_goes_second = refl
 
-line_goes_last : inputs_of held (naming (codes "zp") (Some (codes "ext")) (Some (codes "no"))) ≡ Err (refusals.Unread inputs.CommandLine)
+line_goes_last : inputs_of held (naming (codes "zp") (Some (codes "ext")) (Some (codes "no"))) image
+    ≡ Err (refusals.Unread inputs.CommandLine)
 unfolding entry_at is_initrd_far
 line_goes_last = refl
 

@@ -1,5 +1,6 @@
 -- What the input files give, from their names and from what each name holds.
 use Rattle.std.specs.Prelude.{ℕ, List, [], length, Option, Some, None, Result, Ok, Err, nat_lt, if◌then◌else◌}
+use Rattle.bm_base.specs.Extent.{Extent}
 use Rattle.bm_base.specs.ResultSteps.{◌>>=◌, with_error}
 use Rattle.boot_model.specs.Boot.{Given}
 use Rattle.boot_inputs.specs.declared.fault.Fault.{Fault}
@@ -41,10 +42,10 @@ abbrev pub step_if : {A : Type 0} → Held → Input → A → (List ℕ → Res
 step_if held input without said None = Ok without
 step_if held input without said (Some name) = file_step held input said name
 
--- the inputs in their order, of which the first refusal is the answer
-abbrev pub inputs_of : Held → Named → Result Given Refusal
-inputs_of held named = do
+-- the inputs in their order, of which the first refusal is the answer; where the kernel lies is said beside them
+abbrev pub inputs_of : Held → Named → Extent → Result Given Refusal
+inputs_of held named kernel = do
   page ← step_if held inputs.ZeroPage no_page zero_page_said (named inputs.ZeroPage)
   extension ← step_if held inputs.Extension [] extension_said (named inputs.Extension)
   options ← step_if held inputs.CommandLine no_options command_line_said (named inputs.CommandLine)
-  Ok (record { entries = page.entries; initrd = page.initrd; extension = extension; options = options })
+  Ok (record { entries = page.entries; initrd = page.initrd; extension = extension; options = options; kernel = kernel })

@@ -3,6 +3,7 @@
 ghost use Rattle.std.specs.Prelude.{◌≡◌, ℕ, List, IfOk, IfSome, OnOk};
 ghost use Rattle.e820_model.specs.Claims.{EndInSpace, HaveTypes};
 ghost use Rattle.e820_table.specs.Initrd.{IsInitrd};
+ghost use Rattle.boot_model.specs.Kernel.{IsKernel};
 ghost use Rattle.boot_model.specs.View.{inputs_view};
 ghost use Rattle.boot_inputs.specs.Answers.{Gives, HasCause};
 ghost use Rattle.boot_inputs.specs.Inputs.{inputs_of};
@@ -13,19 +14,22 @@ use crate::fetching::fetch_input;
 use crate::names::Names;
 use crate::refusal::InputError;
 use crate::zero_page::ZeroPages;
+use bm_base::Range;
 use bm_io::Files;
 use boot_model::Inputs;
 use std::alloc::Global;
 
 /// Fetches each file that is named, in the order of work, and judges it before the next; the first
-/// refusal is the answer.
+/// refusal is the answer. The kernel lies where it is said.
 pub fn read_inputs<F: Files, N: Names>(
     alloc: Global,
     files: &mut F,
     names: &N,
+    kernel: Range,
 ) -> Result<Inputs, InputError>
+    requires { IsKernel kernel }
     ensures gives { IfSome (F.holds files.old) (λ held.
-        Gives inputs_view result (inputs_of held (N.named names.now))) }
+        Gives inputs_view result (inputs_of held (N.named names.now) kernel)) }
     ensures cause { HasCause (F.faults files.old) (F.faults files.new) (N.named names.now) result }
     ensures uncounted { OnOk result ((any : List ℕ) → F.faults files.new any ≡ F.faults files.old any) }
     ensures entries_end { IfOk result (λ inputs. EndInSpace inputs.zero.entries.items) }
@@ -36,5 +40,10 @@ pub fn read_inputs<F: Files, N: Names>(
     let zero = fetch_input::<ZeroPages, F, N>(alloc, files, names)?;
     let ext = fetch_input::<Extensions, F, N>(alloc, files, names)?;
     let options = fetch_input::<CommandLines, F, N>(alloc, files, names)?;
-    Ok(Inputs { zero, ext, options })
+    Ok(Inputs {
+        zero,
+        ext,
+        options,
+        kernel,
+    })
 }

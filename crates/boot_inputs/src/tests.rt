@@ -5,6 +5,7 @@ ghost use Rattle.std.specs.Prelude.{IfOk};
 ghost use Rattle.bm_io.specs.HeldFiles.{held_files, HaveOwnNames};
 
 use crate::{Fault, Input, InputError, Names, Refusal, read_inputs};
+use bm_base::Range;
 use bm_io::{MemFile, MemFiles};
 use std::alloc::Global;
 use std::process::Abort;
@@ -74,7 +75,11 @@ fn expect(
 ) -> Result<(), Fail> {
     let failing = vec![in alloc; failing]?;
     let mut files = MemFiles::new(files_of(alloc, held)?, failing);
-    let answer = read_inputs(alloc, &mut files, names);
+    let kernel = Range {
+        base: 0x100_0000,
+        size: 0x200_0000,
+    };
+    let answer = read_inputs(alloc, &mut files, names, kernel);
     assert_eq!(rt; answer.err(), want.map(InputError::Refused));
     Ok(())
 }

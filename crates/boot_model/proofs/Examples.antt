@@ -23,6 +23,7 @@ use Rattle.boot_model.specs.declared.inputs.Inputs.{Inputs}
 use Rattle.boot_model.specs.declared.stop.Cause.TheVariants as causes
 use Rattle.boot_model.specs.declared.stop.Stop.TheVariants as stops
 use Rattle.boot_model.specs.Boot.{Given, Made, begin, boot, claims, has_room, unless_stopped, lies_in_memory, with_items}
+use Rattle.boot_model.specs.Kernel.{IsKernel, is_kernel}
 use Rattle.boot_model.specs.Stages.{in_order}
 use Rattle.boot_model.specs.Stop.{cause_of, cause_of_growth, cause_of_map, stop_of}
 use Rattle.boot_model.specs.View.{inputs_view, booted_view}
@@ -81,10 +82,25 @@ memory_examples : (lies_in_memory two_runs 0x1000 ≡ true) × (lies_in_memory t
     × (lies_in_memory (record { base = 0; size = 1; value = 128 } ∷ []) 0 ≡ true)
 memory_examples = (refl, refl, refl, refl, refl)
 
+-- an image of two frames behind the first MiB, and one that ends where the tables of memory do; not one that begins in a
+-- frame, has one frame, or ends a frame later
+kernel_tests : (is_kernel (record { base = 0x100000; size = 8192 }) ≡ true)
+    × (is_kernel (record { base = 0x3FFFFFFFE000; size = 0x2000 }) ≡ true)
+    × (is_kernel (record { base = 0x100800; size = 0x2000000 }) ≡ false) × (is_kernel (record { base = 0x100000; size = 4096 }) ≡ false)
+    × (is_kernel (record { base = 0x3FFFFFFFF000; size = 0x2000 }) ≡ false)
+kernel_tests = (refl, refl, refl, refl, refl)
+
+kernel_examples : IsKernel (record { base = 0x1000000; size = 0x2000000 })
+    × (IsKernel (record { base = 0xFF000; size = 0x2000000 }) → ⊥)
+kernel_examples = (
+  record { above = omega arith; long = omega arith; at_frame = refl; of_frames = refl; in_reach = omega arith },
+  λ low. omega (arith, low.above),
+)
+
 -- the values of a boot as its definition has them
 inputs_are_items : (i : Inputs) → ((inputs_view i).entries ≡ i.zero.entries.items) × ((inputs_view i).extension ≡ i.ext.items)
-    × ((inputs_view i).initrd ≡ i.zero.initrd)
-inputs_are_items i = (refl, refl, refl)
+    × ((inputs_view i).initrd ≡ i.zero.initrd) × ((inputs_view i).kernel ≡ i.kernel)
+inputs_are_items i = (refl, refl, refl, refl)
 
 booted_are_items : (b : Booted) → ((booted_view b).map ≡ b.map.items) × ((booted_view b).options ≡ chosen b.options)
     × ((booted_view b).items ≡ b.journal.items)

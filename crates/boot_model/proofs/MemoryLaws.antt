@@ -89,9 +89,10 @@ pub memory_told : (given : Given) (made : Made) (x : ℕ) → boot given ≡ Ok 
 memory_told given made x ends =
     let known : HasMemory given made = memory_made given made ends in
     let map : List (RunOf ℕ) = map_of (claims given) in
+    let reached : TypeAt = reachable MAX_PHYSMEM (value_at map) in
     let first = first_memory MAX_PHYSMEM given.kernel given.initrd map known.first.items (map_between (claims given)).runs known.carried x in
     ap (λ (h : ℕ → Bool). h x) known.memory ∙ ap is_some first
-    ∙ some_is (is_usable (reachable MAX_PHYSMEM (value_at map)) (x / 4096))
+    ∙ some_is (is_usable reached (x / 4096))
     ∙ ap (λ (t : TypeAt). is_usable t (x / 4096)) (types_same given)
 
 -- and the limit is the end of the last usable frame

@@ -24,7 +24,7 @@ use Rattle.boot_model.specs.Stages.{in_order}
 use Rattle.boot_model.specs.Stop.{cause_of_growth, cause_of_map}
 
 -- what a boot is given: the zero page's entries and its initrd, where there is one, the entries of the
--- extension, the options, and the range of the kernel's image
+-- extension, the options, and where the kernel lies
 pub record Given : Type 0 where
   pub entries : List Entry
   pub initrd : Option Extent

@@ -1,4 +1,6 @@
-//! What a boot is given: one field an input file.
+//! What a boot is given: one field an input file, and where the kernel lies.
+
+ghost use Rattle.boot_model.specs.Kernel.{IsKernel};
 
 use bm_base::Range;
 use boot_options::Options;
@@ -13,6 +15,7 @@ pub struct Inputs {
     pub ext: Vec<Entry>,
     /// The options of the command line.
     pub options: Options,
-    /// The range of the kernel's image.
+    /// Where the kernel's image lies.
     pub kernel: Range,
+    ghost kernel_fits: { IsKernel kernel },
 }

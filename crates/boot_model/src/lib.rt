@@ -9,6 +9,9 @@
 //! one more link: what is proved of a link speaks of that link and of those before it, and asks of
 //! those behind it only that they leave its part as it is, which each of them has as a law of its own.
 //!
+//! Where the kernel's image lies is an input too; what a boot needs of that place stands with the
+//! [`Inputs`] that have it, and [`is_kernel`] is the test.
+//!
 //! [`MAX_PHYSMEM`] is the limit of the addresses that the kernel's tables of memory reach. It stands
 //! here once; the boot hands it to what depends on it.
 //!
@@ -19,12 +22,14 @@
 
 mod booted;
 mod inputs;
+mod kernel;
 mod laws;
 mod limit;
 mod stop;
 
 pub use booted::Booted;
 pub use inputs::Inputs;
+pub use kernel::is_kernel;
 pub use laws::{map_gives_frames, map_gives_memory, map_gives_types};
 pub use limit::MAX_PHYSMEM;
 pub use stop::{Cause, Stop};

@@ -45,6 +45,10 @@ fn booted(alloc: Global, entries: &[Entry], line: &[u8]) -> Result<Result<Vec<Ru
         },
         ext: Vec::from_slice(alloc, entries)?,
         options: read_options(alloc, line)?,
+        kernel: Range {
+            base: 0x100_0000,
+            size: 0x200_0000,
+        },
     };
     Ok(boot(alloc, inputs).map(|booted| booted.map))
 }

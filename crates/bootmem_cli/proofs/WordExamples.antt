@@ -211,8 +211,9 @@ plain_lines = (refl, refl)
 
 cause_lines : (cause_line (causes.MapFull 3201) ≡ codes "bootmem: stopped: 3201 map runs\n")
     × (cause_line causes.NoRam ≡ codes "bootmem: stopped: no usable frame\n")
+    × (cause_line (causes.NoTablePlace which.Reserved 128) ≡ codes "bootmem: stopped: no place for table reserved room 128\n")
 unfolding digits
-cause_lines = (refl, refl)
+cause_lines = (refl, refl, refl)
 
 unread_line : refusal_line (accepted all_words) (refusals.Unread inputs.Extension) ≡ codes "bootmem: cannot read ext\n"
 unfolding name_in

@@ -9,6 +9,8 @@ use Rattle.boot_inputs.specs.declared.fault.Fault.TheVariants as faults
 use Rattle.boot_inputs.specs.declared.refusal.Refusal.{Refusal}
 use Rattle.boot_inputs.specs.declared.refusal.Refusal.TheVariants as refusals
 use Rattle.boot_inputs.specs.Input.{word_for}
+use Rattle.memblock_model.specs.declared.which.Which.{Which}
+use Rattle.memblock_model.specs.declared.which.Which.TheVariants as which
 use Rattle.boot_model.specs.declared.stop.Cause.{Cause}
 use Rattle.boot_model.specs.declared.stop.Cause.TheVariants as causes
 use Rattle.bootmem_cli.specs.declared.failure.Reason.{Reason}
@@ -44,10 +46,19 @@ fault_line name (faults.BadCrash word) = word_line name word (codes "crashkernel
 fault_line name (faults.UserMapInvalid word) = word_line name word (codes "user map")
 fault_line name (faults.BadNuma word) = word_line name word (codes "numa")
 
+-- the name of a table of memblock
+abbrev pub table_name : Which → List ℕ
+table_name which.Memory = codes "memory"
+table_name which.Reserved = codes "reserved"
+
+abbrev pub table_line : List ℕ → ℕ → List ℕ
+table_line name room = codes "bootmem: stopped: no place for table " ++ (name ++ (codes " room " ++ (decimal room ++ codes "\n")))
+
 abbrev pub cause_line : Cause → List ℕ
 cause_line causes.NoRam = codes "bootmem: stopped: no usable frame\n"
 cause_line (causes.TooMuchRam frames) = codes "bootmem: stopped: " ++ (decimal frames ++ codes " usable frames\n")
 cause_line (causes.MapFull runs) = codes "bootmem: stopped: " ++ (decimal runs ++ codes " map runs\n")
+cause_line (causes.NoTablePlace w room) = table_line (table_name w) room
 
 -- a file that couldn't be read is named as the words name it
 abbrev pub refusal_line : Option Wanted → Refusal → List ℕ

@@ -3,7 +3,7 @@
 
 ghost use Rattle.std.specs.Prelude.{◌≡◌, flat_map};
 ghost use Rattle.std.specs.Option.{option_map};
-ghost use Rattle.bootmem_cli.specs.Line.{Tells, cause_line, entry_line, failure_line, fault_line, reason_line, refusal_line, whole_line, word_line};
+ghost use Rattle.bootmem_cli.specs.Line.{Tells, cause_line, entry_line, failure_line, fault_line, reason_line, refusal_line, table_line, table_name, whole_line, word_line};
 ghost use Rattle.bootmem_cli.specs.View.{wanted_view};
 
 use crate::failure::{Failure, Reason};
@@ -12,6 +12,7 @@ use bm_io::{Sink, put_all};
 use boot_inputs::{Fault, Refusal};
 use boot_model::Cause;
 use itoa::Buffer;
+use memblock_model::Which;
 
 /// Puts the line of a failure on the error output. What the output answers changes nothing: the line goes out
 /// piece by piece, up to the first that is refused.
@@ -113,7 +114,30 @@ fn tell_cause<E: Sink>(err: &mut E, cause: Cause)
             let runs = buffer.format(runs);
             put_line(err, &["bootmem: stopped: ", runs, " map runs\n"])
         }
+        Cause::NoTablePlace { which, room } => tell_table(err, table_name(which), room),
     }
+}
+
+/// The name of a table of memblock.
+fn table_name(which: Which) -> &'static str
+    ensures { result.now ≡ table_name which }
+{
+    match which {
+        Which::Memory => "memory",
+        Which::Reserved => "reserved",
+    }
+}
+
+/// The line of a table that found no place, of so many records.
+fn tell_table<'a, E: Sink>(err: &mut E, name: &'a str, room: u64)
+    ensures { Tells E.Sink err.old err.new (table_line name.now room) }
+{
+    let mut buffer = Buffer::new();
+    let room = buffer.format(room);
+    put_line(
+        err,
+        &["bootmem: stopped: no place for table ", name, " room ", room, "\n"],
+    )
 }
 
 /// Puts the pieces of a line, up to the first that is refused.

@@ -1,56 +1,72 @@
--- Small reports and their parts, by computing.
-use Rattle.std.proofs.Common.{◌≡◌, ℕ, [], ◌∷◌, ◌++◌, codes, false, Some, None, decimal, refl}
+-- Small reports and lists of them, by computing.
+use Rattle.std.proofs.Common.{◌≡◌, ℕ, true, false, List, [], ◌∷◌, codes, Some, None, refl}
 use Rattle.std.specs.Fmt.{digits}
 use Rattle.address_runs.specs.Runs.{RunOf}
 use Rattle.boot_options.specs.Crash.{no_crash}
-use Rattle.boot_options.specs.Options.{Chosen}
+use Rattle.e820_model.specs.declared.edit.Edit.TheVariants as edits
+use Rattle.boot_model.specs.Boot.{Made}
 use Rattle.debugfs_reports.specs.declared.report.Report.TheVariants as reports
-use Rattle.debugfs_reports.specs.Lines.{lines_from, range_text}
-use Rattle.debugfs_reports.specs.MapText.{kind_name, map_line}
-use Rattle.debugfs_reports.specs.Report.{first_named, name_of, report_named, report_text}
+use Rattle.debugfs_reports.specs.Report.{all_reports, first_named, name_of, report_named, report_text}
+use Rattle.debugfs_reports.specs.ReportList.{are_reports, names_in, part, reports_in, text_of, title}
 
-ram_at_1M : RunOf ℕ
-ram_at_1M = record { base = 0x100000; size = 0x7EE0000; value = 1 }
+reserved : RunOf ℕ
+reserved = record { base = 0x7FE0000; size = 0x20000; value = 2 }
 
-reserved_behind : RunOf ℕ
-reserved_behind = record { base = 0x7FE0000; size = 0x20000; value = 2 }
+made : Made
+made = record { map = reserved ∷ []; options = record { edits = edits.Clear ∷ []; crash = no_crash; numa_off = true }; items = [] }
 
-line_of_ram : map_line 0 ram_at_1M ≡ codes "0x0000000000100000..0x0000000007fdffff 1 usable\n"
-unfolding ram_at_1M digits
-line_of_ram = refl
+nothing : Made
+nothing = record { map = []; options = record { edits = []; crash = no_crash; numa_off = false }; items = [] }
 
-line_of_reserved : map_line 1 reserved_behind ≡ codes "0x0000000007fe0000..0x0000000007ffffff 2 reserved\n"
-unfolding reserved_behind digits
-line_of_reserved = refl
-
-abbrev no_options : Chosen
-no_options = record { edits = []; crash = no_crash; numa_off = false }
-
-two_lines : report_text reports.Map (record { map = ram_at_1M ∷ reserved_behind ∷ []; options = no_options })
-    ≡ codes "0x0000000000100000..0x0000000007fdffff 1 usable\n0x0000000007fe0000..0x0000000007ffffff 2 reserved\n"
-unfolding ram_at_1M reserved_behind digits
-two_lines = refl
-
-no_lines : report_text reports.Map (record { map = []; options = no_options }) ≡ []
-no_lines = refl
-
--- elements are numbered one by one
-numbered_lines : lines_from (λ n x. decimal n ++ x) 8 (codes "a" ∷ codes "b" ∷ codes "c" ∷ []) ≡ codes "8a9b10c"
-unfolding digits
-numbered_lines = refl
-
--- one byte, and none at all
-range_examples : (range_text (record { base = 0x1000; size = 1 }) ≡ codes "0x0000000000001000..0x0000000000001000")
-    × (range_text (record { base = 0; size = 0 }) ≡ codes "0x0000000000000000..0x0000000000000000")
-unfolding digits
-range_examples = (refl, refl)
-
-kind_examples : (kind_name 0xEFFFFFFF ≡ codes "soft reserved") × (kind_name 6 ≡ codes "other") × (kind_name 128 ≡ codes "usable kernel")
-kind_examples = (refl, refl, refl)
+text_examples : (report_text reports.Map made ≡ codes "0x0000000007fe0000..0x0000000007ffffff 2 reserved\n")
+    × (report_text reports.Options made ≡ codes "clear\nnuma off\n") × (report_text reports.Options nothing ≡ [])
+unfolding made nothing reserved digits
+text_examples = (refl, refl, refl)
 
 name_examples : (name_of reports.Map ≡ codes "map") × (report_named (codes "map") ≡ Some reports.Map)
-    × (report_named (codes "Map") ≡ None) × (report_named [] ≡ None)
-name_examples = (refl, refl, refl, refl)
+    × (report_named (codes "options") ≡ Some reports.Options) × (report_named (codes "Map") ≡ None) × (report_named [] ≡ None)
+name_examples = (refl, refl, refl, refl, refl)
 
 first_examples : (first_named [] (codes "map") ≡ None) × (first_named (reports.Map ∷ reports.Map ∷ []) (codes "map") ≡ Some reports.Map)
 first_examples = (refl, refl)
+
+-- a list has one name more than commas
+names_examples : (names_in (codes "map,,map") ≡ codes "map" ∷ [] ∷ codes "map" ∷ []) × (names_in [] ≡ [] ∷ [])
+names_examples = (refl, refl)
+
+-- a name may stand twice; an empty name is none
+are_examples : (are_reports (codes "map,options,map") ≡ true) × (are_reports (codes "map") ≡ true) × (are_reports (codes "map,") ≡ false)
+    × (are_reports (codes "map, options") ≡ false) × (are_reports [] ≡ false)
+are_examples = (refl, refl, refl, refl, refl)
+
+in_examples : (reports_in (codes "options,map,options") ≡ reports.Options ∷ reports.Map ∷ reports.Options ∷ [])
+    × (reports_in (codes "maps") ≡ [])
+in_examples = (refl, refl)
+
+title_examples : (title true reports.Map ≡ codes "== map\n") × (title false reports.Map ≡ [])
+title_examples = (refl, refl)
+
+part_examples : (part true made reports.Options ≡ codes "== options\nclear\nnuma off\n") × (part false made reports.Options ≡ codes "clear\nnuma off\n")
+unfolding made
+part_examples = (refl, refl)
+
+-- one report has no such line; two have it, the one without lines too
+one_report : text_of (reports.Options ∷ []) made ≡ codes "clear\nnuma off\n"
+unfolding made
+one_report = refl
+
+two_reports : text_of (reports.Map ∷ reports.Options ∷ []) made
+    ≡ codes "== map\n0x0000000007fe0000..0x0000000007ffffff 2 reserved\n== options\nclear\nnuma off\n"
+unfolding made reserved digits
+two_reports = refl
+
+two_without_lines : text_of (reports.Options ∷ reports.Options ∷ []) nothing ≡ codes "== options\n== options\n"
+unfolding nothing
+two_without_lines = refl
+
+no_reports : text_of [] made ≡ []
+no_reports = refl
+
+-- each report has a name, and its name finds it
+all_are_named : (all_reports ≡ reports.Map ∷ reports.Options ∷ []) × (reports_in (codes "map,options") ≡ all_reports)
+all_are_named = (refl, refl)

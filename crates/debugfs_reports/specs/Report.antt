@@ -4,14 +4,15 @@ use Rattle.std.specs.Str.{bytes_eq}
 use Rattle.boot_model.specs.Boot.{Made}
 use Rattle.debugfs_reports.specs.declared.report.Report.{Report}
 use Rattle.debugfs_reports.specs.declared.report.Report.TheVariants as reports
-use Rattle.debugfs_reports.specs.Lines.{lines_from}
-use Rattle.debugfs_reports.specs.MapText.{map_line}
+use Rattle.report_texts.specs.MapText.{map_text}
+use Rattle.report_texts.specs.OptionsText.{options_text}
 
 abbrev pub name_of : Report → List ℕ
 name_of reports.Map = codes "map"
+name_of reports.Options = codes "options"
 
 abbrev pub all_reports : List Report
-all_reports = reports.Map ∷ []
+all_reports = reports.Map ∷ reports.Options ∷ []
 
 -- the first of the reports that has the name
 abbrev pub first_named : List Report → List ℕ → Option Report
@@ -22,4 +23,5 @@ report_named name = first_named all_reports name
 
 -- the text of a report, from what the boot made
 abbrev pub report_text : Report → Made → List ℕ
-report_text reports.Map made = lines_from map_line 0 made.map
+report_text reports.Map made = map_text made.map
+report_text reports.Options made = options_text made.options

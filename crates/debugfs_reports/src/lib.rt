@@ -1,25 +1,25 @@
-//! The texts of reports: what a boot made, in the lines that the program prints.
+//! The reports of a boot: their names, their texts, and lists of them.
 //!
 //! A report is a text of lines, in the manner of the files below `/sys/kernel/debug`. [`Report`] names
 //! those that there are, [`report_named`] finds one by its name, and [`render`] gives its text, which
-//! is that of the definition (`report_text` of `specs/Report.antt`): nothing but want of memory comes
-//! in its place.
+//! is that of the definition (`report_text` of `specs/Report.antt`). The lines are those of
+//! `report_texts`, so a report is here a name and one call.
 //!
-//! A report of a list is three things: the definition of the line of one element (`specs/MapText.antt`
-//! has the map's), the function that puts that line, and one call of `put_lines`, which takes the
-//! function. `put_lines` is proved once for all of them. Ranges and numbers are put by `put_range` and by
-//! the functions of `bm_base`, and are the same in every report.
+//! A list of reports is spelled as names with a comma between each two, and a name may stand twice:
+//! [`are_reports`] tells whether each name is a report's, and takes no memory, so that a list can be
+//! refused before anything is done for it; [`reports_in`] gives the reports. [`render_all`] gives all
+//! their texts at once (`specs/ReportList.antt`). Where there are two or more, each begins with a line
+//! that says whose it is.
 //!
-//! Only the text grows. A text is whole before any of it is written, so a report that memory doesn't
-//! suffice for writes nothing.
+//! The layer above may rest on this: nothing but want of memory comes in the place of a text, and all
+//! texts are whole before any of them is written.
 #![tactic(auto)]
 
-mod lines;
-mod map;
-mod ranges;
+mod list;
 mod report;
 #[cfg(test)]
 mod tests;
 
 pub use boot_model::Booted;
+pub use list::{are_reports, render_all, reports_in};
 pub use report::{Report, render, report_named};

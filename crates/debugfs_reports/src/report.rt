@@ -5,10 +5,9 @@ ghost use Rattle.std.specs.Str.{bytes_eq};
 ghost use Rattle.boot_model.specs.View.{booted_view};
 ghost use Rattle.debugfs_reports.specs.Report.{name_of, report_named, report_text};
 
-use crate::lines::put_lines;
-use crate::map::put_map_line;
 use bm_base::Memory;
 use boot_model::Booted;
+use report_texts::{put_map, put_options};
 use std::alloc::Global;
 
 /// A report of a boot.
@@ -16,6 +15,8 @@ use std::alloc::Global;
 pub enum Report {
     /// The map: each run, with its type's number and name.
     Map,
+    /// What the command line asks of the memory set-up.
+    Options,
 }
 
 impl Report {
@@ -25,12 +26,13 @@ impl Report {
     {
         match self {
             Report::Map => "map",
+            Report::Options => "options",
         }
     }
 }
 
 /// The reports that there are.
-const REPORTS: [Report; 1] = [Report::Map];
+const REPORTS: [Report; 2] = [Report::Map, Report::Options];
 
 /// Whether that is the name of the report.
 fn is_named(report: Report, name: &[u8]) -> bool
@@ -63,11 +65,12 @@ pub fn render(alloc: Global, report: Report, booted: &Booted) -> Result<Vec<u8>,
 }
 
 /// Appends the text of a report.
-fn put_report(text: &mut Vec<u8>, report: Report, booted: &Booted) -> Result<(), Memory>
+pub fn put_report(text: &mut Vec<u8>, report: Report, booted: &Booted) -> Result<(), Memory>
     ensures { OnOk result (text.new.items
         ≡ text.old.items ++ report_text report (booted_view booted.now)) }
 {
     match report {
-        Report::Map => put_lines(text, &booted.map, put_map_line),
+        Report::Map => put_map(text, &booted.map),
+        Report::Options => put_options(text, &booted.options),
     }
 }

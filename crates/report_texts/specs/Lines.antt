@@ -1,7 +1,7 @@
 -- What reports are made of: lines, and what stands in them.
 use Rattle.std.specs.Prelude.{ℕ, ◌+◌, ◌-◌, List, [], ◌∷◌, ◌++◌, codes}
 use Rattle.bm_base.specs.Extent.{Extent, end_of}
-use Rattle.bm_base.specs.Text.{hex_text}
+use Rattle.bm_base.specs.Text.{hex_text, padded_decimal}
 
 -- the line of each element by its index, of which the first is n
 abbrev pub lines_from : {X : Type 0} → (ℕ → X → List ℕ) → ℕ → List X → List ℕ
@@ -12,3 +12,7 @@ lines_from line n (x ∷ xs) = line n x ++ lines_from line (n + 1) xs
 -- else ends before it begins
 abbrev pub range_text : Extent → List ℕ
 range_text r = hex_text r.base ++ codes ".." ++ hex_text (end_of r - 1)
+
+-- the index at the front of a line, from 0: right-aligned in four places
+abbrev pub index_text : ℕ → List ℕ
+index_text n = padded_decimal 4 n ++ codes ": "

@@ -1,8 +1,9 @@
 //! The report of the map: a line for each run.
 
 ghost use Rattle.std.specs.Prelude.{◌≡◌, ◌++◌, OnOk};
-ghost use Rattle.debugfs_reports.specs.MapText.{kind_name, map_line};
+ghost use Rattle.report_texts.specs.MapText.{kind_name, map_line, map_text};
 
+use crate::lines::put_lines;
 use crate::ranges::put_range;
 use bm_base::{Memory, put_dec, put_text};
 use e820_model::{
@@ -28,8 +29,15 @@ fn kind_name(kind: u32) -> &'static str
     }
 }
 
+/// Appends the text of the map: a line for each run.
+pub fn put_map(text: &mut Vec<u8>, runs: &[Run]) -> Result<(), Memory>
+    ensures { OnOk result (text.new.items ≡ text.old.items ++ map_text runs.now) }
+{
+    put_lines(text, runs, put_map_line)
+}
+
 /// Appends the line of a run.
-pub fn put_map_line(text: &mut Vec<u8>, index: u64, run: &Run) -> Result<(), Memory>
+fn put_map_line(text: &mut Vec<u8>, index: u64, run: &Run) -> Result<(), Memory>
     ensures { OnOk result (text.new.items ≡ text.old.items ++ map_line index run.now) }
 {
     put_range(text, &run.range)?;

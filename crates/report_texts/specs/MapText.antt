@@ -3,7 +3,7 @@
 use Rattle.std.specs.Prelude.{ℕ, ◌==◌, if◌then◌else◌, List, ◌++◌, codes, decimal}
 use Rattle.address_runs.specs.Runs.{RunOf, extent_of}
 use Rattle.e820_model.specs.declared.types.TheConstants.{E820_TYPE_RAM, E820_TYPE_RESERVED, E820_TYPE_ACPI, E820_TYPE_NVS, E820_TYPE_UNUSABLE, E820_TYPE_PMEM, E820_TYPE_PRAM, E820_TYPE_RESERVED_KERN, E820_TYPE_SOFT_RESERVED}
-use Rattle.debugfs_reports.specs.Lines.{range_text}
+use Rattle.report_texts.specs.Lines.{lines_from, range_text}
 
 -- the name of a type (`enum e820_type`)
 abbrev pub kind_name : ℕ → List ℕ
@@ -22,3 +22,7 @@ kind_name k =
 -- the line of a run: its range, the number of its type and the type's name; the index isn't in it
 abbrev pub map_line : ℕ → RunOf ℕ → List ℕ
 map_line n r = range_text (extent_of r) ++ codes " " ++ decimal r.value ++ codes " " ++ kind_name r.value ++ codes "\n"
+
+-- the map: a line for each run
+abbrev pub map_text : List (RunOf ℕ) → List ℕ
+map_text runs = lines_from map_line 0 runs

@@ -1,8 +1,8 @@
 -- The text so far and the lines of the elements that are left are the text of all, whatever line each one has.
 use Rattle.std.proofs.Common.{◌≡◌, ℕ, List, ◌++◌, drop}
 use Rattle.std.specs.Prelude.{OnOk}
-use Rattle.debugfs_reports.specs.Lines.{lines_from}
-use Rattle.debugfs_reports.proofs.lines.put_lines.Given as goal
+use Rattle.report_texts.specs.Lines.{lines_from}
+use Rattle.report_texts.proofs.lines.put_lines.Given as goal
 
 abbrev pub invariant-loop-index : goal.invariant-loop-index
 invariant-loop-index g l = (line : ℕ → g.row.T.Denot → List ℕ)

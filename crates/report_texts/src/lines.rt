@@ -1,12 +1,12 @@
 //! Lines, one for each element of a list.
 
 ghost use Rattle.std.specs.Prelude.{◌≡◌, ℕ, ◌<◌, ◌++◌, List, OnOk, length};
-ghost use Rattle.debugfs_reports.specs.Lines.{lines_from};
+ghost use Rattle.report_texts.specs.Lines.{lines_from};
 
 use bm_base::Memory;
 
 /// The bytes that most lines take at most, the map's among them.
-const LINE_ROOM: usize = 56;
+pub const LINE_ROOM: usize = 56;
 
 /// Appends the line of each element, in their order. `put` appends the line of one, which it is handed
 /// with its index, from 0. Room for [`LINE_ROOM`] bytes a line is taken in advance.

@@ -1,0 +1,32 @@
+-- Lists of reports: how one is spelled, and what it comes to.
+use Rattle.std.specs.Prelude.{ℕ, Bool, is_some, nat_lt, if◌then◌else◌, List, [], ◌++◌, codes, length}
+use Rattle.std.specs.List.{filter_map, flat_map, list_all}
+use Rattle.text_words.specs.declared.separators.Separators.TheVariants.{Byte}
+use Rattle.text_words.specs.Parts.{parts_in}
+use Rattle.boot_model.specs.Boot.{Made}
+use Rattle.debugfs_reports.specs.declared.report.Report.{Report}
+use Rattle.debugfs_reports.specs.Report.{name_of, report_named, report_text}
+
+-- the names that are spelled with a comma between each two; the empty text is one empty name
+abbrev pub names_in : List ℕ → List (List ℕ)
+names_in list = parts_in (Byte 44) list
+
+-- each name is a report's
+abbrev pub are_reports : List ℕ → Bool
+are_reports list = list_all (λ name. is_some (report_named name)) (names_in list)
+
+-- the reports of the names, in the order of the list
+abbrev pub reports_in : List ℕ → List Report
+reports_in list = filter_map report_named (names_in list)
+
+-- the line before a report, where it is one of several
+abbrev pub title : Bool → Report → List ℕ
+title several report = if several then codes "== " ++ name_of report ++ codes "\n" else []
+
+-- a report's part of the whole text
+abbrev pub part : Bool → Made → Report → List ℕ
+part several made report = title several report ++ report_text report made
+
+-- the whole text of a list of reports: the parts one after another, in the order of the list
+abbrev pub text_of : List Report → Made → List ℕ
+text_of reports made = flat_map (part (nat_lt 1 (length reports)) made) reports

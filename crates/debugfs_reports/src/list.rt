@@ -1,0 +1,90 @@
+//! Lists of reports: names with a comma between each two, and the texts of all of them.
+
+ghost use Rattle.std.specs.Prelude.{◌≡◌, ◌++◌, IfOk, OnOk, length, map, nat_lt};
+ghost use Rattle.std.specs.List.{flat_map};
+ghost use Rattle.boot_model.specs.View.{booted_view};
+ghost use Rattle.debugfs_reports.specs.ReportList.{are_reports, part, reports_in, text_of, title};
+
+use crate::report::{Report, put_report, report_named};
+use bm_base::{Memory, put_text};
+use boot_model::Booted;
+use std::alloc::Global;
+use text_words::{Separators, next_part};
+
+/// Whether each name of the list is a report's. The empty list is one empty name, which is no report's.
+pub fn are_reports(list: &[u8]) -> bool
+    ensures { result ≡ are_reports list.now }
+{
+    let mut rest = Some(list);
+    while let Some(text) = rest {
+        let (name, behind) = next_part(text, Separators::Byte(b','));
+        if report_named(name).is_none() {
+            return false;
+        }
+        rest = behind;
+    }
+    true
+}
+
+/// The reports of the list, in its order. A name that is no report's gives none.
+pub fn reports_in(alloc: Global, list: &[u8]) -> Result<Vec<Report>, Memory>
+    ensures { IfOk result (λ reports. reports.items ≡ reports_in list.now) }
+{
+    let mut reports = Vec::new(alloc);
+    let mut rest = Some(list);
+    while let Some(text) = rest {
+        let (name, behind) = next_part(text, Separators::Byte(b','));
+        if let Some(report) = report_named(name) {
+            reports.push(report)?;
+        }
+        rest = behind;
+    }
+    Ok(reports)
+}
+
+/// The texts of all reports of a list, each with the line that says whose it is where there are two or
+/// more. Together they are the whole text.
+pub fn render_all(
+    alloc: Global,
+    reports: &[Report],
+    booted: &Booted,
+) -> Result<Vec<Vec<u8>>, Memory>
+    ensures each { IfOk result (λ texts. map (λ text. text.items) texts.items
+        ≡ map (part (nat_lt 1 (length reports.now)) (booted_view booted.now)) reports.now) }
+    ensures whole { IfOk result (λ texts. flat_map (λ text. text.items) texts.items
+        ≡ text_of reports.now (booted_view booted.now)) }
+{
+    let several = reports.len() > 1;
+    let mut texts = Vec::new(alloc);
+    for report in reports {
+        texts.push(render_part(alloc, *report, several, booted)?)?;
+    }
+    Ok(texts)
+}
+
+/// A report's part of the whole text.
+fn render_part(
+    alloc: Global,
+    report: Report,
+    several: bool,
+    booted: &Booted,
+) -> Result<Vec<u8>, Memory>
+    ensures { IfOk result (λ text. text.items ≡ part several (booted_view booted.now) report) }
+{
+    let mut text = Vec::new(alloc);
+    put_title(&mut text, several, report)?;
+    put_report(&mut text, report, booted)?;
+    Ok(text)
+}
+
+/// Appends the line that says whose the text behind it is, where there are several.
+fn put_title(text: &mut Vec<u8>, several: bool, report: Report) -> Result<(), Memory>
+    ensures { OnOk result (text.new.items ≡ text.old.items ++ title several report) }
+{
+    if !several {
+        return Ok(());
+    }
+    put_text(text, b"== ")?;
+    put_text(text, report.name().as_bytes())?;
+    put_text(text, b"\n")
+}

@@ -1,0 +1,203 @@
+-- Small texts and their parts, by computing.
+use Rattle.std.proofs.Common.{◌≡◌, ℕ, true, false, List, [], ◌∷◌, ◌++◌, codes, None, Some, decimal, refl, ap, arith}
+use Rattle.std.specs.Fmt.{digits}
+use Rattle.bm_base.specs.Extent.{Extent}
+use Rattle.phys_store.specs.Bytes.{Stored}
+use Rattle.address_runs.specs.Runs.{RunOf}
+use Rattle.e820_model.specs.declared.edit.Edit.{Edit}
+use Rattle.e820_model.specs.declared.edit.Edit.TheVariants as edits
+use Rattle.memblock_model.specs.declared.item.Item.TheVariants as item
+use Rattle.memblock_model.specs.declared.owner.Owner.{Owner}
+use Rattle.memblock_model.specs.declared.owner.Owner.TheVariants as owner
+use Rattle.memblock_model.specs.declared.which.Which.TheVariants as which
+use Rattle.memblock_model.specs.Labels.{Label}
+use Rattle.memblock_ranges.specs.declared.region.Head.{Head}
+use Rattle.memblock_ranges.specs.Tables.{Table, StandsIn, head_of}
+use Rattle.report_texts.specs.Lines.{index_text, lines_from, range_text}
+use Rattle.report_texts.specs.JournalText.{item_line, item_text, journal_text}
+use Rattle.report_texts.specs.MapText.{kind_name, map_line, map_text}
+use Rattle.report_texts.specs.OptionsText.{edit_line, edit_text, kind_text, numa_line, options_text}
+use Rattle.report_texts.specs.OwnersText.{owner_line, owner_text, owners_text, which_name}
+use Rattle.report_texts.specs.RecordsText.{IsTableAt, extent_line, record_line, records_text, region_line}
+use Rattle.report_texts.specs.TablesText.{table_line, tables_text}
+
+-- elements are numbered one by one
+numbered_lines : lines_from (λ n x. decimal n ++ x) 8 (codes "a" ∷ codes "b" ∷ codes "c" ∷ []) ≡ codes "8a9b10c"
+unfolding digits
+numbered_lines = refl
+
+-- one byte, and none at all
+range_examples : (range_text (record { base = 0x1000; size = 1 }) ≡ codes "0x0000000000001000..0x0000000000001000")
+    × (range_text (record { base = 0; size = 0 }) ≡ codes "0x0000000000000000..0x0000000000000000")
+unfolding digits
+range_examples = (refl, refl)
+
+-- four places, and as many as it takes
+index_examples : (index_text 7 ≡ codes "   7: ") × (index_text 9999 ≡ codes "9999: ") × (index_text 12345 ≡ codes "12345: ")
+unfolding digits
+index_examples = (refl, refl, refl)
+
+-- the map
+ram_at_1M : RunOf ℕ
+ram_at_1M = record { base = 0x100000; size = 0x7EE0000; value = 1 }
+
+reserved_behind : RunOf ℕ
+reserved_behind = record { base = 0x7FE0000; size = 0x20000; value = 2 }
+
+line_of_ram : map_line 0 ram_at_1M ≡ codes "0x0000000000100000..0x0000000007fdffff 1 usable\n"
+unfolding ram_at_1M digits
+line_of_ram = refl
+
+line_of_reserved : map_line 1 reserved_behind ≡ codes "0x0000000007fe0000..0x0000000007ffffff 2 reserved\n"
+unfolding reserved_behind digits
+line_of_reserved = refl
+
+two_runs : map_text (ram_at_1M ∷ reserved_behind ∷ [])
+    ≡ codes "0x0000000000100000..0x0000000007fdffff 1 usable\n0x0000000007fe0000..0x0000000007ffffff 2 reserved\n"
+unfolding ram_at_1M reserved_behind digits
+two_runs = refl
+
+no_runs : map_text [] ≡ []
+no_runs = refl
+
+kind_examples : (kind_name 0xEFFFFFFF ≡ codes "soft reserved") × (kind_name 6 ≡ codes "other") × (kind_name 128 ≡ codes "usable kernel")
+kind_examples = (refl, refl, refl)
+
+-- the options
+first_MiB : Extent
+first_MiB = record { base = 0; size = 0x100000 }
+
+edit_examples : (edit_text (edits.Add first_MiB 12) ≡ codes "add 12 0x0000000000000000..0x00000000000fffff")
+    × (edit_text (edits.Remove first_MiB 1) ≡ codes "remove 1 0x0000000000000000..0x00000000000fffff")
+    × (edit_text (edits.RemoveAll first_MiB) ≡ codes "remove-all 0x0000000000000000..0x00000000000fffff")
+    × (edit_text (edits.Change first_MiB 2 1) ≡ codes "change 2 1 0x0000000000000000..0x00000000000fffff")
+    × (edit_text edits.Clear ≡ codes "clear")
+unfolding first_MiB digits
+edit_examples = (refl, refl, refl, refl, refl)
+
+kind_texts : (kind_text 1 ≡ codes "1 ") × (kind_text 4026531839 ≡ codes "4026531839 ")
+unfolding digits
+kind_texts = (refl, refl)
+
+edit_lines : (edit_line 0 edits.Clear ≡ codes "clear\n") × (edit_line 5 edits.Clear ≡ codes "clear\n")
+edit_lines = (refl, refl)
+
+numa_examples : (numa_line true ≡ codes "numa off\n") × (numa_line false ≡ [])
+numa_examples = (refl, refl)
+
+some_options : options_text (record { edits = edits.Clear ∷ edits.Add first_MiB 1 ∷ []; numa_off = true })
+    ≡ codes "clear\nadd 1 0x0000000000000000..0x00000000000fffff\nnuma off\n"
+unfolding first_MiB digits
+some_options = refl
+
+no_options : options_text (record { edits = []; numa_off = false }) ≡ []
+no_options = refl
+
+-- owners
+which_examples : (which_name which.Memory ≡ codes "memory") × (which_name which.Reserved ≡ codes "reserved")
+which_examples = (refl, refl)
+
+owner_examples : (owner_text owner.Low64K ≡ codes "low-64k") × (owner_text owner.Soft ≡ codes "soft-reserved")
+    × (owner_text (owner.Table which.Reserved) ≡ codes "table-reserved") × (owner_text (owner.NodeData 1) ≡ codes "node-data 1")
+    × (owner_text (owner.Script 4294967295) ≡ codes "script 4294967295") × (owner_text owner.CrashLow ≡ codes "crash-low")
+unfolding digits
+owner_examples = (refl, refl, refl, refl, refl, refl)
+
+low : RunOf Owner
+low = record { base = 0; size = 0x100000; value = owner.Low1M }
+
+of_kernel : RunOf Owner
+of_kernel = record { base = 0x1000000; size = 0x2000000; value = owner.Kernel }
+
+owner_lines : (owner_line 0 low ≡ codes "   0: 0x0000000000000000..0x00000000000fffff low-1m\n")
+    × (owner_line 12 of_kernel ≡ codes "  12: 0x0000000001000000..0x0000000002ffffff kernel\n")
+unfolding low of_kernel digits
+owner_lines = (refl, refl)
+
+two_owners : owners_text (low ∷ of_kernel ∷ [])
+    ≡ codes "   0: 0x0000000000000000..0x00000000000fffff low-1m\n   1: 0x0000000001000000..0x0000000002ffffff kernel\n"
+unfolding low of_kernel digits
+two_owners = refl
+
+no_owner : owners_text [] ≡ []
+no_owner = refl
+
+-- the journal
+item_examples : (item_text (item.Mem first_MiB) ≡ codes "mem 0x0000000000000000..0x00000000000fffff") × (item_text item.Trim ≡ codes "trim")
+    × (item_text (item.Node first_MiB 3) ≡ codes "node 3 0x0000000000000000..0x00000000000fffff")
+    × (item_text (item.Claim first_MiB (owner.NodeData 0)) ≡ codes "claim node-data 0 0x0000000000000000..0x00000000000fffff")
+    × (item_text (item.Free first_MiB) ≡ codes "free 0x0000000000000000..0x00000000000fffff")
+    × (item_text (item.Limit 0x100000) ≡ codes "limit 0x0000000000100000")
+    × (item_text (item.Grown which.Memory 0x9D000 256) ≡ codes "grown memory 0x000000000009d000 room 256")
+unfolding first_MiB digits
+item_examples = (refl, refl, refl, refl, refl, refl, refl)
+
+item_lines : (item_line 0 item.Trim ≡ codes "1: trim\n") × (item_line 9 (item.Limit 0) ≡ codes "10: limit 0x0000000000000000\n")
+unfolding digits
+item_lines = (refl, refl)
+
+two_items : journal_text (item.Limit 0x100000 ∷ item.Trim ∷ []) ≡ codes "1: limit 0x0000000000100000\n2: trim\n"
+unfolding digits
+two_items = refl
+
+no_items : journal_text [] ≡ []
+no_items = refl
+
+-- records, of which the node isn't told
+of_node_1 : RunOf Label
+of_node_1 = record { base = 0x1000; size = 0x9E000; value = record { node = Some 1 } }
+
+of_no_node : RunOf Label
+of_no_node = record { base = 0x100000; size = 0x7EE0000; value = record { node = None } }
+
+extent_lines : (extent_line 0 first_MiB ≡ codes "   0: 0x0000000000000000..0x00000000000fffff\n")
+    × (extent_line 1023 first_MiB ≡ codes "1023: 0x0000000000000000..0x00000000000fffff\n")
+unfolding first_MiB digits
+extent_lines = (refl, refl)
+
+record_lines : (record_line 0 of_node_1 ≡ codes "   0: 0x0000000000001000..0x000000000009efff\n")
+    × (record_line 12345 of_no_node ≡ codes "12345: 0x0000000000100000..0x0000000007fdffff\n")
+unfolding of_node_1 of_no_node digits
+record_lines = (refl, refl)
+
+-- a record ends where addresses end
+region_lines : (region_line 0 (record { base = 0x1000; size = 0x9E000; flags = 0; node = 1 })
+    ≡ codes "   0: 0x0000000000001000..0x000000000009efff\n")
+    × (region_line 1 (record { base = 0x1000; size = 0xFFFFFFFFFFFFF000; flags = 0; node = 1024 })
+    ≡ codes "   1: 0x0000000000001000..0xffffffffffffffff\n")
+unfolding digits
+region_lines = (refl, refl)
+
+two_records : records_text (of_node_1 ∷ of_no_node ∷ [])
+    ≡ codes "   0: 0x0000000000001000..0x000000000009efff\n   1: 0x0000000000100000..0x0000000007fdffff\n"
+unfolding of_node_1 of_no_node digits
+two_records = refl
+
+no_records : records_text [] ≡ []
+no_records = refl
+
+-- the head is the table's
+head_is_told : (table : Table) (store : List Stored) → StandsIn table store → IsTableAt table store (head_of table)
+head_is_told table store stands = record { stands = stands; told = refl }
+
+other_place : (table : Table) (store : List Stored) → table.place ≡ 7
+    → IsTableAt table store (record { place = 8; room = 128; count = 0 }) → ⊥
+other_place table store at_7 at =
+    let places : 8 ≡ table.place = ap (λ (h : Head). h.place) at.told in
+    omega (arith, at_7, places)
+
+-- the heads
+table_lines : (table_line which.Memory (record { place = 0x9D000; room = 256; count = 129 })
+    ≡ codes "memory place 0x000000000009d000 room 256 records 129\n")
+    × (table_line which.Reserved (record { place = 0x2FFF000; room = 128; count = 0 })
+    ≡ codes "reserved place 0x0000000002fff000 room 128 records 0\n")
+unfolding digits
+table_lines = (refl, refl)
+
+both_tables : tables_text (record {
+  memory = record { place = 0x9D000; room = 256; count = 129 };
+  reserved = record { place = 0x2FFF000; room = 128; count = 2 };
+})
+    ≡ codes "memory place 0x000000000009d000 room 256 records 129\nreserved place 0x0000000002fff000 room 128 records 2\n"
+unfolding digits
+both_tables = refl

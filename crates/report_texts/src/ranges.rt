@@ -1,0 +1,31 @@
+//! Ranges and indices in lines, the same in every report.
+
+ghost use Rattle.std.specs.Prelude.{◌≡◌, ◌++◌, OnOk};
+ghost use Rattle.report_texts.specs.Lines.{index_text, range_text};
+
+use bm_base::{Memory, Range, put_dec, put_hex, put_text};
+
+/// Appends the first and the last byte of a range.
+pub fn put_range(text: &mut Vec<u8>, range: &Range) -> Result<(), Memory>
+    ensures { OnOk result (text.new.items ≡ text.old.items ++ range_text range.now) }
+{
+    put_hex(text, range.base)?;
+    put_text(text, b"..")?;
+    put_hex(text, range.end().saturating_sub(1))
+}
+
+/// Appends a word and the range behind it.
+pub fn put_word_range(text: &mut Vec<u8>, word: &[u8], range: &Range) -> Result<(), Memory>
+    ensures { OnOk result (text.new.items ≡ text.old.items ++ (word.now ++ range_text range.now)) }
+{
+    put_text(text, word)?;
+    put_range(text, range)
+}
+
+/// Appends the index at the front of a line, counted from 0.
+pub fn put_index(text: &mut Vec<u8>, index: u64) -> Result<(), Memory>
+    ensures { OnOk result (text.new.items ≡ text.old.items ++ index_text index) }
+{
+    put_dec(text, index, 4)?;
+    put_text(text, b": ")
+}

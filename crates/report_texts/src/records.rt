@@ -1,0 +1,38 @@
+//! The text of a table's records, as the bytes at its place have them.
+
+ghost use Rattle.std.specs.Prelude.{◌≡◌, ◌+◌, ◌^◌, ◌<◌, ◌≤◌, ◌++◌, OnOk};
+ghost use Rattle.memblock_ranges.specs.Tables.{Table};
+ghost use Rattle.report_texts.specs.RecordsText.{IsTableAt, region_line, records_text};
+
+use crate::lines::LINE_ROOM;
+use crate::ranges::put_index;
+use bm_base::{Memory, put_hex, put_text};
+use memblock_ranges::{Head, Region, region_at};
+use phys_store::Store;
+
+/// Appends the text of the table that the head tells of: a line for each record. A table stands there
+/// in the store.
+pub fn put_records(text: &mut Vec<u8>, store: &Store, head: &Head) -> Result<(), Memory>
+    requires { (table : Table) × IsTableAt table store.now head.now }
+    ensures { (table : Table) → IsTableAt table store.now head.now
+        → OnOk result (text.new.items ≡ text.old.items ++ records_text table.records) }
+{
+    text.reserve((head.count as usize).saturating_mul(LINE_ROOM))?;
+    for index in 0..head.count {
+        put_record_line(text, index, &region_at(store, head, index))?;
+    }
+    Ok(())
+}
+
+/// Appends the line of a record, which has an address, and none from 2^64 on.
+fn put_record_line(text: &mut Vec<u8>, index: u64, region: &Region) -> Result<(), Memory>
+    requires some { 0 < region.now.size }
+    requires within { region.now.base + region.now.size ≤ 2 ^ 64 }
+    ensures { OnOk result (text.new.items ≡ text.old.items ++ region_line index region.now) }
+{
+    put_index(text, index)?;
+    put_hex(text, region.base)?;
+    put_text(text, b"..")?;
+    put_hex(text, region.base + (region.size - 1))?;
+    put_text(text, b"\n")
+}

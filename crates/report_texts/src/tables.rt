@@ -1,0 +1,31 @@
+//! The text of the two heads: where each table lies, and how full it is.
+
+ghost use Rattle.std.specs.Prelude.{◌≡◌, ◌++◌, OnOk};
+ghost use Rattle.report_texts.specs.TablesText.{table_line, tables_text};
+
+use crate::owners::which_name;
+use bm_base::{Memory, put_dec, put_hex, put_text};
+use boot_journal::Which;
+use memblock_ranges::{Head, Heads};
+
+/// Appends the text of both heads: a line for each table.
+pub fn put_tables(text: &mut Vec<u8>, heads: &Heads) -> Result<(), Memory>
+    ensures { OnOk result (text.new.items ≡ text.old.items ++ tables_text heads.now) }
+{
+    put_table_line(text, Which::Memory, &heads.memory)?;
+    put_table_line(text, Which::Reserved, &heads.reserved)
+}
+
+/// Appends the line of a table.
+fn put_table_line(text: &mut Vec<u8>, which: Which, head: &Head) -> Result<(), Memory>
+    ensures { OnOk result (text.new.items ≡ text.old.items ++ table_line which head.now) }
+{
+    put_text(text, which_name(which).as_bytes())?;
+    put_text(text, b" place ")?;
+    put_hex(text, head.place)?;
+    put_text(text, b" room ")?;
+    put_dec(text, head.room, 0)?;
+    put_text(text, b" records ")?;
+    put_dec(text, head.count, 0)?;
+    put_text(text, b"\n")
+}
