@@ -28,5 +28,5 @@ mod tests;
 pub use crash::{CrashOption, CrashPlain, CrashRange};
 pub use e820_model::Edit;
 pub use fault::OptionFault;
-pub use map_option::map_options_of_spelling;
+pub use map_option::{map_options_of_spelling, read_whole_size};
 pub use options::{Options, read_options};

@@ -7,7 +7,8 @@ ghost use Rattle.bootmem_cli.specs.Line.{Tells, cause_line, entry_line, failure_
 ghost use Rattle.bootmem_cli.specs.View.{wanted_view};
 
 use crate::failure::{Failure, Reason};
-use crate::words::{Wanted, name_text};
+use crate::wanted::Wanted;
+use crate::words::name_text;
 use bm_io::{Sink, put_all};
 use boot_inputs::{Fault, Refusal};
 use boot_model::Cause;
