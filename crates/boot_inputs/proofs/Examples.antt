@@ -6,6 +6,7 @@ use Rattle.e820_model.specs.declared.entry.Entry.{Entry}
 use Rattle.e820_table.specs.declared.zero_page.ZeroFault.TheVariants as zero
 use Rattle.e820_table.specs.declared.extension.ExtFault.TheVariants as extension
 use Rattle.e820_table.specs.Entries.{entry_at}
+use Rattle.e820_table.specs.Initrd.{initrd_of, is_initrd_far}
 use Rattle.boot_options.specs.declared.fault.OptionFault.TheVariants as options
 use Rattle.boot_inputs.specs.declared.fault.Fault.TheVariants as faults
 use Rattle.boot_inputs.specs.declared.fault.Misread.TheVariants as misreads
@@ -17,7 +18,7 @@ use Rattle.boot_inputs.specs.Answers.{ComesTo, Fits, FitsRefusal, Gives, HasCaus
 use Rattle.boot_inputs.specs.Faults.{fault_of_extension, fault_of_option, fault_of_zero_page, misread_of}
 use Rattle.boot_inputs.specs.Input.{limit_of, place, word_for}
 use Rattle.boot_inputs.specs.Inputs.{Held, Named, file_step, inputs_of, or_faulty, or_unread, step_if, within}
-use Rattle.boot_inputs.specs.Said.{command_line_said, extension_said, fault_told, no_options, unless_fault, zero_page_said}
+use Rattle.boot_inputs.specs.Said.{command_line_said, extension_said, fault_told, no_options, no_page, unless_fault, zero_page_said}
 
 -- a zero page of so many entries, of which these 40 bytes are the first two
 abbrev page : ℕ → List ℕ → List ℕ
@@ -64,9 +65,12 @@ naming zero_page ext command_line inputs.Extension = ext
 naming zero_page ext command_line inputs.CommandLine = command_line
 
 -- what bytes say
-page_said : zero_page_said (page 2 ram_and_reserved) ≡ Ok (ram ∷ reserved ∷ [])
-unfolding entry_at
+page_said : zero_page_said (page 2 ram_and_reserved) ≡ Ok (record { entries = ram ∷ reserved ∷ []; initrd = None })
+unfolding entry_at initrd_of is_initrd_far
 page_said = refl
+
+no_page_said : (no_page.entries ≡ []) × (no_page.initrd ≡ None)
+no_page_said = (refl, refl)
 
 short_page_said : zero_page_said (replicate 4095 0) ≡ Err faults.WrongLength
 short_page_said = refl
@@ -90,7 +94,8 @@ told_examples : (fault_told (Ok no_options) ≡ Ok no_options) × (fault_told (E
 told_examples = (refl, refl)
 
 zero_examples : (fault_of_zero_page zero.TooFew ≡ faults.TooFew) × (fault_of_zero_page (zero.EntryTooFar 3) ≡ faults.EntryTooFar 3)
-zero_examples = (refl, refl)
+    × (fault_of_zero_page zero.InitrdTooFar ≡ faults.InitrdTooFar)
+zero_examples = (refl, refl, refl)
 
 ext_examples : (fault_of_extension extension.ExtHeader ≡ Some faults.Header) × (fault_of_extension extension.Memory ≡ None)
 ext_examples = (refl, refl)
@@ -129,8 +134,13 @@ if_examples = (refl, refl)
 
 -- the inputs in their order: of several faults, the first input's
 all_inputs : inputs_of held (naming (codes "zp") (Some (codes "ext")) (Some (codes "cmd")))
-    ≡ Ok (record { entries = ram ∷ reserved ∷ []; extension = acpi ∷ []; options = record { edits = []; numa_off = true } })
-unfolding entry_at
+    ≡ Ok (record {
+      entries = ram ∷ reserved ∷ [];
+      initrd = None;
+      extension = acpi ∷ [];
+      options = record { edits = []; numa_off = true };
+    })
+unfolding entry_at initrd_of is_initrd_far
 all_inputs = refl
 
 page_goes_first : inputs_of held (naming (codes "short") (Some (codes "bad")) (Some (codes "on")))
@@ -143,11 +153,11 @@ fault_goes_before_a_missing_file = refl
 
 extension_goes_second : inputs_of held (naming (codes "zp") (Some (codes "bad")) (Some (codes "no")))
     ≡ Err (refusals.Faulty inputs.Extension faults.Header)
-unfolding entry_at
+unfolding entry_at is_initrd_far
 extension_goes_second = refl
 
 line_goes_last : inputs_of held (naming (codes "zp") (Some (codes "ext")) (Some (codes "no"))) ≡ Err (refusals.Unread inputs.CommandLine)
-unfolding entry_at
+unfolding entry_at is_initrd_far
 line_goes_last = refl
 
 -- the inputs' places and words, and whose refusal it is

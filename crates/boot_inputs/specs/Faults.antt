@@ -16,6 +16,7 @@ fault_of_zero_page zero.WrongLength = faults.WrongLength
 fault_of_zero_page zero.TooFew = faults.TooFew
 fault_of_zero_page zero.TooMany = faults.TooMany
 fault_of_zero_page (zero.EntryTooFar index) = faults.EntryTooFar index
+fault_of_zero_page zero.InitrdTooFar = faults.InitrdTooFar
 
 abbrev pub fault_of_extension : ExtFault → Option Fault
 fault_of_extension (extension.EntryTooFar index) = Some (faults.EntryTooFar index)

@@ -9,7 +9,7 @@ use Rattle.boot_inputs.specs.declared.input.Input.TheVariants as inputs
 use Rattle.boot_inputs.specs.declared.refusal.Refusal.{Refusal}
 use Rattle.boot_inputs.specs.declared.refusal.Refusal.TheVariants as refusals
 use Rattle.boot_inputs.specs.Input.{limit_of}
-use Rattle.boot_inputs.specs.Said.{zero_page_said, extension_said, command_line_said, no_options}
+use Rattle.boot_inputs.specs.Said.{zero_page_said, extension_said, command_line_said, no_options, no_page}
 
 -- what each name holds
 abbrev pub Held : Type 0
@@ -44,7 +44,7 @@ step_if held input without said (Some name) = file_step held input said name
 -- the inputs in their order, of which the first refusal is the answer
 abbrev pub inputs_of : Held → Named → Result Given Refusal
 inputs_of held named = do
-  entries ← step_if held inputs.ZeroPage [] zero_page_said (named inputs.ZeroPage)
+  page ← step_if held inputs.ZeroPage no_page zero_page_said (named inputs.ZeroPage)
   extension ← step_if held inputs.Extension [] extension_said (named inputs.Extension)
   options ← step_if held inputs.CommandLine no_options command_line_said (named inputs.CommandLine)
-  Ok (record { entries = entries; extension = extension; options = options })
+  Ok (record { entries = page.entries; initrd = page.initrd; extension = extension; options = options })

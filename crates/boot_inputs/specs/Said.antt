@@ -3,7 +3,7 @@ use Rattle.std.specs.Prelude.{ℕ, false, List, [], Option, Some, None, Result, 
 use Rattle.std.specs.Option.{option_map, option_and_then}
 use Rattle.e820_model.specs.declared.entry.Entry.{Entry}
 use Rattle.e820_table.specs.Extension.{ext_fault, ext_entries_of}
-use Rattle.e820_table.specs.ZeroPage.{zero_fault, entries_of}
+use Rattle.e820_table.specs.ZeroPage.{Page, page_of, zero_fault}
 use Rattle.boot_options.specs.declared.fault.OptionFault.{OptionFault}
 use Rattle.boot_options.specs.Options.{Chosen, options_of}
 use Rattle.boot_inputs.specs.declared.fault.Fault.{Fault}
@@ -14,8 +14,12 @@ abbrev pub unless_fault : {A : Type 0} → Option Fault → A → Result A Fault
 unless_fault None value = Ok value
 unless_fault (Some fault) value = Err fault
 
-abbrev pub zero_page_said : List ℕ → Result (List Entry) Fault
-zero_page_said bytes = unless_fault (option_map fault_of_zero_page (zero_fault bytes)) (entries_of bytes)
+-- without a zero page there is nothing
+abbrev pub no_page : Page
+no_page = record { entries = []; initrd = None }
+
+abbrev pub zero_page_said : List ℕ → Result Page Fault
+zero_page_said bytes = unless_fault (option_map fault_of_zero_page (zero_fault bytes)) (page_of bytes)
 
 abbrev pub extension_said : List ℕ → Result (List Entry) Fault
 extension_said bytes = unless_fault (option_and_then fault_of_extension (ext_fault bytes)) (ext_entries_of bytes)

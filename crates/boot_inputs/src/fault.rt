@@ -21,6 +21,8 @@ pub enum Fault {
     TooMany,
     /// The entry's address plus size exceeds 2^64 - 1; the least such index, from 0.
     EntryTooFar { index: u32 },
+    /// The initrd's address plus size exceeds 2^64 - 4,096.
+    InitrdTooFar,
     /// The extension has no whole header of its type.
     Header,
     /// The extension's length isn't the one that its header states, or isn't that of whole entries.
@@ -69,6 +71,7 @@ pub fn fault_of_zero_page(fault: ZeroFault) -> Fault
         ZeroFault::TooFew => Fault::TooFew,
         ZeroFault::TooMany => Fault::TooMany,
         ZeroFault::EntryTooFar { index } => Fault::EntryTooFar { index },
+        ZeroFault::InitrdTooFar => Fault::InitrdTooFar,
     }
 }
 

@@ -2,6 +2,7 @@
 
 ghost use Rattle.std.specs.Prelude.{◌≡◌, ℕ, List, IfOk, IfSome, OnOk};
 ghost use Rattle.e820_model.specs.Claims.{EndInSpace, HaveTypes};
+ghost use Rattle.e820_table.specs.Initrd.{IsInitrd};
 ghost use Rattle.boot_model.specs.View.{inputs_view};
 ghost use Rattle.boot_inputs.specs.Answers.{Gives, HasCause};
 ghost use Rattle.boot_inputs.specs.Inputs.{inputs_of};
@@ -28,6 +29,7 @@ pub fn read_inputs<F: Files, N: Names>(
     ensures cause { HasCause (F.faults files.old) (F.faults files.new) (N.named names.now) result }
     ensures uncounted { OnOk result ((any : List ℕ) → F.faults files.new any ≡ F.faults files.old any) }
     ensures entries_end { IfOk result (λ inputs. EndInSpace inputs.zero.entries.items) }
+    ensures initrd { IfOk result (λ inputs. IfSome inputs.zero.initrd IsInitrd) }
     ensures extension_ends { IfOk result (λ inputs. EndInSpace inputs.ext.items) }
     ensures types { IfOk result (λ inputs. HaveTypes inputs.options.edits.items) }
 {

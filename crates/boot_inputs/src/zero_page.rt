@@ -1,11 +1,12 @@
 //! The zero page as an input.
 
-ghost use Rattle.std.specs.Prelude.{◌≡◌, List, [], IfOk};
+ghost use Rattle.std.specs.Prelude.{◌≡◌, List, [], IfOk, IfSome};
 ghost use Rattle.bm_base.specs.Answers.{Answers};
 ghost use Rattle.bm_base.specs.ResultSteps.{with_error};
 ghost use Rattle.e820_model.specs.Claims.{EndInSpace};
-ghost use Rattle.e820_model.specs.declared.entry.Entry.{Entry as AnyEntry};
-ghost use Rattle.boot_inputs.specs.Said.{zero_page_said};
+ghost use Rattle.e820_table.specs.Initrd.{IsInitrd};
+ghost use Rattle.e820_table.specs.ZeroPage.{Page, page_view};
+ghost use Rattle.boot_inputs.specs.Said.{no_page, zero_page_said};
 ghost use Rattle.boot_inputs.specs.declared.input.Input.TheVariants as inputs;
 
 use crate::fault::{Misread, fault_of_zero_page};
@@ -15,23 +16,23 @@ use arrayvec::ArrayVec;
 use e820_table::{ZeroPage, read_zero_page};
 use std::alloc::Global;
 
-/// Reads a zero page; where none is named there are no entries.
+/// Reads a zero page; where none is named there are no entries, and no initrd.
 pub struct ZeroPages;
 
 impl Reader for ZeroPages {
     type Value = ZeroPage;
 
-    ghost Seen = { List AnyEntry };
+    ghost Seen = { Page };
 
-    ghost seen = { λ zero. zero.entries.items };
+    ghost seen = { page_view };
 
     ghost said = { zero_page_said };
 
-    ghost without = { [] };
+    ghost without = { no_page };
 
     ghost input = { inputs.ZeroPage };
 
-    ghost sound = { λ zero. EndInSpace zero.entries.items };
+    ghost sound = { λ zero. EndInSpace zero.entries.items × IfSome zero.initrd IsInitrd };
 
     fn input() -> Input {
         Input::ZeroPage
@@ -47,6 +48,7 @@ impl Reader for ZeroPages {
     fn without(_alloc: Global) -> ZeroPage {
         ZeroPage {
             entries: ArrayVec::new(),
+            initrd: None,
         }
     }
 }

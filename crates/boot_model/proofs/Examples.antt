@@ -70,7 +70,8 @@ memory_examples = (refl, refl, refl, refl, refl)
 
 -- the values of a boot as its definition has them
 inputs_are_items : (i : Inputs) → ((inputs_view i).entries ≡ i.zero.entries.items) × ((inputs_view i).extension ≡ i.ext.items)
-inputs_are_items i = (refl, refl)
+    × ((inputs_view i).initrd ≡ i.zero.initrd)
+inputs_are_items i = (refl, refl, refl)
 
 booted_are_items : (b : Booted) → ((booted_view b).map ≡ b.map.items) × ((booted_view b).options ≡ chosen b.options)
 booted_are_items b = (refl, refl)
@@ -117,7 +118,7 @@ abbrev empty : Entry
 empty = record { addr = 0; size = 0; kind = 0 }
 
 abbrev two_empty : Given
-two_empty = record { entries = empty ∷ empty ∷ []; extension = []; options = no_options }
+two_empty = record { entries = empty ∷ empty ∷ []; initrd = None; extension = []; options = no_options }
 
 none_covers : Nothing (claims_of_entries (empty ∷ empty ∷ []))
 unfolding Nothing

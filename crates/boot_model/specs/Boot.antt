@@ -1,6 +1,7 @@
 -- The boot: what `setup_arch` makes of the firmware's map and of the command line, stage by stage.
 use Rattle.std.specs.Prelude.{ℕ, ◌==◌, Bool, ◌&&◌, ◌||◌, List, [], ◌∷◌, length, nat_lt, if◌then◌else◌, Option, Some, None, Result, Ok, Err}
 use Rattle.std.specs.List.{list_any}
+use Rattle.bm_base.specs.Extent.{Extent}
 use Rattle.address_runs.specs.Runs.{RunOf, lies_in}
 use Rattle.e820_model.specs.declared.types.TheConstants.{E820_TYPE_RAM, E820_TYPE_RESERVED_KERN}
 use Rattle.e820_model.specs.declared.entry.Entry.{Entry}
@@ -18,9 +19,11 @@ use Rattle.boot_model.specs.declared.stop.Cause.TheVariants as causes
 use Rattle.boot_model.specs.Stages.{in_order}
 use Rattle.boot_model.specs.Stop.{cause_of_map}
 
--- what a boot is given: the zero page's entries, those of the extension, and the options
+-- what a boot is given: the zero page's entries and its initrd, where there is one, the entries of the
+-- extension, and the options
 pub record Given : Type 0 where
   pub entries : List Entry
+  pub initrd : Option Extent
   pub extension : List Entry
   pub options : Chosen
 

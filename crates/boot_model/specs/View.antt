@@ -5,7 +5,12 @@ use Rattle.boot_model.specs.declared.inputs.Inputs.{Inputs}
 use Rattle.boot_model.specs.Boot.{Given, Made}
 
 abbrev pub inputs_view : Inputs → Given
-inputs_view i = record { entries = i.zero.entries.items; extension = i.ext.items; options = chosen i.options }
+inputs_view i = record {
+  entries = i.zero.entries.items;
+  initrd = i.zero.initrd;
+  extension = i.ext.items;
+  options = chosen i.options;
+}
 
 abbrev pub booted_view : Booted → Made
 booted_view b = record { map = b.map.items; options = chosen b.options }

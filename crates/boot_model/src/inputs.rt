@@ -6,7 +6,7 @@ use e820_table::{Entry, ZeroPage};
 /// What a boot is given.
 #[derive(Drop)]
 pub struct Inputs {
-    /// The zero page (`struct boot_params`).
+    /// The zero page (`struct boot_params`): its entries, and the initrd, if there is one.
     pub zero: ZeroPage,
     /// The entries of the E820 extension; none where there is no extension.
     pub ext: Vec<Entry>,

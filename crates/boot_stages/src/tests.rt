@@ -41,6 +41,7 @@ fn booted(alloc: Global, entries: &[Entry], line: &[u8]) -> Result<Result<Vec<Ru
     let inputs = Inputs {
         zero: ZeroPage {
             entries: ArrayVec::new(),
+            initrd: None,
         },
         ext: Vec::from_slice(alloc, entries)?,
         options: read_options(alloc, line)?,

@@ -17,6 +17,7 @@ use Rattle.bm_base.specs.Frames.{bytes_of_frame}
 use Rattle.bm_base.proofs.EachLaws.{each_in-same}
 use Rattle.boot_model.specs.declared.limit.TheConstants.{MAX_PHYSMEM}
 use Rattle.e820_table.specs.Entries.{entry_at}
+use Rattle.e820_table.specs.Initrd.{initrd_of, is_initrd_far}
 use Rattle.boot_model.specs.Boot.{Given, boot, claims}
 use Rattle.bootmem_cli.specs.Words.{accepted, name_in}
 use Rattle.boot_inputs.specs.Inputs.{Held}
@@ -41,7 +42,7 @@ abbrev held : Held
 held name = if bytes_eq name (codes "zp") then Some page else None
 
 abbrev given : Given
-given = record { entries = ram ∷ reserved ∷ []; extension = []; options = no_options }
+given = record { entries = ram ∷ reserved ∷ []; initrd = None; extension = []; options = no_options }
 
 -- the type of each address: where both entries claim it, the greater one
 kind_at : ℕ → ℕ
@@ -122,5 +123,5 @@ boot_is = rw (map_is, frames_are) refl
 
 first_run : outcome (accepted (codes "--report" ∷ codes "map" ∷ codes "zp" ∷ [])) held
     ≡ Ok (codes "0x0000000000100000..0x0000000007fdffff 1 usable\n0x0000000007fe0000..0x0000000007ffffff 2 reserved\n")
-unfolding entry_at digits name_in
+unfolding entry_at digits initrd_of is_initrd_far name_in
 first_run = rw boot_is refl

@@ -190,8 +190,9 @@ input_error_examples = (refl, refl)
 -- the line of each way to end
 entry_lines : (fault_line (codes "zeropage") (faults.EntryTooFar 3) ≡ codes "bootmem: zeropage: entry 3 too far\n")
     × (entry_line (codes "e820ext") 3071 ≡ codes "bootmem: e820ext: entry 3071 too far\n")
+    × (fault_line (codes "zeropage") faults.InitrdTooFar ≡ codes "bootmem: zeropage: initrd too far\n")
 unfolding digits
-entry_lines = (refl, refl)
+entry_lines = (refl, refl, refl)
 
 word_lines : (fault_line (codes "cmdline") (faults.UserMapInvalid 12) ≡ codes "bootmem: cmdline: word 12: user map\n")
     × (word_line (codes "cmdline") 1 (codes "mem") ≡ codes "bootmem: cmdline: word 1: mem\n")

@@ -33,6 +33,7 @@ fault_line name faults.WrongLength = whole_line name (codes "wrong length")
 fault_line name faults.TooFew = whole_line name (codes "too few entries")
 fault_line name faults.TooMany = whole_line name (codes "too many entries")
 fault_line name (faults.EntryTooFar index) = entry_line name index
+fault_line name faults.InitrdTooFar = whole_line name (codes "initrd too far")
 fault_line name faults.Header = whole_line name (codes "header")
 fault_line name faults.Length = whole_line name (codes "length")
 fault_line name faults.LineTooLong = whole_line name (codes "line too long")

@@ -60,6 +60,7 @@ fn tell_fault<E: Sink>(err: &mut E, name: &str, fault: Fault)
         Fault::TooFew => tell_whole(err, name, "too few entries"),
         Fault::TooMany => tell_whole(err, name, "too many entries"),
         Fault::EntryTooFar { index } => tell_entry(err, name, index),
+        Fault::InitrdTooFar => tell_whole(err, name, "initrd too far"),
         Fault::Header => tell_whole(err, name, "header"),
         Fault::Length => tell_whole(err, name, "length"),
         Fault::LineTooLong => tell_whole(err, name, "line too long"),

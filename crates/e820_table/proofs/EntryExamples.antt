@@ -6,6 +6,7 @@ use Rattle.e820_table.specs.declared.zero_page.ZeroFault.TheVariants as zero_fau
 use Rattle.e820_table.specs.declared.extension.ExtFault.TheVariants as ext_faults
 use Rattle.e820_table.specs.Entries.{number_at, entry_at, nth_entry, first_entries, is_too_far, far_from, first_far}
 use Rattle.e820_table.specs.Extension.{data_length, has_header, has_length, ext_count, ext_entries_of, ext_entry_fault, ext_fault}
+use Rattle.e820_table.specs.Initrd.{is_initrd_far}
 use Rattle.e820_table.specs.ZeroPage.{entry_count, table_offset, entries_of, entry_fault, zero_fault}
 
 -- the 20 bytes of the entry of 1 MiB of RAM at 1 MiB
@@ -125,7 +126,7 @@ page count entries =
     replicate 0x1E8 0 ++ (count ∷ replicate (0x2D0 - 0x1E9) 0) ++ entries ++ replicate (4096 - 0x2D0 - 40) 0
 
 two_entries : zero_fault (page 2 (ram_bytes ++ last_bytes)) ≡ None
-unfolding entry_at
+unfolding entry_at is_initrd_far
 two_entries = refl
 
 their_order : entries_of (page 2 (ram_bytes ++ last_bytes)) ≡ ram ∷ last ∷ []
@@ -155,8 +156,9 @@ second_is_far : zero_fault (page 2 (ram_bytes ++ far_bytes)) ≡ Some (zero_faul
 unfolding entry_at
 second_is_far = refl
 
-fault_of_an_index : (entry_fault (Some 7) ≡ Some (zero_faults.EntryTooFar 7)) × (entry_fault None ≡ None)
-fault_of_an_index = (refl, refl)
+fault_of_an_index : (entry_fault (Some 7) (Some zero_faults.InitrdTooFar) ≡ Some (zero_faults.EntryTooFar 7))
+    × (entry_fault None (Some zero_faults.InitrdTooFar) ≡ Some zero_faults.InitrdTooFar) × (entry_fault None None ≡ None)
+fault_of_an_index = (refl, refl, refl)
 
 -- the same words once more, on less
 two_bytes : number_at 2 0 (0x34 ∷ 0x12 ∷ []) ≡ 0x1234

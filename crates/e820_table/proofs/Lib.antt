@@ -1,2 +1,3 @@
 mod EntryExamples
 pub mod EntryLaws
+mod InitrdExamples

@@ -1,3 +1,4 @@
 pub mod Entries
 pub mod Extension
+pub mod Initrd
 pub mod ZeroPage

@@ -1,9 +1,12 @@
--- The zero page: `struct boot_params`, 4,096 bytes, of which the table of entries is read.
+-- The zero page: `struct boot_params`, 4,096 bytes, of which the table of entries and the initrd are read.
 use Rattle.std.specs.Prelude.{ℕ, ◌==◌, List, length, slice_index, not, nat_lt, if◌then◌else◌, Option, Some, None}
+use Rattle.bm_base.specs.Extent.{Extent}
 use Rattle.e820_model.specs.declared.entry.Entry.{Entry}
 use Rattle.e820_table.specs.declared.zero_page.ZeroFault.{ZeroFault}
 use Rattle.e820_table.specs.declared.zero_page.ZeroFault.TheVariants as faults
+use Rattle.e820_table.specs.declared.zero_page.ZeroPage.{ZeroPage}
 use Rattle.e820_table.specs.Entries.{first_entries, first_far}
+use Rattle.e820_table.specs.Initrd.{initrd_of, is_initrd_far}
 
 -- the number of entries: the byte `e820_entries`
 abbrev pub entry_count : List ℕ → ℕ
@@ -17,17 +20,33 @@ table_offset = 0x2D0
 abbrev pub entries_of : List ℕ → List Entry
 entries_of bytes = first_entries table_offset (entry_count bytes) bytes
 
--- the fault of an entry, where one has a fault
-abbrev pub entry_fault : Option ℕ → Option ZeroFault
-entry_fault None = None
-entry_fault (Some index) = Some (faults.EntryTooFar index)
+-- what a zero page says of memory: its entries, and the initrd, where there is one
+pub record Page : Type 0 where
+  pub entries : List Entry
+  pub initrd : Option Extent
+
+abbrev pub page_of : List ℕ → Page
+page_of bytes = record { entries = entries_of bytes; initrd = initrd_of bytes }
+
+-- the same of the value that a reader makes
+abbrev pub page_view : ZeroPage → Page
+page_view page = record { entries = page.entries.items; initrd = page.initrd }
+
+-- the fault of the initrd, where it has one
+abbrev pub initrd_fault : List ℕ → Option ZeroFault
+initrd_fault bytes = if is_initrd_far bytes then Some faults.InitrdTooFar else None
+
+-- the fault of an entry, where one has a fault, and else that of what stands behind the entries
+abbrev pub entry_fault : Option ℕ → Option ZeroFault → Option ZeroFault
+entry_fault None behind = behind
+entry_fault (Some index) behind = Some (faults.EntryTooFar index)
 
 -- the first fault that the bytes have, in this order: their number, too few entries
 -- (`append_e820_table` refuses a table of fewer than two), more entries than the page has room for,
--- and the least index of an entry that passes the end of numbers
+-- the least index of an entry that passes the end of numbers, and an initrd that does
 abbrev pub zero_fault : List ℕ → Option ZeroFault
 zero_fault bytes =
     if not (length bytes == 4096) then Some faults.WrongLength
     else (if nat_lt (entry_count bytes) 2 then Some faults.TooFew
     else (if nat_lt 128 (entry_count bytes) then Some faults.TooMany
-    else entry_fault (first_far table_offset (entry_count bytes) bytes)))
+    else entry_fault (first_far table_offset (entry_count bytes) bytes) (initrd_fault bytes)))

@@ -12,6 +12,7 @@
 
 mod entries;
 mod extension;
+mod initrd;
 #[cfg(test)]
 mod tests;
 mod zero_page;

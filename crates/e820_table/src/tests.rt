@@ -1,4 +1,4 @@
-//! Zero pages and extensions with one fault each, and with several, where the first of them is answered.
+//! Zero pages and extensions with one fault each, and with several, where the first of them is answered; initrds.
 
 ghost use Rattle.std.specs.Prelude.{ℕ, ◌+◌, ◌≤◌, length};
 
@@ -61,6 +61,57 @@ fn zero_pages(rt: HostRuntime) -> Result<(), Fail> {
     let mut longer = Vec::from_slice(rt.alloc(), &page(0, RAM, LAST))?;
     longer.push(0)?;
     assert_eq!(rt; read_zero_page(&longer).err(), Some(ZeroFault::WrongLength));
+    Ok(())
+}
+
+/// A zero page of two entries that names this loader, and an initrd by the upper half and the lower
+/// half of its address, and of its size.
+fn page_with_initrd(second: Entry, loader: u8, address: [u32; 2], size: [u32; 2]) -> [u8; 4096] {
+    let mut bytes = page(2, RAM, second);
+    bytes[0x210] = loader;
+    LittleEndian::write_u32(&mut bytes[0x0c0..], address[0]);
+    LittleEndian::write_u32(&mut bytes[0x218..], address[1]);
+    LittleEndian::write_u32(&mut bytes[0x0c4..], size[0]);
+    LittleEndian::write_u32(&mut bytes[0x21c..], size[1]);
+    bytes
+}
+
+#[test]
+fn initrds(rt: HostRuntime) -> Result<(), Fail> {
+    let top = [0xffff_ffff, 0xffff_e000];
+    let cases = [
+        (
+            0xb0,
+            [0, 0x7d0_0000],
+            [0, 0x12_3457],
+            Some((0x7d0_0000, 0x12_4000)),
+        ),
+        (
+            1,
+            [1, 0x801],
+            [1, 0x7ff],
+            Some((0x1_0000_0801, 0x1_0000_07ff)),
+        ),
+        (1, top, [0, 0x1000], Some((0xffff_ffff_ffff_e000, 0x1000))),
+        (0, [0, 0x7d0_0000], [0, 0x12_3457], None),
+        (0xb0, [0, 0], [0, 0x12_3457], None),
+        (0xb0, [0, 0x7d0_0000], [0, 0], None),
+        (0, top, [0, 0x1001], None),
+    ];
+    for (loader, address, size, want) in cases {
+        let read = read_zero_page(&page_with_initrd(LAST, loader, address, size))?;
+        let initrd = read.initrd.map(|range| (range.base, range.size));
+        assert_eq!(rt; initrd, want);
+    }
+    let far = [
+        (LAST, [0, 0x1001], ZeroFault::InitrdTooFar),
+        (LAST, [0xffff_ffff, 0xffff_ffff], ZeroFault::InitrdTooFar),
+        (FAR, [0, 0x1001], ZeroFault::EntryTooFar { index: 1 }),
+    ];
+    for (second, size, want) in far {
+        let bytes = page_with_initrd(second, 1, top, size);
+        assert_eq!(rt; read_zero_page(&bytes).err(), Some(want));
+    }
     Ok(())
 }
 

@@ -1,13 +1,16 @@
-//! The zero page: the boot loader's page of parameters, of which the table of entries is read. It has room for 128 of
-//! them, which an array of that capacity holds, so reading takes no memory.
+//! The zero page: the boot loader's page of parameters, of which the table of entries and the place of the initrd are
+//! read. It has room for 128 entries, which an array of that capacity holds, so reading takes no memory.
 
-ghost use Rattle.std.specs.Prelude.{◌≡◌, ℕ, ◌+◌, ◌*◌, ◌≤◌, length, IfOk, IfErr, OnOk};
+ghost use Rattle.std.specs.Prelude.{◌≡◌, ℕ, ◌+◌, ◌*◌, ◌≤◌, length, IfOk, IfErr, IfSome, OnOk};
 ghost use Rattle.e820_model.specs.Claims.{EndInSpace};
 ghost use Rattle.e820_table.specs.Entries.{first_entries};
+ghost use Rattle.e820_table.specs.Initrd.{initrd_of, IsInitrd};
 ghost use Rattle.e820_table.specs.ZeroPage.{entries_of, zero_fault};
 
 use crate::entries::{find_far, read_nth};
+use crate::initrd::read_initrd;
 use arrayvec::ArrayVec;
+use bm_base::Range;
 use e820_model::Entry;
 
 /// The most entries that a zero page has room for (`E820_MAX_ENTRIES_ZEROPAGE`).
@@ -24,6 +27,8 @@ const TABLE_OFFSET: usize = 0x2D0;
 pub struct ZeroPage {
     /// The firmware's entries, in the order of the table.
     pub entries: ArrayVec<Entry, ZERO_PAGE_ENTRIES>,
+    /// The initrd, if there is one: from its image's first byte to the end of the image's last frame.
+    pub initrd: Option<Range>,
 }
 
 /// Why bytes are no zero page. The first that holds is answered, in the order of this list.
@@ -37,15 +42,20 @@ pub enum ZeroFault {
     TooMany,
     /// The entry's address plus size exceeds 2^64 - 1; the least such index, from 0.
     EntryTooFar { index: u32 },
+    /// There is an initrd, and its address plus size exceeds 2^64 - 4,096.
+    InitrdTooFar,
 }
 
-/// Reads the zero page (`struct boot_params`): the number of entries at offset 0x1E8, and the
-/// entries from offset 0x2D0 on. Takes no memory.
+/// Reads the zero page (`struct boot_params`): the number of entries at offset 0x1E8, the entries
+/// from offset 0x2D0 on, and the initrd's address and size, which count where the loader's byte at
+/// offset 0x210 isn't 0. Takes no memory.
 pub fn read_zero_page(bytes: &[u8]) -> Result<ZeroPage, ZeroFault>
     ensures fault { IfErr result (λ fault. zero_fault bytes.now ≡ Some fault) }
     ensures well_formed { OnOk result (zero_fault bytes.now ≡ None) }
     ensures value { IfOk result (λ page. page.entries.items ≡ entries_of bytes.now) }
+    ensures initrd { IfOk result (λ page. page.initrd ≡ initrd_of bytes.now) }
     ensures space { IfOk result (λ page. EndInSpace page.entries.items) }
+    ensures frames { IfOk result (λ page. IfSome page.initrd IsInitrd) }
 {
     if bytes.len() != ZERO_PAGE_BYTES {
         return Err(ZeroFault::WrongLength);
@@ -60,8 +70,10 @@ pub fn read_zero_page(bytes: &[u8]) -> Result<ZeroPage, ZeroFault>
     if let Some(index) = find_far(bytes, TABLE_OFFSET, count) {
         return Err(ZeroFault::EntryTooFar { index });
     }
+    let initrd = read_initrd(bytes)?;
     Ok(ZeroPage {
         entries: read_entries(bytes, count),
+        initrd,
     })
 }
 

@@ -40,7 +40,8 @@ written-newest kernel fills f items i (k ∷ more) x b last =
     ∙ written-newest kernel fills f (items ++ i ∷ []) k more x (filled (length items + 1) fills x now) (omega arith)
 
 all-newest : (kernel : Extent) (fills : List Filled) (f : Filled) (items : List Item) (x : ℕ) → f.at ≡ length items →
-    written kernel (fills ++ f ∷ []) [] items x (filled 0 (fills ++ f ∷ []) x 0) ≡ put f x (written kernel fills [] items x (filled 0 fills x 0))
+    written kernel (fills ++ f ∷ []) [] items x (filled 0 (fills ++ f ∷ []) x 0)
+    ≡ put f x (written kernel fills [] items x (filled 0 fills x 0))
 all-newest kernel fills f [] x last = filled-newest 0 fills f x 0 last
 all-newest kernel fills f (i ∷ more) x last =
     ap (λ (n : ℕ). written kernel (fills ++ f ∷ []) [] (i ∷ more) x n) (filled-before 0 fills f x 0 (omega arith))

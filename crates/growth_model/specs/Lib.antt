@@ -4,3 +4,4 @@ pub mod Request
 pub mod Ends
 pub mod Sound
 pub mod Bytes
+pub mod Carried

@@ -73,7 +73,7 @@ pub fn edits_are_told()
     ensures moved { (w : Which) (old new : Contents) →
         ((x : ℕ) → covers (bytes_in w old) x ≡ true → byte_of new.store x ≡ 0) →
         ((x : ℕ) → covers (bytes_in w new) x ≡ false → covers (bytes_in w old) x ≡ false →
-            byte_of new.store x ≡ byte_of old.store x) →
+        byte_of new.store x ≡ byte_of old.store x) →
         StandsIn new.memory new.store → StandsIn new.reserved new.store → (x : ℕ) →
         byte_of new.store x ≡ shown_by new.memory new.reserved x (left_by (table_in w old) x (byte_of old.store x)) }
 {}

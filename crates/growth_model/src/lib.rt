@@ -14,6 +14,7 @@
 //! - `specs/Sound.antt`: what holds of the items of each boot: both tables lie in claimed frames, apart from each
 //!   other, and each has room for its records.
 //! - `specs/Bytes.antt`: the byte at each address, from the items and the fills, and what a call makes of it.
+//! - `specs/Carried.antt`: items that are wanted, carried out one after another; and which items speak of memory.
 //!
 //! [`Request`] and [`Refusal`] are plain data. They stand here, below the crates that ask and answer them,
 //! because the definitions speak of them. The functions are laws over the definitions: they do nothing, and their
@@ -21,11 +22,18 @@
 #![tactic(auto)]
 
 mod byte_laws;
+mod laws;
+mod memory_laws;
 mod refusal;
 mod request;
 
 pub use byte_laws::{
     bytes_follow_calls, bytes_go_by_parts, edits_are_told, newest_fill_decides, tables_are_spelled,
 };
+pub use laws::{
+    allocations_keep_places, claims_keep_places, ends_add_up, first_claim_places_tables,
+    found_places_are_free, memory_keeps_places,
+};
+pub use memory_laws::{claims_leave_memory, memory_items_decide, wanted_items_make_memory};
 pub use refusal::Refusal;
 pub use request::Request;

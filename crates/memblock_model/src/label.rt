@@ -2,6 +2,7 @@
 //!
 //! It is a record, so that a further mark of memory is a further field here, in its test and in the item that sets it.
 
+use address_runs::Told;
 use std::marker::Model;
 
 /// What a table says of the bytes that a record covers: the node, or none yet.
@@ -24,6 +25,12 @@ impl Model for Label {
     ghost invariant = { λ l. unwrap_or l.node 0 < 1024 };
 
     ghost inverse = { λ l. record { node = l.node } };
+}
+
+impl Told for Label {
+    fn is_same(first: Label, second: Label) -> bool {
+        first == second
+    }
 }
 
 impl Label {

@@ -4,60 +4,16 @@ ghost use Rattle.std.specs.Prelude.{◌≡◌, ◌+◌, ◌^◌, ◌<◌, ◌≤
 ghost use Rattle.memblock_ranges.specs.Spelling.{fields_of, label_of, node_field, run_in, spelling_of, region_of, FitsRecord, IsRecord};
 
 use crate::region::{RECORD_SIZE, Region, read_region};
-use address_runs::Stretch;
+use address_runs::RunOf;
 use bm_base::Range;
 use byteorder::{ByteOrder, LittleEndian};
 use memblock_model::Label;
-use std::marker::Model;
 
 /// The node of a record that has none.
 pub const NO_NODE: u32 = 1024;
 
 /// A record as an edit sees it: a run of addresses that carry one label.
-#[derive(Clone, Copy)]
-pub struct Record {
-    range: Range,
-    label: Label,
-}
-
-impl Model for Record {
-    ghost use Rattle.std.specs.Prelude.{◌+◌, ◌^◌, ◌<◌};
-    ghost use Rattle.address_runs.specs.Runs.{RunOf};
-    ghost use Rattle.memblock_model.specs.Labels.{Label as AnyLabel};
-
-    ghost Value = { RunOf AnyLabel };
-
-    ghost view = { λ r. record { base = r.range.base; size = r.range.size; value = r.label } };
-
-    ghost invariant = { λ r. r.range.base + r.range.size < 2 ^ 64 };
-
-    ghost inverse = { λ r. record { range = record { base = r.base; size = r.size }; label = r.value } };
-}
-
-impl Stretch for Record {
-    type Value = Label;
-
-    ghost run = { λ r. r };
-
-    fn of(range: Range, value: Label) -> Record {
-        Record {
-            range,
-            label: value,
-        }
-    }
-
-    fn range(&self) -> Range {
-        self.range
-    }
-
-    fn value(&self) -> Label {
-        self.label
-    }
-
-    fn is_same(first: Label, second: Label) -> bool {
-        first == second
-    }
-}
+pub type Record = RunOf<Label>;
 
 /// The label of that node; 1,024 means none.
 pub fn label_of(node: u32) -> Label
@@ -90,12 +46,12 @@ pub fn read_record(bytes: &[u8]) -> Record
     ensures { result ≡ run_in bytes.now }
 {
     let region = read_region(bytes);
-    Record {
+    RunOf {
         range: Range {
             base: region.base,
             size: region.size,
         },
-        label: label_of(region.node),
+        value: label_of(region.node),
     }
 }
 
@@ -119,7 +75,7 @@ pub fn spell(record: &Record) -> [u8; 24]
     write_fields(
         record.range.base,
         record.range.size,
-        node_field(record.label),
+        node_field(record.value),
     )
 }
 
@@ -131,6 +87,6 @@ pub fn region_of(record: &Record) -> Region
         base: record.range.base,
         size: record.range.size,
         flags: 0,
-        node: node_field(record.label),
+        node: node_field(record.value),
     }
 }

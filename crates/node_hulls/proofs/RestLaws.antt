@@ -14,52 +14,46 @@ use Rattle.address_runs.proofs.RunsLaws.{none_below, rest_from, other_behind, in
 use Rattle.bm_base.specs.Extent.{Extent, covers}
 use Rattle.e820_model.specs.Usable.{count_below}
 use Rattle.e820_model.proofs.UsableLaws.{count_same, count_none, count_either, count_interval, count_at_most}
-use Rattle.node_hulls.specs.First.{either, either_none, either_grouped}
+use Rattle.std.specs.Option.{option_or}
+use Rattle.address_runs.specs.First.{first_none, first_grouped}
 use Rattle.node_hulls.specs.Hulls.{Block}
 use Rattle.node_hulls.specs.Judgement.{left_over, frames_given}
 use Rattle.node_hulls.specs.Kept.{in_any, HaveBytes}
 use Rattle.node_hulls.specs.Steps.{bare, noded, bare_runs, with_node, begun_before, EndInSpace}
 
 -- what memory alone says, and what the runs with a node alone say
-bare_given : (memory : List Extent) (x : ℕ) → all_overlaid either (map bare memory) x ≡ (if in_any memory x then Some false else None)
+bare_given : (memory : List Extent) (x : ℕ) → all_overlaid option_or (map bare memory) x
+    ≡ (if in_any memory x then Some false else None)
 bare_given [] x = refl
-bare_given (r ∷ rs) x = elim (cases_Bool (covers r x)) as (λ _. all_overlaid either (map bare (r ∷ rs)) x
+bare_given (r ∷ rs) x = elim (cases_Bool (covers r x)) as (λ _. all_overlaid option_or (map bare (r ∷ rs)) x
     ≡ (if in_any (r ∷ rs) x then Some false else None)) [
-      | inl here ↦ rw (here, bare_given rs x) (elim (cases_Bool (in_any rs x)) as
-          (λ _. either (Some false) (if in_any rs x then Some false else None) ≡ Some false) [
-            | inl also ↦ rw also refl
-            | inr alone ↦ rw alone refl
-          ])
+      | inl here ↦ rw here refl
       | inr elsewhere ↦ rw elsewhere (bare_given rs x)
     ]
 
-noded_given : (joined : List Block) (x : ℕ) → all_overlaid either (map noded joined) x
+noded_given : (joined : List Block) (x : ℕ) → all_overlaid option_or (map noded joined) x
     ≡ (if is_some (value_at joined x) then Some true else None)
 noded_given [] x = refl
 noded_given (r ∷ rs) x =
-    elim (cases_Bool (lies_in r x)) as (λ _. all_overlaid either (map noded (r ∷ rs)) x
+    elim (cases_Bool (lies_in r x)) as (λ _. all_overlaid option_or (map noded (r ∷ rs)) x
     ≡ (if is_some (value_at (r ∷ rs) x) then Some true else None)) [
-      | inl here ↦ rw (here, noded_given rs x) (elim (cases_Bool (is_some (value_at rs x))) as
-          (λ _. either (Some true) (if is_some (value_at rs x) then Some true else None) ≡ Some true) [
-            | inl also ↦ rw also refl
-            | inr alone ↦ rw alone refl
-          ])
+      | inl here ↦ rw here refl
       | inr elsewhere ↦ rw elsewhere (noded_given rs x)
     ]
 
 -- each as a stretch has an address
-bare_addresses : (memory : List Extent) (ss : List (RunOf Bool)) → HaveBytes memory → HaveAddresses ss
-    → HaveAddresses (map bare memory ++ ss)
-bare_addresses [] ss some behind_some = behind_some
-bare_addresses (r ∷ rs) ss some behind_some = (some.0, bare_addresses rs ss some.1 behind_some)
+bare_addresses : (memory : List Extent) → HaveBytes memory → HaveAddresses (map bare memory)
+bare_addresses [] some = tt
+bare_addresses (r ∷ rs) some = (some.0, bare_addresses rs some.1)
 
-noded_addresses : (joined : List Block) → AreRuns joined → HaveAddresses (map noded joined)
-noded_addresses [] runs = tt
-noded_addresses (r ∷ rs) runs = (runs.0, noded_addresses rs runs.2)
+noded_addresses : (joined : List Block) (ss : List (RunOf Bool)) → AreRuns joined → HaveAddresses ss
+    → HaveAddresses (map noded joined ++ ss)
+noded_addresses [] ss runs behind_some = behind_some
+noded_addresses (r ∷ rs) ss runs behind_some = (runs.0, noded_addresses rs ss runs.2 behind_some)
 
 pub told_addresses : (memory : List Extent) (joined : List Block) → HaveBytes memory → AreRuns joined
-    → HaveAddresses (map bare memory ++ map noded joined)
-told_addresses memory joined some runs = bare_addresses memory (map noded joined) some (noded_addresses joined runs)
+    → HaveAddresses (map noded joined ++ map bare memory)
+told_addresses memory joined some runs = noded_addresses joined (map bare memory) runs (bare_addresses memory some)
 
 -- a run without a node gives the node, one with a node gives none
 abbrev pub bare_of : ℕ → Option Bool → Option ℕ
@@ -69,17 +63,16 @@ bare_of n (Some false) = Some n
 
 -- both over one another: memory without a node
 told_over : (memory : List Extent) (joined : List Block) (n x : ℕ)
-    → bare_of n (all_overlaid either (map bare memory ++ map noded joined) x) ≡ left_over (in_any memory) (value_at joined) n x
+    → bare_of n (all_overlaid option_or (map noded joined ++ map bare memory) x) ≡ left_over (in_any memory) (value_at joined) n x
 told_over memory joined n x =
     rw (
-      sym (all_append either either_none either_grouped (map bare memory) (map noded joined) x),
+      sym (all_append option_or first_none first_grouped (map noded joined) (map bare memory) x),
+      noded_given joined x,
       bare_given memory x,
-      noded_given joined
-          x,
     )
     (by (in_any memory x) (value_at joined x)) where
       by : (m : Bool) (o : Option ℕ)
-          → bare_of n (either (if m then Some false else None) (if is_some o then Some true else None))
+          → bare_of n (option_or (if is_some o then Some true else None) (if m then Some false else None))
           ≡ (if m && is_none o then Some n else None)
       by true (Some k) = refl
       by true None = refl
@@ -144,7 +137,7 @@ bare_canonical n (c ∷ cs) runs = by c.value refl (bare_canonical n cs runs.2) 
   by false value rest = rw value (runs.0, bare_before n c cs runs value (bare_runs n cs) refl rest, rest)
 
 pub left_runs : (memory : List Extent) (joined : List Block) (n : ℕ) (cs : List (RunOf Bool))
-    → IsRunsOf (all_overlaid either (map bare memory ++ map noded joined)) cs
+    → IsRunsOf (all_overlaid option_or (map noded joined ++ map bare memory)) cs
     → IsRunsOf (left_over (in_any memory) (value_at joined) n) (bare_runs n cs)
 left_runs memory joined n cs known = record {
   runs = bare_canonical n cs known.runs;

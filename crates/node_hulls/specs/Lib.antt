@@ -1,5 +1,4 @@
 pub mod Domains
-pub mod First
 pub mod Hulls
 pub mod Judgement
 pub mod Kept

@@ -11,7 +11,7 @@ ghost use Rattle.node_hulls.specs.Steps.{filled, led_by_run};
 
 use crate::kept::KeptBlock;
 use crate::node_range::NodeRange;
-use address_runs::overlay_all;
+use address_runs::{RunOf, overlay_all};
 use bm_base::{Memory, Range};
 use std::alloc::Global;
 
@@ -60,7 +60,7 @@ fn put_before(joined: &mut Vec<NodeRange>, run: NodeRange) -> Result<(), Memory>
         joined.push(run)?;
         return Ok(());
     };
-    if next.node == run.node {
+    if next.value == run.value {
         joined.push(spanning(&run, &next))?;
     } else {
         joined.push(next)?;
@@ -75,8 +75,8 @@ fn spanning(run: &NodeRange, next: &NodeRange) -> NodeRange
 {
     let base = run.range.base;
     let size = next.range.end().saturating_sub(base);
-    NodeRange {
+    RunOf {
         range: Range { base, size },
-        node: run.node,
+        value: run.value,
     }
 }

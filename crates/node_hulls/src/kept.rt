@@ -7,7 +7,8 @@ ghost use Rattle.node_hulls.specs.Kept.{in_any, blocks_of, framed, kept_one, has
 ghost use Rattle.node_hulls.specs.Steps.{EndInSpace};
 
 use crate::domains::node_of;
-use crate::node_range::NodeRange;
+use crate::node_range::{NodeRange, overlap};
+use address_runs::RunOf;
 use bm_base::{FRAME_SIZE, Memory, Range, round_down};
 use srat_reader::SratBlock;
 use std::alloc::Global;
@@ -105,9 +106,9 @@ fn in_frames(domains: &[u32], block: &SratBlock) -> NodeRange
     ensures value { result ≡ of_node domains.now block.now }
     ensures space { run_end result < 2 ^ 64 }
 {
-    NodeRange {
+    RunOf {
         range: framed(&block.range),
-        node: node_of(domains, block.domain),
+        value: node_of(domains, block.domain),
     }
 }
 
@@ -142,5 +143,5 @@ fn overlapping(block: &KeptBlock, others: &[KeptBlock]) -> Option<u32>
 fn is_clash(block: &KeptBlock, other: &KeptBlock) -> bool
     ensures { result ≡ clash block.now other.now }
 {
-    block.block.node != other.block.node && block.block.overlaps(&other.block)
+    block.block.value != other.block.value && overlap(&block.block, &other.block)
 }

@@ -22,7 +22,6 @@
 //! records the nodes of memory, and finds places for the nodes' own data.
 #![tactic(auto)]
 
-mod cover;
 mod domains;
 mod hulls;
 mod kept;

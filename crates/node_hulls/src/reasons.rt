@@ -162,9 +162,9 @@ fn lowest_node(kept: &[KeptBlock]) -> u32
     let [first, others @ ..] = kept else {
         return 0;
     };
-    let mut lowest = first.block.node;
+    let mut lowest = first.block.value;
     for other in others {
-        lowest = lowest.min(other.block.node);
+        lowest = lowest.min(other.block.value);
     }
     lowest
 }

@@ -8,9 +8,8 @@ ghost use Rattle.node_hulls.specs.Judgement.{left_over, frames_given};
 ghost use Rattle.node_hulls.specs.Kept.{in_any, HaveBytes};
 ghost use Rattle.node_hulls.specs.Steps.{bare, noded, bare_runs, with_node, begun_before, EndInSpace};
 
-use crate::cover::Covered;
 use crate::node_range::NodeRange;
-use address_runs::overlay_all;
+use address_runs::{RunOf, overlay_all};
 use bm_base::{FRAME_SIZE, Memory, Range};
 use std::alloc::Global;
 
@@ -31,18 +30,19 @@ pub fn left_over_runs(
     without_node(alloc, &covered, node)
 }
 
-/// Memory and the runs with a node, each as it covers its addresses.
-fn tell(alloc: Global, memory: &[Range], joined: &[NodeRange]) -> Result<Vec<Covered>, Memory>
-    ensures { IfOk result (λ told. told.items ≡ map bare memory.now ++ map noded joined.now) }
+/// The runs with a node and then memory, each as it covers its addresses and whether it has a node: where both
+/// lie over an address, the first one says so.
+fn tell(alloc: Global, memory: &[Range], joined: &[NodeRange]) -> Result<Vec<RunOf<bool>>, Memory>
+    ensures { IfOk result (λ told. told.items ≡ map noded joined.now ++ map bare memory.now) }
 {
     let mut told = Vec::new(alloc);
-    tell_memory(&mut told, memory)?;
     tell_nodes(&mut told, joined)?;
+    tell_memory(&mut told, memory)?;
     Ok(told)
 }
 
 /// Memory as it covers its addresses.
-fn tell_memory(told: &mut Vec<Covered>, memory: &[Range]) -> Result<(), Memory>
+fn tell_memory(told: &mut Vec<RunOf<bool>>, memory: &[Range]) -> Result<(), Memory>
     ensures { OnOk result (told.new.items ≡ told.old.items ++ map bare memory.now) }
 {
     for part in memory {
@@ -50,29 +50,29 @@ fn tell_memory(told: &mut Vec<Covered>, memory: &[Range]) -> Result<(), Memory>
             base: part.base,
             size: part.size,
         };
-        told.push(Covered {
+        told.push(RunOf {
             range,
-            has_node: false,
+            value: false,
         })?;
     }
     Ok(())
 }
 
 /// The runs with a node as they cover their addresses.
-fn tell_nodes(told: &mut Vec<Covered>, joined: &[NodeRange]) -> Result<(), Memory>
+fn tell_nodes(told: &mut Vec<RunOf<bool>>, joined: &[NodeRange]) -> Result<(), Memory>
     ensures { OnOk result (told.new.items ≡ told.old.items ++ map noded joined.now) }
 {
     for run in joined {
-        told.push(Covered {
+        told.push(RunOf {
             range: run.range,
-            has_node: true,
+            value: true,
         })?;
     }
     Ok(())
 }
 
 /// The runs that have no node, each with the node that it gets.
-fn without_node(alloc: Global, covered: &[Covered], node: u32) -> Result<Vec<NodeRange>, Memory>
+fn without_node(alloc: Global, covered: &[RunOf<bool>], node: u32) -> Result<Vec<NodeRange>, Memory>
     ensures value { IfOk result (λ rest. rest.items ≡ bare_runs node covered.now) }
     ensures space { IfOk result (λ rest. EndInSpace rest.items) }
 {
@@ -84,15 +84,15 @@ fn without_node(alloc: Global, covered: &[Covered], node: u32) -> Result<Vec<Nod
 }
 
 /// Gives the run the node, if it has none.
-fn give_node(rest: &mut Vec<NodeRange>, run: &Covered, node: u32) -> Result<(), Memory>
+fn give_node(rest: &mut Vec<NodeRange>, run: &RunOf<bool>, node: u32) -> Result<(), Memory>
     ensures value { OnOk result (rest.new.items ≡
         (if run.now.value then rest.old.items else rest.old.items ++ with_node node run.now ∷ [])) }
     ensures space { run_end run.now < 2 ^ 64 }
 {
-    if !run.has_node {
-        rest.push(NodeRange {
+    if !run.value {
+        rest.push(RunOf {
             range: run.range,
-            node,
+            value: node,
         })?;
     }
     Ok(())

@@ -2,6 +2,7 @@
 ghost use Rattle.std.specs.Prelude.{◌≡◌, ℕ, ◌-◌, ◌^◌, ◌<◌, ◌≤◌, IfOk, length};
 
 use crate::{Judged, NodeRange, Why, judge};
+use address_runs::RunOf;
 use bm_base::Range;
 use srat_reader::{Srat, SratBlock};
 use std::alloc::{AllocError, Global};
@@ -34,7 +35,7 @@ fn in_node(node: u32, from: u64, until: u64) -> NodeRange
     requires { from < until }
 {
     let range = part(from, until);
-    NodeRange { range, node }
+    RunOf { range, value: node }
 }
 
 /// A table of these entries.

@@ -1,0 +1,114 @@
+-- Small maps: what is wanted of them, and the memory that they come to.
+use Rattle.std.proofs.Common.{◌≡◌, ℕ, ◌^◌, ◌≤◌, Bool, true, false, ◌&&◌, nat_le, nat_lt, Some, None, List, [], ◌∷◌, refl, sym, ◌∙◌, ap, inl, inr, arith}
+use Rattle.std.proofs.lemmas.Bool.Decides.{nat_tests}
+use Rattle.std.proofs.lemmas.Bool.{cases_Bool}
+use Rattle.bm_base.specs.Extent.{Extent}
+use Rattle.address_runs.specs.Runs.{RunOf, lies_in, value_at}
+use Rattle.e820_model.specs.Map.{TypeAt}
+use Rattle.e820_model.specs.Usable.{is_memory, is_usable, reachable}
+use Rattle.e820_model.proofs.UsableLaws.{all_bytes, interval_frame, memory_reached, usable_whole}
+use Rattle.memblock_model.specs.Labels.{plain_label}
+use Rattle.memblock_model.specs.declared.owner.Owner.TheVariants as owner
+use Rattle.memblock_model.specs.declared.item.Item.TheVariants as item
+use Rattle.early_stages.specs.Memory.{behind_frame, end_behind, end_of_runs, memory_end, usable_memory}
+use Rattle.early_stages.specs.Wanted.{closing_items, early_claims, first_items, initrd_claims, items_of_map, items_of_run, part_below, up_to}
+use Rattle.early_stages.proofs.EndLaws.{IsEnd, memory_end-is, one_end}
+
+abbrev bytes : ℕ → ℕ → Extent
+bytes base size = record { base = base; size = size }
+
+abbrev run : ℕ → ℕ → ℕ → RunOf ℕ
+run base size type = record { base = base; size = size; value = type }
+
+abbrev limit : ℕ
+limit = 2 ^ 46
+
+-- claims before memory is known
+with_initrd : early_claims (bytes 0x1000000 0x2000000) (Some (bytes 0x7000000 0x3000))
+    ≡ item.Claim (bytes 0x1000000 0x2000000) owner.Kernel ∷ item.Claim (bytes 0 0x10000) owner.Low64K
+    ∷ item.Claim (bytes 0x7000000 0x3000) owner.Initrd ∷ []
+with_initrd = refl
+
+without_initrd : (early_claims (bytes 0x1000000 0x2000000) None
+    ≡ item.Claim (bytes 0x1000000 0x2000000) owner.Kernel ∷ item.Claim (bytes 0 0x10000) owner.Low64K ∷ [])
+    × (initrd_claims None ≡ []) × (up_to 0x10000 ≡ bytes 0 0x10000)
+without_initrd = (refl, refl, refl)
+
+-- RAM is added, a reserved run isn't, a driver's is claimed; what passes the limit is cut, what begins there is left out
+runs_of_types : (items_of_run limit (run 0x1000 0x9F000 1) ≡ item.Mem (bytes 0x1000 0x9F000) ∷ [])
+    × (items_of_run limit (run 0x1000 0x9F000 128) ≡ item.Mem (bytes 0x1000 0x9F000) ∷ [])
+    × (items_of_run limit (run 0x1000 0x9F000 2) ≡ [])
+    × (items_of_run limit (run 0x1000 0x9F000 0xEFFFFFFF) ≡ item.Claim (bytes 0x1000 0x9F000) owner.Soft ∷ [])
+runs_of_types = (refl, refl, refl, refl)
+
+runs_at_the_limit : (items_of_run limit (run 0x3FFFFFFFF000 0x2000 1) ≡ item.Mem (bytes 0x3FFFFFFFF000 0x1000) ∷ [])
+    × (items_of_run limit (run 0x400000000000 0x1000 1) ≡ []) × (part_below 0x2000 (run 0x1000 0x3000 1) ≡ bytes 0x1000 0x1000)
+runs_at_the_limit = (refl, refl, refl)
+
+two_runs : items_of_map limit (run 0x1000 0x9F000 1 ∷ run 0xF0000 0x10000 2 ∷ run 0x100000 0x100000 0xEFFFFFFF ∷ [])
+    ≡ item.Mem (bytes 0x1000 0x9F000) ∷ item.Claim (bytes 0x100000 0x100000) owner.Soft ∷ []
+two_runs = refl
+
+closes : closing_items 0x4000 ≡ item.Trim ∷ item.Limit 0x4000 ∷ item.Claim (bytes 0 0x100000) owner.Low1M ∷ []
+closes = refl
+
+-- without a map there is a limit of 0
+nothing_wanted_of_no_map : first_items limit (bytes 0x1000000 0x2000000) None []
+    ≡ item.Claim (bytes 0x1000000 0x2000000) owner.Kernel ∷ item.Claim (bytes 0 0x10000) owner.Low64K ∷ item.Limit 0x100000
+    ∷ closing_items (memory_end limit (value_at []))
+nothing_wanted_of_no_map = refl
+
+-- ends
+frame_ends : (behind_frame None ≡ 0) × (behind_frame (Some 0) ≡ 0x1000) × (behind_frame (Some 3) ≡ 0x4000)
+frame_ends = (refl, refl, refl)
+
+run_ends : (end_of_runs (run 0x1000 0x1000 1 ∷ run 0x3000 0x800 1 ∷ []) ≡ 0x3800) × (end_behind {X = ℕ} 5 [] ≡ 5)
+run_ends = (refl, refl)
+
+-- RAM and the kernel's own memory meet within a frame, and end within one: frames 1, 2 and 3 are usable
+abbrev meeting : List (RunOf ℕ)
+meeting = run 0x1000 0x1C00 1 ∷ run 0x2C00 0x1500 128 ∷ []
+
+abbrev types : TypeAt
+types = reachable limit (value_at meeting)
+
+memory_lies : (x : ℕ) → is_memory (value_at meeting x) ≡ (nat_le 0x1000 x && nat_lt x 0x4100)
+memory_lies x = elim (cases_Bool (lies_in (run 0x1000 0x1C00 1) x)) as (λ _. is_memory (value_at meeting x) ≡ (nat_le 0x1000 x
+    && nat_lt x 0x4100)) [
+      | inl first ↦ (let test : (nat_le 0x1000 x && nat_lt x 0x4100) ≡ true = grind (arith, nat_tests) in rw (first, test) refl)
+      | inr other ↦ (elim (cases_Bool (lies_in (run 0x2C00 0x1500 128) x)) as (λ _. is_memory (value_at meeting x) ≡ (nat_le 0x1000 x
+          && nat_lt x 0x4100)) [
+            | inl second ↦
+                (let test : (nat_le 0x1000 x && nat_lt x 0x4100) ≡ true = grind (arith, nat_tests) in rw (other, second, test) refl)
+            | inr neither ↦
+                (let test : (nat_le 0x1000 x && nat_lt x 0x4100) ≡ false = grind (arith, nat_tests) in rw (other, neither, test) refl)
+          ])
+    ]
+
+memory_within : (x : ℕ) → is_memory (types x) ≡ (nat_le 0x1000 x && nat_lt x 0x4100)
+memory_within x =
+    let lies : is_memory (value_at meeting x) ≡ (nat_le 0x1000 x && nat_lt x 0x4100) = memory_lies x in
+    memory_reached limit (value_at meeting) x ∙ rw lies (grind (arith, nat_tests))
+
+usable_are : (frame : ℕ) → is_usable types frame ≡ (nat_le 1 frame && nat_lt frame 4)
+usable_are frame =
+    usable_whole types frame ∙ ap (λ (p : ℕ → Bool). all_bytes p frame) (λ i x. memory_within x i)
+    ∙ interval_frame 0x1000 0x4100 frame
+
+whole_frames_are_memory : (usable_memory limit (value_at meeting) 0x2C00 ≡ Some plain_label)
+    × (usable_memory limit (value_at meeting) 0xFFF ≡ None) × (usable_memory limit (value_at meeting) 0x4000 ≡ None)
+whole_frames_are_memory =
+    (rw (usable_are 2) refl, rw (usable_are 0) refl, rw (usable_are 4) refl)
+
+ends_with_frame_3 : IsEnd limit (value_at meeting) 0x4000
+ends_with_frame_3 = record {
+  by = λ frame usable. let test = sym (usable_are frame) ∙ usable in grind (arith, nat_tests, test);
+  last = λ some. (3, refl, usable_are 3);
+}
+
+memory_ends : memory_end limit (value_at meeting) ≡ 0x4000
+memory_ends =
+    let known : IsEnd limit (value_at meeting) (memory_end limit (value_at meeting)) = memory_end-is limit (value_at meeting) in
+    let le : memory_end limit (value_at meeting) ≤ 0x4000 = one_end limit (value_at meeting) _ 0x4000 known ends_with_frame_3 in
+    let ge : 0x4000 ≤ memory_end limit (value_at meeting) = one_end limit (value_at meeting) 0x4000 _ ends_with_frame_3 known in
+    omega arith

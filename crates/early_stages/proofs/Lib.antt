@@ -1,0 +1,5 @@
+pub mod EndLaws
+mod Examples
+pub mod ItemLaws
+pub mod MapItemLaws
+pub mod MemoryLaws

@@ -1,0 +1,31 @@
+-- The memory that a map comes to: its usable frames, and where the last of them ends.
+use Rattle.std.specs.Prelude.{ℕ, ◌/◌, if◌then◌else◌, Option, Some, None, List, [], ◌∷◌}
+use Rattle.bm_base.specs.Extent.{end_of}
+use Rattle.bm_base.specs.Frames.{bytes_of_frame}
+use Rattle.bm_base.specs.declared.frame.TheConstants.{FRAME_SIZE}
+use Rattle.address_runs.specs.Runs.{RunOf, run_end}
+use Rattle.e820_model.specs.Map.{TypeAt}
+use Rattle.e820_model.specs.Usable.{reachable, is_usable}
+use Rattle.memblock_model.specs.Labels.{Labels, plain_label}
+use Rattle.memblock_model.specs.Search.{last_below}
+
+-- the bytes of usable frames are memory, and no node has them yet (`e820__memblock_setup`)
+abbrev pub usable_memory : ℕ → TypeAt → Labels
+usable_memory limit f x = if is_usable (reachable limit f) (x / FRAME_SIZE) then Some plain_label else None
+
+-- the address behind the frame, and 0 without one
+abbrev pub behind_frame : Option ℕ → ℕ
+behind_frame None = 0
+behind_frame (Some frame) = end_of (bytes_of_frame frame)
+
+-- the end of the last usable frame, 0 where no frame is usable (`e820__end_of_ram_pfn`)
+unfoldable pub memory_end : ℕ → TypeAt → ℕ
+memory_end limit f = behind_frame (last_below (is_usable (reachable limit f)) (limit / FRAME_SIZE))
+
+-- the end of the last run of a list, 0 for none (`memblock_end_of_DRAM`)
+abbrev pub end_behind : {X : Type 0} → ℕ → List (RunOf X) → ℕ
+end_behind at [] = at
+end_behind at (r ∷ rs) = end_behind (run_end r) rs
+
+abbrev pub end_of_runs : {X : Type 0} → List (RunOf X) → ℕ
+end_of_runs rs = end_behind 0 rs

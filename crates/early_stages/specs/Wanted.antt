@@ -1,0 +1,50 @@
+-- What a boot wants to happen to memory before any node is known, as items in their order. They depend on what it is given alone.
+use Rattle.std.specs.Prelude.{ℕ, ◌-◌, ◌==◌, ◌&&◌, nat_lt, min, if◌then◌else◌, Option, Some, None, List, [], ◌∷◌, ◌++◌}
+use Rattle.bm_base.specs.Extent.{Extent}
+use Rattle.address_runs.specs.Runs.{RunOf, run_end, extent_of, value_at}
+use Rattle.e820_model.specs.declared.types.TheConstants.{E820_TYPE_SOFT_RESERVED}
+use Rattle.e820_model.specs.Usable.{is_memory}
+use Rattle.memblock_model.specs.declared.owner.Owner.TheVariants as owner
+use Rattle.memblock_model.specs.declared.item.Item.{Item}
+use Rattle.memblock_model.specs.declared.item.Item.TheVariants as item
+use Rattle.early_stages.specs.declared.low.TheConstants.{ISA_END_ADDRESS, LOW_END}
+use Rattle.early_stages.specs.Memory.{memory_end}
+
+-- the bytes from 0 up to the address
+abbrev pub up_to : ℕ → Extent
+up_to at = record { base = 0; size = at }
+
+-- the initrd is claimed, where there is one (`early_reserve_initrd`)
+abbrev pub initrd_claims : Option Extent → List Item
+initrd_claims None = []
+initrd_claims (Some range) = item.Claim range owner.Initrd ∷ []
+
+-- the kernel's image, the first 64 KiB and the initrd are claimed before memory is known (`early_reserve_memory`)
+abbrev pub early_claims : Extent → Option Extent → List Item
+early_claims kernel initrd = item.Claim kernel owner.Kernel ∷ item.Claim (up_to LOW_END) owner.Low64K ∷ initrd_claims initrd
+
+-- the part of the run below the limit
+abbrev pub part_below : ℕ → RunOf ℕ → Extent
+part_below limit r = record { base = r.base; size = min (run_end r) limit - r.base }
+
+-- memory that firmware keeps for a driver is claimed, and what is memory is added as far as the kernel's tables of memory reach
+-- (`e820__memblock_setup`, the body of its loop)
+abbrev pub items_of_run : ℕ → RunOf ℕ → List Item
+items_of_run limit r =
+    if r.value == E820_TYPE_SOFT_RESERVED then item.Claim (extent_of r) owner.Soft ∷ []
+    else (if is_memory (Some r.value) && nat_lt r.base limit then item.Mem (part_below limit r) ∷ [] else [])
+
+abbrev pub items_of_map : ℕ → List (RunOf ℕ) → List Item
+items_of_map limit [] = []
+items_of_map limit (r ∷ rs) = items_of_run limit r ++ items_of_map limit rs
+
+-- memory is trimmed to whole frames (`memblock_trim_memory`), what is allocated stays below the end of the last one
+-- (`memblock_set_current_limit`), and the first MiB is claimed (`reserve_real_mode`)
+abbrev pub closing_items : ℕ → List Item
+closing_items end = item.Trim ∷ item.Limit end ∷ item.Claim (up_to ISA_END_ADDRESS) owner.Low1M ∷ []
+
+-- all of it, of a kernel's image, an initrd and a map: before memory is known an allocation stays in the first MiB (`setup_arch`)
+abbrev pub first_items : ℕ → Extent → Option Extent → List (RunOf ℕ) → List Item
+first_items limit kernel initrd map =
+    early_claims kernel initrd
+    ++ (item.Limit ISA_END_ADDRESS ∷ (items_of_map limit map ++ closing_items (memory_end limit (value_at map))))

@@ -1,0 +1,140 @@
+-- A kernel's image with both tables in its last two frames, a memory table that moves twice, and fills before, between and behind.
+use Rattle.std.proofs.Common.{◌≡◌, ℕ, true, false, List, [], ◌∷◌, ◌++◌, refl, sym, arith, lit≤}
+use Rattle.bm_base.specs.Extent.{Extent}
+use Rattle.address_runs.specs.Runs.{RunOf}
+use Rattle.memblock_model.specs.Labels.{Label, plain_label}
+use Rattle.memblock_model.specs.declared.owner.Owner.TheVariants as owner
+use Rattle.memblock_model.specs.declared.which.Which.TheVariants as which
+use Rattle.memblock_model.specs.declared.item.Item.{Item}
+use Rattle.memblock_model.specs.declared.item.Item.TheVariants as item
+use Rattle.memblock_ranges.specs.Spelling.{spelled_table, fields_of}
+use Rattle.memblock_ranges.specs.Tables.{Table}
+use Rattle.growth_model.specs.Bytes.{table_for, spelled_at, shown_by, AreSpelled, left_by, shown, leaves, is_left, beyond, byte_after, Filled, put, filled, written, byte, AreMadeBy, Follows, Holds}
+use Rattle.growth_model.proofs.BytesLaws.{shown_by-again, after-byte}
+
+abbrev at_base : ℕ → ℕ → Extent
+at_base base size = record { base = base; size = size }
+
+-- one record, 0x1000 to 0x17FF, in a table with room for two at 0x500000
+abbrev one_run : RunOf Label
+one_run = record { base = 0x1000; size = 0x800; value = plain_label }
+
+abbrev small_table : Table
+small_table = record { records = one_run ∷ []; place = 0x500000; room = 2 }
+
+abbrev empty_table : Table
+empty_table = record { records = []; place = 0x600000; room = 1 }
+
+-- bytes of its base, its size, its node (1,024), and behind its record
+spelled_examples : (spelled_at small_table 0x500001 ≡ 0x10) × (spelled_at small_table 0x500009 ≡ 8) × (spelled_at small_table 0x500015 ≡ 4)
+    × (spelled_at small_table 0x500018 ≡ 0)
+unfolding spelled_table fields_of
+spelled_examples = (refl, refl, refl, refl)
+
+shown_by_examples : (shown_by small_table empty_table 0x500001 7 ≡ 0x10) × (shown_by small_table empty_table 0x600000 7 ≡ 0)
+    × (shown_by small_table empty_table 0x500030 7 ≡ 7)
+unfolding spelled_table fields_of
+shown_by_examples = (refl, refl, refl)
+
+-- both tables lie in a memory of 7s that shows them, and not in one of 7s alone
+are_spelled : AreSpelled small_table empty_table (λ x. shown_by small_table empty_table x 7)
+are_spelled = λ x. sym (shown_by-again small_table empty_table x 7)
+
+not_spelled : ¬ AreSpelled small_table empty_table (λ x. 7)
+unfolding spelled_table fields_of
+not_spelled = λ spelled. let clash : 7 ≡ 0x10 = spelled 0x500001 in omega (arith, clash)
+
+left_examples : (left_by small_table 0x500010 9 ≡ 0) × (left_by small_table 0x500030 9 ≡ 9)
+left_examples = (refl, refl)
+
+-- the image ends at 0x1100000; the memory table lies at 0x10FE000 at first, the reserved one at 0x10FF000
+abbrev kernel : Extent
+kernel = at_base 0x1000000 0x100000
+
+abbrev begun : List Item
+begun = item.Claim kernel owner.Kernel ∷ []
+
+abbrev first_move : Item
+first_move = item.Grown which.Memory 0x2000000 256
+
+abbrev second_move : Item
+second_move = item.Grown which.Memory 0x3000000 512
+
+abbrev moved_once : List Item
+moved_once = begun ++ first_move ∷ []
+
+abbrev moved_twice : List Item
+moved_twice = moved_once ++ second_move ∷ []
+
+table_examples : ((table_for which.Memory kernel begun).place ≡ 0x10FE000) × ((table_for which.Memory kernel begun).room ≡ 128)
+    × ((table_for which.Memory kernel moved_once).place ≡ 0x2000000)
+    × ((table_for which.Memory kernel moved_once).room ≡ 256)
+table_examples = (refl, refl, refl, refl)
+
+-- the first move leaves the frame in the image, the second the new place
+leaves_examples : (leaves kernel begun first_move 0x10FE000 ≡ true) × (leaves kernel begun first_move 0x10FF000 ≡ false)
+    × (leaves kernel moved_once second_move 0x2000000 ≡ true)
+    × (leaves kernel moved_once (item.Mem kernel) 0x2000000 ≡ false)
+leaves_examples = (refl, refl, refl, refl)
+
+is_left_examples : (is_left kernel begun (first_move ∷ second_move ∷ []) 0x10FE000 ≡ true)
+    × (is_left kernel begun (first_move ∷ second_move ∷ []) 0x2000000 ≡ true)
+    × (is_left kernel begun (first_move ∷ second_move ∷ []) 0x3000000 ≡ false)
+is_left_examples = (refl, refl, refl)
+
+beyond_examples : (beyond begun moved_twice ≡ first_move ∷ second_move ∷ []) × (beyond moved_twice moved_twice ≡ [])
+beyond_examples = (refl, refl)
+
+-- beside the tables the given byte is shown, and what was left is 0, whatever stood there
+shown_example : shown kernel moved_once 0x10FE000 7 ≡ 7
+shown_example = refl
+
+after_examples : (byte_after kernel begun moved_twice 0x10FE000 7 ≡ 0) × (byte_after kernel begun moved_twice 0x2000000 7 ≡ 0)
+    × (byte_after kernel begun moved_twice 0x4000000 7 ≡ 7)
+unfolding byte_after
+after_examples = (refl, refl, refl)
+
+-- a fill before the first move, one between the moves, one behind both
+abbrev early : Filled
+early = record { range = at_base 0x10FE000 0x1000; byte = 1; at = 1 }
+
+abbrev between : Filled
+between = record { range = at_base 0x10FE800 0x1000; byte = 2; at = 2 }
+
+abbrev late : Filled
+late = record { range = at_base 0x2000000 0x10; byte = 3; at = 3 }
+
+abbrev fills : List Filled
+fills = early ∷ between ∷ late ∷ []
+
+put_examples : (put early 0x10FE000 9 ≡ 1) × (put early 0x10FF000 9 ≡ 9)
+put_examples = (refl, refl)
+
+filled_examples : (filled 1 fills 0x10FE000 9 ≡ 1) × (filled 2 fills 0x10FE000 9 ≡ 9) × (filled 2 fills 0x10FE900 9 ≡ 2)
+filled_examples = (refl, refl, refl)
+
+-- the early fill went with the table's move; the one behind it stands; the late one overwrites what the second move left
+written_examples : (written kernel fills [] moved_twice 0x10FE000 0 ≡ 0) × (written kernel fills [] moved_twice 0x10FE900 0 ≡ 2)
+    × (written kernel fills [] moved_twice 0x2000000 0 ≡ 3)
+    × (written kernel fills [] moved_twice 0x2000010 0 ≡ 0)
+written_examples = (refl, refl, refl, refl)
+
+byte_examples : (byte kernel moved_twice fills 0x10FE000 ≡ 0) × (byte kernel moved_twice fills 0x10FE900 ≡ 2)
+    × (byte kernel moved_twice fills 0x2000000 ≡ 3)
+unfolding byte
+byte_examples = (refl, refl, refl)
+
+made_examples : AreMadeBy 3 fills × ¬ AreMadeBy 2 fills
+made_examples = ((lit≤ tt, (lit≤ tt, (lit≤ tt, tt))), λ made. absurd (omega (arith, made.1.1.0)))
+
+-- by the second law: the bytes of the items and the first two fills, behind the second move
+follows_example : Follows kernel moved_once moved_twice (byte kernel moved_once (early ∷ between ∷ []))
+    (byte kernel moved_twice (early ∷ between ∷ []))
+follows_example = record {
+  more = second_move ∷ [];
+  goes_on = refl;
+  each = λ x. sym (after-byte kernel moved_once (second_move ∷ []) (early ∷ between ∷ []) x (lit≤ tt, (lit≤ tt, tt)));
+}
+
+holds_example : Holds kernel moved_twice fills (byte kernel moved_twice fills)
+holds_example = record { made = (lit≤ tt, (lit≤ tt, (lit≤ tt, tt))); each = λ x. refl }

@@ -1,0 +1,53 @@
+-- What small lists of items come to.
+use Rattle.std.proofs.Common.{◌≡◌, List, [], ◌∷◌, Some, None, Ok, Err, true, false, refl}
+use Rattle.bm_base.specs.Extent.{Extent}
+use Rattle.memblock_model.specs.declared.which.Which.TheVariants as which
+use Rattle.memblock_model.specs.declared.owner.Owner.TheVariants as owner
+use Rattle.memblock_model.specs.declared.item.Item.{Item}
+use Rattle.memblock_model.specs.declared.item.Item.TheVariants as item
+use Rattle.growth_model.specs.Outcome.{Refused}
+use Rattle.growth_model.specs.Growth.{added}
+use Rattle.growth_model.specs.Carried.{AreQuiet, carried_out, change, ended, is_of_memory, memory_items, unless_refused}
+
+abbrev page : Extent
+page = record { base = 0x1000; size = 0x1000 }
+
+abbrev full : Refused
+full = record { which = which.Reserved; room = 128 }
+
+-- a range is added behind growth; a trim is written as it is
+changes : (items : List Item) → (change (item.Mem page) items ≡ added page items) × ((change item.Trim items).steps ≡ (item.Trim ∷ []) ∷ [])
+changes items = (refl, refl)
+
+-- what a change comes to, with and without a refusal
+ends_well : ended (item.Trim ∷ []) (record { steps = (item.Free page ∷ []) ∷ []; refused = None }) ≡ Ok (item.Trim ∷ item.Free page ∷ [])
+ends_well = refl
+
+ends_refused : ended (item.Trim ∷ []) (record { steps = (item.Free page ∷ []) ∷ []; refused = Some full }) ≡ Err full
+ends_refused = refl
+
+unless_examples : (unless_refused None [] ≡ Ok []) × (unless_refused (Some full) [] ≡ Err full)
+unless_examples = (refl, refl)
+
+-- nothing, and items that need no growth
+carries_nothing : (items : List Item) → carried_out [] items ≡ Ok items
+unfolding carried_out
+carries_nothing items = refl
+
+carries_two : carried_out (item.Trim ∷ item.Limit 0x2000 ∷ []) (item.Free page ∷ [])
+    ≡ Ok (item.Free page ∷ item.Trim ∷ item.Limit 0x2000 ∷ [])
+unfolding carried_out
+carries_two = refl
+
+-- a claim says nothing of memory, a trim does
+kinds_of_items : (is_of_memory (item.Claim page owner.Kernel) ≡ false) × (is_of_memory item.Trim ≡ true)
+kinds_of_items = (refl, refl)
+
+some_of_memory : memory_items (item.Mem page ∷ item.Claim page owner.Kernel ∷ item.Limit 0x2000 ∷ item.Free page ∷ [])
+    ≡ item.Mem page ∷ item.Limit 0x2000 ∷ []
+some_of_memory = refl
+
+-- a claim behind the growth of its table is quiet
+quiet_steps : AreQuiet ((item.Grown which.Reserved 0x4000 256 ∷ item.Claim page (owner.Table which.Reserved) ∷ [])
+    ∷ (item.Claim page owner.Kernel ∷ []) ∷ [])
+quiet_steps = (refl, (refl, tt))

@@ -1,0 +1,96 @@
+-- The first claim: the kernel's image, in which both tables lie at first.
+use Rattle.std.proofs.Common.{◌≡◌, ℕ, ◌+◌, ◌-◌, ◌*◌, ◌/◌, ◌%◌, ◌^◌, ◌≤◌, ◌<◌, Bool, true, false, nat_lt, Option, Some, None, List, [], ◌∷◌, ◌++◌, length, refl, sym, ◌∙◌, ap, subst, arith}
+use Rattle.std.proofs.lemmas.Bool.Decides.{nat_tests}
+use Rattle.bm_base.specs.Extent.{Extent, end_of, covers}
+use Rattle.address_runs.specs.Runs.{RunOf, IsRunsOf}
+use Rattle.address_runs.specs.Edits.{NothingFrom, replaced}
+use Rattle.memblock_model.specs.declared.which.Which.{Which}
+use Rattle.memblock_model.specs.declared.which.Which.TheVariants as which
+use Rattle.memblock_model.specs.declared.owner.Owner.{Owner}
+use Rattle.memblock_model.specs.declared.owner.Owner.TheVariants as owner
+use Rattle.memblock_model.specs.declared.item.Item.{Item}
+use Rattle.memblock_model.specs.declared.item.Item.TheVariants as item
+use Rattle.memblock_model.specs.Labels.{Label, Labels}
+use Rattle.memblock_model.specs.Items.{Owners, no_owners, owner_of}
+use Rattle.memblock_model.specs.Tables.{table_of, records_for, records_of, pieces, room_of, live}
+use Rattle.memblock_model.proofs.TableLaws.{records_for-is}
+use Rattle.memblock_ranges.proofs.CountLaws.{few-pieces}
+use Rattle.growth_model.specs.Outcome.{Outcome, nothing, write, ◌>>◌, if_due}
+use Rattle.growth_model.specs.Growth.{count, is_full, new_in, two, grown, reserved_growth, claimed}
+use Rattle.growth_model.specs.Sound.{keeps, Spot, Apart, Spots, Placed, IsImage}
+use Rattle.growth_model.proofs.IdleLaws.{claimed-idle}
+use Rattle.growth_model.proofs.SpotLaws.{covers-from, covers-to, Spot-new}
+
+-- a table that says nothing has no records
+pub no_records : (f : Labels) → ((x : ℕ) → f x ≡ None) → length (records_for f) ≡ 0
+no_records f none = ap length (sym (records_for-is f [] (λ x le. none x) (record { runs = tt; each = λ x. sym (none x) })))
+
+nothing_said : (w : Which) (x : ℕ) → table_of w [] x ≡ None
+nothing_said which.Memory x = refl
+nothing_said which.Reserved x = refl
+
+-- so the first claim, of one run, finds room
+pub first-full : (r : Extent) → end_of r ≤ 2 ^ 64 → is_full which.Reserved (new_in which.Reserved r) [] ≡ false
+unfolding records_of
+first-full r small =
+    let f = table_of which.Reserved [] in
+    let few = few-pieces r f small (λ x le. refl) in
+    let none = no_records f (λ x. refl) in
+    let enough : length (records_for f) + pieces r f ≤ 128 = omega arith in
+    grind (arith, nat_tests, enough)
+
+pub first-full_by_two : is_full which.Reserved two [] ≡ false
+unfolding records_of
+first-full_by_two =
+    let f = table_of which.Reserved [] in
+    let none = no_records f (λ x. refl) in
+    let enough : length (records_for f) + 2 ≤ 128 = omega arith in
+    grind (arith, nat_tests, enough)
+
+-- so each table fits at first
+pub no_table_full : (w : Which) → count w [] ≤ room_of w []
+unfolding records_of
+no_table_full w = let none = no_records (table_of w []) (nothing_said w) in omega arith
+
+-- and the first claim writes its item alone
+pub first-claimed : (r : Extent) (o : Owner) → end_of r ≤ 2 ^ 64 → claimed r o [] ≡ write (item.Claim r o) []
+first-claimed r o small = claimed-idle [] r o (first-full r small)
+
+-- the built-in places, in the last two frames of the image
+abbrev first_items : Extent → List Item
+first_items kernel = item.Claim kernel owner.Kernel ∷ []
+
+abbrev first_live : Which → Extent → Extent
+first_live w kernel = live w kernel (first_items kernel)
+
+memory-inside : (kernel : Extent) (x : ℕ) → 8192 ≤ kernel.size → covers (first_live which.Memory kernel) x ≡ true → covers kernel x ≡ true
+memory-inside kernel x large at =
+    let inside = covers-from (first_live which.Memory kernel) x at in covers-to kernel x (omega arith) (omega arith)
+
+reserved-inside : (kernel : Extent) (x : ℕ) → 8192 ≤ kernel.size → covers (first_live which.Reserved kernel) x ≡ true
+    → covers kernel x ≡ true
+reserved-inside kernel x large at =
+    let inside = covers-from (first_live which.Reserved kernel) x at in covers-to kernel x (omega arith) (omega arith)
+
+first-apart : (kernel : Extent) → end_of kernel % 4096 ≡ 0 → 8192 ≤ kernel.size
+    → Apart (first_live which.Memory kernel) (first_live which.Reserved kernel)
+first-apart kernel whole large x y at_x at_y same =
+    let m = covers-from (first_live which.Memory kernel) x at_x in
+    let r = covers-from (first_live which.Reserved kernel) y at_y in
+    omega arith
+
+pub first-placed : (kernel : Extent) → IsImage kernel → Placed kernel (item.Claim kernel owner.Kernel ∷ [])
+first-placed kernel image =
+    let whole : end_of kernel % 4096 ≡ 0 = image.whole in
+    let large : 8192 ≤ kernel.size = image.large in
+    record {
+      rest = [];
+      first = refl;
+      spots = record {
+        first = Spot-new no_owners (first_live which.Memory kernel) kernel owner.Kernel (omega arith) refl
+            (λ x at. memory-inside kernel x large at);
+        second = Spot-new no_owners (first_live which.Reserved kernel) kernel owner.Kernel (omega arith) refl
+            (λ x at. reserved-inside kernel x large at);
+        apart = first-apart kernel whole large;
+      };
+    }

@@ -1,0 +1,490 @@
+-- Small changes, computed: what is written step by step, which growth is refused, what an allocation tries, and how calls end.
+use Rattle.std.proofs.Common.{◌≡◌, ℕ, ◌+◌, ◌*◌, ◌/◌, ◌%◌, ◌^◌, ◌<◌, ◌≤◌, Bool, true, false, nat_lt, Option, Some, None, List, [], ◌∷◌, ◌++◌, length, Result, Ok, Err, refl, sym, ◌∙◌, ap, subst, inl, inr, arith}
+use Rattle.std.specs.Option.{option_or}
+use Rattle.std.proofs.lemmas.Bool.{cases_Bool}
+use Rattle.std.proofs.lemmas.Bool.Decides.{nat_tests}
+use Rattle.bm_base.specs.Extent.{Extent, end_of, covers}
+use Rattle.address_runs.specs.Runs.{RunOf, value_at, AreRuns}
+use Rattle.address_runs.specs.Edits.{NothingFrom}
+use Rattle.memblock_model.specs.declared.which.Which.{Which}
+use Rattle.memblock_model.specs.declared.which.Which.TheVariants as which
+use Rattle.memblock_model.specs.declared.owner.Owner.TheVariants as owner
+use Rattle.memblock_model.specs.declared.query.Query.{Query}
+use Rattle.memblock_model.specs.declared.item.Item.{Item}
+use Rattle.memblock_model.specs.declared.item.Item.TheVariants as item
+use Rattle.memblock_model.specs.Labels.{Label, Labels, plain_label}
+use Rattle.memblock_model.specs.Items.{memory_of, owner_of}
+use Rattle.memblock_model.specs.Tables.{reserved_of, table_of, records_for, records_of, pieces}
+use Rattle.memblock_model.specs.Search.{fits_in, best_in, best}
+use Rattle.memblock_model.proofs.SearchLaws.{IsPlace, IsLastBelow, fits_in-parts, fits_in-whole, best_in-last, best_in-fails}
+use Rattle.memblock_model.proofs.TableLaws.{records_for-is}
+use Rattle.memblock_ranges.proofs.CountLaws.{few-pieces}
+use Rattle.growth_model.specs.declared.refusal.Refusal.{Refusal}
+use Rattle.growth_model.specs.declared.refusal.Refusal.TheVariants as refusal
+use Rattle.growth_model.specs.declared.request.Request.{Request}
+use Rattle.growth_model.specs.Outcome.{Refused, Outcome, Change, joined, after, nothing, step, write, refuse, followed_by, ◌>>◌, if_due, whatever_refused}
+use Rattle.growth_model.specs.Growth.{frames_of, frames_at, count, table_query, place_beside, left, reserved_items, reserved_growth_at, reserved_growth, is_full, new_in, two, grown, claimed, freed, old_frames, leave, memory_growth_at, memory_growth, added, noded}
+use Rattle.growth_model.specs.Request.{attempt, anywhere, round, attempts, first_best, place_for}
+use Rattle.growth_model.specs.Ends.{IsCut, EndsBy, Ends, Allocates}
+use Rattle.growth_model.proofs.FirstLaws.{no_records, first-full, first-full_by_two, first-claimed}
+use Rattle.growth_model.proofs.IdleLaws.{claimed-idle, freed-idle, added-idle, noded-idle}
+
+-- 256 KiB of memory, in which the kernel's image has four frames from 64 KiB on
+abbrev pub image : Extent
+image = record { base = 65536; size = 16384 }
+
+abbrev pub small : List Item
+small = item.Mem (record { base = 0; size = 262144 }) ∷ (item.Claim image owner.Kernel ∷ (item.Limit 262144 ∷ []))
+
+abbrev pub frame : ℕ → Extent
+frame n = record { base = 4096 * n; size = 4096 }
+
+-- steps, and the items behind them
+abbrev two_steps : Outcome
+two_steps = record { steps = (item.Trim ∷ (item.Limit 5 ∷ [])) ∷ ((item.Limit 7 ∷ []) ∷ []); refused = None }
+
+abbrev stopped : Outcome
+stopped = record { steps = (item.Trim ∷ []) ∷ []; refused = Some (record { which = which.Memory; room = 128 }) }
+
+all_joined : joined two_steps.steps ≡ item.Trim ∷ (item.Limit 5 ∷ (item.Limit 7 ∷ []))
+all_joined = refl
+
+none_joined : joined [] ≡ []
+none_joined = refl
+
+behind_two : after (item.Limit 3 ∷ []) two_steps ≡ item.Limit 3 ∷ (item.Trim ∷ (item.Limit 5 ∷ (item.Limit 7 ∷ [])))
+behind_two = refl
+
+behind_refusal : after [] stopped ≡ item.Trim ∷ []
+behind_refusal = refl
+
+-- single changes
+nothing_written : (nothing small).steps ≡ []
+nothing_written = refl
+
+nothing_refused : (nothing []).refused ≡ None
+nothing_refused = refl
+
+one_step : step (item.Trim ∷ (item.Limit 5 ∷ [])) small ≡ record { steps = (item.Trim ∷ (item.Limit 5 ∷ [])) ∷ []; refused = None }
+one_step = refl
+
+step_behind : after (item.Trim ∷ []) (step (item.Trim ∷ (item.Trim ∷ [])) (item.Trim ∷ [])) ≡ item.Trim ∷ (item.Trim ∷ (item.Trim ∷ []))
+step_behind = refl
+
+one_item : write item.Trim [] ≡ record { steps = (item.Trim ∷ []) ∷ []; refused = None }
+one_item = refl
+
+item_behind : after (item.Trim ∷ []) (write (item.Limit 5) (item.Trim ∷ [])) ≡ item.Trim ∷ (item.Limit 5 ∷ [])
+item_behind = refl
+
+no_place : (refuse which.Reserved 128 small).refused ≡ Some (record { which = which.Reserved; room = 128 })
+no_place = refl
+
+no_place_writes_nothing : (refuse which.Memory 256 small).steps ≡ []
+no_place_writes_nothing = refl
+
+-- one behind the other, unless the first was refused
+both_follow : followed_by two_steps None stopped
+    ≡ record { steps = two_steps.steps ++ stopped.steps; refused = Some (record { which = which.Memory; room = 128 }) }
+both_follow = refl
+
+first_refused : followed_by stopped (Some (record { which = which.Memory; room = 128 })) two_steps ≡ stopped
+first_refused = refl
+
+in_turn : (write item.Trim >> write (item.Limit 5)) [] ≡ record { steps = (item.Trim ∷ []) ∷ ((item.Limit 5 ∷ []) ∷ []); refused = None }
+in_turn = refl
+
+not_behind_refusal : (refuse which.Memory 128 >> write (item.Limit 5)) [] ≡ refuse which.Memory 128 []
+not_behind_refusal = refl
+
+refused_second : (write item.Trim >> refuse which.Memory 128) [] ≡ stopped
+refused_second = refl
+
+is_due : if_due (λ items. nat_lt 1 (length items)) (write item.Trim) small ≡ write item.Trim small
+is_due = refl
+
+is_not_due : if_due (λ items. nat_lt 5 (length items)) (write item.Trim) small ≡ nothing small
+is_not_due = refl
+
+refusal_forgotten : whatever_refused (write item.Trim >> refuse which.Memory 128) [] ≡ write item.Trim []
+refusal_forgotten = refl
+
+nothing_to_forget : whatever_refused (write item.Trim) small ≡ write item.Trim small
+nothing_to_forget = refl
+
+-- whole frames
+a_byte : frames_of 1 ≡ 4096
+a_byte = refl
+
+two_frames : frames_of 6144 ≡ 8192
+two_frames = refl
+
+exact_frame : frames_of 4096 ≡ 4096
+exact_frame = refl
+
+new_table : frames_at 65536 (48 * 128) ≡ record { base = 65536; size = 8192 }
+new_table = refl
+
+old_table : frames_at 65536 (24 * 128) ≡ record { base = 65536; size = 4096 }
+old_table = refl
+
+-- what a table looks for
+first_query : table_query 128 0 262144 ≡ record { lo = 0; hi = 262144; size = 8192; align = 4096; node = None }
+first_query = refl
+
+second_query : table_query 256 4096 8192 ≡ record { lo = 4096; hi = 8192; size = 12288; align = 4096; node = None }
+second_query = refl
+
+-- the best place in a window of the small memory
+window_place : (lo hi a : ℕ) → a + 8192 ≡ hi → hi ≤ 262144 → a % 4096 ≡ 0 → 81920 ≤ a → lo ≤ a → best small (table_query 128 lo hi) ≡ Some a
+unfolding best
+window_place lo hi a ends within aligned above low =
+    best_in-last (table_of which.Memory small) (table_of which.Reserved small) (table_query 128 lo hi) a (record {
+      below = omega arith;
+      passes = fits_in-whole (table_of which.Memory small) (table_of which.Reserved small) (table_query 128 lo hi) a (record {
+        aligned = aligned;
+        low = low;
+        first = omega arith;
+        high = omega arith;
+        held = grind (arith, nat_tests);
+        allowed = refl;
+        label = λ x from under. grind (arith, nat_tests);
+        free = λ x from under. grind (arith, nat_tests);
+      });
+      last = λ b lt h.
+          let known = fits_in-parts (table_of which.Memory small) (table_of which.Reserved small) (table_query 128 lo hi) b h in
+          let high = known.high in
+          omega arith;
+    })
+
+no_window : (lo hi : ℕ) → hi ≤ lo → best small (table_query 128 lo hi) ≡ None
+unfolding best
+no_window lo hi none =
+    best_in-fails (table_of which.Memory small) (table_of which.Reserved small) (table_query 128 lo hi) (λ b lt.
+    elim (cases_Bool (fits_in (table_of which.Memory small) (table_of which.Reserved small) (table_query 128 lo hi) b))
+    as (λ _. fits_in (table_of which.Memory small) (table_of which.Reserved small) (table_query 128 lo hi) b ≡ false) [
+      | inl passes ↦
+          let known = fits_in-parts (table_of which.Memory small) (table_of which.Reserved small) (table_query 128 lo hi) b passes in
+          let low = known.low in
+          let high = known.high in
+          absurd (omega arith)
+      | inr fails ↦ fails
+    ])
+
+-- above the frame at 128 KiB there is room; above the last 64 KiB there is none, but there is below them
+above_place : place_beside (frame 32) 128 small ≡ Some 253952
+above_place = ap (λ (o : Option ℕ). option_or o (best small (table_query 128 0 131072)))
+    (window_place 135168 262144 253952 refl (omega arith) refl (omega arith) (omega arith))
+
+below_place : place_beside (record { base = 196608; size = 65536 }) 128 small ≡ Some 188416
+below_place = ap (λ (o : Option ℕ). option_or o (best small (table_query 128 0 196608))) (no_window 262144 262144 (omega arith))
+    ∙ window_place 0 196608 188416 refl (omega arith) refl (omega arith) (omega arith)
+
+-- a table that never moved leaves nothing behind
+nothing_left : left 128 None ≡ []
+nothing_left = refl
+
+left_behind : left 256 (Some 65536) ≡ item.Free (record { base = 65536; size = 8192 }) ∷ []
+left_behind = refl
+
+first_move : reserved_items 128 None 253952
+    ≡ item.Grown which.Reserved 253952 256 ∷ (item.Claim (record { base = 253952; size = 8192 }) (owner.Table which.Reserved) ∷ [])
+unfolding reserved_items
+first_move = refl
+
+second_move : reserved_items 256 (Some 253952) 131072
+    ≡ item.Grown which.Reserved 131072 512 ∷ (item.Claim (record { base = 131072; size = 12288 }) (owner.Table which.Reserved)
+    ∷ (item.Free (record { base = 253952; size = 8192 }) ∷ []))
+unfolding reserved_items
+second_move = refl
+
+no_place_for_table : reserved_growth_at 128 None None small ≡ refuse which.Reserved 128 small
+unfolding reserved_growth_at
+no_place_for_table = refl
+
+place_for_table : (reserved_growth_at 128 None (Some 253952) small).steps ≡ reserved_items 128 None 253952 ∷ []
+unfolding reserved_growth_at
+place_for_table = refl
+
+growth_above : reserved_growth (frame 32) small ≡ step (reserved_items 128 None 253952) small
+unfolding reserved_growth reserved_growth_at
+growth_above = ap (λ (o : Option ℕ). reserved_growth_at 128 None o small) above_place
+
+growth_below : reserved_growth (record { base = 196608; size = 65536 }) small ≡ step (reserved_items 128 None 188416) small
+unfolding reserved_growth reserved_growth_at
+growth_below = ap (λ (o : Option ℕ). reserved_growth_at 128 None o small) below_place
+
+-- the records of the small memory: one in each table
+abbrev memory_records : List (RunOf Label)
+memory_records = record { base = 0; size = 262144; value = plain_label } ∷ []
+
+abbrev reserved_records : List (RunOf Label)
+reserved_records = record { base = 65536; size = 16384; value = plain_label } ∷ []
+
+memory_each : (x : ℕ) → value_at memory_records x ≡ table_of which.Memory small x
+memory_each x = grind (arith, nat_tests)
+
+reserved_each : (x : ℕ) → value_at reserved_records x ≡ table_of which.Reserved small x
+reserved_each x = grind (arith, nat_tests)
+
+memory_ends : NothingFrom (2 ^ 64) (table_of which.Memory small)
+memory_ends x le = grind (arith, nat_tests)
+
+reserved_ends : NothingFrom (2 ^ 64) (table_of which.Reserved small)
+reserved_ends x le = grind (arith, nat_tests)
+
+memory_count : count which.Memory small ≡ 1
+unfolding records_of
+memory_count = ap length (sym (records_for-is (table_of which.Memory small) memory_records memory_ends
+    (record { runs = (omega arith, tt, tt); each = memory_each })))
+
+reserved_count : count which.Reserved small ≡ 1
+unfolding records_of
+reserved_count = ap length (sym (records_for-is (table_of which.Reserved small) reserved_records reserved_ends
+    (record { runs = (omega arith, tt, tt); each = reserved_each })))
+
+none_at_first : count which.Memory [] ≡ 0
+unfolding records_of
+none_at_first = no_records (table_of which.Memory []) (λ x. refl)
+
+-- an edit adds two pieces at most, so nothing is full; 128 further records would be too many
+few_new : (w : Which) (r : Extent) → end_of r ≤ 2 ^ 64 → NothingFrom (2 ^ 64) (table_of w small) → count w small ≡ 1 → new_in w r small ≤ 2
+unfolding records_of
+few_new w r small_enough ends one = let few = few-pieces r (table_of w small) small_enough ends in omega arith
+
+claim_has_room : is_full which.Reserved (new_in which.Reserved (frame 32)) small ≡ false
+claim_has_room =
+    let few = few_new which.Reserved (frame 32) (omega arith) reserved_ends reserved_count in
+    let enough : count which.Reserved small + new_in which.Reserved (frame 32) small ≤ 128 = omega (arith, reserved_count, few) in
+    grind (arith, nat_tests, enough)
+
+add_has_room : is_full which.Memory (new_in which.Memory (frame 64)) small ≡ false
+add_has_room =
+    let few = few_new which.Memory (frame 64) (omega arith) memory_ends memory_count in
+    let enough : count which.Memory small + new_in which.Memory (frame 64) small ≤ 128 = omega (arith, memory_count, few) in
+    grind (arith, nat_tests, enough)
+
+has_room_for_two : is_full which.Reserved two small ≡ false
+has_room_for_two = let enough : count which.Reserved small + 2 ≤ 128 = omega (arith, reserved_count) in grind (arith, nat_tests, enough)
+
+memory_has_room_for_two : is_full which.Memory two small ≡ false
+memory_has_room_for_two = let enough : count which.Memory small + 2 ≤ 128 = omega (arith, memory_count) in grind (arith, nat_tests, enough)
+
+too_many : is_full which.Memory (λ items. 128) small ≡ true
+too_many = let full : 128 < count which.Memory small + 128 = omega (arith, memory_count) in grind (arith, nat_tests, full)
+
+always_two : two [] ≡ 2
+always_two = refl
+
+always_two_more : two small ≡ 2
+always_two_more = refl
+
+-- with room an item is written alone
+first_claim : claimed image owner.Kernel [] ≡ write (item.Claim image owner.Kernel) []
+first_claim = first-claimed image owner.Kernel (omega arith)
+
+a_claim : claimed (frame 32) owner.Soft small ≡ write (item.Claim (frame 32) owner.Soft) small
+a_claim = claimed-idle small (frame 32) owner.Soft claim_has_room
+
+a_free : freed (frame 16) small ≡ write (item.Free (frame 16)) small
+a_free = freed-idle small (frame 16) has_room_for_two
+
+free_of_nothing : freed (frame 1) [] ≡ write (item.Free (frame 1)) []
+free_of_nothing = freed-idle [] (frame 1) first-full_by_two
+
+an_added_frame : added (frame 64) small ≡ write (item.Mem (frame 64)) small
+an_added_frame = added-idle small (frame 64) add_has_room
+
+a_node : noded (frame 1) 3 small ≡ write (item.Node (frame 1) 3) small
+a_node = noded-idle small (frame 1) 3 memory_has_room_for_two
+
+-- a table that is full grows until it isn't, twice at most
+abbrev moves : Change
+moves = write (item.Grown which.Memory 4096 256)
+
+none_behind_a_move : count which.Memory (item.Grown which.Memory 4096 256 ∷ []) ≡ 0
+unfolding records_of
+none_behind_a_move = no_records (table_of which.Memory (item.Grown which.Memory 4096 256 ∷ [])) (λ x. refl)
+
+first_full : (n : ℕ) → 128 < n → is_full which.Memory (λ items. n) [] ≡ true
+first_full n many = let full : 128 < count which.Memory [] + n = omega arith in grind (arith, nat_tests, full)
+
+then_room : (n : ℕ) → n ≤ 256 → is_full which.Memory (λ items. n) (item.Grown which.Memory 4096 256 ∷ []) ≡ false
+then_room n few =
+    let enough : count which.Memory (item.Grown which.Memory 4096 256 ∷ []) + n ≤ 256 = omega (arith, none_behind_a_move) in
+    grind (arith, nat_tests, enough)
+
+then_full : (n : ℕ) → 256 < n → is_full which.Memory (λ items. n) (item.Grown which.Memory 4096 256 ∷ []) ≡ true
+then_full n many =
+    let full : 256 < count which.Memory (item.Grown which.Memory 4096 256 ∷ []) + n = omega arith in grind (arith, nat_tests, full)
+
+due_moves : (more : List Item → ℕ) (items : List Item) → is_full which.Memory more items ≡ true
+    → if_due (is_full which.Memory more) moves items ≡ moves items
+due_moves more items full = rw full refl
+
+idle_moves : (more : List Item → ℕ) (items : List Item) → is_full which.Memory more items ≡ false
+    → if_due (is_full which.Memory more) moves items ≡ nothing items
+idle_moves more items room = rw room refl
+
+once : grown which.Memory (λ items. 200) moves [] ≡ moves []
+once =
+    let due = is_full which.Memory (λ items. 200) in
+    ap (λ (o : Outcome). followed_by o o.refused (if_due due moves (after [] o)))
+    (due_moves (λ items. 200) [] (first_full 200 (omega arith)))
+    ∙ ap (λ (o : Outcome). let both : Outcome = record { steps = (moves []).steps ++ o.steps; refused = o.refused } in both)
+    (idle_moves (λ items. 200) (item.Grown which.Memory 4096 256 ∷ []) (then_room 200 (omega arith)))
+
+twice : grown which.Memory (λ items. 300) moves [] ≡ (moves >> moves) []
+twice =
+    let due = is_full which.Memory (λ items. 300) in
+    ap (λ (o : Outcome). followed_by o o.refused (if_due due moves (after [] o)))
+    (due_moves (λ items. 300) [] (first_full 300 (omega arith)))
+    ∙ ap (λ (o : Outcome). let both : Outcome = record { steps = (moves []).steps ++ o.steps; refused = o.refused } in both)
+    (due_moves (λ items. 300) (item.Grown which.Memory 4096 256 ∷ []) (then_full 300 (omega arith)))
+
+-- the old place of the memory table
+no_old_frames : old_frames 128 None ≡ None
+no_old_frames = refl
+
+two_old_frames : old_frames 256 (Some 65536) ≡ Some (record { base = 65536; size = 8192 })
+two_old_frames = refl
+
+nothing_to_leave : leave None small ≡ nothing small
+nothing_to_leave = refl
+
+a_frame_to_leave : leave (Some (frame 16)) small ≡ write (item.Free (frame 16)) small
+a_frame_to_leave = ap (λ (o : Outcome). let whole : Outcome = record { steps = o.steps; refused = None } in whole) a_free
+
+-- the growth of the memory table: the claim of its new place, and the move
+place_claimed : claimed (frames_at 253952 6144) (owner.Table which.Memory) small
+    ≡ write (item.Claim (record { base = 253952; size = 8192 }) (owner.Table which.Memory)) small
+place_claimed = claimed-idle small (frames_at 253952 6144) (owner.Table which.Memory)
+    (let few = few_new which.Reserved (frames_at 253952 6144) (omega arith) reserved_ends reserved_count in
+    let enough : count which.Reserved small + new_in which.Reserved (frames_at 253952 6144) small ≤ 128 =
+    omega (arith, reserved_count, few) in
+    grind (arith, nat_tests, enough))
+
+abbrev first_growth : Outcome
+first_growth = record {
+  steps = (item.Claim (record { base = 253952; size = 8192 }) (owner.Table which.Memory) ∷ [])
+      ∷ ((item.Grown which.Memory 253952 256 ∷ []) ∷ []);
+  refused = None;
+}
+
+place_taken : memory_growth_at 128 None (Some 253952) small ≡ first_growth
+unfolding memory_growth_at
+place_taken = ap (λ (o : Outcome). followed_by o o.refused ((write (item.Grown which.Memory 253952 256) >> leave None) (after small o)))
+    place_claimed
+
+no_place_taken : memory_growth_at 128 None None small ≡ refuse which.Memory 128 small
+unfolding memory_growth_at
+no_place_taken = refl
+
+memory_grows : memory_growth small ≡ first_growth
+unfolding memory_growth
+memory_grows = ap (λ (o : Option ℕ). memory_growth_at 128 None o small)
+    (window_place 0 262144 253952 refl (omega arith) refl (omega arith) (omega arith)) ∙ place_taken
+
+without_memory : memory_growth [] ≡ refuse which.Memory 128 []
+unfolding memory_growth memory_growth_at best
+without_memory = ap (λ (o : Option ℕ). memory_growth_at 128 None o [])
+    (best_in-fails (table_of which.Memory []) (table_of which.Reserved []) (table_query 128 0 0) (λ b lt.
+    elim (cases_Bool (fits_in (table_of which.Memory []) (table_of which.Reserved []) (table_query 128 0 0) b))
+    as (λ _. fits_in (table_of which.Memory []) (table_of which.Reserved []) (table_query 128 0 0) b ≡ false) [
+      | inl passes ↦
+          let known = fits_in-parts (table_of which.Memory []) (table_of which.Reserved []) (table_query 128 0 0) b passes in
+          let high = known.high in
+          absurd (omega arith)
+      | inr fails ↦ fails
+    ]))
+
+-- the searches of an allocation: one frame, from 128 KiB on if it can be, of node 1 if it can be
+abbrev a_frame : Request
+a_frame = record { size = 4096; align = 4096; min = 0; max = None; node = None; exact = false }
+
+abbrev from_the_middle : Request
+from_the_middle = record { size = 4096; align = 8192; min = 131072; max = Some 196608; node = Some 1; exact = false }
+
+abbrev of_node_one : Request
+of_node_one = record from_the_middle { exact = true }
+
+the_limit_ends_it : attempt a_frame 262144 0 None ≡ record { lo = 0; hi = 262144; size = 4096; align = 4096; node = None }
+the_limit_ends_it = refl
+
+the_maximum_ends_it : attempt from_the_middle 262144 131072 (Some 1)
+    ≡ record { lo = 131072; hi = 196608; size = 4096; align = 8192; node = Some 1 }
+the_maximum_ends_it = refl
+
+any_node_behind_it : anywhere from_the_middle 262144 0 (Some 1) ≡ attempt from_the_middle 262144 0 None ∷ []
+any_node_behind_it = refl
+
+no_other_node : anywhere of_node_one 262144 0 (Some 1) ≡ []
+no_other_node = refl
+
+no_node_to_leave : anywhere a_frame 262144 0 None ≡ []
+no_node_to_leave = refl
+
+a_round_of_two : round from_the_middle 262144 131072
+    ≡ attempt from_the_middle 262144 131072 (Some 1) ∷ (attempt from_the_middle 262144 131072 None ∷ [])
+a_round_of_two = refl
+
+a_round_of_one : round of_node_one 262144 131072 ≡ attempt of_node_one 262144 131072 (Some 1) ∷ []
+a_round_of_one = refl
+
+four_attempts : attempts from_the_middle 262144 ≡ attempt from_the_middle 262144 131072 (Some 1)
+    ∷ (attempt from_the_middle 262144 131072 None ∷ (attempt from_the_middle 262144 0 (Some 1)
+    ∷ (attempt from_the_middle 262144 0 None ∷ [])))
+four_attempts = refl
+
+one_attempt : attempts a_frame 262144 ≡ attempt a_frame 262144 0 None ∷ []
+one_attempt = refl
+
+no_search : first_best small [] ≡ None
+no_search = refl
+
+second_search : first_best small (table_query 128 5 5 ∷ (table_query 128 0 262144 ∷ [])) ≡ Some 253952
+second_search = ap (λ (o : Option ℕ). option_or o (first_best small (table_query 128 0 262144 ∷ []))) (no_window 5 5 (omega arith))
+    ∙ ap (λ (o : Option ℕ). option_or o None) (window_place 0 262144 253952 refl (omega arith) refl (omega arith) (omega arith))
+
+-- eight KiB go to the top of memory; half a MiB doesn't fit
+abbrev two_frames_please : Request
+two_frames_please = record a_frame { size = 8192 }
+
+place_at_the_top : place_for two_frames_please small ≡ Some 253952
+place_at_the_top =
+    ap (λ (o : Option ℕ). option_or o None) (window_place 0 262144 253952 refl (omega arith) refl (omega arith) (omega arith))
+
+no_place_so_low : place_for (record two_frames_please { max = Some 0 }) small ≡ None
+no_place_so_low = ap (λ (o : Option ℕ). option_or o None) (no_window 0 0 (omega arith))
+
+-- how calls end: all of it, one step of two, nothing at all
+all_of_two : IsCut [] (joined two_steps.steps) two_steps
+all_of_two = record { count = 2; within = omega arith; stands = refl }
+
+one_of_two : IsCut [] (item.Trim ∷ (item.Limit 5 ∷ [])) two_steps
+one_of_two = record { count = 1; within = omega arith; stands = refl }
+
+ends_well : EndsBy {T = ℕ} (Ok 3) [] (item.Trim ∷ (item.Limit 5 ∷ (item.Limit 7 ∷ []))) two_steps
+ends_well = (refl, refl)
+
+ends_refused : EndsBy {T = ℕ} (Err (refusal.NoGapForTable which.Memory 128)) [] (item.Trim ∷ []) stopped
+ends_refused = (refl, refl)
+
+never_without_gap : EndsBy {T = ℕ} (Err refusal.NoGap) [] [] two_steps → ⊥
+never_without_gap h = h
+
+a_claim_ends : Ends {T = ℕ} (Ok 3) small (small ++ item.Trim ∷ []) (write item.Trim)
+a_claim_ends = (refl, refl)
+
+memory_ran_out : Ends {T = ℕ} (Err refusal.Memory) small small (write item.Trim)
+memory_ran_out = record { count = 0; within = omega arith; stands = refl }
+
+no_gap : Allocates (Err refusal.NoGap) small small None 4096 owner.Soft
+no_gap = (refl, refl)
+
+a_gap : Allocates (Ok 131072) small (small ++ item.Claim (frame 32) owner.Soft ∷ []) (Some 131072) 4096 owner.Soft
+a_gap = (
+  refl,
+  subst (λ (o : Outcome). EndsBy {T = ℕ} (Ok 131072) small (small ++ item.Claim (frame 32) owner.Soft ∷ []) o) (sym a_claim)
+      (refl, refl),
+)

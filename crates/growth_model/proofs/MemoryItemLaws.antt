@@ -1,0 +1,67 @@
+-- The items of memory decide memory and the limit, wherever the others stand.
+use Rattle.std.proofs.Common.{◌≡◌, ℕ, List, [], ◌∷◌, ◌++◌, take, zero, suc, refl, sym, ap, ◌∙◌}
+use Rattle.std.specs.List.{fold}
+use Rattle.memblock_model.specs.declared.item.Item.{Item}
+use Rattle.memblock_model.specs.declared.item.Item.TheVariants as item
+use Rattle.memblock_model.specs.Labels.{Labels}
+use Rattle.memblock_model.specs.Items.{memory_after, no_memory, memory_of, limit_after, limit_of}
+use Rattle.growth_model.specs.Outcome.{joined}
+use Rattle.growth_model.specs.Carried.{memory_items, AreQuiet}
+
+pub fold-memory : (f : Labels) (is : List Item) → fold memory_after f is ≡ fold memory_after f (memory_items is)
+fold-memory f [] = refl
+fold-memory f (item.Mem range ∷ is) = fold-memory (memory_after f (item.Mem range)) is
+fold-memory f (item.Trim ∷ is) = fold-memory (memory_after f item.Trim) is
+fold-memory f (item.Node range node ∷ is) = fold-memory (memory_after f (item.Node range node)) is
+fold-memory f (item.Limit at ∷ is) = fold-memory f is
+fold-memory f (item.Claim range who ∷ is) = fold-memory f is
+fold-memory f (item.Free range ∷ is) = fold-memory f is
+fold-memory f (item.Grown w place room ∷ is) = fold-memory f is
+
+pub fold-limit : (at : ℕ) (is : List Item) → fold limit_after at is ≡ fold limit_after at (memory_items is)
+fold-limit at [] = refl
+fold-limit at (item.Mem range ∷ is) = fold-limit at is
+fold-limit at (item.Trim ∷ is) = fold-limit at is
+fold-limit at (item.Node range node ∷ is) = fold-limit at is
+fold-limit at (item.Limit new ∷ is) = fold-limit new is
+fold-limit at (item.Claim range who ∷ is) = fold-limit at is
+fold-limit at (item.Free range ∷ is) = fold-limit at is
+fold-limit at (item.Grown w place room ∷ is) = fold-limit at is
+
+pub memory_of-decided : (is : List Item) → memory_of is ≡ memory_of (memory_items is)
+memory_of-decided is = fold-memory no_memory is
+
+pub limit_of-decided : (is : List Item) → limit_of is ≡ limit_of (memory_items is)
+limit_of-decided is = fold-limit 0 is
+
+-- lists with the same items of memory say the same of it
+pub memory_of-same : (is js : List Item) → memory_items is ≡ memory_items js → memory_of is ≡ memory_of js
+memory_of-same is js same = memory_of-decided is ∙ ap memory_of same ∙ sym (memory_of-decided js)
+
+pub limit_of-same : (is js : List Item) → memory_items is ≡ memory_items js → limit_of is ≡ limit_of js
+limit_of-same is js same = limit_of-decided is ∙ ap limit_of same ∙ sym (limit_of-decided js)
+
+pub memory_items-append : (is js : List Item) → memory_items (is ++ js) ≡ memory_items is ++ memory_items js
+memory_items-append [] js = refl
+memory_items-append (item.Mem range ∷ is) js = ap (λ (t : List Item). item.Mem range ∷ t) (memory_items-append is js)
+memory_items-append (item.Trim ∷ is) js = ap (λ (t : List Item). item.Trim ∷ t) (memory_items-append is js)
+memory_items-append (item.Node range node ∷ is) js = ap (λ (t : List Item). item.Node range node ∷ t) (memory_items-append is js)
+memory_items-append (item.Limit at ∷ is) js = ap (λ (t : List Item). item.Limit at ∷ t) (memory_items-append is js)
+memory_items-append (item.Claim range who ∷ is) js = memory_items-append is js
+memory_items-append (item.Free range ∷ is) js = memory_items-append is js
+memory_items-append (item.Grown w place room ∷ is) js = memory_items-append is js
+
+-- quiet steps have no item of memory, and neither have some of them
+pub quiet-joined : (ss : List (List Item)) → AreQuiet ss → memory_items (joined ss) ≡ []
+quiet-joined [] quiet = refl
+quiet-joined (s ∷ ss) quiet =
+    memory_items-append s (joined ss) ∙ ap (λ (t : List Item). t ++ memory_items (joined ss)) quiet.0 ∙ quiet-joined ss quiet.1
+
+pub quiet-take : (n : ℕ) (ss : List (List Item)) → AreQuiet ss → AreQuiet (take n ss)
+quiet-take zero ss quiet = tt
+quiet-take (suc n) [] quiet = tt
+quiet-take (suc n) (s ∷ ss) quiet = (quiet.0, quiet-take n ss quiet.1)
+
+pub quiet-append : (ss ts : List (List Item)) → AreQuiet ss → AreQuiet ts → AreQuiet (ss ++ ts)
+quiet-append [] ts quiet then = then
+quiet-append (s ∷ ss) ts quiet then = (quiet.0, quiet-append ss ts quiet.1 then)

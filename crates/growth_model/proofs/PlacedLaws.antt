@@ -1,0 +1,178 @@
+-- The tables keep good places throughout growths of the reserved table, claims and frees.
+use Rattle.std.proofs.Common.{◌≡◌, ◌⊎◌, ℕ, ◌+◌, ◌*◌, ◌%◌, ◌<◌, ◌≤◌, Bool, true, false, if◌then◌else◌, Option, Some, None, List, [], ◌∷◌, ◌++◌, refl, sym, ◌∙◌, ap, subst, inl, inr, arith}
+use Rattle.std.specs.Prelude.{unwrap_or}
+use Rattle.std.specs.List.{fold}
+use Rattle.std.proofs.lemmas.List.Sums.{fold-append}
+use Rattle.std.proofs.lemmas.Bool.{cases_Bool}
+use Rattle.bm_base.specs.Extent.{Extent, end_of, covers}
+use Rattle.address_runs.specs.Edits.{uncovered, replaced}
+use Rattle.memblock_model.specs.declared.which.Which.{Which}
+use Rattle.memblock_model.specs.declared.which.Which.TheVariants as which
+use Rattle.memblock_model.specs.declared.owner.Owner.{Owner}
+use Rattle.memblock_model.specs.declared.owner.Owner.TheVariants as owner
+use Rattle.memblock_model.specs.declared.item.Item.{Item}
+use Rattle.memblock_model.specs.declared.item.Item.TheVariants as item
+use Rattle.memblock_model.specs.Items.{Owners, owners_after, no_owners, owner_of, limit_after, limit_of}
+use Rattle.memblock_model.specs.Tables.{room_after, room_of, moved_after, moved_to, built_in, live}
+use Rattle.growth_model.specs.Outcome.{Outcome, Change, joined, after, step, write, ◌>>◌}
+use Rattle.growth_model.specs.Growth.{frames_of, frames_at, place_beside, left, reserved_items, reserved_growth_at, reserved_growth, new_in, two, grown, claimed, freed}
+use Rattle.growth_model.specs.Sound.{keeps, Spot, Clear, Unclaimed, Spots, Placed, IsAway}
+use Rattle.growth_model.proofs.CutLaws.{EachCut, cuts-first, cuts-last, cuts-then, cuts-grown, cuts-map, after-then, then-unrefused}
+use Rattle.growth_model.proofs.SpotLaws.{frames, covers-from, frames-more, Spots-claim, Spots-clear, Spots-free, Spots-move, Spots-leave}
+use Rattle.growth_model.proofs.FoundLaws.{IsNew, beside-new}
+
+-- where a table lies, by its newest place and its room
+abbrev pub live_by : Which → Extent → Option ℕ → ℕ → Extent
+live_by w kernel place room = record { base = unwrap_or place (built_in w kernel); size = 24 * room }
+
+pub live-is : (w : Which) (kernel : Extent) (items : List Item) (place : Option ℕ) (room : ℕ) → moved_to w items ≡ place
+    → room_of w items ≡ room → live w kernel items ≡ live_by w kernel place room
+live-is w kernel items place room at wide = ap (λ (o : Option ℕ). live_by w kernel o (room_of w items)) at
+    ∙ ap (λ (n : ℕ). live_by w kernel place n) wide
+
+pub live-same : (w : Which) (kernel : Extent) (items t : List Item) → moved_to w t ≡ moved_to w items → room_of w t ≡ room_of w items
+    → live w kernel t ≡ live w kernel items
+live-same w kernel items t at wide = live-is w kernel t (moved_to w items) (room_of w items) at wide
+
+pub Spots-same : (own now : Owners) (m n r s : Extent) → now ≡ own → n ≡ m → s ≡ r → Spots own m r → Spots now n s
+Spots-same own now m n r s owners memory reserved known =
+    subst (λ (e : Extent). Spots now n e) (sym reserved)
+    (subst (λ (e : Extent). Spots now e r) (sym memory)
+    (subst (λ (f : Owners). Spots f m r) (sym owners) known))
+
+-- further items, and what becomes of the places
+pub placed-more : (kernel : Extent) (items more : List Item) (own : Owners) (m r : Extent) → Placed kernel items
+    → owner_of (items ++ more) ≡ own → live which.Memory kernel (items ++ more) ≡ m → live which.Reserved kernel (items ++ more) ≡ r
+    → Spots own m r → Placed kernel (items ++ more)
+placed-more kernel items more own m r placed owners memory reserved spots = record {
+  rest = placed.rest ++ more;
+  first = ap (λ (t : List Item). t ++ more) placed.first;
+  spots = Spots-same own (owner_of (items ++ more)) m (live which.Memory kernel (items ++ more)) r
+      (live which.Reserved kernel (items ++ more)) owners memory reserved spots;
+}
+
+-- what further items make of owners, places and rooms
+pub owners-of : (items more : List Item) → owner_of (items ++ more) ≡ fold owners_after (owner_of items) more
+owners-of items more = fold-append owners_after no_owners items more
+
+pub moves-of : (w : Which) (items more : List Item) → moved_to w (items ++ more) ≡ fold (moved_after w) (moved_to w items) more
+moves-of w items more = fold-append (moved_after w) None items more
+
+pub rooms-of : (w : Which) (items more : List Item) → room_of w (items ++ more) ≡ fold (room_after w) (room_of w items) more
+rooms-of w items more = fold-append (room_after w) 128 items more
+
+pub limits-of : (items more : List Item) → limit_of (items ++ more) ≡ fold limit_after (limit_of items) more
+limits-of items more = fold-append limit_after 0 items more
+
+-- an item that moves no table
+stays : (w : Which) (kernel : Extent) (items : List Item) (i : Item) → moved_after w (moved_to w items) i ≡ moved_to w items
+    → room_after w (room_of w items) i ≡ room_of w items → live w kernel (items ++ i ∷ []) ≡ live w kernel items
+stays w kernel items i at wide = live-same w kernel items (items ++ i ∷ []) (moves-of w items (i ∷ []) ∙ at)
+    (rooms-of w items (i ∷ []) ∙ wide)
+
+-- such an item that makes these owners of those before, among which the places are still good
+still-placed : (kernel : Extent) (items : List Item) (i : Item)
+    → ((w : Which) → moved_after w (moved_to w items) i ≡ moved_to w items)
+    → ((w : Which) → room_after w (room_of w items) i ≡ room_of w items) → Placed kernel items
+    → Spots (owners_after (owner_of items) i) (live which.Memory kernel items) (live which.Reserved kernel items)
+    → Placed kernel (items ++ i ∷ [])
+still-placed kernel items i at wide placed spots =
+    placed-more kernel items (i ∷ []) (owners_after (owner_of items) i) (live which.Memory kernel items)
+    (live which.Reserved kernel items) placed (owners-of items (i ∷ []))
+    (stays which.Memory kernel items i (at which.Memory) (wide which.Memory))
+    (stays which.Reserved kernel items i (at which.Reserved) (wide which.Reserved)) spots
+
+-- a claim may be made by an owner in whose bytes a table may lie, or of bytes that meet neither table
+abbrev pub MayTake : Extent → List Item → Extent → Owner → Type 0
+MayTake kernel items range who = (keeps (Some who) ≡ true) ⊎ IsAway kernel range items
+
+pub claim-placed : (kernel : Extent) (items : List Item) (r : Extent) (o : Owner) → MayTake kernel items r o → Placed kernel items
+    → Placed kernel (items ++ item.Claim r o ∷ [])
+claim-placed kernel items r o may placed =
+    still-placed kernel items (item.Claim r o) (λ w. refl) (λ w. refl) placed
+    (elim may as (λ _. Spots (replaced r o (owner_of items)) (live which.Memory kernel items) (live which.Reserved kernel items)) [
+      | inl kept ↦ Spots-claim (owner_of items) (live which.Memory kernel items) (live which.Reserved kernel items) r o kept placed.spots
+      | inr away ↦ Spots-clear (owner_of items) (live which.Memory kernel items) (live which.Reserved kernel items) r o away.0 away.1
+          placed.spots
+    ])
+
+pub free-placed : (kernel : Extent) (items : List Item) (r : Extent) → IsAway kernel r items → Placed kernel items
+    → Placed kernel (items ++ item.Free r ∷ [])
+free-placed kernel items r away placed =
+    still-placed kernel items (item.Free r) (λ w. refl) (λ w. refl) placed
+    (Spots-free (owner_of items) (live which.Memory kernel items) (live which.Reserved kernel items) r away.0 away.1 placed.spots)
+
+pub mem-placed : (kernel : Extent) (items : List Item) (r : Extent) → Placed kernel items → Placed kernel (items ++ item.Mem r ∷ [])
+mem-placed kernel items r placed = still-placed kernel items (item.Mem r) (λ w. refl) (λ w. refl) placed placed.spots
+
+pub node-placed : (kernel : Extent) (items : List Item) (r : Extent) (node : ℕ) → Placed kernel items
+    → Placed kernel (items ++ item.Node r node ∷ [])
+node-placed kernel items r node placed = still-placed kernel items (item.Node r node) (λ w. refl) (λ w. refl) placed placed.spots
+
+pub trim-placed : (kernel : Extent) (items : List Item) → Placed kernel items → Placed kernel (items ++ item.Trim ∷ [])
+trim-placed kernel items placed = still-placed kernel items item.Trim (λ w. refl) (λ w. refl) placed placed.spots
+
+pub limit-placed : (kernel : Extent) (items : List Item) (at : ℕ) → Placed kernel items → Placed kernel (items ++ item.Limit at ∷ [])
+limit-placed kernel items at placed = still-placed kernel items (item.Limit at) (λ w. refl) (λ w. refl) placed placed.spots
+
+-- from the items on the reserved table grew beside the range: the memory table and the limit are as they were, and what the range was
+-- clear of it still is
+pub record Aside (kernel a : Extent) (items t : List Item) : Type 0 where
+  pub place : moved_to which.Memory t ≡ moved_to which.Memory items
+  pub wide : room_of which.Memory t ≡ room_of which.Memory items
+  pub bound : limit_of t ≡ limit_of items
+  pub free : Unclaimed (owner_of items) a → Unclaimed (owner_of t) a
+  pub clear : Clear a (live which.Reserved kernel items) → Clear a (live which.Reserved kernel t)
+
+pub aside-same : (kernel a : Extent) (items : List Item) → Aside kernel a items items
+aside-same kernel a items = record { place = refl; wide = refl; bound = refl; free = λ h. h; clear = λ h. h }
+
+pub aside-on : (kernel a : Extent) (items t u : List Item) → Aside kernel a items t → Aside kernel a t u → Aside kernel a items u
+aside-on kernel a items t u h k = record {
+  place = k.place ∙ h.place;
+  wide = k.wide ∙ h.wide;
+  bound = k.bound ∙ h.bound;
+  free = λ f. k.free (h.free f);
+  clear = λ f. k.clear (h.clear f);
+}
+
+pub record Going (kernel a : Extent) (items t : List Item) : Type 0 where
+  pub placed : Placed kernel t
+  pub aside : Aside kernel a items t
+
+-- the range is away still, and may be taken still
+pub away-still : (kernel a : Extent) (items t : List Item) → Aside kernel a items t → IsAway kernel a items → IsAway kernel a t
+away-still kernel a items t aside away =
+    (subst (λ (e : Extent). Clear a e) (sym (live-same which.Memory kernel items t aside.place aside.wide)) away.0, aside.clear away.1)
+
+pub take-still : (kernel a : Extent) (o : Owner) (items t : List Item) → Aside kernel a items t → MayTake kernel items a o
+    → MayTake kernel t a o
+take-still kernel a o items t aside (inl kept) = inl kept
+take-still kernel a o items t aside (inr away) = inr (away-still kernel a items t aside away)
+
+-- the new place of the reserved table, with twice the room: its frames are those that are claimed for it
+abbrev place_for_twice : ℕ → ℕ → Extent
+place_for_twice room place = record { base = place; size = 24 * (2 * room) }
+
+same-frames : (room place : ℕ) → frames (place_for_twice room place) ≡ frames_at place (48 * room)
+same-frames room place = let e : 24 * (2 * room) ≡ 48 * room = omega arith in ap (λ (n : ℕ). frames_at place n) e
+
+abbrev pub for_table : Which → Owner
+for_table w = owner.Table w
+
+module _ (own : Owners) (m r : Extent) (w : Which) (room place : ℕ) where
+  free-frames : Unclaimed own (frames_at place (48 * room)) → Unclaimed own (frames (place_for_twice room place))
+  free-frames free = subst (λ (e : Extent). Unclaimed own e) (sym (same-frames room place)) free
+
+  pub move-spots : place % 4096 ≡ 0 → Unclaimed own (frames_at place (48 * room)) → Spots own m r
+      → Spots (replaced (frames_at place (48 * room)) (for_table w) own) m (place_for_twice room place)
+  move-spots aligned free spots =
+      subst (λ (e : Extent). Spots (replaced e (for_table w) own) m (place_for_twice room place)) (same-frames room place)
+      (Spots-move own m r (place_for_twice room place) (for_table w) refl aligned (free-frames free) spots)
+
+  pub leave-spots : place % 4096 ≡ 0 → Unclaimed own (frames_at place (48 * room)) → Spots own m r
+      → Spots (uncovered (frames r) (replaced (frames_at place (48 * room)) (for_table w) own)) m (place_for_twice room place)
+  leave-spots aligned free spots =
+      subst (λ (e : Extent). Spots (uncovered (frames r) (replaced e (for_table w) own)) m (place_for_twice room place))
+      (same-frames room place)
+      (Spots-leave own m r (place_for_twice room place) (for_table w) refl aligned (free-frames free) spots)

@@ -1,0 +1,252 @@
+-- The places of both tables stay good throughout a growth of the memory table, and the changes that may need one.
+use Rattle.std.proofs.Common.{◌≡◌, ◌⊎◌, ℕ, ◌+◌, ◌*◌, ◌%◌, Bool, true, false, Option, Some, None, List, [], ◌∷◌, ◌++◌, Result, Ok, refl, sym, ◌∙◌, ap, subst, inl, inr, arith}
+use Rattle.bm_base.specs.Extent.{Extent, covers}
+use Rattle.address_runs.specs.Edits.{replaced}
+use Rattle.memblock_model.specs.declared.which.Which.{Which}
+use Rattle.memblock_model.specs.declared.which.Which.TheVariants as which
+use Rattle.memblock_model.specs.declared.owner.Owner.{Owner}
+use Rattle.memblock_model.specs.declared.owner.Owner.TheVariants as owner
+use Rattle.memblock_model.specs.declared.item.Item.{Item}
+use Rattle.memblock_model.specs.declared.item.Item.TheVariants as item
+use Rattle.memblock_model.specs.Items.{Owners, owner_of, limit_of}
+use Rattle.memblock_model.specs.Tables.{room_of, moved_to, live}
+use Rattle.memblock_model.specs.Search.{best}
+use Rattle.growth_model.specs.declared.request.Request.{Request}
+use Rattle.growth_model.specs.Outcome.{after, write, ◌>>◌}
+use Rattle.growth_model.specs.Growth.{frames_at, table_query, new_in, two, grown, claimed, freed, old_frames, leave, memory_growth_at, memory_growth, added, noded}
+use Rattle.growth_model.specs.Request.{place_for}
+use Rattle.growth_model.specs.Ends.{Ends}
+use Rattle.growth_model.specs.Sound.{Clear, Unclaimed, Spot, Spots, Placed, IsAway}
+use Rattle.growth_model.proofs.CutLaws.{EachCut, cuts-last, cuts-then, cuts-grown}
+use Rattle.growth_model.proofs.SpotLaws.{frames, apart-clear, old-clear, Spots-swap, Clear-swap}
+use Rattle.growth_model.proofs.FoundLaws.{found-fits, found-unclaimed, place-unclaimed, unclaimed-away}
+use Rattle.growth_model.proofs.PlacedLaws.{live_by, live-is, live-same, Spots-same, placed-more, owners-of, moves-of, rooms-of, claim-placed, mem-placed, node-placed, Going, for_table, move-spots}
+use Rattle.growth_model.proofs.PlacedReservedLaws.{roomy, room-going, claimed-cuts, freed-cuts, claimed-after, place-inside}
+
+-- a place for the memory table, whose room is that at the items: aligned, and nobody's
+pub record IsFree (t : List Item) (place : ℕ) : Type 0 where
+  pub aligned : place % 4096 ≡ 0
+  pub free : Unclaimed (owner_of t) (frames_at place (48 * room_of which.Memory t))
+
+-- behind the claim of the new place, and behind the move
+abbrev pub taken : List Item → ℕ → List Item
+taken t place = t ++ item.Claim (frames_at place (48 * room_of which.Memory t)) (for_table which.Memory) ∷ []
+
+abbrev pub moved : List Item → ℕ → List Item
+moved t place = taken t place ++ item.Grown which.Memory place (2 * room_of which.Memory t) ∷ []
+
+abbrev new_live : List Item → ℕ → Extent
+new_live t place = record { base = place; size = 24 * (2 * room_of which.Memory t) }
+
+module _ (kernel : Extent) (t : List Item) (place : ℕ) where
+  abbrev a : Extent
+  a = frames_at place (48 * room_of which.Memory t)
+
+  abbrev u : List Item
+  u = taken t place
+
+  abbrev grows : Item
+  grows = item.Grown which.Memory place (2 * room_of which.Memory t)
+
+  moved-owners : owner_of (moved t place) ≡ replaced a (for_table which.Memory) (owner_of t)
+  moved-owners = owners-of u (grows ∷ []) ∙ owners-of t (item.Claim a (for_table which.Memory) ∷ [])
+
+  moved-memory : live which.Memory kernel (moved t place) ≡ new_live t place
+  moved-memory = live-is which.Memory kernel (moved t place) (Some place) (2 * room_of which.Memory t)
+      (moves-of which.Memory u (grows ∷ []))
+      (rooms-of which.Memory u (grows ∷ []) ∙ ap (λ (n : ℕ). 2 * n) (rooms-of which.Memory t (item.Claim a (for_table which.Memory) ∷ [])))
+
+  moved-reserved : live which.Reserved kernel (moved t place) ≡ live which.Reserved kernel t
+  moved-reserved = live-same which.Reserved kernel t (moved t place)
+      (moves-of which.Reserved u (grows ∷ []) ∙ moves-of which.Reserved t (item.Claim a (for_table which.Memory) ∷ []))
+      (rooms-of which.Reserved u (grows ∷ []) ∙ rooms-of which.Reserved t (item.Claim a (for_table which.Memory) ∷ []))
+
+  pub taken-placed : Placed kernel t → Placed kernel u
+  taken-placed placed = claim-placed kernel t a (for_table which.Memory) (inl refl) placed
+
+  -- the new place meets neither table yet
+  taken-away : IsFree t place → Placed kernel t → IsAway kernel a u
+  taken-away new placed =
+      let away = unclaimed-away kernel a t placed new.free in (
+        subst (λ (e : Extent). Clear a e) (sym (live-same which.Memory kernel t u
+            (moves-of which.Memory t (item.Claim a (for_table which.Memory) ∷ []))
+            (rooms-of which.Memory t (item.Claim a (for_table which.Memory) ∷ [])))) away.0,
+        subst (λ (e : Extent). Clear a e) (sym (live-same which.Reserved kernel t u
+            (moves-of which.Reserved t (item.Claim a (for_table which.Memory) ∷ []))
+            (rooms-of which.Reserved t (item.Claim a (for_table which.Memory) ∷ [])))) away.1,
+      )
+
+  pub moved-placed : IsFree t place → Placed kernel t → Placed kernel (moved t place)
+  moved-placed new placed =
+      placed-more kernel u (grows ∷ []) (replaced a (for_table which.Memory) (owner_of t)) (new_live t place)
+      (live which.Reserved kernel t) (taken-placed placed) moved-owners moved-memory moved-reserved
+      (Spots-swap (replaced a (for_table which.Memory) (owner_of t)) (live which.Reserved kernel t) (new_live t place)
+      (move-spots (owner_of t) (live which.Reserved kernel t) (live which.Memory kernel t) which.Memory (room_of which.Memory t) place
+      new.aligned new.free
+      (Spots-swap (owner_of t) (live which.Memory kernel t) (live which.Reserved kernel t) placed.spots)))
+
+  -- the frames of the old place meet neither table then
+  pub old-away : (q : ℕ) → moved_to which.Memory t ≡ Some q → IsFree t place → Placed kernel t
+      → IsAway kernel (frames_at q (24 * room_of which.Memory t)) (moved t place)
+  old-away q was new placed =
+      let room = room_of which.Memory t in
+      let before : Extent = live_by which.Memory kernel (Some q) room in
+      let is : live which.Memory kernel t ≡ before = live-is which.Memory kernel t (Some q) room was refl in
+      let spots : Spots (owner_of t) before (live which.Reserved kernel t) =
+      subst (λ (e : Extent). Spots (owner_of t) e (live which.Reserved kernel t)) is placed.spots in
+      let twice : Extent = new_live t place in
+      let e : 48 * room ≡ 24 * (2 * room) = omega arith in
+      let free : Unclaimed (owner_of t) (frames twice) = subst (λ (n : ℕ). Unclaimed (owner_of t) (frames_at place n)) e new.free in
+      let first : Clear (frames before) twice = λ x at_b at_n.
+      old-clear (owner_of t) before twice new.aligned free spots.first x at_b
+      (subst (λ (n : ℕ). covers (frames_at place n) x ≡ true) e (place-inside room place x at_n)) in
+      let second : Clear (frames before) (live which.Reserved kernel t) =
+      apart-clear before (live which.Reserved kernel t) spots.first.aligned spots.apart in (
+        subst (λ (n : Extent). Clear (frames before) n) (sym moved-memory) first,
+        subst (λ (n : Extent). Clear (frames before) n) (sym moved-reserved) second,
+      )
+
+  leave-cuts : (old : Option ℕ) → moved_to which.Memory t ≡ old → IsFree t place → Placed kernel t
+      → EachCut (Placed kernel) (moved t place) (leave (old_frames (room_of which.Memory t) old) (moved t place)).steps
+  leave-cuts None was new placed = moved-placed new placed
+  leave-cuts (Some q) was new placed =
+      freed-cuts kernel (moved t place) (frames_at q (24 * room_of which.Memory t)) (old-away q was new placed) (moved-placed new placed)
+
+  -- the move behind the claim, and what follows it
+  move-cuts : IsFree t place → Placed kernel t → EachCut (Placed kernel) u
+      ((write grows >> leave (old_frames (room_of which.Memory t) (moved_to which.Memory t))) u).steps
+  move-cuts new placed =
+      cuts-then (Placed kernel) u (write grows) (leave (old_frames (room_of which.Memory t) (moved_to which.Memory t)))
+      (taken-placed placed, moved-placed new placed)
+      (λ _. leave-cuts (moved_to which.Memory t) refl new placed)
+
+-- what the growth of the memory table does behind the claim of its new place
+abbrev rest_of : ℕ → Option ℕ → ℕ → List Item → List (List Item)
+rest_of room old place v = ((write (item.Grown which.Memory place (2 * room)) >> leave (old_frames room old)) v).steps
+
+-- at the room and the place of other items, which are the same
+along : (kernel : Extent) (t : List Item) (room : ℕ) (old : Option ℕ) (place : ℕ) → room_of which.Memory t ≡ room
+    → moved_to which.Memory t ≡ old → place % 4096 ≡ 0 → Unclaimed (owner_of t) (frames_at place (48 * room)) → Placed kernel t
+    → EachCut (Placed kernel) (t ++ item.Claim (frames_at place (48 * room)) (for_table which.Memory) ∷ [])
+    (rest_of room old place (t ++ item.Claim (frames_at place (48 * room)) (for_table which.Memory) ∷ []))
+along kernel t room old place wide was aligned free placed =
+    let new : IsFree t place = record {
+      aligned = aligned;
+      free = subst (λ (n : ℕ). Unclaimed (owner_of t) (frames_at place (48 * n))) (sym wide) free;
+    } in
+    subst (λ (o : Option ℕ). EachCut (Placed kernel) (t ++ item.Claim (frames_at place (48 * room)) (for_table which.Memory) ∷ [])
+    (rest_of room o place (t ++ item.Claim (frames_at place (48 * room)) (for_table which.Memory) ∷ []))) was
+    (subst (λ (n : ℕ). EachCut (Placed kernel) (t ++ item.Claim (frames_at place (48 * n)) (for_table which.Memory) ∷ [])
+    (rest_of n (moved_to which.Memory t) place (t ++ item.Claim (frames_at place (48 * n)) (for_table which.Memory) ∷ []))) wide
+    (move-cuts kernel t place new placed))
+
+-- behind the claim of the new place of the memory table, whose room and place were these: what the move and the freeing of the old place
+-- ask for
+pub record IsTaken (kernel : Extent) (u : List Item) (room : ℕ) (old : Option ℕ) (place : ℕ) : Type 0 where
+  pub placed : Placed kernel u
+  pub wide : room_of which.Memory u ≡ room
+  pub was : moved_to which.Memory u ≡ old
+  pub away : IsAway kernel (frames_at place (48 * room)) u
+  pub next : Placed kernel (u ++ item.Grown which.Memory place (2 * room) ∷ [])
+  pub left : (q : ℕ) → old ≡ Some q → IsAway kernel (frames_at q (24 * room)) (u ++ item.Grown which.Memory place (2 * room) ∷ [])
+
+taken-is : (kernel : Extent) (t : List Item) (place : ℕ) → IsFree t place → Placed kernel t
+    → IsTaken kernel (taken t place) (room_of which.Memory t) (moved_to which.Memory t) place
+taken-is kernel t place new placed = record {
+  placed = taken-placed kernel t place placed;
+  wide = rooms-of which.Memory t (item.Claim (frames_at place (48 * room_of which.Memory t)) (for_table which.Memory) ∷ []);
+  was = moves-of which.Memory t (item.Claim (frames_at place (48 * room_of which.Memory t)) (for_table which.Memory) ∷ []);
+  away = taken-away kernel t place new placed;
+  next = moved-placed kernel t place new placed;
+  left = λ q was. old-away kernel t place q was new placed;
+}
+
+taken-along : (kernel : Extent) (t : List Item) (room : ℕ) (old : Option ℕ) (place : ℕ) → room_of which.Memory t ≡ room
+    → moved_to which.Memory t ≡ old → place % 4096 ≡ 0 → Unclaimed (owner_of t) (frames_at place (48 * room)) → Placed kernel t
+    → IsTaken kernel (t ++ item.Claim (frames_at place (48 * room)) (for_table which.Memory) ∷ []) room old place
+taken-along kernel t room old place wide was aligned free placed =
+    let new : IsFree t place = record {
+      aligned = aligned;
+      free = subst (λ (n : ℕ). Unclaimed (owner_of t) (frames_at place (48 * n))) (sym wide) free;
+    } in
+    subst (λ (o : Option ℕ). IsTaken kernel (t ++ item.Claim (frames_at place (48 * room)) (for_table which.Memory) ∷ []) room o place) was
+    (subst (λ (n : ℕ). IsTaken kernel (t ++ item.Claim (frames_at place (48 * n)) (for_table which.Memory) ∷ []) n
+    (moved_to which.Memory t) place) wide
+    (taken-is kernel t place new placed))
+
+pub claimed-taken : {T : Type 0} (x : T) (kernel : Extent) (items u : List Item) (place : ℕ) → Placed kernel items
+    → best items (table_query (room_of which.Memory items) 0 (limit_of items)) ≡ Some place
+    → Ends (Ok x) items u (claimed (frames_at place (48 * room_of which.Memory items)) (for_table which.Memory))
+    → IsTaken kernel u (room_of which.Memory items) (moved_to which.Memory items) place
+claimed-taken x kernel items u place placed is ends =
+    let room = room_of which.Memory items in
+    let old = moved_to which.Memory items in
+    let q = table_query room 0 (limit_of items) in
+    let a = frames_at place (48 * room) in
+    let t = roomy a (new_in which.Reserved a) items in
+    let going = room-going kernel a (new_in which.Reserved a) items placed in
+    let fits = found-fits items q place is in
+    subst (λ (v : List Item). IsTaken kernel v room old place)
+    (sym (ends.1 ∙ claimed-after items a (for_table which.Memory) ends.0))
+    (taken-along kernel t room old place going.aside.wide going.aside.place fits.aligned
+    (going.aside.free (found-unclaimed items q place is)) going.placed)
+
+growth-at : (kernel : Extent) (items : List Item) (found : Option ℕ)
+    → best items (table_query (room_of which.Memory items) 0 (limit_of items)) ≡ found → Placed kernel items
+    → EachCut (Placed kernel) items (memory_growth_at (room_of which.Memory items) (moved_to which.Memory items) found items).steps
+unfolding memory_growth_at
+growth-at kernel items None is placed = placed
+growth-at kernel items (Some place) is placed =
+    let room = room_of which.Memory items in
+    let old = moved_to which.Memory items in
+    let q = table_query room 0 (limit_of items) in
+    let a = frames_at place (48 * room) in
+    let t = roomy a (new_in which.Reserved a) items in
+    let going = room-going kernel a (new_in which.Reserved a) items placed in
+    let fits = found-fits items q place is in
+    cuts-then (Placed kernel) items (claimed a (for_table which.Memory))
+    (write (item.Grown which.Memory place (2 * room)) >> leave (old_frames room old))
+    (claimed-cuts kernel items a (for_table which.Memory) (inl refl) placed)
+    (λ unrefused. subst (λ (v : List Item). EachCut (Placed kernel) v (rest_of room old place v))
+    (sym (claimed-after items a (for_table which.Memory) unrefused))
+    (along kernel t room old place going.aside.wide going.aside.place fits.aligned
+    (going.aside.free (found-unclaimed items q place is)) going.placed))
+
+-- throughout one growth
+pub memory-cuts : (kernel : Extent) (items : List Item) → Placed kernel items → EachCut (Placed kernel) items (memory_growth items).steps
+unfolding memory_growth
+memory-cuts kernel items placed =
+    growth-at kernel items (best items (table_query (room_of which.Memory items) 0 (limit_of items))) refl placed
+
+-- the items as growths of the memory table leave them
+grown-placed : (kernel : Extent) (items : List Item) (more : List Item → ℕ) → Placed kernel items
+    → Placed kernel (after items (grown which.Memory more memory_growth items))
+grown-placed kernel items more placed = cuts-last (Placed kernel) items (grown which.Memory more memory_growth items).steps
+    (cuts-grown (Placed kernel) which.Memory more memory_growth items (λ t here. memory-cuts kernel t here) placed)
+
+-- throughout the changes of memory
+pub added-cuts : (kernel : Extent) (items : List Item) (r : Extent) → Placed kernel items
+    → EachCut (Placed kernel) items (added r items).steps
+unfolding added
+added-cuts kernel items r placed =
+    let more = new_in which.Memory r in
+    let here = grown-placed kernel items more placed in
+    cuts-then (Placed kernel) items (grown which.Memory more memory_growth) (write (item.Mem r))
+    (cuts-grown (Placed kernel) which.Memory more memory_growth items (λ t was. memory-cuts kernel t was) placed)
+    (λ _. (here, mem-placed kernel (after items (grown which.Memory more memory_growth items)) r here))
+
+pub noded-cuts : (kernel : Extent) (items : List Item) (r : Extent) (node : ℕ) → Placed kernel items
+    → EachCut (Placed kernel) items (noded r node items).steps
+unfolding noded
+noded-cuts kernel items r node placed =
+    let here = grown-placed kernel items two placed in
+    cuts-then (Placed kernel) items (grown which.Memory two memory_growth) (write (item.Node r node))
+    (cuts-grown (Placed kernel) which.Memory two memory_growth items (λ t was. memory-cuts kernel t was) placed)
+    (λ _. (here, node-placed kernel (after items (grown which.Memory two memory_growth items)) r node here))
+
+-- throughout the claim of a place that an allocation found, whoever it is for
+pub allocated-cuts : (kernel : Extent) (items : List Item) (r : Request) (place : ℕ) (o : Owner) → place_for r items ≡ Some place
+    → Placed kernel items → EachCut (Placed kernel) items (claimed (record { base = place; size = r.size }) o items).steps
+allocated-cuts kernel items r place o found placed =
+    claimed-cuts kernel items (record { base = place; size = r.size }) o
+    (inr (unclaimed-away kernel (record { base = place; size = r.size }) items placed (place-unclaimed r items place found))) placed

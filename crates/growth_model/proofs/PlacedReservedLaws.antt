@@ -1,0 +1,205 @@
+-- The places of both tables stay good throughout a growth of the reserved table, a claim and a free.
+use Rattle.std.proofs.Common.{◌≡◌, ◌⊎◌, ℕ, ◌+◌, ◌*◌, ◌%◌, Bool, true, false, Option, Some, None, List, [], ◌∷◌, ◌++◌, refl, sym, ◌∙◌, ap, subst, inl, inr, arith}
+use Rattle.std.proofs.lemmas.Bool.{cases_Bool}
+use Rattle.bm_base.specs.Extent.{Extent, covers}
+use Rattle.address_runs.specs.Edits.{uncovered, replaced}
+use Rattle.memblock_model.specs.declared.which.Which.{Which}
+use Rattle.memblock_model.specs.declared.which.Which.TheVariants as which
+use Rattle.memblock_model.specs.declared.owner.Owner.{Owner}
+use Rattle.memblock_model.specs.declared.owner.Owner.TheVariants as owner
+use Rattle.memblock_model.specs.declared.item.Item.{Item}
+use Rattle.memblock_model.specs.declared.item.Item.TheVariants as item
+use Rattle.memblock_model.specs.Items.{Owners, owner_of, limit_of}
+use Rattle.memblock_model.specs.Tables.{room_of, moved_to, live}
+use Rattle.growth_model.specs.Outcome.{after, write, ◌>>◌}
+use Rattle.growth_model.specs.Growth.{frames_at, place_beside, left, reserved_items, reserved_growth_at, reserved_growth, new_in, two, grown, claimed, freed}
+use Rattle.growth_model.specs.Sound.{Clear, Unclaimed, Spots, Placed, IsAway}
+use Rattle.growth_model.proofs.CutLaws.{EachCut, cuts-last, cuts-then, cuts-grown, cuts-map, after-then, then-unrefused}
+use Rattle.growth_model.proofs.SpotLaws.{frames-more}
+use Rattle.growth_model.proofs.FoundLaws.{IsNew, beside-new}
+use Rattle.growth_model.proofs.PlacedLaws.{live_by, live-is, live-same, placed-more, owners-of, moves-of, rooms-of, limits-of, MayTake, claim-placed, free-placed, Aside, aside-same, aside-on, Going, away-still, take-still, for_table, move-spots, leave-spots}
+
+-- bytes without an owner stay so when others are claimed, and when any are freed
+claim-unclaimed : (own : Owners) (a r : Extent) (o : Owner) → Clear a r → Unclaimed own a → Unclaimed (replaced r o own) a
+claim-unclaimed own a r o clear free x at =
+    elim (cases_Bool (covers r x)) as (λ _. replaced r o own x ≡ None)
+    [ inl in_r ↦ absurd (clear x at in_r) | inr other ↦ rw other (free x at) ]
+
+free-unclaimed : (own : Owners) (a r : Extent) → Unclaimed own a → Unclaimed (uncovered r own) a
+free-unclaimed own a r free x at =
+    elim (cases_Bool (covers r x)) as (λ _. uncovered r own x ≡ None) [ inl in_r ↦ rw in_r refl | inr other ↦ rw other (free x at) ]
+
+-- the items of one growth of the reserved table, from its place before
+abbrev grew : List Item → Option ℕ → ℕ → List Item
+grew t old place = t ++ reserved_items (room_of which.Reserved t) old place
+
+abbrev new_place : List Item → ℕ → Extent
+new_place t place = frames_at place (48 * room_of which.Reserved t)
+
+abbrev claimed_place : List Item → ℕ → Owners
+claimed_place t place = replaced (new_place t place) (for_table which.Reserved) (owner_of t)
+
+grew-live : (kernel : Extent) (t : List Item) (old : Option ℕ) (place : ℕ)
+    → live which.Reserved kernel (grew t old place) ≡ live_by which.Reserved kernel (Some place) (2 * room_of which.Reserved t)
+unfolding reserved_items
+grew-live kernel t None place = live-is which.Reserved kernel (grew t None place) (Some place) (2 * room_of which.Reserved t)
+    (moves-of which.Reserved t (reserved_items (room_of which.Reserved t) None place))
+    (rooms-of which.Reserved t (reserved_items (room_of which.Reserved t) None place))
+grew-live kernel t (Some q) place = live-is which.Reserved kernel (grew t (Some q) place) (Some place) (2 * room_of which.Reserved t)
+    (moves-of which.Reserved t (reserved_items (room_of which.Reserved t) (Some q) place))
+    (rooms-of which.Reserved t (reserved_items (room_of which.Reserved t) (Some q) place))
+
+grew-moved : (t : List Item) (old : Option ℕ) (place : ℕ) → moved_to which.Memory (grew t old place) ≡ moved_to which.Memory t
+unfolding reserved_items
+grew-moved t None place = moves-of which.Memory t (reserved_items (room_of which.Reserved t) None place)
+grew-moved t (Some q) place = moves-of which.Memory t (reserved_items (room_of which.Reserved t) (Some q) place)
+
+grew-room : (t : List Item) (old : Option ℕ) (place : ℕ) → room_of which.Memory (grew t old place) ≡ room_of which.Memory t
+unfolding reserved_items
+grew-room t None place = rooms-of which.Memory t (reserved_items (room_of which.Reserved t) None place)
+grew-room t (Some q) place = rooms-of which.Memory t (reserved_items (room_of which.Reserved t) (Some q) place)
+
+grew-limit : (t : List Item) (old : Option ℕ) (place : ℕ) → limit_of (grew t old place) ≡ limit_of t
+unfolding reserved_items
+grew-limit t None place = limits-of t (reserved_items (room_of which.Reserved t) None place)
+grew-limit t (Some q) place = limits-of t (reserved_items (room_of which.Reserved t) (Some q) place)
+
+grew-owners-first : (t : List Item) (place : ℕ) → owner_of (grew t None place) ≡ claimed_place t place
+unfolding reserved_items
+grew-owners-first t place = owners-of t (reserved_items (room_of which.Reserved t) None place)
+
+grew-owners-again : (t : List Item) (q place : ℕ)
+    → owner_of (grew t (Some q) place) ≡ uncovered (frames_at q (24 * room_of which.Reserved t)) (claimed_place t place)
+unfolding reserved_items
+grew-owners-again t q place = owners-of t (reserved_items (room_of which.Reserved t) (Some q) place)
+
+-- the place itself lies in its frames
+pub place-inside : (room place x : ℕ) → covers (record { base = place; size = 24 * (2 * room) }) x ≡ true
+    → covers (frames_at place (48 * room)) x ≡ true
+place-inside room place x at =
+    let e : 24 * (2 * room) ≡ 48 * room = omega arith in
+    subst (λ (n : ℕ). covers (frames_at place n) x ≡ true) e (frames-more (record { base = place; size = 24 * (2 * room) }) x at)
+
+grew-aside : (kernel a : Extent) (t : List Item) (old : Option ℕ) (place : ℕ) → IsNew t a (room_of which.Reserved t) place
+    → (Unclaimed (owner_of t) a → Unclaimed (owner_of (grew t old place)) a) → Aside kernel a t (grew t old place)
+grew-aside kernel a t old place new free = record {
+  place = grew-moved t old place;
+  wide = grew-room t old place;
+  bound = grew-limit t old place;
+  free = free;
+  clear = λ _. subst (λ (e : Extent). Clear a e) (sym (grew-live kernel t old place))
+      (λ x at_a at_n. new.clear x at_a (place-inside (room_of which.Reserved t) place x at_n));
+}
+
+-- one growth of the reserved table beside the range, from where it lay
+grew-going : (kernel a : Extent) (t : List Item) (old : Option ℕ) (place : ℕ) → moved_to which.Reserved t ≡ old
+    → IsNew t a (room_of which.Reserved t) place → Placed kernel t → Going kernel a t (grew t old place)
+grew-going kernel a t None place was new placed =
+    let room = room_of which.Reserved t in
+    let memory = live which.Memory kernel t in
+    let more = reserved_items room None place in
+    record {
+      placed = placed-more kernel t more (claimed_place t place) memory (live_by which.Reserved kernel (Some place) (2 * room)) placed
+          (grew-owners-first t place) (live-same which.Memory kernel t (t ++ more) (grew-moved t None place) (grew-room t None place))
+          (grew-live kernel t None place)
+          (move-spots (owner_of t) memory (live which.Reserved kernel t) which.Reserved room place new.aligned new.free placed.spots);
+      aside = grew-aside kernel a t None place new (λ free.
+          subst (λ (f : Owners). Unclaimed f a) (sym (grew-owners-first t place))
+          (claim-unclaimed (owner_of t) a (new_place t place) (for_table which.Reserved) new.clear free));
+    }
+grew-going kernel a t (Some q) place was new placed =
+    let room = room_of which.Reserved t in
+    let memory = live which.Memory kernel t in
+    let more = reserved_items room (Some q) place in
+    let before : live which.Reserved kernel t ≡ live_by which.Reserved kernel (Some q) room =
+    live-is which.Reserved kernel t (Some q) room was refl in
+    let spots : Spots (owner_of t) memory (live_by which.Reserved kernel (Some q) room) =
+    subst (λ (e : Extent). Spots (owner_of t) memory e) before placed.spots in
+    record {
+      placed = placed-more kernel t more (uncovered (frames_at q (24 * room)) (claimed_place t place)) memory
+          (live_by which.Reserved kernel (Some place) (2 * room)) placed
+          (grew-owners-again t q place) (live-same which.Memory kernel t (t ++ more) (grew-moved t (Some q) place)
+          (grew-room t (Some q) place))
+          (grew-live kernel t (Some q) place)
+          (leave-spots (owner_of t) memory (live_by which.Reserved kernel (Some q) room) which.Reserved room place new.aligned new.free
+          spots);
+      aside = grew-aside kernel a t (Some q) place new (λ free.
+          subst (λ (f : Owners). Unclaimed f a) (sym (grew-owners-again t q place))
+          (free-unclaimed (claimed_place t place) a (frames_at q (24 * room))
+          (claim-unclaimed (owner_of t) a (new_place t place) (for_table which.Reserved) new.clear free)));
+    }
+
+going-on : (kernel a : Extent) (items t u : List Item) → Going kernel a items t → Going kernel a t u → Going kernel a items u
+going-on kernel a items t u h k = record { placed = k.placed; aside = aside-on kernel a items t u h.aside k.aside }
+
+growth-at : (kernel a : Extent) (items t : List Item) (found : Option ℕ) → place_beside a (room_of which.Reserved t) t ≡ found
+    → Going kernel a items t
+    → EachCut (Going kernel a items) t (reserved_growth_at (room_of which.Reserved t) (moved_to which.Reserved t) found t).steps
+unfolding reserved_growth_at
+growth-at kernel a items t None found going = going
+growth-at kernel a items t (Some place) found going = (
+  going,
+  going-on kernel a items t (grew t (moved_to which.Reserved t) place) going
+      (grew-going kernel a t (moved_to which.Reserved t) place refl (beside-new t a (room_of which.Reserved t) place found) going.placed),
+)
+
+-- throughout one growth
+pub reserved-cuts : (kernel a : Extent) (items t : List Item) → Going kernel a items t
+    → EachCut (Going kernel a items) t (reserved_growth a t).steps
+unfolding reserved_growth
+reserved-cuts kernel a items t going = growth-at kernel a items t (place_beside a (room_of which.Reserved t) t) refl going
+
+-- and throughout the growths before a claim or a free
+pub room-cuts : (kernel a : Extent) (more : List Item → ℕ) (items : List Item) → Placed kernel items
+    → EachCut (Going kernel a items) items (grown which.Reserved more (reserved_growth a) items).steps
+room-cuts kernel a more items placed =
+    cuts-grown (Going kernel a items) which.Reserved more (reserved_growth a) items (λ t going. reserved-cuts kernel a items t going)
+    (record { placed = placed; aside = aside-same kernel a items })
+
+-- the items as the growths leave them
+abbrev pub roomy : Extent → (List Item → ℕ) → List Item → List Item
+roomy a more items = after items (grown which.Reserved more (reserved_growth a) items)
+
+pub room-going : (kernel a : Extent) (more : List Item → ℕ) (items : List Item) → Placed kernel items
+    → Going kernel a items (roomy a more items)
+room-going kernel a more items placed =
+    cuts-last (Going kernel a items) items (grown which.Reserved more (reserved_growth a) items).steps
+    (room-cuts kernel a more items placed)
+
+room-placed : (kernel a : Extent) (more : List Item → ℕ) (items : List Item) → Placed kernel items
+    → EachCut (Placed kernel) items (grown which.Reserved more (reserved_growth a) items).steps
+room-placed kernel a more items placed =
+    cuts-map (Going kernel a items) (Placed kernel) items (grown which.Reserved more (reserved_growth a) items).steps
+    (λ t going. going.placed) (room-cuts kernel a more items placed)
+
+-- throughout a claim
+pub claimed-cuts : (kernel : Extent) (items : List Item) (r : Extent) (o : Owner) → MayTake kernel items r o → Placed kernel items
+    → EachCut (Placed kernel) items (claimed r o items).steps
+unfolding claimed
+claimed-cuts kernel items r o may placed =
+    let more = new_in which.Reserved r in
+    let t = roomy r more items in
+    let going = room-going kernel r more items placed in
+    cuts-then (Placed kernel) items (grown which.Reserved more (reserved_growth r)) (write (item.Claim r o))
+    (room-placed kernel r more items placed)
+    (λ _. (going.placed, claim-placed kernel t r o (take-still kernel r o items t going.aside may) going.placed))
+
+-- throughout a free
+pub freed-cuts : (kernel : Extent) (items : List Item) (r : Extent) → IsAway kernel r items → Placed kernel items
+    → EachCut (Placed kernel) items (freed r items).steps
+unfolding freed
+freed-cuts kernel items r away placed =
+    let t = roomy r two items in
+    let going = room-going kernel r two items placed in
+    cuts-then (Placed kernel) items (grown which.Reserved two (reserved_growth r)) (write (item.Free r))
+    (room-placed kernel r two items placed)
+    (λ _. (going.placed, free-placed kernel t r (away-still kernel r items t going.aside away) going.placed))
+
+-- a claim that wasn't refused wrote its item behind growths beside its range
+pub claimed-after : (items : List Item) (r : Extent) (o : Owner) → (claimed r o items).refused ≡ None
+    → after items (claimed r o items) ≡ roomy r (new_in which.Reserved r) items ++ item.Claim r o ∷ []
+unfolding claimed
+claimed-after items r o unrefused =
+    let growths = grown which.Reserved (new_in which.Reserved r) (reserved_growth r) in
+    let both = then-unrefused items growths (write (item.Claim r o)) unrefused in
+    after-then items growths (write (item.Claim r o)) both.0

@@ -1,0 +1,161 @@
+-- Small places and owners, computed: where a table may lie, what meets it, and what may be claimed.
+use Rattle.std.proofs.Common.{◌≡◌, ℕ, ◌/◌, ◌%◌, ◌<◌, ◌≤◌, Bool, true, false, nat_lt, if◌then◌else◌, Option, Some, None, List, [], ◌∷◌, length, refl, sym, ap, inl, inr, arith}
+use Rattle.std.proofs.lemmas.Bool.Decides.{nat_tests}
+use Rattle.bm_base.specs.Extent.{Extent, covers}
+use Rattle.memblock_model.specs.declared.which.Which.{Which}
+use Rattle.memblock_model.specs.declared.which.Which.TheVariants as which
+use Rattle.memblock_model.specs.declared.owner.Owner.TheVariants as owner
+use Rattle.memblock_model.specs.declared.item.Item.{Item}
+use Rattle.memblock_model.specs.declared.item.Item.TheVariants as item
+use Rattle.memblock_model.specs.Items.{Owners, no_owners}
+use Rattle.memblock_model.specs.Labels.{plain_label}
+use Rattle.memblock_model.specs.Tables.{table_of, records_of, live}
+use Rattle.memblock_model.proofs.TableLaws.{records_for-is}
+use Rattle.growth_model.specs.Growth.{count}
+use Rattle.growth_model.specs.Sound.{keeps, Spot, Apart, Clear, Unclaimed, Spots, Placed, Fits, Sound, IsImage, HasBegun, IsAway, MayClaim}
+use Rattle.growth_model.proofs.SpotLaws.{covers-from}
+use Rattle.growth_model.proofs.FirstLaws.{no_table_full, first-placed}
+use Rattle.growth_model.proofs.GrowthExamples.{image, frame}
+
+-- tables lie in anyone's bytes but the script's
+kernel_keeps : keeps (Some owner.Kernel) ≡ true
+kernel_keeps = refl
+
+table_keeps : keeps (Some (owner.Table which.Reserved)) ≡ true
+table_keeps = refl
+
+script_may_not : keeps (Some (owner.Script 1)) ≡ false
+script_may_not = refl
+
+nobody_may_not : keeps None ≡ false
+nobody_may_not = refl
+
+-- the first four frames are the kernel's, but for one byte of the script in the third
+abbrev claims : Owners
+claims x = if nat_lt x 9000 then Some owner.Kernel else (if nat_lt x 9001 then Some (owner.Script 1) else
+    (if nat_lt x 16384 then Some owner.Kernel else None))
+
+a_spot : Spot claims (record { base = 4096; size = 3072 })
+a_spot = record {
+  aligned = refl;
+  kept = λ x at. let inside = covers-from (record { base = 4096; size = 3072 }) x at in
+      let low : nat_lt x 9000 ≡ true = grind (arith, nat_tests) in rw low refl;
+}
+
+not_aligned : Spot claims (record { base = 4097; size = 16 }) → ⊥
+not_aligned spot = let aligned = spot.aligned in cc
+
+not_of_script : Spot claims (record { base = 8192; size = 3072 }) → ⊥
+not_of_script spot = let kept = spot.kept 9000 refl in cc
+
+-- two frames, and one frame twice
+two_frames_apart : Apart (record { base = 0; size = 3072 }) (record { base = 4096; size = 3072 })
+two_frames_apart x y at_x at_y same =
+    let a = covers-from (record { base = 0; size = 3072 }) x at_x in
+    let b = covers-from (record { base = 4096; size = 3072 }) y at_y in
+    omega arith
+
+one_frame : Apart (record { base = 0; size = 16 }) (record { base = 32; size = 16 }) → ⊥
+one_frame apart = apart 0 32 refl refl refl
+
+-- which is enough to be clear
+one_frame_clear : Clear (record { base = 0; size = 16 }) (record { base = 32; size = 16 })
+one_frame_clear x at_a at_b =
+    let a = covers-from (record { base = 0; size = 16 }) x at_a in
+    let b = covers-from (record { base = 32; size = 16 }) x at_b in
+    omega arith
+
+one_byte_in_both : Clear (record { base = 0; size = 33 }) (record { base = 32; size = 16 }) → ⊥
+one_byte_in_both clear = clear 32 refl refl
+
+nobodys : Unclaimed claims (record { base = 16384; size = 4096 })
+nobodys x at = let inside = covers-from (record { base = 16384; size = 4096 }) x at in grind (arith, nat_tests)
+
+one_byte_claimed : Unclaimed claims (record { base = 16383; size = 4096 }) → ⊥
+one_byte_claimed free = let first = free 16383 refl in cc
+
+both_spots : Spots claims (record { base = 0; size = 3072 }) (record { base = 4096; size = 3072 })
+both_spots = record {
+  first = record {
+    aligned = refl;
+    kept = λ x at. let inside = covers-from (record { base = 0; size = 3072 }) x at in
+        let low : nat_lt x 9000 ≡ true = grind (arith, nat_tests) in rw low refl;
+  };
+  second = a_spot;
+  apart = two_frames_apart;
+}
+
+not_one_spot_twice : Spots claims (record { base = 0; size = 3072 }) (record { base = 0; size = 3072 }) → ⊥
+not_one_spot_twice spots = spots.apart 0 0 refl refl refl
+
+-- the kernel's image: its last two frames hold the tables at first
+is_image : IsImage image
+is_image = record { whole = refl; large = omega arith }
+
+too_small : IsImage (frame 16) → ⊥
+too_small known = let large = known.large in omega arith
+
+ends_amid_a_frame : IsImage (record { base = 65536; size = 16000 }) → ⊥
+ends_amid_a_frame known = let whole = known.whole in cc
+
+abbrev begun : List Item
+begun = item.Claim image owner.Kernel ∷ []
+
+placed_at_first : Placed image begun
+placed_at_first = first-placed image is_image
+
+nothing_placed : Placed image [] → ⊥
+nothing_placed placed = let first = placed.first in cc
+
+fits_at_first : Fits []
+fits_at_first w = no_table_full w
+
+-- the image is one record
+image_record : records_of which.Reserved begun ≡ record { base = 65536; size = 16384; value = plain_label } ∷ []
+unfolding records_of
+image_record = sym (records_for-is (table_of which.Reserved begun) (record { base = 65536; size = 16384; value = plain_label } ∷ [])
+    (λ x le. grind (arith, nat_tests)) (record { runs = (omega arith, tt, tt); each = λ x. grind (arith, nat_tests) }))
+
+image_fits : Fits begun
+unfolding records_of
+image_fits which.Memory = no_table_full which.Memory
+image_fits which.Reserved = let one : count which.Reserved begun ≡ 1 = ap length image_record in omega arith
+
+sound_at_first : Sound image begun
+sound_at_first = record { placed = placed_at_first; fits = image_fits }
+
+nothing_is_sound : Sound image [] → ⊥
+nothing_is_sound sound = nothing_placed sound.placed
+
+has_begun : HasBegun begun
+has_begun = tt
+
+has_not_begun : HasBegun [] → ⊥
+has_not_begun h = h
+
+-- the first frames of the image meet neither table, its last two do
+away : IsAway image (frame 16) begun
+away = (
+  λ x at_a at_t. let a = covers-from (frame 16) x at_a in let t = covers-from (live which.Memory image begun) x at_t in omega arith,
+  λ x at_a at_t. let a = covers-from (frame 16) x at_a in let t = covers-from (live which.Reserved image begun) x at_t in omega arith,
+)
+
+not_away : IsAway image (frame 18) begun → ⊥
+not_away known = known.0 73728 refl refl
+
+-- the image is claimed first, for the kernel; then the script may not have the tables' bytes, and others may
+image_first : MayClaim image [] image owner.Kernel
+image_first = (refl, refl)
+
+nothing_else_first : MayClaim image [] image owner.Soft → ⊥
+nothing_else_first may = let who = may.1 in cc
+
+others_anywhere : MayClaim image begun (frame 18) owner.Soft
+others_anywhere = inl refl
+
+script_elsewhere : MayClaim image begun (frame 16) (owner.Script 1)
+script_elsewhere = inr away
+
+script_not_there : MayClaim image begun (frame 18) (owner.Script 1) → ⊥
+script_not_there (inl kept) = cc
+script_not_there (inr known) = not_away known

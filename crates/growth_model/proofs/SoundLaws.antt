@@ -1,0 +1,194 @@
+-- However a call of memblock ends, both tables lie in good places from the first claim on.
+use Rattle.std.proofs.Common.{◌≡◌, ℕ, ◌^◌, ◌≤◌, Option, Some, None, List, [], ◌∷◌, ◌++◌, take, Bool, true, false, Result, Ok, Err, refl, sym, ◌∙◌, ap, subst, inl, inr}
+use Rattle.std.proofs.lemmas.Bool.{cases_Bool, true≢false}
+use Rattle.bm_base.specs.Extent.{Extent, end_of}
+use Rattle.memblock_model.specs.declared.which.Which.TheVariants as which
+use Rattle.memblock_model.specs.declared.owner.Owner.{Owner}
+use Rattle.memblock_model.specs.declared.owner.Owner.TheVariants as owner
+use Rattle.memblock_model.specs.declared.item.Item.{Item}
+use Rattle.memblock_model.specs.declared.item.Item.TheVariants as item
+use Rattle.growth_model.specs.declared.refusal.Refusal.{Refusal}
+use Rattle.growth_model.specs.declared.refusal.Refusal.TheVariants as refusal
+use Rattle.growth_model.specs.declared.request.Request.{Request}
+use Rattle.growth_model.specs.Outcome.{Outcome, Change, joined, nothing, write, if_due}
+use Rattle.growth_model.specs.Growth.{is_full, new_in, two, grown, claimed, freed, reserved_growth, memory_growth, added, noded}
+use Rattle.growth_model.specs.Request.{place_for}
+use Rattle.growth_model.specs.Ends.{EndsBy, Ends, Allocates}
+use Rattle.growth_model.specs.Sound.{keeps, Placed, IsImage, HasBegun, IsAway, MayClaim}
+use Rattle.growth_model.proofs.CutLaws.{EachCut, cuts-ends, cuts-map, cuts-due, cuts-grown}
+use Rattle.growth_model.proofs.PlacedLaws.{MayTake, Aside, aside-same, Going, trim-placed, limit-placed}
+use Rattle.growth_model.proofs.PlacedReservedLaws.{reserved-cuts, room-cuts, claimed-cuts, freed-cuts}
+use Rattle.growth_model.proofs.PlacedMemoryLaws.{memory-cuts, added-cuts, noded-cuts, allocated-cuts}
+use Rattle.growth_model.proofs.FirstLaws.{first-full, first-full_by_two, first-claimed, first-placed}
+
+-- from the first claim on
+abbrev pub Stands : Extent → List Item → Type 0
+Stands kernel items = HasBegun items → Placed kernel items
+
+pub placed-begun : (kernel : Extent) (items : List Item) → Placed kernel items → HasBegun items
+placed-begun kernel items placed = subst HasBegun (sym placed.first) tt
+
+-- a change that keeps the places throughout, with something claimed already
+stands-by : {T : Type 0} (kernel : Extent) (r : Result T Refusal) (old new : List Item) (o : Outcome)
+    → (Placed kernel old → EachCut (Placed kernel) old o.steps) → Stands kernel old → HasBegun old → EndsBy r old new o → Stands kernel new
+stands-by kernel r old new o keeps stands begun ends = λ _. cuts-ends (Placed kernel) r old new o (keeps (stands begun)) ends
+
+claim-cuts : (kernel : Extent) (items : List Item) (r : Extent) (o : Owner) → IsImage kernel → end_of kernel ≤ 2 ^ 64
+    → Stands kernel items → MayClaim kernel items r o → EachCut (Stands kernel) items (claimed r o items).steps
+claim-cuts kernel [] r o image small stands may =
+    let alone : claimed kernel owner.Kernel [] ≡ write (item.Claim kernel owner.Kernel) [] = first-claimed kernel owner.Kernel small in
+    let this : claimed r o [] ≡ claimed kernel owner.Kernel [] =
+    ap (λ (e : Extent). claimed e o []) may.0 ∙ ap (λ (w : Owner). claimed kernel w []) may.1 in
+    subst (λ (c : Outcome). EachCut (Stands kernel) [] c.steps) (sym (this ∙ alone)) (stands, λ _. first-placed kernel image)
+claim-cuts kernel (i ∷ is) r o image small stands may =
+    cuts-map (Placed kernel) (Stands kernel) (i ∷ is) (claimed r o (i ∷ is)).steps (λ t placed _. placed)
+    (claimed-cuts kernel (i ∷ is) r o may (stands tt))
+
+-- the calls, one by one
+pub claim-stands : {T : Type 0} (kernel : Extent) (r : Result T Refusal) (old new : List Item) (range : Extent) (who : Owner)
+    → IsImage kernel → end_of kernel ≤ 2 ^ 64 → Stands kernel old → MayClaim kernel old range who → Ends r old new (claimed range who)
+    → Stands kernel new
+claim-stands kernel r old new range who image small stands may ends =
+    cuts-ends (Stands kernel) r old new (claimed range who old) (claim-cuts kernel old range who image small stands may) ends
+
+pub free-stands : {T : Type 0} (kernel : Extent) (r : Result T Refusal) (old new : List Item) (range : Extent)
+    → Stands kernel old → HasBegun old → IsAway kernel range old → Ends r old new (freed range) → Stands kernel new
+free-stands kernel r old new range stands begun away ends =
+    stands-by kernel r old new (freed range old) (λ placed. freed-cuts kernel old range away placed) stands begun ends
+
+pub add-stands : {T : Type 0} (kernel : Extent) (r : Result T Refusal) (old new : List Item) (range : Extent)
+    → Stands kernel old → HasBegun old → Ends r old new (added range) → Stands kernel new
+add-stands kernel r old new range stands begun ends =
+    stands-by kernel r old new (added range old) (λ placed. added-cuts kernel old range placed) stands begun ends
+
+pub node-stands : {T : Type 0} (kernel : Extent) (r : Result T Refusal) (old new : List Item) (range : Extent) (node : ℕ)
+    → Stands kernel old → HasBegun old → Ends r old new (noded range node) → Stands kernel new
+node-stands kernel r old new range node stands begun ends =
+    stands-by kernel r old new (noded range node old) (λ placed. noded-cuts kernel old range node placed) stands begun ends
+
+-- the two growths by themselves, and a claim by an owner that isn't the script: also between the calls
+pub reserved-stands : {T : Type 0} (kernel : Extent) (r : Result T Refusal) (old new : List Item) (range : Extent)
+    → Stands kernel old → HasBegun old → Ends r old new (reserved_growth range) → Stands kernel new
+reserved-stands kernel r old new range stands begun ends =
+    stands-by kernel r old new (reserved_growth range old)
+    (λ placed. cuts-map (Going kernel range old) (Placed kernel) old (reserved_growth range old).steps (λ t going. going.placed)
+    (reserved-cuts kernel range old old (record { placed = placed; aside = aside-same kernel range old }))) stands begun ends
+
+pub memory-stands : {T : Type 0} (kernel : Extent) (r : Result T Refusal) (old new : List Item)
+    → Stands kernel old → HasBegun old → Ends r old new memory_growth → Stands kernel new
+memory-stands kernel r old new stands begun ends =
+    stands-by kernel r old new (memory_growth old) (λ placed. memory-cuts kernel old placed) stands begun ends
+
+-- an allocation, whoever it is for
+pub alloc-placed : (kernel : Extent) (r : Result ℕ Refusal) (old new : List Item) (q : Request) (who : Owner)
+    → Placed kernel old → (found : Option ℕ) → place_for q old ≡ found → Allocates r old new found q.size who → Placed kernel new
+alloc-placed kernel r old new q who placed None is ends = subst (Placed kernel) (sym ends.1) placed
+alloc-placed kernel r old new q who placed (Some place) is ends =
+    cuts-ends (Placed kernel) r old new (claimed (record { base = place; size = q.size }) who old)
+    (allocated-cuts kernel old q place who is placed) ends.1
+
+pub alloc-stands : (kernel : Extent) (r : Result ℕ Refusal) (old new : List Item) (q : Request) (who : Owner)
+    → Stands kernel old → HasBegun old → (found : Option ℕ) → place_for q old ≡ found → Allocates r old new found q.size who
+    → Stands kernel new
+alloc-stands kernel r old new q who stands begun found is ends =
+    λ _. alloc-placed kernel r old new q who (stands begun) found is ends
+
+-- items that are written alone
+pub trim-stands : (kernel : Extent) (old new : List Item) → Stands kernel old → HasBegun old → new ≡ old ++ item.Trim ∷ []
+    → Stands kernel new
+trim-stands kernel old new stands begun is = λ _. subst (Placed kernel) (sym is) (trim-placed kernel old (stands begun))
+
+pub limit-stands : (kernel : Extent) (old new : List Item) (at : ℕ) → Stands kernel old → HasBegun old
+    → new ≡ old ++ item.Limit at ∷ [] → Stands kernel new
+limit-stands kernel old new at stands begun is = λ _. subst (Placed kernel) (sym is) (limit-placed kernel old at (stands begun))
+
+pub same-stands : (kernel : Extent) (old new : List Item) → Stands kernel old → new ≡ old → Stands kernel new
+same-stands kernel old new stands is = subst (Stands kernel) (sym is) stands
+
+-- what has begun goes on
+more-begun : (items more : List Item) → HasBegun items → HasBegun (items ++ more)
+more-begun [] more begun = absurd begun
+more-begun (i ∷ is) more begun = tt
+
+-- a call adds items
+pub ends-more : {T : Type 0} (r : Result T Refusal) (old new : List Item) (o : Outcome) → EndsBy r old new o
+    → (more : List Item) × (new ≡ old ++ more)
+ends-more (Ok x) old new o ends = (joined o.steps, ends.1)
+ends-more (Err refusal.NoGap) old new o ends = absurd ends
+ends-more (Err (refusal.NoGapForTable w room)) old new o ends = (joined o.steps, ends.1)
+ends-more (Err refusal.Memory) old new o ends = (joined (take ends.count o.steps), ends.stands)
+
+pub ends-begun : {T : Type 0} (r : Result T Refusal) (old new : List Item) (change : Change) → HasBegun old → Ends r old new change
+    → HasBegun new
+ends-begun r old new change begun ends =
+    let more = ends-more r old new (change old) ends in subst HasBegun (sym more.1) (more-begun old more.0 begun)
+
+-- what may be claimed once something was
+pub may-keep : (kernel : Extent) (items : List Item) (range : Extent) (who : Owner) → HasBegun items → keeps (Some who) ≡ true
+    → MayClaim kernel items range who
+may-keep kernel [] range who begun kept = absurd begun
+may-keep kernel (i ∷ is) range who begun kept = inl kept
+
+pub may-away : (kernel : Extent) (items : List Item) (range : Extent) (who : Owner) → HasBegun items → IsAway kernel range items
+    → MayClaim kernel items range who
+may-away kernel [] range who begun away = absurd begun
+may-away kernel (i ∷ is) range who begun away = inr away
+
+-- a table is full only once something was claimed
+pub full-begun : (items : List Item) (range : Extent) → end_of range ≤ 2 ^ 64
+    → is_full which.Reserved (new_in which.Reserved range) items ≡ true → HasBegun items
+full-begun [] range small full = absurd (true≢false (sym full ∙ first-full range small))
+full-begun (i ∷ is) range small full = tt
+
+pub full-begun_by_two : (items : List Item) → is_full which.Reserved two items ≡ true → HasBegun items
+full-begun_by_two [] full = absurd (true≢false (sym full ∙ first-full_by_two))
+full-begun_by_two (i ∷ is) full = tt
+
+-- growths where they are due
+pub once-cuts : (kernel range : Extent) (more : List Item → ℕ) (items : List Item) → Placed kernel items
+    → EachCut (Going kernel range items) items (if_due (is_full which.Reserved more) (reserved_growth range) items).steps
+once-cuts kernel range more items placed =
+    let here : Going kernel range items items = record { placed = placed; aside = aside-same kernel range items } in
+    cuts-due (Going kernel range items) items (is_full which.Reserved more) (reserved_growth range) here
+    (reserved-cuts kernel range items items here)
+
+pub once-going : {T : Type 0} (kernel range : Extent) (r : Result T Refusal) (old new : List Item) (more : List Item → ℕ)
+    → Placed kernel old → Ends r old new (if_due (is_full which.Reserved more) (reserved_growth range)) → Going kernel range old new
+once-going kernel range r old new more placed ends =
+    cuts-ends (Going kernel range old) r old new (if_due (is_full which.Reserved more) (reserved_growth range) old)
+    (once-cuts kernel range more old placed) ends
+
+pub grown-going : {T : Type 0} (kernel range : Extent) (r : Result T Refusal) (old new : List Item) (more : List Item → ℕ)
+    → Placed kernel old → Ends r old new (grown which.Reserved more (reserved_growth range)) → Going kernel range old new
+grown-going kernel range r old new more placed ends =
+    cuts-ends (Going kernel range old) r old new (grown which.Reserved more (reserved_growth range) old)
+    (room-cuts kernel range more old placed) ends
+
+-- from nothing nothing grows
+idle-stands : {T : Type 0} (kernel : Extent) (r : Result T Refusal) (items new : List Item) (due : List Item → Bool) (change : Change)
+    → Stands kernel items → due items ≡ false → Ends r items new (if_due due change) → Stands kernel new
+idle-stands kernel r items new due change stands idle ends =
+    let none : if_due due change items ≡ nothing items = rw idle refl in
+    cuts-ends (Stands kernel) r items new (nothing items) stands (subst (λ (o : Outcome). EndsBy r items new o) none ends)
+
+pub once-stands : {T : Type 0} (kernel range : Extent) (r : Result T Refusal) (old new : List Item) (more : List Item → ℕ)
+    → (is_full which.Reserved more old ≡ true → HasBegun old) → Stands kernel old
+    → Ends r old new (if_due (is_full which.Reserved more) (reserved_growth range)) → Stands kernel new
+once-stands kernel range r old new more begins stands ends =
+    elim (cases_Bool (is_full which.Reserved more old)) as (λ _. Stands kernel new) [
+      | inl full ↦ λ _. (once-going kernel range r old new more (stands (begins full)) ends).placed
+      | inr idle ↦ idle-stands kernel r old new (is_full which.Reserved more) (reserved_growth range) stands idle ends
+    ]
+
+pub memory_once-stands : {T : Type 0} (kernel : Extent) (r : Result T Refusal) (old new : List Item) (due : List Item → Bool)
+    → Stands kernel old → HasBegun old → Ends r old new (if_due due memory_growth) → Stands kernel new
+memory_once-stands kernel r old new due stands begun ends =
+    stands-by kernel r old new (if_due due memory_growth old)
+    (λ placed. cuts-due (Placed kernel) old due memory_growth placed (memory-cuts kernel old placed)) stands begun ends
+
+pub memory_grown-stands : {T : Type 0} (kernel : Extent) (r : Result T Refusal) (old new : List Item) (more : List Item → ℕ)
+    → Stands kernel old → HasBegun old → Ends r old new (grown which.Memory more memory_growth) → Stands kernel new
+memory_grown-stands kernel r old new more stands begun ends =
+    stands-by kernel r old new (grown which.Memory more memory_growth old)
+    (λ placed. cuts-grown (Placed kernel) which.Memory more memory_growth old (λ t was. memory-cuts kernel t was) placed)
+    stands begun ends

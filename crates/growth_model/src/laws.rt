@@ -1,0 +1,82 @@
+//! The laws of growth, as functions that do nothing: what the layers above may rest on.
+//!
+//! Each change keeps both tables in good places wherever a call of it ends: at its end, at a refusal, and between two of its
+//! steps where memory ran out. Nothing is asked of the tables' bytes or records for that, nor of the addresses.
+
+ghost use Rattle.std.specs.Prelude.{◌≡◌, ℕ, ◌+◌, ◌*◌, ◌%◌, ◌^◌, ◌≤◌, Option, Some, List, [], ◌∷◌, ◌++◌, Result, Ok, Err};
+ghost use Rattle.bm_base.specs.Extent.{Extent, end_of};
+ghost use Rattle.memblock_model.specs.declared.owner.Owner.{Owner};
+ghost use Rattle.memblock_model.specs.declared.owner.Owner.TheVariants as owner;
+ghost use Rattle.memblock_model.specs.declared.query.Query.{Query};
+ghost use Rattle.memblock_model.specs.declared.item.Item.{Item};
+ghost use Rattle.memblock_model.specs.declared.item.Item.TheVariants as item;
+ghost use Rattle.memblock_model.specs.Items.{owner_of, limit_of};
+ghost use Rattle.memblock_model.specs.Search.{best};
+ghost use Rattle.growth_model.specs.declared.refusal.Refusal.{Refusal};
+ghost use Rattle.growth_model.specs.declared.request.Request.{Request};
+ghost use Rattle.growth_model.specs.Outcome.{Change, ◌>>◌ as in_turn, write};
+ghost use Rattle.growth_model.specs.Growth.{frames_of, frames_at, place_beside, claimed, freed, added, noded};
+ghost use Rattle.growth_model.specs.Request.{place_for};
+ghost use Rattle.growth_model.specs.Ends.{Ends, Allocates};
+ghost use Rattle.growth_model.specs.Sound.{Clear, Unclaimed, Placed, IsImage, HasBegun, IsAway, MayClaim};
+
+/// A law: one call after another ends as the one change behind the other does, by the end of the second,
+/// and by an error of the first.
+pub fn ends_add_up()
+    ensures second { (result : Result (Unit {0}) Refusal) (old mid new : List Item) (first second : Change) →
+        Ends {T = Unit {0}} (Ok tt) old mid first → Ends result mid new second → Ends result old new (in_turn first second) }
+    ensures first { (error : Refusal) (old new : List Item) (first second : Change) →
+        Ends {T = Unit {0}} (Err error) old new first → Ends {T = Unit {0}} (Err error) old new (in_turn first second) }
+{}
+
+/// A law: the first claim, of the kernel's image for the kernel, needs no growth, and both tables lie in
+/// good places behind it.
+pub fn first_claim_places_tables()
+    ensures alone { (kernel : Extent) → end_of kernel ≤ 2 ^ 64 →
+        claimed kernel owner.Kernel [] ≡ write (item.Claim kernel owner.Kernel) [] }
+    ensures placed { (kernel : Extent) → IsImage kernel → Placed kernel (item.Claim kernel owner.Kernel ∷ []) }
+{}
+
+/// A law: however a claim or a free ends, both tables lie in good places from the first claim on.
+pub fn claims_keep_places()
+    ensures claimed { (kernel : Extent) (result : Result (Unit {0}) Refusal) (old new : List Item) (range : Extent) (who : Owner) →
+        IsImage kernel → end_of kernel ≤ 2 ^ 64 → (HasBegun old → Placed kernel old) → MayClaim kernel old range who →
+        Ends result old new (claimed range who) → HasBegun new → Placed kernel new }
+    ensures freed { (kernel : Extent) (result : Result (Unit {0}) Refusal) (old new : List Item) (range : Extent) →
+        Placed kernel old → IsAway kernel range old → Ends result old new (freed range) → Placed kernel new }
+{}
+
+/// A law: so they do however memory is added to or given a node, and behind a trim and a new limit.
+pub fn memory_keeps_places()
+    ensures added { (kernel : Extent) (result : Result (Unit {0}) Refusal) (old new : List Item) (range : Extent) →
+        Placed kernel old → Ends result old new (added range) → Placed kernel new }
+    ensures noded { (kernel : Extent) (result : Result (Unit {0}) Refusal) (old new : List Item) (range : Extent) (node : ℕ) →
+        Placed kernel old → Ends result old new (noded range node) → Placed kernel new }
+    ensures trim { (kernel : Extent) (items : List Item) → Placed kernel items → Placed kernel (items ++ item.Trim ∷ []) }
+    ensures limit { (kernel : Extent) (items : List Item) (at : ℕ) → Placed kernel items → Placed kernel (items ++ item.Limit at ∷ []) }
+{}
+
+/// A law: so they do however an allocation ends, whoever it is for.
+pub fn allocations_keep_places()
+    ensures { (kernel : Extent) (result : Result ℕ Refusal) (old new : List Item) (request : Request) (who : Owner) →
+        Placed kernel old → Allocates result old new (place_for request old) request.size who → Placed kernel new }
+{}
+
+/// A law: nobody has a byte of a place that a search finds, so it meets neither table. A new place for the
+/// reserved table lies beside the range that is avoided, and below the limit.
+pub fn found_places_are_free()
+    ensures unclaimed { (items : List Item) (query : Query) (place : ℕ) → best items query ≡ Some place →
+        Unclaimed (owner_of items) (record { base = place; size = query.size }) }
+    ensures away { (kernel : Extent) (items : List Item) (query : Query) (place : ℕ) → Placed kernel items → best items query ≡ Some place →
+        IsAway kernel (record { base = place; size = query.size }) items }
+    ensures allocated { (items : List Item) (request : Request) (place : ℕ) → place_for request items ≡ Some place →
+        Unclaimed (owner_of items) (record { base = place; size = request.size }) }
+    ensures within { (items : List Item) (request : Request) (place : ℕ) → place_for request items ≡ Some place →
+        place + request.size ≤ limit_of items }
+    ensures aligned { (avoid : Extent) (room : ℕ) (items : List Item) (place : ℕ) → place_beside avoid room items ≡ Some place →
+        place % 4096 ≡ 0 }
+    ensures beside { (avoid : Extent) (room : ℕ) (items : List Item) (place : ℕ) → place_beside avoid room items ≡ Some place →
+        Clear avoid (frames_at place (48 * room)) }
+    ensures below { (avoid : Extent) (room : ℕ) (items : List Item) (place : ℕ) → place_beside avoid room items ≡ Some place →
+        place + frames_of (48 * room) ≤ limit_of items }
+{}

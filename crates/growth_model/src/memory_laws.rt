@@ -1,0 +1,39 @@
+//! What growth leaves alone. A boot is told by the items that it wants; between them stand those of growth, which
+//! depend on all that happened before. These laws say that of memory, its nodes and the limit the wanted items
+//! decide alone: so whatever is said of memory is said without growth.
+
+ghost use Rattle.std.specs.Prelude.{◌≡◌, ℕ, List, ◌++◌, take, Ok};
+ghost use Rattle.bm_base.specs.Extent.{Extent as AnyExtent};
+ghost use Rattle.memblock_model.specs.declared.item.Item.{Item as AnyItem};
+ghost use Rattle.memblock_model.specs.declared.owner.Owner.{Owner as AnyOwner};
+ghost use Rattle.memblock_model.specs.Items.{limit_of, memory_of};
+ghost use Rattle.growth_model.specs.Outcome.{after};
+ghost use Rattle.growth_model.specs.Growth.{claimed, freed, memory_growth, reserved_growth};
+ghost use Rattle.growth_model.specs.Carried.{AreQuiet, carried_out, memory_items};
+
+/// A law: what the items say of memory and of the limit is decided by those of memory alone.
+pub fn memory_items_decide()
+    ensures memory { (items : List AnyItem) → memory_of items ≡ memory_of (memory_items items) }
+    ensures limit { (items : List AnyItem) → limit_of items ≡ limit_of (memory_items items) }
+{}
+
+/// A law: growth, claims and frees write no item of memory, at whatever step they end; so behind them memory and
+/// the limit are what they were.
+pub fn claims_leave_memory()
+    ensures reserved { (avoid : AnyExtent) (items : List AnyItem) →
+        AreQuiet (reserved_growth avoid items).steps }
+    ensures memory { (items : List AnyItem) → AreQuiet (memory_growth items).steps }
+    ensures claims { (range : AnyExtent) (who : AnyOwner) (items : List AnyItem) →
+        AreQuiet (claimed range who items).steps }
+    ensures frees { (range : AnyExtent) (items : List AnyItem) → AreQuiet (freed range items).steps }
+    ensures claimed { (range : AnyExtent) (who : AnyOwner) (items : List AnyItem) →
+        memory_of (after items (claimed range who items)) ≡ memory_of items }
+    ensures freed { (range : AnyExtent) (items : List AnyItem) →
+        memory_of (after items (freed range items)) ≡ memory_of items }
+{}
+
+/// A law: of memory nothing is written but what is wanted, in its order.
+pub fn wanted_items_make_memory()
+    ensures { (wanted items last : List AnyItem) → carried_out wanted items ≡ Ok last →
+        memory_items last ≡ memory_items items ++ memory_items wanted }
+{}

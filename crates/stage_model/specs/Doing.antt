@@ -1,0 +1,61 @@
+-- Steps that write items and answer something, one after another; and how a call ends that carries them out.
+use Rattle.std.specs.Prelude.{◌≡◌, ◌⊎◌, ℕ, ◌≤◌, List, [], ◌∷◌, ◌++◌, length, take, Result, Ok, Err}
+use Rattle.memblock_model.specs.declared.item.Item.{Item}
+
+-- what a step comes to: groups of items, each written whole or not at all, and an answer or an error
+pub record Done (E A : Type 0) : Type 0 where
+  pub steps : List (List Item)
+  pub answer : Result A E
+
+abbrev pub Doing : Type 0 → Type 0 → Type 0
+Doing E A = List Item → Done E A
+
+-- the items and the groups behind them
+abbrev pub appended : List Item → List (List Item) → List Item
+appended items [] = items
+appended items (s ∷ ss) = appended (items ++ s) ss
+
+module _ {E A : Type 0} where
+  abbrev pub after : List Item → Done E A → List Item
+  after items d = appended items d.steps
+
+  -- nothing is written, and this is the answer, or the error
+  abbrev pub returns : A → Doing E A
+  returns a items = record { steps = []; answer = Ok a }
+
+  abbrev pub stops : E → Doing E A
+  stops e items = record { steps = []; answer = Err e }
+
+  -- what the items say by now
+  abbrev pub seen : (List Item → A) → Doing E A
+  seen f items = record { steps = []; answer = Ok (f items) }
+
+-- behind an answer the next step goes on; an error ends all
+abbrev pub going_on : {E A B : Type 0} → List (List Item) → Result A E → (A → Done E B) → Done E B
+going_on steps (Ok a) next = record { steps = steps ++ (next a).steps; answer = (next a).answer }
+going_on steps (Err e) next = record { steps = steps; answer = Err e }
+
+infixl 10 ◌>>=◌
+abbrev pub ◌>>=◌ : {E A B : Type 0} → Doing E A → (A → Doing E B) → Doing E B
+(f >>= next) items = going_on (f items).steps (f items).answer (λ a. next a (after items (f items)))
+
+-- one step for each of a list, each going on from what the one before it answered
+abbrev pub in_turn : {E S X : Type 0} → (S → X → Doing E S) → S → List X → Doing E S
+in_turn f s [] = returns s
+in_turn f s (x ∷ xs) = f s x >>= λ next. in_turn f next xs
+
+-- the new items are the old ones and some of the groups, from the first on
+pub record IsCut (old new : List Item) (steps : List (List Item)) : Type 0 where
+  pub count : ℕ
+  pub within : count ≤ length steps
+  pub stands : new ≡ appended old (take count steps)
+
+-- a call answers what is told, and all groups stand; or it wants memory, and the first ones do
+abbrev pub EndsAs : {E A : Type 0} → E → Result A E → List Item → List Item → Done E A → Type 0
+EndsAs wanting (Ok a) old new d = (d.answer ≡ Ok a) × (new ≡ after old d)
+EndsAs wanting (Err e) old new d = ((d.answer ≡ Err e) × (new ≡ after old d)) ⊎ ((e ≡ wanting) × IsCut old new d.steps)
+
+-- an answer as contracts see it
+abbrev pub ok_as : {E A B : Type 0} → (A → B) → Result A E → Result B E
+ok_as view (Ok a) = Ok (view a)
+ok_as view (Err e) = Err e

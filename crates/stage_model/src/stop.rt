@@ -1,0 +1,29 @@
+//! What the stages of a boot place, and why a stage stops it.
+
+use memblock_model::Which;
+
+/// A thing that a boot can't do without.
+#[derive(Clone, Copy, Debug, PartialEq, Eq)]
+pub enum What {
+    /// The data of the node (`alloc_node_data`).
+    NodeData(u32),
+    /// The table of section roots (`memory_present`).
+    Roots,
+    /// The root of that number (`sparse_index_alloc`).
+    Root(u32),
+    /// The usage data of the sections from that one on (`sparse_early_usemaps_alloc_pgdat_section`).
+    Usage(u32),
+    /// The map of the section, or of several from that one on (`sparse_buffer_init`, `__populate_section_memmap`).
+    Map(u32),
+}
+
+/// Why a stage stops the boot.
+#[derive(Clone, Copy, Debug, PartialEq, Eq)]
+pub enum StageStop {
+    /// No place fits.
+    NoPlace { what: What },
+    /// A table had to grow and no place was found for it; `room` is the number of records that was too small.
+    NoTablePlace { which: Which, room: u64 },
+    /// The program's own memory ran out.
+    Memory,
+}
