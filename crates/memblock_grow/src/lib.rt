@@ -20,6 +20,7 @@
 #![tactic(auto)]
 
 mod edits;
+mod memory;
 mod more;
 mod places;
 mod reserved;
