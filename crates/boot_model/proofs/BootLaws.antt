@@ -1,5 +1,5 @@
 -- What holds of a boot that isn't stopped.
-use Rattle.std.proofs.Common.{◌≡◌, ℕ, ◌+◌, ◌*◌, ◌^◌, ◌<◌, ◌≤◌, ◌∙◌, sym, ap, refl, arith, inl, inr, Bool, ◌||◌, true, false, ◌==◌, nat_lt, if◌then◌else◌, Option, Some, None, List, [], ◌∷◌, drop, length, Ok, Err}
+use Rattle.std.proofs.Common.{◌≡◌, ℕ, ◌+◌, ◌*◌, ◌^◌, ◌<◌, ◌≤◌, ◌∙◌, sym, ap, refl, arith, inl, inr, Bool, ◌||◌, true, false, ◌==◌, nat_lt, if◌then◌else◌, Option, Some, None, List, [], ◌∷◌, drop, length, Result, Ok, Err}
 use Rattle.std.proofs.lemmas.Bool.{cases_Bool}
 use Rattle.std.proofs.lemmas.Bool.Decides.{nat_tests}
 use Rattle.std.proofs.Math.Bool.{or-false}
@@ -14,11 +14,13 @@ use Rattle.bm_base.specs.Frames.{bytes_of_frame}
 use Rattle.bm_base.proofs.EachLaws.{each_in-same}
 use Rattle.boot_model.specs.declared.limit.TheConstants.{MAX_PHYSMEM}
 use Rattle.e820_model.proofs.ClaimLaws.{tells_kinds}
+use Rattle.memblock_model.specs.declared.item.Item.{Item}
+use Rattle.growth_model.specs.Outcome.{Refused}
 use Rattle.e820_usable.specs.declared.stop.MapStop.{MapStop}
 use Rattle.e820_usable.specs.declared.stop.MapStop.TheVariants as reasons
 use Rattle.e820_usable.specs.Judged.{judged}
 use Rattle.boot_model.specs.declared.stop.Cause.{Cause}
-use Rattle.boot_model.specs.Boot.{Given, Made, begin, claims, has_frames, has_room, later_stages, map_judged, map_stages, types_in_reach, unless_stopped, boot, lies_in_memory}
+use Rattle.boot_model.specs.Boot.{Given, Made, begin, claims, has_frames, has_room, later_stages, map_judged, map_stages, types_in_reach, unless_stopped, boot, lies_in_memory, with_items}
 use Rattle.boot_model.proofs.StageLaws.{AllKeep, chain_keeps, goes_by, passes}
 use Rattle.boot_model.specs.Stages.{in_order}
 
@@ -29,18 +31,18 @@ pub record GoesOn (given : Given) (made : Made) : Type 0 where
   pub judged : judged (types_in_reach given) ≡ None
 
 -- the first two stages leave what was made as it is, and go on only where they find nothing to stop for
-room_passed : (full : Bool) (cause : Cause) (before after : Made) → (if full then Err cause else Ok before) ≡ Ok after → (full ≡ false)
+pub room_passed : (full : Bool) (cause : Cause) (before after : Made) → (if full then Err cause else Ok before) ≡ Ok after → (full ≡ false)
     × (before ≡ after)
 room_passed true cause before after ends = absurd (cc)
 room_passed false cause before after ends = (refl, cc)
 
-frames_passed : (reason : Option MapStop) (before after : Made) → unless_stopped reason before ≡ Ok after → (reason ≡ None)
+pub frames_passed : (reason : Option MapStop) (before after : Made) → unless_stopped reason before ≡ Ok after → (reason ≡ None)
     × (before ≡ after)
 frames_passed None before after ends = (refl, cc)
 frames_passed (Some reason) before after ends = absurd (cc)
 
 -- each stage leaves the map as it is: one fact a stage
-map_keep : (given : Given) → AllKeep (λ (made : Made). made.map) (map_stages given)
+pub map_keep : (given : Given) → AllKeep (λ (made : Made). made.map) (map_stages given)
 map_keep given = (
   λ before after ends. ap (λ (m : Made). m.map) (sym (room_passed _ _ before after ends).1),
   (
@@ -49,8 +51,15 @@ map_keep given = (
   ),
 )
 
-later_keep : (given : Given) → AllKeep (λ (made : Made). made.map) (later_stages given)
-later_keep given = tt
+pub items_passed : (answer : Result (List Item) Refused) (before after : Made) → with_items before answer ≡ Ok after
+    → (answer ≡ Ok after.items) × (after.map ≡ before.map)
+items_passed (Ok items) before after ends =
+    let same : record before { items = items } ≡ after = cc in
+    (ap (λ (m : Made). Ok m.items) same, ap (λ (m : Made). m.map) (sym same))
+items_passed (Err refused) before after ends = absurd (cc)
+
+pub later_keep : (given : Given) → AllKeep (λ (made : Made). made.map) (later_stages given)
+later_keep given = (λ before after ends. (items_passed _ before after ends).1, tt)
 
 pub goes_on : (given : Given) (made : Made) → boot given ≡ Ok made → GoesOn given made
 unfolding boot

@@ -3,6 +3,7 @@
 use Rattle.std.proofs.Common.{◌≡◌, ℕ, ◌*◌, ◌^◌, ◌==◌, nat_lt, if◌then◌else◌, Bool, true, false, List, [], ◌∷◌, Some, None, Ok, Err, refl, sym, arith}
 use Rattle.std.proofs.lemmas.Bool.Decides.{nat_tests}
 use Rattle.std.specs.Prelude.{Result}
+use Rattle.bm_base.specs.Extent.{Extent}
 use Rattle.address_runs.specs.Runs.{RunOf}
 use Rattle.address_runs.proofs.RunsLaws.{one_list}
 use Rattle.e820_model.specs.declared.entry.Entry.{Entry}
@@ -14,13 +15,15 @@ use Rattle.e820_model.proofs.ClaimLaws.{greatest_is, map_runs}
 use Rattle.e820_model.proofs.UsableLaws.{count_none, usable_but}
 use Rattle.e820_usable.specs.declared.stop.MapStop.TheVariants as reasons
 use Rattle.boot_options.specs.Options.{Chosen, chosen}
+use Rattle.memblock_model.specs.declared.which.Which.TheVariants as which
+use Rattle.memblock_model.specs.declared.item.Item.TheVariants as item
 use Rattle.boot_model.specs.declared.booted.Booted.{Booted}
 use Rattle.boot_model.specs.declared.inputs.Inputs.{Inputs}
 use Rattle.boot_model.specs.declared.stop.Cause.TheVariants as causes
 use Rattle.boot_model.specs.declared.stop.Stop.TheVariants as stops
-use Rattle.boot_model.specs.Boot.{Given, Made, begin, boot, claims, has_room, unless_stopped, lies_in_memory}
+use Rattle.boot_model.specs.Boot.{Given, Made, begin, boot, claims, has_room, unless_stopped, lies_in_memory, with_items}
 use Rattle.boot_model.specs.Stages.{in_order}
-use Rattle.boot_model.specs.Stop.{cause_of, cause_of_map, stop_of}
+use Rattle.boot_model.specs.Stop.{cause_of, cause_of_growth, cause_of_map, stop_of}
 use Rattle.boot_model.specs.View.{inputs_view, booted_view}
 
 -- a chain of two stages on numbers, of which the second stops at 2
@@ -44,7 +47,12 @@ abbrev no_options : Chosen
 no_options = record { edits = []; numa_off = false }
 
 abbrev made : Made
-made = record { map = two_runs; options = no_options }
+made = record { map = two_runs; options = no_options; items = [] }
+
+-- items that were carried out, and a growth that was refused
+carried_examples : (with_items made (Ok (item.Trim ∷ [])) ≡ Ok (record made { items = item.Trim ∷ [] }))
+    × (with_items made (Err (record { which = which.Reserved; room = 128 })) ≡ Err (causes.NoTablePlace which.Reserved 128))
+carried_examples = (refl, refl)
 
 few_runs : has_room made ≡ Ok made
 few_runs = refl
@@ -54,13 +62,17 @@ unless_examples = (refl, refl)
 
 -- the cause of a stop, and the stop of a cause
 cause_examples : (cause_of (stops.MapFull 3201) ≡ Some (causes.MapFull 3201)) × (cause_of stops.Memory ≡ None)
-cause_examples = (refl, refl)
+    × (cause_of (stops.NoTablePlace which.Memory 256) ≡ Some (causes.NoTablePlace which.Memory 256))
+cause_examples = (refl, refl, refl)
 
 stop_examples : (stop_of causes.NoRam ≡ stops.NoRam) × (stop_of (causes.TooMuchRam 4294967297) ≡ stops.TooMuchRam 4294967297)
 stop_examples = (refl, refl)
 
 map_examples : (cause_of_map reasons.NoRam ≡ causes.NoRam) × (cause_of_map (reasons.TooMuchRam 4294967297) ≡ causes.TooMuchRam 4294967297)
 map_examples = (refl, refl)
+
+growth_example : cause_of_growth (record { which = which.Memory; room = 256 }) ≡ causes.NoTablePlace which.Memory 256
+growth_example = refl
 
 -- RAM and the kernel's own memory are memory; a reserved run isn't, nor is what lies in no run
 memory_examples : (lies_in_memory two_runs 0x1000 ≡ true) × (lies_in_memory two_runs 0x1FFF ≡ true)
@@ -74,7 +86,8 @@ inputs_are_items : (i : Inputs) → ((inputs_view i).entries ≡ i.zero.entries.
 inputs_are_items i = (refl, refl, refl)
 
 booted_are_items : (b : Booted) → ((booted_view b).map ≡ b.map.items) × ((booted_view b).options ≡ chosen b.options)
-booted_are_items b = (refl, refl)
+    × ((booted_view b).items ≡ b.journal.items)
+booted_are_items b = (refl, refl, refl)
 
 -- two entries of size 0 claim nothing, so no frame is usable, and the boot stops
 Nothing : Claims → Type 0
@@ -117,8 +130,11 @@ no_frame c nothing =
 abbrev empty : Entry
 empty = record { addr = 0; size = 0; kind = 0 }
 
+abbrev image : Extent
+image = record { base = 0x1000000; size = 0x2000000 }
+
 abbrev two_empty : Given
-two_empty = record { entries = empty ∷ empty ∷ []; initrd = None; extension = []; options = no_options }
+two_empty = record { entries = empty ∷ empty ∷ []; initrd = None; extension = []; options = no_options; kernel = image }
 
 none_covers : Nothing (claims_of_entries (empty ∷ empty ∷ []))
 unfolding Nothing

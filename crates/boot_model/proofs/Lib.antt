@@ -1,4 +1,5 @@
 pub mod BootLaws
 mod Examples
+pub mod MemoryLaws
 pub mod StageLaws
 pub mod StopLaws

@@ -12,25 +12,31 @@ use Rattle.e820_model.specs.declared.room.TheConstants.{E820_MAX_ENTRIES}
 use Rattle.e820_usable.specs.declared.stop.MapStop.{MapStop}
 use Rattle.e820_usable.specs.Judged.{judged}
 use Rattle.boot_options.specs.Options.{Chosen}
+use Rattle.memblock_model.specs.declared.item.Item.{Item}
+use Rattle.growth_model.specs.Outcome.{Refused}
+use Rattle.growth_model.specs.Carried.{carried_out}
+use Rattle.early_stages.specs.Wanted.{first_items}
 use Rattle.bm_base.specs.ResultSteps.{◌>>=◌}
 use Rattle.boot_model.specs.declared.limit.TheConstants.{MAX_PHYSMEM}
 use Rattle.boot_model.specs.declared.stop.Cause.{Cause}
 use Rattle.boot_model.specs.declared.stop.Cause.TheVariants as causes
 use Rattle.boot_model.specs.Stages.{in_order}
-use Rattle.boot_model.specs.Stop.{cause_of_map}
+use Rattle.boot_model.specs.Stop.{cause_of_growth, cause_of_map}
 
 -- what a boot is given: the zero page's entries and its initrd, where there is one, the entries of the
--- extension, and the options
+-- extension, the options, and the range of the kernel's image
 pub record Given : Type 0 where
   pub entries : List Entry
   pub initrd : Option Extent
   pub extension : List Entry
   pub options : Chosen
+  pub kernel : Extent
 
--- what a boot has made so far, and in the end what it makes
+-- what a boot has made so far, and in the end what it makes: the map, the options, and what happened to memory, oldest first
 pub record Made : Type 0 where
   pub map : List (RunOf ℕ)
   pub options : Chosen
+  pub items : List Item
 
 -- what a stage makes of what the stages before it made, or why the boot stops there
 abbrev pub Stage : Type 0
@@ -40,9 +46,9 @@ Stage = Made → Result Made Cause
 abbrev pub claims : Given → Claims
 claims given = finished given.entries given.extension given.options.edits
 
--- a boot begins with the map of these claims
+-- a boot begins with the map of these claims, and nothing happened to memory yet
 abbrev pub begin : Given → Made
-begin given = record { map = map_of (claims given); options = given.options }
+begin given = record { map = map_of (claims given); options = given.options; items = [] }
 
 -- the types of addresses, as far as the kernel's tables of memory reach
 abbrev pub types_in_reach : Given → TypeAt
@@ -67,11 +73,21 @@ map_stages given = has_room ∷ has_frames given ∷ []
 abbrev pub map_judged : Given → Result Made Cause
 map_judged given = in_order (map_stages given) (begin given)
 
+-- the items behind a stage, unless a table that had to grow found no place
+abbrev pub with_items : Made → Result (List Item) Refused → Result Made Cause
+with_items made (Ok items) = Ok (record made { items = items })
+with_items made (Err refused) = Err (cause_of_growth refused)
+
+-- the first claims are made, the map becomes memory, whole frames of it, and the first MiB is claimed (`early_reserve_memory`,
+-- `e820__memblock_setup`, `reserve_real_mode`)
+abbrev pub has_memory : Given → Stage
+has_memory given made = with_items made (carried_out (first_items MAX_PHYSMEM given.kernel given.initrd made.map) made.items)
+
 -- the stages behind them, in their order
 abbrev pub later_stages : Given → List Stage
-later_stages given = []
+later_stages given = has_memory given ∷ []
 
--- the boot (`setup_arch`), as far as the map
+-- the boot (`setup_arch`), as far as memory without nodes
 unfoldable pub boot : Given → Result Made Cause
 boot given = map_judged given >>= λ made. in_order (later_stages given) made
 

@@ -1,6 +1,7 @@
 -- The causes of a stop. Want of memory is the one stop that has none.
 use Rattle.std.specs.Prelude.{Option, Some, None}
 use Rattle.e820_usable.specs.declared.stop.MapStop.{MapStop}
+use Rattle.growth_model.specs.Outcome.{Refused}
 use Rattle.e820_usable.specs.declared.stop.MapStop.TheVariants as reasons
 use Rattle.boot_model.specs.declared.stop.Cause.{Cause}
 use Rattle.boot_model.specs.declared.stop.Cause.TheVariants as causes
@@ -11,14 +12,20 @@ abbrev pub stop_of : Cause → Stop
 stop_of causes.NoRam = stops.NoRam
 stop_of (causes.TooMuchRam frames) = stops.TooMuchRam frames
 stop_of (causes.MapFull runs) = stops.MapFull runs
+stop_of (causes.NoTablePlace which room) = stops.NoTablePlace which room
 
 abbrev pub cause_of : Stop → Option Cause
 cause_of stops.NoRam = Some causes.NoRam
 cause_of (stops.TooMuchRam frames) = Some (causes.TooMuchRam frames)
 cause_of (stops.MapFull runs) = Some (causes.MapFull runs)
+cause_of (stops.NoTablePlace which room) = Some (causes.NoTablePlace which room)
 cause_of stops.Memory = None
 
 -- why a boot stops at its map, as the cause of a stop
 abbrev pub cause_of_map : MapStop → Cause
 cause_of_map reasons.NoRam = causes.NoRam
 cause_of_map (reasons.TooMuchRam frames) = causes.TooMuchRam frames
+
+-- a table that had to grow found no place (`memblock_double_array`)
+abbrev pub cause_of_growth : Refused → Cause
+cause_of_growth refused = causes.NoTablePlace refused.which refused.room

@@ -10,7 +10,8 @@ inputs_view i = record {
   initrd = i.zero.initrd;
   extension = i.ext.items;
   options = chosen i.options;
+  kernel = i.kernel;
 }
 
 abbrev pub booted_view : Booted → Made
-booted_view b = record { map = b.map.items; options = chosen b.options }
+booted_view b = record { map = b.map.items; options = chosen b.options; items = b.journal.items }

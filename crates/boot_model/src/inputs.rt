@@ -1,5 +1,6 @@
 //! What a boot is given: one field an input file.
 
+use bm_base::Range;
 use boot_options::Options;
 use e820_table::{Entry, ZeroPage};
 
@@ -12,4 +13,6 @@ pub struct Inputs {
     pub ext: Vec<Entry>,
     /// The options of the command line.
     pub options: Options,
+    /// The range of the kernel's image.
+    pub kernel: Range,
 }

@@ -1,15 +1,18 @@
 //! What holds of a boot that isn't stopped, for whoever reads its map.
 
-ghost use Rattle.std.specs.Prelude.{◌≡◌, ℕ, ◌+◌, ◌*◌, ◌^◌, ◌<◌, ◌≤◌, Ok, length};
+ghost use Rattle.std.specs.Prelude.{◌≡◌, ℕ, ◌+◌, ◌*◌, ◌^◌, ◌/◌, ◌<◌, ◌≤◌, is_some, Ok, length};
 ghost use Rattle.address_runs.specs.Runs.{value_at};
 ghost use Rattle.e820_model.specs.Map.{kinds};
 ghost use Rattle.bm_base.specs.Each.{each_in};
 ghost use Rattle.bm_base.specs.Frames.{bytes_of_frame};
 ghost use Rattle.e820_model.specs.Usable.{is_usable, usable_frames};
 ghost use Rattle.e820_model.specs.declared.room.TheConstants.{E820_MAX_ENTRIES};
+ghost use Rattle.memblock_model.specs.Items.{limit_of, memory_of};
+ghost use Rattle.early_stages.specs.Memory.{memory_end};
 ghost use Rattle.boot_model.specs.Boot.{Given, Made, boot, claims, lies_in_memory, types_in_reach};
 
 use crate::limit::MAX_PHYSMEM;
+use bm_base::FRAME_SIZE;
 
 /// A law: the map of a boot gives each address below 2^64 the type of its greatest claim, and has at
 /// most as many runs as the table has room for.
@@ -29,4 +32,13 @@ pub fn map_gives_frames()
         0 < usable_frames (types_in_reach given) }
     ensures few { (given : Given) (made : Made) → boot given ≡ Ok made →
         usable_frames (types_in_reach given) ≤ 2 ^ 32 }
+{}
+
+/// A law: at the end of a boot a byte is memory exactly where its frame is usable, whatever was claimed meanwhile and
+/// however the tables grew; and what is allocated ends by the last usable frame.
+pub fn map_gives_memory()
+    ensures memory { (given : Given) (made : Made) (x : ℕ) → boot given ≡ Ok made →
+        is_some (memory_of made.items x) ≡ is_usable (types_in_reach given) (x / FRAME_SIZE) }
+    ensures limit { (given : Given) (made : Made) → boot given ≡ Ok made →
+        limit_of made.items ≡ memory_end MAX_PHYSMEM (kinds (claims given)) }
 {}

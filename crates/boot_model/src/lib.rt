@@ -13,7 +13,8 @@
 //! here once; the boot hands it to what depends on it.
 //!
 //! The layers above may rest on the laws of this crate: the map of a boot that isn't stopped gives
-//! every address the type of its greatest claim, and tells which frames are usable.
+//! every address the type of its greatest claim, and tells which frames are usable; and a byte is memory in the end
+//! exactly where its frame is usable.
 #![tactic(auto)]
 
 mod booted;
@@ -24,6 +25,6 @@ mod stop;
 
 pub use booted::Booted;
 pub use inputs::Inputs;
-pub use laws::{map_gives_frames, map_gives_types};
+pub use laws::{map_gives_frames, map_gives_memory, map_gives_types};
 pub use limit::MAX_PHYSMEM;
 pub use stop::{Cause, Stop};

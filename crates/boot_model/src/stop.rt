@@ -6,6 +6,7 @@ ghost use Rattle.boot_model.specs.Stop.{cause_of};
 
 use bm_base::Memory;
 use e820_usable::MapStop;
+use memblock_model::Which;
 
 /// Why a boot stops, want of memory apart; numbered from 1 in this order.
 #[derive(Clone, Copy, Debug, PartialEq, Eq)]
@@ -16,6 +17,8 @@ pub enum Cause {
     TooMuchRam { frames: u64 },
     /// The map has more runs than the table has room for, which is 3,200: so many.
     MapFull { runs: u64 },
+    /// The table had to grow and no place was found for it; so many records was its room.
+    NoTablePlace { which: Which, room: u64 },
 }
 
 /// Why a boot stops.
@@ -27,6 +30,8 @@ pub enum Stop {
     TooMuchRam { frames: u64 },
     /// The map has more runs than the table has room for, which is 3,200: so many.
     MapFull { runs: u64 },
+    /// The table had to grow and no place was found for it; so many records was its room.
+    NoTablePlace { which: Which, room: u64 },
     /// The program's own memory ran out.
     Memory,
 }
@@ -40,6 +45,7 @@ impl Stop {
             Stop::NoRam => Some(Cause::NoRam),
             Stop::TooMuchRam { frames } => Some(Cause::TooMuchRam { frames }),
             Stop::MapFull { runs } => Some(Cause::MapFull { runs }),
+            Stop::NoTablePlace { which, room } => Some(Cause::NoTablePlace { which, room }),
             Stop::Memory => None,
         }
     }
@@ -56,6 +62,7 @@ impl From<Cause> for Stop {
             Cause::NoRam => Stop::NoRam,
             Cause::TooMuchRam { frames } => Stop::TooMuchRam { frames },
             Cause::MapFull { runs } => Stop::MapFull { runs },
+            Cause::NoTablePlace { which, room } => Stop::NoTablePlace { which, room },
         }
     }
 }

@@ -1,5 +1,5 @@
 -- Where memory ends: behind its last usable frame, which is where its last run ends.
-use Rattle.std.proofs.Common.{◌≡◌, ℕ, ◌+◌, ◌-◌, ◌*◌, ◌/◌, ◌%◌, ◌<◌, ◌≤◌, Bool, true, false, if◌then◌else◌, Option, Some, None, List, [], ◌∷◌, refl, sym, ◌∙◌, inl, inr, arith}
+use Rattle.std.proofs.Common.{◌≡◌, ℕ, ◌+◌, ◌-◌, ◌*◌, ◌/◌, ◌%◌, ◌<◌, ◌≤◌, Bool, true, false, if◌then◌else◌, Option, Some, None, List, [], ◌∷◌, refl, sym, ap, ◌∙◌, inl, inr, arith}
 use Rattle.std.proofs.lemmas.Bool.Decides.{nat_tests}
 use Rattle.std.proofs.lemmas.Bool.{cases_lt, true≢false}
 use Rattle.address_runs.specs.Runs.{RunOf, run_end, value_at, AreRuns, IsRunsOf}
@@ -166,3 +166,8 @@ runs_end_memory limit f rs are =
     let le : end_of_runs rs ≤ memory_end limit f = one_end limit f (end_of_runs rs) (memory_end limit f) first second in
     let ge : memory_end limit f ≤ end_of_runs rs = one_end limit f (memory_end limit f) (end_of_runs rs) second first in
     omega arith
+
+-- and it depends on the types within reach alone
+pub memory_end-same : (limit : ℕ) (f g : TypeAt) → reachable limit f ≡ reachable limit g → memory_end limit f ≡ memory_end limit g
+unfolding memory_end
+memory_end-same limit f g same = ap (λ (t : TypeAt). behind_frame (last_below (is_usable t) (limit / 4096))) same

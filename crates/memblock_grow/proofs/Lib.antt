@@ -1,2 +1,4 @@
 pub mod KeptLaws
 pub mod PlaceLaws
+pub mod MoreLaws
+pub mod ReservedLaws

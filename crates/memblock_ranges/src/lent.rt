@@ -8,7 +8,7 @@ ghost use Rattle.address_runs.specs.Edits.{covered, uncovered, relabelled};
 ghost use Rattle.memblock_model.specs.Labels.{Label as AnyLabel, with_node};
 ghost use Rattle.memblock_model.specs.Items.{trimmed};
 ghost use Rattle.memblock_model.specs.Tables.{records_for, pieces};
-ghost use Rattle.memblock_ranges.specs.Spelling.{region_of};
+ghost use Rattle.memblock_ranges.specs.Spelling.{region_of, FitsRecord};
 ghost use Rattle.memblock_ranges.specs.Tables.{HasTable, list_in, bytes_by, Edits, Moves, AreRecords};
 
 use crate::live::{Live, Seen};
@@ -119,7 +119,8 @@ pub fn pieces(store: &Store, head: &Head, range: &Range) -> u64
 pub fn region(store: &Store, head: &Head, i: u64) -> Region
     requires table { HasTable store.now head.now }
     requires within { i < length (list_in store.now head.now) }
-    ensures { (r : RunOf AnyLabel) → result ≡ region_of (get_or (list_in store.now head.now) i r) }
+    ensures region { (r : RunOf AnyLabel) → result ≡ region_of (get_or (list_in store.now head.now) i r) }
+    ensures fits { (r : RunOf AnyLabel) → FitsRecord (get_or (list_in store.now head.now) i r) }
 {
     let seen = Seen { store, head };
     region_of(&seen.get(i))

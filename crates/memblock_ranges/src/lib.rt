@@ -32,5 +32,6 @@ mod tables;
 mod trim;
 
 pub use laws::{edits_add_few_records, edits_follow_the_items, pieces_are_few};
+pub use record::{NO_NODE, label_of, node_field};
 pub use region::{Head, Heads, Region, region_at};
 pub use tables::Tables;

@@ -27,8 +27,8 @@ pub fn label_of(node: u32) -> Label
     }
 }
 
-/// The node field of a label.
-fn node_field(label: Label) -> u32
+/// The node field of a label: the node, or 1,024 for none.
+pub fn node_field(label: Label) -> u32
     ensures value { result ≡ node_field label }
     ensures most { result ≤ 1024 }
     ensures back { label_of result ≡ label }
@@ -79,9 +79,10 @@ pub fn spell(record: &Record) -> [u8; 24]
     )
 }
 
-/// The record as callers see it.
+/// The record as callers see it, which tells all of it.
 pub fn region_of(record: &Record) -> Region
-    ensures { result ≡ region_of record.now }
+    ensures region { result ≡ region_of record.now }
+    ensures fits { FitsRecord record.now }
 {
     Region {
         base: record.range.base,

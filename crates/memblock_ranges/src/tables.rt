@@ -9,7 +9,7 @@ ghost use Rattle.memblock_model.specs.declared.which.Which.TheVariants as which;
 ghost use Rattle.memblock_model.specs.Labels.{Label as AnyLabel, with_node};
 ghost use Rattle.memblock_model.specs.Items.{trimmed};
 ghost use Rattle.memblock_model.specs.Tables.{records_for, pieces, built_in};
-ghost use Rattle.memblock_ranges.specs.Spelling.{label_of, region_of};
+ghost use Rattle.memblock_ranges.specs.Spelling.{label_of, region_of, FitsRecord};
 ghost use Rattle.memblock_ranges.specs.Tables.{table_in, other_in, records_in, place_in, room_in, bytes_of, bytes_in, head_of, Overlaps, StandsIn, IsNodeOf, HaveNoNode};
 
 use crate::lent;
@@ -82,10 +82,12 @@ impl Tables {
         }
     }
 
-    /// The record of that index, from 0, which is below the table's count.
+    /// The record of that index, from 0, which is below the table's count. It tells all of the record: its
+    /// end is a `u64`, and its node below 1,024, or 1,024 for none.
     pub fn region(&self, which: Which, i: u64) -> Region
         requires { i < length (records_in which self.now) }
-        ensures { (r : RunOf AnyLabel) → result ≡ region_of (get_or (records_in which self.now) i r) }
+        ensures region { (r : RunOf AnyLabel) → result ≡ region_of (get_or (records_in which self.now) i r) }
+        ensures fits { (r : RunOf AnyLabel) → FitsRecord (get_or (records_in which self.now) i r) }
     {
         match which {
             Which::Memory => lent::region(&self.store, &self.heads.memory, i),

@@ -15,8 +15,10 @@
 //! laws over the definitions: they do nothing, and their contracts are proved.
 #![tactic(auto)]
 
+mod laws;
 mod section;
 mod stop;
 
+pub use laws::{allocations_leave_memory, calls_end_as_steps};
 pub use section::Section;
 pub use stop::{StageStop, What};

@@ -1,0 +1,152 @@
+-- What a look down tells, and the stretch of addresses that two looks tell of.
+use Rattle.std.proofs.Common.{◌≡◌, ◌≢◌, ◌⊎◌, ℕ, ◌+◌, ◌-◌, ◌<◌, ◌≤◌, is_none, if◌then◌else◌, Option, Some, None, List, length, max, refl, sym, ◌∙◌, ap, subst, inl, inr, arith}
+use Rattle.std.proofs.lemmas.Bool.{cases_lt}
+use Rattle.address_runs.specs.Runs.{RunOf, run_end, value_at, AreRuns}
+use Rattle.address_runs.specs.Sweep.{Stays}
+use Rattle.memblock_model.specs.Labels.{Label, Labels}
+use Rattle.memblock_ranges.specs.Tables.{Contents}
+use Rattle.memblock_find.specs.declared.cursor.Look.{Look}
+use Rattle.memblock_find.specs.declared.cursor.Cursor.{Cursor}
+use Rattle.memblock_find.specs.Free.{unclaimed, free_in, IsDownTo}
+use Rattle.memblock_find.specs.Walk.{run_at, BegunBelow, IsLookDown, IsDownAt, label_at}
+use Rattle.memblock_find.proofs.SlotLaws.{ends_before, ends_ascend, bases_ascend, size_at, value_in, none_beside, other_under}
+
+-- with no record below the address nothing is there
+pub look_bottom : (rs : List (RunOf Label)) (at : ℕ) → BegunBelow at rs 0 → IsLookDown rs at (record { label = None; bound = 0; slot = 0 })
+look_bottom rs at begun = record {
+  down = record {
+    stays = λ x above under. none_beside x rs (λ i less. let base = begun.behind i (omega arith) less in inr (omega arith));
+    another = λ x next same. absurd (omega arith);
+  };
+  next = record { runs = begun.runs; within = omega arith; before = λ i less. absurd (omega arith); behind = λ i from less. omega arith };
+  order = omega arith;
+  below = λ some. some;
+}
+
+-- down to the end of the last record below the address there is nothing
+pub look_gap : (rs : List (RunOf Label)) (slot at : ℕ) → 0 < slot → BegunBelow at rs slot → run_end (run_at rs (slot - 1)) < at
+    → IsLookDown rs at (record { label = None; bound = run_end (run_at rs (slot - 1)); slot = slot })
+look_gap rs slot at some begun under_at =
+    let runs : AreRuns rs = begun.runs in
+    let i : ℕ = slot - 1 in
+    let last : i < length rs = omega (arith, begun.within) in
+    let size = size_at i rs runs last in
+    record {
+      down = record {
+        stays = λ x above under. none_beside x rs (λ j less.
+            elim (cases_lt j slot) as (λ _. (run_end (run_at rs j) ≤ x) ⊎ (x < (run_at rs j).base)) [
+              | inl before ↦ let ends = ends_ascend j i rs runs (omega arith) last in inl (omega arith)
+              | inr after ↦ let base = begun.behind j after less in inr (omega arith)
+            ]);
+        another = λ x next same.
+            let here : value_at rs x ≡ Some (run_at rs i).value = value_in i x rs runs last (omega arith) (omega arith) in
+            cc;
+      };
+      next = record {
+        runs = runs;
+        within = begun.within;
+        before = λ j less. let bases = bases_ascend j i rs runs (omega arith) last in omega arith;
+        behind = λ j from less. ends_before i j rs runs (omega arith) less;
+      };
+      order = omega arith;
+      below = λ _. under_at;
+    }
+
+-- in the last record that begins below the address there is its label
+pub look_in : (rs : List (RunOf Label)) (slot at : ℕ) → 0 < slot → BegunBelow at rs slot → at ≤ run_end (run_at rs (slot - 1))
+    → IsLookDown rs at (record { label = Some (run_at rs (slot - 1)).value; bound = (run_at rs (slot - 1)).base; slot = slot - 1 })
+look_in rs slot at some begun at_end =
+    let runs : AreRuns rs = begun.runs in
+    let i : ℕ = slot - 1 in
+    let last : i < length rs = omega (arith, begun.within) in
+    let base : (run_at rs i).base < at = begun.before i (omega arith) in
+    record {
+      down = record {
+        stays = λ x above under. value_in i x rs runs last above (omega arith);
+        another = λ x next. other_under i x rs runs last next;
+      };
+      next = record {
+        runs = runs;
+        within = omega arith;
+        before = λ j less.
+            let ends = ends_before j i rs runs less last in
+            let size = size_at j rs runs (omega arith) in
+            omega arith;
+        behind = λ j from less. bases_ascend i j rs runs from less;
+      };
+      order = omega arith;
+      below = λ _. base;
+    }
+
+-- a look is good for the addresses above its bound
+pub look_lower : (rs : List (RunOf Label)) (from at : ℕ) (look : Look) → IsLookDown rs from look → look.bound ≤ at → at ≤ from
+    → look.bound ≢ at → IsLookDown rs at look
+look_lower rs from at look known above under other = record {
+  down = record { stays = λ x low high. known.down.stays x low (omega arith); another = known.down.another };
+  next = known.next;
+  order = above;
+  below = λ some. omega arith;
+}
+
+-- what is unclaimed follows from what both tables say
+unclaimed_is : (memory reserved : Labels) (x : ℕ) (a b : Option Label) → memory x ≡ a → reserved x ≡ b
+    → unclaimed memory reserved x ≡ (if is_none b then a else None)
+unclaimed_is memory reserved x a b m r =
+    ap (λ (o : Option Label). if is_none o then memory x else None) r ∙ ap (λ (o : Option Label). if is_none b then o else None) m
+
+-- the addresses of a cursor's stretch carry its label
+pub stretch_stays : (t : Contents) (c : Cursor) (from : ℕ) (label : Option Label) → IsDownAt t c
+    → from ≡ max c.memory.bound c.reserved.bound → label ≡ label_at c → Stays (free_in t) from c.at label
+stretch_stays t c from label known from_is label_is x above under =
+    unclaimed_is (value_at t.memory.records) (value_at t.reserved.records) x c.memory.label c.reserved.label
+    (known.memory.down.stays x (omega arith) under) (known.reserved.down.stays x (omega arith) under) ∙ sym label_is
+
+-- where memory or the claims change, something else is unclaimed
+unclaimed_changes : (carried claimed label : Option Label) → (carried ≢ label) ⊎ (claimed ≢ None) → label ≢ None
+    → (if is_none claimed then carried else None) ≢ label
+unclaimed_changes carried None label (inl other) some = other
+unclaimed_changes carried None label (inr other) some = absurd (other refl)
+unclaimed_changes carried (Some v) label changes some = λ same. some (sym same)
+
+stretch_ends : (memory reserved : Labels) (x m r : ℕ) (a b : Option Label) → ((y : ℕ) → y + 1 ≡ m → memory y ≢ a)
+    → ((y : ℕ) → y + 1 ≡ r → reserved y ≢ b) → x + 1 ≡ max m r → (if is_none b then a else None) ≢ None
+    → unclaimed memory reserved x ≢ (if is_none b then a else None)
+stretch_ends memory reserved x m r a (Some v) other_m other_r next some = absurd (some refl)
+stretch_ends memory reserved x m r a None other_m other_r next some =
+    elim (cases_lt m r) as (λ _. unclaimed memory reserved x ≢ a) [
+      | inl lt ↦ unclaimed_changes (memory x) (reserved x) a (inr (other_r x (omega arith))) some
+      | inr ge ↦ unclaimed_changes (memory x) (reserved x) a (inl (other_m x (omega arith))) some
+    ]
+
+-- and where they are unclaimed memory, the address below them carries something else
+pub stretch_down : (t : Contents) (c : Cursor) (from : ℕ) (label : Option Label) → IsDownAt t c
+    → from ≡ max c.memory.bound c.reserved.bound → label ≡ label_at c → label ≢ None → IsDownTo (free_in t) from c.at label
+stretch_down t c from label known from_is label_is some =
+    let held : label_at c ≢ None = subst (λ (o : Option Label). o ≢ None) label_is some in
+    let ends : (x : ℕ) → x + 1 ≡ from → free_in t x ≢ label_at c = λ x next.
+    stretch_ends (value_at t.memory.records) (value_at t.reserved.records) x c.memory.bound c.reserved.bound
+    c.memory.label c.reserved.label known.memory.down.another known.reserved.down.another (next ∙ from_is) held in
+    record {
+      stays = stretch_stays t c from label known from_is label_is;
+      another = λ x next same. ends x next (same ∙ label_is);
+    }
+
+-- the records of a table that is searched for those that begin below an address
+pub all_begun : (rs : List (RunOf Label)) (at count : ℕ) → AreRuns rs → count ≡ length rs → (0 < count → (run_at rs (count - 1)).base < at)
+    → BegunBelow at rs count
+all_begun rs at count runs all last = record {
+  runs = runs;
+  within = omega arith;
+  before = λ i less. let bases = bases_ascend i (count - 1) rs runs (omega arith) (omega arith) in let top = last (omega arith) in omega arith;
+  behind = λ i from less. absurd (omega arith);
+}
+
+pub begun_so_far : (rs : List (RunOf Label)) (at middle : ℕ) → AreRuns rs → middle < length rs → (run_at rs middle).base < at
+    → (i : ℕ) → i < middle + 1 → (run_at rs i).base < at
+begun_so_far rs at middle runs within begun i less =
+    let bases = bases_ascend i middle rs runs (omega arith) within in omega arith
+
+pub not_begun_from : (rs : List (RunOf Label)) (at middle : ℕ) → AreRuns rs → at ≤ (run_at rs middle).base
+    → (i : ℕ) → middle ≤ i → i < length rs → at ≤ (run_at rs i).base
+not_begun_from rs at middle runs behind i from within =
+    let bases = bases_ascend middle i rs runs from within in omega arith

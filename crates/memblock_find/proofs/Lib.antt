@@ -1,0 +1,5 @@
+pub mod SlotLaws
+pub mod DownLaws
+pub mod PlaceLaws
+pub mod UpLaws
+pub mod OneLaws

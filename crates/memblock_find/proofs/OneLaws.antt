@@ -1,0 +1,123 @@
+-- The search over records is the search over items, and there is one run on each side of an address.
+use Rattle.std.proofs.Common.{◌≡◌, ◌≢◌, ℕ, ◌+◌, ◌-◌, ◌^◌, ◌<◌, ◌≤◌, Option, Some, None, List, refl, sym, ◌∙◌, ap, subst, inl, inr, arith}
+use Rattle.std.proofs.lemmas.Bool.{cases_lt}
+use Rattle.std.proofs.lemmas.Option.{same_Some}
+use Rattle.address_runs.specs.Runs.{RunOf, run_end, value_at}
+use Rattle.address_runs.specs.Edits.{NothingFrom}
+use Rattle.memblock_model.specs.declared.item.Item.{Item}
+use Rattle.memblock_model.specs.declared.query.Query.{Query}
+use Rattle.memblock_model.specs.declared.which.Which.{Which}
+use Rattle.memblock_model.specs.declared.which.Which.TheVariants as which
+use Rattle.memblock_model.specs.Labels.{Label, Labels}
+use Rattle.memblock_model.specs.Tables.{table_of, records_of}
+use Rattle.memblock_model.specs.Search.{best_in, best}
+use Rattle.memblock_model.proofs.TableLaws.{value_at-records}
+use Rattle.memblock_ranges.specs.Tables.{Contents}
+use Rattle.memblock_find.specs.Free.{unclaimed, free_in, IsRunBelow, IsRunFrom}
+
+-- records that are those of the items say what the items say
+says : (w : Which) (items : List Item) (rs : List (RunOf Label)) → NothingFrom (2 ^ 64) (table_of w items) → rs ≡ records_of w items
+    → value_at rs ≡ table_of w items
+unfolding records_of
+says w items rs ends is = ap (λ (ss : List (RunOf Label)). value_at ss) is ∙ value_at-records (table_of w items) ends
+
+pub best_says : (items : List Item) (t : Contents) (q : Query)
+    → NothingFrom (2 ^ 64) (table_of which.Memory items) → NothingFrom (2 ^ 64) (table_of which.Reserved items)
+    → t.memory.records ≡ records_of which.Memory items → t.reserved.records ≡ records_of which.Reserved items
+    → best_in (value_at t.memory.records) (value_at t.reserved.records) q ≡ best items q
+unfolding best
+best_says items t q memory_ends reserved_ends memory reserved =
+    ap (λ (f : Labels). best_in f (value_at t.reserved.records) q) (says which.Memory items t.memory.records memory_ends memory)
+    ∙ ap (λ (f : Labels). best_in (table_of which.Memory items) f q) (says which.Reserved items t.reserved.records reserved_ends reserved)
+
+pub free_says : (items : List Item) (t : Contents)
+    → NothingFrom (2 ^ 64) (table_of which.Memory items) → NothingFrom (2 ^ 64) (table_of which.Reserved items)
+    → t.memory.records ≡ records_of which.Memory items → t.reserved.records ≡ records_of which.Reserved items
+    → free_in t ≡ unclaimed (table_of which.Memory items) (table_of which.Reserved items)
+free_says items t memory_ends reserved_ends memory reserved =
+    ap (λ (f : Labels). unclaimed f (value_at t.reserved.records)) (says which.Memory items t.memory.records memory_ends memory)
+    ∙ ap (λ (f : Labels). unclaimed (table_of which.Memory items) f) (says which.Reserved items t.reserved.records reserved_ends reserved)
+
+same_run : (r s : RunOf Label) → r.base ≡ s.base → run_end r ≡ run_end s → r.value ≡ s.value → r ≡ s
+same_run r s bases ends values =
+    let sizes : r.size ≡ s.size = omega arith in
+    λ j. record { base = bases j; size = sizes j; value = values j }
+
+-- of two runs below an address the one ends no earlier than the other
+no_lower_end : (f : Labels) (below : ℕ) (r s : RunOf Label) → IsRunBelow f below r → IsRunBelow f below s → run_end s ≤ run_end r
+no_lower_end f below r s one two =
+    elim (cases_lt (run_end r) (run_end s)) as (λ _. run_end s ≤ run_end r) [
+      | inl lt ↦
+          let x : ℕ = run_end s - 1 in
+          let some = two.some in
+          let ends = two.ends in
+          let none : f x ≡ None = one.behind x (omega arith) (omega arith) in
+          let here : f x ≡ Some s.value = two.run.stays x (omega arith) (omega arith) in
+          absurd (cc (sym none ∙ here))
+      | inr ge ↦ ge
+    ]
+
+-- and begins no later, where both carry the same
+no_higher_base : (f : Labels) (below : ℕ) (r s : RunOf Label) → IsRunBelow f below r → IsRunBelow f below s → run_end r ≡ run_end s
+    → r.value ≡ s.value → s.base ≤ r.base
+no_higher_base f below r s one two ends values =
+    elim (cases_lt r.base s.base) as (λ _. s.base ≤ r.base) [
+      | inl lt ↦
+          let x : ℕ = s.base - 1 in
+          let some = two.some in
+          let here : f x ≡ Some r.value = one.run.stays x (omega arith) (omega arith) in
+          absurd (two.run.another x (omega arith) (here ∙ ap (λ (v : Label). Some v) values))
+      | inr ge ↦ ge
+    ]
+
+pub one_below : (f : Labels) (below : ℕ) (r s : RunOf Label) → IsRunBelow f below r → IsRunBelow f below s → r ≡ s
+one_below f below r s one two =
+    let upper = no_lower_end f below r s one two in
+    let lower = no_lower_end f below s r two one in
+    let ends : run_end r ≡ run_end s = omega arith in
+    let x : ℕ = run_end r - 1 in
+    let some_r = one.some in
+    let some_s = two.some in
+    let first : f x ≡ Some r.value = one.run.stays x (omega arith) (omega arith) in
+    let second : f x ≡ Some s.value = two.run.stays x (omega arith) (omega arith) in
+    let values : r.value ≡ s.value = same_Some r.value s.value (sym first ∙ second) in
+    let left = no_higher_base f below r s one two ends values in
+    let right = no_higher_base f below s r two one (sym ends) (sym values) in
+    same_run r s (omega arith) ends values
+
+-- the same upward
+no_higher_start : (f : Labels) (from : ℕ) (r s : RunOf Label) → IsRunFrom f from r → IsRunFrom f from s → s.base ≤ r.base
+no_higher_start f from r s one two =
+    elim (cases_lt r.base s.base) as (λ _. s.base ≤ r.base) [
+      | inl lt ↦
+          let some = one.some in
+          let none : f r.base ≡ None = two.before r.base one.starts lt in
+          let here : f r.base ≡ Some r.value = one.run.stays r.base (omega arith) (omega arith) in
+          absurd (cc (sym none ∙ here))
+      | inr ge ↦ ge
+    ]
+
+no_lower_stop : (f : Labels) (from : ℕ) (r s : RunOf Label) → IsRunFrom f from r → IsRunFrom f from s → r.base ≡ s.base
+    → r.value ≡ s.value → run_end s ≤ run_end r
+no_lower_stop f from r s one two bases values =
+    elim (cases_lt (run_end r) (run_end s)) as (λ _. run_end s ≤ run_end r) [
+      | inl lt ↦
+          let some = one.some in
+          let here : f (run_end r) ≡ Some s.value = two.run.stays (run_end r) (omega arith) lt in
+          absurd (one.run.another (here ∙ ap (λ (v : Label). Some v) (sym values)))
+      | inr ge ↦ ge
+    ]
+
+pub one_from : (f : Labels) (from : ℕ) (r s : RunOf Label) → IsRunFrom f from r → IsRunFrom f from s → r ≡ s
+one_from f from r s one two =
+    let upper = no_higher_start f from r s one two in
+    let lower = no_higher_start f from s r two one in
+    let bases : r.base ≡ s.base = omega arith in
+    let some_r = one.some in
+    let some_s = two.some in
+    let first : f r.base ≡ Some r.value = one.run.stays r.base (omega arith) (omega arith) in
+    let second : f r.base ≡ Some s.value = two.run.stays r.base (omega arith) (omega arith) in
+    let values : r.value ≡ s.value = same_Some r.value s.value (sym first ∙ second) in
+    let left = no_lower_stop f from r s one two bases values in
+    let right = no_lower_stop f from s r two one (sym bases) (sym values) in
+    same_run r s bases (omega arith) values

@@ -1,0 +1,224 @@
+-- Places in a stretch of addresses of one label, and the best of them.
+use Rattle.std.proofs.Common.{◌≡◌, ◌≢◌, ℕ, ◌+◌, ◌-◌, ◌*◌, ◌/◌, ◌%◌, ◌^◌, ◌<◌, ◌≤◌, true, false, is_some, is_none, if◌then◌else◌, Option, Some, None, max, MatchOption, refl, sym, ◌∙◌, ap, subst, inl, inr, arith}
+use Rattle.std.proofs.Math.Nat.{mul-le-mul_right, one-le-pow}
+use Rattle.std.specs.Int.Bits.{bit_and}
+use Rattle.std.proofs.lemmas.Nat.{le-div, div-add-mod', mod-mul-add, and_mask}
+use Rattle.std.proofs.lemmas.Bool.{cases_lt, cases_Bool, true≢false}
+use Rattle.address_runs.specs.Sweep.{Stays}
+use Rattle.memblock_model.specs.Labels.{Label, Labels}
+use Rattle.memblock_model.specs.Search.{allows, fits_in, best_in}
+use Rattle.memblock_model.specs.declared.query.Query.{Query}
+use Rattle.memblock_model.proofs.SearchLaws.{IsPlace, fits_in-parts, fits_in-whole, best_in-last, best_in-fails}
+use Rattle.memblock_find.specs.Free.{unclaimed, IsDownTo}
+use Rattle.memblock_find.specs.Places.{IsBetween, NoPlaceEnds, IsBestBy}
+
+-- rounding down gives a multiple, and the last one
+pub rounded_aligned : (t n : ℕ) → 0 < n → (t - t % n) % n ≡ 0
+rounded_aligned t n some =
+    let parts = div-add-mod' t n in
+    let whole : t - t % n ≡ t / n * n + 0 = omega arith in
+    ap (λ (k : ℕ). k % n) whole ∙ mod-mul-add (t / n) n 0 some
+
+pub rounded_last : (t n b : ℕ) → 0 < n → b % n ≡ 0 → b ≤ t → b ≤ t - t % n
+rounded_last t n b some aligned under =
+    let parts = div-add-mod' t n in
+    let whole = div-add-mod' b n in
+    let product : b / n * n ≤ t = omega arith in
+    let fewer : b / n ≤ t / n = le-div (b / n) t n some product in
+    let order : b / n * n ≤ t / n * n = mul-le-mul_right n fewer in
+    omega arith
+
+-- each byte of a place is unclaimed memory of the place's label
+label_of_place : (memory reserved : Labels) (q : Query) (b x : ℕ) → IsPlace memory reserved q b → b ≤ x → x < b + q.size
+    → unclaimed memory reserved x ≡ memory b
+label_of_place memory reserved q b x place above under =
+    ap (λ (o : Option Label). if is_none o then memory x else None) (place.free x above under) ∙ place.label x above under
+
+held_somewhere : (o : Option Label) → is_some o ≡ true → o ≢ None
+held_somewhere None h = λ same. true≢false (sym h)
+held_somewhere (Some v) h = λ same. cc
+
+-- a place that ends in a run lies in it
+pub record LiesIn (memory : Labels) (from : ℕ) (label : Option Label) (b : ℕ) : Type 0 where
+  pub above : from ≤ b
+  pub carries : memory b ≡ label
+  pub held : label ≢ None
+
+pub in_run : (memory reserved : Labels) (q : Query) (from until b : ℕ) (label : Option Label) → 1 ≤ q.size
+    → Stays (unclaimed memory reserved) from until label
+    → (label ≢ None → IsDownTo (unclaimed memory reserved) from until label)
+    → fits_in memory reserved q b ≡ true → b + q.size ≤ until → from < b + q.size → LiesIn memory from label b
+in_run memory reserved q from until b label some stays down fits ends past =
+    let place = fits_in-parts memory reserved q b fits in
+    let last : ℕ = b + q.size - 1 in
+    let carries : memory b ≡ label = sym (label_of_place memory reserved q b last place (omega arith) (omega arith))
+    ∙ stays last (omega arith) (omega arith) in
+    let held : label ≢ None = subst (λ (o : Option Label). o ≢ None) carries (held_somewhere (memory b) place.held) in
+    record {
+      above = elim (cases_lt b from) as (λ _. from ≤ b) [
+        | inl lt ↦
+            let x : ℕ = from - 1 in
+            let same : unclaimed memory reserved x ≡ label =
+            label_of_place memory reserved q b x place (omega arith) (omega arith) ∙ carries in
+            absurd ((down held).another x (omega arith) same)
+        | inr ge ↦ ge
+      ];
+      carries = carries;
+      held = held;
+    }
+
+-- what is known of the stretch of addresses in which a place is sought
+pub record IsStretch (memory reserved : Labels) (from until : ℕ) (label : Option Label) : Type 0 where
+  pub stays : Stays (unclaimed memory reserved) from until label
+  pub down : label ≢ None → IsDownTo (unclaimed memory reserved) from until label
+
+-- no place ends in a stretch that isn't unclaimed memory, or whose label the query doesn't allow
+pub none_bare : (memory reserved : Labels) (q : Query) (from until : ℕ) (label : Option Label) → 1 ≤ q.size
+    → IsStretch memory reserved from until label → label ≡ None → NoPlaceEnds memory reserved q from until
+none_bare memory reserved q from until label some known bare b fits ends =
+    elim (cases_lt from (b + q.size)) as (λ _. b + q.size ≤ from) [
+      | inl past ↦ absurd ((in_run memory reserved q from until b label some known.stays known.down fits ends past).held bare)
+      | inr ge ↦ ge
+    ]
+
+pub none_allowed : (memory reserved : Labels) (q : Query) (from until : ℕ) (label : Option Label) (found : Label) → 1 ≤ q.size
+    → IsStretch memory reserved from until label → label ≡ Some found
+    → allows q.node (Some found) ≡ false → NoPlaceEnds memory reserved q from until
+none_allowed memory reserved q from until label found some known is refused b fits ends =
+    elim (cases_lt from (b + q.size)) as (λ _. b + q.size ≤ from) [
+      | inl past ↦
+          let lies = in_run memory reserved q from until b label some known.stays known.down fits ends past in
+          let place = fits_in-parts memory reserved q b fits in
+          absurd (true≢false (sym place.allowed ∙ ap (λ (o : Option Label). allows q.node o) (lies.carries ∙ is) ∙ refused))
+      | inr ge ↦ ge
+    ]
+
+-- what is unclaimed memory is memory, and isn't claimed
+memory_there : (carried claimed : Option Label) (label : Label) → (if is_none claimed then carried else None) ≡ Some label
+    → (carried ≡ Some label) × (claimed ≡ None)
+memory_there carried None label same = (same, refl)
+memory_there carried (Some v) label same = cc
+
+-- the last place between the ends of a stretch, in the window, is the best there
+best_between : (memory reserved : Labels) (q : Query) (from until a : ℕ) (label : Option Label) (found : Label)
+    → 1 ≤ q.size → until ≤ q.hi
+    → IsStretch memory reserved from until label → label ≡ Some found → allows q.node (Some found) ≡ true
+    → IsBetween (max (max from q.lo) 4096) until q.size q.align a
+    → ((b : ℕ) → IsBetween (max (max from q.lo) 4096) until q.size q.align b → b ≤ a)
+    → IsBestBy memory reserved q until a
+best_between memory reserved q from until a label found some window known is allowed lies last =
+    let low_a : max (max from q.lo) 4096 ≤ a = lies.above in
+    let end_a : a + q.size ≤ until = lies.below in
+    let there : (x : ℕ) → a ≤ x → x < a + q.size → (memory x ≡ Some found) × (reserved x ≡ None) =
+    λ x above under. memory_there (memory x) (reserved x) found (known.stays x (omega arith) (omega arith) ∙ is) in
+    let first : memory a ≡ Some found = (there a (omega arith) (omega arith)).0 in
+    record {
+      fits = fits_in-whole memory reserved q a (record {
+        aligned = lies.aligned;
+        low = omega arith;
+        first = omega arith;
+        high = omega arith;
+        held = ap is_some first;
+        allowed = ap (λ (o : Option Label). allows q.node o) first ∙ allowed;
+        label = λ x above under. (there x above under).0 ∙ sym first;
+        free = λ x above under. (there x above under).1;
+      });
+      last = λ b fits ends. elim (cases_lt from (b + q.size)) as (λ _. b ≤ a) [
+        | inl past ↦
+            let inside = in_run memory reserved q from until b label some known.stays known.down fits ends past in
+            let place = fits_in-parts memory reserved q b fits in
+            last b (record { aligned = place.aligned; above = omega (arith, inside.above, place.low, place.first); below = ends })
+        | inr ge ↦ omega arith
+      ];
+    }
+
+-- so what is answered of a stretch of allowed memory is the best place in it, or there is none
+pub best_of_stretch : (memory reserved : Labels) (q : Query) (from until : ℕ) (label : Option Label) (found : Label) (answer : Option ℕ)
+    → 1 ≤ q.size → until ≤ q.hi
+    → IsStretch memory reserved from until label → label ≡ Some found → allows q.node (Some found) ≡ true
+    → MatchOption answer ((b : ℕ) → IsBetween (max (max from q.lo) 4096) until q.size q.align b → ⊥)
+    (λ a. IsBetween (max (max from q.lo) 4096) until q.size q.align a
+    × ((b : ℕ) → IsBetween (max (max from q.lo) 4096) until q.size q.align b → b ≤ a))
+    → MatchOption answer (NoPlaceEnds memory reserved q from until) (IsBestBy memory reserved q until)
+best_of_stretch memory reserved q from until label found None some window known is allowed none =
+    λ b fits ends. elim (cases_lt from (b + q.size)) as (λ _. b + q.size ≤ from) [
+      | inl past ↦
+          let inside = in_run memory reserved q from until b label some known.stays known.down fits ends past in
+          let place = fits_in-parts memory reserved q b fits in
+          absurd (none b (record { aligned = place.aligned; above = omega (arith, inside.above, place.low, place.first); below = ends }))
+      | inr ge ↦ ge
+    ]
+best_of_stretch memory reserved q from until label found (Some a) some window known is allowed best =
+    best_between memory reserved q from until a label found some window known is allowed best.0 best.1
+
+-- the best place of the last stretch is the best, where all stretches above have none
+best_found : (memory reserved : Labels) (q : Query) (at a : ℕ) → NoPlaceEnds memory reserved q at q.hi
+    → IsBestBy memory reserved q at a → a < 2 ^ 64 → best_in memory reserved q ≡ Some a
+best_found memory reserved q at a past best small = best_in-last memory reserved q a (record {
+  below = small;
+  passes = best.fits;
+  last = λ b less fits. best.last b fits (past b fits (fits_in-parts memory reserved q b fits).high);
+})
+
+-- and where the walk has come below the window there is none
+pub none_found : (memory reserved : Labels) (q : Query) (at : ℕ) → 1 ≤ q.size → NoPlaceEnds memory reserved q at q.hi
+    → at ≤ max q.lo 4096 → best_in memory reserved q ≡ None
+none_found memory reserved q at some past low = best_in-fails memory reserved q (λ b less.
+    elim (cases_Bool (fits_in memory reserved q b)) as (λ _. fits_in memory reserved q b ≡ false) [
+      | inl fits ↦
+          let place = fits_in-parts memory reserved q b fits in
+          let ends = past b fits place.high in
+          absurd (omega (arith, place.low, place.first))
+      | inr fails ↦ fails
+    ])
+
+pub best_answer : (memory reserved : Labels) (q : Query) (from at : ℕ) (answer : Option ℕ) → NoPlaceEnds memory reserved q at q.hi
+    → MatchOption answer (NoPlaceEnds memory reserved q from at) (IsBestBy memory reserved q at)
+    → is_some answer ≡ true → q.hi < 2 ^ 64 → answer ≡ best_in memory reserved q
+best_answer memory reserved q from at None past best some small = absurd (true≢false (sym some))
+best_answer memory reserved q from at (Some a) past best some small =
+    let high = (fits_in-parts memory reserved q a best.fits).high in
+    sym (best_found memory reserved q at a past best (omega arith))
+
+-- with no place in a stretch none ends above it
+pub no_answer : (memory reserved : Labels) (q : Query) (from at : ℕ) (answer : Option ℕ) → NoPlaceEnds memory reserved q at q.hi
+    → MatchOption answer (NoPlaceEnds memory reserved q from at) (IsBestBy memory reserved q at)
+    → is_some answer ≡ false → NoPlaceEnds memory reserved q from q.hi
+no_answer memory reserved q from at None past none is = λ b fits ends. none b fits (past b fits ends)
+no_answer memory reserved q from at (Some a) past best is = absurd (true≢false is)
+
+-- the low bits that a mask leaves are the remainder
+pub mask_rest : (t n k : ℕ) → n ≡ 2 ^ k → bit_and t (n - 1) ≡ t % n
+mask_rest t n k is = subst (λ (m : ℕ). bit_and t (m - 1) ≡ t % m) (sym is) (and_mask t k)
+
+-- the greatest multiple below the last address at which the bytes end in time, where it isn't too low
+pub last_is : (low high size align k top place : ℕ) → align ≡ 2 ^ k → size ≤ high → top ≡ high - size
+    → place ≡ top - bit_and top (align - 1) → low ≤ place
+    → IsBetween low high size align place × ((b : ℕ) → IsBetween low high size align b → b ≤ place)
+last_is low high size align k top place power room top_is place_is order =
+    let rest = mask_rest top align k power in
+    let power_some : 1 ≤ 2 ^ k = one-le-pow k 2 (omega arith) in
+    let some : 0 < align = omega arith in
+    let whole : place ≡ top - top % align = omega arith in (
+      record {
+        aligned = ap (λ (n : ℕ). n % align) whole ∙ rounded_aligned top align some;
+        above = order;
+        below = omega arith;
+      },
+      λ b between.
+          let end = between.below in
+          let most = rounded_last top align b some between.aligned (omega arith) in
+          omega arith,
+    )
+
+pub none_last : (low high size align k top place : ℕ) → align ≡ 2 ^ k → size ≤ high → top ≡ high - size
+    → place ≡ top - bit_and top (align - 1) → place < low
+    → (b : ℕ) → IsBetween low high size align b → ⊥
+none_last low high size align k top place power room top_is place_is order b between =
+    let rest = mask_rest top align k power in
+    let power_some : 1 ≤ 2 ^ k = one-le-pow k 2 (omega arith) in
+    let some : 0 < align = omega arith in
+    let end = between.below in
+    let start = between.above in
+    let most = rounded_last top align b some between.aligned (omega arith) in
+    omega arith

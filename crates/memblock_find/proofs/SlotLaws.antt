@@ -1,0 +1,102 @@
+-- Records of a canonical list by their index: their order, and what the list gives in them, between them and beside them.
+use Rattle.std.proofs.Common.{◌≡◌, ◌≢◌, ◌⊎◌, ℕ, zero, suc, ◌+◌, ◌<◌, ◌≤◌, Some, None, List, [], ◌∷◌, length, refl, ap, inl, inr, arith}
+use Rattle.std.proofs.lemmas.Bool.{cases_lt}
+use Rattle.address_runs.specs.Runs.{RunOf, run_end, value_at, AreRuns}
+use Rattle.address_runs.specs.Sweep.{StartFrom}
+use Rattle.address_runs.proofs.RunsLaws.{inside, below, behind, none_below, rest_from, other_behind}
+use Rattle.memblock_model.specs.Labels.{Label}
+use Rattle.memblock_find.specs.Walk.{run_at}
+
+start_sooner : (at from : ℕ) (rs : List (RunOf Label)) → at ≤ from → StartFrom from rs → StartFrom at rs
+start_sooner at from [] le start = tt
+start_sooner at from (r ∷ rs) le start = omega arith
+
+start_at : (at i : ℕ) (rs : List (RunOf Label)) → AreRuns rs → StartFrom at rs → i < length rs → at ≤ (run_at rs i).base
+start_at at i [] runs start less = absurd (omega arith)
+start_at at zero (r ∷ rs) runs start less = start
+start_at at (suc i) (r ∷ rs) runs start less =
+    start_at at i rs runs.2 (start_sooner at (run_end r) rs (omega arith) (rest_from r rs runs)) (omega arith)
+
+-- a record ends before any later one begins
+pub ends_before : (i j : ℕ) (rs : List (RunOf Label)) → AreRuns rs → i < j → j < length rs → run_end (run_at rs i) ≤ (run_at rs j).base
+ends_before i j [] runs less within = absurd (omega arith)
+ends_before i zero (r ∷ rs) runs less within = absurd (omega arith)
+ends_before zero (suc j) (r ∷ rs) runs less within = start_at (run_end r) j rs runs.2 (rest_from r rs runs) (omega arith)
+ends_before (suc i) (suc j) (r ∷ rs) runs less within = ends_before i j rs runs.2 (omega arith) (omega arith)
+
+pub size_at : (i : ℕ) (rs : List (RunOf Label)) → AreRuns rs → i < length rs → 0 < (run_at rs i).size
+size_at i [] runs less = absurd (omega arith)
+size_at zero (r ∷ rs) runs less = runs.0
+size_at (suc i) (r ∷ rs) runs less = size_at i rs runs.2 (omega arith)
+
+-- so a later one begins no earlier, and ends no earlier
+pub bases_ascend : (i j : ℕ) (rs : List (RunOf Label)) → AreRuns rs → i ≤ j → j < length rs → (run_at rs i).base ≤ (run_at rs j).base
+bases_ascend i j rs runs order within =
+    elim (cases_lt i j) as (λ _. (run_at rs i).base ≤ (run_at rs j).base) [
+      | inl less ↦ let ends = ends_before i j rs runs less within in omega arith
+      | inr ge ↦ let same : i ≡ j = omega arith in let bases = ap (λ (k : ℕ). (run_at rs k).base) same in omega arith
+    ]
+
+pub ends_ascend : (i j : ℕ) (rs : List (RunOf Label)) → AreRuns rs → i ≤ j → j < length rs → run_end (run_at rs i) ≤ run_end (run_at rs j)
+ends_ascend i j rs runs order within =
+    elim (cases_lt i j) as (λ _. run_end (run_at rs i) ≤ run_end (run_at rs j)) [
+      | inl less ↦ let ends = ends_before i j rs runs less within in omega arith
+      | inr ge ↦ let same : i ≡ j = omega arith in let ends = ap (λ (k : ℕ). run_end (run_at rs k)) same in omega arith
+    ]
+
+-- in a record the list gives its value
+pub value_in : (i x : ℕ) (rs : List (RunOf Label)) → AreRuns rs → i < length rs → (run_at rs i).base ≤ x → x < run_end (run_at rs i)
+    → value_at rs x ≡ Some (run_at rs i).value
+value_in i x [] runs less above under = absurd (omega arith)
+value_in zero x (r ∷ rs) runs less above under = rw (inside r x above under) refl
+value_in (suc i) x (r ∷ rs) runs less above under =
+    let start = start_at (run_end r) i rs runs.2 (rest_from r rs runs) (omega arith) in
+    rw (behind r x (omega arith)) (value_in i x rs runs.2 (omega arith) above under)
+
+-- beside all records it gives nothing
+pub none_beside : (x : ℕ) (rs : List (RunOf Label)) → ((i : ℕ) → i < length rs → (run_end (run_at rs i) ≤ x) ⊎ (x < (run_at rs i).base))
+    → value_at rs x ≡ None
+none_beside x [] beside = refl
+none_beside x (r ∷ rs) beside =
+    let rest : value_at rs x ≡ None = none_beside x rs (λ i less. beside (suc i) (omega arith)) in
+    elim (beside zero (omega arith)) as (λ _. value_at (r ∷ rs) x ≡ None) [
+      | inl past ↦ rw (behind r x past) rest
+      | inr ahead ↦ rw (below r x ahead) rest
+    ]
+
+-- right below a record the list gives another value than in it
+pub other_under : (i x : ℕ) (rs : List (RunOf Label)) → AreRuns rs → i < length rs → x + 1 ≡ (run_at rs i).base
+    → value_at rs x ≢ Some (run_at rs i).value
+other_under i x [] runs less next = absurd (omega arith)
+other_under zero x (r ∷ rs) runs less next =
+    let at : r.base ≤ r.base = omega arith in
+    let none : value_at (r ∷ rs) x ≡ None = none_below r.base x (r ∷ rs) runs at (omega arith) in
+    λ same. cc
+other_under (suc zero) x (r ∷ []) runs less next = absurd (omega arith)
+other_under (suc zero) x (r ∷ (s ∷ ss)) runs less next =
+    elim (cases_lt x (run_end r)) as (λ _. value_at (r ∷ (s ∷ ss)) x ≢ Some s.value) [
+      | inl lt ↦
+          let touch : run_end r ≡ s.base = omega (arith, runs.1.0) in
+          let size = runs.0 in
+          let here : value_at (r ∷ (s ∷ ss)) x ≡ Some r.value = rw (inside r x (omega arith) lt) refl in
+          λ same. let equal : r.value ≡ s.value = cc in runs.1.1 touch equal
+      | inr ge ↦
+          let at : s.base ≤ s.base = omega arith in
+          let none : value_at (s ∷ ss) x ≡ None = none_below s.base x (s ∷ ss) runs.2 at (omega arith) in
+          let here : value_at (r ∷ (s ∷ ss)) x ≡ None = rw (behind r x ge) none in
+          λ same. cc
+    ]
+other_under (suc (suc i)) x (r ∷ rs) runs less next =
+    let start = start_at (run_end r) zero rs runs.2 (rest_from r rs runs) (omega arith) in
+    let first = ends_before zero (suc i) rs runs.2 (omega arith) (omega arith) in
+    let size = size_at zero rs runs.2 (omega arith) in
+    rw (behind r x (omega arith)) (other_under (suc i) x rs runs.2 (omega arith) next)
+
+-- and right behind it
+pub other_past : (i : ℕ) (rs : List (RunOf Label)) → AreRuns rs → i < length rs
+    → value_at rs (run_end (run_at rs i)) ≢ Some (run_at rs i).value
+other_past i [] runs less = absurd (omega arith)
+other_past zero (r ∷ rs) runs less = rw (behind r (run_end r) (omega arith)) (other_behind r rs runs)
+other_past (suc i) (r ∷ rs) runs less =
+    let start = start_at (run_end r) i rs runs.2 (rest_from r rs runs) (omega arith) in
+    rw (behind r (run_end (run_at rs i)) (omega arith)) (other_past i rs runs.2 (omega arith))

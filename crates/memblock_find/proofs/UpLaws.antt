@@ -1,0 +1,121 @@
+-- What a look up tells, and the stretch of addresses that two looks tell of.
+use Rattle.std.proofs.Common.{◌≡◌, ◌≢◌, ◌⊎◌, ℕ, ◌+◌, ◌-◌, ◌^◌, ◌<◌, ◌≤◌, is_none, if◌then◌else◌, Option, Some, None, List, length, min, refl, sym, ◌∙◌, subst, inl, inr, arith}
+use Rattle.std.proofs.lemmas.Bool.{cases_lt}
+use Rattle.address_runs.specs.Runs.{RunOf, run_end, value_at, AreRuns}
+use Rattle.address_runs.specs.Edits.{NothingFrom}
+use Rattle.address_runs.specs.Sweep.{Stays}
+use Rattle.memblock_model.specs.Labels.{Label, Labels}
+use Rattle.memblock_ranges.specs.Tables.{Contents}
+use Rattle.memblock_find.specs.declared.cursor.Look.{Look}
+use Rattle.memblock_find.specs.declared.cursor.Cursor.{Cursor}
+use Rattle.memblock_find.specs.Free.{unclaimed, free_in, IsUpTo}
+use Rattle.memblock_find.specs.Walk.{run_at, EndedBy, IsLookUp, IsUpAt, label_at}
+use Rattle.memblock_find.proofs.SlotLaws.{ends_before, ends_ascend, bases_ascend, size_at, value_in, none_beside, other_past}
+
+-- with every record behind it nothing is at the address or above
+none_left : (rs : List (RunOf Label)) (at : ℕ) → EndedBy at rs (length rs) → NothingFrom at (value_at rs)
+none_left rs at ended x above = none_beside x rs (λ i less. let ends = ended.before i less in inl (omega arith))
+
+pub look_top : (rs : List (RunOf Label)) (slot at : ℕ) → slot ≡ length rs → at < 2 ^ 64 → EndedBy at rs slot
+    → IsLookUp rs at (record { label = None; bound = 2 ^ 64 - 1; slot = slot })
+look_top rs slot at all small known =
+    let ended : EndedBy at rs (length rs) = subst (λ (n : ℕ). EndedBy at rs n) all known in
+    record {
+      stays = λ x above under. none_left rs at ended x above;
+      another = λ some. absurd (some refl);
+      other = λ less. absurd (omega arith);
+      next = record {
+        runs = ended.runs;
+        within = known.within;
+        before = λ i less. let ends = known.before i less in omega arith;
+        behind = λ i from less. absurd (omega arith);
+      };
+      small = omega arith;
+      order = omega arith;
+      ahead = λ less. less;
+      left = λ is. none_left rs at ended;
+    }
+
+-- up to the next record there is nothing
+pub look_hole : (rs : List (RunOf Label)) (slot at : ℕ) → slot < length rs → EndedBy at rs slot → at < (run_at rs slot).base
+    → (run_at rs slot).base < 2 ^ 64
+    → IsLookUp rs at (record { label = None; bound = (run_at rs slot).base; slot = slot })
+look_hole rs slot at within ended before_base base_small =
+    let runs : AreRuns rs = ended.runs in
+    let size = size_at slot rs runs within in
+    record {
+      stays = λ x above under. none_beside x rs (λ j less.
+          elim (cases_lt j slot) as (λ _. (run_end (run_at rs j) ≤ x) ⊎ (x < (run_at rs j).base)) [
+            | inl before ↦ let ends = ended.before j before in inl (omega arith)
+            | inr after ↦ let bases = bases_ascend slot j rs runs after less in inr (omega arith)
+          ]);
+      another = λ some. absurd (some refl);
+      other = λ less same.
+          let here : value_at rs (run_at rs slot).base ≡ Some (run_at rs slot).value =
+          value_in slot (run_at rs slot).base rs runs within (omega arith) (omega arith) in
+          cc;
+      next = record {
+        runs = runs;
+        within = ended.within;
+        before = λ j less. let ends = ended.before j less in omega arith;
+        behind = λ j from less.
+            let bases = bases_ascend slot j rs runs from less in
+            let some = size_at j rs runs less in
+            omega arith;
+      };
+      small = base_small;
+      order = omega arith;
+      ahead = λ _. before_base;
+      left = λ is. absurd (omega arith);
+    }
+
+-- and in it there is its label
+pub look_over : (rs : List (RunOf Label)) (slot at : ℕ) → slot < length rs → EndedBy at rs slot → (run_at rs slot).base ≤ at
+    → run_end (run_at rs slot) < 2 ^ 64
+    → IsLookUp rs at (record { label = Some (run_at rs slot).value; bound = run_end (run_at rs slot); slot = slot + 1 })
+look_over rs slot at within ended from_base end_small =
+    let runs : AreRuns rs = ended.runs in
+    let end : at < run_end (run_at rs slot) = ended.behind slot (omega arith) within in
+    record {
+      stays = λ x above under. value_in slot x rs runs within (omega arith) under;
+      another = λ some. other_past slot rs runs within;
+      other = λ less. other_past slot rs runs within;
+      next = record {
+        runs = runs;
+        within = omega arith;
+        before = λ j less. ends_ascend j slot rs runs (omega arith) within;
+        behind = λ j from less.
+            let ends = ends_before slot j rs runs (omega arith) less in
+            let some = size_at j rs runs less in
+            omega arith;
+      };
+      small = end_small;
+      order = omega arith;
+      ahead = λ _. end;
+      left = λ is. absurd (omega arith);
+    }
+
+-- a look is good for the addresses under its bound
+pub look_higher : (rs : List (RunOf Label)) (from at : ℕ) (look : Look) → IsLookUp rs from look → from ≤ at → at ≤ look.bound
+    → look.bound ≢ at → IsLookUp rs at look
+look_higher rs from at look known above under other = record {
+  stays = λ x low high. known.stays x (omega arith) high;
+  another = known.another;
+  other = known.other;
+  next = known.next;
+  small = known.small;
+  order = under;
+  ahead = λ _. omega arith;
+  left = λ is. absurd (other (sym is));
+}
+
+-- the records of a table that is searched for those that end by an address
+pub ended_so_far : (rs : List (RunOf Label)) (at middle : ℕ) → AreRuns rs → middle < length rs → run_end (run_at rs middle) ≤ at
+    → (i : ℕ) → i < middle + 1 → run_end (run_at rs i) ≤ at
+ended_so_far rs at middle runs within ended i less =
+    let ends = ends_ascend i middle rs runs (omega arith) within in omega arith
+
+pub not_ended_from : (rs : List (RunOf Label)) (at middle : ℕ) → AreRuns rs → at < run_end (run_at rs middle)
+    → (i : ℕ) → middle ≤ i → i < length rs → at < run_end (run_at rs i)
+not_ended_from rs at middle runs behind i from within =
+    let ends = ends_ascend middle i rs runs from within in omega arith

@@ -1,0 +1,54 @@
+use Rattle.std.proofs.Common.{◌≡◌, ℕ, ◌+◌, ◌-◌, ◌/◌, List, length, ap, arith}
+use Rattle.address_runs.specs.Runs.{RunOf}
+use Rattle.memblock_model.specs.Labels.{Label}
+use Rattle.memblock_ranges.specs.declared.region.Head.{Head}
+use Rattle.memblock_ranges.specs.declared.region.Region.{Region}
+use Rattle.memblock_ranges.specs.Tables.{records_in}
+use Rattle.memblock_find.specs.Walk.{run_at}
+use Rattle.memblock_find.proofs.DownLaws.{all_begun, begun_so_far, not_begun_from}
+use Rattle.memblock_find.proofs.down.begun_below.Goals as goal
+use Rattle.memblock_find.proofs.down.begun_below.Goals.{then-count-eq0-via-then-count-eq0, then-count-eq0-via-else-count-eq0+then-region-at}
+
+pub returns-then-count-eq0 : goal.returns-then-count-eq0
+returns-then-count-eq0 c =
+    let rs : List (RunOf Label) = records_in c.args.which c.args.tables.now in
+    let count : c.head-count.result.count ≡ length rs = ap (λ (h : Head). h.count) c.head-count.ensures.head in
+    all_begun rs c.args.at c.head-count.result.count c.head-count.ensures.table.records.runs count
+    (λ some. elim c.then-count-eq0.branch [
+      | then-count-eq0-via-then-count-eq0 w ↦ absurd (omega (arith, w.if-count-eq0.true))
+      | then-count-eq0-via-else-count-eq0+then-region-at w ↦
+          let base : w.region.result.base ≡ (run_at rs (c.head-count.result.count - 1)).base =
+          ap (λ (g : Region). g.base) (w.region.ensures.region _) in
+          let under = w.if-region-at.true in
+          omega arith
+    ])
+
+pub loop-low-preserved-then-region-at-2 : goal.loop-low-preserved-then-region-at-2
+loop-low-preserved-then-region-at-2 c =
+    let rs : List (RunOf Label) = records_in c.args.which c.args.tables.now in
+    let middle : ℕ = c.loop-low.low + (c.loop-low.high - c.loop-low.low) / 2 in
+    let base : c.region-in-loop-low.result.base ≡ (run_at rs middle).base = ap (λ (g : Region). g.base) (c.region-in-loop-low.ensures.region _) in
+    let within = c.loop-low.invariant.within in
+    let test = c.loop-low-test.true in
+    let under = c.if-region-at-2.true in
+    record {
+      order = omega arith;
+      within = within;
+      before = begun_so_far rs c.args.at middle c.head-count.ensures.table.records.runs (omega arith) (omega arith);
+      behind = c.loop-low.invariant.behind;
+    }
+
+pub loop-low-preserved : goal.loop-low-preserved
+loop-low-preserved c =
+    let rs : List (RunOf Label) = records_in c.args.which c.args.tables.now in
+    let middle : ℕ = c.loop-low.low + (c.loop-low.high - c.loop-low.low) / 2 in
+    let base : c.region-in-loop-low.result.base ≡ (run_at rs middle).base = ap (λ (g : Region). g.base) (c.region-in-loop-low.ensures.region _) in
+    let within = c.loop-low.invariant.within in
+    let test = c.loop-low-test.true in
+    let behind = c.if-region-at-2.false in
+    record {
+      order = omega arith;
+      within = omega arith;
+      before = c.loop-low.invariant.before;
+      behind = not_begun_from rs c.args.at middle c.head-count.ensures.table.records.runs (omega arith);
+    }

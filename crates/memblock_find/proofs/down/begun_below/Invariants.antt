@@ -1,0 +1,16 @@
+use Rattle.std.proofs.Common.{ℕ, ◌-◌, ◌<◌, ◌≤◌, length}
+use Rattle.memblock_ranges.specs.Tables.{records_in}
+use Rattle.memblock_find.specs.Walk.{run_at}
+use Rattle.memblock_find.proofs.down.begun_below.Given as goal
+
+-- the records before `low` begin below the address, and those from `high` on don't
+abbrev pub invariant-loop-low : goal.invariant-loop-low
+invariant-loop-low l = record {
+  order : l.low ≤ l.high;
+  within : l.high < length (records_in l.which l.tables);
+  before : (i : ℕ) → i < l.low → (run_at (records_in l.which l.tables) i).base < l.at;
+  behind : (i : ℕ) → l.high ≤ i → i < length (records_in l.which l.tables) → l.at ≤ (run_at (records_in l.which l.tables) i).base;
+}
+
+abbrev pub decreases-loop-low : goal.decreases-loop-low
+decreases-loop-low l = l.high - l.low

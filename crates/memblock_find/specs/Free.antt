@@ -1,0 +1,38 @@
+-- Unclaimed memory, and its runs: memory less what is claimed (`__next_mem_range`, `for_each_free_mem_range`).
+use Rattle.std.specs.Prelude.{◌≡◌, ◌≢◌, ℕ, ◌+◌, ◌<◌, ◌≤◌, is_none, if◌then◌else◌, Option, Some, None}
+use Rattle.address_runs.specs.Runs.{RunOf, run_end, value_at}
+use Rattle.address_runs.specs.Sweep.{Stays}
+use Rattle.memblock_model.specs.Labels.{Label, Labels}
+use Rattle.memblock_ranges.specs.Tables.{Contents}
+
+-- the labels of the bytes that are memory and that nobody has
+abbrev pub unclaimed : Labels → Labels → Labels
+unclaimed memory reserved x = if is_none (reserved x) then memory x else None
+
+-- those of two tables
+abbrev pub free_in : Contents → Labels
+free_in t = unclaimed (value_at t.memory.records) (value_at t.reserved.records)
+
+-- the addresses from the one up to the other carry one label, or all none, and the address before them carries something else
+pub record IsDownTo (f : Labels) (from until : ℕ) (label : Option Label) : Type 0 where
+  pub stays : Stays f from until label
+  pub another : (x : ℕ) → x + 1 ≡ from → f x ≢ label
+
+-- and so upward: the address behind them carries something else
+pub record IsUpTo (f : Labels) (from until : ℕ) (label : Option Label) : Type 0 where
+  pub stays : Stays f from until label
+  pub another : f until ≢ label
+
+-- the highest run whose first address is under `below`, cut to end there
+pub record IsRunBelow (f : Labels) (below : ℕ) (r : RunOf Label) : Type 0 where
+  pub some : 0 < r.size
+  pub ends : run_end r ≤ below
+  pub run : IsDownTo f r.base (run_end r) (Some r.value)
+  pub behind : Stays f (run_end r) below None
+
+-- the lowest run whose last address is `from` or above, cut to begin there
+pub record IsRunFrom (f : Labels) (from : ℕ) (r : RunOf Label) : Type 0 where
+  pub some : 0 < r.size
+  pub starts : from ≤ r.base
+  pub run : IsUpTo f r.base (run_end r) (Some r.value)
+  pub before : Stays f from r.base None

@@ -1,0 +1,113 @@
+//! The walk down: from an address to lower ones, as `__next_mem_range_rev` goes. Where it begins, a binary
+//! search finds the record of each table; from there on each record is looked at once in either table.
+ghost use Rattle.std.specs.Prelude.{◌≡◌, ◌≢◌, ◌<◌, ◌≤◌, max, None};
+ghost use Rattle.address_runs.specs.Sweep.{Stays};
+ghost use Rattle.memblock_ranges.specs.Tables.{records_in};
+ghost use Rattle.memblock_find.specs.Free.{free_in, IsDownTo};
+ghost use Rattle.memblock_find.specs.Walk.{BegunBelow, IsLookDown, IsDownAt};
+
+use crate::cursor::{Cursor, Look};
+use memblock_model::Which;
+use memblock_ranges::{Tables, label_of};
+
+/// How many records of the table begin below the address.
+fn begun_below(tables: &Tables, which: Which, at: u64) -> u64
+    ensures { BegunBelow at (records_in which tables.now) result }
+{
+    let count = tables.head(which).count;
+    if count == 0 || tables.region(which, count - 1).base < at {
+        return count;
+    }
+    let mut low = 0;
+    let mut high = count - 1;
+    while low < high {
+        let middle = low + (high - low) / 2;
+        if tables.region(which, middle).base < at {
+            low = middle + 1;
+        } else {
+            high = middle;
+        }
+    }
+    low
+}
+
+/// What the table says of the addresses below `at`, where so many of its records begin below it.
+fn look_down(tables: &Tables, which: Which, slot: u64, at: u64) -> Look
+    requires { BegunBelow at (records_in which tables.now) slot }
+    ensures { IsLookDown (records_in which tables.now) at result }
+{
+    if slot == 0 {
+        return Look {
+            label: None,
+            bound: 0,
+            slot: 0,
+        };
+    }
+    let region = tables.region(which, slot - 1);
+    let end = region.base + region.size;
+    if end < at {
+        Look {
+            label: None,
+            bound: end,
+            slot,
+        }
+    } else {
+        Look {
+            label: Some(label_of(region.node)),
+            bound: region.base,
+            slot: slot - 1,
+        }
+    }
+}
+
+/// The look of a walk that has come down to `at`: the same as long as its bound isn't reached.
+fn look_on(tables: &Tables, which: Which, look: Look, from: u64, at: u64) -> Look
+    requires look { IsLookDown (records_in which tables.now) from look }
+    requires above { look.bound ≤ at }
+    requires below { at ≤ from }
+    ensures { IsLookDown (records_in which tables.now) at result }
+{
+    if look.bound == at {
+        look_down(tables, which, look.slot, at)
+    } else {
+        look
+    }
+}
+
+/// The cursor of a walk down that begins at the address.
+pub fn cursor_below(tables: &Tables, at: u64) -> Cursor
+    ensures at { result.at ≡ at }
+    ensures down { IsDownAt tables.now result }
+{
+    let memory = begun_below(tables, Which::Memory, at);
+    let reserved = begun_below(tables, Which::Reserved, at);
+    Cursor {
+        at,
+        memory: look_down(tables, Which::Memory, memory, at),
+        reserved: look_down(tables, Which::Reserved, reserved, at),
+    }
+}
+
+impl Cursor {
+    /// Down to which address the label is the cursor's. Where it is unclaimed memory, what is below isn't
+    /// unclaimed memory of that label.
+    pub fn bottom(&self) -> u64
+        ensures { result ≡ max self.now.memory.bound self.now.reserved.bound }
+    {
+        self.memory.bound.max(self.reserved.bound)
+    }
+
+    /// The cursor at that address.
+    pub fn down(&self, tables: &Tables) -> Cursor
+        requires { IsDownAt tables.now self.now }
+        ensures at { result.at ≡ max self.now.memory.bound self.now.reserved.bound }
+        ensures down { IsDownAt tables.now result }
+    {
+        let at = self.bottom();
+        Cursor {
+            at,
+            memory: look_on(tables, Which::Memory, self.memory, self.at, at),
+            reserved: look_on(tables, Which::Reserved, self.reserved, self.at, at),
+        }
+    }
+}

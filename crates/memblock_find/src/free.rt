@@ -1,0 +1,82 @@
+//! Runs of unclaimed memory, one at a time: below an address or from one on. A caller that goes over several
+//! asks again at the run's start or end; each call costs two binary searches and what bare bytes it passes.
+ghost use Rattle.std.specs.Prelude.{◌≡◌, ◌-◌, ◌≤◌, MatchOption, None};
+ghost use Rattle.address_runs.specs.Edits.{NothingFrom};
+ghost use Rattle.address_runs.specs.Sweep.{Stays};
+ghost use Rattle.memblock_find.specs.Free.{free_in, IsRunBelow, IsRunFrom};
+
+use crate::down::cursor_below;
+use crate::up::cursor_from;
+use bm_base::Range;
+use memblock_model::Label;
+use memblock_ranges::{Tables, node_field};
+use std::marker::Model;
+
+/// A run of unclaimed memory of one label. Contracts see a run of addresses with its label.
+#[derive(Clone, Copy, Debug, PartialEq, Eq)]
+pub struct FreeRange {
+    pub range: Range,
+    /// The node; 1,024 means none (`MAX_NUMNODES`).
+    pub node: u32,
+}
+
+impl Model for FreeRange {
+    ghost use Rattle.std.specs.Prelude.{◌+◌, ◌^◌, ◌<◌, ◌≤◌};
+    ghost use Rattle.address_runs.specs.Runs.{RunOf};
+    ghost use Rattle.memblock_model.specs.Labels.{Label as AnyLabel};
+    ghost use Rattle.memblock_ranges.specs.Spelling.{label_of, node_field};
+
+    ghost Value = { RunOf AnyLabel };
+
+    ghost view = { λ r. record { base = r.range.base; size = r.range.size; value = label_of r.node } };
+
+    ghost invariant = { λ r. (r.range.base + r.range.size < 2 ^ 64) × (r.node ≤ 1024) };
+
+    ghost inverse = { λ r. record { range = record { base = r.base; size = r.size }; node = node_field r.value } };
+}
+
+impl FreeRange {
+    /// The addresses from the one up to the other, with the label's node.
+    fn between(from: u64, until: u64, label: Label) -> FreeRange
+        requires { from ≤ until }
+        ensures { result ≡ record { base = from; size = until - from; value = label } }
+    {
+        FreeRange {
+            range: Range {
+                base: from,
+                size: until - from,
+            },
+            node: node_field(label),
+        }
+    }
+}
+
+/// The highest run of unclaimed memory of one label whose first address is under `below`, cut to end
+/// there. `None` exactly where nothing below is unclaimed memory (`__next_mem_range_rev`).
+pub fn prev_free(tables: &Tables, below: u64) -> Option<FreeRange>
+    ensures { MatchOption result (Stays (free_in tables.now) 0 below None) (IsRunBelow (free_in tables.now) below) }
+{
+    let mut cursor = cursor_below(tables, below);
+    while cursor.at > 0 {
+        if let Some(label) = cursor.label() {
+            return Some(FreeRange::between(cursor.bottom(), cursor.at, label));
+        }
+        cursor = cursor.down(tables);
+    }
+    None
+}
+
+/// The lowest run of unclaimed memory of one label whose last address is `from` or above, cut to begin
+/// there. `None` exactly where nothing from there on is unclaimed memory (`__next_mem_range`).
+pub fn next_free(tables: &Tables, from: u64) -> Option<FreeRange>
+    ensures { MatchOption result (NothingFrom from (free_in tables.now)) (IsRunFrom (free_in tables.now) from) }
+{
+    let mut cursor = cursor_from(tables, from);
+    while cursor.at < u64::MAX {
+        if let Some(label) = cursor.label() {
+            return Some(FreeRange::between(cursor.at, cursor.top(), label));
+        }
+        cursor = cursor.up(tables);
+    }
+    None
+}

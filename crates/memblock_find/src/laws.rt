@@ -1,0 +1,32 @@
+//! The laws of the search and of runs of unclaimed memory, as functions that do nothing: what the layers
+//! above may rest on.
+ghost use Rattle.std.specs.Prelude.{◌≡◌, ℕ, ◌^◌, List};
+ghost use Rattle.address_runs.specs.Runs.{RunOf, value_at};
+ghost use Rattle.address_runs.specs.Edits.{NothingFrom};
+ghost use Rattle.memblock_model.specs.declared.item.Item.{Item};
+ghost use Rattle.memblock_model.specs.declared.query.Query.{Query as AnyQuery};
+ghost use Rattle.memblock_model.specs.declared.which.Which.TheVariants as which;
+ghost use Rattle.memblock_model.specs.Labels.{Label, Labels};
+ghost use Rattle.memblock_model.specs.Tables.{table_of, records_of};
+ghost use Rattle.memblock_model.specs.Search.{best_in, best};
+ghost use Rattle.memblock_ranges.specs.Tables.{Contents};
+ghost use Rattle.memblock_find.specs.Free.{unclaimed, free_in, IsRunBelow, IsRunFrom};
+
+/// A law: where two tables have the records of a list of items, the search over them is the search over
+/// the items, and unclaimed memory is what the items say is memory and has no owner.
+pub fn searches_follow_the_items()
+    ensures best { (items : List Item) (t : Contents) (q : AnyQuery) →
+        NothingFrom (2 ^ 64) (table_of which.Memory items) → NothingFrom (2 ^ 64) (table_of which.Reserved items) →
+        t.memory.records ≡ records_of which.Memory items → t.reserved.records ≡ records_of which.Reserved items →
+        best_in (value_at t.memory.records) (value_at t.reserved.records) q ≡ best items q }
+    ensures free { (items : List Item) (t : Contents) →
+        NothingFrom (2 ^ 64) (table_of which.Memory items) → NothingFrom (2 ^ 64) (table_of which.Reserved items) →
+        t.memory.records ≡ records_of which.Memory items → t.reserved.records ≡ records_of which.Reserved items →
+        free_in t ≡ unclaimed (table_of which.Memory items) (table_of which.Reserved items) }
+{}
+
+/// A law: there is one highest run below an address, and one lowest run from an address on.
+pub fn runs_are_one()
+    ensures below { (f : Labels) (below : ℕ) (r s : RunOf Label) → IsRunBelow f below r → IsRunBelow f below s → r ≡ s }
+    ensures from { (f : Labels) (from : ℕ) (r s : RunOf Label) → IsRunFrom f from r → IsRunFrom f from s → r ≡ s }
+{}

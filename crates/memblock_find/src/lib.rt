@@ -1,0 +1,25 @@
+//! The search for unclaimed memory, over memblock's two tables, and the walks over it.
+//!
+//! Unclaimed memory is what `memblock.memory` covers and `memblock.reserved` doesn't. [`find`] answers the
+//! greatest address at which a place fits a [`Query`] (`memblock_find_in_range_node`, from the top down):
+//! aligned, in the window, not in the first frame, and all of it unclaimed memory of one label. It is
+//! `best_in` of `memblock_model`, said of what the records of both tables give at each address.
+//!
+//! [`prev_free`] and [`next_free`] answer one run of unclaimed memory (`for_each_free_mem_range`), below an
+//! address or from one on (`specs/Free.antt`): what walks over unclaimed memory are made of.
+//!
+//! Nothing here takes memory or changes a table. A walk looks at each record of either table once, so a
+//! search costs what lies between the window's end and the place that it finds, and two binary searches.
+#![tactic(auto)]
+
+mod cursor;
+mod down;
+mod free;
+mod laws;
+mod search;
+mod up;
+
+pub use free::{FreeRange, next_free, prev_free};
+pub use laws::{runs_are_one, searches_follow_the_items};
+pub use memblock_model::Query;
+pub use search::find;

@@ -1,0 +1,77 @@
+//! The search from the top down (`memblock_find_in_range_node`, `__memblock_find_range_top_down`): unclaimed
+//! memory is walked from the window's end down, a stretch of one label at a time, and the first stretch in
+//! which a place lies has the greatest one.
+ghost use Rattle.std.specs.Prelude.{◌≡◌, ◌≢◌, ℕ, ◌^◌, ◌≤◌, MatchOption, Option, Some, None};
+ghost use Rattle.address_runs.specs.Runs.{value_at};
+ghost use Rattle.address_runs.specs.Sweep.{Stays};
+ghost use Rattle.memblock_model.specs.Labels.{Label as AnyLabel, Labels};
+ghost use Rattle.memblock_model.specs.Search.{allows, best_in};
+ghost use Rattle.memblock_find.specs.Free.{unclaimed, IsDownTo};
+ghost use Rattle.memblock_find.specs.Places.{IsBetween, NoPlaceEnds, IsBestBy};
+
+use crate::down::cursor_below;
+use bm_base::FRAME_SIZE;
+use memblock_model::{Label, Query};
+use memblock_ranges::Tables;
+
+/// The greatest address of a place that fits: aligned, in the window, not in the first frame, all of it
+/// unclaimed memory of one label that the query allows. `None` exactly where no place fits.
+///
+/// The size is at least 1 and the alignment a power of two.
+pub fn find(tables: &Tables, query: &Query) -> Option<u64>
+    requires some { 1 ≤ query.now.size }
+    requires aligned { (k : ℕ) × (query.now.align ≡ 2 ^ k) }
+    ensures { result ≡ best_in (value_at tables.now.memory.records) (value_at tables.now.reserved.records) query.now }
+{
+    let low = query.lo.max(FRAME_SIZE);
+    let mut cursor = cursor_below(tables, query.hi);
+    while cursor.at > low {
+        let place = place_in_run(query, cursor.label(), cursor.bottom(), cursor.at);
+        if place.is_some() {
+            return place;
+        }
+        cursor = cursor.down(tables);
+    }
+    None
+}
+
+/// The greatest place in the addresses from `from` up to `until`, where that is a stretch of unclaimed
+/// memory of one label, or of none, and unclaimed memory of that label doesn't go on below it.
+fn place_in_run(query: &Query, label: Option<Label>, from: u64, until: u64) -> Option<u64>
+    requires some { 1 ≤ query.now.size }
+    requires aligned { (k : ℕ) × (query.now.align ≡ 2 ^ k) }
+    requires window { until ≤ query.now.hi }
+    ensures { (memory reserved : Labels) → Stays (unclaimed memory reserved) from until label →
+        (label ≢ None → IsDownTo (unclaimed memory reserved) from until label) →
+        MatchOption result (NoPlaceEnds memory reserved query.now from until) (IsBestBy memory reserved query.now until) }
+{
+    let Some(found) = label else {
+        return None;
+    };
+    if !is_allowed(query.node, found) {
+        return None;
+    }
+    let low = from.max(query.lo).max(FRAME_SIZE);
+    last_between(low, until, query.size, query.align)
+}
+
+/// Whether a query for the node, or for any, may be answered with memory of the label.
+fn is_allowed(node: Option<u32>, label: Label) -> bool
+    ensures { result ≡ allows node (Some label) }
+{
+    match node {
+        None => true,
+        Some(_) => label.node == node,
+    }
+}
+
+/// The greatest multiple of the alignment at which so many bytes lie between the two addresses.
+fn last_between(low: u64, high: u64, size: u64, align: u64) -> Option<u64>
+    requires { (k : ℕ) × (align ≡ 2 ^ k) }
+    ensures { MatchOption result ((b : ℕ) → IsBetween low high size align b → ⊥)
+        (λ a. IsBetween low high size align a × ((b : ℕ) → IsBetween low high size align b → b ≤ a)) }
+{
+    let top = high.checked_sub(size)?;
+    let place = top - (top & (align - 1));
+    if low <= place { Some(place) } else { None }
+}

@@ -1,0 +1,131 @@
+-- How one step after another ends: by the ends of both.
+use Rattle.std.proofs.Common.{◌≡◌, ◌⊎◌, inl, inr, ℕ, ◌+◌, ◌≤◌, List, [], ◌∷◌, ◌++◌, length, take, Result, Ok, Err, refl, sym, ◌∙◌, ap, subst, append_assoc, arith}
+use Rattle.std.proofs.lemmas.List.{append-nil, length-append, take-append-le, take_all}
+use Rattle.std.proofs.Math.Seq.{take-append-add}
+use Rattle.memblock_model.specs.declared.item.Item.{Item}
+use Rattle.growth_model.specs.Outcome.{joined}
+use Rattle.growth_model.specs.Sound.{HasBegun}
+use Rattle.stage_model.specs.Doing.{Done, Doing, appended, after, returns, stops, going_on, ◌>>=◌, in_turn, IsCut, EndsAs, ok_as}
+
+pub appended-append : (items : List Item) (a b : List (List Item)) → appended items (a ++ b) ≡ appended (appended items a) b
+appended-append items [] b = refl
+appended-append items (s ∷ ss) b = appended-append (items ++ s) ss b
+
+pub appended-joined : (items : List Item) (ss : List (List Item)) → appended items ss ≡ items ++ joined ss
+appended-joined items [] = sym (append-nil items)
+appended-joined items (s ∷ ss) = appended-joined (items ++ s) ss ∙ append_assoc items s (joined ss)
+
+-- some groups of the first are some groups of both, and so are all of the first and some of the second
+pub cut-first : (old new : List Item) (a b : List (List Item)) → IsCut old new a → IsCut old new (a ++ b)
+cut-first old new a b cut =
+    let few : cut.count ≤ length a = cut.within in
+    record {
+      count = cut.count;
+      within = omega (arith, length-append a b, few);
+      stands = cut.stands ∙ ap (λ (t : List (List Item)). appended old t) (sym (take-append-le cut.count a b few));
+    }
+
+pub cut-second : (old new : List Item) (a b : List (List Item)) → IsCut (appended old a) new b → IsCut old new (a ++ b)
+cut-second old new a b cut =
+    let few : cut.count ≤ length b = cut.within in
+    record {
+      count = length a + cut.count;
+      within = omega (arith, length-append a b, few);
+      stands = cut.stands ∙ sym (appended-append old a (take cut.count b))
+          ∙ ap (λ (t : List (List Item)). appended old t) (sym (take-append-add a b cut.count));
+    }
+
+pub cut-none : (items : List Item) (steps : List (List Item)) → IsCut items items steps
+cut-none items steps = record { count = 0; within = omega arith; stands = refl }
+
+pub cut-all : (old : List Item) (steps : List (List Item)) → IsCut old (appended old steps) steps
+cut-all old steps = record {
+  count = length steps;
+  within = omega arith;
+  stands = ap (λ (t : List (List Item)). appended old t) (sym (take_all (length steps) steps (omega arith)));
+}
+
+module _ {E A B : Type 0} where
+  both : Done E A → Done E B → Done E B
+  both d p = record { steps = d.steps ++ p.steps; answer = p.answer }
+
+  failed_second : (e wanting : E) (old new : List Item) (d : Done E A) (p : Done E B)
+      → ((p.answer ≡ Err e) × (new ≡ after (after old d) p)) ⊎ ((e ≡ wanting) × IsCut (after old d) new p.steps)
+      → EndsAs wanting (Err e) old new (record { steps = d.steps ++ p.steps; answer = p.answer })
+  failed_second e wanting old new d p (inl told) = inl (told.0, told.1 ∙ sym (appended-append old d.steps p.steps))
+  failed_second e wanting old new d p (inr cut) = inr (cut.0, cut-second old new d.steps p.steps cut.1)
+
+  second_by : (r : Result B E) (wanting : E) (old new : List Item) (d : Done E A) (p : Done E B)
+      → EndsAs wanting r (after old d) new p
+      → EndsAs wanting r old new (record { steps = d.steps ++ p.steps; answer = p.answer })
+  second_by (Ok b) wanting old new d p h = (h.0, h.1 ∙ sym (appended-append old d.steps p.steps))
+  second_by (Err e) wanting old new d p h = failed_second e wanting old new d p h
+
+  -- the first step answered, and the rest ends so
+  pub ends-second : (a : A) (r : Result B E) (wanting : E) (old mid new : List Item) (f : Doing E A) (next : A → Doing E B)
+      → EndsAs wanting (Ok a) old mid (f old) → EndsAs wanting r mid new (next a mid) → EndsAs wanting r old new ((f >>= next) old)
+  ends-second a r wanting old mid new f next was h =
+      let there : EndsAs wanting r (after old (f old)) new (next a (after old (f old))) =
+      subst (λ (m : List Item). EndsAs wanting r m new (next a m)) was.1 h in
+      subst (λ (answer : Result A E). EndsAs wanting r old new (going_on (f old).steps answer (λ b. next b (after old (f old)))))
+      (sym was.0) (second_by r wanting old new (f old) (next a (after old (f old))) there)
+
+  cut_by : (answer : Result A E) (old new : List Item) (steps : List (List Item)) (next : A → Done E B) → IsCut old new steps
+      → IsCut old new (going_on steps answer next).steps
+  cut_by (Ok a) old new steps next cut = cut-first old new steps (next a).steps cut
+  cut_by (Err e) old new steps next cut = cut
+
+  first_by : (e wanting : E) (old new : List Item) (d : Done E A) (next : A → Done E B)
+      → ((d.answer ≡ Err e) × (new ≡ after old d)) ⊎ ((e ≡ wanting) × IsCut old new d.steps)
+      → EndsAs wanting (Err e) old new (going_on d.steps d.answer next)
+  first_by e wanting old new d next (inl told) =
+      subst (λ (answer : Result A E). EndsAs {A = B} wanting (Err e) old new (going_on d.steps answer next)) (sym told.0)
+      (inl (refl, told.1))
+  first_by e wanting old new d next (inr cut) = inr (cut.0, cut_by d.answer old new d.steps next cut.1)
+
+  -- the first step stopped, or memory ran out in it
+  pub ends-first : (e wanting : E) (old new : List Item) (f : Doing E A) (next : A → Doing E B)
+      → EndsAs {A = A} wanting (Err e) old new (f old) → EndsAs {A = B} wanting (Err e) old new ((f >>= next) old)
+  ends-first e wanting old new f next h = first_by e wanting old new (f old) (λ a. next a (after old (f old))) h
+
+module _ {E A : Type 0} where
+  -- memory ran out before anything was written
+  pub ends-wanting : (wanting : E) (items : List Item) (d : Done E A) → EndsAs wanting (Err wanting) items items d
+  ends-wanting wanting items d = inr (refl, cut-none items d.steps)
+
+  -- an answer that is known
+  pub ends-along : (r s : Result A E) (wanting : E) (old new : List Item) (d : Done E A) → r ≡ s → EndsAs wanting r old new d
+      → EndsAs wanting s old new d
+  ends-along r s wanting old new d is h = subst (λ (t : Result A E). EndsAs wanting t old new d) is h
+
+  pub ends-returns : (a : A) (wanting : E) (items : List Item) → EndsAs wanting (Ok a) items items (returns {E = E} a items)
+  ends-returns a wanting items = (refl, refl)
+
+-- memory ran out behind a step that was done
+pub ends-late : {E A B : Type 0} (a : A) (wanting : E) (old new : List Item) (d : Done E A) → EndsAs wanting (Ok a) old new d
+    → EndsAs {A = B} wanting (Err wanting) old new (record { steps = d.steps; answer = Err wanting })
+ends-late a wanting old new d was = inl (refl, was.1)
+
+-- an error is the same whatever the answer would have been
+pub ends-err : {E A B : Type 0} (e wanting : E) (view : A → B) (r : Result A E) (old new : List Item) (d : Done E B) → r ≡ Err e
+    → EndsAs wanting (ok_as view r) old new d → EndsAs wanting (Err e) old new d
+ends-err e wanting view r old new d is h = subst (λ (t : Result _ _). EndsAs wanting (ok_as view t) old new d) is h
+
+-- something has happened, and more happens
+begun-append : (items s : List Item) → HasBegun items → HasBegun (items ++ s)
+begun-append [] s begun = absurd begun
+begun-append (i ∷ is) s begun = tt
+
+pub begun-appended : (items : List Item) (ss : List (List Item)) → HasBegun items → HasBegun (appended items ss)
+begun-appended items [] begun = begun
+begun-appended items (s ∷ ss) begun = begun-appended (items ++ s) ss (begun-append items s begun)
+
+begun_by : {E A : Type 0} (e wanting : E) (old new : List Item) (d : Done E A) → HasBegun old
+    → ((d.answer ≡ Err e) × (new ≡ after old d)) ⊎ ((e ≡ wanting) × IsCut old new d.steps) → HasBegun new
+begun_by e wanting old new d begun (inl told) = subst HasBegun (sym told.1) (begun-appended old d.steps begun)
+begun_by e wanting old new d begun (inr cut) = subst HasBegun (sym cut.1.stands) (begun-appended old (take cut.1.count d.steps) begun)
+
+pub ends-begun : {E A : Type 0} (r : Result A E) (wanting : E) (old new : List Item) (d : Done E A) → HasBegun old
+    → EndsAs wanting r old new d → HasBegun new
+ends-begun (Ok a) wanting old new d begun h = subst HasBegun (sym h.1) (begun-appended old d.steps begun)
+ends-begun (Err e) wanting old new d begun h = begun_by e wanting old new d begun h

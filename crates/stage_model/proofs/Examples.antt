@@ -1,0 +1,68 @@
+-- Worked examples: steps that answer, stop and go on; an allocation without a place; calls that were cut short.
+use Rattle.std.proofs.Common.{◌≡◌, ℕ, ◌+◌, None, Some, List, [], ◌∷◌, Ok, Err, refl, inl, inr, arith}
+use Rattle.memblock_model.specs.declared.which.Which.TheVariants as which
+use Rattle.memblock_model.specs.declared.owner.Owner.TheVariants as owner
+use Rattle.memblock_model.specs.declared.item.Item.{Item}
+use Rattle.memblock_model.specs.declared.item.Item.TheVariants as item
+use Rattle.growth_model.specs.declared.refusal.Refusal.{Refusal}
+use Rattle.growth_model.specs.declared.refusal.Refusal.TheVariants as refusal
+use Rattle.growth_model.specs.Outcome.{write, refuse}
+use Rattle.stage_model.specs.declared.stop.What.TheVariants as what
+use Rattle.stage_model.specs.declared.stop.StageStop.{StageStop}
+use Rattle.stage_model.specs.declared.stop.StageStop.TheVariants as stop
+use Rattle.stage_model.specs.Doing.{Done, Doing, appended, after, returns, stops, seen, ◌>>=◌, in_turn, IsCut, EndsAs, ok_as}
+use Rattle.stage_model.specs.Requests.{changes, claimed_at, or_stop, or_else, refusal_of}
+
+-- a step that writes a limit and answers it
+abbrev limited : ℕ → ℕ → Doing StageStop ℕ
+limited before at items = record { steps = (item.Limit at ∷ []) ∷ []; answer = Ok (before + at) }
+
+-- the groups of two steps stand behind each other, and the second sees what the first wrote
+two_steps : (limited 0 5 >>= λ a. limited a 7) [] ≡ record { steps = (item.Limit 5 ∷ []) ∷ ((item.Limit 7 ∷ []) ∷ []); answer = Ok 12 }
+two_steps = refl
+
+stopped_first : (stops {A = ℕ} stop.Memory >>= λ a. limited a 7) [] ≡ record { steps = []; answer = Err stop.Memory }
+stopped_first = refl
+
+seen_then : (limited 0 5 >>= λ a. seen (λ items. items)) (item.Trim ∷ [])
+    ≡ record { steps = (item.Limit 5 ∷ []) ∷ []; answer = Ok (item.Trim ∷ (item.Limit 5 ∷ [])) }
+seen_then = refl
+
+-- one step for each of three
+three_in_turn : (in_turn limited 0 (1 ∷ (2 ∷ (3 ∷ []))) []).answer ≡ Ok 6
+three_in_turn = refl
+
+none_in_turn : in_turn limited 4 [] [] ≡ returns 4 []
+none_in_turn = refl
+
+-- a change that is written, and one that is refused
+changed : changes (write item.Trim) [] ≡ record { steps = (item.Trim ∷ []) ∷ []; answer = Ok tt }
+changed = refl
+
+not_changed : changes (refuse which.Memory 128) [] ≡ record { steps = []; answer = Err (refusal.NoGapForTable which.Memory 128) }
+not_changed = refl
+
+-- without a place nothing is claimed; what the boot can't do without stops it then
+no_place : claimed_at None 4096 owner.Roots [] ≡ record { steps = []; answer = Err refusal.NoGap }
+no_place = refl
+
+no_roots : or_stop {A = ℕ} what.Roots (Err refusal.NoGap) ≡ Err (stop.NoPlace what.Roots)
+no_roots = refl
+
+no_table : or_stop {A = ℕ} what.Roots (Err (refusal.NoGapForTable which.Reserved 256)) ≡ Err (stop.NoTablePlace which.Reserved 256)
+no_table = refl
+
+-- the other one is tried where the first had no gap, and only there
+tried : (or_else (what.Map 3) (stops refusal.NoGap) (limited 0 9) []).answer ≡ Ok 9
+tried = refl
+
+not_tried : (or_else (what.Map 3) (stops (refusal.NoGapForTable which.Memory 128)) (limited 0 9) []).answer
+    ≡ Err (stop.NoTablePlace which.Memory 128)
+not_tried = refl
+
+-- memory ran out behind the first of two groups
+cut_behind_one : IsCut [] (item.Trim ∷ []) ((item.Trim ∷ []) ∷ ((item.Limit 7 ∷ []) ∷ []))
+cut_behind_one = record { count = 1; within = omega arith; stands = refl }
+
+ends_cut : EndsAs {A = ℕ} stop.Memory (Err stop.Memory) [] (item.Limit 5 ∷ []) ((limited 0 5 >>= λ a. limited a 7) [])
+ends_cut = inr (refl, record { count = 1; within = omega arith; stands = refl })

@@ -1,0 +1,4 @@
+pub mod DoingLaws
+pub mod RequestLaws
+pub mod QuietLaws
+mod Examples

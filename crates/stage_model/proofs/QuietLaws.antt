@@ -1,0 +1,98 @@
+-- Rows of allocations leave memory, its nodes and the limit as they are, wherever they end.
+use Rattle.std.proofs.Common.{◌≡◌, List, [], ◌∷◌, ◌++◌, take, ℕ, Option, Some, None, Result, Ok, Err, refl, sym, ◌∙◌, ap, subst}
+use Rattle.memblock_model.specs.declared.owner.Owner.{Owner}
+use Rattle.memblock_model.specs.declared.item.Item.{Item}
+use Rattle.memblock_model.specs.Items.{memory_of, limit_of}
+use Rattle.growth_model.specs.declared.refusal.Refusal.{Refusal}
+use Rattle.growth_model.specs.declared.refusal.Refusal.TheVariants as refusal
+use Rattle.growth_model.specs.declared.request.Request.{Request}
+use Rattle.growth_model.specs.Outcome.{Change, Outcome}
+use Rattle.growth_model.specs.Growth.{claimed}
+use Rattle.growth_model.specs.Request.{place_for}
+use Rattle.growth_model.specs.Carried.{AreQuiet, memory_items}
+use Rattle.growth_model.proofs.MemoryItemLaws.{quiet-append, quiet-take}
+use Rattle.growth_model.proofs.QuietLaws.{IsQuiet, claimed-quiet, quiet-memory_items, quiet-memory, quiet-limit}
+use Rattle.stage_model.specs.declared.stop.What.{What}
+use Rattle.stage_model.specs.declared.stop.StageStop.{StageStop}
+use Rattle.stage_model.specs.declared.stop.StageStop.TheVariants as stop
+use Rattle.stage_model.specs.Doing.{Done, Doing, appended, after, returns, stops, seen, going_on, ◌>>=◌, in_turn}
+use Rattle.stage_model.specs.Requests.{changes, claimed_at, allocated, placed, unless_gap, or_else}
+use Rattle.stage_model.specs.Quiet.{IsQuietStep}
+use Rattle.stage_model.proofs.DoingLaws.{appended-joined}
+
+module _ {E A : Type 0} where
+  pub quiet-returns : (a : A) → IsQuietStep (returns {E = E} a)
+  quiet-returns a = record { each = λ items. tt }
+
+  pub quiet-stops : (e : E) → IsQuietStep (stops {A = A} e)
+  quiet-stops e = record { each = λ items. tt }
+
+  pub quiet-seen : (f : List Item → A) → IsQuietStep (seen {E = E} f)
+  quiet-seen f = record { each = λ items. tt }
+
+module _ {E A B : Type 0} where
+  quiet_going : (steps : List (List Item)) (answer : Result A E) (next : A → Done E B) → AreQuiet steps
+      → ((a : A) → AreQuiet (next a).steps) → AreQuiet (going_on steps answer next).steps
+  quiet_going steps (Ok a) next quiet then = quiet-append steps (next a).steps quiet (then a)
+  quiet_going steps (Err e) next quiet then = quiet
+
+  pub quiet-bind : (f : Doing E A) (next : A → Doing E B) → IsQuietStep f → ((a : A) → IsQuietStep (next a)) → IsQuietStep (f >>= next)
+  quiet-bind f next quiet then = record {
+    each = λ items. quiet_going (f items).steps (f items).answer (λ a. next a (after items (f items))) (quiet.each items)
+        (λ a. (then a).each (after items (f items)));
+  }
+
+pub quiet-turn : {E S X : Type 0} (f : S → X → Doing E S) → ((s : S) (x : X) → IsQuietStep (f s x)) → (s : S) (xs : List X)
+    → IsQuietStep (in_turn f s xs)
+quiet-turn f quiet s [] = quiet-returns s
+quiet-turn f quiet s (x ∷ xs) = quiet-bind (f s x) (λ next. in_turn f next xs) (quiet s x) (λ next. quiet-turn f quiet next xs)
+
+pub quiet-changes : (change : Change) → IsQuiet change → IsQuietStep (changes change)
+quiet-changes change quiet = record { each = quiet.each }
+
+pub quiet-claimed_at : (place : Option ℕ) (size : ℕ) (who : Owner) → IsQuietStep (claimed_at place size who)
+quiet-claimed_at None size who = quiet-stops refusal.NoGap
+quiet-claimed_at (Some place) size who =
+    quiet-bind (changes (claimed (record { base = place; size = size }) who)) (λ done. returns place)
+    (quiet-changes (claimed (record { base = place; size = size }) who) (claimed-quiet (record { base = place; size = size }) who))
+    (λ done. quiet-returns place)
+
+pub quiet-allocated : (q : Request) (who : Owner) → IsQuietStep (allocated q who)
+unfolding allocated
+quiet-allocated q who = record { each = λ items. (quiet-claimed_at (place_for q items) q.size who).each items }
+
+pub quiet-placed : (thing : What) (q : Request) (who : Owner) → IsQuietStep (placed thing q who)
+unfolding placed
+quiet-placed thing q who = record { each = (quiet-allocated q who).each }
+
+module _ {A : Type 0} where
+  quiet_unless : (thing : What) (steps : List (List Item)) (answer : Result A Refusal) (other : Done StageStop A) → AreQuiet steps
+      → AreQuiet other.steps → AreQuiet (unless_gap thing steps answer other).steps
+  quiet_unless thing steps (Ok a) other quiet then = quiet
+  quiet_unless thing steps (Err refusal.NoGap) other quiet then = quiet-append steps other.steps quiet then
+  quiet_unless thing steps (Err (refusal.NoGapForTable w room)) other quiet then = quiet
+  quiet_unless thing steps (Err refusal.Memory) other quiet then = quiet
+
+  pub quiet-else : (thing : What) (first : Doing Refusal A) (other : Doing StageStop A) → IsQuietStep first → IsQuietStep other
+      → IsQuietStep (or_else thing first other)
+  quiet-else thing first other quiet then = record {
+    each = λ items. quiet_unless thing (first items).steps (first items).answer (other (after items (first items))) (quiet.each items)
+        (then.each (after items (first items)));
+  }
+
+-- so what the items say of memory and of the limit stays
+
+pub quiet-appended : (items : List Item) (steps : List (List Item)) → AreQuiet steps
+    → memory_items (appended items steps) ≡ memory_items items
+quiet-appended items steps quiet = ap memory_items (appended-joined items steps)
+    ∙ quiet-memory_items items (record { steps = steps; refused = None }) quiet
+
+pub quiet-appended_memory : (items : List Item) (steps : List (List Item)) → AreQuiet steps
+    → memory_of (appended items steps) ≡ memory_of items
+quiet-appended_memory items steps quiet = ap memory_of (appended-joined items steps)
+    ∙ quiet-memory items (record { steps = steps; refused = None }) quiet
+
+pub quiet-appended_limit : (items : List Item) (steps : List (List Item)) → AreQuiet steps
+    → limit_of (appended items steps) ≡ limit_of items
+quiet-appended_limit items steps quiet = ap limit_of (appended-joined items steps)
+    ∙ quiet-limit items (record { steps = steps; refused = None }) quiet
