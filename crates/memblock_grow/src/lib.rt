@@ -20,6 +20,10 @@
 #![tactic(auto)]
 
 mod edits;
+mod memblock;
 mod more;
 mod places;
 mod reserved;
+
+pub use growth_model::{Refusal, Request};
+pub use memblock::Memblock;
