@@ -2,3 +2,5 @@ pub mod KeptLaws
 pub mod PlaceLaws
 pub mod MoreLaws
 pub mod ReservedLaws
+pub mod WholeLaws
+pub mod ChangeLaws

@@ -21,6 +21,7 @@
 
 mod edits;
 mod memblock;
+mod memory;
 mod more;
 mod places;
 mod reserved;
