@@ -20,7 +20,11 @@
 #![tactic(auto)]
 
 mod edits;
+mod memblock;
 mod memory;
 mod more;
 mod places;
 mod reserved;
+
+pub use growth_model::{Refusal, Request};
+pub use memblock::Memblock;
