@@ -5,3 +5,4 @@ pub mod ReservedLaws
 pub mod WholeLaws
 pub mod ChangeLaws
 pub mod MemoryLaws
+pub mod RequestLaws
