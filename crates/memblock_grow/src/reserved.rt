@@ -9,7 +9,7 @@ ghost use Rattle.growth_model.specs.Growth.{reserved_growth, grown, claimed, fre
 ghost use Rattle.growth_model.specs.Ends.{Ends};
 ghost use Rattle.growth_model.specs.Sound.{HasBegun};
 ghost use Rattle.memblock_grow.specs.Kept.{IsKept, AllowsClaim, AllowsFree, Keeps, KeepsBytes, StayReady};
-ghost use Rattle.memblock_grow.specs.More.{more_by, HasRoom, Grew};
+ghost use Rattle.memblock_grow.specs.More.{more_by, HasRoom, Grew, EndsBefore};
 
 use crate::edits::{cover, relocate, uncover};
 use crate::more::{More, is_full};
@@ -78,6 +78,7 @@ fn grow_reserved_once(
     ensures still_ready { StayReady tables.old.store tables.new.store }
     ensures memory { tables.new.memory ≡ tables.old.memory }
     ensures grew { OnOk result (HasRoom more.now tables.new.reserved ⊎ Grew tables.old.reserved tables.new.reserved) }
+    ensures within { EndsBefore more.now }
     ensures idle { HasRoom more.now tables.old.reserved →
         IsOk result × (journal.new ≡ journal.old) × (tables.new ≡ tables.old) }
 {
