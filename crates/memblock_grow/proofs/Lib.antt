@@ -4,3 +4,4 @@ pub mod MoreLaws
 pub mod ReservedLaws
 pub mod WholeLaws
 pub mod ChangeLaws
+pub mod MemblockLaws
