@@ -31,7 +31,7 @@ use Rattle.memblock_grow.proofs.WholeLaws.{whole-on}
 zeros_at : (n k : ℕ) → ◌≡◌ {A = ℕ} (get_or (replicate n 0) k 0) 0
 zeros_at n k = elim (cases_lt k n) as (λ _. ◌≡◌ {A = ℕ} (get_or (replicate n 0) k 0) 0) [
   | inl inside ↦ get_or-replicate n k 0 0 inside
-  | inr past ↦ get_or_past (replicate n 0) k 0 (let len = length-replicate n 0 in omega (arith, len, past))
+  | inr past ↦ get_or_past (replicate n 0) k 0 (let len = length-replicate {A = ℕ} n 0 in omega (arith, len, past))
 ]
 
 no_records_at : (n k : ℕ) → get_or (spelled_table [] n) k 0 ≡ 0
