@@ -5,3 +5,4 @@ pub mod ReservedLaws
 pub mod WholeLaws
 pub mod ChangeLaws
 pub mod MemblockLaws
+pub mod MemoryLaws
