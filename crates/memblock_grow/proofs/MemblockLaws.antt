@@ -169,7 +169,7 @@ whole-fill kernel items t u at fill first second wrote away m =
     let memory : Clear fill.range (bytes_of t.memory) = subst (λ (s : Table). Clear fill.range (bytes_of s)) (sym m.kept.memory) away.0 in
     let reserved : Clear fill.range (bytes_of t.reserved) = subst (λ (s : Table). Clear fill.range (bytes_of s)) (sym m.kept.reserved) away.1 in
     let spelled : AreSpelled t.memory t.reserved (byte_of u.store) =
-        fill-spelled t.memory t.reserved fill (byte_of t.store) (byte_of u.store) memory reserved m.spelled wrote in
+    fill-spelled t.memory t.reserved fill (byte_of t.store) (byte_of u.store) memory reserved m.spelled wrote in
     record {
       image = m.image;
       kept = kept-same kernel items t u at first second m.kept;

@@ -14,7 +14,7 @@ invariant_of-self-2 c =
     whole-fill m.kernel m.journal.items m.tables c.fill.new.self m.limit fill
     (c.fill.ensures.memory ∙ c.in_ok-prepare.ensures.memory) (c.fill.ensures.reserved ∙ c.in_ok-prepare.ensures.reserved)
     (λ x. wrote-put c.prepare.new.self.store c.fill.new.self.store fill c.fill.ensures.bytes x
-        ∙ ap (λ (b : ℕ). put fill x b) (c.in_ok-prepare.ensures.bytes x))
+    ∙ ap (λ (b : ℕ). put fill x b) (c.in_ok-prepare.ensures.bytes x))
     (subst (λ (v : Contents). IsAway v.kernel c.args.range v.journal.items) (sym c.self.view_is) c.requires) c.self.invariant
 
 pub returns-clause-ok : goal.returns-clause-ok

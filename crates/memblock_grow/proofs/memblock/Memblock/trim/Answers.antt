@@ -27,6 +27,6 @@ pub returns-clause-bytes : goal.returns-clause-bytes
 returns-clause-bytes c =
     let m = c.self.inside in
     subst (λ (v : Contents). Follows v.kernel v.journal.items c.push.new.self.items (byte_of v.tables.store)
-        (byte_of c.trim.new.tables.store)) c.self.view_is
+    (byte_of c.trim.new.tables.store)) c.self.view_is
     (follows-trim m.kernel m.journal.items c.push.new.self.items m.tables c.trim.new.tables m.limit c.in_ok-push.ensures.ok
     c.trim.ensures.memory c.trim.ensures.reserved c.trim.ensures.bytes c.self.invariant)
