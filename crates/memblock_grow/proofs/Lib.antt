@@ -6,3 +6,4 @@ pub mod WholeLaws
 pub mod ChangeLaws
 pub mod MemblockLaws
 pub mod MemoryLaws
+pub mod RequestLaws

@@ -24,6 +24,7 @@ mod memblock;
 mod memory;
 mod more;
 mod places;
+mod request;
 mod reserved;
 
 pub use growth_model::{Refusal, Request};
