@@ -18,16 +18,17 @@ ghost use Rattle.memblock_model.specs.Search.{best};
 ghost use Rattle.memblock_ranges.specs.Spelling.{spelled_table};
 ghost use Rattle.memblock_ranges.specs.Tables.{head_of, StandsIn, HaveNoNode};
 ghost use Rattle.growth_model.specs.Growth.{claimed, freed, added, noded, new_in, two, is_full as is_full_by};
-ghost use Rattle.growth_model.specs.Ends.{Ends};
+ghost use Rattle.growth_model.specs.Ends.{Ends, Allocates};
+ghost use Rattle.growth_model.specs.Request.{place_for};
 ghost use Rattle.growth_model.specs.Sound.{Sound, IsImage, HasBegun, IsAway, MayClaim};
 ghost use Rattle.growth_model.specs.Bytes.{table_for, byte as byte_by, put, Follows};
 ghost use Rattle.memblock_grow.specs.Kept.{StayReady};
 ghost use Rattle.memblock_grow.specs.Touch.{TouchesTable};
 
-use crate::{edits, memory, reserved};
+use crate::{edits, memory, request, reserved};
 use bm_base::{Memory, Range};
 use boot_journal::{Item, Journal, Owner, Which};
-use growth_model::Refusal;
+use growth_model::{Refusal, Request};
 use memblock_find::Query;
 use memblock_ranges::{Heads, Tables};
 use phys_store::Store;
@@ -199,6 +200,24 @@ impl Memblock {
         ensures { result ≡ best self.now.journal.items query.now }
     {
         memblock_find::find(&self.tables, query)
+    }
+
+    /// Finds a place for the request and claims it for the owner; its address is the answer (`memblock_alloc_range_nid`). `NoGap` comes
+    /// exactly where no attempt finds a place, and nothing is written then. The size is at least 1 and the alignment a power
+    /// of two.
+    pub fn alloc(&mut self, request: &Request, owner: Owner) -> Result<u64, Refusal>
+        requires some { 1 ≤ request.now.size }
+        requires aligned { (k : ℕ) × (request.now.align ≡ 2 ^ k) }
+        requires begun { HasBegun self.old.journal.items }
+        ensures ends { Allocates result self.old.journal.items self.new.journal.items
+            (place_for request.now self.old.journal.items) request.now.size owner }
+        ensures inside { IfOk result (λ base. base + request.now.size < 2 ^ 64) }
+        ensures kernel { self.new.kernel ≡ self.old.kernel }
+        ensures bytes { Follows self.old.kernel self.old.journal.items self.new.journal.items
+            (byte_of self.old.tables.store) (byte_of self.new.tables.store) }
+        ensures still_ready { StayReady self.old.tables.store self.new.tables.store }
+    {
+        request::allocate(&mut self.journal, &mut self.tables, self.limit, request, owner)
     }
 
     /// Writes the byte to each address of the range, which meets no table. After `Memory` each byte is as before.
