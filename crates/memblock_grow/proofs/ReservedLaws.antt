@@ -70,8 +70,8 @@ pub beside-found : (kernel : Extent) (items : List Item) (t : Contents) (at n : 
     → IsBeside items avoid place
 beside-found kernel items t at n avoid o place kept room is some =
     let known : IsPlaceOf (place_beside avoid (room_of which.Reserved items) items) (48 * room_of which.Reserved items) place =
-        mapped-some (place_beside avoid (room_of which.Reserved items) items) (48 * room_of which.Reserved items) place
-        (sym (beside-along kernel items t at n avoid o kept room is) ∙ some) in
+    mapped-some (place_beside avoid (room_of which.Reserved items) items) (48 * room_of which.Reserved items) place
+    (sym (beside-along kernel items t at n avoid o kept room is) ∙ some) in
     record { found = known.found; is = known.is }
 
 pub beside-free : (items : List Item) (avoid place : Extent) → IsBeside items avoid place → Unclaimed (owner_of items) place
@@ -87,8 +87,8 @@ beside-apart kernel items t p at base avoid place kept placed known here first s
     let same = kept-same kernel items t p at first second kept in
     let n = room_of which.Reserved items in
     let apart : ¬ Overlaps p (record { base = place.base; size = 48 * n }) =
-        found-apart kernel items p n place.base same.memory same.reserved placed
-        (subst (λ (e : Extent). Unclaimed (owner_of items) e) known.is (beside-free items avoid place known)) in
+    found-apart kernel items p n place.base same.memory same.reserved placed
+    (subst (λ (e : Extent). Unclaimed (owner_of items) e) known.is (beside-free items avoid place known)) in
     subst (λ (m : ℕ). ¬ Overlaps p (record { base = base; size = 48 * m })) (sym (room-is which.Reserved kernel items p at same))
     (subst (λ (b : ℕ). ¬ Overlaps p (record { base = b; size = 48 * n })) (sym here) apart)
 
@@ -100,10 +100,10 @@ unfolding reserved_growth reserved_growth_at
 growth-none kernel items t at n avoid o kept room is none =
     let m = room_of which.Reserved items in
     let nowhere : place_beside avoid m items ≡ None = mapped-none (place_beside avoid m items) (48 * m)
-        (sym (beside-along kernel items t at n avoid o kept room is) ∙ none) in
+    (sym (beside-along kernel items t at n avoid o kept room is) ∙ none) in
     let same : refuse which.Reserved n items ≡ reserved_growth avoid items =
-        ap (λ (k : ℕ). refuse which.Reserved k items) (room ∙ room-is which.Reserved kernel items t at kept)
-        ∙ ap (λ (o : Option ℕ). reserved_growth_at m (moved_to which.Reserved items) o items) (sym nowhere) in
+    ap (λ (k : ℕ). refuse which.Reserved k items) (room ∙ room-is which.Reserved kernel items t at kept)
+    ∙ ap (λ (o : Option ℕ). reserved_growth_at m (moved_to which.Reserved items) o items) (sym nowhere) in
     subst (λ (o : Outcome). EndsBy {T = Unit {0}} (Err (refusal.NoGapForTable which.Reserved n)) items items o) same
     (Ends-refused (Unit {0}) which.Reserved n items)
 
@@ -235,7 +235,7 @@ claim-room kernel items t p r at base place kept second table free some ends =
     let n = ap (λ (t : Table). t.room) table in
     let m = ap (λ (t : Table). t.room) second in
     let one : pieces place (value_at r.reserved.records) ≡ 1 =
-        ap (λ l. pieces place (value_at l)) rs ∙ place-one kernel items t at place kept free some ends in
+    ap (λ l. pieces place (value_at l)) rs ∙ place-one kernel items t at place kept free some ends in
     let few = few-kept which.Reserved kernel items t at kept in
     let least = room-least which.Reserved kernel items t at kept in
     let same = ap length rs in
@@ -265,9 +265,9 @@ claimed-grew kernel items t p r v at base room place kept m free =
     let rs = same-records p.reserved r.reserved base (2 * p.reserved.room) m.table ∙ ap (λ (t : Table). t.records) m.second in
     let some = frames-some which.Reserved items place m.is in
     let one : pieces place (value_at r.reserved.records) ≡ 1 =
-        ap (λ l. pieces place (value_at l)) rs ∙ place-one kernel items t at place kept free some m.ends in
+    ap (λ l. pieces place (value_at l)) rs ∙ place-one kernel items t at place kept free some m.ends in
     let few = few-covered which.Reserved kernel (items ++ item.Grown which.Reserved base room ∷ []) r at place m.ends
-        (moved-kept kernel items t p r v at base room place kept m) in
+    (moved-kept kernel items t p r v at base room place kept m) in
     let same = ap length rs in
     let n = ap (λ (t : Table). t.room) m.table in
     let k = ap (λ (t : Table). t.room) m.second in

@@ -14,8 +14,7 @@ use Rattle.memblock_grow.proofs.reserved.make_reserved_room.Goals as goal
 
 pub grow_reserved_once-requires-2 : goal.grow_reserved_once-requires-2
 grow_reserved_once-requires-2 c =
-    let first = c.grow_reserved_once in
-    (
+    let first = c.grow_reserved_once in (
       c.requires.0,
       whole-on c.requires.0 c.args.journal.now.items first.new.journal.items c.args.tables.now first.new.tables c.args.limit c.requires.1
           first.ensures.kept first.ensures.bytes
