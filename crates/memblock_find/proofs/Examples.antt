@@ -7,7 +7,7 @@ use Rattle.memblock_model.specs.Labels.{Label, Labels, plain_label}
 use Rattle.memblock_model.specs.declared.query.Query.{Query}
 use Rattle.memblock_model.specs.Search.{fits_in}
 use Rattle.memblock_model.proofs.SearchLaws.{fits_in-parts, fits_in-whole}
-use Rattle.memblock_ranges.specs.Tables.{Table, Contents}
+use Rattle.memblock_ranges.specs.Tables.{Contents}
 use Rattle.memblock_find.specs.declared.cursor.Look.{Look}
 use Rattle.memblock_find.specs.declared.cursor.Cursor.{Cursor}
 use Rattle.memblock_find.specs.Free.{unclaimed, free_in, IsDownTo, IsUpTo, IsRunBelow, IsRunFrom}
@@ -164,9 +164,11 @@ record_examples : (run_at memory_runs 1 ≡ record { base = 0x2000; size = 0x100
 record_examples = (refl, refl)
 
 memory_in_order : AreRuns memory_runs
-memory_in_order =
-    (omega arith, (omega arith, λ touch same. let there : 0 ≡ 1 = ap (λ (l : Label). unwrap_or l.node 3) same in omega arith),
-    (omega arith, tt, tt))
+memory_in_order = (
+  omega arith,
+  (omega arith, λ touch same. let there : 0 ≡ 1 = ap (λ (l : Label). unwrap_or l.node 3) same in omega arith),
+  (omega arith, tt, tt),
+)
 
 claims_in_order : AreRuns claims
 claims_in_order = (omega arith, tt, tt)
@@ -229,7 +231,7 @@ look_down_gap = look_gap claims 1 0x2800 (omega arith) (all_begun claims 0x2800 
 abbrev down_here : Cursor
 down_here = record { at = 0x2800; memory = memory_below; reserved = no_claim_below }
 
-walks_down : IsDownAt tables down_here
+walks_down : IsDownAt memory_runs claims down_here
 walks_down = record { memory = look_down_in; reserved = look_down_gap }
 
 -- a walk up from there: up to 0x3000, and no claim is left
@@ -248,7 +250,7 @@ look_up_top = look_top claims 1 0x2800 refl (omega arith) ended_claim
 abbrev up_here : Cursor
 up_here = record { at = 0x2800; memory = memory_above; reserved = no_claim_above }
 
-walks_up : IsUpAt tables up_here
+walks_up : IsUpAt memory_runs claims up_here
 walks_up = record { memory = look_up_in; reserved = look_up_top }
 
 -- where both looks tell of memory and of no claim, the label is memory's; in a claim there is none

@@ -1,10 +1,12 @@
 //! Runs of unclaimed memory, one at a time: below an address or from one on. A caller that goes over several
 //! asks again at the run's start or end; each call costs two binary searches and what bare bytes it passes.
 ghost use Rattle.std.specs.Prelude.{◌≡◌, ◌-◌, ◌≤◌, MatchOption, None};
+ghost use Rattle.address_runs.specs.Runs.{value_at};
 ghost use Rattle.address_runs.specs.Edits.{NothingFrom};
 ghost use Rattle.address_runs.specs.Sweep.{Stays};
-ghost use Rattle.memblock_find.specs.Free.{free_in, IsRunBelow, IsRunFrom};
+ghost use Rattle.memblock_find.specs.Free.{unclaimed, free_in, IsRunBelow, IsRunFrom};
 
+use crate::cursor::{Lists, lists_of};
 use crate::down::cursor_below;
 use crate::up::cursor_from;
 use bm_base::Range;
@@ -56,12 +58,20 @@ impl FreeRange {
 pub fn prev_free(tables: &Tables, below: u64) -> Option<FreeRange>
     ensures { MatchOption result (Stays (free_in tables.now) 0 below None) (IsRunBelow (free_in tables.now) below) }
 {
-    let mut cursor = cursor_below(tables, below);
+    prev_in(&lists_of(tables), below)
+}
+
+/// That run by the records of both tables.
+fn prev_in(lists: &Lists<'_>, below: u64) -> Option<FreeRange>
+    ensures { MatchOption result (Stays (unclaimed (value_at lists.now.memory) (value_at lists.now.reserved)) 0 below None)
+        (IsRunBelow (unclaimed (value_at lists.now.memory) (value_at lists.now.reserved)) below) }
+{
+    let mut cursor = cursor_below(lists, below);
     while cursor.at > 0 {
         if let Some(label) = cursor.label() {
             return Some(FreeRange::between(cursor.bottom(), cursor.at, label));
         }
-        cursor = cursor.down(tables);
+        cursor = cursor.down(lists);
     }
     None
 }
@@ -71,12 +81,20 @@ pub fn prev_free(tables: &Tables, below: u64) -> Option<FreeRange>
 pub fn next_free(tables: &Tables, from: u64) -> Option<FreeRange>
     ensures { MatchOption result (NothingFrom from (free_in tables.now)) (IsRunFrom (free_in tables.now) from) }
 {
-    let mut cursor = cursor_from(tables, from);
+    next_in(&lists_of(tables), from)
+}
+
+/// That run by the records of both tables.
+fn next_in(lists: &Lists<'_>, from: u64) -> Option<FreeRange>
+    ensures { MatchOption result (NothingFrom from (unclaimed (value_at lists.now.memory) (value_at lists.now.reserved)))
+        (IsRunFrom (unclaimed (value_at lists.now.memory) (value_at lists.now.reserved)) from) }
+{
+    let mut cursor = cursor_from(lists, from);
     while cursor.at < u64::MAX {
         if let Some(label) = cursor.label() {
             return Some(FreeRange::between(cursor.at, cursor.top(), label));
         }
-        cursor = cursor.up(tables);
+        cursor = cursor.up(lists);
     }
     None
 }
