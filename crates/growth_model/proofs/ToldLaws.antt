@@ -20,7 +20,7 @@ table-told t s x stands here =
     sym (ap (λ (bs : List ℕ). get_or bs (x - t.place) 0) (sym stands.bytes)
     ∙ get-bytes_at (byte_of s) t.place (24 * t.room) (x - t.place) (omega arith) ∙ ap (byte_of s) back)
 
-chosen : (m r : Bool) (y a b c : ℕ) → (m ≡ true → y ≡ a) → (r ≡ true → y ≡ b) → (m ≡ false → r ≡ false → y ≡ c) →
+pub chosen : (m r : Bool) (y a b c : ℕ) → (m ≡ true → y ≡ a) → (r ≡ true → y ≡ b) → (m ≡ false → r ≡ false → y ≡ c) →
     y ≡ (if m then a else (if r then b else c))
 chosen true r y a b c first second neither = first refl
 chosen false true y a b c first second neither = second refl
