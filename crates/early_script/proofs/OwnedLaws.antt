@@ -1,21 +1,20 @@
 -- The tests on ranges tell what they are named for.
-use Rattle.std.proofs.Common.{◌≡◌, ℕ, ◌+◌, ◌<◌, ◌≤◌, ◌↔◌, ◌⊎◌, Bool, true, false, ◌||◌, nat_lt, Option, Some, None, List, [], ◌∷◌, refl, sym, ◌∙◌, ap, subst, arith, inl, inr, IsTrue}
+use Rattle.std.proofs.Common.{◌≡◌, ℕ, ◌<◌, ◌≤◌, ◌↔◌, Bool, true, false, ◌||◌, Option, Some, None, List, refl, sym, ◌∙◌, ap, subst, arith, inl, inr, IsTrue}
 use Rattle.std.specs.Prelude.{min, max}
-use Rattle.std.proofs.lemmas.Bool.{cases_Bool, true≢false, and_from, or_parts}
+use Rattle.std.proofs.lemmas.Bool.{cases_Bool, and_from}
 use Rattle.std.proofs.lemmas.Bool.Decides.{nat_tests}
 use Rattle.bm_base.specs.Extent.{Extent, end_of, covers, Meet}
 use Rattle.bm_base.proofs.EachLaws.{each_in-all, each_in-each}
 use Rattle.address_runs.specs.Edits.{agree}
 use Rattle.memblock_model.specs.declared.owner.Owner.{Owner}
-use Rattle.memblock_model.specs.declared.owner.Owner.TheVariants as owner
 use Rattle.memblock_model.specs.declared.which.Which.{Which}
 use Rattle.memblock_model.specs.declared.which.Which.TheVariants as which
 use Rattle.memblock_model.specs.declared.item.Item.{Item}
 use Rattle.memblock_model.specs.Same.{same_owner}
-use Rattle.memblock_model.specs.Items.{Owners, owner_of}
+use Rattle.memblock_model.specs.Items.{Owners}
 use Rattle.memblock_model.specs.Tables.{live}
 use Rattle.memblock_model.proofs.SameLaws.{owner_self, owner_tells}
-use Rattle.growth_model.specs.Sound.{keeps, Spot, Sound, HasBegun, IsAway, Clear, MayClaim}
+use Rattle.memblock_grow.specs.Touch.{TouchesTable}
 use Rattle.early_script.specs.Owned.{is_owned, meets, touches}
 
 agrees : (o : Option Owner) (who : Owner) → o ≡ Some who → agree same_owner o (Some who) ≡ true
@@ -40,20 +39,6 @@ owned-is own who range false tells =
       | inl holds ↦ holds ∙ sym (tells.1 (λ x low high. owned-each own who range holds x low high))
       | inr fails ↦ fails
     ]
-
--- a table lies in bytes that no script has
-apart_from : (own : Owners) (place range : Extent) (id : ℕ) → Spot own place → is_owned own (owner.Script id) range ≡ true → Clear range place
-apart_from own place range id spot owned = λ x here there.
-    let mine : own x ≡ Some (owner.Script id) =
-    owned-each own (owner.Script id) range owned x (grind (arith, nat_tests)) (grind (arith, nat_tests)) in
-    true≢false (sym (spot.kept x there) ∙ ap keeps mine)
-
-pub owned-away : (kernel : Extent) (items : List Item) (id : ℕ) (range : Extent) → Sound kernel items →
-    is_owned (owner_of items) (owner.Script id) range ≡ true → IsAway kernel range items
-owned-away kernel items id range sound owned = (
-  apart_from (owner_of items) (live which.Memory kernel items) range id sound.placed.spots.first owned,
-  apart_from (owner_of items) (live which.Reserved kernel items) range id sound.placed.spots.second owned,
-)
 
 or_left : (a b : Bool) → a ≡ true → (a || b) ≡ true
 or_left true b h = refl
@@ -107,26 +92,11 @@ touched kernel items range h =
         (or_other (meets range (live which.Memory kernel items)) (meets range (live which.Reserved kernel items)) none h))
     ]
 
--- a range that meets no table is away from both
-pub untouched-away : (kernel : Extent) (items : List Item) (range : Extent) → touches kernel items range ≡ false → IsAway kernel range items
-untouched-away kernel items range none = (
-  λ x here there. not-meets range (live which.Memory kernel items) x
-      (or_parts (meets range (live which.Memory kernel items)) (meets range (live which.Reserved kernel items)) none).0 here there,
-  λ x here there. not-meets range (live which.Reserved kernel items) x
-      (or_parts (meets range (live which.Memory kernel items)) (meets range (live which.Reserved kernel items)) none).1 here there,
-)
-
 pub touches-is : (kernel : Extent) (items : List Item) (range : Extent) (b : Bool) →
-    (IsTrue b ↔ ((w : Which) × Meet (live w kernel items) range)) → touches kernel items range ≡ b
+    (IsTrue b ↔ TouchesTable kernel range items) → touches kernel items range ≡ b
 touches-is kernel items range true tells = met kernel items range (tells.0 refl)
 touches-is kernel items range false tells =
     elim (cases_Bool (touches kernel items range)) as (λ _. touches kernel items range ≡ false) [
       | inl holds ↦ holds ∙ sym (tells.1 (touched kernel items range holds))
       | inr fails ↦ fails
     ]
-
--- what meets no table may be claimed for the script
-pub may-away : (kernel : Extent) (items : List Item) (range : Extent) (who : Owner) → HasBegun items → IsAway kernel range items →
-    MayClaim kernel items range who
-may-away kernel [] range who begun away = absurd begun
-may-away kernel (i ∷ items) range who begun away = inr away

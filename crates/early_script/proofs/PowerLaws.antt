@@ -1,5 +1,5 @@
 -- A number with one bit set is a power of two.
-use Rattle.std.proofs.Common.{◌≡◌, ℕ, zero, suc, ◌+◌, ◌*◌, ◌/◌, ◌%◌, ◌^◌, ◌<◌, ◌≤◌, refl, sym, ◌∙◌, ap, subst, arith, add-one, eqb-true, IsTrue, inl, inr}
+use Rattle.std.proofs.Common.{◌≡◌, ℕ, zero, suc, ◌+◌, ◌*◌, ◌/◌, ◌%◌, ◌^◌, ◌<◌, ◌≤◌, ◌∙◌, ap, arith, add-one, eqb-true, IsTrue, inl, inr}
 use Rattle.std.specs.Prelude.{count_ones}
 use Rattle.std.specs.Int.{is_power_of_two}
 use Rattle.std.specs.Int.Count.{ones_step}

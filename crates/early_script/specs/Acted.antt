@@ -1,12 +1,10 @@
 -- What a line of the script does and answers: the tests of its act in their order, the first that holds is the outcome; and the change of
 -- memory where none does.
-use Rattle.std.specs.Prelude.{◌≡◌, ℕ, ◌+◌, ◌-◌, ◌≤◌, Bool, nat_le, nat_lt, if◌then◌else◌, Option, Some, None, List, [], ◌∷◌, ◌++◌, length, Result, Ok, Err}
-use Rattle.arrayvec.specs.ArrayVec.{ArrayVec}
+use Rattle.std.specs.Prelude.{◌≡◌, ℕ, ◌+◌, ◌-◌, nat_le, nat_lt, if◌then◌else◌, Option, Some, None, List, length, Result, Ok, Err}
 use Rattle.bm_base.specs.declared.memory.Memory.{Memory}
 use Rattle.bm_base.specs.Extent.{Extent}
 use Rattle.phys_store.specs.Bytes.{bytes_at}
 use Rattle.memblock_model.specs.declared.item.Item.{Item}
-use Rattle.memblock_model.specs.declared.owner.Owner.{Owner}
 use Rattle.memblock_model.specs.declared.owner.Owner.TheVariants as owner
 use Rattle.memblock_model.specs.Items.{owner_of}
 use Rattle.script_reader.specs.declared.request.Request.{Request as Asked}

@@ -1,10 +1,9 @@
 -- Each act is a call of its own, whose deed is the act's.
-use Rattle.std.proofs.Common.{◌≡◌, ℕ, Ok, refl, ◌∙◌, ap, subst, sym}
+use Rattle.std.proofs.Common.{Ok, refl, ◌∙◌, ap, subst, sym}
 use Rattle.growth_model.specs.declared.request.Request.{Request}
 use Rattle.script_reader.specs.declared.act.Act.{Act}
 use Rattle.script_reader.specs.Forms.{HasBounds}
-use Rattle.early_script.specs.declared.outcome.Outcome.TheVariants as outcomes
-use Rattle.early_script.specs.Acted.{Acts, alloc_deed, reserve_deed, free_deed, trim_deed, fill_deed, peek_deed}
+use Rattle.early_script.specs.Acted.{alloc_deed, reserve_deed, free_deed, trim_deed, fill_deed, peek_deed}
 use Rattle.early_script.specs.Found.{state_of, bytes_in}
 use Rattle.early_script.proofs.PowerLaws.{power_of}
 use Rattle.early_script.proofs.RunLaws.{alloc-quiet, reserve-quiet, free-quiet, trim-quiet}
