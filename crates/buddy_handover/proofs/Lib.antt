@@ -1,2 +1,3 @@
 pub mod NodeLaws
 pub mod PutLaws
+pub mod HandoverLaws

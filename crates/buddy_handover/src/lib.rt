@@ -2,7 +2,9 @@
 #![tactic(auto)]
 
 mod buddy;
+mod handover;
 mod runs;
 
 pub use buddy::Buddy;
+pub use handover::hand_over;
 pub use frame_blocks::{Block, MAX_FRAMES, MAX_ORDER};

@@ -1,0 +1,4 @@
+pub mod RecordLaws
+pub mod ClaimLaws
+pub mod StandLaws
+pub mod WholeLaws
