@@ -1,5 +1,5 @@
 -- The steps of the handover: one stretch of unclaimed frames, and one record of memory.
-use Rattle.std.proofs.Common.{◌≡◌, ℕ, suc, ◌+◌, ◌-◌, ◌*◌, ◌^◌, ◌<◌, ◌≤◌, nat_le, nat_lt, Bool, true, false, ◌&&◌, min, Option, Some, None, List, [], ◌∷◌, ◌++◌, length, get_or, take, if◌then◌else◌, refl, sym, ◌∙◌, ap, subst, inl, inr, arith}
+use Rattle.std.proofs.Common.{◌≡◌, ℕ, suc, ◌+◌, ◌-◌, ◌*◌, ◌/◌, ◌^◌, ◌<◌, ◌≤◌, nat_le, nat_lt, Bool, true, false, ◌&&◌, min, Option, Some, None, List, [], ◌∷◌, ◌++◌, length, get_or, take, if◌then◌else◌, refl, sym, ◌∙◌, ap, subst, inl, inr, arith}
 use Rattle.std.proofs.lemmas.Bool.Decides.{nat_tests}
 use Rattle.std.proofs.lemmas.Bool.{cases_lt, cases_Bool}
 use Rattle.std.proofs.Math.Seq.{take-suc, take-length}
@@ -13,7 +13,7 @@ use Rattle.frame_blocks.specs.Frames.{Frames}
 use Rattle.table_frames.specs.declared.frames.RecordFrames.{RecordFrames}
 use Rattle.table_frames.specs.Frames.{node_below, node_told, node_of_frame, is_unclaimed, free_in, frames_of}
 use Rattle.table_frames.specs.Tables.{AscendBelow, AreWholeFrames}
-use Rattle.table_frames.proofs.RecordLaws.{ascend_at, taken_none}
+use Rattle.table_frames.proofs.RecordLaws.{ascend_at, taken_none, in_order, frames_order}
 use Rattle.table_frames.proofs.WholeLaws.{whole_at, first_byte, other_byte, free_by_first}
 use Rattle.buddy_handover.specs.Handover.{freed, unclaimed}
 
@@ -23,36 +23,36 @@ freed_none first node reserved f x =
     let none : (nat_le first x && nat_lt x first) ≡ false = grind (arith, nat_tests) in rw none refl
 
 -- one stretch of unclaimed frames, and the claimed ones behind it
-pub freed_more : (first at from until end node : ℕ) (reserved : Labels) (f g h : Frames) → first ≤ at → at < end → at ≤ from → from ≤ until
+pub freed_more : (first at from until end cut next node : ℕ) (reserved : Labels) (f g h : Frames) → cut ≡ min from end → next ≡ min until end → first ≤ at → at < end → at ≤ from → from ≤ until
     → ((x : ℕ) → at ≤ x → x < from → x < end → is_unclaimed reserved x ≡ true)
     → ((x : ℕ) → from ≤ x → x < until → x < end → is_unclaimed reserved x ≡ false)
     → ((x : ℕ) → g x ≡ freed first at node reserved f x)
-    → ((x : ℕ) → h x ≡ replaced (let r : Extent = record { base = at; size = min from end - at } in r) node g x)
-    → (x : ℕ) → h x ≡ freed first (min until end) node reserved f x
-freed_more first at from until end node reserved f g h above inner order some bare held known put x =
-    let r : Extent = record { base = at; size = min from end - at } in
-    elim (cases_lt x at) as (λ _. h x ≡ freed first (min until end) node reserved f x) [
+    → ((x : ℕ) → h x ≡ replaced (let r : Extent = record { base = at; size = cut - at } in r) node g x)
+    → (x : ℕ) → h x ≡ freed first next node reserved f x
+freed_more first at from until end cut next node reserved f g h cut_is next_is above inner order some bare held known put x =
+    let r : Extent = record { base = at; size = cut - at } in
+    elim (cases_lt x at) as (λ _. h x ≡ freed first next node reserved f x) [
       | inl before ↦
           let off : covers r x ≡ false = grind (arith, nat_tests) in
-          let same : (nat_le first x && nat_lt x at) ≡ (nat_le first x && nat_lt x (min until end)) = grind (arith, nat_tests) in
+          let same : (nat_le first x && nat_lt x at) ≡ (nat_le first x && nat_lt x next) = grind (arith, nat_tests) in
           put x ∙ rw off (known x ∙ ap (λ b. if b && is_unclaimed reserved x then Some node else f x) same)
-      | inr here ↦ elim (cases_lt x (min from end)) as (λ _. h x ≡ freed first (min until end) node reserved f x) [
+      | inr here ↦ elim (cases_lt x cut) as (λ _. h x ≡ freed first next node reserved f x) [
         | inl within ↦
             let on : covers r x ≡ true = grind (arith, nat_tests) in
             let is : is_unclaimed reserved x ≡ true = bare x here (omega arith) (omega arith) in
-            let in_range : (nat_le first x && nat_lt x (min until end)) ≡ true = grind (arith, nat_tests) in
+            let in_range : (nat_le first x && nat_lt x next) ≡ true = grind (arith, nat_tests) in
             put x ∙ rw on (rw (in_range, is) refl)
         | inr past ↦
             let off : covers r x ≡ false = grind (arith, nat_tests) in
             let not_yet : (nat_le first x && nat_lt x at) ≡ false = grind (arith, nat_tests) in
             let was : g x ≡ f x = known x ∙ rw not_yet refl in
-            elim (cases_lt x (min until end)) as (λ _. h x ≡ freed first (min until end) node reserved f x) [
+            elim (cases_lt x next) as (λ _. h x ≡ freed first next node reserved f x) [
               | inl claimed ↦
-                  let isn't : is_unclaimed reserved x ≡ false = held x (omega arith) (omega arith) (omega arith) in
-                  let in_range : (nat_le first x && nat_lt x (min until end)) ≡ true = grind (arith, nat_tests) in
-                  put x ∙ rw off (was ∙ rw (in_range, isn't) refl)
+                  let is_held : is_unclaimed reserved x ≡ false = held x (omega arith) (omega arith) (omega arith) in
+                  let in_range : (nat_le first x && nat_lt x next) ≡ true = grind (arith, nat_tests) in
+                  put x ∙ rw off (was ∙ rw (in_range, is_held) refl)
               | inr after ↦
-                  let out : (nat_le first x && nat_lt x (min until end)) ≡ false = grind (arith, nat_tests) in
+                  let out : (nat_le first x && nat_lt x next) ≡ false = grind (arith, nat_tests) in
                   put x ∙ rw off (was ∙ rw out refl)
             ]
       ]
@@ -65,6 +65,15 @@ unclaimed_none ms reserved x = elim (cases_Bool (is_unclaimed reserved x)) as (�
   | inr held ↦ rw held refl
 ]
 
+lies_parts : (r : RunOf Label) (y : ℕ) → lies_in r y ≡ true → (r.base ≤ y) × (y < run_end r)
+lies_parts r y lies = grind (arith, nat_tests)
+
+both_tests : (first x end : ℕ) → first ≤ x → x < end → (nat_le first x && nat_lt x end) ≡ true
+both_tests first x end low high = grind (arith, nat_tests)
+
+tests_both : (first x end : ℕ) → (nat_le first x && nat_lt x end) ≡ true → (first ≤ x) × (x < end)
+tests_both first x end holds = grind (arith, nat_tests)
+
 -- what the records up to one give, and that one's frames
 node_more : (b : ℕ) (ms : List (RunOf Label)) (i x : ℕ) (d : RunOf Label) → AscendBelow b ms → AreWholeFrames ms → i < length ms
     → node_of_frame (value_at (take (i + 1) ms)) x
@@ -74,8 +83,11 @@ node_more b ms i x d ascend whole few =
     let r : RunOf Label = get_or ms i d in
     let some = (ascend_at b ms i d ascend few).0 in
     let sizes = whole_at ms i d whole few in
-    let more : take (i + 1) ms ≡ take i ms ++ r ∷ [] = ap (λ k. take k ms) (omega arith) ∙ take-suc ms i d few in
+    let next : i + 1 ≡ suc i = omega arith in
+    let more : take (i + 1) ms ≡ take i ms ++ r ∷ [] = ap (λ k. take k ms) next ∙ take-suc ms i d few in
     let y : ℕ = 4096 * x in
+    let shown : Option ℕ =
+    if nat_le (frames_of r).first x && nat_lt x (frames_of r).end then (frames_of r).node else node_of_frame (value_at (take i ms)) x in
     let from_list : node_of_frame (value_at (take (i + 1) ms)) x ≡ node_told (value_at (take i ms ++ r ∷ []) y) =
     ap (λ (rs : List (RunOf Label)). node_told (value_at rs y)) more in
     elim (cases_Bool (lies_in r y)) as (λ _. node_of_frame (value_at (take (i + 1) ms)) x
@@ -86,7 +98,8 @@ node_more b ms i x d ascend whole few =
           let test : (nat_le (frames_of r).first x && nat_lt x (frames_of r).end) ≡ true = both_tests (frames_of r).first x (frames_of r).end frames.0 frames.1 in
           let none : value_at (take i ms) y ≡ None = taken_none b ms i y d ascend few ends.0 in
           let value : value_at (take i ms ++ r ∷ []) y ≡ Some r.value = value_append_none (take i ms) (r ∷ []) y none ∙ rw lies refl in
-          from_list ∙ ap node_told value ∙ sym (rw test refl)
+          let chosen : shown ≡ (frames_of r).node = rw test refl in
+          from_list ∙ ap node_told value ∙ sym chosen
       | inr away ↦
           let alone : value_at (r ∷ []) y ≡ None = rw away refl in
           let value : value_at (take i ms ++ r ∷ []) y ≡ value_at (take i ms) y = value_append_left (take i ms) (r ∷ []) y alone in
@@ -98,8 +111,93 @@ node_more b ms i x d ascend whole few =
                 absurd (cc (sym (inside r y bytes.0 bytes.1) ∙ away))
             | inr fails ↦ fails
           ] in
-          from_list ∙ ap node_told value ∙ sym (rw test refl)
+          let chosen : shown ≡ node_of_frame (value_at (take i ms)) x = rw test refl in
+          from_list ∙ ap node_told value ∙ sym chosen
     ]
-  where
-    lies_parts : (r : RunOf Label) (y : ℕ) → lies_in r y ≡ true → (r.base ≤ y) × (y < run_end r)
-    lies_parts r y lies = ?
+
+-- so the frames of one record more, where it has a node, and where it has none
+pub record_freed : (b : ℕ) (ms : List (RunOf Label)) (reserved : Labels) (i n : ℕ) (d : RunOf Label) (f g : Frames) → AscendBelow b ms
+    → AreWholeFrames ms → i < length ms → (frames_of (get_or ms i d)).node ≡ Some n
+    → ((x : ℕ) → f x ≡ unclaimed (value_at (take i ms)) reserved x)
+    → ((x : ℕ) → g x ≡ freed (frames_of (get_or ms i d)).first (frames_of (get_or ms i d)).end n reserved f x)
+    → (x : ℕ) → g x ≡ unclaimed (value_at (take (i + 1) ms)) reserved x
+record_freed b ms reserved i n d f g ascend whole few is known put x =
+    let fs : RecordFrames = frames_of (get_or ms i d) in
+    let inner : Bool = nat_le fs.first x && nat_lt x fs.end in
+    let more = node_more b ms i x d ascend whole few in
+    elim (cases_Bool (is_unclaimed reserved x)) as (λ _. g x ≡ unclaimed (value_at (take (i + 1) ms)) reserved x) [
+      | inl bare ↦
+          let was : f x ≡ node_of_frame (value_at (take i ms)) x = known x ∙ rw bare refl in
+          elim (cases_Bool inner) as (λ _. g x ≡ unclaimed (value_at (take (i + 1) ms)) reserved x) [
+            | inl lies ↦
+                let here : node_of_frame (value_at (take (i + 1) ms)) x ≡ Some n = more ∙ rw lies is in
+                put x ∙ rw (lies, bare) (sym here)
+            | inr away ↦
+                let there : node_of_frame (value_at (take (i + 1) ms)) x ≡ node_of_frame (value_at (take i ms)) x = more ∙ rw away refl in
+                put x ∙ rw (away, bare) (was ∙ sym there)
+          ]
+      | inr held ↦
+          let was : f x ≡ None = known x ∙ rw held refl in
+          let none : (inner && is_unclaimed reserved x) ≡ false = elim (cases_Bool inner) as (λ _. (inner && is_unclaimed reserved x) ≡ false) [
+            | inl lies ↦ rw (lies, held) refl
+            | inr away ↦ rw away refl
+          ] in
+          put x ∙ rw none (was ∙ sym (rw held refl))
+    ]
+
+pub record_left : (b : ℕ) (ms : List (RunOf Label)) (reserved : Labels) (i : ℕ) (d : RunOf Label) (f : Frames) → AscendBelow b ms
+    → AreWholeFrames ms → i < length ms → (frames_of (get_or ms i d)).node ≡ None
+    → ((x : ℕ) → f x ≡ unclaimed (value_at (take i ms)) reserved x)
+    → (x : ℕ) → f x ≡ unclaimed (value_at (take (i + 1) ms)) reserved x
+record_left b ms reserved i d f ascend whole few is known x =
+    let fs : RecordFrames = frames_of (get_or ms i d) in
+    let inner : Bool = nat_le fs.first x && nat_lt x fs.end in
+    let more = node_more b ms i x d ascend whole few in
+    let none : inner ≡ true → node_of_frame (value_at (take i ms)) x ≡ None = λ lies.
+    let parts = tests_both fs.first x fs.end lies in
+    let some = (ascend_at b ms i d ascend few).0 in
+    let sizes = whole_at ms i d whole few in
+    let bytes = first_byte (get_or ms i d) x some sizes.0 sizes.1 parts.0 parts.1 in
+    ap node_told (taken_none b ms i (4096 * x) d ascend few bytes.0) in
+    let same : node_of_frame (value_at (take (i + 1) ms)) x ≡ node_of_frame (value_at (take i ms)) x =
+    elim (cases_Bool inner) as (λ _. node_of_frame (value_at (take (i + 1) ms)) x ≡ node_of_frame (value_at (take i ms)) x) [
+      | inl lies ↦ more ∙ rw lies (is ∙ sym (none lies))
+      | inr away ↦ more ∙ rw away refl
+    ] in
+    known x ∙ ap (λ (v : Option ℕ). if is_unclaimed reserved x then v else None) (sym same)
+
+-- after all records
+pub all_handed : (ms : List (RunOf Label)) (reserved : Labels) (i : ℕ) (f : Frames) → AreWholeFrames ms → i ≡ length ms
+    → ((x : ℕ) → f x ≡ unclaimed (value_at (take i ms)) reserved x) → (x : ℕ) → f x ≡ free_in (value_at ms) reserved x
+all_handed ms reserved i f whole all known x =
+    let taken : take i ms ≡ ms = ap (λ k. take k ms) all ∙ take-length ms in
+    known x ∙ ap (λ (rs : List (RunOf Label)). unclaimed (value_at rs) reserved x) taken ∙ free_by_first ms reserved x whole
+
+pub frames_below : (b m : ℕ) (ms : List (RunOf Label)) (i : ℕ) (d : RunOf Label) (fs : RecordFrames) → AscendBelow b ms → i < length ms
+    → fs ≡ frames_of (get_or ms i d) → b ≤ 4096 * m → fs.end ≤ m
+frames_below b m ms i d fs ascend few is bound =
+    let r : RunOf Label = get_or ms i d in
+    let fits = ascend_at b ms i d ascend few in
+    let end : fs.end ≡ (r.base + (r.size - 1)) / 4096 + 1 = ap (λ (g : RecordFrames). g.end) is in
+    omega (arith, fits.0, fits.1, end, bound)
+
+pub frames_in_order : (b : ℕ) (ms : List (RunOf Label)) (i k : ℕ) (d : RunOf Label) (fs : RecordFrames) → AscendBelow b ms → AreWholeFrames ms
+    → i < k → k < length ms → fs ≡ frames_of (get_or ms i d) → fs.end ≤ (frames_of (get_or ms k d)).first
+frames_in_order b ms i k d fs ascend whole order few is =
+    let r : RunOf Label = get_or ms i d in
+    let s : RunOf Label = get_or ms k d in
+    let some = (ascend_at b ms i d ascend (omega arith)).0 in
+    let sizes = whole_at ms i d whole (omega arith) in
+    let apart = in_order b ms i k d ascend order few in
+    let end : fs.end ≡ (r.base + (r.size - 1)) / 4096 + 1 = ap (λ (g : RecordFrames). g.end) is in
+    let base = sizes.0 in
+    let size = sizes.1 in
+    let low : (r.base + (r.size - 1)) / 4096 + 1 ≤ s.base / 4096 = omega (arith, some, base, size, apart) in
+    omega (arith, end, low)
+
+pub frames_some : (r : RunOf Label) (fs : RecordFrames) → fs ≡ frames_of r → fs.first ≤ fs.end
+frames_some r fs is =
+    let order = frames_order r in
+    let first : fs.first ≡ (frames_of r).first = ap (λ (g : RecordFrames). g.first) is in
+    let end : fs.end ≡ (frames_of r).end = ap (λ (g : RecordFrames). g.end) is in
+    omega (arith, order, first, end)

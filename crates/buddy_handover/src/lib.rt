@@ -6,5 +6,5 @@ mod handover;
 mod runs;
 
 pub use buddy::Buddy;
-pub use handover::hand_over;
 pub use frame_blocks::{Block, MAX_FRAMES, MAX_ORDER};
+pub use handover::hand_over;
