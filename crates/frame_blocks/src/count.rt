@@ -12,7 +12,8 @@ ghost use Rattle.frame_blocks.specs.Sets.{IsRun};
 use crate::block::MAX_ORDER;
 use crate::run::{FrameRun, MAX_FRAMES};
 use crate::set::{MAX_SIZE, Set, set_within};
-use bm_base::{MAX_DMA_FRAME, MAX_DMA32_FRAME, Zone, zone_of};
+use crate::zones::zone_until;
+use bm_base::{Zone, zone_of};
 
 /// How many blocks of the free frames are of the node, in the zone and of the order. Takes no memory, and some
 /// twenty steps for each run of the node.
@@ -73,21 +74,4 @@ fn blocks_alike(at: u64, end: u64, set: Set) -> u64
         return 1;
     }
     (zone_until(at, end) - at) / MAX_SIZE
-}
-
-/// The frame behind the last one of the zone of `at`, or `end` if that comes before.
-fn zone_until(at: u64, end: u64) -> u64
-    requires start { at % 1024 ≡ 0 }
-    requires room { at + 1024 ≤ end }
-    ensures room { at + 1024 ≤ result }
-    ensures within { result ≤ end }
-    ensures zone { (x : ℕ) → at ≤ x → x < result → zone_of x ≡ zone_of at }
-{
-    if at < MAX_DMA_FRAME {
-        return end.min(MAX_DMA_FRAME);
-    }
-    if at < MAX_DMA32_FRAME {
-        return end.min(MAX_DMA32_FRAME);
-    }
-    end
 }

@@ -21,9 +21,11 @@ mod laws;
 mod list;
 mod run;
 mod set;
+mod zones;
 
 pub use block::{Block, MAX_ORDER};
 pub use count::count_blocks;
 pub use laws::{listed_blocks_are_blocks, sets_lie_in_one_zone};
 pub use list::{block_of, blocks};
 pub use run::{FrameRun, MAX_FRAMES};
+pub use zones::zone_until;

@@ -2,3 +2,4 @@ pub mod RecordLaws
 pub mod ClaimLaws
 pub mod StandLaws
 pub mod WholeLaws
+pub mod TakeLaws

@@ -6,9 +6,10 @@ use Rattle.table_frames.specs.declared.frames.RecordFrames.{RecordFrames}
 use Rattle.table_frames.specs.Frames.{frames_of, IsPassed}
 use Rattle.table_frames.proofs.RecordLaws.{length_by_head, records_higher}
 use Rattle.table_frames.proofs.ClaimLaws.{passed_later}
+use Rattle.table_frames.proofs.TakeLaws.{frames_below, frames_in_order, frames_some}
 use Rattle.buddy_handover.specs.Contents.{Contents, free}
 use Rattle.buddy_handover.specs.Handover.{freed, unclaimed}
-use Rattle.buddy_handover.proofs.HandoverLaws.{frames_below, frames_in_order, frames_some, record_freed, record_left, all_handed}
+use Rattle.buddy_handover.proofs.HandoverLaws.{record_freed, record_left, all_handed}
 use Rattle.buddy_handover.proofs.handover.hand_over.Goals as goal
 use Rattle.buddy_handover.proofs.handover.hand_over.Goals.{in-Some+in_ok-next, in_default}
 
