@@ -1,0 +1,5 @@
+pub mod RecordLaws
+pub mod ClaimLaws
+pub mod StandLaws
+pub mod WholeLaws
+pub mod TakeLaws
