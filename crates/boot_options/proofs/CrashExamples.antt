@@ -144,7 +144,8 @@ wants_some : WantsMemory (chosen_by ((1, OfCrash (Plain (plain [] 0))) ∷ [])) 
 wants_some = (search rules, λ wants. grind (arith, wants))
 
 -- a line half read: a later value of a form takes the place of an earlier one
-later_values : (after_form (record { plain = None; high = Some 1; low = Some 2 }) (Low 3) ≡ record { plain = None; high = Some 1; low = Some 3 })
+later_values : (after_form (record { plain = None; high = Some 1; low = Some 2 }) (Low 3)
+    ≡ record { plain = None; high = Some 1; low = Some 3 })
     × ((after 2 start (OfCrash (High 4))).crash ≡ record { plain = None; high = Some 4; low = None })
 later_values = (refl, refl)
 
@@ -161,7 +162,8 @@ other_base m keeps = let base = keeps.base in omega arith
 kept_forms_same : (m : Memory) → KeepsSame (kept_forms.High 7) (High 7) × (KeepsSame (kept_forms.Plain (lost m)) (High 7) → ⊥)
 kept_forms_same m = (refl, λ same. same)
 
-kept_or_malformed : KeepsForm (Some (kept_forms.Low 7)) (Some (Low 7)) × KeepsForm None None × (KeepsForm (Some (kept_forms.Low 7)) None → ⊥)
+kept_or_malformed : KeepsForm (Some (kept_forms.Low 7)) (Some (Low 7)) × KeepsForm None None
+    × (KeepsForm (Some (kept_forms.Low 7)) None → ⊥)
 kept_or_malformed = (refl, refl, λ same. same)
 
 kept_ranges : (m : Memory) → KeepsRanges (Some (Err m)) (Some (range 0 None 1 ∷ [])) × (KeepsRanges (Some (Err m)) None → ⊥)
