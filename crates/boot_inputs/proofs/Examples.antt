@@ -123,7 +123,8 @@ unread_examples : (or_unread {A = List ℕ} inputs.ZeroPage None (λ bytes. Ok b
     × (or_unread inputs.ZeroPage (Some (codes "a")) (λ bytes. Ok bytes) ≡ Ok (codes "a"))
 unread_examples = (refl, refl)
 
-file_examples : (file_step held inputs.CommandLine command_line_said (codes "cmd") ≡ Ok (record { edits = []; crash = no_crash; numa_off = true }))
+file_examples : (file_step held inputs.CommandLine command_line_said (codes "cmd")
+    ≡ Ok (record { edits = []; crash = no_crash; numa_off = true }))
     × (file_step held inputs.CommandLine command_line_said (codes "no") ≡ Err (refusals.Unread inputs.CommandLine))
 file_examples = (refl, refl)
 

@@ -1,5 +1,5 @@
 -- What the forms of `crashkernel=` keep: a plain form has a range, and its ranges end above their starts.
-use Rattle.std.proofs.Common.{◌≡◌, ℕ, ◌<◌, nat_lt, if◌then◌else◌, Bool, true, false, is_some, Option, Some, None, List, [], ◌∷◌, length, refl, IfSome, arith, codes}
+use Rattle.std.proofs.Common.{◌≡◌, ℕ, ◌<◌, if◌then◌else◌, Bool, true, false, is_some, Option, Some, None, List, [], ◌∷◌, length, refl, IfSome, arith, codes}
 use Rattle.std.proofs.lemmas.Bool.{ltb-true}
 use Rattle.std.specs.Prelude.{◌&&◌, not}
 use Rattle.std.specs.Str.{bytes_eq}
@@ -9,7 +9,7 @@ use Rattle.text_words.specs.declared.separators.Separators.TheVariants.{Byte}
 use Rattle.text_words.specs.Parts.{cut, parts_from, parts_in, quoted_behind, separates, with_front}
 use Rattle.boot_options.specs.declared.crash.CrashRange.{CrashRange}
 use Rattle.boot_options.specs.MapOptions.{whole_size}
-use Rattle.boot_options.specs.Crash.{AreInOrder, Form, High, IsPlain, Low, Plain, comma, crash_range_of, crash_ranges_of, end_of_range, form_of, in_order, is_above, place_of, ranges_form, simple_form, suffix_form, suffixed, without_colon}
+use Rattle.boot_options.specs.Crash.{AreInOrder, Form, High, IsPlain, Low, Plain, comma, crash_range_of, crash_ranges_of, end_of_range, form_of, in_order, is_above, place_of, ranges_form, simple_form, suffix_form, without_colon}
 use Rattle.boot_options.proofs.MapOptionBounds.{ifsome-if, ifsome-then}
 
 abbrev pub IsSoundForm : Form → Type 0

@@ -1,6 +1,5 @@
 -- Small values of `crashkernel=`: what the definitions say of them, by computing.
-use Rattle.std.proofs.Common.{◌≡◌, ℕ, ◌-◌, ◌^◌, true, false, Some, None, Option, List, [], ◌∷◌, codes, Ok, Err, refl, arith, rules, Vec}
-use Rattle.std.specs.declared.alloc.Global.{Global}
+use Rattle.std.proofs.Common.{◌≡◌, ℕ, true, false, Some, None, Option, List, [], ◌∷◌, codes, Ok, Err, refl, arith, rules}
 use Rattle.bm_base.specs.declared.memory.Memory.{Memory}
 use Rattle.boot_options.specs.declared.crash.CrashForm.TheVariants as kept_forms
 use Rattle.boot_options.specs.declared.crash.CrashOption.{CrashOption}
@@ -8,9 +7,8 @@ use Rattle.boot_options.specs.declared.crash.CrashPlain.{CrashPlain}
 use Rattle.boot_options.specs.declared.crash.CrashRange.{CrashRange}
 use Rattle.boot_options.specs.declared.crash.PlainRead.{PlainRead}
 use Rattle.boot_options.specs.declared.fault.OptionFault.TheVariants as faults
-use Rattle.boot_options.specs.declared.reading.CrashRead.{CrashRead}
-use Rattle.boot_options.specs.Crash.{AreInOrder, Crash, Form, High, IsPlain, Low, Plain, PlainForm, at_sign, colon, comma, crash_range_of, crash_ranges_of, crash_view, dash, end_of_range, form_of, in_order, is_above, no_crash, place_of, plain_view, ranges_form, simple_form, suffix_form, suffixed, with_base, without_colon}
-use Rattle.boot_options.specs.Kept.{Keeps, KeepsForm, KeepsLast, KeepsPlain, KeepsRanges, KeepsSame}
+use Rattle.boot_options.specs.Crash.{AreInOrder, High, IsPlain, Low, Plain, PlainForm, SpellRanges, SpellsEnd, SpellsRange, at_sign, colon, comma, crash_range_of, crash_ranges_of, crash_view, dash, end_of_range, form_of, in_order, is_above, joined, no_crash, one_range, place_of, plain_view, ranges_form, simple_form, suffix_form, suffixed, with_base, without_colon}
+use Rattle.boot_options.specs.Kept.{KeepsForm, KeepsLast, KeepsPlain, KeepsRanges, KeepsSame}
 use Rattle.boot_options.specs.Options.{NumaOff, OfCrash, OfMap, WantsMemory, chosen_by, crash_by, crash_of, high_said, last_said, low_said, options_of, plain_said, said_by}
 use Rattle.boot_options.specs.Reading.{KeepsCrash, LacksRanges, after, after_form, start}
 
@@ -144,7 +142,8 @@ wants_some : WantsMemory (chosen_by ((1, OfCrash (Plain (plain [] 0))) ∷ [])) 
 wants_some = (search rules, λ wants. grind (arith, wants))
 
 -- a line half read: a later value of a form takes the place of an earlier one
-later_values : (after_form (record { plain = None; high = Some 1; low = Some 2 }) (Low 3) ≡ record { plain = None; high = Some 1; low = Some 3 })
+later_values : (after_form (record { plain = None; high = Some 1; low = Some 2 }) (Low 3)
+    ≡ record { plain = None; high = Some 1; low = Some 3 })
     × ((after 2 start (OfCrash (High 4))).crash ≡ record { plain = None; high = Some 4; low = None })
 later_values = (refl, refl)
 
@@ -161,7 +160,8 @@ other_base m keeps = let base = keeps.base in omega arith
 kept_forms_same : (m : Memory) → KeepsSame (kept_forms.High 7) (High 7) × (KeepsSame (kept_forms.Plain (lost m)) (High 7) → ⊥)
 kept_forms_same m = (refl, λ same. same)
 
-kept_or_malformed : KeepsForm (Some (kept_forms.Low 7)) (Some (Low 7)) × KeepsForm None None × (KeepsForm (Some (kept_forms.Low 7)) None → ⊥)
+kept_or_malformed : KeepsForm (Some (kept_forms.Low 7)) (Some (Low 7)) × KeepsForm None None
+    × (KeepsForm (Some (kept_forms.Low 7)) None → ⊥)
 kept_or_malformed = (refl, refl, λ same. same)
 
 kept_ranges : (m : Memory) → KeepsRanges (Some (Err m)) (Some (range 0 None 1 ∷ [])) × (KeepsRanges (Some (Err m)) None → ⊥)
@@ -178,3 +178,28 @@ other_low keeps = let low = keeps.low in cc low
 
 lacking : (m : Memory) → LacksRanges (Some (lost m)) × (LacksRanges None → ⊥)
 lacking m = (refl, λ none. none)
+
+-- how ranges are spelled
+one_range_alone : (one_range 7 0 ≡ plain (range 0 None 7 ∷ []) 0) × (one_range 7 5 ≡ plain (range 0 None 7 ∷ []) 5)
+one_range_alone = (refl, refl)
+
+with_commas : (joined [] ≡ []) × (joined (codes "a" ∷ codes "b" ∷ codes "c" ∷ []) ≡ codes "a,b,c")
+with_commas = (refl, refl)
+
+spelled_ends : SpellsEnd (codes "2K") (Some 2048) 5 × SpellsEnd [] None 5 × (SpellsEnd (codes "5") (Some 5) 5 → ⊥)
+spelled_ends = ((refl, omega arith), refl, λ spells. let above = spells.1 in omega arith)
+
+spelled_range : SpellsRange (codes "1M-2M:8M") (range 0x100000 (Some 0x200000) 0x800000)
+spelled_range = record {
+  start_text = codes "1M";
+  end_text = codes "2M";
+  size_text = codes "8M";
+  text = refl;
+  start = refl;
+  end = (refl, omega arith);
+  size = refl;
+}
+
+spelled_ranges : SpellRanges (codes "1M-2M:8M" ∷ []) (range 0x100000 (Some 0x200000) 0x800000 ∷ [])
+    × (SpellRanges (codes "1M-2M:8M" ∷ []) [] → ⊥)
+spelled_ranges = ((spelled_range, tt), λ spell. spell)

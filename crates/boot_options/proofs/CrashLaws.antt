@@ -1,5 +1,5 @@
 -- Ranges of `crashkernel=` that are read one by one: what is left to read, behind those that are kept.
-use Rattle.std.proofs.Common.{◌≡◌, ℕ, Option, Some, None, List, [], ◌∷◌, ◌++◌, Result, Vec, Global, refl, sym, ap, subst, ◌∙◌, append_assoc}
+use Rattle.std.proofs.Common.{◌≡◌, ℕ, Option, Some, None, List, [], ◌∷◌, ◌++◌, Result, Vec, Global, refl, ap, append_assoc}
 use Rattle.std.proofs.lemmas.List.{append-nil}
 use Rattle.bm_base.specs.OptionSteps.{◌>>=◌}
 use Rattle.bm_base.specs.declared.memory.Memory.{Memory}

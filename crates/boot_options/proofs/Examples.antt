@@ -296,7 +296,8 @@ user_maps : (unless_incomplete nothing_chosen (Some (3, 1)) ≡ Err (faults.User
     × (unless_incomplete nothing_chosen (Some (3, 2)) ≡ Ok nothing_chosen) × (unless_incomplete nothing_chosen None ≡ Ok nothing_chosen)
 user_maps = (refl, refl, refl)
 
-words_with_user_maps : (with_user_map three_words ≡ Ok (record { edits = Clear ∷ Add (range 0 8) 1 ∷ []; crash = no_crash; numa_off = true }))
+words_with_user_maps : (with_user_map three_words
+    ≡ Ok (record { edits = Clear ∷ Add (range 0 8) 1 ∷ []; crash = no_crash; numa_off = true }))
     × (with_user_map ((1, OfMap (ExactMap ∷ a_page ∷ [])) ∷ []) ≡ Err (faults.UserMapInvalid 1))
 words_with_user_maps = (refl, refl)
 

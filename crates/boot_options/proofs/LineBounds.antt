@@ -16,7 +16,7 @@ use Rattle.boot_options.specs.declared.map_option.MapOption.{MapOption}
 use Rattle.boot_options.specs.declared.map_option.MapOption.TheVariants.{ExactMap, Adding, Other}
 use Rattle.boot_options.specs.MapOptions.{mem_of}
 use Rattle.boot_options.specs.declared.crash.CrashPlain.{CrashPlain}
-use Rattle.boot_options.specs.Crash.{Form, High, IsPlain, Low, Plain, PlainForm, form_of, plain_view}
+use Rattle.boot_options.specs.Crash.{High, IsPlain, Low, Plain, PlainForm, form_of, plain_view}
 use Rattle.boot_options.specs.Options.{Said, OfMap, OfCrash, NumaOff, Chosen, chosen, crash_of, last_said, plain_said, is_closed, line_of, raw_line, map_options_of, memmap_of, of_one, numa_of, or_fault, said_by, name_value_of, said_from, option_words, numbered, all_map_options, edit_of, edits_of, count_adding, or_here, last_exact, chosen_by, unless_incomplete, with_user_map, options_of, HaveRanges, IsNumbered}
 use Rattle.boot_options.proofs.CrashBounds.{IsSoundForm, sound-form}
 use Rattle.boot_options.proofs.MapOptionBounds.{IsSound, IsSoundOption, AreSound, ifsome-and_then, ifsome-map, ifsome-if, sound-mem, sound-map_options}

@@ -1,5 +1,5 @@
 -- What a line that is read word by word comes to, by the lists of what its words say.
-use Rattle.std.proofs.Common.{◌≡◌, ℕ, ◌+◌, ◌-◌, ◌==◌, nat_lt, if◌then◌else◌, Bool, true, ◌||◌, Option, Some, None, List, [], ◌∷◌, ◌++◌, refl, ap, sym, ◌∙◌, append_assoc, Result, Ok, Err, arith}
+use Rattle.std.proofs.Common.{◌≡◌, ℕ, ◌+◌, ◌-◌, ◌==◌, nat_lt, if◌then◌else◌, Bool, ◌||◌, Option, Some, None, List, [], ◌∷◌, ◌++◌, refl, ap, sym, ◌∙◌, append_assoc, Result, Ok, Err, arith}
 use Rattle.std.proofs.Math.Bool.{or-false, or-true}
 use Rattle.std.proofs.lemmas.List.{append-nil}
 use Rattle.std.proofs.lemmas.Bool.Decides.{nat_tests}
@@ -12,7 +12,7 @@ use Rattle.boot_options.specs.declared.map_option.MapOption.{MapOption}
 use Rattle.boot_options.specs.declared.map_option.MapOption.TheVariants.{ExactMap, Adding, Other}
 use Rattle.boot_options.specs.declared.reading.UserMap.{UserMap}
 use Rattle.boot_options.specs.Crash.{Crash, Plain, High, Low, no_crash}
-use Rattle.boot_options.specs.Options.{Said, OfMap, OfCrash, NumaOff, Chosen, crash_by, line_of, said_from, option_words, numbered, all_map_options, edit_of, edits_of, is_numa_off, count_adding, or_here, last_exact, unless_incomplete, with_user_map, options_of}
+use Rattle.boot_options.specs.Options.{Said, OfMap, OfCrash, NumaOff, Chosen, chosen_by, crash_by, line_of, said_from, option_words, numbered, all_map_options, edit_of, edits_of, is_numa_off, count_adding, or_here, last_exact, unless_incomplete, with_user_map, options_of}
 use Rattle.boot_options.specs.Reading.{State, start, after, after_form, one_fewer, user_map_behind, after_map_option, after_map_options, after_all, read_all, when_complete, at_line_end}
 
 -- one edit behind others
@@ -148,8 +148,14 @@ map_behind-wanted ((number, p) ∷ ps) m =
 -- a line that was read to its end is with_user_map by its last `exactmap`
 pub at_line_end-with_user_map : (said : List (ℕ × Said)) → at_line_end (after_all start said) ≡ with_user_map said
 at_line_end-with_user_map said =
-    rw (edits-all start said, crash-start said, numa_off-all start said, user_map-all start said, map_behind-wanted (all_map_options said) None)
-    (by_exact (record { edits = edits_of (all_map_options said); crash = crash_by said; numa_off = is_numa_off said }) (last_exact (all_map_options said)))
+    rw (
+      edits-all start said,
+      crash-start said,
+      numa_off-all start said,
+      user_map-all start said,
+      map_behind-wanted (all_map_options said) None,
+    )
+    (by_exact (chosen_by said) (last_exact (all_map_options said)))
   where
     by_count : (chosen : Chosen) (fault : OptionFault) (n : ℕ)
         → (if 2 - n == 0 then Ok chosen else Err fault) ≡ (if nat_lt n 2 then Err fault else Ok chosen)

@@ -1,5 +1,5 @@
 -- What a reader keeps that may have run out of memory for a list.
-use Rattle.std.specs.Prelude.{◌≡◌, ℕ, ◌<◌, Option, Some, None, List, length, Result, Ok, Err, Vec}
+use Rattle.std.specs.Prelude.{◌≡◌, ◌<◌, Option, Some, None, List, length, Result, Ok, Err, Vec}
 use Rattle.std.specs.declared.alloc.Global.{Global}
 use Rattle.bm_base.specs.declared.memory.Memory.{Memory}
 use Rattle.boot_options.specs.declared.crash.CrashForm.{CrashForm}

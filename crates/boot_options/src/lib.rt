@@ -25,7 +25,7 @@ mod reading;
 #[cfg(test)]
 mod tests;
 
-pub use crash::{CrashOption, CrashPlain, CrashRange};
+pub use crash::{CrashOption, CrashPlain, CrashRange, crash_forms_of_spelling};
 pub use e820_model::Edit;
 pub use fault::OptionFault;
 pub use map_option::{map_options_of_spelling, read_whole_size};

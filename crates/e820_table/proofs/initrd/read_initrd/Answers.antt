@@ -7,11 +7,13 @@ use Rattle.e820_table.specs.Initrd.{is_initrd_far}
 use Rattle.e820_table.proofs.initrd.read_initrd.Goals as goal
 
 -- where the reader goes on, there is no fault
-no_fault : (r : Result (Option Range) ZeroFault) (far : Bool) → OnOk r (far ≡ false) → OnOk r ((if far then Some InitrdTooFar else None) ≡ None)
+no_fault : (r : Result (Option Range) ZeroFault) (far : Bool) → OnOk r (far ≡ false)
+    → OnOk r ((if far then Some InitrdTooFar else None) ≡ None)
 no_fault (Ok initrd) far near = rw near refl
 no_fault (Err fault) far near = tt
 
 pub returns-clause-well_formed : goal.returns-clause-well_formed
 unfolding is_initrd_far
 returns-clause-well_formed c =
-    no_fault c.place_initrd.result (is_initrd_far c.args.bytes.now) (rw (c.read_halves-base.ensures, c.read_halves-size.ensures) at c.place_initrd.ensures.near)
+    no_fault c.place_initrd.result (is_initrd_far c.args.bytes.now)
+    (rw (c.read_halves-base.ensures, c.read_halves-size.ensures) at c.place_initrd.ensures.near)
