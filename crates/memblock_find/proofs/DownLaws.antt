@@ -119,7 +119,8 @@ stretch_ends memory reserved x m r a None other_m other_r next some =
 
 -- and where they are unclaimed memory, the address below them carries something else
 pub stretch_down : (ms rs : List (RunOf Label)) (c : Cursor) (from : ℕ) (label : Option Label) → IsDownAt ms rs c
-    → from ≡ max c.memory.bound c.reserved.bound → label ≡ label_at c → label ≢ None → IsDownTo (unclaimed (value_at ms) (value_at rs)) from c.at label
+    → from ≡ max c.memory.bound c.reserved.bound → label ≡ label_at c → label ≢ None
+    → IsDownTo (unclaimed (value_at ms) (value_at rs)) from c.at label
 stretch_down ms rs c from label known from_is label_is some =
     let held : label_at c ≢ None = subst (λ (o : Option Label). o ≢ None) label_is some in
     let ends : (x : ℕ) → x + 1 ≡ from → unclaimed (value_at ms) (value_at rs) x ≢ label_at c = λ x next.
@@ -136,7 +137,10 @@ pub all_begun : (rs : List (RunOf Label)) (at count : ℕ) → AreRuns rs → co
 all_begun rs at count runs all last = record {
   runs = runs;
   within = omega arith;
-  before = λ i less. let bases = bases_ascend i (count - 1) rs runs (omega arith) (omega arith) in let top = last (omega arith) in omega arith;
+  before = λ i less.
+      let bases = bases_ascend i (count - 1) rs runs (omega arith) (omega arith) in
+      let top = last (omega arith) in
+      omega arith;
   behind = λ i from less. absurd (omega arith);
 }
 

@@ -253,9 +253,12 @@ up_here = record { at = 0x2800; memory = memory_above; reserved = no_claim_above
 walks_up : IsUpAt memory_runs claims up_here
 walks_up = record { memory = look_up_in; reserved = look_up_top }
 
+abbrev in_claim : Look
+in_claim = record { label = Some plain_label; bound = 0x1800; slot = 0 }
+
 -- where both looks tell of memory and of no claim, the label is memory's; in a claim there is none
 label_examples : (label_at down_here ≡ Some (of_node 1))
-    × (label_at (record { at = 0x1880; memory = memory_below; reserved = record { label = Some plain_label; bound = 0x1800; slot = 0 } }) ≡ None)
+    × (label_at (record { at = 0x1880; memory = memory_below; reserved = in_claim }) ≡ None)
 label_examples = (refl, refl)
 
 not_the_same : ◌≡◌ {A = ℕ} 0 1 → ⊥

@@ -8,8 +8,9 @@
 //! [`prev_free`] and [`next_free`] answer one run of unclaimed memory (`for_each_free_mem_range`), below an
 //! address or from one on (`specs/Free.antt`): what walks over unclaimed memory are made of.
 //!
-//! Nothing here takes memory or changes a table. A walk looks at each record of either table once, so a
-//! search costs what lies between the window's end and the place that it finds, and two binary searches.
+//! Nothing here takes memory or changes a table. A walk reads the records where they lie, those that it passes
+//! and no others, so a search costs what lies between the window's end and the place that it finds, and two
+//! binary searches.
 #![tactic(auto)]
 
 mod cursor;
