@@ -1,11 +1,10 @@
 -- Bytes that are those of items and fills stay so behind a line.
-use Rattle.std.proofs.Common.{◌≡◌, ℕ, None, Some, Option, List, length, Result, Ok, Err, sym, ◌∙◌, ap, subst, refl}
+use Rattle.std.proofs.Common.{◌≡◌, ℕ, None, Option, List, Result, Ok, Err, sym, ◌∙◌, ap, subst, refl}
 use Rattle.bm_base.specs.declared.memory.Memory.{Memory}
 use Rattle.bm_base.specs.Extent.{Extent}
 use Rattle.memblock_model.specs.declared.item.Item.{Item}
-use Rattle.growth_model.specs.Sound.{IsAway}
-use Rattle.growth_model.specs.Bytes.{Filled, put, Follows, Holds}
-use Rattle.growth_model.proofs.FillLaws.{holds-call, holds-fill}
+use Rattle.growth_model.specs.Bytes.{Filled, Follows, Holds}
+use Rattle.growth_model.proofs.FillLaws.{holds-call}
 use Rattle.early_script.specs.declared.outcome.Outcome.{Outcome}
 use Rattle.early_script.specs.Acted.{State, Deed, Acts, with_fill, fills_by}
 

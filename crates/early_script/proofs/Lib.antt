@@ -7,3 +7,4 @@ pub mod DeedLaws
 pub mod HoldLaws
 pub mod StageLaws
 pub mod QuietLaws
+mod Examples

@@ -1,18 +1,14 @@
 -- A line claims and frees, and nothing else: memory and the limit stay.
-use Rattle.std.proofs.Common.{◌≡◌, ℕ, ◌+◌, ◌-◌, Bool, true, false, nat_le, nat_lt, if◌then◌else◌, Option, Some, None, List, ◌++◌, take, length, Result, Ok, Err, refl, sym, ◌∙◌, ap}
+use Rattle.std.proofs.Common.{◌≡◌, ℕ, ◌+◌, ◌-◌, Bool, true, false, nat_le, nat_lt, if◌then◌else◌, Option, Some, None, take, length, Result, Ok, Err, ◌∙◌, ap}
 use Rattle.bm_base.specs.declared.memory.Memory.{Memory}
 use Rattle.bm_base.specs.Extent.{Extent}
-use Rattle.memblock_model.specs.declared.item.Item.{Item}
 use Rattle.memblock_model.specs.declared.owner.Owner.TheVariants as owner
 use Rattle.memblock_model.specs.Items.{owner_of, memory_of, limit_of}
 use Rattle.script_reader.specs.declared.act.Act.{Act}
 use Rattle.script_reader.specs.declared.act.Act.TheVariants as acts
 use Rattle.growth_model.specs.declared.request.Request.{Request}
-use Rattle.growth_model.specs.Outcome as growth
-use Rattle.growth_model.specs.Outcome.{nothing}
-use Rattle.growth_model.specs.Growth.{claimed, freed}
+use Rattle.growth_model.specs.Growth.{claimed}
 use Rattle.growth_model.specs.Request.{place_for}
-use Rattle.growth_model.specs.Carried.{AreQuiet}
 use Rattle.growth_model.proofs.MemoryItemLaws.{quiet-take}
 use Rattle.growth_model.proofs.QuietLaws.{IsQuiet, claimed-quiet, freed-quiet, quiet-memory, quiet-limit}
 use Rattle.early_script.specs.declared.outcome.Outcome.{Outcome}

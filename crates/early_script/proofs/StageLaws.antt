@@ -8,7 +8,7 @@ use Rattle.memblock_grow.specs.Contents.{Contents}
 use Rattle.early_script.specs.declared.outcome.Outcome.{Outcome}
 use Rattle.early_script.specs.declared.outcome.Answer.{Answer}
 use Rattle.early_script.specs.Ids.{Ids}
-use Rattle.early_script.specs.Acted.{State, Deed, Acts, with_fill, fills_by, deed, answer_of, state_after}
+use Rattle.early_script.specs.Acted.{State, Deed, Acts, with_fill, deed, answer_of, state_after}
 use Rattle.early_script.specs.Found.{state_of, bytes_in}
 use Rattle.early_script.specs.Stage.{Stage, Reaches, deed_at, after_line, after_lines}
 

@@ -1,12 +1,12 @@
 -- The next line goes on from the stage that the lines before it reached.
-use Rattle.std.proofs.Common.{◌≡◌, ◌+◌, ◌<◌, List, [], ◌∷◌, ◌++◌, length, take, get_or, refl, sym, ◌∙◌, ap, subst, arith}
+use Rattle.std.proofs.Common.{◌+◌, ◌<◌, List, [], ◌∷◌, ◌++◌, length, take, sym, ◌∙◌, ap, subst, arith}
 use Rattle.std.proofs.lemmas.List.{take_more}
 use Rattle.script_reader.specs.declared.act.Line.{Line}
 use Rattle.growth_model.specs.Outcome.{joined}
 use Rattle.early_script.specs.declared.outcome.Answer.{Answer}
 use Rattle.early_script.specs.Acted.{State, deed}
 use Rattle.early_script.specs.Found.{state_of, bytes_in}
-use Rattle.early_script.specs.Stage.{Stage, Reaches, stage_of, after_line, after_lines}
+use Rattle.early_script.specs.Stage.{Stage, Reaches, stage_of, after_lines}
 use Rattle.early_script.proofs.StageLaws.{after_lines-append, begun-along, reaches-line}
 use Rattle.early_script.proofs.stage.run_lines.Goals as goal
 

@@ -1,5 +1,5 @@
 -- The range's bytes are filled, and nobody else had one.
-use Rattle.std.proofs.Common.{◌≡◌, ◌≤◌, Bool, false, nat_lt, if◌then◌else◌, Some, Ok, List, [], ◌∷◌, ◌++◌, length, refl, ◌∙◌, ap, subst, arith}
+use Rattle.std.proofs.Common.{◌≡◌, ◌≤◌, Bool, false, nat_lt, if◌then◌else◌, Some, Ok, [], ◌∷◌, ◌++◌, length, refl, ◌∙◌, ap, subst, arith}
 use Rattle.std.proofs.lemmas.Bool.Decides.{nat_tests}
 use Rattle.bm_base.specs.Extent.{Extent}
 use Rattle.boot_journal.specs.Contents.{Contents as Journal}
