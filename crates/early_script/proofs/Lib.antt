@@ -4,3 +4,7 @@ pub mod IdsLaws
 pub mod WholeLaws
 pub mod RunLaws
 pub mod DeedLaws
+pub mod HoldLaws
+pub mod StageLaws
+pub mod QuietLaws
+mod Examples

@@ -1,6 +1,6 @@
 -- What a line of the script does and answers: the tests of its act in their order, the first that holds is the outcome; and the change of
 -- memory where none does.
-use Rattle.std.specs.Prelude.{◌≡◌, ℕ, ◌+◌, ◌-◌, nat_le, nat_lt, if◌then◌else◌, Option, Some, None, List, length, Result, Ok, Err}
+use Rattle.std.specs.Prelude.{◌≡◌, ℕ, ◌+◌, ◌-◌, nat_le, nat_lt, if◌then◌else◌, Option, Some, None, List, [], ◌∷◌, ◌++◌, length, Result, Ok, Err}
 use Rattle.bm_base.specs.declared.memory.Memory.{Memory}
 use Rattle.bm_base.specs.Extent.{Extent}
 use Rattle.phys_store.specs.Bytes.{bytes_at}
@@ -11,7 +11,7 @@ use Rattle.script_reader.specs.declared.request.Request.{Request as Asked}
 use Rattle.script_reader.specs.declared.act.Act.{Act}
 use Rattle.script_reader.specs.declared.act.Act.TheVariants as acts
 use Rattle.growth_model.specs.declared.request.Request.{Request}
-use Rattle.growth_model.specs.Outcome.{Refused, Change, after, nothing} -- what a change comes to
+use Rattle.growth_model.specs.Outcome.{Refused, Change, after, nothing}
 use Rattle.growth_model.specs.Outcome as growth
 use Rattle.growth_model.specs.Growth.{claimed, freed}
 use Rattle.growth_model.specs.Request.{place_for}
@@ -148,6 +148,15 @@ put_by (Some f) x b = put f x b
 abbrev pub byte_by : Result Outcome Memory → State → State → Deed → ℕ → ℕ → ℕ
 byte_by (Ok answer) old new d x b = put_by d.fill x (byte_after old.kernel old.items new.items x b)
 byte_by (Err memory) old new d x b = byte_after old.kernel old.items new.items x b
+
+-- the fills then
+abbrev pub with_fill : List Filled → Option Filled → List Filled
+with_fill fills None = fills
+with_fill fills (Some f) = fills ++ f ∷ []
+
+abbrev pub fills_by : Result Outcome Memory → Deed → List Filled → List Filled
+fills_by (Ok answer) d fills = with_fill fills d.fill
+fills_by (Err memory) d fills = fills
 
 -- a line can be run: it doesn't place the sections
 abbrev pub IsRun : Act → Type 0

@@ -1,19 +1,18 @@
 -- Lines one behind another, each with its answer.
-use Rattle.std.specs.Prelude.{ℕ, Option, Some, None, List, [], ◌∷◌, ◌++◌}
+use Rattle.std.specs.Prelude.{◌≡◌, ℕ, List, [], ◌∷◌, ◌++◌}
 use Rattle.script_reader.specs.declared.act.Line.{Line}
-use Rattle.growth_model.specs.Bytes.{Filled, byte}
+use Rattle.growth_model.specs.Bytes.{Filled, byte, Holds}
+use Rattle.memblock_grow.specs.Contents.{Contents}
 use Rattle.early_script.specs.declared.outcome.Answer.{Answer}
-use Rattle.early_script.specs.Acted.{State, Deed, deed, answer_of, state_after}
+use Rattle.early_script.specs.Ids.{Ids}
+use Rattle.early_script.specs.Acted.{State, Deed, with_fill, deed, answer_of, state_after}
+use Rattle.early_script.specs.Found.{state_of, bytes_in}
 
 -- what stands before a line: the state, the fills so far, and the answers so far
 pub record Stage : Type 0 where
   pub state : State
   pub fills : List Filled
   pub answers : List Answer
-
-abbrev pub with_fill : List Filled → Option Filled → List Filled
-with_fill fills None = fills
-with_fill fills (Some f) = fills ++ f ∷ []
 
 -- the deed of a line: it finds at each address the byte of the items and the fills
 abbrev pub deed_at : Stage → Line → Deed
@@ -33,3 +32,13 @@ after_line s line = stage_by s line.number (deed_at s line)
 abbrev pub after_lines : Stage → List Line → Stage
 after_lines s [] = s
 after_lines s (line ∷ lines) = after_lines (after_line s line) lines
+
+-- where lines begin: beside memblock, after these fills, with these answers
+abbrev pub stage_of : Ids → Contents → List Filled → List Answer → Stage
+stage_of ids m fills answers = record { state = state_of ids m; fills = fills; answers = answers }
+
+-- live IDs, memblock and answers are those of the stage, and each byte is that of its items and fills
+pub record Reaches (s : Stage) (ids : Ids) (m : Contents) (answers : List Answer) : Type 0 where
+  pub state : state_of ids m ≡ s.state
+  pub answers_are : answers ≡ s.answers
+  pub holds : Holds m.kernel m.journal.items s.fills (bytes_in m)

@@ -14,9 +14,13 @@
 //! table has no owner of a script. So both tables stay where they lie, whatever the script asks.
 #![tactic(auto)]
 
+mod laws;
 mod live;
 mod outcome;
+mod stage;
 mod steps;
 
+pub use laws::lines_leave_memory;
 pub use live::Live;
 pub use outcome::{Answer, Outcome};
+pub use stage::run_lines;

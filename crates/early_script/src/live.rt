@@ -1,10 +1,10 @@
 //! The live IDs, and the lines that are run on them.
 
-ghost use Rattle.std.specs.Prelude.{◌≡◌, ℕ, ◌+◌, ◌-◌, ◌^◌, ◌<◌, ◌≤◌, [], OnOk, OnErr, IfOk, IfErr};
+ghost use Rattle.std.specs.Prelude.{◌≡◌, ℕ, ◌+◌, ◌-◌, ◌^◌, ◌<◌, ◌≤◌, List, [], OnOk, OnErr, IfOk, IfErr};
 ghost use Rattle.bm_base.specs.Extent.{Extent};
 ghost use Rattle.script_reader.specs.Forms.{HasBounds};
 ghost use Rattle.growth_model.specs.Sound.{HasBegun, IsAway};
-ghost use Rattle.growth_model.specs.Bytes.{Follows};
+ghost use Rattle.growth_model.specs.Bytes.{Filled, Follows, Holds};
 
 use crate::outcome::Outcome;
 use crate::steps::{asked, peek, refused, split, stand_still, touches};
@@ -37,7 +37,7 @@ impl Model for Live {
 
 impl Live {
     ghost use Rattle.early_script.specs.Ids.{with_range};
-    ghost use Rattle.early_script.specs.Acted.{Deed as AnyDeed, Acts, IsRun, byte_by, answers, request_of, on_whole, deed, alloc_deed, reserve_deed, free_deed, trim_deed, fill_deed};
+    ghost use Rattle.early_script.specs.Acted.{Deed as AnyDeed, Acts, IsRun, byte_by, fills_by, answers, request_of, on_whole, deed, alloc_deed, reserve_deed, free_deed, trim_deed, fill_deed};
     ghost use Rattle.early_script.specs.Found.{state_of, bytes_in};
 
     /// No ID is live.
@@ -58,6 +58,9 @@ impl Live {
             (deed (state_of self.old mb.old) (bytes_in mb.old) line.now.act) }
         ensures bytes { (x : ℕ) → bytes_in mb.new x ≡ byte_by result (state_of self.old mb.old) (state_of self.new mb.new)
             (deed (state_of self.old mb.old) (bytes_in mb.old) line.now.act) x (bytes_in mb.old x) }
+        ensures holds { (fills : List Filled) → Holds mb.old.kernel mb.old.journal.items fills (bytes_in mb.old) →
+            Holds mb.new.kernel mb.new.journal.items
+            (fills_by result (deed (state_of self.old mb.old) (bytes_in mb.old) line.now.act) fills) (bytes_in mb.new) }
     {
         match line.act {
             Act::Alloc { id, request } => self.alloc(mb, id, &asked(&request)),
@@ -168,6 +171,8 @@ impl Live {
             (fill_deed (state_of self.old mb.old) id byte) }
         ensures bytes { (x : ℕ) → bytes_in mb.new x ≡ byte_by result (state_of self.old mb.old) (state_of self.new mb.new)
             (fill_deed (state_of self.old mb.old) id byte) x (bytes_in mb.old x) }
+        ensures holds { (fills : List Filled) → Holds mb.old.kernel mb.old.journal.items fills (bytes_in mb.old) →
+            Holds mb.new.kernel mb.new.journal.items (fills_by result (fill_deed (state_of self.old mb.old) id byte) fills) (bytes_in mb.new) }
     {
         stand_still(mb);
         let range = match self.whole(mb, id) {
