@@ -50,7 +50,7 @@ pub best-found : (kernel : Extent) (items : List Item) (t : Contents) (at n : �
 best-found kernel items t at n o place kept room is some =
     let q = table_query (room_of which.Memory items) 0 (limit_of items) in
     let known : IsPlaceOf (best items q) (48 * room_of which.Memory items) place =
-        mapped-some (best items q) (48 * room_of which.Memory items) place (sym (best-along kernel items t at n o kept room is) ∙ some) in
+    mapped-some (best items q) (48 * room_of which.Memory items) place (sym (best-along kernel items t at n o kept room is) ∙ some) in
     record { found = known.found; is = known.is }
 
 pub memory-none : (kernel : Extent) (items : List Item) (t : Contents) (at n : ℕ) (o : Option Extent) → AreKept kernel items t at
@@ -62,8 +62,8 @@ memory-none kernel items t at n o kept room is none =
     let q = table_query m 0 (limit_of items) in
     let nowhere : best items q ≡ None = mapped-none (best items q) (48 * m) (sym (best-along kernel items t at n o kept room is) ∙ none) in
     let same : refuse which.Memory n items ≡ memory_growth items =
-        ap (λ (k : ℕ). refuse which.Memory k items) (room ∙ room-is which.Memory kernel items t at kept)
-        ∙ ap (λ (o : Option ℕ). memory_growth_at m (moved_to which.Memory items) o items) (sym nowhere) in
+    ap (λ (k : ℕ). refuse which.Memory k items) (room ∙ room-is which.Memory kernel items t at kept)
+    ∙ ap (λ (o : Option ℕ). memory_growth_at m (moved_to which.Memory items) o items) (sym nowhere) in
     subst (λ (o : Outcome). EndsBy {T = Unit {0}} (Err (refusal.NoGapForTable which.Memory n)) items items o) same
     (Ends-refused (Unit {0}) which.Memory n items)
 
@@ -118,9 +118,9 @@ memory-done items mid next new place base room old r known here twice left was i
     let n = room_of which.Memory items in
     let i : Item = item.Grown which.Memory place.base (2 * n) in
     let same : next ≡ mid ++ i ∷ [] = is ∙ ap (λ (b : ℕ). mid ++ item.Grown which.Memory b room ∷ []) here
-        ∙ ap (λ (m : ℕ). mid ++ item.Grown which.Memory place.base m ∷ []) twice in
+    ∙ ap (λ (m : ℕ). mid ++ item.Grown which.Memory place.base m ∷ []) twice in
     let last : Ends r (mid ++ i ∷ []) new (leaving items) =
-        subst (λ (l : List Item). Ends r l new (leaving items)) same (subst (λ (o : Option Extent). Ends r next new (leave o)) left h) in
+    subst (λ (l : List Item). Ends r l new (leaving items)) same (subst (λ (o : Option Extent). Ends r next new (leave o)) left h) in
     by-growth items new place r known
     (Ends-second {T = Unit {0}} {U = Unit {0}} tt r items mid new (taking place) (moving place.base (2 * n) >> leaving items) was
     (Ends-second {T = Unit {0}} {U = Unit {0}} tt r mid (mid ++ i ∷ []) new (moving place.base (2 * n)) (leaving items)
@@ -164,8 +164,8 @@ memory-apart kernel items mid t k at base place kept after same here taken =
     let n = room_of which.Memory items in
     let small : Extent = record { base = place.base; size = 48 * n } in
     let apart : ¬ Overlaps k small =
-        away-apart kernel small mid k after.memory after.reserved
-        (away-within kernel (frames_at place.base (48 * n)) small mid (frames-more small) taken.away) in
+    away-apart kernel small mid k after.memory after.reserved
+    (away-within kernel (frames_at place.base (48 * n)) small mid (frames-more small) taken.away) in
     let room : room_in which.Memory k ≡ n = ap (λ (s : Table). s.room) same ∙ room-is which.Memory kernel items t at kept in
     subst (λ (m : ℕ). ¬ Overlaps k (record { base = base; size = 48 * m })) (sym room)
     (subst (λ (b : ℕ). ¬ Overlaps k (record { base = b; size = 48 * n })) (sym here) apart)
@@ -210,7 +210,8 @@ memory-stands kernel items mid t p k r at base room place whole m keeps bytes tw
       image = whole.image;
       kept = moved;
       placed = λ _. subst (λ (n : ℕ). Placed kernel (mid ++ item.Grown which.Memory base n ∷ [])) (sym twice)
-          (subst (λ (b : ℕ). Placed kernel (mid ++ item.Grown which.Memory b (2 * room_of which.Memory items) ∷ [])) (sym m.here) taken.next);
+          (subst (λ (b : ℕ). Placed kernel (mid ++ item.Grown which.Memory b (2 * room_of which.Memory items) ∷ []))
+          (sym m.here) taken.next);
       spelled = follows-stands kernel items (mid ++ item.Grown which.Memory base room ∷ []) r.memory r.reserved (byte_of t.store)
           (byte_of r.store) moved.memory moved.reserved
           (memory-bytes kernel items mid t p k r at base room place whole.kept whole.spelled m keeps bytes);
@@ -237,10 +238,10 @@ pub memory-free : (kernel : Extent) (items mid next : List Item) (t p k r : Cont
 memory-free kernel items mid next t p k r at base room place left whole m keeps bytes twice taken old is =
     let n = room_of which.Memory items in
     let here : (q : ℕ) → moved_to which.Memory items ≡ Some q
-        → IsAway kernel (frames_at q (24 * n)) (mid ++ item.Grown which.Memory base room ∷ []) =
-        λ q was. subst (λ (l : ℕ). IsAway kernel (frames_at q (24 * n)) (mid ++ item.Grown which.Memory base l ∷ [])) (sym twice)
-        (subst (λ (b : ℕ). IsAway kernel (frames_at q (24 * n)) (mid ++ item.Grown which.Memory b (2 * n) ∷ [])) (sym m.here)
-        (taken.left q was)) in
+    → IsAway kernel (frames_at q (24 * n)) (mid ++ item.Grown which.Memory base room ∷ []) =
+    λ q was. subst (λ (l : ℕ). IsAway kernel (frames_at q (24 * n)) (mid ++ item.Grown which.Memory base l ∷ [])) (sym twice)
+    (subst (λ (b : ℕ). IsAway kernel (frames_at q (24 * n)) (mid ++ item.Grown which.Memory b (2 * n) ∷ [])) (sym m.here)
+    (taken.left q was)) in
     subst (λ (l : List Item). IfSome left (λ range. AllowsFree l r at range)) (sym is)
     (free-by kernel (mid ++ item.Grown which.Memory base room ∷ []) r at n (moved_to which.Memory items) left
     (memory-stands kernel items mid t p k r at base room place whole m keeps bytes twice taken) here old)

@@ -1,7 +1,7 @@
 -- The growth of the reserved table: where it goes, what it writes, and what it makes of the tables and of each byte.
-use Rattle.std.proofs.Common.{◌≡◌, ℕ, ◌+◌, ◌-◌, ◌*◌, ◌^◌, ◌<◌, ◌≤◌, true, Option, Some, None, List, [], ◌∷◌, ◌++◌, length, Result, Ok, Err, refl, sym, ◌∙◌, ap, subst, append_assoc, arith}
+use Rattle.std.proofs.Common.{◌≡◌, ℕ, ◌+◌, ◌-◌, ◌*◌, ◌^◌, ◌<◌, ◌≤◌, Option, Some, None, List, [], ◌∷◌, ◌++◌, length, Ok, Err, refl, sym, ◌∙◌, ap, subst, append_assoc, arith}
 use Rattle.std.specs.Option.{option_map}
-use Rattle.bm_base.specs.Extent.{Extent, end_of, covers}
+use Rattle.bm_base.specs.Extent.{Extent, end_of}
 use Rattle.phys_store.specs.Bytes.{byte_of}
 use Rattle.address_runs.specs.Runs.{value_at}
 use Rattle.address_runs.specs.Edits.{covered, uncovered}
@@ -18,7 +18,6 @@ use Rattle.boot_journal.specs.Contents.{Contents as Journal}
 use Rattle.memblock_ranges.specs.declared.region.Head.{Head}
 use Rattle.memblock_ranges.specs.Tables.{Table, Contents, table_in, room_in, head_of, Overlaps}
 use Rattle.memblock_ranges.proofs.CountLaws.{one-piece}
-use Rattle.growth_model.specs.declared.refusal.Refusal.{Refusal}
 use Rattle.growth_model.specs.declared.refusal.Refusal.TheVariants as refusal
 use Rattle.growth_model.specs.Outcome.{Outcome, step, refuse}
 use Rattle.growth_model.specs.Growth.{frames_of, frames_at, place_beside, left, old_frames, reserved_items, reserved_growth_at, reserved_growth}
@@ -27,7 +26,7 @@ use Rattle.growth_model.specs.Sound.{Unclaimed, Placed}
 use Rattle.growth_model.specs.Bytes.{shown_by, left_by, AreSpelled, Follows}
 use Rattle.growth_model.proofs.EndLaws.{Ends-step, Ends-refused}
 use Rattle.growth_model.proofs.SpotLaws.{covers-to}
-use Rattle.growth_model.proofs.FoundLaws.{IsNew, beside-new, found-apart}
+use Rattle.growth_model.proofs.FoundLaws.{beside-new, found-apart}
 use Rattle.growth_model.proofs.FollowLaws.{follows-still, follows-item, follows-grown, follows-then}
 use Rattle.memblock_grow.specs.Kept.{AreKept, AreTold}
 use Rattle.memblock_grow.specs.Places.{frames_beside, left_frames}
@@ -61,7 +60,8 @@ pub record IsBeside (items : List Item) (avoid place : Extent) : Type 0 where
 
 beside-along : (kernel : Extent) (items : List Item) (t : Contents) (at n : ℕ) (avoid : Extent) (o : Option Extent)
     → AreKept kernel items t at → n ≡ room_in which.Reserved t → o ≡ frames_beside t n at avoid
-    → o ≡ option_map (λ place. frames_at place (48 * room_of which.Reserved items)) (place_beside avoid (room_of which.Reserved items) items)
+    → o ≡ option_map (λ place. frames_at place (48 * room_of which.Reserved items)) (place_beside avoid
+    (room_of which.Reserved items) items)
 beside-along kernel items t at n avoid o kept room is =
     is ∙ ap (λ (m : ℕ). frames_beside t m at avoid) room ∙ beside-is kernel items t at avoid kept
 
@@ -70,8 +70,8 @@ pub beside-found : (kernel : Extent) (items : List Item) (t : Contents) (at n : 
     → IsBeside items avoid place
 beside-found kernel items t at n avoid o place kept room is some =
     let known : IsPlaceOf (place_beside avoid (room_of which.Reserved items) items) (48 * room_of which.Reserved items) place =
-        mapped-some (place_beside avoid (room_of which.Reserved items) items) (48 * room_of which.Reserved items) place
-        (sym (beside-along kernel items t at n avoid o kept room is) ∙ some) in
+    mapped-some (place_beside avoid (room_of which.Reserved items) items) (48 * room_of which.Reserved items) place
+    (sym (beside-along kernel items t at n avoid o kept room is) ∙ some) in
     record { found = known.found; is = known.is }
 
 pub beside-free : (items : List Item) (avoid place : Extent) → IsBeside items avoid place → Unclaimed (owner_of items) place
@@ -87,8 +87,8 @@ beside-apart kernel items t p at base avoid place kept placed known here first s
     let same = kept-same kernel items t p at first second kept in
     let n = room_of which.Reserved items in
     let apart : ¬ Overlaps p (record { base = place.base; size = 48 * n }) =
-        found-apart kernel items p n place.base same.memory same.reserved placed
-        (subst (λ (e : Extent). Unclaimed (owner_of items) e) known.is (beside-free items avoid place known)) in
+    found-apart kernel items p n place.base same.memory same.reserved placed
+    (subst (λ (e : Extent). Unclaimed (owner_of items) e) known.is (beside-free items avoid place known)) in
     subst (λ (m : ℕ). ¬ Overlaps p (record { base = base; size = 48 * m })) (sym (room-is which.Reserved kernel items p at same))
     (subst (λ (b : ℕ). ¬ Overlaps p (record { base = b; size = 48 * n })) (sym here) apart)
 
@@ -100,10 +100,10 @@ unfolding reserved_growth reserved_growth_at
 growth-none kernel items t at n avoid o kept room is none =
     let m = room_of which.Reserved items in
     let nowhere : place_beside avoid m items ≡ None = mapped-none (place_beside avoid m items) (48 * m)
-        (sym (beside-along kernel items t at n avoid o kept room is) ∙ none) in
+    (sym (beside-along kernel items t at n avoid o kept room is) ∙ none) in
     let same : refuse which.Reserved n items ≡ reserved_growth avoid items =
-        ap (λ (k : ℕ). refuse which.Reserved k items) (room ∙ room-is which.Reserved kernel items t at kept)
-        ∙ ap (λ (o : Option ℕ). reserved_growth_at m (moved_to which.Reserved items) o items) (sym nowhere) in
+    ap (λ (k : ℕ). refuse which.Reserved k items) (room ∙ room-is which.Reserved kernel items t at kept)
+    ∙ ap (λ (o : Option ℕ). reserved_growth_at m (moved_to which.Reserved items) o items) (sym nowhere) in
     subst (λ (o : Outcome). EndsBy {T = Unit {0}} (Err (refusal.NoGapForTable which.Reserved n)) items items o) same
     (Ends-refused (Unit {0}) which.Reserved n items)
 
@@ -194,7 +194,8 @@ old-size n (Some p) range least h =
     let size : frames_of (24 * n) ≡ range.size = ap (λ (e : Extent). e.size) is in
     omega (arith, size, least)
 
-pub left-size : (w : Which) (items : List Item) (range : Extent) → old_frames (room_of w items) (moved_to w items) ≡ Some range → 0 < range.size
+pub left-size : (w : Which) (items : List Item) (range : Extent) → old_frames (room_of w items) (moved_to w items) ≡ Some range
+    → 0 < range.size
 left-size w items range h = old-size (room_of w items) (moved_to w items) range (room_of-least w items) h
 
 pub left-found : (w : Which) (kernel : Extent) (items : List Item) (t : Contents) (at : ℕ) (h : Head) (o : Option Extent)
@@ -235,7 +236,7 @@ claim-room kernel items t p r at base place kept second table free some ends =
     let n = ap (λ (t : Table). t.room) table in
     let m = ap (λ (t : Table). t.room) second in
     let one : pieces place (value_at r.reserved.records) ≡ 1 =
-        ap (λ l. pieces place (value_at l)) rs ∙ place-one kernel items t at place kept free some ends in
+    ap (λ l. pieces place (value_at l)) rs ∙ place-one kernel items t at place kept free some ends in
     let few = few-kept which.Reserved kernel items t at kept in
     let least = room-least which.Reserved kernel items t at kept in
     let same = ap length rs in
@@ -250,7 +251,8 @@ moved-kept kernel items t p r v at base room place kept m =
     kept-grown which.Reserved kernel items base room p r at (omega (arith, size, ends, here)) m.table m.other
     (kept-same kernel items t p at m.first m.second kept)
 
-pub claimed-kept : (kernel : Extent) (items : List Item) (t p r v : Contents) (at base room : ℕ) (place : Extent) → AreKept kernel items t at
+pub claimed-kept : (kernel : Extent) (items : List Item) (t p r v : Contents) (at base room : ℕ) (place : Extent)
+    → AreKept kernel items t at
     → Moved items t p r v at base place
     → length r.reserved.records + pieces place (value_at r.reserved.records) ≤ r.reserved.room
     → AreKept kernel (moved_items items base room place) v at
@@ -258,16 +260,17 @@ claimed-kept kernel items t p r v at base room place kept m fits =
     kept-claim kernel (items ++ item.Grown which.Reserved base room ∷ []) r v at place (owner.Table which.Reserved) m.ends fits m.claimed
     m.still (moved-kept kernel items t p r v at base room place kept m)
 
-pub claimed-grew : (kernel : Extent) (items : List Item) (t p r v : Contents) (at base room : ℕ) (place : Extent) → AreKept kernel items t at
+pub claimed-grew : (kernel : Extent) (items : List Item) (t p r v : Contents) (at base room : ℕ) (place : Extent)
+    → AreKept kernel items t at
     → Moved items t p r v at base place → Unclaimed (owner_of items) place
     → (v.reserved.room ≡ 2 * t.reserved.room) × (length v.reserved.records ≤ length t.reserved.records + 1)
 claimed-grew kernel items t p r v at base room place kept m free =
     let rs = same-records p.reserved r.reserved base (2 * p.reserved.room) m.table ∙ ap (λ (t : Table). t.records) m.second in
     let some = frames-some which.Reserved items place m.is in
     let one : pieces place (value_at r.reserved.records) ≡ 1 =
-        ap (λ l. pieces place (value_at l)) rs ∙ place-one kernel items t at place kept free some m.ends in
+    ap (λ l. pieces place (value_at l)) rs ∙ place-one kernel items t at place kept free some m.ends in
     let few = few-covered which.Reserved kernel (items ++ item.Grown which.Reserved base room ∷ []) r at place m.ends
-        (moved-kept kernel items t p r v at base room place kept m) in
+    (moved-kept kernel items t p r v at base room place kept m) in
     let same = ap length rs in
     let n = ap (λ (t : Table). t.room) m.table in
     let k = ap (λ (t : Table). t.room) m.second in
@@ -275,7 +278,8 @@ claimed-grew kernel items t p r v at base room place kept m free =
     let b = ap (λ (t : Table). length t.records) m.claimed in
     (a ∙ n ∙ ap (λ (x : ℕ). 2 * x) k, omega (arith, one, few, same, b))
 
-pub claimed-bytes : (kernel : Extent) (items : List Item) (t p r v : Contents) (at base room : ℕ) (place : Extent) → AreKept kernel items t at
+pub claimed-bytes : (kernel : Extent) (items : List Item) (t p r v : Contents) (at base room : ℕ) (place : Extent)
+    → AreKept kernel items t at
     → Moved items t p r v at base place
     → length r.reserved.records + pieces place (value_at r.reserved.records) ≤ r.reserved.room
     → Follows kernel items (moved_items items base room place) (byte_of t.store) (byte_of v.store)
@@ -298,11 +302,13 @@ pub record Freed (v u : Contents) (range : Extent) : Type 0 where
   pub told : AreTold v u
   pub ends : end_of range < 2 ^ 64
 
-pub freed-kept : (kernel : Extent) (items : List Item) (v u : Contents) (at : ℕ) (range : Extent) → AreKept kernel items v at → Freed v u range
+pub freed-kept : (kernel : Extent) (items : List Item) (v u : Contents) (at : ℕ) (range : Extent) → AreKept kernel items v at
+    → Freed v u range
     → length v.reserved.records + 2 ≤ v.reserved.room → AreKept kernel (items ++ item.Free range ∷ []) u at
 freed-kept kernel items v u at range kept f room = kept-free kernel items v u at range f.ends room f.table f.other kept
 
-pub freed-bytes : (kernel : Extent) (items : List Item) (v u : Contents) (at : ℕ) (range : Extent) → AreKept kernel items v at → Freed v u range
+pub freed-bytes : (kernel : Extent) (items : List Item) (v u : Contents) (at : ℕ) (range : Extent) → AreKept kernel items v at
+    → Freed v u range
     → length v.reserved.records + 2 ≤ v.reserved.room
     → Follows kernel items (items ++ item.Free range ∷ []) (byte_of v.store) (byte_of u.store)
 freed-bytes kernel items v u at range kept f room =

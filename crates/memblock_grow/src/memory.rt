@@ -21,7 +21,12 @@ use growth_model::Refusal;
 use memblock_ranges::Tables;
 
 /// The old place is freed, if there is one. A refusal doesn't count.
-fn leave(journal: &mut Journal, tables: &mut Tables, limit: u64, old: Option<Range>) -> Result<(), Refusal>
+fn leave(
+    journal: &mut Journal,
+    tables: &mut Tables,
+    limit: u64,
+    old: Option<Range>,
+) -> Result<(), Refusal>
     requires begun { HasBegun journal.old.items }
     requires some { IfSome old (λ range. 0 < range.size) }
     requires away { IfSome old (λ range. AllowsFree journal.old.items tables.old limit range) }
@@ -69,7 +74,12 @@ fn grow_memory(journal: &mut Journal, tables: &mut Tables, limit: u64) -> Result
 }
 
 /// The table doubles if it is full.
-fn grow_memory_once(journal: &mut Journal, tables: &mut Tables, limit: u64, more: &More) -> Result<(), Refusal>
+fn grow_memory_once(
+    journal: &mut Journal,
+    tables: &mut Tables,
+    limit: u64,
+    more: &More,
+) -> Result<(), Refusal>
     requires kept { IsKept journal.old.items tables.old limit }
     requires begun { HasBegun journal.old.items }
     ensures ends { Ends result journal.old.items journal.new.items
@@ -90,7 +100,12 @@ fn grow_memory_once(journal: &mut Journal, tables: &mut Tables, limit: u64, more
 }
 
 /// The table has room for so many more records: it doubles while it is full, twice at most.
-fn make_memory_room(journal: &mut Journal, tables: &mut Tables, limit: u64, more: &More) -> Result<(), Refusal>
+fn make_memory_room(
+    journal: &mut Journal,
+    tables: &mut Tables,
+    limit: u64,
+    more: &More,
+) -> Result<(), Refusal>
     requires kept { IsKept journal.old.items tables.old limit }
     requires begun { HasBegun journal.old.items }
     ensures ends { Ends result journal.old.items journal.new.items
@@ -105,7 +120,12 @@ fn make_memory_room(journal: &mut Journal, tables: &mut Tables, limit: u64, more
 }
 
 /// The range becomes memory without a node; what is memory already keeps its node (`memblock_add`).
-pub fn add(journal: &mut Journal, tables: &mut Tables, limit: u64, range: Range) -> Result<(), Refusal>
+pub fn add(
+    journal: &mut Journal,
+    tables: &mut Tables,
+    limit: u64,
+    range: Range,
+) -> Result<(), Refusal>
     requires some { 0 < range.size }
     requires kept { IsKept journal.old.items tables.old limit }
     requires begun { HasBegun journal.old.items }
@@ -121,7 +141,13 @@ pub fn add(journal: &mut Journal, tables: &mut Tables, limit: u64, range: Range)
 }
 
 /// The memory of the range gets the node (`memblock_set_node`).
-pub fn set_node(journal: &mut Journal, tables: &mut Tables, limit: u64, range: Range, node: u32) -> Result<(), Refusal>
+pub fn set_node(
+    journal: &mut Journal,
+    tables: &mut Tables,
+    limit: u64,
+    range: Range,
+    node: u32,
+) -> Result<(), Refusal>
     requires some { 0 < range.size }
     requires node { node < 1024 }
     requires kept { IsKept journal.old.items tables.old limit }

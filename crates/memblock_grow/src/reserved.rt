@@ -21,7 +21,12 @@ use memblock_ranges::Tables;
 
 /// The table doubles, at a place beside the range (`memblock_double_array`): one step of three items, or of two where it
 /// lay in the kernel's image. Nothing is written where it finds no place, or where memory runs out.
-fn grow_reserved(journal: &mut Journal, tables: &mut Tables, limit: u64, avoid: Range) -> Result<(), Refusal>
+fn grow_reserved(
+    journal: &mut Journal,
+    tables: &mut Tables,
+    limit: u64,
+    avoid: Range,
+) -> Result<(), Refusal>
     requires kept { IsKept journal.old.items tables.old limit }
     requires begun { HasBegun journal.old.items }
     ensures ends { Ends result journal.old.items journal.new.items (reserved_growth avoid) }
@@ -114,7 +119,13 @@ fn make_reserved_room(
 
 /// The range is claimed for the owner (`memblock_reserve`). Where an item can be appended without wanting memory and the
 /// table has room, the call takes none.
-pub fn claim(journal: &mut Journal, tables: &mut Tables, limit: u64, range: Range, owner: Owner) -> Result<(), Refusal>
+pub fn claim(
+    journal: &mut Journal,
+    tables: &mut Tables,
+    limit: u64,
+    range: Range,
+    owner: Owner,
+) -> Result<(), Refusal>
     requires some { 0 < range.size }
     requires may { AllowsClaim journal.old.items tables.old limit range owner }
     ensures ends { Ends result journal.old.items journal.new.items (claimed range owner) }
@@ -132,7 +143,12 @@ pub fn claim(journal: &mut Journal, tables: &mut Tables, limit: u64, range: Rang
 }
 
 /// The range is freed (`memblock_phys_free`). It takes no memory where a claim wouldn't.
-pub fn free(journal: &mut Journal, tables: &mut Tables, limit: u64, range: Range) -> Result<(), Refusal>
+pub fn free(
+    journal: &mut Journal,
+    tables: &mut Tables,
+    limit: u64,
+    range: Range,
+) -> Result<(), Refusal>
     requires some { 0 < range.size }
     requires begun { HasBegun journal.old.items }
     requires away { AllowsFree journal.old.items tables.old limit range }

@@ -1,4 +1,4 @@
-use Rattle.std.proofs.Common.{◌≡◌, List, [], ◌∷◌, ◌++◌, Err, sym, ◌∙◌, ap, subst, refl}
+use Rattle.std.proofs.Common.{List, [], ◌∷◌, ◌++◌, Err, sym, ◌∙◌, ap, subst, refl}
 use Rattle.std.proofs.lemmas.Bool.{true≢false}
 use Rattle.std.proofs.lemmas.Result.{err_from_is_err_and}
 use Rattle.phys_store.specs.Bytes.{byte_of}
@@ -60,7 +60,7 @@ returns-clause-bytes c = λ kernel kept spelled.
     let u = c.make_reserved_room.new.tables in
     let v = c.cover.new.tables in
     let after = kept-claim kernel mid u v c.args.limit c.args.range c.args.owner c.cover.ensures.within
-        c.in_ok-make_reserved_room.ensures.room c.cover.ensures.table c.cover.ensures.other (c.make_reserved_room.ensures.kept kernel kept) in
+    c.in_ok-make_reserved_room.ensures.room c.cover.ensures.table c.cover.ensures.other (c.make_reserved_room.ensures.kept kernel kept) in
     subst (λ (l : List Item). Follows kernel c.args.journal.now.items l (byte_of c.args.tables.now.store) (byte_of v.store))
     (sym c.in_ok-push.ensures.ok)
     (follows-then kernel c.args.journal.now.items mid (mid ++ item.Claim c.args.range c.args.owner ∷ [])
