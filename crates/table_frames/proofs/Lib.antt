@@ -3,3 +3,4 @@ pub mod ClaimLaws
 pub mod StandLaws
 pub mod WholeLaws
 pub mod TakeLaws
+pub mod CheckLaws

@@ -11,10 +11,12 @@
 //! `memblock_ranges`.
 #![tactic(auto)]
 
+mod check;
 mod claim;
 mod frames;
 mod laws;
 
+pub use check::{has_records, has_whole_frames};
 pub use claim::{Claim, next_claim};
 pub use frames::{RecordFrames, frames_at};
 pub use laws::standing_tables_are_told;
