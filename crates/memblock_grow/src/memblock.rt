@@ -21,7 +21,7 @@ ghost use Rattle.growth_model.specs.Growth.{claimed, freed, added, noded, new_in
 ghost use Rattle.growth_model.specs.Ends.{Ends, Allocates};
 ghost use Rattle.growth_model.specs.Request.{place_for};
 ghost use Rattle.growth_model.specs.Sound.{Sound, IsImage, HasBegun, IsAway, MayClaim};
-ghost use Rattle.growth_model.specs.Bytes.{table_for, byte as byte_by, put, Follows};
+ghost use Rattle.growth_model.specs.Bytes.{table_for, AreSpelled, byte as byte_by, put, Follows};
 ghost use Rattle.memblock_grow.specs.Kept.{StayReady};
 ghost use Rattle.memblock_grow.specs.Touch.{TouchesTable};
 
@@ -265,6 +265,7 @@ impl Memblock {
         ensures memory { result.now.memory ≡ table_for tables_of.Memory self.now.kernel self.now.journal.items }
         ensures reserved { result.now.reserved ≡ table_for tables_of.Reserved self.now.kernel self.now.journal.items }
         ensures within { NothingFrom (2 ^ 64) (memory_of self.now.journal.items) }
+        ensures bytes { AreSpelled result.now.memory result.now.reserved (byte_of result.now.store) }
         ensures spelled { (w : AnyWhich) → bytes_at (byte_of self.now.tables.store) (place_of w self.now.kernel self.now.journal.items)
             (24 * room_of w self.now.journal.items)
             ≡ spelled_table (records_of w self.now.journal.items) (room_of w self.now.journal.items) }
