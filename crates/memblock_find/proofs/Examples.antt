@@ -10,7 +10,7 @@ use Rattle.memblock_model.proofs.SearchLaws.{fits_in-parts, fits_in-whole}
 use Rattle.memblock_ranges.specs.Tables.{Contents}
 use Rattle.memblock_find.specs.declared.cursor.Look.{Look}
 use Rattle.memblock_find.specs.declared.cursor.Cursor.{Cursor}
-use Rattle.memblock_find.specs.Free.{unclaimed, free_in, IsDownTo, IsUpTo, IsRunBelow, IsRunFrom}
+use Rattle.memblock_find.specs.Free.{unclaimed, free_in, Pass, free_of, IsDownTo, IsUpTo, IsRunBelow, IsRunFrom}
 use Rattle.memblock_find.specs.Places.{IsBetween, NoPlaceEnds, IsBestBy}
 use Rattle.memblock_find.specs.Walk.{run_at, BegunBelow, EndedBy, IsLookDown, IsLookUp, label_at, IsDownAt, IsUpAt}
 use Rattle.memblock_find.proofs.DownLaws.{look_gap, look_in, all_begun}
@@ -47,6 +47,13 @@ unclaimed_examples = (refl, refl)
 
 free_examples : (free_in tables 0x2000 ≡ Some (of_node 1)) × (free_in tables 0x3000 ≡ None)
 free_examples = (refl, refl)
+
+-- a pass sees the same, wherever it is
+abbrev pass : Pass
+pass = record { memory = memory_runs; reserved = claims; at = 0x2800 }
+
+pass_examples : (free_of pass 0x1000 ≡ Some (of_node 0)) × (free_of pass 0x1840 ≡ None)
+pass_examples = (refl, refl)
 
 -- from 0x2000 up to 0x3000 there is one label, and the address below is of another node, the one behind no memory
 node_1_down : IsDownTo free 0x2000 0x3000 (Some (of_node 1))

@@ -1,7 +1,7 @@
 //! The search and the runs of unclaimed memory in the tables that a virtual machine's boot leaves.
 ghost use Rattle.std.specs.Prelude.{◌≡◌, ◌+◌, ◌^◌, ◌<◌};
 
-use crate::{FreeRange, Query, find, next_free, prev_free};
+use crate::{FreeRange, FreeRuns, Query, find, next_free, prev_free};
 use bm_base::{Memory, Range};
 use memblock_model::Which;
 use memblock_ranges::Tables;
@@ -119,6 +119,14 @@ fn a_virtual_machine_of_128_mib(rt: HostRuntime) -> Result<(), Fail> {
     assert!(rt; is_run(prev_free(&tables, 0x3000001), 0x3000000, 1, 0));
     assert!(rt; is_run(prev_free(&tables, 0x3000000), 0x100000, 0xF00000, 0));
     assert!(rt; prev_free(&tables, 0x100000).is_none());
+    // And all of it, in one pass.
+    let mut runs = FreeRuns::from(&tables, 0x200000);
+    assert!(rt; is_run(runs.next_run(), 0x200000, 0xE00000, 0));
+    assert!(rt; is_run(runs.next_run(), 0x3000000, 0x4C00000, 0));
+    assert!(rt; is_run(runs.next_run(), 0x7E00000, 0x1AFFC0, 0));
+    assert!(rt; is_run(runs.next_run(), 0x7FAFFE8, 0x18, 0));
+    assert!(rt; runs.next_run().is_none());
+    assert!(rt; runs.next_run().is_none());
     Ok(())
 }
 
