@@ -210,7 +210,8 @@ memory-stands kernel items mid t p k r at base room place whole m keeps bytes tw
       image = whole.image;
       kept = moved;
       placed = λ _. subst (λ (n : ℕ). Placed kernel (mid ++ item.Grown which.Memory base n ∷ [])) (sym twice)
-          (subst (λ (b : ℕ). Placed kernel (mid ++ item.Grown which.Memory b (2 * room_of which.Memory items) ∷ [])) (sym m.here) taken.next);
+          (subst (λ (b : ℕ). Placed kernel (mid ++ item.Grown which.Memory b (2 * room_of which.Memory items) ∷ []))
+          (sym m.here) taken.next);
       spelled = follows-stands kernel items (mid ++ item.Grown which.Memory base room ∷ []) r.memory r.reserved (byte_of t.store)
           (byte_of r.store) moved.memory moved.reserved
           (memory-bytes kernel items mid t p k r at base room place whole.kept whole.spelled m keeps bytes);

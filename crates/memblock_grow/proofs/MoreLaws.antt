@@ -1,13 +1,12 @@
 -- Whether a table is full, by the tables and by the items; and two growths are enough.
-use Rattle.std.proofs.Common.{◌≡◌, ℕ, ◌+◌, ◌*◌, ◌^◌, ◌<◌, ◌≤◌, Bool, true, false, nat_lt, Option, Some, None, List, [], ◌∷◌, ◌++◌, length, refl, sym, ◌∙◌, ap, subst, inl, inr, ◌⊎◌, arith}
+use Rattle.std.proofs.Common.{◌≡◌, ℕ, ◌+◌, ◌*◌, ◌^◌, ◌<◌, ◌≤◌, true, false, nat_lt, List, [], ◌∷◌, length, refl, sym, ◌∙◌, ap, subst, inl, inr, ◌⊎◌, arith}
 use Rattle.std.proofs.lemmas.Bool.Decides.{nat_tests}
-use Rattle.bm_base.specs.Extent.{Extent, end_of}
-use Rattle.address_runs.specs.Runs.{RunOf, value_at, AreRuns, IsRunsOf}
+use Rattle.bm_base.specs.Extent.{Extent}
+use Rattle.address_runs.specs.Runs.{RunOf, value_at}
 use Rattle.address_runs.specs.Edits.{NothingFrom}
 use Rattle.memblock_model.specs.declared.which.Which.{Which}
 use Rattle.memblock_model.specs.declared.which.Which.TheVariants as which
 use Rattle.memblock_model.specs.declared.item.Item.{Item}
-use Rattle.memblock_model.specs.declared.item.Item.TheVariants as item
 use Rattle.memblock_model.specs.Labels.{Labels}
 use Rattle.memblock_model.specs.Tables.{table_of, records_for, records_of, pieces, room_of}
 use Rattle.memblock_model.proofs.TableLaws.{records_for-is}
@@ -48,7 +47,8 @@ room-of w m kernel items t at kept h = room-by m (table_in w t) (full-is w m ker
 -- at the beginning nothing is full
 no-records : (w : Which) → count w [] ≡ 0
 unfolding records_of
-no-records which.Memory = sym (ap length (records_for-is (table_of which.Memory []) [] (λ x le. refl) (record { runs = tt; each = λ x. refl })))
+no-records which.Memory = sym (ap length (records_for-is (table_of which.Memory []) [] (λ x le. refl)
+    (record { runs = tt; each = λ x. refl })))
 no-records which.Reserved =
     sym (ap length (records_for-is (table_of which.Reserved []) [] (λ x le. refl) (record { runs = tt; each = λ x. refl })))
 
@@ -83,7 +83,8 @@ pub room-twice : (w : Which) (m : More) (kernel : Extent) (items : List Item) (t
     → HasRoom m mid ⊎ Grew old mid → (HasRoom m mid → table_in w t ≡ mid) → HasRoom m (table_in w t) ⊎ Grew mid (table_in w t)
     → HasRoom m (table_in w t)
 room-twice w m kernel items t at old mid kept ends least few first idle (inl has) = has
-room-twice w m kernel items t at old mid kept ends least few (inl has) idle (inr second) = subst (λ (s : Table). HasRoom m s) (sym (idle has)) has
+room-twice w m kernel items t at old mid kept ends least few (inl has) idle (inr second) = subst (λ (s : Table). HasRoom m s) (sym
+    (idle has)) has
 room-twice w m kernel items t at old mid kept ends least few (inr first) idle (inr second) =
     let a = first.few in let b = second.few in let c = first.room in let d = second.room in
     twice-by m (table_in w t) ends (values-end w kernel items t at kept) (records-again w kernel items t at kept) old.room least

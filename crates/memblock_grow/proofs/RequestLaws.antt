@@ -1,5 +1,5 @@
 -- The place that an allocation finds by the tables is the one that the items say, and how the claim of it ends.
-use Rattle.std.proofs.Common.{◌≡◌, ℕ, ◌+◌, ◌^◌, ◌<◌, ◌≤◌, Option, Some, None, List, [], ◌∷◌, Result, Ok, Err, refl, sym, ◌∙◌, ap, subst, arith}
+use Rattle.std.proofs.Common.{◌≡◌, ℕ, ◌+◌, ◌^◌, ◌<◌, Option, Some, None, List, [], ◌∷◌, Result, Ok, Err, refl, sym, ◌∙◌, ap, subst, arith}
 use Rattle.std.specs.Option.{option_or}
 use Rattle.bm_base.specs.Extent.{Extent}
 use Rattle.memblock_model.specs.declared.query.Query.{Query}
@@ -19,7 +19,7 @@ use Rattle.growth_model.proofs.EndLaws.{Ends-error}
 use Rattle.growth_model.proofs.FoundLaws.{place-unclaimed, place-within, unclaimed-away}
 use Rattle.growth_model.proofs.SoundLaws.{may-away}
 use Rattle.memblock_grow.specs.Kept.{AreKept, IsMemblock, AllowsClaim}
-use Rattle.memblock_grow.specs.Places.{best_of, first_of}
+use Rattle.memblock_grow.specs.Places.{first_of}
 use Rattle.memblock_grow.proofs.PlaceLaws.{best-is}
 
 first-is : (kernel : Extent) (items : List Item) (t : Contents) (at : ℕ) (qs : List Query) → AreKept kernel items t at
@@ -29,7 +29,8 @@ first-is kernel items t at (q ∷ qs) kept =
     ap (λ (o : Option ℕ). option_or o (first_of t qs)) (best-is kernel items t at q kept)
     ∙ ap (λ (o : Option ℕ). option_or (best items q) o) (first-is kernel items t at qs kept)
 
-pub place-is-for : (kernel : Extent) (items : List Item) (t : Contents) (at : ℕ) (r : Request) (o found : Option ℕ) → AreKept kernel items t at
+pub place-is-for : (kernel : Extent) (items : List Item) (t : Contents) (at : ℕ) (r : Request) (o found : Option ℕ)
+    → AreKept kernel items t at
     → o ≡ first_of t (attempts r at) → o ≡ found → place_for r items ≡ found
 place-is-for kernel items t at r o found kept is some =
     sym (is ∙ ap (λ (n : ℕ). first_of t (attempts r n)) (sym kept.limit) ∙ first-is kernel items t at (attempts r (limit_of items)) kept)
@@ -46,8 +47,7 @@ pub place-allowed : (kernel : Extent) (items : List Item) (t : Contents) (at : �
     → IsMemblock kernel items t at → HasBegun items → place_for r items ≡ Some place
     → AllowsClaim items t at (record { base = place; size = r.size }) who
 place-allowed kernel items t at r place who whole begun found =
-    let range : Extent = record { base = place; size = r.size } in
-    (
+    let range : Extent = record { base = place; size = r.size } in (
       kernel,
       whole,
       may-away kernel items range who begun

@@ -1,7 +1,7 @@
 -- The growth of the reserved table: where it goes, what it writes, and what it makes of the tables and of each byte.
-use Rattle.std.proofs.Common.{◌≡◌, ℕ, ◌+◌, ◌-◌, ◌*◌, ◌^◌, ◌<◌, ◌≤◌, true, Option, Some, None, List, [], ◌∷◌, ◌++◌, length, Result, Ok, Err, refl, sym, ◌∙◌, ap, subst, append_assoc, arith}
+use Rattle.std.proofs.Common.{◌≡◌, ℕ, ◌+◌, ◌-◌, ◌*◌, ◌^◌, ◌<◌, ◌≤◌, Option, Some, None, List, [], ◌∷◌, ◌++◌, length, Ok, Err, refl, sym, ◌∙◌, ap, subst, append_assoc, arith}
 use Rattle.std.specs.Option.{option_map}
-use Rattle.bm_base.specs.Extent.{Extent, end_of, covers}
+use Rattle.bm_base.specs.Extent.{Extent, end_of}
 use Rattle.phys_store.specs.Bytes.{byte_of}
 use Rattle.address_runs.specs.Runs.{value_at}
 use Rattle.address_runs.specs.Edits.{covered, uncovered}
@@ -18,7 +18,6 @@ use Rattle.boot_journal.specs.Contents.{Contents as Journal}
 use Rattle.memblock_ranges.specs.declared.region.Head.{Head}
 use Rattle.memblock_ranges.specs.Tables.{Table, Contents, table_in, room_in, head_of, Overlaps}
 use Rattle.memblock_ranges.proofs.CountLaws.{one-piece}
-use Rattle.growth_model.specs.declared.refusal.Refusal.{Refusal}
 use Rattle.growth_model.specs.declared.refusal.Refusal.TheVariants as refusal
 use Rattle.growth_model.specs.Outcome.{Outcome, step, refuse}
 use Rattle.growth_model.specs.Growth.{frames_of, frames_at, place_beside, left, old_frames, reserved_items, reserved_growth_at, reserved_growth}
@@ -27,7 +26,7 @@ use Rattle.growth_model.specs.Sound.{Unclaimed, Placed}
 use Rattle.growth_model.specs.Bytes.{shown_by, left_by, AreSpelled, Follows}
 use Rattle.growth_model.proofs.EndLaws.{Ends-step, Ends-refused}
 use Rattle.growth_model.proofs.SpotLaws.{covers-to}
-use Rattle.growth_model.proofs.FoundLaws.{IsNew, beside-new, found-apart}
+use Rattle.growth_model.proofs.FoundLaws.{beside-new, found-apart}
 use Rattle.growth_model.proofs.FollowLaws.{follows-still, follows-item, follows-grown, follows-then}
 use Rattle.memblock_grow.specs.Kept.{AreKept, AreTold}
 use Rattle.memblock_grow.specs.Places.{frames_beside, left_frames}
@@ -61,7 +60,8 @@ pub record IsBeside (items : List Item) (avoid place : Extent) : Type 0 where
 
 beside-along : (kernel : Extent) (items : List Item) (t : Contents) (at n : ℕ) (avoid : Extent) (o : Option Extent)
     → AreKept kernel items t at → n ≡ room_in which.Reserved t → o ≡ frames_beside t n at avoid
-    → o ≡ option_map (λ place. frames_at place (48 * room_of which.Reserved items)) (place_beside avoid (room_of which.Reserved items) items)
+    → o ≡ option_map (λ place. frames_at place (48 * room_of which.Reserved items)) (place_beside avoid
+    (room_of which.Reserved items) items)
 beside-along kernel items t at n avoid o kept room is =
     is ∙ ap (λ (m : ℕ). frames_beside t m at avoid) room ∙ beside-is kernel items t at avoid kept
 
@@ -194,7 +194,8 @@ old-size n (Some p) range least h =
     let size : frames_of (24 * n) ≡ range.size = ap (λ (e : Extent). e.size) is in
     omega (arith, size, least)
 
-pub left-size : (w : Which) (items : List Item) (range : Extent) → old_frames (room_of w items) (moved_to w items) ≡ Some range → 0 < range.size
+pub left-size : (w : Which) (items : List Item) (range : Extent) → old_frames (room_of w items) (moved_to w items) ≡ Some range
+    → 0 < range.size
 left-size w items range h = old-size (room_of w items) (moved_to w items) range (room_of-least w items) h
 
 pub left-found : (w : Which) (kernel : Extent) (items : List Item) (t : Contents) (at : ℕ) (h : Head) (o : Option Extent)
@@ -250,7 +251,8 @@ moved-kept kernel items t p r v at base room place kept m =
     kept-grown which.Reserved kernel items base room p r at (omega (arith, size, ends, here)) m.table m.other
     (kept-same kernel items t p at m.first m.second kept)
 
-pub claimed-kept : (kernel : Extent) (items : List Item) (t p r v : Contents) (at base room : ℕ) (place : Extent) → AreKept kernel items t at
+pub claimed-kept : (kernel : Extent) (items : List Item) (t p r v : Contents) (at base room : ℕ) (place : Extent)
+    → AreKept kernel items t at
     → Moved items t p r v at base place
     → length r.reserved.records + pieces place (value_at r.reserved.records) ≤ r.reserved.room
     → AreKept kernel (moved_items items base room place) v at
@@ -258,7 +260,8 @@ claimed-kept kernel items t p r v at base room place kept m fits =
     kept-claim kernel (items ++ item.Grown which.Reserved base room ∷ []) r v at place (owner.Table which.Reserved) m.ends fits m.claimed
     m.still (moved-kept kernel items t p r v at base room place kept m)
 
-pub claimed-grew : (kernel : Extent) (items : List Item) (t p r v : Contents) (at base room : ℕ) (place : Extent) → AreKept kernel items t at
+pub claimed-grew : (kernel : Extent) (items : List Item) (t p r v : Contents) (at base room : ℕ) (place : Extent)
+    → AreKept kernel items t at
     → Moved items t p r v at base place → Unclaimed (owner_of items) place
     → (v.reserved.room ≡ 2 * t.reserved.room) × (length v.reserved.records ≤ length t.reserved.records + 1)
 claimed-grew kernel items t p r v at base room place kept m free =
@@ -275,7 +278,8 @@ claimed-grew kernel items t p r v at base room place kept m free =
     let b = ap (λ (t : Table). length t.records) m.claimed in
     (a ∙ n ∙ ap (λ (x : ℕ). 2 * x) k, omega (arith, one, few, same, b))
 
-pub claimed-bytes : (kernel : Extent) (items : List Item) (t p r v : Contents) (at base room : ℕ) (place : Extent) → AreKept kernel items t at
+pub claimed-bytes : (kernel : Extent) (items : List Item) (t p r v : Contents) (at base room : ℕ) (place : Extent)
+    → AreKept kernel items t at
     → Moved items t p r v at base place
     → length r.reserved.records + pieces place (value_at r.reserved.records) ≤ r.reserved.room
     → Follows kernel items (moved_items items base room place) (byte_of t.store) (byte_of v.store)
@@ -298,11 +302,13 @@ pub record Freed (v u : Contents) (range : Extent) : Type 0 where
   pub told : AreTold v u
   pub ends : end_of range < 2 ^ 64
 
-pub freed-kept : (kernel : Extent) (items : List Item) (v u : Contents) (at : ℕ) (range : Extent) → AreKept kernel items v at → Freed v u range
+pub freed-kept : (kernel : Extent) (items : List Item) (v u : Contents) (at : ℕ) (range : Extent) → AreKept kernel items v at
+    → Freed v u range
     → length v.reserved.records + 2 ≤ v.reserved.room → AreKept kernel (items ++ item.Free range ∷ []) u at
 freed-kept kernel items v u at range kept f room = kept-free kernel items v u at range f.ends room f.table f.other kept
 
-pub freed-bytes : (kernel : Extent) (items : List Item) (v u : Contents) (at : ℕ) (range : Extent) → AreKept kernel items v at → Freed v u range
+pub freed-bytes : (kernel : Extent) (items : List Item) (v u : Contents) (at : ℕ) (range : Extent) → AreKept kernel items v at
+    → Freed v u range
     → length v.reserved.records + 2 ≤ v.reserved.room
     → Follows kernel items (items ++ item.Free range ∷ []) (byte_of v.store) (byte_of u.store)
 freed-bytes kernel items v u at range kept f room =

@@ -1,14 +1,13 @@
 -- What holds between calls holds behind each.
-use Rattle.std.proofs.Common.{◌≡◌, ℕ, List, ◌++◌, Result, Ok, Err, refl, sym, subst}
+use Rattle.std.proofs.Common.{ℕ, List, Result, Ok, Err}
 use Rattle.std.specs.Result.{OnOk}
 use Rattle.bm_base.specs.Extent.{Extent}
 use Rattle.phys_store.specs.Bytes.{byte_of}
 use Rattle.memblock_model.specs.declared.item.Item.{Item}
 use Rattle.memblock_ranges.specs.Tables.{Contents}
-use Rattle.growth_model.specs.Bytes.{Follows}
 use Rattle.growth_model.proofs.SoundLaws.{Stands}
 use Rattle.growth_model.proofs.FollowLaws.{follows-stands, follows-then}
-use Rattle.memblock_grow.specs.Kept.{AreKept, IsMemblock, Keeps, KeepsBytes}
+use Rattle.memblock_grow.specs.Kept.{IsMemblock, Keeps, KeepsBytes}
 
 pub whole-on : (kernel : Extent) (items longer : List Item) (t u : Contents) (at : ℕ) → IsMemblock kernel items t at
     → Keeps items t longer u at → KeepsBytes items t longer u at → Stands kernel longer → IsMemblock kernel longer u at

@@ -1,11 +1,11 @@
 -- The searches of a table that grows, said of the tables themselves.
-use Rattle.std.specs.Prelude.{ℕ, ◌+◌, ◌*◌, ◌==◌, min, if◌then◌else◌, Option, Some, None, List, [], ◌∷◌}
+use Rattle.std.specs.Prelude.{ℕ, ◌*◌, ◌==◌, min, if◌then◌else◌, Option, Some, None, List, [], ◌∷◌}
 use Rattle.std.specs.Option.{option_map, option_or}
 use Rattle.bm_base.specs.Extent.{Extent, end_of}
 use Rattle.address_runs.specs.Runs.{value_at}
 use Rattle.memblock_model.specs.declared.query.Query.{Query}
 use Rattle.memblock_model.specs.Search.{best_in}
-use Rattle.memblock_ranges.specs.Tables.{Contents, Table}
+use Rattle.memblock_ranges.specs.Tables.{Contents}
 use Rattle.growth_model.specs.Growth.{frames_at, table_query}
 
 -- the best place by what both tables say

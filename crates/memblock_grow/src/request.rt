@@ -18,7 +18,13 @@ use memblock_find::{Query, find};
 use memblock_ranges::Tables;
 
 /// The best place from `lo` on, of the node or of any.
-fn attempt(tables: &Tables, request: &Request, limit: u64, lo: u64, node: Option<u32>) -> Option<u64>
+fn attempt(
+    tables: &Tables,
+    request: &Request,
+    limit: u64,
+    lo: u64,
+    node: Option<u32>,
+) -> Option<u64>
     requires some { 1 ≤ request.now.size }
     requires aligned { (k : ℕ) × (request.now.align ≡ 2 ^ k) }
     ensures { result ≡ best_of tables.now (attempt_by request.now limit lo node) }
@@ -77,7 +83,9 @@ pub fn allocate(
     ensures bytes { KeepsBytes journal.old.items tables.old journal.new.items tables.new limit }
     ensures still_ready { StayReady tables.old.store tables.new.store }
 {
-    let Some(base) = place_for(tables, request, limit) else { return Err(Refusal::NoGap) };
+    let Some(base) = place_for(tables, request, limit) else {
+        return Err(Refusal::NoGap)
+    };
     let range = Range {
         base,
         size: request.size,

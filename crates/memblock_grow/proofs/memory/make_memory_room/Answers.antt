@@ -16,7 +16,8 @@ pub grow_memory_once-requires-2-clause-kept : goal.grow_memory_once-requires-2-c
 grow_memory_once-requires-2-clause-kept c =
     let first = c.grow_memory_once in (
       c.requires.kept.0,
-      whole-on c.requires.kept.0 c.args.journal.now.items first.new.journal.items c.args.tables.now first.new.tables c.args.limit c.requires.kept.1
+      whole-on c.requires.kept.0 c.args.journal.now.items first.new.journal.items c.args.tables.now first.new.tables c.args.limit
+          c.requires.kept.1
           first.ensures.kept first.ensures.bytes
           (memory_once-stands c.requires.kept.0 first.result c.args.journal.now.items first.new.journal.items
           (is_full which.Memory (more_by which.Memory c.args.more.now)) c.requires.kept.1.placed c.requires.begun first.ensures.ends),

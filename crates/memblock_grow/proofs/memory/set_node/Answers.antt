@@ -51,7 +51,8 @@ returns-clause-bytes c = λ kernel kept spelled.
     let u = c.make_memory_room.new.tables in
     let v = c.relabel.new.tables in
     let after = kept-node kernel mid u v c.args.limit c.args.range c.args.node c.relabel.ensures.within
-    c.in_ok-make_memory_room.ensures.room c.relabel.ensures.memory c.relabel.ensures.reserved (c.make_memory_room.ensures.kept kernel kept) in
+    c.in_ok-make_memory_room.ensures.room c.relabel.ensures.memory c.relabel.ensures.reserved
+    (c.make_memory_room.ensures.kept kernel kept) in
     subst (λ (l : List Item). Follows kernel c.args.journal.now.items l (byte_of c.args.tables.now.store) (byte_of v.store))
     (sym c.in_ok-push.ensures.ok)
     (follows-then kernel c.args.journal.now.items mid (mid ++ item.Node c.args.range c.args.node ∷ [])

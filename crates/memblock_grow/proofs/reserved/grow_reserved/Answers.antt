@@ -1,10 +1,9 @@
-use Rattle.std.proofs.Common.{◌≡◌, ◌≢◌, ℕ, ◌+◌, ◌*◌, ◌^◌, ◌<◌, ◌≤◌, Option, Some, None, List, [], ◌∷◌, ◌++◌, Ok, refl, sym, ◌∙◌, ap, subst, arith}
+use Rattle.std.proofs.Common.{◌≢◌, ◌+◌, ◌*◌, ◌^◌, ◌<◌, List, [], ◌∷◌, ◌++◌, Ok, refl, sym, ◌∙◌, ap, subst, arith}
 use Rattle.bm_base.specs.Extent.{Extent, end_of}
 use Rattle.phys_store.specs.Bytes.{byte_of}
 use Rattle.memblock_model.specs.declared.which.Which.TheVariants as which
 use Rattle.memblock_model.specs.declared.item.Item.{Item}
 use Rattle.memblock_model.specs.declared.item.Item.TheVariants as item
-use Rattle.memblock_model.specs.declared.owner.Owner.TheVariants as owner
 use Rattle.memblock_ranges.specs.declared.region.Head.{Head}
 use Rattle.growth_model.specs.Growth.{frames_of, reserved_growth}
 use Rattle.growth_model.specs.Ends.{Ends}
@@ -19,7 +18,8 @@ use Rattle.memblock_grow.proofs.ReservedLaws.{room-least, frames-some, IsBeside,
 pub place_beside-requires : goal.place_beside-requires
 place_beside-requires c =
     let n = ap (λ (h : Head). h.room) c.head-head.ensures.head in
-    let least = room-least which.Reserved c.requires.kept.0 c.args.journal.now.items c.args.tables.now c.args.limit c.requires.kept.1.kept in
+    let least = room-least which.Reserved c.requires.kept.0 c.args.journal.now.items c.args.tables.now c.args.limit c.requires.kept.1.kept
+    in
     omega (arith, n, least)
 
 pub returns-in_default-clause-ends : goal.returns-in_default-clause-ends
@@ -54,17 +54,21 @@ pub relocate-requires-clause-apart : goal.relocate-requires-clause-apart
 relocate-requires-clause-apart c =
     let room = ap (λ (h : Head). h.room) c.head-head.ensures.head in
     let known : IsBeside c.args.journal.now.items c.args.avoid c.in-Some.place =
-    beside-found c.requires.kept.0 c.args.journal.now.items c.args.tables.now c.args.limit c.head-head.result.room c.args.avoid c.place_beside.result
+    beside-found c.requires.kept.0 c.args.journal.now.items c.args.tables.now c.args.limit c.head-head.result.room c.args.avoid
+    c.place_beside.result
     c.in-Some.place c.requires.kept.1.kept room c.place_beside.ensures c.in-Some.is in
-    beside-apart c.requires.kept.0 c.args.journal.now.items c.args.tables.now c.prepare.new.self c.args.limit c.place.inside.base c.args.avoid
-    c.in-Some.place c.requires.kept.1.kept (c.requires.kept.1.placed c.requires.begun) known (ap (λ (e : Extent). e.base) c.place.view_is) c.in_ok-prepare.ensures.memory
+    beside-apart c.requires.kept.0 c.args.journal.now.items c.args.tables.now c.prepare.new.self c.args.limit c.place.inside.base
+    c.args.avoid
+    c.in-Some.place c.requires.kept.1.kept (c.requires.kept.1.placed c.requires.begun) known (ap (λ
+    (e : Extent). e.base) c.place.view_is) c.in_ok-prepare.ensures.memory
     c.in_ok-prepare.ensures.reserved
 
 pub push_ready-requires-2-clause-item : goal.push_ready-requires-2-clause-item
 push_ready-requires-2-clause-item c =
     let room = ap (λ (h : Head). h.room) c.head-head.ensures.head in
     let known : IsBeside c.args.journal.now.items c.args.avoid c.in-Some.place =
-    beside-found c.requires.kept.0 c.args.journal.now.items c.args.tables.now c.args.limit c.head-head.result.room c.args.avoid c.place_beside.result
+    beside-found c.requires.kept.0 c.args.journal.now.items c.args.tables.now c.args.limit c.head-head.result.room c.args.avoid
+    c.place_beside.result
     c.in-Some.place c.requires.kept.1.kept room c.place_beside.ensures c.in-Some.is in
     frames-some which.Reserved c.args.journal.now.items c.in-Some.place known.is
 
@@ -72,7 +76,8 @@ pub cover-requires-clause-some : goal.cover-requires-clause-some
 cover-requires-clause-some c =
     let room = ap (λ (h : Head). h.room) c.head-head.ensures.head in
     let known : IsBeside c.args.journal.now.items c.args.avoid c.in-Some.place =
-    beside-found c.requires.kept.0 c.args.journal.now.items c.args.tables.now c.args.limit c.head-head.result.room c.args.avoid c.place_beside.result
+    beside-found c.requires.kept.0 c.args.journal.now.items c.args.tables.now c.args.limit c.head-head.result.room c.args.avoid
+    c.place_beside.result
     c.in-Some.place c.requires.kept.1.kept room c.place_beside.ensures c.in-Some.is in
     frames-some which.Reserved c.args.journal.now.items c.in-Some.place known.is
 
@@ -80,15 +85,20 @@ pub cover-requires-clause-room : goal.cover-requires-clause-room
 cover-requires-clause-room c =
     let room = ap (λ (h : Head). h.room) c.head-head.ensures.head in
     let known : IsBeside c.args.journal.now.items c.args.avoid c.in-Some.place =
-    beside-found c.requires.kept.0 c.args.journal.now.items c.args.tables.now c.args.limit c.head-head.result.room c.args.avoid c.place_beside.result
+    beside-found c.requires.kept.0 c.args.journal.now.items c.args.tables.now c.args.limit c.head-head.result.room c.args.avoid
+    c.place_beside.result
     c.in-Some.place c.requires.kept.1.kept room c.place_beside.ensures c.in-Some.is in
-    claim-room c.requires.kept.0 c.args.journal.now.items c.args.tables.now c.prepare.new.self c.relocate.new.tables c.args.limit c.place.inside.base c.in-Some.place
-    c.requires.kept.1.kept c.in_ok-prepare.ensures.reserved c.relocate.ensures.table (beside-free c.args.journal.now.items c.args.avoid c.in-Some.place known)
-    (frames-some which.Reserved c.args.journal.now.items c.in-Some.place known.is) (subst (λ (e : Extent). end_of e < 2 ^ 64) c.place.view_is c.place.invariant)
+    claim-room c.requires.kept.0 c.args.journal.now.items c.args.tables.now c.prepare.new.self c.relocate.new.tables c.args.limit
+    c.place.inside.base c.in-Some.place
+    c.requires.kept.1.kept c.in_ok-prepare.ensures.reserved c.relocate.ensures.table
+    (beside-free c.args.journal.now.items c.args.avoid c.in-Some.place known)
+    (frames-some which.Reserved c.args.journal.now.items c.in-Some.place known.is) (subst (λ
+    (e : Extent). end_of e < 2 ^ 64) c.place.view_is c.place.invariant)
 
 pub push_ready-requires-in-Some-left-clause-item : goal.push_ready-requires-in-Some-left-clause-item
 push_ready-requires-in-Some-left-clause-item c =
-    let left = left-found which.Reserved c.requires.kept.0 c.args.journal.now.items c.args.tables.now c.args.limit c.head-head.result c.left_place-left.result
+    let left = left-found which.Reserved c.requires.kept.0 c.args.journal.now.items c.args.tables.now c.args.limit c.head-head.result
+    c.left_place-left.result
     c.requires.kept.1.kept c.head-head.ensures.head c.left_place-left.ensures in
     left-size which.Reserved c.args.journal.now.items c.in-Some-left.range (sym left ∙ c.in-Some-left.is)
 
@@ -96,9 +106,11 @@ pub uncover-requires : goal.uncover-requires
 uncover-requires c =
     let room = ap (λ (h : Head). h.room) c.head-head.ensures.head in
     let known : IsBeside c.args.journal.now.items c.args.avoid c.in-Some.place =
-    beside-found c.requires.kept.0 c.args.journal.now.items c.args.tables.now c.args.limit c.head-head.result.room c.args.avoid c.place_beside.result
+    beside-found c.requires.kept.0 c.args.journal.now.items c.args.tables.now c.args.limit c.head-head.result.room c.args.avoid
+    c.place_beside.result
     c.in-Some.place c.requires.kept.1.kept room c.place_beside.ensures c.in-Some.is in
-    let moved : Moved c.args.journal.now.items c.args.tables.now c.prepare.new.self c.relocate.new.tables c.cover.new.tables c.args.limit c.place.inside.base c.in-Some.place = record {
+    let moved : Moved c.args.journal.now.items c.args.tables.now c.prepare.new.self c.relocate.new.tables c.cover.new.tables c.args.limit
+    c.place.inside.base c.in-Some.place = record {
       first = c.in_ok-prepare.ensures.memory;
       second = c.in_ok-prepare.ensures.reserved;
       bytes = c.in_ok-prepare.ensures.bytes;
@@ -112,34 +124,44 @@ uncover-requires c =
       is = known.is;
       ends = c.cover.ensures.within;
     } in
-    let grew = claimed-grew c.requires.kept.0 c.args.journal.now.items c.args.tables.now c.prepare.new.self c.relocate.new.tables c.cover.new.tables c.args.limit c.place.inside.base
-    (2 * c.head-head.result.room) c.in-Some.place c.requires.kept.1.kept moved (beside-free c.args.journal.now.items c.args.avoid c.in-Some.place known) in
-    freed-room c.args.tables.now c.cover.new.tables grew (few-kept which.Reserved c.requires.kept.0 c.args.journal.now.items c.args.tables.now c.args.limit c.requires.kept.1.kept)
+    let grew = claimed-grew c.requires.kept.0 c.args.journal.now.items c.args.tables.now c.prepare.new.self c.relocate.new.tables
+    c.cover.new.tables c.args.limit c.place.inside.base
+    (2 * c.head-head.result.room) c.in-Some.place c.requires.kept.1.kept moved
+    (beside-free c.args.journal.now.items c.args.avoid c.in-Some.place known) in
+    freed-room c.args.tables.now c.cover.new.tables grew (few-kept which.Reserved c.requires.kept.0 c.args.journal.now.items
+    c.args.tables.now c.args.limit c.requires.kept.1.kept)
     (room-least which.Reserved c.requires.kept.0 c.args.journal.now.items c.args.tables.now c.args.limit c.requires.kept.1.kept)
 
 pub returns-in-Some-left-clause-ends : goal.returns-in-Some-left-clause-ends
 returns-in-Some-left-clause-ends c =
     let room = ap (λ (h : Head). h.room) c.head-head.ensures.head in
     let known : IsBeside c.args.journal.now.items c.args.avoid c.in-Some.place =
-    beside-found c.requires.kept.0 c.args.journal.now.items c.args.tables.now c.args.limit c.head-head.result.room c.args.avoid c.place_beside.result
+    beside-found c.requires.kept.0 c.args.journal.now.items c.args.tables.now c.args.limit c.head-head.result.room c.args.avoid
+    c.place_beside.result
     c.in-Some.place c.requires.kept.1.kept room c.place_beside.ensures c.in-Some.is in
     let two = journal-two c.args.journal.now c.ready.new.self c.push_ready.new.self c.push_ready-2.new.self c.place.inside.base
     (2 * c.head-head.result.room) c.in-Some.place c.in_ok-ready.ensures.items c.push_ready.ensures c.push_ready-2.ensures in
     let three = journal-three c.push_ready-2.new.self c.push_ready-in-Some-left.new.self c.in-Some-left.range
-    (moved_items c.args.journal.now.items c.place.inside.base (2 * c.head-head.result.room) c.in-Some.place) two c.push_ready-in-Some-left.ensures in
-    let left = left-found which.Reserved c.requires.kept.0 c.args.journal.now.items c.args.tables.now c.args.limit c.head-head.result c.left_place-left.result
+    (moved_items c.args.journal.now.items c.place.inside.base
+    (2 * c.head-head.result.room) c.in-Some.place) two c.push_ready-in-Some-left.ensures in
+    let left = left-found which.Reserved c.requires.kept.0 c.args.journal.now.items c.args.tables.now c.args.limit c.head-head.result
+    c.left_place-left.result
     c.requires.kept.1.kept c.head-head.ensures.head c.left_place-left.ensures in
     subst (λ (l : List Item). Ends {T = Unit {0}} (Ok tt) c.args.journal.now.items l (reserved_growth c.args.avoid)) (sym three)
-    (written-three c.args.journal.now.items c.place.inside.base (2 * c.head-head.result.room) c.args.avoid c.in-Some.place c.in-Some-left.range known
-    (ap (λ (e : Extent). e.base) c.place.view_is) (twice-is which.Reserved c.requires.kept.0 c.args.journal.now.items c.args.tables.now c.args.limit c.head-head.result.room c.requires.kept.1.kept room) (sym left ∙ c.in-Some-left.is))
+    (written-three c.args.journal.now.items c.place.inside.base
+    (2 * c.head-head.result.room) c.args.avoid c.in-Some.place c.in-Some-left.range known
+    (ap (λ (e : Extent). e.base) c.place.view_is) (twice-is which.Reserved c.requires.kept.0 c.args.journal.now.items c.args.tables.now
+    c.args.limit c.head-head.result.room c.requires.kept.1.kept room) (sym left ∙ c.in-Some-left.is))
 
 pub returns-in-Some-left-clause-kept : goal.returns-in-Some-left-clause-kept
 returns-in-Some-left-clause-kept c = λ kernel kept.
     let room = ap (λ (h : Head). h.room) c.head-head.ensures.head in
     let known : IsBeside c.args.journal.now.items c.args.avoid c.in-Some.place =
-    beside-found c.requires.kept.0 c.args.journal.now.items c.args.tables.now c.args.limit c.head-head.result.room c.args.avoid c.place_beside.result
+    beside-found c.requires.kept.0 c.args.journal.now.items c.args.tables.now c.args.limit c.head-head.result.room c.args.avoid
+    c.place_beside.result
     c.in-Some.place c.requires.kept.1.kept room c.place_beside.ensures c.in-Some.is in
-    let moved : Moved c.args.journal.now.items c.args.tables.now c.prepare.new.self c.relocate.new.tables c.cover.new.tables c.args.limit c.place.inside.base c.in-Some.place = record {
+    let moved : Moved c.args.journal.now.items c.args.tables.now c.prepare.new.self c.relocate.new.tables c.cover.new.tables c.args.limit
+    c.place.inside.base c.in-Some.place = record {
       first = c.in_ok-prepare.ensures.memory;
       second = c.in_ok-prepare.ensures.reserved;
       bytes = c.in_ok-prepare.ensures.bytes;
@@ -156,11 +178,14 @@ returns-in-Some-left-clause-kept c = λ kernel kept.
     let two = journal-two c.args.journal.now c.ready.new.self c.push_ready.new.self c.push_ready-2.new.self c.place.inside.base
     (2 * c.head-head.result.room) c.in-Some.place c.in_ok-ready.ensures.items c.push_ready.ensures c.push_ready-2.ensures in
     let three = journal-three c.push_ready-2.new.self c.push_ready-in-Some-left.new.self c.in-Some-left.range
-    (moved_items c.args.journal.now.items c.place.inside.base (2 * c.head-head.result.room) c.in-Some.place) two c.push_ready-in-Some-left.ensures in
-    let fits = claim-room kernel c.args.journal.now.items c.args.tables.now c.prepare.new.self c.relocate.new.tables c.args.limit c.place.inside.base c.in-Some.place
+    (moved_items c.args.journal.now.items c.place.inside.base
+    (2 * c.head-head.result.room) c.in-Some.place) two c.push_ready-in-Some-left.ensures in
+    let fits = claim-room kernel c.args.journal.now.items c.args.tables.now c.prepare.new.self c.relocate.new.tables c.args.limit
+    c.place.inside.base c.in-Some.place
     kept c.in_ok-prepare.ensures.reserved c.relocate.ensures.table (beside-free c.args.journal.now.items c.args.avoid c.in-Some.place known)
     (frames-some which.Reserved c.args.journal.now.items c.in-Some.place known.is) c.cover.ensures.within in
-    let grew = claimed-grew kernel c.args.journal.now.items c.args.tables.now c.prepare.new.self c.relocate.new.tables c.cover.new.tables c.args.limit c.place.inside.base
+    let grew = claimed-grew kernel c.args.journal.now.items c.args.tables.now c.prepare.new.self c.relocate.new.tables c.cover.new.tables
+    c.args.limit c.place.inside.base
     (2 * c.head-head.result.room) c.in-Some.place kept moved (beside-free c.args.journal.now.items c.args.avoid c.in-Some.place known) in
     let freed : Freed c.cover.new.tables c.uncover.new.tables c.in-Some-left.range = record {
       table = c.uncover.ensures.reserved;
@@ -169,19 +194,24 @@ returns-in-Some-left-clause-kept c = λ kernel kept.
       ends = c.uncover.ensures.within;
     } in
     subst (λ (l : List Item). AreKept kernel l c.uncover.new.tables c.args.limit) (sym three)
-    (freed-kept kernel (moved_items c.args.journal.now.items c.place.inside.base (2 * c.head-head.result.room) c.in-Some.place) c.cover.new.tables c.uncover.new.tables c.args.limit c.in-Some-left.range
-    (claimed-kept kernel c.args.journal.now.items c.args.tables.now c.prepare.new.self c.relocate.new.tables c.cover.new.tables c.args.limit c.place.inside.base
+    (freed-kept kernel (moved_items c.args.journal.now.items c.place.inside.base
+    (2 * c.head-head.result.room) c.in-Some.place) c.cover.new.tables c.uncover.new.tables c.args.limit c.in-Some-left.range
+    (claimed-kept kernel c.args.journal.now.items c.args.tables.now c.prepare.new.self c.relocate.new.tables c.cover.new.tables
+    c.args.limit c.place.inside.base
     (2 * c.head-head.result.room) c.in-Some.place kept moved fits) freed
-    (freed-room c.args.tables.now c.cover.new.tables grew (few-kept which.Reserved kernel c.args.journal.now.items c.args.tables.now c.args.limit kept)
+    (freed-room c.args.tables.now c.cover.new.tables grew (few-kept which.Reserved kernel c.args.journal.now.items c.args.tables.now
+    c.args.limit kept)
     (room-least which.Reserved kernel c.args.journal.now.items c.args.tables.now c.args.limit kept)))
 
 pub returns-in-Some-left-clause-bytes : goal.returns-in-Some-left-clause-bytes
 returns-in-Some-left-clause-bytes c = λ kernel kept spelled.
     let room = ap (λ (h : Head). h.room) c.head-head.ensures.head in
     let known : IsBeside c.args.journal.now.items c.args.avoid c.in-Some.place =
-    beside-found c.requires.kept.0 c.args.journal.now.items c.args.tables.now c.args.limit c.head-head.result.room c.args.avoid c.place_beside.result
+    beside-found c.requires.kept.0 c.args.journal.now.items c.args.tables.now c.args.limit c.head-head.result.room c.args.avoid
+    c.place_beside.result
     c.in-Some.place c.requires.kept.1.kept room c.place_beside.ensures c.in-Some.is in
-    let moved : Moved c.args.journal.now.items c.args.tables.now c.prepare.new.self c.relocate.new.tables c.cover.new.tables c.args.limit c.place.inside.base c.in-Some.place = record {
+    let moved : Moved c.args.journal.now.items c.args.tables.now c.prepare.new.self c.relocate.new.tables c.cover.new.tables c.args.limit
+    c.place.inside.base c.in-Some.place = record {
       first = c.in_ok-prepare.ensures.memory;
       second = c.in_ok-prepare.ensures.reserved;
       bytes = c.in_ok-prepare.ensures.bytes;
@@ -198,11 +228,14 @@ returns-in-Some-left-clause-bytes c = λ kernel kept spelled.
     let two = journal-two c.args.journal.now c.ready.new.self c.push_ready.new.self c.push_ready-2.new.self c.place.inside.base
     (2 * c.head-head.result.room) c.in-Some.place c.in_ok-ready.ensures.items c.push_ready.ensures c.push_ready-2.ensures in
     let three = journal-three c.push_ready-2.new.self c.push_ready-in-Some-left.new.self c.in-Some-left.range
-    (moved_items c.args.journal.now.items c.place.inside.base (2 * c.head-head.result.room) c.in-Some.place) two c.push_ready-in-Some-left.ensures in
-    let fits = claim-room kernel c.args.journal.now.items c.args.tables.now c.prepare.new.self c.relocate.new.tables c.args.limit c.place.inside.base c.in-Some.place
+    (moved_items c.args.journal.now.items c.place.inside.base
+    (2 * c.head-head.result.room) c.in-Some.place) two c.push_ready-in-Some-left.ensures in
+    let fits = claim-room kernel c.args.journal.now.items c.args.tables.now c.prepare.new.self c.relocate.new.tables c.args.limit
+    c.place.inside.base c.in-Some.place
     kept c.in_ok-prepare.ensures.reserved c.relocate.ensures.table (beside-free c.args.journal.now.items c.args.avoid c.in-Some.place known)
     (frames-some which.Reserved c.args.journal.now.items c.in-Some.place known.is) c.cover.ensures.within in
-    let grew = claimed-grew kernel c.args.journal.now.items c.args.tables.now c.prepare.new.self c.relocate.new.tables c.cover.new.tables c.args.limit c.place.inside.base
+    let grew = claimed-grew kernel c.args.journal.now.items c.args.tables.now c.prepare.new.self c.relocate.new.tables c.cover.new.tables
+    c.args.limit c.place.inside.base
     (2 * c.head-head.result.room) c.in-Some.place kept moved (beside-free c.args.journal.now.items c.args.avoid c.in-Some.place known) in
     let freed : Freed c.cover.new.tables c.uncover.new.tables c.in-Some-left.range = record {
       table = c.uncover.ensures.reserved;
@@ -210,24 +243,33 @@ returns-in-Some-left-clause-bytes c = λ kernel kept spelled.
       told = c.uncover.ensures.bytes;
       ends = c.uncover.ensures.within;
     } in
-    subst (λ (l : List Item). Follows kernel c.args.journal.now.items l (byte_of c.args.tables.now.store) (byte_of c.uncover.new.tables.store)) (sym three)
-    (follows-then kernel c.args.journal.now.items (moved_items c.args.journal.now.items c.place.inside.base (2 * c.head-head.result.room) c.in-Some.place) (moved_items c.args.journal.now.items c.place.inside.base (2 * c.head-head.result.room) c.in-Some.place ++ item.Free c.in-Some-left.range ∷ [])
+    subst (λ (l : List Item). Follows kernel c.args.journal.now.items l (byte_of c.args.tables.now.store)
+    (byte_of c.uncover.new.tables.store)) (sym three)
+    (follows-then kernel c.args.journal.now.items (moved_items c.args.journal.now.items c.place.inside.base
+    (2 * c.head-head.result.room) c.in-Some.place) (moved_items c.args.journal.now.items c.place.inside.base
+    (2 * c.head-head.result.room) c.in-Some.place ++ item.Free c.in-Some-left.range ∷ [])
     (byte_of c.args.tables.now.store) (byte_of c.cover.new.tables.store) (byte_of c.uncover.new.tables.store)
-    (claimed-bytes kernel c.args.journal.now.items c.args.tables.now c.prepare.new.self c.relocate.new.tables c.cover.new.tables c.args.limit c.place.inside.base
+    (claimed-bytes kernel c.args.journal.now.items c.args.tables.now c.prepare.new.self c.relocate.new.tables c.cover.new.tables
+    c.args.limit c.place.inside.base
     (2 * c.head-head.result.room) c.in-Some.place kept moved fits)
-    (freed-bytes kernel (moved_items c.args.journal.now.items c.place.inside.base (2 * c.head-head.result.room) c.in-Some.place) c.cover.new.tables c.uncover.new.tables c.args.limit c.in-Some-left.range
-    (claimed-kept kernel c.args.journal.now.items c.args.tables.now c.prepare.new.self c.relocate.new.tables c.cover.new.tables c.args.limit c.place.inside.base
+    (freed-bytes kernel (moved_items c.args.journal.now.items c.place.inside.base
+    (2 * c.head-head.result.room) c.in-Some.place) c.cover.new.tables c.uncover.new.tables c.args.limit c.in-Some-left.range
+    (claimed-kept kernel c.args.journal.now.items c.args.tables.now c.prepare.new.self c.relocate.new.tables c.cover.new.tables
+    c.args.limit c.place.inside.base
     (2 * c.head-head.result.room) c.in-Some.place kept moved fits) freed
-    (freed-room c.args.tables.now c.cover.new.tables grew (few-kept which.Reserved kernel c.args.journal.now.items c.args.tables.now c.args.limit kept)
+    (freed-room c.args.tables.now c.cover.new.tables grew (few-kept which.Reserved kernel c.args.journal.now.items c.args.tables.now
+    c.args.limit kept)
     (room-least which.Reserved kernel c.args.journal.now.items c.args.tables.now c.args.limit kept))))
 
 pub returns-in-Some-left-clause-grew : goal.returns-in-Some-left-clause-grew
 returns-in-Some-left-clause-grew c =
     let room = ap (λ (h : Head). h.room) c.head-head.ensures.head in
     let known : IsBeside c.args.journal.now.items c.args.avoid c.in-Some.place =
-    beside-found c.requires.kept.0 c.args.journal.now.items c.args.tables.now c.args.limit c.head-head.result.room c.args.avoid c.place_beside.result
+    beside-found c.requires.kept.0 c.args.journal.now.items c.args.tables.now c.args.limit c.head-head.result.room c.args.avoid
+    c.place_beside.result
     c.in-Some.place c.requires.kept.1.kept room c.place_beside.ensures c.in-Some.is in
-    let moved : Moved c.args.journal.now.items c.args.tables.now c.prepare.new.self c.relocate.new.tables c.cover.new.tables c.args.limit c.place.inside.base c.in-Some.place = record {
+    let moved : Moved c.args.journal.now.items c.args.tables.now c.prepare.new.self c.relocate.new.tables c.cover.new.tables c.args.limit
+    c.place.inside.base c.in-Some.place = record {
       first = c.in_ok-prepare.ensures.memory;
       second = c.in_ok-prepare.ensures.reserved;
       bytes = c.in_ok-prepare.ensures.bytes;
@@ -241,42 +283,53 @@ returns-in-Some-left-clause-grew c =
       is = known.is;
       ends = c.cover.ensures.within;
     } in
-    let fits = claim-room c.requires.kept.0 c.args.journal.now.items c.args.tables.now c.prepare.new.self c.relocate.new.tables c.args.limit c.place.inside.base c.in-Some.place
-    c.requires.kept.1.kept c.in_ok-prepare.ensures.reserved c.relocate.ensures.table (beside-free c.args.journal.now.items c.args.avoid c.in-Some.place known)
+    let fits = claim-room c.requires.kept.0 c.args.journal.now.items c.args.tables.now c.prepare.new.self c.relocate.new.tables
+    c.args.limit c.place.inside.base c.in-Some.place
+    c.requires.kept.1.kept c.in_ok-prepare.ensures.reserved c.relocate.ensures.table
+    (beside-free c.args.journal.now.items c.args.avoid c.in-Some.place known)
     (frames-some which.Reserved c.args.journal.now.items c.in-Some.place known.is) c.cover.ensures.within in
-    let grew = claimed-grew c.requires.kept.0 c.args.journal.now.items c.args.tables.now c.prepare.new.self c.relocate.new.tables c.cover.new.tables c.args.limit c.place.inside.base
-    (2 * c.head-head.result.room) c.in-Some.place c.requires.kept.1.kept moved (beside-free c.args.journal.now.items c.args.avoid c.in-Some.place known) in
+    let grew = claimed-grew c.requires.kept.0 c.args.journal.now.items c.args.tables.now c.prepare.new.self c.relocate.new.tables
+    c.cover.new.tables c.args.limit c.place.inside.base
+    (2 * c.head-head.result.room) c.in-Some.place c.requires.kept.1.kept moved
+    (beside-free c.args.journal.now.items c.args.avoid c.in-Some.place known) in
     let freed : Freed c.cover.new.tables c.uncover.new.tables c.in-Some-left.range = record {
       table = c.uncover.ensures.reserved;
       other = c.uncover.ensures.memory;
       told = c.uncover.ensures.bytes;
       ends = c.uncover.ensures.within;
     } in
-    freed-grown c.requires.kept.0 (moved_items c.args.journal.now.items c.place.inside.base (2 * c.head-head.result.room) c.in-Some.place) c.args.tables.now c.cover.new.tables c.uncover.new.tables c.args.limit
-    c.in-Some-left.range (claimed-kept c.requires.kept.0 c.args.journal.now.items c.args.tables.now c.prepare.new.self c.relocate.new.tables c.cover.new.tables c.args.limit c.place.inside.base
+    freed-grown c.requires.kept.0 (moved_items c.args.journal.now.items c.place.inside.base
+    (2 * c.head-head.result.room) c.in-Some.place) c.args.tables.now c.cover.new.tables c.uncover.new.tables c.args.limit
+    c.in-Some-left.range (claimed-kept c.requires.kept.0 c.args.journal.now.items c.args.tables.now c.prepare.new.self
+    c.relocate.new.tables c.cover.new.tables c.args.limit c.place.inside.base
     (2 * c.head-head.result.room) c.in-Some.place c.requires.kept.1.kept moved fits) grew freed
 
 pub returns-in-None-clause-ends : goal.returns-in-None-clause-ends
 returns-in-None-clause-ends c =
     let room = ap (λ (h : Head). h.room) c.head-head.ensures.head in
     let known : IsBeside c.args.journal.now.items c.args.avoid c.in-Some.place =
-    beside-found c.requires.kept.0 c.args.journal.now.items c.args.tables.now c.args.limit c.head-head.result.room c.args.avoid c.place_beside.result
+    beside-found c.requires.kept.0 c.args.journal.now.items c.args.tables.now c.args.limit c.head-head.result.room c.args.avoid
+    c.place_beside.result
     c.in-Some.place c.requires.kept.1.kept room c.place_beside.ensures c.in-Some.is in
     let two = journal-two c.args.journal.now c.ready.new.self c.push_ready.new.self c.push_ready-2.new.self c.place.inside.base
     (2 * c.head-head.result.room) c.in-Some.place c.in_ok-ready.ensures.items c.push_ready.ensures c.push_ready-2.ensures in
-    let left = left-found which.Reserved c.requires.kept.0 c.args.journal.now.items c.args.tables.now c.args.limit c.head-head.result c.left_place-left.result
+    let left = left-found which.Reserved c.requires.kept.0 c.args.journal.now.items c.args.tables.now c.args.limit c.head-head.result
+    c.left_place-left.result
     c.requires.kept.1.kept c.head-head.ensures.head c.left_place-left.ensures in
     subst (λ (l : List Item). Ends {T = Unit {0}} (Ok tt) c.args.journal.now.items l (reserved_growth c.args.avoid)) (sym two)
     (written-two c.args.journal.now.items c.place.inside.base (2 * c.head-head.result.room) c.args.avoid c.in-Some.place known
-    (ap (λ (e : Extent). e.base) c.place.view_is) (twice-is which.Reserved c.requires.kept.0 c.args.journal.now.items c.args.tables.now c.args.limit c.head-head.result.room c.requires.kept.1.kept room) (sym left ∙ c.in-None.is))
+    (ap (λ (e : Extent). e.base) c.place.view_is) (twice-is which.Reserved c.requires.kept.0 c.args.journal.now.items c.args.tables.now
+    c.args.limit c.head-head.result.room c.requires.kept.1.kept room) (sym left ∙ c.in-None.is))
 
 pub returns-in-None-clause-kept : goal.returns-in-None-clause-kept
 returns-in-None-clause-kept c = λ kernel kept.
     let room = ap (λ (h : Head). h.room) c.head-head.ensures.head in
     let known : IsBeside c.args.journal.now.items c.args.avoid c.in-Some.place =
-    beside-found c.requires.kept.0 c.args.journal.now.items c.args.tables.now c.args.limit c.head-head.result.room c.args.avoid c.place_beside.result
+    beside-found c.requires.kept.0 c.args.journal.now.items c.args.tables.now c.args.limit c.head-head.result.room c.args.avoid
+    c.place_beside.result
     c.in-Some.place c.requires.kept.1.kept room c.place_beside.ensures c.in-Some.is in
-    let moved : Moved c.args.journal.now.items c.args.tables.now c.prepare.new.self c.relocate.new.tables c.cover.new.tables c.args.limit c.place.inside.base c.in-Some.place = record {
+    let moved : Moved c.args.journal.now.items c.args.tables.now c.prepare.new.self c.relocate.new.tables c.cover.new.tables c.args.limit
+    c.place.inside.base c.in-Some.place = record {
       first = c.in_ok-prepare.ensures.memory;
       second = c.in_ok-prepare.ensures.reserved;
       bytes = c.in_ok-prepare.ensures.bytes;
@@ -292,19 +345,24 @@ returns-in-None-clause-kept c = λ kernel kept.
     } in
     let two = journal-two c.args.journal.now c.ready.new.self c.push_ready.new.self c.push_ready-2.new.self c.place.inside.base
     (2 * c.head-head.result.room) c.in-Some.place c.in_ok-ready.ensures.items c.push_ready.ensures c.push_ready-2.ensures in
-    let fits = claim-room kernel c.args.journal.now.items c.args.tables.now c.prepare.new.self c.relocate.new.tables c.args.limit c.place.inside.base c.in-Some.place
+    let fits = claim-room kernel c.args.journal.now.items c.args.tables.now c.prepare.new.self c.relocate.new.tables c.args.limit
+    c.place.inside.base c.in-Some.place
     kept c.in_ok-prepare.ensures.reserved c.relocate.ensures.table (beside-free c.args.journal.now.items c.args.avoid c.in-Some.place known)
     (frames-some which.Reserved c.args.journal.now.items c.in-Some.place known.is) c.cover.ensures.within in
-    subst (λ (l : List Item). AreKept kernel l c.cover.new.tables c.args.limit) (sym two) (claimed-kept kernel c.args.journal.now.items c.args.tables.now c.prepare.new.self c.relocate.new.tables c.cover.new.tables c.args.limit c.place.inside.base
+    subst (λ (l : List Item). AreKept kernel l c.cover.new.tables c.args.limit) (sym two)
+    (claimed-kept kernel c.args.journal.now.items c.args.tables.now c.prepare.new.self c.relocate.new.tables c.cover.new.tables
+    c.args.limit c.place.inside.base
     (2 * c.head-head.result.room) c.in-Some.place kept moved fits)
 
 pub returns-in-None-clause-bytes : goal.returns-in-None-clause-bytes
 returns-in-None-clause-bytes c = λ kernel kept spelled.
     let room = ap (λ (h : Head). h.room) c.head-head.ensures.head in
     let known : IsBeside c.args.journal.now.items c.args.avoid c.in-Some.place =
-    beside-found c.requires.kept.0 c.args.journal.now.items c.args.tables.now c.args.limit c.head-head.result.room c.args.avoid c.place_beside.result
+    beside-found c.requires.kept.0 c.args.journal.now.items c.args.tables.now c.args.limit c.head-head.result.room c.args.avoid
+    c.place_beside.result
     c.in-Some.place c.requires.kept.1.kept room c.place_beside.ensures c.in-Some.is in
-    let moved : Moved c.args.journal.now.items c.args.tables.now c.prepare.new.self c.relocate.new.tables c.cover.new.tables c.args.limit c.place.inside.base c.in-Some.place = record {
+    let moved : Moved c.args.journal.now.items c.args.tables.now c.prepare.new.self c.relocate.new.tables c.cover.new.tables c.args.limit
+    c.place.inside.base c.in-Some.place = record {
       first = c.in_ok-prepare.ensures.memory;
       second = c.in_ok-prepare.ensures.reserved;
       bytes = c.in_ok-prepare.ensures.bytes;
@@ -320,20 +378,25 @@ returns-in-None-clause-bytes c = λ kernel kept spelled.
     } in
     let two = journal-two c.args.journal.now c.ready.new.self c.push_ready.new.self c.push_ready-2.new.self c.place.inside.base
     (2 * c.head-head.result.room) c.in-Some.place c.in_ok-ready.ensures.items c.push_ready.ensures c.push_ready-2.ensures in
-    let fits = claim-room kernel c.args.journal.now.items c.args.tables.now c.prepare.new.self c.relocate.new.tables c.args.limit c.place.inside.base c.in-Some.place
+    let fits = claim-room kernel c.args.journal.now.items c.args.tables.now c.prepare.new.self c.relocate.new.tables c.args.limit
+    c.place.inside.base c.in-Some.place
     kept c.in_ok-prepare.ensures.reserved c.relocate.ensures.table (beside-free c.args.journal.now.items c.args.avoid c.in-Some.place known)
     (frames-some which.Reserved c.args.journal.now.items c.in-Some.place known.is) c.cover.ensures.within in
-    subst (λ (l : List Item). Follows kernel c.args.journal.now.items l (byte_of c.args.tables.now.store) (byte_of c.cover.new.tables.store)) (sym two)
-    (claimed-bytes kernel c.args.journal.now.items c.args.tables.now c.prepare.new.self c.relocate.new.tables c.cover.new.tables c.args.limit c.place.inside.base
+    subst (λ (l : List Item). Follows kernel c.args.journal.now.items l (byte_of c.args.tables.now.store)
+    (byte_of c.cover.new.tables.store)) (sym two)
+    (claimed-bytes kernel c.args.journal.now.items c.args.tables.now c.prepare.new.self c.relocate.new.tables c.cover.new.tables
+    c.args.limit c.place.inside.base
     (2 * c.head-head.result.room) c.in-Some.place kept moved fits)
 
 pub returns-in-None-clause-grew : goal.returns-in-None-clause-grew
 returns-in-None-clause-grew c =
     let room = ap (λ (h : Head). h.room) c.head-head.ensures.head in
     let known : IsBeside c.args.journal.now.items c.args.avoid c.in-Some.place =
-    beside-found c.requires.kept.0 c.args.journal.now.items c.args.tables.now c.args.limit c.head-head.result.room c.args.avoid c.place_beside.result
+    beside-found c.requires.kept.0 c.args.journal.now.items c.args.tables.now c.args.limit c.head-head.result.room c.args.avoid
+    c.place_beside.result
     c.in-Some.place c.requires.kept.1.kept room c.place_beside.ensures c.in-Some.is in
-    let moved : Moved c.args.journal.now.items c.args.tables.now c.prepare.new.self c.relocate.new.tables c.cover.new.tables c.args.limit c.place.inside.base c.in-Some.place = record {
+    let moved : Moved c.args.journal.now.items c.args.tables.now c.prepare.new.self c.relocate.new.tables c.cover.new.tables c.args.limit
+    c.place.inside.base c.in-Some.place = record {
       first = c.in_ok-prepare.ensures.memory;
       second = c.in_ok-prepare.ensures.reserved;
       bytes = c.in_ok-prepare.ensures.bytes;
@@ -347,6 +410,8 @@ returns-in-None-clause-grew c =
       is = known.is;
       ends = c.cover.ensures.within;
     } in
-    let grew = claimed-grew c.requires.kept.0 c.args.journal.now.items c.args.tables.now c.prepare.new.self c.relocate.new.tables c.cover.new.tables c.args.limit c.place.inside.base
-    (2 * c.head-head.result.room) c.in-Some.place c.requires.kept.1.kept moved (beside-free c.args.journal.now.items c.args.avoid c.in-Some.place known) in
+    let grew = claimed-grew c.requires.kept.0 c.args.journal.now.items c.args.tables.now c.prepare.new.self c.relocate.new.tables
+    c.cover.new.tables c.args.limit c.place.inside.base
+    (2 * c.head-head.result.room) c.in-Some.place c.requires.kept.1.kept moved
+    (beside-free c.args.journal.now.items c.args.avoid c.in-Some.place known) in
     claimed-grown c.args.tables.now c.cover.new.tables grew

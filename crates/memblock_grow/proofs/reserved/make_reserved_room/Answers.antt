@@ -1,4 +1,4 @@
-use Rattle.std.proofs.Common.{◌≡◌, Ok, sym, ◌∙◌, ap, ◌⊎◌}
+use Rattle.std.proofs.Common.{ap, ◌⊎◌}
 use Rattle.memblock_model.specs.declared.which.Which.TheVariants as which
 use Rattle.memblock_ranges.specs.Tables.{Contents}
 use Rattle.growth_model.specs.Outcome.{if_due}
@@ -26,7 +26,8 @@ grow_reserved_once-requires-2 c =
 pub returns-clause-ends : goal.returns-clause-ends
 returns-clause-ends c =
     let once = if_due (is_full which.Reserved (more_by which.Reserved c.args.more.now)) (reserved_growth c.args.avoid) in
-    Ends-second {T = Unit {0}} {U = Unit {0}} tt c.grow_reserved_once-2.result c.args.journal.now.items c.grow_reserved_once.new.journal.items
+    Ends-second {T = Unit {0}} {U = Unit {0}} tt c.grow_reserved_once-2.result c.args.journal.now.items
+    c.grow_reserved_once.new.journal.items
     c.grow_reserved_once-2.new.journal.items once once c.in_ok-grow_reserved_once.ensures.ends c.grow_reserved_once-2.ensures.ends
 
 pub returns-clause-kept : goal.returns-clause-kept
