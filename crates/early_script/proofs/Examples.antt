@@ -1,5 +1,5 @@
 -- Two live IDs in a small machine, and what each act makes of them.
-use Rattle.std.proofs.Common.{◌≡◌, ℕ, ◌<◌, ◌++◌, Bool, true, false, Some, None, List, [], ◌∷◌, Ok, refl, arith, lit<}
+use Rattle.std.proofs.Common.{◌≡◌, ℕ, ◌<◌, ◌++◌, true, false, Some, None, List, [], ◌∷◌, refl, arith, lit<}
 use Rattle.bm_base.specs.Extent.{Extent}
 use Rattle.bm_base.specs.Each.{each_from, each_in}
 use Rattle.memblock_model.specs.declared.which.Which.TheVariants as which
@@ -13,11 +13,10 @@ use Rattle.growth_model.specs.Outcome.{Refused}
 use Rattle.growth_model.specs.Bytes.{Filled}
 use Rattle.phys_store.specs.Bytes.{bytes_at}
 use Rattle.early_script.specs.declared.outcome.Outcome.TheVariants as outcomes
-use Rattle.early_script.specs.declared.outcome.Answer.{Answer}
 use Rattle.early_script.specs.Ids.{Ids, range_of, is_live, with_range, without, HaveBytes}
 use Rattle.early_script.specs.Owned.{is_owned, meets, touches}
-use Rattle.early_script.specs.Acted.{State, Deed, answers, request_of, alloc_at, alloc_deed, reserve_deed, free_whole, free_deed, trim_whole, trim_deed, fill_whole, fill_deed, peek_deed, deed, answer_to, ids_to, state_by, answer_of, state_after, put_by, with_fill}
-use Rattle.early_script.specs.Stage.{Stage, after_line, after_lines}
+use Rattle.early_script.specs.Acted.{State, answers, alloc_at, reserve_deed, free_whole, free_deed, trim_deed, fill_whole, fill_deed, peek_deed, deed, answer_to, ids_to, state_by, answer_of, state_after, put_by, with_fill}
+use Rattle.early_script.specs.Stage.{after_lines}
 
 abbrev at_base : ℕ → ℕ → Extent
 at_base base size = record { base = base; size = size }

@@ -88,8 +88,11 @@ touched : (kernel : Extent) (items : List Item) (range : Extent) → touches ker
 touched kernel items range h =
     elim (cases_Bool (meets range (live which.Memory kernel items))) as (λ _. (w : Which) × Meet (live w kernel items) range) [
       | inl first ↦ (which.Memory, meets-meet range (live which.Memory kernel items) first)
-      | inr none ↦ (which.Reserved, meets-meet range (live which.Reserved kernel items)
-        (or_other (meets range (live which.Memory kernel items)) (meets range (live which.Reserved kernel items)) none h))
+      | inr none ↦ (
+        which.Reserved,
+        meets-meet range (live which.Reserved kernel items)
+            (or_other (meets range (live which.Memory kernel items)) (meets range (live which.Reserved kernel items)) none h),
+      )
     ]
 
 pub touches-is : (kernel : Extent) (items : List Item) (range : Extent) (b : Bool) →

@@ -24,10 +24,10 @@ power_within (suc most) n small one =
       | inl odd ↦ (0, one_left n odd (zero_from_ones (n / 2) (omega (arith, step, one, odd))))
       | inr even ↦ elim (cases_lt 0 (n / 2)) as (λ _. (k : ℕ) × (n ≡ 2 ^ k)) [
         | inl some ↦
-          let half = power_within most (n / 2) (omega arith) (omega (arith, step, one, even)) in
-          (half.0 + 1, doubled n half.0 (omega arith) half.1)
+            let half = power_within most (n / 2) (omega arith) (omega (arith, step, one, even)) in
+            (half.0 + 1, doubled n half.0 (omega arith) half.1)
         | inr none ↦
-          absurd (let bits : count_ones (n / 2) ≡ 0 = none_set (n / 2) (omega arith) in omega (arith, step, one, even, bits))
+            absurd (let bits : count_ones (n / 2) ≡ 0 = none_set (n / 2) (omega arith) in omega (arith, step, one, even, bits))
       ]
     ]
 

@@ -19,6 +19,8 @@ mod live;
 mod outcome;
 mod stage;
 mod steps;
+#[cfg(test)]
+mod tests;
 
 pub use laws::lines_leave_memory;
 pub use live::Live;

@@ -36,7 +36,7 @@ impl Model for Live {
 }
 
 impl Live {
-    ghost use Rattle.early_script.specs.Ids.{with_range};
+    ghost use Rattle.early_script.specs.Ids.{is_live as has_range, with_range};
     ghost use Rattle.early_script.specs.Acted.{Deed as AnyDeed, Acts, IsRun, byte_by, fills_by, answers, request_of, on_whole, deed, alloc_deed, reserve_deed, free_deed, trim_deed, fill_deed};
     ghost use Rattle.early_script.specs.Found.{state_of, bytes_in};
 
@@ -82,7 +82,7 @@ impl Live {
         ensures bytes { Follows mb.old.kernel mb.old.journal.items mb.new.journal.items (bytes_in mb.old) (bytes_in mb.new) }
     {
         stand_still(mb);
-        if self.ids.contains_key(&id) {
+        if self.is_live(id) {
             return Ok(Outcome::Taken);
         }
         match mb.alloc(request, Owner::Script(id)) {
@@ -106,7 +106,7 @@ impl Live {
         ensures bytes { Follows mb.old.kernel mb.old.journal.items mb.new.journal.items (bytes_in mb.old) (bytes_in mb.new) }
     {
         stand_still(mb);
-        if self.ids.contains_key(&id) {
+        if self.is_live(id) {
             return Ok(Outcome::Taken);
         }
         if touches(mb, range) {
@@ -184,6 +184,13 @@ impl Live {
         }
         mb.fill(range, byte)?;
         Ok(Outcome::Done)
+    }
+
+    /// Whether the ID has a range.
+    fn is_live(&self, id: u32) -> bool
+        ensures { result ≡ has_range self.now id }
+    {
+        self.ids.contains_key(&id)
     }
 
     /// The ID has the range, whatever it had.

@@ -5,7 +5,7 @@ use memblock_model::Which;
 
 /// What comes of a line. After an answer below `Bytes` nothing has changed, but for `NoGapForTable`: what
 /// the growth completed stays.
-#[derive(Debug, Drop)]
+#[derive(Debug, Drop, PartialEq, Eq)]
 pub enum Outcome {
     /// The ID has the place at the address.
     At(u64),
@@ -33,7 +33,7 @@ pub enum Outcome {
 }
 
 /// What came of the line of that number.
-#[derive(Debug, Drop)]
+#[derive(Debug, Drop, PartialEq, Eq)]
 pub struct Answer {
     pub line: u32,
     pub outcome: Outcome,

@@ -17,7 +17,12 @@ use script_reader::Line;
 /// Runs the lines in their order and appends what came of each. A refused line is answered like any
 /// other. For want of memory some of the lines, from the first on, have been run, and maybe a part of
 /// the next.
-pub fn run_lines(live: &mut Live, mb: &mut Memblock, lines: &[Line], answers: &mut Vec<Answer>) -> Result<(), Memory>
+pub fn run_lines(
+    live: &mut Live,
+    mb: &mut Memblock,
+    lines: &[Line],
+    answers: &mut Vec<Answer>,
+) -> Result<(), Memory>
     requires begun { HasBegun mb.old.journal.items }
     requires run { All (λ l. IsRun l.act) lines.now }
     requires bounds { All (λ l. HasBounds l.act) lines.now }
