@@ -7,6 +7,7 @@ use Rattle.e820_table.specs.declared.zero_page.ZeroFault.TheVariants as zero
 use Rattle.e820_table.specs.declared.extension.ExtFault.TheVariants as extension
 use Rattle.e820_table.specs.Entries.{entry_at}
 use Rattle.e820_table.specs.Initrd.{initrd_of, is_initrd_far}
+use Rattle.boot_options.specs.Crash.{no_crash}
 use Rattle.bm_base.specs.Extent.{Extent}
 use Rattle.boot_options.specs.declared.fault.OptionFault.TheVariants as options
 use Rattle.boot_inputs.specs.declared.fault.Fault.TheVariants as faults
@@ -83,7 +84,7 @@ extension_is_said = refl
 bad_extension_said : extension_said (replicate 15 0) ≡ Err faults.Header
 bad_extension_said = refl
 
-line_said : (command_line_said (codes "quiet numa=off\n") ≡ Ok (record { edits = []; numa_off = true }))
+line_said : (command_line_said (codes "quiet numa=off\n") ≡ Ok (record { edits = []; crash = no_crash; numa_off = true }))
     × (command_line_said (codes "numa=on") ≡ Err (faults.BadNuma 1))
 line_said = (refl, refl)
 
@@ -122,7 +123,8 @@ unread_examples : (or_unread {A = List ℕ} inputs.ZeroPage None (λ bytes. Ok b
     × (or_unread inputs.ZeroPage (Some (codes "a")) (λ bytes. Ok bytes) ≡ Ok (codes "a"))
 unread_examples = (refl, refl)
 
-file_examples : (file_step held inputs.CommandLine command_line_said (codes "cmd") ≡ Ok (record { edits = []; numa_off = true }))
+file_examples : (file_step held inputs.CommandLine command_line_said (codes "cmd")
+    ≡ Ok (record { edits = []; crash = no_crash; numa_off = true }))
     × (file_step held inputs.CommandLine command_line_said (codes "no") ≡ Err (refusals.Unread inputs.CommandLine))
 file_examples = (refl, refl)
 
@@ -143,7 +145,7 @@ all_inputs : inputs_of held (naming (codes "zp") (Some (codes "ext")) (Some (cod
       entries = ram ∷ reserved ∷ [];
       initrd = None;
       extension = acpi ∷ [];
-      options = record { edits = []; numa_off = true };
+      options = record { edits = []; crash = no_crash; numa_off = true };
       kernel = image;
     })
 unfolding entry_at initrd_of is_initrd_far

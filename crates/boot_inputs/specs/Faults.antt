@@ -29,6 +29,7 @@ fault_of_option options.TooLong = Some faults.LineTooLong
 fault_of_option options.OpenQuote = Some faults.OpenQuote
 fault_of_option (options.BadMem word) = Some (faults.BadMem word)
 fault_of_option (options.BadMemmap word) = Some (faults.BadMemmap word)
+fault_of_option (options.BadCrash word) = Some (faults.BadCrash word)
 fault_of_option (options.UserMapInvalid word) = Some (faults.UserMapInvalid word)
 fault_of_option (options.BadNuma word) = Some (faults.BadNuma word)
 fault_of_option options.Memory = None

@@ -5,6 +5,7 @@ use Rattle.e820_model.specs.declared.entry.Entry.{Entry}
 use Rattle.e820_table.specs.Extension.{ext_fault, ext_entries_of}
 use Rattle.e820_table.specs.ZeroPage.{Page, page_of, zero_fault}
 use Rattle.boot_options.specs.declared.fault.OptionFault.{OptionFault}
+use Rattle.boot_options.specs.Crash.{no_crash}
 use Rattle.boot_options.specs.Options.{Chosen, options_of}
 use Rattle.boot_inputs.specs.declared.fault.Fault.{Fault}
 use Rattle.boot_inputs.specs.Faults.{fault_of_extension, fault_of_option, fault_of_zero_page}
@@ -26,7 +27,7 @@ extension_said bytes = unless_fault (option_and_then fault_of_extension (ext_fau
 
 -- a command line of no words
 abbrev pub no_options : Chosen
-no_options = record { edits = []; numa_off = false }
+no_options = record { edits = []; crash = no_crash; numa_off = false }
 
 -- bytes never say that memory is wanting, so what stands there for it is of no account
 abbrev pub fault_told : Result Chosen OptionFault → Result Chosen Fault

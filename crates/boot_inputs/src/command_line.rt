@@ -11,7 +11,7 @@ ghost use Rattle.boot_inputs.specs.declared.input.Input.TheVariants as inputs;
 use crate::fault::{Misread, fault_of_option};
 use crate::input::Input;
 use crate::reader::Reader;
-use boot_options::{Options, read_options};
+use boot_options::{CrashOption, Options, read_options};
 use std::alloc::Global;
 
 /// Reads a command line; where none is named it has no words.
@@ -46,6 +46,11 @@ impl Reader for CommandLines {
     fn without(alloc: Global) -> Options {
         Options {
             edits: Vec::new(alloc),
+            crash: CrashOption {
+                plain: None,
+                high: None,
+                low: None,
+            },
             numa_off: false,
         }
     }

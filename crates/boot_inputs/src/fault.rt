@@ -35,6 +35,8 @@ pub enum Fault {
     BadMem { word: u32 },
     /// The word is a malformed `memmap=`.
     BadMemmap { word: u32 },
+    /// The word is a malformed `crashkernel=`.
+    BadCrash { word: u32 },
     /// Fewer than two adding map options follow the last `exactmap`, which stands in this word.
     UserMapInvalid { word: u32 },
     /// The word is a malformed `numa=`.
@@ -96,6 +98,7 @@ pub fn fault_of_option(fault: OptionFault) -> Option<Fault>
         OptionFault::OpenQuote => Some(Fault::OpenQuote),
         OptionFault::BadMem { word } => Some(Fault::BadMem { word }),
         OptionFault::BadMemmap { word } => Some(Fault::BadMemmap { word }),
+        OptionFault::BadCrash { word } => Some(Fault::BadCrash { word }),
         OptionFault::UserMapInvalid { word } => Some(Fault::UserMapInvalid { word }),
         OptionFault::BadNuma { word } => Some(Fault::BadNuma { word }),
         OptionFault::Memory => None,

@@ -14,6 +14,7 @@ use Rattle.boot_model.specs.declared.limit.TheConstants.{MAX_PHYSMEM}
 use Rattle.e820_model.proofs.ClaimLaws.{greatest_is, map_runs}
 use Rattle.e820_model.proofs.UsableLaws.{count_none, usable_but}
 use Rattle.e820_usable.specs.declared.stop.MapStop.TheVariants as reasons
+use Rattle.boot_options.specs.Crash.{no_crash}
 use Rattle.boot_options.specs.Options.{Chosen, chosen}
 use Rattle.memblock_model.specs.declared.which.Which.TheVariants as which
 use Rattle.memblock_model.specs.declared.item.Item.TheVariants as item
@@ -45,7 +46,7 @@ abbrev two_runs : List (RunOf ℕ)
 two_runs = record { base = 0x1000; size = 0x1000; value = 1 } ∷ record { base = 0x2000; size = 0x1000; value = 2 } ∷ []
 
 abbrev no_options : Chosen
-no_options = record { edits = []; numa_off = false }
+no_options = record { edits = []; crash = no_crash; numa_off = false }
 
 abbrev made : Made
 made = record { map = two_runs; options = no_options; items = [] }

@@ -13,8 +13,10 @@ use Rattle.boot_options.specs.declared.map_option.MapOption.TheVariants.{ExactMa
 use Rattle.boot_options.specs.declared.reading.Reading.{Reading}
 use Rattle.boot_options.specs.declared.reading.UserMap.{UserMap}
 use Rattle.boot_options.specs.MapOptions.{number_and_rest, front_size, front_number, at_end, whole_size, range_at, unless_empty, range_above, ram_above, adding_option, small_kind, kind_behind, retyped_to, retyped_from, retyped, changed, by_mark, sized_map_option, map_option_of, ram_up_to, mem_of, Spell, SpellsType}
+use Rattle.boot_options.specs.Crash.{crash_view, no_crash}
+use Rattle.boot_options.specs.Kept.{Keeps}
 use Rattle.boot_options.specs.Options.{raw_line, is_closed, checked_line, line_of, Said, OfMap, NumaOff, map_options_of, memmap_of, of_one, numa_of, or_fault, said_by, at_cut, name_value_of, until_end, option_words, said_from, numbered, all_map_options, edit_of, edits_of, is_numa_off, count_adding, or_here, last_exact, Chosen, chosen, chosen_by, unless_incomplete, with_user_map, options_of, HasRange, HaveRanges, IsNumbered}
-use Rattle.boot_options.specs.Reading.{start, one_fewer, user_map_behind, after_map_option, after_map_options, after, after_all, read_on, read_all, read_map_options, when_complete, at_line_end, KeepsEdits, IsAt, IsAtSome, ReadsAs}
+use Rattle.boot_options.specs.Reading.{start, one_fewer, user_map_behind, after_map_option, after_map_options, after, after_all, read_on, read_all, read_map_options, when_complete, at_line_end, IsAt, IsAtSome, ReadsAs}
 
 abbrev range : ℕ → ℕ → Extent
 range base size = record { base = base; size = size }
@@ -288,36 +290,39 @@ here_or_behind = (refl, refl, refl)
 
 -- a user map wants two adding map options
 abbrev nothing_chosen : Chosen
-nothing_chosen = record { edits = []; numa_off = false }
+nothing_chosen = record { edits = []; crash = no_crash; numa_off = false }
 
 user_maps : (unless_incomplete nothing_chosen (Some (3, 1)) ≡ Err (faults.UserMapInvalid 3))
     × (unless_incomplete nothing_chosen (Some (3, 2)) ≡ Ok nothing_chosen) × (unless_incomplete nothing_chosen None ≡ Ok nothing_chosen)
 user_maps = (refl, refl, refl)
 
-words_with_user_maps : (with_user_map three_words ≡ Ok (record { edits = Clear ∷ Add (range 0 8) 1 ∷ []; numa_off = true }))
+words_with_user_maps : (with_user_map three_words
+    ≡ Ok (record { edits = Clear ∷ Add (range 0 8) 1 ∷ []; crash = no_crash; numa_off = true }))
     × (with_user_map ((1, OfMap (ExactMap ∷ a_page ∷ [])) ∷ []) ≡ Err (faults.UserMapInvalid 1))
 words_with_user_maps = (refl, refl)
 
 -- what contracts see of options: the edits, without the vector that holds them, and whether the SRAT is read
 chosen_options : (options : Options) → options.edits.items ≡ Clear ∷ [] → options.numa_off ≡ true
-    → chosen options ≡ record { edits = Clear ∷ []; numa_off = true }
+    → chosen options ≡ record { edits = Clear ∷ []; crash = crash_view options.crash; numa_off = true }
 chosen_options options edits off = rw (edits, off) refl
 
-chosen_nothing : (options : Options) → options.edits.items ≡ [] → options.numa_off ≡ false → chosen options ≡ nothing_chosen
-chosen_nothing options edits on = rw (edits, on) refl
+chosen_nothing : (options : Options) → options.edits.items ≡ [] → crash_view options.crash ≡ no_crash → options.numa_off ≡ false
+    → chosen options ≡ nothing_chosen
+chosen_nothing options edits none on = rw (edits, none, on) refl
 
-chosen_words : (chosen_by [] ≡ nothing_chosen) × (chosen_by ((2, NumaOff) ∷ []) ≡ record { edits = []; numa_off = true })
+chosen_words : (chosen_by [] ≡ nothing_chosen) × (chosen_by ((2, NumaOff) ∷ []) ≡ record { edits = []; crash = no_crash; numa_off = true })
 chosen_words = (refl, refl)
 
 -- whole lines
 options_of_a_line : options_of (codes "quiet mem=4G memmap=1G!2G\n")
     ≡ Ok (record {
       edits = Remove (range 0x100000000 (2 ^ 64 - 1 - 0x100000000)) 1 ∷ Add (range 0x80000000 0x40000000) 12 ∷ [];
+      crash = no_crash;
       numa_off = false;
     })
 options_of_a_line = refl
 
-nothing_behind_the_end : options_of (codes "numa=off -- mem=0") ≡ Ok (record { edits = []; numa_off = true })
+nothing_behind_the_end : options_of (codes "numa=off -- mem=0") ≡ Ok (record { edits = []; crash = no_crash; numa_off = true })
 nothing_behind_the_end = refl
 
 third_word_is_faulty : options_of (codes "quiet mem=2G memmap=1G!4X\n") ≡ Err (faults.BadMemmap 3)
@@ -344,7 +349,12 @@ numbered_faults = (omega arith, tt)
 
 -- a line half read: behind `exactmap` two adding map options are wanted, and each one that is read is one fewer
 read_three_words : after_all start three_words
-    ≡ record { edits = Clear ∷ Add (range 0 8) 1 ∷ []; numa_off = true; user_map = Some (record { word = 1; wanting = 0 }) }
+    ≡ record {
+      edits = Clear ∷ Add (range 0 8) 1 ∷ [];
+      crash = no_crash;
+      numa_off = true;
+      user_map = Some (record { word = 1; wanting = 0 });
+    }
 read_three_words = refl
 
 none_wanted : (at_line_end (after_all start three_words) ≡ with_user_map three_words)
@@ -371,7 +381,7 @@ complete_or_not = (refl, refl, refl)
 
 steps_of_a_word : (after_map_options 3 start [] ≡ start)
     × (after_map_options 3 start (ExactMap ∷ a_page ∷ []) ≡ after_map_option 3 (after_map_option 3 start ExactMap) a_page)
-    × (after 2 start NumaOff ≡ record { edits = []; numa_off = true; user_map = None })
+    × (after 2 start NumaOff ≡ record { edits = []; crash = no_crash; numa_off = true; user_map = None })
 steps_of_a_word = (refl, refl, refl)
 
 read_or_fault : (read_on 2 start (Err (faults.BadMem 2)) ≡ Err (faults.BadMem 2))
@@ -383,21 +393,22 @@ read_all_or_fault : (read_all start (Err (faults.BadMem 2)) ≡ Err (faults.BadM
 read_all_or_fault = (refl, refl)
 
 -- the reader keeps the edits of its state; where it ran out of memory, its state has some
-edits_are_kept : (kept : Vec Edit Global) → kept.items ≡ Clear ∷ [] → KeepsEdits (Ok kept) (Clear ∷ [])
+edits_are_kept : (kept : Vec Edit Global) → kept.items ≡ Clear ∷ [] → Keeps (Ok kept) (Clear ∷ [])
 edits_are_kept kept is = is
 
-memory_ran_out : (m : Memory) → KeepsEdits (Err m) (Clear ∷ [])
+memory_ran_out : (m : Memory) → Keeps (Err m) (Clear ∷ [])
 memory_ran_out m = omega arith
 
-nothing_to_keep : (m : Memory) → KeepsEdits (Err m) [] → ⊥
+nothing_to_keep : (m : Memory) → Keeps {A = Edit} (Err m) [] → ⊥
 nothing_to_keep m wanting = omega arith
 
 abbrev half_read : Memory → Reading
-half_read m = record { edits = Err m; numa_off = true; user_map = None }
+half_read m = record { edits = Err m; crash = record { plain = None; high = None; low = None }; numa_off = true; user_map = None }
 
 -- all but the edits it has, also without memory
 at_a_state_without_memory : (m : Memory) → IsAt (half_read m) (after 1 (after_map_option 1 start (Other (Some Clear))) NumaOff)
-at_a_state_without_memory m = record { edits = omega arith; numa_off = refl; user_map = refl }
+at_a_state_without_memory m =
+    record { edits = omega arith; crash = record { plain = refl; high = refl; low = refl }; numa_off = refl; user_map = refl }
 
 other_numa_off : (m : Memory) → IsAt (half_read m) (after_map_option 1 start (Other (Some Clear))) → ⊥
 other_numa_off m has = let off = has.numa_off in cc off

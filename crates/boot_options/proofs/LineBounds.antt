@@ -1,7 +1,7 @@
 -- What the options of a line keep: types above 0, ranges with an address, words from 1 on.
 use Rattle.std.proofs.Common.{◌≡◌, ◌≢◌, ℕ, ◌+◌, ◌<◌, nat_lt, if◌then◌else◌, Bool, true, false, Option, Some, None, List, [], ◌∷◌, length, Result, Ok, Err, IfSome, IfOk, IfErr, arith, codes}
 use Rattle.std.specs.List.{cons_option}
-use Rattle.std.specs.Option.{option_and_then}
+use Rattle.std.specs.Option.{option_and_then, option_map, option_or}
 use Rattle.std.specs.Str.{bytes_eq}
 use Rattle.e820_model.specs.Claims.{HaveTypes}
 use Rattle.e820_model.specs.declared.edit.Edit.{Edit}
@@ -15,11 +15,15 @@ use Rattle.boot_options.specs.declared.options.Options.{Options}
 use Rattle.boot_options.specs.declared.map_option.MapOption.{MapOption}
 use Rattle.boot_options.specs.declared.map_option.MapOption.TheVariants.{ExactMap, Adding, Other}
 use Rattle.boot_options.specs.MapOptions.{mem_of}
-use Rattle.boot_options.specs.Options.{Said, OfMap, NumaOff, Chosen, chosen, is_closed, line_of, raw_line, map_options_of, memmap_of, of_one, numa_of, or_fault, said_by, name_value_of, said_from, option_words, numbered, all_map_options, edit_of, edits_of, count_adding, or_here, last_exact, chosen_by, unless_incomplete, with_user_map, options_of, HaveRanges, IsNumbered}
+use Rattle.boot_options.specs.declared.crash.CrashPlain.{CrashPlain}
+use Rattle.boot_options.specs.Crash.{High, IsPlain, Low, Plain, PlainForm, form_of, plain_view}
+use Rattle.boot_options.specs.Options.{Said, OfMap, OfCrash, NumaOff, Chosen, chosen, crash_of, last_said, plain_said, is_closed, line_of, raw_line, map_options_of, memmap_of, of_one, numa_of, or_fault, said_by, name_value_of, said_from, option_words, numbered, all_map_options, edit_of, edits_of, count_adding, or_here, last_exact, chosen_by, unless_incomplete, with_user_map, options_of, HaveRanges, IsNumbered}
+use Rattle.boot_options.proofs.CrashBounds.{IsSoundForm, sound-form}
 use Rattle.boot_options.proofs.MapOptionBounds.{IsSound, IsSoundOption, AreSound, ifsome-and_then, ifsome-map, ifsome-if, sound-mem, sound-map_options}
 
 abbrev pub IsSoundWord : Said → Type 0
 IsSoundWord (OfMap ps) = AreSound ps
+IsSoundWord (OfCrash form) = IsSoundForm form
 IsSoundWord NumaOff = Unit {0}
 
 -- each word has a number above 0 and says something sound
@@ -37,6 +41,7 @@ IsLineFault faults.TooLong = Unit {0}
 IsLineFault faults.OpenQuote = Unit {0}
 IsLineFault (faults.BadMem word) = 0 < word
 IsLineFault (faults.BadMemmap word) = 0 < word
+IsLineFault (faults.BadCrash word) = 0 < word
 IsLineFault (faults.UserMapInvalid word) = 0 < word
 IsLineFault (faults.BadNuma word) = 0 < word
 IsLineFault faults.Memory = ⊥
@@ -69,17 +74,22 @@ sound-said_by number word =
     (ifsome-and_then IsSoundWord memmap_of word.1 (λ value.
     ifsome-map AreSound IsSoundWord OfMap (map_options_of (parts_in (Byte 44) value)) (λ ps are. are)
     (sound-map_options (parts_in (Byte 44) value)))))
+    (ifok-if IsSoundWord (bytes_eq word.0 (codes "crashkernel")) _ _
+    (sound-or_fault (faults.BadCrash number) _
+    (ifsome-and_then IsSoundWord crash_of word.1 (λ value.
+    ifsome-map IsSoundForm IsSoundWord OfCrash (form_of value) (λ form is. is) (sound-form value))))
     (ifok-if IsSoundWord (bytes_eq word.0 (codes "numa")) _ _
     (sound-or_fault (faults.BadNuma number) _
     (ifsome-and_then IsSoundWord numa_of word.1 (λ value.
     ifsome-if IsSoundWord (bytes_eq value (codes "off")) (Some NumaOff) None tt tt)))
-    tt))
+    tt)))
 
 pub numbered-said_by : (number : ℕ) (word : List ℕ × Option (List ℕ)) → 0 < number → IfErr (said_by number word) IsLineFault
 numbered-said_by number word above =
     iferr-if IsLineFault (bytes_eq word.0 (codes "mem")) _ _ (numbered-or_fault (faults.BadMem number) _ above)
     (iferr-if IsLineFault (bytes_eq word.0 (codes "memmap")) _ _ (numbered-or_fault (faults.BadMemmap number) _ above)
-    (iferr-if IsLineFault (bytes_eq word.0 (codes "numa")) _ _ (numbered-or_fault (faults.BadNuma number) _ above) tt))
+    (iferr-if IsLineFault (bytes_eq word.0 (codes "crashkernel")) _ _ (numbered-or_fault (faults.BadCrash number) _ above)
+    (iferr-if IsLineFault (bytes_eq word.0 (codes "numa")) _ _ (numbered-or_fault (faults.BadNuma number) _ above) tt)))
 
 -- a fact of a later step, by what the earlier one gives
 pub ifok-then : {A B : Type 0} (P : A → Type 0) (Q : B → Type 0) (r : Result A OptionFault) (f : A → Result B OptionFault)
@@ -118,7 +128,21 @@ pub sound-all_map_options : (said : List (ℕ × Said)) → AreSoundWords said �
 sound-all_map_options [] are = tt
 sound-all_map_options ((number, OfMap ps) ∷ said) are =
     sound-numbered number ps (all_map_options said) are.0 are.1 (sound-all_map_options said are.2)
+sound-all_map_options ((number, OfCrash form) ∷ said) are = sound-all_map_options said are.2
 sound-all_map_options ((number, NumaOff) ∷ said) are = sound-all_map_options said are.2
+
+-- the plain form that counts
+pub sound-last_plain : (said : List (ℕ × Said)) → AreSoundWords said → IfSome (last_said plain_said said) IsPlain
+sound-last_plain [] are = tt
+sound-last_plain (s ∷ said) are = or_this (last_said plain_said said) s.1 (sound-last_plain said are.2) are.1
+  where
+    or_this : (found : Option PlainForm) (s : Said) → IfSome found IsPlain → IsSoundWord s → IfSome (option_or found (plain_said s)) IsPlain
+    or_this (Some form) s is sound = is
+    or_this None (OfMap ps) is sound = tt
+    or_this None (OfCrash (Plain form)) is sound = sound
+    or_this None (OfCrash (High size)) is sound = tt
+    or_this None (OfCrash (Low size)) is sound = tt
+    or_this None NumaOff is sound = tt
 
 -- their edits
 pub types-edits : (ps : List (ℕ × MapOption)) → AreNumbered ps → HaveTypes (edits_of ps) × HaveRanges (edits_of ps)
@@ -144,15 +168,19 @@ numbered-last_exact ((number, p) ∷ ps) are = or_this (last_exact ps) p (number
 
 -- the with_user_map line
 abbrev pub IsSoundChoice : Chosen → Type 0
-IsSoundChoice c = HaveTypes c.edits × HaveRanges c.edits
+IsSoundChoice c = HaveTypes c.edits × HaveRanges c.edits × IfSome c.crash.plain IsPlain
+
+pub sound-chosen_by : (said : List (ℕ × Said)) → AreSoundWords said → IsSoundChoice (chosen_by said)
+sound-chosen_by said are =
+    let edits = types-edits (all_map_options said) (sound-all_map_options said are) in (edits.0, edits.1, sound-last_plain said are)
 
 pub sound-with_user_map : (said : List (ℕ × Said)) → AreSoundWords said → IfOk (with_user_map said) IsSoundChoice
 sound-with_user_map said are = by_exact (last_exact (all_map_options said))
   where
     by_exact : (found : Option (ℕ × ℕ)) → IfOk (unless_incomplete (chosen_by said) found) IsSoundChoice
-    by_exact None = types-edits (all_map_options said) (sound-all_map_options said are)
+    by_exact None = sound-chosen_by said are
     by_exact (Some exact) =
-        ifok-if IsSoundChoice (nat_lt exact.1 2) _ _ tt (types-edits (all_map_options said) (sound-all_map_options said are))
+        ifok-if IsSoundChoice (nat_lt exact.1 2) _ _ tt (sound-chosen_by said are)
 
 pub numbered-with_user_map : (said : List (ℕ × Said)) → AreSoundWords said → IfErr (with_user_map said) IsLineFault
 numbered-with_user_map said are =
@@ -197,6 +225,15 @@ pub ranges-given : (bytes : List ℕ) (r : Result Options OptionFault) → Answe
 ranges-given bytes (Ok options) is = (rw is at (sound-options bytes)).1
 ranges-given bytes (Err fault) is = tt
 
+pub crash-given : (bytes : List ℕ) (r : Result Options OptionFault) → Answers faults.Memory chosen r (options_of bytes)
+    → IfOk r (λ options. IfSome options.crash.plain (λ plain. IsPlain (plain_view plain)))
+crash-given bytes (Ok options) is = seen options.crash.plain (rw is at (sound-options bytes)).2
+  where
+    seen : (plain : Option CrashPlain) → IfSome (option_map plain_view plain) IsPlain → IfSome plain (λ p. IsPlain (plain_view p))
+    seen None is = tt
+    seen (Some plain) is = is
+crash-given bytes (Err fault) is = tt
+
 pub numbered-given : (bytes : List ℕ) (r : Result Options OptionFault) → Answers faults.Memory chosen r (options_of bytes)
     → IfErr r IsNumbered
 numbered-given bytes (Ok options) is = tt
@@ -207,6 +244,7 @@ numbered-given bytes (Err fault) is = by_fault fault is
     by_fault faults.OpenQuote is = tt
     by_fault (faults.BadMem word) is = rw (is (λ same. cc)) at (numbered-options bytes)
     by_fault (faults.BadMemmap word) is = rw (is (λ same. cc)) at (numbered-options bytes)
+    by_fault (faults.BadCrash word) is = rw (is (λ same. cc)) at (numbered-options bytes)
     by_fault (faults.UserMapInvalid word) is = rw (is (λ same. cc)) at (numbered-options bytes)
     by_fault (faults.BadNuma word) is = rw (is (λ same. cc)) at (numbered-options bytes)
     by_fault faults.Memory is = tt

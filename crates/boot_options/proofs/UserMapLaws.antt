@@ -1,18 +1,19 @@
 -- What a line that is read word by word comes to, by the lists of what its words say.
-use Rattle.std.proofs.Common.{◌≡◌, ℕ, ◌+◌, ◌-◌, ◌==◌, nat_lt, if◌then◌else◌, Bool, true, ◌||◌, Option, Some, None, List, [], ◌∷◌, ◌++◌, refl, ap, sym, ◌∙◌, append_assoc, Result, Ok, Err, arith}
+use Rattle.std.proofs.Common.{◌≡◌, ℕ, ◌+◌, ◌-◌, ◌==◌, nat_lt, if◌then◌else◌, Bool, ◌||◌, Option, Some, None, List, [], ◌∷◌, ◌++◌, refl, ap, sym, ◌∙◌, append_assoc, Result, Ok, Err, arith}
 use Rattle.std.proofs.Math.Bool.{or-false, or-true}
 use Rattle.std.proofs.lemmas.List.{append-nil}
 use Rattle.std.proofs.lemmas.Bool.Decides.{nat_tests}
 use Rattle.std.specs.List.{cons_option}
-use Rattle.std.specs.Option.{option_map}
+use Rattle.std.specs.Option.{option_map, option_or}
 use Rattle.e820_model.specs.declared.edit.Edit.{Edit}
 use Rattle.bm_base.specs.ResultSteps.{◌>>=◌}
 use Rattle.boot_options.specs.declared.fault.OptionFault.{OptionFault}
 use Rattle.boot_options.specs.declared.map_option.MapOption.{MapOption}
 use Rattle.boot_options.specs.declared.map_option.MapOption.TheVariants.{ExactMap, Adding, Other}
 use Rattle.boot_options.specs.declared.reading.UserMap.{UserMap}
-use Rattle.boot_options.specs.Options.{Said, OfMap, NumaOff, Chosen, line_of, said_from, option_words, numbered, all_map_options, edit_of, edits_of, is_numa_off, count_adding, or_here, last_exact, unless_incomplete, with_user_map, options_of}
-use Rattle.boot_options.specs.Reading.{State, start, one_fewer, user_map_behind, after_map_option, after_map_options, after_all, read_all, when_complete, at_line_end}
+use Rattle.boot_options.specs.Crash.{Crash, Plain, High, Low, no_crash}
+use Rattle.boot_options.specs.Options.{Said, OfMap, OfCrash, NumaOff, Chosen, chosen_by, crash_by, line_of, said_from, option_words, numbered, all_map_options, edit_of, edits_of, is_numa_off, count_adding, or_here, last_exact, unless_incomplete, with_user_map, options_of}
+use Rattle.boot_options.specs.Reading.{State, start, after, after_form, one_fewer, user_map_behind, after_map_option, after_map_options, after_all, read_all, when_complete, at_line_end}
 
 -- one edit behind others
 pub edits-step : (front : List Edit) (e : Option Edit) (behind : List Edit)
@@ -33,7 +34,8 @@ pub edits-all : (st : State) (said : List (ℕ × Said)) → (after_all st said)
 edits-all st [] = sym (append-nil st.edits)
 edits-all st ((number, OfMap ps) ∷ said) =
     edits-all (after_map_options number st ps) said ∙ edits-map_options number st ps (all_map_options said)
-edits-all st ((number, NumaOff) ∷ said) = edits-all (record { edits = st.edits; numa_off = true; user_map = st.user_map }) said
+edits-all st ((number, OfCrash form) ∷ said) = edits-all (after number st (OfCrash form)) said
+edits-all st ((number, NumaOff) ∷ said) = edits-all (after number st NumaOff) said
 
 -- map options say nothing of nodes
 pub numa_off-map_options : (number : ℕ) (st : State) (ps : List MapOption) → (after_map_options number st ps).numa_off ≡ st.numa_off
@@ -46,8 +48,53 @@ numa_off-all st [] = sym (or-false st.numa_off)
 numa_off-all st ((number, OfMap ps) ∷ said) =
     numa_off-all (after_map_options number st ps) said
     ∙ ap (λ (b : Bool). b || is_numa_off said) (numa_off-map_options number st ps)
-numa_off-all st ((number, NumaOff) ∷ said) =
-    numa_off-all (record { edits = st.edits; numa_off = true; user_map = st.user_map }) said ∙ sym (or-true st.numa_off)
+numa_off-all st ((number, OfCrash form) ∷ said) = numa_off-all (after number st (OfCrash form)) said
+numa_off-all st ((number, NumaOff) ∷ said) = numa_off-all (after number st NumaOff) said ∙ sym (or-true st.numa_off)
+
+-- of two values of a form the later one counts
+abbrev pub later : Crash → Crash → Crash
+later c before = record {
+  plain = option_or c.plain before.plain;
+  high = option_or c.high before.high;
+  low = option_or c.low before.low;
+}
+
+or_twice : {A : Type 0} (a b c : Option A) → option_or a (option_or b c) ≡ option_or (option_or a b) c
+or_twice None b c = refl
+or_twice (Some x) b c = refl
+
+or_nothing : {A : Type 0} (a : Option A) → option_or a None ≡ a
+or_nothing None = refl
+or_nothing (Some x) = refl
+
+pub later-twice : (a b c : Crash) → later a (later b c) ≡ later (later a b) c
+later-twice a b c = rw (or_twice a.plain b.plain c.plain, or_twice a.high b.high c.high, or_twice a.low b.low c.low) refl
+
+pub later-nothing : (a : Crash) → later a no_crash ≡ a
+later-nothing a = rw (or_nothing a.plain, or_nothing a.high, or_nothing a.low) refl
+
+-- map options say nothing of the crash area
+pub crash-map_options : (number : ℕ) (st : State) (ps : List MapOption) → (after_map_options number st ps).crash ≡ st.crash
+crash-map_options number st [] = refl
+crash-map_options number st (p ∷ ps) = crash-map_options number (after_map_option number st p) ps
+
+-- the last value of each form
+pub crash-all : (st : State) (said : List (ℕ × Said)) → (after_all st said).crash ≡ later (crash_by said) st.crash
+crash-all st [] = refl
+crash-all st ((number, OfMap ps) ∷ said) =
+    crash-all (after_map_options number st ps) said ∙ ap (later (crash_by said)) (crash-map_options number st ps)
+    ∙ later-twice (crash_by said) no_crash st.crash
+crash-all st ((number, OfCrash (Plain form)) ∷ said) =
+    crash-all (after number st (OfCrash (Plain form))) said ∙ later-twice (crash_by said) (after_form no_crash (Plain form)) st.crash
+crash-all st ((number, OfCrash (High size)) ∷ said) =
+    crash-all (after number st (OfCrash (High size))) said ∙ later-twice (crash_by said) (after_form no_crash (High size)) st.crash
+crash-all st ((number, OfCrash (Low size)) ∷ said) =
+    crash-all (after number st (OfCrash (Low size))) said ∙ later-twice (crash_by said) (after_form no_crash (Low size)) st.crash
+crash-all st ((number, NumaOff) ∷ said) =
+    crash-all (after number st NumaOff) said ∙ later-twice (crash_by said) no_crash st.crash
+
+pub crash-start : (said : List (ℕ × Said)) → (after_all start said).crash ≡ crash_by said
+crash-start said = crash-all start said ∙ later-nothing (crash_by said)
 
 -- the user map behind the map options of all words
 abbrev pub map_behind : List (ℕ × MapOption) → Option UserMap → Option UserMap
@@ -63,7 +110,8 @@ pub user_map-all : (st : State) (said : List (ℕ × Said)) → (after_all st sa
 user_map-all st [] = refl
 user_map-all st ((number, OfMap ps) ∷ said) =
     user_map-all (after_map_options number st ps) said ∙ user_map-map_options number st ps (all_map_options said)
-user_map-all st ((number, NumaOff) ∷ said) = user_map-all (record { edits = st.edits; numa_off = true; user_map = st.user_map }) said
+user_map-all st ((number, OfCrash form) ∷ said) = user_map-all (after number st (OfCrash form)) said
+user_map-all st ((number, NumaOff) ∷ said) = user_map-all (after number st NumaOff) said
 
 -- the adding map options that a user map wants still, that many map options later
 abbrev pub fewer : ℕ → UserMap → UserMap
@@ -100,8 +148,14 @@ map_behind-wanted ((number, p) ∷ ps) m =
 -- a line that was read to its end is with_user_map by its last `exactmap`
 pub at_line_end-with_user_map : (said : List (ℕ × Said)) → at_line_end (after_all start said) ≡ with_user_map said
 at_line_end-with_user_map said =
-    rw (edits-all start said, numa_off-all start said, user_map-all start said, map_behind-wanted (all_map_options said) None)
-    (by_exact (record { edits = edits_of (all_map_options said); numa_off = is_numa_off said }) (last_exact (all_map_options said)))
+    rw (
+      edits-all start said,
+      crash-start said,
+      numa_off-all start said,
+      user_map-all start said,
+      map_behind-wanted (all_map_options said) None,
+    )
+    (by_exact (chosen_by said) (last_exact (all_map_options said)))
   where
     by_count : (chosen : Chosen) (fault : OptionFault) (n : ℕ)
         → (if 2 - n == 0 then Ok chosen else Err fault) ≡ (if nat_lt n 2 then Err fault else Ok chosen)

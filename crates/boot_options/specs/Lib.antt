@@ -1,3 +1,5 @@
+pub mod Crash
+pub mod Kept
 pub mod MapOptions
 pub mod Options
 pub mod Reading

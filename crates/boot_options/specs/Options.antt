@@ -1,7 +1,7 @@
 -- What a command line says of the map, word by word (`parse_early_param`, `next_arg` of
--- lib/cmdline.c, and the handlers of `mem=`, `memmap=` and `numa=`).
-use Rattle.std.specs.Prelude.{ℕ, ◌+◌, ◌%◌, ◌<◌, ◌==◌, Bool, true, false, nat_lt, if◌then◌else◌, Option, Some, None, List, [], ◌∷◌, map, length, codes, Result, Ok, Err}
-use Rattle.std.specs.Option.{option_map, option_and_then}
+-- lib/cmdline.c, and the handlers of `mem=`, `memmap=`, `crashkernel=` and `numa=`).
+use Rattle.std.specs.Prelude.{ℕ, ◌+◌, ◌%◌, ◌<◌, ◌==◌, ◌⊎◌, IsSome, Bool, true, false, nat_lt, if◌then◌else◌, Option, Some, None, List, [], ◌∷◌, map, length, codes, Result, Ok, Err}
+use Rattle.std.specs.Option.{option_map, option_and_then, option_or}
 use Rattle.std.specs.List.{filter_map}
 use Rattle.std.specs.Str.{bytes_eq}
 use Rattle.std.specs.Prelude.{count_by}
@@ -17,6 +17,7 @@ use Rattle.boot_options.specs.declared.options.Options.{Options}
 use Rattle.boot_options.specs.declared.options.TheConstants.{LONGEST_LINE}
 use Rattle.boot_options.specs.declared.map_option.MapOption.{MapOption}
 use Rattle.boot_options.specs.declared.map_option.MapOption.TheVariants.{ExactMap, Adding, Other}
+use Rattle.boot_options.specs.Crash.{Crash, Form, PlainForm, Plain, High, Low, crash_view, form_of}
 use Rattle.boot_options.specs.MapOptions.{map_option_of, mem_of}
 
 -- the line: the bytes before the first zero byte, without a newline at its end. It has at most
@@ -38,6 +39,7 @@ line_of bytes = checked_line (raw_line bytes)
 -- what one word says
 pub data Said : Type 0 where
   OfMap : (options : List MapOption) → Said
+  OfCrash : (form : Form) → Said
   NumaOff : Said
 
 -- the value of `memmap=` is one or more map options with commas between
@@ -52,6 +54,10 @@ memmap_of value = option_map OfMap (map_options_of (parts_in (Byte 44) value))
 abbrev pub of_one : MapOption → Said
 of_one p = OfMap (p ∷ [])
 
+-- the value of `crashkernel=` is of one form
+abbrev pub crash_of : List ℕ → Option Said
+crash_of value = option_map OfCrash (form_of value)
+
 -- the value of `numa=` is `off`
 abbrev pub numa_of : List ℕ → Option Said
 numa_of value = if bytes_eq value (codes "off") then Some NumaOff else None
@@ -60,14 +66,15 @@ abbrev pub or_fault : OptionFault → Option Said → Result Said OptionFault
 or_fault fault None = Err fault
 or_fault fault (Some said) = Ok said
 
--- by the name of the word; a word of another name says nothing, as does `crashkernel` so far. A word
--- of one of these names without a value is malformed
+-- by the name of the word; a word of another name says nothing. A word of one of these names without
+-- a value is malformed
 abbrev pub said_by : ℕ → List ℕ × Option (List ℕ) → Result Said OptionFault
 said_by number word =
     if bytes_eq word.0 (codes "mem") then or_fault (faults.BadMem number) (option_map of_one (option_and_then mem_of word.1)) else
     (if bytes_eq word.0 (codes "memmap") then or_fault (faults.BadMemmap number) (option_and_then memmap_of word.1) else
+    (if bytes_eq word.0 (codes "crashkernel") then or_fault (faults.BadCrash number) (option_and_then crash_of word.1) else
     (if bytes_eq word.0 (codes "numa") then or_fault (faults.BadNuma number) (option_and_then numa_of word.1) else
-    Ok (OfMap [])))
+    Ok (OfMap []))))
 
 -- the name of a word stands before its first `=`, the value behind it, without its quotation marks
 abbrev pub at_cut : List ℕ → Option (List ℕ × List ℕ) → List ℕ × Option (List ℕ)
@@ -101,6 +108,7 @@ numbered number (p ∷ ps) behind = (number, p) ∷ numbered number ps behind
 abbrev pub all_map_options : List (ℕ × Said) → List (ℕ × MapOption)
 all_map_options [] = []
 all_map_options ((number, OfMap ps) ∷ said) = numbered number ps (all_map_options said)
+all_map_options ((number, OfCrash form) ∷ said) = all_map_options said
 all_map_options ((number, NumaOff) ∷ said) = all_map_options said
 
 -- the edit of a map option, where it makes one
@@ -116,7 +124,39 @@ edits_of ps = filter_map (λ p. edit_of p.1) ps
 abbrev pub is_numa_off : List (ℕ × Said) → Bool
 is_numa_off [] = false
 is_numa_off ((number, OfMap ps) ∷ said) = is_numa_off said
+is_numa_off ((number, OfCrash form) ∷ said) = is_numa_off said
 is_numa_off ((number, NumaOff) ∷ said) = true
+
+-- the value of one form, where the word says it
+abbrev pub plain_said : Said → Option PlainForm
+plain_said (OfMap ps) = None
+plain_said (OfCrash (Plain form)) = Some form
+plain_said (OfCrash (High size)) = None
+plain_said (OfCrash (Low size)) = None
+plain_said NumaOff = None
+
+abbrev pub high_said : Said → Option ℕ
+high_said (OfMap ps) = None
+high_said (OfCrash (Plain form)) = None
+high_said (OfCrash (High size)) = Some size
+high_said (OfCrash (Low size)) = None
+high_said NumaOff = None
+
+abbrev pub low_said : Said → Option ℕ
+low_said (OfMap ps) = None
+low_said (OfCrash (Plain form)) = None
+low_said (OfCrash (High size)) = None
+low_said (OfCrash (Low size)) = Some size
+low_said NumaOff = None
+
+-- the last word that says it counts
+abbrev pub last_said : {A : Type 0} → (Said → Option A) → List (ℕ × Said) → Option A
+last_said pick [] = None
+last_said pick (s ∷ said) = option_or (last_said pick said) (pick s.1)
+
+-- the crash area that all words ask for, form by form
+abbrev pub crash_by : List (ℕ × Said) → Crash
+crash_by said = record { plain = last_said plain_said said; high = last_said high_said said; low = last_said low_said said }
 
 -- the number of adding map options
 abbrev pub count_adding : List (ℕ × MapOption) → ℕ
@@ -139,13 +179,14 @@ last_exact (p ∷ ps) = or_here (last_exact ps) p.0 p.1 (count_adding ps)
 -- what the options of a line come to
 pub record Chosen : Type 0 where
   pub edits : List Edit
+  pub crash : Crash
   pub numa_off : Bool
 
 abbrev pub chosen : Options → Chosen
-chosen options = record { edits = options.edits.items; numa_off = options.numa_off }
+chosen options = record { edits = options.edits.items; crash = crash_view options.crash; numa_off = options.numa_off }
 
 abbrev pub chosen_by : List (ℕ × Said) → Chosen
-chosen_by said = record { edits = edits_of (all_map_options said); numa_off = is_numa_off said }
+chosen_by said = record { edits = edits_of (all_map_options said); crash = crash_by said; numa_off = is_numa_off said }
 
 -- a user map wants two adding map options behind the last `exactmap`
 abbrev pub unless_incomplete : Chosen → Option (ℕ × ℕ) → Result Chosen OptionFault
@@ -180,6 +221,11 @@ IsNumbered faults.TooLong = Unit {0}
 IsNumbered faults.OpenQuote = Unit {0}
 IsNumbered (faults.BadMem word) = 0 < word
 IsNumbered (faults.BadMemmap word) = 0 < word
+IsNumbered (faults.BadCrash word) = 0 < word
 IsNumbered (faults.UserMapInvalid word) = 0 < word
 IsNumbered (faults.BadNuma word) = 0 < word
 IsNumbered faults.Memory = Unit {0}
+
+-- the line asks for something that takes memory: an edit, or a crash area by ranges
+abbrev pub WantsMemory : Chosen → Type 0
+WantsMemory chosen = (0 < length chosen.edits) ⊎ IsSome chosen.crash.plain

@@ -1,26 +1,29 @@
 -- A command line half read: what the words so far have come to. The reader keeps of the user map only
 -- how many adding map options it still wants.
-use Rattle.std.specs.Prelude.{◌≡◌, ℕ, ◌-◌, ◌<◌, ◌==◌, if◌then◌else◌, Bool, true, false, Option, Some, None, List, [], ◌∷◌, ◌++◌, length, Result, Ok, Err, Vec}
+use Rattle.std.specs.Prelude.{◌≡◌, ℕ, ◌-◌, ◌==◌, if◌then◌else◌, Bool, true, false, Option, Some, None, List, [], ◌∷◌, ◌++◌, Result, Ok, Err, IsErr}
 use Rattle.std.specs.List.{cons_option}
 use Rattle.std.specs.Option.{option_map}
-use Rattle.std.specs.declared.alloc.Global.{Global}
-use Rattle.bm_base.specs.declared.memory.Memory.{Memory}
 use Rattle.e820_model.specs.declared.edit.Edit.{Edit}
 use Rattle.boot_options.specs.declared.fault.OptionFault.{OptionFault}
 use Rattle.boot_options.specs.declared.fault.OptionFault.TheVariants.{UserMapInvalid}
 use Rattle.boot_options.specs.declared.map_option.MapOption.{MapOption}
 use Rattle.boot_options.specs.declared.map_option.MapOption.TheVariants.{ExactMap, Adding, Other}
+use Rattle.boot_options.specs.declared.crash.PlainRead.{PlainRead}
+use Rattle.boot_options.specs.declared.reading.CrashRead.{CrashRead}
 use Rattle.boot_options.specs.declared.reading.Reading.{Reading}
 use Rattle.boot_options.specs.declared.reading.UserMap.{UserMap}
-use Rattle.boot_options.specs.Options.{Said, OfMap, NumaOff, Chosen, edit_of}
+use Rattle.boot_options.specs.Crash.{Crash, Form, Plain, High, Low, no_crash}
+use Rattle.boot_options.specs.Kept.{Keeps, KeepsLast}
+use Rattle.boot_options.specs.Options.{Said, OfMap, OfCrash, NumaOff, Chosen, edit_of}
 
 pub record State : Type 0 where
   pub edits : List Edit
+  pub crash : Crash
   pub numa_off : Bool
   pub user_map : Option UserMap
 
 abbrev pub start : State
-start = record { edits = []; numa_off = false; user_map = None }
+start = record { edits = []; crash = no_crash; numa_off = false; user_map = None }
 
 -- one adding map option fewer is wanted
 abbrev pub one_fewer : UserMap → UserMap
@@ -34,6 +37,7 @@ user_map_behind number (Other edit) m = m
 abbrev pub after_map_option : ℕ → State → MapOption → State
 after_map_option number st p = record {
   edits = st.edits ++ cons_option (edit_of p) [];
+  crash = st.crash;
   numa_off = st.numa_off;
   user_map = user_map_behind number p st.user_map;
 }
@@ -42,9 +46,17 @@ abbrev pub after_map_options : ℕ → State → List MapOption → State
 after_map_options number st [] = st
 after_map_options number st (p ∷ ps) = after_map_options number (after_map_option number st p) ps
 
+-- a later value of a form takes the place of an earlier one
+abbrev pub after_form : Crash → Form → Crash
+after_form c (Plain form) = record { plain = Some form; high = c.high; low = c.low }
+after_form c (High size) = record { plain = c.plain; high = Some size; low = c.low }
+after_form c (Low size) = record { plain = c.plain; high = c.high; low = Some size }
+
 abbrev pub after : ℕ → State → Said → State
 after number st (OfMap ps) = after_map_options number st ps
-after number st NumaOff = record { edits = st.edits; numa_off = true; user_map = st.user_map }
+after number st (OfCrash form) =
+    record { edits = st.edits; crash = after_form st.crash form; numa_off = st.numa_off; user_map = st.user_map }
+after number st NumaOff = record { edits = st.edits; crash = st.crash; numa_off = true; user_map = st.user_map }
 
 abbrev pub after_all : State → List (ℕ × Said) → State
 after_all st [] = st
@@ -68,16 +80,18 @@ when_complete chosen None = Ok chosen
 when_complete chosen (Some m) = if m.wanting == 0 then Ok chosen else Err (UserMapInvalid m.word)
 
 abbrev pub at_line_end : State → Result Chosen OptionFault
-at_line_end st = when_complete (record { edits = st.edits; numa_off = st.numa_off }) st.user_map
+at_line_end st = when_complete (record { edits = st.edits; crash = st.crash; numa_off = st.numa_off }) st.user_map
 
--- the edits that are kept are these; where memory ran out for one, there are some
-abbrev pub KeepsEdits : Result (Vec Edit Global) Memory → List Edit → Type 0
-KeepsEdits (Ok kept) edits = kept.items ≡ edits
-KeepsEdits (Err memory) edits = 0 < length edits
+-- what is kept of the crash area, but for memory for ranges
+pub record KeepsCrash (r : CrashRead) (c : Crash) : Type 0 where
+  pub plain : KeepsLast r.plain c.plain
+  pub high : r.high ≡ c.high
+  pub low : r.low ≡ c.low
 
--- the reader is at that state; it may have run out of memory for its edits
+-- the reader is at that state; it may have run out of memory for its edits or ranges
 pub record IsAt (r : Reading) (st : State) : Type 0 where
-  pub edits : KeepsEdits r.edits st.edits
+  pub edits : Keeps r.edits st.edits
+  pub crash : KeepsCrash r.crash st.crash
   pub numa_off : r.numa_off ≡ st.numa_off
   pub user_map : r.user_map ≡ st.user_map
 
@@ -90,3 +104,8 @@ IsAtSome r (Err fault) = ⊥
 abbrev pub ReadsAs : {X : Type 0} → (X → Reading) → Result X OptionFault → Result State OptionFault → Type 0
 ReadsAs view (Ok x) definition = IsAtSome (view x) definition
 ReadsAs view (Err fault) definition = definition ≡ Err fault
+
+-- memory ran out for the ranges of the plain form that counts
+abbrev pub LacksRanges : Option PlainRead → Type 0
+LacksRanges None = ⊥
+LacksRanges (Some kept) = IsErr kept.ranges

@@ -14,13 +14,15 @@ pub enum OptionFault {
     BadMem { word: u32 },
     /// The word is a malformed `memmap=`.
     BadMemmap { word: u32 },
+    /// The word is a malformed `crashkernel=`.
+    BadCrash { word: u32 },
     /// No other fault is found, and fewer than two adding map options follow the last `exactmap`,
     /// which stands in this word.
     UserMapInvalid { word: u32 },
     /// The word is a malformed `numa=`.
     BadNuma { word: u32 },
-    /// The program's own memory ran out for an edit; only where the line has none of the faults
-    /// above.
+    /// The program's own memory ran out for an edit or a range; only where the line has none of the
+    /// faults above.
     Memory,
 }
 

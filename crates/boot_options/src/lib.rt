@@ -16,14 +16,17 @@
 //! numbered from 1, and want of memory comes only where the line has no fault and makes an edit.
 #![tactic(auto)]
 
+mod crash;
 mod fault;
+mod kept;
 mod map_option;
 mod options;
 mod reading;
 #[cfg(test)]
 mod tests;
 
+pub use crash::{CrashOption, CrashPlain, CrashRange, crash_forms_of_spelling};
 pub use e820_model::Edit;
 pub use fault::OptionFault;
-pub use map_option::map_options_of_spelling;
+pub use map_option::{map_options_of_spelling, read_whole_size};
 pub use options::{Options, read_options};

@@ -146,7 +146,7 @@ fn unless_empty(range: Range, edit: Edit) -> Option<Edit>
 }
 
 /// The size that takes the whole text.
-fn read_whole_size(text: &[u8]) -> Option<u64>
+pub fn read_whole_size(text: &[u8]) -> Option<u64>
     ensures { result ≡ whole_size text.now }
 {
     let (size, rest) = read_front_size(text)?;

@@ -3,15 +3,20 @@
 //! This is the entry of the crate. What a file holds becomes a line here, and where the reader is
 //! at the end of the line, the options are told: a user map must be complete by then.
 
-ghost use Rattle.std.specs.Prelude.{◌≡◌, ℕ, ◌<◌, ◌≤◌, length, MatchResult, Ok, Err, IfOk, IfErr, IsOkAnd, IsErr};
+ghost use Rattle.std.specs.Prelude.{◌≡◌, ℕ, ◌<◌, ◌≤◌, length, MatchResult, Ok, Err, IfOk, IfErr, IfSome, Option, IsOkAnd, IsErr, OnErr, ◌⊎◌};
 ghost use Rattle.bm_base.specs.Answers.{Answers};
 ghost use Rattle.boot_options.specs.declared.options.TheConstants.{LONGEST_LINE};
-ghost use Rattle.boot_options.specs.Options.{chosen, line_of, options_of, HaveRanges, IsNumbered};
+ghost use Rattle.std.specs.Option.{option_map};
+ghost use Rattle.boot_options.specs.Crash.{Crash, IsPlain, PlainForm, crash_view, plain_view};
+ghost use Rattle.boot_options.specs.Kept.{KeepsLast};
+ghost use Rattle.boot_options.specs.Options.{chosen, line_of, options_of, HaveRanges, IsNumbered, WantsMemory};
 ghost use Rattle.e820_model.specs.Claims.{HaveTypes};
-ghost use Rattle.boot_options.specs.Reading.{State, IsAt, at_line_end};
+ghost use Rattle.boot_options.specs.Reading.{State, IsAt, KeepsCrash, LacksRanges, at_line_end};
 
+use crate::crash::{CrashOption, CrashPlain, PlainRead};
 use crate::fault::OptionFault;
-use crate::reading::{Reading, read_words};
+use crate::reading::{CrashRead, Reading, read_words};
+use bm_base::Memory;
 use e820_model::Edit;
 use std::alloc::Global;
 use text_words::{before, without_last};
@@ -21,6 +26,8 @@ use text_words::{before, without_last};
 pub struct Options {
     /// The edits of the map by `mem=` and `memmap=`, in the order of the line.
     pub edits: Vec<Edit>,
+    /// The crash area that `crashkernel=` asks for, form by form.
+    pub crash: CrashOption,
     /// Whether `numa=off` stands in the line: the SRAT isn't used then.
     pub numa_off: bool,
 }
@@ -30,13 +37,14 @@ pub struct Options {
 ///
 /// The line ends before the first zero byte, without one newline at its end, and has at most
 /// 2,047 bytes (`COMMAND_LINE_SIZE`). The word `--` ends the options. `Memory` comes only where
-/// the line has none of these faults and makes an edit.
+/// the line has none of these faults, and makes an edit or asks for a crash area by ranges.
 pub fn read_options(alloc: Global, bytes: &[u8]) -> Result<Options, OptionFault>
     ensures answers { Answers OptionFault.Memory chosen result (options_of bytes.now) }
     ensures memory { result ≡ Err OptionFault.Memory →
-        IsOkAnd (options_of bytes.now) (λ options. 0 < length options.edits) }
+        IsOkAnd (options_of bytes.now) WantsMemory }
     ensures types { IfOk result (λ options. HaveTypes options.edits.items) }
     ensures ranges { IfOk result (λ options. HaveRanges options.edits.items) }
+    ensures crash { IfOk result (λ options. IfSome options.crash.plain (λ plain. IsPlain (plain_view plain))) }
     ensures words { IfErr result IsNumbered }
 {
     let line = read_line(bytes)?;
@@ -68,9 +76,9 @@ fn read_line(bytes: &[u8]) -> Result<&[u8], OptionFault>
 fn finish(reading: Reading) -> Result<Options, OptionFault>
     ensures answers { (st : State) → IsAt reading st →
         Answers OptionFault.Memory chosen result (at_line_end st) }
-    ensures memory { result ≡ Err OptionFault.Memory → IsErr reading.edits }
+    ensures memory { result ≡ Err OptionFault.Memory → IsErr reading.edits ⊎ LacksRanges reading.crash.plain }
     ensures complete { result ≡ Err OptionFault.Memory → (st : State) → IsAt reading st →
-        IsOkAnd (at_line_end st) (λ options. 0 < length options.edits) }
+        IsOkAnd (at_line_end st) WantsMemory }
 {
     if let Some(map) = reading.user_map {
         if map.wanting > 0 {
@@ -79,6 +87,35 @@ fn finish(reading: Reading) -> Result<Options, OptionFault>
     }
     Ok(Options {
         edits: reading.edits?,
+        crash: finish_crash(reading.crash)?,
         numa_off: reading.numa_off,
     })
+}
+
+/// What was read of the crash area, where memory didn't run out for the ranges that count.
+fn finish_crash(crash: CrashRead) -> Result<CrashOption, Memory>
+    ensures value { (said : Crash) → KeepsCrash crash said →
+        IfOk result (λ option. said ≡ crash_view option) }
+    ensures lacking { OnErr result (LacksRanges crash.plain) }
+{
+    Ok(CrashOption {
+        plain: finish_plain(crash.plain)?,
+        high: crash.high,
+        low: crash.low,
+    })
+}
+
+/// The plain form, with the ranges that were read for it.
+fn finish_plain(plain: Option<PlainRead>) -> Result<Option<CrashPlain>, Memory>
+    ensures value { (said : Option PlainForm) → KeepsLast plain said →
+        IfOk result (λ plain. said ≡ option_map plain_view plain) }
+    ensures lacking { OnErr result (LacksRanges plain) }
+{
+    let Some(plain) = plain else {
+        return Ok(None);
+    };
+    Ok(Some(CrashPlain {
+        ranges: plain.ranges?,
+        base: plain.base,
+    }))
 }

@@ -4,19 +4,20 @@
 //! to. The edits are kept in the order of the line, and of the user map only what the end of the
 //! line asks: the word of the last `exactmap`, and how many adding map options it still wants.
 //!
-//! Memory is taken here alone, for the edits. Where it runs out the line is still read on without
-//! them, so that a fault is told wherever it stands; no call here answers want of memory.
+//! Memory is taken here alone, for the edits and the ranges of `crashkernel=`. Where it runs out the
+//! line is still read on without them, so that a fault is told wherever it stands; no call here
+//! answers want of memory.
 
-ghost use Rattle.std.specs.Prelude.{◌≡◌, ℕ, ◌≤◌, ◌+◌, List, [], ◌∷◌, ◌++◌, length, Result, Ok, Err};
-ghost use Rattle.std.specs.List.{cons_option};
+ghost use Rattle.std.specs.Prelude.{◌≡◌, ℕ, ◌≤◌, ◌+◌, length, Result, Ok, Err};
 ghost use Rattle.std.specs.Option.{option_map, option_and_then};
-ghost use Rattle.e820_model.specs.declared.edit.Edit.{Edit as SomeEdit};
 ghost use Rattle.boot_options.specs.declared.fault.OptionFault.TheVariants as faults;
 ghost use Rattle.boot_options.specs.declared.options.TheConstants.{LONGEST_LINE};
-ghost use Rattle.boot_options.specs.Options.{name_value_of, said_by, said_from, option_words, or_fault, memmap_of};
-ghost use Rattle.boot_options.specs.Reading.{State, start, one_fewer as one_fewer_wanted, after_map_option, read_on, read_all, KeepsEdits, IsAt, ReadsAs};
+ghost use Rattle.boot_options.specs.Options.{name_value_of, said_by, said_from, option_words, or_fault, crash_of, memmap_of};
+ghost use Rattle.boot_options.specs.Reading.{State, start, one_fewer as one_fewer_wanted, after_map_option, read_on, read_all, IsAt, ReadsAs};
 
+use crate::crash::{CrashForm, PlainRead, read_form};
 use crate::fault::OptionFault;
+use crate::kept::keep;
 use crate::map_option::{MapOption, read_map_option, read_mem};
 use bm_base::Memory;
 use e820_model::Edit;
@@ -28,8 +29,17 @@ use text_words::{Separators, cut, next_part, next_word, unquoted};
 pub struct Reading {
     /// The edits of all words, or want of memory for one of them.
     pub edits: Result<Vec<Edit>, Memory>,
+    pub crash: CrashRead,
     pub numa_off: bool,
     pub user_map: Option<UserMap>,
+}
+
+/// The last value of each form of `crashkernel=` so far.
+#[derive(Drop)]
+pub struct CrashRead {
+    pub plain: Option<PlainRead>,
+    pub high: Option<u64>,
+    pub low: Option<u64>,
 }
 
 /// The last `exactmap` so far: its word, and how many adding map options are still wanted behind
@@ -48,6 +58,11 @@ pub fn read_words(alloc: Global, line: &[u8]) -> Result<Reading, OptionFault>
 {
     let mut reading = Reading {
         edits: Ok(Vec::new(alloc)),
+        crash: CrashRead {
+            plain: None,
+            high: None,
+            low: None,
+        },
         numa_off: false,
         user_map: None,
     };
@@ -58,7 +73,7 @@ pub fn read_words(alloc: Global, line: &[u8]) -> Result<Reading, OptionFault>
         if word == b"--".as_slice() {
             return Ok(reading);
         }
-        if let Err(fault) = read_word(word, number, &mut reading) {
+        if let Err(fault) = read_word(alloc, word, number, &mut reading) {
             return Err(fault);
         }
         rest = behind;
@@ -68,7 +83,12 @@ pub fn read_words(alloc: Global, line: &[u8]) -> Result<Reading, OptionFault>
 }
 
 /// Reads one word, by its name; a word of another name is passed over.
-fn read_word(word: &[u8], number: u32, reading: &mut Reading) -> Result<(), OptionFault>
+fn read_word(
+    alloc: Global,
+    word: &[u8],
+    number: u32,
+    reading: &mut Reading,
+) -> Result<(), OptionFault>
     ensures { (st : State) → IsAt reading.old st →
         ReadsAs (λ _. reading.new) result
         (read_on number st (said_by number (name_value_of word.now))) }
@@ -84,6 +104,11 @@ fn read_word(word: &[u8], number: u32, reading: &mut Reading) -> Result<(), Opti
             return Err(OptionFault::BadMemmap { word: number });
         };
         return read_memmap(value, number, reading);
+    } else if name == b"crashkernel".as_slice() {
+        let Some(value) = value else {
+            return Err(OptionFault::BadCrash { word: number });
+        };
+        return read_crash(alloc, value, number, reading);
     } else if name == b"numa".as_slice() {
         let Some(b"off") = value else {
             return Err(OptionFault::BadNuma { word: number });
@@ -121,6 +146,26 @@ fn read_memmap(value: &[u8], number: u32, reading: &mut Reading) -> Result<(), O
     Ok(())
 }
 
+/// Reads the value of `crashkernel=`.
+fn read_crash(
+    alloc: Global,
+    value: &[u8],
+    number: u32,
+    reading: &mut Reading,
+) -> Result<(), OptionFault>
+    ensures { (st : State) → IsAt reading.old st →
+        ReadsAs (λ _. reading.new) result
+        (read_on number st (or_fault (faults.BadCrash number) (crash_of value.now))) }
+{
+    match read_form(alloc, value) {
+        Some(CrashForm::Plain(plain)) => reading.crash.plain = Some(plain),
+        Some(CrashForm::High(size)) => reading.crash.high = Some(size),
+        Some(CrashForm::Low(size)) => reading.crash.low = Some(size),
+        None => return Err(OptionFault::BadCrash { word: number }),
+    }
+    Ok(())
+}
+
 /// Takes what one map option says.
 fn take_map_option(option: &MapOption, number: u32, reading: &mut Reading)
     ensures { (st : State) → IsAt reading.old st →
@@ -139,18 +184,6 @@ fn take_map_option(option: &MapOption, number: u32, reading: &mut Reading)
             reading.user_map = one_fewer(&reading.user_map);
         }
         MapOption::Other(edit) => keep(edit, &mut reading.edits),
-    }
-}
-
-/// Keeps the edit, where there is one, behind the others.
-fn keep(edit: &Option<Edit>, edits: &mut Result<Vec<Edit>, Memory>)
-    ensures { (before : List SomeEdit) → KeepsEdits edits.old before →
-        KeepsEdits edits.new (before ++ cons_option edit.now []) }
-{
-    if let (Some(edit), Ok(kept)) = (edit, &mut *edits) {
-        if kept.push(*edit).is_err() {
-            *edits = Err(Memory);
-        }
     }
 }
 

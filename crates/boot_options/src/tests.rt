@@ -1,7 +1,7 @@
 //! Lines as files hold them, read with ample memory: worked examples as tables. What one map option
 //! says, and the edges of sizes and types, are examples of the definitions, in proofs/Examples.antt.
 
-use crate::{OptionFault, Options, read_options};
+use crate::{CrashRange, OptionFault, Options, read_options};
 use bm_base::Range;
 use e820_model::Edit;
 use std::alloc::Global;
@@ -32,7 +32,10 @@ fn lines_of_words(rt: HostRuntime) {
         (b"\"mem=\"1M\"\"".as_slice(), Ok((1, false))),
         (b"me\"m=0\"".as_slice(), Ok((0, false))),
         (b"a=\"b mem=0 c\" numa=off".as_slice(), Ok((0, true))),
-        (b"crashkernel=x crashkernel".as_slice(), Ok((0, false))),
+        (
+            b"crashkernel=1M,low crashkernels=x".as_slice(),
+            Ok((0, false)),
+        ),
         (
             b"memmap=exactmap memmap=640K@0 memmap=127M@1M".as_slice(),
             Ok((3, false)),
@@ -72,6 +75,19 @@ fn faults_of_lines(rt: HostRuntime) {
             b"quiet memmap=1M@2M, mem=0".as_slice(),
             OptionFault::BadMemmap { word: 2 },
         ),
+        (b"crashkernel".as_slice(), OptionFault::BadCrash { word: 1 }),
+        (
+            b"quiet crashkernel=64M-32M:8M mem=0".as_slice(),
+            OptionFault::BadCrash { word: 2 },
+        ),
+        (
+            b"memmap=exactmap crashkernel=0-:64M,".as_slice(),
+            OptionFault::BadCrash { word: 2 },
+        ),
+        (
+            b"crashkernel=64M crashkernel=64M,high,low".as_slice(),
+            OptionFault::BadCrash { word: 2 },
+        ),
         (
             b"numa=off numa=x mem=0".as_slice(),
             OptionFault::BadNuma { word: 2 },
@@ -101,7 +117,11 @@ fn faults_of_lines(rt: HostRuntime) {
 #[test]
 fn edits_in_the_order_of_the_line(rt: HostRuntime) -> Result<(), Fail> {
     let line = b"memmap=1K@0,1K%4K mem=1M numa=off memmap=exactmap,2@2,3$3".as_slice();
-    let Options { edits, numa_off } = read_options(rt.alloc(), line)?;
+    let Options {
+        edits,
+        crash: _,
+        numa_off,
+    } = read_options(rt.alloc(), line)?;
     let want = [
         Edit::Add {
             range: Range {
@@ -135,5 +155,93 @@ fn edits_in_the_order_of_the_line(rt: HostRuntime) -> Result<(), Fail> {
     ];
     assert_eq!(rt; edits.as_slice(), want.as_slice());
     assert!(rt; numa_off);
+    Ok(())
+}
+
+/// The crash area that a line asks for: how many ranges, the last of them and the base, and the sizes
+/// of the high and the low form.
+type Area = (Option<(usize, CrashRange, u64)>, Option<u64>, Option<u64>);
+
+fn read_area(alloc: Global, line: &[u8]) -> Result<Area, Fail> {
+    let crash = read_options(alloc, line)?.crash;
+    let plain = match &crash.plain {
+        Some(plain) => match plain.ranges.as_slice().last() {
+            Some(range) => Some((plain.ranges.len(), *range, plain.base)),
+            None => None,
+        },
+        None => None,
+    };
+    Ok((plain, crash.high, crash.low))
+}
+
+#[test]
+fn crash_areas(rt: HostRuntime) -> Result<(), Fail> {
+    let whole = |size| CrashRange {
+        start: 0,
+        end: None,
+        size,
+    };
+    let cases = [
+        (b"quiet".as_slice(), (None, None, None)),
+        (
+            b"crashkernel=64M".as_slice(),
+            (Some((1, whole(64 * MIB), 0)), None, None),
+        ),
+        (
+            b"crashkernel=64M crashkernel=0".as_slice(),
+            (Some((1, whole(0), 0)), None, None),
+        ),
+        (
+            b"crashkernel=16M@0x3080000".as_slice(),
+            (Some((1, whole(16 * MIB), 0x308_0000)), None, None),
+        ),
+        (
+            b"crashkernel=0-64M:8M,64M-:16M".as_slice(),
+            (
+                Some((
+                    2,
+                    CrashRange {
+                        start: 64 * MIB,
+                        end: None,
+                        size: 16 * MIB,
+                    },
+                    0,
+                )),
+                None,
+                None,
+            ),
+        ),
+        (
+            b"crashkernel=8-:1,1-0x10:010@1G".as_slice(),
+            (
+                Some((
+                    2,
+                    CrashRange {
+                        start: 1,
+                        end: Some(16),
+                        size: 8,
+                    },
+                    1024 * MIB,
+                )),
+                None,
+                None,
+            ),
+        ),
+        (
+            b"crashkernel=0-:0@0".as_slice(),
+            (Some((1, whole(0), 0)), None, None),
+        ),
+        (
+            b"crashkernel=512M,high".as_slice(),
+            (None, Some(512 * MIB), None),
+        ),
+        (
+            b"crashkernel=0,low crashkernel=1M crashkernel=1,high crashkernel=2,high -- crashkernel=3,low".as_slice(),
+            (Some((1, whole(MIB), 0)), Some(2), Some(0)),
+        ),
+    ];
+    for (line, want) in cases {
+        assert_eq!(rt; read_area(rt.alloc(), line)?, want, "at {line:?}");
+    }
     Ok(())
 }

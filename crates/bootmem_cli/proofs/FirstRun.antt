@@ -42,7 +42,13 @@ abbrev held : Held
 held name = if bytes_eq name (codes "zp") then Some page else None
 
 abbrev given : Given
-given = record { entries = ram ∷ reserved ∷ []; initrd = None; extension = []; options = no_options }
+given = record {
+  entries = ram ∷ reserved ∷ [];
+  initrd = None;
+  extension = [];
+  options = no_options;
+  kernel = record { base = 0x1000000; size = 0x2000000 };
+}
 
 -- the type of each address: where both entries claim it, the greater one
 kind_at : ℕ → ℕ

@@ -1,4 +1,3 @@
-pub mod AnswerLaws
 mod FirstRun
 mod OutcomeExamples
 pub mod RunLaws

@@ -11,10 +11,11 @@ use Rattle.boot_inputs.specs.Inputs.{Held}
 use Rattle.boot_model.specs.declared.stop.Cause.TheVariants as causes
 use Rattle.boot_model.specs.Boot.{Given, boot}
 use Rattle.debugfs_reports.specs.declared.report.Report.TheVariants as reports
+use Rattle.debugfs_reports.specs.ReportList.{reports_in}
 use Rattle.bootmem_cli.specs.declared.failure.Reason.{Reason}
 use Rattle.bootmem_cli.specs.declared.failure.Reason.TheVariants as reasons
 use Rattle.bootmem_cli.specs.declared.failure.Failure.TheVariants as failures
-use Rattle.bootmem_cli.specs.declared.words.Wanted.{Wanted as WantedBy}
+use Rattle.bootmem_cli.specs.declared.wanted.Wanted.{Wanted as WantedBy}
 use Rattle.bootmem_cli.specs.Answers.{EndFits, EndHasCause, Ends, FailureHasCause, FileHasCause, FitsFailure, FitsFile, FitsReason, IsFaulty, IsOfBoot, IsStopped, IsText, Makes, ReachesFile, ReasonHasCause, ReportHasCause, RoseFor, Writes, WritingHasCause}
 use Rattle.bootmem_cli.specs.Outcome.{or_refused, or_stopped, or_usage, outcome, reported}
 use Rattle.bootmem_cli.specs.Run.{IsTold}
@@ -28,7 +29,8 @@ wanting zero_page = record {
     | inputs.Extension ↦ Some (codes "ext")
     | inputs.CommandLine ↦ None
   ]);
-  report = reports.Map;
+  kernel = record { base = 0x1000000; size = 0x2000000 };
+  reports = reports.Map ∷ [];
 }
 
 -- one file, a zero page that is too short
@@ -57,7 +59,7 @@ refused_examples = (refl, refl)
 stopped_examples : (or_stopped {A = ℕ} (Ok 7) ≡ Ok 7) × (or_stopped {A = ℕ} (Err causes.NoRam) ≡ Err (reasons.Stopped causes.NoRam))
 stopped_examples = (refl, refl)
 
-stop_is_reported : (given : Given) → boot given ≡ Err causes.NoRam → reported reports.Map given ≡ Err (reasons.Stopped causes.NoRam)
+stop_is_reported : (given : Given) → boot given ≡ Err causes.NoRam → reported (reports.Map ∷ []) given ≡ Err (reasons.Stopped causes.NoRam)
 stop_is_reported given stops = rw stops refl
 
 abbrev text : Result (List ℕ) Reason
@@ -169,5 +171,6 @@ no_words = refl
 words_are_bytes : (first second : String Global) → texts (first ∷ second ∷ []) ≡ string_bytes first ∷ string_bytes second ∷ []
 words_are_bytes first second = refl
 
-wanted_is_in_words : (w : WantedBy) → ((wanted_view w).named ≡ name_in (texts w.words.now)) × ((wanted_view w).report ≡ w.report)
-wanted_is_in_words w = (refl, refl)
+wanted_is_in_words : (w : WantedBy) → ((wanted_view w).named ≡ name_in (texts w.words.now)) × ((wanted_view w).kernel ≡ w.kernel)
+    × ((wanted_view w).reports ≡ reports_in w.list.now)
+wanted_is_in_words w = (refl, refl, refl)

@@ -10,7 +10,7 @@ use Rattle.boot_inputs.specs.declared.refusal.Refusal.TheVariants as refusals
 use Rattle.boot_inputs.specs.Inputs.{Held, inputs_of}
 use Rattle.boot_model.specs.declared.stop.Cause.{Cause}
 use Rattle.boot_model.specs.Boot.{Given, Made, boot}
-use Rattle.debugfs_reports.specs.Report.{report_text}
+use Rattle.debugfs_reports.specs.ReportList.{text_of}
 use Rattle.bootmem_cli.specs.declared.failure.Reason.{Reason}
 use Rattle.bootmem_cli.specs.declared.failure.Reason.TheVariants as reasons
 use Rattle.bootmem_cli.specs.declared.failure.Failure.{Failure}
@@ -41,7 +41,8 @@ past_boot (Err cause) shown = tt
 past_words : (held : Held) (accepted : Option Wanted) → IsSome accepted → NotUsage (outcome accepted held)
 past_words held None some = cc
 past_words held (Some wanted) some =
-    past_inputs (inputs_of held wanted.named) (reported wanted.report) (λ given. past_boot (boot given) (report_text wanted.report))
+    past_inputs (inputs_of held wanted.named wanted.kernel) (reported wanted.reports)
+    (λ given. past_boot (boot given) (text_of wanted.reports))
 
 -- the statuses, by the outcome
 ends_unread : (said : Result (List ℕ) Reason) (input : Input) → ReachesFile input said → Ends said 3

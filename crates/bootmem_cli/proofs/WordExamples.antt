@@ -11,7 +11,8 @@ use Rattle.boot_model.specs.declared.stop.Stop.TheVariants as stops
 use Rattle.debugfs_reports.specs.declared.report.Report.TheVariants as reports
 use Rattle.bootmem_cli.specs.declared.failure.Reason.TheVariants as reasons
 use Rattle.bootmem_cli.specs.declared.failure.Failure.TheVariants as failures
-use Rattle.bootmem_cli.specs.Words.{Wanted, is_value, is_option, are_good, are_spelled, word_behind, values_of, at_most_one, value_of, named_by, stand_once, name_in, provided, report_in, accepted, name_text}
+use Rattle.bootmem_cli.specs.Words.{Wanted, is_value, is_option, are_good, are_spelled, word_behind, values_of, at_most_one, value_of, named_by, stand_once, name_in, provided, if_reports, list_in, kernel_asked, accepted, name_text}
+use Rattle.bootmem_cli.specs.Kernel.{default_kernel, if_kernel, kernel_in, kernel_of}
 use Rattle.bootmem_cli.specs.Status.{refusal_status, reason_status, status_of, status_of_end, failure_by, failure_of_input, failure_of_stop}
 use Rattle.bootmem_cli.specs.Line.{whole_line, entry_line, word_line, fault_line, cause_line, refusal_line, reason_line, failure_line}
 
@@ -54,8 +55,22 @@ all_accepted : files_of all_words ≡ Some all_found
 unfolding name_in
 all_accepted = refl
 
-report_is_told : option_map (λ wanted. wanted.report) (accepted all_words) ≡ Some reports.Map
-report_is_told = refl
+reports_are_told : option_map (λ wanted. wanted.reports) (accepted all_words) ≡ Some (reports.Map ∷ [])
+reports_are_told = refl
+
+kernel_is_told : option_map (λ wanted. wanted.kernel) (accepted all_words) ≡ Some default_kernel
+kernel_is_told = refl
+
+-- a list of reports, and a kernel of 2 MiB from 16 MiB on
+abbrev list_words : List (List ℕ)
+list_words =
+    codes "--kernel" ∷ codes "16M,0x200000" ∷ codes "--report" ∷ codes "map,options,map" ∷ codes "zp" ∷ []
+
+list_is_told : option_map (λ wanted. wanted.reports) (accepted list_words) ≡ Some (reports.Map ∷ reports.Options ∷ reports.Map ∷ [])
+list_is_told = refl
+
+kernel_given : option_map (λ wanted. wanted.kernel) (accepted list_words) ≡ Some (record { base = 0x1000000; size = 0x200000 })
+kernel_given = refl
 
 -- refused: no word, no report, another report, no name, an option twice, a word behind the name, an option
 -- that there isn't, and a value or a name that looks like an option
@@ -64,6 +79,16 @@ no_words = refl
 
 no_report : accepted (codes "zp" ∷ []) ≡ None
 no_report = refl
+
+empty_name_in_list : accepted (codes "--report" ∷ codes "map,," ∷ codes "zp" ∷ []) ≡ None
+empty_name_in_list = refl
+
+kernel_below_the_first_MiB : accepted (codes "--kernel" ∷ codes "0xFF000,0x2000000" ∷ codes "--report" ∷ codes "map" ∷ codes "zp" ∷ []) ≡ None
+kernel_below_the_first_MiB = refl
+
+kernel_twice : accepted (codes "--kernel" ∷ codes "16M,32M" ∷ codes "--report" ∷ codes "map" ∷ codes "--kernel" ∷ codes "16M,32M" ∷ codes "zp" ∷
+    []) ≡ None
+kernel_twice = refl
 
 other_report : accepted (codes "--report" ∷ codes "maps" ∷ codes "zp" ∷ []) ≡ None
 other_report = refl
@@ -141,9 +166,32 @@ once_in_words = (refl, refl)
 good_examples : (are_good first_words ≡ true) × (are_good (codes "--report" ∷ codes "map" ∷ []) ≡ false)
 good_examples = (refl, refl)
 
-report_examples : (report_in first_words ≡ Some reports.Map) × (report_in (codes "--report" ∷ codes "Map" ∷ codes "zp" ∷ []) ≡ None)
-    × (report_in (codes "zp" ∷ []) ≡ None)
-report_examples = (refl, refl, refl)
+if_reports_examples : (if_reports (codes "map,map") ≡ Some (codes "map,map")) × (if_reports (codes "map,Map") ≡ None)
+if_reports_examples = (refl, refl)
+
+list_examples : (list_in first_words ≡ Some (codes "map")) × (list_in (codes "--report" ∷ codes "Map" ∷ codes "zp" ∷ []) ≡ None)
+    × (list_in (codes "zp" ∷ []) ≡ None)
+list_examples = (refl, refl, refl)
+
+asked_examples : (kernel_asked first_words ≡ Some default_kernel) × (kernel_asked (codes "--kernel" ∷ codes "16M" ∷ codes "zp" ∷ []) ≡ None)
+asked_examples = (refl, refl)
+
+-- the least image, and the last one; one frame too few, half a frame, and a frame too far
+bound_examples : (kernel_in (codes "1M,8K") ≡ Some (record { base = 0x100000; size = 8192 }))
+    × (kernel_in (codes "0x3FFFFFFFE000,8192") ≡ Some (record { base = 0x3FFFFFFFE000; size = 8192 }))
+    × (kernel_in (codes "1M,4K") ≡ None) × (kernel_in (codes "0x100800,32M") ≡ None) × (kernel_in (codes "0x3FFFFFFFF000,8192") ≡ None)
+bound_examples = (refl, refl, refl, refl, refl)
+
+-- one comma, and a size on each side of it that takes all that stands there
+spelling_examples : (kernel_in (codes "16M") ≡ None) × (kernel_in (codes "16M,32M,") ≡ None) × (kernel_in (codes " 16M,32M") ≡ None)
+    × (kernel_in (codes "16M,") ≡ None) × (kernel_in (codes "16E,32M") ≡ None)
+spelling_examples = (refl, refl, refl, refl, refl)
+
+if_kernel_examples : (if_kernel default_kernel ≡ Some default_kernel) × (if_kernel (record { base = 0; size = 0x2000000 }) ≡ None)
+if_kernel_examples = (refl, refl)
+
+kernel_examples : (kernel_of None ≡ Some default_kernel) × (kernel_of (Some (codes "0x1000000,0x2000000")) ≡ Some default_kernel)
+kernel_examples = (refl, refl)
 
 provided_examples : (provided true ≡ Some tt) × (provided false ≡ None)
 provided_examples = (refl, refl)
@@ -196,8 +244,9 @@ entry_lines = (refl, refl, refl)
 
 word_lines : (fault_line (codes "cmdline") (faults.UserMapInvalid 12) ≡ codes "bootmem: cmdline: word 12: user map\n")
     × (word_line (codes "cmdline") 1 (codes "mem") ≡ codes "bootmem: cmdline: word 1: mem\n")
+    × (fault_line (codes "cmdline") (faults.BadCrash 1) ≡ codes "bootmem: cmdline: word 1: crashkernel\n")
 unfolding digits
-word_lines = (refl, refl)
+word_lines = (refl, refl, refl)
 
 -- a file of too many bytes, and a line of too many
 long_lines : (refusal_line None (refusals.Faulty inputs.CommandLine faults.TooLong) ≡ codes "bootmem: cmdline: too long\n")

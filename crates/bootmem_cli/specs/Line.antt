@@ -42,6 +42,7 @@ fault_line name faults.LineTooLong = whole_line name (codes "line too long")
 fault_line name faults.OpenQuote = whole_line name (codes "open quote")
 fault_line name (faults.BadMem word) = word_line name word (codes "mem")
 fault_line name (faults.BadMemmap word) = word_line name word (codes "memmap")
+fault_line name (faults.BadCrash word) = word_line name word (codes "crashkernel")
 fault_line name (faults.UserMapInvalid word) = word_line name word (codes "user map")
 fault_line name (faults.BadNuma word) = word_line name word (codes "numa")
 

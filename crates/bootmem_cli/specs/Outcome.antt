@@ -6,7 +6,7 @@ use Rattle.boot_inputs.specs.Inputs.{Held, inputs_of}
 use Rattle.boot_model.specs.declared.stop.Cause.{Cause}
 use Rattle.boot_model.specs.Boot.{Given, boot}
 use Rattle.debugfs_reports.specs.declared.report.Report.{Report}
-use Rattle.debugfs_reports.specs.Report.{report_text}
+use Rattle.debugfs_reports.specs.ReportList.{text_of}
 use Rattle.bootmem_cli.specs.declared.failure.Reason.{Reason}
 use Rattle.bootmem_cli.specs.declared.failure.Reason.TheVariants as reasons
 use Rattle.bootmem_cli.specs.Words.{Wanted}
@@ -23,15 +23,15 @@ or_refused answer = with_error reasons.Refused answer
 abbrev pub or_stopped : {A : Type 0} → Result A Cause → Result A Reason
 or_stopped answer = with_error reasons.Stopped answer
 
--- the report of what the boot makes of the inputs
-abbrev pub reported : Report → Given → Result (List ℕ) Reason
-reported report given = do
+-- the text of the reports of what the boot makes of the inputs
+abbrev pub reported : List Report → Given → Result (List ℕ) Reason
+reported reports given = do
   made ← or_stopped (boot given)
-  Ok (report_text report made)
+  Ok (text_of reports made)
 
 -- what the program comes to: the text that it writes, or why there is none
 abbrev pub outcome : Option Wanted → Held → Result (List ℕ) Reason
 outcome accepted held = do
   wanted ← or_usage accepted
-  given ← or_refused (inputs_of held wanted.named)
-  reported wanted.report given
+  given ← or_refused (inputs_of held wanted.named wanted.kernel)
+  reported wanted.reports given

@@ -2,20 +2,22 @@
 -- order, and then the name of the zero page.
 use Rattle.std.specs.Prelude.{ℕ, nat_eq, Bool, true, false, ◌&&◌, ◌||◌, is_some, not, if◌then◌else◌, List, [], ◌∷◌, map, codes, Option, Some, None, String, string_bytes, unwrap_or}
 use Rattle.std.specs.List.{starts_with}
-use Rattle.std.specs.Option.{option_and_then}
 use Rattle.std.specs.Str.{bytes_eq}
 use Rattle.std.specs.declared.alloc.Global.{Global}
+use Rattle.bm_base.specs.Extent.{Extent}
 use Rattle.bm_base.specs.OptionSteps.{◌>>=◌}
 use Rattle.boot_inputs.specs.declared.input.Input.{Input}
 use Rattle.boot_inputs.specs.declared.input.Input.TheVariants as inputs
 use Rattle.boot_inputs.specs.Inputs.{Named}
 use Rattle.debugfs_reports.specs.declared.report.Report.{Report}
-use Rattle.debugfs_reports.specs.Report.{report_named}
+use Rattle.debugfs_reports.specs.ReportList.{are_reports, reports_in}
+use Rattle.bootmem_cli.specs.Kernel.{kernel_of}
 
--- what accepted words ask for: the name of each input's file, where it has one, and the report
+-- what accepted words ask for: the name of each input's file, where it has one, where the kernel lies, and the reports
 pub record Wanted : Type 0 where
   pub named : Named
-  pub report : Report
+  pub kernel : Extent
+  pub reports : List Report
 
 abbrev pub texts : List (String Global) → List (List ℕ)
 texts words = map string_bytes words
@@ -26,7 +28,8 @@ is_value word = not (starts_with nat_eq word (codes "-"))
 
 abbrev pub is_option : List ℕ → Bool
 is_option word =
-    bytes_eq word (codes "--report") || bytes_eq word (codes "--e820ext") || bytes_eq word (codes "--cmdline")
+    bytes_eq word (codes "--report") || bytes_eq word (codes "--kernel") || bytes_eq word (codes "--e820ext")
+    || bytes_eq word (codes "--cmdline")
 
 -- every option is one of these, and every other word may stand where it stands
 abbrev pub are_spelled : List (List ℕ) → Bool
@@ -59,8 +62,8 @@ value_of option words = at_most_one (values_of option words)
 -- no option stands twice
 abbrev pub stand_once : List (List ℕ) → Bool
 stand_once words =
-    is_some (value_of (codes "--report") words) && is_some (value_of (codes "--e820ext") words)
-    && is_some (value_of (codes "--cmdline") words)
+    is_some (value_of (codes "--report") words) && is_some (value_of (codes "--kernel") words)
+    && is_some (value_of (codes "--e820ext") words) && is_some (value_of (codes "--cmdline") words)
 
 -- the value of an option that stands once
 abbrev pub named_by : List ℕ → List (List ℕ) → Option (List ℕ)
@@ -72,9 +75,16 @@ name_in words inputs.ZeroPage = word_behind words
 name_in words inputs.Extension = named_by (codes "--e820ext") words
 name_in words inputs.CommandLine = named_by (codes "--cmdline") words
 
--- the report that is asked for
-abbrev pub report_in : List (List ℕ) → Option Report
-report_in words = option_and_then report_named (named_by (codes "--report") words)
+-- a list of reports, as it is spelled: each name in it is a report's
+abbrev pub if_reports : List ℕ → Option (List ℕ)
+if_reports list = if are_reports list then Some list else None
+
+abbrev pub list_in : List (List ℕ) → Option (List ℕ)
+list_in words = named_by (codes "--report") words >>= if_reports
+
+-- where the kernel lies
+abbrev pub kernel_asked : List (List ℕ) → Option Extent
+kernel_asked words = kernel_of (named_by (codes "--kernel") words)
 
 abbrev pub are_good : List (List ℕ) → Bool
 are_good words = are_spelled words && stand_once words && is_some (word_behind words)
@@ -87,9 +97,10 @@ provided true = Some tt
 -- what the words ask for, where they are accepted
 abbrev pub accepted : List (List ℕ) → Option Wanted
 accepted words = do
-  report ← report_in words
+  list ← list_in words
+  kernel ← kernel_asked words
   good ← provided (are_good words)
-  Some (record { named = name_in words; report = report })
+  Some (record { named = name_in words; kernel = kernel; reports = reports_in list })
 
 -- the name of an input's file as a text, which is empty where there is none
 abbrev pub name_text : Option Wanted → Input → List ℕ

@@ -21,10 +21,12 @@
 
 mod clauses;
 mod failure;
+mod kernel;
 mod run;
 mod tell;
 #[cfg(test)]
 mod tests;
+mod wanted;
 mod words;
 
 use bm_io::{RealFiles, StdSink};

@@ -7,7 +7,8 @@ ghost use Rattle.bootmem_cli.specs.Line.{Tells, cause_line, entry_line, failure_
 ghost use Rattle.bootmem_cli.specs.View.{wanted_view};
 
 use crate::failure::{Failure, Reason};
-use crate::words::{Wanted, name_text};
+use crate::wanted::Wanted;
+use crate::words::name_text;
 use bm_io::{Sink, put_all};
 use boot_inputs::{Fault, Refusal};
 use boot_model::Cause;
@@ -68,6 +69,7 @@ fn tell_fault<E: Sink>(err: &mut E, name: &str, fault: Fault)
         Fault::OpenQuote => tell_whole(err, name, "open quote"),
         Fault::BadMem { word } => tell_word(err, name, word, "mem"),
         Fault::BadMemmap { word } => tell_word(err, name, word, "memmap"),
+        Fault::BadCrash { word } => tell_word(err, name, word, "crashkernel"),
         Fault::UserMapInvalid { word } => tell_word(err, name, word, "user map"),
         Fault::BadNuma { word } => tell_word(err, name, word, "numa"),
     }

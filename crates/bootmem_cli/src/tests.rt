@@ -1,4 +1,4 @@
-//! The program over files in memory: the report with memory to spare, and what each object of the outside
+//! The program over files in memory: its reports with memory to spare, and what each object of the outside
 //! does to it. What each input comes to is proved, on examples too (`proofs/`), and not repeated here.
 
 ghost use Rattle.std.specs.Prelude.{◌+◌, ◌≤◌, length, IfOk};
@@ -152,6 +152,13 @@ fn extension_and_command_line(rt: HostRuntime) -> Result<(), Fail> {
         ("mem=0x4000000 -- mem=0", 0, shorter, ""),
         ("x memmap=1M@", 5, "", "bootmem: cmdline: word 2: memmap\n"),
         (
+            "crashkernel=64M-32M:8M",
+            5,
+            "",
+            "bootmem: cmdline: word 1: crashkernel\n",
+        ),
+        ("crashkernel=64M crashkernel=0", 0, longer, ""),
+        (
             "memmap=exactmap memmap=4K$8K memmap=4K$16K",
             6,
             "",
@@ -173,5 +180,50 @@ fn extension_and_command_line(rt: HostRuntime) -> Result<(), Fail> {
         assert_eq!(rt; ended.out.written(), text.as_bytes(), "{want}");
         assert_eq!(rt; ended.err.written(), want.as_bytes(), "{want}");
     }
+    Ok(())
+}
+
+// All texts are there before the first is put, and each that isn't empty is one put.
+#[test]
+fn lists_of_reports(rt: HostRuntime) -> Result<(), Fail> {
+    let both = "== options\nnuma off\n\
+                == map\n\
+                0x0000000000100000..0x0000000007fdffff 1 usable\n\
+                0x0000000007fe0000..0x0000000007ffffff 2 reserved\n";
+    let half = "== options\nnuma off\n\
+                == map\n\
+                0x0000000000100000..0x0000000007fdffff 1 usab";
+    let none: &[u64] = &[];
+    let first: &[u64] = &[1];
+    let second: &[u64] = &[2];
+    let third: &[u64] = &[3];
+    let cases = [
+        ("options,map", "16M,32M", none, 0, both),
+        ("options,map", "16M,32M", first, 4, "== options"),
+        ("options,map", "16M,32M", second, 4, half),
+        ("options,map", "16M,32M", third, 0, both),
+        // a name that is no report's, and an image that ends too far
+        ("options,maps", "16M,32M", none, 2, ""),
+        ("options,map", "16M,64T", none, 2, ""),
+    ];
+    for (list, kernel, puts, status, text) in cases {
+        let words = [
+            "--kernel",
+            kernel,
+            "--report",
+            list,
+            "--cmdline",
+            "cmd",
+            "zp",
+        ];
+        let ended = run_on(rt.alloc(), &words, b"numa=off", [none, puts, none])?;
+        assert_eq!(rt; ended.status, status, "{list} {kernel}");
+        assert_eq!(rt; ended.out.written(), text.as_bytes(), "{list} {kernel}");
+    }
+    // a report without lines makes no put
+    let words = ["--report", "options", "zp"];
+    let ended = run_on(rt.alloc(), &words, b"", [none, first, none])?;
+    assert_eq!(rt; ended.status, 0);
+    assert_eq!(rt; ended.out.written(), b"".as_slice());
     Ok(())
 }

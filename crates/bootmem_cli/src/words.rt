@@ -2,20 +2,13 @@
 
 ghost use Rattle.std.specs.Prelude.{◌≡◌};
 ghost use Rattle.std.specs.Option.{option_map, option_copied};
-ghost use Rattle.bootmem_cli.specs.Words.{texts, accepted, are_good, are_spelled, is_option, is_value, name_text, named_by, report_in, stand_once, value_of, word_behind};
+ghost use Rattle.bootmem_cli.specs.Words.{texts, accepted, are_good, are_spelled, is_option, is_value, list_in, name_text, named_by, stand_once, value_of, word_behind};
 ghost use Rattle.bootmem_cli.specs.View.{wanted_view};
 
+use crate::kernel::kernel_of;
+use crate::wanted::Wanted;
 use boot_inputs::{Input, Names};
-use debugfs_reports::{Report, report_named};
-
-/// What accepted words ask for. The names of files are looked up in the words.
-#[derive(Clone, Copy, Debug)]
-pub struct Wanted<'w> {
-    /// The words after the program's name.
-    pub words: &'w [String],
-    /// The report.
-    pub report: Report,
-}
+use debugfs_reports::are_reports;
 
 impl<'w> Names for Wanted<'w> {
     ghost use Rattle.bootmem_cli.specs.Words.{texts, name_in};
@@ -46,20 +39,27 @@ pub fn name_text<'a>(wanted: &'a Option<Wanted<'_>>, input: Input) -> &'a str
 pub fn read_words(words: &[String]) -> Option<Wanted<'_>>
     ensures { option_map wanted_view result ≡ accepted (texts words.now) }
 {
-    let report = report_in(words)?;
+    let list = list_in(words)?;
+    let kernel = kernel_of(named_by(words, "--kernel"))?;
     if !are_good(words) {
         return None;
     }
-    Some(Wanted { words, report })
+    Some(Wanted {
+        words,
+        list,
+        kernel,
+    })
 }
 
-/// The report that is asked for.
-fn report_in(words: &[String]) -> Option<Report>
-    ensures { result ≡ report_in (texts words.now) }
+/// The list of reports that is asked for; each name in it is a report's.
+fn list_in(words: &[String]) -> Option<&str>
+    ensures { option_copied result ≡ list_in (texts words.now) }
 {
-    match named_by(words, "--report") {
-        Some(name) => report_named(name.as_bytes()),
-        None => None,
+    let list = named_by(words, "--report")?;
+    if are_reports(list.as_bytes()) {
+        Some(list)
+    } else {
+        None
     }
 }
 
@@ -92,7 +92,7 @@ fn are_spelled(words: &[String]) -> bool
 fn is_option(word: &str) -> bool
     ensures { result ≡ is_option word.now }
 {
-    word == "--report" || word == "--e820ext" || word == "--cmdline"
+    word == "--report" || word == "--kernel" || word == "--e820ext" || word == "--cmdline"
 }
 
 /// Whether no option stands twice.
@@ -100,6 +100,7 @@ fn stand_once(words: &[String]) -> bool
     ensures { result ≡ stand_once (texts words.now) }
 {
     value_of(words, "--report").is_some()
+        && value_of(words, "--kernel").is_some()
         && value_of(words, "--e820ext").is_some()
         && value_of(words, "--cmdline").is_some()
 }

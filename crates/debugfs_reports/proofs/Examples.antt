@@ -2,6 +2,7 @@
 use Rattle.std.proofs.Common.{◌≡◌, ℕ, true, false, List, [], ◌∷◌, codes, Some, None, refl}
 use Rattle.std.specs.Fmt.{digits}
 use Rattle.address_runs.specs.Runs.{RunOf}
+use Rattle.boot_options.specs.Crash.{no_crash}
 use Rattle.e820_model.specs.declared.edit.Edit.TheVariants as edits
 use Rattle.boot_model.specs.Boot.{Made}
 use Rattle.debugfs_reports.specs.declared.report.Report.TheVariants as reports
@@ -12,10 +13,10 @@ reserved : RunOf ℕ
 reserved = record { base = 0x7FE0000; size = 0x20000; value = 2 }
 
 made : Made
-made = record { map = reserved ∷ []; options = record { edits = edits.Clear ∷ []; numa_off = true } }
+made = record { map = reserved ∷ []; options = record { edits = edits.Clear ∷ []; crash = no_crash; numa_off = true }; items = [] }
 
 nothing : Made
-nothing = record { map = []; options = record { edits = []; numa_off = false } }
+nothing = record { map = []; options = record { edits = []; crash = no_crash; numa_off = false }; items = [] }
 
 text_examples : (report_text reports.Map made ≡ codes "0x0000000007fe0000..0x0000000007ffffff 2 reserved\n")
     × (report_text reports.Options made ≡ codes "clear\nnuma off\n") × (report_text reports.Options nothing ≡ [])

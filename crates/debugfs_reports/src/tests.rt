@@ -2,7 +2,7 @@
 
 use crate::{Booted, Report, are_reports, render, render_all, report_named, reports_in};
 use bm_base::Range;
-use boot_options::{Edit, Options};
+use boot_options::{CrashOption, Edit, Options};
 use e820_model::Run;
 use std::alloc::Global;
 use std::test::Fail;
@@ -21,6 +21,11 @@ fn booted(alloc: Global) -> Result<Booted, Fail> {
         map: vec![in alloc; LOW]?,
         options: Options {
             edits: vec![in alloc; Edit::Clear]?,
+            crash: CrashOption {
+                plain: None,
+                high: None,
+                low: None,
+            },
             numa_off: false,
         },
     })

@@ -7,7 +7,7 @@ use Rattle.e820_model.specs.Claims.{EndInSpace}
 use Rattle.e820_table.specs.Entries.{nth_entry, first_entries, is_too_far, far_from, first_far}
 
 -- one entry more at the end
-space_push : (es : List Entry) (e : Entry) → EndInSpace es → e.addr + e.size < 2 ^ 64 → EndInSpace (es ++ e ∷ [])
+pub space_push : (es : List Entry) (e : Entry) → EndInSpace es → e.addr + e.size < 2 ^ 64 → EndInSpace (es ++ e ∷ [])
 space_push [] e rest ends = (ends, tt)
 space_push (f ∷ es) e rest ends = (rest.0, space_push es e rest.1 ends)
 

@@ -1,3 +1,5 @@
 mod EntryExamples
 pub mod EntryLaws
 mod InitrdExamples
+mod MadeExamples
+pub mod MadeLaws

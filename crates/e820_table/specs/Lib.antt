@@ -1,4 +1,5 @@
 pub mod Entries
 pub mod Extension
 pub mod Initrd
+pub mod Made
 pub mod ZeroPage

@@ -12,11 +12,15 @@
 
 mod entries;
 mod extension;
+mod generator;
 mod initrd;
+mod made_input;
 #[cfg(test)]
 mod tests;
 mod zero_page;
 
 pub use e820_model::{Edit, Entry};
 pub use extension::{ExtFault, read_ext};
+pub use generator::made;
+pub use made_input::Made;
 pub use zero_page::{ZERO_PAGE_ENTRIES, ZeroFault, ZeroPage, read_zero_page};

@@ -1,8 +1,9 @@
-//! Zero pages and extensions with one fault each, and with several, where the first of them is answered; initrds.
+//! Zero pages and extensions with one fault each, and with several, where the first of them is answered; initrds;
+//! made inputs, whose entries come from an independent program.
 
 ghost use Rattle.std.specs.Prelude.{ℕ, ◌+◌, ◌≤◌, length};
 
-use crate::{Entry, ExtFault, ZeroFault, read_ext, read_zero_page};
+use crate::{Entry, ExtFault, ZeroFault, made, read_ext, read_zero_page};
 use byteorder::{ByteOrder, LittleEndian};
 use std::test::Fail;
 
@@ -13,6 +14,13 @@ fn put_entry(bytes: &mut [u8], offset: usize, entry: Entry)
     LittleEndian::write_u64(&mut bytes[offset..], entry.addr);
     LittleEndian::write_u64(&mut bytes[offset + 8..], entry.size);
     LittleEndian::write_u32(&mut bytes[offset + 16..], entry.kind);
+}
+
+/// Writes a number of 4 bytes at the offset.
+fn put_number(bytes: &mut [u8], offset: usize, number: u32)
+    requires { offset + 4 ≤ length bytes.old }
+{
+    LittleEndian::write_u32(&mut bytes[offset..], number);
 }
 
 /// A zero page that states `count` entries, of which the first two are given.
@@ -69,10 +77,10 @@ fn zero_pages(rt: HostRuntime) -> Result<(), Fail> {
 fn page_with_initrd(second: Entry, loader: u8, address: [u32; 2], size: [u32; 2]) -> [u8; 4096] {
     let mut bytes = page(2, RAM, second);
     bytes[0x210] = loader;
-    LittleEndian::write_u32(&mut bytes[0x0c0..], address[0]);
-    LittleEndian::write_u32(&mut bytes[0x218..], address[1]);
-    LittleEndian::write_u32(&mut bytes[0x0c4..], size[0]);
-    LittleEndian::write_u32(&mut bytes[0x21c..], size[1]);
+    put_number(&mut bytes, 0x0c0, address[0]);
+    put_number(&mut bytes, 0x218, address[1]);
+    put_number(&mut bytes, 0x0c4, size[0]);
+    put_number(&mut bytes, 0x21c, size[1]);
     bytes
 }
 
@@ -145,5 +153,46 @@ fn extensions(rt: HostRuntime) -> Result<(), Fail> {
         read_ext(rt.alloc(), &bytes)?.as_slice(),
         [RAM, LAST].as_slice()
     );
+    Ok(())
+}
+
+#[test]
+fn made_inputs(rt: HostRuntime) -> Result<(), Fail> {
+    // of so many entries: the last one of the page, those behind it, and the last one of these
+    let cases = [
+        (2, (0x10_0000, 0x800_0000, 1), 0, None),
+        (3, (135_266_304, 16_384, 2), 0, None),
+        (5, (135_372_800, 36_864, 2), 0, None),
+        (128, (139_169_792, 4096, 1), 0, None),
+        (
+            129,
+            (140_214_272, 12_288, 1),
+            1,
+            Some((140_226_560, 12_288, 2)),
+        ),
+        (
+            130,
+            (139_661_312, 16_384, 1),
+            2,
+            Some((139_722_752, 12_288, 1)),
+        ),
+        (
+            3000,
+            (139_825_152, 4096, 1),
+            2872,
+            Some((239_824_896, 32_768, 1)),
+        ),
+    ];
+    for (n, page, behind, last) in cases {
+        let input = made(rt.alloc(), n)?;
+        let seen = |entry: &Entry| (entry.addr, entry.size, entry.kind);
+        assert_eq!(rt;
+            input.zero.entries.as_slice().last().map(seen),
+            Some(page),
+            "{n}"
+        );
+        assert_eq!(rt; input.ext.len(), behind, "{n}");
+        assert_eq!(rt; input.ext.as_slice().last().map(seen), last, "{n}");
+    }
     Ok(())
 }

@@ -2,7 +2,7 @@
 -- where it lies the older bytes don't count.
 use Rattle.std.proofs.Common.{◌≡◌, ℕ, ◌+◌, ◌*◌, ◌<◌, ◌≤◌, ◌==◌, Bool, true, false, ◌&&◌, ◌||◌, if◌then◌else◌, List, [], ◌∷◌, ◌++◌, length, refl, sym, ◌∙◌, ap, subst, append_assoc, arith, length-append}
 use Rattle.std.specs.Prelude.{unwrap_or}
-use Rattle.std.proofs.lemmas.Bool.{ne_eqb}
+use Rattle.std.proofs.lemmas.Bool.{ne_eqb, or_parts}
 use Rattle.std.proofs.lemmas.List.{append-nil}
 use Rattle.std.proofs.Math.Seq.{drop-append_seam}
 use Rattle.bm_base.specs.Extent.{Extent, covers}
@@ -40,23 +40,14 @@ pub stays_or_left : (w : Which) (kernel : Extent) (items : List Item) (i : Item)
 stays_or_left w kernel items i x here stays =
     subst (λ (r : Extent). covers r x ≡ true) (sym (live-push w kernel items i)) (stays_at w kernel items i x here stays)
 
-or_first : (a b : Bool) → (a || b) ≡ false → a ≡ false
-or_first true b h = cc
-or_first false b h = refl
-
-or_second : (a b : Bool) → (a || b) ≡ false → b ≡ false
-or_second true b h = cc
-or_second false b h = h
-
 -- so do several
 pub still_live : (w : Which) (kernel : Extent) (items more : List Item) (x : ℕ) → covers (live w kernel items) x ≡ true →
     is_left kernel items more x ≡ false → covers (live w kernel (items ++ more)) x ≡ true
 still_live w kernel items [] x here stays = subst (λ (is : List Item). covers (live w kernel is) x ≡ true) (sym (append-nil items)) here
 still_live w kernel items (i ∷ more) x here stays =
-    let now = or_first (leaves kernel items i x) (is_left kernel (items ++ i ∷ []) more x) stays in
-    let later = or_second (leaves kernel items i x) (is_left kernel (items ++ i ∷ []) more x) stays in
+    let parts = or_parts (leaves kernel items i x) (is_left kernel (items ++ i ∷ []) more x) stays in
     subst (λ (is : List Item). covers (live w kernel is) x ≡ true) (append_assoc items (i ∷ []) more)
-    (still_live w kernel (items ++ i ∷ []) more x (stays_or_left w kernel items i x here now) later)
+    (still_live w kernel (items ++ i ∷ []) more x (stays_or_left w kernel items i x here parts.0) parts.1)
 
 -- the byte of two tables that lie where the others lay hides what those showed
 over_bools : (m r n s : Bool) (a b d e c : ℕ) → (m ≡ true → n ≡ true) → (r ≡ true → s ≡ true) →

@@ -33,20 +33,20 @@ stands-by : {T : Type 0} (kernel : Extent) (r : Result T Refusal) (old new : Lis
     → (Placed kernel old → EachCut (Placed kernel) old o.steps) → Stands kernel old → HasBegun old → EndsBy r old new o → Stands kernel new
 stands-by kernel r old new o keeps stands begun ends = λ _. cuts-ends (Placed kernel) r old new o (keeps (stands begun)) ends
 
-claim-cuts : (kernel : Extent) (items : List Item) (r : Extent) (o : Owner) → IsImage kernel → end_of kernel ≤ 2 ^ 64
+claim-cuts : (kernel : Extent) (items : List Item) (r : Extent) (o : Owner) → IsImage kernel → end_of r ≤ 2 ^ 64
     → Stands kernel items → MayClaim kernel items r o → EachCut (Stands kernel) items (claimed r o items).steps
 claim-cuts kernel [] r o image small stands may =
-    let alone : claimed kernel owner.Kernel [] ≡ write (item.Claim kernel owner.Kernel) [] = first-claimed kernel owner.Kernel small in
-    let this : claimed r o [] ≡ claimed kernel owner.Kernel [] =
-    ap (λ (e : Extent). claimed e o []) may.0 ∙ ap (λ (w : Owner). claimed kernel w []) may.1 in
-    subst (λ (c : Outcome). EachCut (Stands kernel) [] c.steps) (sym (this ∙ alone)) (stands, λ _. first-placed kernel image)
+    let first : Placed kernel (item.Claim r o ∷ []) =
+    subst (λ (e : Extent). Placed kernel (item.Claim e o ∷ [])) (sym may.0)
+    (subst (λ (w : Owner). Placed kernel (item.Claim kernel w ∷ [])) (sym may.1) (first-placed kernel image)) in
+    subst (λ (c : Outcome). EachCut (Stands kernel) [] c.steps) (sym (first-claimed r o small)) (stands, λ _. first)
 claim-cuts kernel (i ∷ is) r o image small stands may =
     cuts-map (Placed kernel) (Stands kernel) (i ∷ is) (claimed r o (i ∷ is)).steps (λ t placed _. placed)
     (claimed-cuts kernel (i ∷ is) r o may (stands tt))
 
 -- the calls, one by one
 pub claim-stands : {T : Type 0} (kernel : Extent) (r : Result T Refusal) (old new : List Item) (range : Extent) (who : Owner)
-    → IsImage kernel → end_of kernel ≤ 2 ^ 64 → Stands kernel old → MayClaim kernel old range who → Ends r old new (claimed range who)
+    → IsImage kernel → end_of range ≤ 2 ^ 64 → Stands kernel old → MayClaim kernel old range who → Ends r old new (claimed range who)
     → Stands kernel new
 claim-stands kernel r old new range who image small stands may ends =
     cuts-ends (Stands kernel) r old new (claimed range who old) (claim-cuts kernel old range who image small stands may) ends

@@ -16,6 +16,7 @@ use Rattle.memblock_ranges.specs.Spelling.{spelled_table, spelling_of, node_fiel
 use Rattle.memblock_ranges.specs.Tables.{bytes_of}
 use Rattle.memblock_ranges.proofs.SpellLaws.{length-fields_of}
 use Rattle.growth_model.specs.Sound.{Placed, Fits, Clear}
+use Rattle.growth_model.proofs.ToldLaws.{listed-told, chosen}
 use Rattle.growth_model.specs.Bytes.{table_for, spelled_at, AreSpelled}
 
 memory_first : (here : Bool) (a c : ℕ) → here ≡ true → (if here then a else c) ≡ a
@@ -54,6 +55,22 @@ journal-stands which.Reserved kernel items f x placed spelled here =
     let r = table_for which.Reserved kernel items in
     spelled x ∙ reserved_next (covers (live which.Memory kernel items) x) (covers (live which.Reserved kernel items) x)
     (spelled_at m x) (spelled_at r x) (f x) (beside_memory kernel items x placed here) here
+
+-- and the other way round: where the bytes at both places are those of the spellings, the tables lie in their bytes
+pub spelled-from : (kernel : Extent) (items : List Item) (f : ℕ → ℕ) →
+    ((w : Which) (x : ℕ) → covers (live w kernel items) x ≡ true → f x ≡ spelled_at (table_for w kernel items) x) →
+    AreSpelled (table_for which.Memory kernel items) (table_for which.Reserved kernel items) f
+spelled-from kernel items f each = λ x.
+    chosen (covers (live which.Memory kernel items) x) (covers (live which.Reserved kernel items) x) (f x)
+    (spelled_at (table_for which.Memory kernel items) x) (spelled_at (table_for which.Reserved kernel items) x) (f x)
+    (each which.Memory x) (each which.Reserved x) (λ out too. refl)
+
+-- as lists too
+pub spelled-lists : (kernel : Extent) (items : List Item) (f : ℕ → ℕ) →
+    ((w : Which) → bytes_at f (place_of w kernel items) (24 * room_of w items) ≡ spelled_table (records_of w items) (room_of w items)) →
+    AreSpelled (table_for which.Memory kernel items) (table_for which.Reserved kernel items) f
+spelled-lists kernel items f lists =
+    spelled-from kernel items f (λ w x here. listed-told (table_for w kernel items) f x (lists w) here)
 
 -- a table with room for its records has 24 bytes for each
 pub length-spelled_table : (rs : List (RunOf Label)) (n : ℕ) → length rs ≤ n → length (spelled_table rs n) ≡ 24 * n

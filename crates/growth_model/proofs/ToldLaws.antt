@@ -2,25 +2,31 @@
 use Rattle.std.proofs.Common.{◌≡◌, ℕ, ◌+◌, ◌-◌, ◌*◌, ◌<◌, ◌≤◌, Bool, true, false, if◌then◌else◌, List, get_or, refl, sym, ◌∙◌, ap, arith}
 use Rattle.std.proofs.lemmas.Bool.Decides.{nat_tests}
 use Rattle.bm_base.specs.Extent.{covers}
-use Rattle.phys_store.specs.Bytes.{Stored, byte_of}
+use Rattle.phys_store.specs.Bytes.{Stored, byte_of, bytes_at}
 use Rattle.phys_store.proofs.ByteLists.{get-bytes_at}
 use Rattle.address_runs.specs.Runs.{RunOf}
 use Rattle.memblock_model.specs.Labels.{Label}
 use Rattle.memblock_model.specs.declared.which.Which.{Which}
 use Rattle.memblock_model.specs.declared.which.Which.TheVariants as which
+use Rattle.memblock_ranges.specs.Spelling.{spelled_table}
 use Rattle.memblock_ranges.specs.Tables.{Table, Contents, table_in, bytes_of, bytes_in, StandsIn}
 use Rattle.growth_model.specs.Bytes.{spelled_at, shown_by, AreSpelled, left_by}
 
--- a byte of a table that stands in the store is that of the table's spelling
-pub table-told : (t : Table) (s : List Stored) (x : ℕ) → StandsIn t s → covers (bytes_of t) x ≡ true → byte_of s x ≡ spelled_at t x
-table-told t s x stands here =
+-- where the bytes at a table's place are its spelling, so is each of them
+pub listed-told : (t : Table) (f : ℕ → ℕ) (x : ℕ) → bytes_at f t.place (24 * t.room) ≡ spelled_table t.records t.room →
+    covers (bytes_of t) x ≡ true → f x ≡ spelled_at t x
+listed-told t f x spelled here =
     let low : t.place ≤ x = grind (arith, nat_tests) in
     let high : x < t.place + 24 * t.room = grind (arith, nat_tests) in
     let back : t.place + (x - t.place) ≡ x = omega arith in
-    sym (ap (λ (bs : List ℕ). get_or bs (x - t.place) 0) (sym stands.bytes)
-    ∙ get-bytes_at (byte_of s) t.place (24 * t.room) (x - t.place) (omega arith) ∙ ap (byte_of s) back)
+    sym (ap (λ (bs : List ℕ). get_or bs (x - t.place) 0) (sym spelled) ∙ get-bytes_at f t.place (24 * t.room) (x - t.place) (omega arith)
+    ∙ ap f back)
 
-chosen : (m r : Bool) (y a b c : ℕ) → (m ≡ true → y ≡ a) → (r ≡ true → y ≡ b) → (m ≡ false → r ≡ false → y ≡ c) →
+-- a byte of a table that stands in the store is that of the table's spelling
+pub table-told : (t : Table) (s : List Stored) (x : ℕ) → StandsIn t s → covers (bytes_of t) x ≡ true → byte_of s x ≡ spelled_at t x
+table-told t s x stands here = listed-told t (byte_of s) x stands.bytes here
+
+pub chosen : (m r : Bool) (y a b c : ℕ) → (m ≡ true → y ≡ a) → (r ≡ true → y ≡ b) → (m ≡ false → r ≡ false → y ≡ c) →
     y ≡ (if m then a else (if r then b else c))
 chosen true r y a b c first second neither = first refl
 chosen false true y a b c first second neither = second refl

@@ -40,7 +40,7 @@ pub fn first_claim_places_tables()
 /// A law: however a claim or a free ends, both tables lie in good places from the first claim on.
 pub fn claims_keep_places()
     ensures claimed { (kernel : Extent) (result : Result (Unit {0}) Refusal) (old new : List Item) (range : Extent) (who : Owner) →
-        IsImage kernel → end_of kernel ≤ 2 ^ 64 → (HasBegun old → Placed kernel old) → MayClaim kernel old range who →
+        IsImage kernel → end_of range ≤ 2 ^ 64 → (HasBegun old → Placed kernel old) → MayClaim kernel old range who →
         Ends result old new (claimed range who) → HasBegun new → Placed kernel new }
     ensures freed { (kernel : Extent) (result : Result (Unit {0}) Refusal) (old new : List Item) (range : Extent) →
         Placed kernel old → IsAway kernel range old → Ends result old new (freed range) → Placed kernel new }

@@ -4,10 +4,9 @@ use Rattle.std.proofs.lemmas.Bool.{cases_lt}
 use Rattle.address_runs.specs.Runs.{RunOf, run_end, value_at, AreRuns}
 use Rattle.address_runs.specs.Sweep.{Stays}
 use Rattle.memblock_model.specs.Labels.{Label, Labels}
-use Rattle.memblock_ranges.specs.Tables.{Contents}
 use Rattle.memblock_find.specs.declared.cursor.Look.{Look}
 use Rattle.memblock_find.specs.declared.cursor.Cursor.{Cursor}
-use Rattle.memblock_find.specs.Free.{unclaimed, free_in, IsDownTo}
+use Rattle.memblock_find.specs.Free.{unclaimed, IsDownTo}
 use Rattle.memblock_find.specs.Walk.{run_at, BegunBelow, IsLookDown, IsDownAt, label_at}
 use Rattle.memblock_find.proofs.SlotLaws.{ends_before, ends_ascend, bases_ascend, size_at, value_in, none_beside, other_under}
 
@@ -95,10 +94,10 @@ unclaimed_is memory reserved x a b m r =
     ap (λ (o : Option Label). if is_none o then memory x else None) r ∙ ap (λ (o : Option Label). if is_none b then o else None) m
 
 -- the addresses of a cursor's stretch carry its label
-pub stretch_stays : (t : Contents) (c : Cursor) (from : ℕ) (label : Option Label) → IsDownAt t c
-    → from ≡ max c.memory.bound c.reserved.bound → label ≡ label_at c → Stays (free_in t) from c.at label
-stretch_stays t c from label known from_is label_is x above under =
-    unclaimed_is (value_at t.memory.records) (value_at t.reserved.records) x c.memory.label c.reserved.label
+pub stretch_stays : (ms rs : List (RunOf Label)) (c : Cursor) (from : ℕ) (label : Option Label) → IsDownAt ms rs c
+    → from ≡ max c.memory.bound c.reserved.bound → label ≡ label_at c → Stays (unclaimed (value_at ms) (value_at rs)) from c.at label
+stretch_stays ms rs c from label known from_is label_is x above under =
+    unclaimed_is (value_at ms) (value_at rs) x c.memory.label c.reserved.label
     (known.memory.down.stays x (omega arith) under) (known.reserved.down.stays x (omega arith) under) ∙ sym label_is
 
 -- where memory or the claims change, something else is unclaimed
@@ -119,15 +118,16 @@ stretch_ends memory reserved x m r a None other_m other_r next some =
     ]
 
 -- and where they are unclaimed memory, the address below them carries something else
-pub stretch_down : (t : Contents) (c : Cursor) (from : ℕ) (label : Option Label) → IsDownAt t c
-    → from ≡ max c.memory.bound c.reserved.bound → label ≡ label_at c → label ≢ None → IsDownTo (free_in t) from c.at label
-stretch_down t c from label known from_is label_is some =
+pub stretch_down : (ms rs : List (RunOf Label)) (c : Cursor) (from : ℕ) (label : Option Label) → IsDownAt ms rs c
+    → from ≡ max c.memory.bound c.reserved.bound → label ≡ label_at c → label ≢ None
+    → IsDownTo (unclaimed (value_at ms) (value_at rs)) from c.at label
+stretch_down ms rs c from label known from_is label_is some =
     let held : label_at c ≢ None = subst (λ (o : Option Label). o ≢ None) label_is some in
-    let ends : (x : ℕ) → x + 1 ≡ from → free_in t x ≢ label_at c = λ x next.
-    stretch_ends (value_at t.memory.records) (value_at t.reserved.records) x c.memory.bound c.reserved.bound
+    let ends : (x : ℕ) → x + 1 ≡ from → unclaimed (value_at ms) (value_at rs) x ≢ label_at c = λ x next.
+    stretch_ends (value_at ms) (value_at rs) x c.memory.bound c.reserved.bound
     c.memory.label c.reserved.label known.memory.down.another known.reserved.down.another (next ∙ from_is) held in
     record {
-      stays = stretch_stays t c from label known from_is label_is;
+      stays = stretch_stays ms rs c from label known from_is label_is;
       another = λ x next same. ends x next (same ∙ label_is);
     }
 
@@ -137,7 +137,10 @@ pub all_begun : (rs : List (RunOf Label)) (at count : ℕ) → AreRuns rs → co
 all_begun rs at count runs all last = record {
   runs = runs;
   within = omega arith;
-  before = λ i less. let bases = bases_ascend i (count - 1) rs runs (omega arith) (omega arith) in let top = last (omega arith) in omega arith;
+  before = λ i less.
+      let bases = bases_ascend i (count - 1) rs runs (omega arith) (omega arith) in
+      let top = last (omega arith) in
+      omega arith;
   behind = λ i from less. absurd (omega arith);
 }
 

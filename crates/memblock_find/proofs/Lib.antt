@@ -3,3 +3,4 @@ pub mod DownLaws
 pub mod PlaceLaws
 pub mod UpLaws
 pub mod OneLaws
+mod Examples

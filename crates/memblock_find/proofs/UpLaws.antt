@@ -1,15 +1,11 @@
 -- What a look up tells, and the stretch of addresses that two looks tell of.
-use Rattle.std.proofs.Common.{◌≡◌, ◌≢◌, ◌⊎◌, ℕ, ◌+◌, ◌-◌, ◌^◌, ◌<◌, ◌≤◌, is_none, if◌then◌else◌, Option, Some, None, List, length, min, refl, sym, ◌∙◌, subst, inl, inr, arith}
+use Rattle.std.proofs.Common.{◌≡◌, ◌≢◌, ◌⊎◌, ℕ, ◌+◌, ◌-◌, ◌^◌, ◌<◌, ◌≤◌, Some, None, List, length, refl, sym, subst, inl, inr, arith}
 use Rattle.std.proofs.lemmas.Bool.{cases_lt}
 use Rattle.address_runs.specs.Runs.{RunOf, run_end, value_at, AreRuns}
 use Rattle.address_runs.specs.Edits.{NothingFrom}
-use Rattle.address_runs.specs.Sweep.{Stays}
-use Rattle.memblock_model.specs.Labels.{Label, Labels}
-use Rattle.memblock_ranges.specs.Tables.{Contents}
+use Rattle.memblock_model.specs.Labels.{Label}
 use Rattle.memblock_find.specs.declared.cursor.Look.{Look}
-use Rattle.memblock_find.specs.declared.cursor.Cursor.{Cursor}
-use Rattle.memblock_find.specs.Free.{unclaimed, free_in, IsUpTo}
-use Rattle.memblock_find.specs.Walk.{run_at, EndedBy, IsLookUp, IsUpAt, label_at}
+use Rattle.memblock_find.specs.Walk.{run_at, EndedBy, IsLookUp}
 use Rattle.memblock_find.proofs.SlotLaws.{ends_before, ends_ascend, bases_ascend, size_at, value_in, none_beside, other_past}
 
 -- with every record behind it nothing is at the address or above

@@ -1,5 +1,5 @@
 -- Unclaimed memory, and its runs: memory less what is claimed (`__next_mem_range`, `for_each_free_mem_range`).
-use Rattle.std.specs.Prelude.{◌≡◌, ◌≢◌, ℕ, ◌+◌, ◌<◌, ◌≤◌, is_none, if◌then◌else◌, Option, Some, None}
+use Rattle.std.specs.Prelude.{◌≡◌, ◌≢◌, ℕ, ◌+◌, ◌<◌, ◌≤◌, is_none, if◌then◌else◌, Option, Some, None, List}
 use Rattle.address_runs.specs.Runs.{RunOf, run_end, value_at}
 use Rattle.address_runs.specs.Sweep.{Stays}
 use Rattle.memblock_model.specs.Labels.{Label, Labels}
@@ -12,6 +12,16 @@ unclaimed memory reserved x = if is_none (reserved x) then memory x else None
 -- those of two tables
 abbrev pub free_in : Contents → Labels
 free_in t = unclaimed (value_at t.memory.records) (value_at t.reserved.records)
+
+-- a pass over unclaimed memory from an address up: the records of both tables, and where it is
+pub record Pass : Type 0 where
+  pub memory : List (RunOf Label)
+  pub reserved : List (RunOf Label)
+  pub at : ℕ
+
+-- the labels that it goes over
+abbrev pub free_of : Pass → Labels
+free_of p = unclaimed (value_at p.memory) (value_at p.reserved)
 
 -- the addresses from the one up to the other carry one label, or all none, and the address before them carries something else
 pub record IsDownTo (f : Labels) (from until : ℕ) (label : Option Label) : Type 0 where

@@ -4,7 +4,6 @@ use Rattle.address_runs.specs.Runs.{RunOf, run_end, value_at, AreRuns}
 use Rattle.address_runs.specs.Edits.{NothingFrom}
 use Rattle.address_runs.specs.Sweep.{Stays}
 use Rattle.memblock_model.specs.Labels.{Label, plain_label}
-use Rattle.memblock_ranges.specs.Tables.{Contents}
 use Rattle.memblock_find.specs.Free.{IsDownTo}
 use Rattle.memblock_find.specs.declared.cursor.Look.{Look}
 use Rattle.memblock_find.specs.declared.cursor.Cursor.{Cursor}
@@ -49,11 +48,11 @@ pub record IsLookUp (rs : List (RunOf Label)) (at : ℕ) (look : Look) : Type 0 
 abbrev pub label_at : Cursor → Option Label
 label_at c = if is_none c.reserved.label then c.memory.label else None
 
--- a walk down, or up, has come to the cursor's address
-pub record IsDownAt (t : Contents) (c : Cursor) : Type 0 where
-  pub memory : IsLookDown t.memory.records c.at c.memory
-  pub reserved : IsLookDown t.reserved.records c.at c.reserved
+-- a walk down, or up, over the records of memory and of claims has come to the cursor's address
+pub record IsDownAt (records claims : List (RunOf Label)) (c : Cursor) : Type 0 where
+  pub memory : IsLookDown records c.at c.memory
+  pub reserved : IsLookDown claims c.at c.reserved
 
-pub record IsUpAt (t : Contents) (c : Cursor) : Type 0 where
-  pub memory : IsLookUp t.memory.records c.at c.memory
-  pub reserved : IsLookUp t.reserved.records c.at c.reserved
+pub record IsUpAt (records claims : List (RunOf Label)) (c : Cursor) : Type 0 where
+  pub memory : IsLookUp records c.at c.memory
+  pub reserved : IsLookUp claims c.at c.reserved

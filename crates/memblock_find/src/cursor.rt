@@ -4,7 +4,8 @@
 ghost use Rattle.std.specs.Prelude.{◌≡◌};
 ghost use Rattle.memblock_find.specs.Walk.{label_at};
 
-use memblock_model::Label;
+use memblock_model::{Label, Which};
+use memblock_ranges::{Records, Tables};
 
 /// What one table says of the addresses next to one, up to a bound: one label, or that it covers none.
 #[derive(Clone, Copy)]
@@ -14,6 +15,24 @@ pub struct Look {
     pub bound: u64,
     /// How many of the table's records begin below the bound, in a walk down, or end by it, in a walk up.
     pub slot: u64,
+}
+
+/// The records of both tables, which a walk reads.
+#[derive(Drop)]
+pub struct Lists<'a> {
+    pub memory: Records<'a>,
+    pub reserved: Records<'a>,
+}
+
+/// The records of both tables.
+pub fn lists_of(tables: &Tables) -> Lists<'_>
+    ensures memory { result.memory ≡ tables.now.memory.records }
+    ensures reserved { result.reserved ≡ tables.now.reserved.records }
+{
+    Lists {
+        memory: tables.records(Which::Memory),
+        reserved: tables.records(Which::Reserved),
+    }
 }
 
 /// Where a walk is.

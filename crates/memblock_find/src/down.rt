@@ -2,27 +2,25 @@
 //! search finds the record of each table; from there on each record is looked at once in either table.
 ghost use Rattle.std.specs.Prelude.{◌≡◌, ◌≢◌, ◌<◌, ◌≤◌, max, None};
 ghost use Rattle.address_runs.specs.Sweep.{Stays};
-ghost use Rattle.memblock_ranges.specs.Tables.{records_in};
 ghost use Rattle.memblock_find.specs.Free.{free_in, IsDownTo};
 ghost use Rattle.memblock_find.specs.Walk.{BegunBelow, IsLookDown, IsDownAt};
 
-use crate::cursor::{Cursor, Look};
-use memblock_model::Which;
-use memblock_ranges::{Tables, label_of};
+use crate::cursor::{Cursor, Lists, Look};
+use memblock_ranges::{Records, label_of};
 
-/// How many records of the table begin below the address.
-fn begun_below(tables: &Tables, which: Which, at: u64) -> u64
-    ensures { BegunBelow at (records_in which tables.now) result }
+/// How many records begin below the address.
+fn begun_below(records: &Records<'_>, at: u64) -> u64
+    ensures { BegunBelow at records.now result }
 {
-    let count = tables.head(which).count;
-    if count == 0 || tables.region(which, count - 1).base < at {
+    let count = records.count();
+    if count == 0 || records.get(count - 1).base < at {
         return count;
     }
     let mut low = 0;
     let mut high = count - 1;
     while low < high {
         let middle = low + (high - low) / 2;
-        if tables.region(which, middle).base < at {
+        if records.get(middle).base < at {
             low = middle + 1;
         } else {
             high = middle;
@@ -31,10 +29,10 @@ fn begun_below(tables: &Tables, which: Which, at: u64) -> u64
     low
 }
 
-/// What the table says of the addresses below `at`, where so many of its records begin below it.
-fn look_down(tables: &Tables, which: Which, slot: u64, at: u64) -> Look
-    requires { BegunBelow at (records_in which tables.now) slot }
-    ensures { IsLookDown (records_in which tables.now) at result }
+/// What the records say of the addresses below `at`, where so many of them begin below it.
+fn look_down(records: &Records<'_>, slot: u64, at: u64) -> Look
+    requires { BegunBelow at records.now slot }
+    ensures { IsLookDown records.now at result }
 {
     if slot == 0 {
         return Look {
@@ -43,7 +41,7 @@ fn look_down(tables: &Tables, which: Which, slot: u64, at: u64) -> Look
             slot: 0,
         };
     }
-    let region = tables.region(which, slot - 1);
+    let region = records.get(slot - 1);
     let end = region.base + region.size;
     if end < at {
         Look {
@@ -61,30 +59,30 @@ fn look_down(tables: &Tables, which: Which, slot: u64, at: u64) -> Look
 }
 
 /// The look of a walk that has come down to `at`: the same as long as its bound isn't reached.
-fn look_on(tables: &Tables, which: Which, look: Look, from: u64, at: u64) -> Look
-    requires look { IsLookDown (records_in which tables.now) from look }
+fn look_on(records: &Records<'_>, look: Look, from: u64, at: u64) -> Look
+    requires look { IsLookDown records.now from look }
     requires above { look.bound ≤ at }
     requires below { at ≤ from }
-    ensures { IsLookDown (records_in which tables.now) at result }
+    ensures { IsLookDown records.now at result }
 {
     if look.bound == at {
-        look_down(tables, which, look.slot, at)
+        look_down(records, look.slot, at)
     } else {
         look
     }
 }
 
 /// The cursor of a walk down that begins at the address.
-pub fn cursor_below(tables: &Tables, at: u64) -> Cursor
+pub fn cursor_below(lists: &Lists<'_>, at: u64) -> Cursor
     ensures at { result.at ≡ at }
-    ensures down { IsDownAt tables.now result }
+    ensures down { IsDownAt lists.now.memory lists.now.reserved result }
 {
-    let memory = begun_below(tables, Which::Memory, at);
-    let reserved = begun_below(tables, Which::Reserved, at);
+    let memory = begun_below(&lists.memory, at);
+    let reserved = begun_below(&lists.reserved, at);
     Cursor {
         at,
-        memory: look_down(tables, Which::Memory, memory, at),
-        reserved: look_down(tables, Which::Reserved, reserved, at),
+        memory: look_down(&lists.memory, memory, at),
+        reserved: look_down(&lists.reserved, reserved, at),
     }
 }
 
@@ -98,16 +96,16 @@ impl Cursor {
     }
 
     /// The cursor at that address.
-    pub fn down(&self, tables: &Tables) -> Cursor
-        requires { IsDownAt tables.now self.now }
+    pub fn down(&self, lists: &Lists<'_>) -> Cursor
+        requires { IsDownAt lists.now.memory lists.now.reserved self.now }
         ensures at { result.at ≡ max self.now.memory.bound self.now.reserved.bound }
-        ensures down { IsDownAt tables.now result }
+        ensures down { IsDownAt lists.now.memory lists.now.reserved result }
     {
         let at = self.bottom();
         Cursor {
             at,
-            memory: look_on(tables, Which::Memory, self.memory, self.at, at),
-            reserved: look_on(tables, Which::Reserved, self.reserved, self.at, at),
+            memory: look_on(&lists.memory, self.memory, self.at, at),
+            reserved: look_on(&lists.reserved, self.reserved, self.at, at),
         }
     }
 }

@@ -1,10 +1,13 @@
 //! Runs of unclaimed memory, one at a time: below an address or from one on. A caller that goes over several
 //! asks again at the run's start or end; each call costs two binary searches and what bare bytes it passes.
-ghost use Rattle.std.specs.Prelude.{◌≡◌, ◌-◌, ◌≤◌, MatchOption, None};
+ghost use Rattle.std.specs.Prelude.{◌≡◌, ◌-◌, ◌≤◌, MatchOption, IfSome, None};
+ghost use Rattle.address_runs.specs.Runs.{run_end, value_at};
 ghost use Rattle.address_runs.specs.Edits.{NothingFrom};
 ghost use Rattle.address_runs.specs.Sweep.{Stays};
-ghost use Rattle.memblock_find.specs.Free.{free_in, IsRunBelow, IsRunFrom};
+ghost use Rattle.memblock_find.specs.Walk.{IsUpAt};
+ghost use Rattle.memblock_find.specs.Free.{free_of, unclaimed, free_in, IsRunBelow, IsRunFrom};
 
+use crate::cursor::{Cursor, Lists, lists_of};
 use crate::down::cursor_below;
 use crate::up::cursor_from;
 use bm_base::Range;
@@ -56,12 +59,20 @@ impl FreeRange {
 pub fn prev_free(tables: &Tables, below: u64) -> Option<FreeRange>
     ensures { MatchOption result (Stays (free_in tables.now) 0 below None) (IsRunBelow (free_in tables.now) below) }
 {
-    let mut cursor = cursor_below(tables, below);
+    prev_in(&lists_of(tables), below)
+}
+
+/// That run by the records of both tables.
+fn prev_in(lists: &Lists<'_>, below: u64) -> Option<FreeRange>
+    ensures { MatchOption result (Stays (unclaimed (value_at lists.now.memory) (value_at lists.now.reserved)) 0 below None)
+        (IsRunBelow (unclaimed (value_at lists.now.memory) (value_at lists.now.reserved)) below) }
+{
+    let mut cursor = cursor_below(lists, below);
     while cursor.at > 0 {
         if let Some(label) = cursor.label() {
             return Some(FreeRange::between(cursor.bottom(), cursor.at, label));
         }
-        cursor = cursor.down(tables);
+        cursor = cursor.down(lists);
     }
     None
 }
@@ -71,12 +82,84 @@ pub fn prev_free(tables: &Tables, below: u64) -> Option<FreeRange>
 pub fn next_free(tables: &Tables, from: u64) -> Option<FreeRange>
     ensures { MatchOption result (NothingFrom from (free_in tables.now)) (IsRunFrom (free_in tables.now) from) }
 {
-    let mut cursor = cursor_from(tables, from);
+    next_in(&lists_of(tables), from)
+}
+
+/// That run by the records of both tables.
+fn next_in(lists: &Lists<'_>, from: u64) -> Option<FreeRange>
+    ensures { MatchOption result (NothingFrom from (unclaimed (value_at lists.now.memory) (value_at lists.now.reserved)))
+        (IsRunFrom (unclaimed (value_at lists.now.memory) (value_at lists.now.reserved)) from) }
+{
+    climb(lists, cursor_from(lists, from)).run
+}
+
+/// The lowest run of a walk up from the cursor, and where the walk is behind it.
+#[derive(Clone, Copy)]
+struct Rise {
+    run: Option<FreeRange>,
+    cursor: Cursor,
+}
+
+/// Walks up to the end of the first run of unclaimed memory, or to the top of the addresses.
+fn climb(lists: &Lists<'_>, from: Cursor) -> Rise
+    requires { IsUpAt lists.now.memory lists.now.reserved from }
+    ensures run { MatchOption result.run (NothingFrom from.at (unclaimed (value_at lists.now.memory) (value_at lists.now.reserved)))
+        (IsRunFrom (unclaimed (value_at lists.now.memory) (value_at lists.now.reserved)) from.at) }
+    ensures at { IfSome result.run (λ r. result.cursor.at ≡ run_end r) }
+    ensures order { from.at ≤ result.cursor.at }
+    ensures up { IsUpAt lists.now.memory lists.now.reserved result.cursor }
+{
+    let mut cursor = from;
     while cursor.at < u64::MAX {
+        let next = cursor.up(lists);
         if let Some(label) = cursor.label() {
-            return Some(FreeRange::between(cursor.at, cursor.top(), label));
+            let run = Some(FreeRange::between(cursor.at, next.at, label));
+            return Rise { run, cursor: next };
         }
-        cursor = cursor.up(tables);
+        cursor = next;
     }
-    None
+    Rise { run: None, cursor }
+}
+
+/// The runs of unclaimed memory from an address up, one after another. A run costs the records that the
+/// walk passes, and no search. Contracts see the records of both tables and how far the walk is.
+#[derive(Drop)]
+pub struct FreeRuns<'a> {
+    lists: Lists<'a>,
+    cursor: Cursor,
+}
+
+impl<'a> Model for FreeRuns<'a> {
+    ghost use Rattle.memblock_find.specs.Free.{Pass};
+    ghost use Rattle.memblock_find.specs.Walk.{IsUpAt};
+
+    ghost Value = { Pass };
+
+    ghost view = { λ w. record { memory = w.lists.memory; reserved = w.lists.reserved; at = w.cursor.at } };
+
+    ghost invariant = { λ w. IsUpAt w.lists.memory w.lists.reserved w.cursor };
+}
+
+impl FreeRuns<'_> {
+    /// The walk that begins at the address.
+    pub fn from(tables: &Tables, at: u64) -> FreeRuns<'_>
+        ensures { result ≡ record { memory = tables.now.memory.records; reserved = tables.now.reserved.records; at = at } }
+    {
+        let lists = lists_of(tables);
+        let cursor = cursor_from(&lists, at);
+        FreeRuns { lists, cursor }
+    }
+
+    /// The next run, as [`next_free`] from the address where the walk is, which is at the run's end then.
+    pub fn next_run(&mut self) -> Option<FreeRange>
+        ensures run { MatchOption result (NothingFrom self.old.at (free_of self.old)) (IsRunFrom (free_of self.old) self.old.at) }
+        ensures at { IfSome result (λ r. self.new.at ≡ run_end r) }
+        ensures order { self.old.at ≤ self.new.at }
+        ensures memory { self.new.memory ≡ self.old.memory }
+        ensures reserved { self.new.reserved ≡ self.old.reserved }
+    {
+        let rise = climb(&self.lists, self.cursor);
+        self.cursor = rise.cursor;
+        rise.run
+    }
 }

@@ -6,10 +6,12 @@
 //! `best_in` of `memblock_model`, said of what the records of both tables give at each address.
 //!
 //! [`prev_free`] and [`next_free`] answer one run of unclaimed memory (`for_each_free_mem_range`), below an
-//! address or from one on (`specs/Free.antt`): what walks over unclaimed memory are made of.
+//! address or from one on (`specs/Free.antt`): what walks over unclaimed memory are made of. [`FreeRuns`] goes over all
+//! runs from an address up without a search a run.
 //!
-//! Nothing here takes memory or changes a table. A walk looks at each record of either table once, so a
-//! search costs what lies between the window's end and the place that it finds, and two binary searches.
+//! Nothing here takes memory or changes a table. A walk reads the records where they lie, those that it passes
+//! and no others, so a search costs what lies between the window's end and the place that it finds, and two
+//! binary searches.
 #![tactic(auto)]
 
 mod cursor;
@@ -19,7 +21,10 @@ mod laws;
 mod search;
 mod up;
 
-pub use free::{FreeRange, next_free, prev_free};
+pub use free::{FreeRange, FreeRuns, next_free, prev_free};
 pub use laws::{runs_are_one, searches_follow_the_items};
 pub use memblock_model::Query;
 pub use search::find;
+
+#[cfg(test)]
+mod tests;

@@ -9,6 +9,7 @@ ghost use Rattle.memblock_model.specs.Search.{allows, best_in};
 ghost use Rattle.memblock_find.specs.Free.{unclaimed, IsDownTo};
 ghost use Rattle.memblock_find.specs.Places.{IsBetween, NoPlaceEnds, IsBestBy};
 
+use crate::cursor::{Lists, lists_of};
 use crate::down::cursor_below;
 use bm_base::FRAME_SIZE;
 use memblock_model::{Label, Query};
@@ -23,14 +24,23 @@ pub fn find(tables: &Tables, query: &Query) -> Option<u64>
     requires aligned { (k : ℕ) × (query.now.align ≡ 2 ^ k) }
     ensures { result ≡ best_in (value_at tables.now.memory.records) (value_at tables.now.reserved.records) query.now }
 {
+    find_in(&lists_of(tables), query)
+}
+
+/// The search over the records of both tables.
+fn find_in(lists: &Lists<'_>, query: &Query) -> Option<u64>
+    requires some { 1 ≤ query.now.size }
+    requires aligned { (k : ℕ) × (query.now.align ≡ 2 ^ k) }
+    ensures { result ≡ best_in (value_at lists.now.memory) (value_at lists.now.reserved) query.now }
+{
     let low = query.lo.max(FRAME_SIZE);
-    let mut cursor = cursor_below(tables, query.hi);
+    let mut cursor = cursor_below(lists, query.hi);
     while cursor.at > low {
         let place = place_in_run(query, cursor.label(), cursor.bottom(), cursor.at);
         if place.is_some() {
             return place;
         }
-        cursor = cursor.down(tables);
+        cursor = cursor.down(lists);
     }
     None
 }

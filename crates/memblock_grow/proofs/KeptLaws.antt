@@ -1,5 +1,5 @@
 -- The tables follow the items, one by one.
-use Rattle.std.proofs.Common.{◌≡◌, ℕ, ◌+◌, ◌*◌, ◌^◌, ◌<◌, ◌≤◌, Option, Some, None, List, [], ◌∷◌, ◌++◌, length, refl, sym, ◌∙◌, ap, subst, arith}
+use Rattle.std.proofs.Common.{◌≡◌, ℕ, ◌+◌, ◌*◌, ◌^◌, ◌<◌, ◌≤◌, Option, Some, List, [], ◌∷◌, ◌++◌, length, refl, sym, ◌∙◌, ap, subst, arith}
 use Rattle.std.specs.Prelude.{unwrap_or}
 use Rattle.std.proofs.lemmas.Option.{same_Some}
 use Rattle.bm_base.specs.Extent.{Extent, end_of}
@@ -11,7 +11,7 @@ use Rattle.memblock_model.specs.declared.owner.Owner.{Owner}
 use Rattle.memblock_model.specs.declared.item.Item.{Item}
 use Rattle.memblock_model.specs.declared.item.Item.TheVariants as item
 use Rattle.memblock_model.specs.Labels.{Label, Labels, plain_label, with_node}
-use Rattle.memblock_model.specs.Items.{trimmed, limit_of, limit_after}
+use Rattle.memblock_model.specs.Items.{trimmed, limit_after}
 use Rattle.memblock_model.specs.Tables.{table_of, table_after, records_for, records_of, pieces, room_of, room_after, moved_to, moved_after, place_of, built_in}
 use Rattle.memblock_model.proofs.ItemLaws.{limit_of-push, room_of-push, moved_to-push}
 use Rattle.memblock_model.proofs.TableLaws.{value_at-records}
@@ -19,7 +19,7 @@ use Rattle.memblock_ranges.specs.Steps.{EndsInSpace}
 use Rattle.memblock_ranges.specs.Tables.{Table, Contents, table_in, other_in, records_in, room_in, place_in}
 use Rattle.memblock_ranges.proofs.CountLaws.{length-covered, length-uncovered, length-relabelled, length-trimmed}
 use Rattle.memblock_ranges.proofs.StepLaws.{edited-items, untouched-items, items-within}
-use Rattle.growth_model.specs.Growth.{frames_of, count}
+use Rattle.growth_model.specs.Growth.{frames_of}
 use Rattle.growth_model.specs.Sound.{Fits}
 use Rattle.growth_model.specs.Bytes.{table_for}
 use Rattle.memblock_grow.specs.Kept.{AreKept}
@@ -165,7 +165,8 @@ kept-memory kernel items i t u at quiet space limited other is same few kept =
 -- how many records a table has after an edit
 pub few-covered : (w : Which) (kernel : Extent) (items : List Item) (t : Contents) (at : ℕ) (range : Extent) → end_of range < 2 ^ 64
     → AreKept kernel items t at
-    → length (records_for (covered range plain_label (value_at (records_in w t)))) ≤ length (records_in w t) + pieces range (value_at (records_in w t))
+    → length (records_for (covered range plain_label (value_at (records_in w t)))) ≤ length (records_in w t) + pieces range (value_at
+    (records_in w t))
 few-covered w kernel items t at range ends kept =
     let f = value_at (records_in w t) in
     let few = length-covered range plain_label f (omega arith) (values-end w kernel items t at kept) in
@@ -218,7 +219,8 @@ pub kept-node : (kernel : Extent) (items : List Item) (t u : Contents) (at : ℕ
     → u.memory ≡ record t.memory { records = records_for (relabelled range (with_node (Some node)) (value_at t.memory.records)) }
     → u.reserved ≡ t.reserved → AreKept kernel items t at → AreKept kernel (items ++ item.Node range node ∷ []) u at
 kept-node kernel items t u at range node ends room is same kept =
-    let few = length-relabelled range (with_node (Some node)) (value_at t.memory.records) (values-end which.Memory kernel items t at kept) in
+    let few = length-relabelled range (with_node (Some node)) (value_at t.memory.records)
+    (values-end which.Memory kernel items t at kept) in
     let again = ap length (records-again which.Memory kernel items t at kept) in
     let n = ap (λ (s : Table). length s.records) is in
     let m = ap (λ (s : Table). s.room) is in
@@ -284,7 +286,7 @@ far-moved w items place room small twice moved p is =
     let i : Item = item.Grown w place room in
     let here : place ≡ p = same_Some place p (sym (moved_to-push w items i ∙ moved) ∙ is) in
     let wide : 24 * room_of w (items ++ i ∷ []) ≡ 48 * room_of w items =
-        ap (λ (n : ℕ). 24 * n) (room_of-push w items i ∙ twice) ∙ omega arith in
+    ap (λ (n : ℕ). 24 * n) (room_of-push w items i ∙ twice) ∙ omega arith in
     subst (λ (n : ℕ). p + frames_of n < 2 ^ 64) (sym wide) (subst (λ (n : ℕ). n + frames_of (48 * room_of w items) < 2 ^ 64) here small)
 
 far-unmoved : (v w : Which) (kernel : Extent) (items : List Item) (place room : ℕ) (t : Contents) (at : ℕ) → AreKept kernel items t at
@@ -327,7 +329,8 @@ pub kept-grown : (w : Which) (kernel : Extent) (items : List Item) (place room :
 kept-grown which.Memory kernel items place room t u at small is same kept =
     let i : Item = item.Grown which.Memory place room in
     let first = table-moved which.Memory kernel items place room t.memory u.memory refl refl refl kept.memory is in
-    let second = table-unmoved which.Reserved which.Memory kernel items place room t.reserved u.reserved refl refl refl kept.reserved same in
+    let second = table-unmoved which.Reserved which.Memory kernel items place room t.reserved u.reserved refl refl refl kept.reserved same
+    in
     record {
       memory = first;
       reserved = second;

@@ -1,2 +1,9 @@
 pub mod KeptLaws
 pub mod PlaceLaws
+pub mod MoreLaws
+pub mod ReservedLaws
+pub mod WholeLaws
+pub mod ChangeLaws
+pub mod MemblockLaws
+pub mod MemoryLaws
+pub mod RequestLaws

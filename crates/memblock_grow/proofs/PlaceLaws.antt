@@ -1,6 +1,6 @@
 -- The places that the tables' own search finds are those of the items, and what a table leaves is what the items say.
-use Rattle.std.proofs.Common.{◌≡◌, ◌≢◌, ℕ, ◌+◌, ◌*◌, ◌^◌, ◌<◌, ◌≤◌, ◌==◌, Bool, true, false, min, if◌then◌else◌, Option, Some, None, List, [], ◌∷◌, ◌++◌, length, refl, sym, ◌∙◌, ap, subst, inl, inr, ◌⊎◌, fold, arith}
-use Rattle.std.proofs.lemmas.Bool.{cases_Bool, eq-eqb, eqb-true}
+use Rattle.std.proofs.Common.{◌≡◌, ◌≢◌, ℕ, ◌+◌, ◌*◌, ◌^◌, ◌<◌, ◌≤◌, ◌==◌, Bool, true, false, min, if◌then◌else◌, Option, Some, None, List, [], ◌∷◌, refl, sym, ◌∙◌, ap, subst, inl, inr, fold, arith}
+use Rattle.std.proofs.lemmas.Bool.{cases_Bool, eq-eqb}
 use Rattle.std.proofs.lemmas.Bool.Decides.{nat_tests}
 use Rattle.std.specs.Prelude.{unwrap_or}
 use Rattle.std.specs.Option.{option_map, option_or, SomeIff}
@@ -17,7 +17,7 @@ use Rattle.memblock_model.specs.Items.{limit_of}
 use Rattle.memblock_model.specs.Tables.{table_of, room_of, room_after, moved_to, moved_after, place_of, built_in}
 use Rattle.memblock_model.specs.Search.{fits_in, best_in, best}
 use Rattle.memblock_model.proofs.SearchLaws.{best_in-is, best_in-fails, fits_in-parts}
-use Rattle.memblock_ranges.specs.Tables.{Contents, records_in, room_in, place_in}
+use Rattle.memblock_ranges.specs.Tables.{Contents, room_in, place_in}
 use Rattle.growth_model.specs.Growth.{frames_of, frames_at, table_query, place_beside, old_frames}
 use Rattle.memblock_grow.specs.Kept.{AreKept}
 use Rattle.memblock_grow.specs.Places.{best_of, frames_between, frames_beside, left_frames}

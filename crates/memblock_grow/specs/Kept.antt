@@ -1,5 +1,5 @@
 -- The tables are those that the items stand for, and lie in memory soundly: what holds between calls, and what each call keeps.
-use Rattle.std.specs.Prelude.{◌≡◌, ℕ, ◌+◌, ◌*◌, ◌^◌, ◌<◌, Option, Some, List, IsTrue}
+use Rattle.std.specs.Prelude.{◌≡◌, ℕ, ◌+◌, ◌*◌, ◌^◌, ◌<◌, Some, List, IsTrue}
 use Rattle.bm_base.specs.Extent.{Extent}
 use Rattle.address_runs.specs.Edits.{NothingFrom}
 use Rattle.phys_store.specs.Bytes.{Stored, byte_of, is_ready}

@@ -2,3 +2,4 @@ pub mod Contents
 pub mod Kept
 pub mod Places
 pub mod More
+pub mod Touch

@@ -30,7 +30,8 @@ fn look(tables: &Tables)
 /// The table covers the range: what it didn't cover yet has no node.
 pub fn cover(tables: &mut Tables, which: Which, range: Range)
     requires some { 0 < range.size }
-    requires room { length (records_in which tables.old) + pieces range (value_at (records_in which tables.old)) ≤ room_in which tables.old }
+    requires room { length (records_in which tables.old) + pieces range (value_at (records_in which tables.old))
+        ≤ room_in which tables.old }
     ensures table { table_in which tables.new ≡ record (table_in which tables.old) {
       records = records_for (covered range plain_label (value_at (records_in which tables.old)));
     } }

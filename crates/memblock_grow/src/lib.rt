@@ -20,6 +20,12 @@
 #![tactic(auto)]
 
 mod edits;
+mod memblock;
+mod memory;
 mod more;
 mod places;
+mod request;
 mod reserved;
+
+pub use growth_model::{Refusal, Request};
+pub use memblock::Memblock;

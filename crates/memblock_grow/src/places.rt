@@ -1,12 +1,10 @@
 //! Where a table that grows may go to (`memblock_double_array`), and what it leaves.
-ghost use Rattle.std.specs.Prelude.{◌≡◌, ◌≢◌, ℕ, ◌+◌, ◌*◌, ◌^◌, ◌<◌, ◌≤◌, SomeIff};
-ghost use Rattle.address_runs.specs.Runs.{value_at};
-ghost use Rattle.memblock_model.specs.Search.{best_in};
+ghost use Rattle.std.specs.Prelude.{◌≡◌, ◌≢◌, ◌+◌, ◌*◌, ◌^◌, ◌<◌, SomeIff};
 ghost use Rattle.growth_model.specs.Growth.{frames_of};
 ghost use Rattle.memblock_grow.specs.Places.{frames_between, frames_beside, left_frames};
 
 use bm_base::{FRAME_SIZE, Range};
-use memblock_model::Query;
+use memblock_find::{Query, find};
 use memblock_ranges::{Head, Tables};
 
 /// The records that a table has room for as long as it never moved (`INIT_MEMBLOCK_REGIONS`).
@@ -59,12 +57,4 @@ pub fn left_place(head: Head) -> Option<Range>
     }
     let size = frames(head.room.checked_mul(24)?)?;
     Range::new(head.place, size)
-}
-
-fn find(tables: &Tables, query: &Query) -> Option<u64>
-    requires some { 1 ≤ query.now.size }
-    requires aligned { (k : ℕ) × (query.now.align ≡ 2 ^ k) }
-    ensures { result ≡ best_in (value_at tables.now.memory.records) (value_at tables.now.reserved.records) query.now }
-{
-    None
 }

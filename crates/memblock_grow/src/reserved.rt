@@ -9,7 +9,7 @@ ghost use Rattle.growth_model.specs.Growth.{reserved_growth, grown, claimed, fre
 ghost use Rattle.growth_model.specs.Ends.{Ends};
 ghost use Rattle.growth_model.specs.Sound.{HasBegun};
 ghost use Rattle.memblock_grow.specs.Kept.{IsKept, AllowsClaim, AllowsFree, Keeps, KeepsBytes, StayReady};
-ghost use Rattle.memblock_grow.specs.More.{more_by, HasRoom, Grew};
+ghost use Rattle.memblock_grow.specs.More.{more_by, HasRoom, Grew, EndsBefore};
 
 use crate::edits::{cover, relocate, uncover};
 use crate::more::{More, is_full};
@@ -21,7 +21,12 @@ use memblock_ranges::Tables;
 
 /// The table doubles, at a place beside the range (`memblock_double_array`): one step of three items, or of two where it
 /// lay in the kernel's image. Nothing is written where it finds no place, or where memory runs out.
-fn grow_reserved(journal: &mut Journal, tables: &mut Tables, limit: u64, avoid: Range) -> Result<(), Refusal>
+fn grow_reserved(
+    journal: &mut Journal,
+    tables: &mut Tables,
+    limit: u64,
+    avoid: Range,
+) -> Result<(), Refusal>
     requires kept { IsKept journal.old.items tables.old limit }
     requires begun { HasBegun journal.old.items }
     ensures ends { Ends result journal.old.items journal.new.items (reserved_growth avoid) }
@@ -78,6 +83,7 @@ fn grow_reserved_once(
     ensures still_ready { StayReady tables.old.store tables.new.store }
     ensures memory { tables.new.memory ≡ tables.old.memory }
     ensures grew { OnOk result (HasRoom more.now tables.new.reserved ⊎ Grew tables.old.reserved tables.new.reserved) }
+    ensures within { EndsBefore more.now }
     ensures idle { HasRoom more.now tables.old.reserved →
         IsOk result × (journal.new ≡ journal.old) × (tables.new ≡ tables.old) }
 {
@@ -113,7 +119,13 @@ fn make_reserved_room(
 
 /// The range is claimed for the owner (`memblock_reserve`). Where an item can be appended without wanting memory and the
 /// table has room, the call takes none.
-pub fn claim(journal: &mut Journal, tables: &mut Tables, limit: u64, range: Range, owner: Owner) -> Result<(), Refusal>
+pub fn claim(
+    journal: &mut Journal,
+    tables: &mut Tables,
+    limit: u64,
+    range: Range,
+    owner: Owner,
+) -> Result<(), Refusal>
     requires some { 0 < range.size }
     requires may { AllowsClaim journal.old.items tables.old limit range owner }
     ensures ends { Ends result journal.old.items journal.new.items (claimed range owner) }
@@ -131,7 +143,12 @@ pub fn claim(journal: &mut Journal, tables: &mut Tables, limit: u64, range: Rang
 }
 
 /// The range is freed (`memblock_phys_free`). It takes no memory where a claim wouldn't.
-pub fn free(journal: &mut Journal, tables: &mut Tables, limit: u64, range: Range) -> Result<(), Refusal>
+pub fn free(
+    journal: &mut Journal,
+    tables: &mut Tables,
+    limit: u64,
+    range: Range,
+) -> Result<(), Refusal>
     requires some { 0 < range.size }
     requires begun { HasBegun journal.old.items }
     requires away { AllowsFree journal.old.items tables.old limit range }

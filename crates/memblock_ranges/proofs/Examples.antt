@@ -1,5 +1,5 @@
 -- Small tables, computed or by the laws: what the definitions say of bytes, of one table and of both.
-use Rattle.std.proofs.Common.{◌≡◌, ℕ, ◌-◌, ◌^◌, ◌<◌, ◌≤◌, ◌&&◌, Some, None, List, [], ◌∷◌, ◌++◌, replicate, refl, sym, ◌∙◌, ap, arith, IsTrue}
+use Rattle.std.proofs.Common.{◌≡◌, ℕ, ◌-◌, ◌^◌, ◌<◌, ◌≤◌, ◌&&◌, Some, None, List, [], ◌∷◌, ◌++◌, length, replicate, refl, sym, ◌∙◌, ap, arith, IsTrue}
 use Rattle.bm_base.specs.Extent.{covers}
 use Rattle.address_runs.proofs.RunsLaws.{behind}
 use Rattle.std.proofs.lemmas.Bool.Decides.{nat_tests}
@@ -12,6 +12,7 @@ use Rattle.memblock_model.specs.declared.item.Item.TheVariants as item
 use Rattle.memblock_ranges.specs.declared.region.Head.{Head}
 use Rattle.memblock_ranges.specs.Spelling.{base_in, size_in, flags_in, node_in, region_in, fields_of, label_of, node_field, run_in, region_of, spelling_of, records_at, spelled_table, FitsRecord, IsRecord}
 use Rattle.memblock_ranges.specs.Tables.{outside, kept_of, list_in, HasTable, Edits, AreRecords, Table, Contents, table_in, other_in, records_in, place_in, room_in, bytes_of, bytes_in, Overlaps, head_of, StandsIn, IsNodeOf, HaveNoNode, table_by, bytes_by, AreTables, Moves}
+use Rattle.memblock_ranges.specs.Lent.{runs_in, AreLent}
 use Rattle.memblock_ranges.specs.Steps.{EndsInSpace}
 use Rattle.memblock_ranges.proofs.SpellLaws.{is_record}
 use Rattle.memblock_ranges.proofs.NewLaws.{first_head}
@@ -99,6 +100,23 @@ ordered = (
   record { runs = tt; within = λ x le. refl },
   record { runs = (omega arith, tt, tt); within = λ x le. rw (behind first_run x (omega (arith, le))) refl },
 )
+
+-- the bytes of one record, and none, as they are lent
+lent_examples : (runs_in first_record 1 ≡ first_run ∷ []) × (runs_in [] 0 ≡ [])
+unfolding records_at bytes_at base_in size_in node_in
+lent_examples = (refl, refl)
+
+nothing_lent : AreLent [] 0
+nothing_lent = record {
+  long = refl;
+  small = omega arith;
+  counted = ap length lent_examples.1;
+  each = λ i less. absurd (omega arith);
+  records = rw lent_examples.1 ordered.0;
+}
+
+not_lent : ¬ AreLent first_record 2
+not_lent lent = let long : 24 ≡ 48 = lent.long in absurd (omega arith)
 
 -- an empty table of no room stands anywhere
 abbrev nowhere : ℕ → Head

@@ -10,3 +10,4 @@ pub mod SpellLaws
 pub mod StepLaws
 pub mod TableSpelling
 pub mod TrimLaws
+pub mod LentLaws

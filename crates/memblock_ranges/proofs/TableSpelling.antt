@@ -54,7 +54,7 @@ spelled_from f (suc count) (suc room) a few known zeros =
     ∙ ap (λ n. bytes_at f a 24 ++ spelled_table (records_at f (a + 24) count) n) left)
 
 -- the record that the bytes spell is the one of the list
-region_back : (bs : List ℕ) → IsRecord bs → region_in bs ≡ region_of (run_in bs)
+pub region_back : (bs : List ℕ) → IsRecord bs → region_in bs ≡ region_of (run_in bs)
 region_back bs known =
     let flags : flags_in bs ≡ 0 = ap flags_in known.spells ∙ flags-fields_of (base_in bs) (size_in bs) (node_in bs) in
     let node : node_in bs ≡ node_field (label_of (node_in bs)) = sym (node_field-label_of (node_in bs)) in

@@ -1,3 +1,4 @@
 pub mod Spelling
 pub mod Tables
 pub mod Steps
+pub mod Lent

@@ -14,6 +14,7 @@ ghost use Rattle.memblock_ranges.specs.Tables.{HasTable, list_in, bytes_by, Edit
 use crate::live::{Live, Seen};
 use crate::pieces::count_pieces;
 use crate::record::region_of;
+use crate::records::Records;
 use crate::region::{Head, RECORD_SIZE, Region};
 use crate::{edits, trim};
 use bm_base::Range;
@@ -124,6 +125,18 @@ pub fn region(store: &Store, head: &Head, i: u64) -> Region
 {
     let seen = Seen { store, head };
     region_of(&seen.get(i))
+}
+
+/// The records of the head's table, to be read.
+pub fn records<'a>(store: &'a Store, head: &Head) -> Records<'a>
+    requires table { HasTable store.now head.now }
+    requires records { AreRecords (list_in store.now head.now) }
+    ensures { result ≡ list_in store.now head.now }
+{
+    Records::of(
+        store.slice(head.place, RECORD_SIZE * head.count),
+        head.count,
+    )
 }
 
 /// The bytes of the head's table.

@@ -27,11 +27,13 @@ mod lent;
 mod live;
 mod pieces;
 mod record;
+mod records;
 mod region;
 mod tables;
 mod trim;
 
 pub use laws::{edits_add_few_records, edits_follow_the_items, pieces_are_few};
 pub use record::{NO_NODE, label_of, node_field};
+pub use records::Records;
 pub use region::{Head, Heads, Region, region_at};
 pub use tables::Tables;

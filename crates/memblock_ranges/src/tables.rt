@@ -14,6 +14,7 @@ ghost use Rattle.memblock_ranges.specs.Tables.{table_in, other_in, records_in, p
 
 use crate::lent;
 use crate::record::label_of;
+use crate::records::Records;
 use crate::region::{Head, Heads, Region};
 use bm_base::{FRAME_SIZE, Memory, Range};
 use memblock_model::Which;
@@ -92,6 +93,16 @@ impl Tables {
         match which {
             Which::Memory => lent::region(&self.store, &self.heads.memory, i),
             Which::Reserved => lent::region(&self.store, &self.heads.reserved, i),
+        }
+    }
+
+    /// The table's records, to be read one after another: where the table lies is found once.
+    pub fn records(&self, which: Which) -> Records<'_>
+        ensures { result ≡ records_in which self.now }
+    {
+        match which {
+            Which::Memory => lent::records(&self.store, &self.heads.memory),
+            Which::Reserved => lent::records(&self.store, &self.heads.reserved),
         }
     }
 

@@ -16,7 +16,7 @@ use Rattle.stage_model.specs.declared.stop.What.{What}
 use Rattle.stage_model.specs.declared.stop.StageStop.{StageStop}
 use Rattle.stage_model.specs.declared.stop.StageStop.TheVariants as stop
 use Rattle.stage_model.specs.Doing.{Done, Doing, appended, after, returns, stops, ◌>>=◌, IsCut, EndsAs}
-use Rattle.stage_model.specs.Requests.{refusal_of, changes, claimed_at, allocated, stop_for, or_stop, placed, unless_gap, or_else}
+use Rattle.stage_model.specs.Requests.{refusal_of, changes, stop_of, carried, claimed_at, allocated, stop_for, or_stop, placed, unless_gap, or_else}
 use Rattle.stage_model.proofs.DoingLaws.{appended-joined, cut-first, ends-second, ends-first, ends-along, ends-returns}
 
 -- a change
@@ -35,6 +35,25 @@ ends-change (Err refusal.Memory) old new change cut =
         stands = cut.stands ∙ sym (appended-joined old (take cut.count (change old).steps));
       },
     )
+
+-- a change that the boot can't do without
+pub ends-carried : (old new : List Item) (change : Change) → Ends {T = Unit {0}} (Ok tt) old new change
+    → EndsAs stop.Memory (Ok tt) old new (carried change old)
+ends-carried old new change h = (ap stop_of h.0, h.1 ∙ sym (appended-joined old (change old).steps))
+
+pub carried-table : (T : Type 0) (w : Which) (room : ℕ) (old new : List Item) (change : Change)
+    → Ends {T = T} (Err (refusal.NoGapForTable w room)) old new change
+    → EndsAs {A = Unit {0}} stop.Memory (Err (stop.NoTablePlace w room)) old new (carried change old)
+carried-table T w room old new change h = inl (ap stop_of h.0, h.1 ∙ sym (appended-joined old (change old).steps))
+
+pub carried-wanting : (T : Type 0) (old new : List Item) (change : Change) → Ends {T = T} (Err refusal.Memory) old new change
+    → EndsAs {A = Unit {0}} stop.Memory (Err stop.Memory) old new (carried change old)
+carried-wanting T old new change cut =
+    inr (refl, record {
+      count = cut.count;
+      within = cut.within;
+      stands = cut.stands ∙ sym (appended-joined old (take cut.count (change old).steps));
+    })
 
 -- an allocation
 found_by : (r : Result ℕ Refusal) (old new : List Item) (place size : ℕ) (who : Owner) → IfOk r (λ base. base ≡ place)

@@ -1,5 +1,6 @@
 //! What the stages of a boot place, and why a stage stops it.
 
+use bm_base::Memory;
 use memblock_model::Which;
 
 /// A thing that a boot can't do without.
@@ -26,4 +27,15 @@ pub enum StageStop {
     NoTablePlace { which: Which, room: u64 },
     /// The program's own memory ran out.
     Memory,
+}
+
+impl From<Memory> for StageStop {
+    ghost use Rattle.std.specs.Prelude.{◌≡◌};
+    ghost use Rattle.stage_model.specs.declared.stop.StageStop.TheVariants as stops;
+
+    ghost from_gives = { λ _ stop. stop ≡ stops.Memory };
+
+    fn from(_error: Memory) -> StageStop {
+        StageStop::Memory
+    }
 }

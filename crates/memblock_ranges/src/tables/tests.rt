@@ -102,7 +102,7 @@ fn has(tables: &Tables, which: Which, records: &[(u64, u64, u32)]) -> bool {
             flags: 0,
             node,
         };
-        if tables.region(which, i) != expected {
+        if tables.region(which, i) != expected || tables.records(which).get(i) != expected {
             return false;
         }
     }

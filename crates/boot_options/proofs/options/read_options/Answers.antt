@@ -6,7 +6,7 @@ use Rattle.boot_options.specs.Options.{chosen, options_of}
 use Rattle.boot_options.specs.Reading.{at_line_end}
 use Rattle.boot_options.proofs.UserMapLaws.{options-read, options-fault}
 use Rattle.boot_options.proofs.ReadingLaws.{state_at}
-use Rattle.boot_options.proofs.LineBounds.{types-given, ranges-given, numbered-given, options-remembered}
+use Rattle.boot_options.proofs.LineBounds.{types-given, ranges-given, crash-given, numbered-given, options-remembered}
 use Rattle.boot_options.proofs.options.read_options.Goals as goal
 
 -- the fault of a word
@@ -42,6 +42,9 @@ returns-clause-types c = types-given c.args.bytes.now c.finish.result (returns-c
 
 pub returns-clause-ranges : goal.returns-clause-ranges
 returns-clause-ranges c = ranges-given c.args.bytes.now c.finish.result (returns-clause-answers c)
+
+pub returns-clause-crash : goal.returns-clause-crash
+returns-clause-crash c = crash-given c.args.bytes.now c.finish.result (returns-clause-answers c)
 
 pub returns-clause-words : goal.returns-clause-words
 returns-clause-words c = numbered-given c.args.bytes.now c.finish.result (returns-clause-answers c)

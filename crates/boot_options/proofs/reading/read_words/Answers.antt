@@ -6,7 +6,16 @@ use Rattle.boot_options.proofs.reading.read_words.Goals as goal
 
 pub loop-word-init : goal.loop-word-init
 loop-word-init c = record {
-  reading = (start, record { edits = c.new.ensures.items; numa_off = refl; user_map = refl }, refl);
+  reading = (
+    start,
+    record {
+      edits = c.new.ensures.items;
+      crash = record { plain = refl; high = refl; low = refl };
+      numa_off = refl;
+      user_map = refl;
+    },
+    refl,
+  );
   few = omega arith;
 }
 

@@ -1,54 +1,52 @@
 use Rattle.std.proofs.Common.{◌≡◌, ℕ, ◌+◌, ◌-◌, ◌/◌, List, length, ap, arith}
 use Rattle.address_runs.specs.Runs.{RunOf}
 use Rattle.memblock_model.specs.Labels.{Label}
-use Rattle.memblock_ranges.specs.declared.region.Head.{Head}
 use Rattle.memblock_ranges.specs.declared.region.Region.{Region}
-use Rattle.memblock_ranges.specs.Tables.{records_in}
 use Rattle.memblock_find.specs.Walk.{run_at}
 use Rattle.memblock_find.proofs.DownLaws.{all_begun, begun_so_far, not_begun_from}
 use Rattle.memblock_find.proofs.down.begun_below.Goals as goal
-use Rattle.memblock_find.proofs.down.begun_below.Goals.{then-count-eq0-via-then-count-eq0, then-count-eq0-via-else-count-eq0+then-region-at}
+use Rattle.memblock_find.proofs.down.begun_below.Goals.{then-count-eq0-via-then-count-eq0, then-count-eq0-via-else-count-eq0+then-get-at}
 
 pub returns-then-count-eq0 : goal.returns-then-count-eq0
 returns-then-count-eq0 c =
-    let rs : List (RunOf Label) = records_in c.args.which c.args.tables.now in
-    let count : c.head-count.result.count ≡ length rs = ap (λ (h : Head). h.count) c.head-count.ensures.head in
-    all_begun rs c.args.at c.head-count.result.count c.head-count.ensures.table.records.runs count
+    let rs : List (RunOf Label) = c.args.records.now in
+    let count : c.count-count.result ≡ length rs = c.count-count.ensures.count in
+    all_begun rs c.args.at c.count-count.result c.count-count.ensures.records.runs count
     (λ some. elim c.then-count-eq0.branch [
       | then-count-eq0-via-then-count-eq0 w ↦ absurd (omega (arith, w.if-count-eq0.true))
-      | then-count-eq0-via-else-count-eq0+then-region-at w ↦
-          let base : w.region.result.base ≡ (run_at rs (c.head-count.result.count - 1)).base =
-          ap (λ (g : Region). g.base) (w.region.ensures.region _) in
-          let under = w.if-region-at.true in
+      | then-count-eq0-via-else-count-eq0+then-get-at w ↦
+          let base : w.get.result.base ≡ (run_at rs (c.count-count.result - 1)).base =
+          ap (λ (g : Region). g.base) (w.get.ensures.region _) in
+          let under = w.if-get-at.true in
           omega arith
     ])
 
-pub loop-low-preserved-then-region-at-2 : goal.loop-low-preserved-then-region-at-2
-loop-low-preserved-then-region-at-2 c =
-    let rs : List (RunOf Label) = records_in c.args.which c.args.tables.now in
+pub loop-low-preserved-then-get-at-2 : goal.loop-low-preserved-then-get-at-2
+loop-low-preserved-then-get-at-2 c =
+    let rs : List (RunOf Label) = c.args.records.now in
     let middle : ℕ = c.loop-low.low + (c.loop-low.high - c.loop-low.low) / 2 in
-    let base : c.region-in-loop-low.result.base ≡ (run_at rs middle).base = ap (λ (g : Region). g.base) (c.region-in-loop-low.ensures.region _) in
+    let base : c.get-in-loop-low.result.base ≡ (run_at rs middle).base = ap (λ (g : Region). g.base) (c.get-in-loop-low.ensures.region _) in
     let within = c.loop-low.invariant.within in
     let test = c.loop-low-test.true in
-    let under = c.if-region-at-2.true in
+    let under = c.if-get-at-2.true in
     record {
       order = omega arith;
       within = within;
-      before = begun_so_far rs c.args.at middle c.head-count.ensures.table.records.runs (omega arith) (omega arith);
+      before = begun_so_far rs c.args.at middle c.count-count.ensures.records.runs (omega arith) (omega arith);
       behind = c.loop-low.invariant.behind;
     }
 
 pub loop-low-preserved : goal.loop-low-preserved
 loop-low-preserved c =
-    let rs : List (RunOf Label) = records_in c.args.which c.args.tables.now in
+    let rs : List (RunOf Label) = c.args.records.now in
     let middle : ℕ = c.loop-low.low + (c.loop-low.high - c.loop-low.low) / 2 in
-    let base : c.region-in-loop-low.result.base ≡ (run_at rs middle).base = ap (λ (g : Region). g.base) (c.region-in-loop-low.ensures.region _) in
+    let base : c.get-in-loop-low.result.base ≡ (run_at rs middle).base = ap (λ (g : Region). g.base) (c.get-in-loop-low.ensures.region _) in
     let within = c.loop-low.invariant.within in
     let test = c.loop-low-test.true in
-    let behind = c.if-region-at-2.false in
+    let behind = c.if-get-at-2.false in
     record {
       order = omega arith;
       within = omega arith;
       before = c.loop-low.invariant.before;
-      behind = not_begun_from rs c.args.at middle c.head-count.ensures.table.records.runs (omega arith);
+      behind = not_begun_from rs c.args.at middle c.count-count.ensures.records.runs (omega arith);
     }

@@ -1,5 +1,4 @@
 use Rattle.std.proofs.Common.{ℕ, ◌-◌, ◌<◌, ◌≤◌, length}
-use Rattle.memblock_ranges.specs.Tables.{records_in}
 use Rattle.memblock_find.specs.Walk.{run_at}
 use Rattle.memblock_find.proofs.down.begun_below.Given as goal
 
@@ -7,9 +6,9 @@ use Rattle.memblock_find.proofs.down.begun_below.Given as goal
 abbrev pub invariant-loop-low : goal.invariant-loop-low
 invariant-loop-low l = record {
   order : l.low ≤ l.high;
-  within : l.high < length (records_in l.which l.tables);
-  before : (i : ℕ) → i < l.low → (run_at (records_in l.which l.tables) i).base < l.at;
-  behind : (i : ℕ) → l.high ≤ i → i < length (records_in l.which l.tables) → l.at ≤ (run_at (records_in l.which l.tables) i).base;
+  within : l.high < length l.records;
+  before : (i : ℕ) → i < l.low → (run_at l.records i).base < l.at;
+  behind : (i : ℕ) → l.high ≤ i → i < length l.records → l.at ≤ (run_at l.records i).base;
 }
 
 abbrev pub decreases-loop-low : goal.decreases-loop-low

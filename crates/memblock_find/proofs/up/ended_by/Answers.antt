@@ -3,28 +3,27 @@ use Rattle.address_runs.specs.Runs.{RunOf, run_end}
 use Rattle.memblock_model.specs.Labels.{Label}
 use Rattle.memblock_ranges.specs.declared.region.Region.{Region}
 use Rattle.memblock_ranges.specs.Spelling.{region_of}
-use Rattle.memblock_ranges.specs.Tables.{records_in}
 use Rattle.memblock_find.specs.Walk.{run_at}
 use Rattle.memblock_find.proofs.UpLaws.{ended_so_far, not_ended_from}
 use Rattle.memblock_find.proofs.up.ended_by.Goals as goal
 
 pub overflow_add-region : goal.overflow_add-region
 overflow_add-region c =
-    let rs : List (RunOf Label) = records_in c.args.which c.args.tables.now in
+    let rs : List (RunOf Label) = c.args.records.now in
     let r : RunOf Label = run_at rs (c.loop-low.low + (c.loop-low.high - c.loop-low.low) / 2) in
-    let is : c.region-region.result ≡ region_of r = c.region-region.ensures.region _ in
-    let bases : c.region-region.result.base ≡ r.base = ap (λ (g : Region). g.base) is in
-    let sizes : c.region-region.result.size ≡ r.size = ap (λ (g : Region). g.size) is in
-    let small : run_end r < 2 ^ 64 = (c.region-region.ensures.fits _).small in
+    let is : c.get-region.result ≡ region_of r = c.get-region.ensures.region _ in
+    let bases : c.get-region.result.base ≡ r.base = ap (λ (g : Region). g.base) is in
+    let sizes : c.get-region.result.size ≡ r.size = ap (λ (g : Region). g.size) is in
+    let small : run_end r < 2 ^ 64 = (c.get-region.ensures.fits _).small in
     omega arith
 
 pub loop-low-preserved-then-region-at : goal.loop-low-preserved-then-region-at
 loop-low-preserved-then-region-at c =
-    let rs : List (RunOf Label) = records_in c.args.which c.args.tables.now in
+    let rs : List (RunOf Label) = c.args.records.now in
     let middle : ℕ = c.loop-low.low + (c.loop-low.high - c.loop-low.low) / 2 in
-    let is : c.region-region.result ≡ region_of (run_at rs middle) = c.region-region.ensures.region _ in
-    let bases : c.region-region.result.base ≡ (run_at rs middle).base = ap (λ (g : Region). g.base) is in
-    let sizes : c.region-region.result.size ≡ (run_at rs middle).size = ap (λ (g : Region). g.size) is in
+    let is : c.get-region.result ≡ region_of (run_at rs middle) = c.get-region.ensures.region _ in
+    let bases : c.get-region.result.base ≡ (run_at rs middle).base = ap (λ (g : Region). g.base) is in
+    let sizes : c.get-region.result.size ≡ (run_at rs middle).size = ap (λ (g : Region). g.size) is in
     let i = c.loop-low.invariant in
     let within = i.within in
     let test = c.loop-low-test.true in
@@ -39,11 +38,11 @@ loop-low-preserved-then-region-at c =
 
 pub loop-low-preserved : goal.loop-low-preserved
 loop-low-preserved c =
-    let rs : List (RunOf Label) = records_in c.args.which c.args.tables.now in
+    let rs : List (RunOf Label) = c.args.records.now in
     let middle : ℕ = c.loop-low.low + (c.loop-low.high - c.loop-low.low) / 2 in
-    let is : c.region-region.result ≡ region_of (run_at rs middle) = c.region-region.ensures.region _ in
-    let bases : c.region-region.result.base ≡ (run_at rs middle).base = ap (λ (g : Region). g.base) is in
-    let sizes : c.region-region.result.size ≡ (run_at rs middle).size = ap (λ (g : Region). g.size) is in
+    let is : c.get-region.result ≡ region_of (run_at rs middle) = c.get-region.ensures.region _ in
+    let bases : c.get-region.result.base ≡ (run_at rs middle).base = ap (λ (g : Region). g.base) is in
+    let sizes : c.get-region.result.size ≡ (run_at rs middle).size = ap (λ (g : Region). g.size) is in
     let i = c.loop-low.invariant in
     let within = i.within in
     let test = c.loop-low-test.true in

@@ -1,4 +1,4 @@
-use Rattle.std.proofs.Common.{◌≡◌, ℕ, ◌+◌, ◌*◌, ◌/◌, ◌^◌, ◌<◌, ◌≤◌, None, refl, sym, ◌∙◌, ap, arith}
+use Rattle.std.proofs.Common.{◌≡◌, ◌*◌, refl, sym, ◌∙◌, ap, arith}
 use Rattle.growth_model.specs.Growth.{frames_of}
 use Rattle.memblock_grow.proofs.PlaceLaws.{between-none, between-some}
 use Rattle.memblock_grow.proofs.places.place_between.Goals as goal

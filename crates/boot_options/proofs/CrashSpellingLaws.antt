@@ -1,0 +1,266 @@
+-- What is spelled as a form of `crashkernel=` is read as that form.
+use Rattle.std.proofs.Common.{◌≡◌, ℕ, ◌+◌, ◌*◌, ◌^◌, ◌≤◌, ◌==◌, nat_lt, if◌then◌else◌, Bool, true, false, ◌||◌, is_some, Option, Some, None, List, [], ◌∷◌, ◌++◌, length, drop, refl, sym, ap, ◌∙◌, append_assoc, length-append, length-drop, eq-eqb, codes, Ok, Err, IfOk, arith}
+use Rattle.std.proofs.lemmas.Bool.{ne_eqb}
+use Rattle.std.proofs.lemmas.Bool.Decides.{nat_tests}
+use Rattle.std.proofs.lemmas.List.{append-nil}
+use Rattle.std.specs.Char.{is_digit}
+use Rattle.std.specs.Option.{option_map}
+use Rattle.bm_base.specs.OptionSteps.{◌>>=◌}
+use Rattle.bm_base.specs.declared.size.NumFault.{NumFault}
+use Rattle.bm_base.specs.declared.size.NumFault.TheVariants.{NoDigits, TooLarge}
+use Rattle.bm_base.specs.Size.{begins_with_digit, number_value, number_end, suffix_at, suffix_of, with_suffix, size_of, IsSize}
+use Rattle.bm_base.proofs.SizeLaws.{number_end-le, size_of-mark}
+use Rattle.text_words.specs.declared.separators.Separators.TheVariants.{Byte}
+use Rattle.text_words.specs.Parts.{cut, parts_in}
+use Rattle.text_words.specs.Words.{IsClosed}
+use Rattle.text_words.proofs.PartsLaws.{parts-one, parts-spelled}
+use Rattle.boot_options.specs.declared.crash.CrashRange.{CrashRange}
+use Rattle.boot_options.specs.MapOptions.{whole_size}
+use Rattle.boot_options.specs.Crash.{Form, High, Low, Plain, SpellRanges, SpellsEnd, SpellsRange, crash_range_of, crash_ranges_of, end_of_range, form_of, in_order, is_above, joined, place_of, simple_form, suffixed}
+use Rattle.boot_options.proofs.SpellingLaws.{then-some, whole_size-end}
+
+-- the mark isn't in the text
+abbrev pub Lacks : ℕ → List ℕ → Type 0
+Lacks mark [] = Unit {0}
+Lacks mark (b ∷ bs) = (b == mark ≡ false) × Lacks mark bs
+
+lacks-append : (mark : ℕ) (xs ys : List ℕ) → Lacks mark xs → Lacks mark ys → Lacks mark (xs ++ ys)
+lacks-append mark [] ys front back = back
+lacks-append mark (x ∷ xs) ys front back = (front.0, lacks-append mark xs ys front.1 back)
+
+cut-none : (mark : ℕ) (text : List ℕ) → Lacks mark text → cut mark text ≡ None
+cut-none mark [] lacks = refl
+cut-none mark (b ∷ bs) lacks = rw (lacks.0, cut-none mark bs lacks.1) refl
+
+cut-mark : (mark : ℕ) (text rest : List ℕ) → Lacks mark text → cut mark (text ++ (mark ∷ rest)) ≡ Some (text, rest)
+cut-mark mark [] rest lacks = rw (eq-eqb mark mark refl) refl
+cut-mark mark (b ∷ bs) rest lacks = rw (lacks.0, cut-mark mark bs rest lacks.1) refl
+
+-- a size takes no more bytes than there are
+either-le : (t : Bool) (x y : ℕ × ℕ) → x.1 ≤ 1 → y.1 ≤ 1 → (if t then x else y).1 ≤ 1
+either-le true x y front back = front
+either-le false x y front back = back
+
+suffix_at-le : (b : ℕ) → (suffix_at b).1 ≤ 1
+suffix_at-le b =
+    either-le ((b == 75) || (b == 107)) _ _ (omega arith) (either-le ((b == 77) || (b == 109)) _ _ (omega arith)
+    (either-le ((b == 71) || (b == 103)) _ _ (omega arith) (either-le ((b == 84) || (b == 116)) _ _ (omega arith)
+    (either-le ((b == 80) || (b == 112)) _ _ (omega arith) (either-le ((b == 69) || (b == 101)) _ _ (omega arith) (omega arith))))))
+
+suffix_of-le : (text : List ℕ) → (suffix_of text).1 ≤ length text
+suffix_of-le [] = omega arith
+suffix_of-le (b ∷ bs) = let small : (suffix_at b).1 ≤ 1 = suffix_at-le b in omega (arith, small)
+
+size-within : (text : List ℕ) → IfOk {T = ℕ × ℕ} (size_of text) (λ found. found.1 ≤ length text)
+size-within text = by_digit (begins_with_digit text)
+  where
+    by_fit : (t : Bool) (value taken : ℕ) → taken ≤ length text
+        → IfOk {T = ℕ × ℕ} {E = NumFault} (if t then Ok (value, taken) else Err TooLarge) (λ found. found.1 ≤ length text)
+    by_fit true value taken fits = fits
+    by_fit false value taken fits = tt
+
+    short : (end : ℕ) → end ≤ length text → end + (suffix_of (drop end text)).1 ≤ length text
+    short end within = omega (arith, suffix_of-le (drop end text), within, length-drop end text)
+
+    by_digit : (t : Bool)
+        → IfOk {T = ℕ × ℕ} {E = NumFault}
+        (if t then with_suffix (number_value text) (number_end text) (suffix_of (drop (number_end text) text)) else Err NoDigits)
+        (λ found. found.1 ≤ length text)
+    by_digit true =
+        by_fit (nat_lt (number_value text * (suffix_of (drop (number_end text) text)).0) (2 ^ 64))
+        (number_value text * (suffix_of (drop (number_end text) text)).0)
+        (number_end text + (suffix_of (drop (number_end text) text)).1) (short (number_end text) (number_end-le text))
+    by_digit false = tt
+
+-- so no mark stands in a text that is a size
+no_mark : (front rest : List ℕ) (mark n : ℕ) → is_digit mark 36 ≡ false → IsSize (front ++ (mark ∷ rest)) n → ⊥
+no_mark front rest mark n is size =
+    let front_size : size_of front ≡ Ok (n, length (front ++ (mark ∷ rest))) = sym (size_of-mark front rest mark is) ∙ size in
+    let within : length (front ++ (mark ∷ rest)) ≤ length front = rw front_size at (size-within front) in
+    let longer : length front + length (mark ∷ rest) ≤ length front = rw length-append at within in
+    omega (arith, longer)
+
+lacks-from : (front s : List ℕ) (mark n : ℕ) → is_digit mark 36 ≡ false → IsSize (front ++ s) n → Lacks mark s
+lacks-from front [] mark n is size = tt
+lacks-from front (b ∷ bs) mark n is size = (
+  ne_eqb b mark (λ same. no_mark front bs b n (rw same is) size),
+  lacks-from (front ++ (b ∷ [])) bs mark n is (rw (append_assoc front (b ∷ []) bs) size),
+)
+
+pub lacks-size : (s : List ℕ) (mark n : ℕ) → is_digit mark 36 ≡ false → IsSize s n → Lacks mark s
+lacks-size s mark n is size = lacks-from [] s mark n is size
+
+-- the place of a form
+place-none : (s : List ℕ) → Lacks 64 s → place_of s ≡ Some (s, 0)
+place-none s lacks = rw (cut-none 64 s lacks) refl
+
+place-base : (s b : List ℕ) (base : ℕ) → Lacks 64 s → IsSize b base → place_of (s ++ (64 ∷ b)) ≡ Some (s, base)
+place-base s b base lacks size =
+    rw (cut-mark 64 s b lacks) (ap (λ (o : Option ℕ). option_map (λ x. (s, x)) o) (whole_size-end b base size))
+
+-- one size, with a base and without
+abbrev one : ℕ → ℕ → Form
+one size base = Plain (record { ranges = record { start = 0; end = None; size = size } ∷ []; base = base })
+
+simple-placed : (value s : List ℕ) (base n : ℕ) → place_of value ≡ Some (s, base) → IsSize s n → simple_form value ≡ Some (one n base)
+simple-placed value s base n is size =
+    then-some (place_of value) (λ place. whole_size place.0 >>= λ size. Some (one size place.1)) (s, base) is
+    ∙ then-some (whole_size s) (λ size. Some (one size base)) n (whole_size-end s n size)
+
+form-simple_form : (value : List ℕ) → Lacks 58 value → Lacks 44 value → form_of value ≡ simple_form value
+unfolding form_of
+form-simple_form value colons commas = rw (cut-none 58 value colons, cut-none 44 value commas) refl
+
+pub form-simple : (s : List ℕ) (n : ℕ) → IsSize s n → form_of s ≡ Some (one n 0)
+form-simple s n size =
+    form-simple_form s (lacks-size s 58 n refl size) (lacks-size s 44 n refl size)
+    ∙ simple-placed s s 0 n (place-none s (lacks-size s 64 n refl size)) size
+
+pub form-placed : (s b : List ℕ) (n base : ℕ) → IsSize s n → IsSize b base → form_of (s ++ (64 ∷ b)) ≡ Some (one n base)
+form-placed s b n base size at =
+    form-simple_form (s ++ (64 ∷ b))
+    (lacks-append 58 s (64 ∷ b) (lacks-size s 58 n refl size) (refl, lacks-size b 58 base refl at))
+    (lacks-append 44 s (64 ∷ b) (lacks-size s 44 n refl size) (refl, lacks-size b 44 base refl at))
+    ∙ simple-placed (s ++ (64 ∷ b)) s base n (place-base s b base (lacks-size s 64 n refl size) at) size
+
+-- a size with a suffix
+form-suffixed : (s name : List ℕ) (n : ℕ) (form : Form) → IsSize s n → Lacks 58 name → suffixed name n ≡ Some form
+    → form_of (s ++ (44 ∷ name)) ≡ Some form
+unfolding form_of
+form-suffixed s name n form size colons is =
+    let none : cut 58 (s ++ (44 ∷ name)) ≡ None
+    = cut-none 58 (s ++ (44 ∷ name)) (lacks-append 58 s (44 ∷ name) (lacks-size s 58 n refl size) (refl, colons)) in
+    rw (none, cut-mark 44 s name (lacks-size s 44 n refl size))
+    (then-some (whole_size s) (λ size. suffixed name size) n (whole_size-end s n size) ∙ is)
+
+pub form-high : (s : List ℕ) (n : ℕ) → IsSize s n → form_of (s ++ codes ",high") ≡ Some (High n)
+form-high s n size = form-suffixed s (codes "high") n (High n) size (refl, (refl, (refl, (refl, tt)))) refl
+
+pub form-low : (s : List ℕ) (n : ℕ) → IsSize s n → form_of (s ++ codes ",low") ≡ Some (Low n)
+form-low s n size = form-suffixed s (codes "low") n (Low n) size (refl, (refl, (refl, tt))) refl
+
+-- a range
+end-spelled : (text : List ℕ) (end : Option ℕ) (start : ℕ) → SpellsEnd text end start
+    → (end_of_range text ≡ Some end) × (is_above end start ≡ true)
+end-spelled text None start spells = (rw spells refl, refl)
+end-spelled text (Some end) start spells = (by_text text spells.0, grind (arith, nat_tests, spells.1))
+  where
+    by_text : (text : List ℕ) → IsSize text end → end_of_range text ≡ Some (Some end)
+    by_text [] size = absurd (cc)
+    by_text (b ∷ bs) size = ap (λ (o : Option ℕ). option_map (λ e. Some e) o) (whole_size-end (b ∷ bs) end size)
+
+lacks-end : (text : List ℕ) (end : Option ℕ) (start mark : ℕ) → is_digit mark 36 ≡ false → SpellsEnd text end start → Lacks mark text
+lacks-end text None start mark is spells = rw spells tt
+lacks-end text (Some end) start mark is spells = lacks-size text mark end is spells.0
+
+-- a mark that isn't `-` or `:` isn't in the text of a range
+lacks-range : (text : List ℕ) (r : CrashRange) (mark : ℕ) → is_digit mark 36 ≡ false → 45 == mark ≡ false → 58 == mark ≡ false
+    → SpellsRange text r → Lacks mark text
+lacks-range text r mark is dash colon spells =
+    rw spells.text
+    (lacks-append mark spells.start_text _ (lacks-size spells.start_text mark r.start is spells.start) (
+      dash,
+      lacks-append mark spells.end_text _ (lacks-end spells.end_text r.end r.start mark is spells.end)
+          (colon, lacks-size spells.size_text mark r.size is spells.size),
+    ))
+
+range-spelled : (text : List ℕ) (r : CrashRange) → SpellsRange text r → crash_range_of text ≡ Some r
+range-spelled text r spells =
+    let bounds : List ℕ = spells.start_text ++ (45 ∷ spells.end_text) in
+    let halves : text ≡ bounds ++ (58 ∷ spells.size_text) =
+    spells.text ∙ sym (append_assoc spells.start_text (45 ∷ spells.end_text) (58 ∷ spells.size_text)) in
+    let at_colon : cut 58 text ≡ Some (bounds, spells.size_text) =
+    rw halves (cut-mark 58 bounds spells.size_text
+    (lacks-append 58 spells.start_text (45 ∷ spells.end_text) (lacks-size spells.start_text 58 r.start refl spells.start)
+    (refl, lacks-end spells.end_text r.end r.start 58 refl spells.end))) in
+    let at_dash : cut 45 bounds ≡ Some (spells.start_text, spells.end_text) =
+    cut-mark 45 spells.start_text spells.end_text (lacks-size spells.start_text 45 r.start refl spells.start) in
+    let end = end-spelled spells.end_text r.end r.start spells.end in
+    then-some (cut 58 text) _ (bounds, spells.size_text) at_colon
+    ∙ then-some (cut 45 bounds) _ (spells.start_text, spells.end_text) at_dash
+    ∙ then-some (whole_size spells.start_text) _ r.start (whole_size-end spells.start_text r.start spells.start)
+    ∙ then-some (end_of_range spells.end_text) _ r.end end.0
+    ∙ then-some (whole_size spells.size_text) (λ size. in_order (record { start = r.start; end = r.end; size = size })) r.size
+    (whole_size-end spells.size_text r.size spells.size)
+    ∙ rw end.1 refl
+
+-- ranges with commas between
+lacks-closed : (text : List ℕ) → Lacks 44 text → IsClosed (Byte 44) false text
+lacks-closed [] lacks = refl
+lacks-closed (b ∷ bs) lacks = (lacks.0, lacks-closed bs lacks.1)
+
+ranges-spelled : (text : List ℕ) (texts : List (List ℕ)) (rs : List CrashRange) → SpellRanges (text ∷ texts) rs
+    → crash_ranges_of (parts_in (Byte 44) (joined (text ∷ texts))) ≡ Some rs
+ranges-spelled text [] [] spell = absurd spell
+ranges-spelled text [] (r ∷ []) spell =
+    rw (parts-one (Byte 44) false text (lacks-closed text (lacks-range text r 44 refl refl refl spell.0)))
+    (then-some (crash_range_of text) (λ range. crash_ranges_of [] >>= λ ranges. Some (range ∷ ranges)) r (range-spelled text r spell.0))
+ranges-spelled text [] (r ∷ q ∷ rs) spell = absurd spell.1
+ranges-spelled text (u ∷ texts) [] spell = absurd spell
+ranges-spelled text (u ∷ texts) (r ∷ rs) spell =
+    let closed : IsClosed (Byte 44) false text = lacks-closed text (lacks-range text r 44 refl refl refl spell.0) in
+    rw (parts-spelled (Byte 44) false text 44 (joined (u ∷ texts)) closed refl)
+    (then-some (crash_range_of text)
+    (λ range. crash_ranges_of (parts_in (Byte 44) (joined (u ∷ texts))) >>= λ ranges. Some (range ∷ ranges)) r
+    (range-spelled text r spell.0)
+    ∙ then-some (crash_ranges_of (parts_in (Byte 44) (joined (u ∷ texts)))) (λ ranges. Some (r ∷ ranges)) rs
+    (ranges-spelled u texts rs spell.1))
+
+-- the ranges' text lacks `@`, and has a colon
+lacks-joined : (texts : List (List ℕ)) (rs : List CrashRange) → SpellRanges texts rs → Lacks 64 (joined texts)
+lacks-joined [] [] spell = tt
+lacks-joined [] (r ∷ rs) spell = absurd spell
+lacks-joined (text ∷ texts) [] spell = absurd spell
+lacks-joined (text ∷ []) (r ∷ rs) spell = lacks-range text r 64 refl refl refl spell.0
+lacks-joined (text ∷ u ∷ texts) (r ∷ rs) spell =
+    lacks-append 64 text (44 ∷ joined (u ∷ texts)) (lacks-range text r 64 refl refl refl spell.0)
+    (refl, lacks-joined (u ∷ texts) rs spell.1)
+
+front-joined : (text : List ℕ) (texts : List (List ℕ)) (behind : List ℕ)
+    → (rest : List ℕ) × (joined (text ∷ texts) ++ behind ≡ text ++ rest)
+front-joined text [] behind = (behind, refl)
+front-joined text (u ∷ texts) behind = ((44 ∷ joined (u ∷ texts)) ++ behind, append_assoc text (44 ∷ joined (u ∷ texts)) behind)
+
+colon-in : (text rest : List ℕ) (r : CrashRange) → SpellsRange text r → is_some (cut 58 (text ++ rest)) ≡ true
+colon-in text rest r spells =
+    let bounds : List ℕ = spells.start_text ++ (45 ∷ spells.end_text) in
+    let halves : text ++ rest ≡ bounds ++ (58 ∷ (spells.size_text ++ rest)) =
+    ap (λ (t : List ℕ). t ++ rest)
+    (spells.text ∙ sym (append_assoc spells.start_text (45 ∷ spells.end_text) (58 ∷ spells.size_text)))
+    ∙ append_assoc bounds (58 ∷ spells.size_text) rest in
+    let found : cut 58 (text ++ rest) ≡ Some (bounds, spells.size_text ++ rest) =
+    rw halves (cut-mark 58 bounds (spells.size_text ++ rest)
+    (lacks-append 58 spells.start_text (45 ∷ spells.end_text) (lacks-size spells.start_text 58 r.start refl spells.start)
+    (refl, lacks-end spells.end_text r.end r.start 58 refl spells.end))) in
+    rw found refl
+
+has-colon : (text : List ℕ) (texts : List (List ℕ)) (rs : List CrashRange) (behind : List ℕ) → SpellRanges (text ∷ texts) rs
+    → is_some (cut 58 (joined (text ∷ texts) ++ behind)) ≡ true
+has-colon text texts [] behind spell = absurd spell
+has-colon text texts (r ∷ rs) behind spell =
+    let front = front-joined text texts behind in rw front.1 (colon-in text front.0 r spell.0)
+
+form-ranges_form : (value front : List ℕ) (base : ℕ) (rs : List CrashRange) → is_some (cut 58 value) ≡ true
+    → place_of value ≡ Some (front, base) → crash_ranges_of (parts_in (Byte 44) front) ≡ Some rs
+    → form_of value ≡ Some (Plain (record { ranges = rs; base = base }))
+unfolding form_of
+form-ranges_form value front base rs colon place ranges =
+    rw colon
+    (then-some (place_of value)
+    (λ place. crash_ranges_of (parts_in (Byte 44) place.0) >>= λ ranges. Some (Plain (record { ranges = ranges; base = place.1 })))
+    (front, base) place
+    ∙ then-some (crash_ranges_of (parts_in (Byte 44) front)) (λ ranges. Some (Plain (record { ranges = ranges; base = base }))) rs ranges)
+
+pub form-ranges : (text : List ℕ) (texts : List (List ℕ)) (rs : List CrashRange) → SpellRanges (text ∷ texts) rs
+    → form_of (joined (text ∷ texts)) ≡ Some (Plain (record { ranges = rs; base = 0 }))
+form-ranges text texts rs spell =
+    let whole : joined (text ∷ texts) ++ [] ≡ joined (text ∷ texts) = append-nil (joined (text ∷ texts)) in
+    form-ranges_form (joined (text ∷ texts)) (joined (text ∷ texts)) 0 rs (rw whole at (has-colon text texts rs [] spell))
+    (place-none (joined (text ∷ texts)) (lacks-joined (text ∷ texts) rs spell)) (ranges-spelled text texts rs spell)
+
+pub form-ranges-placed : (text : List ℕ) (texts : List (List ℕ)) (rs : List CrashRange) (b : List ℕ) (base : ℕ)
+    → SpellRanges (text ∷ texts) rs → IsSize b base
+    → form_of (joined (text ∷ texts) ++ (64 ∷ b)) ≡ Some (Plain (record { ranges = rs; base = base }))
+form-ranges-placed text texts rs b base spell size =
+    form-ranges_form (joined (text ∷ texts) ++ (64 ∷ b)) (joined (text ∷ texts)) base rs (has-colon text texts rs (64 ∷ b) spell)
+    (place-base (joined (text ∷ texts)) b base (lacks-joined (text ∷ texts) rs spell) size) (ranges-spelled text texts rs spell)

@@ -1,0 +1,166 @@
+-- What the value of `crashkernel=` says (`parse_crashkernel_simple`, `parse_crashkernel_mem` and
+-- `parse_crashkernel_suffix` of kernel/crash_core.c). None: the value is malformed.
+use Rattle.std.specs.Prelude.{◌≡◌, ℕ, ◌<◌, ◌++◌, Bool, true, is_some, nat_lt, if◌then◌else◌, Option, Some, None, IfSome, List, [], ◌∷◌, length, codes}
+use Rattle.std.specs.Option.{option_map}
+use Rattle.std.specs.Str.{bytes_eq}
+use Rattle.bm_base.specs.OptionSteps.{◌>>=◌}
+use Rattle.bm_base.specs.Size.{IsSize}
+use Rattle.text_words.specs.declared.separators.Separators.TheVariants.{Byte}
+use Rattle.text_words.specs.Parts.{cut, parts_in}
+use Rattle.boot_options.specs.declared.crash.CrashRange.{CrashRange}
+use Rattle.boot_options.specs.declared.crash.CrashPlain.{CrashPlain}
+use Rattle.boot_options.specs.declared.crash.CrashOption.{CrashOption}
+use Rattle.boot_options.specs.MapOptions.{whole_size}
+
+-- the marks of a value: `:`, `-`, `,` and `@`
+abbrev pub colon : ℕ
+colon = 58
+
+abbrev pub dash : ℕ
+dash = 45
+
+abbrev pub comma : ℕ
+comma = 44
+
+abbrev pub at_sign : ℕ
+at_sign = 64
+
+-- the plain form: ranges of the total memory, each with a size, and a base, where 0 means none
+pub record PlainForm : Type 0 where
+  pub ranges : List CrashRange
+  pub base : ℕ
+
+-- one of the three forms: the plain one, `S,high` and `S,low`
+pub data Form : Type 0 where
+  Plain : (form : PlainForm) → Form
+  High : (size : ℕ) → Form
+  Low : (size : ℕ) → Form
+
+-- where a range ends: behind the `-` stands a size or nothing
+abbrev pub end_of_range : List ℕ → Option (Option ℕ)
+end_of_range [] = Some None
+end_of_range (b ∷ bs) = option_map (λ end. Some end) (whole_size (b ∷ bs))
+
+-- a range ends above its start, where it ends
+abbrev pub is_above : Option ℕ → ℕ → Bool
+is_above None start = true
+is_above (Some end) start = nat_lt start end
+
+abbrev pub in_order : CrashRange → Option CrashRange
+in_order r = if is_above r.end r.start then Some r else None
+
+-- `start-end:S` or `start-:S`
+abbrev pub crash_range_of : List ℕ → Option CrashRange
+crash_range_of text = do
+  halves ← cut colon text
+  bounds ← cut dash halves.0
+  start ← whole_size bounds.0
+  end ← end_of_range bounds.1
+  size ← whole_size halves.1
+  in_order (record { start = start; end = end; size = size })
+
+-- each of these texts is a range
+abbrev pub crash_ranges_of : List (List ℕ) → Option (List CrashRange)
+crash_ranges_of [] = Some []
+crash_ranges_of (text ∷ texts) = do
+  range ← crash_range_of text
+  ranges ← crash_ranges_of texts
+  Some (range ∷ ranges)
+
+-- what stands before the first `@`, and the base behind it; 0 where there is no `@`
+abbrev pub with_base : List ℕ → Option (List ℕ × List ℕ) → Option (List ℕ × ℕ)
+with_base text None = Some (text, 0)
+with_base text (Some halves) = option_map (λ base. (halves.0, base)) (whole_size halves.1)
+
+abbrev pub place_of : List ℕ → Option (List ℕ × ℕ)
+place_of text = with_base text (cut at_sign text)
+
+-- one range or more with commas between, and perhaps a base
+abbrev pub ranges_form : List ℕ → Option Form
+ranges_form value = do
+  place ← place_of value
+  ranges ← crash_ranges_of (parts_in (Byte comma) place.0)
+  Some (Plain (record { ranges = ranges; base = place.1 }))
+
+-- a size, and perhaps a base: one range from 0 on without an end
+abbrev pub one_range : ℕ → ℕ → PlainForm
+one_range size base = record { ranges = record { start = 0; end = None; size = size } ∷ []; base = base }
+
+abbrev pub simple_form : List ℕ → Option Form
+simple_form value = do
+  place ← place_of value
+  size ← whole_size place.0
+  Some (Plain (one_range size place.1))
+
+-- a size, and behind the comma which part it is of
+abbrev pub suffixed : List ℕ → ℕ → Option Form
+suffixed name size =
+    if bytes_eq name (codes "high") then Some (High size)
+    else (if bytes_eq name (codes "low") then Some (Low size) else None)
+
+abbrev pub suffix_form : List ℕ × List ℕ → Option Form
+suffix_form halves = do
+  size ← whole_size halves.0
+  suffixed halves.1 size
+
+-- a value without a colon has a comma before a suffix, or none
+abbrev pub without_colon : List ℕ → Option (List ℕ × List ℕ) → Option Form
+without_colon value None = simple_form value
+without_colon value (Some halves) = suffix_form halves
+
+-- the value of `crashkernel=`: a colon stands in ranges alone
+unfoldable pub form_of : List ℕ → Option Form
+form_of value = if is_some (cut colon value) then ranges_form value else without_colon value (cut comma value)
+
+-- what all words come to: the last value of each form, where there is one
+pub record Crash : Type 0 where
+  pub plain : Option PlainForm
+  pub high : Option ℕ
+  pub low : Option ℕ
+
+abbrev pub no_crash : Crash
+no_crash = record { plain = None; high = None; low = None }
+
+-- the same of the value that a reader makes
+abbrev pub plain_view : CrashPlain → PlainForm
+plain_view plain = record { ranges = plain.ranges.items; base = plain.base }
+
+abbrev pub crash_view : CrashOption → Crash
+crash_view crash = record { plain = option_map plain_view crash.plain; high = crash.high; low = crash.low }
+
+-- each range that ends does so above its start
+abbrev pub AreInOrder : List CrashRange → Type 0
+AreInOrder [] = Unit {0}
+AreInOrder (r ∷ rs) = IfSome r.end (λ end. r.start < end) × AreInOrder rs
+
+-- what holds of every plain form: it has a range, and its ranges end above their starts
+pub record IsPlain (form : PlainForm) : Type 0 where
+  pub some : 0 < length form.ranges
+  pub order : AreInOrder form.ranges
+
+-- how the end of a range is spelled, and a range
+abbrev pub SpellsEnd : List ℕ → Option ℕ → ℕ → Type 0
+SpellsEnd text None start = text ≡ []
+SpellsEnd text (Some end) start = IsSize text end × (start < end)
+
+pub record SpellsRange (spelled : List ℕ) (r : CrashRange) : Type 0 where
+  pub start_text : List ℕ
+  pub end_text : List ℕ
+  pub size_text : List ℕ
+  pub text : spelled ≡ start_text ++ (codes "-" ++ (end_text ++ (codes ":" ++ size_text)))
+  pub start : IsSize start_text r.start
+  pub end : SpellsEnd end_text r.end r.start
+  pub size : IsSize size_text r.size
+
+-- each text spells its range
+abbrev pub SpellRanges : List (List ℕ) → List CrashRange → Type 0
+SpellRanges [] [] = Unit {0}
+SpellRanges [] (r ∷ rs) = ⊥
+SpellRanges (text ∷ texts) [] = ⊥
+SpellRanges (text ∷ texts) (r ∷ rs) = SpellsRange text r × SpellRanges texts rs
+
+-- the texts with commas between
+abbrev pub joined : List (List ℕ) → List ℕ
+joined [] = []
+joined (text ∷ []) = text
+joined (text ∷ next ∷ texts) = text ++ (comma ∷ joined (next ∷ texts))

@@ -1,0 +1,44 @@
+-- What a reader keeps that may have run out of memory for a list.
+use Rattle.std.specs.Prelude.{◌≡◌, ◌<◌, Option, Some, None, List, length, Result, Ok, Err, Vec}
+use Rattle.std.specs.declared.alloc.Global.{Global}
+use Rattle.bm_base.specs.declared.memory.Memory.{Memory}
+use Rattle.boot_options.specs.declared.crash.CrashForm.{CrashForm}
+use Rattle.boot_options.specs.declared.crash.CrashForm.TheVariants as forms
+use Rattle.boot_options.specs.declared.crash.CrashRange.{CrashRange}
+use Rattle.boot_options.specs.declared.crash.PlainRead.{PlainRead}
+use Rattle.boot_options.specs.Crash.{Form, PlainForm, Plain, High, Low}
+
+-- the items that are kept are these; where memory ran out for one, there are some
+abbrev pub Keeps : {A : Type 0} → Result (Vec A Global) Memory → List A → Type 0
+Keeps (Ok kept) items = kept.items ≡ items
+Keeps (Err memory) items = 0 < length items
+
+-- the same of ranges that are read, and of texts that may be malformed
+abbrev pub KeepsRanges : Option (Result (Vec CrashRange Global) Memory) → Option (List CrashRange) → Type 0
+KeepsRanges None said = said ≡ None
+KeepsRanges (Some kept) None = ⊥
+KeepsRanges (Some kept) (Some ranges) = Keeps kept ranges
+
+-- the plain form that is kept is this one, but for memory for its ranges
+pub record KeepsPlain (kept : PlainRead) (form : PlainForm) : Type 0 where
+  pub ranges : Keeps kept.ranges form.ranges
+  pub base : kept.base ≡ form.base
+
+-- the form that is kept is what a value says
+abbrev pub KeepsSame : CrashForm → Form → Type 0
+KeepsSame (forms.Plain kept) (Plain form) = KeepsPlain kept form
+KeepsSame (forms.Plain kept) (High size) = ⊥
+KeepsSame (forms.Plain kept) (Low size) = ⊥
+KeepsSame (forms.High kept) said = said ≡ High kept
+KeepsSame (forms.Low kept) said = said ≡ Low kept
+
+abbrev pub KeepsForm : Option CrashForm → Option Form → Type 0
+KeepsForm None said = said ≡ None
+KeepsForm (Some kept) None = ⊥
+KeepsForm (Some kept) (Some form) = KeepsSame kept form
+
+-- what is kept of the last plain form
+abbrev pub KeepsLast : Option PlainRead → Option PlainForm → Type 0
+KeepsLast None said = said ≡ None
+KeepsLast (Some kept) None = ⊥
+KeepsLast (Some kept) (Some form) = KeepsPlain kept form

@@ -1,0 +1,125 @@
+-- The steps of the handover: one stretch of unclaimed frames, and one record of memory.
+use Rattle.std.proofs.Common.{◌≡◌, ℕ, suc, ◌+◌, ◌-◌, ◌*◌, ◌/◌, ◌^◌, ◌<◌, ◌≤◌, nat_le, nat_lt, Bool, true, false, ◌&&◌, min, Option, Some, None, List, [], ◌∷◌, ◌++◌, length, get_or, take, if◌then◌else◌, refl, sym, ◌∙◌, ap, subst, inl, inr, arith}
+use Rattle.std.proofs.lemmas.Bool.Decides.{nat_tests}
+use Rattle.std.proofs.lemmas.Bool.{cases_lt, cases_Bool}
+use Rattle.std.proofs.Math.Seq.{take-suc, take-length}
+use Rattle.bm_base.specs.Extent.{Extent, covers}
+use Rattle.address_runs.specs.Runs.{RunOf, run_end, lies_in, value_at, IsRunsOf}
+use Rattle.address_runs.specs.Edits.{replaced}
+use Rattle.address_runs.proofs.RunsLaws.{inside, below, behind}
+use Rattle.address_runs.proofs.SweepLaws.{value_append_none, value_append_left}
+use Rattle.memblock_model.specs.Labels.{Label, Labels}
+use Rattle.frame_blocks.specs.Frames.{Frames}
+use Rattle.table_frames.specs.declared.frames.RecordFrames.{RecordFrames}
+use Rattle.table_frames.specs.Frames.{node_below, node_told, node_of_frame, is_unclaimed, free_in, frames_of}
+use Rattle.table_frames.specs.Tables.{AscendBelow, AreWholeFrames}
+use Rattle.table_frames.proofs.RecordLaws.{ascend_at, taken_none, in_order, frames_order}
+use Rattle.table_frames.proofs.WholeLaws.{whole_at, first_byte, other_byte, free_by_first}
+use Rattle.table_frames.proofs.TakeLaws.{tests_both, node_more}
+use Rattle.buddy_handover.specs.Handover.{freed, unclaimed}
+
+-- nothing is freed up to the first frame
+pub freed_none : (first node : ℕ) (reserved : Labels) (f : Frames) (x : ℕ) → f x ≡ freed first first node reserved f x
+freed_none first node reserved f x =
+    let none : (nat_le first x && nat_lt x first) ≡ false = grind (arith, nat_tests) in rw none refl
+
+-- one stretch of unclaimed frames, and the claimed ones behind it
+pub freed_more : (first at from until end cut next node : ℕ) (reserved : Labels) (f g h : Frames) → cut ≡ min from end → next ≡ min until end → first ≤ at → at < end → at ≤ from → from ≤ until
+    → ((x : ℕ) → at ≤ x → x < from → x < end → is_unclaimed reserved x ≡ true)
+    → ((x : ℕ) → from ≤ x → x < until → x < end → is_unclaimed reserved x ≡ false)
+    → ((x : ℕ) → g x ≡ freed first at node reserved f x)
+    → ((x : ℕ) → h x ≡ replaced (let r : Extent = record { base = at; size = cut - at } in r) node g x)
+    → (x : ℕ) → h x ≡ freed first next node reserved f x
+freed_more first at from until end cut next node reserved f g h cut_is next_is above inner order some bare held known put x =
+    let r : Extent = record { base = at; size = cut - at } in
+    elim (cases_lt x at) as (λ _. h x ≡ freed first next node reserved f x) [
+      | inl before ↦
+          let off : covers r x ≡ false = grind (arith, nat_tests) in
+          let same : (nat_le first x && nat_lt x at) ≡ (nat_le first x && nat_lt x next) = grind (arith, nat_tests) in
+          put x ∙ rw off (known x ∙ ap (λ b. if b && is_unclaimed reserved x then Some node else f x) same)
+      | inr here ↦ elim (cases_lt x cut) as (λ _. h x ≡ freed first next node reserved f x) [
+        | inl within ↦
+            let on : covers r x ≡ true = grind (arith, nat_tests) in
+            let is : is_unclaimed reserved x ≡ true = bare x here (omega arith) (omega arith) in
+            let in_range : (nat_le first x && nat_lt x next) ≡ true = grind (arith, nat_tests) in
+            put x ∙ rw on (rw (in_range, is) refl)
+        | inr past ↦
+            let off : covers r x ≡ false = grind (arith, nat_tests) in
+            let not_yet : (nat_le first x && nat_lt x at) ≡ false = grind (arith, nat_tests) in
+            let was : g x ≡ f x = known x ∙ rw not_yet refl in
+            elim (cases_lt x next) as (λ _. h x ≡ freed first next node reserved f x) [
+              | inl claimed ↦
+                  let is_held : is_unclaimed reserved x ≡ false = held x (omega arith) (omega arith) (omega arith) in
+                  let in_range : (nat_le first x && nat_lt x next) ≡ true = grind (arith, nat_tests) in
+                  put x ∙ rw off (was ∙ rw (in_range, is_held) refl)
+              | inr after ↦
+                  let out : (nat_le first x && nat_lt x next) ≡ false = grind (arith, nat_tests) in
+                  put x ∙ rw off (was ∙ rw out refl)
+            ]
+      ]
+    ]
+
+-- before any record nothing is free
+pub unclaimed_none : (ms : List (RunOf Label)) (reserved : Labels) (x : ℕ) → None ≡ unclaimed (value_at (take 0 ms)) reserved x
+unclaimed_none ms reserved x = elim (cases_Bool (is_unclaimed reserved x)) as (λ _. None ≡ unclaimed (value_at (take 0 ms)) reserved x) [
+  | inl bare ↦ rw bare refl
+  | inr held ↦ rw held refl
+]
+
+-- so the frames of one record more, where it has a node, and where it has none
+pub record_freed : (b : ℕ) (ms : List (RunOf Label)) (reserved : Labels) (i n : ℕ) (d : RunOf Label) (f g : Frames) → AscendBelow b ms
+    → AreWholeFrames ms → i < length ms → (frames_of (get_or ms i d)).node ≡ Some n
+    → ((x : ℕ) → f x ≡ unclaimed (value_at (take i ms)) reserved x)
+    → ((x : ℕ) → g x ≡ freed (frames_of (get_or ms i d)).first (frames_of (get_or ms i d)).end n reserved f x)
+    → (x : ℕ) → g x ≡ unclaimed (value_at (take (i + 1) ms)) reserved x
+record_freed b ms reserved i n d f g ascend whole few is known put x =
+    let fs : RecordFrames = frames_of (get_or ms i d) in
+    let inner : Bool = nat_le fs.first x && nat_lt x fs.end in
+    let more = node_more b ms i x d ascend whole few in
+    elim (cases_Bool (is_unclaimed reserved x)) as (λ _. g x ≡ unclaimed (value_at (take (i + 1) ms)) reserved x) [
+      | inl bare ↦
+          let was : f x ≡ node_of_frame (value_at (take i ms)) x = known x ∙ rw bare refl in
+          elim (cases_Bool inner) as (λ _. g x ≡ unclaimed (value_at (take (i + 1) ms)) reserved x) [
+            | inl lies ↦
+                let here : node_of_frame (value_at (take (i + 1) ms)) x ≡ Some n = more ∙ rw lies is in
+                put x ∙ rw (lies, bare) (sym here)
+            | inr away ↦
+                let there : node_of_frame (value_at (take (i + 1) ms)) x ≡ node_of_frame (value_at (take i ms)) x = more ∙ rw away refl in
+                put x ∙ rw (away, bare) (was ∙ sym there)
+          ]
+      | inr held ↦
+          let was : f x ≡ None = known x ∙ rw held refl in
+          let none : (inner && is_unclaimed reserved x) ≡ false = elim (cases_Bool inner) as (λ _. (inner && is_unclaimed reserved x) ≡ false) [
+            | inl lies ↦ rw (lies, held) refl
+            | inr away ↦ rw away refl
+          ] in
+          put x ∙ rw none (was ∙ sym (rw held refl))
+    ]
+
+pub record_left : (b : ℕ) (ms : List (RunOf Label)) (reserved : Labels) (i : ℕ) (d : RunOf Label) (f : Frames) → AscendBelow b ms
+    → AreWholeFrames ms → i < length ms → (frames_of (get_or ms i d)).node ≡ None
+    → ((x : ℕ) → f x ≡ unclaimed (value_at (take i ms)) reserved x)
+    → (x : ℕ) → f x ≡ unclaimed (value_at (take (i + 1) ms)) reserved x
+record_left b ms reserved i d f ascend whole few is known x =
+    let fs : RecordFrames = frames_of (get_or ms i d) in
+    let inner : Bool = nat_le fs.first x && nat_lt x fs.end in
+    let more = node_more b ms i x d ascend whole few in
+    let none : inner ≡ true → node_of_frame (value_at (take i ms)) x ≡ None = λ lies.
+    let parts = tests_both fs.first x fs.end lies in
+    let some = (ascend_at b ms i d ascend few).0 in
+    let sizes = whole_at ms i d whole few in
+    let bytes = first_byte (get_or ms i d) x some sizes.0 sizes.1 parts.0 parts.1 in
+    ap node_told (taken_none b ms i (4096 * x) d ascend few bytes.0) in
+    let same : node_of_frame (value_at (take (i + 1) ms)) x ≡ node_of_frame (value_at (take i ms)) x =
+    elim (cases_Bool inner) as (λ _. node_of_frame (value_at (take (i + 1) ms)) x ≡ node_of_frame (value_at (take i ms)) x) [
+      | inl lies ↦ more ∙ rw lies (is ∙ sym (none lies))
+      | inr away ↦ more ∙ rw away refl
+    ] in
+    known x ∙ ap (λ (v : Option ℕ). if is_unclaimed reserved x then v else None) (sym same)
+
+-- after all records
+pub all_handed : (ms : List (RunOf Label)) (reserved : Labels) (i : ℕ) (f : Frames) → AreWholeFrames ms → i ≡ length ms
+    → ((x : ℕ) → f x ≡ unclaimed (value_at (take i ms)) reserved x) → (x : ℕ) → f x ≡ free_in (value_at ms) reserved x
+all_handed ms reserved i f whole all known x =
+    let taken : take i ms ≡ ms = ap (λ k. take k ms) all ∙ take-length ms in
+    known x ∙ ap (λ (rs : List (RunOf Label)). unclaimed (value_at rs) reserved x) taken ∙ free_by_first ms reserved x whole

@@ -1,0 +1,3 @@
+pub mod NodeLaws
+pub mod PutLaws
+pub mod HandoverLaws

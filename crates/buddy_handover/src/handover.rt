@@ -1,0 +1,81 @@
+//! The end of the early boot: what is memory and reserved for nobody becomes free (`memblock_free_all`).
+//!
+//! One pass over both tables: for each record of memory the reserved records that lie among its frames are
+//! looked at, from where the record before it has come to.
+
+ghost use Rattle.std.specs.Prelude.{◌≡◌, ℕ, ◌+◌, ◌*◌, ◌^◌, ◌<◌, ◌≤◌, IfOk};
+ghost use Rattle.address_runs.specs.Runs.{value_at};
+ghost use Rattle.memblock_ranges.specs.Tables.{list_in};
+ghost use Rattle.table_frames.specs.Frames.{free_in, IsPassed};
+ghost use Rattle.table_frames.specs.Tables.{HasRecords, AreWholeFrames};
+ghost use Rattle.buddy_handover.specs.Contents.{free};
+ghost use Rattle.buddy_handover.specs.Handover.{freed};
+
+use crate::buddy::Buddy;
+use bm_base::Memory;
+use frame_blocks::MAX_FRAMES;
+use memblock_ranges::{Head, Heads};
+use phys_store::Store;
+use std::alloc::Global;
+use table_frames::{frames_at, next_claim};
+
+/// The free frames by what the bytes of both tables say: those that are memory and of which no byte is
+/// reserved, each of the node of its memory record. The memory records are whole frames below [`MAX_FRAMES`];
+/// what has no node isn't free.
+pub fn hand_over(alloc: Global, store: &Store, heads: &Heads) -> Result<Buddy, Memory>
+    requires memory { HasRecords store.now heads.now.memory (4096 * MAX_FRAMES) }
+    requires whole { AreWholeFrames (list_in store.now heads.now.memory) }
+    requires reserved { HasRecords store.now heads.now.reserved (2 ^ 64) }
+    ensures { IfOk result (λ buddy. (frame : ℕ) → free buddy frame ≡
+        free_in (value_at (list_in store.now heads.now.memory)) (value_at (list_in store.now heads.now.reserved)) frame) }
+{
+    let mut buddy = Buddy::new(alloc);
+    let mut next = 0;
+    for i in 0..heads.memory.count {
+        let frames = frames_at(store, &heads.memory, i);
+        if let Some(node) = frames.node {
+            next = free_unclaimed(
+                &mut buddy,
+                store,
+                &heads.reserved,
+                next,
+                frames.first,
+                frames.end,
+                node,
+            )?;
+        }
+    }
+    Ok(buddy)
+}
+
+/// The frames from `first` up to `end` of which no byte is reserved become free and of the node. The reserved
+/// records are looked at from the index on; the answer is the index that they have come to.
+fn free_unclaimed(
+    buddy: &mut Buddy,
+    store: &Store,
+    reserved: &Head,
+    index: u64,
+    first: u64,
+    end: u64,
+    node: u32,
+) -> Result<u64, Memory>
+    requires table { HasRecords store.now reserved.now (2 ^ 64) }
+    requires index { index ≤ reserved.now.count }
+    requires passed { IsPassed (list_in store.now reserved.now) index first }
+    requires order { first ≤ end }
+    requires low { end ≤ MAX_FRAMES }
+    ensures free { IfOk result (λ next. (x : ℕ) →
+        free buddy.new x ≡ freed first end node (value_at (list_in store.now reserved.now)) (free buddy.old) x) }
+    ensures index { IfOk result (λ next. next ≤ reserved.now.count) }
+    ensures passed { IfOk result (λ next. IsPassed (list_in store.now reserved.now) next end) }
+{
+    let mut next = index;
+    let mut at = first;
+    while at < end {
+        let claim = next_claim(store, reserved, next, at);
+        next = claim.index;
+        buddy.note(at, claim.first.min(end) - at, node)?;
+        at = claim.end.min(end);
+    }
+    Ok(next)
+}

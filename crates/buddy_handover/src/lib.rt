@@ -1,0 +1,10 @@
+//! The handover: the frames that nobody has go to the page allocator.
+#![tactic(auto)]
+
+mod buddy;
+mod handover;
+mod runs;
+
+pub use buddy::Buddy;
+pub use frame_blocks::{Block, MAX_FRAMES, MAX_ORDER};
+pub use handover::hand_over;

@@ -1,0 +1,30 @@
+//! The runs of free frames, as frames become free.
+//!
+//! A run of frames is put into a list of runs that stays sorted, by one edit (`run_edits`); what touches and
+//! is of one node becomes one run. It stands apart from `Buddy` so that the edit is said over any such list.
+
+ghost use Rattle.std.specs.Prelude.{◌+◌, ◌^◌, ◌<◌, ◌≤◌, vec_len, vec_capacity};
+ghost use Rattle.address_runs.specs.Runs.{AreRuns, IsRunsOf, value_at};
+ghost use Rattle.address_runs.specs.Edits.{replaced, NothingFrom};
+
+use bm_base::Range;
+use frame_blocks::{FrameRun, MAX_FRAMES};
+use run_edits::{Replace, amend};
+
+/// The frames of the range are free and of the node, whatever they were. Takes no memory, and looks at the
+/// runs alone that meet the range or touch it.
+pub fn put(runs: &mut Vec<FrameRun>, frames: &Range, node: u32)
+    requires low { frames.now.base + frames.now.size ≤ MAX_FRAMES }
+    requires runs { AreRuns runs.old.items }
+    requires within { NothingFrom MAX_FRAMES (value_at runs.old.items) }
+    requires room { vec_len runs.old + 2 ≤ vec_capacity runs.old }
+    ensures runs { IsRunsOf (replaced frames.now node (value_at runs.old.items)) runs.new.items }
+    ensures within { NothingFrom MAX_FRAMES (value_at runs.new.items) }
+    ensures len { vec_len runs.new ≤ vec_len runs.old + 2 }
+    ensures capacity { vec_capacity runs.old ≤ vec_capacity runs.new }
+{
+    if frames.size == 0 {
+        return;
+    }
+    amend(runs, frames, Replace(node));
+}

@@ -1,0 +1,39 @@
+-- Small made inputs, computed: their entries are those of an independent program.
+use Rattle.std.proofs.Common.{◌≡◌, ℕ, [], ◌∷◌, refl}
+use Rattle.e820_model.specs.declared.entry.Entry.{Entry}
+use Rattle.e820_table.specs.Made.{behind_ram, entries_behind, frames_of, high_ram, low_ram, made_entries, made_entry, next_of}
+
+abbrev entry : ℕ → ℕ → ℕ → Entry
+entry addr size kind = record { addr = addr; size = size; kind = kind }
+
+-- the numbers behind 2 and behind the greatest one
+next_numbers : (next_of 2 ≡ 59559187) × (next_of 2147483647 ≡ 1043980748)
+next_numbers = (refl, refl)
+
+-- 1 to 16 frames
+frames : (frames_of 0 ≡ 1) × (frames_of 65535 ≡ 1) × (frames_of 65536 ≡ 2) × (frames_of 983040 ≡ 16) × (frames_of 1048576 ≡ 1)
+frames = (refl, refl, refl, refl, refl)
+
+first_two : (low_ram ≡ entry 0 0xA0000 1) × (high_ram ≡ entry 0x100000 0x8000000 1) × (behind_ram ≡ 0x8100000)
+first_two = (refl, refl, refl)
+
+-- reserved where the index is even, RAM where it is odd
+in_turn : (made_entry 2 0x8100000 0 ≡ entry 0x8100000 0x1000 2) × (made_entry 3 0x8101000 65536 ≡ entry 0x8101000 0x2000 1)
+in_turn = (refl, refl)
+
+none_behind : entries_behind 0 2 0x8100000 5 ≡ []
+unfolding entries_behind
+none_behind = refl
+
+one_behind : entries_behind 1 2 0x8100000 5 ≡ entry 0x8100000 0x10000 2 ∷ []
+unfolding entries_behind
+one_behind = refl
+
+two_entries : made_entries 2 ≡ entry 0 655360 1 ∷ entry 1048576 134217728 1 ∷ []
+unfolding entries_behind
+two_entries = refl
+
+five_entries : made_entries 5
+    ≡ entry 0 655360 1 ∷ entry 1048576 134217728 1 ∷ entry 135266304 65536 2 ∷ entry 135331840 40960 1 ∷ entry 135372800 36864 2 ∷ []
+unfolding entries_behind
+five_entries = refl

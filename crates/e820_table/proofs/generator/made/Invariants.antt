@@ -1,0 +1,14 @@
+use Rattle.std.proofs.Common.{◌≡◌, ◌+◌, ◌*◌, ◌-◌, ◌<◌, ◌≤◌, ◌++◌, [], length}
+use Rattle.e820_model.specs.Claims.{EndInSpace}
+use Rattle.e820_table.specs.Made.{entries_behind, made_entries}
+use Rattle.e820_table.proofs.generator.made.Given as goal
+
+abbrev pub invariant-loop-index : goal.invariant-loop-index
+invariant-loop-index l = record {
+  entries : (l.page.items ++ l.ext.items) ++ entries_behind (l.n - l.index) l.index l.base l.number ≡ made_entries l.n;
+  fits : length l.page.items ≤ 128;
+  alone : length l.page.items < 128 → l.ext.items ≡ [];
+  low : l.base ≤ 0x8100000 + 65536 * l.index;
+  page_space : EndInSpace l.page.items;
+  extension_space : EndInSpace l.ext.items;
+}

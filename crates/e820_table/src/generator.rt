@@ -1,0 +1,99 @@
+//! Made inputs: tables of any size, the same ones each time. A real machine has some dozens of entries; how the memory
+//! set-up fares with thousands is tried and measured with these.
+
+ghost use Rattle.std.specs.Prelude.{◌≡◌, ℕ, ◌+◌, ◌*◌, ◌^◌, ◌<◌, ◌≤◌, [], ◌∷◌, ◌++◌, length, take, drop, min, None, IfOk, OnOk};
+ghost use Rattle.e820_model.specs.Claims.{EndInSpace};
+ghost use Rattle.e820_table.specs.Made.{frames_of, made_entries, made_entry, next_of};
+
+use crate::made_input::Made;
+use crate::zero_page::{ZERO_PAGE_ENTRIES, ZeroPage};
+use arrayvec::ArrayVec;
+use bm_base::{FRAME_SIZE, Memory};
+use e820_model::{E820_TYPE_RAM, E820_TYPE_RESERVED, Entry};
+use std::alloc::Global;
+
+/// The first two entries.
+const LOW_RAM: Entry = Entry {
+    addr: 0,
+    size: 0xA0000,
+    kind: E820_TYPE_RAM,
+};
+
+const HIGH_RAM: Entry = Entry {
+    addr: 0x100000,
+    size: 0x8000000,
+    kind: E820_TYPE_RAM,
+};
+
+/// The made input of `n` entries, of which the first 128 are the zero page's and the others the
+/// extension's. `n` is from 2 to 3,000; there is no initrd.
+pub fn made(alloc: Global, n: u32) -> Result<Made, Memory>
+    requires some { 2 ≤ n }
+    requires few { n ≤ 3000 }
+    ensures page { IfOk result (λ made. made.zero.entries.items ≡ take 128 (made_entries n)) }
+    ensures extension { IfOk result (λ made. made.ext.items ≡ drop 128 (made_entries n)) }
+    ensures initrd { IfOk result (λ made. made.zero.initrd ≡ None) }
+    ensures page_space { IfOk result (λ made. EndInSpace made.zero.entries.items) }
+    ensures extension_space { IfOk result (λ made. EndInSpace made.ext.items) }
+{
+    let mut page = ArrayVec::new();
+    page.push(LOW_RAM);
+    page.push(HIGH_RAM);
+    let mut ext = Vec::new(alloc);
+    let mut base = HIGH_RAM.addr + HIGH_RAM.size;
+    let mut number = n;
+    for index in 2..n {
+        number = next_number(number);
+        let entry = make_entry(index, base, number);
+        put_entry(entry, &mut page, &mut ext)?;
+        base += entry.size;
+    }
+    Ok(Made {
+        zero: ZeroPage {
+            entries: page,
+            initrd: None,
+        },
+        ext,
+    })
+}
+
+/// Puts the entry behind the others: into the page while that has room, and else into the extension.
+fn put_entry(
+    entry: Entry,
+    page: &mut ArrayVec<Entry, ZERO_PAGE_ENTRIES>,
+    ext: &mut Vec<Entry>,
+) -> Result<(), Memory>
+    ensures full { OnOk result (128 ≤ length page.old.items →
+        (page.new.items ≡ page.old.items) × (ext.new.items ≡ ext.old.items ++ entry ∷ [])) }
+    ensures room { OnOk result (length page.old.items < 128 →
+        (page.new.items ≡ page.old.items ++ entry ∷ []) × (ext.new.items ≡ ext.old.items)) }
+{
+    if page.len() < ZERO_PAGE_ENTRIES {
+        page.push(entry);
+    } else {
+        ext.push(entry)?;
+    }
+    Ok(())
+}
+
+/// The entry of that index from 2 on, at that address, by its number.
+fn make_entry(index: u32, base: u64, number: u32) -> Entry
+    ensures { result ≡ made_entry index base number }
+{
+    Entry {
+        addr: base,
+        size: FRAME_SIZE * (1 + u64::from(number) / 65536 % 16),
+        kind: if index % 2 == 0 {
+            E820_TYPE_RESERVED
+        } else {
+            E820_TYPE_RAM
+        },
+    }
+}
+
+/// The number behind a number of the generator.
+fn next_number(number: u32) -> u32
+    ensures { result ≡ next_of number }
+{
+    ((1_103_515_245 * u64::from(number) + 12_345) % (1 << 31)) as u32
+}

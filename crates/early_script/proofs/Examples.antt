@@ -1,0 +1,149 @@
+-- Two live IDs in a small machine, and what each act makes of them.
+use Rattle.std.proofs.Common.{◌≡◌, ℕ, ◌<◌, ◌++◌, true, false, Some, None, List, [], ◌∷◌, refl, arith, lit<}
+use Rattle.bm_base.specs.Extent.{Extent}
+use Rattle.bm_base.specs.Each.{each_from, each_in}
+use Rattle.memblock_model.specs.declared.which.Which.TheVariants as which
+use Rattle.memblock_model.specs.declared.owner.Owner.TheVariants as owner
+use Rattle.memblock_model.specs.declared.item.Item.{Item}
+use Rattle.memblock_model.specs.declared.item.Item.TheVariants as item
+use Rattle.memblock_model.specs.Items.{owner_of}
+use Rattle.script_reader.specs.declared.act.Act.TheVariants as acts
+use Rattle.script_reader.specs.declared.act.Line.{Line}
+use Rattle.growth_model.specs.Outcome.{Refused}
+use Rattle.growth_model.specs.Bytes.{Filled}
+use Rattle.phys_store.specs.Bytes.{bytes_at}
+use Rattle.early_script.specs.declared.outcome.Outcome.TheVariants as outcomes
+use Rattle.early_script.specs.Ids.{Ids, range_of, is_live, with_range, without, HaveBytes}
+use Rattle.early_script.specs.Owned.{is_owned, meets, touches}
+use Rattle.early_script.specs.Acted.{State, answers, alloc_at, reserve_deed, free_whole, free_deed, trim_deed, fill_whole, fill_deed, peek_deed, deed, answer_to, ids_to, state_by, answer_of, state_after, put_by, with_fill}
+use Rattle.early_script.specs.Stage.{after_lines}
+
+abbrev at_base : ℕ → ℕ → Extent
+at_base base size = record { base = base; size = size }
+
+abbrev first : Extent
+first = at_base 0x100 4
+
+abbrev second : Extent
+second = at_base 0x200 2
+
+abbrev ids : Ids
+ids = (1, first) ∷ (5, second) ∷ []
+
+ids_examples : (range_of ids 5 ≡ Some second) × (range_of ids 2 ≡ None) × (is_live ids 1 ≡ true) × (is_live ids 2 ≡ false)
+ids_examples = (refl, refl, refl, refl)
+
+-- a new ID goes to its place, a live one gets the new range
+with_examples : (with_range ids 3 second ≡ (1, first) ∷ (3, second) ∷ (5, second) ∷ [])
+    × (with_range ids 1 second ≡ (1, second) ∷ (5, second) ∷ [])
+with_examples = (refl, refl)
+
+without_examples : (without ids 1 ≡ (5, second) ∷ []) × (without ids 2 ≡ ids)
+without_examples = (refl, refl)
+
+bytes_examples : HaveBytes ids × ¬ HaveBytes ((1, at_base 0x100 0) ∷ [])
+bytes_examples = ((lit< tt, (lit< tt, tt)), λ known. let clash : 0 < 0 = known.0 in absurd (omega (arith, clash)))
+
+-- both IDs have what they claimed, but for one byte of the second, which was freed
+abbrev kernel : Extent
+kernel = at_base 0x10000 0x4000
+
+abbrev items : List Item
+items = item.Claim kernel owner.Kernel ∷ item.Claim first (owner.Script 1) ∷ item.Claim second (owner.Script 5)
+    ∷ item.Free (at_base 0x201 1)
+    ∷ []
+
+owned_examples : (is_owned (owner_of items) (owner.Script 1) first ≡ true) × (is_owned (owner_of items) (owner.Script 5) second ≡ false)
+    × (is_owned (owner_of items) (owner.Script 5) first ≡ false)
+unfolding is_owned each_in each_from
+owned_examples = (refl, refl, refl)
+
+meets_examples : (meets first (at_base 0x103 9) ≡ true) × (meets first (at_base 0x104 9) ≡ false)
+meets_examples = (refl, refl)
+
+-- the memory table lies at 0x12000, the reserved one at 0x13000, with 3,072 bytes each
+touches_examples : (touches kernel items (at_base 0x11FFF 1) ≡ false) × (touches kernel items (at_base 0x12BFF 1) ≡ true)
+    × (touches kernel items (at_base 0x12C00 0x400) ≡ false)
+    × (touches kernel items (at_base 0x12C00 0x401) ≡ true)
+touches_examples = (refl, refl, refl, refl)
+
+abbrev found : State
+found = record { kernel = kernel; items = items; ids = ids }
+
+-- the tests in their order
+alloc_examples : (alloc_at found 2 8 None ≡ answers found outcomes.NoGap)
+    × ((alloc_at found 2 8 (Some 0x300)).answer ≡ outcomes.At 0x300)
+    × ((alloc_at found 2 8 (Some 0x300)).ids ≡ (1, first) ∷ (2, at_base 0x300 8) ∷ (5, second) ∷ [])
+alloc_examples = (refl, refl, refl)
+
+reserve_examples : (reserve_deed found 1 second ≡ answers found outcomes.Taken)
+    × (reserve_deed found 2 (at_base 0x12000 1) ≡ answers found outcomes.TableInUse)
+    × ((reserve_deed found 2 first).answer ≡ outcomes.Done)
+reserve_examples = (refl, refl, refl)
+
+free_examples : (free_deed found 2 ≡ answers found outcomes.Unknown) × (free_deed found 5 ≡ answers found outcomes.NotWhole)
+    × (free_deed found 1 ≡ free_whole found 1 first)
+    × ((free_deed found 1).ids ≡ (5, second) ∷ [])
+unfolding is_owned each_in each_from
+free_examples = (refl, refl, refl, refl)
+
+trim_examples : (trim_deed found 1 4 ≡ answers found outcomes.TooLargeKeep) × (trim_deed found 5 9 ≡ answers found outcomes.NotWhole)
+    × ((trim_deed found 1 3).ids ≡ (1, at_base 0x100 3) ∷ (5, second) ∷ [])
+unfolding is_owned each_in each_from
+trim_examples = (refl, refl, refl)
+
+fill_examples : ((fill_deed found 1 7).fill ≡ Some (record { range = first; byte = 7; at = 4 }))
+    × (fill_whole found 7 (at_base 0 65537) ≡ answers found outcomes.TooLargeFill)
+    × ((fill_whole found 7 (at_base 0 65536)).answer ≡ outcomes.Done)
+unfolding is_owned each_in each_from
+fill_examples = (refl, refl, refl)
+
+peek_example : (peek_deed found (λ x. x) 9 2).answer ≡ outcomes.Bytes (record { items = 9 ∷ 10 ∷ [] })
+unfolding bytes_at
+peek_example = refl
+
+deed_examples : (deed found (λ x. 0) (acts.Free 2) ≡ answers found outcomes.Unknown)
+    × (deed found (λ x. 0) (acts.Trim 1 4) ≡ answers found outcomes.TooLargeKeep)
+unfolding deed is_owned each_in each_from
+deed_examples = (refl, refl)
+
+-- a growth that was refused is the answer, and the IDs stay
+abbrev no_place : Refused
+no_place = record { which = which.Reserved; room = 128 }
+
+refused_examples : (answer_to (Some no_place) outcomes.Done ≡ outcomes.NoGapForTable which.Reserved 128)
+    × (answer_to None outcomes.Done ≡ outcomes.Done)
+    × (ids_to (Some no_place) ids [] ≡ ids)
+    × (ids_to None ids [] ≡ [])
+refused_examples = (refl, refl, refl, refl)
+
+state_examples : (state_by found [] (record { steps = (item.Trim ∷ []) ∷ []; refused = None })
+    ≡ record { kernel = kernel; items = items ++ item.Trim ∷ []; ids = [] })
+    × (state_after found (answers found outcomes.Done) ≡ found)
+    × (answer_of found (answers found outcomes.Done) ≡ outcomes.Done)
+state_examples = (refl, refl, refl)
+
+abbrev sevens : Filled
+sevens = record { range = first; byte = 7; at = 4 }
+
+put_examples : (put_by (Some sevens) 0x103 1 ≡ 7) × (put_by (Some sevens) 0x104 1 ≡ 1) × (put_by None 0x103 1 ≡ 1)
+put_examples = (refl, refl, refl)
+
+fills_examples : (with_fill (sevens ∷ []) (Some sevens) ≡ sevens ∷ sevens ∷ []) × (with_fill [] None ≡ [])
+fills_examples = (refl, refl)
+
+-- two lines: one that fills, and one that finds no such ID
+abbrev fills_first : Line
+fills_first = record { number = 3; act = acts.Fill 1 7 }
+
+abbrev frees_none : Line
+frees_none = record { number = 8; act = acts.Free 2 }
+
+lines_example : after_lines (record { state = found; fills = []; answers = [] }) (fills_first ∷ frees_none ∷ [])
+    ≡ record {
+      state = found;
+      fills = sevens ∷ [];
+      answers = record { line = 3; outcome = outcomes.Done } ∷ record { line = 8; outcome = outcomes.Unknown } ∷ [];
+    }
+unfolding deed is_owned each_in each_from
+lines_example = refl

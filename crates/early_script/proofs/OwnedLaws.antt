@@ -1,0 +1,105 @@
+-- The tests on ranges tell what they are named for.
+use Rattle.std.proofs.Common.{◌≡◌, ℕ, ◌<◌, ◌≤◌, ◌↔◌, Bool, true, false, ◌||◌, Option, Some, None, List, refl, sym, ◌∙◌, ap, subst, arith, inl, inr, IsTrue}
+use Rattle.std.specs.Prelude.{min, max}
+use Rattle.std.proofs.lemmas.Bool.{cases_Bool, and_from}
+use Rattle.std.proofs.lemmas.Bool.Decides.{nat_tests}
+use Rattle.bm_base.specs.Extent.{Extent, end_of, covers, Meet}
+use Rattle.bm_base.proofs.EachLaws.{each_in-all, each_in-each}
+use Rattle.address_runs.specs.Edits.{agree}
+use Rattle.memblock_model.specs.declared.owner.Owner.{Owner}
+use Rattle.memblock_model.specs.declared.which.Which.{Which}
+use Rattle.memblock_model.specs.declared.which.Which.TheVariants as which
+use Rattle.memblock_model.specs.declared.item.Item.{Item}
+use Rattle.memblock_model.specs.Same.{same_owner}
+use Rattle.memblock_model.specs.Items.{Owners}
+use Rattle.memblock_model.specs.Tables.{live}
+use Rattle.memblock_model.proofs.SameLaws.{owner_self, owner_tells}
+use Rattle.memblock_grow.specs.Touch.{TouchesTable}
+use Rattle.early_script.specs.Owned.{is_owned, meets, touches}
+
+agrees : (o : Option Owner) (who : Owner) → o ≡ Some who → agree same_owner o (Some who) ≡ true
+agrees o who is = subst (λ (p : Option Owner). agree same_owner p (Some who) ≡ true) (sym is) (owner_self who)
+
+agreed : (o : Option Owner) (who : Owner) → agree same_owner o (Some who) ≡ true → o ≡ Some who
+agreed None who h = let clash : false ≡ true = h in cc clash
+agreed (Some a) who h = ap (λ (b : Owner). Some b) (owner_tells.true_is_equal a who h)
+
+pub owned-each : (own : Owners) (who : Owner) (range : Extent) → is_owned own who range ≡ true → (x : ℕ) → range.base ≤ x → x < end_of range →
+    own x ≡ Some who
+unfolding is_owned
+owned-each own who range h x low high = agreed (own x) who (each_in-each range (λ y. agree same_owner (own y) (Some who)) h x low high)
+
+pub owned-is : (own : Owners) (who : Owner) (range : Extent) (b : Bool) →
+    (IsTrue b ↔ ((x : ℕ) → range.base ≤ x → x < end_of range → own x ≡ Some who)) → is_owned own who range ≡ b
+unfolding is_owned
+owned-is own who range true tells =
+    each_in-all range (λ y. agree same_owner (own y) (Some who)) (λ y low high. agrees (own y) who (tells.0 refl y low high))
+owned-is own who range false tells =
+    elim (cases_Bool (is_owned own who range)) as (λ _. is_owned own who range ≡ false) [
+      | inl holds ↦ holds ∙ sym (tells.1 (λ x low high. owned-each own who range holds x low high))
+      | inr fails ↦ fails
+    ]
+
+or_left : (a b : Bool) → a ≡ true → (a || b) ≡ true
+or_left true b h = refl
+or_left false b h = cc
+
+or_right : (a b : Bool) → b ≡ true → (a || b) ≡ true
+or_right true b h = refl
+or_right false b h = h
+
+or_other : (a b : Bool) → a ≡ false → (a || b) ≡ true → b ≡ true
+or_other true b none h = cc
+or_other false b none h = h
+
+-- ranges that meet have a byte in common, and the other way round
+meets-meet : (r s : Extent) → meets r s ≡ true → Meet s r
+meets-meet r s h =
+    let x = max r.base s.base in
+    let below : x < min (end_of r) (end_of s) = grind (arith, nat_tests) in
+    let here : covers s x ≡ true = grind (arith, nat_tests) in
+    let too : covers r x ≡ true = grind (arith, nat_tests) in
+    (x, and_from (covers s x) (covers r x) here too)
+
+not-meets : (r s : Extent) (x : ℕ) → meets r s ≡ false → covers r x ≡ true → covers s x ≡ true → ⊥
+not-meets r s x h here there = grind (arith, nat_tests)
+
+meet-meets : (r s : Extent) → Meet s r → meets r s ≡ true
+meet-meets r s both =
+    let x = both.0 in
+    let here : covers s x ≡ true = grind (arith, nat_tests, both.1) in
+    let too : covers r x ≡ true = grind (arith, nat_tests, both.1) in
+    elim (cases_Bool (meets r s)) as (λ _. meets r s ≡ true) [
+      | inl holds ↦ holds
+      | inr fails ↦ absurd (not-meets r s x fails too here)
+    ]
+
+met : (kernel : Extent) (items : List Item) (range : Extent) → (w : Which) × Meet (live w kernel items) range →
+    touches kernel items range ≡ true
+met kernel items range (which.Memory, both) =
+    or_left (meets range (live which.Memory kernel items)) (meets range (live which.Reserved kernel items))
+    (meet-meets range (live which.Memory kernel items) both)
+met kernel items range (which.Reserved, both) =
+    or_right (meets range (live which.Memory kernel items)) (meets range (live which.Reserved kernel items))
+    (meet-meets range (live which.Reserved kernel items) both)
+
+touched : (kernel : Extent) (items : List Item) (range : Extent) → touches kernel items range ≡ true →
+    (w : Which) × Meet (live w kernel items) range
+touched kernel items range h =
+    elim (cases_Bool (meets range (live which.Memory kernel items))) as (λ _. (w : Which) × Meet (live w kernel items) range) [
+      | inl first ↦ (which.Memory, meets-meet range (live which.Memory kernel items) first)
+      | inr none ↦ (
+        which.Reserved,
+        meets-meet range (live which.Reserved kernel items)
+            (or_other (meets range (live which.Memory kernel items)) (meets range (live which.Reserved kernel items)) none h),
+      )
+    ]
+
+pub touches-is : (kernel : Extent) (items : List Item) (range : Extent) (b : Bool) →
+    (IsTrue b ↔ TouchesTable kernel range items) → touches kernel items range ≡ b
+touches-is kernel items range true tells = met kernel items range (tells.0 refl)
+touches-is kernel items range false tells =
+    elim (cases_Bool (touches kernel items range)) as (λ _. touches kernel items range ≡ false) [
+      | inl holds ↦ holds ∙ sym (tells.1 (touched kernel items range holds))
+      | inr fails ↦ fails
+    ]

@@ -1,0 +1,87 @@
+-- How a line ends, by how memblock's call ended, and that it leaves the bytes to the items where it fills nothing.
+use Rattle.std.proofs.Common.{◌≡◌, ℕ, Bool, true, false, nat_le, if◌then◌else◌, Option, Some, None, List, ◌++◌, length, Result, Ok, Err, IsErr, refl, sym, ◌∙◌, ap, subst, arith}
+use Rattle.std.proofs.lemmas.Bool.{true≢false}
+use Rattle.std.proofs.Math.Seq.{take-length}
+use Rattle.bm_base.specs.declared.memory.Memory.{Memory}
+use Rattle.bm_base.specs.Extent.{Extent}
+use Rattle.memblock_model.specs.declared.item.Item.{Item}
+use Rattle.memblock_model.specs.declared.owner.Owner.TheVariants as owner
+use Rattle.memblock_model.specs.Items.{owner_of}
+use Rattle.growth_model.specs.declared.request.Request.{Request}
+use Rattle.growth_model.specs.Outcome as growth
+use Rattle.growth_model.specs.Outcome.{joined}
+use Rattle.growth_model.specs.Growth.{claimed}
+use Rattle.growth_model.specs.Request.{place_for}
+use Rattle.growth_model.specs.Ends.{IsCut, EndsBy, Ends}
+use Rattle.growth_model.specs.Bytes.{byte_after, Filled, Follows}
+use Rattle.early_script.specs.declared.outcome.Outcome.{Outcome}
+use Rattle.early_script.specs.declared.outcome.Outcome.TheVariants as outcomes
+use Rattle.early_script.specs.Ids.{range_of, is_live, with_range}
+use Rattle.early_script.specs.Owned.{is_owned, touches}
+use Rattle.early_script.specs.Acted.{State, Deed, Acts, answers, alloc_at, alloc_deed, reserve_deed, on_range, free_whole, free_deed, trimmed_to, trim_whole, trim_deed, byte_by, put_by}
+
+-- all steps of a change are some of them
+pub cut-whole : (T : Type 0) (x : T) (old new : List Item) (o : growth.Outcome) → EndsBy {T = T} (Ok x) old new o → IsCut old new o
+cut-whole T x old new o ends = record {
+  count = length o.steps;
+  within = omega arith;
+  stands = ends.1 ∙ ap (λ (s : List (List Item)). old ++ joined s) (sym (take-length o.steps));
+}
+
+-- a line that found want of memory behind its change
+pub acts-wanting : (T : Type 0) (x : T) (r : Result Outcome Memory) (old new : State) (d : Deed) → IsErr r →
+    EndsBy {T = T} (Ok x) old.items new.items (d.change old.items) → new.kernel ≡ old.kernel → new.ids ≡ old.ids → Acts r old new d
+acts-wanting T x (Ok answer) old new d wants ends kernel ids = absurd (true≢false (sym wants))
+acts-wanting T x (Err memory) old new d wants ends kernel ids = (cut-whole T x old.items new.items (d.change old.items) ends, kernel, ids)
+
+pub reserve-wanting : (r : Result Outcome Memory) (old new : State) (id : ℕ) (range : Extent) (u : Unit {0}) → IsErr r →
+    is_live old.ids id ≡ false → touches old.kernel old.items range ≡ false →
+    Ends {T = Unit {0}} (Ok u) old.items new.items (claimed range (owner.Script id)) → new.kernel ≡ old.kernel → new.ids ≡ old.ids →
+    Acts r old new (reserve_deed old id range)
+reserve-wanting r old new id range u wants free away ends kernel ids =
+    let claim : Deed =
+    record { change = claimed range (owner.Script id); answer = outcomes.Done; ids = with_range old.ids id range; fill = None } in
+    let here : Acts r old new claim = acts-wanting (Unit {0}) u r old new claim wants ends kernel ids in
+    subst (λ (t : Bool). Acts r old new (if t then answers old outcomes.Taken else
+    (if touches old.kernel old.items range then answers old outcomes.TableInUse else claim))) (sym free)
+    (subst (λ (t : Bool). Acts r old new (if t then answers old outcomes.TableInUse else claim)) (sym away) here)
+
+-- without a fill, the bytes behind a line are those that the items make
+pub bytes-quiet : (result : Result Outcome Memory) (old new : State) (d : Deed) (f g : ℕ → ℕ) → d.fill ≡ None →
+    Follows old.kernel old.items new.items f g → (x : ℕ) → g x ≡ byte_by result old new d x (f x)
+bytes-quiet (Ok answer) old new d f g none follows x =
+    follows.each x ∙ sym (ap (λ (o : Option Filled). put_by o x (byte_after old.kernel old.items new.items x (f x))) none)
+bytes-quiet (Err memory) old new d f g none follows x = follows.each x
+
+either : (b : Bool) (d e : Deed) → d.fill ≡ None → e.fill ≡ None → (if b then d else e).fill ≡ None
+either true d e first second = first
+either false d e first second = second
+
+alloc_quiet : (s : State) (id size : ℕ) (place : Option ℕ) → (alloc_at s id size place).fill ≡ None
+alloc_quiet s id size None = refl
+alloc_quiet s id size (Some place) = refl
+
+pub alloc-quiet : (s : State) (id : ℕ) (r : Request) → (alloc_deed s id r).fill ≡ None
+alloc-quiet s id r = either (is_live s.ids id) (answers s outcomes.Taken) (alloc_at s id r.size (place_for r s.items)) refl
+    (alloc_quiet s id r.size (place_for r s.items))
+
+pub reserve-quiet : (s : State) (id : ℕ) (range : Extent) → (reserve_deed s id range).fill ≡ None
+reserve-quiet s id range =
+    let claim : Deed =
+    record { change = claimed range (owner.Script id); answer = outcomes.Done; ids = with_range s.ids id range; fill = None } in
+    either (is_live s.ids id) (answers s outcomes.Taken) (if touches s.kernel s.items range then answers s outcomes.TableInUse else claim) refl
+    (either (touches s.kernel s.items range) (answers s outcomes.TableInUse) claim refl refl)
+
+whole_quiet : (s : State) (id : ℕ) (deed : Extent → Deed) (range : Option Extent) → ((r : Extent) → (deed r).fill ≡ None) →
+    (on_range s id deed range).fill ≡ None
+whole_quiet s id deed None quiet = refl
+whole_quiet s id deed (Some range) quiet =
+    either (is_owned (owner_of s.items) (owner.Script id) range) (deed range) (answers s outcomes.NotWhole) (quiet range) refl
+
+pub free-quiet : (s : State) (id : ℕ) → (free_deed s id).fill ≡ None
+free-quiet s id = whole_quiet s id (free_whole s id) (range_of s.ids id) (λ range. refl)
+
+pub trim-quiet : (s : State) (id keep : ℕ) → (trim_deed s id keep).fill ≡ None
+trim-quiet s id keep =
+    whole_quiet s id (trim_whole s id keep) (range_of s.ids id)
+    (λ range. either (nat_le range.size keep) (answers s outcomes.TooLargeKeep) (trimmed_to s id keep range) refl refl)

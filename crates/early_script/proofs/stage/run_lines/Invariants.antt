@@ -1,0 +1,15 @@
+-- The lines so far have been run.
+use Rattle.std.proofs.Common.{◌≡◌, List, take}
+use Rattle.growth_model.specs.Sound.{HasBegun}
+use Rattle.growth_model.specs.Bytes.{Filled, Holds}
+use Rattle.early_script.specs.Found.{bytes_in}
+use Rattle.early_script.specs.Stage.{Reaches, stage_of, after_lines}
+use Rattle.early_script.proofs.stage.run_lines.Given as goal
+
+abbrev pub invariant-loop-line : goal.invariant-loop-line
+invariant-loop-line l = record {
+  begun : HasBegun l.mb.journal.items;
+  kernel : l.mb.kernel ≡ l.fn.mb.kernel;
+  reached : (fills : List Filled) → Holds l.fn.mb.kernel l.fn.mb.journal.items fills (bytes_in l.fn.mb) →
+      Reaches (after_lines (stage_of l.fn.live l.fn.mb fills l.fn.answers.items) (take l.line-index l.lines)) l.live l.mb l.answers.items;
+}

@@ -1,0 +1,164 @@
+-- What a line of the script does and answers: the tests of its act in their order, the first that holds is the outcome; and the change of
+-- memory where none does.
+use Rattle.std.specs.Prelude.{◌≡◌, ℕ, ◌+◌, ◌-◌, nat_le, nat_lt, if◌then◌else◌, Option, Some, None, List, [], ◌∷◌, ◌++◌, length, Result, Ok, Err}
+use Rattle.bm_base.specs.declared.memory.Memory.{Memory}
+use Rattle.bm_base.specs.Extent.{Extent}
+use Rattle.phys_store.specs.Bytes.{bytes_at}
+use Rattle.memblock_model.specs.declared.item.Item.{Item}
+use Rattle.memblock_model.specs.declared.owner.Owner.TheVariants as owner
+use Rattle.memblock_model.specs.Items.{owner_of}
+use Rattle.script_reader.specs.declared.request.Request.{Request as Asked}
+use Rattle.script_reader.specs.declared.act.Act.{Act}
+use Rattle.script_reader.specs.declared.act.Act.TheVariants as acts
+use Rattle.growth_model.specs.declared.request.Request.{Request}
+use Rattle.growth_model.specs.Outcome.{Refused, Change, after, nothing}
+use Rattle.growth_model.specs.Outcome as growth
+use Rattle.growth_model.specs.Growth.{claimed, freed}
+use Rattle.growth_model.specs.Request.{place_for}
+use Rattle.growth_model.specs.Ends.{IsCut}
+use Rattle.growth_model.specs.Bytes.{byte_after, Filled, put}
+use Rattle.early_script.specs.declared.outcome.Outcome.{Outcome}
+use Rattle.early_script.specs.declared.outcome.Outcome.TheVariants as outcomes
+use Rattle.early_script.specs.Ids.{Ids, range_of, is_live, with_range, without}
+use Rattle.early_script.specs.Owned.{is_owned, touches}
+
+-- what a line finds: the kernel's image, what happened to memory, and the live IDs
+pub record State : Type 0 where
+  pub kernel : Extent
+  pub items : List Item
+  pub ids : Ids
+
+-- what a line does to memory; and, unless that is refused: its answer, the IDs then, and a fill of bytes
+pub record Deed : Type 0 where
+  pub change : Change
+  pub answer : Outcome
+  pub ids : Ids
+  pub fill : Option Filled
+
+-- a line that only answers
+abbrev pub answers : State → Outcome → Deed
+answers s answer = record { change = nothing; answer = answer; ids = s.ids; fill = None }
+
+-- the same request, as memblock takes it
+abbrev pub request_of : Asked → Request
+request_of a = record { size = a.size; align = a.align; min = a.min; max = a.max; node = a.node; exact = a.exact }
+
+-- alloc: the best place is claimed for the ID
+abbrev pub alloc_at : State → ℕ → ℕ → Option ℕ → Deed
+alloc_at s id size None = answers s outcomes.NoGap
+alloc_at s id size (Some place) = record {
+  change = claimed (record { base = place; size = size }) (owner.Script id);
+  answer = outcomes.At place;
+  ids = with_range s.ids id (record { base = place; size = size });
+  fill = None;
+}
+
+abbrev pub alloc_deed : State → ℕ → Request → Deed
+alloc_deed s id r = if is_live s.ids id then answers s outcomes.Taken else alloc_at s id r.size (place_for r s.items)
+
+-- reserve: the range is claimed for the ID, unless it meets a table
+abbrev pub reserve_deed : State → ℕ → Extent → Deed
+reserve_deed s id range =
+    if is_live s.ids id then answers s outcomes.Taken else
+    (if touches s.kernel s.items range then answers s outcomes.TableInUse else
+    record { change = claimed range (owner.Script id); answer = outcomes.Done; ids = with_range s.ids id range; fill = None })
+
+-- an act on the range of a live ID, of which nobody else has a byte
+abbrev pub on_range : State → ℕ → (Extent → Deed) → Option Extent → Deed
+on_range s id deed None = answers s outcomes.Unknown
+on_range s id deed (Some range) = if is_owned (owner_of s.items) (owner.Script id) range then deed range else answers s outcomes.NotWhole
+
+abbrev pub on_whole : State → ℕ → (Extent → Deed) → Deed
+on_whole s id deed = on_range s id deed (range_of s.ids id)
+
+-- free: the ID's whole range is freed
+abbrev pub free_whole : State → ℕ → Extent → Deed
+free_whole s id range = record { change = freed range; answer = outcomes.Done; ids = without s.ids id; fill = None }
+
+abbrev pub free_deed : State → ℕ → Deed
+free_deed s id = on_whole s id (free_whole s id)
+
+-- trim: the bytes from `keep` on are freed, and the ID keeps those before
+abbrev pub trimmed_to : State → ℕ → ℕ → Extent → Deed
+trimmed_to s id keep range = record {
+  change = freed (record { base = range.base + keep; size = range.size - keep });
+  answer = outcomes.Done;
+  ids = with_range s.ids id (record { base = range.base; size = keep });
+  fill = None;
+}
+
+abbrev pub trim_whole : State → ℕ → ℕ → Extent → Deed
+trim_whole s id keep range = if nat_le range.size keep then answers s outcomes.TooLargeKeep else trimmed_to s id keep range
+
+abbrev pub trim_deed : State → ℕ → ℕ → Deed
+trim_deed s id keep = on_whole s id (trim_whole s id keep)
+
+-- fill: each byte of the ID's range gets the value, where there are at most 65,536
+abbrev pub fill_whole : State → ℕ → Extent → Deed
+fill_whole s byte range = if nat_lt 65536 range.size then answers s outcomes.TooLargeFill else
+    record (answers s outcomes.Done) { fill = Some (record { range = range; byte = byte; at = length s.items }) }
+
+abbrev pub fill_deed : State → ℕ → ℕ → Deed
+fill_deed s id byte = on_whole s id (fill_whole s byte)
+
+-- peek: the bytes from the address on are told
+abbrev pub peek_deed : State → (ℕ → ℕ) → ℕ → ℕ → Deed
+peek_deed s bytes at len = answers s (outcomes.Bytes (record { items = bytes_at bytes at len }))
+
+-- what an act does, in this state and with these bytes in memory. Where the sections are placed, no line does anything
+unfoldable pub deed : State → (ℕ → ℕ) → Act → Deed
+deed s bytes (acts.Alloc id asked) = alloc_deed s id (request_of asked)
+deed s bytes (acts.Reserve id range) = reserve_deed s id range
+deed s bytes (acts.Free id) = free_deed s id
+deed s bytes (acts.Trim id keep) = trim_deed s id keep
+deed s bytes (acts.Fill id byte) = fill_deed s id byte
+deed s bytes (acts.Peek at len) = peek_deed s bytes at len
+deed s bytes acts.Sections = answers s outcomes.Done
+
+-- a growth that finds no place is the answer, and the IDs stay
+abbrev pub answer_to : Option Refused → Outcome → Outcome
+answer_to None answer = answer
+answer_to (Some r) answer = outcomes.NoGapForTable r.which r.room
+
+abbrev pub ids_to : Option Refused → Ids → Ids → Ids
+ids_to None old new = new
+ids_to (Some r) old new = old
+
+abbrev pub state_by : State → Ids → growth.Outcome → State
+state_by s ids o = record { kernel = s.kernel; items = after s.items o; ids = ids_to o.refused s.ids ids }
+
+abbrev pub answer_of : State → Deed → Outcome
+answer_of s d = answer_to (d.change s.items).refused d.answer
+
+abbrev pub state_after : State → Deed → State
+state_after s d = state_by s d.ids (d.change s.items)
+
+-- a line ends with its answer, and leaves what it comes to; for want of the program's own memory it leaves some steps of its change, and
+-- the IDs as they were
+abbrev pub Acts : Result Outcome Memory → State → State → Deed → Type 0
+Acts (Ok answer) old new d = (answer ≡ answer_of old d) × (new ≡ state_after old d)
+Acts (Err memory) old new d = IsCut old.items new.items (d.change old.items) × (new.kernel ≡ old.kernel) × (new.ids ≡ old.ids)
+
+-- what a fill makes of a byte, where there is one
+abbrev pub put_by : Option Filled → ℕ → ℕ → ℕ
+put_by None x b = b
+put_by (Some f) x b = put f x b
+
+-- and what stands at an address behind a line, where the byte stood before
+abbrev pub byte_by : Result Outcome Memory → State → State → Deed → ℕ → ℕ → ℕ
+byte_by (Ok answer) old new d x b = put_by d.fill x (byte_after old.kernel old.items new.items x b)
+byte_by (Err memory) old new d x b = byte_after old.kernel old.items new.items x b
+
+-- the fills then
+abbrev pub with_fill : List Filled → Option Filled → List Filled
+with_fill fills None = fills
+with_fill fills (Some f) = fills ++ f ∷ []
+
+abbrev pub fills_by : Result Outcome Memory → Deed → List Filled → List Filled
+fills_by (Ok answer) d fills = with_fill fills d.fill
+fills_by (Err memory) d fills = fills
+
+-- a line can be run: it doesn't place the sections
+abbrev pub IsRun : Act → Type 0
+IsRun acts.Sections = ⊥
+IsRun a = Unit {0}

@@ -1,0 +1,29 @@
+-- The live IDs of the script, ascending, each with its range.
+use Rattle.std.specs.Prelude.{ℕ, ◌<◌, Bool, is_some, Option, List, [], ◌∷◌}
+use Rattle.std.specs.Ordering.{nat_cmp}
+use Rattle.std.specs.Map.{lookup, remove_entry}
+use Rattle.std.specs.BTreeMap.{insert_entry, is_at}
+use Rattle.bm_base.specs.Extent.{Extent}
+
+abbrev pub Ids : Type 0
+Ids = List (ℕ × Extent)
+
+-- the range of an ID, where it is live
+abbrev pub range_of : Ids → ℕ → Option Extent
+range_of ids id = lookup (is_at (nat_cmp id)) ids
+
+abbrev pub is_live : Ids → ℕ → Bool
+is_live ids id = is_some (range_of ids id)
+
+-- the ID has the range, whatever it had
+abbrev pub with_range : Ids → ℕ → Extent → Ids
+with_range ids id range = insert_entry nat_cmp ids id range
+
+-- the ID is live no more
+abbrev pub without : Ids → ℕ → Ids
+without ids id = remove_entry (is_at (nat_cmp id)) ids
+
+-- no live ID's range is empty
+abbrev pub HaveBytes : Ids → Type 0
+HaveBytes [] = Unit {0}
+HaveBytes (e ∷ es) = (0 < e.1.size) × HaveBytes es

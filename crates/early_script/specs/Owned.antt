@@ -1,0 +1,23 @@
+-- Whose the bytes of a range are, and whether it meets a table, as tests.
+use Rattle.std.specs.Prelude.{Bool, ◌||◌, nat_lt, min, max, Some, List}
+use Rattle.bm_base.specs.Extent.{Extent, end_of}
+use Rattle.bm_base.specs.Each.{each_in}
+use Rattle.address_runs.specs.Edits.{agree}
+use Rattle.memblock_model.specs.declared.owner.Owner.{Owner}
+use Rattle.memblock_model.specs.declared.which.Which.TheVariants as which
+use Rattle.memblock_model.specs.declared.item.Item.{Item}
+use Rattle.memblock_model.specs.Same.{same_owner}
+use Rattle.memblock_model.specs.Items.{Owners}
+use Rattle.memblock_model.specs.Tables.{live}
+
+-- each byte of the range has the owner
+unfoldable pub is_owned : Owners → Owner → Extent → Bool
+is_owned own who range = each_in range (λ x. agree same_owner (own x) (Some who))
+
+-- the ranges have a byte in common
+abbrev pub meets : Extent → Extent → Bool
+meets r s = nat_lt (max r.base s.base) (min (end_of r) (end_of s))
+
+-- the range meets the bytes of a table
+abbrev pub touches : Extent → List Item → Extent → Bool
+touches kernel items range = meets range (live which.Memory kernel items) || meets range (live which.Reserved kernel items)

@@ -1,0 +1,44 @@
+-- Lines one behind another, each with its answer.
+use Rattle.std.specs.Prelude.{◌≡◌, ℕ, List, [], ◌∷◌, ◌++◌}
+use Rattle.script_reader.specs.declared.act.Line.{Line}
+use Rattle.growth_model.specs.Bytes.{Filled, byte, Holds}
+use Rattle.memblock_grow.specs.Contents.{Contents}
+use Rattle.early_script.specs.declared.outcome.Answer.{Answer}
+use Rattle.early_script.specs.Ids.{Ids}
+use Rattle.early_script.specs.Acted.{State, Deed, with_fill, deed, answer_of, state_after}
+use Rattle.early_script.specs.Found.{state_of, bytes_in}
+
+-- what stands before a line: the state, the fills so far, and the answers so far
+pub record Stage : Type 0 where
+  pub state : State
+  pub fills : List Filled
+  pub answers : List Answer
+
+-- the deed of a line: it finds at each address the byte of the items and the fills
+abbrev pub deed_at : Stage → Line → Deed
+deed_at s line = deed s.state (byte s.state.kernel s.state.items s.fills) line.act
+
+abbrev pub stage_by : Stage → ℕ → Deed → Stage
+stage_by s number d = record {
+  state = state_after s.state d;
+  fills = with_fill s.fills d.fill;
+  answers = s.answers ++ record { line = number; outcome = answer_of s.state d } ∷ [];
+}
+
+abbrev pub after_line : Stage → Line → Stage
+after_line s line = stage_by s line.number (deed_at s line)
+
+-- lines in their order
+abbrev pub after_lines : Stage → List Line → Stage
+after_lines s [] = s
+after_lines s (line ∷ lines) = after_lines (after_line s line) lines
+
+-- where lines begin: beside memblock, after these fills, with these answers
+abbrev pub stage_of : Ids → Contents → List Filled → List Answer → Stage
+stage_of ids m fills answers = record { state = state_of ids m; fills = fills; answers = answers }
+
+-- live IDs, memblock and answers are those of the stage, and each byte is that of its items and fills
+pub record Reaches (s : Stage) (ids : Ids) (m : Contents) (answers : List Answer) : Type 0 where
+  pub state : state_of ids m ≡ s.state
+  pub answers_are : answers ≡ s.answers
+  pub holds : Holds m.kernel m.journal.items s.fills (bytes_in m)

@@ -1,0 +1,16 @@
+//! What the layer above may rest on beside the calls.
+ghost use Rattle.std.specs.Prelude.{◌≡◌, ℕ, Result};
+ghost use Rattle.bm_base.specs.declared.memory.Memory.{Memory};
+ghost use Rattle.memblock_model.specs.Items.{memory_of, limit_of};
+ghost use Rattle.script_reader.specs.declared.act.Act.{Act};
+ghost use Rattle.early_script.specs.declared.outcome.Outcome.{Outcome};
+ghost use Rattle.early_script.specs.Acted.{State, Acts, deed};
+
+/// A law: a line leaves memory, its nodes and the limit as they were, whatever it answers, and also where the
+/// program's own memory ran out amid it.
+pub fn lines_leave_memory()
+    ensures memory { (result : Result Outcome Memory) (old new : State) (bytes : ℕ → ℕ) (a : Act) →
+        Acts result old new (deed old bytes a) → memory_of new.items ≡ memory_of old.items }
+    ensures limit { (result : Result Outcome Memory) (old new : State) (bytes : ℕ → ℕ) (a : Act) →
+        Acts result old new (deed old bytes a) → limit_of new.items ≡ limit_of old.items }
+{}

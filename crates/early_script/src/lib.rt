@@ -1,0 +1,28 @@
+//! The early script, line by line: allocations behind the boot's own.
+//!
+//! A line of the script (`script_reader`) asks memblock for a place, claims a range, gives back what it got, writes
+//! or reads bytes. [`Live::run_line`] carries one out and answers an [`Outcome`]: the tests of each act come in the
+//! order of the outcomes, the first that holds is the answer, and only then memory changes. A refused line isn't the
+//! end of a boot: it is recorded, and the next line follows.
+//!
+//! - `specs/Acted.antt`: what each act does and answers (`deed`), as a change of the items; `specs/Stage.antt` puts
+//!   lines one behind another.
+//! - [`Live`]: which IDs are live, each with its range. Contracts see it as the list of them.
+//! - An ID is whole while nobody else claimed or freed a byte of its range; the journal tells that by a look-up.
+//!
+//! What a line may claim or free never meets memblock's tables: a `reserve` that does is refused, and a byte of a
+//! table has no owner of a script. So both tables stay where they lie, whatever the script asks.
+#![tactic(auto)]
+
+mod laws;
+mod live;
+mod outcome;
+mod stage;
+mod steps;
+#[cfg(test)]
+mod tests;
+
+pub use laws::lines_leave_memory;
+pub use live::Live;
+pub use outcome::{Answer, Outcome};
+pub use stage::run_lines;

@@ -1,0 +1,223 @@
+//! The live IDs, and the lines that are run on them.
+
+ghost use Rattle.std.specs.Prelude.{◌≡◌, ℕ, ◌+◌, ◌-◌, ◌^◌, ◌<◌, ◌≤◌, List, [], OnOk, OnErr, IfOk, IfErr};
+ghost use Rattle.bm_base.specs.Extent.{Extent};
+ghost use Rattle.script_reader.specs.Forms.{HasBounds};
+ghost use Rattle.growth_model.specs.Sound.{HasBegun, IsAway};
+ghost use Rattle.growth_model.specs.Bytes.{Filled, Follows, Holds};
+
+use crate::outcome::Outcome;
+use crate::steps::{asked, peek, refused, split, stand_still, touches};
+use bm_base::{Memory, Range};
+use memblock_grow::{Memblock, Request};
+use memblock_model::Owner;
+use script_reader::{Act, Line};
+use std::alloc::Global;
+use std::collections::BTreeMap;
+use std::marker::Model;
+
+/// The most bytes that a `fill` writes.
+const MOST_FILLED: u64 = 65_536;
+
+/// Which IDs are live, each with its range. No range is empty.
+#[derive(Debug, Drop)]
+pub struct Live {
+    ids: BTreeMap<u32, Range>,
+}
+
+impl Model for Live {
+    ghost use Rattle.early_script.specs.Ids.{Ids, HaveBytes};
+
+    ghost Value = { Ids };
+
+    ghost view = { λ l. l.ids.entries };
+
+    ghost invariant = { λ l. HaveBytes l.ids.entries };
+}
+
+impl Live {
+    ghost use Rattle.early_script.specs.Ids.{is_live as has_range, with_range};
+    ghost use Rattle.early_script.specs.Acted.{Deed as AnyDeed, Acts, IsRun, byte_by, fills_by, answers, request_of, on_whole, deed, alloc_deed, reserve_deed, free_deed, trim_deed, fill_deed};
+    ghost use Rattle.early_script.specs.Found.{state_of, bytes_in};
+
+    /// No ID is live.
+    pub fn new(alloc: Global) -> Live
+        ensures { result ≡ [] }
+    {
+        Live {
+            ids: BTreeMap::new(alloc),
+        }
+    }
+
+    /// Carries one line out, which doesn't place the sections and has the bounds that its reader gives it.
+    pub fn run_line(&mut self, mb: &mut Memblock, line: &Line) -> Result<Outcome, Memory>
+        requires begun { HasBegun mb.old.journal.items }
+        requires run { IsRun line.now.act }
+        requires bounds { HasBounds line.now.act }
+        ensures acts { Acts result (state_of self.old mb.old) (state_of self.new mb.new)
+            (deed (state_of self.old mb.old) (bytes_in mb.old) line.now.act) }
+        ensures bytes { (x : ℕ) → bytes_in mb.new x ≡ byte_by result (state_of self.old mb.old) (state_of self.new mb.new)
+            (deed (state_of self.old mb.old) (bytes_in mb.old) line.now.act) x (bytes_in mb.old x) }
+        ensures holds { (fills : List Filled) → Holds mb.old.kernel mb.old.journal.items fills (bytes_in mb.old) →
+            Holds mb.new.kernel mb.new.journal.items
+            (fills_by result (deed (state_of self.old mb.old) (bytes_in mb.old) line.now.act) fills) (bytes_in mb.new) }
+    {
+        match line.act {
+            Act::Alloc { id, request } => self.alloc(mb, id, &asked(&request)),
+            Act::Reserve { id, range } => self.reserve(mb, id, range),
+            Act::Free { id } => self.free(mb, id),
+            Act::Trim { id, keep } => self.trim(mb, id, keep),
+            Act::Fill { id, byte } => self.fill(mb, id, byte),
+            Act::Peek { at, len } => Ok(peek(mb, at, len)),
+            Act::Sections => unreachable!(),
+        }
+    }
+
+    fn alloc(&mut self, mb: &mut Memblock, id: u32, request: &Request) -> Result<Outcome, Memory>
+        requires begun { HasBegun mb.old.journal.items }
+        requires some { 1 ≤ request.now.size }
+        requires aligned { (k : ℕ) × (request.now.align ≡ 2 ^ k) }
+        ensures acts { Acts result (state_of self.old mb.old) (state_of self.new mb.new)
+            (alloc_deed (state_of self.old mb.old) id request.now) }
+        ensures bytes { Follows mb.old.kernel mb.old.journal.items mb.new.journal.items (bytes_in mb.old) (bytes_in mb.new) }
+    {
+        stand_still(mb);
+        if self.is_live(id) {
+            return Ok(Outcome::Taken);
+        }
+        match mb.alloc(request, Owner::Script(id)) {
+            Ok(base) => {
+                let range = Range {
+                    base,
+                    size: request.size,
+                };
+                self.keep(id, range)?;
+                Ok(Outcome::At(base))
+            }
+            Err(refusal) => refused(refusal),
+        }
+    }
+
+    fn reserve(&mut self, mb: &mut Memblock, id: u32, range: Range) -> Result<Outcome, Memory>
+        requires begun { HasBegun mb.old.journal.items }
+        requires some { 0 < range.size }
+        ensures acts { Acts result (state_of self.old mb.old) (state_of self.new mb.new)
+            (reserve_deed (state_of self.old mb.old) id range) }
+        ensures bytes { Follows mb.old.kernel mb.old.journal.items mb.new.journal.items (bytes_in mb.old) (bytes_in mb.new) }
+    {
+        stand_still(mb);
+        if self.is_live(id) {
+            return Ok(Outcome::Taken);
+        }
+        if touches(mb, range) {
+            return Ok(Outcome::TableInUse);
+        }
+        match mb.claim(range, Owner::Script(id)) {
+            Ok(()) => {
+                self.keep(id, range)?;
+                Ok(Outcome::Done)
+            }
+            Err(refusal) => refused(refusal),
+        }
+    }
+
+    fn free(&mut self, mb: &mut Memblock, id: u32) -> Result<Outcome, Memory>
+        requires { HasBegun mb.old.journal.items }
+        ensures acts { Acts result (state_of self.old mb.old) (state_of self.new mb.new)
+            (free_deed (state_of self.old mb.old) id) }
+        ensures bytes { Follows mb.old.kernel mb.old.journal.items mb.new.journal.items (bytes_in mb.old) (bytes_in mb.new) }
+    {
+        stand_still(mb);
+        let range = match self.whole(mb, id) {
+            Ok(range) => range,
+            Err(outcome) => return Ok(outcome),
+        };
+        match mb.free(range) {
+            Ok(()) => {
+                let _ = self.ids.remove(&id);
+                Ok(Outcome::Done)
+            }
+            Err(refusal) => refused(refusal),
+        }
+    }
+
+    fn trim(&mut self, mb: &mut Memblock, id: u32, keep: u64) -> Result<Outcome, Memory>
+        requires begun { HasBegun mb.old.journal.items }
+        requires some { 0 < keep }
+        ensures acts { Acts result (state_of self.old mb.old) (state_of self.new mb.new)
+            (trim_deed (state_of self.old mb.old) id keep) }
+        ensures bytes { Follows mb.old.kernel mb.old.journal.items mb.new.journal.items (bytes_in mb.old) (bytes_in mb.new) }
+    {
+        stand_still(mb);
+        let range = match self.whole(mb, id) {
+            Ok(range) => range,
+            Err(outcome) => return Ok(outcome),
+        };
+        let Some((kept, rest)) = split(range, keep) else {
+            return Ok(Outcome::TooLargeKeep);
+        };
+        match mb.free(rest) {
+            Ok(()) => {
+                self.keep(id, kept)?;
+                Ok(Outcome::Done)
+            }
+            Err(refusal) => refused(refusal),
+        }
+    }
+
+    fn fill(&mut self, mb: &mut Memblock, id: u32, byte: u8) -> Result<Outcome, Memory>
+        requires { HasBegun mb.old.journal.items }
+        ensures acts { Acts result (state_of self.old mb.old) (state_of self.new mb.new)
+            (fill_deed (state_of self.old mb.old) id byte) }
+        ensures bytes { (x : ℕ) → bytes_in mb.new x ≡ byte_by result (state_of self.old mb.old) (state_of self.new mb.new)
+            (fill_deed (state_of self.old mb.old) id byte) x (bytes_in mb.old x) }
+        ensures holds { (fills : List Filled) → Holds mb.old.kernel mb.old.journal.items fills (bytes_in mb.old) →
+            Holds mb.new.kernel mb.new.journal.items (fills_by result (fill_deed (state_of self.old mb.old) id byte) fills) (bytes_in mb.new) }
+    {
+        stand_still(mb);
+        let range = match self.whole(mb, id) {
+            Ok(range) => range,
+            Err(outcome) => return Ok(outcome),
+        };
+        if range.size > MOST_FILLED {
+            return Ok(Outcome::TooLargeFill);
+        }
+        mb.fill(range, byte)?;
+        Ok(Outcome::Done)
+    }
+
+    /// Whether the ID has a range.
+    fn is_live(&self, id: u32) -> bool
+        ensures { result ≡ has_range self.now id }
+    {
+        self.ids.contains_key(&id)
+    }
+
+    /// The ID has the range, whatever it had.
+    fn keep(&mut self, id: u32, range: Range) -> Result<(), Memory>
+        requires { 0 < range.size }
+        ensures ok { OnOk result (self.new ≡ with_range self.old id range) }
+        ensures err { OnErr result (self.new ≡ self.old) }
+    {
+        self.ids.insert(id, range)?;
+        Ok(())
+    }
+
+    /// The range of a live ID, of which nobody else has a byte; or what else is answered, whatever is to be done.
+    fn whole(&self, mb: &Memblock, id: u32) -> Result<Range, Outcome>
+        requires { HasBegun mb.now.journal.items }
+        ensures range { IfOk result (λ range. (deed : Extent → AnyDeed) → on_whole (state_of self.now mb.now) id deed ≡ deed range) }
+        ensures some { IfOk result (λ range. 0 < range.size) }
+        ensures away { IfOk result (λ range. IsAway mb.now.kernel range mb.now.journal.items) }
+        ensures outcome { IfErr result (λ outcome. (deed : Extent → AnyDeed) →
+            on_whole (state_of self.now mb.now) id deed ≡ answers (state_of self.now mb.now) outcome) }
+    {
+        let Some(range) = self.ids.get(&id).copied() else {
+            return Err(Outcome::Unknown);
+        };
+        if !mb.journal().owns(&range, Owner::Script(id)) {
+            return Err(Outcome::NotWhole);
+        }
+        Ok(range)
+    }
+}

@@ -1,0 +1,42 @@
+//! The lines of a script one behind another, each with its answer.
+ghost use Rattle.std.specs.Prelude.{◌≡◌, ℕ, List, OnOk};
+ghost use Rattle.std.specs.List.{All};
+ghost use Rattle.script_reader.specs.Forms.{HasBounds};
+ghost use Rattle.growth_model.specs.Sound.{HasBegun};
+ghost use Rattle.growth_model.specs.Bytes.{Filled, Holds};
+ghost use Rattle.early_script.specs.Acted.{IsRun};
+ghost use Rattle.early_script.specs.Found.{bytes_in};
+ghost use Rattle.early_script.specs.Stage.{Reaches, stage_of, after_lines};
+
+use crate::live::Live;
+use crate::outcome::Answer;
+use bm_base::Memory;
+use memblock_grow::Memblock;
+use script_reader::Line;
+
+/// Runs the lines in their order and appends what came of each. A refused line is answered like any
+/// other. For want of memory some of the lines, from the first on, have been run, and maybe a part of
+/// the next.
+pub fn run_lines(
+    live: &mut Live,
+    mb: &mut Memblock,
+    lines: &[Line],
+    answers: &mut Vec<Answer>,
+) -> Result<(), Memory>
+    requires begun { HasBegun mb.old.journal.items }
+    requires run { All (λ l. IsRun l.act) lines.now }
+    requires bounds { All (λ l. HasBounds l.act) lines.now }
+    ensures ok { OnOk result ((fills : List Filled) → Holds mb.old.kernel mb.old.journal.items fills (bytes_in mb.old) →
+        Reaches (after_lines (stage_of live.old mb.old fills answers.old.items) lines.now) live.new mb.new answers.new.items) }
+    ensures kernel { mb.new.kernel ≡ mb.old.kernel }
+    ensures begun { HasBegun mb.new.journal.items }
+{
+    for line in lines {
+        let outcome = live.run_line(mb, line)?;
+        answers.push(Answer {
+            line: line.number,
+            outcome,
+        })?;
+    }
+    Ok(())
+}

@@ -1,0 +1,93 @@
+//! The steps of a line that need no live ID.
+
+ghost use Rattle.std.specs.Prelude.{◌≡◌, ℕ, ◌+◌, ◌-◌, ◌^◌, ◌<◌, ◌≤◌, false, length, MatchOption};
+ghost use Rattle.phys_store.specs.Bytes.{bytes_at};
+ghost use Rattle.growth_model.specs.Sound.{HasBegun, IsAway};
+ghost use Rattle.growth_model.specs.Bytes.{Follows};
+ghost use Rattle.early_script.specs.declared.outcome.Outcome.TheVariants as outcomes;
+ghost use Rattle.early_script.specs.Owned.{touches};
+ghost use Rattle.early_script.specs.Acted.{request_of};
+ghost use Rattle.early_script.specs.Found.{bytes_in, Refuses};
+
+use crate::outcome::Outcome;
+use arrayvec::ArrayVec;
+use bm_base::{Memory, Range};
+use memblock_grow::{Memblock, Refusal, Request};
+use script_reader::Request as Asked;
+
+/// The request of a line, as memblock takes it.
+pub fn asked(request: &Asked) -> Request
+    ensures { result ≡ request_of request.now }
+{
+    Request {
+        size: request.size,
+        align: request.align,
+        min: request.min,
+        max: request.max,
+        node: request.node,
+        exact: request.exact,
+    }
+}
+
+/// A refusal of memblock is the answer; want of memory isn't.
+pub fn refused(refusal: Refusal) -> Result<Outcome, Memory>
+    ensures { Refuses result refusal }
+{
+    match refusal {
+        Refusal::NoGap => Ok(Outcome::NoGap),
+        Refusal::NoGapForTable { which, room } => Ok(Outcome::NoGapForTable { which, room }),
+        Refusal::Memory => Err(Memory),
+    }
+}
+
+/// The first `keep` bytes of the range and the rest of it, where there is a rest.
+pub fn split(range: Range, keep: u64) -> Option<(Range, Range)>
+    ensures { MatchOption result (range.size ≤ keep) (λ parts. (keep < range.size)
+        × (parts.0 ≡ record { base = range.base; size = keep })
+        × (parts.1 ≡ record { base = range.base + keep; size = range.size - keep })) }
+{
+    if range.size <= keep {
+        return None;
+    }
+    let kept = Range {
+        base: range.base,
+        size: keep,
+    };
+    let rest = Range {
+        base: range.base + keep,
+        size: range.size - keep,
+    };
+    Some((kept, rest))
+}
+
+/// Whether the range meets the bytes of a table.
+pub fn touches(mb: &Memblock, range: Range) -> bool
+    ensures value { result ≡ touches mb.now.kernel mb.now.journal.items range }
+    ensures away { result ≡ false → IsAway mb.now.kernel range mb.now.journal.items }
+{
+    mb.touches_table(range)
+}
+
+/// The `len` bytes from the address on, at most 64.
+pub fn peek(mb: &Memblock, at: u64, len: u32) -> Outcome
+    requires begun { HasBegun mb.now.journal.items }
+    requires few { len ≤ 64 }
+    requires within { at + len < 2 ^ 64 }
+    ensures told { result ≡ outcomes.Bytes (record { items = bytes_at (bytes_in mb.now) at len }) }
+    ensures still { Follows mb.now.kernel mb.now.journal.items mb.now.journal.items (bytes_in mb.now) (bytes_in mb.now) }
+{
+    stand_still(mb);
+    let mut room = [0u8; 64];
+    mb.peek(at, &mut room[..len as usize]);
+    let mut told = ArrayVec::from(room);
+    told.truncate(len as usize);
+    Outcome::Bytes(told)
+}
+
+/// A law: while nothing happens, each byte is as it was, and that is what the items say of it.
+pub fn stand_still(mb: &Memblock)
+    requires { HasBegun mb.now.journal.items }
+    ensures { Follows mb.now.kernel mb.now.journal.items mb.now.journal.items (bytes_in mb.now) (bytes_in mb.now) }
+{
+    let _tables = mb.tables();
+}

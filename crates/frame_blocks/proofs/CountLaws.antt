@@ -1,0 +1,252 @@
+-- How many blocks of a node, a zone and an order there are.
+use Rattle.std.proofs.Common.{◌≡◌, ◌≢◌, ◌⊎◌, ◌↔◌, ℕ, zero, suc, ◌+◌, ◌-◌, ◌*◌, ◌%◌, ◌^◌, ◌<◌, ◌≤◌, ◌==◌, Bool, true, false, ◌&&◌, cond, if◌then◌else◌, Some, None, List, [], ◌∷◌, ◌++◌, length, get_or, drop, refl, sym, ◌∙◌, ap, subst, inl, inr, ⊎_elim, arith}
+use Rattle.std.specs.Bool.{IsTrue}
+use Rattle.std.specs.List.{count_by}
+use Rattle.std.proofs.lemmas.Bool.Decides.{nat_tests}
+use Rattle.std.proofs.lemmas.Bool.{cases_lt, cases_Bool, eq-eqb, eqb-true, true≢false}
+use Rattle.std.proofs.lemmas.Nat.{pow_pos}
+use Rattle.std.proofs.lemmas.List.Sums.{sum_by-cons, sum_by-append, count_by-le-length}
+use Rattle.std.proofs.Math.Nat.{add-mod_right, add-mul-mod_self_right, suc-mul, mul-le-mul_left}
+use Rattle.bm_base.specs.declared.zone.Zone.{Zone}
+use Rattle.bm_base.specs.declared.zone.Zone.TheVariants as zone
+use Rattle.bm_base.specs.Zones.{zone_of}
+use Rattle.address_runs.specs.Runs.{RunOf, run_end, value_at, AreRuns}
+use Rattle.address_runs.specs.Edits.{NothingFrom}
+use Rattle.frame_blocks.specs.declared.block.Block.{Block}
+use Rattle.frame_blocks.specs.Frames.{Frames, AreFree}
+use Rattle.frame_blocks.specs.Listed.{block_of, block_for, led_by_block, blocks_from, blocks_of, order_up_to, same_zone, is_of, count_of}
+use Rattle.frame_blocks.specs.declared.run.TheConstants.{MAX_FRAMES}
+use Rattle.frame_blocks.specs.Sets.{IsRun, Fits, IsGreatest, IsStart}
+use Rattle.frame_blocks.proofs.ListLaws.{from-append, from-block, from-few}
+use Rattle.frame_blocks.proofs.GoodLaws.{up_is}
+use Rattle.frame_blocks.proofs.RunLaws.{found, free_inside, start_next, start_at_ten}
+use Rattle.frame_blocks.proofs.LookLaws.{run_of_list, listed, listed_all, listed_more, listed_none}
+
+-- the test of a zone tells
+zone_self : (a : Zone) → same_zone a a ≡ true
+zone_self zone.Dma = refl
+zone_self zone.Dma32 = refl
+zone_self zone.Normal = refl
+
+zone_is : (a b : Zone) → same_zone a b ≡ true → a ≡ b
+zone_is zone.Dma zone.Dma h = refl
+zone_is zone.Dma zone.Dma32 h = cc
+zone_is zone.Dma zone.Normal h = cc
+zone_is zone.Dma32 zone.Dma h = cc
+zone_is zone.Dma32 zone.Dma32 h = refl
+zone_is zone.Dma32 zone.Normal h = cc
+zone_is zone.Normal zone.Dma h = cc
+zone_is zone.Normal zone.Dma32 h = cc
+zone_is zone.Normal zone.Normal h = refl
+
+-- the count of blocks of one order that follow one another
+abbrev pub if_alike : ℕ → Zone → ℕ → Zone → ℕ
+if_alike o z order zone = cond ((o == order) && same_zone z zone) 1 0
+
+one_block : (n o x order : ℕ) (z wanted : Zone) (made : Block) → made ≡ record { order = o; first = x; node = n; zone = z }
+    → count_by (is_of n wanted order) (made ∷ []) ≡ if_alike o z order wanted
+one_block n o x order z wanted made is =
+    let node : (n == n) ≡ true = eq-eqb n n refl in
+    let b : Block = record { order = o; first = x; node = n; zone = z } in
+    ap (λ (c : Block). count_by (is_of n wanted order) (c ∷ [])) is ∙ sum_by-cons (λ (c : Block). cond (is_of n wanted order c) 1 0) b []
+    ∙ rw node (omega arith)
+
+pub alike : (k : ℕ) (f : Frames) (n o s at order : ℕ) (z wanted : Zone) → o ≤ 10 → s ≡ 2 ^ o → at % 2 ^ o ≡ 0
+    → ((i : ℕ) → i < k → f (at + i * s) ≡ Some n) → ((i : ℕ) → i < k → order_up_to f (at + i * s) n 10 ≡ o)
+    → ((i : ℕ) → i < k → zone_of (at + i * s) ≡ z)
+    → count_by (is_of n wanted order) (blocks_from f at (k * s)) ≡ k * if_alike o z order wanted
+alike zero f n o s at order z wanted small size whole free found zones =
+    let none : 0 * s ≡ 0 = omega arith in
+    let nothing : blocks_from f at 0 ≡ [] = unfold blocks_from in refl in
+    ap (λ m. count_by (is_of n wanted order) (blocks_from f at m)) none ∙ ap (λ (bs : List Block). count_by (is_of n wanted order) bs) nothing
+    ∙ (let h : 0 ≡ 0 * if_alike o z order wanted = omega arith in h)
+alike (suc k) f n o s at order z wanted small size whole free found zones =
+    let p : Block → Bool = is_of n wanted order in
+    let v : ℕ = if_alike o z order wanted in
+    let some : 0 < suc k = omega arith in
+    let here : at + 0 * s ≡ at = omega arith in
+    let is : f at ≡ Some n = ap f (sym here) ∙ free 0 some in
+    let order_is : order_up_to f at n 10 ≡ o = ap (λ x. order_up_to f x n 10) (sym here) ∙ found 0 some in
+    let zone_is : zone_of at ≡ z = ap zone_of (sym here) ∙ zones 0 some in
+    let made : Block = record { order = o; first = at; node = n; zone = zone_of at } in
+    let one : blocks_from f at (2 ^ o) ≡ made ∷ [] = from-block f o at n small is order_is whole in
+    let sum : suc k * s ≡ 2 ^ o + k * s = let h = suc-mul k s in omega (arith, h, size) in
+    let next : (i : ℕ) → at + 2 ^ o + i * s ≡ at + suc i * s = λ i. let h = suc-mul i s in omega (arith, h, size) in
+    let rest : count_by p (blocks_from f (at + 2 ^ o) (k * s)) ≡ k * v =
+    alike k f n o s (at + 2 ^ o) order z wanted small size
+    (add-mod_right at (2 ^ o) ∙ whole)
+    (λ i lt. ap f (next i) ∙ free (suc i) (omega arith))
+    (λ i lt. ap (λ x. order_up_to f x n 10) (next i) ∙ found (suc i) (omega arith))
+    (λ i lt. ap zone_of (next i) ∙ zones (suc i) (omega arith)) in
+    let first : count_by p (blocks_from f at (2 ^ o)) ≡ v =
+    ap (λ (bs : List Block). count_by p bs) one
+    ∙ one_block n o at order z wanted made (ap (λ y. let b : Block = record { order = o; first = at; node = n; zone = y } in b) zone_is) in
+    let total : v + k * v ≡ suc k * v = let h = suc-mul k v in omega (arith, h) in
+    ap (λ m. count_by p (blocks_from f at m)) sum ∙ ap (λ (bs : List Block). count_by p bs) (from-append f at (2 ^ o) (k * s))
+    ∙ sum_by-append (λ (c : Block). cond (p c) 1 0) (blocks_from f at (2 ^ o)) (blocks_from f (at + 2 ^ o) (k * s))
+    ∙ ap (λ a. a + count_by p (blocks_from f (at + 2 ^ o) (k * s))) first ∙ ap (λ a. v + a) rest ∙ total
+
+-- the blocks of a stretch that lies in a run: the first by the greatest set, those behind it by the greatest order
+in_a_row : (f : Frames) (first end n o s at k : ℕ) → IsRun f first end n → first ≤ at → 0 < k → at + k * s ≤ end → o ≤ 10 → s ≡ 2 ^ o
+    → at % s ≡ 0 → Fits first end at s → IsGreatest first end at o → ((o ≡ 10) ⊎ (k ≡ 1)) → (i : ℕ) → i < k
+    → (f (at + i * s) ≡ Some n) × (order_up_to f (at + i * s) n 10 ≡ o)
+in_a_row f first end n o s at k run above some room small size whole fits greatest (inr one) i lt =
+    let start : at + i * s ≡ at = let zeroth : i ≡ 0 = omega arith in ap (λ j. at + j * s) zeroth ∙ omega arith in
+    let positive : 0 < s = let h = pow_pos o in omega (arith, size, h) in
+    let inner : at < end = let h = suc-mul 0 s in let all = ap (λ j. j * s) one in omega (arith, room, all, h, positive) in (
+      ap f start ∙ run.inside at above inner,
+      ap (λ x. order_up_to f x n 10) start
+          ∙ found f first end n o at run above inner small (subst (λ (t : ℕ). Fits first end at t) size fits) greatest,
+    )
+in_a_row f first end n o s at k run above some room small size whole fits greatest (inl ten) i lt =
+    let s_is : s ≡ 1024 = size ∙ ap (λ p. 2 ^ p) ten in
+    let x : ℕ = at + i * s in
+    let all = ap (λ t. at + k * t) s_is in
+    let here : x ≡ at + i * 1024 = ap (λ t. at + i * t) s_is in
+    let fits_here : x + 1024 ≤ end = omega (arith, room, all, here, lt) in
+    let at_whole : at % 1024 ≡ 0 = subst (λ (t : ℕ). at % t ≡ 0) s_is whole in
+    let x_whole : x % 1024 ≡ 0 = ap (λ y. y % 1024) here ∙ add-mul-mod_self_right at i 1024 ∙ at_whole in
+    let is : f x ≡ Some n = run.inside x (omega arith) (omega (arith, fits_here)) in
+    let fits_ten : Fits first end x (2 ^ 10) = record { above = omega (arith, x_whole, above); below = omega (arith, x_whole, fits_here) } in (
+      is,
+      up_is f x n 10 10 is (omega arith) (free_inside f first end n 10 x run fits_ten) (λ less free. absurd (omega arith)) ∙ sym ten,
+    )
+
+pub alike_more : (f : Frames) (first end n o s at k order : ℕ) (wanted : Zone) → IsRun f first end n → first ≤ at → 0 < k → at + k * s ≤ end
+    → o ≤ 10 → s ≡ 2 ^ o → at % s ≡ 0 → Fits first end at s → IsGreatest first end at o → ((o ≡ 10) ⊎ (k ≡ 1))
+    → ((i : ℕ) → i < k → zone_of (at + i * s) ≡ zone_of at)
+    → count_by (is_of n wanted order) (blocks_from f first (at + k * s - first))
+    ≡ count_by (is_of n wanted order) (blocks_from f first (at - first)) + k * if_alike o (zone_of at) order wanted
+alike_more f first end n o s at k order wanted run above some room small size whole fits greatest single zones =
+    let p : Block → Bool = is_of n wanted order in
+    let row = in_a_row f first end n o s at k run above some room small size whole fits greatest single in
+    let parts : at + k * s - first ≡ (at - first) + k * s = omega arith in
+    let there : first + (at - first) ≡ at = omega arith in
+    let start : at % 2 ^ o ≡ 0 = subst (λ (t : ℕ). at % t ≡ 0) size whole in
+    ap (λ m. count_by p (blocks_from f first m)) parts
+    ∙ ap (λ (bs : List Block). count_by p bs) (from-append f first (at - first) (k * s))
+    ∙ sum_by-append (λ (c : Block). cond (p c) 1 0) (blocks_from f first (at - first)) (blocks_from f (first + (at - first)) (k * s))
+    ∙ ap (λ (y : ℕ). count_by p (blocks_from f first (at - first)) + count_by p (blocks_from f y (k * s))) there
+    ∙ ap (λ a. count_by p (blocks_from f first (at - first)) + a)
+    (alike k f n o s at order (zone_of at) wanted small size start (λ i lt. (row i lt).0) (λ i lt. (row i lt).1) zones)
+
+-- frames of another node have none
+led_other : (f : Frames) (x n node order : ℕ) (wanted : Zone) (bs : List Block) → f x ≡ Some n → (n == node) ≡ false
+    → count_by (is_of node wanted order) (led_by_block x (block_of f x) bs) ≡ count_by (is_of node wanted order) bs
+led_other f x n node order wanted bs is other =
+    let p : Block → Bool = is_of node wanted order in
+    let first : ℕ = x - x % 2 ^ order_up_to f x n 10 in
+    let b : Block = record { order = order_up_to f x n 10; first = first; node = n; zone = zone_of first } in
+    ap (λ v. count_by p (led_by_block x (block_for f x v) bs)) is
+    ∙ elim (cases_Bool (first == x)) as (λ _. count_by p (led_by_block x (Some b) bs) ≡ count_by p bs) [
+      | inl here ↦ rw here (sum_by-cons (λ (c : Block). cond (p c) 1 0) b bs ∙ rw other (omega arith))
+      | inr away ↦ rw away refl
+    ]
+
+pub other_node : (f : Frames) (n node order : ℕ) (wanted : Zone) (x m : ℕ) → (n == node) ≡ false
+    → ((y : ℕ) → x ≤ y → y < x + m → f y ≡ Some n) → count_by (is_of node wanted order) (blocks_from f x m) ≡ 0
+unfolding blocks_from
+other_node f n node order wanted x zero other free = refl
+other_node f n node order wanted x (suc m) other free =
+    led_other f x n node order wanted (blocks_from f (x + 1) m) (free x (omega arith) (omega arith)) other
+    ∙ other_node f n node order wanted (x + 1) m other (λ y above below. free y (omega arith) (omega arith))
+
+-- the count over all runs, and how great it can be
+pub count_all : (rs : List (RunOf ℕ)) (node order : ℕ) (wanted : Zone) → AreRuns rs → NothingFrom MAX_FRAMES (value_at rs)
+    → (count_by (is_of node wanted order) (listed (value_at rs) rs) ≡ count_of (value_at rs) node wanted order)
+    × (count_of (value_at rs) node wanted order ≤ MAX_FRAMES)
+unfolding count_of blocks_of
+count_all rs node order wanted runs none =
+    let most : ℕ = MAX_FRAMES in
+    let bs : List Block = blocks_from (value_at rs) 0 most in
+    let few = count_by-le-length (is_of node wanted order) bs in
+    let less = from-few (value_at rs) 0 most in
+    (ap (λ (cs : List Block). count_by (is_of node wanted order) cs) (listed_all rs runs none), omega (arith, few, less))
+
+pub count_more : (f : Frames) (rs : List (RunOf ℕ)) (i : ℕ) (d : RunOf ℕ) (p : Block → Bool) → i < length rs
+    → count_by p (listed f (drop i rs)) ≡ count_by p (blocks_from f (get_or rs i d).base (get_or rs i d).size) + count_by p (listed f (drop (i + 1) rs))
+count_more f rs i d p few =
+    ap (λ (bs : List Block). count_by p bs) (listed_more f rs i d few)
+    ∙ sum_by-append (λ (c : Block). cond (p c) 1 0) (blocks_from f (get_or rs i d).base (get_or rs i d).size) (listed f (drop (i + 1) rs))
+
+pub count_more_at : (f : Frames) (rs : List (RunOf ℕ)) (i : ℕ) (d r : RunOf ℕ) (p : Block → Bool) → r ≡ get_or rs i d → i < length rs
+    → count_by p (listed f (drop i rs)) ≡ count_by p (blocks_from f r.base (run_end r - r.base)) + count_by p (listed f (drop (i + 1) rs))
+count_more_at f rs i d r p is few =
+    let size : run_end r - r.base ≡ r.size = omega arith in
+    count_more f rs i d p few
+    ∙ sym (ap (λ n. count_by p (blocks_from f r.base n) + count_by p (listed f (drop (i + 1) rs))) size
+    ∙ ap (λ (q : RunOf ℕ). count_by p (blocks_from f q.base q.size) + count_by p (listed f (drop (i + 1) rs))) is)
+
+-- what the code tests of an order and a zone is what counts
+pub alike_is : (o order : ℕ) (z wanted : Zone) → o ≡ order → z ≡ wanted → if_alike o z order wanted ≡ 1
+alike_is o order z wanted same zones =
+    let orders : (o == order) ≡ true = eq-eqb o order same in
+    let tells : same_zone z wanted ≡ true = ap (λ y. same_zone y wanted) zones ∙ zone_self wanted in
+    rw (orders, tells) refl
+
+pub alike_not : (o order : ℕ) (z wanted : Zone) → ((o ≢ order) ⊎ (z ≢ wanted)) → if_alike o z order wanted ≡ 0
+alike_not o order z wanted (inl other) =
+    elim (cases_Bool (o == order)) as (λ _. if_alike o z order wanted ≡ 0) [
+      | inl same ↦ absurd (other (eqb-true o order same))
+      | inr differs ↦ rw differs refl
+    ]
+alike_not o order z wanted (inr other) =
+    elim (cases_Bool (same_zone z wanted)) as (λ _. if_alike o z order wanted ≡ 0) [
+      | inl same ↦ absurd (other (zone_is z wanted same))
+      | inr differs ↦ let none : ((o == order) && same_zone z wanted) ≡ false = rw differs (grind (arith, nat_tests)) in rw none refl
+    ]
+
+pub alike_told : (r : Bool) (o order : ℕ) (z wanted : Zone) → (IsTrue r ↔ ((o ≡ order) × (z ≡ wanted)))
+    → if_alike o z order wanted ≡ cond r 1 0
+alike_told true o order z wanted tells = let both = tells.0 refl in alike_is o order z wanted both.0 both.1
+alike_told false o order z wanted tells =
+    elim (cases_Bool (o == order)) as (λ _. if_alike o z order wanted ≡ 0) [
+      | inr differs ↦ rw differs refl
+      | inl same ↦ alike_not o order z wanted (inr (λ zones. true≢false (sym (tells.1 (eqb-true o order same, zones)))))
+    ]
+
+-- the count so far and that of the rest are the count of all, one run later too
+pub next_count : (f : Frames) (rs : List (RunOf ℕ)) (i : ℕ) (d r : RunOf ℕ) (p : Block → Bool) (t u all : ℕ) → r ≡ get_or rs i d → i < length rs
+    → t + count_by p (listed f (drop i rs)) ≡ all → u ≡ t + count_by p (blocks_from f r.base (run_end r - r.base))
+    → u + count_by p (listed f (drop (i + 1) rs)) ≡ all
+next_count f rs i d r p t u all is few sum more =
+    let parts = count_more_at f rs i d r p is few in
+    omega (arith, parts, sum, more)
+
+pub no_count : (f : Frames) (rs : List (RunOf ℕ)) (i : ℕ) (p : Block → Bool) → length rs ≤ i → count_by p (listed f (drop i rs)) ≡ 0
+no_count f rs i p all = ap (λ (bs : List Block). count_by p bs) (listed_none f rs i all)
+
+-- a run of another node counts nothing
+pub other_run : (f : Frames) (r : RunOf ℕ) (node order : ℕ) (wanted : Zone) → IsRun f r.base (run_end r) r.value → r.value ≢ node
+    → count_by (is_of node wanted order) (blocks_from f r.base (run_end r - r.base)) ≡ 0
+other_run f r node order wanted run other =
+    let differs : (r.value == node) ≡ false =
+    elim (cases_Bool (r.value == node)) as (λ _. (r.value == node) ≡ false) [
+      | inl same ↦ absurd (other (eqb-true r.value node same))
+      | inr away ↦ away
+    ] in
+    other_node f r.value node order wanted r.base (run_end r - r.base) differs (λ y above below. run.inside y above (omega arith))
+
+pub many : (k s o : ℕ) → s ≡ 2 ^ o → k ≤ k * s
+many k s o size = let some = pow_pos o in let positive : 1 ≤ s = omega (arith, some, size) in let h = mul-le-mul_left k positive in omega (arith, h)
+
+pub at_most_one : (o order : ℕ) (z wanted : Zone) → if_alike o z order wanted ≤ 1
+at_most_one o order z wanted =
+    elim (cases_Bool ((o == order) && same_zone z wanted)) as (λ _. if_alike o z order wanted ≤ 1) [
+      | inl holds ↦ rw holds (omega arith)
+      | inr fails ↦ rw fails (omega arith)
+    ]
+
+pub mul_one_most : (k v : ℕ) → v ≤ 1 → k * v ≤ k
+mul_one_most k v one = let h = mul-le-mul_left k one in omega (arith, h)
+
+-- behind blocks that follow one another the next one begins
+pub next_start : (first end at o s k : ℕ) → at % s ≡ 0 → o ≤ 10 → s ≡ 2 ^ o → IsGreatest first end at o → ((o ≡ 10) ⊎ (k ≡ 1))
+    → IsStart first end (at + k * s)
+next_start first end at o s k whole small size greatest (inr one) =
+    let here : at + s ≡ at + k * s = sym (ap (λ j. at + j * s) one ∙ omega arith) in
+    subst (λ (y : ℕ). IsStart first end y) here (start_next first end at o s whole small size greatest)
+next_start first end at o s k whole small size greatest (inl ten) =
+    let s_is : s ≡ 2 ^ 10 = size ∙ ap (λ p. 2 ^ p) ten in
+    start_at_ten first end (at + k * s)
+    (ap (λ t. (at + k * s) % t) (sym s_is) ∙ add-mul-mod_self_right at k s ∙ whole)

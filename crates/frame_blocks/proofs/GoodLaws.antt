@@ -1,0 +1,111 @@
+-- Free sets around a frame, and the greatest of them.
+use Rattle.std.proofs.Common.{◌≡◌, ◌≢◌, ℕ, zero, suc, ◌+◌, ◌-◌, ◌*◌, ◌/◌, ◌%◌, ◌^◌, ◌<◌, ◌≤◌, ◌==◌, Bool, true, false, Option, Some, None, if◌then◌else◌, refl, sym, ◌∙◌, ap, subst, inl, inr, arith}
+use Rattle.std.proofs.lemmas.Bool.Decides.{nat_tests}
+use Rattle.std.proofs.lemmas.Bool.{cases_lt, cases_Bool, eqb-true, eq-eqb}
+use Rattle.std.proofs.lemmas.Nat.{pow_pos}
+use Rattle.std.proofs.Math.Nat.{div-one}
+use Rattle.bm_base.proofs.EachLaws.{each_in-all, each_in-each}
+use Rattle.frame_blocks.specs.Frames.{Frames, IsInSet, AreFree}
+use Rattle.frame_blocks.specs.Listed.{is_node, set_around, are_free, order_up_to}
+use Rattle.frame_blocks.proofs.SetLaws.{in_set, set_from, set_until, wider}
+
+-- a node tells by its test
+node_is : (o : Option ℕ) (n : ℕ) → is_node o n ≡ true → o ≡ Some n
+node_is None n h = cc
+node_is (Some m) n h = ap (λ k. Some k) (eqb-true m n h)
+
+is_the_node : (o : Option ℕ) (n : ℕ) → o ≡ Some n → is_node o n ≡ true
+is_the_node o n is = ap (λ v. is_node v n) is ∙ eq-eqb n n refl
+
+-- a free set is free around each of its frames, and each smaller set in it is
+pub free-narrow : (f : Frames) (o p x n : ℕ) → o ≤ p → AreFree f p x n → AreFree f o x n
+free-narrow f o p x n order free y same = free y (wider o p y x order same)
+
+pub free-around : (f : Frames) (o x y n : ℕ) → IsInSet o x y → AreFree f o x n → AreFree f o y n
+free-around f o x y n same free z other = free z (other ∙ same)
+
+-- the test of a set tells
+pub test_free : (f : Frames) (o x n : ℕ) → are_free f o x n ≡ true → AreFree f o x n
+unfolding are_free
+test_free f o x n holds y same =
+    node_is (f y) n
+    (each_in-each (set_around o x) (λ z. is_node (f z) n) holds y (set_from (2 ^ o) x y same) (set_until (2 ^ o) x y (pow_pos o) same))
+
+pub free_test : (f : Frames) (o x n : ℕ) → AreFree f o x n → are_free f o x n ≡ true
+unfolding are_free
+free_test f o x n free =
+    each_in-all (set_around o x) (λ z. is_node (f z) n)
+    (λ y above below. is_the_node (f y) n (free y (in_set (2 ^ o) x y above below)))
+
+pub not_free_test : (f : Frames) (o x n : ℕ) → (AreFree f o x n → ⊥) → are_free f o x n ≡ false
+not_free_test f o x n not_free =
+    elim (cases_Bool (are_free f o x n)) as (λ _. are_free f o x n ≡ false) [
+      | inl holds ↦ absurd (not_free (test_free f o x n holds))
+      | inr fails ↦ fails
+    ]
+
+-- one step down from an order whose set isn't free, and none from one whose set is
+pub up_less : (f : Frames) (x n m : ℕ) → (AreFree f (suc m) x n → ⊥) → order_up_to f x n (suc m) ≡ order_up_to f x n m
+unfolding order_up_to
+up_less f x n m not_free = rw (not_free_test f (suc m) x n not_free) refl
+
+pub up_here : (f : Frames) (x n m : ℕ) → AreFree f m x n → order_up_to f x n m ≡ m
+unfolding order_up_to
+up_here f x n zero free = refl
+up_here f x n (suc m) free = rw (free_test f (suc m) x n free) refl
+
+pub up_small : (f : Frames) (x n m : ℕ) → order_up_to f x n m ≤ m
+up_small f x n zero = let h : order_up_to f x n 0 ≡ 0 = unfold order_up_to in refl in omega arith
+up_small f x n (suc m) =
+    elim (cases_Bool (are_free f (suc m) x n)) as (λ _. order_up_to f x n (suc m) ≤ suc m) [
+      | inl holds ↦ let h = up_here f x n (suc m) (test_free f (suc m) x n holds) in omega (arith, h)
+      | inr fails ↦
+          let h : order_up_to f x n (suc m) ≡ order_up_to f x n m = unfold order_up_to in rw fails refl in
+          let less = up_small f x n m in omega (arith, h, less)
+    ]
+
+-- the set of the order that is found is free
+pub up_free : (f : Frames) (x n m : ℕ) → f x ≡ Some n → AreFree f (order_up_to f x n m) x n
+up_free f x n zero is =
+    let h : order_up_to f x n 0 ≡ 0 = unfold order_up_to in refl in
+    let one : AreFree f 0 x n = λ y same. let here : y ≡ x = sym (div-one y) ∙ same ∙ div-one x in ap f here ∙ is in
+    subst (λ (o : ℕ). AreFree f o x n) (sym h) one
+up_free f x n (suc m) is =
+    elim (cases_Bool (are_free f (suc m) x n)) as (λ _. AreFree f (order_up_to f x n (suc m)) x n) [
+      | inl holds ↦
+          let free = test_free f (suc m) x n holds in
+          subst (λ (o : ℕ). AreFree f o x n) (sym (up_here f x n (suc m) free)) free
+      | inr fails ↦
+          let h : order_up_to f x n (suc m) ≡ order_up_to f x n m = unfold order_up_to in rw fails refl in
+          subst (λ (o : ℕ). AreFree f o x n) (sym h) (up_free f x n m is)
+    ]
+
+-- and no greater one is
+pub up_most : (f : Frames) (x n m o : ℕ) → o ≤ m → AreFree f o x n → o ≤ order_up_to f x n m
+up_most f x n zero o few free = omega arith
+up_most f x n (suc m) o few free =
+    elim (cases_Bool (are_free f (suc m) x n)) as (λ _. o ≤ order_up_to f x n (suc m)) [
+      | inl holds ↦ let h = up_here f x n (suc m) (test_free f (suc m) x n holds) in omega (arith, h)
+      | inr fails ↦
+          let h : order_up_to f x n (suc m) ≡ order_up_to f x n m = unfold order_up_to in rw fails refl in
+          elim (cases_lt m o) as (λ _. o ≤ order_up_to f x n (suc m)) [
+            | inl lt ↦
+                let last : o ≡ suc m = omega arith in
+                let there : AreFree f (suc m) x n = subst (λ (p : ℕ). AreFree f p x n) last free in
+                absurd (cc (sym (free_test f (suc m) x n there) ∙ fails))
+            | inr ge ↦ let more = up_most f x n m o ge free in omega (arith, h, more)
+          ]
+    ]
+
+-- so a free set, of which the next greater one isn't free, is found
+pub up_is : (f : Frames) (x n m o : ℕ) → f x ≡ Some n → o ≤ m → AreFree f o x n → (o < m → AreFree f (suc o) x n → ⊥)
+    → order_up_to f x n m ≡ o
+up_is f x n m o is few free whole =
+    let most = up_most f x n m o few free in
+    let small = up_small f x n m in
+    elim (cases_lt o (order_up_to f x n m)) as (λ _. order_up_to f x n m ≡ o) [
+      | inl lt ↦
+          let less : o < m = omega (arith, lt, small) in
+          absurd (whole less (free-narrow f (suc o) (order_up_to f x n m) x n lt (up_free f x n m is)))
+      | inr ge ↦ omega (arith, most, ge)
+    ]

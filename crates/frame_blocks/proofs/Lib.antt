@@ -1,0 +1,7 @@
+pub mod SetLaws
+pub mod GoodLaws
+pub mod ListLaws
+pub mod RunLaws
+pub mod LookLaws
+pub mod CountLaws
+pub mod BlockLaws

@@ -1,0 +1,103 @@
+-- The list of the blocks that begin in a stretch of frames.
+use Rattle.std.proofs.Common.{◌≡◌, ◌≢◌, ℕ, zero, suc, ◌+◌, ◌-◌, ◌*◌, ◌/◌, ◌%◌, ◌^◌, ◌<◌, ◌≤◌, ◌==◌, Bool, true, false, Option, Some, None, List, [], ◌∷◌, ◌++◌, length, if◌then◌else◌, refl, sym, ◌∙◌, ap, subst, inl, inr, arith}
+use Rattle.std.proofs.lemmas.Bool.Decides.{nat_tests}
+use Rattle.std.proofs.lemmas.Bool.{cases_lt, cases_Bool, eq-eqb}
+use Rattle.std.proofs.lemmas.Nat.{pow_pos}
+use Rattle.std.proofs.Math.Nat.{mod-eq_of_lt}
+use Rattle.bm_base.specs.Zones.{zone_of}
+use Rattle.frame_blocks.specs.declared.block.Block.{Block}
+use Rattle.frame_blocks.specs.Frames.{Frames, IsInSet, AreFree}
+use Rattle.frame_blocks.specs.Listed.{block_around, block_for, block_of, led_by_block, blocks_from, order_up_to}
+use Rattle.frame_blocks.proofs.SetLaws.{base_is, base_whole, in_set, set_from, set_until, multiple, apart, wider}
+use Rattle.frame_blocks.proofs.GoodLaws.{free-narrow, free-around, up_free, up_most}
+
+led_append : (x : ℕ) (o : Option Block) (bs cs : List Block) → led_by_block x o (bs ++ cs) ≡ led_by_block x o bs ++ cs
+led_append x None bs cs = refl
+led_append x (Some b) bs cs =
+    elim (cases_Bool (b.first == x)) as (λ _. led_by_block x (Some b) (bs ++ cs) ≡ led_by_block x (Some b) bs ++ cs) [
+      | inl here ↦ rw here refl
+      | inr other ↦ rw other refl
+    ]
+
+-- of two stretches, one behind the other
+pub from-append : (f : Frames) (x m n : ℕ) → blocks_from f x (m + n) ≡ blocks_from f x m ++ blocks_from f (x + m) n
+unfolding blocks_from
+from-append f x zero n =
+    let none : 0 + n ≡ n = omega arith in
+    let here : x ≡ x + 0 = omega arith in
+    ap (λ k. blocks_from f x k) none ∙ ap (λ y. blocks_from f y n) here
+from-append f x (suc m) n =
+    let more : suc m + n ≡ suc (m + n) = omega arith in
+    let there : x + 1 + m ≡ x + suc m = omega arith in
+    let rest : blocks_from f (x + 1) (m + n) ≡ blocks_from f (x + 1) m ++ blocks_from f (x + suc m) n =
+    from-append f (x + 1) m n ∙ ap (λ y. blocks_from f (x + 1) m ++ blocks_from f y n) there in
+    ap (λ k. blocks_from f x k) more ∙ ap (λ (bs : List Block). led_by_block x (block_of f x) bs) rest
+    ∙ led_append x (block_of f x) (blocks_from f (x + 1) m) (blocks_from f (x + suc m) n)
+
+-- no block begins at the frame
+abbrev pub IsNotFirst : Frames → ℕ → Type 0
+IsNotFirst f x = (bs : List Block) → led_by_block x (block_of f x) bs ≡ bs
+
+pub from-none : (f : Frames) (x n : ℕ) → ((y : ℕ) → x ≤ y → y < x + n → IsNotFirst f y) → blocks_from f x n ≡ []
+unfolding blocks_from
+from-none f x zero none = refl
+from-none f x (suc n) none =
+    none x (omega arith) (omega arith) (blocks_from f (x + 1) n)
+    ∙ from-none f (x + 1) n (λ y above below. none y (omega arith) (omega arith))
+
+-- one at a frame that isn't free
+pub not_first-bare : (f : Frames) (x : ℕ) → f x ≡ None → IsNotFirst f x
+not_first-bare f x bare bs = ap (λ o. led_by_block x (block_for f x o) bs) bare
+
+-- nor at another frame of a block than its first
+pub not_first-inner : (f : Frames) (o x y n : ℕ) → o ≤ 10 → x % 2 ^ o ≡ 0 → AreFree f o x n → x < y → y < x + 2 ^ o → IsNotFirst f y
+not_first-inner f o x y n small whole free above below bs =
+    let same : IsInSet o x y = in_set (2 ^ o) x y (omega (arith, whole)) (omega (arith, whole)) in
+    let is : f y ≡ Some n = free y same in
+    let p : ℕ = order_up_to f y n 10 in
+    let most : o ≤ p = up_most f y n 10 o small (free-around f o x y n same free) in
+    let base : (y - y % 2 ^ p) % 2 ^ o ≡ 0 = multiple o p (y - y % 2 ^ p) most (base_whole (2 ^ p) y) in
+    let other : ((y - y % 2 ^ p) == y) ≡ false =
+    elim (cases_Bool ((y - y % 2 ^ p) == y)) as (λ _. ((y - y % 2 ^ p) == y) ≡ false) [
+      | inl here ↦
+          let at : y % 2 ^ o ≡ 0 = subst (λ (z : ℕ). z % 2 ^ o ≡ 0) (grind (arith, nat_tests)) base in
+          let far = apart (2 ^ o) x y whole at above in
+          absurd (omega (arith, far))
+      | inr away ↦ away
+    ] in
+    ap (λ v. led_by_block y (block_for f y v) bs) is ∙ rw other refl
+
+-- the frames of a block list it
+pub from-block : (f : Frames) (o x n : ℕ) → o ≤ 10 → f x ≡ Some n → order_up_to f x n 10 ≡ o → x % 2 ^ o ≡ 0
+    → blocks_from f x (2 ^ o) ≡ record { order = o; first = x; node = n; zone = zone_of x } ∷ []
+unfolding blocks_from
+from-block f o x n small is found whole =
+    let some : 0 < 2 ^ o = pow_pos o in
+    let free : AreFree f o x n = subst (λ (p : ℕ). AreFree f p x n) found (up_free f x n 10 is) in
+    let size : 2 ^ o ≡ suc (2 ^ o - 1) = omega arith in
+    let rest : blocks_from f (x + 1) (2 ^ o - 1) ≡ [] =
+    from-none f (x + 1) (2 ^ o - 1) (λ y above below. not_first-inner f o x y n small whole free (omega arith) (omega arith)) in
+    let base : x - x % 2 ^ o ≡ x = omega (arith, whole) in
+    let block : block_of f x ≡ Some (record { order = o; first = x; node = n; zone = zone_of x }) =
+    ap (λ v. block_for f x v) is ∙ ap (λ p. Some (block_around p x n)) found
+    ∙ ap (λ b. let made : Block = record { order = o; first = b; node = n; zone = zone_of b } in Some made) base in
+    let here : (x == x) ≡ true = eq-eqb x x refl in
+    ap (λ k. blocks_from f x k) size ∙ ap (λ (bs : List Block). led_by_block x (block_of f x) bs) rest
+    ∙ ap (λ v. led_by_block x v []) block ∙ rw here refl
+
+-- there are at most as many blocks as frames
+led_length : (x : ℕ) (o : Option Block) (bs : List Block) → length (led_by_block x o bs) ≤ suc (length bs)
+led_length x None bs = omega arith
+led_length x (Some b) bs =
+    elim (cases_Bool (b.first == x)) as (λ _. length (led_by_block x (Some b) bs) ≤ suc (length bs)) [
+      | inl here ↦ rw here (omega arith)
+      | inr other ↦ rw other (omega arith)
+    ]
+
+pub from-few : (f : Frames) (x n : ℕ) → length (blocks_from f x n) ≤ n
+unfolding blocks_from
+from-few f x zero = omega arith
+from-few f x (suc n) =
+    let one = led_length x (block_of f x) (blocks_from f (x + 1) n) in
+    let rest = from-few f (x + 1) n in
+    omega (arith, one, rest)

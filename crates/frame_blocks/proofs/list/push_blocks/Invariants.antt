@@ -1,0 +1,16 @@
+use Rattle.std.proofs.Common.{◌≡◌, ◌≤◌, ◌-◌, ◌++◌, ℕ}
+use Rattle.frame_blocks.specs.Frames.{Frames}
+use Rattle.frame_blocks.specs.Listed.{blocks_from}
+use Rattle.frame_blocks.specs.Sets.{IsRun, IsStart}
+use Rattle.frame_blocks.proofs.list.push_blocks.Given as goal
+
+abbrev pub invariant-loop-at : goal.invariant-loop-at
+invariant-loop-at l = record {
+  above : l.first ≤ l.at;
+  below : l.at ≤ l.end;
+  start : IsStart l.first l.end l.at;
+  listed : (f : Frames) → IsRun f l.first l.end l.node → l.blocks.items ≡ l.fn.blocks.items ++ blocks_from f l.first (l.at - l.first);
+}
+
+abbrev pub decreases-loop-at : goal.decreases-loop-at
+decreases-loop-at l = l.end - l.at

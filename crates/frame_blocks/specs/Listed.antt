@@ -1,0 +1,78 @@
+-- The blocks of free frames as functions: the block of a frame, and all blocks, ascending.
+use Rattle.std.specs.Prelude.{◌≡◌, ◌⊎◌, ℕ, zero, suc, ◌+◌, ◌-◌, ◌%◌, ◌^◌, ◌<◌, ◌≤◌, ◌==◌, Bool, true, false, ◌&&◌, if◌then◌else◌, Option, Some, None, List, [], ◌∷◌, count_by}
+use Rattle.bm_base.specs.Extent.{Extent}
+use Rattle.bm_base.specs.Each.{each_in}
+use Rattle.bm_base.specs.declared.zone.Zone.{Zone}
+use Rattle.bm_base.specs.declared.zone.Zone.TheVariants as zone
+use Rattle.bm_base.specs.Zones.{zone_of}
+use Rattle.frame_blocks.specs.declared.block.Block.{Block}
+use Rattle.frame_blocks.specs.declared.run.TheConstants.{MAX_FRAMES}
+use Rattle.frame_blocks.specs.Frames.{Frames, IsBlock, IsInBlock}
+
+-- whether this is the node
+abbrev pub is_node : Option ℕ → ℕ → Bool
+is_node None n = false
+is_node (Some m) n = m == n
+
+-- the frames of the aligned set of that order in which the frame is
+abbrev pub set_around : ℕ → ℕ → Extent
+set_around order x = record { base = x - x % 2 ^ order; size = 2 ^ order }
+
+-- whether all of them are free, of the node
+unfoldable pub are_free : Frames → ℕ → ℕ → ℕ → Bool
+are_free f order x n = each_in (set_around order x) (λ y. is_node (f y) n)
+
+-- the greatest of the orders up to m whose set around the frame is free, of the node
+unfoldable pub order_up_to : Frames → ℕ → ℕ → ℕ → ℕ
+order_up_to f x n zero = 0
+order_up_to f x n (suc m) = if are_free f (suc m) x n then suc m else order_up_to f x n m
+
+-- the set of that order in which the frame is, as a block
+abbrev pub block_around : ℕ → ℕ → ℕ → Block
+block_around order x n = record { order = order; first = x - x % 2 ^ order; node = n; zone = zone_of (x - x % 2 ^ order) }
+
+abbrev pub block_for : Frames → ℕ → Option ℕ → Option Block
+block_for f x None = None
+block_for f x (Some n) = Some (block_around (order_up_to f x n 10) x n)
+
+-- the block in which the frame is; none where it isn't free
+abbrev pub block_of : Frames → ℕ → Option Block
+block_of f x = block_for f x (f x)
+
+-- the block in front of the list, if the frame is its first one
+abbrev pub led_by_block : ℕ → Option Block → List Block → List Block
+led_by_block x None bs = bs
+led_by_block x (Some b) bs = if b.first == x then b ∷ bs else bs
+
+-- the blocks that begin in the n frames from x on
+unfoldable pub blocks_from : Frames → ℕ → ℕ → List Block
+blocks_from f x zero = []
+blocks_from f x (suc n) = led_by_block x (block_of f x) (blocks_from f (x + 1) n)
+
+-- all blocks, by their first frames
+unfoldable pub blocks_of : Frames → List Block
+blocks_of f = blocks_from f 0 MAX_FRAMES
+
+abbrev pub same_zone : Zone → Zone → Bool
+same_zone zone.Dma zone.Dma = true
+same_zone zone.Dma32 zone.Dma32 = true
+same_zone zone.Normal zone.Normal = true
+same_zone a b = false
+
+-- whether the block is of the node, in the zone, of the order
+abbrev pub is_of : ℕ → Zone → ℕ → Block → Bool
+is_of n z order b = (b.node == n) && ((b.order == order) && same_zone b.zone z)
+
+-- how many blocks there are of the node, the zone and the order
+unfoldable pub count_of : Frames → ℕ → Zone → ℕ → ℕ
+count_of f n z order = count_by (is_of n z order) (blocks_of f)
+
+-- the list has the block
+abbrev pub Lists : List Block → Block → Type 0
+Lists [] b = ⊥
+Lists (c ∷ cs) b = (c ≡ b) ⊎ Lists cs b
+
+-- each block of the list begins behind the one before it, and the first at `from` or behind it
+abbrev pub AscendFrom : ℕ → List Block → Type 0
+AscendFrom from [] = Unit {0}
+AscendFrom from (b ∷ bs) = (from ≤ b.first) × AscendFrom (b.first + 1) bs

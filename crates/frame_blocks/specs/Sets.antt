@@ -1,0 +1,22 @@
+-- Aligned sets within the frames of a run: what the functions that cut a run into blocks say to one another.
+use Rattle.std.specs.Prelude.{◌≡◌, ◌≢◌, ℕ, suc, ◌+◌, ◌-◌, ◌%◌, ◌^◌, ◌<◌, ◌≤◌, Some}
+use Rattle.frame_blocks.specs.Frames.{Frames}
+
+-- the frames from `first` up to `end` are all free frames of a run of the node: neither neighbour belongs to it
+pub record IsRun (f : Frames) (first end n : ℕ) : Type 0 where
+  pub inside : (x : ℕ) → first ≤ x → x < end → f x ≡ Some n
+  pub before : (x : ℕ) → suc x ≡ first → f x ≢ Some n
+  pub behind : f end ≢ Some n
+
+-- the aligned set of s frames around the frame lies between both ends
+pub record Fits (first end frame s : ℕ) : Type 0 where
+  pub above : first ≤ frame - frame % s
+  pub below : frame - frame % s + s ≤ end
+
+-- no greater set does
+abbrev pub IsGreatest : ℕ → ℕ → ℕ → ℕ → Type 0
+IsGreatest first end frame order = (o : ℕ) → order < o → o ≤ 10 → Fits first end frame (2 ^ o) → ⊥
+
+-- each set around the frame that lies between both ends begins at the frame
+abbrev pub IsStart : ℕ → ℕ → ℕ → Type 0
+IsStart first end at = (o : ℕ) → o ≤ 10 → Fits first end at (2 ^ o) → at % 2 ^ o ≡ 0

@@ -1,0 +1,77 @@
+//! How many blocks there are of a node, a zone and an order, without a list of them: a long run is as good as
+//! all blocks of the greatest order, and those are taken at once.
+
+ghost use Rattle.std.specs.Prelude.{◌≡◌, ◌⊎◌, ◌↔◌, ℕ, IsTrue, ◌+◌, ◌-◌, ◌*◌, ◌%◌, ◌<◌, ◌≤◌, count_by};
+ghost use Rattle.bm_base.specs.Zones.{zone_of};
+ghost use Rattle.address_runs.specs.Runs.{AreRuns, value_at};
+ghost use Rattle.address_runs.specs.Edits.{NothingFrom};
+ghost use Rattle.frame_blocks.specs.Frames.{Frames};
+ghost use Rattle.frame_blocks.specs.Listed.{blocks_from, is_of, count_of};
+ghost use Rattle.frame_blocks.specs.Sets.{IsRun};
+
+use crate::block::MAX_ORDER;
+use crate::run::{FrameRun, MAX_FRAMES};
+use crate::set::{MAX_SIZE, Set, set_within};
+use crate::zones::zone_until;
+use bm_base::{Zone, zone_of};
+
+/// How many blocks of the free frames are of the node, in the zone and of the order. Takes no memory, and some
+/// twenty steps for each run of the node.
+pub fn count_blocks(runs: &[FrameRun], node: u32, zone: Zone, order: u32) -> u64
+    requires runs { AreRuns runs.now }
+    requires low { NothingFrom MAX_FRAMES (value_at runs.now) }
+    ensures { result ≡ count_of (value_at runs.now) node zone order }
+{
+    let mut total = 0;
+    for run in runs {
+        if run.node == node {
+            total += count_in_run(run.first, run.first + run.count, zone, order);
+        }
+    }
+    total
+}
+
+/// How many blocks of the run are in the zone and of the order.
+fn count_in_run(first: u64, end: u64, zone: Zone, order: u32) -> u64
+    requires { first ≤ end }
+    ensures few { result ≤ end - first }
+    ensures count { (f : Frames) (n : ℕ) → IsRun f first end n →
+        result ≡ count_by (is_of n zone order) (blocks_from f first (end - first)) }
+{
+    let mut total = 0;
+    let mut at = first;
+    while at < end {
+        let set = set_within(first, end, at);
+        let blocks = blocks_alike(at, end, set);
+        if is_alike(set, at, zone, order) {
+            total += blocks;
+        }
+        at += blocks * set.size;
+    }
+    total
+}
+
+/// Whether the set, as a block that begins at the frame, is in the zone and of the order.
+fn is_alike(set: Set, at: u64, zone: Zone, order: u32) -> bool
+    ensures { IsTrue result ↔ (set.order ≡ order) × (zone_of at ≡ zone) }
+{
+    set.order == order && zone_of(at) == zone
+}
+
+/// How many blocks of the set's size follow one another from the frame on, all in its zone: of the greatest
+/// order as many as there is room for, of another order at least this one.
+fn blocks_alike(at: u64, end: u64, set: Set) -> u64
+    requires small { set.order ≤ 10 }
+    requires size { set.order ≡ 10 → set.size ≡ 1024 }
+    requires start { set.order ≡ 10 → at % 1024 ≡ 0 }
+    requires room { at + set.size ≤ end }
+    ensures some { 0 < result }
+    ensures single { (set.order ≡ 10) ⊎ (result ≡ 1) }
+    ensures room { at + result * set.size ≤ end }
+    ensures zone { (i : ℕ) → i < result → zone_of (at + i * set.size) ≡ zone_of at }
+{
+    if set.order < MAX_ORDER {
+        return 1;
+    }
+    (zone_until(at, end) - at) / MAX_SIZE
+}

@@ -1,0 +1,73 @@
+//! The blocks of runs of free frames: all of them, ascending, and the one in which a frame is.
+
+ghost use Rattle.std.specs.Prelude.{◌≡◌, ◌-◌, ◌≤◌, ◌++◌, OnOk, IfOk};
+ghost use Rattle.address_runs.specs.Runs.{AreRuns, value_at};
+ghost use Rattle.address_runs.specs.Edits.{NothingFrom};
+ghost use Rattle.frame_blocks.specs.Frames.{Frames};
+ghost use Rattle.frame_blocks.specs.Listed.{block_of, blocks_from, blocks_of};
+ghost use Rattle.frame_blocks.specs.Sets.{IsRun};
+
+use crate::block::Block;
+use crate::run::{FrameRun, MAX_FRAMES};
+use crate::set::set_within;
+use bm_base::{Memory, zone_of};
+use run_edits::seek;
+use std::alloc::Global;
+
+/// All blocks of the free frames, ascending.
+pub fn blocks(alloc: Global, runs: &[FrameRun]) -> Result<Vec<Block>, Memory>
+    requires runs { AreRuns runs.now }
+    requires low { NothingFrom MAX_FRAMES (value_at runs.now) }
+    ensures { IfOk result (λ blocks. blocks.items ≡ blocks_of (value_at runs.now)) }
+{
+    let mut blocks = Vec::new(alloc);
+    for run in runs {
+        push_blocks(&mut blocks, run.first, run.first + run.count, run.node)?;
+    }
+    Ok(blocks)
+}
+
+/// The blocks of one run: from its first frame on always the greatest set that begins there and that it has
+/// room for (`__free_pages_memory`).
+fn push_blocks(blocks: &mut Vec<Block>, first: u64, end: u64, node: u32) -> Result<(), Memory>
+    requires { first ≤ end }
+    ensures { OnOk result ((f : Frames) → IsRun f first end node →
+        blocks.new.items ≡ blocks.old.items ++ blocks_from f first (end - first)) }
+{
+    let mut at = first;
+    while at < end {
+        let set = set_within(first, end, at);
+        blocks.push(Block {
+            order: set.order,
+            first: at,
+            node,
+            zone: zone_of(at),
+        })?;
+        at += set.size;
+    }
+    Ok(())
+}
+
+/// The block in which the frame is; `None` where it isn't free. Takes no memory: a look-up, and a look at
+/// each order.
+pub fn block_of(runs: &Vec<FrameRun>, frame: u64) -> Option<Block>
+    requires { AreRuns runs.now.items }
+    ensures { result ≡ block_of (value_at runs.now.items) frame }
+{
+    let i = seek(runs, frame) as usize;
+    if i >= runs.len() {
+        return None;
+    }
+    let run = runs[i];
+    if frame < run.first {
+        return None;
+    }
+    let set = set_within(run.first, run.first + run.count, frame);
+    let first = frame - frame % set.size;
+    Some(Block {
+        order: set.order,
+        first,
+        node: run.node,
+        zone: zone_of(first),
+    })
+}

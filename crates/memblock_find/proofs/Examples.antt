@@ -1,0 +1,281 @@
+-- Two small tables, computed or by the laws: what is unclaimed, the runs and stretches of it, places, and positions in a table.
+use Rattle.std.proofs.Common.{◌≡◌, ℕ, zero, suc, ◌+◌, ◌-◌, ◌^◌, ◌<◌, ◌≤◌, true, is_some, Option, Some, None, unwrap_or, List, [], ◌∷◌, refl, sym, ◌∙◌, ap, inl, inr, arith}
+use Rattle.std.proofs.lemmas.Bool.{cases_lt, true≢false}
+use Rattle.std.proofs.lemmas.Bool.Decides.{nat_tests}
+use Rattle.address_runs.specs.Runs.{RunOf, value_at, AreRuns}
+use Rattle.memblock_model.specs.Labels.{Label, Labels, plain_label}
+use Rattle.memblock_model.specs.declared.query.Query.{Query}
+use Rattle.memblock_model.specs.Search.{fits_in}
+use Rattle.memblock_model.proofs.SearchLaws.{fits_in-parts, fits_in-whole}
+use Rattle.memblock_ranges.specs.Tables.{Contents}
+use Rattle.memblock_find.specs.declared.cursor.Look.{Look}
+use Rattle.memblock_find.specs.declared.cursor.Cursor.{Cursor}
+use Rattle.memblock_find.specs.Free.{unclaimed, free_in, Pass, free_of, IsDownTo, IsUpTo, IsRunBelow, IsRunFrom}
+use Rattle.memblock_find.specs.Places.{IsBetween, NoPlaceEnds, IsBestBy}
+use Rattle.memblock_find.specs.Walk.{run_at, BegunBelow, EndedBy, IsLookDown, IsLookUp, label_at, IsDownAt, IsUpAt}
+use Rattle.memblock_find.proofs.DownLaws.{look_gap, look_in, all_begun}
+use Rattle.memblock_find.proofs.UpLaws.{look_top, look_over}
+
+-- 0x1000 to 0x1FFF of node 0 and 0x2000 to 0x2FFF of node 1, of which 0x1800 to 0x18FF are claimed
+abbrev of_node : ℕ → Label
+of_node node = record { node = Some node }
+
+abbrev memory_runs : List (RunOf Label)
+memory_runs = record { base = 0x1000; size = 0x1000; value = of_node 0 } ∷ (record { base = 0x2000; size = 0x1000; value = of_node 1 } ∷ [])
+
+abbrev claims : List (RunOf Label)
+claims = record { base = 0x1800; size = 0x100; value = plain_label } ∷ []
+
+abbrev tables : Contents
+tables = record {
+  memory = record { records = memory_runs; place = 0x10000; room = 128 };
+  reserved = record { records = claims; place = 0x11000; room = 128 };
+  store = [];
+}
+
+abbrev free : Labels
+free = free_in tables
+
+-- the node of what a byte carries, as a number
+abbrev number : Option Label → ℕ
+number None = 2
+number (Some label) = unwrap_or label.node 3
+
+unclaimed_examples : (unclaimed (value_at memory_runs) (value_at claims) 0x17FF ≡ Some (of_node 0))
+    × (unclaimed (value_at memory_runs) (value_at claims) 0x1800 ≡ None)
+unclaimed_examples = (refl, refl)
+
+free_examples : (free_in tables 0x2000 ≡ Some (of_node 1)) × (free_in tables 0x3000 ≡ None)
+free_examples = (refl, refl)
+
+-- a pass sees the same, wherever it is
+abbrev pass : Pass
+pass = record { memory = memory_runs; reserved = claims; at = 0x2800 }
+
+pass_examples : (free_of pass 0x1000 ≡ Some (of_node 0)) × (free_of pass 0x1840 ≡ None)
+pass_examples = (refl, refl)
+
+-- from 0x2000 up to 0x3000 there is one label, and the address below is of another node, the one behind no memory
+node_1_down : IsDownTo free 0x2000 0x3000 (Some (of_node 1))
+node_1_down = record {
+  stays = λ x above under. grind (arith, nat_tests);
+  another = λ x next same.
+      let here : x ≡ 0x1FFF = omega arith in
+      let there : 0 ≡ 1 = ap number (ap free (sym here) ∙ same) in
+      omega arith;
+}
+
+node_1_up : IsUpTo free 0x2000 0x3000 (Some (of_node 1))
+node_1_up = record { stays = node_1_down.stays; another = λ same. cc }
+
+-- a stretch that could be longer is none
+not_all_down : IsDownTo free 0x2001 0x3000 (Some (of_node 1)) → ⊥
+not_all_down known = known.another 0x2000 refl refl
+
+not_all_up : IsUpTo free 0x2000 0x2FFF (Some (of_node 1)) → ⊥
+not_all_up known = known.another refl
+
+-- the run below 0x1900, over the claim, is cut at the claim's start; that below 0x2800 is cut there
+run_below_claim : IsRunBelow free 0x1900 (record { base = 0x1000; size = 0x800; value = of_node 0 })
+run_below_claim = record {
+  some = omega arith;
+  ends = omega arith;
+  run = record {
+    stays = λ x above under. grind (arith, nat_tests);
+    another = λ x next same.
+        let here : x ≡ 0xFFF = omega arith in
+        let there : 2 ≡ 0 = ap number (ap free (sym here) ∙ same) in
+        omega arith;
+  };
+  behind = λ x above under. grind (arith, nat_tests);
+}
+
+run_below_cut : IsRunBelow free 0x2800 (record { base = 0x2000; size = 0x800; value = of_node 1 })
+run_below_cut = record {
+  some = omega arith;
+  ends = omega arith;
+  run = record { stays = λ x above under. grind (arith, nat_tests); another = node_1_down.another };
+  behind = λ x above under. absurd (omega arith);
+}
+
+not_the_highest : IsRunBelow free 0x2800 (record { base = 0x1900; size = 0x700; value = of_node 0 }) → ⊥
+not_the_highest known = let none : free 0x2000 ≡ None = known.behind 0x2000 (omega arith) (omega arith) in cc
+
+-- the run from 0x1840 on, in the claim, begins at its end; that from 0x1A00 on begins there
+run_from_claim : IsRunFrom free 0x1840 (record { base = 0x1900; size = 0x700; value = of_node 0 })
+run_from_claim = record {
+  some = omega arith;
+  starts = omega arith;
+  run = record { stays = λ x above under. grind (arith, nat_tests); another = λ same. let there : 1 ≡ 0 = ap number same in omega arith };
+  before = λ x above under. grind (arith, nat_tests);
+}
+
+run_from_cut : IsRunFrom free 0x1A00 (record { base = 0x1A00; size = 0x600; value = of_node 0 })
+run_from_cut = record {
+  some = omega arith;
+  starts = omega arith;
+  run = record { stays = λ x above under. grind (arith, nat_tests); another = λ same. let there : 1 ≡ 0 = ap number same in omega arith };
+  before = λ x above under. absurd (omega arith);
+}
+
+not_the_lowest : IsRunFrom free 0x1A00 (record { base = 0x2000; size = 0x1000; value = of_node 1 }) → ⊥
+not_the_lowest known = let none : free 0x1A00 ≡ None = known.before 0x1A00 (omega arith) (omega arith) in cc
+
+-- 0x100 aligned bytes at 0x1F00 lie between 0x1900 and 0x2000, and at 0x2000 they don't
+between_yes : IsBetween 0x1900 0x2000 0x100 0x100 0x1F00
+between_yes = record { aligned = refl; above = omega arith; below = omega arith }
+
+between_no : IsBetween 0x1900 0x2000 0x100 0x100 0x2000 → ⊥
+between_no known = let ends = known.below in omega arith
+
+-- of 0x1000 bytes, whatever their address, only those at 0x2000 fit
+abbrev pages : Query
+pages = record { lo = 0; hi = 0x4000; size = 0x1000; align = 1; node = None }
+
+page_fits : fits_in (value_at memory_runs) (value_at claims) pages 0x2000 ≡ true
+page_fits = fits_in-whole (value_at memory_runs) (value_at claims) pages 0x2000 (record {
+  aligned = refl;
+  low = omega arith;
+  first = omega arith;
+  high = omega arith;
+  held = refl;
+  allowed = refl;
+  label = λ x above under. grind (arith, nat_tests);
+  free = λ x above under. grind (arith, nat_tests);
+})
+
+best_page : IsBestBy (value_at memory_runs) (value_at claims) pages 0x3000 0x2000
+best_page = record { fits = page_fits; last = λ b fits ends. omega arith }
+
+no_page_at_first : IsBestBy (value_at memory_runs) (value_at claims) pages 0x3000 0x1000 → ⊥
+no_page_at_first known = let order = known.last 0x2000 page_fits (omega arith) in omega arith
+
+no_page_above : NoPlaceEnds (value_at memory_runs) (value_at claims) pages 0x3000 0x3800
+no_page_above b fits ends =
+    let place = fits_in-parts (value_at memory_runs) (value_at claims) pages b fits in
+    elim (cases_lt 0x3000 (b + 0x1000)) as (λ _. b + 0x1000 ≤ 0x3000) [
+      | inl past ↦
+          let last : ℕ = b + 0xFFF in
+          let bare : value_at memory_runs last ≡ None = grind (arith, nat_tests) in
+          let carries = place.label last (omega arith) (omega arith) in
+          absurd (true≢false (sym place.held ∙ ap is_some (sym carries ∙ bare)))
+      | inr ge ↦ ge
+    ]
+
+a_page_ends : NoPlaceEnds (value_at memory_runs) (value_at claims) pages 0x2FFF 0x3000 → ⊥
+a_page_ends none = let ends = none 0x2000 page_fits (omega arith) in omega arith
+
+-- the second record, and behind the last one
+record_examples : (run_at memory_runs 1 ≡ record { base = 0x2000; size = 0x1000; value = of_node 1 })
+    × ((run_at memory_runs 2).size ≡ 0)
+record_examples = (refl, refl)
+
+memory_in_order : AreRuns memory_runs
+memory_in_order = (
+  omega arith,
+  (omega arith, λ touch same. let there : 0 ≡ 1 = ap (λ (l : Label). unwrap_or l.node 3) same in omega arith),
+  (omega arith, tt, tt),
+)
+
+claims_in_order : AreRuns claims
+claims_in_order = (omega arith, tt, tt)
+
+-- both records of memory begin below 0x2800, and one below 0x2000
+begun_both : BegunBelow 0x2800 memory_runs 2
+begun_both = all_begun memory_runs 0x2800 2 memory_in_order refl (λ some. omega arith)
+
+first_base : (i : ℕ) → i < 1 → (run_at memory_runs i).base < 0x2000
+first_base zero less = omega arith
+first_base (suc i) less = absurd (omega arith)
+
+second_base : (i : ℕ) → 1 ≤ i → i < 2 → 0x2000 ≤ (run_at memory_runs i).base
+second_base zero from less = absurd (omega arith)
+second_base (suc zero) from less = omega arith
+second_base (suc (suc i)) from less = absurd (omega arith)
+
+begun_one : BegunBelow 0x2000 memory_runs 1
+begun_one = record { runs = memory_in_order; within = omega arith; before = first_base; behind = second_base }
+
+not_both_begun : BegunBelow 0x2000 memory_runs 2 → ⊥
+not_both_begun known = let base = known.before 1 (omega arith) in omega arith
+
+-- one record of memory ends by 0x2800, and the claim
+first_end : (i : ℕ) → i < 1 → (run_at memory_runs i).base + (run_at memory_runs i).size ≤ 0x2800
+first_end zero less = omega arith
+first_end (suc i) less = absurd (omega arith)
+
+second_end : (i : ℕ) → 1 ≤ i → i < 2 → 0x2800 < (run_at memory_runs i).base + (run_at memory_runs i).size
+second_end zero from less = absurd (omega arith)
+second_end (suc zero) from less = omega arith
+second_end (suc (suc i)) from less = absurd (omega arith)
+
+ended_one : EndedBy 0x2800 memory_runs 1
+ended_one = record { runs = memory_in_order; within = omega arith; before = first_end; behind = second_end }
+
+claim_end : (i : ℕ) → i < 1 → (run_at claims i).base + (run_at claims i).size ≤ 0x2800
+claim_end zero less = omega arith
+claim_end (suc i) less = absurd (omega arith)
+
+ended_claim : EndedBy 0x2800 claims 1
+ended_claim = record { runs = claims_in_order; within = omega arith; before = claim_end; behind = λ i from less. absurd (omega arith) }
+
+not_ended : EndedBy 0x2800 memory_runs 2 → ⊥
+not_ended known = let end = known.before 1 (omega arith) in omega arith
+
+-- a walk down at 0x2800: memory of node 1 down to 0x2000, no claim down to 0x1900
+abbrev memory_below : Look
+memory_below = record { label = Some (of_node 1); bound = 0x2000; slot = 1 }
+
+abbrev no_claim_below : Look
+no_claim_below = record { label = None; bound = 0x1900; slot = 1 }
+
+look_down_in : IsLookDown memory_runs 0x2800 memory_below
+look_down_in = look_in memory_runs 2 0x2800 (omega arith) begun_both (omega arith)
+
+look_down_gap : IsLookDown claims 0x2800 no_claim_below
+look_down_gap = look_gap claims 1 0x2800 (omega arith) (all_begun claims 0x2800 1 claims_in_order refl (λ some. omega arith)) (omega arith)
+
+abbrev down_here : Cursor
+down_here = record { at = 0x2800; memory = memory_below; reserved = no_claim_below }
+
+walks_down : IsDownAt memory_runs claims down_here
+walks_down = record { memory = look_down_in; reserved = look_down_gap }
+
+-- a walk up from there: up to 0x3000, and no claim is left
+abbrev memory_above : Look
+memory_above = record { label = Some (of_node 1); bound = 0x3000; slot = 2 }
+
+abbrev no_claim_above : Look
+no_claim_above = record { label = None; bound = 2 ^ 64 - 1; slot = 1 }
+
+look_up_in : IsLookUp memory_runs 0x2800 memory_above
+look_up_in = look_over memory_runs 1 0x2800 (omega arith) ended_one (omega arith) (omega arith)
+
+look_up_top : IsLookUp claims 0x2800 no_claim_above
+look_up_top = look_top claims 1 0x2800 refl (omega arith) ended_claim
+
+abbrev up_here : Cursor
+up_here = record { at = 0x2800; memory = memory_above; reserved = no_claim_above }
+
+walks_up : IsUpAt memory_runs claims up_here
+walks_up = record { memory = look_up_in; reserved = look_up_top }
+
+abbrev in_claim : Look
+in_claim = record { label = Some plain_label; bound = 0x1800; slot = 0 }
+
+-- where both looks tell of memory and of no claim, the label is memory's; in a claim there is none
+label_examples : (label_at down_here ≡ Some (of_node 1))
+    × (label_at (record { at = 0x1880; memory = memory_below; reserved = in_claim }) ≡ None)
+label_examples = (refl, refl)
+
+not_the_same : ◌≡◌ {A = ℕ} 0 1 → ⊥
+not_the_same same = omega arith
+
+-- a cursor whose look reaches over another label is none
+not_so_far : IsLookDown memory_runs 0x2800 (record { label = Some (of_node 1); bound = 0x1FFF; slot = 1 }) → ⊥
+not_so_far known =
+    let here = known.down.stays 0x1FFF (omega arith) (omega arith) in
+    not_the_same (ap number here)
+
+not_so_high : IsLookUp claims 0x1000 no_claim_above → ⊥
+not_so_high known = let here : value_at claims 0x1800 ≡ None = known.stays 0x1800 (omega arith) (omega arith) in cc

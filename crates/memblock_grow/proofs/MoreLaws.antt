@@ -1,0 +1,91 @@
+-- Whether a table is full, by the tables and by the items; and two growths are enough.
+use Rattle.std.proofs.Common.{◌≡◌, ℕ, ◌+◌, ◌*◌, ◌^◌, ◌<◌, ◌≤◌, true, false, nat_lt, List, [], ◌∷◌, length, refl, sym, ◌∙◌, ap, subst, inl, inr, ◌⊎◌, arith}
+use Rattle.std.proofs.lemmas.Bool.Decides.{nat_tests}
+use Rattle.bm_base.specs.Extent.{Extent}
+use Rattle.address_runs.specs.Runs.{RunOf, value_at}
+use Rattle.address_runs.specs.Edits.{NothingFrom}
+use Rattle.memblock_model.specs.declared.which.Which.{Which}
+use Rattle.memblock_model.specs.declared.which.Which.TheVariants as which
+use Rattle.memblock_model.specs.declared.item.Item.{Item}
+use Rattle.memblock_model.specs.Labels.{Labels}
+use Rattle.memblock_model.specs.Tables.{table_of, records_for, records_of, pieces, room_of}
+use Rattle.memblock_model.proofs.TableLaws.{records_for-is}
+use Rattle.memblock_ranges.specs.Tables.{Table, Contents, table_in, records_in, room_in}
+use Rattle.memblock_ranges.proofs.CountLaws.{few-pieces}
+use Rattle.growth_model.specs.Growth.{is_full, count}
+use Rattle.growth_model.specs.Sound.{HasBegun}
+use Rattle.memblock_grow.specs.declared.more.More.{More}
+use Rattle.memblock_grow.specs.declared.more.More.TheVariants as more
+use Rattle.memblock_grow.specs.Kept.{AreKept}
+use Rattle.memblock_grow.specs.More.{more_by, more_in, HasRoom, Grew, EndsBefore}
+use Rattle.memblock_grow.proofs.KeptLaws.{records-are, room-is, values-are, values-end, records-again}
+
+more-is : (w : Which) (m : More) (kernel : Extent) (items : List Item) (t : Contents) (at : ℕ) → AreKept kernel items t at
+    → more_in m (table_in w t) ≡ more_by w m items
+more-is w (more.PiecesOf range) kernel items t at kept = ap (λ (f : Labels). pieces range f) (values-are w kernel items t at kept)
+more-is w more.Two kernel items t at kept = refl
+
+-- full by the tables is full by the items
+pub full-is : (w : Which) (m : More) (kernel : Extent) (items : List Item) (t : Contents) (at : ℕ) → AreKept kernel items t at
+    → nat_lt (room_in w t) (length (records_in w t) + more_in m (table_in w t)) ≡ is_full w (more_by w m) items
+full-is w m kernel items t at kept =
+    ap (λ (n : ℕ). nat_lt n (length (records_in w t) + more_in m (table_in w t))) (room-is w kernel items t at kept)
+    ∙ ap (λ (rs : List (RunOf _)). nat_lt (room_of w items) (length rs + more_in m (table_in w t))) (records-are w kernel items t at kept)
+    ∙ ap (λ (n : ℕ). nat_lt (room_of w items) (count w items + n)) (more-is w m kernel items t at kept)
+
+pub room-by : (m : More) (t : Table) → nat_lt t.room (length t.records + more_in m t) ≡ false → HasRoom m t
+room-by m t h = grind (arith, nat_tests, h)
+
+pub full-by : (m : More) (t : Table) → HasRoom m t → nat_lt t.room (length t.records + more_in m t) ≡ false
+full-by m t h = grind (arith, nat_tests, h)
+
+-- the table has room, as the items have it
+pub room-of : (w : Which) (m : More) (kernel : Extent) (items : List Item) (t : Contents) (at : ℕ) → AreKept kernel items t at
+    → is_full w (more_by w m) items ≡ false → HasRoom m (table_in w t)
+room-of w m kernel items t at kept h = room-by m (table_in w t) (full-is w m kernel items t at kept ∙ h)
+
+-- at the beginning nothing is full
+no-records : (w : Which) → count w [] ≡ 0
+unfolding records_of
+no-records which.Memory = sym (ap length (records_for-is (table_of which.Memory []) [] (λ x le. refl)
+    (record { runs = tt; each = λ x. refl })))
+no-records which.Reserved =
+    sym (ap length (records_for-is (table_of which.Reserved []) [] (λ x le. refl) (record { runs = tt; each = λ x. refl })))
+
+few-more : (m : More) → EndsBefore m → more_by which.Reserved m [] ≤ 2
+unfolding records_of
+few-more (more.PiecesOf range) ends =
+    let few = few-pieces range (table_of which.Reserved []) (omega arith) (λ x le. refl) in
+    let none = no-records which.Reserved in
+    omega (arith, few, none)
+few-more more.Two ends = omega arith
+
+pub full-begun : (m : More) (items : List Item) → EndsBefore m → is_full which.Reserved (more_by which.Reserved m) items ≡ true
+    → HasBegun items
+full-begun m [] ends h =
+    let none = no-records which.Reserved in let few = few-more m ends in
+    let full : 128 < count which.Reserved [] + more_by which.Reserved m [] = grind (arith, nat_tests, h) in
+    absurd (omega (arith, none, few, full))
+full-begun m (i ∷ is) ends h = tt
+
+-- two growths are enough
+twice-by : (m : More) (new : Table) → EndsBefore m → NothingFrom (2 ^ 64) (value_at new.records)
+    → records_for (value_at new.records) ≡ new.records → (n : ℕ) → 128 ≤ n → length new.records ≤ n + 6 → new.room ≡ 4 * n
+    → HasRoom m new
+twice-by (more.PiecesOf range) new ends none again n least few room =
+    let parts = few-pieces range (value_at new.records) (omega arith) none in
+    let same = ap length again in
+    omega (arith, parts, same, least, few, room)
+twice-by more.Two new ends none again n least few room = omega (arith, least, few, room)
+
+pub room-twice : (w : Which) (m : More) (kernel : Extent) (items : List Item) (t : Contents) (at : ℕ) (old mid : Table)
+    → AreKept kernel items t at → EndsBefore m → 128 ≤ old.room → length old.records ≤ old.room
+    → HasRoom m mid ⊎ Grew old mid → (HasRoom m mid → table_in w t ≡ mid) → HasRoom m (table_in w t) ⊎ Grew mid (table_in w t)
+    → HasRoom m (table_in w t)
+room-twice w m kernel items t at old mid kept ends least few first idle (inl has) = has
+room-twice w m kernel items t at old mid kept ends least few (inl has) idle (inr second) = subst (λ (s : Table). HasRoom m s) (sym
+    (idle has)) has
+room-twice w m kernel items t at old mid kept ends least few (inr first) idle (inr second) =
+    let a = first.few in let b = second.few in let c = first.room in let d = second.room in
+    twice-by m (table_in w t) ends (values-end w kernel items t at kept) (records-again w kernel items t at kept) old.room least
+    (omega (arith, a, b, few)) (omega (arith, c, d))

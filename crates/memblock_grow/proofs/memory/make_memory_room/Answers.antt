@@ -1,0 +1,59 @@
+use Rattle.std.proofs.Common.{◌≡◌, Ok, sym, ◌∙◌, ap, ◌⊎◌}
+use Rattle.memblock_model.specs.declared.which.Which.TheVariants as which
+use Rattle.memblock_ranges.specs.Tables.{Contents}
+use Rattle.growth_model.specs.Outcome.{if_due}
+use Rattle.growth_model.specs.Growth.{is_full, memory_growth}
+use Rattle.growth_model.proofs.EndLaws.{Ends-second}
+use Rattle.growth_model.proofs.SoundLaws.{memory_once-stands}
+use Rattle.memblock_grow.specs.More.{more_by, HasRoom, Grew}
+use Rattle.memblock_grow.proofs.KeptLaws.{few-kept}
+use Rattle.memblock_grow.proofs.MoreLaws.{room-twice}
+use Rattle.memblock_grow.proofs.ReservedLaws.{room-least}
+use Rattle.memblock_grow.proofs.WholeLaws.{whole-on, keeps-then, bytes-then, ok-map}
+use Rattle.memblock_grow.proofs.memory.make_memory_room.Goals as goal
+
+pub grow_memory_once-requires-2-clause-kept : goal.grow_memory_once-requires-2-clause-kept
+grow_memory_once-requires-2-clause-kept c =
+    let first = c.grow_memory_once in (
+      c.requires.kept.0,
+      whole-on c.requires.kept.0 c.args.journal.now.items first.new.journal.items c.args.tables.now first.new.tables c.args.limit
+          c.requires.kept.1
+          first.ensures.kept first.ensures.bytes
+          (memory_once-stands c.requires.kept.0 first.result c.args.journal.now.items first.new.journal.items
+          (is_full which.Memory (more_by which.Memory c.args.more.now)) c.requires.kept.1.placed c.requires.begun first.ensures.ends),
+    )
+
+pub returns-clause-ends : goal.returns-clause-ends
+returns-clause-ends c =
+    let once = if_due (is_full which.Memory (more_by which.Memory c.args.more.now)) memory_growth in
+    Ends-second {T = Unit {0}} {U = Unit {0}} tt c.grow_memory_once-2.result c.args.journal.now.items c.grow_memory_once.new.journal.items
+    c.grow_memory_once-2.new.journal.items once once c.in_ok-grow_memory_once.ensures.ends c.grow_memory_once-2.ensures.ends
+
+pub returns-clause-kept : goal.returns-clause-kept
+returns-clause-kept c =
+    keeps-then c.args.journal.now.items c.grow_memory_once.new.journal.items c.grow_memory_once-2.new.journal.items c.args.tables.now
+    c.grow_memory_once.new.tables c.grow_memory_once-2.new.tables c.args.limit c.grow_memory_once.ensures.kept
+    c.grow_memory_once-2.ensures.kept
+
+pub returns-clause-bytes : goal.returns-clause-bytes
+returns-clause-bytes c =
+    bytes-then c.args.journal.now.items c.grow_memory_once.new.journal.items c.grow_memory_once-2.new.journal.items c.args.tables.now
+    c.grow_memory_once.new.tables c.grow_memory_once-2.new.tables c.args.limit c.grow_memory_once.ensures.kept
+    c.grow_memory_once.ensures.bytes c.grow_memory_once-2.ensures.bytes
+
+pub returns-clause-room : goal.returns-clause-room
+returns-clause-room c =
+    let first = c.grow_memory_once in
+    let second = c.grow_memory_once-2 in
+    let kept = c.requires.kept.1.kept in
+    let kernel = c.requires.kept.0 in
+    let items = c.args.journal.now.items in
+    let t = c.args.tables.now in
+    let m = c.args.more.now in
+    ok-map second.result (HasRoom m second.new.tables.memory ⊎ Grew first.new.tables.memory second.new.tables.memory)
+    (HasRoom m second.new.tables.memory)
+    (room-twice which.Memory m kernel second.new.journal.items second.new.tables c.args.limit t.memory first.new.tables.memory
+    (second.ensures.kept kernel (first.ensures.kept kernel kept)) first.ensures.within
+    (room-least which.Memory kernel items t c.args.limit kept) (few-kept which.Memory kernel items t c.args.limit kept)
+    c.in_ok-grow_memory_once.ensures.grew
+    (λ has. ap (λ (u : Contents). u.memory) (second.ensures.idle has).2)) second.ensures.grew

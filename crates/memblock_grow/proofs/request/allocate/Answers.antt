@@ -1,0 +1,61 @@
+use Rattle.std.proofs.Common.{Some, None, Err, refl, ◌∙◌, ap}
+use Rattle.std.proofs.lemmas.Result.{err_from_is_err_and}
+use Rattle.growth_model.specs.declared.refusal.Refusal.{Refusal}
+use Rattle.growth_model.specs.Request.{place_for}
+use Rattle.memblock_grow.proofs.ReservedLaws.{still-bytes}
+use Rattle.memblock_grow.proofs.RequestLaws.{place-is-for, place-small, place-allowed, alloc-none, alloc-fails, alloc-done}
+use Rattle.memblock_grow.proofs.request.allocate.Goals as goal
+
+pub returns-in_default-clause-ends : goal.returns-in_default-clause-ends
+returns-in_default-clause-ends c =
+    let found = place-is-for c.requires.kept.0 c.args.journal.now.items c.args.tables.now c.args.limit c.args.request.now
+    c.place_for.result None
+    c.requires.kept.1.kept c.place_for.ensures c.in_default.is in
+    alloc-none c.args.journal.now.items (place_for c.args.request.now c.args.journal.now.items) c.args.request.now.size c.args.owner found
+
+pub returns-in_default-clause-bytes : goal.returns-in_default-clause-bytes
+returns-in_default-clause-bytes c = λ kernel kept spelled.
+    still-bytes kernel c.args.journal.now.items c.args.journal.now.items c.args.tables.now c.args.tables.now c.args.limit refl (λ x. refl)
+    kept spelled
+
+pub invariant_of-range : goal.invariant_of-range
+invariant_of-range c =
+    let found = place-is-for c.requires.kept.0 c.args.journal.now.items c.args.tables.now c.args.limit c.args.request.now
+    c.place_for.result (Some c.in-Some.base)
+    c.requires.kept.1.kept c.place_for.ensures c.in-Some.is in
+    place-small c.requires.kept.0 c.args.journal.now.items c.args.tables.now c.args.limit c.args.request.now c.in-Some.base
+    c.requires.kept.1.kept found c.ranges.limit.fits
+
+pub claim-requires-clause-may : goal.claim-requires-clause-may
+claim-requires-clause-may c =
+    let found = place-is-for c.requires.kept.0 c.args.journal.now.items c.args.tables.now c.args.limit c.args.request.now
+    c.place_for.result (Some c.in-Some.base)
+    c.requires.kept.1.kept c.place_for.ensures c.in-Some.is in
+    place-allowed c.requires.kept.0 c.args.journal.now.items c.args.tables.now c.args.limit c.args.request.now c.in-Some.base
+    c.args.owner c.requires.kept.1 c.requires.begun found
+
+pub returns-in_err-claim-clause-ends : goal.returns-in_err-claim-clause-ends
+returns-in_err-claim-clause-ends c =
+    let found = place-is-for c.requires.kept.0 c.args.journal.now.items c.args.tables.now c.args.limit c.args.request.now
+    c.place_for.result (Some c.in-Some.base)
+    c.requires.kept.1.kept c.place_for.ensures c.in-Some.is in
+    let p = err_from_is_err_and c.from_residual.result c.from_residual.ensures.1 in
+    alloc-fails c.args.journal.now.items c.claim.new.journal.items (place_for c.args.request.now c.args.journal.now.items) c.in-Some.base
+    c.args.request.now.size c.args.owner c.in_err-claim.field-0.0 c.from_residual.result found
+    (p.1 ∙ ap (λ (e : Refusal). Err e) p.2) c.in_err-claim.ensures.ends
+
+pub returns-clause-ends : goal.returns-clause-ends
+returns-clause-ends c =
+    let found = place-is-for c.requires.kept.0 c.args.journal.now.items c.args.tables.now c.args.limit c.args.request.now
+    c.place_for.result (Some c.in-Some.base)
+    c.requires.kept.1.kept c.place_for.ensures c.in-Some.is in
+    alloc-done c.args.journal.now.items c.claim.new.journal.items (place_for c.args.request.now c.args.journal.now.items) c.in-Some.base
+    c.args.request.now.size c.args.owner found c.in_ok-claim.ensures.ends
+
+pub returns-clause-inside : goal.returns-clause-inside
+returns-clause-inside c =
+    let found = place-is-for c.requires.kept.0 c.args.journal.now.items c.args.tables.now c.args.limit c.args.request.now
+    c.place_for.result (Some c.in-Some.base)
+    c.requires.kept.1.kept c.place_for.ensures c.in-Some.is in
+    place-small c.requires.kept.0 c.args.journal.now.items c.args.tables.now c.args.limit c.args.request.now c.in-Some.base
+    c.requires.kept.1.kept found c.ranges.limit.fits

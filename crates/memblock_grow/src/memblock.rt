@@ -1,0 +1,300 @@
+//! memblock as one value: the kernel's image, the journal, both tables, and the limit of allocations.
+//!
+//! Each call that changes memory is one call of the function that does it over the parts. What is argued here is that the
+//! parts still belong together wherever that call ends: the tables are those of the items, they lie in the bytes that spell
+//! them, and each lies in claimed frames of its own. So whoever has a `Memblock` has that, and asks for nothing.
+//!
+//! A call that takes memory of the program's own may want it at any time. It ends then between two of its steps, with all of
+//! that true.
+ghost use Rattle.std.specs.Prelude.{◌≡◌, ℕ, ◌+◌, ◌-◌, ◌*◌, ◌^◌, ◌<◌, ◌≤◌, ◌↔◌, Bool, false, max, Some, [], ◌∷◌, ◌++◌, length, OnOk, OnErr, IfOk, IsOk, IsTrue};
+ghost use Rattle.address_runs.specs.Edits.{NothingFrom};
+ghost use Rattle.phys_store.specs.Bytes.{byte_of, bytes_at};
+ghost use Rattle.memblock_model.specs.declared.which.Which.{Which as AnyWhich};
+ghost use Rattle.memblock_model.specs.declared.which.Which.TheVariants as tables_of;
+ghost use Rattle.memblock_model.specs.declared.item.Item.TheVariants as item;
+ghost use Rattle.memblock_model.specs.Items.{memory_of};
+ghost use Rattle.memblock_model.specs.Tables.{records_of, room_of, place_of};
+ghost use Rattle.memblock_model.specs.Search.{best};
+ghost use Rattle.memblock_ranges.specs.Spelling.{spelled_table};
+ghost use Rattle.memblock_ranges.specs.Tables.{head_of, StandsIn, HaveNoNode};
+ghost use Rattle.growth_model.specs.Growth.{claimed, freed, added, noded, new_in, two, is_full as is_full_by};
+ghost use Rattle.growth_model.specs.Ends.{Ends, Allocates};
+ghost use Rattle.growth_model.specs.Request.{place_for};
+ghost use Rattle.growth_model.specs.Sound.{Sound, IsImage, HasBegun, IsAway, MayClaim};
+ghost use Rattle.growth_model.specs.Bytes.{table_for, AreSpelled, byte as byte_by, put, Follows};
+ghost use Rattle.memblock_grow.specs.Kept.{StayReady};
+ghost use Rattle.memblock_grow.specs.Touch.{TouchesTable};
+
+use crate::{edits, memory, request, reserved};
+use bm_base::{Memory, Range};
+use boot_journal::{Item, Journal, Owner, Which};
+use growth_model::{Refusal, Request};
+use memblock_find::Query;
+use memblock_ranges::{Heads, Tables};
+use phys_store::Store;
+use std::alloc::Global;
+use std::marker::Model;
+
+#[cfg(test)]
+mod tests;
+
+/// The memory of a machine at boot: what happened to it, and the two tables that tell what of it is memory and what is
+/// claimed, in the bytes of that memory (`struct memblock`).
+#[derive(Debug, Drop)]
+pub struct Memblock {
+    kernel: Range,
+    journal: Journal,
+    tables: Tables,
+    limit: u64,
+}
+
+impl Model for Memblock {
+    ghost use Rattle.memblock_grow.specs.Contents.{Contents};
+    ghost use Rattle.memblock_grow.specs.Kept.{IsMemblock};
+
+    ghost Value = { Contents };
+
+    ghost view = { λ m. record { kernel = m.kernel; journal = m.journal; tables = m.tables } };
+
+    ghost invariant = { λ m. IsMemblock m.kernel m.journal.items m.tables m.limit };
+}
+
+impl Memblock {
+    /// A machine of which nothing is known yet but where the kernel's image lies: both tables are empty, in the image's last
+    /// two frames, and the limit is 0.
+    pub fn new(alloc: Global, kernel: Range) -> Result<Memblock, Memory>
+        requires { IsImage kernel }
+        ensures kernel { IfOk result (λ m. m.kernel ≡ kernel) }
+        ensures journal { IfOk result (λ m. m.journal ≡ record { items = []; spare = 0 }) }
+        ensures bytes { IfOk result (λ m. (x : ℕ) → byte_of m.tables.store x ≡ byte_by kernel [] [] x) }
+    {
+        let journal = Journal::new(alloc);
+        let tables = Tables::new(alloc, kernel)?;
+        Ok(Memblock {
+            kernel,
+            journal,
+            tables,
+            limit: 0,
+        })
+    }
+
+    /// Takes the memory for `n` more items, so that as many calls that need no growth want none.
+    pub fn ready(&mut self, n: u64) -> Result<(), Memory>
+        ensures kernel { self.new.kernel ≡ self.old.kernel }
+        ensures items { self.new.journal.items ≡ self.old.journal.items }
+        ensures tables { self.new.tables ≡ self.old.tables }
+        ensures enough { OnOk result (n ≤ self.new.journal.spare) }
+        ensures exact { OnOk result (self.new.journal.spare ≡ max self.old.journal.spare n) }
+        ensures err { OnErr result (self.new ≡ self.old) }
+        ensures memory { OnErr result (self.old.journal.spare < n) }
+    {
+        self.journal.ready(n)
+    }
+
+    /// Claims the range for the owner (`memblock_reserve`). The reserved table may have to grow for it. Where there is room and
+    /// an item can be appended, the claim takes no memory.
+    pub fn claim(&mut self, range: Range, owner: Owner) -> Result<(), Refusal>
+        requires some { 0 < range.size }
+        requires may { MayClaim self.old.kernel self.old.journal.items range owner }
+        ensures ends { Ends result self.old.journal.items self.new.journal.items (claimed range owner) }
+        ensures kernel { self.new.kernel ≡ self.old.kernel }
+        ensures bytes { Follows self.old.kernel self.old.journal.items self.new.journal.items
+            (byte_of self.old.tables.store) (byte_of self.new.tables.store) }
+        ensures still_ready { StayReady self.old.tables.store self.new.tables.store }
+        ensures ready { 0 < self.old.journal.spare →
+            is_full_by tables_of.Reserved (new_in tables_of.Reserved range) self.old.journal.items ≡ false →
+            IsOk result × (self.new.journal.spare ≡ self.old.journal.spare - 1) }
+    {
+        let _end = range.end();
+        reserved::claim(
+            &mut self.journal,
+            &mut self.tables,
+            self.limit,
+            range,
+            owner,
+        )
+    }
+
+    /// Frees the range, which meets no table (`memblock_phys_free`). It may split a record in two, so the reserved table may have
+    /// to grow. Where there is room and an item can be appended, it takes no memory.
+    pub fn free(&mut self, range: Range) -> Result<(), Refusal>
+        requires some { 0 < range.size }
+        requires begun { HasBegun self.old.journal.items }
+        requires away { IsAway self.old.kernel range self.old.journal.items }
+        ensures ends { Ends result self.old.journal.items self.new.journal.items (freed range) }
+        ensures kernel { self.new.kernel ≡ self.old.kernel }
+        ensures bytes { Follows self.old.kernel self.old.journal.items self.new.journal.items
+            (byte_of self.old.tables.store) (byte_of self.new.tables.store) }
+        ensures still_ready { StayReady self.old.tables.store self.new.tables.store }
+        ensures ready { 0 < self.old.journal.spare → is_full_by tables_of.Reserved two self.old.journal.items ≡ false →
+            IsOk result × (self.new.journal.spare ≡ self.old.journal.spare - 1) }
+    {
+        reserved::free(&mut self.journal, &mut self.tables, self.limit, range)
+    }
+
+    /// The range becomes memory; what of it is memory already keeps its node (`memblock_add`). The memory table may have to grow
+    /// for it, and then the reserved table for the claim of its new place.
+    pub fn add_memory(&mut self, range: Range) -> Result<(), Refusal>
+        requires some { 0 < range.size }
+        requires begun { HasBegun self.old.journal.items }
+        ensures ends { Ends result self.old.journal.items self.new.journal.items (added range) }
+        ensures kernel { self.new.kernel ≡ self.old.kernel }
+        ensures bytes { Follows self.old.kernel self.old.journal.items self.new.journal.items
+            (byte_of self.old.tables.store) (byte_of self.new.tables.store) }
+        ensures still_ready { StayReady self.old.tables.store self.new.tables.store }
+    {
+        memory::add(&mut self.journal, &mut self.tables, self.limit, range)
+    }
+
+    /// Gives the node to the memory of the range (`memblock_set_node`). It may split a record at both ends of the range, so the
+    /// memory table may have to grow.
+    pub fn set_node(&mut self, range: Range, node: u32) -> Result<(), Refusal>
+        requires some { 0 < range.size }
+        requires node { node < 1024 }
+        requires begun { HasBegun self.old.journal.items }
+        ensures ends { Ends result self.old.journal.items self.new.journal.items (noded range node) }
+        ensures kernel { self.new.kernel ≡ self.old.kernel }
+        ensures bytes { Follows self.old.kernel self.old.journal.items self.new.journal.items
+            (byte_of self.old.tables.store) (byte_of self.new.tables.store) }
+        ensures still_ready { StayReady self.old.tables.store self.new.tables.store }
+    {
+        memory::set_node(&mut self.journal, &mut self.tables, self.limit, range, node)
+    }
+
+    /// Cuts memory to whole frames (`memblock_trim_memory`).
+    pub fn trim(&mut self) -> Result<(), Memory>
+        requires { HasBegun self.old.journal.items }
+        ensures ok { OnOk result (self.new.journal.items ≡ self.old.journal.items ++ item.Trim ∷ []) }
+        ensures spare { OnOk result (self.new.journal.spare ≡ self.old.journal.spare - 1) }
+        ensures err { OnErr result (self.new ≡ self.old) }
+        ensures memory { OnErr result (self.old.journal.spare ≡ 0) }
+        ensures kernel { self.new.kernel ≡ self.old.kernel }
+        ensures bytes { Follows self.old.kernel self.old.journal.items self.new.journal.items
+            (byte_of self.old.tables.store) (byte_of self.new.tables.store) }
+        ensures still_ready { StayReady self.old.tables.store self.new.tables.store }
+    {
+        self.journal.push(Item::Trim)?;
+        edits::trim(&mut self.tables);
+        Ok(())
+    }
+
+    /// Allocations end at the address or below it from now on (`memblock_set_current_limit`).
+    pub fn set_limit(&mut self, at: u64) -> Result<(), Memory>
+        requires { HasBegun self.old.journal.items }
+        ensures ok { OnOk result (self.new.journal.items ≡ self.old.journal.items ++ item.Limit at ∷ []) }
+        ensures spare { OnOk result (self.new.journal.spare ≡ self.old.journal.spare - 1) }
+        ensures err { OnErr result (self.new ≡ self.old) }
+        ensures memory { OnErr result (self.old.journal.spare ≡ 0) }
+        ensures kernel { self.new.kernel ≡ self.old.kernel }
+        ensures bytes { Follows self.old.kernel self.old.journal.items self.new.journal.items
+            (byte_of self.old.tables.store) (byte_of self.new.tables.store) }
+        ensures still_ready { StayReady self.old.tables.store self.new.tables.store }
+    {
+        self.journal.push(Item::Limit { at })?;
+        self.limit = at;
+        Ok(())
+    }
+
+    /// The greatest address of a place that fits: unclaimed memory of one label that the query allows, aligned and in the window.
+    /// `None` exactly where no place fits. The size is at least 1 and the alignment a power of two.
+    pub fn find(&self, query: &Query) -> Option<u64>
+        requires some { 1 ≤ query.now.size }
+        requires aligned { (k : ℕ) × (query.now.align ≡ 2 ^ k) }
+        ensures { result ≡ best self.now.journal.items query.now }
+    {
+        memblock_find::find(&self.tables, query)
+    }
+
+    /// Finds a place for the request and claims it for the owner; its address is the answer (`memblock_alloc_range_nid`). `NoGap` comes
+    /// exactly where no attempt finds a place, and nothing is written then. The size is at least 1 and the alignment a power
+    /// of two.
+    pub fn alloc(&mut self, request: &Request, owner: Owner) -> Result<u64, Refusal>
+        requires some { 1 ≤ request.now.size }
+        requires aligned { (k : ℕ) × (request.now.align ≡ 2 ^ k) }
+        requires begun { HasBegun self.old.journal.items }
+        ensures ends { Allocates result self.old.journal.items self.new.journal.items
+            (place_for request.now self.old.journal.items) request.now.size owner }
+        ensures inside { IfOk result (λ base. base + request.now.size < 2 ^ 64) }
+        ensures kernel { self.new.kernel ≡ self.old.kernel }
+        ensures bytes { Follows self.old.kernel self.old.journal.items self.new.journal.items
+            (byte_of self.old.tables.store) (byte_of self.new.tables.store) }
+        ensures still_ready { StayReady self.old.tables.store self.new.tables.store }
+    {
+        request::allocate(&mut self.journal, &mut self.tables, self.limit, request, owner)
+    }
+
+    /// Writes the byte to each address of the range, which meets no table. After `Memory` each byte is as before.
+    pub fn fill(&mut self, range: Range, byte: u8) -> Result<(), Memory>
+        requires { IsAway self.old.kernel range self.old.journal.items }
+        ensures kernel { self.new.kernel ≡ self.old.kernel }
+        ensures journal { self.new.journal ≡ self.old.journal }
+        ensures ok { OnOk result ((x : ℕ) → byte_of self.new.tables.store x ≡
+            put (record { range = range; byte = byte; at = length self.old.journal.items }) x (byte_of self.old.tables.store x)) }
+        ensures err { OnErr result ((x : ℕ) → byte_of self.new.tables.store x ≡ byte_of self.old.tables.store x) }
+        ensures still_ready { StayReady self.old.tables.store self.new.tables.store }
+    {
+        self.tables.prepare(range)?;
+        self.tables.fill(range, byte);
+        Ok(())
+    }
+
+    /// Reads the bytes from the address on, the tables' own too.
+    pub fn peek(&self, at: u64, into: &mut [u8])
+        requires { at + length into.old < 2 ^ 64 }
+        ensures { into.new ≡ bytes_at (byte_of self.now.tables.store) at (length into.old) }
+    {
+        self.tables.read(at, into);
+    }
+
+    /// Whether some address of the range belongs to a table.
+    pub fn touches_table(&self, range: Range) -> bool
+        ensures touches { IsTrue result ↔ TouchesTable self.now.kernel range self.now.journal.items }
+        ensures away { result ≡ false → IsAway self.now.kernel range self.now.journal.items }
+    {
+        self.tables.overlaps_table(range)
+    }
+
+    /// What happened to memory.
+    pub fn journal(&self) -> &Journal
+        ensures journal { result.now ≡ self.now.journal }
+        ensures sound { HasBegun self.now.journal.items → Sound self.now.kernel self.now.journal.items }
+    {
+        &self.journal
+    }
+
+    /// Both tables. No memory and no claim passes the end of addresses.
+    pub fn tables(&self) -> &Tables
+        ensures tables { result.now ≡ self.now.tables }
+        ensures memory { result.now.memory ≡ table_for tables_of.Memory self.now.kernel self.now.journal.items }
+        ensures reserved { result.now.reserved ≡ table_for tables_of.Reserved self.now.kernel self.now.journal.items }
+        ensures within { NothingFrom (2 ^ 64) (memory_of self.now.journal.items) }
+        ensures bytes { AreSpelled result.now.memory result.now.reserved (byte_of result.now.store) }
+        ensures spelled { (w : AnyWhich) → bytes_at (byte_of self.now.tables.store) (place_of w self.now.kernel self.now.journal.items)
+            (24 * room_of w self.now.journal.items)
+            ≡ spelled_table (records_of w self.now.journal.items) (room_of w self.now.journal.items) }
+    {
+        let _memory = self.tables.head(Which::Memory);
+        let _reserved = self.tables.head(Which::Reserved);
+        &self.tables
+    }
+
+    /// The bytes, where the tables lie in them, and the journal: whoever has these has it all.
+    pub fn into_parts(self) -> (Store, Heads, Journal)
+        ensures store { result.0 ≡ self.tables.store }
+        ensures heads { result.1 ≡ record { memory = head_of self.tables.memory; reserved = head_of self.tables.reserved } }
+        ensures journal { result.2 ≡ self.journal }
+        ensures memory { StandsIn (table_for tables_of.Memory self.kernel self.journal.items) result.0 }
+        ensures reserved { StandsIn (table_for tables_of.Reserved self.kernel self.journal.items) result.0 }
+        ensures plain { HaveNoNode (records_of tables_of.Reserved self.journal.items) }
+        ensures sound { HasBegun self.journal.items → Sound self.kernel self.journal.items }
+    {
+        let Memblock {
+            kernel: _,
+            journal,
+            tables,
+            limit: _,
+        } = self;
+        let (store, heads) = tables.into_parts();
+        (store, heads, journal)
+    }
+}

@@ -1,0 +1,164 @@
+//! The memory table: its growth, added ranges and nodes.
+//!
+//! Its new place is claimed as anything is, so the reserved table may grow first; and so it may when the old place is freed.
+//! Where that last growth is refused the old place stays claimed, and the call goes on (`memblock_double_array` ignores it).
+ghost use Rattle.std.specs.Prelude.{◌≡◌, ◌+◌, ◌-◌, ◌<◌, ◌≤◌, ◌⊎◌, false, OnOk, OnErr, IsOk, IfSome, length};
+ghost use Rattle.memblock_model.specs.declared.which.Which.TheVariants as tables_of;
+ghost use Rattle.growth_model.specs.Outcome.{if_due};
+ghost use Rattle.growth_model.specs.Growth.{memory_growth, grown, added, noded, leave as left_by, is_full as is_full_by};
+ghost use Rattle.growth_model.specs.Ends.{Ends};
+ghost use Rattle.growth_model.specs.Sound.{HasBegun};
+ghost use Rattle.memblock_grow.specs.Kept.{IsKept, AllowsFree, Keeps, KeepsBytes, StayReady};
+ghost use Rattle.memblock_grow.specs.More.{more_by, HasRoom, Grew, EndsBefore};
+
+use crate::edits::{cover, relabel, relocate};
+use crate::more::{More, is_full};
+use crate::places::{left_place, place_between};
+use crate::reserved::{claim, free};
+use bm_base::Range;
+use boot_journal::{Item, Journal, Owner, Which};
+use growth_model::Refusal;
+use memblock_ranges::Tables;
+
+/// The old place is freed, if there is one. A refusal doesn't count.
+fn leave(
+    journal: &mut Journal,
+    tables: &mut Tables,
+    limit: u64,
+    old: Option<Range>,
+) -> Result<(), Refusal>
+    requires begun { HasBegun journal.old.items }
+    requires some { IfSome old (λ range. 0 < range.size) }
+    requires away { IfSome old (λ range. AllowsFree journal.old.items tables.old limit range) }
+    ensures ends { Ends result journal.old.items journal.new.items (left_by old) }
+    ensures kept { Keeps journal.old.items tables.old journal.new.items tables.new limit }
+    ensures bytes { KeepsBytes journal.old.items tables.old journal.new.items tables.new limit }
+    ensures still_ready { StayReady tables.old.store tables.new.store }
+    ensures memory { tables.new.memory ≡ tables.old.memory }
+{
+    let Some(range) = old else { return Ok(()) };
+    match free(journal, tables, limit, range) {
+        Err(Refusal::Memory) => Err(Refusal::Memory),
+        _ => Ok(()),
+    }
+}
+
+/// The table doubles, at the best place below the limit (`memblock_double_array`).
+fn grow_memory(journal: &mut Journal, tables: &mut Tables, limit: u64) -> Result<(), Refusal>
+    requires kept { IsKept journal.old.items tables.old limit }
+    requires begun { HasBegun journal.old.items }
+    ensures ends { Ends result journal.old.items journal.new.items memory_growth }
+    ensures kept { Keeps journal.old.items tables.old journal.new.items tables.new limit }
+    ensures bytes { KeepsBytes journal.old.items tables.old journal.new.items tables.new limit }
+    ensures still_ready { StayReady tables.old.store tables.new.store }
+    ensures grew { OnOk result (Grew tables.old.memory tables.new.memory) }
+{
+    let head = tables.head(Which::Memory);
+    let Some(place) = place_between(tables, head.room, 0, limit) else {
+        return Err(Refusal::NoGapForTable {
+            which: Which::Memory,
+            room: head.room,
+        });
+    };
+    let old = left_place(head);
+    tables.prepare(place)?;
+    claim(journal, tables, limit, place, Owner::Table(Which::Memory))?;
+    journal.ready(1)?;
+    relocate(tables, Which::Memory, place.base);
+    journal.push_ready(Item::Grown {
+        which: Which::Memory,
+        place: place.base,
+        room: 2 * head.room,
+    });
+    leave(journal, tables, limit, old)
+}
+
+/// The table doubles if it is full.
+fn grow_memory_once(
+    journal: &mut Journal,
+    tables: &mut Tables,
+    limit: u64,
+    more: &More,
+) -> Result<(), Refusal>
+    requires kept { IsKept journal.old.items tables.old limit }
+    requires begun { HasBegun journal.old.items }
+    ensures ends { Ends result journal.old.items journal.new.items
+        (if_due (is_full_by tables_of.Memory (more_by tables_of.Memory more.now)) memory_growth) }
+    ensures kept { Keeps journal.old.items tables.old journal.new.items tables.new limit }
+    ensures bytes { KeepsBytes journal.old.items tables.old journal.new.items tables.new limit }
+    ensures still_ready { StayReady tables.old.store tables.new.store }
+    ensures grew { OnOk result (HasRoom more.now tables.new.memory ⊎ Grew tables.old.memory tables.new.memory) }
+    ensures within { EndsBefore more.now }
+    ensures idle { HasRoom more.now tables.old.memory →
+        IsOk result × (journal.new ≡ journal.old) × (tables.new ≡ tables.old) }
+{
+    if is_full(tables, Which::Memory, more) {
+        grow_memory(journal, tables, limit)
+    } else {
+        Ok(())
+    }
+}
+
+/// The table has room for so many more records: it doubles while it is full, twice at most.
+fn make_memory_room(
+    journal: &mut Journal,
+    tables: &mut Tables,
+    limit: u64,
+    more: &More,
+) -> Result<(), Refusal>
+    requires kept { IsKept journal.old.items tables.old limit }
+    requires begun { HasBegun journal.old.items }
+    ensures ends { Ends result journal.old.items journal.new.items
+        (grown tables_of.Memory (more_by tables_of.Memory more.now) memory_growth) }
+    ensures kept { Keeps journal.old.items tables.old journal.new.items tables.new limit }
+    ensures bytes { KeepsBytes journal.old.items tables.old journal.new.items tables.new limit }
+    ensures still_ready { StayReady tables.old.store tables.new.store }
+    ensures room { OnOk result (HasRoom more.now tables.new.memory) }
+{
+    grow_memory_once(journal, tables, limit, more)?;
+    grow_memory_once(journal, tables, limit, more)
+}
+
+/// The range becomes memory without a node; what is memory already keeps its node (`memblock_add`).
+pub fn add(
+    journal: &mut Journal,
+    tables: &mut Tables,
+    limit: u64,
+    range: Range,
+) -> Result<(), Refusal>
+    requires some { 0 < range.size }
+    requires kept { IsKept journal.old.items tables.old limit }
+    requires begun { HasBegun journal.old.items }
+    ensures ends { Ends result journal.old.items journal.new.items (added range) }
+    ensures kept { Keeps journal.old.items tables.old journal.new.items tables.new limit }
+    ensures bytes { KeepsBytes journal.old.items tables.old journal.new.items tables.new limit }
+    ensures still_ready { StayReady tables.old.store tables.new.store }
+{
+    make_memory_room(journal, tables, limit, &More::PiecesOf(range))?;
+    journal.push(Item::Mem { range })?;
+    cover(tables, Which::Memory, range);
+    Ok(())
+}
+
+/// The memory of the range gets the node (`memblock_set_node`).
+pub fn set_node(
+    journal: &mut Journal,
+    tables: &mut Tables,
+    limit: u64,
+    range: Range,
+    node: u32,
+) -> Result<(), Refusal>
+    requires some { 0 < range.size }
+    requires node { node < 1024 }
+    requires kept { IsKept journal.old.items tables.old limit }
+    requires begun { HasBegun journal.old.items }
+    ensures ends { Ends result journal.old.items journal.new.items (noded range node) }
+    ensures kept { Keeps journal.old.items tables.old journal.new.items tables.new limit }
+    ensures bytes { KeepsBytes journal.old.items tables.old journal.new.items tables.new limit }
+    ensures still_ready { StayReady tables.old.store tables.new.store }
+{
+    make_memory_room(journal, tables, limit, &More::Two)?;
+    journal.push(Item::Node { range, node })?;
+    relabel(tables, range, node);
+    Ok(())
+}

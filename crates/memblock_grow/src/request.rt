@@ -1,0 +1,95 @@
+//! What an allocation tries, and the claim of what it finds.
+//!
+//! The addresses from the request's minimum on, below its maximum and the limit, are searched for memory of the node that is wanted,
+//! then, unless no other node will do, of any; and behind that, where there is a minimum, the same without it
+//! (`memblock_alloc_range_nid`).
+ghost use Rattle.std.specs.Prelude.{◌≡◌, ℕ, ◌+◌, ◌^◌, ◌<◌, ◌≤◌, IfOk};
+ghost use Rattle.growth_model.specs.Request.{attempt as attempt_by, round, attempts, place_for as place_by};
+ghost use Rattle.growth_model.specs.Ends.{Allocates};
+ghost use Rattle.growth_model.specs.Sound.{HasBegun};
+ghost use Rattle.memblock_grow.specs.Kept.{IsKept, Keeps, KeepsBytes, StayReady};
+ghost use Rattle.memblock_grow.specs.Places.{best_of, first_of};
+
+use crate::reserved::claim;
+use bm_base::Range;
+use boot_journal::{Journal, Owner};
+use growth_model::{Refusal, Request};
+use memblock_find::{Query, find};
+use memblock_ranges::Tables;
+
+/// The best place from `lo` on, of the node or of any.
+fn attempt(
+    tables: &Tables,
+    request: &Request,
+    limit: u64,
+    lo: u64,
+    node: Option<u32>,
+) -> Option<u64>
+    requires some { 1 ≤ request.now.size }
+    requires aligned { (k : ℕ) × (request.now.align ≡ 2 ^ k) }
+    ensures { result ≡ best_of tables.now (attempt_by request.now limit lo node) }
+{
+    let query = Query {
+        lo,
+        hi: request.max.unwrap_or(limit).min(limit),
+        size: request.size,
+        align: request.align,
+        node,
+    };
+    find(tables, &query)
+}
+
+/// The same of the node that is wanted, and then, unless no other will do, of any.
+fn first_place(tables: &Tables, request: &Request, limit: u64, lo: u64) -> Option<u64>
+    requires some { 1 ≤ request.now.size }
+    requires aligned { (k : ℕ) × (request.now.align ≡ 2 ^ k) }
+    ensures { result ≡ first_of tables.now (round request.now limit lo) }
+{
+    let place = attempt(tables, request, limit, lo, request.node);
+    if place.is_some() || request.node.is_none() || request.exact {
+        return place;
+    }
+    attempt(tables, request, limit, lo, None)
+}
+
+/// The same from the minimum on, and then without one.
+fn place_for(tables: &Tables, request: &Request, limit: u64) -> Option<u64>
+    requires some { 1 ≤ request.now.size }
+    requires aligned { (k : ℕ) × (request.now.align ≡ 2 ^ k) }
+    ensures { result ≡ first_of tables.now (attempts request.now limit) }
+{
+    let place = first_place(tables, request, limit, request.min);
+    if place.is_some() || request.min == 0 {
+        return place;
+    }
+    first_place(tables, request, limit, 0)
+}
+
+/// The place that is found is claimed for the owner (`memblock_alloc_range_nid`); its address is the answer.
+pub fn allocate(
+    journal: &mut Journal,
+    tables: &mut Tables,
+    limit: u64,
+    request: &Request,
+    owner: Owner,
+) -> Result<u64, Refusal>
+    requires some { 1 ≤ request.now.size }
+    requires aligned { (k : ℕ) × (request.now.align ≡ 2 ^ k) }
+    requires kept { IsKept journal.old.items tables.old limit }
+    requires begun { HasBegun journal.old.items }
+    ensures ends { Allocates result journal.old.items journal.new.items (place_by request.now journal.old.items) request.now.size owner }
+    ensures inside { IfOk result (λ base. base + request.now.size < 2 ^ 64) }
+    ensures kept { Keeps journal.old.items tables.old journal.new.items tables.new limit }
+    ensures bytes { KeepsBytes journal.old.items tables.old journal.new.items tables.new limit }
+    ensures still_ready { StayReady tables.old.store tables.new.store }
+{
+    let Some(base) = place_for(tables, request, limit) else {
+        return Err(Refusal::NoGap)
+    };
+    let range = Range {
+        base,
+        size: request.size,
+    };
+    claim(journal, tables, limit, range, owner)?;
+    Ok(base)
+}

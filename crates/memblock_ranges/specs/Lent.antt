@@ -1,0 +1,19 @@
+-- The records of a table as the bytes that are lent.
+use Rattle.std.specs.Prelude.{◌≡◌, ℕ, ◌*◌, ◌^◌, ◌<◌, List, length, slice_index}
+use Rattle.phys_store.specs.Bytes.{bytes_at}
+use Rattle.address_runs.specs.Runs.{RunOf}
+use Rattle.memblock_model.specs.Labels.{Label}
+use Rattle.memblock_ranges.specs.Spelling.{IsRecord, records_at}
+use Rattle.memblock_ranges.specs.Tables.{AreRecords}
+
+-- the runs of the first so many records that the bytes spell
+abbrev pub runs_in : List ℕ → ℕ → List (RunOf Label)
+runs_in bs count = records_at (slice_index bs) 0 count
+
+-- the bytes are those of so many records, which are in order
+pub record AreLent (bs : List ℕ) (count : ℕ) : Type 0 where
+  pub long : length bs ≡ 24 * count
+  pub small : 24 * count < 2 ^ 64
+  pub counted : length (runs_in bs count) ≡ count
+  pub each : (i : ℕ) → i < count → IsRecord (bytes_at (slice_index bs) (24 * i) 24)
+  pub records : AreRecords (runs_in bs count)

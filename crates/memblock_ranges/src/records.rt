@@ -1,0 +1,64 @@
+//! A table's records, lent to be read. Where the table lies is asked of the store once, and a record costs
+//! its 24 bytes from then on: what a walk over a table reads.
+ghost use Rattle.std.specs.Prelude.{◌≡◌, ◌<◌, length, get_or};
+ghost use Rattle.address_runs.specs.Runs.{RunOf};
+ghost use Rattle.memblock_model.specs.Labels.{Label as AnyLabel};
+ghost use Rattle.memblock_ranges.specs.Spelling.{region_of, FitsRecord};
+ghost use Rattle.memblock_ranges.specs.Tables.{AreRecords};
+
+use crate::region::{RECORD_SIZE, Region, read_region};
+use std::marker::Model;
+
+/// A table's records, for as long as the tables are lent. Contracts see the list of them.
+#[derive(Drop)]
+pub struct Records<'a> {
+    bytes: &'a [u8],
+    count: u64,
+}
+
+impl<'a> Model for Records<'a> {
+    ghost use Rattle.std.specs.Prelude.{List};
+    ghost use Rattle.address_runs.specs.Runs.{RunOf};
+    ghost use Rattle.memblock_model.specs.Labels.{Label as AnyLabel};
+    ghost use Rattle.memblock_ranges.specs.Lent.{runs_in, AreLent};
+
+    ghost Value = { List (RunOf AnyLabel) };
+
+    ghost view = { λ r. runs_in r.bytes.now r.count };
+
+    ghost invariant = { λ r. AreLent r.bytes.now r.count };
+}
+
+impl<'a> Records<'a> {
+    ghost use Rattle.memblock_ranges.specs.Lent.{runs_in, AreLent};
+
+    /// The records that the bytes spell.
+    pub(crate) fn of(bytes: &'a [u8], count: u64) -> Records<'a>
+        requires { AreLent bytes.now count }
+        ensures { result ≡ runs_in bytes.entry.now count }
+    {
+        Records { bytes, count }
+    }
+}
+
+impl Records<'_> {
+    /// How many there are.
+    pub fn count(&self) -> u64
+        ensures count { result ≡ length self.now }
+        ensures records { AreRecords self.now }
+    {
+        self.count
+    }
+
+    /// The record of that index, from 0. It tells all of the record: its end is a `u64`, and its node below
+    /// 1,024, or 1,024 for none.
+    pub fn get(&self, i: u64) -> Region
+        requires { i < length self.now }
+        ensures region { (r : RunOf AnyLabel) → result ≡ region_of (get_or self.now i r) }
+        ensures fits { (r : RunOf AnyLabel) → FitsRecord (get_or self.now i r) }
+    {
+        let bytes = self.bytes;
+        let from = (RECORD_SIZE * i) as usize;
+        read_region(&bytes[from..from + RECORD_SIZE as usize])
+    }
+}

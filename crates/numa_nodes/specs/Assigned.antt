@@ -1,0 +1,92 @@
+-- The nodes of memory and the data of each node (`numa_init`, `numa_register_memblks`, `alloc_node_data`).
+use Rattle.std.specs.Prelude.{ℕ, zero, suc, ◌+◌, ◌^◌, ◌==◌, Bool, true, false, not, is_some, if◌then◌else◌, Option, Some, None, List, [], ◌∷◌, ◌++◌}
+use Rattle.bm_base.specs.Each.{each_from}
+use Rattle.address_runs.specs.Runs.{RunOf, extent_of}
+use Rattle.memblock_model.specs.declared.item.Item.{Item}
+use Rattle.memblock_model.specs.declared.owner.Owner.TheVariants as owner
+use Rattle.memblock_model.specs.Items.{memory_of, limit_of}
+use Rattle.memblock_model.specs.Labels.{Label, Labels}
+use Rattle.memblock_model.specs.Same.{same_node}
+use Rattle.srat_reader.specs.Table.{Affinity}
+use Rattle.node_hulls.specs.declared.reasons.Why.{Why}
+use Rattle.node_hulls.specs.declared.reasons.Why.TheVariants as why
+use Rattle.node_hulls.specs.declared.reasons.TheConstants.{MAX_NODES}
+use Rattle.node_hulls.specs.Hulls.{Block}
+use Rattle.node_hulls.specs.Judgement.{Judgement, judged}
+use Rattle.growth_model.specs.declared.request.Request.{Request}
+use Rattle.growth_model.specs.Growth.{noded}
+use Rattle.stage_model.specs.declared.stop.What.TheVariants as what
+use Rattle.stage_model.specs.declared.stop.StageStop.{StageStop}
+use Rattle.stage_model.specs.Doing.{Doing, ◌>>=◌, returns, seen, in_turn}
+use Rattle.stage_model.specs.Requests.{carried, placed}
+use Rattle.numa_nodes.specs.declared.nodes.Nodes.{Nodes}
+
+-- whether the byte is memory
+abbrev pub is_memory : List Item → ℕ → Bool
+is_memory items x = is_some (memory_of items x)
+
+-- the ranges that get a node, each with it: where the table is used, the runs of addresses of one node and then the runs of memory that
+-- is left over; else all addresses up to the limit get node 0 (`dummy_numa_init`)
+abbrev pub ranges_by : Why → ℕ → Judgement → List Block
+ranges_by why.Used limit found = found.joined ++ found.rest
+ranges_by reason limit found = record { base = 0; size = limit; value = 0 } ∷ []
+
+abbrev pub ranges_given : ℕ → Judgement → List Block
+ranges_given limit found = ranges_by found.why limit found
+
+-- each range gets its node (`memblock_set_node`)
+abbrev pub given : Unit {0} → Block → Doing StageStop (Unit {0})
+given done r = carried (noded (extent_of r) r.value)
+
+-- whether the byte is memory of the node
+abbrev pub is_of_node : ℕ → Option Label → Bool
+is_of_node node None = false
+is_of_node node (Some label) = same_node label.node (Some node)
+
+-- whether some byte is
+abbrev pub has_node : Labels → ℕ → Bool
+has_node f node = not (each_from (λ x. not (is_of_node node (f x))) 0 (2 ^ 64))
+
+-- of the n nodes from the first on, those that have memory, ascending
+abbrev pub nodes_from : Labels → ℕ → ℕ → List ℕ
+nodes_from f node zero = []
+nodes_from f node (suc n) = if has_node f node then node ∷ nodes_from f (node + 1) n else nodes_from f (node + 1) n
+
+-- the nodes that have memory (`N_MEMORY`)
+unfoldable pub nodes_with_memory : Labels → List ℕ
+nodes_with_memory f = nodes_from f 0 MAX_NODES
+
+-- the data of a node: so many bytes, at a cache line, on the node itself if there is room (`alloc_node_data`)
+abbrev pub node_data_request : ℕ → Request
+node_data_request node = record { size = 0x2B000; align = 64; min = 0; max = None; node = Some node; exact = false }
+
+abbrev pub data_placed : Unit {0} → ℕ → Doing StageStop (Unit {0})
+data_placed done node =
+    placed (what.NodeData node) (node_data_request node) (owner.NodeData node) >>= λ place. returns tt
+
+-- what contracts see of the nodes of a boot
+pub record Noded : Type 0 where
+  pub why : Why
+  pub domains : List ℕ
+  pub uncovered : ℕ
+  pub with_memory : List ℕ
+
+abbrev pub nodes_view : Nodes → Noded
+nodes_view n = record { why = n.why; domains = n.domains.items; uncovered = n.uncovered; with_memory = n.with_memory.items }
+
+abbrev pub noded_by : Judgement → List ℕ → Noded
+noded_by found nodes = record { why = found.why; domains = found.domains; uncovered = found.uncovered; with_memory = nodes }
+
+-- the data of each node with memory
+abbrev pub with_data : Judgement → List ℕ → Doing StageStop Noded
+with_data found nodes = in_turn data_placed tt nodes >>= λ done. returns (noded_by found nodes)
+
+-- all of it, by a judgement
+unfoldable pub assigned_by : Judgement → Doing StageStop Noded
+assigned_by found =
+    seen limit_of >>= λ limit. (in_turn given tt (ranges_given limit found)
+    >>= λ done. (seen (λ items. nodes_with_memory (memory_of items)) >>= λ nodes. with_data found nodes))
+
+-- and by the table and `numa=off`: the table is judged by the memory that there is before the first range gets its node
+unfoldable pub assigned : Option Affinity → Bool → Doing StageStop Noded
+assigned table off = seen (λ items. judged (is_memory items) off table) >>= λ found. assigned_by found

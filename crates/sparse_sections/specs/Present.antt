@@ -1,0 +1,41 @@
+-- Which sections have memory, and the node of each (`memory_present`, `sparse_init`).
+use Rattle.std.specs.Prelude.{◌≡◌, ℕ, zero, suc, ◌+◌, ◌*◌, ◌%◌, ◌^◌, ◌≤◌, Option, Some, None, List, [], ◌∷◌, ◌++◌}
+use Rattle.std.specs.Option.{option_or}
+use Rattle.address_runs.specs.Runs.{RunOf, run_end}
+use Rattle.memblock_model.specs.Labels.{Label, Labels}
+use Rattle.stage_model.specs.declared.section.Section.{Section}
+
+-- what the first of the n frames from the one on carries that is memory
+unfoldable pub first_label : Labels → ℕ → ℕ → Option Label
+first_label f frame zero = None
+first_label f frame (suc n) = option_or (f (4096 * frame)) (first_label f (frame + 1) n)
+
+-- and of the 32,768 frames of a section
+abbrev pub section_label : Labels → ℕ → Option Label
+section_label f s = first_label f (32768 * s) 32768
+
+-- the section is there where it has memory, with the node of its lowest frame
+abbrev pub section_of : ℕ → Option ℕ → List Section
+section_of s None = []
+section_of s (Some node) = record { number = s; node = node } ∷ []
+
+abbrev pub section_for : ℕ → Option Label → List Section
+section_for s None = []
+section_for s (Some label) = section_of s label.node
+
+-- the sections below the n-th
+unfoldable pub sections_below : Labels → ℕ → List Section
+sections_below f zero = []
+sections_below f (suc n) = sections_below f n ++ section_for n (section_label f n)
+
+-- all of them: 2^19 sections reach to 2^46, as far as the kernel's tables of memory do (`MAX_PHYSMEM_BITS`)
+unfoldable pub present : Labels → List Section
+present f = sections_below f (2 ^ 19)
+
+-- a record of memory in whole frames, with a node, within reach
+pub record IsWholeNoded (r : RunOf Label) : Type 0 where
+  pub node : ℕ
+  pub has : r.value.node ≡ Some node
+  pub base : r.base % 4096 ≡ 0
+  pub end : run_end r % 4096 ≡ 0
+  pub reach : run_end r ≤ 2 ^ 46

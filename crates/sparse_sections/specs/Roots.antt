@@ -1,0 +1,45 @@
+-- The places of the table of roots and of the roots (`memory_present`, `sparse_index_alloc`).
+use Rattle.std.specs.Prelude.{ℕ, ◌/◌, ◌==◌, Bool, false, if◌then◌else◌, Option, Some, None, List, [], ◌∷◌, ◌++◌}
+use Rattle.memblock_model.specs.declared.owner.Owner.TheVariants as owner
+use Rattle.growth_model.specs.declared.request.Request.{Request}
+use Rattle.stage_model.specs.declared.section.Section.{Section}
+use Rattle.stage_model.specs.declared.stop.What.TheVariants as what
+use Rattle.stage_model.specs.declared.stop.StageStop.{StageStop}
+use Rattle.stage_model.specs.Doing.{Doing, ◌>>=◌, returns, in_turn}
+use Rattle.stage_model.specs.Requests.{placed}
+use Rattle.sparse_sections.specs.declared.roots.RootPlace.{RootPlace}
+
+-- the root of a section: each has 256 (`SECTIONS_PER_ROOT`)
+abbrev pub root_of : Section → ℕ
+root_of s = s.number / 256
+
+abbrev pub is_root : Option ℕ → ℕ → Bool
+is_root None root = false
+is_root (Some last) root = last == root
+
+-- the first section of each root, of sections that ascend, behind the root that was last
+abbrev pub firsts_behind : Option ℕ → List Section → List Section
+firsts_behind last [] = []
+firsts_behind last (s ∷ ss) = if is_root last (root_of s) then firsts_behind last ss else (s ∷ firsts_behind (Some (root_of s)) ss)
+
+-- so many bytes at a cache line, on the node if there is room
+abbrev pub small_request : ℕ → Option ℕ → Request
+small_request size node = record { size = size; align = 64; min = 0; max = None; node = node; exact = false }
+
+-- a root is a page, on the node of its first section
+abbrev pub root_placed : List RootPlace → Section → Doing StageStop (List RootPlace)
+root_placed before s =
+    placed (what.Root (root_of s)) (small_request 4096 (Some s.node)) (owner.Root (root_of s))
+    >>= λ place. returns (before ++ record { number = root_of s; place = place } ∷ [])
+
+-- what contracts see of the roots
+pub record RootsPlaced : Type 0 where
+  pub table : ℕ
+  pub roots : List RootPlace
+
+-- the table, and then the roots in their order
+unfoldable pub roots : List Section → Doing StageStop RootsPlaced
+roots sections =
+    placed what.Roots (small_request 16384 None) owner.Roots
+    >>= λ table. (in_turn root_placed [] (firsts_behind None sections)
+    >>= λ places. returns (record { table = table; roots = places }))

@@ -1,0 +1,23 @@
+use Rattle.std.proofs.Common.{◌≡◌, Result, Ok, Err, ℕ, sym, subst}
+use Rattle.growth_model.specs.declared.refusal.Refusal.{Refusal}
+use Rattle.stage_model.specs.declared.stop.StageStop.{StageStop}
+use Rattle.stage_model.specs.declared.stop.StageStop.TheVariants as stops
+use Rattle.stage_model.specs.Doing.{EndsAs}
+use Rattle.stage_model.specs.Requests.{placed}
+use Rattle.stage_model.proofs.RequestLaws.{ends-allocation, ends-placed}
+use Rattle.stage_calls.proofs.calls.place.Goals as goal
+
+pub returns-in-Ok-clause-ends : goal.returns-in-Ok-clause-ends
+returns-in-Ok-clause-ends c =
+    ends-placed (Ok c.in-Ok.base) c.args.what c.args.memblock.now.journal.items c.alloc.new.self.journal.items c.args.request.now c.args.owner
+    (ends-allocation (Ok c.in-Ok.base) c.args.memblock.now.journal.items c.alloc.new.self.journal.items c.args.request.now c.args.owner
+    c.in-Ok.ensures.ends)
+
+pub returns-in-Err-clause-ends : goal.returns-in-Err-clause-ends
+returns-in-Err-clause-ends c =
+    let items = c.args.memblock.now.journal.items in
+    let new = c.alloc.new.self.journal.items in
+    subst (λ (stop : StageStop). EndsAs {A = ℕ} stops.Memory (Err stop) items new
+    (placed c.args.what c.args.request.now c.args.owner items)) (sym c.stop_for.ensures)
+    (ends-placed (Err c.in-Err.refusal) c.args.what items new c.args.request.now c.args.owner
+    (ends-allocation (Err c.in-Err.refusal) items new c.args.request.now c.args.owner c.in-Err.ensures.ends))

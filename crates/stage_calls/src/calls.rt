@@ -1,0 +1,63 @@
+//! One call of memblock each, with its refusal as the stop of a stage.
+ghost use Rattle.std.specs.Prelude.{◌≡◌, ℕ, ◌+◌, ◌^◌, ◌<◌, ◌≤◌, IfOk};
+ghost use Rattle.growth_model.specs.Growth.{noded};
+ghost use Rattle.growth_model.specs.Sound.{HasBegun};
+ghost use Rattle.stage_model.specs.declared.stop.StageStop.TheVariants as stops;
+ghost use Rattle.stage_model.specs.Doing.{EndsAs};
+ghost use Rattle.stage_model.specs.Requests.{stop_for, placed, carried};
+ghost use Rattle.stage_calls.specs.Lent.{GoesOn};
+
+use bm_base::Range;
+use boot_journal::Owner;
+use growth_model::{Refusal, Request};
+use memblock_grow::Memblock;
+use stage_model::{StageStop, What};
+
+/// Why the boot stops where the thing was refused.
+pub fn stop_for(what: What, refusal: Refusal) -> StageStop
+    ensures { result ≡ stop_for what refusal }
+{
+    match refusal {
+        Refusal::NoGap => StageStop::NoPlace { what },
+        Refusal::NoGapForTable { which, room } => StageStop::NoTablePlace { which, room },
+        Refusal::Memory => StageStop::Memory,
+    }
+}
+
+/// An allocation that the boot can't do without: its place, in bytes. The size is at least 1, the alignment a power of two.
+pub fn place(
+    memblock: &mut Memblock,
+    what: What,
+    request: &Request,
+    owner: Owner,
+) -> Result<u64, StageStop>
+    requires begun { HasBegun memblock.old.journal.items }
+    requires some { 1 ≤ request.now.size }
+    requires aligned { (k : ℕ) × (request.now.align ≡ 2 ^ k) }
+    ensures ends { EndsAs stops.Memory result memblock.old.journal.items memblock.new.journal.items
+        (placed what request.now owner memblock.old.journal.items) }
+    ensures inside { IfOk result (λ base. base + request.now.size < 2 ^ 64) }
+    ensures lent { GoesOn memblock.old memblock.new }
+{
+    match memblock.alloc(request, owner) {
+        Ok(base) => Ok(base),
+        Err(refusal) => Err(stop_for(what, refusal)),
+    }
+}
+
+/// Gives the memory of a range its node, or the boot stops.
+pub fn set_node(memblock: &mut Memblock, range: Range, node: u32) -> Result<(), StageStop>
+    requires begun { HasBegun memblock.old.journal.items }
+    requires some { 0 < range.size }
+    requires node { node < 1024 }
+    ensures ends { EndsAs stops.Memory result memblock.old.journal.items memblock.new.journal.items
+        (carried (noded range node) memblock.old.journal.items) }
+    ensures lent { GoesOn memblock.old memblock.new }
+{
+    match memblock.set_node(range, node) {
+        Ok(()) => Ok(()),
+        Err(Refusal::NoGap) => unreachable!(),
+        Err(Refusal::NoGapForTable { which, room }) => Err(StageStop::NoTablePlace { which, room }),
+        Err(Refusal::Memory) => Err(StageStop::Memory),
+    }
+}

@@ -1,0 +1,122 @@
+-- The records of an ascending list: each by its index, and what the list gives below and behind.
+use Rattle.std.proofs.Common.{◌≡◌, ℕ, zero, suc, ◌+◌, ◌-◌, ◌*◌, ◌/◌, ◌%◌, ◌^◌, ◌<◌, ◌≤◌, ◌==◌, nat_lt, Bool, true, false, Option, Some, None, List, [], ◌∷◌, ◌++◌, length, get_or, take, drop, if◌then◌else◌, refl, sym, ◌∙◌, ap, subst, inl, inr, arith, drop-cons}
+use Rattle.std.proofs.lemmas.Bool.Decides.{nat_tests}
+use Rattle.std.proofs.lemmas.Bool.{cases_lt, cases_Bool, eqb-true}
+use Rattle.phys_store.specs.Bytes.{Stored, byte_of, bytes_at}
+use Rattle.address_runs.specs.Runs.{RunOf, run_end, lies_in, value_at}
+use Rattle.address_runs.specs.Sweep.{StartFrom}
+use Rattle.address_runs.proofs.RunsLaws.{inside, below, behind}
+use Rattle.memblock_model.specs.Labels.{Label}
+use Rattle.memblock_ranges.specs.declared.region.Head.{Head}
+use Rattle.memblock_ranges.specs.declared.region.Region.{Region}
+use Rattle.memblock_ranges.specs.Spelling.{base_in, size_in, node_in, label_of, region_in, run_in, records_at}
+use Rattle.memblock_ranges.specs.Tables.{list_in}
+use Rattle.memblock_ranges.proofs.SpellLaws.{get-records_at, length-records_at}
+use Rattle.table_frames.specs.declared.frames.RecordFrames.{RecordFrames}
+use Rattle.table_frames.specs.Frames.{node_below, frames_of}
+use Rattle.table_frames.specs.Tables.{AscendBelow, HasRecords}
+
+-- the records of a head by their bytes
+pub record_by_bytes : (s : List Stored) (h : Head) (i : ℕ) (d : RunOf Label) → i < h.count
+    → get_or (list_in s h) i d ≡ run_in (bytes_at (byte_of s) (h.place + 24 * i) 24)
+record_by_bytes s h i d few = get-records_at (byte_of s) h.place h.count i d few
+
+pub length_by_head : (s : List Stored) (h : Head) → length (list_in s h) ≡ h.count
+length_by_head s h = length-records_at (byte_of s) h.place h.count
+
+-- the node of a field, where it is below 1,024
+pub node_of_field : (n : ℕ) → node_below (label_of n).node ≡ (if nat_lt n 1024 then Some n else None)
+node_of_field n = elim (cases_Bool (n == 1024)) as (λ _. node_below (label_of n).node ≡ (if nat_lt n 1024 then Some n else None)) [
+  | inl none ↦ let is : n ≡ 1024 = eqb-true n 1024 none in rw none (rw is refl)
+  | inr some ↦ rw some refl
+]
+
+-- a record isn't empty and ends by the bound
+pub ascend_at : (b : ℕ) (rs : List (RunOf Label)) (i : ℕ) (d : RunOf Label) → AscendBelow b rs → i < length rs
+    → (0 < (get_or rs i d).size) × (run_end (get_or rs i d) ≤ b)
+ascend_at b [] i d ascend few = absurd (omega arith)
+ascend_at b (r ∷ rs) zero d ascend few = (ascend.0, ascend.1)
+ascend_at b (r ∷ rs) (suc i) d ascend few = ascend_at b rs i d ascend.3 (omega arith)
+
+pub ascend_drop : (b : ℕ) (rs : List (RunOf Label)) (i : ℕ) → AscendBelow b rs → AscendBelow b (drop i rs)
+ascend_drop b rs zero ascend = ascend
+ascend_drop b [] (suc i) ascend = tt
+ascend_drop b (r ∷ rs) (suc i) ascend = ascend_drop b rs i ascend.3
+
+-- nothing lies below the first record
+pub ascend_none : (b at x : ℕ) (rs : List (RunOf Label)) → AscendBelow b rs → StartFrom at rs → x < at → value_at rs x ≡ None
+ascend_none b at x [] ascend start lt = refl
+ascend_none b at x (r ∷ rs) ascend start lt =
+    rw (below r x (omega arith)) (ascend_none b (run_end r) x rs ascend.3 ascend.2 (omega arith))
+
+-- a later record begins behind an earlier one's end
+pub start_at : (b at : ℕ) (rs : List (RunOf Label)) (i : ℕ) (d : RunOf Label) → AscendBelow b rs → StartFrom at rs → i < length rs
+    → at ≤ (get_or rs i d).base
+start_at b at [] i d ascend start few = absurd (omega arith)
+start_at b at (r ∷ rs) zero d ascend start few = start
+start_at b at (r ∷ rs) (suc i) d ascend start few =
+    let rest = start_at b (run_end r) rs i d ascend.3 ascend.2 (omega arith) in
+    omega (arith, rest, start)
+
+pub in_order : (b : ℕ) (rs : List (RunOf Label)) (i k : ℕ) (d : RunOf Label) → AscendBelow b rs → i < k → k < length rs
+    → run_end (get_or rs i d) ≤ (get_or rs k d).base
+in_order b [] i k d ascend order few = absurd (omega arith)
+in_order b (r ∷ rs) zero zero d ascend order few = absurd (omega arith)
+in_order b (r ∷ rs) zero (suc k) d ascend order few = start_at b (run_end r) rs k d ascend.3 ascend.2 (omega arith)
+in_order b (r ∷ rs) (suc i) zero d ascend order few = absurd (omega arith)
+in_order b (r ∷ rs) (suc i) (suc k) d ascend order few = in_order b rs i k d ascend.3 (omega arith) (omega arith)
+
+-- the records before one give nothing from its first byte on
+pub taken_none : (b : ℕ) (rs : List (RunOf Label)) (i x : ℕ) (d : RunOf Label) → AscendBelow b rs → i < length rs → (get_or rs i d).base ≤ x
+    → value_at (take i rs) x ≡ None
+taken_none b [] i x d ascend few above = absurd (omega arith)
+taken_none b (r ∷ rs) zero x d ascend few above = refl
+taken_none b (r ∷ rs) (suc i) x d ascend few above =
+    let far = start_at b (run_end r) rs i d ascend.3 ascend.2 (omega arith) in
+    rw (behind r x (omega (arith, far, above))) (taken_none b rs i x d ascend.3 (omega arith) above)
+
+-- the record that is read is the one of the list
+pub region_fits : (s : List Stored) (h : Head) (i : ℕ) (g : Region) → HasRecords s h (2 ^ 64) → i < h.count
+    → g ≡ region_in (bytes_at (byte_of s) (h.place + 24 * i) 24) → (0 < g.size) × (g.base + g.size ≤ 2 ^ 64)
+region_fits s h i g known few is =
+    let bs = bytes_at (byte_of s) (h.place + 24 * i) 24 in
+    let long = length_by_head s h in
+    let at : get_or (list_in s h) i (run_in bs) ≡ run_in bs = record_by_bytes s h i (run_in bs) few in
+    let fits = ascend_at (2 ^ 64) (list_in s h) i (run_in bs) known.ascend (omega (arith, long)) in
+    let Fit : RunOf Label → Type 0 = λ r. (0 < r.size) × (r.base + r.size ≤ 2 ^ 64) in
+    let there : Fit (run_in bs) = subst Fit at fits in
+    subst (λ (q : Region). (0 < q.size) × (q.base + q.size ≤ 2 ^ 64)) (sym is) there
+
+pub region_frames : (s : List Stored) (h : Head) (i : ℕ) (g : Region) (node : Option ℕ) (d : RunOf Label) → i < h.count
+    → g ≡ region_in (bytes_at (byte_of s) (h.place + 24 * i) 24) → node ≡ (if nat_lt g.node 1024 then Some g.node else None)
+    → record { first = g.base / 4096; end = (g.base + (g.size - 1)) / 4096 + 1; node = node } ≡ frames_of (get_or (list_in s h) i d)
+region_frames s h i g node d few is told =
+    let bs = bytes_at (byte_of s) (h.place + 24 * i) 24 in
+    let Frames : ℕ → ℕ → Option ℕ → RecordFrames = λ b n v. record { first = b / 4096; end = (b + (n - 1)) / 4096 + 1; node = v } in
+    let base : g.base ≡ base_in bs = ap (λ (q : Region). q.base) is in
+    let size : g.size ≡ size_in bs = ap (λ (q : Region). q.size) is in
+    let field : g.node ≡ node_in bs = ap (λ (q : Region). q.node) is in
+    let nodes : node ≡ node_below (label_of (node_in bs)).node =
+    told ∙ ap (λ n. if nat_lt n 1024 then Some n else None) field ∙ sym (node_of_field (node_in bs)) in
+    ap (λ b. Frames b g.size node) base ∙ ap (λ n. Frames (base_in bs) n node) size ∙ ap (λ v. Frames (base_in bs) (size_in bs) v) nodes
+    ∙ sym (ap frames_of (record_by_bytes s h i d few))
+
+pub some_node : (n : ℕ) → n < 1024 → Some n ≡ (if nat_lt n 1024 then Some n else None)
+some_node n low = let h : nat_lt n 1024 ≡ true = grind (arith, nat_tests) in rw h refl
+
+pub no_node : (n : ℕ) → 1024 ≤ n → None ≡ (if nat_lt n 1024 then Some n else None)
+no_node n high = let h : nat_lt n 1024 ≡ false = grind (arith, nat_tests) in rw h refl
+
+pub ascend_higher : (b c : ℕ) (rs : List (RunOf Label)) → b ≤ c → AscendBelow b rs → AscendBelow c rs
+ascend_higher b c [] order ascend = tt
+ascend_higher b c (r ∷ rs) order ascend = let low = ascend.1 in
+    (ascend.0, omega (arith, low, order), ascend.2, ascend_higher b c rs order ascend.3)
+
+pub records_higher : (s : List Stored) (h : Head) (b c : ℕ) → b ≤ c → HasRecords s h b → HasRecords s h c
+records_higher s h b c order known =
+    record { few = known.few; fits = known.fits; ascend = ascend_higher b c (list_in s h) order known.ascend }
+
+-- a record has a first frame, and ends behind it
+pub frames_order : (r : RunOf Label) → (frames_of r).first < (frames_of r).end
+frames_order r =
+    let h : r.base / 4096 < (r.base + (r.size - 1)) / 4096 + 1 = omega arith in h

@@ -1,0 +1,144 @@
+-- The bytes of a table that stands in them say what the table says.
+use Rattle.std.proofs.Common.{◌≡◌, ℕ, zero, suc, ◌+◌, ◌-◌, ◌*◌, ◌^◌, ◌<◌, ◌≤◌, ◌==◌, nat_lt, Bool, true, false, ◌&&◌, Option, Some, None, List, [], ◌∷◌, length, get_or, if◌then◌else◌, refl, sym, ◌∙◌, ap, subst, inl, inr, arith}
+use Rattle.std.specs.Option.{is_some, is_none, unwrap_or}
+use Rattle.std.proofs.lemmas.Bool.{cases_lt, cases_Bool, eqb-true}
+use Rattle.bm_base.specs.Each.{each_in}
+use Rattle.bm_base.specs.Frames.{bytes_of_frame}
+use Rattle.bm_base.proofs.EachLaws.{each_in-same}
+use Rattle.phys_store.specs.Bytes.{Stored, byte_of, bytes_at}
+use Rattle.address_runs.specs.Runs.{RunOf, run_end, lies_in, value_at, AreRuns}
+use Rattle.address_runs.specs.Edits.{NothingFrom}
+use Rattle.address_runs.specs.Sweep.{StartFrom}
+use Rattle.address_runs.proofs.RunsLaws.{inside, behind, rest_from}
+use Rattle.memblock_model.specs.Labels.{Label}
+use Rattle.memblock_ranges.specs.declared.region.Head.{Head}
+use Rattle.memblock_ranges.specs.declared.region.Region.{Region}
+use Rattle.memblock_ranges.specs.Spelling.{base_in, size_in, node_in, label_of, node_field, region_in, region_of, run_in, records_at}
+use Rattle.memblock_ranges.specs.Tables.{Table, StandsIn, head_of, list_in}
+use Rattle.table_frames.specs.Frames.{node_below, node_told, node_of_frame, free_in}
+use Rattle.table_frames.specs.Tables.{AscendBelow, HasRecords}
+use Rattle.table_frames.proofs.RecordLaws.{node_of_field}
+
+-- two lists whose records have the same addresses and the same nodes
+abbrev Alike : List (RunOf Label) → List (RunOf Label) → Type 0
+Alike [] [] = Unit {0}
+Alike [] (s ∷ ss) = ⊥
+Alike (r ∷ rs) [] = ⊥
+Alike (r ∷ rs) (s ∷ ss) = (r.base ≡ s.base) × (r.size ≡ s.size) × (node_below r.value.node ≡ node_below s.value.node) × Alike rs ss
+
+field_for : (o : Option ℕ) → node_below (label_of (unwrap_or o 1024)).node ≡ node_below o
+field_for None = refl
+field_for (Some n) = node_of_field n
+
+alike_from : (f : ℕ → ℕ) (a : ℕ) (rs : List (RunOf Label))
+    → ((i : ℕ) (r : RunOf Label) → i < length rs → region_in (bytes_at f (a + 24 * i) 24) ≡ region_of (get_or rs i r))
+    → Alike (records_at f a (length rs)) rs
+unfolding records_at
+alike_from f a [] regions = tt
+alike_from f a (r ∷ rs) regions =
+    let here : a ≡ a + 24 * 0 = omega arith in
+    let first : region_in (bytes_at f a 24) ≡ region_of r = ap (λ x. region_in (bytes_at f x 24)) here ∙ regions 0 r (omega arith) in
+    let node : node_in (bytes_at f a 24) ≡ node_field r.value = ap (λ (g : Region). g.node) first in (
+      ap (λ (g : Region). g.base) first,
+      ap (λ (g : Region). g.size) first,
+      ap (λ n. node_below (label_of n).node) node ∙ field_for r.value.node,
+      alike_from f (a + 24) rs
+          (λ i d few. ap (λ x. region_in (bytes_at f x 24)) (omega arith) ∙ regions (suc i) d (omega arith)),
+    )
+
+-- they begin, end and give alike
+alike_starts : (at : ℕ) (rs ss : List (RunOf Label)) → Alike rs ss → StartFrom at ss → StartFrom at rs
+alike_starts at [] [] alike start = tt
+alike_starts at [] (s ∷ ss) alike start = absurd alike
+alike_starts at (r ∷ rs) [] alike start = absurd alike
+alike_starts at (r ∷ rs) (s ∷ ss) alike start = let base = alike.0 in omega (arith, base, start)
+
+alike_ascends : (b : ℕ) (rs ss : List (RunOf Label)) → Alike rs ss → AscendBelow b ss → AscendBelow b rs
+alike_ascends b [] [] alike ascend = tt
+alike_ascends b [] (s ∷ ss) alike ascend = absurd alike
+alike_ascends b (r ∷ rs) [] alike ascend = absurd alike
+alike_ascends b (r ∷ rs) (s ∷ ss) alike ascend =
+    let base = alike.0 in
+    let size = alike.1 in
+    let some = ascend.0 in
+    let low = ascend.1 in
+    let ends : run_end s ≡ run_end r = omega (arith, base, size) in (
+      omega (arith, size, some),
+      omega (arith, base, size, low),
+      alike_starts (run_end r) rs ss alike.3 (subst (λ e. StartFrom e ss) ends ascend.2),
+      alike_ascends b rs ss alike.3 ascend.3,
+    )
+
+-- what a byte tells: whether it is there, and its node
+pub record TellsAlike (u v : Option Label) : Type 0 where
+  pub there : is_some u ≡ is_some v
+  pub bare : is_none u ≡ is_none v
+  pub node : node_told u ≡ node_told v
+
+alike_tells : (x : ℕ) (rs ss : List (RunOf Label)) → Alike rs ss → TellsAlike (value_at rs x) (value_at ss x)
+alike_tells x [] [] alike = record { there = refl; bare = refl; node = refl }
+alike_tells x [] (s ∷ ss) alike = absurd alike
+alike_tells x (r ∷ rs) [] alike = absurd alike
+alike_tells x (r ∷ rs) (s ∷ ss) alike =
+    let same : lies_in r x ≡ lies_in s x =
+    ap (λ b. lies_in (let q : RunOf Label = record { base = b; size = r.size; value = r.value } in q) x) alike.0
+    ∙ ap (λ n. lies_in (let q : RunOf Label = record { base = s.base; size = n; value = r.value } in q) x) alike.1 in
+    elim (cases_Bool (lies_in s x)) as (λ _. TellsAlike (value_at (r ∷ rs) x) (value_at (s ∷ ss) x)) [
+      | inl lies ↦
+          let one : value_at (r ∷ rs) x ≡ Some r.value = rw (same ∙ lies) refl in
+          let two : value_at (s ∷ ss) x ≡ Some s.value = rw lies refl in
+          rw (one, two) (record { there = refl; bare = refl; node = alike.2 })
+      | inr away ↦
+          let one : value_at (r ∷ rs) x ≡ value_at rs x = rw (same ∙ away) refl in
+          let two : value_at (s ∷ ss) x ≡ value_at ss x = rw away refl in
+          rw (one, two) (alike_tells x rs ss alike.3)
+    ]
+
+alike_stands : (t : Table) (s : List Stored) → StandsIn t s → Alike (list_in s (head_of t)) t.records
+alike_stands t s stands = alike_from (byte_of s) t.place t.records stands.regions
+
+-- a canonical list ascends
+runs_ascend : (b : ℕ) (rs : List (RunOf Label)) → AreRuns rs → NothingFrom b (value_at rs) → AscendBelow b rs
+runs_ascend b [] runs none = tt
+runs_ascend b (r ∷ rs) runs none =
+    let some : 0 < r.size = runs.0 in
+    let low : run_end r ≤ b = elim (cases_lt b (run_end r)) as (λ _. run_end r ≤ b) [
+      | inl lt ↦
+          let last : value_at (r ∷ rs) (run_end r - 1) ≡ Some r.value = rw (inside r (run_end r - 1) (omega arith) (omega arith)) refl in
+          absurd (cc (sym last ∙ none (run_end r - 1) (omega arith)))
+      | inr ge ↦ ge
+    ] in (
+      some,
+      low,
+      rest_from r rs runs,
+      runs_ascend b rs runs.2
+          (λ x high. let next : value_at (r ∷ rs) x ≡ value_at rs x = rw (behind r x (omega arith)) refl in sym next ∙ none x high),
+    )
+
+pub stands_ascending : (t : Table) (s : List Stored) → StandsIn t s → HasRecords s (head_of t) (2 ^ 64)
+stands_ascending t s stands = record {
+  few = stands.few;
+  fits = stands.fits;
+  ascend = alike_ascends (2 ^ 64) (list_in s (head_of t)) t.records (alike_stands t s stands)
+      (runs_ascend (2 ^ 64) t.records stands.records.runs stands.records.within);
+}
+
+pub stands_node : (t : Table) (s : List Stored) (frame : ℕ) → StandsIn t s
+    → node_of_frame (value_at (list_in s (head_of t))) frame ≡ node_of_frame (value_at t.records) frame
+stands_node t s frame stands = (alike_tells (4096 * frame) (list_in s (head_of t)) t.records (alike_stands t s stands)).node
+
+pub stands_free : (memory reserved : Table) (s : List Stored) (frame : ℕ) → StandsIn memory s → StandsIn reserved s
+    → free_in (value_at (list_in s (head_of memory))) (value_at (list_in s (head_of reserved))) frame
+    ≡ free_in (value_at memory.records) (value_at reserved.records) frame
+unfolding free_in
+stands_free memory reserved s frame first second =
+    let ms = list_in s (head_of memory) in
+    let rs = list_in s (head_of reserved) in
+    let each : each_in (bytes_of_frame frame) (λ x. is_some (value_at ms x) && is_none (value_at rs x))
+    ≡ each_in (bytes_of_frame frame) (λ x. is_some (value_at memory.records x) && is_none (value_at reserved.records x)) =
+    each_in-same (bytes_of_frame frame) (λ x. is_some (value_at ms x) && is_none (value_at rs x))
+    (λ x. is_some (value_at memory.records x) && is_none (value_at reserved.records x))
+    (λ y above below.
+    ap (λ b. b && is_none (value_at rs y)) (alike_tells y ms memory.records (alike_stands memory s first)).there
+    ∙ ap (λ b. is_some (value_at memory.records y) && b) (alike_tells y rs reserved.records (alike_stands reserved s second)).bare) in
+    rw (each, stands_node memory s frame first) refl

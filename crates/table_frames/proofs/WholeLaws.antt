@@ -1,0 +1,75 @@
+-- Records of whole frames.
+use Rattle.std.proofs.Common.{◌≡◌, ◌≢◌, ℕ, zero, suc, ◌+◌, ◌-◌, ◌*◌, ◌/◌, ◌%◌, ◌^◌, ◌<◌, ◌≤◌, Bool, true, false, ◌&&◌, Option, Some, None, List, [], ◌∷◌, length, get_or, if◌then◌else◌, refl, sym, ◌∙◌, ap, subst, inl, inr, arith}
+use Rattle.std.specs.Option.{is_some, is_none}
+use Rattle.std.proofs.lemmas.Bool.Decides.{nat_tests}
+use Rattle.std.proofs.lemmas.Bool.{cases_lt, cases_Bool}
+use Rattle.bm_base.specs.Each.{each_in}
+use Rattle.bm_base.specs.Frames.{bytes_of_frame}
+use Rattle.bm_base.proofs.EachLaws.{each_in-same, each_in-fails}
+use Rattle.address_runs.specs.Runs.{RunOf, run_end, lies_in, value_at}
+use Rattle.memblock_model.specs.Labels.{Label, Labels}
+use Rattle.table_frames.specs.declared.frames.RecordFrames.{RecordFrames}
+use Rattle.table_frames.specs.Frames.{node_told, node_of_frame, is_unclaimed, free_in, frames_of}
+use Rattle.table_frames.specs.Tables.{AscendBelow, AreWholeFrames}
+use Rattle.table_frames.proofs.RecordLaws.{ascend_at}
+
+lies_whole : (r : RunOf Label) (y : ℕ) → r.base % 4096 ≡ 0 → r.size % 4096 ≡ 0 → lies_in r y ≡ lies_in r (4096 * (y / 4096))
+lies_whole r y base size = grind (arith, nat_tests)
+
+-- all bytes of a frame say the same
+pub whole_value : (rs : List (RunOf Label)) (y : ℕ) → AreWholeFrames rs → value_at rs y ≡ value_at rs (4096 * (y / 4096))
+whole_value [] y whole = refl
+whole_value (r ∷ rs) y whole =
+    let lies = lies_whole r y whole.0 whole.1 in
+    rw (lies, whole_value rs y whole.2) refl
+
+pub whole_at : (rs : List (RunOf Label)) (i : ℕ) (d : RunOf Label) → AreWholeFrames rs → i < length rs
+    → ((get_or rs i d).base % 4096 ≡ 0) × ((get_or rs i d).size % 4096 ≡ 0)
+whole_at [] i d whole few = absurd (omega arith)
+whole_at (r ∷ rs) zero d whole few = (whole.0, whole.1)
+whole_at (r ∷ rs) (suc i) d whole few = whole_at rs i d whole.2 (omega arith)
+
+-- the frames of such a record are those whose first byte lies in it
+pub first_byte : (r : RunOf Label) (x : ℕ) → 0 < r.size → r.base % 4096 ≡ 0 → r.size % 4096 ≡ 0
+    → (frames_of r).first ≤ x → x < (frames_of r).end → (r.base ≤ 4096 * x) × (4096 * x < run_end r)
+first_byte r x some base size from until =
+    let low : r.base / 4096 ≤ x = from in
+    let high : x < (r.base + (r.size - 1)) / 4096 + 1 = until in
+    (omega (arith, low, base), omega (arith, high, base, size, some))
+
+pub other_byte : (r : RunOf Label) (x : ℕ) → 0 < r.size → r.base % 4096 ≡ 0 → r.size % 4096 ≡ 0
+    → r.base ≤ 4096 * x → 4096 * x < run_end r → ((frames_of r).first ≤ x) × (x < (frames_of r).end)
+other_byte r x some base size from until =
+    let low : r.base / 4096 ≤ x = omega (arith, from) in
+    let high : x < (r.base + (r.size - 1)) / 4096 + 1 = omega (arith, until, some) in
+    (low, high)
+
+-- in memory of whole frames a frame is free where its first byte is memory and no byte is reserved
+pub free_by_first : (ms : List (RunOf Label)) (reserved : Labels) (x : ℕ) → AreWholeFrames ms
+    → (if is_unclaimed reserved x then node_of_frame (value_at ms) x else None) ≡ free_in (value_at ms) reserved x
+unfolding free_in is_unclaimed
+free_by_first ms reserved x whole =
+    let both : ℕ → Bool = λ y. is_some (value_at ms y) && is_none (reserved y) in
+    let bare : ℕ → Bool = λ y. is_none (reserved y) in
+    let first : Option Label = value_at ms (4096 * x) in
+    let nothing : Option ℕ = None in
+    let same : (y : ℕ) → 4096 * x ≤ y → y < 4096 * x + 4096 → value_at ms y ≡ first = λ y above below.
+    whole_value ms y whole ∙ ap (value_at ms) (omega arith) in
+    let Free : Option Label → Type 0 = λ v. value_at ms (4096 * x) ≡ v →
+    (if each_in (bytes_of_frame x) bare then node_told v else None) ≡ (if each_in (bytes_of_frame x) both then node_told v else None) in
+    let at : (v : Option Label) → Free v = λ v. elim v as Free [
+      | None ↦ λ is.
+          let fails : each_in (bytes_of_frame x) both ≡ false =
+          each_in-fails (bytes_of_frame x) both (4096 * x) (omega arith) (omega arith)
+          (ap (λ (o : Option Label). is_some o && is_none (reserved (4096 * x))) is) in
+          elim (cases_Bool (each_in (bytes_of_frame x) bare)) as (λ _. (if each_in (bytes_of_frame x) bare then nothing else None)
+          ≡ (if each_in (bytes_of_frame x) both then nothing else None)) [
+            | inl yes_bare ↦ rw (yes_bare, fails) refl
+            | inr no_bare ↦ rw (no_bare, fails) refl
+          ]
+      | Some label ↦ λ is.
+          let equal : each_in (bytes_of_frame x) bare ≡ each_in (bytes_of_frame x) both =
+          each_in-same (bytes_of_frame x) bare both
+          (λ y above below. sym (ap (λ (o : Option Label). is_some o && is_none (reserved y)) (same y above below ∙ is))) in
+          rw equal refl
+    ] in at first refl

@@ -1,0 +1,11 @@
+use Rattle.std.proofs.Common.{◌≤◌, ◌-◌}
+use Rattle.address_runs.specs.Runs.{value_at}
+use Rattle.memblock_ranges.specs.Tables.{list_in}
+use Rattle.table_frames.specs.Frames.{IsPassed}
+use Rattle.table_frames.proofs.claim.next_claim.Given as goal
+
+abbrev pub invariant-loop-i : goal.invariant-loop-i
+invariant-loop-i l = record { few : l.i ≤ l.head.count; passed : IsPassed (list_in l.store l.head) l.i l.at }
+
+abbrev pub decreases-loop-i : goal.decreases-loop-i
+decreases-loop-i l = l.head.count - l.i

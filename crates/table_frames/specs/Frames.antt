@@ -1,0 +1,39 @@
+-- What memblock's two tables say of a frame (`for_each_free_mem_range`, `for_each_mem_pfn_range`).
+use Rattle.std.specs.Prelude.{◌≡◌, ℕ, ◌+◌, ◌-◌, ◌*◌, ◌/◌, ◌≤◌, Bool, ◌&&◌, nat_lt, is_some, is_none, if◌then◌else◌, Option, Some, None, List, drop}
+use Rattle.bm_base.specs.Each.{each_in}
+use Rattle.bm_base.specs.Frames.{bytes_of_frame}
+use Rattle.address_runs.specs.Runs.{RunOf, value_at}
+use Rattle.memblock_model.specs.Labels.{Label, Labels}
+use Rattle.table_frames.specs.declared.frames.RecordFrames.{RecordFrames}
+use Rattle.table_frames.specs.declared.frames.TheConstants.{MAX_NODES}
+
+-- a node's number is below 1,024; another one stands for no node
+abbrev pub node_below : Option ℕ → Option ℕ
+node_below None = None
+node_below (Some n) = if nat_lt n MAX_NODES then Some n else None
+
+-- the node of a byte of which the memory table says this
+abbrev pub node_told : Option Label → Option ℕ
+node_told None = None
+node_told (Some label) = node_below label.node
+
+-- the frames of which a record has a byte, and their node
+abbrev pub frames_of : RunOf Label → RecordFrames
+frames_of r = record { first = r.base / 4096; end = (r.base + (r.size - 1)) / 4096 + 1; node = node_below r.value.node }
+
+-- the node of a frame: that of its first byte
+abbrev pub node_of_frame : Labels → ℕ → Option ℕ
+node_of_frame memory frame = node_told (memory (4096 * frame))
+
+-- whether the table has no byte of the frame
+unfoldable pub is_unclaimed : Labels → ℕ → Bool
+is_unclaimed reserved frame = each_in (bytes_of_frame frame) (λ x. is_none (reserved x))
+
+-- the node of a frame that is free by both tables: all of it is memory, and no byte of it is reserved
+unfoldable pub free_in : Labels → Labels → ℕ → Option ℕ
+free_in memory reserved frame =
+    if each_in (bytes_of_frame frame) (λ x. is_some (memory x) && is_none (reserved x)) then node_of_frame memory frame else None
+
+-- the records before the index have no byte of the frame, and none behind it
+abbrev pub IsPassed : List (RunOf Label) → ℕ → ℕ → Type 0
+IsPassed rs i frame = (x : ℕ) → 4096 * frame ≤ x → value_at (drop i rs) x ≡ value_at rs x

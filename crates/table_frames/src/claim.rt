@@ -1,0 +1,57 @@
+//! The next frames that a table has a byte of, from a frame on. A caller that goes upwards passes on where it
+//! has come to, so a walk over frames and records is one pass over both.
+
+ghost use Rattle.std.specs.Prelude.{◌≡◌, ◌^◌, ◌<◌, ◌≤◌, ℕ, true, false};
+ghost use Rattle.address_runs.specs.Runs.{value_at};
+ghost use Rattle.memblock_ranges.specs.Tables.{list_in};
+ghost use Rattle.table_frames.specs.Frames.{is_unclaimed, IsPassed};
+ghost use Rattle.table_frames.specs.Tables.{HasRecords};
+
+use crate::frames::frames_at;
+use memblock_ranges::Head;
+use phys_store::Store;
+
+/// The next frames that a table has a byte of.
+#[derive(Clone, Copy, Debug, PartialEq, Eq)]
+pub struct Claim {
+    /// Up to this record nothing is left to be looked at.
+    pub index: u64,
+    /// The first of the frames; 2^64 - 1 where there is none.
+    pub first: u64,
+    /// One more than the number of the last of them.
+    pub end: u64,
+}
+
+/// The next frames, from `at` on, of which a record from the index on has a byte. The records before it have
+/// none from there on.
+pub fn next_claim(store: &Store, head: &Head, index: u64, at: u64) -> Claim
+    requires table { HasRecords store.now head.now (2 ^ 64) }
+    requires index { index ≤ head.now.count }
+    requires passed { IsPassed (list_in store.now head.now) index at }
+    requires low { at < 2 ^ 52 }
+    ensures index { result.index ≤ head.now.count }
+    ensures passed { IsPassed (list_in store.now head.now) result.index at }
+    ensures order { at ≤ result.first }
+    ensures behind { at < result.end }
+    ensures some { result.first ≤ result.end }
+    ensures unclaimed { (x : ℕ) → at ≤ x → x < result.first → x < 2 ^ 52 → is_unclaimed (value_at (list_in store.now head.now)) x ≡ true }
+    ensures claimed { (x : ℕ) → result.first ≤ x → x < result.end → x < 2 ^ 52 → is_unclaimed (value_at (list_in store.now head.now)) x ≡ false }
+{
+    let mut i = index;
+    while i < head.count {
+        let frames = frames_at(store, head, i);
+        if at < frames.end {
+            return Claim {
+                index: i,
+                first: frames.first.max(at),
+                end: frames.end,
+            };
+        }
+        i += 1;
+    }
+    Claim {
+        index: i,
+        first: u64::MAX,
+        end: u64::MAX,
+    }
+}

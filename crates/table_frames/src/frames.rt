@@ -1,0 +1,45 @@
+//! The frames of one record.
+
+ghost use Rattle.std.specs.Prelude.{◌≡◌, ◌^◌, ◌<◌, get_or};
+ghost use Rattle.address_runs.specs.Runs.{RunOf};
+ghost use Rattle.memblock_model.specs.Labels.{Label};
+ghost use Rattle.memblock_ranges.specs.Tables.{list_in};
+ghost use Rattle.table_frames.specs.Frames.{frames_of};
+ghost use Rattle.table_frames.specs.Tables.{HasRecords};
+
+use bm_base::FRAME_SIZE;
+use memblock_ranges::{Head, region_at};
+use phys_store::Store;
+
+/// A node's number is below this (`MAX_NUMNODES` of x86-64 at its greatest).
+pub const MAX_NODES: u32 = 1024;
+
+/// The frames of which a record has a byte, and their node.
+#[derive(Clone, Copy, Debug, PartialEq, Eq)]
+pub struct RecordFrames {
+    /// The number of the frame of the record's first byte.
+    pub first: u64,
+    /// One more than the number of the frame of its last byte.
+    pub end: u64,
+    /// The node, where the record's field is below [`MAX_NODES`].
+    pub node: Option<u32>,
+}
+
+/// The frames of the record of that index, from 0, of the table that the head tells of.
+pub fn frames_at(store: &Store, head: &Head, i: u64) -> RecordFrames
+    requires table { HasRecords store.now head.now (2 ^ 64) }
+    requires within { i < head.now.count }
+    ensures { (r : RunOf Label) → result ≡ frames_of (get_or (list_in store.now head.now) i r) }
+{
+    let region = region_at(store, head, i);
+    let last = region.base + (region.size - 1);
+    RecordFrames {
+        first: region.base / FRAME_SIZE,
+        end: last / FRAME_SIZE + 1,
+        node: if region.node < MAX_NODES {
+            Some(region.node)
+        } else {
+            None
+        },
+    }
+}

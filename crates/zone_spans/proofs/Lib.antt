@@ -1,0 +1,3 @@
+pub mod SpanLaws
+pub mod SlotLaws
+pub mod TableLaws

@@ -1,0 +1,111 @@
+//! A place for the span of each node and zone, up to the highest node that has come: three for a node.
+//! A record of memory finds its place by its node and zone, so one pass over the records is enough.
+
+ghost use Rattle.std.specs.Prelude.{◌≡◌, ℕ, ◌+◌, ◌*◌, ◌<◌, ◌≤◌, None, get_or, max, OnOk, IfOk, vec_len};
+ghost use Rattle.bm_base.specs.Zones.{zone_of};
+ghost use Rattle.address_runs.specs.Edits.{NothingFrom};
+ghost use Rattle.frame_blocks.specs.declared.run.TheConstants.{MAX_FRAMES};
+ghost use Rattle.frame_blocks.specs.Frames.{Frames};
+ghost use Rattle.zone_spans.specs.Spans.{spans_of};
+ghost use Rattle.zone_spans.specs.Slots.{place_of, IsTold, AreBounded, with_run, slot_with, somes};
+
+use crate::span::Span;
+use bm_base::{Memory, Zone, zone_of};
+use frame_blocks::zone_until;
+use std::alloc::Global;
+
+/// The place of a zone among the three of a node.
+fn place_of(zone: Zone) -> u64
+    ensures { result ≡ place_of zone }
+{
+    match zone {
+        Zone::Dma => 0,
+        Zone::Dma32 => 1,
+        Zone::Normal => 2,
+    }
+}
+
+/// The frames from `first` up to `end` are memory of the node.
+pub fn note(slots: &mut Vec<Option<Span>>, node: u32, first: u64, end: u64) -> Result<(), Memory>
+    requires node { node < 1024 }
+    requires order { first ≤ end }
+    requires low { end ≤ MAX_FRAMES }
+    requires few { vec_len slots.old ≤ 3072 }
+    requires bounded { AreBounded first slots.old.items }
+    ensures told { OnOk result ((f : Frames) → NothingFrom first f → IsTold f slots.old.items →
+        IsTold (with_run first end node f) slots.new.items) }
+    ensures few { OnOk result (vec_len slots.new ≤ 3072) }
+    ensures bounded { OnOk result (AreBounded end slots.new.items) }
+{
+    let mut at = first;
+    while at < end {
+        let until = zone_until(at, end);
+        add(slots, node, zone_of(at), at, until)?;
+        at = until;
+    }
+    Ok(())
+}
+
+/// The frames from `start` up to `end`, all in the zone, are memory of the node.
+fn add(
+    slots: &mut Vec<Option<Span>>,
+    node: u32,
+    zone: Zone,
+    start: u64,
+    end: u64,
+) -> Result<(), Memory>
+    requires node { node < 1024 }
+    requires order { start < end }
+    requires low { end ≤ MAX_FRAMES }
+    requires few { vec_len slots.old ≤ 3072 }
+    requires bounded { AreBounded start slots.old.items }
+    ensures slots { OnOk result ((i : ℕ) → get_or slots.new.items i None ≡
+        slot_with node zone start end (get_or slots.old.items i None) i) }
+    ensures few { OnOk result (vec_len slots.new ≤ 3072) }
+{
+    let i = (3 * node as u64 + place_of(zone)) as usize;
+    grow_to(slots, i + 1)?;
+    let count = end - start;
+    slots[i] = match slots[i] {
+        None => Some(Span {
+            node,
+            zone,
+            start,
+            end,
+            present: count,
+        }),
+        Some(span) => Some(Span {
+            node,
+            zone,
+            start: span.start,
+            end,
+            present: span.present + count,
+        }),
+    };
+    Ok(())
+}
+
+/// Adds empty places until there are so many.
+fn grow_to(slots: &mut Vec<Option<Span>>, count: usize) -> Result<(), Memory>
+    ensures same { OnOk result ((i : ℕ) → get_or slots.new.items i None ≡ get_or slots.old.items i None) }
+    ensures enough { OnOk result (count ≤ vec_len slots.new) }
+    ensures few { OnOk result (vec_len slots.new ≤ max (vec_len slots.old) count) }
+{
+    while slots.len() < count {
+        slots.push(None)?;
+    }
+    Ok(())
+}
+
+/// The spans in their places.
+pub fn all_of(alloc: Global, slots: &[Option<Span>]) -> Result<Vec<Span>, Memory>
+    ensures { IfOk result (λ spans. spans.items ≡ somes slots.now) }
+{
+    let mut spans = Vec::new(alloc);
+    for slot in slots {
+        if let Some(span) = slot {
+            spans.push(*span)?;
+        }
+    }
+    Ok(spans)
+}

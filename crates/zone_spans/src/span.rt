@@ -1,0 +1,47 @@
+//! The spans by the memory table.
+
+ghost use Rattle.std.specs.Prelude.{◌≡◌, ◌*◌, IfOk};
+ghost use Rattle.address_runs.specs.Runs.{value_at};
+ghost use Rattle.frame_blocks.specs.declared.run.TheConstants.{MAX_FRAMES};
+ghost use Rattle.memblock_ranges.specs.Tables.{list_in};
+ghost use Rattle.table_frames.specs.Frames.{node_of_frame};
+ghost use Rattle.table_frames.specs.Tables.{HasRecords, AreWholeFrames};
+ghost use Rattle.zone_spans.specs.Spans.{spans_of};
+
+use crate::slots::{all_of, note};
+use bm_base::{Memory, Zone};
+use memblock_ranges::Heads;
+use phys_store::Store;
+use std::alloc::Global;
+use table_frames::frames_at;
+
+/// What the memory of a node spans in a zone. Numbers are of frames.
+#[derive(Clone, Copy, Debug, PartialEq, Eq)]
+pub struct Span {
+    pub node: u32,
+    pub zone: Zone,
+    /// The first frame of it.
+    pub start: u64,
+    /// One more than the last frame of it.
+    pub end: u64,
+    /// How many frames of it there are; between the first and the last others may lie.
+    pub present: u64,
+}
+
+/// One span for each node and zone with memory, by node, then by zone. The memory records are whole
+/// frames.
+pub fn spans(alloc: Global, store: &Store, heads: &Heads) -> Result<Vec<Span>, Memory>
+    requires memory { HasRecords store.now heads.now.memory (4096 * MAX_FRAMES) }
+    requires whole { AreWholeFrames (list_in store.now heads.now.memory) }
+    ensures { IfOk result (λ spans. spans.items ≡
+        spans_of (node_of_frame (value_at (list_in store.now heads.now.memory)))) }
+{
+    let mut slots = Vec::new(alloc);
+    for i in 0..heads.memory.count {
+        let frames = frames_at(store, &heads.memory, i);
+        if let Some(node) = frames.node {
+            note(&mut slots, node, frames.first, frames.end)?;
+        }
+    }
+    all_of(alloc, &slots)
+}
