@@ -1,5 +1,6 @@
 -- The answer is that of what is wanted, carried out from nothing.
-use Rattle.std.proofs.Common.{List, [], Err, ap, sym, ◌∙◌, subst}
+use Rattle.std.proofs.Common.{◌≡◌, List, [], Err, ap, sym, ◌∙◌, subst}
+use Rattle.boot_journal.specs.Contents.{Contents}
 use Rattle.memblock_model.specs.declared.item.Item.{Item}
 use Rattle.growth_model.specs.Carried.{carried_out}
 use Rattle.early_stages.specs.Wanted.{first_items}
@@ -11,12 +12,14 @@ use Rattle.boot_stages.proofs.memory.make_memory.Goals as goal
 pub returns-in-Ok-clause-answers : goal.returns-in-Ok-clause-answers
 returns-in-Ok-clause-answers c =
     let wanted : List Item = first_items MAX_PHYSMEM c.args.kernel c.args.initrd c.args.map.now in
-    ap or_stop (ap (carried_out wanted) (sym c.in_ok-memblock.ensures.items) ∙ c.in-Ok.ensures.carries)
+    let nothing : c.in_ok-memblock.memblock.journal.items ≡ [] = ap (λ (j : Contents). j.items) c.in_ok-memblock.ensures.journal in
+    ap or_stop (ap (carried_out wanted) (sym nothing) ∙ c.in-Ok.ensures.carries)
 
 pub returns-in-Err-clause-answers : goal.returns-in-Err-clause-answers
 returns-in-Err-clause-answers c =
     let wanted : List Item = first_items MAX_PHYSMEM c.args.kernel c.args.initrd c.args.map.now in
     let new = c.set_up.new.memblock.journal.items in
     let Ends : List Item → Type 0 = λ old. Carries {T = Unit {0}} (Err c.in-Err.refusal) wanted old new in
+    let nothing : c.in_ok-memblock.memblock.journal.items ≡ [] = ap (λ (j : Contents). j.items) c.in_ok-memblock.ensures.journal in
     λ other. carries-stop c.in-Err.refusal wanted [] new c.stopped.result c.stopped.ensures
-    (subst Ends c.in_ok-memblock.ensures.items c.in-Err.ensures.carries) other
+    (subst Ends nothing c.in-Err.ensures.carries) other

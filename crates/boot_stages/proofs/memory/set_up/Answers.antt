@@ -35,8 +35,7 @@ returns-clause-carries c =
     let carried : carried_out first old ≡ Ok mid = c.in_ok-map_memory.ensures.carries in
     let begun : carried_out first [] ≡ Ok mid = ap (carried_out first) (sym c.requires.first) ∙ carried in
     let end : c.end_of_memory-end.result ≡ memory_end MAX_PHYSMEM (value_at map) =
-    c.end_of_memory-end.ensures ∙ ap (λ (t : Contents). end_of_runs t.memory.records) c.tables.ensures.tables
-    ∙ ap (λ (t : Table). end_of_runs t.records) c.tables.ensures.memory
+    c.end_of_memory-end.ensures ∙ ap (λ (t : Table). end_of_runs t.records) c.tables.ensures.memory
     ∙ table_end MAX_PHYSMEM c.args.kernel c.args.initrd map mid c.requires.runs begun c.tables.ensures.within in
     let Ends : List Item → Type 0 = λ wanted. Carries r wanted old new in
     let Rest : ℕ → Type 0 = λ at. Carries r (ending at) mid new in
