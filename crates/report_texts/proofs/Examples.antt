@@ -4,7 +4,6 @@ use Rattle.std.specs.Fmt.{digits}
 use Rattle.bm_base.specs.Extent.{Extent}
 use Rattle.phys_store.specs.Bytes.{Stored}
 use Rattle.address_runs.specs.Runs.{RunOf}
-use Rattle.e820_model.specs.declared.edit.Edit.{Edit}
 use Rattle.e820_model.specs.declared.edit.Edit.TheVariants as edits
 use Rattle.boot_options.specs.declared.crash.CrashRange.{CrashRange}
 use Rattle.boot_options.specs.Crash.{no_crash}
