@@ -4,5 +4,6 @@ pub mod MoreLaws
 pub mod ReservedLaws
 pub mod WholeLaws
 pub mod ChangeLaws
+pub mod MemblockLaws
 pub mod MemoryLaws
 pub mod RequestLaws

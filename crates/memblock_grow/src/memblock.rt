@@ -14,23 +14,29 @@ ghost use Rattle.memblock_model.specs.declared.which.Which.TheVariants as tables
 ghost use Rattle.memblock_model.specs.declared.item.Item.TheVariants as item;
 ghost use Rattle.memblock_model.specs.Items.{memory_of};
 ghost use Rattle.memblock_model.specs.Tables.{records_of, room_of, place_of};
+ghost use Rattle.memblock_model.specs.Search.{best};
 ghost use Rattle.memblock_ranges.specs.Spelling.{spelled_table};
 ghost use Rattle.memblock_ranges.specs.Tables.{head_of, StandsIn, HaveNoNode};
-ghost use Rattle.growth_model.specs.Growth.{claimed, freed, new_in, two, is_full as is_full_by};
-ghost use Rattle.growth_model.specs.Ends.{Ends};
+ghost use Rattle.growth_model.specs.Growth.{claimed, freed, added, noded, new_in, two, is_full as is_full_by};
+ghost use Rattle.growth_model.specs.Ends.{Ends, Allocates};
+ghost use Rattle.growth_model.specs.Request.{place_for};
 ghost use Rattle.growth_model.specs.Sound.{Sound, IsImage, HasBegun, IsAway, MayClaim};
 ghost use Rattle.growth_model.specs.Bytes.{table_for, byte as byte_by, put, Follows};
 ghost use Rattle.memblock_grow.specs.Kept.{StayReady};
 ghost use Rattle.memblock_grow.specs.Touch.{TouchesTable};
 
-use crate::{edits, reserved};
+use crate::{edits, memory, request, reserved};
 use bm_base::{Memory, Range};
 use boot_journal::{Item, Journal, Owner, Which};
-use growth_model::Refusal;
+use growth_model::{Refusal, Request};
+use memblock_find::Query;
 use memblock_ranges::{Heads, Tables};
 use phys_store::Store;
 use std::alloc::Global;
 use std::marker::Model;
+
+#[cfg(test)]
+mod tests;
 
 /// The memory of a machine at boot: what happened to it, and the two tables that tell what of it is memory and what is
 /// claimed, in the bytes of that memory (`struct memblock`).
@@ -100,7 +106,13 @@ impl Memblock {
             IsOk result × (self.new.journal.spare ≡ self.old.journal.spare - 1) }
     {
         let _end = range.end();
-        reserved::claim(&mut self.journal, &mut self.tables, self.limit, range, owner)
+        reserved::claim(
+            &mut self.journal,
+            &mut self.tables,
+            self.limit,
+            range,
+            owner,
+        )
     }
 
     /// Frees the range, which meets no table (`memblock_phys_free`). It may split a record in two, so the reserved table may have
@@ -118,6 +130,35 @@ impl Memblock {
             IsOk result × (self.new.journal.spare ≡ self.old.journal.spare - 1) }
     {
         reserved::free(&mut self.journal, &mut self.tables, self.limit, range)
+    }
+
+    /// The range becomes memory; what of it is memory already keeps its node (`memblock_add`). The memory table may have to grow
+    /// for it, and then the reserved table for the claim of its new place.
+    pub fn add_memory(&mut self, range: Range) -> Result<(), Refusal>
+        requires some { 0 < range.size }
+        requires begun { HasBegun self.old.journal.items }
+        ensures ends { Ends result self.old.journal.items self.new.journal.items (added range) }
+        ensures kernel { self.new.kernel ≡ self.old.kernel }
+        ensures bytes { Follows self.old.kernel self.old.journal.items self.new.journal.items
+            (byte_of self.old.tables.store) (byte_of self.new.tables.store) }
+        ensures still_ready { StayReady self.old.tables.store self.new.tables.store }
+    {
+        memory::add(&mut self.journal, &mut self.tables, self.limit, range)
+    }
+
+    /// Gives the node to the memory of the range (`memblock_set_node`). It may split a record at both ends of the range, so the
+    /// memory table may have to grow.
+    pub fn set_node(&mut self, range: Range, node: u32) -> Result<(), Refusal>
+        requires some { 0 < range.size }
+        requires node { node < 1024 }
+        requires begun { HasBegun self.old.journal.items }
+        ensures ends { Ends result self.old.journal.items self.new.journal.items (noded range node) }
+        ensures kernel { self.new.kernel ≡ self.old.kernel }
+        ensures bytes { Follows self.old.kernel self.old.journal.items self.new.journal.items
+            (byte_of self.old.tables.store) (byte_of self.new.tables.store) }
+        ensures still_ready { StayReady self.old.tables.store self.new.tables.store }
+    {
+        memory::set_node(&mut self.journal, &mut self.tables, self.limit, range, node)
     }
 
     /// Cuts memory to whole frames (`memblock_trim_memory`).
@@ -152,6 +193,34 @@ impl Memblock {
         self.journal.push(Item::Limit { at })?;
         self.limit = at;
         Ok(())
+    }
+
+    /// The greatest address of a place that fits: unclaimed memory of one label that the query allows, aligned and in the window.
+    /// `None` exactly where no place fits. The size is at least 1 and the alignment a power of two.
+    pub fn find(&self, query: &Query) -> Option<u64>
+        requires some { 1 ≤ query.now.size }
+        requires aligned { (k : ℕ) × (query.now.align ≡ 2 ^ k) }
+        ensures { result ≡ best self.now.journal.items query.now }
+    {
+        memblock_find::find(&self.tables, query)
+    }
+
+    /// Finds a place for the request and claims it for the owner; its address is the answer (`memblock_alloc_range_nid`). `NoGap` comes
+    /// exactly where no attempt finds a place, and nothing is written then. The size is at least 1 and the alignment a power
+    /// of two.
+    pub fn alloc(&mut self, request: &Request, owner: Owner) -> Result<u64, Refusal>
+        requires some { 1 ≤ request.now.size }
+        requires aligned { (k : ℕ) × (request.now.align ≡ 2 ^ k) }
+        requires begun { HasBegun self.old.journal.items }
+        ensures ends { Allocates result self.old.journal.items self.new.journal.items
+            (place_for request.now self.old.journal.items) request.now.size owner }
+        ensures inside { IfOk result (λ base. base + request.now.size < 2 ^ 64) }
+        ensures kernel { self.new.kernel ≡ self.old.kernel }
+        ensures bytes { Follows self.old.kernel self.old.journal.items self.new.journal.items
+            (byte_of self.old.tables.store) (byte_of self.new.tables.store) }
+        ensures still_ready { StayReady self.old.tables.store self.new.tables.store }
+    {
+        request::allocate(&mut self.journal, &mut self.tables, self.limit, request, owner)
     }
 
     /// Writes the byte to each address of the range, which meets no table. After `Memory` each byte is as before.

@@ -1,0 +1,12 @@
+-- The search over the tables is that over the items.
+use Rattle.std.proofs.Common.{◌∙◌, ap}
+use Rattle.memblock_model.specs.Search.{best}
+use Rattle.memblock_grow.specs.Contents.{Contents}
+use Rattle.memblock_grow.proofs.PlaceLaws.{best-is}
+use Rattle.memblock_grow.proofs.memblock.Memblock.find.Goals as goal
+
+pub returns : goal.returns
+returns c =
+    let m = c.self.inside in
+    c.find.ensures ∙ best-is m.kernel m.journal.items m.tables m.limit c.args.query.now c.self.invariant.kept
+    ∙ ap (λ (v : Contents). best v.journal.items c.args.query.now) c.self.view_is

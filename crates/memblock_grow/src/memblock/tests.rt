@@ -1,0 +1,260 @@
+//! A memblock through the first minutes of a boot: what stands in the journal, where the tables go, what is read back. The values are
+//! those of an implementation of the same rules in another language.
+ghost use Rattle.std.specs.Prelude.{◌≡◌, ◌+◌, ◌%◌, ◌^◌, ◌<◌, ◌≤◌, IfOk, IsTrue};
+ghost use Rattle.bm_base.specs.Extent.{end_of};
+ghost use Rattle.growth_model.specs.Sound.{IsImage, HasBegun};
+
+use super::Memblock;
+use crate::{Refusal, Request};
+use bm_base::Range;
+use boot_journal::{Owner, Which};
+use memblock_find::Query;
+use memblock_ranges::Head;
+use std::alloc::Global;
+use std::test::Fail;
+
+fn bytes(base: u64, size: u64) -> Range
+    requires { base + size < 2 ^ 64 }
+    ensures { result ≡ record { base = base; size = size } }
+{
+    Range { base, size }
+}
+
+// The machine's image is claimed.
+fn started(alloc: Global, kernel: Range) -> Result<Memblock, Refusal>
+    requires image { IsImage kernel }
+    requires some { 0 < kernel.size }
+{
+    let mut memblock = Memblock::new(alloc, kernel)?;
+    memblock.claim(kernel, Owner::Kernel)?;
+    Ok(memblock)
+}
+
+fn has_begun(memblock: &Memblock) -> bool
+    ensures { IsTrue result → HasBegun memblock.now.journal.items }
+{
+    memblock.journal().items().len() > 0
+}
+
+// A call, its addresses and the node.
+#[derive(Clone, Copy)]
+enum Step {
+    Add(u64, u64),
+    Claim(u64, u64),
+    Free(u64, u64),
+    Node(u64, u64, u32),
+    Trim,
+    Limit(u64),
+}
+
+// Whether the call's conditions hold; then it is carried out.
+fn act(memblock: &mut Memblock, step: Step) -> Result<bool, Refusal> {
+    if !has_begun(memblock) {
+        return Ok(false);
+    }
+    match step {
+        Step::Add(base, size) => add(memblock, base, size),
+        Step::Claim(base, size) => claim(memblock, base, size),
+        Step::Free(base, size) => free(memblock, base, size),
+        Step::Node(base, size, node) => set_node(memblock, base, size, node),
+        Step::Trim => {
+            memblock.trim()?;
+            Ok(true)
+        }
+        Step::Limit(at) => {
+            memblock.set_limit(at)?;
+            Ok(true)
+        }
+    }
+}
+
+fn add(memblock: &mut Memblock, base: u64, size: u64) -> Result<bool, Refusal>
+    requires { HasBegun memblock.old.journal.items }
+{
+    let Some(range) = Range::new(base, size) else {
+        return Ok(false);
+    };
+    if size == 0 {
+        return Ok(false);
+    }
+    memblock.add_memory(range)?;
+    Ok(true)
+}
+
+fn claim(memblock: &mut Memblock, base: u64, size: u64) -> Result<bool, Refusal>
+    requires { HasBegun memblock.old.journal.items }
+{
+    let Some(range) = Range::new(base, size) else {
+        return Ok(false);
+    };
+    if size == 0 {
+        return Ok(false);
+    }
+    memblock.claim(range, Owner::Soft)?;
+    Ok(true)
+}
+
+fn free(memblock: &mut Memblock, base: u64, size: u64) -> Result<bool, Refusal>
+    requires { HasBegun memblock.old.journal.items }
+{
+    let Some(range) = Range::new(base, size) else {
+        return Ok(false);
+    };
+    if size == 0 || memblock.touches_table(range) {
+        return Ok(false);
+    }
+    memblock.free(range)?;
+    Ok(true)
+}
+
+fn set_node(memblock: &mut Memblock, base: u64, size: u64, node: u32) -> Result<bool, Refusal>
+    requires { HasBegun memblock.old.journal.items }
+{
+    let Some(range) = Range::new(base, size) else {
+        return Ok(false);
+    };
+    if size == 0 || node >= 1024 {
+        return Ok(false);
+    }
+    memblock.set_node(range, node)?;
+    Ok(true)
+}
+
+fn fill(memblock: &mut Memblock, base: u64, size: u64, byte: u8) -> Result<bool, Refusal> {
+    let Some(range) = Range::new(base, size) else {
+        return Ok(false);
+    };
+    if memblock.touches_table(range) {
+        return Ok(false);
+    }
+    memblock.fill(range, byte)?;
+    Ok(true)
+}
+
+fn best(memblock: &Memblock, query: &Query) -> Option<u64>
+    requires some { 1 ≤ query.now.size }
+    requires aligned { query.now.align ≡ 2 ^ 12 }
+{
+    memblock.find(query)
+}
+
+// What a request is answered; `None` where nothing was claimed yet.
+fn alloc(memblock: &mut Memblock, request: &Request) -> Option<Result<u64, Refusal>>
+    requires some { 1 ≤ request.now.size }
+    requires aligned { request.now.align ≡ 2 ^ 12 }
+{
+    if !has_begun(memblock) {
+        return None;
+    }
+    Some(memblock.alloc(request, Owner::Soft))
+}
+
+fn request(size: u64, min: u64, max: Option<u64>, node: Option<u32>) -> Request
+    ensures size { result.size ≡ size }
+    ensures align { result.align ≡ 2 ^ 12 }
+{
+    Request {
+        size,
+        align: 0x1000,
+        min,
+        max,
+        node,
+        exact: false,
+    }
+}
+
+// A virtual machine of 128 MiB, as far as its nodes; the kernel's image is 0x1000000..0x2ffffff.
+fn machine(alloc: Global) -> Result<Memblock, Refusal> {
+    let mut memblock = started(alloc, bytes(0x1000000, 0x2000000))?;
+    for step in [
+        Step::Claim(0, 0x10000),
+        Step::Add(0x1000, 0x9EC00),
+        Step::Add(0x100000, 0x7EE0000),
+        Step::Trim,
+        Step::Limit(0x7FE0000),
+        Step::Node(0, 0x7FE0000, 0),
+    ] {
+        if !act(&mut memblock, step)? {
+            return Err(Refusal::NoGap);
+        }
+    }
+    Ok(memblock)
+}
+
+#[test]
+fn allocations_come_from_the_top(rt: HostRuntime) -> Result<(), Fail> {
+    let mut memblock = machine(rt.alloc())?;
+    assert_eq!(rt; memblock.journal().items().len(), 7);
+    let query = Query {
+        lo: 0,
+        hi: 0x7FE0000,
+        size: 0x2000,
+        align: 0x1000,
+        node: None,
+    };
+    assert_eq!(rt; best(&memblock, &query), Some(0x7FDE000));
+    memblock.ready(8)?;
+    let first = alloc(&mut memblock, &request(0x2B000, 0, None, None));
+    assert_eq!(rt; first, Some(Ok(0x7FB5000)));
+    let second = alloc(&mut memblock, &request(0x4000, 0, None, Some(0)));
+    assert_eq!(rt; second, Some(Ok(0x7FB1000)));
+    let large = alloc(&mut memblock, &request(0x8000000, 0, None, None));
+    assert_eq!(rt; large, Some(Err(Refusal::NoGap)));
+    let low = alloc(&mut memblock, &request(0x1000, 0x100000, Some(0x200000), Some(1)));
+    assert_eq!(rt; low, Some(Ok(0x1FF000)));
+    assert!(rt; act(&mut memblock, Step::Free(0x7FB5000, 0x1000))?);
+    assert!(rt; !act(&mut memblock, Step::Free(0x2FFE000, 1))?);
+    assert_eq!(rt; memblock.journal().items().len(), 11);
+    assert_eq!(rt; memblock.tables().head(Which::Reserved).count, 5);
+    Ok(())
+}
+
+// Claims and added ranges, each beside a gap, until each table has moved, and the reserved one twice.
+#[test]
+fn tables_move(rt: HostRuntime) -> Result<(), Fail> {
+    let mut memblock = machine(rt.alloc())?;
+    for i in 0..300 {
+        assert!(rt; act(&mut memblock, Step::Claim(0x200000 + 0x2000 * i, 0x1000))?);
+    }
+    for i in 0..200 {
+        assert!(rt; act(&mut memblock, Step::Add(0x100000000 + 0x2000 * i, 0x1000))?);
+    }
+    assert_eq!(rt; memblock.journal().items().len(), 514);
+    assert_eq!(rt; memblock.journal().owner_at(0x7FDBFFF), Some(Owner::Table(Which::Reserved)));
+    assert_eq!(rt; memblock.journal().owner_at(0x7FDE000), Some(Owner::Table(Which::Memory)));
+
+    // The first place of the memory table is zeros; at its new one stand the first record and, behind the last one, zeros.
+    let mut record = [0; 24];
+    memblock.peek(0x2FFE000, &mut record);
+    assert_eq!(rt; record, [0; 24]);
+    memblock.peek(0x7FDE000, &mut record);
+    let first = [
+        0, 0x10, 0, 0, 0, 0, 0, 0, 0, 0xE0, 9, 0, 0, 0, 0, 0, 0, 0, 0, 0, 0, 0, 0, 0,
+    ];
+    assert_eq!(rt; record, first);
+    memblock.peek(0x7FDE000 + 24 * 202, &mut record);
+    assert_eq!(rt; record, [0; 24]);
+
+    assert!(rt; fill(&mut memblock, 0x300000, 0x10, 0x5A)?);
+    assert!(rt; !fill(&mut memblock, 0x7FDB000, 1, 0x5A)?);
+    let mut edge = [0; 4];
+    memblock.peek(0x2FFFFF, &mut edge);
+    assert_eq!(rt; edge, [0, 0x5A, 0x5A, 0x5A]);
+    memblock.peek(0x30000E, &mut edge);
+    assert_eq!(rt; edge, [0x5A, 0x5A, 0, 0]);
+
+    let (_store, heads, _journal) = memblock.into_parts();
+    let memory = Head {
+        place: 0x7FDE000,
+        room: 256,
+        count: 202,
+    };
+    let reserved = Head {
+        place: 0x7FDB000,
+        room: 512,
+        count: 303,
+    };
+    assert_eq!(rt; heads.memory, memory);
+    assert_eq!(rt; heads.reserved, reserved);
+    Ok(())
+}
