@@ -4,6 +4,8 @@
 mod buddy;
 mod handover;
 mod runs;
+#[cfg(test)]
+mod tests;
 
 pub use buddy::Buddy;
 pub use frame_blocks::{Block, MAX_FRAMES, MAX_ORDER};
