@@ -56,9 +56,15 @@ fn records_by_frames(rt: HostRuntime) -> Result<(), Fail> {
     assert!(rt; has_records(&store, &heads.memory, 0x9F000));
     assert!(rt; !has_records(&store, &heads.memory, 0x9EFFF));
     let memory = frames(&store, &heads.memory, 0);
-    assert_eq!(rt; memory.map(|f| (f.first, f.end, f.node)), Some((1, 0x9F, Some(3))));
+    assert_eq!(rt;
+        memory.map(|f| (f.first, f.end, f.node)),
+        Some((1, 0x9F, Some(3)))
+    );
     let reserved = frames(&store, &heads.reserved, 0);
-    assert_eq!(rt; reserved.map(|f| (f.first, f.end, f.node)), Some((4, 5, None)));
+    assert_eq!(rt;
+        reserved.map(|f| (f.first, f.end, f.node)),
+        Some((4, 5, None))
+    );
     let claim = first_claim(&store, &heads.reserved);
     assert_eq!(rt; claim.map(|c| (c.index, c.first, c.end)), Some((0, 4, 5)));
     if has_records(&store, &heads.reserved, u64::MAX) {

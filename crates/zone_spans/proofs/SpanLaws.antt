@@ -130,11 +130,11 @@ told_below f n z (suc m) =
       | inl here ↦
           let step : span_below f n z (suc m) ≡ Some (with_frames n z m 1 (span_below f n z m)) = rw here refl in
           subst (λ (o : Option Span). IsToldBelow f n z (suc m) o) (sym step) (first_of_it f n z m (span_below f n z m) here
-              (told_below f n z m))
+          (told_below f n z m))
       | inr out ↦
           let step : span_below f n z (suc m) ≡ span_below f n z m = rw out refl in
           subst (λ (o : Option Span). IsToldBelow f n z (suc m) o) (sym step) (none_of_it f n z m (span_below f n z m) out
-              (told_below f n z m))
+          (told_below f n z m))
     ]
 
 pub is_span : (f : Frames) (n : ℕ) (z : Zone) (s : Span) → span_of f n z ≡ Some s → IsSpan f n z MAX_FRAMES s

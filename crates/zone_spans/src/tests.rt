@@ -54,9 +54,27 @@ fn nodes_that_take_turns(rt: HostRuntime) -> Result<(), Fail> {
     let (store, heads) = tables.into_parts();
     let spans = spans_of(rt.alloc(), &store, &heads)?;
     let expected = [
-        Span { node: 0, zone: Zone::Dma, start: 1, end: 4096, present: 3998 },
-        Span { node: 0, zone: Zone::Dma32, start: 4096, end: 32736, present: 20704 },
-        Span { node: 1, zone: Zone::Dma32, start: 16640, end: 24576, present: 7936 },
+        Span {
+            node: 0,
+            zone: Zone::Dma,
+            start: 1,
+            end: 4096,
+            present: 3998,
+        },
+        Span {
+            node: 0,
+            zone: Zone::Dma32,
+            start: 4096,
+            end: 32736,
+            present: 20704,
+        },
+        Span {
+            node: 1,
+            zone: Zone::Dma32,
+            start: 16640,
+            end: 24576,
+            present: 7936,
+        },
     ];
     assert_eq!(rt; spans.as_slice(), expected.as_slice());
     Ok(())
