@@ -91,7 +91,7 @@ record_freed b ms reserved i n d f g ascend whole few is known put x =
       | inr held ↦
           let was : f x ≡ None = known x ∙ rw held refl in
           let none : (inner && is_unclaimed reserved x) ≡ false = elim (cases_Bool inner) as (λ _. (inner && is_unclaimed reserved x)
-              ≡ false) [
+          ≡ false) [
             | inl lies ↦ rw (lies, held) refl
             | inr away ↦ rw away refl
           ] in
