@@ -14,7 +14,8 @@
 //!
 //! Where the names come from is another's business: [`Names`] is whatever knows the name of an input.
 //!
-//! The layer above may rest on this: what is answered is what `boot` requires.
+//! The layer above may rest on this: what is answered is what `boot` requires, and an initrd is whole
+//! frames behind its first byte.
 #![tactic(auto)]
 
 mod command_line;

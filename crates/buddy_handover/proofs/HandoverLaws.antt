@@ -24,7 +24,8 @@ freed_none first node reserved f x =
     let none : (nat_le first x && nat_lt x first) ≡ false = grind (arith, nat_tests) in rw none refl
 
 -- one stretch of unclaimed frames, and the claimed ones behind it
-pub freed_more : (first at from until end cut next node : ℕ) (reserved : Labels) (f g h : Frames) → cut ≡ min from end → next ≡ min until end → first ≤ at → at < end → at ≤ from → from ≤ until
+pub freed_more : (first at from until end cut next node : ℕ) (reserved : Labels) (f g h : Frames) → cut ≡ min from end
+    → next ≡ min until end → first ≤ at → at < end → at ≤ from → from ≤ until
     → ((x : ℕ) → at ≤ x → x < from → x < end → is_unclaimed reserved x ≡ true)
     → ((x : ℕ) → from ≤ x → x < until → x < end → is_unclaimed reserved x ≡ false)
     → ((x : ℕ) → g x ≡ freed first at node reserved f x)
@@ -89,7 +90,8 @@ record_freed b ms reserved i n d f g ascend whole few is known put x =
           ]
       | inr held ↦
           let was : f x ≡ None = known x ∙ rw held refl in
-          let none : (inner && is_unclaimed reserved x) ≡ false = elim (cases_Bool inner) as (λ _. (inner && is_unclaimed reserved x) ≡ false) [
+          let none : (inner && is_unclaimed reserved x) ≡ false = elim (cases_Bool inner) as (λ _. (inner && is_unclaimed reserved x)
+          ≡ false) [
             | inl lies ↦ rw (lies, held) refl
             | inr away ↦ rw away refl
           ] in

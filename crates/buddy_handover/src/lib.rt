@@ -1,9 +1,24 @@
-//! The handover: the frames that nobody has go to the page allocator.
+//! The handover: at the end of the early boot all memory that is reserved for nobody goes to the page
+//! allocator (`memblock_free_all`), which keeps it by blocks.
+//!
+//! [`hand_over`] reads memblock's two tables from the bytes in which they lie, in one pass, and frees what is
+//! memory and of which no byte is reserved. What it answers is a [`Buddy`]: the frames that are free, each with
+//! its node. [`Buddy::free_frames`] frees more; [`Buddy::blocks`], [`Buddy::count`] and [`Buddy::block_of`] tell the
+//! blocks (`frame_blocks`).
+//!
+//! The kernel's lists have an entry a block. Here the free frames are one ascending list of runs, however
+//! long a run is: one call adds two entries at most, for which [`Buddy::ready`] takes the memory beforehand, and
+//! nothing is ever cut or joined, since blocks are worked out when they are asked for.
+//!
+//! The layer above may rest on this: contracts see the runs (`specs/Contents.antt`), `free` is the node of a
+//! frame, and after a handover it is what both tables say of each frame (`free_in` of `table_frames`).
 #![tactic(auto)]
 
 mod buddy;
 mod handover;
 mod runs;
+#[cfg(test)]
+mod tests;
 
 pub use buddy::Buddy;
 pub use frame_blocks::{Block, MAX_FRAMES, MAX_ORDER};

@@ -117,7 +117,8 @@ pub listed_sound : (f : Frames) (b : Block) → Lists (blocks_of f) b → IsBloc
 unfolding blocks_of
 listed_sound f b has = from_sound f b 0 MAX_FRAMES has
 
-from_complete : (f : Frames) (b : Block) (x n : ℕ) → block_of f b.first ≡ Some b → x ≤ b.first → b.first < x + n → Lists (blocks_from f x n) b
+from_complete : (f : Frames) (b : Block) (x n : ℕ) → block_of f b.first ≡ Some b → x ≤ b.first → b.first < x + n
+    → Lists (blocks_from f x n) b
 unfolding blocks_from
 from_complete f b x zero made above below = absurd (omega arith)
 from_complete f b x (suc n) made above below =

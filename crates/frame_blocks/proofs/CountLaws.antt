@@ -58,7 +58,8 @@ pub alike : (k : ℕ) (f : Frames) (n o s at order : ℕ) (z wanted : Zone) → 
 alike zero f n o s at order z wanted small size whole free found zones =
     let none : 0 * s ≡ 0 = omega arith in
     let nothing : blocks_from f at 0 ≡ [] = unfold blocks_from in refl in
-    ap (λ m. count_by (is_of n wanted order) (blocks_from f at m)) none ∙ ap (λ (bs : List Block). count_by (is_of n wanted order) bs) nothing
+    ap (λ m. count_by (is_of n wanted order) (blocks_from f at m)) none
+    ∙ ap (λ (bs : List Block). count_by (is_of n wanted order) bs) nothing
     ∙ (let h : 0 ≡ 0 * if_alike o z order wanted = omega arith in h)
 alike (suc k) f n o s at order z wanted small size whole free found zones =
     let p : Block → Bool = is_of n wanted order in
@@ -107,7 +108,11 @@ in_a_row f first end n o s at k run above some room small size whole fits greate
     let at_whole : at % 1024 ≡ 0 = subst (λ (t : ℕ). at % t ≡ 0) s_is whole in
     let x_whole : x % 1024 ≡ 0 = ap (λ y. y % 1024) here ∙ add-mul-mod_self_right at i 1024 ∙ at_whole in
     let is : f x ≡ Some n = run.inside x (omega arith) (omega (arith, fits_here)) in
-    let fits_ten : Fits first end x (2 ^ 10) = record { above = omega (arith, x_whole, above); below = omega (arith, x_whole, fits_here) } in (
+    let fits_ten : Fits first end x (2 ^ 10) = record {
+      above = omega (arith, x_whole, above);
+      below = omega
+          (arith, x_whole, fits_here);
+    } in (
       is,
       up_is f x n 10 10 is (omega arith) (free_inside f first end n 10 x run fits_ten) (λ less free. absurd (omega arith)) ∙ sym ten,
     )
@@ -164,7 +169,8 @@ count_all rs node order wanted runs none =
     (ap (λ (cs : List Block). count_by (is_of node wanted order) cs) (listed_all rs runs none), omega (arith, few, less))
 
 pub count_more : (f : Frames) (rs : List (RunOf ℕ)) (i : ℕ) (d : RunOf ℕ) (p : Block → Bool) → i < length rs
-    → count_by p (listed f (drop i rs)) ≡ count_by p (blocks_from f (get_or rs i d).base (get_or rs i d).size) + count_by p (listed f (drop (i + 1) rs))
+    → count_by p (listed f (drop i rs)) ≡ count_by p (blocks_from f (get_or rs i d).base (get_or rs i d).size) + count_by p (listed f
+    (drop (i + 1) rs))
 count_more f rs i d p few =
     ap (λ (bs : List Block). count_by p bs) (listed_more f rs i d few)
     ∙ sum_by-append (λ (c : Block). cond (p c) 1 0) (blocks_from f (get_or rs i d).base (get_or rs i d).size) (listed f (drop (i + 1) rs))
@@ -206,7 +212,8 @@ alike_told false o order z wanted tells =
     ]
 
 -- the count so far and that of the rest are the count of all, one run later too
-pub next_count : (f : Frames) (rs : List (RunOf ℕ)) (i : ℕ) (d r : RunOf ℕ) (p : Block → Bool) (t u all : ℕ) → r ≡ get_or rs i d → i < length rs
+pub next_count : (f : Frames) (rs : List (RunOf ℕ)) (i : ℕ) (d r : RunOf ℕ) (p : Block → Bool) (t u all : ℕ) → r ≡ get_or rs i d
+    → i < length rs
     → t + count_by p (listed f (drop i rs)) ≡ all → u ≡ t + count_by p (blocks_from f r.base (run_end r - r.base))
     → u + count_by p (listed f (drop (i + 1) rs)) ≡ all
 next_count f rs i d r p t u all is few sum more =
@@ -228,7 +235,8 @@ other_run f r node order wanted run other =
     other_node f r.value node order wanted r.base (run_end r - r.base) differs (λ y above below. run.inside y above (omega arith))
 
 pub many : (k s o : ℕ) → s ≡ 2 ^ o → k ≤ k * s
-many k s o size = let some = pow_pos o in let positive : 1 ≤ s = omega (arith, some, size) in let h = mul-le-mul_left k positive in omega (arith, h)
+many k s o size = let some = pow_pos o in let positive : 1 ≤ s = omega (arith, some, size) in let h = mul-le-mul_left k positive in omega
+    (arith, h)
 
 pub at_most_one : (o order : ℕ) (z wanted : Zone) → if_alike o z order wanted ≤ 1
 at_most_one o order z wanted =

@@ -1,3 +1,4 @@
+mod Examples
 pub mod SetLaws
 pub mod GoodLaws
 pub mod ListLaws

@@ -66,7 +66,8 @@ pub looked_up : (rs : List (RunOf ℕ)) (i x : ℕ) (d : RunOf ℕ) → i < leng
     → x < run_end (get_or rs i d)
 looked_up rs i x d few rest = subst (λ (ss : List (RunOf ℕ)). EndsBehind x ss) (drop-cons rs i d few) rest.ends
 
-pub nothing_left : (rs : List (RunOf ℕ)) (i x : ℕ) → length rs ≤ i → IsRestFrom (value_at rs) x (drop i rs) → None ≡ block_of (value_at rs) x
+pub nothing_left : (rs : List (RunOf ℕ)) (i x : ℕ) → length rs ≤ i → IsRestFrom (value_at rs) x (drop i rs)
+    → None ≡ block_of (value_at rs) x
 nothing_left rs i x all rest =
     let none : value_at rs x ≡ None = sym (rest.each x (omega arith)) ∙ at_drop_all (λ (ss : List (RunOf ℕ)). value_at ss x) rs i all in
     sym (ap (block_for (value_at rs) x) none)
@@ -93,7 +94,8 @@ found_block rs i x o s d runs few above below small size fits greatest =
     let order = found (value_at rs) r.base (run_end r) r.value o x run above below small
     (subst (λ (t : ℕ). Fits r.base (run_end r) x t) size fits) greatest in
     sym (ap (block_for (value_at rs) x) is ∙ ap (λ p. Some (block_around p x r.value)) order
-    ∙ ap (λ t. let made : Block = record { order = o; first = x - x % t; node = r.value; zone = zone_of (x - x % t) } in Some made) (sym size))
+    ∙ ap (λ t. let made : Block = record { order = o; first = x - x % t; node = r.value; zone = zone_of (x - x % t) } in Some made)
+    (sym size))
 
 -- the blocks of the runs, one run after another
 pub listed : Frames → List (RunOf ℕ) → List Block
@@ -124,7 +126,8 @@ listed_from f b at (r ∷ rs) runs start none low same =
     let parts : b - at ≡ gap + (r.size + left) = omega (arith, ends.0) in
     let there : at + gap ≡ r.base = omega arith in
     let bare : blocks_from f at gap ≡ [] =
-    from-none f at gap (λ y above below. not_first-bare f y (same y above ∙ none_below r.base y (r ∷ rs) runs (omega arith) (omega arith))) in
+    from-none f at gap (λ y above below. not_first-bare f y (same y above
+    ∙ none_below r.base y (r ∷ rs) runs (omega arith) (omega arith))) in
     let rest : blocks_from f (run_end r) left ≡ listed f rs =
     listed_from f b (run_end r) rs runs.2 (rest_from r rs runs) ends.1 ends.0
     (λ x above. same x (omega arith) ∙ value_behind r rs x above) in
@@ -137,7 +140,8 @@ start_zero : (rs : List (RunOf ℕ)) → StartFrom 0 rs
 start_zero [] = tt
 start_zero (r ∷ rs) = omega arith
 
-pub listed_all : (rs : List (RunOf ℕ)) → AreRuns rs → NothingFrom MAX_FRAMES (value_at rs) → listed (value_at rs) rs ≡ blocks_of (value_at rs)
+pub listed_all : (rs : List (RunOf ℕ)) → AreRuns rs → NothingFrom MAX_FRAMES (value_at rs)
+    → listed (value_at rs) rs ≡ blocks_of (value_at rs)
 unfolding blocks_of
 listed_all rs runs none =
     let most : ℕ = MAX_FRAMES in

@@ -21,7 +21,8 @@ free_inside f first end n o x run fits y same =
     run.inside y (omega (arith, from, fits.above)) (omega (arith, until, fits.below))
 
 -- and a set around a frame of the run that is free lies in it
-pub inside_free : (f : Frames) (first end n o x : ℕ) → IsRun f first end n → first ≤ x → x < end → AreFree f o x n → Fits first end x (2 ^ o)
+pub inside_free : (f : Frames) (first end n o x : ℕ) → IsRun f first end n → first ≤ x → x < end → AreFree f o x n
+    → Fits first end x (2 ^ o)
 inside_free f first end n o x run above below free =
     let small : x % 2 ^ o < 2 ^ o = mod-lt x (pow_pos o) in
     record {
@@ -47,7 +48,8 @@ found f first end n o x run above below small fits greatest =
 -- the blocks up to here, and the one that begins here
 pub one_more : (f : Frames) (first end n o at s : ℕ) → IsRun f first end n → first ≤ at → at < end → o ≤ 10 → s ≡ 2 ^ o
     → Fits first end at s → IsGreatest first end at o → at % s ≡ 0
-    → blocks_from f first (at + s - first) ≡ blocks_from f first (at - first) ++ record { order = o; first = at; node = n; zone = zone_of at } ∷ []
+    → blocks_from f first (at + s - first) ≡ blocks_from f first
+    (at - first) ++ record { order = o; first = at; node = n; zone = zone_of at } ∷ []
 one_more f first end n o at s run above below small size fits greatest whole =
     let sized : Fits first end at (2 ^ o) = subst (λ (t : ℕ). Fits first end at t) size fits in
     let start : at % 2 ^ o ≡ 0 = subst (λ (t : ℕ). at % t ≡ 0) size whole in
@@ -80,7 +82,8 @@ start_next first end at o s whole few size greatest p small fits =
             | inl some ↦
                 let base : ℕ = at + s - (at + s) % 2 ^ p in
                 let aligned : base % 2 ^ p ≡ 0 = base_whole (2 ^ p) (at + s) in
-                let low : base + 2 ^ o ≤ at + s = apart (2 ^ o) base (at + s) (multiple o p base (omega arith) aligned) there (omega arith) in
+                let low : base + 2 ^ o ≤ at + s = apart (2 ^ o) base (at + s) (multiple o p base (omega arith) aligned) there
+                (omega arith) in
                 let rest : (at + s) % 2 ^ p < 2 ^ p = mod-lt (at + s) (pow_pos p) in
                 let same : at / 2 ^ p ≡ (at + s) / 2 ^ p = in_set (2 ^ p) (at + s) at (omega (arith, low, size)) (omega (arith, rest)) in
                 let bases : at - at % 2 ^ p ≡ base = base_is (2 ^ p) at ∙ ap (λ q. q * 2 ^ p) same ∙ sym (base_is (2 ^ p) (at + s)) in

@@ -4,8 +4,9 @@ use Rattle.std.specs.Fmt.{digits}
 use Rattle.bm_base.specs.Extent.{Extent}
 use Rattle.phys_store.specs.Bytes.{Stored}
 use Rattle.address_runs.specs.Runs.{RunOf}
-use Rattle.e820_model.specs.declared.edit.Edit.{Edit}
 use Rattle.e820_model.specs.declared.edit.Edit.TheVariants as edits
+use Rattle.boot_options.specs.declared.crash.CrashRange.{CrashRange}
+use Rattle.boot_options.specs.Crash.{no_crash}
 use Rattle.memblock_model.specs.declared.item.Item.TheVariants as item
 use Rattle.memblock_model.specs.declared.owner.Owner.{Owner}
 use Rattle.memblock_model.specs.declared.owner.Owner.TheVariants as owner
@@ -16,7 +17,7 @@ use Rattle.memblock_ranges.specs.Tables.{Table, StandsIn, head_of}
 use Rattle.report_texts.specs.Lines.{index_text, lines_from, range_text}
 use Rattle.report_texts.specs.JournalText.{item_line, item_text, journal_text}
 use Rattle.report_texts.specs.MapText.{kind_name, map_line, map_text}
-use Rattle.report_texts.specs.OptionsText.{edit_line, edit_text, kind_text, numa_line, options_text}
+use Rattle.report_texts.specs.OptionsText.{crash_lines, crash_range_line, crash_range_text, edit_line, edit_text, end_text, kind_text, numa_line, options_text, plain_lines, size_line}
 use Rattle.report_texts.specs.OwnersText.{owner_line, owner_text, owners_text, which_name}
 use Rattle.report_texts.specs.RecordsText.{IsTableAt, extent_line, record_line, records_text, region_line}
 use Rattle.report_texts.specs.TablesText.{table_line, tables_text}
@@ -85,12 +86,54 @@ edit_lines = (refl, refl)
 numa_examples : (numa_line true ≡ codes "numa off\n") × (numa_line false ≡ [])
 numa_examples = (refl, refl)
 
-some_options : options_text (record { edits = edits.Clear ∷ edits.Add first_MiB 1 ∷ []; numa_off = true })
-    ≡ codes "clear\nadd 1 0x0000000000000000..0x00000000000fffff\nnuma off\n"
+-- `crashkernel=1G-2G:64M,2G-:128M@16M`
+up_to_2G : CrashRange
+up_to_2G = record { start = 0x40000000; end = Some 0x80000000; size = 0x4000000 }
+
+from_2G : CrashRange
+from_2G = record { start = 0x80000000; end = None; size = 0x8000000 }
+
+end_examples : (end_text (Some 0x80000000) ≡ codes "0x0000000080000000") × (end_text None ≡ codes "-")
+unfolding digits
+end_examples = (refl, refl)
+
+range_texts : (crash_range_text up_to_2G ≡ codes "0x0000000040000000 0x0000000080000000 0x0000000004000000")
+    × (crash_range_text from_2G ≡ codes "0x0000000080000000 - 0x0000000008000000")
+unfolding up_to_2G from_2G crash_range_text digits
+range_texts = (refl, refl)
+
+crash_ranges : (crash_range_line 0 0 up_to_2G
+    ≡ codes "crash range 0x0000000040000000 0x0000000080000000 0x0000000004000000 base 0x0000000000000000\n")
+    × (crash_range_line 0x1000000 1 from_2G ≡ codes "crash range 0x0000000080000000 - 0x0000000008000000 base 0x0000000001000000\n")
+unfolding up_to_2G from_2G crash_range_text digits
+crash_ranges = (refl, refl)
+
+plain_examples : (plain_lines (Some (record { ranges = from_2G ∷ []; base = 0 }))
+    ≡ codes "crash range 0x0000000080000000 - 0x0000000008000000 base 0x0000000000000000\n")
+    × (plain_lines None ≡ [])
+unfolding from_2G crash_range_text digits
+plain_examples = (refl, refl)
+
+size_lines : (size_line (codes "crash low ") (Some 0) ≡ codes "crash low 0x0000000000000000\n") × (size_line (codes "crash low ") None ≡ [])
+unfolding digits
+size_lines = (refl, refl)
+
+crash_examples : (crash_lines (record { plain = None; high = Some 0x20000000; low = Some 0x4000000 })
+    ≡ codes "crash high 0x0000000020000000\ncrash low 0x0000000004000000\n")
+    × (crash_lines no_crash ≡ [])
+unfolding digits
+crash_examples = (refl, refl)
+
+some_options : options_text (record {
+  edits = edits.Clear ∷ edits.Add first_MiB 1 ∷ [];
+  crash = record { plain = None; high = None; low = Some 0x4000000 };
+  numa_off = true;
+})
+    ≡ codes "clear\nadd 1 0x0000000000000000..0x00000000000fffff\ncrash low 0x0000000004000000\nnuma off\n"
 unfolding first_MiB digits
 some_options = refl
 
-no_options : options_text (record { edits = []; numa_off = false }) ≡ []
+no_options : options_text (record { edits = []; crash = no_crash; numa_off = false }) ≡ []
 no_options = refl
 
 -- owners

@@ -1,5 +1,5 @@
 -- The records of a table, one by one: each has an address, none from 2^64 on, and a line.
-use Rattle.std.proofs.Common.{◌≡◌, ℕ, zero, suc, ◌+◌, ◌-◌, ◌*◌, ◌^◌, ◌<◌, ◌≤◌, true, List, [], ◌∷◌, ◌++◌, length, drop, get_or, is_some, None, refl, sym, ap, ◌∙◌, arith, inl, inr, add-one, append_assoc, drop-cons}
+use Rattle.std.proofs.Common.{◌≡◌, ℕ, zero, suc, ◌+◌, ◌-◌, ◌*◌, ◌^◌, ◌<◌, ◌≤◌, true, List, [], ◌∷◌, ◌++◌, length, drop, get_or, is_some, None, refl, ap, ◌∙◌, arith, inl, inr, add-one, append_assoc, drop-cons}
 use Rattle.std.proofs.lemmas.Bool.{cases_Bool, cases_lt}
 use Rattle.std.proofs.lemmas.Bool.Decides.{nat_tests}
 use Rattle.phys_store.specs.Bytes.{Stored, byte_of, bytes_at}
@@ -10,7 +10,7 @@ use Rattle.memblock_ranges.specs.declared.region.Region.{Region}
 use Rattle.memblock_ranges.specs.Spelling.{region_in, region_of}
 use Rattle.memblock_ranges.specs.Tables.{AreRecords, Table}
 use Rattle.report_texts.specs.Lines.{lines_from}
-use Rattle.report_texts.specs.RecordsText.{IsTableAt, record_line, region_line, records_text}
+use Rattle.report_texts.specs.RecordsText.{IsTableAt, record_line, region_line}
 
 -- some run, where a list has none
 abbrev pub no_run : RunOf Label
@@ -67,13 +67,6 @@ pub region_in_space : (table : Table) (store : List Stored) (head : Head) (i : �
 region_in_space table store head i region at within is =
     let count : head.count ≡ length table.records = ap (λ (h : Head). h.count) at.told in
     rw (is ∙ region_is table store head i at within) (record_in_space table.records i at.stands.records (omega arith))
-
--- a table that lies in the store ends in the address space
-pub ends_in_space : (table : Table) (store : List Stored) (head : Head) → IsTableAt table store head → head.place + 24 * head.count < 2 ^ 64
-ends_in_space table store head at =
-    let count : head.count ≡ length table.records = ap (λ (h : Head). h.count) at.told in
-    let place : head.place ≡ table.place = ap (λ (h : Head). h.place) at.told in
-    omega (arith, at.stands.few, at.stands.fits)
 
 -- the line of one more record
 pub one_more_line : (table : Table) (store : List Stored) (head : Head) (i : ℕ) (region : Region) (before after whole : List ℕ)

@@ -1,20 +1,24 @@
 //! The text of the options: what the command line asks of the memory set-up.
 
-ghost use Rattle.std.specs.Prelude.{◌≡◌, ◌++◌, OnOk};
+ghost use Rattle.std.specs.Prelude.{◌≡◌, ◌++◌, OnOk, codes};
+ghost use Rattle.std.specs.Option.{option_map};
+ghost use Rattle.bm_base.specs.Text.{hex_text};
+ghost use Rattle.boot_options.specs.Crash.{crash_view, plain_view};
 ghost use Rattle.boot_options.specs.Options.{chosen};
-ghost use Rattle.report_texts.specs.OptionsText.{edit_line, edit_text, kind_text, numa_line, options_text};
+ghost use Rattle.report_texts.specs.OptionsText.{crash_lines, crash_range_text, edit_line, edit_text, end_text, kind_text, numa_line, options_text, plain_lines, size_line};
 
 use crate::lines::put_lines;
 use crate::ranges::{put_range, put_word_range};
-use bm_base::{Memory, put_dec, put_text};
-use boot_options::{Edit, Options};
+use bm_base::{Memory, put_dec, put_hex, put_text};
+use boot_options::{CrashOption, CrashPlain, CrashRange, Edit, Options};
 
-/// Appends the text of the options: a line for each edit in the order of the command line, and one
-/// where `numa=off` stands in it.
+/// Appends the text of the options: a line for each edit in the order of the command line, then those
+/// of the crash area, and one where `numa=off` stands in it.
 pub fn put_options(text: &mut Vec<u8>, options: &Options) -> Result<(), Memory>
     ensures { OnOk result (text.new.items ≡ text.old.items ++ options_text (chosen options.now)) }
 {
     put_lines(text, &options.edits, put_edit_line)?;
+    put_crash_lines(text, &options.crash)?;
     put_numa_line(text, options.numa_off)
 }
 
@@ -58,6 +62,87 @@ fn put_kind(text: &mut Vec<u8>, kind: u32) -> Result<(), Memory>
 {
     put_dec(text, u64::from(kind), 0)?;
     put_text(text, b" ")
+}
+
+/// Appends the lines of the crash area that is asked for: a line for each range of the plain form, and
+/// one for each other form that is there.
+fn put_crash_lines(text: &mut Vec<u8>, crash: &CrashOption) -> Result<(), Memory>
+    ensures { OnOk result (text.new.items ≡ text.old.items ++ crash_lines (crash_view crash.now)) }
+{
+    put_plain_lines(text, &crash.plain)?;
+    put_size_line(text, b"crash high ", crash.high)?;
+    put_size_line(text, b"crash low ", crash.low)
+}
+
+/// Appends a line for each range of the plain form, if there is one.
+fn put_plain_lines(text: &mut Vec<u8>, plain: &Option<CrashPlain>) -> Result<(), Memory>
+    ensures { OnOk result (text.new.items
+        ≡ text.old.items ++ plain_lines (option_map plain_view plain.now)) }
+{
+    match plain {
+        Some(plain) => {
+            let base = plain.base;
+            put_lines(
+                text,
+                &plain.ranges,
+                |text: &mut Vec<u8>, _index: u64, range: &CrashRange| {
+                    put_crash_range(text, b"crash range ", range, base)
+                },
+            )
+        }
+        None => Ok(()),
+    }
+}
+
+/// Appends the word, a range of the plain form, and the base of its area, which end the line.
+fn put_crash_range(
+    text: &mut Vec<u8>,
+    word: &[u8],
+    range: &CrashRange,
+    base: u64,
+) -> Result<(), Memory>
+    ensures { OnOk result (text.new.items ≡ text.old.items
+        ++ (word.now ++ crash_range_text range.now ++ codes " base " ++ hex_text base ++ codes "\n")) }
+{
+    put_text(text, word)?;
+    put_crash_bounds(text, range)?;
+    put_text(text, b" base ")?;
+    put_hex(text, base)?;
+    put_text(text, b"\n")
+}
+
+/// Appends the bounds of a range of total memory, and the size that is kept there.
+#[tactic(auto, unfolding(crate::specs::OptionsText::crash_range_text))]
+fn put_crash_bounds(text: &mut Vec<u8>, range: &CrashRange) -> Result<(), Memory>
+    ensures { OnOk result (text.new.items ≡ text.old.items ++ crash_range_text range.now) }
+{
+    put_hex(text, range.start)?;
+    put_text(text, b" ")?;
+    put_end(text, range.end)?;
+    put_text(text, b" ")?;
+    put_hex(text, range.size)
+}
+
+/// Appends where a range of total memory ends, if it does.
+fn put_end(text: &mut Vec<u8>, end: Option<u64>) -> Result<(), Memory>
+    ensures { OnOk result (text.new.items ≡ text.old.items ++ end_text end) }
+{
+    match end {
+        Some(end) => put_hex(text, end),
+        None => put_text(text, b"-"),
+    }
+}
+
+/// Appends a line of the word and the size, if there is one.
+fn put_size_line(text: &mut Vec<u8>, word: &[u8], size: Option<u64>) -> Result<(), Memory>
+    ensures { OnOk result (text.new.items ≡ text.old.items ++ size_line word.now size) }
+{
+    let Some(size) = size else {
+        return Ok(());
+    };
+    put_text(text, word)?;
+    put_hex(text, size)?;
+    put_text(text, b"\n")
 }
 
 /// Appends the line of `numa=off`, where it stands in the command line.

@@ -3,7 +3,7 @@
 use crate::{put_journal, put_map, put_options, put_owners, put_records, put_tables};
 use bm_base::Range;
 use boot_journal::{Item, Journal, Owner, Which};
-use boot_options::{Edit, Options};
+use boot_options::{CrashOption, CrashPlain, CrashRange, Edit, Options};
 use e820_model::Run;
 use memblock_ranges::Tables;
 use std::test::Fail;
@@ -50,13 +50,32 @@ fn map_and_options(rt: HostRuntime) -> Result<(), Fail> {
         from: 2,
         to: 1,
     };
+    let below = CrashRange {
+        start: 0,
+        end: Some(0x400_0000),
+        size: 0x80_0000,
+    };
+    let above = CrashRange {
+        start: 0x400_0000,
+        end: None,
+        size: 0x100_0000,
+    };
     let options = Options {
         edits: vec![in alloc; Edit::Clear, change]?,
+        crash: CrashOption {
+            plain: Some(CrashPlain {
+                ranges: vec![in alloc; below, above]?,
+                base: 0x100_0000,
+            }),
+            high: Some(0x2000_0000),
+            low: None,
+        },
         numa_off: true,
     };
     let mut text = Vec::new(alloc);
     put_options(&mut text, &options)?;
-    let want = b"clear\nchange 2 1 0x0000000000000000..0x00000000000fffff\nnuma off\n";
+    let want =
+        b"clear\nchange 2 1 0x0000000000000000..0x00000000000fffff\ncrash range 0x0000000000000000 0x0000000004000000 0x0000000000800000 base 0x0000000001000000\ncrash range 0x0000000004000000 - 0x0000000001000000 base 0x0000000001000000\ncrash high 0x0000000020000000\nnuma off\n";
     assert_eq!(rt; text.as_slice(), want.as_slice());
     Ok(())
 }

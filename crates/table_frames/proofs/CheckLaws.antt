@@ -53,7 +53,8 @@ out_of_place b from i rs ss r known left fails ascend =
     fails whole.0 whole.1.0 whole.1.1
 
 -- nothing is left
-pub all_in_place : (b from i : ℕ) (rs : List (RunOf Label)) → Ascends from b (drop i rs) ↔ AscendBelow b rs → length rs ≤ i → AscendBelow b rs
+pub all_in_place : (b from i : ℕ) (rs : List (RunOf Label)) → Ascends from b (drop i rs) ↔ AscendBelow b rs → length rs ≤ i
+    → AscendBelow b rs
 all_in_place b from i rs known all =
     let none : drop i rs ≡ [] = at_drop_all (λ (ts : List (RunOf Label)). ts) rs i all in
     known.0 (subst (λ (ts : List (RunOf Label)). Ascends from b ts) (sym none) (tt, tt))

@@ -61,7 +61,8 @@ pub unclaimed_gap : (b : ℕ) (rs : List (RunOf Label)) (i at x : ℕ) (d : RunO
 unclaimed_gap b rs i at x d ascend few passed above before =
     let r : RunOf Label = get_or rs i d in
     let left : drop i rs ≡ r ∷ drop (suc i) rs = drop-cons rs i d few in
-    let rest : AscendBelow b (r ∷ drop (suc i) rs) = subst (λ (ss : List (RunOf Label)). AscendBelow b ss) left (ascend_drop b rs i ascend) in
+    let rest : AscendBelow b (r ∷ drop (suc i) rs) = subst (λ (ss : List (RunOf Label)). AscendBelow b ss) left
+    (ascend_drop b rs i ascend) in
     let low : x < r.base / 4096 = before in
     unclaimed_bare (value_at rs) x
     (λ y from until. sym (passed y (omega arith)) ∙ ap (λ (ss : List (RunOf Label)). value_at ss y) left

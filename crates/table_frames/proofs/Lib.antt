@@ -1,3 +1,4 @@
+mod Examples
 pub mod RecordLaws
 pub mod ClaimLaws
 pub mod StandLaws

@@ -1,5 +1,5 @@
 -- The bytes of a table that stands in them say what the table says.
-use Rattle.std.proofs.Common.{◌≡◌, ℕ, zero, suc, ◌+◌, ◌-◌, ◌*◌, ◌^◌, ◌<◌, ◌≤◌, ◌==◌, nat_lt, Bool, true, false, ◌&&◌, Option, Some, None, List, [], ◌∷◌, length, get_or, if◌then◌else◌, refl, sym, ◌∙◌, ap, subst, inl, inr, arith}
+use Rattle.std.proofs.Common.{◌≡◌, ℕ, zero, suc, ◌+◌, ◌-◌, ◌*◌, ◌/◌, ◌%◌, ◌^◌, ◌<◌, ◌≤◌, ◌==◌, nat_lt, Bool, true, false, ◌&&◌, Option, Some, None, List, [], ◌∷◌, length, get_or, if◌then◌else◌, refl, sym, ◌∙◌, ap, subst, inl, inr, arith}
 use Rattle.std.specs.Option.{is_some, is_none, unwrap_or}
 use Rattle.std.proofs.lemmas.Bool.{cases_lt, cases_Bool, eqb-true}
 use Rattle.bm_base.specs.Each.{each_in}
@@ -16,8 +16,9 @@ use Rattle.memblock_ranges.specs.declared.region.Region.{Region}
 use Rattle.memblock_ranges.specs.Spelling.{base_in, size_in, node_in, label_of, node_field, region_in, region_of, run_in, records_at}
 use Rattle.memblock_ranges.specs.Tables.{Table, StandsIn, head_of, list_in}
 use Rattle.table_frames.specs.Frames.{node_below, node_told, node_of_frame, free_in}
-use Rattle.table_frames.specs.Tables.{AscendBelow, HasRecords}
+use Rattle.table_frames.specs.Tables.{AscendBelow, HasRecords, AreWholeFrames}
 use Rattle.table_frames.proofs.RecordLaws.{node_of_field}
+use Rattle.table_frames.proofs.WholeLaws.{whole_by_value}
 
 -- two lists whose records have the same addresses and the same nodes
 abbrev Alike : List (RunOf Label) → List (RunOf Label) → Type 0
@@ -122,6 +123,26 @@ stands_ascending t s stands = record {
   ascend = alike_ascends (2 ^ 64) (list_in s (head_of t)) t.records (alike_stands t s stands)
       (runs_ascend (2 ^ 64) t.records stands.records.runs stands.records.within);
 }
+
+pub stands_below : (t : Table) (s : List Stored) (b : ℕ) → StandsIn t s → NothingFrom b (value_at t.records) → HasRecords s (head_of t) b
+stands_below t s b stands none = record {
+  few = stands.few;
+  fits = stands.fits;
+  ascend = alike_ascends b (list_in s (head_of t)) t.records (alike_stands t s stands) (runs_ascend b t.records stands.records.runs none);
+}
+
+alike_whole : (rs ss : List (RunOf Label)) → Alike rs ss → AreWholeFrames ss → AreWholeFrames rs
+alike_whole [] [] alike whole = tt
+alike_whole [] (s ∷ ss) alike whole = absurd alike
+alike_whole (r ∷ rs) [] alike whole = absurd alike
+alike_whole (r ∷ rs) (s ∷ ss) alike whole =
+    (ap (λ n. n % 4096) alike.0 ∙ whole.0, ap (λ n. n % 4096) alike.1 ∙ whole.1, alike_whole rs ss alike.3 whole.2)
+
+-- where all addresses of a frame say the same, the records that are read are whole frames
+pub stands_whole : (t : Table) (s : List Stored) → StandsIn t s
+    → ((x : ℕ) → value_at t.records x ≡ value_at t.records (4096 * (x / 4096))) → AreWholeFrames (list_in s (head_of t))
+stands_whole t s stands same =
+    alike_whole (list_in s (head_of t)) t.records (alike_stands t s stands) (whole_by_value t.records stands.records.runs same)
 
 pub stands_node : (t : Table) (s : List Stored) (frame : ℕ) → StandsIn t s
     → node_of_frame (value_at (list_in s (head_of t))) frame ≡ node_of_frame (value_at t.records) frame

@@ -43,7 +43,8 @@ node_more b ms i x d ascend whole few =
       | inl lies ↦
           let ends : (r.base ≤ y) × (y < run_end r) = lies_parts r y lies in
           let frames = other_byte r x some sizes.0 sizes.1 ends.0 ends.1 in
-          let test : (nat_le (frames_of r).first x && nat_lt x (frames_of r).end) ≡ true = both_tests (frames_of r).first x (frames_of r).end frames.0 frames.1 in
+          let test : (nat_le (frames_of r).first x && nat_lt x (frames_of r).end) ≡ true = both_tests (frames_of r).first x
+          (frames_of r).end frames.0 frames.1 in
           let none : value_at (take i ms) y ≡ None = taken_none b ms i y d ascend few ends.0 in
           let value : value_at (take i ms ++ r ∷ []) y ≡ Some r.value = value_append_none (take i ms) (r ∷ []) y none ∙ rw lies refl in
           let chosen : shown ≡ (frames_of r).node = rw test refl in
@@ -52,7 +53,8 @@ node_more b ms i x d ascend whole few =
           let alone : value_at (r ∷ []) y ≡ None = rw away refl in
           let value : value_at (take i ms ++ r ∷ []) y ≡ value_at (take i ms) y = value_append_left (take i ms) (r ∷ []) y alone in
           let test : (nat_le (frames_of r).first x && nat_lt x (frames_of r).end) ≡ false =
-          elim (cases_Bool (nat_le (frames_of r).first x && nat_lt x (frames_of r).end)) as (λ _. (nat_le (frames_of r).first x && nat_lt x (frames_of r).end) ≡ false) [
+          elim (cases_Bool (nat_le (frames_of r).first x && nat_lt x (frames_of r).end)) as (λ _. (nat_le
+          (frames_of r).first x && nat_lt x (frames_of r).end) ≡ false) [
             | inl holds ↦
                 let parts = tests_both (frames_of r).first x (frames_of r).end holds in
                 let bytes = first_byte r x some sizes.0 sizes.1 parts.0 parts.1 in
@@ -72,7 +74,8 @@ frames_below b m ms i d fs ascend few is bound =
     let end : fs.end ≡ (r.base + (r.size - 1)) / 4096 + 1 = ap (λ (g : RecordFrames). g.end) is in
     omega (arith, fits.0, fits.1, end, bound)
 
-pub frames_in_order : (b : ℕ) (ms : List (RunOf Label)) (i k : ℕ) (d : RunOf Label) (fs : RecordFrames) → AscendBelow b ms → AreWholeFrames ms
+pub frames_in_order : (b : ℕ) (ms : List (RunOf Label)) (i k : ℕ) (d : RunOf Label) (fs : RecordFrames) → AscendBelow b ms
+    → AreWholeFrames ms
     → i < k → k < length ms → fs ≡ frames_of (get_or ms i d) → fs.end ≤ (frames_of (get_or ms k d)).first
 frames_in_order b ms i k d fs ascend whole order few is =
     let r : RunOf Label = get_or ms i d in

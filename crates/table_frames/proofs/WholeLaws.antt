@@ -6,7 +6,9 @@ use Rattle.std.proofs.lemmas.Bool.{cases_lt, cases_Bool}
 use Rattle.bm_base.specs.Each.{each_in}
 use Rattle.bm_base.specs.Frames.{bytes_of_frame}
 use Rattle.bm_base.proofs.EachLaws.{each_in-same, each_in-fails}
-use Rattle.address_runs.specs.Runs.{RunOf, run_end, lies_in, value_at}
+use Rattle.address_runs.specs.Runs.{RunOf, run_end, lies_in, value_at, AreRuns}
+use Rattle.address_runs.specs.Sweep.{StartFrom}
+use Rattle.address_runs.proofs.RunsLaws.{inside, behind, none_below, rest_from, other_behind}
 use Rattle.memblock_model.specs.Labels.{Label, Labels}
 use Rattle.table_frames.specs.declared.frames.RecordFrames.{RecordFrames}
 use Rattle.table_frames.specs.Frames.{node_told, node_of_frame, is_unclaimed, free_in, frames_of}
@@ -73,3 +75,42 @@ free_by_first ms reserved x whole =
           (λ y above below. sym (ap (λ (o : Option Label). is_some o && is_none (reserved y)) (same y above below ∙ is))) in
           rw equal refl
     ] in at first refl
+
+-- a canonical list whose addresses say the same frame by frame has records of whole frames
+pub whole_by_value : (rs : List (RunOf Label)) → AreRuns rs → ((x : ℕ) → value_at rs x ≡ value_at rs (4096 * (x / 4096)))
+    → AreWholeFrames rs
+whole_by_value [] runs same = tt
+whole_by_value (r ∷ rs) runs same =
+    let some : 0 < r.size = runs.0 in
+    let all : List (RunOf Label) = r ∷ rs in
+    let start : StartFrom r.base all = omega arith in
+    let base : r.base % 4096 ≡ 0 = elim (cases_lt (4096 * (r.base / 4096)) r.base) as (λ _. r.base % 4096 ≡ 0) [
+      | inl lt ↦
+          let here : value_at all r.base ≡ Some r.value = rw (inside r r.base (omega arith) (omega arith)) refl in
+          let none : value_at all (4096 * (r.base / 4096)) ≡ None = none_below r.base (4096 * (r.base / 4096)) all runs start lt in
+          absurd (cc (sym here ∙ same r.base ∙ none))
+      | inr ge ↦ omega (arith, ge)
+    ] in
+    let e : ℕ = run_end r in
+    let end : e % 4096 ≡ 0 = elim (cases_lt (4096 * (e / 4096)) e) as (λ _. e % 4096 ≡ 0) [
+      | inl lt ↦
+          let frame : 4096 * ((e - 1) / 4096) ≡ 4096 * (e / 4096) = omega (arith, lt) in
+          let last : value_at all (e - 1) ≡ Some r.value = rw (inside r (e - 1) (omega arith) (omega arith)) refl in
+          let next : value_at all e ≡ value_at rs e = rw (behind r e (omega arith)) refl in
+          absurd (other_behind r rs runs
+          (sym next ∙ same e ∙ sym (ap (value_at all) frame) ∙ sym (same (e - 1)) ∙ last))
+      | inr ge ↦ omega (arith, ge)
+    ] in
+    let size : r.size % 4096 ≡ 0 = omega (arith, base, end) in
+    let rest : (x : ℕ) → value_at rs x ≡ value_at rs (4096 * (x / 4096)) = λ x.
+    elim (cases_lt x e) as (λ _. value_at rs x ≡ value_at rs (4096 * (x / 4096))) [
+      | inl lt ↦
+          none_below e x rs runs.2 (rest_from r rs runs) lt
+          ∙ sym (none_below e (4096 * (x / 4096)) rs runs.2 (rest_from r rs runs) (omega arith))
+      | inr ge ↦
+          let one : value_at all x ≡ value_at rs x = rw (behind r x ge) refl in
+          let two : value_at all (4096 * (x / 4096)) ≡ value_at rs (4096 * (x / 4096)) = rw (behind r (4096 * (x / 4096)) (omega
+          (arith, end, ge))) refl in
+          sym one ∙ same x ∙ two
+    ] in
+    (base, size, whole_by_value rs runs.2 rest)

@@ -41,7 +41,8 @@ fn is_whole(region: &Region) -> bool
 
 /// Whether the head's bytes are an ascending list of records, none empty, each of which ends by the bound.
 pub fn has_records(store: &Store, head: &Head, bound: u64) -> bool
-    ensures { IsTrue result ↔ HasRecords store.now head.now bound }
+    ensures list { IsTrue result ↔ HasRecords store.now head.now bound }
+    ensures space { IsTrue result → HasRecords store.now head.now (2 ^ 64) }
 {
     if !has_room(head) {
         return false;

@@ -1,3 +1,4 @@
+mod Examples
 pub mod SpanLaws
 pub mod SlotLaws
 pub mod TableLaws

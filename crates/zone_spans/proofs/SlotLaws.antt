@@ -133,11 +133,13 @@ told_more f k at until w old new nothing some low zones told put n z =
           let equal : 3 * n + place_of z ≡ 3 * k + place_of w = eqb-true i (3 * k + place_of w) here in
           let nodes : k ≡ n = omega (arith, equal, one, two) in
           let zones_too : w ≡ z = zone_by_place w z (omega (arith, equal, one, two)) in
-          let grown : span_below (with_run at until k f) k w MAX_FRAMES ≡ Some (with_frames k w at (until - at) (span_below f k w MAX_FRAMES)) =
+          let grown : span_below (with_run at until k f) k w MAX_FRAMES ≡ Some (with_frames k w at (until - at)
+          (span_below f k w MAX_FRAMES)) =
           span_grown f k at until MAX_FRAMES w nothing some low zones in
           let held_too : get_or old i None ≡ span_below f k w MAX_FRAMES =
           held ∙ sym (ap (λ (m : ℕ). span_below f m z MAX_FRAMES) nodes) ∙ sym (ap (λ (v : Zone). span_below f k v MAX_FRAMES) zones_too) in
-          let change : slot_with k w at until (get_or old i None) i ≡ Some (with_frames k w at (until - at) (get_or old i None)) = rw here refl in
+          let change : slot_with k w at until (get_or old i None) i ≡ Some (with_frames k w at (until - at)
+          (get_or old i None)) = rw here refl in
           put i ∙ change ∙ ap (λ (o : Option Span). Some (with_frames k w at (until - at) o)) held_too ∙ sym grown
           ∙ ap (λ (v : Zone). span_below (with_run at until k f) k v MAX_FRAMES) zones_too
           ∙ ap (λ (m : ℕ). span_below (with_run at until k f) m z MAX_FRAMES) nodes
@@ -165,7 +167,8 @@ run_parts first at until n f order order_too =
       | inr above ↦ elim (cases_lt x until) as (λ _. with_run at until n (with_run first at n f) x ≡ with_run first until n f x) [
         | inl inner ↦ run_inside at until n x (with_run first at n f) above inner ∙ sym (run_inside first until n x f (omega arith) inner)
         | inr after ↦
-            run_behind at until n x (with_run first at n f) after ∙ run_behind first at n x f above ∙ sym (run_behind first until n x f after)
+            run_behind at until n x (with_run first at n f) after ∙ run_behind first at n x f above
+            ∙ sym (run_behind first until n x f after)
       ]
     ] in λ j x. same x j
 
@@ -196,7 +199,8 @@ pub bounded_more : (k at until : ℕ) (w : Zone) (old new : List (Option Span)) 
 bounded_more k at until w old new order bound put i s is =
     elim (cases_Bool (i == 3 * k + place_of w)) as (λ _. s.present ≤ until) [
       | inl here ↦
-          let change : slot_with k w at until (get_or old i None) i ≡ Some (with_frames k w at (until - at) (get_or old i None)) = rw here refl in
+          let change : slot_with k w at until (get_or old i None) i ≡ Some (with_frames k w at (until - at)
+          (get_or old i None)) = rw here refl in
           present_below k at until w (get_or old i None) s order (bound i) (sym (put i ∙ change) ∙ is)
       | inr away ↦
           let change : slot_with k w at until (get_or old i None) i ≡ get_or old i None = rw away refl in
@@ -235,7 +239,8 @@ unfolding spans_from
 listed_from f slots n zero told few = nothing_left slots (3 * n) (omega arith)
 listed_from f slots n (suc k) told few =
     let i : ℕ = 3 * n in
-    let one : get_or slots i None ≡ span_of f n zone.Dma = ap (λ j. get_or slots j None) (let h : i ≡ 3 * n + 0 = omega arith in h) ∙ told n zone.Dma in
+    let one : get_or slots i None ≡ span_of f n zone.Dma = ap (λ j. get_or slots j None) (let h : i ≡ 3 * n + 0 = omega arith in h)
+    ∙ told n zone.Dma in
     let two : get_or slots (suc i) None ≡ span_of f n zone.Dma32 =
     ap (λ j. get_or slots j None) (let h : suc i ≡ 3 * n + 1 = omega arith in h) ∙ told n zone.Dma32 in
     let three : get_or slots (suc (suc i)) None ≡ span_of f n zone.Normal =
@@ -254,7 +259,8 @@ listed_from f slots n (suc k) told few =
     somes_drop slots (suc i) ∙ ap (λ (o : Option Span). option_to_list o ++ somes (drop (suc (suc i)) slots)) two
     ∙ ap (λ (ss : List Span). b ++ ss) last in
     let first : somes (drop i slots) ≡ a ++ (b ++ (c ++ tail)) =
-    somes_drop slots i ∙ ap (λ (o : Option Span). option_to_list o ++ somes (drop (suc i) slots)) one ∙ ap (λ (ss : List Span). a ++ ss) middle in
+    somes_drop slots i ∙ ap (λ (o : Option Span). option_to_list o ++ somes (drop (suc i) slots)) one
+    ∙ ap (λ (ss : List Span). a ++ ss) middle in
     first ∙ ap (λ (ss : List Span). a ++ ss) (sym (append_assoc b c tail)) ∙ sym (append_assoc a (b ++ c) tail)
 
 pub listed : (f : Frames) (slots : List (Option Span)) → IsTold f slots → length slots ≤ 3072 → somes slots ≡ spans_of f

@@ -41,7 +41,8 @@ same_span n start e d p q z ends counts =
 one_more : (n : ℕ) (z : Zone) (m k : ℕ) (o : Option Span)
     → with_frames n z (m + k) 1 (Some (with_frames n z m k o)) ≡ with_frames n z m (suc k) o
 one_more n z m k None = same_span n m (m + k + 1) (m + suc k) (k + 1) (suc k) z (omega arith) (omega arith)
-one_more n z m k (Some s) = same_span n s.start (m + k + 1) (m + suc k) (s.present + k + 1) (s.present + suc k) z (omega arith) (omega arith)
+one_more n z m k (Some s) = same_span n s.start (m + k + 1) (m + suc k) (s.present + k + 1) (s.present + suc k) z (omega arith)
+    (omega arith)
 
 -- frames of it that follow one another
 pub grow : (f : Frames) (n : ℕ) (z : Zone) (m k : ℕ) → ((x : ℕ) → m ≤ x → x < m + suc k → is_in f n z x ≡ true)
@@ -128,10 +129,12 @@ told_below f n z (suc m) =
     elim (cases_Bool (is_in f n z m)) as (λ _. IsToldBelow f n z (suc m) (span_below f n z (suc m))) [
       | inl here ↦
           let step : span_below f n z (suc m) ≡ Some (with_frames n z m 1 (span_below f n z m)) = rw here refl in
-          subst (λ (o : Option Span). IsToldBelow f n z (suc m) o) (sym step) (first_of_it f n z m (span_below f n z m) here (told_below f n z m))
+          subst (λ (o : Option Span). IsToldBelow f n z (suc m) o) (sym step) (first_of_it f n z m (span_below f n z m) here
+          (told_below f n z m))
       | inr out ↦
           let step : span_below f n z (suc m) ≡ span_below f n z m = rw out refl in
-          subst (λ (o : Option Span). IsToldBelow f n z (suc m) o) (sym step) (none_of_it f n z m (span_below f n z m) out (told_below f n z m))
+          subst (λ (o : Option Span). IsToldBelow f n z (suc m) o) (sym step) (none_of_it f n z m (span_below f n z m) out
+          (told_below f n z m))
     ]
 
 pub is_span : (f : Frames) (n : ℕ) (z : Zone) (s : Span) → span_of f n z ≡ Some s → IsSpan f n z MAX_FRAMES s

@@ -11,6 +11,8 @@
 mod laws;
 mod slots;
 mod span;
+#[cfg(test)]
+mod tests;
 
 pub use laws::spans_are_of_frames;
 pub use span::{Span, spans};

@@ -34,7 +34,8 @@ loop-at-preserved c =
       below = omega (arith, until);
       few = e.index;
       passed = passed_later rs claimed.index c.loop-at.at next (omega (arith, until, test, behind)) e.passed;
-      freed = λ x. freed_more c.args.first c.loop-at.at claimed.first claimed.end c.args.end c.min.result next c.args.node (value_at rs) (free c.args.buddy.now)
+      freed = λ x. freed_more c.args.first c.loop-at.at claimed.first claimed.end c.args.end c.min.result next c.args.node (value_at rs)
+          (free c.args.buddy.now)
           (free c.loop-at.buddy) (free c.note.new.self) from until above test e.order e.some
           (λ y high less inner. e.unclaimed y high less (omega (arith, inner, low)))
           (λ y high less inner. e.claimed y high less (omega (arith, inner, low)))

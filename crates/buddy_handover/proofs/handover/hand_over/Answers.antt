@@ -67,7 +67,8 @@ loop-i-preserved c =
                 frames_in_order _ ms i k d c.frames_at-frames.result c.requires.memory.ascend c.requires.whole (omega (arith, later))
                 (omega (arith, long_too, inner)) (c.frames_at-frames.ensures d) in
                 subst (λ (j : ℕ). IsPassed rs j (frames_of (get_or ms k d)).first) (sym next)
-                (passed_later rs w.in_ok-next.next c.frames_at-frames.result.end (frames_of (get_or ms k d)).first order w.in_ok-next.ensures.passed);
+                (passed_later rs w.in_ok-next.next c.frames_at-frames.result.end (frames_of
+                (get_or ms k d)).first order w.in_ok-next.ensures.passed);
             handed = λ x.
                 ap (λ (b : Contents). free b x) w.buddy-is
                 ∙ record_freed _ ms bare i n nobody was buddy c.requires.memory.ascend c.requires.whole few (sym node ∙ w.in-Some.is)
@@ -94,6 +95,7 @@ pub returns : goal.returns
 returns c =
     let ms = list_in c.args.store.now c.args.heads.now.memory in
     let long = length_by_head c.args.store.now c.args.heads.now.memory in
-    let all : c.loop-i.i ≡ length ms = let test = c.loop-i-test.false in let most = c.loop-i.auto.i-end in omega (arith, long, test, most) in
+    let all : c.loop-i.i ≡ length ms = let test = c.loop-i-test.false in let most = c.loop-i.auto.i-end in omega
+    (arith, long, test, most) in
     all_handed ms (value_at (list_in c.args.store.now c.args.heads.now.reserved)) c.loop-i.i (free c.loop-i.buddy) c.requires.whole all
     c.loop-i.invariant.handed

@@ -1,5 +1,5 @@
 -- The names that are left are all reports' exactly where all names are.
-use Rattle.std.proofs.Common.{◌≡◌, ℕ, ◌+◌, List, Option, Some, None, is_some, length}
+use Rattle.std.proofs.Common.{◌≡◌, is_some}
 use Rattle.std.specs.List.{list_all}
 use Rattle.std.specs.Option.{option_map}
 use Rattle.text_words.specs.declared.separators.Separators.TheVariants.{Byte}

@@ -7,4 +7,5 @@ use Rattle.frame_blocks.proofs.count.count_blocks.Given as goal
 
 abbrev pub invariant-loop-run : goal.invariant-loop-run
 invariant-loop-run l =
-    l.total + count_by (is_of l.node l.zone l.order) (listed (value_at l.runs) (drop l.run-index l.runs)) ≡ count_of (value_at l.runs) l.node l.zone l.order
+    l.total + count_by (is_of l.node l.zone l.order) (listed (value_at l.runs) (drop l.run-index l.runs)) ≡ count_of
+    (value_at l.runs) l.node l.zone l.order

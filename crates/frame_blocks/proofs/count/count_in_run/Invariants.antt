@@ -11,7 +11,8 @@ invariant-loop-at l = record {
   below : l.at ≤ l.end;
   few : l.total ≤ l.at - l.first;
   start : IsStart l.first l.end l.at;
-  counted : (f : Frames) (n : ℕ) → IsRun f l.first l.end n → l.total ≡ count_by (is_of n l.zone l.order) (blocks_from f l.first (l.at - l.first));
+  counted : (f : Frames) (n : ℕ) → IsRun f l.first l.end n
+      → l.total ≡ count_by (is_of n l.zone l.order) (blocks_from f l.first (l.at - l.first));
 }
 
 abbrev pub decreases-loop-at : goal.decreases-loop-at

@@ -25,5 +25,6 @@ pub returns : goal.returns
 returns c =
     let rs = c.args.runs.now in
     sym (append-nil c.loop-run.blocks.items)
-    ∙ sym (ap (λ (bs : List Block). c.loop-run.blocks.items ++ bs) (listed_none (value_at rs) rs c.loop-run.run-index c.loop-run-test.false))
+    ∙ sym (ap (λ (bs : List Block). c.loop-run.blocks.items ++ bs) (listed_none
+    (value_at rs) rs c.loop-run.run-index c.loop-run-test.false))
     ∙ c.loop-run.invariant

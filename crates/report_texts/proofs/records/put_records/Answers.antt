@@ -1,6 +1,6 @@
 -- Each record is read where the table has it, and its line is the next one.
 use Rattle.std.proofs.Common.{arith}
-use Rattle.report_texts.proofs.RecordLaws.{ends_in_space, region_in_space, one_more_line}
+use Rattle.report_texts.proofs.RecordLaws.{region_in_space, one_more_line}
 use Rattle.report_texts.proofs.records.put_records.Goals as goal
 
 pub put_record_line-requires-clause-some : goal.put_record_line-requires-clause-some

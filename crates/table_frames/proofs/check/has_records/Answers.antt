@@ -2,15 +2,15 @@ use Rattle.std.proofs.Common.{◌≡◌, ◌≤◌, ◌<◌, ◌+◌, length, dr
 use Rattle.std.proofs.lemmas.Bool.{false≢true}
 use Rattle.memblock_ranges.specs.Tables.{list_in}
 use Rattle.table_frames.specs.Tables.{HasRecords}
-use Rattle.table_frames.proofs.RecordLaws.{length_by_head}
+use Rattle.table_frames.proofs.RecordLaws.{length_by_head, records_higher}
 use Rattle.table_frames.proofs.CheckLaws.{left_from, start_none, one_in_place, out_of_place, all_in_place}
 use Rattle.table_frames.proofs.check.has_records.Goals as goal
 
 pub loop-i-init : goal.loop-i-init
 loop-i-init c = start_none c.args.bound (list_in c.args.store.now c.args.head.now)
 
-pub returns-then-not-is_in_place : goal.returns-then-not-is_in_place
-returns-then-not-is_in_place c =
+pub returns-then-not-is_in_place-clause-list : goal.returns-then-not-is_in_place-clause-list
+returns-then-not-is_in_place-clause-list c =
     let rs = list_in c.args.store.now c.args.head.now in
     let i = c.loop-i.i in
     let left = left_from c.args.store.now c.args.head.now i c.region_at-region.result c.loop-i-test.true c.region_at-region.ensures in
@@ -38,8 +38,8 @@ loop-i-preserved c =
     one_in_place c.args.bound c.loop-i.from i _ rs (drop (i + 1) rs) left.0 c.loop-i.invariant left.1
     (omega (arith, above, base)) (omega (arith, some, size)) (omega (arith, low, base, size)) (omega (arith, base, size))
 
-pub returns : goal.returns
-returns c =
+pub returns-clause-list : goal.returns-clause-list
+returns-clause-list c =
     let rs = list_in c.args.store.now c.args.head.now in
     let long = length_by_head c.args.store.now c.args.head.now in
     let all : length rs ≤ c.loop-i.i = let test = c.loop-i-test.false in omega (arith, long, test) in
@@ -47,3 +47,13 @@ returns c =
     let known : HasRecords c.args.store.now c.args.head.now c.args.bound =
     record { few = room.0; fits = room.1; ascend = all_in_place c.args.bound c.loop-i.from c.loop-i.i rs c.loop-i.invariant all } in
     ((λ is. known), (λ given. refl))
+
+pub returns-clause-space : goal.returns-clause-space
+returns-clause-space c = λ is.
+    let rs = list_in c.args.store.now c.args.head.now in
+    let long = length_by_head c.args.store.now c.args.head.now in
+    let all : length rs ≤ c.loop-i.i = let test = c.loop-i-test.false in omega (arith, long, test) in
+    let room = c.if-not-has_room.ensures.0 refl in
+    let known : HasRecords c.args.store.now c.args.head.now c.args.bound =
+    record { few = room.0; fits = room.1; ascend = all_in_place c.args.bound c.loop-i.from c.loop-i.i rs c.loop-i.invariant all } in
+    records_higher c.args.store.now c.args.head.now c.args.bound _ (omega arith) known

@@ -13,7 +13,11 @@ returns-then-not-is_whole c =
       (λ never. absurd (false≢true never)),
       (λ whole.
           absurd (not_whole i rs (drop (i + 1) rs) left.0 c.loop-i.invariant left.1
-          (λ base size. false≢true (c.if-not-is_whole.ensures.1 (sym (ap (λ n. n % 4096) left.2) ∙ base, sym (ap (λ n. n % 4096) left.3) ∙ size)))
+          (λ base size. false≢true (c.if-not-is_whole.ensures.1 (
+            sym (ap (λ n. n % 4096) left.2) ∙ base,
+            sym (ap (λ n. n % 4096) left.3)
+                ∙ size,
+          )))
           whole)),
     )
 

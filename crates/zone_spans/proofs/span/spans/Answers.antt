@@ -30,7 +30,8 @@ loop-i-init c =
     record {
       few = let none = c.new-slots.ensures.len in omega (arith, none);
       bounded = λ k d from inner i s is.
-          let none : get_or c.new-slots.result.items i None ≡ None = ap (λ (ss : List (Option Span)). get_or ss i None) empty ∙ no_place i in
+          let none : get_or c.new-slots.result.items i None ≡ None = ap (λ (ss : List (Option Span)). get_or ss i None) empty
+          ∙ no_place i in
           absurd (cc (sym none ∙ is));
       told = subst (λ (ss : List (Option Span)). IsTold (node_of_frame (value_at [])) ss) (sym empty)
           (told_none (node_of_frame (value_at [])) (λ x. refl));
@@ -88,10 +89,12 @@ loop-i-preserved c =
           let new = w.note.new.slots.items in
           let told : IsTold (with_run c.frames_at-frames.result.first c.frames_at-frames.result.end n f) new =
           w.in_ok-note.ensures.told f nothing c.loop-i.invariant.told in
-          let same : with_run c.frames_at-frames.result.first c.frames_at-frames.result.end n f ≡ node_of_frame (value_at (take (i + 1) ms)) =
+          let same : with_run c.frames_at-frames.result.first c.frames_at-frames.result.end n f ≡ node_of_frame (value_at (take
+          (i + 1) ms)) =
           ap (λ (a : ℕ). with_run a c.frames_at-frames.result.end n f) first ∙ ap (λ (e : ℕ). with_run fs.first e n f) end
           ∙ taken_run _ ms i n nobody c.requires.memory.ascend c.requires.whole few node_is in
-          let slots : w.note.new.slots.items ≡ c.match-frames.slots.items = ap (λ (v : Vec (Option Span) Global). v.items) (sym w.slots-is) in
+          let slots : w.note.new.slots.items ≡ c.match-frames.slots.items = ap (λ (v : Vec (Option Span) Global). v.items)
+          (sym w.slots-is) in
           record {
             few = let most = w.in_ok-note.ensures.few in subst (λ (v : Vec (Option Span) Global). vec_len v ≤ 3072) (sym w.slots-is) most;
             bounded = λ k d later inner.
@@ -120,7 +123,8 @@ pub returns : goal.returns
 returns c =
     let ms = list_in c.args.store.now c.args.heads.now.memory in
     let long = length_by_head c.args.store.now c.args.heads.now.memory in
-    let all : c.loop-i.i ≡ length ms = let test = c.loop-i-test.false in let most = c.loop-i.auto.i-end in omega (arith, long, test, most) in
+    let all : c.loop-i.i ≡ length ms = let test = c.loop-i-test.false in let most = c.loop-i.auto.i-end in omega
+    (arith, long, test, most) in
     let ss = c.loop-i.slots.items in
     let told : IsTold (node_of_frame (value_at ms)) ss =
     subst (λ (f : Frames). IsTold f ss) (taken_all ms c.loop-i.i all) c.loop-i.invariant.told in

@@ -1,0 +1,27 @@
+-- Free frames, and the handover on its way, computed.
+use Rattle.std.proofs.Common.{◌≡◌, ℕ, true, false, Option, Some, None, [], ◌∷◌, refl}
+use Rattle.memblock_model.specs.Labels.{Labels}
+use Rattle.frame_blocks.specs.Frames.{Frames}
+use Rattle.table_frames.proofs.ClaimLaws.{unclaimed_bare}
+use Rattle.buddy_handover.specs.Contents.{Contents, free}
+use Rattle.buddy_handover.specs.Handover.{freed, unclaimed}
+
+abbrev some_frames : Contents
+some_frames = record { runs = record { base = 4; size = 2; value = 7 } ∷ []; spare = 0 }
+
+free_examples : (free some_frames 5 ≡ Some 7) × (free some_frames 6 ≡ None)
+free_examples = (refl, refl)
+
+-- nothing is reserved: the frames become free, and others stay what they were
+abbrev nobody : Labels
+nobody x = None
+
+abbrev none_free : Frames
+none_free x = None
+
+freed_examples : (freed 4 6 7 nobody none_free 5 ≡ Some 7) × (freed 4 6 7 nobody none_free 6 ≡ None)
+freed_examples = (rw (unclaimed_bare nobody 5 (λ y above below. refl)) refl, refl)
+
+-- what isn't memory isn't free
+unclaimed_example : unclaimed nobody nobody 5 ≡ None
+unclaimed_example = rw (unclaimed_bare nobody 5 (λ y above below. refl)) refl

@@ -1,0 +1,109 @@
+-- Small sets of free frames, computed.
+use Rattle.std.proofs.Common.{◌≡◌, ◌≢◌, ℕ, suc, ◌+◌, ◌-◌, ◌%◌, ◌/◌, ◌^◌, ◌<◌, ◌≤◌, nat_le, nat_lt, Bool, true, false, ◌&&◌, Option, Some, None, List, [], ◌∷◌, if◌then◌else◌, refl, sym, ◌∙◌, ap, inl, inr, arith}
+use Rattle.std.proofs.lemmas.Bool.Decides.{nat_tests}
+use Rattle.std.proofs.Math.Nat.{div-one}
+use Rattle.bm_base.specs.Each.{each_from, each_in}
+use Rattle.bm_base.specs.declared.zone.Zone.TheVariants as zone
+use Rattle.bm_base.specs.Zones.{zone_of}
+use Rattle.frame_blocks.specs.declared.block.Block.{Block}
+use Rattle.frame_blocks.specs.Frames.{Frames, IsInSet, AreFree, IsGood, IsBlock, IsInBlock}
+use Rattle.frame_blocks.specs.Listed.{is_node, set_around, are_free, order_up_to, block_around, block_for, block_of, led_by_block, blocks_from, same_zone, is_of, Lists, AscendFrom}
+use Rattle.frame_blocks.specs.Sets.{IsRun, Fits, IsStart}
+use Rattle.frame_blocks.proofs.RunLaws.{start_first}
+
+-- frames 4 and 5 are free, of node 7; or frame 5 alone
+abbrev pair : Frames
+pair x = if nat_le 4 x && nat_lt x 6 then Some 7 else None
+
+abbrev lone : Frames
+lone x = if nat_le 5 x && nat_lt x 6 then Some 7 else None
+
+set_examples : IsInSet 1 4 5 × (IsInSet 1 4 6 → ⊥) × IsInSet 2 4 6
+set_examples = (refl, (λ same. absurd (omega arith)), refl)
+
+around_examples : (set_around 1 5 ≡ record { base = 4; size = 2 }) × (set_around 2 5 ≡ record { base = 4; size = 4 })
+around_examples = (refl, refl)
+
+node_examples : (is_node (Some 7) 7 ≡ true) × (is_node (Some 7) 8 ≡ false) × (is_node None 7 ≡ false)
+node_examples = (refl, refl, refl)
+
+free_examples : (are_free pair 1 5 7 ≡ true) × (are_free pair 2 5 7 ≡ false) × (are_free pair 1 5 8 ≡ false)
+unfolding are_free each_in each_from
+free_examples = (refl, refl, refl)
+
+-- the pair is one set of order 1, the lone frame one of order 0
+order_examples : (order_up_to pair 5 7 2 ≡ 1) × (order_up_to lone 5 7 2 ≡ 0)
+unfolding order_up_to are_free each_in each_from
+order_examples = (refl, refl)
+
+around_as_block : (block_around 1 5 7 ≡ record { order = 1; first = 4; node = 7; zone = zone.Dma })
+    × (block_around 10 1048577 0 ≡ record { order = 10; first = 1048576; node = 0; zone = zone.Normal })
+around_as_block = (refl, refl)
+
+held_examples : (block_of pair 3 ≡ None) × (block_for pair 6 None ≡ None)
+held_examples = (refl, refl)
+
+-- frame 5 alone is a block: its buddy isn't free
+lone_is : (x : ℕ) → x / 1 ≡ 5 → x ≡ 5
+lone_is x same = sym (div-one x) ∙ same
+
+one_block : Block
+one_block = record { order = 0; first = 5; node = 7; zone = zone.Dma }
+
+lone_is_block : IsBlock lone one_block
+unfolding one_block
+lone_is_block = record {
+  small = omega arith;
+  aligned = refl;
+  good = λ x same. (ap lone (lone_is x same), ap zone_of (lone_is x same));
+  whole = λ less good. let none : None ≡ Some 7 = (good 4 refl).0 in cc none;
+}
+
+in_block_examples : IsInBlock one_block 5 × (IsInBlock one_block 4 → ⊥)
+unfolding one_block
+in_block_examples = (refl, λ same. absurd (omega arith))
+
+-- the larger set that holds it isn't good, and a set of a held frame isn't free
+not_good : IsGood lone 1 5 7 zone.Dma → ⊥
+not_good good = let none : None ≡ Some 7 = (good 4 refl).0 in cc none
+
+not_free : AreFree lone 0 6 7 → ⊥
+not_free free = let none : None ≡ Some 7 = free 6 refl in cc none
+
+led_examples : (led_by_block 5 (Some (block_around 0 5 7)) [] ≡ block_around 0 5 7 ∷ [])
+    × (led_by_block 5 (Some (block_around 1 5 7)) [] ≡ [])
+    × (led_by_block 5 None [] ≡ [])
+led_examples = (refl, refl, refl)
+
+nothing_begins : blocks_from pair 0 3 ≡ []
+unfolding blocks_from
+nothing_begins = refl
+
+zone_examples : (same_zone zone.Dma zone.Dma ≡ true) × (same_zone zone.Dma zone.Normal ≡ false)
+zone_examples = (refl, refl)
+
+of_examples : (is_of 7 zone.Dma 1 (block_around 1 5 7) ≡ true) × (is_of 7 zone.Dma32 1 (block_around 1 5 7) ≡ false)
+    × (is_of 6 zone.Dma 1 (block_around 1 5 7) ≡ false) × (is_of 7 zone.Dma 0 (block_around 1 5 7) ≡ false)
+of_examples = (refl, refl, refl, refl)
+
+list_examples : Lists (block_around 0 5 7 ∷ (block_around 1 9 7 ∷ [])) (block_around 1 9 7) × (Lists [] (block_around 0 5 7) → ⊥)
+list_examples = (inr (inl refl), λ has. has)
+
+ascend_examples : AscendFrom 0 (block_around 0 5 7 ∷ (block_around 1 9 7 ∷ [])) × (AscendFrom 6 (block_around 0 5 7 ∷ []) → ⊥)
+ascend_examples = ((omega arith, (omega arith, tt)), λ ascend. absurd (omega (arith, ascend.0)))
+
+-- the pair is a run, and has room for the set of order 1 alone, which begins at its first frame
+pair_is_run : IsRun pair 4 6 7
+pair_is_run = record {
+  inside = λ x above below. let on : (nat_le 4 x && nat_lt x 6) ≡ true = grind (arith, nat_tests) in rw on refl;
+  before = λ x next same.
+      let off : (nat_le 4 x && nat_lt x 6) ≡ false = grind (arith, nat_tests) in
+      let none : pair x ≡ None = rw off refl in cc (sym none ∙ same);
+  behind = λ same. cc same;
+}
+
+fit_examples : Fits 4 6 5 2 × (Fits 4 6 5 4 → ⊥)
+fit_examples = (record { above = omega arith; below = omega arith }, λ fits. let low = fits.below in absurd (omega (arith, low)))
+
+start_example : IsStart 4 6 4
+start_example = start_first 4 6

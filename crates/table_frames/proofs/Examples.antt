@@ -1,0 +1,60 @@
+-- Small tables by frames.
+use Rattle.std.proofs.Common.{◌≡◌, ℕ, ◌+◌, ◌*◌, ◌<◌, ◌≤◌, true, false, Option, Some, None, List, [], ◌∷◌, if◌then◌else◌, refl, sym, ◌∙◌, arith}
+use Rattle.address_runs.specs.Runs.{RunOf, value_at}
+use Rattle.memblock_model.specs.Labels.{Label, Labels, plain_label}
+use Rattle.table_frames.specs.Frames.{node_below, node_told, frames_of, node_of_frame, is_unclaimed, free_in, IsPassed}
+use Rattle.table_frames.specs.Tables.{AscendBelow, AreWholeFrames}
+use Rattle.table_frames.proofs.ClaimLaws.{claimed_byte, unclaimed_bare, passed_none}
+use Rattle.table_frames.proofs.WholeLaws.{free_by_first}
+
+abbrev of_node : ℕ → Label
+of_node n = record { node = Some n }
+
+-- 40 bytes in frame 4, and frames 1 and 2 of node 3
+abbrev forty : RunOf Label
+forty = record { base = 0x4FC0; size = 0x28; value = plain_label }
+
+abbrev two : RunOf Label
+two = record { base = 0x1000; size = 0x2000; value = of_node 3 }
+
+below_examples : (node_below (Some 1023) ≡ Some 1023) × (node_below (Some 1024) ≡ None) × (node_below None ≡ None)
+below_examples = (refl, refl, refl)
+
+told_examples : (node_told (Some (of_node 3)) ≡ Some 3) × (node_told (Some plain_label) ≡ None) × (node_told None ≡ None)
+told_examples = (refl, refl, refl)
+
+frames_examples : (frames_of forty ≡ record { first = 4; end = 5; node = None })
+    × (frames_of two ≡ record { first = 1; end = 3; node = Some 3 })
+frames_examples = (refl, refl)
+
+node_examples : (node_of_frame (value_at (two ∷ [])) 2 ≡ Some 3) × (node_of_frame (value_at (two ∷ [])) 3 ≡ None)
+node_examples = (refl, refl)
+
+-- one byte of the frame is enough
+claimed_example : is_unclaimed (value_at (forty ∷ [])) 4 ≡ false
+claimed_example = claimed_byte (value_at (forty ∷ [])) 4 0x4FC0 plain_label (omega arith) (omega arith) refl
+
+abbrev nobody : Labels
+nobody x = None
+
+unclaimed_example : is_unclaimed nobody 4 ≡ true
+unclaimed_example = unclaimed_bare nobody 4 (λ y above below. refl)
+
+-- frame 2 is free where nothing is reserved
+free_example : free_in (value_at (two ∷ [])) nobody 2 ≡ Some 3
+free_example =
+    let chosen : (if is_unclaimed nobody 2 then node_of_frame (value_at (two ∷ [])) 2 else None) ≡ Some 3 =
+    rw (unclaimed_bare nobody 2 (λ y above below. refl)) refl in
+    sym (free_by_first (two ∷ []) nobody 2 (refl, refl, tt)) ∙ chosen
+
+passed_example : IsPassed (forty ∷ []) 0 7
+passed_example = passed_none (forty ∷ []) 7
+
+ascend_examples : AscendBelow 0x5000 (two ∷ (forty ∷ [])) × (AscendBelow 0x5000 (forty ∷ (two ∷ [])) → ⊥)
+ascend_examples = (
+  (omega arith, omega arith, omega arith, (omega arith, omega arith, tt, tt)),
+  λ ascend. let start = ascend.2 in absurd (omega (arith, start)),
+)
+
+whole_examples : AreWholeFrames (two ∷ []) × (AreWholeFrames (forty ∷ []) → ⊥)
+whole_examples = ((refl, refl, tt), λ whole. let base = whole.0 in absurd (omega (arith, base)))
