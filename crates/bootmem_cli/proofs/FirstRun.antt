@@ -18,7 +18,8 @@ use Rattle.bm_base.proofs.EachLaws.{each_in-same}
 use Rattle.boot_model.specs.declared.limit.TheConstants.{MAX_PHYSMEM}
 use Rattle.e820_table.specs.Entries.{entry_at}
 use Rattle.e820_table.specs.Initrd.{initrd_of, is_initrd_far}
-use Rattle.boot_model.specs.Boot.{Given, boot, claims}
+use Rattle.boot_model.specs.Boot.{Given, Made, boot, claims, map_judged}
+use Rattle.boot_model.proofs.BootLaws.{goes_on}
 use Rattle.bootmem_cli.specs.Words.{accepted, name_in}
 use Rattle.boot_inputs.specs.Inputs.{Held}
 use Rattle.boot_inputs.specs.Said.{no_options}
@@ -123,11 +124,13 @@ frames_are =
     ∙ count_same _ _ (2 ^ 52) (λ frame low. each_in-same (bytes_of_frame frame) _ _ (λ x from below. memory_is x))
     ∙ count_frames_between 0x100000 0x7FE0000 (2 ^ 52)
 
-boot_is : boot given ≡ Ok (record { map = runs; options = no_options })
-unfolding boot
-boot_is = rw (map_is, frames_are) refl
+-- the map is judged: it has room, and frames
+judged_is : map_judged given ≡ Ok (record { map = runs; options = no_options; items = [] })
+judged_is = rw (map_is, frames_are) refl
 
-first_run : outcome (accepted (codes "--report" ∷ codes "map" ∷ codes "zp" ∷ [])) held
+-- behind it the boot makes memory of the map and claims what it needs, and leaves the map as it is: so this is what is written
+first_run : (made : Made) → boot given ≡ Ok made
+    → outcome (accepted (codes "--report" ∷ codes "map" ∷ codes "zp" ∷ [])) held
     ≡ Ok (codes "0x0000000000100000..0x0000000007fdffff 1 usable\n0x0000000007fe0000..0x0000000007ffffff 2 reserved\n")
 unfolding entry_at digits initrd_of is_initrd_far name_in
-first_run = rw boot_is refl
+first_run made goes = rw (goes, (goes_on given made goes).map ∙ map_is) refl
