@@ -7,3 +7,4 @@ pub mod ChangeLaws
 pub mod MemblockLaws
 pub mod MemoryLaws
 pub mod RequestLaws
+mod TouchExamples
