@@ -1,3 +1,4 @@
+mod Examples
 pub mod KeptLaws
 pub mod PlaceLaws
 pub mod MoreLaws
