@@ -1,5 +1,5 @@
 -- A script that was read places the sections once at most.
-use Rattle.std.proofs.Common.{◌≡◌, ℕ, ◌+◌, Bool, true, false, if◌then◌else◌, codes, Option, Some, None, List, [], ◌∷◌, Result, Ok, Err, refl, sym, ap, subst, arith, inl, inr}
+use Rattle.std.proofs.Common.{◌≡◌, ℕ, ◌+◌, Bool, true, false, if◌then◌else◌, codes, Option, Some, None, List, [], ◌∷◌, Result, Ok, Err, refl, sym, subst, arith, inl, inr}
 use Rattle.std.specs.Str.{bytes_eq}
 use Rattle.std.specs.List.{All}
 use Rattle.std.proofs.lemmas.Bool.{cases_Bool}
@@ -12,11 +12,11 @@ use Rattle.script_reader.specs.declared.act.Act.{Act}
 use Rattle.script_reader.specs.declared.act.Line.{Line}
 use Rattle.script_reader.specs.declared.fault.Wrong.{Wrong}
 use Rattle.script_reader.specs.declared.fault.ScriptFault.{ScriptFault}
-use Rattle.script_reader.specs.Numbers.{Words}
-use Rattle.script_reader.specs.Forms.{alloc_line, reserve_line, free_line, trim_line, fill_line, peek_line, sections_line, by_name, is_comment, asked_by}
+use Rattle.script_reader.specs.Numbers.{Words, no_words, one_word, two_words, three_words, number, bounded, optional_number, power, some, range_at}
+use Rattle.script_reader.specs.Forms.{greatest_id, greatest_node, greatest_byte, greatest_len, greatest, alloc_words, alloc_line, reserve_line, free_line, trim_line, fill_line, peek_line, sections_line, by_name, is_comment, asked_by}
 use Rattle.script_reader.specs.Script.{fault_at, is_sections, seen_behind, asked, with_line, lines_from, script_of}
 use Rattle.early_script.specs.Acted.{IsRun}
-use Rattle.early_script.specs.Stage.{behind_sections, PlaceOnce}
+use Rattle.early_script.specs.Stage.{PlaceOnce}
 use Rattle.early_script.proofs.StageLaws.{is_run, placed_here, placed_later}
 
 -- an act that was read doesn't place the sections
@@ -24,41 +24,74 @@ abbrev IsClean : Result Act Wrong → Type 0
 IsClean (Ok a) = is_sections a ≡ false
 IsClean (Err w) = Unit {0}
 
-bind-clean : {A : Type 0} (r : Result A Wrong) (f : A → Result Act Wrong) → ((x : A) → IsClean (f x)) → IsClean (r >>= f)
-bind-clean (Ok a) f clean = clean a
-bind-clean (Err w) f clean = tt
+record Clean (r : Result Act Wrong) : Type 0 where
+  known : IsClean r
 
-if-clean : (b : Bool) (r s : Result Act Wrong) → IsClean r → IsClean s → IsClean (if b then r else s)
+bind-clean : {A : Type 0} (r : Result A Wrong) (f : A → Result Act Wrong) → ((x : A) → Clean (f x)) → Clean (r >>= f)
+bind-clean (Ok a) f clean = clean a
+bind-clean (Err w) f clean = record { known = tt }
+
+if-clean : (b : Bool) (r s : Result Act Wrong) → Clean r → Clean s → Clean (if b then r else s)
 if-clean true r s first second = first
 if-clean false r s first second = second
 
-alloc-clean : (words : Words) → IsClean (alloc_line words)
+alloc-clean : (words : Words) → Clean (alloc_line words)
 alloc-clean words =
-    bind-clean _ _ (λ said. bind-clean _ _ (λ id. bind-clean _ _ (λ size. bind-clean _ _ (λ align. bind-clean _ _ (λ min.
-    bind-clean _ _ (λ max. bind-clean _ _ (λ node. bind-clean _ _ (λ aligned. bind-clean _ _ (λ large. refl)))))))))
+    bind-clean (alloc_words words) _ (λ said.
+    bind-clean (bounded greatest_id said.id) _ (λ id.
+    bind-clean (number said.size) _ (λ size.
+    bind-clean (number said.align) _ (λ align.
+    bind-clean (optional_number greatest said.min) _ (λ min.
+    bind-clean (optional_number greatest said.max) _ (λ max.
+    bind-clean (optional_number greatest_node said.node) _ (λ node.
+    bind-clean (power align) _ (λ aligned.
+    bind-clean (some size) _ (λ large.
+    record { known = refl })))))))))
 
-reserve-clean : (words : Words) → IsClean (reserve_line words)
+reserve-clean : (words : Words) → Clean (reserve_line words)
 reserve-clean words =
-    bind-clean _ _ (λ said. bind-clean _ _ (λ id. bind-clean _ _ (λ base. bind-clean _ _ (λ size. bind-clean _ _ (λ large.
-    bind-clean _ _ (λ range. refl))))))
+    bind-clean (three_words words) _ (λ said.
+    bind-clean (bounded greatest_id said.0) _ (λ id.
+    bind-clean (number said.1) _ (λ base.
+    bind-clean (number said.2) _ (λ size.
+    bind-clean (some size) _ (λ large.
+    bind-clean (range_at base large) _ (λ range.
+    record { known = refl }))))))
 
-free-clean : (words : Words) → IsClean (free_line words)
-free-clean words = bind-clean _ _ (λ said. bind-clean _ _ (λ id. refl))
+free-clean : (words : Words) → Clean (free_line words)
+free-clean words =
+    bind-clean (one_word words) _ (λ said.
+    bind-clean (bounded greatest_id said) _ (λ id.
+    record { known = refl }))
 
-trim-clean : (words : Words) → IsClean (trim_line words)
-trim-clean words = bind-clean _ _ (λ said. bind-clean _ _ (λ id. bind-clean _ _ (λ keep. bind-clean _ _ (λ large. refl))))
+trim-clean : (words : Words) → Clean (trim_line words)
+trim-clean words =
+    bind-clean (two_words words) _ (λ said.
+    bind-clean (bounded greatest_id said.0) _ (λ id.
+    bind-clean (number said.1) _ (λ keep.
+    bind-clean (some keep) _ (λ large.
+    record { known = refl }))))
 
-fill-clean : (words : Words) → IsClean (fill_line words)
-fill-clean words = bind-clean _ _ (λ said. bind-clean _ _ (λ id. bind-clean _ _ (λ byte. refl)))
+fill-clean : (words : Words) → Clean (fill_line words)
+fill-clean words =
+    bind-clean (two_words words) _ (λ said.
+    bind-clean (bounded greatest_id said.0) _ (λ id.
+    bind-clean (bounded greatest_byte said.1) _ (λ byte.
+    record { known = refl })))
 
-peek-clean : (words : Words) → IsClean (peek_line words)
+peek-clean : (words : Words) → Clean (peek_line words)
 peek-clean words =
-    bind-clean _ _ (λ said. bind-clean _ _ (λ at. bind-clean _ _ (λ len. bind-clean _ _ (λ large. bind-clean _ _ (λ range. refl)))))
+    bind-clean (two_words words) _ (λ said.
+    bind-clean (number said.0) _ (λ at.
+    bind-clean (bounded greatest_len said.1) _ (λ len.
+    bind-clean (some len) _ (λ large.
+    bind-clean (range_at at large) _ (λ range.
+    record { known = refl })))))
 
-sections-clean : (words : Words) → IsClean (sections_line true words)
-sections-clean words = bind-clean _ _ (λ none. tt)
+sections-clean : (words : Words) → Clean (sections_line true words)
+sections-clean words = bind-clean (no_words words) _ (λ none. record { known = tt })
 
-by_name-clean : (name : List ℕ) (words : Words) → IsClean (by_name true name words)
+by_name-clean : (name : List ℕ) (words : Words) → Clean (by_name true name words)
 by_name-clean name words =
     if-clean (bytes_eq name (codes "alloc")) _ _ (alloc-clean words)
     (if-clean (bytes_eq name (codes "reserve")) _ _ (reserve-clean words)
@@ -66,7 +99,7 @@ by_name-clean name words =
     (if-clean (bytes_eq name (codes "trim")) _ _ (trim-clean words)
     (if-clean (bytes_eq name (codes "fill")) _ _ (fill-clean words)
     (if-clean (bytes_eq name (codes "peek")) _ _ (peek-clean words)
-    (if-clean (bytes_eq name (codes "sections")) _ _ (sections-clean words) tt))))))
+    (if-clean (bytes_eq name (codes "sections")) _ _ (sections-clean words) (record { known = tt })))))))
 
 -- neither does a line
 abbrev IsCleanLine : Result (Option Act) Wrong → Type 0
@@ -84,7 +117,7 @@ comment-clean false r clean = clean
 
 asked-clean : (words : Words) → IsCleanLine (asked_by true words)
 asked-clean [] = tt
-asked-clean (name ∷ words) = comment-clean (is_comment name) _ (some-clean (by_name true name words) (by_name-clean name words))
+asked-clean (name ∷ words) = comment-clean (is_comment name) _ (some-clean (by_name true name words) (by_name-clean name words).known)
 
 -- nor lines behind the one that did
 abbrev AreClean : Result (List Line) ScriptFault → Type 0

@@ -31,13 +31,13 @@ begun-append (i ∷ items) more begun = tt
 pub begun-along : (items more longer : List Item) → longer ≡ items ++ more → HasBegun items → HasBegun longer
 begun-along items more longer goes begun = subst (λ (is : List Item). HasBegun is) (sym goes) (begun-append items more begun)
 
-pub reaches-line : (s : Stage) (ids then : Ids) (m next : Contents) (answers : List Answer) (line : Line) (outcome : Outcome) →
+pub reaches-line : (s : Stage) (ids after_ids : Ids) (m next : Contents) (answers : List Answer) (line : Line) (outcome : Outcome) →
     Reaches s ids m answers →
-    Acts (Ok outcome) (state_of ids m) (state_of then next) (deed (state_of ids m) (bytes_in m) line.act) →
+    Acts (Ok outcome) (state_of ids m) (state_of after_ids next) (deed (state_of ids m) (bytes_in m) line.act) →
     ((fills : List Filled) → Holds m.kernel m.journal.items fills (bytes_in m) →
     Holds next.kernel next.journal.items (with_fill fills (deed (state_of ids m) (bytes_in m) line.act).fill) (bytes_in next)) →
-    Reaches (after_line s line) then next (answers ++ record { line = line.number; outcome = outcome } ∷ [])
-reaches-line s ids then m next answers line outcome reached acts holds =
+    Reaches (after_line s line) after_ids next (answers ++ record { line = line.number; outcome = outcome } ∷ [])
+reaches-line s ids after_ids m next answers line outcome reached acts holds =
     let found : State = state_of ids m in
     let bytes : bytes_in m ≡ byte s.state.kernel s.state.items s.fills = λ j x.
     (reached.holds.each x ∙ ap (λ (t : State). byte t.kernel t.items s.fills x) reached.state) j in
@@ -56,14 +56,14 @@ reaches-line s ids then m next answers line outcome reached acts holds =
     }
 
 -- the lines around the one that places the sections, by what stands at a line
-placed_here : (line : Line) (lines : List Line) → is_sections line.act ≡ true →
+pub placed_here : (line : Line) (lines : List Line) → is_sections line.act ≡ true →
     (before_sections (line ∷ lines) ≡ []) × (behind_sections (line ∷ lines) ≡ lines)
 placed_here line lines here = (
   ap (λ (t : Bool). if t then [] else line ∷ before_sections lines) here,
   ap (λ (t : Bool). if t then lines else behind_sections lines) here,
 )
 
-placed_later : (line : Line) (lines : List Line) → is_sections line.act ≡ false →
+pub placed_later : (line : Line) (lines : List Line) → is_sections line.act ≡ false →
     (before_sections (line ∷ lines) ≡ line ∷ before_sections lines) × (behind_sections (line ∷ lines) ≡ behind_sections lines)
 placed_later line lines later = (
   ap (λ (t : Bool). if t then [] else line ∷ before_sections lines) later,
@@ -84,9 +84,9 @@ all-before [] = λ k d less. absurd (omega arith)
 all-before (line ∷ lines) =
     elim (cases_Bool (is_sections line.act)) as (λ _. All (λ l. IsRun l.act) (before_sections (line ∷ lines))) [
       | inl here ↦ subst (λ (ls : List Line). All (λ l. IsRun l.act) ls) (sym (placed_here line lines here).0)
-        (λ k d less. absurd (omega arith))
+          (λ k d less. absurd (omega arith))
       | inr later ↦ subst (λ (ls : List Line). All (λ l. IsRun l.act) ls) (sym (placed_later line lines later).0)
-        (All-cons (λ l. IsRun l.act) line (before_sections lines) (is_run line.act later) (all-before lines))
+          (All-cons (λ l. IsRun l.act) line (before_sections lines) (is_run line.act later) (all-before lines))
     ]
 
 drop_more : (lines : List Line) (i : ℕ) (line : Line) → i < length lines → line ≡ get_or lines i line →
@@ -126,7 +126,7 @@ passed-here lines i line below is here passed =
     let whole : drop i lines ≡ line ∷ drop (i + 1) lines = drop_more lines i line below is in
     let parts = placed_here line (drop (i + 1) lines) here in (
       sym (passed.before ∙ ap (λ (ls : List Line). take i lines ++ before_sections ls) whole
-      ∙ ap (λ (ls : List Line). take i lines ++ ls) parts.0 ∙ append-nil (take i lines)),
+          ∙ ap (λ (ls : List Line). take i lines ++ ls) parts.0 ∙ append-nil (take i lines)),
       sym (passed.behind ∙ ap behind_sections whole ∙ parts.1),
     )
 
@@ -136,6 +136,6 @@ pub passed-all : (lines : List Line) (i : ℕ) → length lines ≤ i → Passed
 passed-all lines i all passed =
     let none : drop i lines ≡ [] = drop_all i lines all in (
       sym (passed.before ∙ ap (λ (ls : List Line). take i lines ++ before_sections ls) none ∙ append-nil (take i lines)
-      ∙ take_all i lines all),
+          ∙ take_all i lines all),
       sym (passed.behind ∙ ap behind_sections none),
     )
