@@ -3,6 +3,7 @@ use Rattle.std.proofs.Common.{◌≡◌, ℕ, ◌+◌, ◌*◌, ◌^◌, ◌<◌
 use Rattle.std.proofs.lemmas.Bool.{cases_Bool}
 use Rattle.std.proofs.lemmas.Bool.Decides.{nat_tests}
 use Rattle.std.proofs.Math.Bool.{or-false}
+use Rattle.bm_base.specs.Extent.{Extent}
 use Rattle.address_runs.specs.Runs.{RunOf, run_end, lies_in, value_at, AreRuns, runs_of}
 use Rattle.address_runs.proofs.RunsLaws.{IsRunsBetween, from_runs, none_below, rest_from}
 use Rattle.e820_model.specs.Claims.{Claims}
@@ -20,7 +21,7 @@ use Rattle.e820_usable.specs.declared.stop.MapStop.{MapStop}
 use Rattle.e820_usable.specs.declared.stop.MapStop.TheVariants as reasons
 use Rattle.e820_usable.specs.Judged.{judged}
 use Rattle.boot_model.specs.declared.stop.Cause.{Cause}
-use Rattle.boot_model.specs.Boot.{Given, Made, begin, claims, has_frames, has_room, later_stages, map_judged, map_stages, types_in_reach, unless_stopped, boot, lies_in_memory, with_items}
+use Rattle.boot_model.specs.Boot.{Given, Made, begin, claims, has_frames, has_room, later_stages, map_judged, map_stages, types_in_reach, unless_stopped, boot, lies_in_memory, with_items, heads_of}
 use Rattle.boot_model.proofs.StageLaws.{AllKeep, chain_keeps, goes_by, passes}
 use Rattle.boot_model.specs.Stages.{in_order}
 
@@ -51,15 +52,15 @@ map_keep given = (
   ),
 )
 
-pub items_passed : (answer : Result (List Item) Refused) (before after : Made) → with_items before answer ≡ Ok after
+pub items_passed : (kernel : Extent) (answer : Result (List Item) Refused) (before after : Made) → with_items kernel before answer ≡ Ok after
     → (answer ≡ Ok after.items) × (after.map ≡ before.map)
-items_passed (Ok items) before after ends =
-    let same : record before { items = items } ≡ after = cc in
+items_passed kernel (Ok items) before after ends =
+    let same : record before { items = items; heads = heads_of kernel items } ≡ after = cc in
     (ap (λ (m : Made). Ok m.items) same, ap (λ (m : Made). m.map) (sym same))
-items_passed (Err refused) before after ends = absurd (cc)
+items_passed kernel (Err refused) before after ends = absurd (cc)
 
 pub later_keep : (given : Given) → AllKeep (λ (made : Made). made.map) (later_stages given)
-later_keep given = (λ before after ends. (items_passed _ before after ends).1, tt)
+later_keep given = (λ before after ends. (items_passed given.kernel _ before after ends).1, tt)
 
 pub goes_on : (given : Given) (made : Made) → boot given ≡ Ok made → GoesOn given made
 unfolding boot

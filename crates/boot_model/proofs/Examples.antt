@@ -22,7 +22,7 @@ use Rattle.boot_model.specs.declared.booted.Booted.{Booted}
 use Rattle.boot_model.specs.declared.inputs.Inputs.{Inputs}
 use Rattle.boot_model.specs.declared.stop.Cause.TheVariants as causes
 use Rattle.boot_model.specs.declared.stop.Stop.TheVariants as stops
-use Rattle.boot_model.specs.Boot.{Given, Made, begin, boot, claims, has_room, unless_stopped, lies_in_memory, with_items}
+use Rattle.boot_model.specs.Boot.{Given, Made, begin, boot, claims, has_room, unless_stopped, lies_in_memory, with_items, heads_of}
 use Rattle.boot_model.specs.Kernel.{IsKernel, is_kernel}
 use Rattle.boot_model.specs.Stages.{in_order}
 use Rattle.boot_model.specs.Stop.{cause_of, cause_of_growth, cause_of_map, stop_of}
@@ -48,12 +48,16 @@ two_runs = record { base = 0x1000; size = 0x1000; value = 1 } ∷ record { base 
 abbrev no_options : Chosen
 no_options = record { edits = []; crash = no_crash; numa_off = false }
 
+abbrev image : Extent
+image = record { base = 0x1000000; size = 0x2000000 }
+
 abbrev made : Made
-made = record { map = two_runs; options = no_options; items = [] }
+made = record { map = two_runs; options = no_options; items = []; heads = heads_of image [] }
 
 -- items that were carried out, and a growth that was refused
-carried_examples : (with_items made (Ok (item.Trim ∷ [])) ≡ Ok (record made { items = item.Trim ∷ [] }))
-    × (with_items made (Err (record { which = which.Reserved; room = 128 })) ≡ Err (causes.NoTablePlace which.Reserved 128))
+carried_examples : (with_items image made (Ok (item.Trim ∷ []))
+    ≡ Ok (record made { items = item.Trim ∷ []; heads = heads_of image (item.Trim ∷ []) }))
+    × (with_items image made (Err (record { which = which.Reserved; room = 128 })) ≡ Err (causes.NoTablePlace which.Reserved 128))
 carried_examples = (refl, refl)
 
 few_runs : has_room made ≡ Ok made
@@ -146,9 +150,6 @@ no_frame c nothing =
 
 abbrev empty : Entry
 empty = record { addr = 0; size = 0; kind = 0 }
-
-abbrev image : Extent
-image = record { base = 0x1000000; size = 0x2000000 }
 
 abbrev two_empty : Given
 two_empty = record { entries = empty ∷ empty ∷ []; initrd = None; extension = []; options = no_options; kernel = image }

@@ -56,7 +56,7 @@ memory_made given made ends =
     chain_keeps (λ (m : Made). m.items) (map_stages given) (items_keep given) (begin given) judged.middle judged.first in
     let map : judged.middle.map ≡ map_of (claims given) =
     chain_keeps (λ (m : Made). m.map) (map_stages given) (map_keep given) (begin given) judged.middle judged.first in
-    let passed = items_passed (carried_out (first_items MAX_PHYSMEM given.kernel given.initrd judged.middle.map) judged.middle.items)
+    let passed = items_passed given.kernel (carried_out (first_items MAX_PHYSMEM given.kernel given.initrd judged.middle.map) judged.middle.items)
     judged.middle behind.middle behind.first in
     record {
       first = behind.middle;

@@ -13,6 +13,10 @@ use Rattle.e820_usable.specs.declared.stop.MapStop.{MapStop}
 use Rattle.e820_usable.specs.Judged.{judged}
 use Rattle.boot_options.specs.Options.{Chosen}
 use Rattle.memblock_model.specs.declared.item.Item.{Item}
+use Rattle.memblock_model.specs.declared.which.Which.TheVariants as which
+use Rattle.memblock_ranges.specs.declared.region.Heads.{Heads}
+use Rattle.memblock_ranges.specs.Tables.{head_of}
+use Rattle.growth_model.specs.Bytes.{table_for}
 use Rattle.growth_model.specs.Outcome.{Refused}
 use Rattle.growth_model.specs.Carried.{carried_out}
 use Rattle.early_stages.specs.Wanted.{first_items}
@@ -32,11 +36,13 @@ pub record Given : Type 0 where
   pub options : Chosen
   pub kernel : Extent
 
--- what a boot has made so far, and in the end what it makes: the map, the options, and what happened to memory, oldest first
+-- what a boot has made so far, and in the end what it makes: the map, the options, what happened to memory, oldest first, and where
+-- the two tables then lie and how full they are
 pub record Made : Type 0 where
   pub map : List (RunOf ℕ)
   pub options : Chosen
   pub items : List Item
+  pub heads : Heads
 
 -- what a stage makes of what the stages before it made, or why the boot stops there
 abbrev pub Stage : Type 0
@@ -46,9 +52,16 @@ Stage = Made → Result Made Cause
 abbrev pub claims : Given → Claims
 claims given = finished given.entries given.extension given.options.edits
 
+-- the heads of the tables that the items stand for
+abbrev pub heads_of : Extent → List Item → Heads
+heads_of kernel items = record {
+  memory = head_of (table_for which.Memory kernel items);
+  reserved = head_of (table_for which.Reserved kernel items);
+}
+
 -- a boot begins with the map of these claims, and nothing happened to memory yet
 abbrev pub begin : Given → Made
-begin given = record { map = map_of (claims given); options = given.options; items = [] }
+begin given = record { map = map_of (claims given); options = given.options; items = []; heads = heads_of given.kernel [] }
 
 -- the types of addresses, as far as the kernel's tables of memory reach
 abbrev pub types_in_reach : Given → TypeAt
@@ -74,14 +87,14 @@ abbrev pub map_judged : Given → Result Made Cause
 map_judged given = in_order (map_stages given) (begin given)
 
 -- the items behind a stage, unless a table that had to grow found no place
-abbrev pub with_items : Made → Result (List Item) Refused → Result Made Cause
-with_items made (Ok items) = Ok (record made { items = items })
-with_items made (Err refused) = Err (cause_of_growth refused)
+abbrev pub with_items : Extent → Made → Result (List Item) Refused → Result Made Cause
+with_items kernel made (Ok items) = Ok (record made { items = items; heads = heads_of kernel items })
+with_items kernel made (Err refused) = Err (cause_of_growth refused)
 
 -- the first claims are made, the map becomes memory, whole frames of it, and the first MiB is claimed (`early_reserve_memory`,
 -- `e820__memblock_setup`, `reserve_real_mode`)
 abbrev pub has_memory : Given → Stage
-has_memory given made = with_items made (carried_out (first_items MAX_PHYSMEM given.kernel given.initrd made.map) made.items)
+has_memory given made = with_items given.kernel made (carried_out (first_items MAX_PHYSMEM given.kernel given.initrd made.map) made.items)
 
 -- the stages behind them, in their order
 abbrev pub later_stages : Given → List Stage

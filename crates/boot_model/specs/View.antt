@@ -14,4 +14,4 @@ inputs_view i = record {
 }
 
 abbrev pub booted_view : Booted → Made
-booted_view b = record { map = b.map.items; options = chosen b.options; items = b.journal.items }
+booted_view b = record { map = b.map.items; options = chosen b.options; items = b.journal.items; heads = b.heads }

@@ -1,6 +1,7 @@
 -- What the boot comes to by the table's answer for its map.
 use Rattle.std.proofs.Common.{◌≡◌, ◌≢◌, ℕ, Bool, true, false, nat_lt, if◌then◌else◌, List, [], length, Option, Some, None, Result, Ok, Err, Vec, Global, refl, subst, ap, ◌∙◌}
 use Rattle.std.specs.Prelude.{IfOk}
+use Rattle.bm_base.specs.Extent.{Extent}
 use Rattle.address_runs.specs.Runs.{RunOf, value_at, IsRunsOf}
 use Rattle.bm_base.specs.Answers.{Answers}
 use Rattle.bm_base.specs.ResultSteps.{◌>>=◌, with_error}
@@ -16,7 +17,7 @@ use Rattle.boot_model.specs.declared.limit.TheConstants.{MAX_PHYSMEM}
 use Rattle.boot_model.specs.declared.stop.Cause.{Cause}
 use Rattle.boot_model.specs.declared.stop.Stop.{Stop}
 use Rattle.boot_model.specs.declared.stop.Stop.TheVariants as stops
-use Rattle.boot_model.specs.Boot.{Given, Made, begin, boot, claims, has_frames, has_memory, later_stages, map_judged, types_in_reach, unless_stopped, with_items}
+use Rattle.boot_model.specs.Boot.{heads_of, Given, Made, begin, boot, claims, has_frames, has_memory, later_stages, map_judged, types_in_reach, unless_stopped, with_items}
 use Rattle.memblock_model.specs.declared.item.Item.{Item}
 use Rattle.growth_model.specs.Outcome.{Refused}
 use Rattle.growth_model.specs.Carried.{carried_out}
@@ -50,7 +51,7 @@ decided given (Ok runs) answers =
     let c : List (RunOf ℕ) = map_of (claims given) in
     let known = told (nat_lt E820_MAX_ENTRIES (length c)) (length c) c runs.items answers in
     rw known.0 (last_stage (has_frames given (begin given)))
-    ∙ ap (λ (map : List (RunOf ℕ)). has_frames given (record { map = map; options = given.options; items = [] })) known.1
+    ∙ ap (λ (map : List (RunOf ℕ)). has_frames given (record { map = map; options = given.options; items = []; heads = heads_of given.kernel [] })) known.1
 decided given (Err (faults.MapFull runs)) answers =
     let c : List (RunOf ℕ) = map_of (claims given) in
     let known = told_full (nat_lt E820_MAX_ENTRIES (length c)) (length c) c runs (answers (λ same. cc same)) in
@@ -59,14 +60,14 @@ decided given (Err faults.Memory) answers = tt
 
 -- a judgement, as the call answers it and as the stage of the boot has it
 abbrev pub made_of : Given → Vec (RunOf ℕ) Global → Made
-made_of given runs = record { map = runs.items; options = given.options; items = [] }
+made_of given runs = record { map = runs.items; options = given.options; items = []; heads = heads_of given.kernel [] }
 
 judged_same : (given : Given) (reason : Option MapStop) (runs : Vec (RunOf ℕ) Global) (result : Result (Vec (RunOf ℕ) Global) Stop)
     → Answers stops.Memory (λ map. map.items) result (goes_on_with reason runs.items)
     → Answers stops.Memory (made_of given) result (with_error stop_of (unless_stopped reason (made_of given runs)))
 judged_same given None runs (Ok map) answers =
     let same : runs.items ≡ map.items = cc in
-    ap (λ (items : List (RunOf ℕ)). Ok (record { map = items; options = given.options; items = [] })) same
+    ap (λ (items : List (RunOf ℕ)). Ok (record { map = items; options = given.options; items = []; heads = heads_of given.kernel [] })) same
 judged_same given None runs (Err stop) answers = λ other. absurd (cc (answers other))
 judged_same given (Some reason) runs (Ok map) answers = absurd (cc)
 judged_same given (Some reason) runs (Err stop) answers = λ other. (let is = answers other in cc)
@@ -117,16 +118,16 @@ boot_goes_on given made is =
     ap (with_error stop_of) (went_on (map_judged given) (λ m. in_order (later_stages given) m) made is ∙ last_stage (has_memory given made))
 
 -- what is carried out is what is made, and a growth that is refused is the stop
-items_made : (made : Made) (said : Result (List Item) Refused) (items : List Item) → or_stop said ≡ Ok items
-    → with_error stop_of (with_items made said) ≡ Ok (record made { items = items })
-items_made made (Ok carried) items is =
-    let same : carried ≡ items = cc in ap (λ (is : List Item). Ok (record made { items = is })) same
-items_made made (Err refused) items is = absurd (cc)
+items_made : (kernel : Extent) (made : Made) (said : Result (List Item) Refused) (items : List Item) → or_stop said ≡ Ok items
+    → with_error stop_of (with_items kernel made said) ≡ Ok (record made { items = items; heads = heads_of kernel items })
+items_made kernel made (Ok carried) items is =
+    let same : carried ≡ items = cc in ap (λ (is : List Item). Ok (record made { items = is; heads = heads_of kernel is })) same
+items_made kernel made (Err refused) items is = absurd (cc)
 
-items_stop : (made : Made) (said : Result (List Item) Refused) (stop : Stop) → or_stop said ≡ Err stop
-    → with_error stop_of (with_items made said) ≡ Err stop
-items_stop made (Ok carried) stop is = absurd (cc)
-items_stop made (Err refused) stop is =
+items_stop : (kernel : Extent) (made : Made) (said : Result (List Item) Refused) (stop : Stop) → or_stop said ≡ Err stop
+    → with_error stop_of (with_items kernel made said) ≡ Err stop
+items_stop kernel made (Ok carried) stop is = absurd (cc)
+items_stop kernel made (Err refused) stop is =
     let same : stop_of (cause_of_growth refused) ≡ stop = cc in ap (λ (s : Stop). Err s) same
 
 -- the items that the stage of memory wants
@@ -137,10 +138,10 @@ pub memory_stops : (given : Given) (made : Made) (answer : Result Booted Stop) (
     → with_error stop_of (map_judged given) ≡ Ok made → (stop ≢ stops.Memory → or_stop (memory_said given made) ≡ Err stop)
     → Answers stops.Memory booted_view answer (with_error stop_of (boot given))
 memory_stops given made answer stop is judged answers =
-    rw is (λ other. boot_goes_on given made judged ∙ items_stop made (memory_said given made) stop (answers other))
+    rw is (λ other. boot_goes_on given made judged ∙ items_stop given.kernel made (memory_said given made) stop (answers other))
 
 pub memory_goes_on : (given : Given) (made : Made) (items : List Item) → with_error stop_of (map_judged given) ≡ Ok made
     → or_stop (memory_said given made) ≡ Ok items
-    → with_error stop_of (boot given) ≡ Ok (record made { items = items })
+    → with_error stop_of (boot given) ≡ Ok (record made { items = items; heads = heads_of given.kernel items })
 memory_goes_on given made items judged answers =
-    boot_goes_on given made judged ∙ items_made made (memory_said given made) items answers
+    boot_goes_on given made judged ∙ items_made given.kernel made (memory_said given made) items answers

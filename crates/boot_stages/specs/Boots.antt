@@ -17,7 +17,7 @@ use Rattle.boot_model.specs.declared.limit.TheConstants.{MAX_PHYSMEM}
 use Rattle.boot_model.specs.declared.stop.Cause.TheVariants as causes
 use Rattle.boot_model.specs.declared.stop.Stop.{Stop}
 use Rattle.boot_model.specs.declared.stop.Stop.TheVariants as stops
-use Rattle.boot_model.specs.Boot.{Given, has_frames, map_judged}
+use Rattle.boot_model.specs.Boot.{heads_of, Given, has_frames, map_judged}
 use Rattle.boot_model.specs.Stop.{cause_of_map, stop_of}
 
 -- what the table answers for its map (`Table::runs`)
@@ -40,7 +40,7 @@ judged_answer (Err fault) = Err (stop_of_map fault)
 
 -- by that answer the boot goes on to judge the frames, or stops; with no memory for it nothing is said
 abbrev pub IsDecided : Given → MapAnswer → Type 0
-IsDecided given (Ok runs) = map_judged given ≡ has_frames given (record { map = runs.items; options = given.options; items = [] })
+IsDecided given (Ok runs) = map_judged given ≡ has_frames given (record { map = runs.items; options = given.options; items = []; heads = heads_of given.kernel [] })
 IsDecided given (Err (faults.MapFull runs)) = map_judged given ≡ Err (causes.MapFull runs)
 IsDecided given (Err faults.Memory) = Unit {0}
 

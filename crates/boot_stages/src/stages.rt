@@ -5,7 +5,7 @@ ghost use Rattle.e820_table.specs.Initrd.{IsInitrd};
 ghost use Rattle.address_runs.specs.Runs.{AreRuns};
 ghost use Rattle.e820_model.specs.Claims.{EndInSpace, HaveTypes};
 ghost use Rattle.e820_model.specs.Map.{claims_of};
-ghost use Rattle.boot_model.specs.Boot.{Given, boot, claims, map_judged};
+ghost use Rattle.boot_model.specs.Boot.{heads_of, Given, boot, claims, map_judged};
 ghost use Rattle.boot_model.specs.View.{booted_view, inputs_view};
 ghost use Rattle.bm_base.specs.Answers.{Answers};
 ghost use Rattle.bm_base.specs.ResultSteps.{with_error};
@@ -60,7 +60,7 @@ pub fn boot(alloc: Global, inputs: Inputs) -> Result<Booted, Stop>
 /// The map of the table's claims, where the boot goes on with it.
 fn settled_map(table: &Table) -> Result<Vec<Run>, Stop>
     ensures answers { (given : Given) → claims given ≡ claims_of table.now →
-        Answers Stop.Memory (λ map. record { map = map.items; options = given.options; items = [] }) result
+        Answers Stop.Memory (λ map. record { map = map.items; options = given.options; items = []; heads = heads_of given.kernel [] }) result
         (with_error stop_of (map_judged given)) }
     ensures runs { IfOk result (λ map. AreRuns map.items) }
 {

@@ -18,7 +18,7 @@ use Rattle.bm_base.proofs.EachLaws.{each_in-same}
 use Rattle.boot_model.specs.declared.limit.TheConstants.{MAX_PHYSMEM}
 use Rattle.e820_table.specs.Entries.{entry_at}
 use Rattle.e820_table.specs.Initrd.{initrd_of, is_initrd_far}
-use Rattle.boot_model.specs.Boot.{Given, Made, boot, claims, map_judged}
+use Rattle.boot_model.specs.Boot.{Given, Made, boot, claims, heads_of, map_judged}
 use Rattle.boot_model.proofs.BootLaws.{goes_on}
 use Rattle.bootmem_cli.specs.Words.{accepted, name_in}
 use Rattle.boot_inputs.specs.Inputs.{Held}
@@ -125,7 +125,7 @@ frames_are =
     ∙ count_frames_between 0x100000 0x7FE0000 (2 ^ 52)
 
 -- the map is judged: it has room, and frames
-judged_is : map_judged given ≡ Ok (record { map = runs; options = no_options; items = [] })
+judged_is : map_judged given ≡ Ok (record { map = runs; options = no_options; items = []; heads = heads_of given.kernel [] })
 judged_is = rw (map_is, frames_are) refl
 
 -- behind it the boot makes memory of the map and claims what it needs, and leaves the map as it is: so this is what is written

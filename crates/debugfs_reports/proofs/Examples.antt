@@ -4,6 +4,7 @@ use Rattle.std.specs.Fmt.{digits}
 use Rattle.address_runs.specs.Runs.{RunOf}
 use Rattle.boot_options.specs.Crash.{no_crash}
 use Rattle.e820_model.specs.declared.edit.Edit.TheVariants as edits
+use Rattle.memblock_ranges.specs.declared.region.Heads.{Heads}
 use Rattle.boot_model.specs.Boot.{Made}
 use Rattle.debugfs_reports.specs.declared.report.Report.TheVariants as reports
 use Rattle.debugfs_reports.specs.Report.{all_reports, first_named, name_of, report_named, report_text}
@@ -12,11 +13,17 @@ use Rattle.debugfs_reports.specs.ReportList.{are_reports, names_in, part, report
 reserved : RunOf ℕ
 reserved = record { base = 0x7FE0000; size = 0x20000; value = 2 }
 
+abbrev heads : Heads
+heads = record {
+  memory = record { place = 0x2FFE000; room = 128; count = 0 };
+  reserved = record { place = 0x2FFF000; room = 128; count = 0 };
+}
+
 made : Made
-made = record { map = reserved ∷ []; options = record { edits = edits.Clear ∷ []; crash = no_crash; numa_off = true }; items = [] }
+made = record { map = reserved ∷ []; options = record { edits = edits.Clear ∷ []; crash = no_crash; numa_off = true }; items = []; heads = heads }
 
 nothing : Made
-nothing = record { map = []; options = record { edits = []; crash = no_crash; numa_off = false }; items = [] }
+nothing = record { map = []; options = record { edits = []; crash = no_crash; numa_off = false }; items = []; heads = heads }
 
 text_examples : (report_text reports.Map made ≡ codes "0x0000000007fe0000..0x0000000007ffffff 2 reserved\n")
     × (report_text reports.Options made ≡ codes "clear\nnuma off\n") × (report_text reports.Options nothing ≡ [])
@@ -70,4 +77,11 @@ no_reports = refl
 -- each report has a name, and its name finds it
 all_are_named : (report_named (codes "memory") ≡ Some reports.Memory) × (report_named (codes "reserved") ≡ Some reports.Reserved)
     × (report_named (codes "owners") ≡ Some reports.Owners) × (report_named (codes "journal") ≡ Some reports.Journal)
-all_are_named = (refl, refl, refl, refl)
+    × (report_named (codes "tables") ≡ Some reports.Tables)
+all_are_named = (refl, refl, refl, refl, refl)
+
+-- both tables where they lie at first
+first_tables : report_text reports.Tables made
+    ≡ codes "memory place 0x0000000002ffe000 room 128 records 0\nreserved place 0x0000000002fff000 room 128 records 0\n"
+unfolding made reserved digits
+first_tables = refl

@@ -12,6 +12,7 @@ use Rattle.report_texts.specs.MapText.{map_text}
 use Rattle.report_texts.specs.OptionsText.{options_text}
 use Rattle.report_texts.specs.OwnersText.{owners_text}
 use Rattle.report_texts.specs.RecordsText.{records_text}
+use Rattle.report_texts.specs.TablesText.{tables_text}
 
 abbrev pub name_of : Report → List ℕ
 name_of reports.Map = codes "map"
@@ -20,10 +21,11 @@ name_of reports.Memory = codes "memory"
 name_of reports.Reserved = codes "reserved"
 name_of reports.Owners = codes "owners"
 name_of reports.Journal = codes "journal"
+name_of reports.Tables = codes "tables"
 
 abbrev pub all_reports : List Report
 all_reports =
-    reports.Map ∷ reports.Options ∷ reports.Memory ∷ reports.Reserved ∷ reports.Owners ∷ reports.Journal ∷ []
+    reports.Map ∷ reports.Options ∷ reports.Memory ∷ reports.Reserved ∷ reports.Owners ∷ reports.Journal ∷ reports.Tables ∷ []
 
 -- the first of the reports that has the name
 abbrev pub first_named : List Report → List ℕ → Option Report
@@ -40,3 +42,4 @@ report_text reports.Memory made = records_text (records_of which.Memory made.ite
 report_text reports.Reserved made = records_text (records_of which.Reserved made.items)
 report_text reports.Owners made = owners_text (owner_runs_of made.items)
 report_text reports.Journal made = journal_text made.items
+report_text reports.Tables made = tables_text made.heads

@@ -17,8 +17,6 @@
 
 mod list;
 mod report;
-#[cfg(test)]
-mod tests;
 
 pub use boot_model::Booted;
 pub use list::{are_reports, render_all, reports_in};

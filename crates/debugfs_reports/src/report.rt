@@ -8,7 +8,7 @@ ghost use Rattle.debugfs_reports.specs.Stand.{TablesStand};
 
 use bm_base::Memory;
 use boot_model::Booted;
-use report_texts::{put_journal, put_map, put_options, put_owners, put_records};
+use report_texts::{put_journal, put_map, put_options, put_owners, put_records, put_tables};
 use std::alloc::Global;
 
 /// A report of a boot.
@@ -26,6 +26,8 @@ pub enum Report {
     Owners,
     /// What happened to memory, item by item.
     Journal,
+    /// Where both tables lie, and how full they are.
+    Tables,
 }
 
 impl Report {
@@ -40,18 +42,20 @@ impl Report {
             Report::Reserved => "reserved",
             Report::Owners => "owners",
             Report::Journal => "journal",
+            Report::Tables => "tables",
         }
     }
 }
 
 /// The reports that there are.
-const REPORTS: [Report; 6] = [
+const REPORTS: [Report; 7] = [
     Report::Map,
     Report::Options,
     Report::Memory,
     Report::Reserved,
     Report::Owners,
     Report::Journal,
+    Report::Tables,
 ];
 
 /// Whether that is the name of the report.
@@ -98,5 +102,6 @@ pub fn put_report(text: &mut Vec<u8>, report: Report, booted: &Booted) -> Result
         Report::Reserved => put_records(text, &booted.store, &booted.heads.reserved),
         Report::Owners => put_owners(text, &booted.journal),
         Report::Journal => put_journal(text, &booted.journal),
+        Report::Tables => put_tables(text, &booted.heads),
     }
 }
