@@ -18,6 +18,10 @@ use Rattle.bm_base.proofs.EachLaws.{each_in-same}
 use Rattle.boot_model.specs.declared.limit.TheConstants.{MAX_PHYSMEM}
 use Rattle.e820_table.specs.Entries.{entry_at}
 use Rattle.e820_table.specs.Initrd.{initrd_of, is_initrd_far}
+use Rattle.memblock_model.specs.declared.item.Item.{Item}
+use Rattle.growth_model.specs.Carried.{carried_out}
+use Rattle.early_stages.specs.Wanted.{first_items}
+use Rattle.early_stages.proofs.FewLaws.{NeedNone, few_from_nothing}
 use Rattle.boot_model.specs.Boot.{Given, boot, claims}
 use Rattle.bootmem_cli.specs.Words.{accepted, name_in}
 use Rattle.boot_inputs.specs.Inputs.{Held}
@@ -123,9 +127,19 @@ frames_are =
     ∙ count_same _ _ (2 ^ 52) (λ frame low. each_in-same (bytes_of_frame frame) _ _ (λ x from below. memory_is x))
     ∙ count_frames_between 0x100000 0x7FE0000 (2 ^ 52)
 
-boot_is : boot given ≡ Ok (record { map = runs; options = no_options })
+-- what a boot wants of them, so few items that no table grows
+abbrev wanted : List Item
+wanted = first_items MAX_PHYSMEM given.kernel given.initrd runs
+
+few_wanted : NeedNone 0 0 wanted
+few_wanted = (omega arith, omega arith, (omega arith, omega arith, (omega arith, omega arith, (omega arith, omega arith, tt))))
+
+wanted_is_made : carried_out wanted [] ≡ Ok wanted
+wanted_is_made = few_from_nothing wanted few_wanted
+
+boot_is : boot given ≡ Ok (record { map = runs; options = no_options; items = wanted })
 unfolding boot
-boot_is = rw (map_is, frames_are) refl
+boot_is = rw (map_is, frames_are, wanted_is_made) refl
 
 first_run : outcome (accepted (codes "--report" ∷ codes "map" ∷ codes "zp" ∷ [])) held
     ≡ Ok (codes "0x0000000000100000..0x0000000007fdffff 1 usable\n0x0000000007fe0000..0x0000000007ffffff 2 reserved\n")

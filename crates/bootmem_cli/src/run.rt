@@ -4,6 +4,7 @@ ghost use Rattle.std.specs.Prelude.{◌≡◌, ℕ, List, IfSome, IfErr, IsNone,
 ghost use Rattle.std.specs.Option.{option_map};
 ghost use Rattle.std.specs.Io.KnownBytes.{Appends};
 ghost use Rattle.e820_model.specs.Claims.{EndInSpace, HaveTypes};
+ghost use Rattle.e820_table.specs.Initrd.{IsInitrd};
 ghost use Rattle.bm_io.specs.Counts.{Rose};
 ghost use Rattle.bm_io.specs.Told.{AppendsFront};
 ghost use Rattle.boot_model.specs.View.{inputs_view};
@@ -120,6 +121,7 @@ fn boot_texts(alloc: Global, inputs: Inputs, list: &str) -> Result<Vec<Vec<u8>>,
     requires entries_end { EndInSpace inputs.zero.entries.items }
     requires extension_ends { EndInSpace inputs.ext.items }
     requires types { HaveTypes inputs.options.edits.items }
+    requires initrd { IfSome inputs.zero.initrd IsInitrd }
     ensures makes { Makes (λ texts. flat_map (λ text. text.items) texts.items) result
         (reported (reports_in list.now) (inputs_view inputs)) }
     ensures cause { IsOfBoot result }

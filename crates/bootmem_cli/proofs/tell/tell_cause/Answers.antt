@@ -6,3 +6,6 @@ returns-in-TooMuchRam g c = rw (c.in-TooMuchRam.is, ← c.format-frames.ensures.
 
 pub returns-in-MapFull : goal.returns-in-MapFull
 returns-in-MapFull g c = rw (c.in-MapFull.is, ← c.format-runs.ensures.text) c.put_line-in-MapFull.ensures
+
+pub returns-in-NoTablePlace : goal.returns-in-NoTablePlace
+returns-in-NoTablePlace g c = rw (c.in-NoTablePlace.is, ← c.table_name.ensures) c.tell_table.ensures
