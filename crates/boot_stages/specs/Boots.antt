@@ -7,6 +7,12 @@ use Rattle.e820_sanitise.specs.declared.fault.MapFault.TheVariants as faults
 use Rattle.e820_usable.specs.declared.stop.MapStop.{MapStop}
 use Rattle.e820_usable.specs.Judged.{judged}
 use Rattle.e820_model.specs.Usable.{reachable}
+use Rattle.phys_store.specs.Bytes.{Stored}
+use Rattle.memblock_model.specs.declared.which.Which.{Which}
+use Rattle.memblock_model.specs.declared.item.Item.{Item}
+use Rattle.memblock_model.specs.Tables.{records_of}
+use Rattle.memblock_ranges.specs.declared.region.Head.{Head}
+use Rattle.memblock_ranges.specs.Tables.{Table, StandsIn, head_of}
 use Rattle.boot_model.specs.declared.limit.TheConstants.{MAX_PHYSMEM}
 use Rattle.boot_model.specs.declared.stop.Cause.TheVariants as causes
 use Rattle.boot_model.specs.declared.stop.Stop.{Stop}
@@ -37,3 +43,10 @@ abbrev pub IsDecided : Given → MapAnswer → Type 0
 IsDecided given (Ok runs) = map_judged given ≡ has_frames given (record { map = runs.items; options = given.options; items = [] })
 IsDecided given (Err (faults.MapFull runs)) = map_judged given ≡ Err (causes.MapFull runs)
 IsDecided given (Err faults.Memory) = Unit {0}
+
+-- a table lies in the bytes of memory, where its head tells, with the records of what happened
+pub record TableStands (w : Which) (items : List Item) (store : List Stored) (head : Head) : Type 0 where
+  pub table : Table
+  pub stands : StandsIn table store
+  pub told : head ≡ head_of table
+  pub records : table.records ≡ records_of w items

@@ -20,9 +20,9 @@ use e820_sanitise::Run;
 use e820_usable::is_memory;
 use early_stages::{ISA_END_ADDRESS, LOW_END};
 use growth_model::Refusal;
+use memblock_grow::Memblock;
 use memblock_model::Which;
 use memblock_ranges::Tables;
-use memblock_grow::Memblock;
 use std::alloc::Global;
 
 /// The bytes from 0 up to the address.

@@ -10,6 +10,8 @@ ghost use Rattle.boot_model.specs.View.{booted_view, inputs_view};
 ghost use Rattle.bm_base.specs.Answers.{Answers};
 ghost use Rattle.bm_base.specs.ResultSteps.{with_error};
 ghost use Rattle.boot_model.specs.Stop.{stop_of};
+ghost use Rattle.memblock_model.specs.declared.which.Which.TheVariants as which;
+ghost use Rattle.boot_stages.specs.Boots.{TableStands};
 
 use crate::map::{finished_table, judged_map};
 use crate::memory::make_memory;
@@ -33,6 +35,8 @@ pub fn boot(alloc: Global, inputs: Inputs) -> Result<Booted, Stop>
     ensures boots { Answers Stop.Memory booted_view result
         (with_error stop_of (boot (inputs_view inputs))) }
     ensures runs { IfOk result (λ booted. AreRuns booted.map.items) }
+    ensures memory { IfOk result (λ booted. TableStands which.Memory booted.journal.items booted.store booted.heads.memory) }
+    ensures reserved { IfOk result (λ booted. TableStands which.Reserved booted.journal.items booted.store booted.heads.reserved) }
 {
     let table = finished_table(
         alloc,
@@ -42,6 +46,7 @@ pub fn boot(alloc: Global, inputs: Inputs) -> Result<Booted, Stop>
     )?;
     let map = settled_map(&table)?;
     let memblock = make_memory(alloc, inputs.kernel, inputs.zero.initrd, &map)?;
+    let _tables = memblock.tables();
     let (store, heads, journal) = memblock.into_parts();
     Ok(Booted {
         map,

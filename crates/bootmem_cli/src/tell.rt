@@ -137,7 +137,13 @@ fn tell_table<'a, E: Sink>(err: &mut E, name: &'a str, room: u64)
     let room = buffer.format(room);
     put_line(
         err,
-        &["bootmem: stopped: no place for table ", name, " room ", room, "\n"],
+        &[
+            "bootmem: stopped: no place for table ",
+            name,
+            " room ",
+            room,
+            "\n",
+        ],
     )
 }
 

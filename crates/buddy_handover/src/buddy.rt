@@ -2,7 +2,7 @@
 
 ghost use Rattle.std.specs.Prelude.{◌≡◌, ℕ, ◌+◌, ◌-◌, ◌^◌, ◌<◌, ◌≤◌, max, None, [], IsOk, OnOk, OnErr, IfOk, vec_len, vec_capacity};
 ghost use Rattle.address_runs.specs.Runs.{IsRunsOf};
-ghost use Rattle.address_runs.specs.Edits.{replaced};
+ghost use Rattle.address_runs.specs.Edits.{replaced, NothingFrom};
 ghost use Rattle.frame_blocks.specs.Listed.{block_of, blocks_of, count_of};
 ghost use Rattle.buddy_handover.specs.Contents.{free};
 
@@ -96,9 +96,11 @@ impl Buddy {
         Ok(())
     }
 
-    /// All blocks of the free frames, ascending by their first frames.
+    /// All blocks of the free frames, ascending by their first frames. No frame is free from
+    /// [`MAX_FRAMES`] on.
     pub fn blocks(&self) -> Result<Vec<Block>, Memory>
-        ensures { IfOk result (λ blocks. blocks.items ≡ blocks_of (free self.now)) }
+        ensures list { IfOk result (λ blocks. blocks.items ≡ blocks_of (free self.now)) }
+        ensures low { NothingFrom MAX_FRAMES (free self.now) }
     {
         frame_blocks::blocks(*self.runs.allocator(), &self.runs)
     }

@@ -68,5 +68,6 @@ no_reports : text_of [] made ≡ []
 no_reports = refl
 
 -- each report has a name, and its name finds it
-all_are_named : (all_reports ≡ reports.Map ∷ reports.Options ∷ []) × (reports_in (codes "map,options") ≡ all_reports)
-all_are_named = (refl, refl)
+all_are_named : (report_named (codes "memory") ≡ Some reports.Memory) × (report_named (codes "reserved") ≡ Some reports.Reserved)
+    × (report_named (codes "owners") ≡ Some reports.Owners) × (report_named (codes "journal") ≡ Some reports.Journal)
+all_are_named = (refl, refl, refl, refl)

@@ -1,2 +1,3 @@
 pub mod Report
 pub mod ReportList
+pub mod Stand

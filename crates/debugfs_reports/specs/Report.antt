@@ -4,15 +4,26 @@ use Rattle.std.specs.Str.{bytes_eq}
 use Rattle.boot_model.specs.Boot.{Made}
 use Rattle.debugfs_reports.specs.declared.report.Report.{Report}
 use Rattle.debugfs_reports.specs.declared.report.Report.TheVariants as reports
+use Rattle.memblock_model.specs.declared.which.Which.TheVariants as which
+use Rattle.memblock_model.specs.Items.{owner_runs_of}
+use Rattle.memblock_model.specs.Tables.{records_of}
+use Rattle.report_texts.specs.JournalText.{journal_text}
 use Rattle.report_texts.specs.MapText.{map_text}
 use Rattle.report_texts.specs.OptionsText.{options_text}
+use Rattle.report_texts.specs.OwnersText.{owners_text}
+use Rattle.report_texts.specs.RecordsText.{records_text}
 
 abbrev pub name_of : Report → List ℕ
 name_of reports.Map = codes "map"
 name_of reports.Options = codes "options"
+name_of reports.Memory = codes "memory"
+name_of reports.Reserved = codes "reserved"
+name_of reports.Owners = codes "owners"
+name_of reports.Journal = codes "journal"
 
 abbrev pub all_reports : List Report
-all_reports = reports.Map ∷ reports.Options ∷ []
+all_reports =
+    reports.Map ∷ reports.Options ∷ reports.Memory ∷ reports.Reserved ∷ reports.Owners ∷ reports.Journal ∷ []
 
 -- the first of the reports that has the name
 abbrev pub first_named : List Report → List ℕ → Option Report
@@ -25,3 +36,7 @@ report_named name = first_named all_reports name
 abbrev pub report_text : Report → Made → List ℕ
 report_text reports.Map made = map_text made.map
 report_text reports.Options made = options_text made.options
+report_text reports.Memory made = records_text (records_of which.Memory made.items)
+report_text reports.Reserved made = records_text (records_of which.Reserved made.items)
+report_text reports.Owners made = owners_text (owner_runs_of made.items)
+report_text reports.Journal made = journal_text made.items

@@ -3,6 +3,7 @@
 ghost use Rattle.std.specs.Prelude.{◌≡◌, ◌++◌, IfOk, OnOk, length, map, nat_lt};
 ghost use Rattle.std.specs.List.{flat_map};
 ghost use Rattle.boot_model.specs.View.{booted_view};
+ghost use Rattle.debugfs_reports.specs.Stand.{TablesStand};
 ghost use Rattle.debugfs_reports.specs.ReportList.{are_reports, part, reports_in, text_of, title};
 
 use crate::report::{Report, put_report, report_named};
@@ -49,6 +50,7 @@ pub fn render_all(
     reports: &[Report],
     booted: &Booted,
 ) -> Result<Vec<Vec<u8>>, Memory>
+    requires { TablesStand booted.now }
     ensures each { IfOk result (λ texts. map (λ text. text.items) texts.items
         ≡ map (part (nat_lt 1 (length reports.now)) (booted_view booted.now)) reports.now) }
     ensures whole { IfOk result (λ texts. flat_map (λ text. text.items) texts.items
@@ -69,6 +71,7 @@ fn render_part(
     several: bool,
     booted: &Booted,
 ) -> Result<Vec<u8>, Memory>
+    requires { TablesStand booted.now }
     ensures { IfOk result (λ text. text.items ≡ part several (booted_view booted.now) report) }
 {
     let mut text = Vec::new(alloc);

@@ -4,10 +4,11 @@ ghost use Rattle.std.specs.Prelude.{◌≡◌, ◌++◌, IfOk, OnOk};
 ghost use Rattle.std.specs.Str.{bytes_eq};
 ghost use Rattle.boot_model.specs.View.{booted_view};
 ghost use Rattle.debugfs_reports.specs.Report.{name_of, report_named, report_text};
+ghost use Rattle.debugfs_reports.specs.Stand.{TablesStand};
 
 use bm_base::Memory;
 use boot_model::Booted;
-use report_texts::{put_map, put_options};
+use report_texts::{put_journal, put_map, put_options, put_owners, put_records};
 use std::alloc::Global;
 
 /// A report of a boot.
@@ -17,6 +18,14 @@ pub enum Report {
     Map,
     /// What the command line asks of the memory set-up.
     Options,
+    /// The records of `memblock.memory`.
+    Memory,
+    /// The records of `memblock.reserved`.
+    Reserved,
+    /// Who has which bytes.
+    Owners,
+    /// What happened to memory, item by item.
+    Journal,
 }
 
 impl Report {
@@ -27,12 +36,23 @@ impl Report {
         match self {
             Report::Map => "map",
             Report::Options => "options",
+            Report::Memory => "memory",
+            Report::Reserved => "reserved",
+            Report::Owners => "owners",
+            Report::Journal => "journal",
         }
     }
 }
 
 /// The reports that there are.
-const REPORTS: [Report; 2] = [Report::Map, Report::Options];
+const REPORTS: [Report; 6] = [
+    Report::Map,
+    Report::Options,
+    Report::Memory,
+    Report::Reserved,
+    Report::Owners,
+    Report::Journal,
+];
 
 /// Whether that is the name of the report.
 fn is_named(report: Report, name: &[u8]) -> bool
@@ -55,8 +75,9 @@ pub fn report_named(name: &[u8]) -> Option<Report>
     None
 }
 
-/// The text of a report.
+/// The text of a report. The records of both tables stand in the boot's bytes, where its heads tell.
 pub fn render(alloc: Global, report: Report, booted: &Booted) -> Result<Vec<u8>, Memory>
+    requires { TablesStand booted.now }
     ensures { IfOk result (λ text. text.items ≡ report_text report (booted_view booted.now)) }
 {
     let mut text = Vec::new(alloc);
@@ -66,11 +87,16 @@ pub fn render(alloc: Global, report: Report, booted: &Booted) -> Result<Vec<u8>,
 
 /// Appends the text of a report.
 pub fn put_report(text: &mut Vec<u8>, report: Report, booted: &Booted) -> Result<(), Memory>
+    requires { TablesStand booted.now }
     ensures { OnOk result (text.new.items
         ≡ text.old.items ++ report_text report (booted_view booted.now)) }
 {
     match report {
         Report::Map => put_map(text, &booted.map),
         Report::Options => put_options(text, &booted.options),
+        Report::Memory => put_records(text, &booted.store, &booted.heads.memory),
+        Report::Reserved => put_records(text, &booted.store, &booted.heads.reserved),
+        Report::Owners => put_owners(text, &booted.journal),
+        Report::Journal => put_journal(text, &booted.journal),
     }
 }

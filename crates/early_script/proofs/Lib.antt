@@ -6,5 +6,6 @@ pub mod RunLaws
 pub mod DeedLaws
 pub mod HoldLaws
 pub mod StageLaws
+pub mod SectionLaws
 pub mod QuietLaws
 mod Examples

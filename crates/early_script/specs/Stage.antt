@@ -1,11 +1,13 @@
 -- Lines one behind another, each with its answer.
-use Rattle.std.specs.Prelude.{◌≡◌, ℕ, List, [], ◌∷◌, ◌++◌}
+use Rattle.std.specs.Prelude.{◌≡◌, ℕ, if◌then◌else◌, List, [], ◌∷◌, ◌++◌}
+use Rattle.std.specs.List.{All}
+use Rattle.script_reader.specs.Script.{is_sections}
 use Rattle.script_reader.specs.declared.act.Line.{Line}
 use Rattle.growth_model.specs.Bytes.{Filled, byte, Holds}
 use Rattle.memblock_grow.specs.Contents.{Contents}
 use Rattle.early_script.specs.declared.outcome.Answer.{Answer}
 use Rattle.early_script.specs.Ids.{Ids}
-use Rattle.early_script.specs.Acted.{State, Deed, with_fill, deed, answer_of, state_after}
+use Rattle.early_script.specs.Acted.{State, Deed, IsRun, with_fill, deed, answer_of, state_after}
 use Rattle.early_script.specs.Found.{state_of, bytes_in}
 
 -- what stands before a line: the state, the fills so far, and the answers so far
@@ -42,3 +44,16 @@ pub record Reaches (s : Stage) (ids : Ids) (m : Contents) (answers : List Answer
   pub state : state_of ids m ≡ s.state
   pub answers_are : answers ≡ s.answers
   pub holds : Holds m.kernel m.journal.items s.fills (bytes_in m)
+
+-- the lines before the one that places the sections, or all of them; and the lines behind it
+abbrev pub before_sections : List Line → List Line
+before_sections [] = []
+before_sections (line ∷ lines) = if is_sections line.act then [] else line ∷ before_sections lines
+
+abbrev pub behind_sections : List Line → List Line
+behind_sections [] = []
+behind_sections (line ∷ lines) = if is_sections line.act then lines else behind_sections lines
+
+-- no second line places the sections
+abbrev pub PlaceOnce : List Line → Type 0
+PlaceOnce lines = All (λ line. IsRun line.act) (behind_sections lines)

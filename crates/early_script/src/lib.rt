@@ -22,7 +22,7 @@ mod steps;
 #[cfg(test)]
 mod tests;
 
-pub use laws::lines_leave_memory;
+pub use laws::{lines_leave_memory, scripts_place_once};
 pub use live::Live;
 pub use outcome::{Answer, Outcome};
-pub use stage::run_lines;
+pub use stage::{run_lines, split_at_sections};

@@ -6,13 +6,13 @@ ghost use Rattle.growth_model.specs.Sound.{HasBegun};
 ghost use Rattle.growth_model.specs.Bytes.{Filled, Holds};
 ghost use Rattle.early_script.specs.Acted.{IsRun};
 ghost use Rattle.early_script.specs.Found.{bytes_in};
-ghost use Rattle.early_script.specs.Stage.{Reaches, stage_of, after_lines};
+ghost use Rattle.early_script.specs.Stage.{Reaches, PlaceOnce, stage_of, after_lines, before_sections, behind_sections};
 
 use crate::live::Live;
 use crate::outcome::Answer;
 use bm_base::Memory;
 use memblock_grow::Memblock;
-use script_reader::Line;
+use script_reader::{Act, Line};
 
 /// Runs the lines in their order and appends what came of each. A refused line is answered like any
 /// other. For want of memory some of the lines, from the first on, have been run, and maybe a part of
@@ -39,4 +39,21 @@ pub fn run_lines(
         })?;
     }
     Ok(())
+}
+
+/// The lines before the one that places the sections, or all where there is none, and those behind it.
+pub fn split_at_sections(lines: &[Line]) -> (&[Line], &[Line])
+    requires once { PlaceOnce lines.now }
+    requires bounds { All (λ l. HasBounds l.act) lines.now }
+    ensures before { result.0.now ≡ before_sections lines.now }
+    ensures behind { result.1.now ≡ behind_sections lines.now }
+    ensures run { All (λ l. IsRun l.act) result.0.now × All (λ l. IsRun l.act) result.1.now }
+    ensures bounds { All (λ l. HasBounds l.act) result.0.now × All (λ l. HasBounds l.act) result.1.now }
+{
+    for (i, line) in lines.iter().enumerate() {
+        if matches!(line.act, Act::Sections) {
+            return (&lines[..i], &lines[i + 1..]);
+        }
+    }
+    (lines, &[])
 }

@@ -116,7 +116,13 @@ fn no_place_for_a_table(rt: HostRuntime) -> Result<(), Fail> {
         let outcomes = run(alloc, &mut memblock, text.as_str())?;
         assert_eq!(rt; outcomes.len(), 128);
         assert_eq!(rt; outcomes[126], Outcome::Done);
-        assert_eq!(rt; outcomes[127], Outcome::NoGapForTable { which: Which::Reserved, room: 128 });
+        assert_eq!(rt;
+            outcomes[127],
+            Outcome::NoGapForTable {
+                which: Which::Reserved,
+                room: 128
+            }
+        );
     }
     Ok(())
 }

@@ -1,15 +1,15 @@
 -- What holds after every number of steps of a change holds wherever a call ends that carries it out.
-use Rattle.std.proofs.Common.{◌≡◌, ℕ, zero, suc, Bool, true, false, Option, Some, None, List, [], ◌∷◌, ◌++◌, take, Result, Ok, Err, refl, sym, ◌∙◌, ap, subst, append_assoc, inl, inr}
+use Rattle.std.proofs.Common.{◌≡◌, ℕ, zero, suc, Bool, Option, Some, None, List, [], ◌∷◌, ◌++◌, take, Result, Ok, Err, refl, sym, ◌∙◌, ap, subst, append_assoc, inl, inr}
 use Rattle.std.proofs.lemmas.Bool.{cases_Bool}
 use Rattle.std.proofs.lemmas.List.{append-nil}
 use Rattle.memblock_model.specs.declared.which.Which.{Which}
 use Rattle.memblock_model.specs.declared.item.Item.{Item}
 use Rattle.growth_model.specs.declared.refusal.Refusal.{Refusal}
 use Rattle.growth_model.specs.declared.refusal.Refusal.TheVariants as refusal
-use Rattle.growth_model.specs.Outcome.{Refused, Outcome, Change, joined, after, nothing, step, followed_by, ◌>>◌, if_due}
+use Rattle.growth_model.specs.Outcome.{Refused, Outcome, Change, joined, after, followed_by, ◌>>◌, if_due}
 use Rattle.growth_model.specs.Growth.{is_full, grown}
-use Rattle.growth_model.specs.Ends.{IsCut, EndsBy, Ends}
-use Rattle.growth_model.proofs.EndLaws.{both_steps, after-both, followed}
+use Rattle.growth_model.specs.Ends.{EndsBy}
+use Rattle.growth_model.proofs.EndLaws.{after-both, followed}
 
 -- it holds of the items, and still after each step
 abbrev pub EachCut : (List Item → Type 0) → List Item → List (List Item) → Type 0

@@ -6,7 +6,7 @@ use Rattle.memblock_model.specs.declared.which.Which.{Which}
 use Rattle.memblock_model.specs.declared.item.Item.{Item}
 use Rattle.growth_model.specs.declared.refusal.Refusal.{Refusal}
 use Rattle.growth_model.specs.declared.refusal.Refusal.TheVariants as refusal
-use Rattle.growth_model.specs.Outcome.{Refused, Outcome, Change, joined, after, nothing, step, write, refuse, followed_by, ◌>>◌, if_due, whatever_refused}
+use Rattle.growth_model.specs.Outcome.{Refused, Outcome, Change, joined, after, nothing, step, refuse, followed_by, ◌>>◌, if_due, whatever_refused}
 use Rattle.growth_model.specs.Ends.{IsCut, EndsBy, Ends}
 
 pub joined-append : (a b : List (List Item)) → joined (a ++ b) ≡ joined a ++ joined b

@@ -1,23 +1,21 @@
 -- The first claim: the kernel's image, in which both tables lie at first.
-use Rattle.std.proofs.Common.{◌≡◌, ℕ, ◌+◌, ◌-◌, ◌*◌, ◌/◌, ◌%◌, ◌^◌, ◌≤◌, ◌<◌, Bool, true, false, nat_lt, Option, Some, None, List, [], ◌∷◌, ◌++◌, length, refl, sym, ◌∙◌, ap, subst, arith}
+use Rattle.std.proofs.Common.{◌≡◌, ℕ, ◌+◌, ◌%◌, ◌^◌, ◌≤◌, true, false, None, List, [], ◌∷◌, length, refl, sym, ap, arith}
 use Rattle.std.proofs.lemmas.Bool.Decides.{nat_tests}
 use Rattle.bm_base.specs.Extent.{Extent, end_of, covers}
-use Rattle.address_runs.specs.Runs.{RunOf, IsRunsOf}
-use Rattle.address_runs.specs.Edits.{NothingFrom, replaced}
 use Rattle.memblock_model.specs.declared.which.Which.{Which}
 use Rattle.memblock_model.specs.declared.which.Which.TheVariants as which
 use Rattle.memblock_model.specs.declared.owner.Owner.{Owner}
 use Rattle.memblock_model.specs.declared.owner.Owner.TheVariants as owner
 use Rattle.memblock_model.specs.declared.item.Item.{Item}
 use Rattle.memblock_model.specs.declared.item.Item.TheVariants as item
-use Rattle.memblock_model.specs.Labels.{Label, Labels}
-use Rattle.memblock_model.specs.Items.{Owners, no_owners, owner_of}
+use Rattle.memblock_model.specs.Labels.{Labels}
+use Rattle.memblock_model.specs.Items.{no_owners}
 use Rattle.memblock_model.specs.Tables.{table_of, records_for, records_of, pieces, room_of, live}
 use Rattle.memblock_model.proofs.TableLaws.{records_for-is}
 use Rattle.memblock_ranges.proofs.CountLaws.{few-pieces}
-use Rattle.growth_model.specs.Outcome.{Outcome, nothing, write, ◌>>◌, if_due}
-use Rattle.growth_model.specs.Growth.{count, is_full, new_in, two, grown, reserved_growth, claimed}
-use Rattle.growth_model.specs.Sound.{keeps, Spot, Apart, Spots, Placed, IsImage}
+use Rattle.growth_model.specs.Outcome.{write}
+use Rattle.growth_model.specs.Growth.{count, is_full, new_in, two, claimed}
+use Rattle.growth_model.specs.Sound.{Apart, Placed, IsImage}
 use Rattle.growth_model.proofs.IdleLaws.{claimed-idle}
 use Rattle.growth_model.proofs.SpotLaws.{covers-from, covers-to, Spot-new}
 

@@ -1,5 +1,5 @@
 -- A place that a search found: nobody has its bytes, so neither table lies there.
-use Rattle.std.proofs.Common.{◌≡◌, ℕ, ◌+◌, ◌*◌, ◌%◌, ◌<◌, ◌≤◌, Bool, true, false, ◌&&◌, ◌==◌, if◌then◌else◌, min, Option, Some, None, List, [], ◌∷◌, ◌++◌, refl, sym, ◌∙◌, ap, subst, inl, inr, ◌⊎◌, arith}
+use Rattle.std.proofs.Common.{◌≡◌, ℕ, ◌+◌, ◌*◌, ◌%◌, ◌≤◌, Bool, true, false, ◌==◌, if◌then◌else◌, min, Option, Some, None, List, [], ◌∷◌, ◌++◌, refl, sym, ap, subst, inl, inr, ◌⊎◌, arith}
 use Rattle.std.proofs.lemmas.Bool.{and_parts, and_from}
 use Rattle.std.specs.Option.{option_or}
 use Rattle.bm_base.specs.Extent.{Extent, end_of, covers, Meet}
@@ -8,7 +8,7 @@ use Rattle.memblock_model.specs.declared.which.Which.TheVariants as which
 use Rattle.memblock_model.specs.declared.owner.Owner.{Owner}
 use Rattle.memblock_model.specs.declared.query.Query.{Query}
 use Rattle.memblock_model.specs.declared.item.Item.{Item}
-use Rattle.memblock_model.specs.Items.{Owners, owner_of, limit_of}
+use Rattle.memblock_model.specs.Items.{owner_of, limit_of}
 use Rattle.memblock_model.specs.Tables.{without_owner, table_of, live}
 use Rattle.memblock_model.specs.Search.{best}
 use Rattle.memblock_model.proofs.SearchLaws.{IsPlace, best_in-is, fits_in-parts}

@@ -1,32 +1,29 @@
 -- Small changes, computed: what is written step by step, which growth is refused, what an allocation tries, and how calls end.
-use Rattle.std.proofs.Common.{◌≡◌, ℕ, ◌+◌, ◌*◌, ◌/◌, ◌%◌, ◌^◌, ◌<◌, ◌≤◌, Bool, true, false, nat_lt, Option, Some, None, List, [], ◌∷◌, ◌++◌, length, Result, Ok, Err, refl, sym, ◌∙◌, ap, subst, inl, inr, arith}
+use Rattle.std.proofs.Common.{◌≡◌, ℕ, ◌+◌, ◌*◌, ◌%◌, ◌^◌, ◌<◌, ◌≤◌, true, false, nat_lt, Option, Some, None, List, [], ◌∷◌, ◌++◌, length, Ok, Err, refl, sym, ◌∙◌, ap, subst, inl, inr, arith}
 use Rattle.std.specs.Option.{option_or}
 use Rattle.std.proofs.lemmas.Bool.{cases_Bool}
 use Rattle.std.proofs.lemmas.Bool.Decides.{nat_tests}
-use Rattle.bm_base.specs.Extent.{Extent, end_of, covers}
-use Rattle.address_runs.specs.Runs.{RunOf, value_at, AreRuns}
+use Rattle.bm_base.specs.Extent.{Extent, end_of}
+use Rattle.address_runs.specs.Runs.{RunOf, value_at}
 use Rattle.address_runs.specs.Edits.{NothingFrom}
 use Rattle.memblock_model.specs.declared.which.Which.{Which}
 use Rattle.memblock_model.specs.declared.which.Which.TheVariants as which
 use Rattle.memblock_model.specs.declared.owner.Owner.TheVariants as owner
-use Rattle.memblock_model.specs.declared.query.Query.{Query}
 use Rattle.memblock_model.specs.declared.item.Item.{Item}
 use Rattle.memblock_model.specs.declared.item.Item.TheVariants as item
-use Rattle.memblock_model.specs.Labels.{Label, Labels, plain_label}
-use Rattle.memblock_model.specs.Items.{memory_of, owner_of}
-use Rattle.memblock_model.specs.Tables.{reserved_of, table_of, records_for, records_of, pieces}
-use Rattle.memblock_model.specs.Search.{fits_in, best_in, best}
-use Rattle.memblock_model.proofs.SearchLaws.{IsPlace, IsLastBelow, fits_in-parts, fits_in-whole, best_in-last, best_in-fails}
+use Rattle.memblock_model.specs.Labels.{Label, plain_label}
+use Rattle.memblock_model.specs.Tables.{table_of, records_of}
+use Rattle.memblock_model.specs.Search.{fits_in, best}
+use Rattle.memblock_model.proofs.SearchLaws.{fits_in-parts, fits_in-whole, best_in-last, best_in-fails}
 use Rattle.memblock_model.proofs.TableLaws.{records_for-is}
 use Rattle.memblock_ranges.proofs.CountLaws.{few-pieces}
-use Rattle.growth_model.specs.declared.refusal.Refusal.{Refusal}
 use Rattle.growth_model.specs.declared.refusal.Refusal.TheVariants as refusal
 use Rattle.growth_model.specs.declared.request.Request.{Request}
-use Rattle.growth_model.specs.Outcome.{Refused, Outcome, Change, joined, after, nothing, step, write, refuse, followed_by, ◌>>◌, if_due, whatever_refused}
+use Rattle.growth_model.specs.Outcome.{Outcome, Change, joined, after, nothing, step, write, refuse, followed_by, ◌>>◌, if_due, whatever_refused}
 use Rattle.growth_model.specs.Growth.{frames_of, frames_at, count, table_query, place_beside, left, reserved_items, reserved_growth_at, reserved_growth, is_full, new_in, two, grown, claimed, freed, old_frames, leave, memory_growth_at, memory_growth, added, noded}
 use Rattle.growth_model.specs.Request.{attempt, anywhere, round, attempts, first_best, place_for}
 use Rattle.growth_model.specs.Ends.{IsCut, EndsBy, Ends, Allocates}
-use Rattle.growth_model.proofs.FirstLaws.{no_records, first-full, first-full_by_two, first-claimed}
+use Rattle.growth_model.proofs.FirstLaws.{no_records, first-full_by_two, first-claimed}
 use Rattle.growth_model.proofs.IdleLaws.{claimed-idle, freed-idle, added-idle, noded-idle}
 
 -- 256 KiB of memory, in which the kernel's image has four frames from 64 KiB on

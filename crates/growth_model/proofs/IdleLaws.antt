@@ -1,12 +1,12 @@
 -- A change whose table has room writes its item and nothing else.
-use Rattle.std.proofs.Common.{◌≡◌, ℕ, Bool, true, false, Option, Some, None, List, [], ◌∷◌, ◌++◌, refl, sym, ◌∙◌, ap}
+use Rattle.std.proofs.Common.{◌≡◌, ℕ, false, List, refl, ◌∙◌}
 use Rattle.bm_base.specs.Extent.{Extent}
 use Rattle.memblock_model.specs.declared.which.Which.{Which}
 use Rattle.memblock_model.specs.declared.which.Which.TheVariants as which
 use Rattle.memblock_model.specs.declared.owner.Owner.{Owner}
 use Rattle.memblock_model.specs.declared.item.Item.{Item}
 use Rattle.memblock_model.specs.declared.item.Item.TheVariants as item
-use Rattle.growth_model.specs.Outcome.{Change, nothing, write, ◌>>◌, if_due}
+use Rattle.growth_model.specs.Outcome.{Change, nothing, write, if_due}
 use Rattle.growth_model.specs.Growth.{is_full, new_in, two, grown, reserved_growth, memory_growth, claimed, freed, added, noded}
 use Rattle.growth_model.proofs.EndLaws.{skips}
 

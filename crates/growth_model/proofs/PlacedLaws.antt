@@ -1,10 +1,9 @@
 -- The tables keep good places throughout growths of the reserved table, claims and frees.
-use Rattle.std.proofs.Common.{◌≡◌, ◌⊎◌, ℕ, ◌+◌, ◌*◌, ◌%◌, ◌<◌, ◌≤◌, Bool, true, false, if◌then◌else◌, Option, Some, None, List, [], ◌∷◌, ◌++◌, refl, sym, ◌∙◌, ap, subst, inl, inr, arith}
+use Rattle.std.proofs.Common.{◌≡◌, ◌⊎◌, ℕ, ◌*◌, ◌%◌, true, Option, Some, None, List, [], ◌∷◌, ◌++◌, refl, sym, ◌∙◌, ap, subst, inl, inr, arith}
 use Rattle.std.specs.Prelude.{unwrap_or}
 use Rattle.std.specs.List.{fold}
 use Rattle.std.proofs.lemmas.List.Sums.{fold-append}
-use Rattle.std.proofs.lemmas.Bool.{cases_Bool}
-use Rattle.bm_base.specs.Extent.{Extent, end_of, covers}
+use Rattle.bm_base.specs.Extent.{Extent}
 use Rattle.address_runs.specs.Edits.{uncovered, replaced}
 use Rattle.memblock_model.specs.declared.which.Which.{Which}
 use Rattle.memblock_model.specs.declared.which.Which.TheVariants as which
@@ -14,12 +13,9 @@ use Rattle.memblock_model.specs.declared.item.Item.{Item}
 use Rattle.memblock_model.specs.declared.item.Item.TheVariants as item
 use Rattle.memblock_model.specs.Items.{Owners, owners_after, no_owners, owner_of, limit_after, limit_of}
 use Rattle.memblock_model.specs.Tables.{room_after, room_of, moved_after, moved_to, built_in, live}
-use Rattle.growth_model.specs.Outcome.{Outcome, Change, joined, after, step, write, ◌>>◌}
-use Rattle.growth_model.specs.Growth.{frames_of, frames_at, place_beside, left, reserved_items, reserved_growth_at, reserved_growth, new_in, two, grown, claimed, freed}
-use Rattle.growth_model.specs.Sound.{keeps, Spot, Clear, Unclaimed, Spots, Placed, IsAway}
-use Rattle.growth_model.proofs.CutLaws.{EachCut, cuts-first, cuts-last, cuts-then, cuts-grown, cuts-map, after-then, then-unrefused}
-use Rattle.growth_model.proofs.SpotLaws.{frames, covers-from, frames-more, Spots-claim, Spots-clear, Spots-free, Spots-move, Spots-leave}
-use Rattle.growth_model.proofs.FoundLaws.{IsNew, beside-new}
+use Rattle.growth_model.specs.Growth.{frames_at}
+use Rattle.growth_model.specs.Sound.{keeps, Clear, Unclaimed, Spots, Placed, IsAway}
+use Rattle.growth_model.proofs.SpotLaws.{frames, Spots-claim, Spots-clear, Spots-free, Spots-move, Spots-leave}
 
 -- where a table lies, by its newest place and its room
 abbrev pub live_by : Which → Extent → Option ℕ → ℕ → Extent

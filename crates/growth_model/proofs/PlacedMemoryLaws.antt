@@ -1,26 +1,24 @@
 -- The places of both tables stay good throughout a growth of the memory table, and the changes that may need one.
-use Rattle.std.proofs.Common.{◌≡◌, ◌⊎◌, ℕ, ◌+◌, ◌*◌, ◌%◌, Bool, true, false, Option, Some, None, List, [], ◌∷◌, ◌++◌, Result, Ok, refl, sym, ◌∙◌, ap, subst, inl, inr, arith}
+use Rattle.std.proofs.Common.{◌≡◌, ℕ, ◌*◌, ◌%◌, true, Option, Some, None, List, [], ◌∷◌, ◌++◌, Ok, refl, sym, ◌∙◌, ap, subst, inl, inr, arith}
 use Rattle.bm_base.specs.Extent.{Extent, covers}
 use Rattle.address_runs.specs.Edits.{replaced}
-use Rattle.memblock_model.specs.declared.which.Which.{Which}
 use Rattle.memblock_model.specs.declared.which.Which.TheVariants as which
 use Rattle.memblock_model.specs.declared.owner.Owner.{Owner}
-use Rattle.memblock_model.specs.declared.owner.Owner.TheVariants as owner
 use Rattle.memblock_model.specs.declared.item.Item.{Item}
 use Rattle.memblock_model.specs.declared.item.Item.TheVariants as item
-use Rattle.memblock_model.specs.Items.{Owners, owner_of, limit_of}
+use Rattle.memblock_model.specs.Items.{owner_of, limit_of}
 use Rattle.memblock_model.specs.Tables.{room_of, moved_to, live}
 use Rattle.memblock_model.specs.Search.{best}
 use Rattle.growth_model.specs.declared.request.Request.{Request}
 use Rattle.growth_model.specs.Outcome.{after, write, ◌>>◌}
-use Rattle.growth_model.specs.Growth.{frames_at, table_query, new_in, two, grown, claimed, freed, old_frames, leave, memory_growth_at, memory_growth, added, noded}
+use Rattle.growth_model.specs.Growth.{frames_at, table_query, new_in, two, grown, claimed, old_frames, leave, memory_growth_at, memory_growth, added, noded}
 use Rattle.growth_model.specs.Request.{place_for}
 use Rattle.growth_model.specs.Ends.{Ends}
-use Rattle.growth_model.specs.Sound.{Clear, Unclaimed, Spot, Spots, Placed, IsAway}
+use Rattle.growth_model.specs.Sound.{Clear, Unclaimed, Spots, Placed, IsAway}
 use Rattle.growth_model.proofs.CutLaws.{EachCut, cuts-last, cuts-then, cuts-grown}
-use Rattle.growth_model.proofs.SpotLaws.{frames, apart-clear, old-clear, Spots-swap, Clear-swap}
+use Rattle.growth_model.proofs.SpotLaws.{frames, apart-clear, old-clear, Spots-swap}
 use Rattle.growth_model.proofs.FoundLaws.{found-fits, found-unclaimed, place-unclaimed, unclaimed-away}
-use Rattle.growth_model.proofs.PlacedLaws.{live_by, live-is, live-same, Spots-same, placed-more, owners-of, moves-of, rooms-of, claim-placed, mem-placed, node-placed, Going, for_table, move-spots}
+use Rattle.growth_model.proofs.PlacedLaws.{live_by, live-is, live-same, placed-more, owners-of, moves-of, rooms-of, claim-placed, mem-placed, node-placed, for_table, move-spots}
 use Rattle.growth_model.proofs.PlacedReservedLaws.{roomy, room-going, claimed-cuts, freed-cuts, claimed-after, place-inside}
 
 -- a place for the memory table, whose room is that at the items: aligned, and nobody's

@@ -1,18 +1,16 @@
 -- The places of both tables stay good throughout a growth of the reserved table, a claim and a free.
-use Rattle.std.proofs.Common.{◌≡◌, ◌⊎◌, ℕ, ◌+◌, ◌*◌, ◌%◌, Bool, true, false, Option, Some, None, List, [], ◌∷◌, ◌++◌, refl, sym, ◌∙◌, ap, subst, inl, inr, arith}
+use Rattle.std.proofs.Common.{◌≡◌, ℕ, ◌*◌, true, Option, Some, None, List, [], ◌∷◌, ◌++◌, refl, sym, subst, inl, inr, arith}
 use Rattle.std.proofs.lemmas.Bool.{cases_Bool}
 use Rattle.bm_base.specs.Extent.{Extent, covers}
 use Rattle.address_runs.specs.Edits.{uncovered, replaced}
-use Rattle.memblock_model.specs.declared.which.Which.{Which}
 use Rattle.memblock_model.specs.declared.which.Which.TheVariants as which
 use Rattle.memblock_model.specs.declared.owner.Owner.{Owner}
-use Rattle.memblock_model.specs.declared.owner.Owner.TheVariants as owner
 use Rattle.memblock_model.specs.declared.item.Item.{Item}
 use Rattle.memblock_model.specs.declared.item.Item.TheVariants as item
 use Rattle.memblock_model.specs.Items.{Owners, owner_of, limit_of}
 use Rattle.memblock_model.specs.Tables.{room_of, moved_to, live}
-use Rattle.growth_model.specs.Outcome.{after, write, ◌>>◌}
-use Rattle.growth_model.specs.Growth.{frames_at, place_beside, left, reserved_items, reserved_growth_at, reserved_growth, new_in, two, grown, claimed, freed}
+use Rattle.growth_model.specs.Outcome.{after, write}
+use Rattle.growth_model.specs.Growth.{frames_at, place_beside, reserved_items, reserved_growth_at, reserved_growth, new_in, two, grown, claimed, freed}
 use Rattle.growth_model.specs.Sound.{Clear, Unclaimed, Spots, Placed, IsAway}
 use Rattle.growth_model.proofs.CutLaws.{EachCut, cuts-last, cuts-then, cuts-grown, cuts-map, after-then, then-unrefused}
 use Rattle.growth_model.proofs.SpotLaws.{frames-more}

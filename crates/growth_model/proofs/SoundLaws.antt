@@ -1,22 +1,21 @@
 -- However a call of memblock ends, both tables lie in good places from the first claim on.
-use Rattle.std.proofs.Common.{◌≡◌, ℕ, ◌^◌, ◌≤◌, Option, Some, None, List, [], ◌∷◌, ◌++◌, take, Bool, true, false, Result, Ok, Err, refl, sym, ◌∙◌, ap, subst, inl, inr}
+use Rattle.std.proofs.Common.{◌≡◌, ℕ, ◌^◌, ◌≤◌, Option, Some, None, List, [], ◌∷◌, ◌++◌, take, Bool, true, false, Result, Ok, Err, refl, sym, ◌∙◌, subst, inl, inr}
 use Rattle.std.proofs.lemmas.Bool.{cases_Bool, true≢false}
 use Rattle.bm_base.specs.Extent.{Extent, end_of}
 use Rattle.memblock_model.specs.declared.which.Which.TheVariants as which
 use Rattle.memblock_model.specs.declared.owner.Owner.{Owner}
-use Rattle.memblock_model.specs.declared.owner.Owner.TheVariants as owner
 use Rattle.memblock_model.specs.declared.item.Item.{Item}
 use Rattle.memblock_model.specs.declared.item.Item.TheVariants as item
 use Rattle.growth_model.specs.declared.refusal.Refusal.{Refusal}
 use Rattle.growth_model.specs.declared.refusal.Refusal.TheVariants as refusal
 use Rattle.growth_model.specs.declared.request.Request.{Request}
-use Rattle.growth_model.specs.Outcome.{Outcome, Change, joined, nothing, write, if_due}
+use Rattle.growth_model.specs.Outcome.{Outcome, Change, joined, nothing, if_due}
 use Rattle.growth_model.specs.Growth.{is_full, new_in, two, grown, claimed, freed, reserved_growth, memory_growth, added, noded}
 use Rattle.growth_model.specs.Request.{place_for}
 use Rattle.growth_model.specs.Ends.{EndsBy, Ends, Allocates}
 use Rattle.growth_model.specs.Sound.{keeps, Placed, IsImage, HasBegun, IsAway, MayClaim}
 use Rattle.growth_model.proofs.CutLaws.{EachCut, cuts-ends, cuts-map, cuts-due, cuts-grown}
-use Rattle.growth_model.proofs.PlacedLaws.{MayTake, Aside, aside-same, Going, trim-placed, limit-placed}
+use Rattle.growth_model.proofs.PlacedLaws.{aside-same, Going, trim-placed, limit-placed}
 use Rattle.growth_model.proofs.PlacedReservedLaws.{reserved-cuts, room-cuts, claimed-cuts, freed-cuts}
 use Rattle.growth_model.proofs.PlacedMemoryLaws.{memory-cuts, added-cuts, noded-cuts, allocated-cuts}
 use Rattle.growth_model.proofs.FirstLaws.{first-full, first-full_by_two, first-claimed, first-placed}

@@ -1,12 +1,12 @@
 -- Places of tables, by ranges and owners alone: what a claim, a free and a move leave of them.
-use Rattle.std.proofs.Common.{◌≡◌, ◌≢◌, ℕ, ◌+◌, ◌*◌, ◌/◌, ◌%◌, ◌<◌, ◌≤◌, Bool, true, false, if◌then◌else◌, Option, Some, None, refl, sym, ◌∙◌, ap, subst, inl, inr, arith}
+use Rattle.std.proofs.Common.{◌≡◌, ℕ, ◌+◌, ◌*◌, ◌/◌, ◌%◌, ◌<◌, ◌≤◌, Bool, true, false, if◌then◌else◌, Option, Some, None, refl, sym, ◌∙◌, ap, inl, inr, arith}
 use Rattle.std.proofs.lemmas.Bool.{cases_Bool, true≢false}
 use Rattle.std.proofs.lemmas.Bool.Decides.{nat_tests}
 use Rattle.bm_base.specs.Extent.{Extent, covers}
 use Rattle.address_runs.specs.Edits.{uncovered, replaced}
 use Rattle.memblock_model.specs.declared.owner.Owner.{Owner}
 use Rattle.memblock_model.specs.Items.{Owners}
-use Rattle.growth_model.specs.Growth.{frames_of, frames_at}
+use Rattle.growth_model.specs.Growth.{frames_at}
 use Rattle.growth_model.specs.Sound.{keeps, Spot, Apart, Clear, Unclaimed, Spots}
 
 -- the frames of a range that begins with one

@@ -1,3 +1,4 @@
+mod Examples
 pub mod KeptLaws
 pub mod PlaceLaws
 pub mod MoreLaws
@@ -7,3 +8,4 @@ pub mod ChangeLaws
 pub mod MemblockLaws
 pub mod MemoryLaws
 pub mod RequestLaws
+mod TouchExamples

@@ -1,9 +1,9 @@
 -- What holds of a memblock holds at first, and behind each item and each fill.
-use Rattle.std.proofs.Common.{◌≡◌, ℕ, ◌+◌, ◌-◌, ◌*◌, ◌^◌, ◌<◌, ◌≤◌, Bool, true, false, ◌||◌, nat_lt, nat_le, if◌then◌else◌, Option, Some, None, List, [], ◌∷◌, ◌++◌, length, replicate, get_or, IsTrue, refl, sym, ◌∙◌, ap, subst, inl, inr, arith}
+use Rattle.std.proofs.Common.{◌≡◌, ℕ, ◌+◌, ◌-◌, ◌*◌, Bool, true, false, ◌||◌, nat_lt, nat_le, if◌then◌else◌, None, List, [], ◌∷◌, ◌++◌, replicate, get_or, IsTrue, refl, sym, ◌∙◌, ap, subst, inl, inr, arith}
 use Rattle.std.proofs.lemmas.Bool.{cases_Bool, cases_lt}
 use Rattle.std.proofs.lemmas.Bool.Decides.{nat_tests}
 use Rattle.std.proofs.lemmas.List.{get_or-replicate, get_or_past, length-replicate}
-use Rattle.bm_base.specs.Extent.{Extent, end_of, covers}
+use Rattle.bm_base.specs.Extent.{Extent, covers}
 use Rattle.phys_store.specs.Bytes.{Stored, byte_of, Wrote}
 use Rattle.address_runs.specs.Runs.{RunOf, value_at}
 use Rattle.memblock_model.specs.declared.which.Which.{Which}
@@ -17,11 +17,11 @@ use Rattle.memblock_model.proofs.TableLaws.{records_for-is}
 use Rattle.memblock_ranges.specs.Spelling.{spelled_table}
 use Rattle.memblock_ranges.specs.Tables.{Table, Contents, bytes_of}
 use Rattle.growth_model.specs.Sound.{IsImage, HasBegun, IsAway, Clear}
-use Rattle.growth_model.specs.Bytes.{table_for, spelled_at, shown_by, AreSpelled, shown, byte, Filled, put, Follows}
+use Rattle.growth_model.specs.Bytes.{table_for, spelled_at, shown_by, AreSpelled, byte, Filled, put, Follows}
 use Rattle.growth_model.proofs.SpotLaws.{covers-from}
 use Rattle.growth_model.proofs.FirstLaws.{no_table_full}
 use Rattle.growth_model.proofs.SoundLaws.{trim-stands, limit-stands}
-use Rattle.growth_model.proofs.FollowLaws.{shown-by, follows-item, follows-still}
+use Rattle.growth_model.proofs.FollowLaws.{follows-item, follows-still}
 use Rattle.growth_model.proofs.FillLaws.{fill-spelled}
 use Rattle.memblock_grow.specs.Kept.{AreKept, IsMemblock, AreTold}
 use Rattle.memblock_grow.proofs.KeptLaws.{kept-same, kept-trim, kept-limit}

@@ -1,7 +1,6 @@
 -- The growth of the memory table: where it goes, what it writes, and what it makes of the tables and of each byte.
-use Rattle.std.proofs.Common.{◌≡◌, ℕ, ◌+◌, ◌-◌, ◌*◌, ◌^◌, ◌<◌, ◌≤◌, Option, Some, None, List, [], ◌∷◌, ◌++◌, Result, Ok, Err, refl, sym, ◌∙◌, ap, subst, arith}
+use Rattle.std.proofs.Common.{◌≡◌, ℕ, ◌+◌, ◌-◌, ◌*◌, ◌^◌, ◌<◌, Option, Some, None, List, [], ◌∷◌, ◌++◌, Result, Ok, Err, refl, sym, ◌∙◌, ap, subst, arith}
 use Rattle.std.specs.Option.{option_map, IfSome}
-use Rattle.std.specs.Result.{OnOk}
 use Rattle.bm_base.specs.Extent.{Extent, end_of}
 use Rattle.phys_store.specs.Bytes.{byte_of}
 use Rattle.memblock_model.specs.declared.which.Which.TheVariants as which

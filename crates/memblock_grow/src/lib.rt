@@ -26,6 +26,8 @@ mod more;
 mod places;
 mod request;
 mod reserved;
+#[cfg(test)]
+mod tests;
 
 pub use growth_model::{Refusal, Request};
 pub use memblock::Memblock;

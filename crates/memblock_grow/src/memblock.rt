@@ -220,7 +220,13 @@ impl Memblock {
             (byte_of self.old.tables.store) (byte_of self.new.tables.store) }
         ensures still_ready { StayReady self.old.tables.store self.new.tables.store }
     {
-        request::allocate(&mut self.journal, &mut self.tables, self.limit, request, owner)
+        request::allocate(
+            &mut self.journal,
+            &mut self.tables,
+            self.limit,
+            request,
+            owner,
+        )
     }
 
     /// Writes the byte to each address of the range, which meets no table. After `Memory` each byte is as before.

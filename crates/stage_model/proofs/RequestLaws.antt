@@ -49,11 +49,14 @@ carried-table T w room old new change h = inl (ap stop_of h.0, h.1 ∙ sym (appe
 pub carried-wanting : (T : Type 0) (old new : List Item) (change : Change) → Ends {T = T} (Err refusal.Memory) old new change
     → EndsAs {A = Unit {0}} stop.Memory (Err stop.Memory) old new (carried change old)
 carried-wanting T old new change cut =
-    inr (refl, record {
-      count = cut.count;
-      within = cut.within;
-      stands = cut.stands ∙ sym (appended-joined old (take cut.count (change old).steps));
-    })
+    inr (
+      refl,
+      record {
+        count = cut.count;
+        within = cut.within;
+        stands = cut.stands ∙ sym (appended-joined old (take cut.count (change old).steps));
+      },
+    )
 
 -- an allocation
 found_by : (r : Result ℕ Refusal) (old new : List Item) (place size : ℕ) (who : Owner) → IfOk r (λ base. base ≡ place)

@@ -200,7 +200,10 @@ fn allocations_come_from_the_top(rt: HostRuntime) -> Result<(), Fail> {
     assert_eq!(rt; second, Some(Ok(0x7FB1000)));
     let large = alloc(&mut memblock, &request(0x8000000, 0, None, None));
     assert_eq!(rt; large, Some(Err(Refusal::NoGap)));
-    let low = alloc(&mut memblock, &request(0x1000, 0x100000, Some(0x200000), Some(1)));
+    let low = alloc(
+        &mut memblock,
+        &request(0x1000, 0x100000, Some(0x200000), Some(1)),
+    );
     assert_eq!(rt; low, Some(Ok(0x1FF000)));
     assert!(rt; act(&mut memblock, Step::Free(0x7FB5000, 0x1000))?);
     assert!(rt; !act(&mut memblock, Step::Free(0x2FFE000, 1))?);
@@ -220,8 +223,14 @@ fn tables_move(rt: HostRuntime) -> Result<(), Fail> {
         assert!(rt; act(&mut memblock, Step::Add(0x100000000 + 0x2000 * i, 0x1000))?);
     }
     assert_eq!(rt; memblock.journal().items().len(), 514);
-    assert_eq!(rt; memblock.journal().owner_at(0x7FDBFFF), Some(Owner::Table(Which::Reserved)));
-    assert_eq!(rt; memblock.journal().owner_at(0x7FDE000), Some(Owner::Table(Which::Memory)));
+    assert_eq!(rt;
+        memblock.journal().owner_at(0x7FDBFFF),
+        Some(Owner::Table(Which::Reserved))
+    );
+    assert_eq!(rt;
+        memblock.journal().owner_at(0x7FDE000),
+        Some(Owner::Table(Which::Memory))
+    );
 
     // The first place of the memory table is zeros; at its new one stand the first record and, behind the last one, zeros.
     let mut record = [0; 24];

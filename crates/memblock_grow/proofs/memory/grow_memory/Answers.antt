@@ -1,17 +1,14 @@
-use Rattle.std.proofs.Common.{◌≡◌, ◌≢◌, ℕ, ◌+◌, ◌*◌, ◌^◌, ◌<◌, ◌≤◌, List, [], ◌∷◌, ◌++◌, Err, refl, sym, ◌∙◌, ap, subst, arith}
+use Rattle.std.proofs.Common.{◌≢◌, ◌+◌, ◌*◌, ◌^◌, ◌<◌, List, Err, refl, sym, ◌∙◌, ap, subst, arith}
 use Rattle.std.proofs.lemmas.Result.{err_from_is_err_and}
 use Rattle.bm_base.specs.Extent.{Extent, end_of}
 use Rattle.phys_store.specs.Bytes.{byte_of}
 use Rattle.memblock_model.specs.declared.which.Which.TheVariants as which
-use Rattle.memblock_model.specs.declared.owner.Owner.TheVariants as owner
 use Rattle.memblock_model.specs.declared.item.Item.{Item}
 use Rattle.memblock_model.specs.declared.item.Item.TheVariants as item
-use Rattle.boot_journal.specs.Contents.{Contents as Journal}
 use Rattle.memblock_ranges.specs.declared.region.Head.{Head}
 use Rattle.growth_model.specs.declared.refusal.Refusal.{Refusal}
 use Rattle.growth_model.specs.Growth.{frames_of}
 use Rattle.growth_model.specs.Bytes.{Follows}
-use Rattle.growth_model.proofs.SoundLaws.{may-keep}
 use Rattle.growth_model.proofs.FollowLaws.{follows-then, follows-stands}
 use Rattle.memblock_grow.specs.Kept.{AreKept}
 use Rattle.memblock_grow.proofs.KeptLaws.{kept-same}

@@ -1,4 +1,4 @@
-use Rattle.std.proofs.Common.{◌≡◌, false, true, Ok, refl, sym, ◌∙◌}
+use Rattle.std.proofs.Common.{refl, sym, ◌∙◌}
 use Rattle.memblock_model.specs.declared.which.Which.TheVariants as which
 use Rattle.growth_model.specs.Growth.{is_full, memory_growth}
 use Rattle.growth_model.proofs.EndLaws.{Ends-due, Ends-idle}

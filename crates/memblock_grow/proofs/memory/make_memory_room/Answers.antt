@@ -1,4 +1,4 @@
-use Rattle.std.proofs.Common.{◌≡◌, Ok, sym, ◌∙◌, ap, ◌⊎◌}
+use Rattle.std.proofs.Common.{ap, ◌⊎◌}
 use Rattle.memblock_model.specs.declared.which.Which.TheVariants as which
 use Rattle.memblock_ranges.specs.Tables.{Contents}
 use Rattle.growth_model.specs.Outcome.{if_due}

@@ -1,5 +1,5 @@
 -- The fill meets no table, so the tables lie in the bytes as before.
-use Rattle.std.proofs.Common.{◌≡◌, ℕ, length, sym, ◌∙◌, ap, subst}
+use Rattle.std.proofs.Common.{ℕ, length, sym, ◌∙◌, ap, subst}
 use Rattle.phys_store.specs.Bytes.{byte_of}
 use Rattle.growth_model.specs.Sound.{IsAway}
 use Rattle.growth_model.specs.Bytes.{Filled, put}

@@ -1,0 +1,248 @@
+-- Small tables, computed: what is kept, where a table may go, and whether it is full.
+use Rattle.std.proofs.Common.{◌≡◌, ℕ, ◌+◌, ◌*◌, ◌^◌, ◌<◌, ◌≤◌, ◌%◌, true, false, if◌then◌else◌, Option, Some, None, List, [], ◌∷◌, refl, sym, ◌∙◌, ap, inl, inr, arith}
+use Rattle.std.proofs.lemmas.Bool.{cases_Bool}
+use Rattle.std.proofs.lemmas.Bool.Decides.{nat_tests}
+use Rattle.std.specs.Option.{option_map, option_or}
+use Rattle.bm_base.specs.Extent.{Extent, covers}
+use Rattle.phys_store.specs.Bytes.{Stored, byte_of}
+use Rattle.address_runs.specs.Runs.{value_at}
+use Rattle.memblock_model.specs.declared.which.Which.{Which}
+use Rattle.memblock_model.specs.declared.which.Which.TheVariants as which
+use Rattle.memblock_model.specs.declared.owner.Owner.TheVariants as owner
+use Rattle.memblock_model.specs.declared.query.Query.{Query}
+use Rattle.memblock_model.specs.Labels.{plain_label}
+use Rattle.memblock_model.specs.Tables.{table_of}
+use Rattle.memblock_model.specs.Search.{fits_in}
+use Rattle.memblock_model.proofs.SearchLaws.{fits_in-parts, fits_in-whole, best_in-last, best_in-fails}
+use Rattle.memblock_ranges.specs.Tables.{Table, Contents}
+use Rattle.memblock_ranges.proofs.CountLaws.{one-piece}
+use Rattle.growth_model.specs.Growth.{table_query, frames_at}
+use Rattle.growth_model.specs.Bytes.{table_for, spelled_at}
+use Rattle.growth_model.proofs.FirstLaws.{no_table_full}
+use Rattle.memblock_grow.specs.Contents.{Contents as Whole}
+use Rattle.memblock_grow.specs.declared.more.More.TheVariants as more
+use Rattle.memblock_grow.specs.Kept.{AreKept, IsMemblock, IsKept, AllowsClaim, AllowsFree, Keeps, AreTold, StayReady}
+use Rattle.memblock_grow.specs.Places.{best_of, frames_between, frames_beside, left_frames, first_of}
+use Rattle.memblock_grow.specs.More.{more_by, more_in, HasRoom, Grew, EndsBefore}
+use Rattle.memblock_grow.proofs.PlaceLaws.{best_in-large}
+
+abbrev image : Extent
+image = record { base = 65536; size = 16384 }
+
+-- both tables empty, in the last frames of the image
+abbrev at_first : Contents
+at_first = record {
+  memory = table_for which.Memory image [];
+  reserved = table_for which.Reserved image [];
+  store = [];
+}
+
+no_bytes_yet : (w : Which) (x : ℕ) → table_of w [] x ≡ None
+no_bytes_yet which.Memory x = refl
+no_bytes_yet which.Reserved x = refl
+
+kept_at_first : AreKept image [] at_first 0
+kept_at_first = record {
+  memory = refl;
+  reserved = refl;
+  limit = refl;
+  ends = λ w x le. no_bytes_yet w x;
+  fits = λ w. no_table_full w;
+  far = λ w place moved. cc;
+}
+
+-- the limit is that of the items
+other_limit : AreKept image [] at_first 1 → ⊥
+other_limit kept = let limit = kept.limit in cc
+
+-- an image of one frame holds no two tables
+image_of_one_frame : (t : Contents) (at : ℕ) → IsMemblock (record { base = 65536; size = 4096 }) [] t at → ⊥
+image_of_one_frame t at whole = let large = whole.image.large in omega arith
+
+no_memblock_of_another_limit : IsMemblock image [] at_first 1 → ⊥
+no_memblock_of_another_limit whole = other_limit whole.kept
+
+kept_by_it : IsMemblock image [] at_first 0 → IsKept [] at_first 0
+kept_by_it whole = (image, whole)
+
+limit_of_nobody : IsKept [] at_first 1 → ⊥
+limit_of_nobody known = let limit = known.1.kept.limit in cc
+
+-- the first claim is that of the image, for the kernel
+first_claim : IsMemblock image [] at_first 0 → AllowsClaim [] at_first 0 image owner.Kernel
+first_claim whole = (image, whole, (refl, refl))
+
+no_first_claim_of_others : AllowsClaim [] at_first 0 image owner.Crash → ⊥
+no_first_claim_of_others allowed = let who = allowed.2.1 in cc
+
+-- what meets a table isn't freed
+away_from_both : (range : Extent) (whole : IsMemblock image [] at_first 0) → range.size ≡ 0 → AllowsFree [] at_first 0 range
+away_from_both range whole none = (
+  image,
+  whole,
+  (
+    λ x at other. let out : covers range x ≡ false = grind (arith, nat_tests) in let clash : false ≡ true = sym out ∙ at in cc,
+    λ x at other. let out : covers range x ≡ false = grind (arith, nat_tests) in let clash : false ≡ true = sym out ∙ at in cc,
+  ),
+)
+
+nothing_done : Keeps [] at_first [] at_first 0
+nothing_done = λ kernel kept. kept
+
+two_rooms : (n : ℕ) → n ≡ 256 → n ≡ 128 → ⊥
+two_rooms n more less = omega arith
+
+other_room : Keeps [] at_first [] (record at_first { memory = record { records = []; place = 73728; room = 256 } }) 0 → ⊥
+other_room keeps = two_rooms 256 refl (ap (λ (t : Table). t.room) (keeps image kept_at_first).memory)
+
+-- two tables of no bytes: every byte lies beside them
+abbrev no_table : Table
+no_table = record { records = []; place = 0; room = 0 }
+
+abbrev beside : List Stored → Contents
+beside store = record { memory = no_table; reserved = no_table; store = store }
+
+a_byte_stays : AreTold (beside (record { base = 5; bytes = 7 ∷ [] } ∷ [])) (beside (record { base = 5; bytes = 7 ∷ [] } ∷ []))
+a_byte_stays x =
+    let out : covers (record { base = 0; size = 0 }) x ≡ false = grind (arith, nat_tests) in
+    ap (λ b. if b then spelled_at no_table x else (if b then spelled_at no_table x else
+    byte_of (record { base = 5; bytes = 7 ∷ [] } ∷ []) x)) (sym out)
+
+a_byte_is_lost : AreTold (beside (record { base = 5; bytes = 7 ∷ [] } ∷ [])) (beside []) → ⊥
+a_byte_is_lost told = let lost = told 5 in cc
+
+nothing_was_ready : StayReady [] (record { base = 5; bytes = 7 ∷ [] } ∷ [])
+nothing_was_ready x ready = cc
+
+ready_no_more : StayReady (record { base = 5; bytes = 7 ∷ [] } ∷ []) [] → ⊥
+ready_no_more stays = let ready = stays 5 refl in cc
+
+-- 64 KiB of memory, nothing claimed
+abbrev plain : Contents
+plain = record {
+  memory = record { records = record { base = 0; size = 65536; value = plain_label } ∷ []; place = 65536; room = 128 };
+  reserved = record { records = []; place = 69632; room = 128 };
+  store = [];
+}
+
+-- the best place is the highest one that is aligned and in the window
+best_at : (q : Query) (a : ℕ) → a % q.align ≡ 0 → q.lo ≤ a → 4096 ≤ a → a + q.size ≤ q.hi → a + q.size ≤ 65536 → 0 < q.size
+    → q.node ≡ None → ((b : ℕ) → b % q.align ≡ 0 → b + q.size ≤ q.hi → b ≤ a) → best_of plain q ≡ Some a
+best_at q a aligned low first high within some node last =
+    best_in-last (value_at plain.memory.records) (value_at plain.reserved.records) q a (record {
+      below = omega arith;
+      passes = fits_in-whole (value_at plain.memory.records) (value_at plain.reserved.records) q a (record {
+        aligned = aligned;
+        low = low;
+        first = first;
+        high = high;
+        held = grind (arith, nat_tests);
+        allowed = rw node refl;
+        label = λ x from under. grind (arith, nat_tests);
+        free = λ x from under. refl;
+      });
+      last = λ b lt h. let known = fits_in-parts (value_at plain.memory.records) (value_at plain.reserved.records) q b h in
+          last b known.aligned known.high;
+    })
+
+abbrev frame_below : ℕ → Query
+frame_below hi = record { lo = 0; hi = hi; size = 4096; align = 4096; node = None }
+
+best_frame : best_of plain (frame_below 16384) ≡ Some 12288
+best_frame = best_at (frame_below 16384) 12288 refl (omega arith) (omega arith) (omega arith) (omega arith) (omega arith) refl
+    (λ b aligned high. omega arith)
+
+no_frame : best_of plain (frame_below 4095) ≡ None
+no_frame = best_in-large (value_at plain.memory.records) (value_at plain.reserved.records) (frame_below 4095) (omega arith)
+
+-- the first search that has a place decides
+second_search : first_of plain (frame_below 4095 ∷ (frame_below 16384 ∷ (frame_below 65536 ∷ []))) ≡ Some 12288
+second_search = ap (λ (o : Option ℕ). option_or o (first_of plain (frame_below 16384 ∷ (frame_below 65536 ∷ [])))) no_frame
+    ∙ ap (λ (o : Option ℕ). option_or o (first_of plain (frame_below 65536 ∷ []))) best_frame
+
+no_search : first_of plain [] ≡ None
+no_search = refl
+
+-- two frames for 256 records
+best_frames : best_of plain (table_query 128 0 61440) ≡ Some 53248
+best_frames = best_at (table_query 128 0 61440) 53248 refl (omega arith) (omega arith) (omega arith) (omega arith) (omega arith) refl
+    (λ b aligned high. omega arith)
+
+frames_for_table : frames_between plain 128 0 61440 ≡ Some (record { base = 53248; size = 8192 })
+frames_for_table = ap (λ (o : Option ℕ). option_map (λ place. frames_at place (48 * 128)) o) best_frames
+
+no_frames_for_table : frames_between plain 128 0 8191 ≡ None
+no_frames_for_table =
+    ap (λ (o : Option ℕ). option_map (λ place. frames_at place (48 * 128)) o)
+    (best_in-large (value_at plain.memory.records) (value_at plain.reserved.records) (table_query 128 0 8191) (omega arith))
+
+-- above the last frame of the memory there is none, so below it
+none_above : best_of plain (table_query 128 65536 65536) ≡ None
+none_above = best_in-fails (value_at plain.memory.records) (value_at plain.reserved.records) (table_query 128 65536 65536) (λ b lt.
+    elim (cases_Bool (fits_in (value_at plain.memory.records) (value_at plain.reserved.records) (table_query 128 65536 65536) b)) as
+    (λ _. fits_in (value_at plain.memory.records) (value_at plain.reserved.records) (table_query 128 65536 65536) b ≡ false) [
+      | inl fits ↦
+          let known = fits_in-parts (value_at plain.memory.records) (value_at plain.reserved.records) (table_query 128 65536 65536) b fits in
+          let low = known.low in let high = known.high in absurd (omega arith)
+      | inr fails ↦ fails
+    ])
+
+frames_beside_a_frame : frames_beside plain 128 65536 (record { base = 61440; size = 4096 }) ≡ Some (record { base = 53248; size = 8192 })
+frames_beside_a_frame =
+    ap (λ (o : Option ℕ). option_map (λ place. frames_at place (48 * 128)) (option_or o (best_of plain (table_query 128 0 61440)))) none_above
+    ∙ ap (λ (o : Option ℕ). option_map (λ place. frames_at place (48 * 128)) o) best_frames
+
+-- and below the limit
+frames_below_a_limit : frames_beside plain 128 8191 (record { base = 61440; size = 4096 }) ≡ None
+frames_below_a_limit =
+    ap (λ (o : Option ℕ). option_map (λ place. frames_at place (48 * 128)) (option_or o (best_of plain (table_query 128 0 8191))))
+    (best_in-large (value_at plain.memory.records) (value_at plain.reserved.records) (table_query 128 65536 8191) (omega arith))
+    ∙ no_frames_for_table
+
+never_moved : left_frames 73728 128 ≡ None
+never_moved = refl
+
+moved_once : left_frames 53248 256 ≡ Some (record { base = 53248; size = 8192 })
+moved_once = refl
+
+-- how many records more
+two_by_items : more_by which.Memory more.Two [] ≡ 2
+two_by_items = refl
+
+pieces_by_items : more_by which.Reserved (more.PiecesOf (record { base = 5; size = 1 })) [] ≡ 1
+pieces_by_items = one-piece (record { base = 5; size = 1 }) (table_of which.Reserved []) (omega arith)
+    (omega arith) (λ x low high. refl)
+
+two_in_table : more_in more.Two no_table ≡ 2
+two_in_table = refl
+
+one_piece_in_table : more_in (more.PiecesOf (record { base = 5; size = 1 })) no_table ≡ 1
+one_piece_in_table = one-piece (record { base = 5; size = 1 }) (value_at []) (omega arith) (omega arith) (λ x low high. refl)
+
+room_for_two : HasRoom more.Two (record { records = []; place = 0; room = 2 })
+room_for_two = omega arith
+
+no_room_for_two : HasRoom more.Two (record { records = []; place = 0; room = 1 }) → ⊥
+no_room_for_two has = omega arith
+
+grew_once : Grew (record { records = []; place = 0; room = 128 }) (record { records = []; place = 4096; room = 256 })
+grew_once = record { room = refl; few = omega arith }
+
+grew_by_one : Grew (record { records = []; place = 0; room = 128 }) (record { records = []; place = 4096; room = 129 }) → ⊥
+grew_by_one grew = let room = grew.room in omega arith
+
+ends_in_space : EndsBefore (more.PiecesOf (record { base = 5; size = 1 }))
+ends_in_space = omega arith
+
+ends_behind : EndsBefore (more.PiecesOf (record { base = 5; size = 2 ^ 64 })) → ⊥
+ends_behind ends = omega arith
+
+-- what contracts see of a memblock
+abbrev whole_at_first : Whole
+whole_at_first = record { kernel = image; journal = record { items = []; spare = 0 }; tables = at_first }
+
+its_room : whole_at_first.tables.memory.room ≡ 128
+its_room = refl
+
+its_items : whole_at_first.journal.items ≡ []
+its_items = refl
