@@ -18,8 +18,11 @@ use Rattle.bm_base.proofs.EachLaws.{each_in-same}
 use Rattle.boot_model.specs.declared.limit.TheConstants.{MAX_PHYSMEM}
 use Rattle.e820_table.specs.Entries.{entry_at}
 use Rattle.e820_table.specs.Initrd.{initrd_of, is_initrd_far}
-use Rattle.boot_model.specs.Boot.{Given, Made, boot, claims, heads_of, map_judged}
-use Rattle.boot_model.proofs.BootLaws.{goes_on}
+use Rattle.memblock_model.specs.declared.item.Item.{Item}
+use Rattle.growth_model.specs.Carried.{carried_out}
+use Rattle.early_stages.specs.Wanted.{first_items}
+use Rattle.early_stages.proofs.FewLaws.{NeedNone, few_from_nothing}
+use Rattle.boot_model.specs.Boot.{Given, boot, claims, heads_of}
 use Rattle.bootmem_cli.specs.Words.{accepted, name_in}
 use Rattle.boot_inputs.specs.Inputs.{Held}
 use Rattle.boot_inputs.specs.Said.{no_options}
@@ -124,13 +127,21 @@ frames_are =
     ∙ count_same _ _ (2 ^ 52) (λ frame low. each_in-same (bytes_of_frame frame) _ _ (λ x from below. memory_is x))
     ∙ count_frames_between 0x100000 0x7FE0000 (2 ^ 52)
 
--- the map is judged: it has room, and frames
-judged_is : map_judged given ≡ Ok (record { map = runs; options = no_options; items = []; heads = heads_of given.kernel [] })
-judged_is = rw (map_is, frames_are) refl
+-- what a boot wants of them, so few items that no table grows
+abbrev wanted : List Item
+wanted = first_items MAX_PHYSMEM given.kernel given.initrd runs
 
--- behind it the boot makes memory of the map and claims what it needs, and leaves the map as it is: so this is what is written
-first_run : (made : Made) → boot given ≡ Ok made
-    → outcome (accepted (codes "--report" ∷ codes "map" ∷ codes "zp" ∷ [])) held
+few_wanted : NeedNone 0 0 wanted
+few_wanted = (omega arith, omega arith, (omega arith, omega arith, (omega arith, omega arith, (omega arith, omega arith, tt))))
+
+wanted_is_made : carried_out wanted [] ≡ Ok wanted
+wanted_is_made = few_from_nothing wanted few_wanted
+
+boot_is : boot given ≡ Ok (record { map = runs; options = no_options; items = wanted; heads = heads_of given.kernel wanted })
+unfolding boot
+boot_is = rw (map_is, frames_are, wanted_is_made) refl
+
+first_run : outcome (accepted (codes "--report" ∷ codes "map" ∷ codes "zp" ∷ [])) held
     ≡ Ok (codes "0x0000000000100000..0x0000000007fdffff 1 usable\n0x0000000007fe0000..0x0000000007ffffff 2 reserved\n")
 unfolding entry_at digits initrd_of is_initrd_far name_in
-first_run made goes = rw (goes, (goes_on given made goes).map ∙ map_is) refl
+first_run = rw boot_is refl

@@ -1,5 +1,6 @@
 pub mod EndLaws
 mod Examples
+pub mod FewLaws
 pub mod ItemLaws
 pub mod MapItemLaws
 pub mod MemoryLaws
