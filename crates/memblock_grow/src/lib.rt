@@ -26,8 +26,6 @@ mod more;
 mod places;
 mod request;
 mod reserved;
-#[cfg(test)]
-mod tests;
 
 pub use growth_model::{Refusal, Request};
 pub use memblock::Memblock;
