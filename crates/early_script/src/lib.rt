@@ -10,8 +10,12 @@
 //! - [`Live`]: which IDs are live, each with its range. Contracts see it as the list of them.
 //! - An ID is whole while nobody else claimed or freed a byte of its range; the journal tells that by a look-up.
 //!
-//! What a line may claim or free never meets memblock's tables: a `reserve` that does is refused, and a byte of a
-//! table has no owner of a script. So both tables stay where they lie, whatever the script asks.
+//! - [`run_lines`] runs lines one behind another, [`split_at_sections`] gives those before and behind the line that
+//!   places the sections.
+//!
+//! What a line may claim, free or fill never meets memblock's tables: a `reserve` that does is refused, and a byte of
+//! a table has no owner of a script. A table moves only where a claim or a freeing makes it grow. Where the program's
+//! own memory runs out amid a line, some steps of its change stand, and the IDs are as before.
 #![tactic(auto)]
 
 mod laws;
