@@ -8,8 +8,8 @@
 //! has the words for a list that is built from the lowest address on.
 //!
 //! A record of a range and a value, as `struct e820_entry` is one, is a [`Stretch`]; where its values
-//! can be laid over one another it is an [`Overlay`]. [`RunOf`] is that record for any value, where nothing fixes another one. [`overlay_all`] gives the runs of any list of
-//! such stretches, which may overlap and come in any order: at each address what they say of it,
+//! can be laid over one another it is an [`Overlay`]. [`RunOf`] is that record for any value, where nothing fixes
+//! another one. [`overlay_all`] gives the runs of any list of such stretches, which may overlap and come in any order: at each address what they say of it,
 //! joined in the order of the list. A list that is in order already takes n steps and is answered as
 //! it is (`order.rt`); another one is laid over itself by halves (`layers.rt`), which takes n log n
 //! steps where the stretches overlap little.

@@ -52,7 +52,8 @@ map_keep given = (
   ),
 )
 
-pub items_passed : (kernel : Extent) (answer : Result (List Item) Refused) (before after : Made) → with_items kernel before answer ≡ Ok after
+pub items_passed : (kernel : Extent) (answer : Result (List Item) Refused) (before after : Made) → with_items kernel before answer
+    ≡ Ok after
     → (answer ≡ Ok after.items) × (after.map ≡ before.map)
 items_passed kernel (Ok items) before after ends =
     let same : record before { items = items; heads = heads_of kernel items } ≡ after = cc in

@@ -56,7 +56,8 @@ memory_made given made ends =
     chain_keeps (λ (m : Made). m.items) (map_stages given) (items_keep given) (begin given) judged.middle judged.first in
     let map : judged.middle.map ≡ map_of (claims given) =
     chain_keeps (λ (m : Made). m.map) (map_stages given) (map_keep given) (begin given) judged.middle judged.first in
-    let passed = items_passed given.kernel (carried_out (first_items MAX_PHYSMEM given.kernel given.initrd judged.middle.map) judged.middle.items)
+    let passed = items_passed given.kernel (carried_out (first_items MAX_PHYSMEM given.kernel given.initrd judged.middle.map)
+    judged.middle.items)
     judged.middle behind.middle behind.first in
     record {
       first = behind.middle;
@@ -90,7 +91,8 @@ memory_told given made x ends =
     let known : HasMemory given made = memory_made given made ends in
     let map : List (RunOf ℕ) = map_of (claims given) in
     let reached : TypeAt = reachable MAX_PHYSMEM (value_at map) in
-    let first = first_memory MAX_PHYSMEM given.kernel given.initrd map known.first.items (map_between (claims given)).runs known.carried x in
+    let first = first_memory MAX_PHYSMEM given.kernel given.initrd map known.first.items (map_between (claims given)).runs
+    known.carried x in
     ap (λ (h : ℕ → Bool). h x) known.memory ∙ ap is_some first
     ∙ some_is (is_usable reached (x / 4096))
     ∙ ap (λ (t : TypeAt). is_usable t (x / 4096)) (types_same given)

@@ -51,7 +51,13 @@ decided given (Ok runs) answers =
     let c : List (RunOf ℕ) = map_of (claims given) in
     let known = told (nat_lt E820_MAX_ENTRIES (length c)) (length c) c runs.items answers in
     rw known.0 (last_stage (has_frames given (begin given)))
-    ∙ ap (λ (map : List (RunOf ℕ)). has_frames given (record { map = map; options = given.options; items = []; heads = heads_of given.kernel [] })) known.1
+    ∙ ap (λ (map : List (RunOf ℕ)). has_frames given (record {
+      map = map;
+      options = given.options;
+      items = [];
+      heads = heads_of
+          given.kernel [];
+    })) known.1
 decided given (Err (faults.MapFull runs)) answers =
     let c : List (RunOf ℕ) = map_of (claims given) in
     let known = told_full (nat_lt E820_MAX_ENTRIES (length c)) (length c) c runs (answers (λ same. cc same)) in

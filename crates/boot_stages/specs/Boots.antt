@@ -40,7 +40,13 @@ judged_answer (Err fault) = Err (stop_of_map fault)
 
 -- by that answer the boot goes on to judge the frames, or stops; with no memory for it nothing is said
 abbrev pub IsDecided : Given → MapAnswer → Type 0
-IsDecided given (Ok runs) = map_judged given ≡ has_frames given (record { map = runs.items; options = given.options; items = []; heads = heads_of given.kernel [] })
+IsDecided given (Ok runs) = map_judged given ≡ has_frames given (record {
+  map = runs.items;
+  options = given.options;
+  items = [];
+  heads
+      = heads_of given.kernel [];
+})
 IsDecided given (Err (faults.MapFull runs)) = map_judged given ≡ Err (causes.MapFull runs)
 IsDecided given (Err faults.Memory) = Unit {0}
 

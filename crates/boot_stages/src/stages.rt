@@ -60,7 +60,12 @@ pub fn boot(alloc: Global, inputs: Inputs) -> Result<Booted, Stop>
 /// The map of the table's claims, where the boot goes on with it.
 fn settled_map(table: &Table) -> Result<Vec<Run>, Stop>
     ensures answers { (given : Given) → claims given ≡ claims_of table.now →
-        Answers Stop.Memory (λ map. record { map = map.items; options = given.options; items = []; heads = heads_of given.kernel [] }) result
+        Answers Stop.Memory (λ map. record {
+          map = map.items;
+          options = given.options;
+          items = [];
+          heads = heads_of given.kernel [];
+        }) result
         (with_error stop_of (map_judged given)) }
     ensures runs { IfOk result (λ map. AreRuns map.items) }
 {

@@ -84,10 +84,12 @@ no_report = refl
 empty_name_in_list : accepted (codes "--report" ∷ codes "map,," ∷ codes "zp" ∷ []) ≡ None
 empty_name_in_list = refl
 
-kernel_below_the_first_MiB : accepted (codes "--kernel" ∷ codes "0xFF000,0x2000000" ∷ codes "--report" ∷ codes "map" ∷ codes "zp" ∷ []) ≡ None
+kernel_below_the_first_MiB : accepted (codes "--kernel" ∷ codes "0xFF000,0x2000000" ∷ codes "--report" ∷ codes "map" ∷ codes "zp" ∷ [])
+    ≡ None
 kernel_below_the_first_MiB = refl
 
-kernel_twice : accepted (codes "--kernel" ∷ codes "16M,32M" ∷ codes "--report" ∷ codes "map" ∷ codes "--kernel" ∷ codes "16M,32M" ∷ codes "zp" ∷
+kernel_twice : accepted (codes "--kernel" ∷ codes "16M,32M" ∷ codes "--report" ∷ codes "map" ∷ codes "--kernel" ∷ codes "16M,32M" ∷
+    codes "zp" ∷
     []) ≡ None
 kernel_twice = refl
 

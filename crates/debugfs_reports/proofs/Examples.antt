@@ -20,7 +20,12 @@ heads = record {
 }
 
 made : Made
-made = record { map = reserved ∷ []; options = record { edits = edits.Clear ∷ []; crash = no_crash; numa_off = true }; items = []; heads = heads }
+made = record {
+  map = reserved ∷ [];
+  options = record { edits = edits.Clear ∷ []; crash = no_crash; numa_off = true };
+  items = [];
+  heads = heads;
+}
 
 nothing : Made
 nothing = record { map = []; options = record { edits = []; crash = no_crash; numa_off = false }; items = []; heads = heads }
@@ -53,7 +58,8 @@ in_examples = (refl, refl)
 title_examples : (title true reports.Map ≡ codes "== map\n") × (title false reports.Map ≡ [])
 title_examples = (refl, refl)
 
-part_examples : (part true made reports.Options ≡ codes "== options\nclear\nnuma off\n") × (part false made reports.Options ≡ codes "clear\nnuma off\n")
+part_examples : (part true made reports.Options ≡ codes "== options\nclear\nnuma off\n") × (part false made reports.Options
+    ≡ codes "clear\nnuma off\n")
 unfolding made
 part_examples = (refl, refl)
 

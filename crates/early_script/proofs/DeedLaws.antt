@@ -13,7 +13,8 @@ use Rattle.early_script.specs.declared.outcome.Outcome.{Outcome}
 use Rattle.early_script.specs.Acted.{State, Deed, Acts, byte_by, request_of, deed, alloc_deed, reserve_deed, free_deed, trim_deed, fill_deed, peek_deed}
 use Rattle.early_script.proofs.RunLaws.{bytes-quiet}
 
-pub deed-alloc : (s : State) (bytes : ℕ → ℕ) (a : Act) (id : ℕ) (asked : Asked) (r : Request) → a ≡ acts.Alloc id asked → r ≡ request_of asked →
+pub deed-alloc : (s : State) (bytes : ℕ → ℕ) (a : Act) (id : ℕ) (asked : Asked) (r : Request) → a ≡ acts.Alloc id asked → r ≡ request_of
+    asked →
     deed s bytes a ≡ alloc_deed s id r
 unfolding deed
 deed-alloc s bytes a id asked r is same = ap (λ (b : Act). deed s bytes b) is ∙ ap (λ (q : Request). alloc_deed s id q) (sym same)

@@ -24,7 +24,8 @@ agreed : (o : Option Owner) (who : Owner) → agree same_owner o (Some who) ≡ 
 agreed None who h = let clash : false ≡ true = h in cc clash
 agreed (Some a) who h = ap (λ (b : Owner). Some b) (owner_tells.true_is_equal a who h)
 
-pub owned-each : (own : Owners) (who : Owner) (range : Extent) → is_owned own who range ≡ true → (x : ℕ) → range.base ≤ x → x < end_of range →
+pub owned-each : (own : Owners) (who : Owner) (range : Extent) → is_owned own who range ≡ true → (x : ℕ) → range.base ≤ x → x < end_of
+    range →
     own x ≡ Some who
 unfolding is_owned
 owned-each own who range h x low high = agreed (own x) who (each_in-each range (λ y. agree same_owner (own y) (Some who)) h x low high)

@@ -14,7 +14,12 @@ none_set : (n : ℕ) → n ≡ 0 → count_ones n ≡ 0
 none_set n none = let most = ones_le_self n in omega arith
 
 doubled : (n k : ℕ) → n % 2 ≡ 0 → n / 2 ≡ 2 ^ k → n ≡ 2 ^ (k + 1)
-doubled n k even half = let twice : 2 ^ (k + 1) ≡ 2 ^ k * 2 = ap (λ (e : ℕ). 2 ^ e) (add-one k) ∙ pow-suc 2 k in omega (arith, even, half, twice)
+doubled n k even half = let twice : 2 ^ (k + 1) ≡ 2 ^ k * 2 = ap (λ (e : ℕ). 2 ^ e) (add-one k) ∙ pow-suc 2 k in omega (
+  arith,
+  even,
+  half,
+  twice,
+)
 
 power_within : (most n : ℕ) → n ≤ most → count_ones n ≡ 1 → (k : ℕ) × (n ≡ 2 ^ k)
 power_within zero n small one = absurd (let none : count_ones n ≡ 0 = none_set n (omega arith) in omega (arith, one, none))

@@ -69,7 +69,8 @@ pub reserve-quiet : (s : State) (id : ℕ) (range : Extent) → (reserve_deed s 
 reserve-quiet s id range =
     let claim : Deed =
     record { change = claimed range (owner.Script id); answer = outcomes.Done; ids = with_range s.ids id range; fill = None } in
-    either (is_live s.ids id) (answers s outcomes.Taken) (if touches s.kernel s.items range then answers s outcomes.TableInUse else claim) refl
+    either (is_live s.ids id) (answers s outcomes.Taken) (if touches s.kernel s.items range then answers s outcomes.TableInUse else
+    claim) refl
     (either (touches s.kernel s.items range) (answers s outcomes.TableInUse) claim refl refl)
 
 whole_quiet : (s : State) (id : ℕ) (deed : Extent → Deed) (range : Option Extent) → ((r : Extent) → (deed r).fill ≡ None) →

@@ -20,7 +20,8 @@ use Rattle.early_script.specs.Acted.{State, IsRun, Deed, Acts, with_fill, deed, 
 use Rattle.early_script.specs.Found.{state_of, bytes_in}
 use Rattle.early_script.specs.Stage.{Stage, Reaches, deed_at, after_line, after_lines, before_sections, behind_sections}
 
-pub after_lines-append : (s : Stage) (lines : List Line) (line : Line) → after_lines s (lines ++ line ∷ []) ≡ after_line (after_lines s lines) line
+pub after_lines-append : (s : Stage) (lines : List Line) (line : Line) → after_lines s (lines ++ line ∷ []) ≡ after_line (after_lines s
+    lines) line
 after_lines-append s [] line = refl
 after_lines-append s (l ∷ lines) line = after_lines-append (after_line s l) lines line
 

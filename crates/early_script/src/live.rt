@@ -172,7 +172,8 @@ impl Live {
         ensures bytes { (x : ℕ) → bytes_in mb.new x ≡ byte_by result (state_of self.old mb.old) (state_of self.new mb.new)
             (fill_deed (state_of self.old mb.old) id byte) x (bytes_in mb.old x) }
         ensures holds { (fills : List Filled) → Holds mb.old.kernel mb.old.journal.items fills (bytes_in mb.old) →
-            Holds mb.new.kernel mb.new.journal.items (fills_by result (fill_deed (state_of self.old mb.old) id byte) fills) (bytes_in mb.new) }
+            Holds mb.new.kernel mb.new.journal.items
+            (fills_by result (fill_deed (state_of self.old mb.old) id byte) fills) (bytes_in mb.new) }
     {
         stand_still(mb);
         let range = match self.whole(mb, id) {

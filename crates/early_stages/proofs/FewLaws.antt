@@ -86,14 +86,15 @@ claim_few range who items n m few small low =
     let i : Item = item.Claim range who in
     let known = covers_few range (table_of which.Reserved items) n small (few.within which.Reserved) few.reserved in
     let enough : length (records_for (table_of which.Reserved items)) + pieces range (table_of which.Reserved items) ≤ 128 =
-    omega (arith, known.0, low) in
-    (plain i items (claimed-idle items range who (not_full which.Reserved range items (few.rooms which.Reserved) enough)),
-    record {
-      reserved = pushed which.Reserved items i (2 * n + 1) known.1;
-      memory = pushed which.Memory items i m few.memory;
-      rooms = λ w. room_of-push w items i ∙ few.rooms w;
-      within = λ w. items-within w items i small (few.within w);
-    })
+    omega (arith, known.0, low) in (
+      plain i items (claimed-idle items range who (not_full which.Reserved range items (few.rooms which.Reserved) enough)),
+      record {
+        reserved = pushed which.Reserved items i (2 * n + 1) known.1;
+        memory = pushed which.Memory items i m few.memory;
+        rooms = λ w. room_of-push w items i ∙ few.rooms w;
+        within = λ w. items-within w items i small (few.within w);
+      },
+    )
 
 add_few : (range : Extent) (items : List Item) (n m : ℕ) → HasFew items n m → end_of range ≤ 2 ^ 64 → 2 * m + 1 ≤ 128
     → (ended items (added range items) ≡ Ok (items ++ item.Mem range ∷ [])) × HasFew (items ++ item.Mem range ∷ []) n (2 * m + 1)
@@ -101,14 +102,15 @@ add_few range items n m few small low =
     let i : Item = item.Mem range in
     let known = covers_few range (table_of which.Memory items) m small (few.within which.Memory) few.memory in
     let enough : length (records_for (table_of which.Memory items)) + pieces range (table_of which.Memory items) ≤ 128 =
-    omega (arith, known.0, low) in
-    (plain i items (added-idle items range (not_full which.Memory range items (few.rooms which.Memory) enough)),
-    record {
-      reserved = pushed which.Reserved items i n few.reserved;
-      memory = pushed which.Memory items i (2 * m + 1) known.1;
-      rooms = λ w. room_of-push w items i ∙ few.rooms w;
-      within = λ w. items-within w items i small (few.within w);
-    })
+    omega (arith, known.0, low) in (
+      plain i items (added-idle items range (not_full which.Memory range items (few.rooms which.Memory) enough)),
+      record {
+        reserved = pushed which.Reserved items i n few.reserved;
+        memory = pushed which.Memory items i (2 * m + 1) known.1;
+        rooms = λ w. room_of-push w items i ∙ few.rooms w;
+        within = λ w. items-within w items i small (few.within w);
+      },
+    )
 
 trim_few : (items : List Item) (n m : ℕ) → HasFew items n m → HasFew (items ++ item.Trim ∷ []) n m
 trim_few items n m few =

@@ -27,7 +27,11 @@ live-push w kernel items i = λ k. record {
 -- an item that doesn't move a table away from an address leaves it there
 stays_at : (w : Which) (kernel : Extent) (items : List Item) (i : Item) (x : ℕ) → covers (live w kernel items) x ≡ true →
     leaves kernel items i x ≡ false →
-    covers (record { base = unwrap_or (moved_after w (moved_to w items) i) (built_in w kernel); size = 24 * room_after w (room_of w items) i }) x
+    covers (record {
+      base = unwrap_or (moved_after w (moved_to w items) i) (built_in w kernel);
+      size = 24 * room_after w (room_of w
+          items) i;
+    }) x
     ≡ true
 stays_at which.Memory kernel items (item.Grown which.Memory place room) x here stays = cc
 stays_at which.Memory kernel items (item.Grown which.Reserved place room) x here stays = here

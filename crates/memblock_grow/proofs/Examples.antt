@@ -182,14 +182,16 @@ none_above = best_in-fails (value_at plain.memory.records) (value_at plain.reser
     elim (cases_Bool (fits_in (value_at plain.memory.records) (value_at plain.reserved.records) (table_query 128 65536 65536) b)) as
     (λ _. fits_in (value_at plain.memory.records) (value_at plain.reserved.records) (table_query 128 65536 65536) b ≡ false) [
       | inl fits ↦
-          let known = fits_in-parts (value_at plain.memory.records) (value_at plain.reserved.records) (table_query 128 65536 65536) b fits in
+          let known = fits_in-parts (value_at plain.memory.records) (value_at plain.reserved.records) (table_query 128 65536 65536) b
+          fits in
           let low = known.low in let high = known.high in absurd (omega arith)
       | inr fails ↦ fails
     ])
 
 frames_beside_a_frame : frames_beside plain 128 65536 (record { base = 61440; size = 4096 }) ≡ Some (record { base = 53248; size = 8192 })
 frames_beside_a_frame =
-    ap (λ (o : Option ℕ). option_map (λ place. frames_at place (48 * 128)) (option_or o (best_of plain (table_query 128 0 61440)))) none_above
+    ap (λ (o : Option ℕ). option_map (λ place. frames_at place (48 * 128)) (option_or o (best_of plain (table_query 128 0 61440))))
+    none_above
     ∙ ap (λ (o : Option ℕ). option_map (λ place. frames_at place (48 * 128)) o) best_frames
 
 -- and below the limit

@@ -167,7 +167,8 @@ pub whole-fill : (kernel : Extent) (items : List Item) (t u : Contents) (at : �
     → IsMemblock kernel items t at → IsMemblock kernel items u at
 whole-fill kernel items t u at fill first second wrote away m =
     let memory : Clear fill.range (bytes_of t.memory) = subst (λ (s : Table). Clear fill.range (bytes_of s)) (sym m.kept.memory) away.0 in
-    let reserved : Clear fill.range (bytes_of t.reserved) = subst (λ (s : Table). Clear fill.range (bytes_of s)) (sym m.kept.reserved) away.1 in
+    let reserved : Clear fill.range (bytes_of t.reserved) = subst (λ (s : Table). Clear fill.range (bytes_of s)) (sym m.kept.reserved)
+    away.1 in
     let spelled : AreSpelled t.memory t.reserved (byte_of u.store) =
     fill-spelled t.memory t.reserved fill (byte_of t.store) (byte_of u.store) memory reserved m.spelled wrote in
     record {

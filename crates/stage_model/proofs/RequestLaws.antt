@@ -63,7 +63,8 @@ found_by : (r : Result ℕ Refusal) (old new : List Item) (place size : ℕ) (wh
     → Ends r old new (claimed (record { base = place; size = size }) who)
     → EndsAs refusal.Memory r old new (claimed_at (Some place) size who old)
 found_by (Ok base) old new place size who at h =
-    ends-second tt (Ok base) refusal.Memory old new new (changes (claimed (record { base = place; size = size }) who)) (λ done. returns place)
+    ends-second tt (Ok base) refusal.Memory old new new (changes (claimed (record { base = place; size = size }) who)) (λ done. returns
+    place)
     (ends-change (Ok tt) old new (claimed (record { base = place; size = size }) who) h) (ap (λ (p : ℕ). Ok p) (sym at), refl)
 found_by (Err e) old new place size who at h =
     let range : Extent = record { base = place; size = size } in

@@ -63,4 +63,5 @@ returns-clause-boots c =
     (c.in_ok-map.ensures.answers (inputs_view c.args.inputs) same)
     (subst Goes c.deref-4.ensures.value c.in_ok-memblock.ensures.answers)
     ∙ ap (λ (h : Heads). Ok (record made { items = c.in_ok-memblock.memblock.journal.items; heads = h })) heads
-    ∙ ap (λ (j : Contents). Ok (record made { items = j.items; heads = c.into_parts-store.result.1 })) (sym c.into_parts-store.ensures.journal)
+    ∙ ap (λ (j : Contents). Ok (record made { items = j.items; heads = c.into_parts-store.result.1 })) (sym
+    c.into_parts-store.ensures.journal)

@@ -33,6 +33,7 @@ loop-line-preserved c =
           let here = subst (λ (s : Stage). Reaches s c.run_line.new.self c.run_line.new.mb (c.loop-line.answers.items
           ++ record { line = line.number; outcome = c.in_ok-outcome.outcome } ∷ []))
           (sym (after_lines-append start so_far line) ∙ ap (λ (ls : List Line). after_lines start ls) (sym more)) next in
-          subst (λ (told : List Answer). Reaches (after_lines start (take (i + 1) c.args.lines.now)) c.run_line.new.self c.run_line.new.mb told)
+          subst (λ (told : List Answer). Reaches (after_lines start (take (i + 1) c.args.lines.now)) c.run_line.new.self
+          c.run_line.new.mb told)
           (sym c.in_ok-push.ensures.items) here;
     }

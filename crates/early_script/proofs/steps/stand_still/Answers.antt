@@ -10,5 +10,6 @@ use Rattle.early_script.proofs.steps.stand_still.Goals as goal
 pub returns : goal.returns
 returns c =
     let m = c.args.mb.now in
-    follows-none m.kernel m.journal.items (table_for which.Memory m.kernel m.journal.items) (table_for which.Reserved m.kernel m.journal.items)
+    follows-none m.kernel m.journal.items (table_for which.Memory m.kernel m.journal.items) (table_for which.Reserved m.kernel
+    m.journal.items)
     (bytes_in m) refl refl (spelled-lists m.kernel m.journal.items (bytes_in m) c.tables-tables.ensures.spelled)

@@ -52,7 +52,8 @@ loop-at-preserved c =
       start = next_start first end at o s k whole e.small e.size e.greatest single;
       counted = λ f n run.
           more ∙ ap (λ t. t + k * v) (c.loop-at.invariant.counted f n run)
-          ∙ sym (alike_more f first end n o s at k c.args.order c.args.zone run above c.blocks_alike-blocks.ensures.some room e.small e.size whole
+          ∙ sym (alike_more f first end n o s at k c.args.order c.args.zone run above c.blocks_alike-blocks.ensures.some room e.small
+          e.size whole
           e.fits e.greatest single c.blocks_alike-blocks.ensures.zone);
     }
 

@@ -19,7 +19,8 @@ returns c =
     let r : RunOf ℕ = record { base = c.run.inside.first; size = c.run.inside.count; value = c.run.inside.node } in
     let e = c.set_within-set.ensures in
     let first : ℕ = c.args.frame - c.args.frame % c.set_within-set.result.size in
-    ap (λ z. let b : Block = record { order = c.set_within-set.result.order; first = first; node = r.value; zone = z } in Some b) c.zone_of.ensures
+    ap (λ z. let b : Block = record { order = c.set_within-set.result.order; first = first; node = r.value; zone = z } in Some b)
+    c.zone_of.ensures
     ∙ found_at rs c.seek-i.result c.args.frame c.set_within-set.result.order c.set_within-set.result.size c.index-run.result.now r
     (c.run.view_is ∙ c.index-run.ensures) c.requires (omega arith) c.if-frame-run.false (rw (map-id rs) at c.seek-i.ensures.rest)
     e.small e.size e.fits e.greatest

@@ -29,7 +29,8 @@ loop-at-preserved c =
           let b : Block = record { order = o; first = at; node = c.args.node; zone = zone_of at } in
           let one = one_more f first end c.args.node o at s run above c.loop-at-test.true e.small e.size e.fits e.greatest whole in
           c.in_ok-push.ensures.items
-          ∙ ap (λ z. let made : Block = record { order = o; first = at; node = c.args.node; zone = z } in c.loop-at.blocks.items ++ made ∷ [])
+          ∙ ap (λ z. let made : Block = record { order = o; first = at; node = c.args.node; zone = z } in c.loop-at.blocks.items ++
+          made ∷ [])
           c.zone_of.ensures
           ∙ ap (λ (bs : List Block). bs ++ b ∷ []) (c.loop-at.invariant.listed f run)
           ∙ append_assoc c.args.blocks.now.items (blocks_from f first (at - first)) (b ∷ [])

@@ -9,7 +9,8 @@ use Rattle.stage_calls.proofs.calls.place.Goals as goal
 
 pub returns-in-Ok-clause-ends : goal.returns-in-Ok-clause-ends
 returns-in-Ok-clause-ends c =
-    ends-placed (Ok c.in-Ok.base) c.args.what c.args.memblock.now.journal.items c.alloc.new.self.journal.items c.args.request.now c.args.owner
+    ends-placed (Ok c.in-Ok.base) c.args.what c.args.memblock.now.journal.items c.alloc.new.self.journal.items c.args.request.now
+    c.args.owner
     (ends-allocation (Ok c.in-Ok.base) c.args.memblock.now.journal.items c.alloc.new.self.journal.items c.args.request.now c.args.owner
     c.in-Ok.ensures.ends)
 

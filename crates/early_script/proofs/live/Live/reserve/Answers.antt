@@ -7,5 +7,6 @@ use Rattle.early_script.proofs.live.Live.reserve.Goals as goal
 pub returns-in_err-keep-in-Ok-clause-acts : goal.returns-in_err-keep-in-Ok-clause-acts
 returns-in_err-keep-in-Ok-clause-acts c =
     reserve-wanting c.from_residual.result (state_of c.args.self.now c.args.mb.now) (state_of c.keep.new.self c.claim.new.self) c.args.id
-    c.args.range c.in-Ok.field-0 c.from_residual.ensures.0 (sym c.is_live.ensures ∙ c.if-is_live.false) (sym c.touches.ensures.value ∙ c.if-touches.false) c.in-Ok.ensures.ends
+    c.args.range c.in-Ok.field-0 c.from_residual.ensures.0 (sym c.is_live.ensures ∙ c.if-is_live.false) (sym c.touches.ensures.value ∙
+    c.if-touches.false) c.in-Ok.ensures.ends
     c.in-Ok.ensures.kernel c.in_err-keep-in-Ok.ensures.err

@@ -21,14 +21,16 @@ pub returns-in-Alloc-clause-acts : goal.returns-in-Alloc-clause-acts
 returns-in-Alloc-clause-acts c =
     let old = state_of c.args.self.now c.args.mb.now in
     let new = state_of c.alloc.new.self c.alloc.new.mb in
-    let is = deed-alloc old (bytes_in c.args.mb.now) c.args.line.now.act c.in-Alloc.id c.in-Alloc.request c.asked.result c.in-Alloc.is c.asked.ensures in
+    let is = deed-alloc old (bytes_in c.args.mb.now) c.args.line.now.act c.in-Alloc.id c.in-Alloc.request c.asked.result c.in-Alloc.is
+    c.asked.ensures in
     acts-as c.alloc.result old new _ (alloc_deed old c.in-Alloc.id c.asked.result) is c.alloc.ensures.acts
 
 pub returns-in-Alloc-clause-bytes : goal.returns-in-Alloc-clause-bytes
 returns-in-Alloc-clause-bytes c =
     let old = state_of c.args.self.now c.args.mb.now in
     let new = state_of c.alloc.new.self c.alloc.new.mb in
-    let is = deed-alloc old (bytes_in c.args.mb.now) c.args.line.now.act c.in-Alloc.id c.in-Alloc.request c.asked.result c.in-Alloc.is c.asked.ensures in
+    let is = deed-alloc old (bytes_in c.args.mb.now) c.args.line.now.act c.in-Alloc.id c.in-Alloc.request c.asked.result c.in-Alloc.is
+    c.asked.ensures in
     quiet-as c.alloc.result old new _ (alloc_deed old c.in-Alloc.id c.asked.result) (bytes_in c.args.mb.now) (bytes_in c.alloc.new.mb) is
     (alloc-quiet old c.in-Alloc.id c.asked.result) c.alloc.ensures.bytes
 
@@ -44,7 +46,8 @@ returns-in-Reserve-clause-bytes c =
     let old = state_of c.args.self.now c.args.mb.now in
     let new = state_of c.reserve.new.self c.reserve.new.mb in
     let is = deed-reserve old (bytes_in c.args.mb.now) c.args.line.now.act c.in-Reserve.id c.in-Reserve.range c.in-Reserve.is in
-    quiet-as c.reserve.result old new _ (reserve_deed old c.in-Reserve.id c.in-Reserve.range) (bytes_in c.args.mb.now) (bytes_in c.reserve.new.mb) is
+    quiet-as c.reserve.result old new _ (reserve_deed old c.in-Reserve.id c.in-Reserve.range) (bytes_in c.args.mb.now) (bytes_in
+    c.reserve.new.mb) is
     (reserve-quiet old c.in-Reserve.id c.in-Reserve.range) c.reserve.ensures.bytes
 
 pub returns-in-Free-clause-acts : goal.returns-in-Free-clause-acts
@@ -89,7 +92,8 @@ returns-in-Fill-clause-bytes c =
     let old = state_of c.args.self.now c.args.mb.now in
     let new = state_of c.fill.new.self c.fill.new.mb in
     let is = deed-fill old (bytes_in c.args.mb.now) c.args.line.now.act c.in-Fill.id c.in-Fill.byte c.in-Fill.is in
-    bytes-as c.fill.result old new _ (fill_deed old c.in-Fill.id c.in-Fill.byte) (bytes_in c.args.mb.now) (bytes_in c.fill.new.mb) is c.fill.ensures.bytes
+    bytes-as c.fill.result old new _ (fill_deed old c.in-Fill.id c.in-Fill.byte) (bytes_in c.args.mb.now) (bytes_in c.fill.new.mb) is
+    c.fill.ensures.bytes
 
 pub returns-in-Peek-clause-acts : goal.returns-in-Peek-clause-acts
 returns-in-Peek-clause-acts c =
@@ -109,8 +113,10 @@ pub returns-in-Alloc-clause-holds : goal.returns-in-Alloc-clause-holds
 returns-in-Alloc-clause-holds c = λ fills holds.
     let old = state_of c.args.self.now c.args.mb.now in
     let new = state_of c.alloc.new.self c.alloc.new.mb in
-    let is = deed-alloc old (bytes_in c.args.mb.now) c.args.line.now.act c.in-Alloc.id c.in-Alloc.request c.asked.result c.in-Alloc.is c.asked.ensures in
-    holds-quiet c.alloc.result old new _ (alloc_deed old c.in-Alloc.id c.asked.result) (bytes_in c.args.mb.now) (bytes_in c.alloc.new.mb) fills is
+    let is = deed-alloc old (bytes_in c.args.mb.now) c.args.line.now.act c.in-Alloc.id c.in-Alloc.request c.asked.result c.in-Alloc.is
+    c.asked.ensures in
+    holds-quiet c.alloc.result old new _ (alloc_deed old c.in-Alloc.id c.asked.result) (bytes_in c.args.mb.now) (bytes_in c.alloc.new.mb)
+    fills is
     (alloc-quiet old c.in-Alloc.id c.asked.result) c.alloc.ensures.acts c.alloc.ensures.bytes holds
 
 pub returns-in-Reserve-clause-holds : goal.returns-in-Reserve-clause-holds
@@ -118,7 +124,8 @@ returns-in-Reserve-clause-holds c = λ fills holds.
     let old = state_of c.args.self.now c.args.mb.now in
     let new = state_of c.reserve.new.self c.reserve.new.mb in
     let is = deed-reserve old (bytes_in c.args.mb.now) c.args.line.now.act c.in-Reserve.id c.in-Reserve.range c.in-Reserve.is in
-    holds-quiet c.reserve.result old new _ (reserve_deed old c.in-Reserve.id c.in-Reserve.range) (bytes_in c.args.mb.now) (bytes_in c.reserve.new.mb) fills is
+    holds-quiet c.reserve.result old new _ (reserve_deed old c.in-Reserve.id c.in-Reserve.range) (bytes_in c.args.mb.now) (bytes_in
+    c.reserve.new.mb) fills is
     (reserve-quiet old c.in-Reserve.id c.in-Reserve.range) c.reserve.ensures.acts c.reserve.ensures.bytes holds
 
 pub returns-in-Free-clause-holds : goal.returns-in-Free-clause-holds
@@ -134,7 +141,8 @@ returns-in-Trim-clause-holds c = λ fills holds.
     let old = state_of c.args.self.now c.args.mb.now in
     let new = state_of c.trim.new.self c.trim.new.mb in
     let is = deed-trim old (bytes_in c.args.mb.now) c.args.line.now.act c.in-Trim.id c.in-Trim.keep c.in-Trim.is in
-    holds-quiet c.trim.result old new _ (trim_deed old c.in-Trim.id c.in-Trim.keep) (bytes_in c.args.mb.now) (bytes_in c.trim.new.mb) fills is
+    holds-quiet c.trim.result old new _ (trim_deed old c.in-Trim.id c.in-Trim.keep) (bytes_in c.args.mb.now) (bytes_in c.trim.new.mb)
+    fills is
     (trim-quiet old c.in-Trim.id c.in-Trim.keep) c.trim.ensures.acts c.trim.ensures.bytes holds
 
 pub returns-in-Fill-clause-holds : goal.returns-in-Fill-clause-holds
@@ -142,7 +150,8 @@ returns-in-Fill-clause-holds c = λ fills holds.
     let old = state_of c.args.self.now c.args.mb.now in
     let new = state_of c.fill.new.self c.fill.new.mb in
     let is = deed-fill old (bytes_in c.args.mb.now) c.args.line.now.act c.in-Fill.id c.in-Fill.byte c.in-Fill.is in
-    holds-by c.fill.result new _ (fill_deed old c.in-Fill.id c.in-Fill.byte) (bytes_in c.fill.new.mb) fills is (c.fill.ensures.holds fills holds)
+    holds-by c.fill.result new _ (fill_deed old c.in-Fill.id c.in-Fill.byte) (bytes_in c.fill.new.mb) fills is (c.fill.ensures.holds
+    fills holds)
 
 pub returns-in-Peek-clause-holds : goal.returns-in-Peek-clause-holds
 returns-in-Peek-clause-holds c = λ fills holds.

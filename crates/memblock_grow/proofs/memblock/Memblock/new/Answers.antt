@@ -6,7 +6,8 @@ use Rattle.memblock_grow.proofs.memblock.Memblock.new.Goals as goal
 
 pub invariant_of-result : goal.invariant_of-result
 invariant_of-result c =
-    whole-new c.args.kernel c.new-journal.result.items c.in_ok-tables.tables c.requires (ap (λ (j : Journal). j.items) c.new-journal.ensures)
+    whole-new c.args.kernel c.new-journal.result.items c.in_ok-tables.tables c.requires (ap (λ (j : Journal). j.items)
+    c.new-journal.ensures)
     c.in_ok-tables.ensures.memory c.in_ok-tables.ensures.reserved c.in_ok-tables.ensures.bytes
 
 pub returns-clause-bytes : goal.returns-clause-bytes
