@@ -2,9 +2,8 @@
 //!
 //! The kernel keeps page structures a section at a time (`SECTION_SIZE_BITS`), for the sections that have memory alone. It marks these
 //! (`memory_present`), and finds a place for the table of roots and for each root that has such a section
-//! (`sparse_index_alloc`). [`present`] lists them from the records of the memory table, so empty terabytes cost nothing, and
-//! [`place_roots`] finds the places. The definitions look at each section alone (`specs/Present.antt`); a root covers 256 of them
-//! (`specs/Roots.antt`).
+//! (`sparse_index_alloc`). The definitions look at each section alone (`specs/Present.antt`); a root covers 256 of them
+//! (`specs/Roots.antt`). This crate has the definitions alone so far.
 #![tactic(auto)]
 
 mod roots;
