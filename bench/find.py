@@ -12,18 +12,14 @@ import os
 import shutil
 import tempfile
 
-from memblock import TOP, build, least_time
+from memblock import TOP, build, copy_crates, least_time
 
 CRATES = ("bm_base", "address_runs", "run_edits", "memblock_model", "phys_store", "memblock_ranges", "memblock_find")
 ROUNDS = {"first": 3000000, "last": 3000, "walk": 1000}
 
 
-def copy_crates(folder):
-    for crate in CRATES:
-        shutil.copytree(os.path.join(TOP, "crates", crate), os.path.join(folder, "crates", crate),
-                        ignore=shutil.ignore_patterns("out", "must-fail"))
-    with open(os.path.join(TOP, "crates.txt")) as file:
-        lines = [line for line in file if line.split(":")[0] in CRATES]
+def add_program(folder):
+    lines = copy_crates(folder, CRATES)
     here = os.path.join(folder, "crates", "bench_find")
     for part, name, source in (("src", "main.rt", "find.main.txt"), ("proofs/search", "Answers.antt", "find.answers.txt")):
         os.makedirs(os.path.join(here, part))
@@ -35,7 +31,7 @@ def copy_crates(folder):
 
 def main():
     with tempfile.TemporaryDirectory() as folder:
-        copy_crates(folder)
+        add_program(folder)
         program = build(folder, "find", "first")
         for kind, rounds in ROUNDS.items():
             costs = []

@@ -20,12 +20,17 @@ PROGRAMS = (("journal", "boot_journal bm_base", ("half", "none", "owns")),
             ("tables", "memblock_ranges memblock_model bm_base", ("half", "none")))
 
 
-def copy_crates(folder):
-    for crate in CRATES:
+def copy_crates(folder, crates=CRATES):
+    """Copies the crates to `folder`; answers the lines of crates.txt that name them."""
+    for crate in crates:
         shutil.copytree(os.path.join(TOP, "crates", crate), os.path.join(folder, "crates", crate),
                         ignore=shutil.ignore_patterns("out", "must-fail"))
     with open(os.path.join(TOP, "crates.txt")) as file:
-        lines = [line for line in file if line.split(":")[0] in CRATES]
+        return [line for line in file if line.split(":")[0] in crates]
+
+
+def add_programs(folder):
+    lines = copy_crates(folder)
     for name, uses, _ in PROGRAMS:
         source = os.path.join(folder, "crates", "bench_" + name, "src")
         os.makedirs(source)
@@ -58,7 +63,7 @@ def least_time(words, runs=7):
 def main():
     rounds = int(sys.argv[1]) if len(sys.argv) > 1 else 10000
     with tempfile.TemporaryDirectory() as folder:
-        copy_crates(folder)
+        add_programs(folder)
         for name, _, kinds in PROGRAMS:
             program = build(folder, name, kinds[0])
             for kind in kinds:
