@@ -1,3 +1,4 @@
 pub mod Doing
+pub mod Noded
 pub mod Requests
 pub mod Quiet
