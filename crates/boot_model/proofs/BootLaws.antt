@@ -21,7 +21,9 @@ use Rattle.e820_usable.specs.declared.stop.MapStop.{MapStop}
 use Rattle.e820_usable.specs.declared.stop.MapStop.TheVariants as reasons
 use Rattle.e820_usable.specs.Judged.{judged}
 use Rattle.boot_model.specs.declared.stop.Cause.{Cause}
-use Rattle.boot_model.specs.Boot.{Given, Made, begin, claims, has_frames, has_room, later_stages, map_judged, map_stages, types_in_reach, unless_stopped, boot, lies_in_memory, with_items, heads_of}
+use Rattle.script_reader.specs.declared.act.Line.{Line}
+use Rattle.early_script.specs.Stage.{after_lines, before_sections, behind_sections}
+use Rattle.boot_model.specs.Boot.{Given, Made, begin, behind_lines, boot, claims, has_frames, has_room, later_stages, lies_in_memory, map_judged, map_stages, runs_lines, script_at, types_in_reach, unless_stopped, with_items}
 use Rattle.boot_model.proofs.StageLaws.{AllKeep, chain_keeps, goes_by, passes}
 use Rattle.boot_model.specs.Stages.{in_order}
 
@@ -52,16 +54,29 @@ map_keep given = (
   ),
 )
 
-pub items_passed : (kernel : Extent) (answer : Result (List Item) Refused) (before after : Made) → with_items kernel before answer
-    ≡ Ok after
+pub items_passed : (answer : Result (List Item) Refused) (before after : Made) → with_items before answer ≡ Ok after
     → (answer ≡ Ok after.items) × (after.map ≡ before.map)
-items_passed kernel (Ok items) before after ends =
-    let same : record before { items = items; heads = heads_of kernel items } ≡ after = cc in
+items_passed (Ok items) before after ends =
+    let same : record before { items = items } ≡ after = cc in
     (ap (λ (m : Made). Ok m.items) same, ap (λ (m : Made). m.map) (sym same))
-items_passed kernel (Err refused) before after ends = absurd (cc)
+items_passed (Err refused) before after ends = absurd (cc)
+
+-- lines of the script leave the map
+pub lines_passed : (kernel : Extent) (lines : List Line) (before after : Made) → runs_lines kernel lines before ≡ Ok after
+    → after ≡ behind_lines before (after_lines (script_at kernel before) lines)
+lines_passed kernel lines before after ends = cc
 
 pub later_keep : (given : Given) → AllKeep (λ (made : Made). made.map) (later_stages given)
-later_keep given = (λ before after ends. (items_passed given.kernel _ before after ends).1, tt)
+later_keep given = (
+  λ before after ends. (items_passed _ before after ends).1,
+  (
+    λ before after ends. ap (λ (m : Made). m.map) (lines_passed given.kernel (before_sections given.lines) before after ends),
+    (
+      λ before after ends. ap (λ (m : Made). m.map) (lines_passed given.kernel (behind_sections given.lines) before after ends),
+      tt,
+    ),
+  ),
+)
 
 pub goes_on : (given : Given) (made : Made) → boot given ≡ Ok made → GoesOn given made
 unfolding boot

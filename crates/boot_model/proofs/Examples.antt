@@ -22,7 +22,10 @@ use Rattle.boot_model.specs.declared.booted.Booted.{Booted}
 use Rattle.boot_model.specs.declared.inputs.Inputs.{Inputs}
 use Rattle.boot_model.specs.declared.stop.Cause.TheVariants as causes
 use Rattle.boot_model.specs.declared.stop.Stop.TheVariants as stops
-use Rattle.boot_model.specs.Boot.{Given, Made, begin, boot, claims, has_room, unless_stopped, lies_in_memory, with_items, heads_of}
+use Rattle.script_reader.specs.declared.act.Act.TheVariants as acts
+use Rattle.early_script.specs.declared.outcome.Outcome.TheVariants as outcomes
+use Rattle.early_script.specs.Acted.{deed}
+use Rattle.boot_model.specs.Boot.{Given, Made, begin, begin_with, boot, claims, has_room, lies_in_memory, runs_lines, told, unless_stopped, with_items}
 use Rattle.boot_model.specs.Kernel.{IsKernel, is_kernel}
 use Rattle.boot_model.specs.Stages.{in_order}
 use Rattle.boot_model.specs.Stop.{cause_of, cause_of_growth, cause_of_map, stop_of}
@@ -52,13 +55,25 @@ abbrev image : Extent
 image = record { base = 0x1000000; size = 0x2000000 }
 
 abbrev made : Made
-made = record { map = two_runs; options = no_options; items = []; heads = heads_of image [] }
+made = begin_with two_runs no_options
 
 -- items that were carried out, and a growth that was refused
-carried_examples : (with_items image made (Ok (item.Trim ∷ []))
-    ≡ Ok (record made { items = item.Trim ∷ []; heads = heads_of image (item.Trim ∷ []) }))
-    × (with_items image made (Err (record { which = which.Reserved; room = 128 })) ≡ Err (causes.NoTablePlace which.Reserved 128))
+carried_examples : (with_items made (Ok (item.Trim ∷ [])) ≡ Ok (record made { items = item.Trim ∷ [] }))
+    × (with_items made (Err (record { which = which.Reserved; room = 128 })) ≡ Err (causes.NoTablePlace which.Reserved 128))
 carried_examples = (refl, refl)
+
+-- what is told of it: both tables are empty, in the image's last two frames
+told_example : (told image made).heads.memory.place ≡ 0x2FFE000
+told_example = refl
+
+-- a line of the script that finds nothing: it is answered, and nothing else is made
+no_line : runs_lines image [] made ≡ Ok made
+no_line = refl
+
+unknown_line : runs_lines image (record { number = 3; act = acts.Free 7 } ∷ []) made
+    ≡ Ok (record made { answers = record { line = 3; outcome = outcomes.Unknown } ∷ [] })
+unfolding deed
+unknown_line = refl
 
 few_runs : has_room made ≡ Ok made
 few_runs = refl
@@ -107,8 +122,8 @@ inputs_are_items : (i : Inputs) → ((inputs_view i).entries ≡ i.zero.entries.
 inputs_are_items i = (refl, refl, refl, refl)
 
 booted_are_items : (b : Booted) → ((booted_view b).map ≡ b.map.items) × ((booted_view b).options ≡ chosen b.options)
-    × ((booted_view b).items ≡ b.journal.items)
-booted_are_items b = (refl, refl, refl)
+    × ((booted_view b).items ≡ b.journal.items) × ((booted_view b).answers ≡ b.answers.items)
+booted_are_items b = (refl, refl, refl, refl)
 
 -- two entries of size 0 claim nothing, so no frame is usable, and the boot stops
 Nothing : Claims → Type 0
@@ -152,7 +167,7 @@ abbrev empty : Entry
 empty = record { addr = 0; size = 0; kind = 0 }
 
 abbrev two_empty : Given
-two_empty = record { entries = empty ∷ empty ∷ []; initrd = None; extension = []; options = no_options; kernel = image }
+two_empty = record { entries = empty ∷ empty ∷ []; initrd = None; extension = []; options = no_options; kernel = image; lines = [] }
 
 none_covers : Nothing (claims_of_entries (empty ∷ empty ∷ []))
 unfolding Nothing

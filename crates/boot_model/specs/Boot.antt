@@ -16,10 +16,14 @@ use Rattle.memblock_model.specs.declared.item.Item.{Item}
 use Rattle.memblock_model.specs.declared.which.Which.TheVariants as which
 use Rattle.memblock_ranges.specs.declared.region.Heads.{Heads}
 use Rattle.memblock_ranges.specs.Tables.{head_of}
-use Rattle.growth_model.specs.Bytes.{table_for}
 use Rattle.growth_model.specs.Outcome.{Refused}
 use Rattle.growth_model.specs.Carried.{carried_out}
+use Rattle.growth_model.specs.Bytes.{Filled, table_for}
 use Rattle.early_stages.specs.Wanted.{first_items}
+use Rattle.script_reader.specs.declared.act.Line.{Line}
+use Rattle.early_script.specs.declared.outcome.Answer.{Answer}
+use Rattle.early_script.specs.Ids.{Ids}
+use Rattle.early_script.specs.Stage.{Stage as Script, after_lines, before_sections, behind_sections}
 use Rattle.bm_base.specs.ResultSteps.{◌>>=◌}
 use Rattle.boot_model.specs.declared.limit.TheConstants.{MAX_PHYSMEM}
 use Rattle.boot_model.specs.declared.stop.Cause.{Cause}
@@ -28,21 +32,32 @@ use Rattle.boot_model.specs.Stages.{in_order}
 use Rattle.boot_model.specs.Stop.{cause_of_growth, cause_of_map}
 
 -- what a boot is given: the zero page's entries and its initrd, where there is one, the entries of the
--- extension, the options, and where the kernel lies
+-- extension, the options, where the kernel lies, and the lines of the early script
 pub record Given : Type 0 where
   pub entries : List Entry
   pub initrd : Option Extent
   pub extension : List Entry
   pub options : Chosen
   pub kernel : Extent
+  pub lines : List Line
 
--- what a boot has made so far, and in the end what it makes: the map, the options, what happened to memory, oldest first, and where
--- the two tables then lie and how full they are
+-- what a boot has made so far: the map, the options, what happened to memory, oldest first; and of the script the IDs that are live, the
+-- fills, and the answers
 pub record Made : Type 0 where
   pub map : List (RunOf ℕ)
   pub options : Chosen
   pub items : List Item
+  pub ids : Ids
+  pub fills : List Filled
+  pub answers : List Answer
+
+-- and what is told of it in the end: beside these where the two tables then lie, and how full they are. The fills stand in the bytes of memory
+pub record Told : Type 0 where
+  pub map : List (RunOf ℕ)
+  pub options : Chosen
+  pub items : List Item
   pub heads : Heads
+  pub answers : List Answer
 
 -- what a stage makes of what the stages before it made, or why the boot stops there
 abbrev pub Stage : Type 0
@@ -59,9 +74,22 @@ heads_of kernel items = record {
   reserved = head_of (table_for which.Reserved kernel items);
 }
 
--- a boot begins with the map of these claims, and nothing happened to memory yet
+abbrev pub told : Extent → Made → Told
+told kernel made = record {
+  map = made.map;
+  options = made.options;
+  items = made.items;
+  heads = heads_of kernel made.items;
+  answers = made.answers;
+}
+
+-- a boot begins with a map, and nothing happened to memory yet
+abbrev pub begin_with : List (RunOf ℕ) → Chosen → Made
+begin_with map options = record { map = map; options = options; items = []; ids = []; fills = []; answers = [] }
+
+-- the map of its claims
 abbrev pub begin : Given → Made
-begin given = record { map = map_of (claims given); options = given.options; items = []; heads = heads_of given.kernel [] }
+begin given = begin_with (map_of (claims given)) given.options
 
 -- the types of addresses, as far as the kernel's tables of memory reach
 abbrev pub types_in_reach : Given → TypeAt
@@ -87,22 +115,42 @@ abbrev pub map_judged : Given → Result Made Cause
 map_judged given = in_order (map_stages given) (begin given)
 
 -- the items behind a stage, unless a table that had to grow found no place
-abbrev pub with_items : Extent → Made → Result (List Item) Refused → Result Made Cause
-with_items kernel made (Ok items) = Ok (record made { items = items; heads = heads_of kernel items })
-with_items kernel made (Err refused) = Err (cause_of_growth refused)
+abbrev pub with_items : Made → Result (List Item) Refused → Result Made Cause
+with_items made (Ok items) = Ok (record made { items = items })
+with_items made (Err refused) = Err (cause_of_growth refused)
 
 -- the first claims are made, the map becomes memory, whole frames of it, and the first MiB is claimed (`early_reserve_memory`,
 -- `e820__memblock_setup`, `reserve_real_mode`)
 abbrev pub has_memory : Given → Stage
-has_memory given made = with_items given.kernel made (carried_out (first_items MAX_PHYSMEM given.kernel given.initrd made.map) made.items)
+has_memory given made = with_items made (carried_out (first_items MAX_PHYSMEM given.kernel given.initrd made.map) made.items)
 
--- the stages behind them, in their order
+-- where lines of the script begin, and what is made behind them
+abbrev pub script_at : Extent → Made → Script
+script_at kernel made = record {
+  state = record { kernel = kernel; items = made.items; ids = made.ids };
+  fills = made.fills;
+  answers = made.answers;
+}
+
+abbrev pub behind_lines : Made → Script → Made
+behind_lines made s = record made { items = s.state.items; ids = s.state.ids; fills = s.fills; answers = s.answers }
+
+-- lines of the early script are carried out. One that is refused is answered, and the boot goes on
+abbrev pub runs_lines : Extent → List Line → Stage
+runs_lines kernel lines made = Ok (behind_lines made (after_lines (script_at kernel made) lines))
+
+-- the stages behind them, in their order. The script says where among its lines the sections are placed
 abbrev pub later_stages : Given → List Stage
-later_stages given = has_memory given ∷ []
+later_stages given =
+    has_memory given ∷ runs_lines given.kernel (before_sections given.lines) ∷ runs_lines given.kernel (behind_sections given.lines) ∷ []
 
 -- the boot (`setup_arch`), as far as memory without nodes
 unfoldable pub boot : Given → Result Made Cause
 boot given = map_judged given >>= λ made. in_order (later_stages given) made
+
+-- what is told of it
+abbrev pub told_boot : Given → Result Told Cause
+told_boot given = boot given >>= λ made. Ok (told given.kernel made)
 
 -- whether the address lies in a run of RAM, or of memory of the kernel's own
 abbrev pub lies_in_memory : List (RunOf ℕ) → ℕ → Bool

@@ -3,6 +3,7 @@
 use boot_journal::Journal;
 use boot_options::Options;
 use e820_model::Run;
+use early_script::Answer;
 use memblock_ranges::Heads;
 use phys_store::Store;
 
@@ -19,4 +20,6 @@ pub struct Booted {
     pub store: Store,
     /// Where the tables lie in them, and how full they are.
     pub heads: Heads,
+    /// What came of each line of the early script.
+    pub answers: Vec<Answer>,
 }

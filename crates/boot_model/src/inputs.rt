@@ -5,6 +5,7 @@ ghost use Rattle.boot_model.specs.Kernel.{IsKernel};
 use bm_base::Range;
 use boot_options::Options;
 use e820_table::{Entry, ZeroPage};
+use script_reader::Line;
 
 /// What a boot is given.
 #[derive(Drop)]
@@ -17,5 +18,7 @@ pub struct Inputs {
     pub options: Options,
     /// Where the kernel's image lies.
     pub kernel: Range,
+    /// The lines of the early script; none where there is no script.
+    pub lines: Vec<Line>,
     ghost kernel_fits: { IsKernel kernel },
 }

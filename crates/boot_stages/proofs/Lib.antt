@@ -1,4 +1,6 @@
 mod Examples
+pub mod BytesLaws
 pub mod CarriesLaws
 pub mod MapLaws
 pub mod MemoryLaws
+pub mod ScriptLaws

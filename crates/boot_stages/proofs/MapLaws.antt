@@ -1,11 +1,13 @@
 -- What the boot comes to by the table's answer for its map.
-use Rattle.std.proofs.Common.{◌≡◌, ◌≢◌, ℕ, Bool, true, false, nat_lt, if◌then◌else◌, List, [], length, Option, Some, None, Result, Ok, Err, Vec, Global, refl, subst, ap, ◌∙◌}
+use Rattle.std.proofs.Common.{◌≡◌, ◌≢◌, ℕ, Bool, true, false, nat_lt, if◌then◌else◌, List, drop, length, Option, Some, None, Result, Ok, Err, Vec, Global, refl, subst, ap, sym, ◌∙◌}
 use Rattle.std.specs.Prelude.{IfOk}
-use Rattle.bm_base.specs.Extent.{Extent}
 use Rattle.address_runs.specs.Runs.{RunOf, value_at, IsRunsOf}
 use Rattle.bm_base.specs.Answers.{Answers}
 use Rattle.bm_base.specs.ResultSteps.{◌>>=◌, with_error}
 use Rattle.e820_model.specs.declared.room.TheConstants.{E820_MAX_ENTRIES}
+use Rattle.e820_model.specs.Claims.{Claims, finished}
+use Rattle.e820_model.specs.declared.entry.Entry.{Entry}
+use Rattle.e820_model.specs.declared.edit.Edit.{Edit}
 use Rattle.e820_model.specs.Map.{TypeAt, kinds, map_of}
 use Rattle.e820_model.specs.Usable.{reachable}
 use Rattle.e820_sanitise.specs.declared.fault.MapFault.TheVariants as faults
@@ -17,7 +19,7 @@ use Rattle.boot_model.specs.declared.limit.TheConstants.{MAX_PHYSMEM}
 use Rattle.boot_model.specs.declared.stop.Cause.{Cause}
 use Rattle.boot_model.specs.declared.stop.Stop.{Stop}
 use Rattle.boot_model.specs.declared.stop.Stop.TheVariants as stops
-use Rattle.boot_model.specs.Boot.{heads_of, Given, Made, begin, boot, claims, has_frames, has_memory, later_stages, map_judged, types_in_reach, unless_stopped, with_items}
+use Rattle.boot_model.specs.Boot.{Given, Made, begin, begin_with, boot, claims, has_frames, has_memory, later_stages, map_judged, told, told_boot, types_in_reach, unless_stopped, with_items}
 use Rattle.memblock_model.specs.declared.item.Item.{Item}
 use Rattle.growth_model.specs.Outcome.{Refused}
 use Rattle.growth_model.specs.Carried.{carried_out}
@@ -26,7 +28,7 @@ use Rattle.boot_stages.specs.Carries.{or_stop}
 use Rattle.boot_model.specs.Stages.{in_order}
 use Rattle.boot_model.specs.Stop.{cause_of_growth, stop_of}
 use Rattle.boot_model.specs.View.{booted_view}
-use Rattle.boot_stages.specs.Boots.{IsDecided, MapAnswer, judged_answer, goes_on_with}
+use Rattle.boot_stages.specs.Boots.{AreStopped, IsDecided, MapAnswer, judged_answer, goes_on_with}
 
 -- the last stage's answer is the chain's
 last_stage : (answer : Result Made Cause) → (answer >>= λ made. Ok made) ≡ answer
@@ -34,10 +36,10 @@ last_stage (Ok made) = refl
 last_stage (Err cause) = refl
 
 -- what a map in its room, and one that isn't, tells of its number of runs
-told : (full : Bool) (runs : ℕ) (map items : List (RunOf ℕ)) → (if full then Err (faults.MapFull runs) else Ok map) ≡ Ok items
+told_room : (full : Bool) (runs : ℕ) (map items : List (RunOf ℕ)) → (if full then Err (faults.MapFull runs) else Ok map) ≡ Ok items
     → (full ≡ false) × (map ≡ items)
-told true runs map items is = absurd (cc)
-told false runs map items is = (refl, cc)
+told_room true runs map items is = absurd (cc)
+told_room false runs map items is = (refl, cc)
 
 told_full : (full : Bool) (runs : ℕ) (map : List (RunOf ℕ)) (told : ℕ) → (if full then Err (faults.MapFull runs) else Ok map)
     ≡ Err (faults.MapFull told)
@@ -49,15 +51,9 @@ pub decided : (given : Given) (answer : MapAnswer) → Answers faults.Memory (λ
     → IsDecided given answer
 decided given (Ok runs) answers =
     let c : List (RunOf ℕ) = map_of (claims given) in
-    let known = told (nat_lt E820_MAX_ENTRIES (length c)) (length c) c runs.items answers in
+    let known = told_room (nat_lt E820_MAX_ENTRIES (length c)) (length c) c runs.items answers in
     rw known.0 (last_stage (has_frames given (begin given)))
-    ∙ ap (λ (map : List (RunOf ℕ)). has_frames given (record {
-      map = map;
-      options = given.options;
-      items = [];
-      heads = heads_of
-          given.kernel [];
-    })) known.1
+    ∙ ap (λ (map : List (RunOf ℕ)). has_frames given (begin_with map given.options)) known.1
 decided given (Err (faults.MapFull runs)) answers =
     let c : List (RunOf ℕ) = map_of (claims given) in
     let known = told_full (nat_lt E820_MAX_ENTRIES (length c)) (length c) c runs (answers (λ same. cc same)) in
@@ -66,14 +62,14 @@ decided given (Err faults.Memory) answers = tt
 
 -- a judgement, as the call answers it and as the stage of the boot has it
 abbrev pub made_of : Given → Vec (RunOf ℕ) Global → Made
-made_of given runs = record { map = runs.items; options = given.options; items = []; heads = heads_of given.kernel [] }
+made_of given runs = begin_with runs.items given.options
 
 judged_same : (given : Given) (reason : Option MapStop) (runs : Vec (RunOf ℕ) Global) (result : Result (Vec (RunOf ℕ) Global) Stop)
     → Answers stops.Memory (λ map. map.items) result (goes_on_with reason runs.items)
     → Answers stops.Memory (made_of given) result (with_error stop_of (unless_stopped reason (made_of given runs)))
 judged_same given None runs (Ok map) answers =
     let same : runs.items ≡ map.items = cc in
-    ap (λ (items : List (RunOf ℕ)). Ok (record { map = items; options = given.options; items = []; heads = heads_of given.kernel [] })) same
+    ap (λ (items : List (RunOf ℕ)). Ok (begin_with items given.options)) same
 judged_same given None runs (Err stop) answers = λ other. absurd (cc (answers other))
 judged_same given (Some reason) runs (Ok map) answers = absurd (cc)
 judged_same given (Some reason) runs (Err stop) answers = λ other. (let is = answers other in cc)
@@ -100,40 +96,47 @@ map_answers given (Err faults.Memory) maps are (Err stop) answers =
     λ other. (let is : Err stops.Memory ≡ Err stop = answers other in absurd (other (cc)))
 
 -- a boot that stops at its map stops, and else goes on with memory
-stopped : (said : Result Made Cause) (later : Made → Result Made Cause) (stop : Stop)
+stopped : {A : Type 0} (said : Result Made Cause) (later : Made → Result A Cause) (stop : Stop)
     → with_error stop_of said ≡ Err stop → with_error stop_of (said >>= later) ≡ Err stop
 stopped (Ok made) later stop is = absurd (cc)
-stopped (Err cause) later stop is = is
+stopped (Err cause) later stop is = let same : stop_of cause ≡ stop = cc in ap (λ (s : Stop). Err s) same
 
-pub boot_stops : (given : Given) (answer : Result Booted Stop) (stop : Stop)
-    → answer ≡ Err stop → Answers stops.Memory (made_of given) (Err stop) (with_error stop_of (map_judged given))
-    → Answers stops.Memory booted_view answer (with_error stop_of (boot given))
-unfolding boot
-boot_stops given answer stop is answers =
-    rw is (λ other. stopped (map_judged given) (λ made. in_order (later_stages given) made) stop (answers other))
-
-went_on : (said : Result Made Cause) (later : Made → Result Made Cause) (made : Made) → with_error stop_of said ≡ Ok made
+went_on : {A : Type 0} (said : Result Made Cause) (later : Made → Result A Cause) (made : Made) → with_error stop_of said ≡ Ok made
     → (said >>= later) ≡ later made
 went_on (Ok before) later made is = let same : before ≡ made = cc in ap later same
 went_on (Err cause) later made is = absurd (cc)
 
-pub boot_goes_on : (given : Given) (made : Made) → with_error stop_of (map_judged given) ≡ Ok made
-    → with_error stop_of (boot given) ≡ with_error stop_of (has_memory given made)
+-- what stops the boot stops what is told of it
+pub told_stops : (given : Given) (answer : Result Booted Stop) (stop : Stop) → answer ≡ Err stop
+    → (stop ≢ stops.Memory → with_error stop_of (boot given) ≡ Err stop)
+    → Answers stops.Memory booted_view answer (with_error stop_of (told_boot given))
+told_stops given answer stop is stops_so =
+    rw is (λ other. stopped (boot given) (λ made. Ok (told given.kernel made)) stop (stops_so other))
+
+pub boot_stops : (given : Given) (answer : Result Booted Stop) (stop : Stop)
+    → answer ≡ Err stop → Answers stops.Memory (made_of given) (Err stop) (with_error stop_of (map_judged given))
+    → Answers stops.Memory booted_view answer (with_error stop_of (told_boot given))
 unfolding boot
-boot_goes_on given made is =
-    ap (with_error stop_of) (went_on (map_judged given) (λ m. in_order (later_stages given) m) made is ∙ last_stage (has_memory given made))
+boot_stops given answer stop is answers =
+    told_stops given answer stop is
+    (λ other. stopped (map_judged given) (λ made. in_order (later_stages given) made) stop (answers other))
+
+pub boot_goes_on : (given : Given) (made : Made) → with_error stop_of (map_judged given) ≡ Ok made
+    → boot given ≡ in_order (later_stages given) made
+unfolding boot
+boot_goes_on given made is = went_on (map_judged given) (λ m. in_order (later_stages given) m) made is
 
 -- what is carried out is what is made, and a growth that is refused is the stop
-items_made : (kernel : Extent) (made : Made) (said : Result (List Item) Refused) (items : List Item) → or_stop said ≡ Ok items
-    → with_error stop_of (with_items kernel made said) ≡ Ok (record made { items = items; heads = heads_of kernel items })
-items_made kernel made (Ok carried) items is =
-    let same : carried ≡ items = cc in ap (λ (is : List Item). Ok (record made { items = is; heads = heads_of kernel is })) same
-items_made kernel made (Err refused) items is = absurd (cc)
+items_made : (made : Made) (said : Result (List Item) Refused) (items : List Item) → or_stop said ≡ Ok items
+    → with_items made said ≡ Ok (record made { items = items })
+items_made made (Ok carried) items is =
+    let same : carried ≡ items = cc in ap (λ (is : List Item). Ok (record made { items = is })) same
+items_made made (Err refused) items is = absurd (cc)
 
-items_stop : (kernel : Extent) (made : Made) (said : Result (List Item) Refused) (stop : Stop) → or_stop said ≡ Err stop
-    → with_error stop_of (with_items kernel made said) ≡ Err stop
-items_stop kernel made (Ok carried) stop is = absurd (cc)
-items_stop kernel made (Err refused) stop is =
+items_stop : (made : Made) (said : Result (List Item) Refused) (stop : Stop) → or_stop said ≡ Err stop
+    → with_error stop_of (with_items made said) ≡ Err stop
+items_stop made (Ok carried) stop is = absurd (cc)
+items_stop made (Err refused) stop is =
     let same : stop_of (cause_of_growth refused) ≡ stop = cc in ap (λ (s : Stop). Err s) same
 
 -- the items that the stage of memory wants
@@ -142,12 +145,35 @@ memory_said given made = carried_out (first_items MAX_PHYSMEM given.kernel given
 
 pub memory_stops : (given : Given) (made : Made) (answer : Result Booted Stop) (stop : Stop) → answer ≡ Err stop
     → with_error stop_of (map_judged given) ≡ Ok made → (stop ≢ stops.Memory → or_stop (memory_said given made) ≡ Err stop)
-    → Answers stops.Memory booted_view answer (with_error stop_of (boot given))
+    → Answers stops.Memory booted_view answer (with_error stop_of (told_boot given))
 memory_stops given made answer stop is judged answers =
-    rw is (λ other. boot_goes_on given made judged ∙ items_stop given.kernel made (memory_said given made) stop (answers other))
+    told_stops given answer stop is
+    (λ other. ap (with_error stop_of) (boot_goes_on given made judged)
+    ∙ stopped (has_memory given made) (λ next. in_order (drop 1 (later_stages given)) next) stop
+    (items_stop made (memory_said given made) stop (answers other)))
 
 pub memory_goes_on : (given : Given) (made : Made) (items : List Item) → with_error stop_of (map_judged given) ≡ Ok made
     → or_stop (memory_said given made) ≡ Ok items
-    → with_error stop_of (boot given) ≡ Ok (record made { items = items; heads = heads_of given.kernel items })
+    → boot given ≡ in_order (drop 1 (later_stages given)) (record made { items = items })
 memory_goes_on given made items judged answers =
-    boot_goes_on given made judged ∙ items_made given.kernel made (memory_said given made) items answers
+    boot_goes_on given made judged
+    ∙ went_on (has_memory given made) (λ next. in_order (drop 1 (later_stages given)) next) (record made { items = items })
+    (ap (with_error stop_of) (items_made made (memory_said given made) items answers))
+
+-- the stages behind memory
+pub stages_stop : (given : Given) (made : Made) (answer : Result Booted Stop) (stop : Stop) → answer ≡ Err stop
+    → boot given ≡ in_order (drop 1 (later_stages given)) made → AreStopped given made stop
+    → Answers stops.Memory booted_view answer (with_error stop_of (told_boot given))
+stages_stop given made answer stop is comes stopped_so =
+    told_stops given answer stop is (λ other. ap (with_error stop_of) comes ∙ stopped_so other)
+
+pub boot_told : (given : Given) (made : Made) → boot given ≡ Ok made → told_boot given ≡ Ok (told given.kernel made)
+boot_told given made comes = ap (λ (said : Result Made Cause). said >>= λ m. Ok (told given.kernel m)) comes
+
+-- the claims of a table that was finished
+pub claims-told : (given : Given) (c : Claims) (entries extension : List Entry) (edits : List Edit) → c ≡ finished entries extension edits
+    → entries ≡ given.entries → extension ≡ given.extension → edits ≡ given.options.edits → claims given ≡ c
+claims-told given c entries extension edits is first second third =
+    sym (is ∙ ap (λ (es : List Entry). finished es extension edits) first
+    ∙ ap (λ (es : List Entry). finished given.entries es edits) second
+    ∙ ap (λ (es : List Edit). finished given.entries given.extension es) third)

@@ -1,5 +1,5 @@
 -- What the boot makes of the table's answer for its map.
-use Rattle.std.specs.Prelude.{◌≡◌, ℕ, List, [], Vec, Option, Some, None, Result, Ok, Err}
+use Rattle.std.specs.Prelude.{◌≡◌, ◌≢◌, ℕ, List, [], Vec, Option, Some, None, Result, Ok, Err, drop}
 use Rattle.std.specs.declared.alloc.Global.{Global}
 use Rattle.address_runs.specs.Runs.{RunOf, value_at}
 use Rattle.e820_sanitise.specs.declared.fault.MapFault.{MapFault}
@@ -7,7 +7,8 @@ use Rattle.e820_sanitise.specs.declared.fault.MapFault.TheVariants as faults
 use Rattle.e820_usable.specs.declared.stop.MapStop.{MapStop}
 use Rattle.e820_usable.specs.Judged.{judged}
 use Rattle.e820_model.specs.Usable.{reachable}
-use Rattle.phys_store.specs.Bytes.{Stored}
+use Rattle.bm_base.specs.ResultSteps.{with_error}
+use Rattle.phys_store.specs.Bytes.{Stored, byte_of}
 use Rattle.memblock_model.specs.declared.which.Which.{Which}
 use Rattle.memblock_model.specs.declared.item.Item.{Item}
 use Rattle.memblock_model.specs.Tables.{records_of}
@@ -17,8 +18,13 @@ use Rattle.boot_model.specs.declared.limit.TheConstants.{MAX_PHYSMEM}
 use Rattle.boot_model.specs.declared.stop.Cause.TheVariants as causes
 use Rattle.boot_model.specs.declared.stop.Stop.{Stop}
 use Rattle.boot_model.specs.declared.stop.Stop.TheVariants as stops
-use Rattle.boot_model.specs.Boot.{heads_of, Given, has_frames, map_judged}
+use Rattle.boot_model.specs.Boot.{Given, Made, begin_with, has_frames, later_stages, map_judged}
+use Rattle.boot_model.specs.Stages.{in_order}
 use Rattle.boot_model.specs.Stop.{cause_of_map, stop_of}
+use Rattle.growth_model.specs.Bytes.{Filled, Holds}
+use Rattle.memblock_grow.specs.Contents.{Contents}
+use Rattle.early_script.specs.declared.outcome.Answer.{Answer}
+use Rattle.early_script.specs.Ids.{Ids}
 
 -- what the table answers for its map (`Table::runs`)
 abbrev pub MapAnswer : Type 0
@@ -40,13 +46,7 @@ judged_answer (Err fault) = Err (stop_of_map fault)
 
 -- by that answer the boot goes on to judge the frames, or stops; with no memory for it nothing is said
 abbrev pub IsDecided : Given → MapAnswer → Type 0
-IsDecided given (Ok runs) = map_judged given ≡ has_frames given (record {
-  map = runs.items;
-  options = given.options;
-  items = [];
-  heads
-      = heads_of given.kernel [];
-})
+IsDecided given (Ok runs) = map_judged given ≡ has_frames given (begin_with runs.items given.options)
 IsDecided given (Err (faults.MapFull runs)) = map_judged given ≡ Err (causes.MapFull runs)
 IsDecided given (Err faults.Memory) = Unit {0}
 
@@ -56,3 +56,27 @@ pub record TableStands (w : Which) (items : List Item) (store : List Stored) (he
   pub stands : StandsIn table store
   pub told : head ≡ head_of table
   pub records : table.records ≡ records_of w items
+
+-- each byte of memory is that of the items, and of these fills
+abbrev pub HoldsWith : List Filled → Contents → Type 0
+HoldsWith fills m = Holds m.kernel m.journal.items fills (byte_of m.tables.store)
+
+-- what is made behind the stages that run over memblock, where it is this then and these are the answers
+abbrev pub made_behind : Made → Contents → Ids → List Filled → List Answer → Made
+made_behind made m ids fills answers = record made { items = m.journal.items; ids = ids; fills = fills; answers = answers }
+
+-- the stages behind memory came to an end
+pub record AreRun (given : Given) (made : Made) (m : Contents) (answers : List Answer) : Type 0 where
+  pub ids : Ids
+  pub fills : List Filled
+  pub kernel : m.kernel ≡ given.kernel
+  pub come : in_order (drop 1 (later_stages given)) made ≡ Ok (made_behind made m ids fills answers)
+  pub holds : HoldsWith fills m
+
+-- or they stop the boot
+abbrev pub AreStopped : Given → Made → Stop → Type 0
+AreStopped given made stop = stop ≢ stops.Memory → with_error stop_of (in_order (drop 1 (later_stages given)) made) ≡ Err stop
+
+-- where they begin: memory was made, and nothing happened in the script
+abbrev pub begun_with : Made → Contents → Made
+begun_with made m = made_behind made m [] [] []

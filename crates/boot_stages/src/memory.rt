@@ -10,6 +10,7 @@ ghost use Rattle.growth_model.specs.Sound.{HasBegun, IsImage};
 ghost use Rattle.growth_model.specs.Carried.{carried_out};
 ghost use Rattle.early_stages.specs.Memory.{end_of_runs, memory_end};
 ghost use Rattle.early_stages.specs.Wanted.{early_claims, first_items, items_of_map, items_of_run, up_to};
+ghost use Rattle.boot_stages.specs.Boots.{HoldsWith};
 ghost use Rattle.boot_stages.specs.Carries.{Carries, or_stop, stop_for};
 
 use bm_base::Range;
@@ -42,6 +43,7 @@ fn claim_early(memblock: &mut Memblock, kernel: Range, initrd: Option<Range>) ->
     ensures carries { Carries result (early_claims kernel initrd) memblock.old.journal.items memblock.new.journal.items }
     ensures begun { OnOk result (HasBegun memblock.new.journal.items) }
     ensures kernel { memblock.new.kernel ≡ memblock.old.kernel }
+    ensures bytes { OnOk result (HoldsWith [] memblock.old → HoldsWith [] memblock.new) }
 {
     memblock.claim(kernel, Owner::Kernel)?;
     memblock.claim(up_to(LOW_END), Owner::Low64K)?;
@@ -59,6 +61,7 @@ fn add_run(memblock: &mut Memblock, run: &Run) -> Result<(), Refusal>
     ensures carries { Carries result (items_of_run MAX_PHYSMEM run.now) memblock.old.journal.items memblock.new.journal.items }
     ensures begun { HasBegun memblock.new.journal.items }
     ensures kernel { memblock.new.kernel ≡ memblock.old.kernel }
+    ensures bytes { OnOk result (HoldsWith [] memblock.old → HoldsWith [] memblock.new) }
 {
     let range = run.range;
     if run.kind == E820_TYPE_SOFT_RESERVED {
@@ -92,6 +95,7 @@ fn add_map(memblock: &mut Memblock, map: &[Run]) -> Result<(), Refusal>
     ensures carries { Carries result (items_of_map MAX_PHYSMEM map.now) memblock.old.journal.items memblock.new.journal.items }
     ensures begun { HasBegun memblock.new.journal.items }
     ensures kernel { memblock.new.kernel ≡ memblock.old.kernel }
+    ensures bytes { OnOk result (HoldsWith [] memblock.old → HoldsWith [] memblock.new) }
 {
     for run in map {
         add_run(memblock, run)?;
@@ -128,6 +132,7 @@ fn map_memory(
         memblock.old.journal.items memblock.new.journal.items }
     ensures begun { OnOk result (HasBegun memblock.new.journal.items) }
     ensures kernel { memblock.new.kernel ≡ memblock.old.kernel }
+    ensures bytes { OnOk result (HoldsWith [] memblock.old → HoldsWith [] memblock.new) }
 {
     claim_early(memblock, kernel, initrd)?;
     memblock.set_limit(ISA_END_ADDRESS)?;
@@ -142,7 +147,9 @@ fn limit_memory(memblock: &mut Memblock, end: u64) -> Result<(), Refusal>
     requires { HasBegun memblock.old.journal.items }
     ensures carries { Carries result (item.Limit end ∷ item.Claim (up_to ISA_END_ADDRESS) owner.Low1M ∷ [])
         memblock.old.journal.items memblock.new.journal.items }
+    ensures begun { OnOk result (HasBegun memblock.new.journal.items) }
     ensures kernel { memblock.new.kernel ≡ memblock.old.kernel }
+    ensures bytes { OnOk result (HoldsWith [] memblock.old → HoldsWith [] memblock.new) }
 {
     memblock.set_limit(end)?;
     memblock.claim(up_to(ISA_END_ADDRESS), Owner::Low1M)
@@ -162,7 +169,9 @@ fn set_up(
     requires runs { AreRuns map.now }
     ensures carries { Carries result (first_items MAX_PHYSMEM kernel initrd map.now)
         memblock.old.journal.items memblock.new.journal.items }
+    ensures begun { OnOk result (HasBegun memblock.new.journal.items) }
     ensures kernel { memblock.new.kernel ≡ memblock.old.kernel }
+    ensures bytes { OnOk result (HoldsWith [] memblock.old → HoldsWith [] memblock.new) }
 {
     map_memory(memblock, kernel, initrd, map)?;
     let end = end_of_memory(memblock.tables());
@@ -194,6 +203,8 @@ pub fn make_memory(
     ensures answers { Answers Stop.Memory (λ memblock. memblock.journal.items) result
         (or_stop (carried_out (first_items MAX_PHYSMEM kernel initrd map.now) [])) }
     ensures kernel { IfOk result (λ memblock. memblock.kernel ≡ kernel) }
+    ensures begun { IfOk result (λ memblock. HasBegun memblock.journal.items) }
+    ensures bytes { IfOk result (λ memblock. HoldsWith [] memblock) }
 {
     let mut memblock = Memblock::new(alloc, kernel)?;
     match set_up(&mut memblock, kernel, initrd, map) {

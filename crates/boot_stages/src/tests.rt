@@ -58,6 +58,7 @@ fn booted(alloc: Global, entries: &[Entry], line: &[u8]) -> Result<Result<Booted
             base: 0x100_0000,
             size: 0x200_0000,
         },
+        lines: Vec::new(alloc),
     };
     Ok(boot(alloc, inputs))
 }

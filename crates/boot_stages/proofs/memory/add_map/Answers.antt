@@ -40,6 +40,7 @@ loop-run-preserved c =
           c.loop-run.invariant.runs;
       begun = c.in_ok-add_run.ensures.begun;
       kernel = c.in_ok-add_run.ensures.kernel ∙ c.loop-run.invariant.kernel;
+      bytes = λ holds. c.in_ok-add_run.ensures.bytes (c.loop-run.invariant.bytes holds);
     }
 
 pub returns-clause-carries : goal.returns-clause-carries
@@ -49,3 +50,6 @@ returns-clause-carries c =
     let rest = at_drop_all (λ (rs : List (RunOf ℕ)). carried_out (items_of_map MAX_PHYSMEM rs) c.loop-run.memblock.journal.items)
     c.args.map.now c.loop-run.run-index (omega (arith, c.loop-run-test.false)) in
     sym left ∙ rest ∙ carries-nothing c.loop-run.memblock.journal.items
+
+pub returns-clause-bytes : goal.returns-clause-bytes
+returns-clause-bytes c = c.loop-run.invariant.bytes

@@ -1,10 +1,11 @@
 -- What is left of the map's items, carried out from here, is all of them carried out from the start.
-use Rattle.std.proofs.Common.{◌≡◌, drop}
+use Rattle.std.proofs.Common.{◌≡◌, [], drop}
 use Rattle.address_runs.specs.Runs.{AreRuns}
 use Rattle.growth_model.specs.Sound.{HasBegun}
 use Rattle.growth_model.specs.Carried.{carried_out}
 use Rattle.early_stages.specs.Wanted.{items_of_map}
 use Rattle.boot_model.specs.declared.limit.TheConstants.{MAX_PHYSMEM}
+use Rattle.boot_stages.specs.Boots.{HoldsWith}
 use Rattle.boot_stages.proofs.memory.add_map.Given as goal
 
 abbrev pub invariant-loop-run : goal.invariant-loop-run
@@ -14,4 +15,5 @@ invariant-loop-run l = record {
   runs : AreRuns (drop l.run-index l.map);
   begun : HasBegun l.memblock.journal.items;
   kernel : l.memblock.kernel ≡ l.fn.memblock.kernel;
+  bytes : HoldsWith [] l.fn.memblock → HoldsWith [] l.memblock;
 }

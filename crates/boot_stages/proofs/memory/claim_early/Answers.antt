@@ -9,6 +9,7 @@ use Rattle.growth_model.specs.Carried.{carried_out}
 use Rattle.growth_model.proofs.SoundLaws.{ends-begun, may-keep}
 use Rattle.early_stages.specs.Wanted.{initrd_claims}
 use Rattle.boot_stages.specs.Carries.{Carries}
+use Rattle.boot_stages.proofs.BytesLaws.{holds-on}
 use Rattle.boot_stages.proofs.CarriesLaws.{carries-change, change-exit, change-second, claim-begun, on_ok}
 use Rattle.boot_stages.proofs.memory.claim_early.Goals as goal
 
@@ -76,3 +77,14 @@ returns-in-None-clause-carries c =
 pub returns-in-None-clause-begun : goal.returns-in-None-clause-begun
 returns-in-None-clause-begun c =
     claim-begun _ c.claim.new.self.journal.items c.claim-2.new.self.journal.items c.up_to.result owner.Low64K c.in_ok-claim-2.ensures.ends
+
+pub returns-in-Some-clause-bytes : goal.returns-in-Some-clause-bytes
+returns-in-Some-clause-bytes c =
+    on_ok c.claim-in-Some.result _ (λ holds. holds-on [] c.claim-2.new.self c.claim-in-Some.new.self c.claim-in-Some.ensures.kernel
+    c.claim-in-Some.ensures.bytes (holds-on [] c.claim.new.self c.claim-2.new.self c.claim-2.ensures.kernel c.claim-2.ensures.bytes
+    (holds-on [] c.args.memblock.now c.claim.new.self c.claim.ensures.kernel c.claim.ensures.bytes holds)))
+
+pub returns-in-None-clause-bytes : goal.returns-in-None-clause-bytes
+returns-in-None-clause-bytes c =
+    λ holds. holds-on [] c.claim.new.self c.claim-2.new.self c.claim-2.ensures.kernel c.claim-2.ensures.bytes
+    (holds-on [] c.args.memblock.now c.claim.new.self c.claim.ensures.kernel c.claim.ensures.bytes holds)

@@ -4,7 +4,8 @@ use Rattle.bm_base.specs.Extent.{Extent}
 use Rattle.memblock_model.specs.declared.owner.Owner.TheVariants as owner
 use Rattle.memblock_model.specs.declared.item.Item.TheVariants as item
 use Rattle.boot_stages.specs.Carries.{Carries}
-use Rattle.boot_stages.proofs.CarriesLaws.{carries-change, carries-limit, carries-second}
+use Rattle.boot_stages.proofs.BytesLaws.{holds-on}
+use Rattle.boot_stages.proofs.CarriesLaws.{carries-change, carries-limit, carries-second, on_ok}
 use Rattle.boot_stages.proofs.memory.limit_memory.Goals as goal
 
 pub returns-clause-carries : goal.returns-clause-carries
@@ -17,3 +18,8 @@ returns-clause-carries c =
     subst Ends c.up_to.ensures (carries-second r (item.Limit c.args.end ∷ []) (item.Claim c.up_to.result owner.Low1M ∷ []) old mid new
     (carries-limit c.args.end old mid c.in_ok-set_limit.ensures.ok)
     (carries-change r (item.Claim c.up_to.result owner.Low1M) mid new c.claim.ensures.ends))
+
+pub returns-clause-bytes : goal.returns-clause-bytes
+returns-clause-bytes c =
+    on_ok c.claim.result _ (λ holds. holds-on [] c.set_limit.new.self c.claim.new.self c.claim.ensures.kernel c.claim.ensures.bytes
+    (holds-on [] c.args.memblock.now c.set_limit.new.self c.set_limit.ensures.kernel c.set_limit.ensures.bytes holds))

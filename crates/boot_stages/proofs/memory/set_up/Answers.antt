@@ -3,7 +3,7 @@ use Rattle.std.proofs.Common.{◌≡◌, ℕ, List, [], Ok, ap, sym, ◌∙◌, 
 use Rattle.std.proofs.lemmas.Result.{err_from_is_err_and}
 use Rattle.address_runs.specs.Runs.{value_at}
 use Rattle.memblock_model.specs.declared.item.Item.{Item}
-use Rattle.memblock_ranges.specs.Tables.{Contents, Table}
+use Rattle.memblock_ranges.specs.Tables.{Table}
 use Rattle.growth_model.specs.Carried.{carried_out}
 use Rattle.early_stages.specs.Memory.{end_of_runs, memory_end}
 use Rattle.boot_model.specs.declared.limit.TheConstants.{MAX_PHYSMEM}
