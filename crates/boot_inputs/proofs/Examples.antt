@@ -10,6 +10,8 @@ use Rattle.e820_table.specs.Initrd.{initrd_of, is_initrd_far}
 use Rattle.boot_options.specs.Crash.{no_crash}
 use Rattle.bm_base.specs.Extent.{Extent}
 use Rattle.boot_options.specs.declared.fault.OptionFault.TheVariants as options
+use Rattle.script_reader.specs.declared.act.Act.TheVariants as acts
+use Rattle.script_reader.specs.declared.fault.ScriptFault.TheVariants as script
 use Rattle.boot_inputs.specs.declared.fault.Fault.TheVariants as faults
 use Rattle.boot_inputs.specs.declared.fault.Misread.TheVariants as misreads
 use Rattle.boot_inputs.specs.declared.input.Input.TheVariants as inputs
@@ -17,10 +19,10 @@ use Rattle.boot_inputs.specs.declared.refusal.Refusal.{Refusal}
 use Rattle.boot_inputs.specs.declared.refusal.Refusal.TheVariants as refusals
 use Rattle.boot_inputs.specs.declared.refusal.InputError.TheVariants as errors
 use Rattle.boot_inputs.specs.Answers.{ComesTo, Fits, FitsRefusal, Gives, HasCause, IsCaused, IsOf, RefusalHasCause, RoseAt, input_of}
-use Rattle.boot_inputs.specs.Faults.{fault_of_extension, fault_of_option, fault_of_zero_page, misread_of}
+use Rattle.boot_inputs.specs.Faults.{fault_of_extension, fault_of_option, fault_of_script, fault_of_zero_page, misread_of}
 use Rattle.boot_inputs.specs.Input.{limit_of, place, word_for}
 use Rattle.boot_inputs.specs.Inputs.{Held, Named, file_step, inputs_of, or_faulty, or_unread, step_if, within}
-use Rattle.boot_inputs.specs.Said.{command_line_said, extension_said, fault_told, no_options, no_page, unless_fault, zero_page_said}
+use Rattle.boot_inputs.specs.Said.{command_line_said, extension_said, fault_told, lines_told, no_options, no_page, script_said, unless_fault, zero_page_said}
 
 -- a zero page of so many entries, of which these 40 bytes are the first two
 abbrev page : ℕ → List ℕ → List ℕ
@@ -49,7 +51,7 @@ abbrev acpi : Entry
 acpi = record { addr = 0x3000; size = 0x1000; kind = 3 }
 
 -- the files: a zero page, one that is too short and one that is too long; an extension, and one without a header; a
--- command line, and one with a fault
+-- command line, and one with a fault; a script, and one with a fault
 abbrev held : Held
 held name =
     if bytes_eq name (codes "zp") then Some (page 2 ram_and_reserved)
@@ -59,12 +61,15 @@ held name =
     else (if bytes_eq name (codes "bad") then Some (replicate 15 0)
     else (if bytes_eq name (codes "cmd") then Some (codes "quiet numa=off\n")
     else (if bytes_eq name (codes "on") then Some (codes "numa=on")
-    else None))))))
+    else (if bytes_eq name (codes "free") then Some (codes "# one act\nfree 7\n")
+    else (if bytes_eq name (codes "line") then Some (codes "free")
+    else None))))))))
 
 abbrev naming : List ℕ → Option (List ℕ) → Option (List ℕ) → Named
 naming zero_page ext command_line inputs.ZeroPage = Some zero_page
 naming zero_page ext command_line inputs.Extension = ext
 naming zero_page ext command_line inputs.CommandLine = command_line
+naming zero_page ext command_line inputs.Script = None
 
 -- what bytes say
 page_said : zero_page_said (page 2 ram_and_reserved) ≡ Ok (record { entries = ram ∷ reserved ∷ []; initrd = None })
@@ -101,6 +106,13 @@ zero_examples = (refl, refl, refl)
 
 ext_examples : (fault_of_extension extension.ExtHeader ≡ Some faults.Header) × (fault_of_extension extension.Memory ≡ None)
 ext_examples = (refl, refl)
+
+script_examples : (fault_of_script script.Memory ≡ None) × (fault_of_script (script.TooFar 9) ≡ Some (faults.LineTooFar 9))
+    × (fault_of_script (script.ZeroSize 2) ≡ Some (faults.ZeroSize 2))
+script_examples = (refl, refl, refl)
+
+lines_examples : (lines_told (Err (script.BadNumber 4)) ≡ Err (faults.BadNumber 4)) × (script_said [] ≡ Ok [])
+lines_examples = (refl, refl)
 
 option_examples : (fault_of_option (options.BadMem 2) ≡ Some (faults.BadMem 2)) × (fault_of_option options.Memory ≡ None)
 option_examples = (refl, refl)
@@ -147,9 +159,37 @@ all_inputs : inputs_of held (naming (codes "zp") (Some (codes "ext")) (Some (cod
       extension = acpi ∷ [];
       options = record { edits = []; crash = no_crash; numa_off = true };
       kernel = image;
+      lines = [];
     })
 unfolding entry_at initrd_of is_initrd_far
 all_inputs = refl
+
+-- a script beside the zero page alone: its lines, its first fault, and one that isn't there
+abbrev with_script : List ℕ → Named
+with_script script inputs.ZeroPage = Some (codes "zp")
+with_script script inputs.Extension = None
+with_script script inputs.CommandLine = None
+with_script script inputs.Script = Some script
+
+lines_are_given : inputs_of held (with_script (codes "free")) image
+    ≡ Ok (record {
+      entries = ram ∷ reserved ∷ [];
+      initrd = None;
+      extension = [];
+      options = no_options;
+      kernel = image;
+      lines = record { number = 2; act = acts.Free 7 } ∷ [];
+    })
+unfolding entry_at initrd_of is_initrd_far
+lines_are_given = refl
+
+script_is_faulty : inputs_of held (with_script (codes "line")) image ≡ Err (refusals.Faulty inputs.Script (faults.BadLine 1))
+unfolding entry_at is_initrd_far
+script_is_faulty = refl
+
+script_goes_last : inputs_of held (with_script (codes "no")) image ≡ Err (refusals.Unread inputs.Script)
+unfolding entry_at is_initrd_far
+script_goes_last = refl
 
 page_goes_first : inputs_of held (naming (codes "short") (Some (codes "bad")) (Some (codes "on"))) image
     ≡ Err (refusals.Faulty inputs.ZeroPage faults.WrongLength)

@@ -6,6 +6,8 @@ use Rattle.e820_table.specs.declared.extension.ExtFault.{ExtFault}
 use Rattle.e820_table.specs.declared.extension.ExtFault.TheVariants as extension
 use Rattle.boot_options.specs.declared.fault.OptionFault.{OptionFault}
 use Rattle.boot_options.specs.declared.fault.OptionFault.TheVariants as options
+use Rattle.script_reader.specs.declared.fault.ScriptFault.{ScriptFault}
+use Rattle.script_reader.specs.declared.fault.ScriptFault.TheVariants as script
 use Rattle.boot_inputs.specs.declared.fault.Fault.{Fault}
 use Rattle.boot_inputs.specs.declared.fault.Fault.TheVariants as faults
 use Rattle.boot_inputs.specs.declared.fault.Misread.{Misread}
@@ -33,6 +35,15 @@ fault_of_option (options.BadCrash word) = Some (faults.BadCrash word)
 fault_of_option (options.UserMapInvalid word) = Some (faults.UserMapInvalid word)
 fault_of_option (options.BadNuma word) = Some (faults.BadNuma word)
 fault_of_option options.Memory = None
+
+abbrev pub fault_of_script : ScriptFault → Option Fault
+fault_of_script (script.BadLine line) = Some (faults.BadLine line)
+fault_of_script (script.BadNumber line) = Some (faults.BadNumber line)
+fault_of_script (script.BadAlign line) = Some (faults.BadAlign line)
+fault_of_script (script.ZeroSize line) = Some (faults.ZeroSize line)
+fault_of_script (script.SecondSections line) = Some (faults.SecondSections line)
+fault_of_script (script.TooFar line) = Some (faults.LineTooFar line)
+fault_of_script script.Memory = None
 
 -- where there is no fault it is want of memory
 abbrev pub misread_of : Option Fault → Misread

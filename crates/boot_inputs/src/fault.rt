@@ -3,10 +3,11 @@
 //! behind has to tell a fault that is none.
 
 ghost use Rattle.std.specs.Prelude.{◌≡◌};
-ghost use Rattle.boot_inputs.specs.Faults.{fault_of_extension, fault_of_option, fault_of_zero_page, misread_of};
+ghost use Rattle.boot_inputs.specs.Faults.{fault_of_extension, fault_of_option, fault_of_script, fault_of_zero_page, misread_of};
 
 use boot_options::OptionFault;
 use e820_table::{ExtFault, ZeroFault};
+use script_reader::ScriptFault;
 
 /// What is wrong with a file that could be read. With the file it says which fault that is.
 #[derive(Clone, Copy, Debug, PartialEq, Eq)]
@@ -41,6 +42,18 @@ pub enum Fault {
     UserMapInvalid { word: u32 },
     /// The word is a malformed `numa=`.
     BadNuma { word: u32 },
+    /// The line of the script, from 1 on, has no form, whatever its numbers are.
+    BadLine { line: u32 },
+    /// A number of the line isn't a size that takes its whole word, or is above its bound.
+    BadNumber { line: u32 },
+    /// The alignment in the line isn't a power of two.
+    BadAlign { line: u32 },
+    /// A size, `KEEP` or `LEN` in the line is 0.
+    ZeroSize { line: u32 },
+    /// The line is `sections`, and so is an earlier line.
+    SecondSections { line: u32 },
+    /// The range of the line ends above 2^64 - 1.
+    LineTooFar { line: u32 },
 }
 
 /// Why bytes give no value.
@@ -102,5 +115,20 @@ pub fn fault_of_option(fault: OptionFault) -> Option<Fault>
         OptionFault::UserMapInvalid { word } => Some(Fault::UserMapInvalid { word }),
         OptionFault::BadNuma { word } => Some(Fault::BadNuma { word }),
         OptionFault::Memory => None,
+    }
+}
+
+/// The fault of a script; none for want of memory.
+pub fn fault_of_script(fault: ScriptFault) -> Option<Fault>
+    ensures { result ≡ fault_of_script fault }
+{
+    match fault {
+        ScriptFault::BadLine { line } => Some(Fault::BadLine { line }),
+        ScriptFault::BadNumber { line } => Some(Fault::BadNumber { line }),
+        ScriptFault::BadAlign { line } => Some(Fault::BadAlign { line }),
+        ScriptFault::ZeroSize { line } => Some(Fault::ZeroSize { line }),
+        ScriptFault::SecondSections { line } => Some(Fault::SecondSections { line }),
+        ScriptFault::TooFar { line } => Some(Fault::LineTooFar { line }),
+        ScriptFault::Memory => None,
     }
 }

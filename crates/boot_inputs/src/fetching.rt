@@ -1,7 +1,8 @@
 //! One step for every file: look up the name, fetch, read.
 
-ghost use Rattle.std.specs.Prelude.{◌≡◌, ℕ, ◌≤◌, List, Some, IfOk, IfSome, IsNone, OnOk};
+ghost use Rattle.std.specs.Prelude.{◌≡◌, ℕ, ◌≤◌, List, Some, length, IfOk, IfSome, IsNone, OnOk};
 ghost use Rattle.boot_inputs.specs.Answers.{Gives, HasCause, IsCaused, IsOf};
+ghost use Rattle.boot_inputs.specs.Input.{limit_of};
 ghost use Rattle.boot_inputs.specs.Inputs.{file_step, or_faulty, step_if};
 
 use crate::fault::{Fault, Misread};
@@ -62,6 +63,7 @@ fn fetch<R: Reader, F: Files>(
 
 /// What the bytes of a file give.
 fn read<R: Reader>(alloc: Global, bytes: &[u8]) -> Result<R::Value, InputError>
+    requires { length bytes.now ≤ limit_of R.input }
     ensures gives { Gives R.seen result (or_faulty R.input (R.said bytes.now)) }
     ensures cause { (before now : ℕ) → IsCaused before now result }
     ensures own { IsOf R.input result }

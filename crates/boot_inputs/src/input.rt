@@ -12,6 +12,8 @@ pub enum Input {
     Extension,
     /// The command line of the kernel.
     CommandLine,
+    /// The script of early allocations.
+    Script,
 }
 
 impl Input {
@@ -24,6 +26,7 @@ impl Input {
             Input::ZeroPage => 4096,
             Input::Extension => 61_456,
             Input::CommandLine => 4096,
+            Input::Script => 1_048_576,
         }
     }
 
@@ -35,6 +38,7 @@ impl Input {
             Input::ZeroPage => "zeropage",
             Input::Extension => "e820ext",
             Input::CommandLine => "cmdline",
+            Input::Script => "script",
         }
     }
 }

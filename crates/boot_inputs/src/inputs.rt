@@ -1,8 +1,11 @@
 //! All files, in the order of work.
 
 ghost use Rattle.std.specs.Prelude.{◌≡◌, ℕ, List, IfOk, IfSome, OnOk};
+ghost use Rattle.std.specs.List.{All};
 ghost use Rattle.e820_model.specs.Claims.{EndInSpace, HaveTypes};
 ghost use Rattle.e820_table.specs.Initrd.{IsInitrd};
+ghost use Rattle.script_reader.specs.Forms.{HasBounds};
+ghost use Rattle.early_script.specs.Stage.{PlaceOnce};
 ghost use Rattle.boot_model.specs.Kernel.{IsKernel};
 ghost use Rattle.boot_model.specs.View.{inputs_view};
 ghost use Rattle.boot_inputs.specs.Answers.{Gives, HasCause};
@@ -13,6 +16,7 @@ use crate::extension::Extensions;
 use crate::fetching::fetch_input;
 use crate::names::Names;
 use crate::refusal::InputError;
+use crate::script::Scripts;
 use crate::zero_page::ZeroPages;
 use bm_base::Range;
 use bm_io::Files;
@@ -36,14 +40,18 @@ pub fn read_inputs<F: Files, N: Names>(
     ensures initrd { IfOk result (λ inputs. IfSome inputs.zero.initrd IsInitrd) }
     ensures extension_ends { IfOk result (λ inputs. EndInSpace inputs.ext.items) }
     ensures types { IfOk result (λ inputs. HaveTypes inputs.options.edits.items) }
+    ensures bounds { IfOk result (λ inputs. All (λ l. HasBounds l.act) inputs.lines.items) }
+    ensures once { IfOk result (λ inputs. PlaceOnce inputs.lines.items) }
 {
     let zero = fetch_input::<ZeroPages, F, N>(alloc, files, names)?;
     let ext = fetch_input::<Extensions, F, N>(alloc, files, names)?;
     let options = fetch_input::<CommandLines, F, N>(alloc, files, names)?;
+    let lines = fetch_input::<Scripts, F, N>(alloc, files, names)?;
     Ok(Inputs {
         zero,
         ext,
         options,
         kernel,
+        lines,
     })
 }

@@ -1,11 +1,12 @@
 //! An input file as one value: which one it is, how its bytes are read, and what there is without it.
 
-ghost use Rattle.std.specs.Prelude.{◌≡◌, ℕ, List, Result, IfOk};
+ghost use Rattle.std.specs.Prelude.{◌≡◌, ◌≤◌, ℕ, List, length, Result, IfOk};
 ghost use Rattle.bm_base.specs.Answers.{Answers};
 ghost use Rattle.bm_base.specs.ResultSteps.{with_error};
 ghost use Rattle.boot_inputs.specs.declared.fault.Fault.{Fault as AnyFault};
 ghost use Rattle.boot_inputs.specs.declared.fault.Misread.TheVariants as misreads;
 ghost use Rattle.boot_inputs.specs.declared.input.Input.{Input as AnyInput};
+ghost use Rattle.boot_inputs.specs.Input.{limit_of};
 
 use crate::fault::Misread;
 use crate::input::Input;
@@ -36,8 +37,9 @@ pub trait Reader {
     fn input() -> Input
         ensures { result ≡ input };
 
-    /// What the bytes give.
+    /// What the bytes give, which are within the input's limit.
     fn read(alloc: Global, bytes: &[u8]) -> Result<Self::Value, Misread>
+        requires within { length bytes.now ≤ limit_of input }
         ensures answers { Answers misreads.Memory seen result (with_error misreads.Fault (said bytes.now)) }
         ensures sound { IfOk result sound };
 

@@ -13,20 +13,22 @@ use std::test::Fail;
 
 /// The name of each file.
 #[derive(Clone, Copy)]
-struct Three<'a> {
+struct Four<'a> {
     zp: &'a str,
     ext: &'a str,
     cmd: &'a str,
+    script: &'a str,
 }
 
-impl<'a> Names for Three<'a> {
+impl<'a> Names for Four<'a> {
     ghost use Rattle.std.specs.Prelude.{Some};
     ghost use Rattle.boot_inputs.specs.declared.input.Input.TheVariants as inputs;
 
-    ghost named = { λ three input. elim input [
-      | inputs.ZeroPage ↦ Some three.zp.now
-      | inputs.Extension ↦ Some three.ext.now
-      | inputs.CommandLine ↦ Some three.cmd.now
+    ghost named = { λ four input. elim input [
+      | inputs.ZeroPage ↦ Some four.zp.now
+      | inputs.Extension ↦ Some four.ext.now
+      | inputs.CommandLine ↦ Some four.cmd.now
+      | inputs.Script ↦ Some four.script.now
     ] };
 
     fn of(&self, input: Input) -> Option<&str> {
@@ -34,16 +36,18 @@ impl<'a> Names for Three<'a> {
             Input::ZeroPage => Some(self.zp),
             Input::Extension => Some(self.ext),
             Input::CommandLine => Some(self.cmd),
+            Input::Script => Some(self.script),
         }
     }
 }
 
-/// The bytes of the files `zp`, `ext` and `cmd`.
+/// The bytes of the files `zp`, `ext`, `cmd` and `script`.
 #[derive(Clone, Copy)]
 struct Held<'a> {
     zp: &'a [u8],
     ext: &'a [u8],
     cmd: &'a [u8],
+    script: &'a [u8],
 }
 
 fn files_of(alloc: Global, held: &Held<'_>) -> Result<Vec<MemFile>, Fail>
@@ -61,14 +65,18 @@ fn files_of(alloc: Global, held: &Held<'_>) -> Result<Vec<MemFile>, Fail>
         name: String::from_str(alloc, "cmd")?,
         bytes: Vec::from_slice(alloc, held.cmd)?,
     };
-    Ok(vec![in alloc; zp, ext, cmd]?)
+    let script = MemFile {
+        name: String::from_str(alloc, "script")?,
+        bytes: Vec::from_slice(alloc, held.script)?,
+    };
+    Ok(vec![in alloc; zp, ext, cmd, script]?)
 }
 
 /// Reads the files, where the fetch of that number fails, and compares the refusal.
 fn expect(
     rt: &impl Abort,
     alloc: Global,
-    names: &Three<'_>,
+    names: &Four<'_>,
     held: &Held<'_>,
     failing: u64,
     want: Option<Refusal>,
@@ -97,20 +105,23 @@ fn files_in_their_order(rt: HostRuntime) -> Result<(), Fail> {
         zp: &zp,
         ext: &[0, 0, 0, 0, 0, 0, 0, 0, 1, 0, 0, 0, 0, 0, 0, 0],
         cmd: b"quiet",
+        script: b"free 1",
     };
-    let all = Three {
+    let all = Four {
         zp: "zp",
         ext: "ext",
         cmd: "cmd",
+        script: "script",
     };
     let faulty = |input, fault| Some(Refusal::Faulty(input, fault));
     let page = Input::ZeroPage;
     let ext = Input::Extension;
     let line = Input::CommandLine;
-    let cases: [(Three, Held, u64, Input, Option<Refusal>); 10] = [
-        (all, good, 3, line, None),
+    let script = Input::Script;
+    let cases: [(Four, Held, u64, Input, Option<Refusal>); 12] = [
+        (all, good, 4, script, None),
         (
-            Three { zp: "none", ..all },
+            Four { zp: "none", ..all },
             good,
             1,
             page,
@@ -134,7 +145,7 @@ fn files_in_their_order(rt: HostRuntime) -> Result<(), Fail> {
             faulty(page, Fault::TooLong),
         ),
         (
-            Three { ext: "none", ..all },
+            Four { ext: "none", ..all },
             good,
             2,
             ext,
@@ -155,7 +166,7 @@ fn files_in_their_order(rt: HostRuntime) -> Result<(), Fail> {
             faulty(ext, Fault::TooLong),
         ),
         (
-            Three { cmd: "none", ..all },
+            Four { cmd: "none", ..all },
             good,
             3,
             line,
@@ -177,6 +188,26 @@ fn files_in_their_order(rt: HostRuntime) -> Result<(), Fail> {
             3,
             line,
             faulty(line, Fault::TooLong),
+        ),
+        (
+            Four {
+                script: "none",
+                ..all
+            },
+            good,
+            4,
+            script,
+            Some(Refusal::Unread(script)),
+        ),
+        (
+            all,
+            Held {
+                script: b"free 1\ntrim 1 0",
+                ..good
+            },
+            4,
+            script,
+            faulty(script, Fault::ZeroSize { line: 2 }),
         ),
     ];
     for (names, held, fetches, last, want) in &cases {
@@ -205,15 +236,17 @@ fn initrd_too_far(rt: HostRuntime) -> Result<(), Fail> {
     zp[0x219] = 0xe0;
     zp[0x21c] = 1;
     zp[0x21d] = 0x10;
-    let names = Three {
+    let names = Four {
         zp: "zp",
         ext: "ext",
         cmd: "cmd",
+        script: "script",
     };
     let held = Held {
         zp: &zp,
         ext: b"",
         cmd: b"",
+        script: b"",
     };
     let want = Refusal::Faulty(Input::ZeroPage, Fault::InitrdTooFar);
     expect(&rt, rt.alloc(), &names, &held, 2, Some(want))

@@ -22,7 +22,7 @@ use Rattle.memblock_model.specs.declared.item.Item.{Item}
 use Rattle.growth_model.specs.Carried.{carried_out}
 use Rattle.early_stages.specs.Wanted.{first_items}
 use Rattle.early_stages.proofs.FewLaws.{NeedNone, few_from_nothing}
-use Rattle.boot_model.specs.Boot.{Given, boot, claims, heads_of}
+use Rattle.boot_model.specs.Boot.{Given, begin_with, boot, claims}
 use Rattle.bootmem_cli.specs.Words.{accepted, name_in}
 use Rattle.boot_inputs.specs.Inputs.{Held}
 use Rattle.boot_inputs.specs.Said.{no_options}
@@ -52,6 +52,7 @@ given = record {
   extension = [];
   options = no_options;
   kernel = record { base = 0x1000000; size = 0x2000000 };
+  lines = [];
 }
 
 -- the type of each address: where both entries claim it, the greater one
@@ -137,7 +138,7 @@ few_wanted = (omega arith, omega arith, (omega arith, omega arith, (omega arith,
 wanted_is_made : carried_out wanted [] ≡ Ok wanted
 wanted_is_made = few_from_nothing wanted few_wanted
 
-boot_is : boot given ≡ Ok (record { map = runs; options = no_options; items = wanted; heads = heads_of given.kernel wanted })
+boot_is : boot given ≡ Ok (record (begin_with runs no_options) { items = wanted })
 unfolding boot
 boot_is = rw (map_is, frames_are, wanted_is_made) refl
 

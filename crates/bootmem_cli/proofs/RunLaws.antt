@@ -1,5 +1,5 @@
 -- What follows of a run's record: the statuses that an outcome may end with, and the line of each failure.
-use Rattle.std.proofs.Common.{◌≡◌, ◌≢◌, ℕ, List, Option, Some, None, Result, Ok, Err, refl, inl, inr, sym, subst, ◌∙◌, arith}
+use Rattle.std.proofs.Common.{◌≡◌, ◌≢◌, ℕ, List, Option, Some, None, Result, Ok, Err, refl, inl, inr, ap, sym, subst, ◌∙◌, arith}
 use Rattle.std.specs.Prelude.{IfSome, IsNone, IsSome}
 use Rattle.bm_base.specs.ResultSteps.{◌>>=◌}
 use Rattle.bm_io.specs.Told.{AppendsFront}
@@ -7,19 +7,23 @@ use Rattle.bm_io.specs.declared.writing.Sink.{Ghosts as SinkOf}
 use Rattle.boot_inputs.specs.declared.input.Input.{Input}
 use Rattle.boot_inputs.specs.declared.refusal.Refusal.{Refusal}
 use Rattle.boot_inputs.specs.declared.refusal.Refusal.TheVariants as refusals
+use Rattle.boot_inputs.specs.declared.refusal.InputError.{InputError}
+use Rattle.boot_inputs.specs.declared.refusal.InputError.TheVariants as errors
+use Rattle.boot_inputs.specs.Answers.{ComesTo, Fits}
 use Rattle.boot_inputs.specs.Inputs.{Held, inputs_of}
 use Rattle.boot_model.specs.declared.stop.Cause.{Cause}
-use Rattle.boot_model.specs.Boot.{Given, Made, boot}
+use Rattle.boot_model.specs.Boot.{Given, Told, told_boot}
+use Rattle.debugfs_reports.specs.declared.report.Report.{Report}
 use Rattle.debugfs_reports.specs.ReportList.{text_of}
 use Rattle.bootmem_cli.specs.declared.failure.Reason.{Reason}
 use Rattle.bootmem_cli.specs.declared.failure.Reason.TheVariants as reasons
 use Rattle.bootmem_cli.specs.declared.failure.Failure.{Failure}
 use Rattle.bootmem_cli.specs.declared.failure.Failure.TheVariants as failures
-use Rattle.bootmem_cli.specs.Answers.{EndFits, EndHasCause, Ends, FailureHasCause, IsText, ReachesFile, RoseFor, Writes}
+use Rattle.bootmem_cli.specs.Answers.{EndFits, EndHasCause, Ends, FailureHasCause, FitsFailure, IsText, Makes, ReachesFile, RoseFor, Writes}
 use Rattle.bootmem_cli.specs.Line.{Tells, failure_line}
 use Rattle.bootmem_cli.specs.Outcome.{or_refused, or_stopped, outcome, reported}
 use Rattle.bootmem_cli.specs.Run.{IsTold}
-use Rattle.bootmem_cli.specs.Status.{End, status_of, status_of_end}
+use Rattle.bootmem_cli.specs.Status.{End, failure_of_input, status_of, status_of_end}
 use Rattle.bootmem_cli.specs.Words.{Wanted}
 
 -- with accepted words the outcome isn't that they are refused: by the types of what comes behind them
@@ -34,15 +38,45 @@ past_inputs : (said : Result Given Refusal) (next : Given → Result (List ℕ) 
 past_inputs (Ok given) next later = later given
 past_inputs (Err refusal) next later = tt
 
-past_boot : (made : Result Made Cause) (shown : Made → List ℕ) → NotUsage (or_stopped made >>= λ m. Ok (shown m))
-past_boot (Ok made) shown = tt
+past_boot : (told : Result Told Cause) (shown : Told → List ℕ) → NotUsage (or_stopped told >>= λ t. Ok (shown t))
+past_boot (Ok told) shown = tt
 past_boot (Err cause) shown = tt
 
 past_words : (held : Held) (accepted : Option Wanted) → IsSome accepted → NotUsage (outcome accepted held)
 past_words held None some = cc
 past_words held (Some wanted) some =
     past_inputs (inputs_of held wanted.named wanted.kernel) (reported wanted.reports)
-    (λ given. past_boot (boot given) (text_of wanted.reports))
+    (λ given. past_boot (told_boot given) (text_of wanted.reports))
+
+-- refused inputs are refused in the outcome, and where an input's file is reached it is reached there
+reached_behind : (input : Input) (told : Result Told Cause) (shown : Told → List ℕ) → ReachesFile input (or_stopped told >>= λ t. Ok (shown t))
+reached_behind input (Ok told) shown = tt
+reached_behind input (Err cause) shown = tt
+
+reached : (input : Input) (said : Result Given Refusal) (reports : List Report) → ComesTo input said
+    → ReachesFile input (or_refused said >>= reported reports)
+reached input (Ok given) reports comes = reached_behind input (told_boot given) (text_of reports)
+reached input (Err refusal) reports comes = comes
+
+pub inputs_fit : (held : Held) (wanted : Wanted) (error : InputError) (failure : Failure) → failure ≡ failure_of_input error
+    → Fits error (inputs_of held wanted.named wanted.kernel) → FitsFailure failure (outcome (Some wanted) held)
+inputs_fit held wanted (errors.Refused (refusals.Unread input)) failure is fits =
+    rw is (reached input (inputs_of held wanted.named wanted.kernel) wanted.reports fits)
+inputs_fit held wanted (errors.Refused (refusals.Faulty input fault)) failure is fits =
+    rw is (ap (λ (said : Result Given Refusal). or_refused said >>= reported wanted.reports) fits)
+inputs_fit held wanted errors.Memory failure is fits = rw is tt
+
+-- whatever the files tell
+if_told : {A : Type 0} (told : Option A) (P Q : A → Type 0) → ((a : A) → P a → Q a) → IfSome told P → IfSome told Q
+if_told None P Q step holds = tt
+if_told (Some a) P Q step holds = step a holds
+
+pub makes_none : {X : Type 0} (view : X → List ℕ) (r : Result X Failure) (failure : Failure) (told : Option Held)
+    (accepted : Option Wanted) (wanted : Wanted) (error : InputError) → r ≡ Err failure → failure ≡ failure_of_input error
+    → accepted ≡ Some wanted → IfSome told (λ held. Fits error (inputs_of held wanted.named wanted.kernel))
+    → IfSome told (λ held. Makes view r (outcome accepted held))
+makes_none view r failure told accepted wanted error is from some fits =
+    if_told told _ _ (λ held h. rw (is, some) (inputs_fit held wanted error failure from h)) fits
 
 -- the statuses, by the outcome
 ends_unread : (said : Result (List ℕ) Reason) (input : Input) → ReachesFile input said → Ends said 3

@@ -17,18 +17,19 @@ use Rattle.bootmem_cli.specs.Kernel.{default_kernel, if_kernel, kernel_in, kerne
 use Rattle.bootmem_cli.specs.Status.{refusal_status, reason_status, status_of, status_of_end, failure_by, failure_of_input, failure_of_stop}
 use Rattle.bootmem_cli.specs.Line.{whole_line, entry_line, word_line, fault_line, cause_line, refusal_line, reason_line, failure_line}
 
--- what the words ask for, as three names and a report
+-- what the words ask for, as four names
 pub record Found : Type 0 where
   pub zero_page : Option (List ℕ)
   pub extension : Option (List ℕ)
   pub command_line : Option (List ℕ)
+  pub script : Option (List ℕ)
 
 abbrev found : Wanted → Found
 found wanted = record {
   zero_page = wanted.named inputs.ZeroPage;
   extension = wanted.named inputs.Extension;
-  command_line = wanted.named
-      inputs.CommandLine;
+  command_line = wanted.named inputs.CommandLine;
+  script = wanted.named inputs.Script;
 }
 
 abbrev files_of : List (List ℕ) → Option Found
@@ -39,14 +40,21 @@ abbrev first_words : List (List ℕ)
 first_words = codes "--report" ∷ codes "map" ∷ codes "zp" ∷ []
 
 abbrev zero_page_alone : Found
-zero_page_alone = record { zero_page = Some (codes "zp"); extension = None; command_line = None }
+zero_page_alone = record { zero_page = Some (codes "zp"); extension = None; command_line = None; script = None }
 
 -- all words, in another order
 abbrev all_words : List (List ℕ)
-all_words = codes "--cmdline" ∷ codes "cmd" ∷ codes "--report" ∷ codes "map" ∷ codes "--e820ext" ∷ codes "ext" ∷ codes "zp" ∷ []
+all_words =
+    codes "--cmdline" ∷ codes "cmd" ∷ codes "--report" ∷ codes "map" ∷ codes "--script" ∷ codes "lines" ∷ codes "--e820ext" ∷ codes "ext"
+    ∷ codes "zp" ∷ []
 
 abbrev all_found : Found
-all_found = record { zero_page = Some (codes "zp"); extension = Some (codes "ext"); command_line = Some (codes "cmd") }
+all_found = record {
+  zero_page = Some (codes "zp");
+  extension = Some (codes "ext");
+  command_line = Some (codes "cmd");
+  script = Some (codes "lines");
+}
 
 first_accepted : files_of first_words ≡ Some zero_page_alone
 unfolding name_in
@@ -124,7 +132,7 @@ name_with_a_dash = refl
 
 -- an empty word is a name; that there is no such file is found by reading it
 empty_name : files_of (codes "--report" ∷ codes "map" ∷ [] ∷ [])
-    ≡ Some (record { zero_page = Some []; extension = None; command_line = None })
+    ≡ Some (record { zero_page = Some []; extension = None; command_line = None; script = None })
 unfolding name_in
 empty_name = refl
 

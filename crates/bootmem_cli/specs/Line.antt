@@ -19,7 +19,8 @@ use Rattle.bootmem_cli.specs.declared.failure.Failure.{Failure}
 use Rattle.bootmem_cli.specs.declared.failure.Failure.TheVariants as failures
 use Rattle.bootmem_cli.specs.Words.{Wanted, name_text}
 
--- of the input of that name: a fault of the whole file, of an entry, which are numbered from 0, and of a word, which are numbered from 1
+-- of the input of that name: a fault of the whole file, of an entry, which are numbered from 0, and of a word or of a line, which are
+-- numbered from 1
 abbrev pub whole_line : List ℕ → List ℕ → List ℕ
 whole_line name what = codes "bootmem: " ++ (name ++ (codes ": " ++ (what ++ codes "\n")))
 
@@ -28,6 +29,9 @@ entry_line name index = codes "bootmem: " ++ (name ++ (codes ": entry " ++ (deci
 
 abbrev pub word_line : List ℕ → ℕ → List ℕ → List ℕ
 word_line name word what = codes "bootmem: " ++ (name ++ (codes ": word " ++ (decimal word ++ (codes ": " ++ (what ++ codes "\n")))))
+
+abbrev pub numbered_line : List ℕ → ℕ → List ℕ → List ℕ
+numbered_line name line what = codes "bootmem: " ++ (name ++ (codes ": line " ++ (decimal line ++ (codes ": " ++ (what ++ codes "\n")))))
 
 abbrev pub fault_line : List ℕ → Fault → List ℕ
 fault_line name faults.TooLong = whole_line name (codes "too long")
@@ -45,6 +49,12 @@ fault_line name (faults.BadMemmap word) = word_line name word (codes "memmap")
 fault_line name (faults.BadCrash word) = word_line name word (codes "crashkernel")
 fault_line name (faults.UserMapInvalid word) = word_line name word (codes "user map")
 fault_line name (faults.BadNuma word) = word_line name word (codes "numa")
+fault_line name (faults.BadLine line) = numbered_line name line (codes "form")
+fault_line name (faults.BadNumber line) = numbered_line name line (codes "number")
+fault_line name (faults.BadAlign line) = numbered_line name line (codes "alignment")
+fault_line name (faults.ZeroSize line) = numbered_line name line (codes "zero size")
+fault_line name (faults.SecondSections line) = numbered_line name line (codes "second sections")
+fault_line name (faults.LineTooFar line) = numbered_line name line (codes "too far")
 
 -- the name of a table of memblock
 abbrev pub table_name : Which → List ℕ

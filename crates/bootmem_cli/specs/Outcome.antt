@@ -4,7 +4,7 @@ use Rattle.bm_base.specs.ResultSteps.{◌>>=◌, with_error}
 use Rattle.boot_inputs.specs.declared.refusal.Refusal.{Refusal}
 use Rattle.boot_inputs.specs.Inputs.{Held, inputs_of}
 use Rattle.boot_model.specs.declared.stop.Cause.{Cause}
-use Rattle.boot_model.specs.Boot.{Given, boot}
+use Rattle.boot_model.specs.Boot.{Given, told_boot}
 use Rattle.debugfs_reports.specs.declared.report.Report.{Report}
 use Rattle.debugfs_reports.specs.ReportList.{text_of}
 use Rattle.bootmem_cli.specs.declared.failure.Reason.{Reason}
@@ -26,8 +26,8 @@ or_stopped answer = with_error reasons.Stopped answer
 -- the text of the reports of what the boot makes of the inputs
 abbrev pub reported : List Report → Given → Result (List ℕ) Reason
 reported reports given = do
-  made ← or_stopped (boot given)
-  Ok (text_of reports made)
+  told ← or_stopped (told_boot given)
+  Ok (text_of reports told)
 
 -- what the program comes to: the text that it writes, or why there is none
 abbrev pub outcome : Option Wanted → Held → Result (List ℕ) Reason

@@ -3,8 +3,11 @@
 ghost use Rattle.std.specs.Prelude.{◌≡◌, ℕ, List, IfSome, IfErr, IsNone, IsSome, IsErrOf, OnOk, OnErr, ◌⊎◌, flat_map};
 ghost use Rattle.std.specs.Option.{option_map};
 ghost use Rattle.std.specs.Io.KnownBytes.{Appends};
+ghost use Rattle.std.specs.List.{All};
 ghost use Rattle.e820_table.specs.Initrd.{IsInitrd};
 ghost use Rattle.e820_model.specs.Claims.{EndInSpace, HaveTypes};
+ghost use Rattle.script_reader.specs.Forms.{HasBounds};
+ghost use Rattle.early_script.specs.Stage.{PlaceOnce};
 ghost use Rattle.bm_io.specs.Counts.{Rose};
 ghost use Rattle.bm_io.specs.Told.{AppendsFront};
 ghost use Rattle.boot_model.specs.View.{inputs_view};
@@ -29,7 +32,7 @@ use std::alloc::Global;
 
 /// The whole program: reads the files that the words name, boots with them, and writes the reports.
 /// `words` are those after the program's name: `--report LIST`, and where they are wanted
-/// `--kernel BASE,SIZE`, `--e820ext F` and `--cmdline F`, in any order, and then the name of the zero
+/// `--kernel BASE,SIZE`, `--e820ext F`, `--cmdline F` and `--script F`, in any order, and then the name of the zero
 /// page. LIST is names of reports with a comma between each two. No value and no name begins with `-`.
 /// Answers the exit status.
 ///
@@ -122,6 +125,8 @@ fn boot_texts(alloc: Global, inputs: Inputs, list: &str) -> Result<Vec<Vec<u8>>,
     requires extension_ends { EndInSpace inputs.ext.items }
     requires types { HaveTypes inputs.options.edits.items }
     requires initrd { IfSome inputs.zero.initrd IsInitrd }
+    requires bounds { All (λ l. HasBounds l.act) inputs.lines.items }
+    requires once { PlaceOnce inputs.lines.items }
     ensures makes { Makes (λ texts. flat_map (λ text. text.items) texts.items) result
         (reported (reports_in list.now) (inputs_view inputs)) }
     ensures cause { IsOfBoot result }

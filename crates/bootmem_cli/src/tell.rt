@@ -3,7 +3,7 @@
 
 ghost use Rattle.std.specs.Prelude.{◌≡◌, flat_map};
 ghost use Rattle.std.specs.Option.{option_map};
-ghost use Rattle.bootmem_cli.specs.Line.{Tells, cause_line, entry_line, failure_line, fault_line, reason_line, refusal_line, table_line, table_name, whole_line, word_line};
+ghost use Rattle.bootmem_cli.specs.Line.{Tells, cause_line, entry_line, failure_line, fault_line, numbered_line, reason_line, refusal_line, table_line, table_name, whole_line, word_line};
 ghost use Rattle.bootmem_cli.specs.View.{wanted_view};
 
 use crate::failure::{Failure, Reason};
@@ -72,6 +72,12 @@ fn tell_fault<E: Sink>(err: &mut E, name: &str, fault: Fault)
         Fault::BadCrash { word } => tell_word(err, name, word, "crashkernel"),
         Fault::UserMapInvalid { word } => tell_word(err, name, word, "user map"),
         Fault::BadNuma { word } => tell_word(err, name, word, "numa"),
+        Fault::BadLine { line } => tell_line(err, name, line, "form"),
+        Fault::BadNumber { line } => tell_line(err, name, line, "number"),
+        Fault::BadAlign { line } => tell_line(err, name, line, "alignment"),
+        Fault::ZeroSize { line } => tell_line(err, name, line, "zero size"),
+        Fault::SecondSections { line } => tell_line(err, name, line, "second sections"),
+        Fault::LineTooFar { line } => tell_line(err, name, line, "too far"),
     }
 }
 
@@ -98,6 +104,15 @@ fn tell_word<'a, E: Sink>(err: &mut E, name: &'a str, word: u32, what: &'a str)
     let mut buffer = Buffer::new();
     let word = buffer.format(word);
     put_line(err, &["bootmem: ", name, ": word ", word, ": ", what, "\n"])
+}
+
+/// The line of a line of the file, numbered from 1.
+fn tell_line<'a, E: Sink>(err: &mut E, name: &'a str, line: u32, what: &'a str)
+    ensures { Tells E.Sink err.old err.new (numbered_line name.now line what.now) }
+{
+    let mut buffer = Buffer::new();
+    let line = buffer.format(line);
+    put_line(err, &["bootmem: ", name, ": line ", line, ": ", what, "\n"])
 }
 
 fn tell_cause<E: Sink>(err: &mut E, cause: Cause)

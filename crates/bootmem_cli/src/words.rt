@@ -21,6 +21,7 @@ impl<'w> Names for Wanted<'w> {
             Input::ZeroPage => word_behind(self.words),
             Input::Extension => named_by(self.words, "--e820ext"),
             Input::CommandLine => named_by(self.words, "--cmdline"),
+            Input::Script => named_by(self.words, "--script"),
         }
     }
 }
@@ -92,7 +93,11 @@ fn are_spelled(words: &[String]) -> bool
 fn is_option(word: &str) -> bool
     ensures { result ≡ is_option word.now }
 {
-    word == "--report" || word == "--kernel" || word == "--e820ext" || word == "--cmdline"
+    word == "--report"
+        || word == "--kernel"
+        || word == "--e820ext"
+        || word == "--cmdline"
+        || word == "--script"
 }
 
 /// Whether no option stands twice.
@@ -103,6 +108,7 @@ fn stand_once(words: &[String]) -> bool
         && value_of(words, "--kernel").is_some()
         && value_of(words, "--e820ext").is_some()
         && value_of(words, "--cmdline").is_some()
+        && value_of(words, "--script").is_some()
 }
 
 /// Whether the word may stand where a value or a name is expected.

@@ -5,7 +5,8 @@ use Rattle.address_runs.specs.Runs.{RunOf}
 use Rattle.boot_options.specs.Crash.{no_crash}
 use Rattle.e820_model.specs.declared.edit.Edit.TheVariants as edits
 use Rattle.memblock_ranges.specs.declared.region.Heads.{Heads}
-use Rattle.boot_model.specs.Boot.{Made}
+use Rattle.early_script.specs.declared.outcome.Outcome.TheVariants as outcomes
+use Rattle.boot_model.specs.Boot.{Told}
 use Rattle.debugfs_reports.specs.declared.report.Report.TheVariants as reports
 use Rattle.debugfs_reports.specs.Report.{all_reports, first_named, name_of, report_named, report_text}
 use Rattle.debugfs_reports.specs.ReportList.{are_reports, names_in, part, reports_in, text_of, title}
@@ -19,21 +20,29 @@ heads = record {
   reserved = record { place = 0x2FFF000; room = 128; count = 0 };
 }
 
-made : Made
+made : Told
 made = record {
   map = reserved ∷ [];
   options = record { edits = edits.Clear ∷ []; crash = no_crash; numa_off = true };
   items = [];
   heads = heads;
+  answers = record { line = 2; outcome = outcomes.NoGap } ∷ [];
 }
 
-nothing : Made
-nothing = record { map = []; options = record { edits = []; crash = no_crash; numa_off = false }; items = []; heads = heads }
+nothing : Told
+nothing = record {
+  map = [];
+  options = record { edits = []; crash = no_crash; numa_off = false };
+  items = [];
+  heads = heads;
+  answers = [];
+}
 
 text_examples : (report_text reports.Map made ≡ codes "0x0000000007fe0000..0x0000000007ffffff 2 reserved\n")
     × (report_text reports.Options made ≡ codes "clear\nnuma off\n") × (report_text reports.Options nothing ≡ [])
+    × (report_text reports.Script made ≡ codes "2: no gap\n")
 unfolding made nothing reserved digits
-text_examples = (refl, refl, refl)
+text_examples = (refl, refl, refl, refl)
 
 name_examples : (name_of reports.Map ≡ codes "map") × (report_named (codes "map") ≡ Some reports.Map)
     × (report_named (codes "options") ≡ Some reports.Options) × (report_named (codes "Map") ≡ None) × (report_named [] ≡ None)

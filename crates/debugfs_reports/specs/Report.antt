@@ -1,7 +1,7 @@
 -- The reports that there are: the name and the text of each.
 use Rattle.std.specs.Prelude.{ℕ, List, [], ◌∷◌, codes, Option, find}
 use Rattle.std.specs.Str.{bytes_eq}
-use Rattle.boot_model.specs.Boot.{Made}
+use Rattle.boot_model.specs.Boot.{Told}
 use Rattle.debugfs_reports.specs.declared.report.Report.{Report}
 use Rattle.debugfs_reports.specs.declared.report.Report.TheVariants as reports
 use Rattle.memblock_model.specs.declared.which.Which.TheVariants as which
@@ -13,6 +13,7 @@ use Rattle.report_texts.specs.OptionsText.{options_text}
 use Rattle.report_texts.specs.OwnersText.{owners_text}
 use Rattle.report_texts.specs.RecordsText.{records_text}
 use Rattle.report_texts.specs.TablesText.{tables_text}
+use Rattle.stage_texts.specs.ScriptText.{script_text}
 
 abbrev pub name_of : Report → List ℕ
 name_of reports.Map = codes "map"
@@ -21,11 +22,12 @@ name_of reports.Memory = codes "memory"
 name_of reports.Reserved = codes "reserved"
 name_of reports.Owners = codes "owners"
 name_of reports.Journal = codes "journal"
+name_of reports.Script = codes "script"
 name_of reports.Tables = codes "tables"
 
 abbrev pub all_reports : List Report
 all_reports =
-    reports.Map ∷ reports.Options ∷ reports.Memory ∷ reports.Reserved ∷ reports.Owners ∷ reports.Journal ∷ reports.Tables ∷ []
+    reports.Map ∷ reports.Options ∷ reports.Memory ∷ reports.Reserved ∷ reports.Owners ∷ reports.Journal ∷ reports.Script ∷ reports.Tables ∷ []
 
 -- the first of the reports that has the name
 abbrev pub first_named : List Report → List ℕ → Option Report
@@ -34,12 +36,13 @@ first_named reports name = find (λ report. bytes_eq name (name_of report)) repo
 abbrev pub report_named : List ℕ → Option Report
 report_named name = first_named all_reports name
 
--- the text of a report, from what the boot made
-abbrev pub report_text : Report → Made → List ℕ
-report_text reports.Map made = map_text made.map
-report_text reports.Options made = options_text made.options
-report_text reports.Memory made = records_text (records_of which.Memory made.items)
-report_text reports.Reserved made = records_text (records_of which.Reserved made.items)
-report_text reports.Owners made = owners_text (owner_runs_of made.items)
-report_text reports.Journal made = journal_text made.items
-report_text reports.Tables made = tables_text made.heads
+-- the text of a report, from what is told of a boot
+abbrev pub report_text : Report → Told → List ℕ
+report_text reports.Map told = map_text told.map
+report_text reports.Options told = options_text told.options
+report_text reports.Memory told = records_text (records_of which.Memory told.items)
+report_text reports.Reserved told = records_text (records_of which.Reserved told.items)
+report_text reports.Owners told = owners_text (owner_runs_of told.items)
+report_text reports.Journal told = journal_text told.items
+report_text reports.Script told = script_text told.answers
+report_text reports.Tables told = tables_text told.heads

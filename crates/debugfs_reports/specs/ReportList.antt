@@ -3,7 +3,7 @@ use Rattle.std.specs.Prelude.{ℕ, Bool, is_some, nat_lt, if◌then◌else◌, L
 use Rattle.std.specs.List.{filter_map, flat_map, list_all}
 use Rattle.text_words.specs.declared.separators.Separators.TheVariants.{Byte}
 use Rattle.text_words.specs.Parts.{parts_in}
-use Rattle.boot_model.specs.Boot.{Made}
+use Rattle.boot_model.specs.Boot.{Told}
 use Rattle.debugfs_reports.specs.declared.report.Report.{Report}
 use Rattle.debugfs_reports.specs.Report.{name_of, report_named, report_text}
 
@@ -24,9 +24,9 @@ abbrev pub title : Bool → Report → List ℕ
 title several report = if several then codes "== " ++ name_of report ++ codes "\n" else []
 
 -- a report's part of the whole text
-abbrev pub part : Bool → Made → Report → List ℕ
-part several made report = title several report ++ report_text report made
+abbrev pub part : Bool → Told → Report → List ℕ
+part several told report = title several report ++ report_text report told
 
 -- the whole text of a list of reports: the parts one after another, in the order of the list
-abbrev pub text_of : List Report → Made → List ℕ
-text_of reports made = flat_map (part (nat_lt 1 (length reports)) made) reports
+abbrev pub text_of : List Report → Told → List ℕ
+text_of reports told = flat_map (part (nat_lt 1 (length reports)) told) reports

@@ -3,7 +3,7 @@
 //! A report is a text of lines, in the manner of the files below `/sys/kernel/debug`. [`Report`] names
 //! those that there are, [`report_named`] finds one by its name, and [`render`] gives its text, which
 //! is that of the definition (`report_text` of `specs/Report.antt`). The lines are those of
-//! `report_texts`, so a report is here a name and one call.
+//! `report_texts` and `stage_texts`, so a report is here a name and one call.
 //!
 //! A list of reports is spelled as names with a comma between each two, and a name may stand twice:
 //! [`are_reports`] tells whether each name is a report's, and takes no memory, so that a list can be

@@ -9,6 +9,7 @@ ghost use Rattle.debugfs_reports.specs.Stand.{TablesStand};
 use bm_base::Memory;
 use boot_model::Booted;
 use report_texts::{put_journal, put_map, put_options, put_owners, put_records, put_tables};
+use stage_texts::put_script;
 use std::alloc::Global;
 
 /// A report of a boot.
@@ -26,6 +27,8 @@ pub enum Report {
     Owners,
     /// What happened to memory, item by item.
     Journal,
+    /// What came of each line of the early script.
+    Script,
     /// Where both tables lie, and how full they are.
     Tables,
 }
@@ -42,19 +45,21 @@ impl Report {
             Report::Reserved => "reserved",
             Report::Owners => "owners",
             Report::Journal => "journal",
+            Report::Script => "script",
             Report::Tables => "tables",
         }
     }
 }
 
 /// The reports that there are.
-const REPORTS: [Report; 7] = [
+const REPORTS: [Report; 8] = [
     Report::Map,
     Report::Options,
     Report::Memory,
     Report::Reserved,
     Report::Owners,
     Report::Journal,
+    Report::Script,
     Report::Tables,
 ];
 
@@ -102,6 +107,7 @@ pub fn put_report(text: &mut Vec<u8>, report: Report, booted: &Booted) -> Result
         Report::Reserved => put_records(text, &booted.store, &booted.heads.reserved),
         Report::Owners => put_owners(text, &booted.journal),
         Report::Journal => put_journal(text, &booted.journal),
+        Report::Script => put_script(text, &booted.answers),
         Report::Tables => put_tables(text, &booted.heads),
     }
 }
