@@ -29,6 +29,6 @@ pub use journal::put_journal;
 pub use lines::put_lines;
 pub use map::put_map;
 pub use options::put_options;
-pub use owners::put_owners;
+pub use owners::{put_owners, which_name};
 pub use records::put_records;
 pub use tables::put_tables;

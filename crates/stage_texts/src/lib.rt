@@ -1,0 +1,17 @@
+//! The lines of the reports of later stages: what the stages behind the first claims, and the handover of
+//! free frames, are as text.
+//!
+//! It is the sister of `report_texts`, which has the texts of what the boot can't do without, so that that
+//! crate stays low. The parts are the same: the definition of a line in `specs/`, which a reader compares
+//! with the page of the formats, the function that puts that line, and one call of `put_lines`. Ranges,
+//! owners' and tables' names and numbers are those of `report_texts` and `bm_base`.
+//!
+//! [`put_script`] tells what came of each line of the early script.
+//!
+//! Nothing but the text grows, and nothing but want of memory comes in its place; the text is then of no
+//! use, and whoever asked for it drops it.
+#![tactic(auto)]
+
+mod script;
+
+pub use script::put_script;
