@@ -28,7 +28,7 @@ fn put_item_line(text: &mut Vec<u8>, index: u64, item: &Item) -> Result<(), Memo
 }
 
 /// Appends what an item is, with its parts.
-fn put_item(text: &mut Vec<u8>, item: &Item) -> Result<(), Memory>
+pub fn put_item(text: &mut Vec<u8>, item: &Item) -> Result<(), Memory>
     ensures { OnOk result (text.new.items ≡ text.old.items ++ item_text item.now) }
 {
     match item {

@@ -25,10 +25,11 @@ mod tables;
 #[cfg(test)]
 mod tests;
 
-pub use journal::put_journal;
+pub use journal::{put_item, put_journal};
 pub use lines::put_lines;
 pub use map::put_map;
 pub use options::put_options;
 pub use owners::{put_owners, which_name};
+pub use ranges::put_word_range;
 pub use records::put_records;
 pub use tables::put_tables;
