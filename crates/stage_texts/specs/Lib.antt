@@ -1,1 +1,5 @@
+pub mod BlocksText
+pub mod NodesText
 pub mod ScriptText
+pub mod SectionsText
+pub mod ZonesText
