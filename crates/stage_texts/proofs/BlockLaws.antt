@@ -1,10 +1,10 @@
 -- The listed blocks are in bounds: their orders, their first frames, and how many they are.
-use Rattle.std.proofs.Common.{◌≡◌, ℕ, zero, suc, ◌+◌, ◌-◌, ◌%◌, ◌^◌, ◌<◌, ◌≤◌, ◌==◌, true, false, Option, Some, None, List, [], ◌∷◌, ◌++◌, length, get_or, drop, refl, sym, ap, ◌∙◌, add-one, append_assoc, drop-cons, arith, inl, inr}
+use Rattle.std.proofs.Common.{◌≡◌, ℕ, zero, suc, ◌+◌, ◌^◌, ◌<◌, ◌≤◌, ◌==◌, Option, Some, None, List, [], ◌∷◌, ◌++◌, length, get_or, drop, refl, sym, ap, ◌∙◌, add-one, append_assoc, drop-cons, arith, inl, inr}
 use Rattle.std.proofs.lemmas.Bool.{cases_Bool}
 use Rattle.frame_blocks.specs.declared.block.Block.{Block}
 use Rattle.frame_blocks.specs.declared.run.TheConstants.{MAX_FRAMES}
 use Rattle.frame_blocks.specs.Frames.{Frames}
-use Rattle.frame_blocks.specs.Listed.{block_for, block_of, blocks_from, blocks_of, led_by_block, order_up_to}
+use Rattle.frame_blocks.specs.Listed.{block_for, block_of, blocks_from, blocks_of, led_by_block}
 use Rattle.frame_blocks.proofs.GoodLaws.{up_small}
 use Rattle.frame_blocks.proofs.ListLaws.{from-few}
 use Rattle.report_texts.specs.Lines.{lines_from}

@@ -1,5 +1,5 @@
 -- Small texts and their parts, by computing.
-use Rattle.std.proofs.Common.{◌≡◌, ℕ, ◌++◌, List, [], ◌∷◌, codes, refl}
+use Rattle.std.proofs.Common.{◌≡◌, [], ◌∷◌, codes, refl}
 use Rattle.std.specs.Fmt.{digits}
 use Rattle.hex.specs.Hex.{encode_with}
 use Rattle.bm_base.specs.Extent.{Extent}
@@ -11,9 +11,7 @@ use Rattle.early_script.specs.declared.outcome.Outcome.TheVariants as outcomes
 use Rattle.frame_blocks.specs.declared.block.Block.{Block}
 use Rattle.frame_blocks.specs.Frames.{Frames}
 use Rattle.node_hulls.specs.declared.reasons.Why.TheVariants as why
-use Rattle.numa_nodes.specs.Assigned.{Noded}
 use Rattle.section_maps.specs.declared.placed.Placed.{Placed}
-use Rattle.sparse_sections.specs.declared.roots.RootPlace.{RootPlace}
 use Rattle.zone_spans.specs.declared.span.Span.{Span}
 use Rattle.report_texts.specs.Lines.{lines_from}
 use Rattle.stage_texts.specs.BlocksText.{block_line}
@@ -62,20 +60,20 @@ unfolding digits
 why_lines = (refl, refl, refl, refl, refl, refl, refl, refl)
 
 domain_lines : (domain_line 0 7 ≡ codes "domain 7 node 0\n") × (uncovered_line 0 ≡ codes "uncovered 0\n")
-unfolding domain_line digits
+unfolding digits
 domain_lines = (refl, refl)
 
 -- other items have no line
 node_lines : (node_line 4 (item.Node first_MiB 3) ≡ codes "node 3 0x0000000000000000..0x00000000000fffff\n") × (node_line 4 item.Trim ≡ [])
     × (node_line 4 (item.Claim first_MiB (owner.NodeData 3)) ≡ [])
-unfolding node_line first_MiB digits
+unfolding first_MiB digits
 node_lines = (refl, refl, refl)
 
 two_nodes : nodes_text
     (record { why = why.Used; domains = 0 ∷ 8 ∷ []; uncovered = 5; with_memory = 0 ∷ [] })
     (item.Limit 0x100000 ∷ item.Node first_MiB 0 ∷ item.Trim ∷ [])
     ≡ codes "numa used\ndomain 0 node 0\ndomain 8 node 1\nuncovered 5\nnode 0 0x0000000000000000..0x00000000000fffff\n"
-unfolding domain_line node_line first_MiB digits
+unfolding first_MiB digits
 two_nodes = refl
 
 no_table : nodes_text (record { why = why.Absent; domains = []; uncovered = 0; with_memory = 0 ∷ [] }) []
@@ -86,19 +84,19 @@ no_table = refl
 -- sections
 root_lines : (roots_line 0x7FDC000 ≡ codes "roots 0x0000000007fdc000\n")
     × (root_line 0 (record { number = 12; place = 0x7FDB000 }) ≡ codes "root 12 0x0000000007fdb000\n")
-unfolding root_line digits
+unfolding digits
 root_lines = (refl, refl)
 
 low_section : Placed
 low_section = record { section = 0; node = 1; map = 0x7A00000; usage = 0x7FDAFC0 }
 
 section_lines : section_line 3 low_section ≡ codes "section 0 node 1 map 0x0000000007a00000 usage 0x0000000007fdafc0\n"
-unfolding section_line low_section digits
+unfolding low_section digits
 section_lines = refl
 
 one_section : sections_text (record { table = 0x7FDC000; roots = record { number = 0; place = 0x7FDB000 } ∷ [] }) (low_section ∷ [])
     ≡ codes "roots 0x0000000007fdc000\nroot 0 0x0000000007fdb000\nsection 0 node 1 map 0x0000000007a00000 usage 0x0000000007fdafc0\n"
-unfolding root_line section_line low_section digits
+unfolding low_section digits
 one_section = refl
 
 no_section : sections_text (record { table = 0x1000; roots = [] }) [] ≡ codes "roots 0x0000000000001000\n"
@@ -134,7 +132,7 @@ low_span = record { node = 0; zone = zone.Dma; start = 1; end = 4096; present = 
 
 zone_lines : zone_line (one_frame ∷ two_frames ∷ far_block ∷ []) 0 low_span
     ≡ codes "Node 0, zone DMA start 1 end 4096 present 3998 free 3\n"
-unfolding one_frame two_frames far_block low_span zone_line frames_there digits
+unfolding one_frame two_frames far_block low_span frames_there digits
 zone_lines = refl
 
 count_examples : (count_text (one_frame ∷ two_frames ∷ []) 0 zone.Dma 1 ≡ codes "     1 ") × (count_text [] 0 zone.Normal 10 ≡ codes "     0 ")

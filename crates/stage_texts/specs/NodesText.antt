@@ -23,7 +23,7 @@ abbrev pub why_line : Why → List ℕ
 why_line reason = codes "numa " ++ why_text reason ++ codes "\n"
 
 -- the line of a node: its domain, and its number, which is its place in the list
-unfoldable pub domain_line : ℕ → ℕ → List ℕ
+abbrev pub domain_line : ℕ → ℕ → List ℕ
 domain_line node domain = codes "domain " ++ decimal domain ++ codes " node " ++ decimal node ++ codes "\n"
 
 -- the frames that no block covers
@@ -31,7 +31,7 @@ abbrev pub uncovered_line : ℕ → List ℕ
 uncovered_line frames = codes "uncovered " ++ decimal frames ++ codes "\n"
 
 -- the line of a range that got a node; other items have none, and the index isn't in it
-unfoldable pub node_line : ℕ → Item → List ℕ
+abbrev pub node_line : ℕ → Item → List ℕ
 node_line n (item.Node range node) = codes "node " ++ decimal node ++ codes " " ++ range_text range ++ codes "\n"
 node_line n other = []
 

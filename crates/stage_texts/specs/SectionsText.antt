@@ -12,11 +12,11 @@ abbrev pub roots_line : ℕ → List ℕ
 roots_line table = codes "roots " ++ hex_text table ++ codes "\n"
 
 -- the line of a root; the index isn't in it
-unfoldable pub root_line : ℕ → RootPlace → List ℕ
+abbrev pub root_line : ℕ → RootPlace → List ℕ
 root_line n root = codes "root " ++ decimal root.number ++ codes " " ++ hex_text root.place ++ codes "\n"
 
 -- the line of a section; the index isn't in it
-unfoldable pub section_line : ℕ → Placed → List ℕ
+abbrev pub section_line : ℕ → Placed → List ℕ
 section_line n s =
     codes "section " ++ decimal s.section ++ codes " node " ++ decimal s.node ++ codes " map " ++ hex_text s.map ++ codes " usage "
     ++ hex_text s.usage ++ codes "\n"

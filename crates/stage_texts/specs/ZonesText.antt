@@ -32,7 +32,7 @@ frames_there node z blocks = sum_by (λ b. 2 ^ b.order) (filter (is_there node z
 
 -- the line of a span: its first frame, the one behind its last, how many there are, and how many of them the free blocks have; the
 -- index isn't in it
-unfoldable pub zone_line : List Block → ℕ → Span → List ℕ
+abbrev pub zone_line : List Block → ℕ → Span → List ℕ
 zone_line blocks n s =
     codes "Node " ++ decimal s.node ++ codes ", zone " ++ zone_name s.zone ++ codes " start " ++ decimal s.start ++ codes " end "
     ++ decimal s.end ++ codes " present " ++ decimal s.present ++ codes " free " ++ decimal (frames_there s.node s.zone blocks) ++ codes "\n"

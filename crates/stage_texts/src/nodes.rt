@@ -52,7 +52,6 @@ fn put_why(text: &mut Vec<u8>, why: &Why) -> Result<(), Memory>
 }
 
 /// Appends the line of a node, whose number is the index: its domain, and that number.
-#[tactic(auto, unfolding(crate::specs::NodesText::domain_line))]
 fn put_domain_line(text: &mut Vec<u8>, index: u64, domain: &u32) -> Result<(), Memory>
     ensures { OnOk result (text.new.items ≡ text.old.items ++ domain_line index domain.now) }
 {
@@ -70,7 +69,6 @@ fn put_uncovered_line(text: &mut Vec<u8>, frames: u64) -> Result<(), Memory>
 }
 
 /// Appends the line of an item, if it gives a range its node.
-#[tactic(auto, unfolding(crate::specs::NodesText::node_line))]
 fn put_node_line(text: &mut Vec<u8>, index: u64, item: &Item) -> Result<(), Memory>
     ensures { OnOk result (text.new.items ≡ text.old.items ++ node_line index item.now) }
 {

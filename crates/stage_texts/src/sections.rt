@@ -32,7 +32,6 @@ fn put_roots(text: &mut Vec<u8>, roots: &Roots) -> Result<(), Memory>
 }
 
 /// Appends the line of a root.
-#[tactic(auto, unfolding(crate::specs::SectionsText::root_line))]
 fn put_root_line(text: &mut Vec<u8>, index: u64, root: &RootPlace) -> Result<(), Memory>
     ensures { OnOk result (text.new.items ≡ text.old.items ++ root_line index root.now) }
 {
@@ -42,7 +41,6 @@ fn put_root_line(text: &mut Vec<u8>, index: u64, root: &RootPlace) -> Result<(),
 }
 
 /// Appends the line of a section.
-#[tactic(auto, unfolding(crate::specs::SectionsText::section_line))]
 fn put_section_line(text: &mut Vec<u8>, index: u64, placed: &Placed) -> Result<(), Memory>
     ensures { OnOk result (text.new.items ≡ text.old.items ++ section_line index placed.now) }
 {

@@ -23,10 +23,22 @@ fn script(rt: HostRuntime) -> Result<(), Fail> {
         room: 256,
     };
     let answers = vec![in rt.alloc();
-        Answer { line: 1, outcome: Outcome::At(0x7FF_0000) },
-        Answer { line: 3, outcome: Outcome::Bytes(told) },
-        Answer { line: 12, outcome: no_gap },
-        Answer { line: 13, outcome: Outcome::NotWhole },
+        Answer {
+            line: 1,
+            outcome: Outcome::At(0x7FF_0000)
+        },
+        Answer {
+            line: 3,
+            outcome: Outcome::Bytes(told)
+        },
+        Answer {
+            line: 12,
+            outcome: no_gap
+        },
+        Answer {
+            line: 13,
+            outcome: Outcome::NotWhole
+        },
     ]?;
     let mut text = Vec::new(rt.alloc());
     put_script(&mut text, &answers)?;

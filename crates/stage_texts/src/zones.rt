@@ -44,7 +44,6 @@ pub fn zone_name(zone: Zone) -> &'static str
 }
 
 /// Appends the line of a span: its bounds, how many frames there are, and how many are free.
-#[tactic(auto, unfolding(crate::specs::ZonesText::zone_line))]
 fn put_zone_line(text: &mut Vec<u8>, index: u64, span: &Span, buddy: &Buddy) -> Result<(), Memory>
     ensures { OnOk result (text.new.items
         ≡ text.old.items ++ zone_line (blocks_of (free buddy.now)) index span.now) }
