@@ -40,7 +40,8 @@ from_in_bounds : (f : Frames) (x n : ℕ) → x + n ≤ 2 ^ 40 → AreInBounds (
 unfolding blocks_from
 from_in_bounds f x zero low = tt
 from_in_bounds f x (suc n) low =
-    led_in_bounds x (block_of f x) (blocks_from f (x + 1) n) (found_in_bounds f x (f x) (omega arith)) (from_in_bounds f (x + 1) n (omega arith))
+    let rest = from_in_bounds f (x + 1) n (omega arith) in
+    led_in_bounds x (block_of f x) (blocks_from f (x + 1) n) (found_in_bounds f x (f x) (omega arith)) rest
 
 pub listed_in_bounds : (f : Frames) → AreInBounds (blocks_of f)
 unfolding blocks_of

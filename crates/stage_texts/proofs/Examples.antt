@@ -18,6 +18,7 @@ use Rattle.stage_texts.specs.BlocksText.{block_line}
 use Rattle.stage_texts.specs.NodesText.{domain_line, node_line, nodes_text, uncovered_line, why_line}
 use Rattle.stage_texts.specs.ScriptText.{answer_line, outcome_text, script_text}
 use Rattle.stage_texts.specs.SectionsText.{root_line, roots_line, section_line, sections_text}
+use Rattle.stage_texts.specs.SummaryText.{fullness_line, number_line, summary_text}
 use Rattle.stage_texts.specs.ZonesText.{buddy_line, buddyinfo_text, count_text, frames_there, padded_zone, zone_line, zones_text}
 
 -- the script
@@ -52,7 +53,8 @@ no_answer = refl
 first_MiB : Extent
 first_MiB = record { base = 0; size = 0x100000 }
 
-why_lines : (why_line why.Used ≡ codes "numa used\n") × (why_line why.Off ≡ codes "numa off\n") × (why_line why.Absent ≡ codes "numa absent\n")
+why_lines : (why_line why.Used ≡ codes "numa used\n") × (why_line why.Off ≡ codes "numa off\n")
+    × (why_line why.Absent ≡ codes "numa absent\n")
     × (why_line why.NoBlocks ≡ codes "numa no blocks\n") × (why_line why.TooManyDomains ≡ codes "numa too many domains\n")
     × (why_line why.TooManyBlocks ≡ codes "numa too many blocks\n") × (why_line (why.Overlap 2 11) ≡ codes "numa overlap 2 11\n")
     × (why_line (why.NotCovered 256) ≡ codes "numa not covered 256\n")
@@ -124,7 +126,8 @@ frames_examples : (frames_there 0 zone.Dma (one_frame ∷ two_frames ∷ far_blo
 unfolding one_frame two_frames far_block frames_there
 frames_examples = (refl, refl, refl)
 
-padded_zones : (padded_zone zone.Dma ≡ codes "     DMA") × (padded_zone zone.Dma32 ≡ codes "   DMA32") × (padded_zone zone.Normal ≡ codes "  Normal")
+padded_zones : (padded_zone zone.Dma ≡ codes "     DMA") × (padded_zone zone.Dma32 ≡ codes "   DMA32")
+    × (padded_zone zone.Normal ≡ codes "  Normal")
 padded_zones = (refl, refl, refl)
 
 low_span : Span
@@ -135,7 +138,8 @@ zone_lines : zone_line (one_frame ∷ two_frames ∷ far_block ∷ []) 0 low_spa
 unfolding one_frame two_frames far_block low_span frames_there digits
 zone_lines = refl
 
-count_examples : (count_text (one_frame ∷ two_frames ∷ []) 0 zone.Dma 1 ≡ codes "     1 ") × (count_text [] 0 zone.Normal 10 ≡ codes "     0 ")
+count_examples : (count_text (one_frame ∷ two_frames ∷ []) 0 zone.Dma 1 ≡ codes "     1 ")
+    × (count_text [] 0 zone.Normal 10 ≡ codes "     0 ")
 unfolding one_frame two_frames digits
 count_examples = (refl, refl)
 
@@ -146,3 +150,24 @@ buddy_lines = refl
 
 no_span : (f : Frames) → (zones_text f [] ≡ []) × (buddyinfo_text f [] ≡ [])
 no_span f = (refl, refl)
+
+-- the summary
+number_lines : (number_line (codes "runs ") 0 ≡ codes "runs 0\n") × (number_line (codes "blocks ") 4194304 ≡ codes "blocks 4194304\n")
+unfolding digits
+number_lines = (refl, refl)
+
+fullness_lines : fullness_line which.Reserved (record { records = 129; room = 256 }) ≡ codes "reserved records 129 room 256\n"
+unfolding digits
+fullness_lines = refl
+
+small_machine : summary_text (record {
+  runs = 3;
+  usable = 32639;
+  free = 30000;
+  memory = record { records = 2; room = 128 };
+  reserved = record { records = 17; room = 128 };
+  blocks = 41;
+})
+    ≡ codes "runs 3\nusable 32639\nfree 30000\nmemory records 2 room 128\nreserved records 17 room 128\nblocks 41\n"
+unfolding digits
+small_machine = refl

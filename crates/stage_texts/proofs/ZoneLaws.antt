@@ -1,5 +1,5 @@
 -- How many frames the blocks of a node and a zone have, order by order.
-use Rattle.std.proofs.Common.{◌≡◌, ℕ, suc, ◌+◌, ◌-◌, ◌*◌, ◌%◌, ◌^◌, ◌<◌, ◌≤◌, ◌==◌, Bool, true, false, ◌&&◌, cond, List, [], ◌∷◌, length, ◌++◌, drop, replicate, codes, refl, sym, ◌∙◌, ap, append_assoc, arith, inl, inr}
+use Rattle.std.proofs.Common.{◌≡◌, ℕ, suc, ◌+◌, ◌-◌, ◌*◌, ◌%◌, ◌^◌, ◌<◌, ◌≤◌, ◌==◌, Bool, true, false, ◌&&◌, cond, List, [], ◌∷◌, length, ◌++◌, codes, refl, sym, ◌∙◌, ap, append_assoc, arith, inl, inr}
 use Rattle.std.specs.Prelude.{nat_lt}
 use Rattle.std.specs.List.{count_by, filter, flat_map, range_with_len, sum_by}
 use Rattle.std.proofs.Math.Nat.{mod-eq_of_lt}
@@ -9,11 +9,10 @@ use Rattle.std.proofs.lemmas.Bool.{cases_Bool, cases_lt}
 use Rattle.std.proofs.lemmas.List.Sums.{sum_by-cons}
 use Rattle.bm_base.specs.Text.{padded_decimal}
 use Rattle.bm_base.specs.declared.zone.Zone.{Zone}
-use Rattle.bm_base.specs.declared.zone.Zone.TheVariants as zone
 use Rattle.frame_blocks.specs.declared.block.Block.{Block}
 use Rattle.frame_blocks.specs.Frames.{Frames}
 use Rattle.frame_blocks.specs.Listed.{blocks_of, count_of, is_of, same_zone}
-use Rattle.stage_texts.specs.ZonesText.{count_text, frames_there, is_there, padded_zone, zone_name}
+use Rattle.stage_texts.specs.ZonesText.{count_text, frames_there, is_there}
 use Rattle.stage_texts.proofs.BlockLaws.{AreInBounds, listed_few, listed_in_bounds}
 
 -- how many frames the blocks of the node and the zone have whose order is below m
@@ -150,14 +149,3 @@ count_put f node z order count before middle after whole less is number space so
     ∙ append_assoc before (padded_decimal 6 (count_by (is_of node z order) (blocks_of f))) (codes " ") in
     ap (λ t. t ++ rest) one ∙ append_assoc before text rest
     ∙ ap (λ t. before ++ t) (sym (counts_more (count_text (blocks_of f) node z) order less)) ∙ so_far
-
--- a zone's name has at most eight letters, and what stands before it is spaces
-pub spaces_before : (z : Zone) → drop (length (zone_name z)) (replicate 8 32) ++ zone_name z ≡ padded_zone z
-spaces_before zone.Dma = refl
-spaces_before zone.Dma32 = refl
-spaces_before zone.Normal = refl
-
-pub name_short : (z : Zone) → length (zone_name z) ≤ 8
-name_short zone.Dma = omega arith
-name_short zone.Dma32 = omega arith
-name_short zone.Normal = omega arith

@@ -2,4 +2,5 @@ pub mod BlocksText
 pub mod NodesText
 pub mod ScriptText
 pub mod SectionsText
+pub mod SummaryText
 pub mod ZonesText

@@ -35,7 +35,8 @@ frames_there node z blocks = sum_by (λ b. 2 ^ b.order) (filter (is_there node z
 abbrev pub zone_line : List Block → ℕ → Span → List ℕ
 zone_line blocks n s =
     codes "Node " ++ decimal s.node ++ codes ", zone " ++ zone_name s.zone ++ codes " start " ++ decimal s.start ++ codes " end "
-    ++ decimal s.end ++ codes " present " ++ decimal s.present ++ codes " free " ++ decimal (frames_there s.node s.zone blocks) ++ codes "\n"
+    ++ decimal s.end ++ codes " present " ++ decimal s.present ++ codes " free " ++ decimal (frames_there s.node s.zone blocks)
+    ++ codes "\n"
 
 -- the spans, by the frames that are free
 abbrev pub zones_text : Frames → List Span → List ℕ
@@ -45,11 +46,14 @@ zones_text f spans = lines_from (zone_line (blocks_of f)) 0 spans
 abbrev pub count_text : List Block → ℕ → Zone → ℕ → List ℕ
 count_text blocks node z order = padded_decimal 6 (count_by (is_of node z order) blocks) ++ codes " "
 
+abbrev pub counts_text : List Block → ℕ → Zone → List ℕ
+counts_text blocks node z = flat_map (count_text blocks node z) (range_with_len 0 (MAX_ORDER + 1))
+
 -- the line of a span: the number of blocks of each order, from 0 on; the index isn't in it
 unfoldable pub buddy_line : List Block → ℕ → Span → List ℕ
 buddy_line blocks n s =
     codes "Node " ++ decimal s.node ++ codes ", zone " ++ padded_zone s.zone ++ codes " "
-    ++ flat_map (count_text blocks s.node s.zone) (range_with_len 0 (MAX_ORDER + 1)) ++ codes "\n"
+    ++ counts_text blocks s.node s.zone ++ codes "\n"
 
 abbrev pub buddyinfo_text : Frames → List Span → List ℕ
 buddyinfo_text f spans = lines_from (buddy_line (blocks_of f)) 0 spans

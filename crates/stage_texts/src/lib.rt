@@ -8,7 +8,8 @@
 //!
 //! A `put_` call appends the text of one part: [`put_script`] of what came of each line of the early script,
 //! [`put_nodes`] of the table of domains and the nodes that memory got, [`put_sections`] of the places that
-//! sections have, [`put_zones`], [`put_buddyinfo`] and [`put_blocks`] of the zones and the free blocks at the handover.
+//! sections have, [`put_zones`], [`put_buddyinfo`] and [`put_blocks`] of the zones and the free blocks at the
+//! handover, [`put_summary`] of how much there is of everything.
 //!
 //! Nothing but the text grows, and nothing but want of memory comes in its place; the text is then of no
 //! use, and whoever asked for it drops it.
@@ -18,6 +19,7 @@ mod blocks;
 mod nodes;
 mod script;
 mod sections;
+mod summary;
 #[cfg(test)]
 mod tests;
 mod words;
@@ -27,4 +29,5 @@ pub use blocks::put_blocks;
 pub use nodes::put_nodes;
 pub use script::put_script;
 pub use sections::put_sections;
+pub use summary::{Fullness, Summary, put_summary};
 pub use zones::{put_buddyinfo, put_zones};

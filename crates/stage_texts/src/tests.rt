@@ -1,6 +1,9 @@
 //! The texts of small stages, put once each with memory to spare.
 
-use crate::{put_blocks, put_buddyinfo, put_nodes, put_script, put_sections, put_zones};
+use crate::{
+    Fullness, Summary, put_blocks, put_buddyinfo, put_nodes, put_script, put_sections, put_summary,
+    put_zones,
+};
 use arrayvec::ArrayVec;
 use bm_base::{Range, Zone};
 use boot_journal::{Item, Journal};
@@ -135,6 +138,30 @@ fn zones_and_blocks(rt: HostRuntime) -> Result<(), Fail> {
     put_blocks(&mut text, &buddy)?;
     let want =
         b"node 1 zone DMA order 0 0x0000000000ffd000\nnode 1 zone DMA order 1 0x0000000000ffe000\nnode 1 zone DMA32 order 2 0x0000000001000000\n";
+    assert_eq!(rt; text.as_slice(), want.as_slice());
+    Ok(())
+}
+
+#[test]
+fn summary(rt: HostRuntime) -> Result<(), Fail> {
+    let summary = Summary {
+        runs: 3,
+        usable: 32_639,
+        free: 30_000,
+        memory: Fullness {
+            records: 2,
+            room: 128,
+        },
+        reserved: Fullness {
+            records: 129,
+            room: 256,
+        },
+        blocks: 41,
+    };
+    let mut text = Vec::new(rt.alloc());
+    put_summary(&mut text, &summary)?;
+    let want =
+        b"runs 3\nusable 32639\nfree 30000\nmemory records 2 room 128\nreserved records 129 room 256\nblocks 41\n";
     assert_eq!(rt; text.as_slice(), want.as_slice());
     Ok(())
 }

@@ -1,11 +1,9 @@
 //! The texts of the zones: what the memory of each node spans, and how many free blocks there are.
 
-ghost use Rattle.std.specs.Prelude.{◌≡◌, ◌+◌, ◌++◌, OnOk, codes, decimal};
-ghost use Rattle.std.specs.List.{flat_map, range_with_len};
-ghost use Rattle.frame_blocks.specs.declared.block.TheConstants.{MAX_ORDER};
+ghost use Rattle.std.specs.Prelude.{◌≡◌, ◌++◌, OnOk, codes, decimal};
 ghost use Rattle.frame_blocks.specs.Listed.{blocks_of};
 ghost use Rattle.buddy_handover.specs.Contents.{free};
-ghost use Rattle.stage_texts.specs.ZonesText.{buddy_line, buddyinfo_text, count_text, frames_there, padded_zone, zone_line, zone_name, zones_text};
+ghost use Rattle.stage_texts.specs.ZonesText.{buddy_line, buddyinfo_text, counts_text, frames_there, padded_zone, zone_line, zone_name, zones_text};
 
 use crate::words::put_word_dec;
 use bm_base::{Memory, Zone, put_dec, put_text};
@@ -93,7 +91,7 @@ fn put_padded_zone(text: &mut Vec<u8>, zone: Zone) -> Result<(), Memory>
 /// six places and with a space behind it.
 fn put_counts(text: &mut Vec<u8>, span: &Span, buddy: &Buddy) -> Result<(), Memory>
     ensures { OnOk result (text.new.items ≡ text.old.items
-        ++ flat_map (count_text (blocks_of (free buddy.now)) span.now.node span.now.zone) (range_with_len 0 (MAX_ORDER + 1))) }
+        ++ counts_text (blocks_of (free buddy.now)) span.now.node span.now.zone) }
 {
     for order in 0..=MAX_ORDER {
         put_dec(text, buddy.count(span.node, span.zone, order), 6)?;

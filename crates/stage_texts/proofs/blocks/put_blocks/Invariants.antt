@@ -6,4 +6,5 @@ use Rattle.stage_texts.proofs.blocks.put_blocks.Given as goal
 
 abbrev pub invariant-loop-block : goal.invariant-loop-block
 invariant-loop-block l =
-    l.text.items ++ lines_from block_line l.block-index (drop l.block-index l.block-items) ≡ l.fn.text.items ++ lines_from block_line 0 l.block-items
+    l.text.items ++ lines_from block_line l.block-index (drop l.block-index l.block-items)
+    ≡ l.fn.text.items ++ lines_from block_line 0 l.block-items
