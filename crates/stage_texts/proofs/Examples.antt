@@ -2,9 +2,24 @@
 use Rattle.std.proofs.Common.{◌≡◌, [], ◌∷◌, codes, refl}
 use Rattle.std.specs.Fmt.{digits}
 use Rattle.hex.specs.Hex.{encode_with}
+use Rattle.bm_base.specs.Extent.{Extent}
+use Rattle.bm_base.specs.declared.zone.Zone.TheVariants as zone
+use Rattle.memblock_model.specs.declared.item.Item.TheVariants as item
+use Rattle.memblock_model.specs.declared.owner.Owner.TheVariants as owner
 use Rattle.memblock_model.specs.declared.which.Which.TheVariants as which
 use Rattle.early_script.specs.declared.outcome.Outcome.TheVariants as outcomes
+use Rattle.frame_blocks.specs.declared.block.Block.{Block}
+use Rattle.frame_blocks.specs.Frames.{Frames}
+use Rattle.node_hulls.specs.declared.reasons.Why.TheVariants as why
+use Rattle.section_maps.specs.declared.placed.Placed.{Placed}
+use Rattle.zone_spans.specs.declared.span.Span.{Span}
+use Rattle.report_texts.specs.Lines.{lines_from}
+use Rattle.stage_texts.specs.BlocksText.{block_line}
+use Rattle.stage_texts.specs.NodesText.{domain_line, node_line, nodes_text, uncovered_line, why_line}
 use Rattle.stage_texts.specs.ScriptText.{answer_line, outcome_text, script_text}
+use Rattle.stage_texts.specs.SectionsText.{root_line, roots_line, section_line, sections_text}
+use Rattle.stage_texts.specs.SummaryText.{fullness_line, number_line, summary_text}
+use Rattle.stage_texts.specs.ZonesText.{buddy_line, buddyinfo_text, count_text, frames_there, padded_zone, zone_line, zones_text}
 
 -- the script
 outcome_examples : (outcome_text (outcomes.At 0x7FF0000) ≡ codes "at 0x0000000007ff0000") × (outcome_text outcomes.Done ≡ codes "done")
@@ -33,3 +48,126 @@ two_answers = refl
 
 no_answer : script_text [] ≡ []
 no_answer = refl
+
+-- nodes
+first_MiB : Extent
+first_MiB = record { base = 0; size = 0x100000 }
+
+why_lines : (why_line why.Used ≡ codes "numa used\n") × (why_line why.Off ≡ codes "numa off\n")
+    × (why_line why.Absent ≡ codes "numa absent\n")
+    × (why_line why.NoBlocks ≡ codes "numa no blocks\n") × (why_line why.TooManyDomains ≡ codes "numa too many domains\n")
+    × (why_line why.TooManyBlocks ≡ codes "numa too many blocks\n") × (why_line (why.Overlap 2 11) ≡ codes "numa overlap 2 11\n")
+    × (why_line (why.NotCovered 256) ≡ codes "numa not covered 256\n")
+unfolding digits
+why_lines = (refl, refl, refl, refl, refl, refl, refl, refl)
+
+domain_lines : (domain_line 0 7 ≡ codes "domain 7 node 0\n") × (uncovered_line 0 ≡ codes "uncovered 0\n")
+unfolding digits
+domain_lines = (refl, refl)
+
+-- other items have no line
+node_lines : (node_line 4 (item.Node first_MiB 3) ≡ codes "node 3 0x0000000000000000..0x00000000000fffff\n") × (node_line 4 item.Trim ≡ [])
+    × (node_line 4 (item.Claim first_MiB (owner.NodeData 3)) ≡ [])
+unfolding first_MiB digits
+node_lines = (refl, refl, refl)
+
+two_nodes : nodes_text
+    (record { why = why.Used; domains = 0 ∷ 8 ∷ []; uncovered = 5; with_memory = 0 ∷ [] })
+    (item.Limit 0x100000 ∷ item.Node first_MiB 0 ∷ item.Trim ∷ [])
+    ≡ codes "numa used\ndomain 0 node 0\ndomain 8 node 1\nuncovered 5\nnode 0 0x0000000000000000..0x00000000000fffff\n"
+unfolding first_MiB digits
+two_nodes = refl
+
+no_table : nodes_text (record { why = why.Absent; domains = []; uncovered = 0; with_memory = 0 ∷ [] }) []
+    ≡ codes "numa absent\nuncovered 0\n"
+unfolding digits
+no_table = refl
+
+-- sections
+root_lines : (roots_line 0x7FDC000 ≡ codes "roots 0x0000000007fdc000\n")
+    × (root_line 0 (record { number = 12; place = 0x7FDB000 }) ≡ codes "root 12 0x0000000007fdb000\n")
+unfolding digits
+root_lines = (refl, refl)
+
+low_section : Placed
+low_section = record { section = 0; node = 1; map = 0x7A00000; usage = 0x7FDAFC0 }
+
+section_lines : section_line 3 low_section ≡ codes "section 0 node 1 map 0x0000000007a00000 usage 0x0000000007fdafc0\n"
+unfolding low_section digits
+section_lines = refl
+
+one_section : sections_text (record { table = 0x7FDC000; roots = record { number = 0; place = 0x7FDB000 } ∷ [] }) (low_section ∷ [])
+    ≡ codes "roots 0x0000000007fdc000\nroot 0 0x0000000007fdb000\nsection 0 node 1 map 0x0000000007a00000 usage 0x0000000007fdafc0\n"
+unfolding low_section digits
+one_section = refl
+
+no_section : sections_text (record { table = 0x1000; roots = [] }) [] ≡ codes "roots 0x0000000000001000\n"
+unfolding digits
+no_section = refl
+
+-- blocks and zones
+one_frame : Block
+one_frame = record { order = 0; first = 1; node = 0; zone = zone.Dma }
+
+two_frames : Block
+two_frames = record { order = 1; first = 2; node = 0; zone = zone.Dma }
+
+far_block : Block
+far_block = record { order = 10; first = 0x100000; node = 12; zone = zone.Normal }
+
+block_lines : lines_from block_line 0 (two_frames ∷ far_block ∷ [])
+    ≡ codes "node 0 zone DMA order 1 0x0000000000002000\nnode 12 zone Normal order 10 0x0000000100000000\n"
+unfolding two_frames far_block digits
+block_lines = refl
+
+frames_examples : (frames_there 0 zone.Dma (one_frame ∷ two_frames ∷ far_block ∷ []) ≡ 3)
+    × (frames_there 12 zone.Normal (one_frame ∷ two_frames ∷ far_block ∷ []) ≡ 1024)
+    × (frames_there 0 zone.Normal (one_frame ∷ two_frames ∷ far_block ∷ []) ≡ 0)
+unfolding one_frame two_frames far_block frames_there
+frames_examples = (refl, refl, refl)
+
+padded_zones : (padded_zone zone.Dma ≡ codes "     DMA") × (padded_zone zone.Dma32 ≡ codes "   DMA32")
+    × (padded_zone zone.Normal ≡ codes "  Normal")
+padded_zones = (refl, refl, refl)
+
+low_span : Span
+low_span = record { node = 0; zone = zone.Dma; start = 1; end = 4096; present = 3998 }
+
+zone_lines : zone_line (one_frame ∷ two_frames ∷ far_block ∷ []) 0 low_span
+    ≡ codes "Node 0, zone DMA start 1 end 4096 present 3998 free 3\n"
+unfolding one_frame two_frames far_block low_span frames_there digits
+zone_lines = refl
+
+count_examples : (count_text (one_frame ∷ two_frames ∷ []) 0 zone.Dma 1 ≡ codes "     1 ")
+    × (count_text [] 0 zone.Normal 10 ≡ codes "     0 ")
+unfolding one_frame two_frames digits
+count_examples = (refl, refl)
+
+buddy_lines : buddy_line (one_frame ∷ two_frames ∷ far_block ∷ []) 0 low_span
+    ≡ codes "Node 0, zone      DMA      1      1      0      0      0      0      0      0      0      0      0 \n"
+unfolding one_frame two_frames far_block low_span buddy_line digits
+buddy_lines = refl
+
+no_span : (f : Frames) → (zones_text f [] ≡ []) × (buddyinfo_text f [] ≡ [])
+no_span f = (refl, refl)
+
+-- the summary
+number_lines : (number_line (codes "runs ") 0 ≡ codes "runs 0\n") × (number_line (codes "blocks ") 4194304 ≡ codes "blocks 4194304\n")
+unfolding digits
+number_lines = (refl, refl)
+
+fullness_lines : fullness_line which.Reserved (record { records = 129; room = 256 }) ≡ codes "reserved records 129 room 256\n"
+unfolding digits
+fullness_lines = refl
+
+small_machine : summary_text (record {
+  runs = 3;
+  usable = 32639;
+  free = 30000;
+  memory = record { records = 2; room = 128 };
+  reserved = record { records = 17; room = 128 };
+  blocks = 41;
+})
+    ≡ codes "runs 3\nusable 32639\nfree 30000\nmemory records 2 room 128\nreserved records 17 room 128\nblocks 41\n"
+unfolding digits
+small_machine = refl

@@ -1,1 +1,3 @@
 mod Examples
+pub mod BlockLaws
+pub mod ZoneLaws

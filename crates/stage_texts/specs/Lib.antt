@@ -1,1 +1,6 @@
+pub mod BlocksText
+pub mod NodesText
 pub mod ScriptText
+pub mod SectionsText
+pub mod SummaryText
+pub mod ZonesText

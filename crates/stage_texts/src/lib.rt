@@ -6,12 +6,28 @@
 //! with the page of the formats, the function that puts that line, and one call of `put_lines`. Ranges,
 //! owners' and tables' names and numbers are those of `report_texts` and `bm_base`.
 //!
-//! [`put_script`] tells what came of each line of the early script.
+//! A `put_` call appends the text of one part: [`put_script`] of what came of each line of the early script,
+//! [`put_nodes`] of the table of domains and the nodes that memory got, [`put_sections`] of the places that
+//! sections have, [`put_zones`], [`put_buddyinfo`] and [`put_blocks`] of the zones and the free blocks at the
+//! handover, [`put_summary`] of how much there is of everything.
 //!
 //! Nothing but the text grows, and nothing but want of memory comes in its place; the text is then of no
 //! use, and whoever asked for it drops it.
 #![tactic(auto)]
 
+mod blocks;
+mod nodes;
 mod script;
+mod sections;
+mod summary;
+#[cfg(test)]
+mod tests;
+mod words;
+mod zones;
 
+pub use blocks::put_blocks;
+pub use nodes::put_nodes;
 pub use script::put_script;
+pub use sections::put_sections;
+pub use summary::{Fullness, Summary, put_summary};
+pub use zones::{put_buddyinfo, put_zones};

@@ -4,7 +4,8 @@ ghost use Rattle.std.specs.Prelude.{◌≡◌, ◌≤◌, ◌++◌, OnOk, length
 ghost use Rattle.hex.specs.Hex.{encode_lower};
 ghost use Rattle.stage_texts.specs.ScriptText.{answer_line, outcome_text, script_text};
 
-use bm_base::{Memory, put_dec, put_hex, put_text};
+use crate::words::{put_word_dec, put_word_hex};
+use bm_base::{Memory, put_dec, put_text};
 use early_script::{Answer, Outcome};
 use memblock_model::Which;
 use report_texts::{put_lines, which_name};
@@ -34,10 +35,7 @@ fn put_outcome(text: &mut Vec<u8>, outcome: &Outcome) -> Result<(), Memory>
     ensures { OnOk result (text.new.items ≡ text.old.items ++ outcome_text outcome.now) }
 {
     match outcome {
-        Outcome::At(address) => {
-            put_text(text, b"at ")?;
-            put_hex(text, *address)
-        }
+        Outcome::At(address) => put_word_hex(text, b"at ", *address),
         Outcome::Done => put_text(text, b"done"),
         Outcome::Bytes(told) => {
             put_text(text, b"bytes ")?;
@@ -61,8 +59,7 @@ fn put_no_gap(text: &mut Vec<u8>, which: Which, room: u64) -> Result<(), Memory>
 {
     put_text(text, b"no gap for table ")?;
     put_text(text, which_name(which).as_bytes())?;
-    put_text(text, b" room ")?;
-    put_dec(text, room, 0)
+    put_word_dec(text, b" room ", room)
 }
 
 /// Appends bytes as two lower-case hexadecimal digits each. There are at most as many as a line tells.

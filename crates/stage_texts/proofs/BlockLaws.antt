@@ -1,0 +1,68 @@
+-- The listed blocks are in bounds: their orders, their first frames, and how many they are.
+use Rattle.std.proofs.Common.{◌≡◌, ℕ, zero, suc, ◌+◌, ◌^◌, ◌<◌, ◌≤◌, ◌==◌, Option, Some, None, List, [], ◌∷◌, ◌++◌, length, get_or, drop, refl, sym, ap, ◌∙◌, add-one, append_assoc, drop-cons, arith, inl, inr}
+use Rattle.std.proofs.lemmas.Bool.{cases_Bool}
+use Rattle.frame_blocks.specs.declared.block.Block.{Block}
+use Rattle.frame_blocks.specs.declared.run.TheConstants.{MAX_FRAMES}
+use Rattle.frame_blocks.specs.Frames.{Frames}
+use Rattle.frame_blocks.specs.Listed.{block_for, block_of, blocks_from, blocks_of, led_by_block}
+use Rattle.frame_blocks.proofs.GoodLaws.{up_small}
+use Rattle.frame_blocks.proofs.ListLaws.{from-few}
+use Rattle.report_texts.specs.Lines.{lines_from}
+use Rattle.stage_texts.specs.BlocksText.{block_line}
+
+-- the order is at most 10, and the first frame lies below 2^40
+pub record InBounds (b : Block) : Type 0 where
+  pub order : b.order ≤ 10
+  pub first : b.first < 2 ^ 40
+
+abbrev pub AreInBounds : List Block → Type 0
+AreInBounds [] = Unit {0}
+AreInBounds (b ∷ bs) = InBounds b × AreInBounds bs
+
+abbrev MayBeInBounds : Option Block → Type 0
+MayBeInBounds None = Unit {0}
+MayBeInBounds (Some b) = InBounds b
+
+-- one more block, if there is one
+led_in_bounds : (x : ℕ) (o : Option Block) (bs : List Block) → MayBeInBounds o → AreInBounds bs → AreInBounds (led_by_block x o bs)
+led_in_bounds x None bs one rest = rest
+led_in_bounds x (Some b) bs one rest =
+    elim (cases_Bool (b.first == x)) as (λ _. AreInBounds (led_by_block x (Some b) bs)) [
+      | inl here ↦ rw here (one, rest)
+      | inr other ↦ rw other rest
+    ]
+
+found_in_bounds : (f : Frames) (x : ℕ) (n : Option ℕ) → x < 2 ^ 40 → MayBeInBounds (block_for f x n)
+found_in_bounds f x None low = tt
+found_in_bounds f x (Some n) low = record { order = up_small f x n 10; first = omega arith }
+
+from_in_bounds : (f : Frames) (x n : ℕ) → x + n ≤ 2 ^ 40 → AreInBounds (blocks_from f x n)
+unfolding blocks_from
+from_in_bounds f x zero low = tt
+from_in_bounds f x (suc n) low =
+    let rest = from_in_bounds f (x + 1) n (omega arith) in
+    led_in_bounds x (block_of f x) (blocks_from f (x + 1) n) (found_in_bounds f x (f x) (omega arith)) rest
+
+pub listed_in_bounds : (f : Frames) → AreInBounds (blocks_of f)
+unfolding blocks_of
+listed_in_bounds f = from_in_bounds f 0 MAX_FRAMES (omega arith)
+
+pub listed_few : (f : Frames) → length (blocks_of f) ≤ 2 ^ 40
+unfolding blocks_of
+listed_few f = from-few f 0 MAX_FRAMES
+
+-- so each of them is
+pub at_in_bounds : (bs : List Block) (i : ℕ) (d : Block) → AreInBounds bs → i < length bs → InBounds (get_or bs i d)
+at_in_bounds [] i d all within = absurd (omega arith)
+at_in_bounds (b ∷ bs) zero d all within = all.0
+at_in_bounds (b ∷ bs) (suc i) d all within = at_in_bounds bs i d all.1 (omega arith)
+
+-- the line of one more block
+pub block_put : (bs : List Block) (i : ℕ) (d b : Block) (before after whole : List ℕ) → i < length bs → b ≡ get_or bs i d
+    → after ≡ before ++ block_line 0 b → before ++ lines_from block_line i (drop i bs) ≡ whole
+    → after ++ lines_from block_line (i + 1) (drop (i + 1) bs) ≡ whole
+block_put bs i d b before after whole within is put so_far =
+    let rest : drop i bs ≡ b ∷ drop (i + 1) bs = rw (add-one i, is) (drop-cons bs i d within) in
+    let lines : lines_from block_line i (drop i bs) ≡ block_line 0 b ++ lines_from block_line (i + 1) (drop (i + 1) bs) = rw rest refl in
+    let more : List ℕ = lines_from block_line (i + 1) (drop (i + 1) bs) in
+    ap (λ t. t ++ more) put ∙ append_assoc before (block_line 0 b) more ∙ ap (λ t. before ++ t) (sym lines) ∙ so_far

@@ -1,0 +1,12 @@
+-- The text so far and the numbers of the orders that are left are those of all orders.
+use Rattle.std.proofs.Common.{◌≡◌, ◌-◌, ◌++◌}
+use Rattle.std.specs.List.{flat_map, range_with_len}
+use Rattle.buddy_handover.specs.Contents.{free}
+use Rattle.frame_blocks.specs.Listed.{blocks_of}
+use Rattle.stage_texts.specs.ZonesText.{count_text}
+use Rattle.stage_texts.proofs.zones.put_counts.Given as goal
+
+abbrev pub invariant-loop-order : goal.invariant-loop-order
+invariant-loop-order l =
+    let counts = count_text (blocks_of (free l.buddy)) l.span.node l.span.zone in
+    l.text.items ++ flat_map counts (range_with_len l.order (11 - l.order)) ≡ l.fn.text.items ++ flat_map counts (range_with_len 0 11)

@@ -1,0 +1,19 @@
+-- The free blocks, as lines of this project's own.
+use Rattle.std.specs.Prelude.{ℕ, List, ◌++◌, codes, decimal}
+use Rattle.bm_base.specs.Frames.{bytes_of_frame}
+use Rattle.bm_base.specs.Text.{hex_text}
+use Rattle.frame_blocks.specs.declared.block.Block.{Block}
+use Rattle.frame_blocks.specs.Frames.{Frames}
+use Rattle.frame_blocks.specs.Listed.{blocks_of}
+use Rattle.report_texts.specs.Lines.{lines_from}
+use Rattle.stage_texts.specs.ZonesText.{zone_name}
+
+-- the line of a block: its node, its zone, its order, and the address of its first byte; the index isn't in it
+abbrev pub block_line : ℕ → Block → List ℕ
+block_line n b =
+    codes "node " ++ decimal b.node ++ codes " zone " ++ zone_name b.zone ++ codes " order " ++ decimal b.order ++ codes " "
+    ++ hex_text (bytes_of_frame b.first).base ++ codes "\n"
+
+-- all blocks, ascending, by the frames that are free
+abbrev pub blocks_text : Frames → List ℕ
+blocks_text f = lines_from block_line 0 (blocks_of f)

@@ -1,0 +1,29 @@
+-- The places of the sections, as lines of this project's own: the table of roots (`mem_section`), each root, and of each section
+-- with memory its page structures and its usage data (`sparse_init_nid`).
+use Rattle.std.specs.Prelude.{ℕ, List, ◌++◌, codes, decimal}
+use Rattle.bm_base.specs.Text.{hex_text}
+use Rattle.sparse_sections.specs.declared.roots.RootPlace.{RootPlace}
+use Rattle.sparse_sections.specs.Roots.{RootsPlaced}
+use Rattle.section_maps.specs.declared.placed.Placed.{Placed}
+use Rattle.report_texts.specs.Lines.{lines_from}
+
+-- the line of the table of roots
+abbrev pub roots_line : ℕ → List ℕ
+roots_line table = codes "roots " ++ hex_text table ++ codes "\n"
+
+-- the line of a root; the index isn't in it
+abbrev pub root_line : ℕ → RootPlace → List ℕ
+root_line n root = codes "root " ++ decimal root.number ++ codes " " ++ hex_text root.place ++ codes "\n"
+
+-- the line of a section; the index isn't in it
+abbrev pub section_line : ℕ → Placed → List ℕ
+section_line n s =
+    codes "section " ++ decimal s.section ++ codes " node " ++ decimal s.node ++ codes " map " ++ hex_text s.map ++ codes " usage "
+    ++ hex_text s.usage ++ codes "\n"
+
+-- the table and the roots, and then the sections
+abbrev pub roots_text : RootsPlaced → List ℕ
+roots_text roots = roots_line roots.table ++ lines_from root_line 0 roots.roots
+
+abbrev pub sections_text : RootsPlaced → List Placed → List ℕ
+sections_text roots placed = roots_text roots ++ lines_from section_line 0 placed

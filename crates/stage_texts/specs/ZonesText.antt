@@ -1,0 +1,59 @@
+-- The zones of each node, as lines: what the memory spans, in this project's own form, and how many free blocks of each order there
+-- are, in the form of `/proc/buddyinfo` (`frag_show_print`).
+use Rattle.std.specs.Prelude.{ℕ, ◌+◌, ◌-◌, ◌^◌, ◌==◌, Bool, ◌&&◌, List, ◌++◌, length, replicate, codes, decimal}
+use Rattle.std.specs.List.{count_by, filter, flat_map, range_with_len, sum_by}
+use Rattle.bm_base.specs.Text.{padded_decimal}
+use Rattle.bm_base.specs.declared.zone.Zone.{Zone}
+use Rattle.bm_base.specs.declared.zone.Zone.TheVariants as zone
+use Rattle.frame_blocks.specs.declared.block.Block.{Block}
+use Rattle.frame_blocks.specs.declared.block.TheConstants.{MAX_ORDER}
+use Rattle.frame_blocks.specs.Frames.{Frames}
+use Rattle.frame_blocks.specs.Listed.{blocks_of, is_of, same_zone}
+use Rattle.zone_spans.specs.declared.span.Span.{Span}
+use Rattle.report_texts.specs.Lines.{lines_from}
+
+-- the name of a zone (`zone_names`)
+abbrev pub zone_name : Zone → List ℕ
+zone_name zone.Dma = codes "DMA"
+zone_name zone.Dma32 = codes "DMA32"
+zone_name zone.Normal = codes "Normal"
+
+-- and right-aligned with spaces in eight places (`%8s`)
+abbrev pub padded_zone : Zone → List ℕ
+padded_zone z = replicate (8 - length (zone_name z)) 32 ++ zone_name z
+
+-- whether the block is of the node and in the zone
+abbrev pub is_there : ℕ → Zone → Block → Bool
+is_there node z b = (b.node == node) && same_zone b.zone z
+
+-- how many frames all these blocks have that are of the node and in the zone: a block of an order has 2^order
+unfoldable pub frames_there : ℕ → Zone → List Block → ℕ
+frames_there node z blocks = sum_by (λ b. 2 ^ b.order) (filter (is_there node z) blocks)
+
+-- the line of a span: its first frame, the one behind its last, how many there are, and how many of them the free blocks have; the
+-- index isn't in it
+abbrev pub zone_line : List Block → ℕ → Span → List ℕ
+zone_line blocks n s =
+    codes "Node " ++ decimal s.node ++ codes ", zone " ++ zone_name s.zone ++ codes " start " ++ decimal s.start ++ codes " end "
+    ++ decimal s.end ++ codes " present " ++ decimal s.present ++ codes " free " ++ decimal (frames_there s.node s.zone blocks)
+    ++ codes "\n"
+
+-- the spans, by the frames that are free
+abbrev pub zones_text : Frames → List Span → List ℕ
+zones_text f spans = lines_from (zone_line (blocks_of f)) 0 spans
+
+-- how many of these blocks are of the node, in the zone and of the order, right-aligned in six places, and a space (`%6lu `)
+abbrev pub count_text : List Block → ℕ → Zone → ℕ → List ℕ
+count_text blocks node z order = padded_decimal 6 (count_by (is_of node z order) blocks) ++ codes " "
+
+abbrev pub counts_text : List Block → ℕ → Zone → List ℕ
+counts_text blocks node z = flat_map (count_text blocks node z) (range_with_len 0 (MAX_ORDER + 1))
+
+-- the line of a span: the number of blocks of each order, from 0 on; the index isn't in it
+unfoldable pub buddy_line : List Block → ℕ → Span → List ℕ
+buddy_line blocks n s =
+    codes "Node " ++ decimal s.node ++ codes ", zone " ++ padded_zone s.zone ++ codes " "
+    ++ counts_text blocks s.node s.zone ++ codes "\n"
+
+abbrev pub buddyinfo_text : Frames → List Span → List ℕ
+buddyinfo_text f spans = lines_from (buddy_line (blocks_of f)) 0 spans

@@ -1,0 +1,82 @@
+//! The text of the nodes: why the table of domains is or isn't used, and which memory is of which node.
+
+ghost use Rattle.std.specs.Prelude.{◌≡◌, ◌++◌, OnOk};
+ghost use Rattle.numa_nodes.specs.Assigned.{nodes_view};
+ghost use Rattle.stage_texts.specs.NodesText.{domain_line, node_line, nodes_text, uncovered_line, why_line, why_text};
+
+use crate::words::put_word_dec;
+use bm_base::{Memory, put_text};
+use boot_journal::{Item, Journal};
+use numa_nodes::{Nodes, Why};
+use report_texts::{put_item, put_lines};
+
+/// Appends the text of the nodes: why the table of domains is or isn't used, the domain of each node, the
+/// frames that no block covers, and a line for each item of the journal that gives a range its node.
+pub fn put_nodes(text: &mut Vec<u8>, nodes: &Nodes, journal: &Journal) -> Result<(), Memory>
+    ensures { OnOk result (text.new.items
+        ≡ text.old.items ++ nodes_text (nodes_view nodes.now) journal.now.items) }
+{
+    put_why_line(text, &nodes.why)?;
+    put_lines(text, &nodes.domains, put_domain_line)?;
+    put_uncovered_line(text, nodes.uncovered)?;
+    put_lines(text, journal.items(), put_node_line)?;
+    Ok(())
+}
+
+/// Appends the line that says whether the table of domains is used, and why not.
+fn put_why_line(text: &mut Vec<u8>, why: &Why) -> Result<(), Memory>
+    ensures { OnOk result (text.new.items ≡ text.old.items ++ why_line why.now) }
+{
+    put_text(text, b"numa ")?;
+    put_why(text, why)?;
+    put_text(text, b"\n")
+}
+
+/// Appends the reason, with its numbers.
+fn put_why(text: &mut Vec<u8>, why: &Why) -> Result<(), Memory>
+    ensures { OnOk result (text.new.items ≡ text.old.items ++ why_text why.now) }
+{
+    match why {
+        Why::Used => put_text(text, b"used"),
+        Why::Off => put_text(text, b"off"),
+        Why::Absent => put_text(text, b"absent"),
+        Why::NoBlocks => put_text(text, b"no blocks"),
+        Why::TooManyDomains => put_text(text, b"too many domains"),
+        Why::TooManyBlocks => put_text(text, b"too many blocks"),
+        Why::Overlap { i, j } => {
+            put_word_dec(text, b"overlap ", u64::from(*i))?;
+            put_word_dec(text, b" ", u64::from(*j))
+        }
+        Why::NotCovered { frames } => put_word_dec(text, b"not covered ", *frames),
+    }
+}
+
+/// Appends the line of a node, whose number is the index: its domain, and that number.
+fn put_domain_line(text: &mut Vec<u8>, index: u64, domain: &u32) -> Result<(), Memory>
+    ensures { OnOk result (text.new.items ≡ text.old.items ++ domain_line index domain.now) }
+{
+    put_word_dec(text, b"domain ", u64::from(*domain))?;
+    put_word_dec(text, b" node ", index)?;
+    put_text(text, b"\n")
+}
+
+/// Appends how many frames no block covers.
+fn put_uncovered_line(text: &mut Vec<u8>, frames: u64) -> Result<(), Memory>
+    ensures { OnOk result (text.new.items ≡ text.old.items ++ uncovered_line frames) }
+{
+    put_word_dec(text, b"uncovered ", frames)?;
+    put_text(text, b"\n")
+}
+
+/// Appends the line of an item, if it gives a range its node.
+fn put_node_line(text: &mut Vec<u8>, index: u64, item: &Item) -> Result<(), Memory>
+    ensures { OnOk result (text.new.items ≡ text.old.items ++ node_line index item.now) }
+{
+    match item {
+        Item::Node { .. } => {
+            put_item(text, item)?;
+            put_text(text, b"\n")
+        }
+        _ => Ok(()),
+    }
+}

@@ -1,0 +1,22 @@
+//! A word and what stands behind it, the same in every text.
+
+ghost use Rattle.std.specs.Prelude.{◌≡◌, ◌++◌, OnOk, decimal};
+ghost use Rattle.bm_base.specs.Text.{hex_text};
+
+use bm_base::{Memory, put_dec, put_hex, put_text};
+
+/// Appends a word and the number behind it.
+pub fn put_word_dec(text: &mut Vec<u8>, word: &[u8], number: u64) -> Result<(), Memory>
+    ensures { OnOk result (text.new.items ≡ text.old.items ++ (word.now ++ decimal number)) }
+{
+    put_text(text, word)?;
+    put_dec(text, number, 0)
+}
+
+/// Appends a word and the address behind it.
+pub fn put_word_hex(text: &mut Vec<u8>, word: &[u8], address: u64) -> Result<(), Memory>
+    ensures { OnOk result (text.new.items ≡ text.old.items ++ (word.now ++ hex_text address)) }
+{
+    put_text(text, word)?;
+    put_hex(text, address)
+}

@@ -1,0 +1,112 @@
+//! The texts of the zones: what the memory of each node spans, and how many free blocks there are.
+
+ghost use Rattle.std.specs.Prelude.{◌≡◌, ◌++◌, OnOk, codes, decimal};
+ghost use Rattle.frame_blocks.specs.Listed.{blocks_of};
+ghost use Rattle.buddy_handover.specs.Contents.{free};
+ghost use Rattle.stage_texts.specs.ZonesText.{buddy_line, buddyinfo_text, counts_text, frames_there, padded_zone, zone_line, zone_name, zones_text};
+
+use crate::words::put_word_dec;
+use bm_base::{Memory, Zone, put_dec, put_text};
+use buddy_handover::{Buddy, MAX_ORDER};
+use report_texts::put_lines;
+use zone_spans::Span;
+
+/// Appends the text of the zones: a line for each span, with the frames of it that are free.
+pub fn put_zones(text: &mut Vec<u8>, spans: &[Span], buddy: &Buddy) -> Result<(), Memory>
+    ensures { OnOk result (text.new.items ≡ text.old.items ++ zones_text (free buddy.now) spans.now) }
+{
+    put_lines(text, spans, |text: &mut Vec<u8>, index: u64, span: &Span| {
+        put_zone_line(text, index, span, buddy)
+    })
+}
+
+/// Appends the numbers of free blocks by order (`/proc/buddyinfo`): a line for each span.
+pub fn put_buddyinfo(text: &mut Vec<u8>, spans: &[Span], buddy: &Buddy) -> Result<(), Memory>
+    ensures { OnOk result (text.new.items
+        ≡ text.old.items ++ buddyinfo_text (free buddy.now) spans.now) }
+{
+    put_lines(text, spans, |text: &mut Vec<u8>, index: u64, span: &Span| {
+        put_buddy_line(text, index, span, buddy)
+    })
+}
+
+/// The name of a zone (`zone_names`).
+pub fn zone_name(zone: Zone) -> &'static str
+    ensures { result.now ≡ zone_name zone }
+{
+    match zone {
+        Zone::Dma => "DMA",
+        Zone::Dma32 => "DMA32",
+        Zone::Normal => "Normal",
+    }
+}
+
+/// Appends the line of a span: its bounds, how many frames there are, and how many are free.
+fn put_zone_line(text: &mut Vec<u8>, index: u64, span: &Span, buddy: &Buddy) -> Result<(), Memory>
+    ensures { OnOk result (text.new.items
+        ≡ text.old.items ++ zone_line (blocks_of (free buddy.now)) index span.now) }
+{
+    put_node_zone(text, span.node)?;
+    put_text(text, zone_name(span.zone).as_bytes())?;
+    put_word_dec(text, b" start ", span.start)?;
+    put_word_dec(text, b" end ", span.end)?;
+    put_word_dec(text, b" present ", span.present)?;
+    put_word_dec(text, b" free ", free_frames(buddy, span.node, span.zone))?;
+    put_text(text, b"\n")
+}
+
+/// Appends the line of a span: the number of free blocks of each order.
+#[tactic(auto, unfolding(crate::specs::ZonesText::buddy_line))]
+fn put_buddy_line(text: &mut Vec<u8>, index: u64, span: &Span, buddy: &Buddy) -> Result<(), Memory>
+    ensures { OnOk result (text.new.items
+        ≡ text.old.items ++ buddy_line (blocks_of (free buddy.now)) index span.now) }
+{
+    put_node_zone(text, span.node)?;
+    put_padded_zone(text, span.zone)?;
+    put_text(text, b" ")?;
+    put_counts(text, span, buddy)?;
+    put_text(text, b"\n")
+}
+
+/// Appends the number of a node, and the word before a zone's name.
+fn put_node_zone(text: &mut Vec<u8>, node: u32) -> Result<(), Memory>
+    ensures { OnOk result (text.new.items
+        ≡ text.old.items ++ (codes "Node " ++ decimal node ++ codes ", zone ")) }
+{
+    put_word_dec(text, b"Node ", u64::from(node))?;
+    put_text(text, b", zone ")
+}
+
+/// Appends the name of a zone, right-aligned with spaces in eight places.
+fn put_padded_zone(text: &mut Vec<u8>, zone: Zone) -> Result<(), Memory>
+    ensures { OnOk result (text.new.items ≡ text.old.items ++ padded_zone zone) }
+{
+    let name = zone_name(zone);
+    let spaces = [b' '; 8];
+    put_text(text, &spaces[name.len()..])?;
+    put_text(text, name.as_bytes())
+}
+
+/// Appends the number of free blocks of each order that the node has in the zone, each right-aligned in
+/// six places and with a space behind it.
+fn put_counts(text: &mut Vec<u8>, span: &Span, buddy: &Buddy) -> Result<(), Memory>
+    ensures { OnOk result (text.new.items ≡ text.old.items
+        ++ counts_text (blocks_of (free buddy.now)) span.now.node span.now.zone) }
+{
+    for order in 0..=MAX_ORDER {
+        put_dec(text, buddy.count(span.node, span.zone, order), 6)?;
+        put_text(text, b" ")?;
+    }
+    Ok(())
+}
+
+/// How many frames the free blocks of the node in the zone have. Takes no memory.
+fn free_frames(buddy: &Buddy, node: u32, zone: Zone) -> u64
+    ensures { result ≡ frames_there node zone (blocks_of (free buddy.now)) }
+{
+    let mut frames = 0;
+    for order in 0..=MAX_ORDER {
+        frames += buddy.count(node, zone, order) << order;
+    }
+    frames
+}
