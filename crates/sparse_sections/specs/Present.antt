@@ -32,6 +32,11 @@ sections_below f (suc n) = sections_below f n ++ section_for n (section_label f 
 unfoldable pub present : Labels → List Section
 present f = sections_below f (2 ^ 19)
 
+-- so many sections of one node that follow one another, from the number on
+unfoldable pub sections_from : ℕ → ℕ → ℕ → List Section
+sections_from first zero node = []
+sections_from first (suc n) node = sections_from first n node ++ record { number = first + n; node = node } ∷ []
+
 -- a record of memory in whole frames, with a node, within reach
 pub record IsWholeNoded (r : RunOf Label) : Type 0 where
   pub node : ℕ
