@@ -1,2 +1,5 @@
 pub mod LabelLaws
 pub mod PresentLaws
+pub mod AscendLaws
+pub mod NodedLaws
+pub mod QuietLaws

@@ -6,8 +6,10 @@
 //! (`specs/Roots.antt`).
 #![tactic(auto)]
 
+mod laws;
 mod roots;
 mod sections;
 
+pub use laws::{noded_memory_is_whole, present_sections_ascend, sections_leave_memory};
 pub use roots::{RootPlace, Roots};
 pub use sections::present;
