@@ -3,3 +3,4 @@ pub mod PresentLaws
 pub mod AscendLaws
 pub mod NodedLaws
 pub mod QuietLaws
+pub mod RootLaws

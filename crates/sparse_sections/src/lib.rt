@@ -7,9 +7,11 @@
 #![tactic(auto)]
 
 mod laws;
+mod places;
 mod roots;
 mod sections;
 
 pub use laws::{noded_memory_is_whole, present_sections_ascend, sections_leave_memory};
+pub use places::place_roots;
 pub use roots::{RootPlace, Roots};
 pub use sections::present;
