@@ -2,9 +2,16 @@
 //!
 //! Sections that follow each other among those with memory and have one node are a group. A group gets its usage data in one
 //! piece and the maps of its sections in one piece of the node itself (`sparse_buffer_init`); where no such piece is free each section's
-//! map is placed alone. `specs/Maps.antt` says it as steps. This crate has the definition alone so far.
+//! map is placed alone. `specs/Maps.antt` says it as steps, and [`place_maps`] carries them out.
 #![tactic(auto)]
 
+mod each;
+mod group;
+mod laws;
+mod maps;
 mod placed;
+mod requests;
 
+pub use laws::maps_leave_memory;
+pub use maps::place_maps;
 pub use placed::Placed;

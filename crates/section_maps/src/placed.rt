@@ -1,5 +1,12 @@
 //! Where a section's map and usage data lie.
 
+ghost use Rattle.std.specs.Prelude.{◌≡◌, ◌+◌, ◌*◌, ◌^◌, ◌<◌, [], ◌∷◌, ◌++◌, length, OnOk};
+ghost use Rattle.section_maps.specs.Maps.{spread};
+
+use crate::requests::{MAP_SIZE, USAGE_SIZE};
+use bm_base::Memory;
+use stage_model::Section;
+
 /// A section and its places.
 #[derive(Clone, Copy, Debug, PartialEq, Eq)]
 pub struct Placed {
@@ -11,4 +18,46 @@ pub struct Placed {
     pub map: u64,
     /// The address of its usage data: 40 bytes.
     pub usage: u64,
+}
+
+/// Appends the section with its places.
+pub fn put_placed(
+    placed: &mut Vec<Placed>,
+    section: &Section,
+    map: u64,
+    usage: u64,
+) -> Result<(), Memory>
+    ensures { OnOk result (placed.new.items ≡ placed.old.items
+        ++ record { section = section.now.number; node = section.now.node; map = map; usage = usage } ∷ []) }
+{
+    placed.push(Placed {
+        section: section.number,
+        node: section.node,
+        map,
+        usage,
+    })?;
+    Ok(())
+}
+
+/// Appends the sections of a group, whose usage data and maps lie one behind the other from the two addresses on.
+pub fn put_spread(
+    placed: &mut Vec<Placed>,
+    sections: &[Section],
+    usage: u64,
+    map: u64,
+) -> Result<(), Memory>
+    requires usage { usage + 40 * length sections.now < 2 ^ 64 }
+    requires map { map + 0x200000 * length sections.now < 2 ^ 64 }
+    ensures { OnOk result (placed.new.items ≡ placed.old.items ++ spread usage map sections.now) }
+{
+    for (i, section) in sections.iter().enumerate() {
+        let before = i as u64;
+        put_placed(
+            placed,
+            section,
+            map + MAP_SIZE * before,
+            usage + USAGE_SIZE * before,
+        )?;
+    }
+    Ok(())
 }

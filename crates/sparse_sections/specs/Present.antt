@@ -1,5 +1,6 @@
 -- Which sections have memory, and the node of each (`memory_present`, `sparse_init`).
-use Rattle.std.specs.Prelude.{◌≡◌, ℕ, zero, suc, ◌+◌, ◌*◌, ◌%◌, ◌^◌, ◌≤◌, Option, Some, None, List, [], ◌∷◌, ◌++◌}
+use Rattle.std.specs.Prelude.{◌≡◌, ℕ, zero, suc, ◌+◌, ◌*◌, ◌%◌, ◌^◌, ◌<◌, ◌≤◌, Option, Some, None, List, [], ◌∷◌, ◌++◌, length, get_or}
+use Rattle.std.specs.List.{All}
 use Rattle.std.specs.Option.{option_or}
 use Rattle.address_runs.specs.Runs.{RunOf, run_end}
 use Rattle.memblock_model.specs.Labels.{Label, Labels}
@@ -32,6 +33,11 @@ sections_below f (suc n) = sections_below f n ++ section_for n (section_label f 
 unfoldable pub present : Labels → List Section
 present f = sections_below f (2 ^ 19)
 
+-- so many sections of one node that follow one another, from the number on
+unfoldable pub sections_from : ℕ → ℕ → ℕ → List Section
+sections_from first zero node = []
+sections_from first (suc n) node = sections_from first n node ++ record { number = first + n; node = node } ∷ []
+
 -- a record of memory in whole frames, with a node, within reach
 pub record IsWholeNoded (r : RunOf Label) : Type 0 where
   pub node : ℕ
@@ -39,3 +45,9 @@ pub record IsWholeNoded (r : RunOf Label) : Type 0 where
   pub base : r.base % 4096 ≡ 0
   pub end : run_end r % 4096 ≡ 0
   pub reach : run_end r ≤ 2 ^ 46
+
+-- sections in ascending order, as far as those tables reach
+pub record AreSections (ss : List Section) : Type 0 where
+  pub ascend : (i j : ℕ) (d : Section) → i < j → j < length ss → (get_or ss i d).number < (get_or ss j d).number
+  pub below : All (λ s. s.number < 2 ^ 19) ss
+  pub few : length ss ≤ 2 ^ 19

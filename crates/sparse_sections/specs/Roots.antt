@@ -8,6 +8,7 @@ use Rattle.stage_model.specs.declared.stop.StageStop.{StageStop}
 use Rattle.stage_model.specs.Doing.{Doing, ◌>>=◌, returns, in_turn}
 use Rattle.stage_model.specs.Requests.{placed}
 use Rattle.sparse_sections.specs.declared.roots.RootPlace.{RootPlace}
+use Rattle.sparse_sections.specs.declared.roots.Roots.{Roots}
 
 -- the root of a section: each has 256 (`SECTIONS_PER_ROOT`)
 abbrev pub root_of : Section → ℕ
@@ -36,6 +37,9 @@ root_placed before s =
 pub record RootsPlaced : Type 0 where
   pub table : ℕ
   pub roots : List RootPlace
+
+abbrev pub roots_view : Roots → RootsPlaced
+roots_view r = record { table = r.table; roots = r.roots.items }
 
 -- the table, and then the roots in their order
 unfoldable pub roots : List Section → Doing StageStop RootsPlaced

@@ -8,4 +8,4 @@
 
 mod calls;
 
-pub use calls::{place, set_node, stop_for};
+pub use calls::{place, set_node, stand_still, stop_for};

@@ -1,5 +1,4 @@
-use Rattle.std.proofs.Common.{◌≡◌, Result, Ok, Err, ℕ, sym, subst}
-use Rattle.growth_model.specs.declared.refusal.Refusal.{Refusal}
+use Rattle.std.proofs.Common.{Ok, Err, ℕ, sym, subst}
 use Rattle.stage_model.specs.declared.stop.StageStop.{StageStop}
 use Rattle.stage_model.specs.declared.stop.StageStop.TheVariants as stops
 use Rattle.stage_model.specs.Doing.{EndsAs}

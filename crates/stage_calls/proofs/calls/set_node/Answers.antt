@@ -1,4 +1,4 @@
-use Rattle.std.proofs.Common.{Result, Err, subst}
+use Rattle.std.proofs.Common.{Err, subst}
 use Rattle.growth_model.specs.declared.refusal.Refusal.{Refusal}
 use Rattle.growth_model.specs.Ends.{Ends}
 use Rattle.growth_model.specs.Growth.{noded}

@@ -1,0 +1,3 @@
+pub mod QuietLaws
+pub mod MapLaws
+pub mod GroupLaws

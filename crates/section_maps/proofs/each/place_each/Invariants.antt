@@ -1,0 +1,15 @@
+-- As the maps that are left end, so do all.
+use Rattle.std.proofs.Common.{◌≡◌, ◌+◌, ◌*◌, drop}
+use Rattle.growth_model.specs.Sound.{HasBegun}
+use Rattle.stage_calls.specs.Lent.{GoesOn}
+use Rattle.section_maps.proofs.MapLaws.{Goes}
+use Rattle.section_maps.proofs.each.place_each.Given as goal
+
+abbrev pub invariant-loop-section : goal.invariant-loop-section
+invariant-loop-section l = record {
+  goes : Goes l.fn.memblock.journal.items l.usage l.fn.placed.items l.sections l.memblock.journal.items l.at l.placed.items (drop
+      l.section-index l.sections);
+  usages : l.at ≡ l.usage + 40 * l.section-index;
+  begun : HasBegun l.memblock.journal.items;
+  lent : GoesOn l.fn.memblock l.memblock;
+}

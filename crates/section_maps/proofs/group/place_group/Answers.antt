@@ -1,0 +1,29 @@
+-- The usage data, and then the maps.
+use Rattle.std.proofs.Common.{ap}
+use Rattle.std.proofs.lemmas.Result.{err_from_is_err_and}
+use Rattle.growth_model.specs.declared.request.Request.{Request}
+use Rattle.stage_model.specs.Doing.{ok_as}
+use Rattle.stage_calls.proofs.LentLaws.{goes-then}
+use Rattle.section_maps.proofs.MapLaws.{group-first, group-second}
+use Rattle.section_maps.proofs.group.place_group.Goals as goal
+
+pub place-requires-clause-aligned : goal.place-requires-clause-aligned
+place-requires-clause-aligned c = (6, ap (λ (q : Request). q.align) c.usage_request-request.ensures)
+
+pub returns-in_err-usage-clause-ends : goal.returns-in_err-usage-clause-ends
+returns-in_err-usage-clause-ends c =
+    let p = err_from_is_err_and c.from_residual.result c.from_residual.ensures.1 in
+    rw (p.1, p.2) (group-first c.args.placed.now.items c.args.first.now c.args.sections.now c.usage_request-request.result
+    c.args.memblock.now.journal.items c.usage_request-request.ensures c.in_err-usage.field-0.0 c.place.new.memblock.journal.items
+    c.in_err-usage.ensures.ends)
+
+pub returns-clause-ends : goal.returns-clause-ends
+returns-clause-ends c =
+    group-second c.args.placed.now.items c.args.first.now c.args.sections.now c.usage_request-request.result
+    c.args.memblock.now.journal.items c.usage_request-request.ensures (ok_as (λ done. c.map_group.new.placed.items) c.map_group.result)
+    c.in_ok-usage.usage c.place.new.memblock.journal.items c.map_group.new.memblock.journal.items c.in_ok-usage.ensures.ends
+    c.map_group.ensures.ends
+
+pub returns-clause-lent : goal.returns-clause-lent
+returns-clause-lent c =
+    goes-then c.args.memblock.now c.place.new.memblock c.map_group.new.memblock c.in_ok-usage.ensures.lent c.map_group.ensures.lent

@@ -1,0 +1,17 @@
+-- As the groups that are left end, so do all.
+use Rattle.std.proofs.Common.{◌≤◌, ◌^◌, length}
+use Rattle.growth_model.specs.Sound.{HasBegun}
+use Rattle.stage_calls.specs.Lent.{GoesOn}
+use Rattle.section_maps.proofs.GroupLaws.{Goes}
+use Rattle.section_maps.proofs.maps.place_maps.Given as goal
+
+abbrev pub invariant-loop-rest : goal.invariant-loop-rest
+invariant-loop-rest l = record {
+  goes : Goes l.fn.memblock.journal.items l.sections l.memblock.journal.items l.placed.items l.rest;
+  few : length l.rest ≤ 2 ^ 19;
+  begun : HasBegun l.memblock.journal.items;
+  lent : GoesOn l.fn.memblock l.memblock;
+}
+
+abbrev pub decreases-loop-rest : goal.decreases-loop-rest
+decreases-loop-rest l = length l.rest

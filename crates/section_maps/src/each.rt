@@ -1,0 +1,54 @@
+//! The maps of sections one by one.
+
+ghost use Rattle.std.specs.Prelude.{◌≡◌, ◌+◌, ◌*◌, ◌^◌, ◌<◌, false, length};
+ghost use Rattle.memblock_model.specs.declared.owner.Owner.TheVariants as owner;
+ghost use Rattle.growth_model.specs.Sound.{HasBegun};
+ghost use Rattle.stage_model.specs.declared.stop.StageStop.TheVariants as stops;
+ghost use Rattle.stage_model.specs.declared.stop.What.TheVariants as what;
+ghost use Rattle.stage_model.specs.Doing.{EndsAs, ok_as};
+ghost use Rattle.stage_model.specs.Requests.{placed};
+ghost use Rattle.stage_calls.specs.Lent.{GoesOn};
+ghost use Rattle.section_maps.specs.Maps.{map_request, map_each};
+
+use crate::placed::{Placed, put_placed};
+use crate::requests::{USAGE_SIZE, map_request};
+use boot_journal::Owner;
+use memblock_grow::Memblock;
+use stage_calls::{place, stand_still};
+use stage_model::{Section, StageStop, What};
+
+/// Finds a place for the map of one section.
+fn place_map(memblock: &mut Memblock, section: &Section) -> Result<u64, StageStop>
+    requires { HasBegun memblock.old.journal.items }
+    ensures ends { EndsAs stops.Memory result memblock.old.journal.items memblock.new.journal.items
+        (placed (what.Map section.now.number) (map_request 1 section.now.node false) (owner.Map section.now.number)
+        memblock.old.journal.items) }
+    ensures lent { GoesOn memblock.old memblock.new }
+{
+    let number = section.number;
+    let request = map_request(1, section.node, false);
+    place(memblock, What::Map(number), &request, Owner::Map(number))
+}
+
+/// Finds a place for the map of each section; their usage data lie one behind the other from the address on.
+pub fn place_each(
+    memblock: &mut Memblock,
+    placed: &mut Vec<Placed>,
+    sections: &[Section],
+    usage: u64,
+) -> Result<(), StageStop>
+    requires begun { HasBegun memblock.old.journal.items }
+    requires usage { usage + 40 * length sections.now < 2 ^ 64 }
+    ensures ends { EndsAs stops.Memory (ok_as (λ _. placed.new.items) result) memblock.old.journal.items memblock.new.journal.items
+        (map_each usage placed.old.items sections.now memblock.old.journal.items) }
+    ensures lent { GoesOn memblock.old memblock.new }
+{
+    stand_still(memblock);
+    let mut at = usage;
+    for section in sections {
+        let map = place_map(memblock, section)?;
+        put_placed(placed, section, map, at)?;
+        at += USAGE_SIZE;
+    }
+    Ok(())
+}

@@ -1,0 +1,77 @@
+//! One group: its usage data, and its maps in one piece or one by one.
+
+ghost use Rattle.std.specs.Prelude.{◌≡◌, ℕ, ◌+◌, ◌*◌, ◌^◌, ◌<◌, ◌≤◌, ◌==◌, length};
+ghost use Rattle.std.specs.List.{prefix_len};
+ghost use Rattle.growth_model.specs.Sound.{HasBegun};
+ghost use Rattle.stage_model.specs.declared.stop.StageStop.TheVariants as stops;
+ghost use Rattle.stage_model.specs.Doing.{EndsAs, ok_as};
+ghost use Rattle.stage_model.specs.Requests.{or_else};
+ghost use Rattle.stage_model.specs.declared.stop.What.TheVariants as what;
+ghost use Rattle.stage_calls.specs.Lent.{GoesOn};
+ghost use Rattle.section_maps.specs.Maps.{map_all, map_each, group_placed};
+
+use crate::each::place_each;
+use crate::placed::{Placed, put_spread};
+use crate::requests::{map_request, usage_request};
+use boot_journal::Owner;
+use growth_model::Refusal;
+use memblock_grow::Memblock;
+use stage_calls::place;
+use stage_model::{Section, StageStop, What};
+
+/// How many sections from the first on are of the node.
+pub fn count_same(sections: &[Section], node: u32) -> usize
+    ensures { result ≡ prefix_len (λ s. s.node == node) sections.now }
+{
+    sections.iter().take_while(|s| s.node == node).count()
+}
+
+/// Finds places for the maps of a group, whose first section is told: in one piece of the node itself, or, where none is free, one
+/// by one. The usage data lie one behind the other from the address on.
+fn map_group(
+    memblock: &mut Memblock,
+    placed: &mut Vec<Placed>,
+    first: &Section,
+    sections: &[Section],
+    usage: u64,
+) -> Result<(), StageStop>
+    requires begun { HasBegun memblock.old.journal.items }
+    requires some { 1 ≤ length sections.now }
+    requires few { length sections.now ≤ 2 ^ 32 }
+    requires usage { usage + 40 * length sections.now < 2 ^ 64 }
+    ensures ends { EndsAs stops.Memory (ok_as (λ _. placed.new.items) result) memblock.old.journal.items memblock.new.journal.items
+        (or_else (what.Map first.now.number) (map_all usage placed.old.items first.now sections.now)
+        (map_each usage placed.old.items sections.now) memblock.old.journal.items) }
+    ensures lent { GoesOn memblock.old memblock.new }
+{
+    let request = map_request(sections.len() as u64, first.node, true);
+    match memblock.alloc(&request, Owner::Map(first.number)) {
+        Ok(map) => match put_spread(placed, sections, usage, map) {
+            Ok(()) => Ok(()),
+            Err(_) => Err(StageStop::Memory),
+        },
+        Err(Refusal::NoGap) => place_each(memblock, placed, sections, usage),
+        Err(Refusal::NoGapForTable { which, room }) => Err(StageStop::NoTablePlace { which, room }),
+        Err(Refusal::Memory) => Err(StageStop::Memory),
+    }
+}
+
+/// Finds places for the usage data and the maps of a group, and appends its sections with them.
+pub fn place_group(
+    memblock: &mut Memblock,
+    placed: &mut Vec<Placed>,
+    first: &Section,
+    sections: &[Section],
+) -> Result<(), StageStop>
+    requires begun { HasBegun memblock.old.journal.items }
+    requires some { 1 ≤ length sections.now }
+    requires few { length sections.now ≤ 2 ^ 32 }
+    ensures ends { EndsAs stops.Memory (ok_as (λ _. placed.new.items) result) memblock.old.journal.items memblock.new.journal.items
+        (group_placed placed.old.items first.now sections.now memblock.old.journal.items) }
+    ensures lent { GoesOn memblock.old memblock.new }
+{
+    let number = first.number;
+    let request = usage_request(sections.len() as u64, first.node);
+    let usage = place(memblock, What::Usage(number), &request, Owner::Usage(number))?;
+    map_group(memblock, placed, first, sections, usage)
+}

@@ -1,0 +1,16 @@
+//! The laws of maps, as functions that do nothing: what a boot may rest on.
+
+ghost use Rattle.std.specs.Prelude.{◌≡◌, List};
+ghost use Rattle.memblock_model.specs.declared.item.Item.{Item as AnyItem};
+ghost use Rattle.memblock_model.specs.Items.{memory_of, limit_of};
+ghost use Rattle.stage_model.specs.declared.section.Section.{Section as AnySection};
+ghost use Rattle.stage_model.specs.Doing.{after};
+ghost use Rattle.section_maps.specs.Maps.{maps};
+
+/// A law: the places of maps and usage data leave memory and the limit as they are, whether each finds one or not.
+pub fn maps_leave_memory()
+    ensures memory { (sections : List AnySection) (items : List AnyItem) →
+        memory_of (after items (maps sections items)) ≡ memory_of items }
+    ensures limit { (sections : List AnySection) (items : List AnyItem) →
+        limit_of (after items (maps sections items)) ≡ limit_of items }
+{}

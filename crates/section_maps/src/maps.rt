@@ -1,0 +1,39 @@
+//! The groups one after another.
+
+ghost use Rattle.std.specs.Prelude.{◌≡◌, ◌^◌, ◌≤◌, length};
+ghost use Rattle.growth_model.specs.Sound.{HasBegun};
+ghost use Rattle.stage_model.specs.declared.stop.StageStop.TheVariants as stops;
+ghost use Rattle.stage_model.specs.Doing.{EndsAs, ok_as};
+ghost use Rattle.stage_calls.specs.Lent.{GoesOn};
+ghost use Rattle.section_maps.specs.Maps.{maps};
+
+use crate::group::{count_same, place_group};
+use crate::placed::Placed;
+use memblock_grow::Memblock;
+use stage_calls::stand_still;
+use stage_model::{Section, StageStop};
+use std::alloc::Global;
+
+/// Finds places for the usage data and the map of each section, group by group: 40 bytes and 2 MiB (`sparse_init_nid`). There
+/// are at most 2^19 sections, as many as 64 TiB have.
+pub fn place_maps(
+    alloc: Global,
+    memblock: &mut Memblock,
+    sections: &[Section],
+) -> Result<Vec<Placed>, StageStop>
+    requires begun { HasBegun memblock.old.journal.items }
+    requires few { length sections.now ≤ 2 ^ 19 }
+    ensures ends { EndsAs stops.Memory (ok_as (λ placed. placed.items) result) memblock.old.journal.items memblock.new.journal.items
+        (maps sections.now memblock.old.journal.items) }
+    ensures lent { GoesOn memblock.old memblock.new }
+{
+    stand_still(memblock);
+    let mut placed = Vec::new(alloc);
+    let mut rest = sections;
+    while let [first, ..] = rest {
+        let (group, others) = rest.split_at(count_same(rest, first.node));
+        place_group(memblock, &mut placed, first, group)?;
+        rest = others;
+    }
+    Ok(placed)
+}

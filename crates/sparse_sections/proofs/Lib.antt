@@ -1,0 +1,6 @@
+pub mod LabelLaws
+pub mod PresentLaws
+pub mod AscendLaws
+pub mod NodedLaws
+pub mod QuietLaws
+pub mod RootLaws

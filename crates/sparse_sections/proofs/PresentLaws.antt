@@ -1,0 +1,170 @@
+-- The sections with memory, record by record.
+use Rattle.std.proofs.Common.{◌≡◌, ℕ, zero, suc, ◌+◌, ◌-◌, ◌*◌, ◌/◌, ◌%◌, ◌^◌, ◌<◌, ◌≤◌, max, Option, Some, None, List, [], ◌∷◌, ◌++◌, refl, sym, ◌∙◌, ap, subst, append_assoc, add-one, drop-cons, drop, length, get_or, arith}
+use Rattle.std.specs.List.{All}
+use Rattle.std.specs.Option.{unwrap_or}
+use Rattle.std.proofs.lemmas.List.{append-nil}
+use Rattle.address_runs.specs.Runs.{RunOf, run_end, value_at, AreRuns}
+use Rattle.address_runs.specs.Sweep.{StartFrom}
+use Rattle.address_runs.proofs.RunsLaws.{inside, behind, none_below, rest_from}
+use Rattle.memblock_model.specs.Labels.{Label, Labels, plain_label}
+use Rattle.memblock_ranges.specs.declared.region.Region.{Region}
+use Rattle.memblock_ranges.specs.Spelling.{node_field, region_of}
+use Rattle.stage_model.specs.declared.section.Section.{Section}
+use Rattle.sparse_sections.specs.Present.{section_label, section_of, section_for, sections_below, present, sections_from, IsWholeNoded}
+use Rattle.sparse_sections.proofs.LabelLaws.{section-none, section-found}
+
+-- none of the next sections has memory
+pub sections-none : (f : Labels) (n k : ℕ) → ((s : ℕ) → n ≤ s → s < n + k → section_label f s ≡ None)
+    → sections_below f (n + k) ≡ sections_below f n
+unfolding sections_below
+sections-none f n zero none = let e : n + 0 ≡ n = omega arith in ap (sections_below f) e
+sections-none f n (suc k) none =
+    let more : n + suc k ≡ suc (n + k) = omega arith in
+    let next : sections_below f (suc (n + k)) ≡ sections_below f (n + k) =
+    ap (λ (o : Option Label). sections_below f (n + k) ++ section_for (n + k) o) (none (n + k) (omega arith) (omega arith))
+    ∙ append-nil (sections_below f (n + k)) in
+    ap (sections_below f) more ∙ next ∙ sections-none f n k (λ s above below. none s above (omega arith))
+
+-- each of the next sections has memory, of one node
+pub sections-run : (f : Labels) (n k node : ℕ) (v : Label) → v.node ≡ Some node
+    → ((s : ℕ) → n ≤ s → s < n + k → section_label f s ≡ Some v)
+    → sections_below f (n + k) ≡ sections_below f n ++ sections_from n k node
+unfolding sections_below sections_from
+sections-run f n zero node v has all =
+    let e : n + 0 ≡ n = omega arith in ap (sections_below f) e ∙ sym (append-nil (sections_below f n))
+sections-run f n (suc k) node v has all =
+    let more : n + suc k ≡ suc (n + k) = omega arith in
+    let here : section_for (n + k) (section_label f (n + k)) ≡ record { number = n + k; node = node } ∷ [] =
+    ap (section_for (n + k)) (all (n + k) (omega arith) (omega arith)) ∙ ap (section_of (n + k)) has in
+    let next : sections_below f (suc (n + k)) ≡ sections_below f (n + k) ++ record { number = n + k; node = node } ∷ [] =
+    ap (λ (ss : List Section). sections_below f (n + k) ++ ss) here in
+    let so_far = sections-run f n k node v has (λ s above below. all s above (omega arith)) in
+    ap (sections_below f) more ∙ next ∙ ap (λ (ss : List Section). ss ++ record { number = n + k; node = node } ∷ []) so_far
+    ∙ append_assoc (sections_below f n) (sections_from n k node) (record { number = n + k; node = node } ∷ [])
+
+-- the sections of one node, one by one
+pub from-none : (before : List Section) (first node : ℕ) → before ≡ before ++ sections_from first (first - first) node
+unfolding sections_from
+from-none before first node =
+    let e : first - first ≡ 0 = omega arith in
+    sym (ap (λ (n : ℕ). before ++ sections_from first n node) e ∙ append-nil before)
+
+pub from-next : (before now : List Section) (first number node : ℕ) → first ≤ number
+    → now ≡ before ++ sections_from first (number - first) node
+    → now ++ record { number = number; node = node } ∷ [] ≡ before ++ sections_from first (number + 1 - first) node
+unfolding sections_from
+from-next before now first number node above so_far =
+    let one : ℕ → List Section = λ n. record { number = n; node = node } ∷ [] in
+    let here : number ≡ first + (number - first) = omega arith in
+    let more : number + 1 - first ≡ suc (number - first) = omega arith in
+    ap (λ (ss : List Section). ss ++ one number) so_far
+    ∙ append_assoc before (sections_from first (number - first) node) (one number)
+    ∙ ap (λ (n : ℕ). before ++ (sections_from first (number - first) node ++ one n)) here
+    ∙ ap (λ (n : ℕ). before ++ sections_from first n node) (sym more)
+
+pub nobody : RunOf Label
+nobody = record { base = 0; size = 0; value = plain_label }
+
+-- what is left to be looked at from a section on
+pub record IsLeft (f : Labels) (next : ℕ) (rs : List (RunOf Label)) : Type 0 where
+  pub runs : AreRuns rs
+  pub starts : StartFrom (0x8000000 * (next - 1)) rs
+  pub each : (x : ℕ) → 0x8000000 * next ≤ x → f x ≡ value_at rs x
+
+pub left-all : (rs : List (RunOf Label)) → AreRuns rs → IsLeft (value_at rs) 0 rs
+left-all [] runs = record { runs = runs; starts = tt; each = λ x above. refl }
+left-all (r ∷ rs) runs = record { runs = runs; starts = omega arith; each = λ x above. refl }
+
+starts-next : (r : RunOf Label) (rs : List (RunOf Label)) (at : ℕ) → at ≤ run_end r → StartFrom (run_end r) rs → StartFrom at rs
+starts-next r [] at less starts = tt
+starts-next r (s ∷ ss) at less starts = omega arith
+
+-- behind a record
+pub left-next : (f : Labels) (next : ℕ) (r : RunOf Label) (rs : List (RunOf Label)) → IsLeft f next (r ∷ rs)
+    → IsLeft f ((run_end r - 1) / 0x8000000 + 1) rs
+left-next f next r rs left =
+    let some : 0 < r.size = left.runs.0 in
+    let from : 0x8000000 * (next - 1) ≤ r.base = left.starts in
+    record {
+      runs = left.runs.2;
+      starts = starts-next r rs (0x8000000 * ((run_end r - 1) / 0x8000000 + 1 - 1)) (omega arith) (rest_from r rs left.runs);
+      each = λ x above.
+          let past : run_end r ≤ x = omega arith in
+          let next_value : value_at (r ∷ rs) x ≡ value_at rs x = rw (behind r x past) refl in
+          left.each x (omega arith) ∙ next_value;
+    }
+
+-- the sections of a record
+pub sections-record : (f : Labels) (next : ℕ) (r : RunOf Label) (rs : List (RunOf Label)) (first until node : ℕ) → IsLeft f next (r ∷ rs)
+    → r.base % 4096 ≡ 0 → r.value.node ≡ Some node → first ≡ max next (r.base / 0x8000000) → until ≡ (run_end r - 1) / 0x8000000 + 1
+    → sections_below f until ≡ sections_below f next ++ sections_from first (until - first) node
+sections-record f next r rs first until node left whole has first_is until_is =
+    let some : 0 < r.size = left.runs.0 in
+    let from : 0x8000000 * (next - 1) ≤ r.base = left.starts in
+    let order : first ≤ until = omega arith in
+    let low : next ≤ first = omega arith in
+    let own : r.base / 0x8000000 ≤ first = omega arith in
+    let none : (x : ℕ) → 0x8000000 * next ≤ x → x < r.base → f x ≡ None = λ x above under.
+    left.each x above ∙ none_below r.base x (r ∷ rs) left.runs (omega arith) under in
+    let here : (x : ℕ) → 0x8000000 * next ≤ x → r.base ≤ x → x < run_end r → f x ≡ Some r.value = λ x above over under.
+    let lies : value_at (r ∷ rs) x ≡ Some r.value = rw (inside r x over under) refl in left.each x above ∙ lies in
+    let gap : sections_below f first ≡ sections_below f next =
+    ap (sections_below f) (let e : first ≡ next + (first - next) = omega arith in e)
+    ∙ sections-none f next (first - next) (λ s above under.
+    section-none f s (λ x over inner. none x (omega arith) (omega arith))) in
+    let run : sections_below f (first + (until - first)) ≡ sections_below f first ++ sections_from first (until - first) node =
+    sections-run f first (until - first) node r.value has (λ s above under.
+    section-found f s r whole (omega arith) (omega arith) some (λ x over inner. none x (omega arith) inner)
+    (λ x over inner outer. here x (omega arith) inner outer)) in
+    ap (sections_below f) (let e : until ≡ first + (until - first) = omega arith in e) ∙ run
+    ∙ ap (λ (ss : List Section). ss ++ sections_from first (until - first) node) gap
+
+-- the next record, which the table has at that index
+pub record IsNext (f : Labels) (next : ℕ) (rs : List (RunOf Label)) (i : ℕ) (g : Region) : Type 0 where
+  pub left : IsLeft f next (get_or rs i nobody ∷ drop (i + 1) rs)
+  pub whole : IsWholeNoded (get_or rs i nobody)
+  pub base : g.base ≡ (get_or rs i nobody).base
+  pub size : g.size ≡ (get_or rs i nobody).size
+  pub node : (get_or rs i nobody).value.node ≡ Some g.node
+  pub some : 0 < g.size
+  pub reach : g.base + g.size ≤ 2 ^ 46
+  pub from : 0x8000000 * (next - 1) ≤ g.base
+
+pub next-record : (f : Labels) (next : ℕ) (rs : List (RunOf Label)) (i : ℕ) (g : Region) → i < length rs → All IsWholeNoded rs
+    → IsLeft f next (drop i rs) → g ≡ region_of (get_or rs i nobody) → IsNext f next rs i g
+next-record f next rs i g few whole left is =
+    let r : RunOf Label = get_or rs i nobody in
+    let told : IsWholeNoded r = whole i nobody few in
+    let rest : drop i rs ≡ r ∷ drop (i + 1) rs = drop-cons rs i nobody few ∙ ap (λ (n : ℕ). r ∷ drop n rs) (sym (add-one i)) in
+    let here : IsLeft f next (r ∷ drop (i + 1) rs) = subst (IsLeft f next) rest left in
+    let base : g.base ≡ r.base = ap (λ (t : Region). t.base) is in
+    let size : g.size ≡ r.size = ap (λ (t : Region). t.size) is in
+    let field : g.node ≡ node_field r.value = ap (λ (t : Region). t.node) is in
+    let node : g.node ≡ told.node = field ∙ ap (λ (o : Option ℕ). unwrap_or o 1024) told.has in
+    let some : 0 < r.size = here.runs.0 in
+    let reach : run_end r ≤ 2 ^ 46 = told.reach in
+    let from : 0x8000000 * (next - 1) ≤ r.base = here.starts in
+    record {
+      left = here;
+      whole = told;
+      base = base;
+      size = size;
+      node = told.has ∙ ap (λ (n : ℕ). Some n) (sym node);
+      some = omega (arith, size, some);
+      reach = omega (arith, base, size, reach);
+      from = omega (arith, base, from);
+    }
+
+-- nothing is left
+pub sections-end : (f : Labels) (next m : ℕ) → IsLeft f next [] → next ≤ m → sections_below f m ≡ sections_below f next
+sections-end f next m left reach =
+    ap (sections_below f) (let e : m ≡ next + (m - next) = omega arith in e)
+    ∙ sections-none f next (m - next) (λ s above under. section-none f s (λ x over inner. left.each x (omega arith)))
+
+pub present-none : (f : Labels) → sections_below f 0 ≡ []
+unfolding sections_below
+present-none f = refl
+
+pub present-end : (f : Labels) (next : ℕ) → IsLeft f next [] → next ≤ 2 ^ 19 → sections_below f next ≡ present f
+unfolding present
+present-end f next left reach = sym (sections-end f next (2 ^ 19) left reach)

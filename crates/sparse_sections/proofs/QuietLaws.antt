@@ -1,0 +1,36 @@
+-- The places of roots leave memory and the limit as they are.
+use Rattle.std.proofs.Common.{◌≡◌, List, ◌∷◌, [], ◌++◌, None, Some}
+use Rattle.memblock_model.specs.declared.owner.Owner.TheVariants as owner
+use Rattle.memblock_model.specs.declared.item.Item.{Item}
+use Rattle.memblock_model.specs.Items.{memory_of, limit_of}
+use Rattle.stage_model.specs.declared.section.Section.{Section}
+use Rattle.stage_model.specs.declared.stop.What.TheVariants as what
+use Rattle.stage_model.specs.Doing.{after, returns, ◌>>=◌, in_turn}
+use Rattle.stage_model.specs.Requests.{placed}
+use Rattle.stage_model.specs.Quiet.{IsQuietStep}
+use Rattle.stage_model.proofs.QuietLaws.{quiet-returns, quiet-bind, quiet-turn, quiet-placed, quiet-appended_memory, quiet-appended_limit}
+use Rattle.sparse_sections.specs.declared.roots.RootPlace.{RootPlace}
+use Rattle.sparse_sections.specs.Roots.{root_of, firsts_behind, small_request, root_placed, roots}
+
+quiet-root : (before : List RootPlace) (s : Section) → IsQuietStep (root_placed before s)
+quiet-root before s =
+    quiet-bind (placed (what.Root (root_of s)) (small_request 4096 (Some s.node)) (owner.Root (root_of s)))
+    (λ place. returns (before ++ record { number = root_of s; place = place } ∷ []))
+    (quiet-placed (what.Root (root_of s)) (small_request 4096 (Some s.node)) (owner.Root (root_of s)))
+    (λ place. quiet-returns (before ++ record { number = root_of s; place = place } ∷ []))
+
+pub quiet-roots : (sections : List Section) → IsQuietStep (roots sections)
+unfolding roots
+quiet-roots sections =
+    quiet-bind (placed what.Roots (small_request 16384 None) owner.Roots)
+    (λ table. in_turn root_placed [] (firsts_behind None sections) >>= λ places. returns (record { table = table; roots = places }))
+    (quiet-placed what.Roots (small_request 16384 None) owner.Roots)
+    (λ table. quiet-bind (in_turn root_placed [] (firsts_behind None sections)) (λ places. returns (record { table = table; roots = places }))
+    (quiet-turn root_placed quiet-root [] (firsts_behind None sections))
+    (λ places. quiet-returns (record { table = table; roots = places })))
+
+pub roots-memory : (sections : List Section) (items : List Item) → memory_of (after items (roots sections items)) ≡ memory_of items
+roots-memory sections items = quiet-appended_memory items (roots sections items).steps ((quiet-roots sections).each items)
+
+pub roots-limit : (sections : List Section) (items : List Item) → limit_of (after items (roots sections items)) ≡ limit_of items
+roots-limit sections items = quiet-appended_limit items (roots sections items).steps ((quiet-roots sections).each items)

@@ -1,0 +1,151 @@
+-- One root after another: as what is left ends, so do all.
+use Rattle.std.proofs.Common.{◌≡◌, ℕ, ◌+◌, ◌<◌, ◌≤◌, true, false, Option, Some, None, List, [], ◌∷◌, ◌++◌, length, drop, get_or, Result, Ok, Err, sym, ◌∙◌, ap, subst, add-one, drop-cons}
+use Rattle.std.proofs.lemmas.List.{drop_all}
+use Rattle.memblock_model.specs.declared.item.Item.{Item}
+use Rattle.memblock_model.specs.declared.owner.Owner.TheVariants as owner
+use Rattle.growth_model.specs.declared.request.Request.{Request}
+use Rattle.stage_model.specs.declared.section.Section.{Section}
+use Rattle.stage_model.specs.declared.stop.What.TheVariants as what
+use Rattle.stage_model.specs.declared.stop.StageStop.{StageStop}
+use Rattle.stage_model.specs.declared.stop.StageStop.TheVariants as stop
+use Rattle.stage_model.specs.Doing.{Doing, EndsAs, returns, in_turn, ◌>>=◌}
+use Rattle.stage_model.specs.Requests.{placed}
+use Rattle.stage_model.proofs.DoingLaws.{ends-second, ends-first, ends-wanting, ends-returns}
+use Rattle.sparse_sections.specs.declared.roots.RootPlace.{RootPlace}
+use Rattle.sparse_sections.specs.Roots.{root_of, is_root, firsts_behind, small_request, root_placed, RootsPlaced, roots}
+
+-- a section whose root has a place, and one whose root gets its place now
+pub root-same : (r : Result (List RootPlace) StageStop) (last : Option ℕ) (s : Section) (ss : List Section) (before : List RootPlace)
+    (old new : List Item) → is_root last (root_of s) ≡ true
+    → EndsAs stop.Memory r old new (in_turn root_placed before (firsts_behind last ss) old)
+    → EndsAs stop.Memory r old new (in_turn root_placed before (firsts_behind last (s ∷ ss)) old)
+root-same r last s ss before old new same h = rw same h
+
+pub root-next : (r : Result (List RootPlace) StageStop) (last : Option ℕ) (s : Section) (ss : List Section) (before now : List RootPlace)
+    (old mid new : List Item) → is_root last (root_of s) ≡ false → EndsAs stop.Memory (Ok now) old mid (root_placed before s old)
+    → EndsAs stop.Memory r mid new (in_turn root_placed now (firsts_behind (Some (root_of s)) ss) mid)
+    → EndsAs stop.Memory r old new (in_turn root_placed before (firsts_behind last (s ∷ ss)) old)
+root-next r last s ss before now old mid new other was h =
+    rw other (ends-second now r stop.Memory old mid new (root_placed before s)
+    (λ next. in_turn root_placed next (firsts_behind (Some (root_of s)) ss)) was h)
+
+pub root-fails : (e : StageStop) (last : Option ℕ) (s : Section) (ss : List Section) (before : List RootPlace) (old new : List Item)
+    → is_root last (root_of s) ≡ false → EndsAs {A = List RootPlace} stop.Memory (Err e) old new (root_placed before s old)
+    → EndsAs {A = List RootPlace} stop.Memory (Err e) old new (in_turn root_placed before (firsts_behind last (s ∷ ss)) old)
+root-fails e last s ss before old new other h =
+    rw other (ends-first e stop.Memory old new (root_placed before s)
+    (λ next. in_turn root_placed next (firsts_behind (Some (root_of s)) ss)) h)
+
+abbrev pub no_section : Section
+no_section = record { number = 0; node = 0 }
+
+-- all roots end as those of the sections that are left
+pub record Goes (entry : List Item) (sections : List Section) (now : List Item) (roots : List RootPlace) (last : Option ℕ)
+    (rest : List Section) : Type 0 where
+  pub ends : (r : Result (List RootPlace) StageStop) (new : List Item)
+      → EndsAs stop.Memory r now new (in_turn root_placed roots (firsts_behind last rest) now)
+      → EndsAs stop.Memory r entry new (in_turn root_placed [] (firsts_behind None sections) entry)
+
+pub goes-first : (entry : List Item) (sections : List Section) (roots : List RootPlace) → roots ≡ []
+    → Goes entry sections entry roots None sections
+goes-first entry sections roots none = record {
+  ends = λ r new h. subst (λ (before : List RootPlace). EndsAs stop.Memory r entry new (in_turn root_placed before
+      (firsts_behind None sections) entry)) none h;
+}
+
+-- the section at the index, and those behind it
+left-at : (sections : List Section) (i : ℕ) (d : Section) → i < length sections
+    → drop i sections ≡ get_or sections i d ∷ drop (i + 1) sections
+left-at sections i d few =
+    drop-cons sections i d few ∙ ap (λ (n : ℕ). get_or sections i d ∷ drop n sections) (sym (add-one i))
+
+pub goes-same : (entry : List Item) (sections : List Section) (now : List Item) (before : List RootPlace) (last : Option ℕ) (i : ℕ) (d : Section)
+    → i < length sections → is_root last (root_of (get_or sections i d)) ≡ true → Goes entry sections now before last (drop i sections)
+    → Goes entry sections now before last (drop (i + 1) sections)
+goes-same entry sections now before last i d few same goes =
+    let s : Section = get_or sections i d in
+    let here : Goes entry sections now before last (s ∷ drop (i + 1) sections) =
+    subst (Goes entry sections now before last) (left-at sections i d few) goes in
+    record { ends = λ r new h. here.ends r new (root-same r last s (drop (i + 1) sections) before now new same h) }
+
+pub goes-next : (entry : List Item) (sections : List Section) (now mid : List Item) (before roots : List RootPlace) (last : Option ℕ) (i : ℕ)
+    (d : Section) → i < length sections → is_root last (root_of (get_or sections i d)) ≡ false
+    → EndsAs stop.Memory (Ok roots) now mid (root_placed before (get_or sections i d) now)
+    → Goes entry sections now before last (drop i sections)
+    → Goes entry sections mid roots (Some (root_of (get_or sections i d))) (drop (i + 1) sections)
+goes-next entry sections now mid before roots last i d few other was goes =
+    let s : Section = get_or sections i d in
+    let here : Goes entry sections now before last (s ∷ drop (i + 1) sections) =
+    subst (Goes entry sections now before last) (left-at sections i d few) goes in
+    record { ends = λ r new h. here.ends r new (root-next r last s (drop (i + 1) sections) before roots now mid new other was h) }
+
+pub goes-fails : (e : StageStop) (entry : List Item) (sections : List Section) (now new : List Item) (before : List RootPlace)
+    (last : Option ℕ) (i : ℕ) (d : Section) → i < length sections → is_root last (root_of (get_or sections i d)) ≡ false
+    → EndsAs {A = List RootPlace} stop.Memory (Err e) now new (root_placed before (get_or sections i d) now)
+    → Goes entry sections now before last (drop i sections)
+    → EndsAs {A = List RootPlace} stop.Memory (Err e) entry new (in_turn root_placed [] (firsts_behind None sections) entry)
+goes-fails e entry sections now new before last i d few other failed goes =
+    let s : Section = get_or sections i d in
+    let here : Goes entry sections now before last (s ∷ drop (i + 1) sections) =
+    subst (Goes entry sections now before last) (left-at sections i d few) goes in
+    here.ends (Err e) new (root-fails e last s (drop (i + 1) sections) before now new other failed)
+
+pub goes-all : (entry : List Item) (sections : List Section) (now : List Item) (roots : List RootPlace) (last : Option ℕ) (i : ℕ)
+    → length sections ≤ i → Goes entry sections now roots last (drop i sections)
+    → EndsAs stop.Memory (Ok roots) entry now (in_turn root_placed [] (firsts_behind None sections) entry)
+goes-all entry sections now roots last i all goes =
+    let here : Goes entry sections now roots last [] = subst (Goes entry sections now roots last) (drop_all i sections all) goes in
+    here.ends (Ok roots) now (ends-returns roots stop.Memory now)
+
+-- a place that was found, and no memory to keep it
+pub root-wanting : (at number : ℕ) (q : Request) (before : List RootPlace) (s : Section) (old new : List Item) → number ≡ root_of s
+    → q ≡ small_request 4096 (Some s.node) → EndsAs stop.Memory (Ok at) old new (placed (what.Root number) q (owner.Root number) old)
+    → EndsAs {A = List RootPlace} stop.Memory (Err stop.Memory) old new (root_placed before s old)
+root-wanting at number q before s old new is request h =
+    let asked = small_request 4096 (Some s.node) in
+    let here : EndsAs stop.Memory (Ok at) old new (placed (what.Root (root_of s)) asked (owner.Root (root_of s)) old) =
+    subst (λ (n : ℕ). EndsAs stop.Memory (Ok at) old new (placed (what.Root n) asked (owner.Root n) old)) is
+    (subst (λ (r : Request). EndsAs stop.Memory (Ok at) old new (placed (what.Root number) r (owner.Root number) old)) request h) in
+    let next : ℕ → Doing StageStop (List RootPlace) = λ place. returns (before ++ record { number = root_of s; place = place } ∷ []) in
+    ends-second at (Err stop.Memory) stop.Memory old new new (placed (what.Root (root_of s)) asked (owner.Root (root_of s))) next here
+    (ends-wanting stop.Memory new (next at new))
+
+-- the table and then the roots
+pub roots-fail : (e : StageStop) (q : Request) (sections : List Section) (old new : List Item) → q ≡ small_request 16384 None
+    → EndsAs {A = ℕ} stop.Memory (Err e) old new (placed what.Roots q owner.Roots old)
+    → EndsAs {A = RootsPlaced} stop.Memory (Err e) old new (roots sections old)
+unfolding roots
+roots-fail e q sections old new request h =
+    ends-first e stop.Memory old new (placed what.Roots (small_request 16384 None) owner.Roots)
+    (λ table. in_turn root_placed [] (firsts_behind None sections) >>= λ places. returns (record { table = table; roots = places }))
+    (subst (λ (r : Request). EndsAs {A = ℕ} stop.Memory (Err e) old new (placed what.Roots r owner.Roots old)) request h)
+
+roots-behind : (r : Result RootsPlaced StageStop) (table : ℕ) (q : Request) (sections : List Section) (old mid new : List Item)
+    → q ≡ small_request 16384 None → EndsAs stop.Memory (Ok table) old mid (placed what.Roots q owner.Roots old)
+    → EndsAs stop.Memory r mid new ((in_turn root_placed [] (firsts_behind None sections)
+    >>= λ places. returns (record { table = table; roots = places })) mid)
+    → EndsAs stop.Memory r old new (roots sections old)
+unfolding roots
+roots-behind r table q sections old mid new request was h =
+    ends-second table r stop.Memory old mid new (placed what.Roots (small_request 16384 None) owner.Roots)
+    (λ table. in_turn root_placed [] (firsts_behind None sections) >>= λ places. returns (record { table = table; roots = places }))
+    (subst (λ (r : Request). EndsAs stop.Memory (Ok table) old mid (placed what.Roots r owner.Roots old)) request was) h
+
+pub roots-stop : (e : StageStop) (table : ℕ) (q : Request) (sections : List Section) (old mid new : List Item)
+    → q ≡ small_request 16384 None → EndsAs stop.Memory (Ok table) old mid (placed what.Roots q owner.Roots old)
+    → EndsAs {A = List RootPlace} stop.Memory (Err e) mid new (in_turn root_placed [] (firsts_behind None sections) mid)
+    → EndsAs {A = RootsPlaced} stop.Memory (Err e) old new (roots sections old)
+roots-stop e table q sections old mid new request was h =
+    roots-behind (Err e) table q sections old mid new request was
+    (ends-first e stop.Memory mid new (in_turn root_placed [] (firsts_behind None sections))
+    (λ places. returns (record { table = table; roots = places })) h)
+
+pub roots-all : (table : ℕ) (places : List RootPlace) (q : Request) (sections : List Section) (old mid new : List Item)
+    → q ≡ small_request 16384 None → EndsAs stop.Memory (Ok table) old mid (placed what.Roots q owner.Roots old)
+    → EndsAs stop.Memory (Ok places) mid new (in_turn root_placed [] (firsts_behind None sections) mid)
+    → EndsAs stop.Memory (Ok (record { table = table; roots = places })) old new (roots sections old)
+roots-all table places q sections old mid new request was h =
+    roots-behind (Ok (record { table = table; roots = places })) table q sections old mid new request was
+    (ends-second places (Ok (record { table = table; roots = places })) stop.Memory mid new new
+    (in_turn root_placed [] (firsts_behind None sections)) (λ places. returns (record { table = table; roots = places })) h
+    (ends-returns (record { table = table; roots = places }) stop.Memory new))

@@ -1,0 +1,13 @@
+-- As the roots of the sections that are left end, so do all.
+use Rattle.std.proofs.Common.{drop}
+use Rattle.growth_model.specs.Sound.{HasBegun}
+use Rattle.stage_calls.specs.Lent.{GoesOn}
+use Rattle.sparse_sections.proofs.RootLaws.{Goes}
+use Rattle.sparse_sections.proofs.places.place_each_root.Given as goal
+
+abbrev pub invariant-loop-section : goal.invariant-loop-section
+invariant-loop-section l = record {
+  goes : Goes l.fn.memblock.journal.items l.sections l.memblock.journal.items l.roots.items l.last (drop l.section-index l.sections);
+  begun : HasBegun l.memblock.journal.items;
+  lent : GoesOn l.fn.memblock l.memblock;
+}

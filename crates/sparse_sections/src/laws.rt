@@ -1,0 +1,41 @@
+//! The laws of sections, as functions that do nothing: what a boot may rest on.
+
+ghost use Rattle.std.specs.Prelude.{◌≡◌, ℕ, ◌^◌, ◌<◌, ◌≤◌, List};
+ghost use Rattle.std.specs.List.{All};
+ghost use Rattle.address_runs.specs.Runs.{RunOf, IsRunsOf, value_at};
+ghost use Rattle.memblock_model.specs.declared.item.Item.{Item as AnyItem};
+ghost use Rattle.memblock_model.specs.declared.which.Which.TheVariants as which;
+ghost use Rattle.memblock_model.specs.Labels.{Label, Labels};
+ghost use Rattle.memblock_model.specs.Items.{memory_of, limit_of};
+ghost use Rattle.memblock_model.specs.Tables.{records_of};
+ghost use Rattle.table_frames.specs.Tables.{AreWholeFrames};
+ghost use Rattle.stage_model.specs.declared.section.Section.{Section as AnySection};
+ghost use Rattle.stage_model.specs.Doing.{after};
+ghost use Rattle.stage_model.specs.Noded.{IsNoded};
+ghost use Rattle.sparse_sections.specs.Present.{present, IsWholeNoded, AreSections};
+ghost use Rattle.sparse_sections.specs.Roots.{roots};
+
+/// A law: behind the stage of nodes the records of memory are its runs and say of each byte what the items say; each list of
+/// its runs is of whole frames, and below 64 TiB of records in which sections are found.
+pub fn noded_memory_is_whole()
+    ensures runs { (limit : ℕ) (items : List AnyItem) → limit ≤ 2 ^ 64 → IsNoded limit (memory_of items) →
+        IsRunsOf (memory_of items) (records_of which.Memory items) }
+    ensures told { (limit : ℕ) (items : List AnyItem) → limit ≤ 2 ^ 64 → IsNoded limit (memory_of items) →
+        value_at (records_of which.Memory items) ≡ memory_of items }
+    ensures frames { (limit : ℕ) (f : Labels) (rs : List (RunOf Label)) → IsRunsOf f rs → IsNoded limit f → AreWholeFrames rs }
+    ensures records { (f : Labels) (rs : List (RunOf Label)) → IsRunsOf f rs → IsNoded (2 ^ 46) f → All IsWholeNoded rs }
+{}
+
+/// A law: the sections with memory ascend within 64 TiB, and behind the stage of nodes each has a node.
+pub fn present_sections_ascend()
+    ensures ascend { (f : Labels) → AreSections (present f) }
+    ensures nodes { (limit : ℕ) (f : Labels) → IsNoded limit f → All (λ s. s.node < 1024) (present f) }
+{}
+
+/// A law: the places of roots leave memory and the limit as they are, whether each finds one or not.
+pub fn sections_leave_memory()
+    ensures memory { (sections : List AnySection) (items : List AnyItem) →
+        memory_of (after items (roots sections items)) ≡ memory_of items }
+    ensures limit { (sections : List AnySection) (items : List AnyItem) →
+        limit_of (after items (roots sections items)) ≡ limit_of items }
+{}

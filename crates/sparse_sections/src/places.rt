@@ -1,0 +1,118 @@
+//! The allocations of the table of roots and of each root.
+
+ghost use Rattle.std.specs.Prelude.{◌≡◌, ℕ, None, [], List};
+ghost use Rattle.growth_model.specs.Sound.{HasBegun};
+ghost use Rattle.stage_model.specs.declared.stop.StageStop.TheVariants as stops;
+ghost use Rattle.stage_model.specs.Doing.{EndsAs, in_turn, ok_as};
+ghost use Rattle.stage_calls.specs.Lent.{GoesOn};
+ghost use Rattle.sparse_sections.specs.Roots.{root_of, is_root, firsts_behind, small_request, root_placed, roots, roots_view};
+
+use crate::roots::{RootPlace, Roots};
+use boot_journal::Owner;
+use growth_model::Request;
+use memblock_grow::Memblock;
+use stage_calls::{place, stand_still};
+use stage_model::{Section, StageStop, What};
+use std::alloc::Global;
+
+/// The bytes of the table of roots: one pointer a root.
+const ROOT_TABLE_SIZE: u64 = 16384;
+
+/// The bytes of a root: a page.
+const ROOT_SIZE: u64 = 4096;
+
+/// The sections of which a root has entries (`SECTIONS_PER_ROOT`).
+const SECTIONS_PER_ROOT: u32 = 256;
+
+/// So many bytes at a cache line, on the node if there is room.
+fn small_request(size: u64, node: Option<u32>) -> Request
+    ensures { result ≡ small_request size node }
+{
+    Request {
+        size,
+        align: 64,
+        min: 0,
+        max: None,
+        node,
+        exact: false,
+    }
+}
+
+/// The number of the section's root.
+fn root_of(section: &Section) -> u32
+    ensures { result ≡ root_of section.now }
+{
+    section.number / SECTIONS_PER_ROOT
+}
+
+/// Whether the last root that was placed, if there is one, is that one.
+fn is_root(last: Option<u32>, root: u32) -> bool
+    ensures { result ≡ is_root last root }
+{
+    match last {
+        Some(number) => number == root,
+        None => false,
+    }
+}
+
+/// Finds a place for the section's root, and appends it.
+fn place_root(
+    memblock: &mut Memblock,
+    roots: &mut Vec<RootPlace>,
+    section: &Section,
+) -> Result<(), StageStop>
+    requires { HasBegun memblock.old.journal.items }
+    ensures ends { EndsAs stops.Memory (ok_as (λ _. roots.new.items) result) memblock.old.journal.items memblock.new.journal.items
+        (root_placed roots.old.items section.now memblock.old.journal.items) }
+    ensures lent { GoesOn memblock.old memblock.new }
+{
+    let number = root_of(section);
+    let request = small_request(ROOT_SIZE, Some(section.node));
+    let at = place(memblock, What::Root(number), &request, Owner::Root(number))?;
+    match roots.push(RootPlace { number, place: at }) {
+        Ok(()) => Ok(()),
+        Err(_) => Err(StageStop::Memory),
+    }
+}
+
+/// Finds a place for the root of each section, once for those that have it in common.
+fn place_each_root(
+    alloc: Global,
+    memblock: &mut Memblock,
+    sections: &[Section],
+) -> Result<Vec<RootPlace>, StageStop>
+    requires { HasBegun memblock.old.journal.items }
+    ensures ends { EndsAs stops.Memory (ok_as (λ roots. roots.items) result) memblock.old.journal.items memblock.new.journal.items
+        (in_turn root_placed [] (firsts_behind None sections.now) memblock.old.journal.items) }
+    ensures lent { GoesOn memblock.old memblock.new }
+{
+    stand_still(memblock);
+    let mut roots = Vec::new(alloc);
+    let mut last = None;
+    for section in sections {
+        let root = root_of(section);
+        if !is_root(last, root) {
+            place_root(memblock, &mut roots, section)?;
+            last = Some(root);
+        }
+    }
+    Ok(roots)
+}
+
+/// Finds places for the table of roots and for the root of each section: 16 KiB and then a page each, on the node of the
+/// root's first section if there is room (`memory_present`, `sparse_index_alloc`). The sections ascend.
+pub fn place_roots(
+    alloc: Global,
+    memblock: &mut Memblock,
+    sections: &[Section],
+) -> Result<Roots, StageStop>
+    requires { HasBegun memblock.old.journal.items }
+    ensures ends { EndsAs stops.Memory (ok_as roots_view result) memblock.old.journal.items memblock.new.journal.items
+        (roots sections.now memblock.old.journal.items) }
+    ensures lent { GoesOn memblock.old memblock.new }
+{
+    let request = small_request(ROOT_TABLE_SIZE, None);
+    let table = place(memblock, What::Roots, &request, Owner::Roots)?;
+    let roots = place_each_root(alloc, memblock, sections)?;
+    Ok(Roots { table, roots })
+}

@@ -1,0 +1,14 @@
+-- The tables that are looked at are those of the items.
+use Rattle.std.proofs.Common.{sym, ◌∙◌, ap, subst}
+use Rattle.phys_store.specs.Bytes.{byte_of}
+use Rattle.memblock_ranges.specs.Tables.{Contents}
+use Rattle.growth_model.specs.Bytes.{AreSpelled}
+use Rattle.stage_calls.proofs.LentLaws.{goes-none}
+use Rattle.stage_calls.proofs.calls.stand_still.Goals as goal
+
+pub returns : goal.returns
+returns c =
+    let same = c.tables-tables.ensures.tables in
+    goes-none c.args.memblock.now (ap (λ (t : Contents). t.memory) (sym same) ∙ c.tables-tables.ensures.memory)
+    (ap (λ (t : Contents). t.reserved) (sym same) ∙ c.tables-tables.ensures.reserved)
+    (subst (λ (t : Contents). AreSpelled t.memory t.reserved (byte_of t.store)) same c.tables-tables.ensures.bytes)
