@@ -1,0 +1,5 @@
+pub mod TotalLaws
+pub mod PlaceLaws
+pub mod ReservedLaws
+pub mod QuietLaws
+mod Examples

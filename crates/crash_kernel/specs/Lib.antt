@@ -1,0 +1,4 @@
+pub mod Total
+pub mod Area
+pub mod Places
+pub mod Reserved
