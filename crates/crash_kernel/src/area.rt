@@ -32,7 +32,7 @@ pub fn area_for(total: u64, option: &CrashOption) -> Option<Area>
     ensures area { result ≡ area_for total (crash_view option.now) }
     ensures some { IfSome result (λ area. 0 < area.size) }
 {
-    plain_area(total, &option.plain).or(high_area(option.high))
+    plain_area(total, &option.plain).or_else(|| high_area(option.high))
 }
 
 /// What the plain form asks for: the size of the first range that holds the total.

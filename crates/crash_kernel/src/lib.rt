@@ -19,6 +19,8 @@ mod crash;
 mod laws;
 mod places;
 mod stage;
+#[cfg(test)]
+mod tests;
 mod total;
 
 pub use crash::Crash;

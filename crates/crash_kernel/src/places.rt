@@ -35,7 +35,7 @@ pub fn main_range(memblock: &Memblock, area: &Area) -> Option<Range>
     let size = area.size;
     match area.spot {
         Spot::Fixed(base) => fixed_range(memblock, base, size),
-        Spot::Automatic => best_range(memblock, size, ALIGN, LOW_END).or(best_range(
+        Spot::Automatic => best_range(memblock, size, ALIGN, LOW_END).or_else(|| best_range(
             memblock, size, ALIGN, HIGH_END,
         )),
         Spot::High => best_range(memblock, size, ALIGN, HIGH_END),
