@@ -1,5 +1,4 @@
--- Where the crash area and its low part may lie (`reserve_crashkernel`, `reserve_crashkernel_low`). The order in which places are tried is
--- this project's own.
+-- Where the crash area and its low part may lie (`reserve_crashkernel`, `reserve_crashkernel_low`).
 use Rattle.std.specs.Prelude.{ℕ, ◌+◌, ◌%◌, ◌^◌, ◌==◌, Bool, ◌&&◌, nat_le, nat_lt, if◌then◌else◌, Option, Some, None, List, unwrap_or}
 use Rattle.std.specs.Option.{option_map, option_or}
 use Rattle.bm_base.specs.Extent.{Extent}
@@ -43,7 +42,7 @@ unplaced (spot.Fixed base) = crash.InUse
 unplaced spot.Automatic = crash.NoArea
 unplaced spot.High = crash.NoArea
 
--- the size of the low part: 256 MiB where the line doesn't say (`DEFAULT_CRASH_KERNEL_LOW_SIZE`)
+-- the size of the low part: 256 MiB where the line doesn't say
 abbrev pub low_size : Asked → ℕ
 low_size asked = unwrap_or asked.low 0x10000000
 

@@ -8,6 +8,7 @@
 //! - `specs/Area.antt`: the size that is asked for by that, and in which form.
 //! - `specs/Places.antt`: where the area and its low part may lie.
 //! - `specs/Reserved.antt`: the stage as steps, one after another.
+//! - `specs/Told.antt`: what an area tells that is answered ([`areas_were_free`]).
 //!
 //! [`reserve`] carries the steps out on memblock and answers a [`Crash`]. It never stops a boot by itself: only a table
 //! that has to grow for a claim and finds no place does, and want of the program's own memory. Memory and the limit stay
@@ -24,5 +25,5 @@ mod tests;
 mod total;
 
 pub use crash::Crash;
-pub use laws::crash_area_leaves_memory;
+pub use laws::{areas_were_free, crash_area_leaves_memory};
 pub use stage::reserve;

@@ -18,7 +18,7 @@ use growth_model::Refusal;
 use memblock_grow::Memblock;
 use memblock_model::Owner;
 
-/// The size of the low part where the line doesn't say, 256 MiB (`DEFAULT_CRASH_KERNEL_LOW_SIZE`).
+/// The size of the low part where the line doesn't say, 256 MiB (`reserve_crashkernel_low`).
 const DEFAULT_LOW: u64 = 1 << 28;
 
 /// Reserves the crash area that the line asks for (`reserve_crashkernel`), and answers what came of it. `NoGapForTable`

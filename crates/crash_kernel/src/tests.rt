@@ -4,7 +4,7 @@
 ghost use Rattle.std.specs.Prelude.{◌≡◌, ◌+◌, ◌^◌, ◌<◌, IsTrue};
 ghost use Rattle.growth_model.specs.Sound.{IsImage, HasBegun};
 
-use crate::{Crash, crash_area_leaves_memory, reserve};
+use crate::{Crash, reserve};
 use bm_base::Range;
 use boot_options::read_options;
 use growth_model::Refusal;
@@ -231,6 +231,5 @@ fn low_parts(rt: HostRuntime) -> Result<(), Fail> {
     };
     assert_eq!(rt; crash, Crash::LowFailed);
     assert_eq!(rt; last, Some(free));
-    crash_area_leaves_memory();
     Ok(())
 }
