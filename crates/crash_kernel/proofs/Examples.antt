@@ -1,0 +1,161 @@
+-- Worked examples: how much memory there is, what is asked for by that, where it may lie, and what comes of it.
+use Rattle.std.proofs.Common.{◌≡◌, ℕ, true, false, Option, Some, None, List, [], ◌∷◌, Ok, refl, inl, inr, arith, ◌∙◌}
+use Rattle.std.proofs.lemmas.Bool.{cases_Bool}
+use Rattle.bm_base.specs.Extent.{Extent}
+use Rattle.bm_base.specs.Each.{each_from, each_in}
+use Rattle.address_runs.specs.Runs.{RunOf, value_at}
+use Rattle.memblock_model.specs.declared.item.Item.{Item}
+use Rattle.memblock_model.specs.declared.item.Item.TheVariants as item
+use Rattle.memblock_model.specs.declared.owner.Owner.TheVariants as owner
+use Rattle.memblock_model.specs.Labels.{Label, plain_label, with_node}
+use Rattle.memblock_model.specs.Search.{fits, fits_in}
+use Rattle.boot_options.specs.declared.crash.CrashRange.{CrashRange}
+use Rattle.boot_options.specs.Crash.{Crash as Asked, PlainForm, no_crash, one_range}
+use Rattle.stage_model.specs.Doing.{returns}
+use Rattle.crash_kernel.specs.declared.area.Area.{Area}
+use Rattle.crash_kernel.specs.declared.area.Spot.TheVariants as spot
+use Rattle.crash_kernel.specs.declared.crash.Crash.TheVariants as crash
+use Rattle.crash_kernel.specs.Total.{memory_bytes}
+use Rattle.crash_kernel.specs.Area.{area_for, high_area, is_in, plain_area, size_for, sized, spot_for}
+use Rattle.crash_kernel.specs.Places.{area_query, fixed_range, low_size, main_range, needs_low, unplaced}
+use Rattle.crash_kernel.specs.Reserved.{reserved, with_area, with_main}
+use Rattle.crash_kernel.proofs.TotalLaws.{runs-bytes}
+
+-- 640 KiB less a page and, of two nodes, 1 MiB and 2 bytes: not rounded
+abbrev two_nodes : List (RunOf Label)
+two_nodes = record { base = 0x1000; size = 0x9F000; value = plain_label }
+    ∷ (record { base = 0x100000; size = 0x80000; value = with_node (Some 0) plain_label }
+    ∷ (record { base = 0x180000; size = 0x80002; value = with_node (Some 1) plain_label }
+    ∷ []))
+
+-- a range holds its start, and not its end
+abbrev middle : CrashRange
+middle = record { start = 0x10000000; end = Some 0x20000000; size = 0x1000000 }
+
+abbrev open_range : CrashRange
+open_range = record { start = 0x20000000; end = None; size = 0x4000000 }
+
+below_start : is_in 0xFFFFFFF middle ≡ false
+below_start = refl
+
+at_start : is_in 0x10000000 middle ≡ true
+at_start = refl
+
+last_of_range : is_in 0x1FFFFFFF middle ≡ true
+last_of_range = refl
+
+at_end : is_in 0x20000000 middle ≡ false
+at_end = refl
+
+without_end : is_in 0xFFFFFFFFFFFF open_range ≡ true
+without_end = refl
+
+-- the first range that holds the total counts, and where none does nothing is asked for
+first_counts : size_for 0x18000000 (middle ∷ (record { start = 0; end = None; size = 7 } ∷ [])) ≡ 0x1000000
+first_counts = refl
+
+second_counts : size_for 0x20000000 (middle ∷ (open_range ∷ [])) ≡ 0x4000000
+second_counts = refl
+
+none_counts : size_for 0x1000 (middle ∷ (open_range ∷ [])) ≡ 0
+none_counts = refl
+
+-- a base of 0 leaves the place free
+free_place : spot_for 0 ≡ spot.Automatic
+free_place = refl
+
+fixed_place : spot_for 0x2000000 ≡ spot.Fixed 0x2000000
+fixed_place = refl
+
+-- the plain form goes before the high one, unless it comes to no byte
+abbrev both_forms : Asked
+both_forms = record { plain = Some (one_range 0x4000000 0); high = Some 0x8000000; low = None }
+
+plain_first : area_for 0x40000000 both_forms ≡ Some (record { size = 0x4000000; spot = spot.Automatic })
+unfolding area_for
+plain_first = refl
+
+plain_of_none : area_for 0x40000000 (record both_forms { plain = Some (one_range 0 0x2000000) })
+    ≡ Some (record { size = 0x8000000; spot = spot.High })
+unfolding area_for
+plain_of_none = refl
+
+no_range_holds : area_for 0x1000 (record both_forms { plain = Some (record { ranges = middle ∷ []; base = 0 }) })
+    ≡ Some (record { size = 0x8000000; spot = spot.High })
+unfolding area_for
+no_range_holds = refl
+
+high_of_none : area_for 0x40000000 (record { plain = None; high = Some 0; low = Some 0x1000 }) ≡ None
+unfolding area_for
+high_of_none = refl
+
+-- two bytes at 1 MiB, where three are memory: they fit there, and no other way
+abbrev three : List Item
+three = item.Mem (record { base = 0x100000; size = 3 }) ∷ []
+
+abbrev claimed_one : List Item
+claimed_one = item.Mem (record { base = 0x100000; size = 3 }) ∷ (item.Claim (record { base = 0x100001; size = 1 }) owner.Initrd ∷ [])
+
+fits_there : fixed_range 0x100000 2 three ≡ Some (record { base = 0x100000; size = 2 })
+unfolding fits fits_in each_in each_from
+fits_there = refl
+
+too_long : fixed_range 0x100000 4 three ≡ None
+unfolding fits fits_in each_in each_from
+too_long = refl
+
+is_claimed : fixed_range 0x100000 2 claimed_one ≡ None
+unfolding fits fits_in each_in each_from
+is_claimed = refl
+
+-- memory that is no multiple of 1 MiB, and a range that passes the end of addresses
+no_multiple : fixed_range 0x100001 2 three ≡ None
+unfolding fits fits_in each_in each_from
+no_multiple = refl
+
+past_the_end : fixed_range 0xFFFFFFFFFFF00000 0x100000 three ≡ None
+unfolding fits fits_in each_in each_from
+past_the_end = refl
+
+-- two nodes aren't one range
+abbrev noded_bytes : List Item
+noded_bytes = item.Mem (record { base = 0x100000; size = 3 }) ∷ (item.Node (record { base = 0x100001; size = 2 }) 1 ∷ [])
+
+of_two_nodes : fixed_range 0x100000 2 noded_bytes ≡ None
+unfolding fits fits_in each_in each_from
+of_two_nodes = refl
+
+asked_there : main_range 2 (spot.Fixed 0x100000) three ≡ Some (record { base = 0x100000; size = 2 })
+unfolding main_range fits fits_in each_in each_from
+asked_there = refl
+
+-- what comes of an area without a place
+in_use : with_main (record { size = 2; spot = spot.Fixed 0x100000 }) 0x10000000 None three ≡ returns crash.InUse three
+in_use = refl
+
+no_area : with_main (record { size = 2; spot = spot.Automatic }) 0x10000000 None three ≡ returns crash.NoArea three
+no_area = refl
+
+no_high_area : unplaced spot.High ≡ crash.NoArea
+no_high_area = refl
+
+-- a low part is needed from 4 GiB on, of 256 MiB where the line doesn't say, and not where it says none
+right_below : needs_low (record { base = 0xFF000000; size = 0x2000000 }) 0x10000000 ≡ false
+right_below = refl
+
+right_at : needs_low (record { base = 0x100000000; size = 0x2000000 }) 1 ≡ true
+right_at = refl
+
+of_no_byte : needs_low (record { base = 0x100000000; size = 0x2000000 }) 0 ≡ false
+of_no_byte = refl
+
+low_unsaid : low_size no_crash ≡ 0x10000000
+low_unsaid = refl
+
+low_said : low_size (record no_crash { low = Some 0 }) ≡ 0
+low_said = refl
+
+-- nothing is asked for: nothing is done, whatever happened before
+nothing_asked : (items : List Item) → reserved no_crash items ≡ returns crash.Nothing items
+unfolding reserved area_for
+nothing_asked items = refl

@@ -1,0 +1,65 @@
+-- Places that a search found: they end within the window, meet neither table, and one of exactly its range is its base.
+use Rattle.std.proofs.Common.{◌≡◌, ℕ, ◌+◌, ◌%◌, ◌^◌, ◌<◌, ◌≤◌, ◌==◌, Bool, true, false, ◌&&◌, nat_lt, if◌then◌else◌, Option, Some, None, List, refl, sym, ◌∙◌, ap, subst, arith}
+use Rattle.std.proofs.lemmas.Bool.{true≢false}
+use Rattle.std.proofs.lemmas.Bool.Decides.{nat_tests}
+use Rattle.bm_base.specs.Extent.{Extent}
+use Rattle.memblock_model.specs.declared.which.Which.TheVariants as which
+use Rattle.memblock_model.specs.declared.query.Query.{Query}
+use Rattle.memblock_model.specs.declared.item.Item.{Item}
+use Rattle.memblock_model.specs.Tables.{table_of}
+use Rattle.memblock_model.specs.Search.{best, fits}
+use Rattle.memblock_model.proofs.SearchLaws.{best_in-is, best_in-none}
+use Rattle.growth_model.specs.Sound.{Placed, IsAway}
+use Rattle.growth_model.proofs.FoundLaws.{found-fits, found-away}
+use Rattle.crash_kernel.specs.Places.{area_query, fixed_range}
+
+pub best-within : (items : List Item) (q : Query) (place : ℕ) → best items q ≡ Some place → place + q.size ≤ q.hi
+best-within items q place found = (found-fits items q place found).high
+
+best_fits : (items : List Item) (q : Query) (place : ℕ) → best items q ≡ Some place → fits items q place ≡ true
+unfolding best fits
+best_fits items q place found = (best_in-is (table_of which.Memory items) (table_of which.Reserved items) q place found).passes
+
+best_none : (items : List Item) (q : Query) → best items q ≡ None → (place : ℕ) → place < 2 ^ 64 → fits items q place ≡ false
+unfolding best fits
+best_none items q none place lt = best_in-none (table_of which.Memory items) (table_of which.Reserved items) q none place lt
+
+-- a search of exactly a range finds its base, or the range doesn't fit
+exact_base : (items : List Item) (size base place : ℕ) → best items (area_query size 1 base (base + size)) ≡ Some place → place ≡ base
+exact_base items size base place found =
+    let known = found-fits items (area_query size 1 base (base + size)) place found in
+    let low : base ≤ place = known.low in
+    let high : place + size ≤ base + size = known.high in
+    omega arith
+
+pub exact-fits : (items : List Item) (size base place : ℕ) → best items (area_query size 1 base (base + size)) ≡ Some place
+    → fits items (area_query size 1 base (base + size)) base ≡ true
+exact-fits items size base place found =
+    subst (λ (p : ℕ). fits items (area_query size 1 base (base + size)) p ≡ true) (exact_base items size base place found)
+    (best_fits items (area_query size 1 base (base + size)) place found)
+
+pub exact-away : (kernel : Extent) (items : List Item) (size base place : ℕ) → Placed kernel items
+    → best items (area_query size 1 base (base + size)) ≡ Some place → IsAway kernel (record { base = base; size = size }) items
+exact-away kernel items size base place placed found =
+    subst (λ (p : ℕ). IsAway kernel (record { base = p; size = size }) items) (exact_base items size base place found)
+    (found-away kernel items (area_query size 1 base (base + size)) place placed found)
+
+pub exact-fails : (items : List Item) (size base : ℕ) → base + size < 2 ^ 64 → best items (area_query size 1 base (base + size)) ≡ None
+    → fits items (area_query size 1 base (base + size)) base ≡ false
+exact-fails items size base small none = best_none items (area_query size 1 base (base + size)) none base (omega arith)
+
+-- what comes of a place that is asked for, by that search
+pub fixed-found : (items : List Item) (size base place : ℕ) → base % 0x100000 ≡ 0 → base + size < 2 ^ 64
+    → best items (area_query size 1 base (base + size)) ≡ Some place
+    → fixed_range base size items ≡ Some (record { base = base; size = size })
+fixed-found items size base place aligned small found =
+    let one : (base % 0x100000 == 0) ≡ true = grind (arith, nat_tests) in
+    let two : nat_lt (base + size) (2 ^ 64) ≡ true = grind (arith, nat_tests) in
+    rw (one, two, exact-fits items size base place found) refl
+
+pub fixed-fails : (items : List Item) (size base : ℕ) → base % 0x100000 ≡ 0 → base + size < 2 ^ 64
+    → best items (area_query size 1 base (base + size)) ≡ None → fixed_range base size items ≡ None
+fixed-fails items size base aligned small none =
+    let one : (base % 0x100000 == 0) ≡ true = grind (arith, nat_tests) in
+    let two : nat_lt (base + size) (2 ^ 64) ≡ true = grind (arith, nat_tests) in
+    rw (one, two, exact-fails items size base small none) refl

@@ -1,0 +1,59 @@
+-- The stage writes no item of memory, whatever it answers.
+use Rattle.std.proofs.Common.{◌≡◌, ℕ, Bool, true, false, if◌then◌else◌, Option, Some, None, refl, inl, inr}
+use Rattle.std.proofs.lemmas.Bool.{cases_Bool}
+use Rattle.bm_base.specs.Extent.{Extent}
+use Rattle.memblock_model.specs.declared.owner.Owner.TheVariants as owner
+use Rattle.memblock_model.specs.Items.{memory_of}
+use Rattle.growth_model.specs.declared.refusal.Refusal.{Refusal}
+use Rattle.growth_model.specs.Growth.{claimed, freed}
+use Rattle.growth_model.proofs.QuietLaws.{claimed-quiet, freed-quiet}
+use Rattle.stage_model.specs.Doing.{Doing, returns, seen}
+use Rattle.stage_model.specs.Requests.{changes}
+use Rattle.stage_model.specs.Quiet.{IsQuietStep}
+use Rattle.stage_model.proofs.QuietLaws.{quiet-bind, quiet-changes, quiet-returns, quiet-seen}
+use Rattle.boot_options.specs.Crash.{Crash as Asked}
+use Rattle.crash_kernel.specs.declared.area.Area.{Area}
+use Rattle.crash_kernel.specs.declared.crash.Crash.{Crash}
+use Rattle.crash_kernel.specs.declared.crash.Crash.TheVariants as crash
+use Rattle.crash_kernel.specs.Total.{memory_bytes}
+use Rattle.crash_kernel.specs.Area.{area_for}
+use Rattle.crash_kernel.specs.Places.{low_range, low_size, main_range, needs_low, unplaced}
+use Rattle.crash_kernel.specs.Reserved.{low_part, reserved, with_area, with_low, with_main}
+
+quiet_if : (b : Bool) (f g : Doing Refusal Crash) → IsQuietStep f → IsQuietStep g → IsQuietStep (if b then f else g)
+quiet_if true f g first second = first
+quiet_if false f g first second = second
+
+quiet_with_low : (main : Extent) (low : Option Extent) → IsQuietStep (with_low main low)
+quiet_with_low main None =
+    quiet-bind (changes (freed main)) (λ done. returns crash.LowFailed) (quiet-changes (freed main) (freed-quiet main))
+    (λ done. quiet-returns crash.LowFailed)
+quiet_with_low main (Some low) =
+    quiet-bind (changes (claimed low owner.CrashLow)) (λ done. returns (crash.At main (Some low)))
+    (quiet-changes (claimed low owner.CrashLow) (claimed-quiet low owner.CrashLow)) (λ done. quiet-returns (crash.At main (Some low)))
+
+quiet_low_part : (main : Extent) (size : ℕ) → IsQuietStep (low_part main size)
+unfolding low_part
+quiet_low_part main size =
+    quiet-bind (seen (low_range size)) (λ low. with_low main low) (quiet-seen (low_range size)) (λ low. quiet_with_low main low)
+
+quiet_with_main : (area : Area) (low : ℕ) (main : Option Extent) → IsQuietStep (with_main area low main)
+quiet_with_main area low None = quiet-returns (unplaced area.spot)
+quiet_with_main area low (Some main) =
+    quiet-bind (changes (claimed main owner.Crash))
+    (λ done. if needs_low main low then low_part main low else returns (crash.At main None))
+    (quiet-changes (claimed main owner.Crash) (claimed-quiet main owner.Crash))
+    (λ done. quiet_if (needs_low main low) (low_part main low) (returns (crash.At main None)) (quiet_low_part main low)
+    (quiet-returns (crash.At main None)))
+
+quiet_with_area : (low : ℕ) (area : Option Area) → IsQuietStep (with_area low area)
+quiet_with_area low None = quiet-returns crash.Nothing
+quiet_with_area low (Some area) =
+    quiet-bind (seen (main_range area.size area.spot)) (λ main. with_main area low main) (quiet-seen (main_range area.size area.spot))
+    (λ main. quiet_with_main area low main)
+
+pub quiet-reserved : (asked : Asked) → IsQuietStep (reserved asked)
+unfolding reserved
+quiet-reserved asked =
+    quiet-bind (seen (λ items. memory_bytes (memory_of items))) (λ total. with_area (low_size asked) (area_for total asked))
+    (quiet-seen (λ items. memory_bytes (memory_of items))) (λ total. quiet_with_area (low_size asked) (area_for total asked))

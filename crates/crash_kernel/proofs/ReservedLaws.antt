@@ -1,0 +1,108 @@
+-- The stage step by step: how its parts end by the ends of what they carry out, and that the area meets no table once it is claimed.
+use Rattle.std.proofs.Common.{◌≡◌, ◌≢◌, ℕ, Bool, if◌then◌else◌, Option, Some, None, List, [], ◌∷◌, ◌++◌, Result, Ok, Err, refl, sym, ◌∙◌, ap, subst}
+use Rattle.bm_base.specs.Extent.{Extent}
+use Rattle.memblock_model.specs.declared.which.Which.TheVariants as which
+use Rattle.memblock_model.specs.declared.owner.Owner.{Owner}
+use Rattle.memblock_model.specs.declared.owner.Owner.TheVariants as owner
+use Rattle.memblock_model.specs.declared.item.Item.{Item}
+use Rattle.memblock_model.specs.declared.item.Item.TheVariants as item
+use Rattle.memblock_model.specs.Items.{memory_of}
+use Rattle.memblock_model.specs.Tables.{live}
+use Rattle.growth_model.specs.declared.refusal.Refusal.{Refusal}
+use Rattle.growth_model.specs.declared.refusal.Refusal.TheVariants as refusal
+use Rattle.growth_model.specs.Outcome.{Change}
+use Rattle.growth_model.specs.Growth.{claimed, freed, new_in}
+use Rattle.growth_model.specs.Ends.{Ends}
+use Rattle.growth_model.specs.Sound.{Clear, Placed, IsAway}
+use Rattle.growth_model.proofs.PlacedLaws.{live-same, moves-of, rooms-of, away-still}
+use Rattle.growth_model.proofs.PlacedReservedLaws.{roomy, room-going, claimed-after}
+use Rattle.stage_model.specs.Doing.{Doing, Done, ◌>>=◌, returns, EndsAs}
+use Rattle.stage_model.specs.Requests.{changes}
+use Rattle.stage_model.proofs.DoingLaws.{ends-second, ends-first, ends-returns}
+use Rattle.stage_model.proofs.RequestLaws.{ends-change}
+use Rattle.boot_options.specs.Crash.{Crash as Asked}
+use Rattle.crash_kernel.specs.declared.area.Area.{Area}
+use Rattle.crash_kernel.specs.declared.crash.Crash.{Crash}
+use Rattle.crash_kernel.specs.declared.crash.Crash.TheVariants as crash
+use Rattle.crash_kernel.specs.Total.{memory_bytes}
+use Rattle.crash_kernel.specs.Area.{area_for}
+use Rattle.crash_kernel.specs.Places.{low_range, low_size, main_range, needs_low}
+use Rattle.crash_kernel.specs.Reserved.{low_part, reserved, with_area, with_low, with_main}
+
+-- a change and an answer behind it, and a change that was refused
+pub change-then : (a : Crash) (old new : List Item) (change : Change) → Ends {T = Unit {0}} (Ok tt) old new change
+    → EndsAs refusal.Memory (Ok a) old new ((changes change >>= λ done. returns a) old)
+change-then a old new change h =
+    ends-second tt (Ok a) refusal.Memory old new new (changes change) (λ done. returns a) (ends-change (Ok tt) old new change h)
+    (ends-returns a refusal.Memory new)
+
+pub change-fails : (e : Refusal) (old new : List Item) (change : Change) (next : Unit {0} → Doing Refusal Crash)
+    → Ends {T = Unit {0}} (Err e) old new change → EndsAs {A = Crash} refusal.Memory (Err e) old new ((changes change >>= next) old)
+change-fails e old new change next h = ends-first e refusal.Memory old new (changes change) next (ends-change (Err e) old new change h)
+
+-- a refusal that is passed on
+pub exits : (r : Result Crash Refusal) (y e : Refusal) (old new : List Item) (d : Done Refusal Crash) → r ≡ Err y → y ≡ e
+    → EndsAs refusal.Memory (Err e) old new d → EndsAs refusal.Memory r old new d
+exits r y e old new d is same h =
+    subst (λ (t : Result Crash Refusal). EndsAs refusal.Memory t old new d) (sym (is ∙ ap (λ (x : Refusal). Err x) same)) h
+
+-- a change looks for no gap
+pub never-gap : (e : Refusal) (old new : List Item) (change : Change) → Ends {T = Unit {0}} (Err e) old new change → e ≢ refusal.NoGap
+never-gap refusal.NoGap old new change h = absurd h
+never-gap (refusal.NoGapForTable w room) old new change h = λ is. cc
+never-gap refusal.Memory old new change h = λ is. cc
+
+-- the low part, by the place that was found
+pub low-by : (r : Result Crash Refusal) (old new : List Item) (main : Extent) (size : ℕ) (low : Option Extent) → low ≡ low_range size old
+    → EndsAs refusal.Memory r old new (with_low main low old) → EndsAs refusal.Memory r old new (low_part main size old)
+unfolding low_part
+low-by r old new main size low found h = subst (λ (o : Option Extent). EndsAs refusal.Memory r old new (with_low main o old)) found h
+
+-- the stage, by the total, the size of a low part, the area and the place that was found
+pub reserved-by : (r : Result Crash Refusal) (old new : List Item) (asked : Asked) (total low : ℕ) (area : Option Area)
+    → total ≡ memory_bytes (memory_of old) → low ≡ low_size asked → area ≡ area_for total asked
+    → EndsAs refusal.Memory r old new (with_area low area old) → EndsAs refusal.Memory r old new (reserved asked old)
+unfolding reserved
+reserved-by r old new asked total low area counted said is h =
+    subst (λ (n : ℕ). EndsAs refusal.Memory r old new (with_area (low_size asked) (area_for n asked) old)) counted
+    (subst (λ (n : ℕ). EndsAs refusal.Memory r old new (with_area n (area_for total asked) old)) said
+    (subst (λ (o : Option Area). EndsAs refusal.Memory r old new (with_area low o old)) is h))
+
+pub area-by : (r : Result Crash Refusal) (old new : List Item) (low : ℕ) (area : Area) (main : Option Extent)
+    → main ≡ main_range area.size area.spot old → EndsAs refusal.Memory r old new (with_main area low main old)
+    → EndsAs refusal.Memory r old new (with_area low (Some area) old)
+area-by r old new low area main found h =
+    subst (λ (o : Option Extent). EndsAs refusal.Memory r old new (with_main area low o old)) found h
+
+-- behind the claim of the area
+pub main-then : (r : Result Crash Refusal) (old mid new : List Item) (low : ℕ) (area : Area) (main : Extent) (b : Bool) → b ≡ needs_low main low
+    → Ends {T = Unit {0}} (Ok tt) old mid (claimed main owner.Crash)
+    → EndsAs refusal.Memory r mid new ((if b then low_part main low else returns (crash.At main None)) mid)
+    → EndsAs refusal.Memory r old new (with_main area low (Some main) old)
+main-then r old mid new low area main b is claim h =
+    let next : Bool → Unit {0} → Doing Refusal Crash = λ t done. if t then low_part main low else returns (crash.At main None) in
+    subst (λ (t : Bool). EndsAs refusal.Memory r old new ((changes (claimed main owner.Crash) >>= next t) old)) is
+    (ends-second tt r refusal.Memory old mid new (changes (claimed main owner.Crash)) (next b)
+    (ends-change (Ok tt) old mid (claimed main owner.Crash) claim) h)
+
+pub main-fails : (e : Refusal) (old new : List Item) (low : ℕ) (area : Area) (main : Extent)
+    → Ends {T = Unit {0}} (Err e) old new (claimed main owner.Crash)
+    → EndsAs refusal.Memory (Err e) old new (with_main area low (Some main) old)
+main-fails e old new low area main h =
+    change-fails e old new (claimed main owner.Crash) (λ done. if needs_low main low then low_part main low else returns (crash.At main None)) h
+
+-- a range that met no table meets none once it is claimed: what grew for the claim keeps beside it
+pub claimed-away : (kernel r : Extent) (items new : List Item) (who : Owner) → Placed kernel items → IsAway kernel r items
+    → Ends {T = Unit {0}} (Ok tt) items new (claimed r who) → IsAway kernel r new
+claimed-away kernel r items new who placed away ends =
+    let t : List Item = roomy r (new_in which.Reserved r) items in
+    let one : List Item = item.Claim r who ∷ [] in
+    let still : IsAway kernel r t =
+    away-still kernel r items t (room-going kernel r (new_in which.Reserved r) items placed).aside away in
+    let is : new ≡ t ++ one = ends.1 ∙ claimed-after items r who ends.0 in
+    subst (IsAway kernel r) (sym is) (
+      subst (λ (e : Extent). Clear r e) (sym (live-same which.Memory kernel t (t ++ one) (moves-of which.Memory t one)
+          (rooms-of which.Memory t one))) still.0,
+      subst (λ (e : Extent). Clear r e) (sym (live-same which.Reserved kernel t (t ++ one) (moves-of which.Reserved t one)
+          (rooms-of which.Reserved t one))) still.1,
+    )

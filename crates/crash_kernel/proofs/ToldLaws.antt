@@ -1,0 +1,215 @@
+-- An area that the stage tells was free, and it has a low part exactly where it needs one.
+use Rattle.std.proofs.Common.{◌≡◌, ◌⊎◌, inl, inr, ℕ, ◌+◌, ◌%◌, ◌^◌, ◌≤◌, ◌==◌, Bool, true, false, ◌&&◌, nat_lt, is_some, if◌then◌else◌, Option, Some, None, List, [], Result, Ok, Err, refl, sym, ◌∙◌, ap, subst, arith}
+use Rattle.std.proofs.lemmas.Bool.{and_parts, true≢false}
+use Rattle.std.proofs.lemmas.Bool.Decides.{nat_tests}
+use Rattle.std.proofs.lemmas.Option.{same_Some}
+use Rattle.std.specs.Option.{option_map, option_or}
+use Rattle.bm_base.specs.Extent.{Extent, covers, end_of}
+use Rattle.memblock_model.specs.declared.which.Which.TheVariants as which
+use Rattle.memblock_model.specs.declared.owner.Owner.{Owner}
+use Rattle.memblock_model.specs.declared.owner.Owner.TheVariants as owner
+use Rattle.memblock_model.specs.declared.query.Query.{Query}
+use Rattle.memblock_model.specs.declared.item.Item.{Item}
+use Rattle.memblock_model.specs.Items.{memory_of, owner_of}
+use Rattle.memblock_model.specs.Labels.{Label}
+use Rattle.memblock_model.specs.Tables.{table_of, without_owner}
+use Rattle.memblock_model.specs.Search.{best, fits}
+use Rattle.memblock_model.proofs.SearchLaws.{IsPlace, fits_in-parts}
+use Rattle.growth_model.specs.declared.refusal.Refusal.{Refusal}
+use Rattle.growth_model.specs.Outcome.{Refused}
+use Rattle.growth_model.specs.Growth.{claimed, freed}
+use Rattle.growth_model.specs.Sound.{Unclaimed}
+use Rattle.growth_model.proofs.FoundLaws.{found-fits}
+use Rattle.growth_model.proofs.SpotLaws.{covers-from}
+use Rattle.stage_model.specs.Doing.{Done, going_on, returns}
+use Rattle.stage_model.specs.Requests.{refusal_of}
+use Rattle.boot_options.specs.Crash.{Crash as Asked}
+use Rattle.crash_kernel.specs.declared.area.Area.{Area}
+use Rattle.crash_kernel.specs.declared.area.Spot.{Spot}
+use Rattle.crash_kernel.specs.declared.area.Spot.TheVariants as spot
+use Rattle.crash_kernel.specs.declared.crash.Crash.{Crash}
+use Rattle.crash_kernel.specs.declared.crash.Crash.TheVariants as crash
+use Rattle.crash_kernel.specs.Total.{memory_bytes}
+use Rattle.crash_kernel.specs.Area.{area_for}
+use Rattle.crash_kernel.specs.Places.{area_query, best_range, fixed_range, high_range, low_range, low_size, main_range, needs_low, unplaced}
+use Rattle.crash_kernel.specs.Reserved.{low_part, reserved, with_area, with_low, with_main}
+use Rattle.crash_kernel.specs.Told.{HasLowPart, IsArea, IsFree, IsLowPart, with_claim}
+
+-- a place that fits is free
+no_owner : (o : Option Owner) → without_owner o ≡ None → o ≡ None
+no_owner None e = refl
+no_owner (Some o) e = cc
+
+free_by : (items : List Item) (r : Extent) (o : Option Label) → is_some o ≡ true
+    → ((x : ℕ) → covers r x ≡ true → memory_of items x ≡ o) → Unclaimed (owner_of items) r → IsFree items r
+free_by items r None held each free = absurd (true≢false (sym held))
+free_by items r (Some label) held each free = record { label = label; memory = each; free = free }
+
+place_free : (items : List Item) (q : Query) (place : ℕ) → IsPlace (table_of which.Memory items) (table_of which.Reserved items) q place
+    → IsFree items (record { base = place; size = q.size })
+place_free items q place known =
+    let r : Extent = record { base = place; size = q.size } in
+    free_by items r (memory_of items place) known.held
+    (λ x at. let inside = covers-from r x at in known.label x inside.0 inside.1)
+    (λ x at. let inside = covers-from r x at in no_owner (owner_of items x) (known.free x inside.0 inside.1))
+
+-- a range that was found: free, of that size, at a multiple of 1 MiB, and it ends by the window's end
+record IsFound (items : List Item) (size hi : ℕ) (r : Extent) : Type 0 where
+  free : IsFree items r
+  sized : r.size ≡ size
+  aligned : r.base % 0x100000 ≡ 0
+  within : end_of r ≤ hi
+
+best_by : (items : List Item) (size lo hi : ℕ) (found : Option ℕ) (r : Extent) → best items (area_query size 0x1000000 lo hi) ≡ found
+    → option_map (λ (base : ℕ). let e : Extent = record { base = base; size = size } in e) found ≡ Some r → IsFound items size hi r
+best_by items size lo hi None r was is = let clash : None ≡ Some r = is in cc
+best_by items size lo hi (Some place) r was is =
+    let known = found-fits items (area_query size 0x1000000 lo hi) place was in
+    let here : Extent = record { base = place; size = size } in
+    let multiple : place % 0x1000000 ≡ 0 = known.aligned in
+    let ends : place + size ≤ hi = known.high in
+    let found : IsFound items size hi here = record {
+      free = place_free items (area_query size 0x1000000 lo hi) place known;
+      sized = refl;
+      aligned = omega arith;
+      within = ends;
+    } in
+    subst (IsFound items size hi) (same_Some here r is) found
+
+best_found : (items : List Item) (size lo hi : ℕ) (r : Extent) → best_range size lo hi items ≡ Some r → IsFound items size hi r
+best_found items size lo hi r is = best_by items size lo hi (best items (area_query size 0x1000000 lo hi)) r refl is
+
+-- the place that was asked for
+fits_free : (items : List Item) (size base : ℕ) → fits items (area_query size 1 base (base + size)) base ≡ true
+    → IsFree items (record { base = base; size = size })
+unfolding fits
+fits_free items size base h =
+    place_free items (area_query size 1 base (base + size)) base
+    (fits_in-parts (table_of which.Memory items) (table_of which.Reserved items) (area_query size 1 base (base + size)) base h)
+
+-- a main part that was found
+record IsMain (items : List Item) (size : ℕ) (r : Extent) : Type 0 where
+  free : IsFree items r
+  sized : r.size ≡ size
+  aligned : r.base % 0x100000 ≡ 0
+
+fixed_by : (items : List Item) (size base : ℕ) (multiple small fit : Bool) (r : Extent) → (base % 0x100000 == 0) ≡ multiple
+    → fits items (area_query size 1 base (base + size)) base ≡ fit
+    → (if multiple && small && fit then Some (let e : Extent = record { base = base; size = size } in e) else None) ≡ Some r
+    → IsMain items size r
+fixed_by items size base true true true r multiple fit is =
+    let here : Extent = record { base = base; size = size } in
+    let found : IsMain items size here = record {
+      free = fits_free items size base fit;
+      sized = refl;
+      aligned = grind (arith, nat_tests, multiple);
+    } in
+    subst (IsMain items size) (same_Some here r is) found
+fixed_by items size base true true false r multiple fit is = let clash : None ≡ Some r = is in cc
+fixed_by items size base true false fits_there r multiple fit is = let clash : None ≡ Some r = is in cc
+fixed_by items size base false small fits_there r multiple fit is = let clash : None ≡ Some r = is in cc
+
+or_cases : (a b : Option Extent) (r : Extent) → option_or a b ≡ Some r → (a ≡ Some r) ⊎ (b ≡ Some r)
+or_cases None b r h = inr h
+or_cases (Some x) b r h = inl h
+
+best_main : (items : List Item) (size lo hi : ℕ) (r : Extent) → best_range size lo hi items ≡ Some r → IsMain items size r
+best_main items size lo hi r is =
+    let found = best_found items size lo hi r is in
+    record { free = found.free; sized = found.sized; aligned = found.aligned }
+
+main_found : (items : List Item) (size : ℕ) (where_to : Spot) (r : Extent) → main_range size where_to items ≡ Some r → IsMain items size r
+unfolding main_range
+main_found items size (spot.Fixed base) r is =
+    fixed_by items size base (base % 0x100000 == 0) (nat_lt (base + size) (2 ^ 64))
+    (fits items (area_query size 1 base (base + size)) base) r refl refl is
+main_found items size spot.Automatic r is =
+    elim (or_cases (best_range size 0x1000000 (2 ^ 32) items) (high_range size items) r is) as (λ _. IsMain items size r) [
+      | inl low ↦ best_main items size 0x1000000 (2 ^ 32) r low
+      | inr high ↦ best_main items size 0x1000000 (2 ^ 46) r high
+    ]
+main_found items size spot.High r is = best_main items size 0x1000000 (2 ^ 46) r is
+
+-- the stage, from its answer back to what it found: a change that was refused has no area to tell
+abbrev ok : Crash → Result Crash Refusal
+ok a = Ok a
+
+change_told : (steps : List (List Item)) (r : Option Refused) (next : Unit {0} → Done Refusal Crash) (a : Crash)
+    → (going_on steps (refusal_of r) next).answer ≡ Ok a → (next tt).answer ≡ Ok a
+change_told steps None next a h = h
+change_told steps (Some r) next a h = cc
+
+-- behind the claim, by the place of the low part
+with_low_told : (asked : Asked) (items : List Item) (m main : Extent) (low found : Option Extent)
+    → low_range (low_size asked) (with_claim m items) ≡ found → needs_low m (low_size asked) ≡ true
+    → (with_low m found (with_claim m items)).answer ≡ Ok (crash.At main low) → HasLowPart asked items m low × (m ≡ main)
+unfolding low_range
+with_low_told asked items m main low None is needs h =
+    let mid = with_claim m items in
+    let told : ok crash.LowFailed ≡ Ok (crash.At main low) =
+    change_told (freed m mid).steps (freed m mid).refused (λ done. record { steps = []; answer = Ok crash.LowFailed }) (crash.At main low) h in
+    cc
+with_low_told asked items m main low (Some l) is needs h =
+    let mid = with_claim m items in
+    let told : ok (crash.At m (Some l)) ≡ Ok (crash.At main low) =
+    change_told (claimed l owner.CrashLow mid).steps (claimed l owner.CrashLow mid).refused
+    (λ done. record { steps = []; answer = Ok (crash.At m (Some l)) }) (crash.At main low) h in
+    let same : m ≡ main = cc in
+    let there : Some l ≡ low = cc in
+    let found = best_found mid (low_size asked) 0 (2 ^ 32) l is in
+    let has : HasLowPart asked items m (Some l) =
+    (needs, record { size = found.sized; free = found.free; within = found.within }) in
+    (subst (λ (o : Option Extent). HasLowPart asked items m o) there has, same)
+
+-- by whether one is needed
+needs_told : (asked : Asked) (items : List Item) (m main : Extent) (low : Option Extent) (b : Bool) → needs_low m (low_size asked) ≡ b
+    → ((if b then low_part m (low_size asked) else returns (crash.At m None)) (with_claim m items)).answer ≡ Ok (crash.At main low)
+    → HasLowPart asked items m low × (m ≡ main)
+unfolding low_part
+needs_told asked items m main low true is h =
+    with_low_told asked items m main low (low_range (low_size asked) (with_claim m items)) refl is h
+needs_told asked items m main low false is h =
+    let told : ok (crash.At m None) ≡ Ok (crash.At main low) = h in
+    let same : m ≡ main = cc in
+    let there : None ≡ low = cc in
+    (subst (λ (o : Option Extent). HasLowPart asked items m o) there is, same)
+
+-- an area without a place isn't one that is told
+unplaced_told : (s : Spot) (main : Extent) (low : Option Extent) → ok (unplaced s) ≡ Ok (crash.At main low) → ⊥
+unplaced_told (spot.Fixed base) main low h = cc
+unplaced_told spot.Automatic main low h = cc
+unplaced_told spot.High main low h = cc
+
+main_told : (asked : Asked) (items : List Item) (area : Area) (main : Extent) (low found : Option Extent)
+    → area_for (memory_bytes (memory_of items)) asked ≡ Some area → main_range area.size area.spot items ≡ found
+    → (with_main area (low_size asked) found items).answer ≡ Ok (crash.At main low) → IsArea asked items main low
+main_told asked items area main low None asks is h = absurd (unplaced_told area.spot main low h)
+main_told asked items area main low (Some m) asks is h =
+    let next : Unit {0} → Done Refusal Crash = λ done.
+    (if needs_low m (low_size asked) then low_part m (low_size asked) else returns (crash.At m None)) (with_claim m items) in
+    let claim = claimed m owner.Crash items in
+    let behind = needs_told asked items m main low (needs_low m (low_size asked)) refl
+    (change_told claim.steps claim.refused next (crash.At main low) h) in
+    let known = main_found items area.size area.spot m is in
+    let with_size : ℕ → Area = λ n. record { size = n; spot = area.spot } in
+    let area_is : IsArea asked items m low = record {
+      spot = area.spot;
+      size = asks ∙ ap (λ (n : ℕ). Some (with_size n)) (sym known.sized);
+      free = known.free;
+      aligned = known.aligned;
+      low_part = behind.0;
+    } in
+    subst (λ (t : Extent). IsArea asked items t low) behind.1 area_is
+
+area_told : (asked : Asked) (items : List Item) (main : Extent) (low : Option Extent) (area : Option Area)
+    → area_for (memory_bytes (memory_of items)) asked ≡ area
+    → (with_area (low_size asked) area items).answer ≡ Ok (crash.At main low) → IsArea asked items main low
+area_told asked items main low None asks h = let told : ok crash.Nothing ≡ Ok (crash.At main low) = h in cc
+area_told asked items main low (Some area) asks h =
+    main_told asked items area main low (main_range area.size area.spot items) asks refl h
+
+pub reserved-told : (asked : Asked) (items : List Item) (main : Extent) (low : Option Extent)
+    → (reserved asked items).answer ≡ Ok (crash.At main low) → IsArea asked items main low
+unfolding reserved
+reserved-told asked items main low h =
+    area_told asked items main low (area_for (memory_bytes (memory_of items)) asked) refl h

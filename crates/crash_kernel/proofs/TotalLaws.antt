@@ -1,0 +1,101 @@
+-- The bytes that are memory, counted record by record.
+use Rattle.std.proofs.Common.{◌≡◌, ℕ, zero, suc, ◌+◌, ◌-◌, ◌^◌, ◌<◌, ◌≤◌, Bool, true, false, ◌&&◌, ◌||◌, nat_le, nat_lt, min, is_some, Option, Some, None, List, [], ◌∷◌, length, take, get_or, refl, sym, ◌∙◌, ap, subst, inl, inr, arith}
+use Rattle.std.proofs.lemmas.Bool.{cases_Bool, cases_lt}
+use Rattle.std.proofs.lemmas.Bool.Decides.{nat_tests}
+use Rattle.address_runs.specs.Runs.{RunOf, run_end, lies_in, value_at, AreRuns}
+use Rattle.address_runs.specs.Edits.{NothingFrom}
+use Rattle.address_runs.specs.Sweep.{StartFrom}
+use Rattle.address_runs.proofs.RunsLaws.{inside, behind, none_below, rest_from}
+use Rattle.e820_model.specs.Usable.{count_below}
+use Rattle.e820_model.proofs.UsableLaws.{count_same, count_none, count_either, count_interval}
+use Rattle.memblock_model.specs.declared.which.Which.TheVariants as which
+use Rattle.memblock_model.specs.declared.item.Item.{Item}
+use Rattle.memblock_model.specs.Labels.{Label}
+use Rattle.memblock_model.specs.Items.{memory_of}
+use Rattle.memblock_model.specs.Tables.{records_of}
+use Rattle.memblock_model.proofs.TableLaws.{value_at-records}
+use Rattle.crash_kernel.specs.Total.{memory_bytes}
+
+module _ {X : Type 0} where
+  -- the sizes of all runs together
+  abbrev pub sizes : List (RunOf X) → ℕ
+  sizes [] = 0
+  sizes (r ∷ rs) = r.size + sizes rs
+
+  -- those of the runs before one come to its base at most
+  sizes_below : (at i : ℕ) (rs : List (RunOf X)) (d : RunOf X) → StartFrom at rs → AreRuns rs → i < length rs
+      → at + sizes (take i rs) ≤ (get_or rs i d).base
+  sizes_below at i [] d start runs lt = absurd (omega arith)
+  sizes_below at zero (r ∷ rs) d start runs lt = let from : at ≤ r.base = start in omega arith
+  sizes_below at (suc i) (r ∷ rs) d start runs lt =
+      let from : at ≤ r.base = start in
+      let rest : run_end r + sizes (take i rs) ≤ (get_or rs i d).base =
+      sizes_below (run_end r) i rs d (rest_from r rs runs) runs.2 (omega arith) in
+      omega arith
+
+  start_first : (rs : List (RunOf X)) → StartFrom 0 rs
+  start_first [] = tt
+  start_first (r ∷ rs) = omega arith
+
+  pub sizes-before : (i : ℕ) (rs : List (RunOf X)) (d : RunOf X) → AreRuns rs → i < length rs → sizes (take i rs) ≤ (get_or rs i d).base
+  sizes-before i rs d runs lt = let from : 0 + sizes (take i rs) ≤ (get_or rs i d).base = sizes_below 0 i rs d (start_first rs) runs lt in omega arith
+
+  -- one run more
+  pub sizes-next : (i : ℕ) (rs : List (RunOf X)) (d : RunOf X) → i < length rs
+      → sizes (take (suc i) rs) ≡ sizes (take i rs) + (get_or rs i d).size
+  sizes-next i [] d lt = absurd (omega arith)
+  sizes-next zero (r ∷ rs) d lt = omega arith
+  sizes-next (suc i) (r ∷ rs) d lt =
+      let rest : sizes (take (suc i) rs) ≡ sizes (take i rs) + (get_or rs i d).size = sizes-next i rs d (omega arith) in
+      omega arith
+
+  -- runs below an address end there at most
+  ends_by : (n : ℕ) (r : RunOf X) (rs : List (RunOf X)) → 0 < r.size → NothingFrom n (value_at (r ∷ rs)) → run_end r ≤ n
+  ends_by n r rs some none = elim (cases_lt n (run_end r)) as (λ _. run_end r ≤ n) [
+    | inl past ↦
+        let last : ℕ = run_end r - 1 in
+        let lies : lies_in r last ≡ true = inside r last (omega arith) (omega arith) in
+        let clash : Some r.value ≡ None = (let at : value_at (r ∷ rs) last ≡ None = none last (omega arith) in rw lies at at) in
+        absurd (cc clash)
+    | inr within ↦ within
+  ]
+
+  rest_by : (n : ℕ) (r : RunOf X) (rs : List (RunOf X)) → run_end r ≤ n → NothingFrom n (value_at (r ∷ rs)) → NothingFrom n (value_at rs)
+  rest_by n r rs ends none x le = rw (behind r x (omega arith)) at (none x le)
+
+  -- what lies in the first run lies in no other
+  first_alone : (r : RunOf X) (rs : List (RunOf X)) (x : ℕ) → AreRuns (r ∷ rs) → lies_in r x ≡ true → is_some (value_at rs x) ≡ false
+  first_alone r rs x runs lies =
+      let low : x < run_end r = grind (arith, nat_tests) in
+      rw (none_below (run_end r) x rs runs.2 (rest_from r rs runs) low) refl
+
+  some_either : (r : RunOf X) (rs : List (RunOf X)) (x : ℕ) → is_some (value_at (r ∷ rs) x) ≡ (lies_in r x || is_some (value_at rs x))
+  some_either r rs x =
+      elim (cases_Bool (lies_in r x)) as (λ _. is_some (value_at (r ∷ rs) x) ≡ (lies_in r x || is_some (value_at rs x)))
+      [ inl here ↦ rw here refl | inr other ↦ rw other refl ]
+
+  -- so the addresses with a value are as many as the sizes say
+  pub sizes-count : (n : ℕ) (rs : List (RunOf X)) → AreRuns rs → NothingFrom n (value_at rs)
+      → count_below (λ x. is_some (value_at rs x)) n ≡ sizes rs
+  sizes-count n [] runs none = count_none (λ x. false) n (λ i lt. refl)
+  sizes-count n (r ∷ rs) runs none =
+      let ends : run_end r ≤ n = ends_by n r rs runs.0 none in
+      let rest : count_below (λ x. is_some (value_at rs x)) n ≡ sizes rs = sizes-count n rs runs.2 (rest_by n r rs ends none) in
+      let both : count_below (λ x. is_some (value_at (r ∷ rs) x)) n ≡ count_below (λ x. lies_in r x || is_some (value_at rs x)) n =
+      count_same (λ x. is_some (value_at (r ∷ rs) x)) (λ x. lies_in r x || is_some (value_at rs x)) n (λ i lt. some_either r rs i) in
+      let either : count_below (λ x. lies_in r x || is_some (value_at rs x)) n
+      ≡ count_below (lies_in r) n + count_below (λ x. is_some (value_at rs x)) n =
+      count_either (lies_in r) (λ x. is_some (value_at rs x)) n (λ i lt lies. first_alone r rs i runs lies) in
+      let first : count_below (lies_in r) n ≡ min (run_end r) n - r.base = count_interval r.base (run_end r) n in
+      both ∙ either ∙ omega (arith, rest, first, ends)
+
+pub runs-bytes : (rs : List (RunOf Label)) → AreRuns rs → NothingFrom (2 ^ 64) (value_at rs) → memory_bytes (value_at rs) ≡ sizes rs
+unfolding memory_bytes
+runs-bytes rs runs none = sizes-count (2 ^ 64) rs runs none
+
+-- and the records of the memory table say of each address what the items say
+pub records-bytes : (items : List Item) (rs : List (RunOf Label)) → NothingFrom (2 ^ 64) (memory_of items)
+    → rs ≡ records_of which.Memory items → memory_bytes (value_at rs) ≡ memory_bytes (memory_of items)
+unfolding records_of
+records-bytes items rs none is =
+    ap (λ (t : List (RunOf Label)). memory_bytes (value_at t)) is ∙ ap memory_bytes (value_at-records (memory_of items) none)

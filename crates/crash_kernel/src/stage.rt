@@ -1,0 +1,74 @@
+//! The stage: the area is claimed, and its low part, or what was claimed is given back.
+
+ghost use Rattle.std.specs.Prelude.{◌≡◌, ◌≢◌, ◌<◌, IfErr};
+ghost use Rattle.growth_model.specs.Sound.{HasBegun, IsAway};
+ghost use Rattle.growth_model.specs.declared.refusal.Refusal.TheVariants as refusals;
+ghost use Rattle.stage_model.specs.Doing.{EndsAs};
+ghost use Rattle.stage_calls.specs.Lent.{GoesOn};
+ghost use Rattle.boot_options.specs.Crash.{crash_view};
+ghost use Rattle.crash_kernel.specs.Reserved.{low_part, reserved};
+
+use crate::area::area_for;
+use crate::crash::Crash;
+use crate::places::{low_range, main_range, needs_low, unplaced};
+use crate::total::total_memory;
+use bm_base::Range;
+use boot_options::CrashOption;
+use growth_model::Refusal;
+use memblock_grow::Memblock;
+use memblock_model::Owner;
+
+/// The size of the low part where the line doesn't say, 256 MiB (`reserve_crashkernel_low`).
+const DEFAULT_LOW: u64 = 1 << 28;
+
+/// Reserves the crash area that the line asks for (`reserve_crashkernel`), and answers what came of it. `NoGapForTable`
+/// comes where a table has to grow for a claim or a release and finds no place; what was claimed before stays then.
+pub fn reserve(memblock: &mut Memblock, option: &CrashOption) -> Result<Crash, Refusal>
+    requires begun { HasBegun memblock.old.journal.items }
+    ensures ends { EndsAs refusals.Memory result memblock.old.journal.items memblock.new.journal.items
+        (reserved (crash_view option.now) memblock.old.journal.items) }
+    ensures found { IfErr result (λ refusal. refusal ≢ refusals.NoGap) }
+    ensures lent { GoesOn memblock.old memblock.new }
+{
+    let total = total_memory(memblock.tables());
+    let Some(area) = area_for(total, option) else {
+        return Ok(Crash::Nothing);
+    };
+    let Some(main) = main_range(memblock, &area) else {
+        return Ok(unplaced(area.spot));
+    };
+    let _sound = memblock.journal();
+    memblock.claim(main, Owner::Crash)?;
+    let low = option.low.unwrap_or(DEFAULT_LOW);
+    if needs_low(&main, low) {
+        reserve_low(memblock, main, low)
+    } else {
+        Ok(Crash::At { main, low: None })
+    }
+}
+
+/// Reserves the low part beside an area that is claimed, or gives the area back (`reserve_crashkernel_low`).
+fn reserve_low(memblock: &mut Memblock, main: Range, size: u64) -> Result<Crash, Refusal>
+    requires begun { HasBegun memblock.old.journal.items }
+    requires main { 0 < main.size }
+    requires away { IsAway memblock.old.kernel main memblock.old.journal.items }
+    requires some { 0 < size }
+    ensures ends { EndsAs refusals.Memory result memblock.old.journal.items memblock.new.journal.items
+        (low_part main size memblock.old.journal.items) }
+    ensures found { IfErr result (λ refusal. refusal ≢ refusals.NoGap) }
+    ensures lent { GoesOn memblock.old memblock.new }
+{
+    match low_range(memblock, size) {
+        Some(low) => {
+            memblock.claim(low, Owner::CrashLow)?;
+            Ok(Crash::At {
+                main,
+                low: Some(low),
+            })
+        }
+        None => {
+            memblock.free(main)?;
+            Ok(Crash::LowFailed)
+        }
+    }
+}
