@@ -13,31 +13,31 @@ use Rattle.stage_model.specs.Requests.{placed}
 use Rattle.stage_model.proofs.DoingLaws.{ends-along, ends-first, ends-second}
 use Rattle.numa_nodes.specs.Assigned.{data_placed, node_data_request}
 
-pub drop-next : {X : Type 0} (xs : List X) (i : ℕ) (x : X) → i < length xs → x ≡ get_or xs i x → drop i xs ≡ x ∷ drop (i + 1) xs
-drop-next xs i x below is =
-    drop-cons xs i x below ∙ ap (λ (y : _). y ∷ drop (suc i) xs) (sym is) ∙ ap (λ (n : ℕ). x ∷ drop n xs) (sym (add-one i))
+pub drop-next : {X : Type 0} (xs : List X) (i : ℕ) (x d : X) → i < length xs → x ≡ get_or xs i d → drop i xs ≡ x ∷ drop (i + 1) xs
+drop-next xs i x d below is =
+    drop-cons xs i d below ∙ ap (λ (y : _). y ∷ drop (suc i) xs) (sym is) ∙ ap (λ (n : ℕ). x ∷ drop n xs) (sym (add-one i))
 
 module _ {X : Type 0} (step : Unit {0} → X → Doing StageStop (Unit {0})) where
   left : List X → ℕ → List Item → Done StageStop (Unit {0})
   left xs i items = in_turn step tt (drop i xs) items
 
   -- the next step answered
-  pub turn-next : (xs : List X) (i : ℕ) (x : X) (here mid : List Item) → i < length xs → x ≡ get_or xs i x
+  pub turn-next : (xs : List X) (i : ℕ) (x d : X) (here mid : List Item) → i < length xs → x ≡ get_or xs i d
       → EndsAs stop.Memory (Ok tt) here mid (step tt x here)
       → (r : Result (Unit {0}) StageStop) (new : List Item)
       → EndsAs stop.Memory r mid new (in_turn step tt (drop (i + 1) xs) mid)
       → EndsAs stop.Memory r here new (in_turn step tt (drop i xs) here)
-  turn-next xs i x here mid below is was r new rest =
-      subst (λ (ys : List X). EndsAs stop.Memory r here new (in_turn step tt ys here)) (sym (drop-next xs i x below is))
+  turn-next xs i x d here mid below is was r new rest =
+      subst (λ (ys : List X). EndsAs stop.Memory r here new (in_turn step tt ys here)) (sym (drop-next xs i x d below is))
       (ends-second tt r stop.Memory here mid new (step tt x) (λ next. in_turn step next (drop (i + 1) xs)) was rest)
 
   -- it stopped
-  pub turn-stops : (xs : List X) (i : ℕ) (x : X) (here new : List Item) (e : StageStop) → i < length xs → x ≡ get_or xs i x
+  pub turn-stops : (xs : List X) (i : ℕ) (x d : X) (here new : List Item) (e : StageStop) → i < length xs → x ≡ get_or xs i d
       → EndsAs {A = Unit {0}} stop.Memory (Err e) here new (step tt x here)
       → (r : Result (Unit {0}) StageStop) → r ≡ Err e
       → EndsAs stop.Memory r here new (in_turn step tt (drop i xs) here)
-  turn-stops xs i x here new e below is was r err =
-      subst (λ (ys : List X). EndsAs stop.Memory r here new (in_turn step tt ys here)) (sym (drop-next xs i x below is))
+  turn-stops xs i x d here new e below is was r err =
+      subst (λ (ys : List X). EndsAs stop.Memory r here new (in_turn step tt ys here)) (sym (drop-next xs i x d below is))
       (ends-along (Err e) r stop.Memory here new ((step tt x >>= λ next. in_turn step next (drop (i + 1) xs)) here) (sym err)
       (ends-first e stop.Memory here new (step tt x) (λ next. in_turn step next (drop (i + 1) xs)) was))
 
