@@ -1,2 +1,3 @@
+mod AssignLaws
 mod RecordLaws
 mod TurnLaws
