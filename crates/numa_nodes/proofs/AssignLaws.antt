@@ -11,9 +11,13 @@ use Rattle.memblock_model.specs.Items.{limit_of, memory_of}
 use Rattle.memblock_model.specs.Labels.{Label, Labels}
 use Rattle.memblock_model.specs.Tables.{records_of}
 use Rattle.memblock_model.proofs.TableLaws.{value_at-records}
-use Rattle.memblock_ranges.specs.Tables.{Table}
+use Rattle.phys_store.specs.Bytes.{byte_of}
+use Rattle.memblock_ranges.specs.Tables.{Table, Contents as Tables}
 use Rattle.boot_journal.specs.Contents.{Contents as Journal}
-use Rattle.growth_model.specs.Bytes.{table_for}
+use Rattle.growth_model.specs.Bytes.{AreSpelled, table_for}
+use Rattle.memblock_grow.specs.Contents.{Contents}
+use Rattle.stage_calls.specs.Lent.{GoesOn}
+use Rattle.stage_calls.proofs.LentLaws.{goes-none}
 use Rattle.srat_reader.specs.Table.{Affinity}
 use Rattle.node_hulls.specs.declared.reasons.Why.{Why}
 use Rattle.node_hulls.specs.declared.reasons.Why.TheVariants as why
@@ -120,3 +124,10 @@ pub can-get : (limit : ℕ) (found : Judgement) (memory : ℕ → Bool) (off : B
 can-get limit found memory off table some is =
     subst (λ (j : Judgement). CanGetNodes (ranges_given limit j)) (sym is)
     (can-by (judged memory off table).why limit (judged memory off table) some (given-small memory off table))
+
+-- a memblock that was only looked at went on
+pub goes-lent : (m : Contents) (t : Tables) → t ≡ m.tables → t.memory ≡ table_for which.Memory m.kernel m.journal.items
+    → t.reserved ≡ table_for which.Reserved m.kernel m.journal.items → AreSpelled t.memory t.reserved (byte_of t.store) → GoesOn m m
+goes-lent m t is memory reserved spelled =
+    goes-none m (sym (ap (λ (u : Tables). u.memory) is) ∙ memory) (sym (ap (λ (u : Tables). u.reserved) is) ∙ reserved)
+    (subst (λ (u : Tables). AreSpelled u.memory u.reserved (byte_of u.store)) is spelled)
