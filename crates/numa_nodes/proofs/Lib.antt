@@ -1,3 +1,4 @@
 mod AssignLaws
+mod MemoryLaws
 mod RecordLaws
 mod TurnLaws
