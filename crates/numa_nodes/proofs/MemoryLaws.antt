@@ -68,7 +68,7 @@ refused-is first second none = by first.refused refl where
   by (Some r) is = is
 
 -- what a range with its node makes of memory
-pub noded_all : List Block → Labels → Labels
+unfoldable pub noded_all : List Block → Labels → Labels
 noded_all [] f = f
 noded_all (r ∷ rs) f = noded_all rs (relabelled (extent_of r) (with_node (Some r.value)) f)
 
@@ -166,3 +166,65 @@ keeps-memory table off items x =
 pub keeps-limit : (table : Option Affinity) (off : Bool) (items : List Item)
     → limit_of (after items (assigned table off items)) ≡ limit_of items
 keeps-limit table off items = keeps-all limit_of quiet-appended_limit given-limit table off items
+
+-- where all ranges got their nodes, memory has them
+next-memory : (r : Block) (rs : List Block) (items : List Item) (d : Done StageStop (Unit {0})) (answer : Result (Unit {0}) StageStop)
+    → (answer ≡ Ok tt → memory_of (after items d) ≡ relabelled (extent_of r) (with_node (Some r.value)) (memory_of items))
+    → ((in_turn given tt rs (after items d)).answer ≡ Ok tt
+    → memory_of (after (after items d) (in_turn given tt rs (after items d))) ≡ noded_all rs (memory_of (after items d)))
+    → (going_on d.steps answer (λ a. in_turn given a rs (after items d))).answer ≡ Ok tt
+    → memory_of (appended items (going_on d.steps answer (λ a. in_turn given a rs (after items d))).steps)
+    ≡ noded_all (r ∷ rs) (memory_of items)
+unfolding noded_all
+next-memory r rs items d (Ok a) first rest answered =
+    ap memory_of (appended-append items d.steps (in_turn given tt rs (after items d)).steps) ∙ rest answered ∙ ap (noded_all rs) (first refl)
+next-memory r rs items d (Err e) first rest answered = absurd (cc)
+
+turn-memory : (rs : List Block) (items : List Item) → (in_turn given tt rs items).answer ≡ Ok tt
+    → memory_of (after items (in_turn given tt rs items)) ≡ noded_all rs (memory_of items)
+unfolding noded_all
+turn-memory [] items answered = refl
+turn-memory (r ∷ rs) items answered =
+    let d : Done StageStop (Unit {0}) = given tt r items in
+    next-memory r rs items d d.answer (given-memory r items) (turn-memory rs (after items d)) answered
+
+-- what an answer of the stage tells: the memory behind it, and that the nodes are those that have memory
+pub record IsBehind (items : List Item) (found : Judgement) (new : List Item) (noded : Noded) : Type 0 where
+  pub memory : memory_of new ≡ noded_all (ranges_given (limit_of items) found) (memory_of items)
+  pub nodes : noded.with_memory ≡ nodes_with_memory (memory_of new)
+
+data-nodes : (found : Judgement) (nodes : List ℕ) (items : List Item) (noded : Noded) → (with_data found nodes items).answer ≡ Ok noded
+    → noded.with_memory ≡ nodes
+data-nodes found nodes items noded answered = by (in_turn data_placed tt nodes items).answer answered where
+  by : (answer : Result (Unit {0}) StageStop)
+      → (going_on (in_turn data_placed tt nodes items).steps answer
+      (λ a. returns {E = StageStop} (noded_by found nodes) (after items (in_turn data_placed tt nodes items)))).answer ≡ Ok noded
+      → noded.with_memory ≡ nodes
+  by (Ok a) is = let same : noded_by found nodes ≡ noded = cc in ap (λ (n : Noded). n.with_memory) (sym same)
+  by (Err e) is = absurd (cc)
+
+ended-by : (items : List Item) (found : Judgement) (noded : Noded) (d : Done StageStop (Unit {0})) (answer : Result (Unit {0}) StageStop)
+    → (answer ≡ Ok tt → memory_of (after items d) ≡ noded_all (ranges_given (limit_of items) found) (memory_of items))
+    → (going_on d.steps answer (λ a. behind found a (after items d))).answer ≡ Ok noded
+    → IsBehind items found (appended items (going_on d.steps answer (λ a. behind found a (after items d))).steps) noded
+ended-by items found noded d (Err e) first answered = absurd (cc)
+ended-by items found noded d (Ok a) first answered =
+    let mid : List Item = after items d in
+    let last : Done StageStop Noded = behind found tt mid in
+    let whole : appended items (d.steps ++ last.steps) ≡ appended mid last.steps = appended-append items d.steps last.steps in
+    let still : memory_of (appended mid last.steps) ≡ memory_of mid =
+    quiet-appended_memory mid last.steps ((quiet-behind found tt).each mid) in
+    record {
+      memory = ap memory_of whole ∙ still ∙ first refl;
+      nodes = data-nodes found (nodes_with_memory (memory_of mid)) mid noded answered
+          ∙ ap nodes_with_memory (sym (ap memory_of whole ∙ still));
+    }
+
+pub behind-answer : (table : Option Affinity) (off : Bool) (items : List Item) (noded : Noded)
+    → (assigned table off items).answer ≡ Ok noded
+    → IsBehind items (judged (is_memory items) off table) (after items (assigned table off items)) noded
+unfolding assigned assigned_by
+behind-answer table off items noded answered =
+    let found : Judgement = judged (is_memory items) off table in
+    let d : Done StageStop (Unit {0}) = in_turn given tt (ranges_given (limit_of items) found) items in
+    ended-by items found noded d d.answer (turn-memory (ranges_given (limit_of items) found) items) answered

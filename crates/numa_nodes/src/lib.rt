@@ -21,7 +21,7 @@ mod memory;
 mod nodes;
 mod stage;
 
-pub use laws::{nodes_leave_memory, nodes_reach_memory, some_byte_has_each_node};
+pub use laws::{listed_nodes_have_memory, nodes_leave_memory, nodes_reach_memory};
 pub use node_hulls::Why;
 pub use nodes::Nodes;
 pub use stage::assign;
