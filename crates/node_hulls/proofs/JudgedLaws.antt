@@ -37,7 +37,7 @@ pub record Found (memory : ℕ → Bool) (kept : List KeptBlock) (joined rest : 
   pub left_space : EndInSpace rest
   pub counted : frames ≡ frames_given (value_at rest)
 
-tells_nodes : Tells same_node
+pub tells_nodes : Tells same_node
 tells_nodes = record { true_is_equal = λ a b same. grind (arith, nat_tests); equal_is_true = λ a b same. grind (arith, nat_tests) }
 
 -- the same in the words of the definitions

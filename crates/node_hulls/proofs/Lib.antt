@@ -1,6 +1,7 @@
 pub mod DomainLaws
 mod Examples
 pub mod FilledLaws
+pub mod GivenLaws
 pub mod InListLaws
 pub mod JudgedLaws
 pub mod KeptLaws

@@ -1,13 +1,18 @@
 //! What holds of the words themselves, as calls that the crates above may cite: an address has one node at most, nodes
 //! are domains by other numbers, the addresses of a frame have one node, and each node of a kept block has memory.
 
-ghost use Rattle.std.specs.Prelude.{◌≡◌, ◌≢◌, ◌↔◌, ◌⊎◌, ℕ, ◌<◌, Bool, true, None, Some, List, [], length};
+ghost use Rattle.std.specs.Prelude.{◌≡◌, ◌≢◌, ◌↔◌, ◌⊎◌, ℕ, ◌^◌, ◌<◌, ◌++◌, ◌||◌, Bool, true, None, Some, is_some, Option, List, [], length};
+ghost use Rattle.std.specs.List.{All};
 ghost use Rattle.address_runs.specs.Overlay.{HaveAddresses};
+ghost use Rattle.address_runs.specs.Runs.{AreRuns, value_at};
 ghost use Rattle.srat_reader.specs.declared.table.SratBlock.{SratBlock as AnyBlock};
+ghost use Rattle.srat_reader.specs.Table.{Affinity};
 ghost use Rattle.node_hulls.specs.declared.kept.KeptBlock.{KeptBlock as AnyKept};
+ghost use Rattle.node_hulls.specs.declared.reasons.Why.TheVariants as why;
+ghost use Rattle.node_hulls.specs.declared.reasons.TheConstants.{MAX_NODES};
 ghost use Rattle.node_hulls.specs.Domains.{is_named, node_of};
-ghost use Rattle.node_hulls.specs.Hulls.{has};
-ghost use Rattle.node_hulls.specs.Judgement.{left_by, nodes_by};
+ghost use Rattle.node_hulls.specs.Hulls.{Block, has};
+ghost use Rattle.node_hulls.specs.Judgement.{judged, left_by, nodes_by};
 ghost use Rattle.node_hulls.specs.Kept.{blocks_of, first_clash, frame_base, is_node_of, kept_of};
 
 /// A law: where no two kept blocks clash, the node of an address is the one node that it has, if any.
@@ -44,4 +49,20 @@ pub fn nodes_with_memory()
         (x : ℕ) × (memory x ≡ true) × (nodes_by (kept_of memory domains blocks) x ≡ Some n) }
     ensures block { (memory : ℕ → Bool) (kept : List AnyKept) → kept ≢ [] →
         (x n : ℕ) → (nodes_by kept x ≡ Some n) ⊎ (left_by memory kept x ≡ Some n) → is_node_of kept n ≡ true }
+{}
+
+/// A law: the runs of a judgement are runs, and each has a node below [`crate::MAX_NODES`]; where the table is used each byte of
+/// memory lies in one; and, where memory is whole frames, the addresses of a frame have the same nodes by them.
+pub fn runs_cover_memory()
+    ensures runs { (memory : ℕ → Bool) (off : Bool) (table : Option Affinity) →
+        AreRuns (judged memory off table).joined × AreRuns (judged memory off table).rest }
+    ensures nodes { (memory : ℕ → Bool) (off : Bool) (table : Option Affinity) →
+        All (λ (b : Block). (0 < b.size) × (b.value < MAX_NODES)) ((judged memory off table).joined ++ (judged memory off table).rest) }
+    ensures cover { (memory : ℕ → Bool) (off : Bool) (table : Option Affinity) (x : ℕ) → (judged memory off table).why ≡ why.Used →
+        memory x ≡ true → x < 2 ^ 64 →
+        (is_some (value_at (judged memory off table).joined x) || is_some (value_at (judged memory off table).rest x)) ≡ true }
+    ensures frames { (memory : ℕ → Bool) (off : Bool) (table : Option Affinity) → ((x : ℕ) → memory x ≡ memory (frame_base x)) →
+        (x : ℕ) → x < 2 ^ 64 →
+        (value_at (judged memory off table).joined x ≡ value_at (judged memory off table).joined (frame_base x)) ×
+        (value_at (judged memory off table).rest x ≡ value_at (judged memory off table).rest (frame_base x)) }
 {}

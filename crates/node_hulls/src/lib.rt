@@ -15,8 +15,8 @@
 //! proved in `proofs/`.
 //!
 //! The laws say what the words mean to each other: an address has one node at most ([`one_node_an_address`]), nodes are domains by
-//! other numbers ([`one_node_a_domain`]), whole frames have one node ([`one_node_a_frame`]), and a node has memory exactly where a
-//! kept block is of it ([`nodes_with_memory`]).
+//! other numbers ([`one_node_a_domain`]), whole frames have one node ([`one_node_a_frame`]), a node has memory exactly where a
+//! kept block is of it ([`nodes_with_memory`]), and the runs of a table that is used cover memory ([`runs_cover_memory`]).
 //!
 //! The layer above hands in memory as a list of ranges, in any order, and carries out what is answered: it
 //! records the nodes of memory, and finds places for the nodes' own data.
@@ -33,6 +33,8 @@ mod rest;
 mod tests;
 
 pub use kept::KeptBlock;
-pub use laws::{nodes_with_memory, one_node_a_domain, one_node_a_frame, one_node_an_address};
+pub use laws::{
+    nodes_with_memory, one_node_a_domain, one_node_a_frame, one_node_an_address, runs_cover_memory,
+};
 pub use node_range::NodeRange;
 pub use reasons::{Judged, MAX_BLOCKS, MAX_NODES, UNCOVERED_FRAMES, Why, judge};

@@ -1,0 +1,216 @@
+-- The runs of a judgement: each has an address and a node below 1,024, they cover memory, and a frame lies in runs of the same nodes.
+use Rattle.std.proofs.Common.{◌≡◌, ◌≢◌, ℕ, zero, suc, ◌+◌, ◌^◌, ◌<◌, ◌≤◌, ◌==◌, Bool, true, false, ◌&&◌, ◌||◌, nat_le, nat_lt, if◌then◌else◌, Option, Some, None, List, [], ◌∷◌, ◌++◌, length, refl, sym, ◌∙◌, subst, inl, inr, arith}
+use Rattle.std.proofs.lemmas.Bool.{cases_Bool, true≢false}
+use Rattle.std.proofs.lemmas.Bool.Decides.{nat_tests}
+use Rattle.std.proofs.lemmas.List.Elements.{All-cons, All-append}
+use Rattle.std.proofs.lemmas.List.Quantifiers.{position-Some}
+use Rattle.std.specs.List.{All, position}
+use Rattle.std.specs.Prelude.{is_some, is_none}
+use Rattle.address_runs.specs.Runs.{RunOf, AreRuns, led_by, one_address, value_at, runs_from, runs_of, extent_of}
+use Rattle.address_runs.proofs.RunsLaws.{IsRunsBetween, from_runs}
+use Rattle.srat_reader.specs.declared.table.SratBlock.{SratBlock}
+use Rattle.srat_reader.specs.Table.{Affinity}
+use Rattle.node_hulls.specs.declared.kept.KeptBlock.{KeptBlock}
+use Rattle.node_hulls.specs.declared.reasons.Why.{Why}
+use Rattle.node_hulls.specs.declared.reasons.Why.TheVariants as why
+use Rattle.node_hulls.specs.Domains.{node_of}
+use Rattle.node_hulls.specs.Hulls.{Block, same_node}
+use Rattle.node_hulls.specs.Judgement.{Judgement, frames_given, if_apart, if_covering, judged, judged_kept, judged_table, left_by, names_of, nodes_by, unused, used}
+use Rattle.node_hulls.specs.Kept.{any_kept, count_some, first_clash, frame_base, framed, has_memory, is_node_of, kept_from, kept_of, of_node}
+use Rattle.node_hulls.proofs.InListLaws.{IsIn, any_member}
+use Rattle.node_hulls.proofs.JudgedLaws.{tells_nodes}
+use Rattle.node_hulls.proofs.MeaningLaws.{left_frame, node_of_kept, nodes_frame}
+
+-- what holds of each judgement: it holds where the table isn't used, and where it is
+module _ (P : Judgement → Type 0) where
+  covering : (domains : List ℕ) (nodes left : ℕ → Option ℕ) → ((r : Why) → r ≢ why.Used → P (unused r)) → P (used domains nodes left)
+      → P (if_covering domains nodes left)
+  covering domains nodes left none some = elim (cases_Bool (nat_le 256 (frames_given left))) as (λ _. P (if_covering domains nodes left)) [
+    | inl many ↦ rw many (none (why.NotCovered (frames_given left)) (λ same. cc))
+    | inr few ↦ rw few some
+  ]
+
+  apart : (numbers : Option (ℕ × ℕ)) (j : Judgement) → ((r : Why) → r ≢ why.Used → P (unused r)) → P j → P (if_apart numbers j)
+  apart (Some pair) j none some = none (why.Overlap pair.0 pair.1) (λ same. cc)
+  apart None j none some = some
+
+  by_kept : (memory : ℕ → Bool) (domains : List ℕ) (kept : List KeptBlock) → ((r : Why) → r ≢ why.Used → P (unused r))
+      → P (used domains (nodes_by kept) (left_by memory kept)) → P (judged_kept memory domains kept)
+  unfolding judged_kept
+  by_kept memory domains kept none some =
+      apart (first_clash kept) (if_covering domains (nodes_by kept) (left_by memory kept)) none
+      (covering domains (nodes_by kept) (left_by memory kept) none some)
+
+  by_table : (memory : ℕ → Bool) (lists : Affinity) → ((r : Why) → r ≢ why.Used → P (unused r))
+      → (any_kept memory lists.blocks ≡ true → length (names_of lists) ≤ 1024
+      → P (used (names_of lists) (nodes_by (kept_of memory (names_of lists) lists.blocks))
+      (left_by memory (kept_of memory (names_of lists) lists.blocks))))
+      → P (judged_table memory lists)
+  unfolding judged_table
+  by_table memory lists none some = elim (cases_Bool (any_kept memory lists.blocks)) as (λ _. P (judged_table memory lists)) [
+    | inr no_block ↦ rw no_block (none why.NoBlocks (λ same. cc))
+    | inl kept ↦ elim (cases_Bool (nat_lt 1024 (length (names_of lists)))) as (λ _. P (judged_table memory lists)) [
+      | inl many ↦ rw (kept, many) (none why.TooManyDomains (λ same. cc))
+      | inr few ↦ elim (cases_Bool (nat_lt 2048 (count_some lists.blocks))) as (λ _. P (judged_table memory lists)) [
+        | inl many_blocks ↦ rw (kept, few, many_blocks) (none why.TooManyBlocks (λ same. cc))
+        | inr few_blocks ↦
+            let most : length (names_of lists) ≤ 1024 = grind (arith, nat_tests) in
+            rw (kept, few, few_blocks) (by_kept memory (names_of lists) (kept_of memory (names_of lists) lists.blocks) none
+            (some kept most))
+      ]
+    ]
+  ]
+
+  pub by_judgement : (memory : ℕ → Bool) (off : Bool) (table : Option Affinity) → ((r : Why) → r ≢ why.Used → P (unused r))
+      → ((lists : Affinity) → any_kept memory lists.blocks ≡ true → length (names_of lists) ≤ 1024
+      → P (used (names_of lists) (nodes_by (kept_of memory (names_of lists) lists.blocks))
+      (left_by memory (kept_of memory (names_of lists) lists.blocks))))
+      → P (judged memory off table)
+  by_judgement memory true None none some = none why.Off (λ same. cc)
+  by_judgement memory false None none some = none why.Absent (λ same. cc)
+  by_judgement memory true (Some lists) none some = none why.Off (λ same. cc)
+  by_judgement memory false (Some lists) none some = by_table memory lists none (some lists)
+
+-- what holds of each value of a function holds of those of its runs
+module _ {X : Type 0} (Q : X → Type 0) where
+  led-values : (same : X → X → Bool) (x : ℕ) (v : Option X) (rs : List (RunOf X)) → ((u : X) → v ≡ Some u → Q u)
+      → All (λ (r : RunOf X). Q r.value) rs → All (λ (r : RunOf X). Q r.value) (led_by same x v rs)
+  led-values same x None rs one all = all
+  led-values same x (Some v) [] one all = All-cons (λ (r : RunOf X). Q r.value) (one_address x v) [] (one v refl) all
+  led-values same x (Some v) (r ∷ rs) one all =
+      elim (cases_Bool ((r.base == x + 1) && same v r.value)) as (λ _. All (λ (s : RunOf X). Q s.value) (led_by same x (Some v) (r ∷ rs))) [
+        | inl longer ↦ rw longer (All-cons (λ (s : RunOf X). Q s.value) (record { base = x; size = r.size + 1; value = v }) rs (one v refl)
+            (λ k d less. all (suc k) d (omega (arith, less))))
+        | inr another ↦ rw another (All-cons (λ (s : RunOf X). Q s.value) (one_address x v) (r ∷ rs) (one v refl) all)
+      ]
+
+  runs-values : (same : X → X → Bool) (f : ℕ → Option X) (n x : ℕ) → ((y : ℕ) (u : X) → f y ≡ Some u → Q u)
+      → All (λ (r : RunOf X). Q r.value) (runs_from same f x n)
+  unfolding runs_from
+  runs-values same f zero x each = λ k d less. absurd (omega (arith, less))
+  runs-values same f (suc n) x each =
+      led-values same x (f x) (runs_from same f (x + 1) n) (each x) (runs-values same f n (x + 1) each)
+
+  pub all-values : (same : X → X → Bool) (f : ℕ → Option X) → ((y : ℕ) (u : X) → f y ≡ Some u → Q u)
+      → All (λ (r : RunOf X). Q r.value) (runs_of same f)
+  unfolding runs_of
+  all-values same f each = runs-values same f (2 ^ 64) 0 each
+
+runs-some : {X : Type 0} (rs : List (RunOf X)) → AreRuns rs → All (λ (r : RunOf X). 0 < r.size) rs
+runs-some [] runs = λ k d less. absurd (omega (arith, less))
+runs-some {X} (r ∷ rs) runs = All-cons (λ (s : RunOf X). 0 < s.size) r rs runs.0 (runs-some rs runs.2)
+
+-- the runs of nodes over all addresses
+runs-between : (f : ℕ → Option ℕ) → IsRunsBetween f 0 (2 ^ 64) (runs_of same_node f)
+unfolding runs_of
+runs-between f = from_runs same_node tells_nodes f (2 ^ 64) 0
+
+given-at : (f : ℕ → Option ℕ) (x : ℕ) → x < 2 ^ 64 → value_at (runs_of same_node f) x ≡ f x
+given-at f x near = (runs-between f).within x (omega arith) (omega (arith, near))
+
+-- a node that is below the number of domains, or 0
+node-small : (domains : List ℕ) (d : ℕ) → length domains ≤ 1024 → node_of domains d < 1024
+node-small domains d few = by (position (λ e. e == d) domains) refl where
+  by : (o : Option ℕ) → position (λ e. e == d) domains ≡ o → node_of domains d < 1024
+  by None at = rw at (omega arith)
+  by (Some i) at =
+      let below = (position-Some (λ e. e == d) domains i 0 at).0 in
+      rw at (omega (arith, below, few))
+
+kept-small : (memory : ℕ → Bool) (domains : List ℕ) (i : ℕ) (bs : List SratBlock) (k : KeptBlock) → length domains ≤ 1024
+    → IsIn k (kept_from memory domains i bs) → k.block.value < 1024
+kept-small memory domains i [] k few member = absurd member
+kept-small memory domains i (b ∷ bs) k few member =
+    by (has_memory memory (extent_of (of_node domains b))) refl (kept-small memory domains (i + 1) bs k few) member where
+      by : (some : Bool) → has_memory memory (extent_of (of_node domains b)) ≡ some
+          → (IsIn k (kept_from memory domains (i + 1) bs) → k.block.value < 1024)
+          → IsIn k (kept_from memory domains i (b ∷ bs)) → k.block.value < 1024
+      by true some rest here = elim (rw some at here) as (λ _. k.block.value < 1024) [
+        | inl first ↦ subst (λ (j : KeptBlock). j.block.value < 1024) (sym first) (node-small domains b.domain few)
+        | inr later ↦ rest later
+      ]
+      by false none rest here = rest (rw none at here)
+
+node-few : (memory : ℕ → Bool) (domains : List ℕ) (bs : List SratBlock) (n : ℕ) → length domains ≤ 1024
+    → is_node_of (kept_of memory domains bs) n ≡ true → n < 1024
+node-few memory domains bs n few of_block =
+    let found = any_member _ (kept_of memory domains bs) of_block in
+    let node : found.one.block.value ≡ n = grind (arith, nat_tests, found.passes) in
+    subst (λ (m : ℕ). m < 1024) node (kept-small memory domains 0 bs found.one few found.member)
+
+-- some block is kept
+some-kept : (memory : ℕ → Bool) (domains : List ℕ) (i : ℕ) (bs : List SratBlock) → any_kept memory bs ≡ true
+    → kept_from memory domains i bs ≢ []
+some-kept memory domains i [] any = absurd (true≢false (sym any))
+some-kept memory domains i (b ∷ bs) any = elim (cases_Bool (has_memory memory (framed b.range))) as (λ _. kept_from memory domains i (b ∷ bs)
+    ≢ []) [
+      | inl here ↦ let kept : has_memory memory (extent_of (of_node domains b)) ≡ true = here in rw kept (λ same. cc)
+      | inr not_here ↦
+          let not_kept : has_memory memory (extent_of (of_node domains b)) ≡ false = not_here in
+          rw not_kept (some-kept memory domains (i + 1) bs (rw not_here at any))
+    ]
+
+-- each run has an address and a node below 1,024
+abbrev Small : Block → Type 0
+Small b = (0 < b.size) × (b.value < 1024)
+
+small-runs : (f : ℕ → Option ℕ) → ((x n : ℕ) → f x ≡ Some n → n < 1024) → All Small (runs_of same_node f)
+small-runs f few =
+    let runs : AreRuns (runs_of same_node f) = (runs-between f).runs in
+    let some : All (λ (b : Block). 0 < b.size) (runs_of same_node f) = runs-some (runs_of same_node f) runs in
+    let small : All (λ (b : Block). b.value < 1024) (runs_of same_node f) = all-values (λ (n : ℕ). n < 1024) same_node f few in
+    λ k d less. (some k d less, small k d less)
+
+pub given-small : (memory : ℕ → Bool) (off : Bool) (table : Option Affinity)
+    → All Small ((judged memory off table).joined ++ (judged memory off table).rest)
+given-small memory off table =
+    by_judgement (λ (j : Judgement). All Small (j.joined ++ j.rest)) memory off table (λ r other k d less. absurd (omega (arith, less)))
+    (λ lists kept few.
+    let domains : List ℕ = names_of lists in
+    let blocks : List KeptBlock = kept_of memory domains lists.blocks in
+    let some : blocks ≢ [] = some-kept memory domains 0 lists.blocks kept in
+    All-append Small (runs_of same_node (nodes_by blocks)) (runs_of same_node (left_by memory blocks))
+    (small-runs (nodes_by blocks) (λ x n at. node-few memory domains lists.blocks n few (node_of_kept memory blocks some x n (inl at))))
+    (small-runs (left_by memory blocks)
+    (λ x n at. node-few memory domains lists.blocks n few (node_of_kept memory blocks some x n (inr at)))))
+
+pub given-runs : (memory : ℕ → Bool) (off : Bool) (table : Option Affinity)
+    → AreRuns (judged memory off table).joined × AreRuns (judged memory off table).rest
+given-runs memory off table =
+    by_judgement (λ (j : Judgement). AreRuns j.joined × AreRuns j.rest) memory off table (λ r other. (tt, tt))
+    (λ lists kept few.
+    let blocks : List KeptBlock = kept_of memory (names_of lists) lists.blocks in
+    ((runs-between (nodes_by blocks)).runs, (runs-between (left_by memory blocks)).runs))
+
+-- where the table is used each byte of memory lies in a run
+covered_by : (nodes : Option ℕ) (left n : ℕ) → (is_some nodes || is_some (if true && is_none nodes then Some n else None)) ≡ true
+covered_by None left n = refl
+covered_by (Some m) left n = refl
+
+pub given-covers : (memory : ℕ → Bool) (off : Bool) (table : Option Affinity) (x : ℕ) → (judged memory off table).why ≡ why.Used
+    → memory x ≡ true → x < 2 ^ 64
+    → (is_some (value_at (judged memory off table).joined x) || is_some (value_at (judged memory off table).rest x)) ≡ true
+given-covers memory off table x used_it is near =
+    by_judgement (λ (j : Judgement). j.why ≡ why.Used → (is_some (value_at j.joined x) || is_some (value_at j.rest x)) ≡ true) memory off
+    table (λ r other same. absurd (other same))
+    (λ lists kept few same.
+    let blocks : List KeptBlock = kept_of memory (names_of lists) lists.blocks in
+    rw (given-at (nodes_by blocks) x near, given-at (left_by memory blocks) x near, is)
+    (covered_by (nodes_by blocks x) 0 _)) used_it
+
+-- and a frame lies in runs of the same nodes
+pub given-frames : (memory : ℕ → Bool) (off : Bool) (table : Option Affinity) → ((x : ℕ) → memory x ≡ memory (frame_base x))
+    → (x : ℕ) → x < 2 ^ 64
+    → (value_at (judged memory off table).joined x ≡ value_at (judged memory off table).joined (frame_base x))
+    × (value_at (judged memory off table).rest x ≡ value_at (judged memory off table).rest (frame_base x))
+given-frames memory off table whole x near =
+    by_judgement (λ (j : Judgement). (value_at j.joined x ≡ value_at j.joined (frame_base x))
+    × (value_at j.rest x ≡ value_at j.rest (frame_base x))) memory off table (λ r other. (refl, refl))
+    (λ lists kept few.
+    let domains : List ℕ = names_of lists in
+    let blocks : List KeptBlock = kept_of memory domains lists.blocks in
+    let near_too : frame_base x < 2 ^ 64 = omega (arith, near) in (
+      given-at (nodes_by blocks) x near ∙ nodes_frame memory domains lists.blocks x ∙ sym (given-at (nodes_by blocks) (frame_base x) near_too),
+      given-at (left_by memory blocks) x near ∙ left_frame memory whole domains lists.blocks x
+          ∙ sym (given-at (left_by memory blocks) (frame_base x) near_too),
+    ))

@@ -1,0 +1,5 @@
+mod AssignLaws
+mod MemoryLaws
+mod NodedLaws
+mod RecordLaws
+mod TurnLaws

@@ -1,0 +1,230 @@
+-- What the steps make of memory and of the limit: the ranges get their nodes, and that is all.
+use Rattle.std.proofs.Common.{◌≡◌, ℕ, Bool, is_some, Option, Some, None, List, [], ◌∷◌, ◌++◌, Result, Ok, Err, refl, sym, ◌∙◌, ap, subst, inl, inr}
+use Rattle.std.proofs.lemmas.Bool.{cases_Bool}
+use Rattle.std.specs.Option.{option_map}
+use Rattle.std.proofs.lemmas.List.Sums.{fold-append}
+use Rattle.bm_base.specs.Extent.{Extent, covers}
+use Rattle.address_runs.specs.Edits.{relabelled}
+use Rattle.address_runs.specs.Runs.{extent_of}
+use Rattle.srat_reader.specs.Table.{Affinity}
+use Rattle.memblock_model.specs.declared.which.Which.TheVariants as which
+use Rattle.memblock_model.specs.declared.item.Item.{Item}
+use Rattle.memblock_model.specs.declared.item.Item.TheVariants as item
+use Rattle.memblock_model.specs.declared.owner.Owner.TheVariants as owner
+use Rattle.memblock_model.specs.Items.{limit_after, limit_of, memory_after, memory_of, no_memory}
+use Rattle.memblock_model.specs.Labels.{Label, Labels, with_node}
+use Rattle.growth_model.specs.Carried.{AreQuiet}
+use Rattle.growth_model.specs.Growth.{grown, memory_growth, noded, two}
+use Rattle.growth_model.specs.Outcome.{Change, Outcome, Refused, ◌>>◌, followed_by, write}
+use Rattle.growth_model.specs.Outcome.{after as after_change}
+use Rattle.growth_model.proofs.QuietLaws.{memory_growth-quiet, quiet-grown}
+use Rattle.stage_model.specs.declared.stop.StageStop.{StageStop}
+use Rattle.stage_model.specs.declared.stop.What.TheVariants as what
+use Rattle.stage_model.specs.Doing.{Done, Doing, ◌>>=◌, after, appended, going_on, in_turn, returns, seen}
+use Rattle.stage_model.specs.Requests.{carried, placed, stop_of}
+use Rattle.stage_model.specs.Quiet.{IsQuietStep}
+use Rattle.stage_model.proofs.DoingLaws.{appended-append}
+use Rattle.stage_model.proofs.QuietLaws.{quiet-appended_limit, quiet-appended_memory, quiet-bind, quiet-placed, quiet-returns, quiet-seen, quiet-turn}
+use Rattle.node_hulls.specs.Hulls.{Block}
+use Rattle.node_hulls.specs.Judgement.{Judgement, judged}
+use Rattle.numa_nodes.specs.Assigned.{Noded, assigned, assigned_by, data_placed, given, is_memory, node_data_request, noded_by, nodes_with_memory, ranges_given, with_data}
+
+-- a range that gets its node: the growth before it is quiet
+given-memory_by : (first : Outcome) (r : Option Refused) (items : List Item) (range : Extent) (node : ℕ) → AreQuiet first.steps
+    → stop_of r ≡ Ok tt
+    → memory_of (appended items (followed_by first r (write (item.Node range node) (after_change items first))).steps)
+    ≡ relabelled range (with_node (Some node)) (memory_of items)
+given-memory_by first None items range node quiet answered =
+    ap memory_of (appended-append items first.steps ((item.Node range node ∷ []) ∷ []))
+    ∙ fold-append memory_after no_memory (appended items first.steps) (item.Node range node ∷ [])
+    ∙ ap (λ (f : Labels). relabelled range (with_node (Some node)) f) (quiet-appended_memory items first.steps quiet)
+given-memory_by first (Some r) items range node quiet answered = absurd (cc)
+
+limit_by : (first : Outcome) (r : Option Refused) (items : List Item) (range : Extent) (node : ℕ) → AreQuiet first.steps
+    → limit_of (appended items (followed_by first r (write (item.Node range node) (after_change items first))).steps) ≡ limit_of items
+limit_by first None items range node quiet =
+    ap limit_of (appended-append items first.steps ((item.Node range node ∷ []) ∷ []))
+    ∙ fold-append limit_after 0 (appended items first.steps) (item.Node range node ∷ [])
+    ∙ quiet-appended_limit items first.steps quiet
+limit_by first (Some r) items range node quiet = quiet-appended_limit items first.steps quiet
+
+-- the growth that may go before
+abbrev growth : List Item → Outcome
+growth items = grown which.Memory two memory_growth items
+
+growth-quiet : (items : List Item) → AreQuiet (growth items).steps
+growth-quiet items = (quiet-grown which.Memory two memory_growth memory_growth-quiet).each items
+
+noded_is : (items : List Item) (range : Extent) (node : ℕ)
+    → noded range node items ≡ followed_by (growth items) (growth items).refused (write (item.Node range node) (after_change items (growth
+    items)))
+unfolding noded
+noded_is items range node = refl
+
+refused-is : (first second : Outcome) → second.refused ≡ None → (followed_by first first.refused second).refused ≡ first.refused
+refused-is first second none = by first.refused refl where
+  by : (r : Option Refused) → first.refused ≡ r → (followed_by first r second).refused ≡ r
+  by None is = none
+  by (Some r) is = is
+
+-- what a range with its node makes of memory
+unfoldable pub noded_all : List Block → Labels → Labels
+noded_all [] f = f
+noded_all (r ∷ rs) f = noded_all rs (relabelled (extent_of r) (with_node (Some r.value)) f)
+
+given-memory : (b : Block) (items : List Item) → (given tt b items).answer ≡ Ok tt
+    → memory_of (after items (given tt b items)) ≡ relabelled (extent_of b) (with_node (Some b.value)) (memory_of items)
+given-memory b items answered =
+    let range : Extent = extent_of b in
+    let first : Outcome = growth items in
+    let second : Outcome = write (item.Node range b.value) (after_change items first) in
+    let is : noded range b.value items ≡ followed_by first first.refused second = noded_is items range b.value in
+    let stopped : stop_of first.refused ≡ Ok tt =
+    ap stop_of (sym (refused-is first second refl)) ∙ ap (λ (o : Outcome). stop_of o.refused) (sym is) ∙ answered in
+    ap (λ (o : Outcome). memory_of (appended items o.steps)) is
+    ∙ given-memory_by first first.refused items range b.value (growth-quiet items) stopped
+
+map-some : (change : Label → Label) (o : Option Label) → is_some (option_map change o) ≡ is_some o
+map-some change None = refl
+map-some change (Some label) = refl
+
+pub relabelled-some : (range : Extent) (change : Label → Label) (f : Labels) (x : ℕ) → is_some (relabelled range change f x) ≡ is_some (f x)
+relabelled-some range change f x = elim (cases_Bool (covers range x)) as (λ _. is_some (relabelled range change f x) ≡ is_some (f x)) [
+  | inl here ↦ rw here (map-some change (f x))
+  | inr not_here ↦ rw not_here refl
+]
+
+given-some_by : (first : Outcome) (r : Option Refused) (items : List Item) (range : Extent) (node x : ℕ) → AreQuiet first.steps
+    → is_some (memory_of (appended items (followed_by first r (write (item.Node range node) (after_change items first))).steps) x)
+    ≡ is_some (memory_of items x)
+given-some_by first None items range node x quiet =
+    ap (λ (f : Labels). is_some (f x)) (given-memory_by first None items range node quiet refl)
+    ∙ relabelled-some range (with_node (Some node)) (memory_of items) x
+given-some_by first (Some r) items range node x quiet =
+    ap (λ (f : Labels). is_some (f x)) (quiet-appended_memory items first.steps quiet)
+
+given-some : (b : Block) (items : List Item) (x : ℕ) → is_some (memory_of (after items (given tt b items)) x) ≡ is_some (memory_of items x)
+given-some b items x =
+    ap (λ (o : Outcome). is_some (memory_of (appended items o.steps) x)) (noded_is items (extent_of b) b.value)
+    ∙ given-some_by (growth items) (growth items).refused items (extent_of b) b.value x (growth-quiet items)
+
+given-limit : (b : Block) (items : List Item) → limit_of (after items (given tt b items)) ≡ limit_of items
+given-limit b items =
+    ap (λ (o : Outcome). limit_of (appended items o.steps)) (noded_is items (extent_of b) b.value)
+    ∙ limit_by (growth items) (growth items).refused items (extent_of b) b.value (growth-quiet items)
+
+-- node data leaves memory alone
+quiet-data : (done : Unit {0}) (n : ℕ) → IsQuietStep (data_placed done n)
+quiet-data done n =
+    quiet-bind (placed (what.NodeData n) (node_data_request n) (owner.NodeData n)) (λ place. returns tt)
+    (quiet-placed (what.NodeData n) (node_data_request n) (owner.NodeData n)) (λ place. quiet-returns tt)
+
+quiet-with_data : (found : Judgement) (nodes : List ℕ) → IsQuietStep (with_data found nodes)
+quiet-with_data found nodes =
+    quiet-bind (in_turn data_placed tt nodes) (λ done. returns (noded_by found nodes)) (quiet-turn data_placed quiet-data tt nodes)
+    (λ done. quiet-returns (noded_by found nodes))
+
+abbrev behind : Judgement → Unit {0} → Doing StageStop Noded
+behind found done = seen (λ items. nodes_with_memory (memory_of items)) >>= λ nodes. with_data found nodes
+
+quiet-behind : (found : Judgement) (done : Unit {0}) → IsQuietStep (behind found done)
+quiet-behind found done =
+    quiet-bind (seen (λ items. nodes_with_memory (memory_of items))) (λ nodes. with_data found nodes)
+    (quiet-seen (λ items. nodes_with_memory (memory_of items))) (λ nodes. quiet-with_data found nodes)
+
+-- what quiet steps and nodes leave as it is, all of it leaves
+module _ {V : Type 0} (seen_of : List Item → V)
+    (quiet : (items : List Item) (steps : List (List Item)) → AreQuiet steps → seen_of (appended items steps) ≡ seen_of items)
+    (one : (b : Block) (items : List Item) → seen_of (after items (given tt b items)) ≡ seen_of items) where
+  keeps-going : {E A B : Type 0} (items : List Item) (d : Done E A) (answer : Result A E) (next : A → Done E B)
+      → seen_of (after items d) ≡ seen_of items → ((a : A) → seen_of (after (after items d) (next a)) ≡ seen_of (after items d))
+      → seen_of (appended items (going_on d.steps answer next).steps) ≡ seen_of items
+  keeps-going items d (Ok a) next first then = ap seen_of (appended-append items d.steps (next a).steps) ∙ then a ∙ first
+  keeps-going items d (Err e) next first then = first
+
+  keeps-turn : (rs : List Block) (items : List Item) → seen_of (after items (in_turn given tt rs items)) ≡ seen_of items
+  keeps-turn [] items = refl
+  keeps-turn (r ∷ rs) items =
+      keeps-going items (given tt r items) (given tt r items).answer (λ a. in_turn given a rs (after items (given tt r items)))
+      (one r items) (λ a. keeps-turn rs (after items (given tt r items)))
+
+  pub keeps-all : (table : Option Affinity) (off : Bool) (items : List Item) → seen_of (after items (assigned table off items))
+      ≡ seen_of items
+  unfolding assigned assigned_by nodes_with_memory
+  keeps-all table off items =
+      let found : Judgement = judged (is_memory items) off table in
+      let d : Done StageStop (Unit {0}) = in_turn given tt (ranges_given (limit_of items) found) items in
+      keeps-going items d d.answer (λ a. behind found a (after items d)) (keeps-turn (ranges_given (limit_of items) found) items)
+      (λ a. quiet (after items d) (behind found a (after items d)).steps ((quiet-behind found a).each (after items d)))
+
+pub keeps-memory : (table : Option Affinity) (off : Bool) (items : List Item) (x : ℕ)
+    → is_some (memory_of (after items (assigned table off items)) x) ≡ is_some (memory_of items x)
+keeps-memory table off items x =
+    keeps-all (λ is. is_some (memory_of is x))
+    (λ is steps quiet. ap (λ (f : Labels). is_some (f x)) (quiet-appended_memory is steps quiet)) (λ b is. given-some b is x) table off items
+
+pub keeps-limit : (table : Option Affinity) (off : Bool) (items : List Item)
+    → limit_of (after items (assigned table off items)) ≡ limit_of items
+keeps-limit table off items = keeps-all limit_of quiet-appended_limit given-limit table off items
+
+-- where all ranges got their nodes, memory has them
+next-memory : (r : Block) (rs : List Block) (items : List Item) (d : Done StageStop (Unit {0})) (answer : Result (Unit {0}) StageStop)
+    → (answer ≡ Ok tt → memory_of (after items d) ≡ relabelled (extent_of r) (with_node (Some r.value)) (memory_of items))
+    → ((in_turn given tt rs (after items d)).answer ≡ Ok tt
+    → memory_of (after (after items d) (in_turn given tt rs (after items d))) ≡ noded_all rs (memory_of (after items d)))
+    → (going_on d.steps answer (λ a. in_turn given a rs (after items d))).answer ≡ Ok tt
+    → memory_of (appended items (going_on d.steps answer (λ a. in_turn given a rs (after items d))).steps)
+    ≡ noded_all (r ∷ rs) (memory_of items)
+unfolding noded_all
+next-memory r rs items d (Ok a) first rest answered =
+    ap memory_of (appended-append items d.steps (in_turn given tt rs (after items d)).steps) ∙ rest answered ∙ ap (noded_all rs) (first refl)
+next-memory r rs items d (Err e) first rest answered = absurd (cc)
+
+turn-memory : (rs : List Block) (items : List Item) → (in_turn given tt rs items).answer ≡ Ok tt
+    → memory_of (after items (in_turn given tt rs items)) ≡ noded_all rs (memory_of items)
+unfolding noded_all
+turn-memory [] items answered = refl
+turn-memory (r ∷ rs) items answered =
+    let d : Done StageStop (Unit {0}) = given tt r items in
+    next-memory r rs items d d.answer (given-memory r items) (turn-memory rs (after items d)) answered
+
+-- what an answer of the stage tells: the memory behind it, and that the nodes are those that have memory
+pub record IsBehind (items : List Item) (found : Judgement) (new : List Item) (noded : Noded) : Type 0 where
+  pub memory : memory_of new ≡ noded_all (ranges_given (limit_of items) found) (memory_of items)
+  pub nodes : noded.with_memory ≡ nodes_with_memory (memory_of new)
+
+data-nodes : (found : Judgement) (nodes : List ℕ) (items : List Item) (noded : Noded) → (with_data found nodes items).answer ≡ Ok noded
+    → noded.with_memory ≡ nodes
+data-nodes found nodes items noded answered = by (in_turn data_placed tt nodes items).answer answered where
+  by : (answer : Result (Unit {0}) StageStop)
+      → (going_on (in_turn data_placed tt nodes items).steps answer
+      (λ a. returns {E = StageStop} (noded_by found nodes) (after items (in_turn data_placed tt nodes items)))).answer ≡ Ok noded
+      → noded.with_memory ≡ nodes
+  by (Ok a) is = let same : noded_by found nodes ≡ noded = cc in ap (λ (n : Noded). n.with_memory) (sym same)
+  by (Err e) is = absurd (cc)
+
+ended-by : (items : List Item) (found : Judgement) (noded : Noded) (d : Done StageStop (Unit {0})) (answer : Result (Unit {0}) StageStop)
+    → (answer ≡ Ok tt → memory_of (after items d) ≡ noded_all (ranges_given (limit_of items) found) (memory_of items))
+    → (going_on d.steps answer (λ a. behind found a (after items d))).answer ≡ Ok noded
+    → IsBehind items found (appended items (going_on d.steps answer (λ a. behind found a (after items d))).steps) noded
+ended-by items found noded d (Err e) first answered = absurd (cc)
+ended-by items found noded d (Ok a) first answered =
+    let mid : List Item = after items d in
+    let last : Done StageStop Noded = behind found tt mid in
+    let whole : appended items (d.steps ++ last.steps) ≡ appended mid last.steps = appended-append items d.steps last.steps in
+    let still : memory_of (appended mid last.steps) ≡ memory_of mid =
+    quiet-appended_memory mid last.steps ((quiet-behind found tt).each mid) in
+    record {
+      memory = ap memory_of whole ∙ still ∙ first refl;
+      nodes = data-nodes found (nodes_with_memory (memory_of mid)) mid noded answered
+          ∙ ap nodes_with_memory (sym (ap memory_of whole ∙ still));
+    }
+
+pub behind-answer : (table : Option Affinity) (off : Bool) (items : List Item) (noded : Noded)
+    → (assigned table off items).answer ≡ Ok noded
+    → IsBehind items (judged (is_memory items) off table) (after items (assigned table off items)) noded
+unfolding assigned assigned_by
+behind-answer table off items noded answered =
+    let found : Judgement = judged (is_memory items) off table in
+    let d : Done StageStop (Unit {0}) = in_turn given tt (ranges_given (limit_of items) found) items in
+    ended-by items found noded d d.answer (turn-memory (ranges_given (limit_of items) found) items) answered

@@ -1,0 +1,21 @@
+-- Words for the steps of the code, which private clauses and proofs cite.
+use Rattle.std.specs.Prelude.{ℕ, ◌<◌, Bool, Some, List}
+use Rattle.std.specs.List.{list_any, All}
+use Rattle.address_runs.specs.Runs.{RunOf}
+use Rattle.memblock_model.specs.Labels.{Label}
+use Rattle.memblock_model.specs.Same.{same_node}
+use Rattle.memblock_grow.specs.Contents.{Contents}
+use Rattle.stage_calls.specs.Lent.{GoesOn}
+use Rattle.node_hulls.specs.Hulls.{Block}
+
+-- a record of the table is of the node
+abbrev pub has_record : List (RunOf Label) → ℕ → Bool
+has_record records node = list_any (λ (r : RunOf Label). same_node r.value.node (Some node)) records
+
+-- each range has an address, and its node is below 1,024
+abbrev pub CanGetNodes : List Block → Type 0
+CanGetNodes ranges = All (λ (r : Block). (0 < r.size) × (r.value < 1024)) ranges
+
+-- a memblock that went on to here goes on to there
+abbrev pub GoesFurther : Contents → Contents → Type 0
+GoesFurther old new = (start : Contents) → GoesOn start old → GoesOn start new

@@ -1,0 +1,52 @@
+//! What the steps come to, as functions that do nothing: what the boot may rest on.
+ghost use Rattle.std.specs.Prelude.{◌≡◌, ◌↔◌, ℕ, ◌^◌, ◌<◌, ◌≤◌, Bool, true, is_some, Option, List, length, get_or, Ok};
+ghost use Rattle.std.specs.List.{Contains};
+ghost use Rattle.address_runs.specs.Edits.{NothingFrom};
+ghost use Rattle.srat_reader.specs.Table.{Affinity};
+ghost use Rattle.memblock_model.specs.declared.item.Item.{Item as AnyItem};
+ghost use Rattle.memblock_model.specs.Items.{memory_of, limit_of};
+ghost use Rattle.memblock_model.specs.Labels.{Labels};
+ghost use Rattle.stage_model.specs.Doing.{after};
+ghost use Rattle.stage_model.specs.Noded.{AreOfFrames, IsNoded};
+ghost use Rattle.numa_nodes.specs.Assigned.{Noded, assigned, is_of_node, nodes_with_memory};
+
+/// A law: no byte becomes memory or ceases to be, and the limit stays, whatever is answered.
+pub fn nodes_leave_memory()
+    ensures memory { (table : Option Affinity) (off : Bool) (items : List AnyItem) (x : ℕ) →
+        is_some (memory_of (after items (assigned table off items)) x) ≡ is_some (memory_of items x) }
+    ensures limit { (table : Option Affinity) (off : Bool) (items : List AnyItem) →
+        limit_of (after items (assigned table off items)) ≡ limit_of items }
+{}
+
+/// A law: behind an answer each byte of memory has a node below 1,024, and the bytes of a frame have the same, where memory was
+/// whole frames and ended at the limit or below it; and the nodes that are answered are those that have memory then.
+pub fn nodes_reach_memory()
+    ensures noded { (reach : ℕ) (table : Option Affinity) (off : Bool) (items : List AnyItem) (noded : Noded) →
+        (assigned table off items).answer ≡ Ok noded → reach ≤ 2 ^ 64 → AreOfFrames (λ x. is_some (memory_of items x)) →
+        NothingFrom reach (memory_of items) → NothingFrom (limit_of items) (memory_of items) →
+        IsNoded reach (memory_of (after items (assigned table off items))) }
+    ensures nodes { (table : Option Affinity) (off : Bool) (items : List AnyItem) (noded : Noded) →
+        (assigned table off items).answer ≡ Ok noded →
+        noded.with_memory ≡ nodes_with_memory (memory_of (after items (assigned table off items))) }
+{}
+
+/// A law: a node is among those that have memory exactly where it is below 1,024 and some byte of memory has it; and they stand
+/// ascending.
+pub fn listed_nodes_have_memory()
+    ensures listed { (f : Labels) (n : ℕ) → Contains (nodes_with_memory f) n ↔
+        ((n < 1024) × ((x : ℕ) × (x < 2 ^ 64) × (is_of_node n (f x) ≡ true))) }
+    ensures ascending { (f : Labels) (i j : ℕ) → i < j → j < length (nodes_with_memory f) →
+        get_or (nodes_with_memory f) i 0 < get_or (nodes_with_memory f) j 0 }
+{}
+
+#[cfg(test)]
+mod tests {
+    use super::{listed_nodes_have_memory, nodes_leave_memory, nodes_reach_memory};
+
+    #[test]
+    fn laws_are_called() {
+        nodes_leave_memory();
+        nodes_reach_memory();
+        listed_nodes_have_memory();
+    }
+}

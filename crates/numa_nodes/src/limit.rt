@@ -1,0 +1,18 @@
+//! The limit of allocations, as the journal has it: memblock keeps it to itself.
+ghost use Rattle.std.specs.Prelude.{◌≡◌};
+ghost use Rattle.memblock_model.specs.Items.{limit_of};
+
+use boot_journal::Item;
+
+/// The newest limit, an address; 0 where none was set (`memblock_set_current_limit`).
+pub fn limit_of(items: &[Item]) -> u64
+    ensures { result ≡ limit_of items.now }
+{
+    let mut limit = 0;
+    for item in items {
+        if let Item::Limit { at } = item {
+            limit = *at;
+        }
+    }
+    limit
+}

@@ -1,0 +1,144 @@
+//! Nodes for memory, and data for nodes: the Node items and the allocations, in their order.
+ghost use Rattle.std.specs.Prelude.{◌≡◌, ◌^◌, ◌<◌, length, IfOk};
+ghost use Rattle.std.specs.Option.{ForSome, option_map, option_copied};
+ghost use Rattle.memblock_model.specs.Items.{limit_of};
+ghost use Rattle.srat_reader.specs.Table.{affinity};
+ghost use Rattle.growth_model.specs.Sound.{HasBegun};
+ghost use Rattle.stage_model.specs.declared.stop.StageStop.TheVariants as stops;
+ghost use Rattle.stage_model.specs.Doing.{EndsAs, in_turn, ok_as};
+ghost use Rattle.stage_calls.specs.Lent.{GoesOn};
+ghost use Rattle.node_hulls.specs.Judgement.{judgement};
+ghost use Rattle.numa_nodes.specs.Assigned.{assigned, assigned_by, data_placed, given, node_data_request, nodes_view, ranges_given};
+ghost use Rattle.numa_nodes.specs.Steps.{CanGetNodes, GoesFurther};
+
+use crate::limit::limit_of;
+use crate::memory::{memory_ranges, nodes_with_memory};
+use crate::nodes::Nodes;
+use bm_base::{Memory, Range};
+use boot_journal::{Owner, Which};
+use growth_model::Request;
+use memblock_grow::Memblock;
+use node_hulls::{Judged, NodeRange, Why, judge};
+use srat_reader::Srat;
+use stage_calls::{place, set_node};
+use stage_model::{StageStop, What};
+use std::alloc::Global;
+
+/// The bytes of a node's data (`pg_data_t` of x86-64, in whole pages).
+const NODE_DATA_SIZE: u64 = 0x2B000;
+
+/// A line of the processor's cache, in bytes (`SMP_CACHE_BYTES`).
+const CACHE_LINE: u64 = 64;
+
+/// Gives each byte of memory its node, and each node that has memory a place for its data (`initmem_init`). The table of
+/// domains is judged by the memory that there is; `off` says that `numa=off` was given. A limit of allocations is set, and
+/// where the table isn't used the addresses below it get node 0.
+pub fn assign(
+    alloc: Global,
+    memblock: &mut Memblock,
+    srat: Option<&Srat>,
+    off: bool,
+) -> Result<Nodes, StageStop>
+    requires begun { HasBegun memblock.old.journal.items }
+    requires limit { 0 < limit_of memblock.old.journal.items }
+    requires few { ForSome srat (λ table. length table.now.blocks.items < 2 ^ 32) }
+    ensures ends { EndsAs stops.Memory (ok_as nodes_view result) memblock.old.journal.items memblock.new.journal.items
+        (assigned (option_map affinity (option_copied srat.entry)) off memblock.old.journal.items) }
+    ensures lent { GoesOn memblock.old memblock.new }
+{
+    let memory = memory_ranges(alloc, &memblock.tables().records(Which::Memory))?;
+    let found = judge(alloc, &memory, srat, off)?;
+    assign_by(alloc, memblock, found)
+}
+
+/// The same by a judgement, whose ranges can get nodes.
+fn assign_by(alloc: Global, memblock: &mut Memblock, found: Judged) -> Result<Nodes, StageStop>
+    requires begun { HasBegun memblock.old.journal.items }
+    requires ranges { CanGetNodes (ranges_given (limit_of memblock.old.journal.items) (judgement found)) }
+    ensures ends { EndsAs stops.Memory (ok_as nodes_view result) memblock.old.journal.items memblock.new.journal.items
+        (assigned_by (judgement found) memblock.old.journal.items) }
+    ensures lent { GoesFurther memblock.old memblock.new }
+{
+    let limit = limit_of(memblock.journal().items());
+    let ranges = ranges_given(alloc, limit, &found)?;
+    give_nodes(memblock, &ranges)?;
+    let with_memory = nodes_with_memory(alloc, &memblock.tables().records(Which::Memory))?;
+    place_data(memblock, &with_memory)?;
+    let Judged {
+        why,
+        domains,
+        joined: _,
+        rest: _,
+        uncovered,
+    } = found;
+    Ok(Nodes {
+        why,
+        domains,
+        uncovered,
+        with_memory,
+    })
+}
+
+/// The ranges that get a node, each with it: where the table is used, the joined ones and those that are left over; else the
+/// addresses below the limit, with node 0 (`dummy_numa_init`).
+fn ranges_given(alloc: Global, limit: u64, found: &Judged) -> Result<Vec<NodeRange>, Memory>
+    ensures { IfOk result (λ ranges. ranges.items ≡ ranges_given limit (judgement found.now)) }
+{
+    let mut ranges = Vec::new(alloc);
+    match found.why {
+        Why::Used => {
+            ranges.extend_from_slice(&found.joined)?;
+            ranges.extend_from_slice(&found.rest)?;
+        }
+        _ => ranges.push(NodeRange {
+            range: Range {
+                base: 0,
+                size: limit,
+            },
+            value: 0,
+        })?,
+    }
+    Ok(ranges)
+}
+
+/// Gives each range its node.
+fn give_nodes(memblock: &mut Memblock, ranges: &[NodeRange]) -> Result<(), StageStop>
+    requires begun { HasBegun memblock.old.journal.items }
+    requires ranges { CanGetNodes ranges.now }
+    ensures ends { EndsAs stops.Memory result memblock.old.journal.items memblock.new.journal.items
+        (in_turn given tt ranges.now memblock.old.journal.items) }
+    ensures lent { GoesFurther memblock.old memblock.new }
+{
+    for run in ranges {
+        set_node(memblock, run.range, run.value)?;
+    }
+    Ok(())
+}
+
+/// Places the data of each node.
+fn place_data(memblock: &mut Memblock, nodes: &[u32]) -> Result<(), StageStop>
+    requires begun { HasBegun memblock.old.journal.items }
+    ensures ends { EndsAs stops.Memory result memblock.old.journal.items memblock.new.journal.items
+        (in_turn data_placed tt nodes.now memblock.old.journal.items) }
+    ensures lent { GoesFurther memblock.old memblock.new }
+{
+    for node in nodes {
+        let request = node_data_request(*node);
+        place(memblock, What::NodeData(*node), &request, Owner::NodeData(*node))?;
+    }
+    Ok(())
+}
+
+/// What is asked for the data of a node: whole pages at a cache line, on the node itself if there is room.
+fn node_data_request(node: u32) -> Request
+    ensures { result ≡ node_data_request node }
+{
+    Request {
+        size: NODE_DATA_SIZE,
+        align: CACHE_LINE,
+        min: 0,
+        max: None,
+        node: Some(node),
+        exact: false,
+    }
+}
