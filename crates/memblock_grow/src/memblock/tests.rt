@@ -13,6 +13,8 @@ use memblock_ranges::Head;
 use std::alloc::Global;
 use std::test::Fail;
 
+mod nested;
+
 fn bytes(base: u64, size: u64) -> Range
     requires { base + size < 2 ^ 64 }
     ensures { result ≡ record { base = base; size = size } }

@@ -1,0 +1,51 @@
+#!/usr/bin/env python3
+"""What a call of memblock costs at 1,000 and at 10,000 claimed pages with a page between them.
+
+usage: bench/calls.py
+
+It proves and builds bench/calls.main.txt as a program over a copy of the crates, in a folder of its own, which takes some minutes, and
+prints the microseconds of one call: the least time of several runs less that of as many with no round. `claims`: as many pages are
+claimed in no order, from a machine's start on, so that the reserved table doubles on the way; `allocs`: as many are allocated from
+above, each below a maximum that lies a page below the last; `half`: the page of the middle is freed and claimed; `first`: a page is
+allocated right below memory's end and freed; `last`: two pages that only the memory below all claims has are allocated and freed.
+"""
+import os
+import shutil
+import tempfile
+
+from memblock import CRATES, TOP, build, copy_crates, least_time
+
+# What one round calls, for so many pages, and how many calls are counted in all.
+KINDS = {"claims": (lambda count: count, 200000), "allocs": (lambda count: count, 200000), "half": (lambda count: 2, 20000),
+         "first": (lambda count: 2, 200000), "last": (lambda count: 2, 2000)}
+
+
+def add_program(folder):
+    lines = copy_crates(folder, CRATES + ("memblock_find", "growth_model", "memblock_grow"))
+    source = os.path.join(folder, "crates", "bench_calls", "src")
+    os.makedirs(source)
+    shutil.copy(os.path.join(TOP, "bench", "calls.main.txt"), os.path.join(source, "main.rt"))
+    lines.append("bench_calls: memblock_grow growth_model boot_journal bm_base\n")
+    with open(os.path.join(folder, "crates.txt"), "w") as file:
+        file.writelines(lines)
+
+
+def call_cost(program, kind, count):
+    calls_of, calls = KINDS[kind]
+    rounds = calls // calls_of(count)
+    none = least_time([program, kind, str(count), "0"])
+    some = least_time([program, kind, str(count), str(rounds)])
+    return max(some - none, 1e-9) / (rounds * calls_of(count)) * 1e6
+
+
+def main():
+    with tempfile.TemporaryDirectory() as folder:
+        add_program(folder)
+        program = build(folder, "calls", "claims")
+        for kind in KINDS:
+            costs = [call_cost(program, kind, count) for count in (1000, 10000)]
+            print("%-6s %.2f us at 1,000, %.2f us at 10,000: 1 : %.1f" % (kind, costs[0], costs[1], costs[1] / costs[0]))
+
+
+if __name__ == "__main__":
+    main()

@@ -1,0 +1,171 @@
+//! Growth inside growth: the memory table finds a place, and its claim, or the release of the place that it leaves, makes the reserved
+//! table grow. The items and the heads are those of an implementation of the same rules in another language.
+ghost use Rattle.std.specs.Prelude.{◌+◌, ◌^◌, ◌<◌};
+
+use super::{Memblock, Refusal, Step, act, bytes, started};
+use boot_journal::{Item, Owner, Which};
+use memblock_ranges::Head;
+use std::alloc::Global;
+use std::test::Fail;
+
+// Carries out each step in turn; `NoGap` where a call's conditions don't hold.
+fn carry_out(memblock: &mut Memblock, steps: &[Step]) -> Result<(), Refusal> {
+    for step in steps {
+        if !act(memblock, *step)? {
+            return Err(Refusal::NoGap);
+        }
+    }
+    Ok(())
+}
+
+// Claims so many pages far above, with a page between them: as many records.
+fn claim_pages(memblock: &mut Memblock, count: u32) -> Result<(), Refusal> {
+    for i in 1..=u64::from(count) {
+        carry_out(memblock, &[Step::Claim(0x8000000 + 0x2000 * i, 0x1000)])?;
+    }
+    Ok(())
+}
+
+// Adds the pages of these numbers farther above, with a page between them: as many records.
+fn add_pages(memblock: &mut Memblock, first: u32, last: u32) -> Result<(), Refusal> {
+    for i in u64::from(first)..=u64::from(last) {
+        carry_out(memblock, &[Step::Add(0x10000000 + 0x2000 * i, 0x1000)])?;
+    }
+    Ok(())
+}
+
+// A machine in which allocations end at 1 MiB: below lies the memory of the step, less the first 64 KiB. There are two records of
+// memory and two of claims, beside those of so many pages.
+fn low_machine(alloc: Global, low: Step, pages: u32) -> Result<Memblock, Refusal> {
+    let mut memblock = started(alloc, bytes(0x1000000, 0x2000000))?;
+    carry_out(&mut memblock, &[Step::Claim(0, 0x10000)])?;
+    claim_pages(&mut memblock, pages)?;
+    let memory = [Step::Limit(0x100000), low, Step::Add(0x100000, 0x7F00000)];
+    carry_out(&mut memblock, &memory)?;
+    Ok(memblock)
+}
+
+// Whether there are so many items, and these are the last of them.
+fn has_written(memblock: &Memblock, count: usize, last: &[Item]) -> bool {
+    let items = memblock.journal().items();
+    items.len() == count && items.ends_with(last)
+}
+
+fn lies_at(memblock: &Memblock, which: Which, place: u64, room: u64, count: u64) -> bool {
+    memblock.tables().head(which) == Head { place, room, count }
+}
+
+fn grown(which: Which, place: u64, room: u64) -> Item {
+    Item::Grown { which, place, room }
+}
+
+fn claimed(base: u64, size: u64, which: Which) -> Item
+    requires { base + size < 2 ^ 64 }
+{
+    Item::Claim {
+        range: bytes(base, size),
+        owner: Owner::Table(which),
+    }
+}
+
+fn added(base: u64) -> Item
+    requires { base + 0x1000 < 2 ^ 64 }
+{
+    Item::Mem {
+        range: bytes(base, 0x1000),
+    }
+}
+
+// Both tables are full. The claim of the memory table's place needs a record, so the reserved table moves first.
+//
+//     0x9C000             0x9E000           0xA0000
+//     |reserved, 256 .....|memory, 256 .....|
+#[test]
+fn a_claim_makes_the_other_table_grow(rt: HostRuntime) -> Result<(), Fail> {
+    let mut memblock = low_machine(rt.alloc(), Step::Add(0, 0xA0000), 126)?;
+    add_pages(&mut memblock, 1, 126)?;
+    assert!(rt; has_written(&memblock, 257, &[]));
+    add_pages(&mut memblock, 127, 127)?;
+    let last = [
+        grown(Which::Reserved, 0x9C000, 256),
+        claimed(0x9C000, 0x2000, Which::Reserved),
+        claimed(0x9E000, 0x2000, Which::Memory),
+        grown(Which::Memory, 0x9E000, 256),
+        added(0x100FE000),
+    ];
+    assert!(rt; has_written(&memblock, 262, &last));
+    assert!(rt; lies_at(&memblock, Which::Memory, 0x9E000, 256, 129));
+    assert!(rt; lies_at(&memblock, Which::Reserved, 0x9C000, 256, 129));
+    Ok(())
+}
+
+// The same with two frames below 1 MiB: the memory table's place is there, and none for the reserved table. Nothing is written.
+#[test]
+fn a_claim_is_refused_for_the_other_table(rt: HostRuntime) -> Result<(), Fail> {
+    let mut memblock = low_machine(rt.alloc(), Step::Add(0x11000, 0x2000), 126)?;
+    add_pages(&mut memblock, 1, 126)?;
+    let refused = add_pages(&mut memblock, 127, 127);
+    let refusal = Refusal::NoGapForTable {
+        which: Which::Reserved,
+        room: 128,
+    };
+    assert_eq!(rt; refused, Err(refusal));
+    assert!(rt; has_written(&memblock, 257, &[added(0x100FC000)]));
+    assert!(rt; lies_at(&memblock, Which::Memory, 0x2FFE000, 128, 128));
+    assert!(rt; lies_at(&memblock, Which::Reserved, 0x2FFF000, 128, 128));
+    Ok(())
+}
+
+// The memory table moves for the second time. The release of its first place may need two records, and there is room for one, so
+// the reserved table moves before it.
+//
+//     0x99000             0x9B000           0x9E000         0xA0000
+//     |reserved, 256 .....|memory, 512 .....|left ..........|
+#[test]
+fn a_release_makes_the_other_table_grow(rt: HostRuntime) -> Result<(), Fail> {
+    let mut memblock = low_machine(rt.alloc(), Step::Add(0, 0xA0000), 124)?;
+    add_pages(&mut memblock, 1, 254)?;
+    assert!(rt; lies_at(&memblock, Which::Memory, 0x9E000, 256, 256));
+    assert!(rt; lies_at(&memblock, Which::Reserved, 0x2FFF000, 128, 127));
+    add_pages(&mut memblock, 255, 255)?;
+    let last = [
+        claimed(0x9B000, 0x3000, Which::Memory),
+        grown(Which::Memory, 0x9B000, 512),
+        grown(Which::Reserved, 0x99000, 256),
+        claimed(0x99000, 0x2000, Which::Reserved),
+        Item::Free {
+            range: bytes(0x9E000, 0x2000),
+        },
+        added(0x101FE000),
+    ];
+    assert!(rt; has_written(&memblock, 391, &last));
+    assert!(rt; lies_at(&memblock, Which::Memory, 0x9B000, 512, 257));
+    assert!(rt; lies_at(&memblock, Which::Reserved, 0x99000, 256, 127));
+    Ok(())
+}
+
+// The same with five frames below 1 MiB: nothing is left for the reserved table. The place that the memory table left stays
+// claimed, and the page is added.
+//
+//     0x11000           0x14000         0x16000
+//     |memory, 512 .....|left ..........|
+#[test]
+fn a_release_is_refused_for_the_other_table(rt: HostRuntime) -> Result<(), Fail> {
+    let mut memblock = low_machine(rt.alloc(), Step::Add(0x11000, 0x5000), 124)?;
+    add_pages(&mut memblock, 1, 254)?;
+    assert!(rt; lies_at(&memblock, Which::Memory, 0x14000, 256, 256));
+    add_pages(&mut memblock, 255, 255)?;
+    let last = [
+        claimed(0x11000, 0x3000, Which::Memory),
+        grown(Which::Memory, 0x11000, 512),
+        added(0x101FE000),
+    ];
+    assert!(rt; has_written(&memblock, 388, &last));
+    assert_eq!(rt;
+        memblock.journal().owner_at(0x15FFF),
+        Some(Owner::Table(Which::Memory))
+    );
+    assert!(rt; lies_at(&memblock, Which::Memory, 0x11000, 512, 257));
+    assert!(rt; lies_at(&memblock, Which::Reserved, 0x2FFF000, 128, 127));
+    Ok(())
+}
