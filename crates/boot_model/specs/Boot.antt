@@ -25,39 +25,67 @@ use Rattle.early_script.specs.declared.outcome.Answer.{Answer}
 use Rattle.early_script.specs.Ids.{Ids}
 use Rattle.early_script.specs.Stage.{Stage as Script, after_lines, before_sections, behind_sections}
 use Rattle.bm_base.specs.ResultSteps.{◌>>=◌}
+use Rattle.memblock_model.specs.Items.{memory_of, owner_of}
+use Rattle.memblock_model.specs.Tables.{reserved_of}
+use Rattle.srat_reader.specs.Table.{Affinity}
+use Rattle.node_hulls.specs.declared.reasons.Why.TheVariants as why
+use Rattle.stage_model.specs.Doing.{Doing, Done, after}
+use Rattle.numa_nodes.specs.Assigned.{Noded, assigned}
+use Rattle.crash_kernel.specs.declared.crash.Crash.{Crash}
+use Rattle.crash_kernel.specs.declared.crash.Crash.TheVariants as crash
+use Rattle.crash_kernel.specs.Reserved.{reserved}
+use Rattle.table_frames.specs.Frames.{free_in, node_of_frame}
+use Rattle.frame_blocks.specs.Frames.{Frames}
+use Rattle.zone_spans.specs.declared.span.Span.{Span}
+use Rattle.zone_spans.specs.Spans.{spans_of}
 use Rattle.boot_model.specs.declared.limit.TheConstants.{MAX_PHYSMEM}
 use Rattle.boot_model.specs.declared.stop.Cause.{Cause}
 use Rattle.boot_model.specs.declared.stop.Cause.TheVariants as causes
+use Rattle.boot_model.specs.Sections.{SectionPlaces, no_sections, places_of_sections}
 use Rattle.boot_model.specs.Stages.{in_order}
-use Rattle.boot_model.specs.Stop.{cause_of_growth, cause_of_map}
+use Rattle.boot_model.specs.Stop.{cause_of_growth, cause_of_map, cause_of_refusal, cause_of_stage}
 
 -- what a boot is given: the zero page's entries and its initrd, where there is one, the entries of the
--- extension, the options, where the kernel lies, and the lines of the early script
+-- extension, the options, the table of domains, where there is one, where the kernel lies, and the lines of the early script
 pub record Given : Type 0 where
   pub entries : List Entry
   pub initrd : Option Extent
   pub extension : List Entry
   pub options : Chosen
+  pub domains : Option Affinity
   pub kernel : Extent
   pub lines : List Line
 
--- what a boot has made so far: the map, the options, what happened to memory, oldest first; and of the script the IDs that are live, the
--- fills, and the answers
+-- what a boot has made so far: the map, the options, what happened to memory, oldest first; the nodes, what came of the crash area, and
+-- the places of sections; and of the script the IDs that are live, the fills, and the answers
 pub record Made : Type 0 where
   pub map : List (RunOf ℕ)
   pub options : Chosen
   pub items : List Item
+  pub nodes : Noded
+  pub crash : Crash
+  pub sections : SectionPlaces
   pub ids : Ids
   pub fills : List Filled
   pub answers : List Answer
 
--- and what is told of it in the end: beside these where the two tables then lie, and how full they are. The fills stand in the bytes of memory
+-- and what is told of it in the end: beside these where the two tables then lie, and how full they are; what the memory of each node
+-- spans, and which frames are free. The fills stand in the bytes of memory
 pub record Told : Type 0 where
   pub map : List (RunOf ℕ)
   pub options : Chosen
   pub items : List Item
   pub heads : Heads
+  pub nodes : Noded
+  pub crash : Crash
+  pub sections : SectionPlaces
   pub answers : List Answer
+  pub spans : List Span
+  pub free : Frames
+
+-- before memory has nodes
+abbrev pub no_nodes : Noded
+no_nodes = record { why = why.Absent; domains = []; uncovered = 0; with_memory = [] }
 
 -- what a stage makes of what the stages before it made, or why the boot stops there
 abbrev pub Stage : Type 0
@@ -74,18 +102,41 @@ heads_of kernel items = record {
   reserved = head_of (table_for which.Reserved kernel items);
 }
 
+-- which frames go to the buddy lists: memory of which nobody has a byte, each of the node of its memory (`memblock_free_all`)
+abbrev pub handed_over : List Item → Frames
+handed_over items = free_in (memory_of items) (reserved_of (owner_of items))
+
+-- what the memory of each node spans in each zone (`free_area_init`)
+abbrev pub spanned : List Item → List Span
+spanned items = spans_of (node_of_frame (memory_of items))
+
 abbrev pub told : Extent → Made → Told
 told kernel made = record {
   map = made.map;
   options = made.options;
   items = made.items;
   heads = heads_of kernel made.items;
+  nodes = made.nodes;
+  crash = made.crash;
+  sections = made.sections;
   answers = made.answers;
+  spans = spanned made.items;
+  free = handed_over made.items;
 }
 
 -- a boot begins with a map, and nothing happened to memory yet
 abbrev pub begin_with : List (RunOf ℕ) → Chosen → Made
-begin_with map options = record { map = map; options = options; items = []; ids = []; fills = []; answers = [] }
+begin_with map options = record {
+  map = map;
+  options = options;
+  items = [];
+  nodes = no_nodes;
+  crash = crash.Nothing;
+  sections = no_sections;
+  ids = [];
+  fills = [];
+  answers = [];
+}
 
 -- the map of its claims
 abbrev pub begin : Given → Made
@@ -139,12 +190,49 @@ behind_lines made s = record made { items = s.state.items; ids = s.state.ids; fi
 abbrev pub runs_lines : Extent → List Line → Stage
 runs_lines kernel lines made = Ok (behind_lines made (after_lines (script_at kernel made) lines))
 
--- the stages behind them, in their order. The script says where among its lines the sections are placed
+-- what a step of a stage answers is put beside what was made, and its items behind those that there were; or it stops the boot
+abbrev pub unless_stopping : Made → Option Cause → Result Made Cause
+unless_stopping next None = Ok next
+unless_stopping next (Some cause) = Err cause
+
+abbrev pub with_answer : {E A : Type 0} → (E → Option Cause) → (A → Made → Made) → Made → Result A E → Result Made Cause
+with_answer cause put next (Ok a) = Ok (put a next)
+with_answer cause put next (Err error) = unless_stopping next (cause error)
+
+abbrev pub with_done : {E A : Type 0} → (E → Option Cause) → (A → Made → Made) → Made → Done E A → Result Made Cause
+with_done cause put made done = with_answer cause put (record made { items = after made.items done }) done.answer
+
+abbrev pub by_steps : {E A : Type 0} → (E → Option Cause) → (A → Made → Made) → Doing E A → Stage
+by_steps cause put doing made = with_done cause put made (doing made.items)
+
+-- memory gets its nodes, and each node its data (`initmem_init`)
+abbrev pub put_nodes : Noded → Made → Made
+put_nodes nodes made = record made { nodes = nodes }
+
+abbrev pub has_nodes : Given → Stage
+has_nodes given = by_steps cause_of_stage put_nodes (assigned given.domains given.options.numa_off)
+
+-- the crash area is claimed (`reserve_crashkernel`)
+abbrev pub put_crash : Crash → Made → Made
+put_crash area made = record made { crash = area }
+
+abbrev pub has_crash_area : Given → Stage
+has_crash_area given = by_steps cause_of_refusal put_crash (reserved given.options.crash)
+
+-- the sections that have memory get their places
+abbrev pub put_sections : SectionPlaces → Made → Made
+put_sections sections made = record made { sections = sections }
+
+abbrev pub has_sections : Stage
+has_sections = by_steps cause_of_stage put_sections places_of_sections
+
+-- the stages behind the map, in their order. The script says where among its lines the sections are placed
 abbrev pub later_stages : Given → List Stage
 later_stages given =
-    has_memory given ∷ runs_lines given.kernel (before_sections given.lines) ∷ runs_lines given.kernel (behind_sections given.lines) ∷ []
+    has_memory given ∷ has_nodes given ∷ has_crash_area given ∷ runs_lines given.kernel (before_sections given.lines) ∷ has_sections
+    ∷ runs_lines given.kernel (behind_sections given.lines) ∷ []
 
--- the boot (`setup_arch`), as far as memory without nodes
+-- the boot (`setup_arch`), up to what it hands over (`mem_init`)
 unfoldable pub boot : Given → Result Made Cause
 boot given = map_judged given >>= λ made. in_order (later_stages given) made
 

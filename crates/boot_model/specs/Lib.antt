@@ -1,5 +1,6 @@
 pub mod Boot
 pub mod Kernel
+pub mod Sections
 pub mod Stages
 pub mod Stop
 pub mod View

@@ -3,6 +3,10 @@ use Rattle.std.specs.Prelude.{Option, Some, None}
 use Rattle.e820_usable.specs.declared.stop.MapStop.{MapStop}
 use Rattle.growth_model.specs.Outcome.{Refused}
 use Rattle.e820_usable.specs.declared.stop.MapStop.TheVariants as reasons
+use Rattle.growth_model.specs.declared.refusal.Refusal.{Refusal}
+use Rattle.growth_model.specs.declared.refusal.Refusal.TheVariants as refusal
+use Rattle.stage_model.specs.declared.stop.StageStop.{StageStop}
+use Rattle.stage_model.specs.declared.stop.StageStop.TheVariants as stage
 use Rattle.boot_model.specs.declared.stop.Cause.{Cause}
 use Rattle.boot_model.specs.declared.stop.Cause.TheVariants as causes
 use Rattle.boot_model.specs.declared.stop.Stop.{Stop}
@@ -12,12 +16,14 @@ abbrev pub stop_of : Cause → Stop
 stop_of causes.NoRam = stops.NoRam
 stop_of (causes.TooMuchRam frames) = stops.TooMuchRam frames
 stop_of (causes.MapFull runs) = stops.MapFull runs
+stop_of (causes.NoPlace thing) = stops.NoPlace thing
 stop_of (causes.NoTablePlace which room) = stops.NoTablePlace which room
 
 abbrev pub cause_of : Stop → Option Cause
 cause_of stops.NoRam = Some causes.NoRam
 cause_of (stops.TooMuchRam frames) = Some (causes.TooMuchRam frames)
 cause_of (stops.MapFull runs) = Some (causes.MapFull runs)
+cause_of (stops.NoPlace thing) = Some (causes.NoPlace thing)
 cause_of (stops.NoTablePlace which room) = Some (causes.NoTablePlace which room)
 cause_of stops.Memory = None
 
@@ -29,3 +35,15 @@ cause_of_map (reasons.TooMuchRam frames) = causes.TooMuchRam frames
 -- a table that had to grow found no place (`memblock_double_array`)
 abbrev pub cause_of_growth : Refused → Cause
 cause_of_growth refused = causes.NoTablePlace refused.which refused.room
+
+-- why a stage stops the boot. No step of a stage says that memory is wanting, so what stands there for it is of no account
+abbrev pub cause_of_stage : StageStop → Option Cause
+cause_of_stage (stage.NoPlace thing) = Some (causes.NoPlace thing)
+cause_of_stage (stage.NoTablePlace w room) = Some (causes.NoTablePlace w room)
+cause_of_stage stage.Memory = None
+
+-- the same of a stage that looks for its places itself, and so lacks none that it asks for
+abbrev pub cause_of_refusal : Refusal → Option Cause
+cause_of_refusal refusal.NoGap = None
+cause_of_refusal (refusal.NoGapForTable w room) = Some (causes.NoTablePlace w room)
+cause_of_refusal refusal.Memory = None

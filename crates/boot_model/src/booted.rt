@@ -2,10 +2,16 @@
 
 use boot_journal::Journal;
 use boot_options::Options;
+use buddy_handover::Buddy;
+use crash_kernel::Crash;
 use e820_model::Run;
 use early_script::Answer;
 use memblock_ranges::Heads;
+use numa_nodes::Nodes;
 use phys_store::Store;
+use section_maps::Placed;
+use sparse_sections::Roots;
+use zone_spans::Span;
 
 /// What a boot makes.
 #[derive(Drop)]
@@ -20,6 +26,18 @@ pub struct Booted {
     pub store: Store,
     /// Where the tables lie in them, and how full they are.
     pub heads: Heads,
+    /// The nodes, and whether the firmware's table of domains gave them.
+    pub nodes: Nodes,
+    /// What came of the crash area.
+    pub crash: Crash,
+    /// Where the roots of the sections lie.
+    pub roots: Roots,
+    /// Where the map and the usage data of each section lie.
+    pub placed: Vec<Placed>,
     /// What came of each line of the early script.
     pub answers: Vec<Answer>,
+    /// What the memory of each node spans in each zone.
+    pub spans: Vec<Span>,
+    /// The frames that were handed over.
+    pub buddy: Buddy,
 }

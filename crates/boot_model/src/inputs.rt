@@ -6,6 +6,7 @@ use bm_base::Range;
 use boot_options::Options;
 use e820_table::{Entry, ZeroPage};
 use script_reader::Line;
+use srat_reader::Srat;
 
 /// What a boot is given.
 #[derive(Drop)]
@@ -16,6 +17,8 @@ pub struct Inputs {
     pub ext: Vec<Entry>,
     /// The options of the command line.
     pub options: Options,
+    /// The firmware's table of domains, if there is one.
+    pub srat: Option<Srat>,
     /// Where the kernel's image lies.
     pub kernel: Range,
     /// The lines of the early script; none where there is no script.

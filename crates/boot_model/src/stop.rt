@@ -7,6 +7,7 @@ ghost use Rattle.boot_model.specs.Stop.{cause_of};
 use bm_base::Memory;
 use e820_usable::MapStop;
 use memblock_model::Which;
+use stage_model::What;
 
 /// Why a boot stops, want of memory apart; numbered from 1 in this order.
 #[derive(Clone, Copy, Debug, PartialEq, Eq)]
@@ -17,6 +18,8 @@ pub enum Cause {
     TooMuchRam { frames: u64 },
     /// The map has more runs than the table has room for, which is 3,200: so many.
     MapFull { runs: u64 },
+    /// No place was found for a thing that a boot can't do without.
+    NoPlace { what: What },
     /// The table had to grow and no place was found for it; so many records was its room.
     NoTablePlace { which: Which, room: u64 },
 }
@@ -30,6 +33,8 @@ pub enum Stop {
     TooMuchRam { frames: u64 },
     /// The map has more runs than the table has room for, which is 3,200: so many.
     MapFull { runs: u64 },
+    /// No place was found for a thing that a boot can't do without.
+    NoPlace { what: What },
     /// The table had to grow and no place was found for it; so many records was its room.
     NoTablePlace { which: Which, room: u64 },
     /// The program's own memory ran out.
@@ -45,6 +50,7 @@ impl Stop {
             Stop::NoRam => Some(Cause::NoRam),
             Stop::TooMuchRam { frames } => Some(Cause::TooMuchRam { frames }),
             Stop::MapFull { runs } => Some(Cause::MapFull { runs }),
+            Stop::NoPlace { what } => Some(Cause::NoPlace { what }),
             Stop::NoTablePlace { which, room } => Some(Cause::NoTablePlace { which, room }),
             Stop::Memory => None,
         }
@@ -62,6 +68,7 @@ impl From<Cause> for Stop {
             Cause::NoRam => Stop::NoRam,
             Cause::TooMuchRam { frames } => Stop::TooMuchRam { frames },
             Cause::MapFull { runs } => Stop::MapFull { runs },
+            Cause::NoPlace { what } => Stop::NoPlace { what },
             Cause::NoTablePlace { which, room } => Stop::NoTablePlace { which, room },
         }
     }

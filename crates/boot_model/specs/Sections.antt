@@ -1,0 +1,31 @@
+-- The places of sections: of the roots, and behind them of usage data and maps (`sparse_init`).
+use Rattle.std.specs.Prelude.{List, []}
+use Rattle.memblock_model.specs.Items.{memory_of}
+use Rattle.stage_model.specs.declared.section.Section.{Section}
+use Rattle.stage_model.specs.declared.stop.StageStop.{StageStop}
+use Rattle.stage_model.specs.Doing.{Doing, ◌>>=◌, returns, seen}
+use Rattle.sparse_sections.specs.Present.{present}
+use Rattle.sparse_sections.specs.Roots.{RootsPlaced, roots}
+use Rattle.section_maps.specs.declared.placed.Placed.{Placed}
+use Rattle.section_maps.specs.Maps.{maps}
+
+-- where the table of roots and the roots lie, and each section's map and usage data
+pub record SectionPlaces : Type 0 where
+  pub roots : RootsPlaced
+  pub placed : List Placed
+
+-- before they are placed
+abbrev pub no_sections : SectionPlaces
+no_sections = record { roots = record { table = 0; roots = [] }; placed = [] }
+
+abbrev pub sections_placed : List Section → Doing StageStop SectionPlaces
+sections_placed sections = do
+  table ← roots sections
+  placed ← maps sections
+  returns (record { roots = table; placed = placed })
+
+-- the sections that have memory, in their order
+unfoldable pub places_of_sections : Doing StageStop SectionPlaces
+places_of_sections = do
+  sections ← seen (λ items. present (memory_of items))
+  sections_placed sections
