@@ -1,4 +1,5 @@
 mod AssignLaws
+mod ListedLaws
 mod MemoryLaws
 mod NodedLaws
 mod RecordLaws

@@ -1,5 +1,5 @@
 -- What the steps make of memory and of the limit: the ranges get their nodes, and that is all.
-use Rattle.std.proofs.Common.{◌≡◌, ℕ, Bool, is_some, Option, Some, None, List, [], ◌∷◌, ◌++◌, Result, Ok, Err, refl, sym, ◌∙◌, ap, subst, inl, inr}
+use Rattle.std.proofs.Common.{◌≡◌, ℕ, Bool, is_some, Option, Some, None, List, [], ◌∷◌, ◌++◌, Result, Ok, Err, refl, sym, ◌∙◌, ap, inl, inr}
 use Rattle.std.proofs.lemmas.Bool.{cases_Bool}
 use Rattle.std.specs.Option.{option_map}
 use Rattle.std.proofs.lemmas.List.Sums.{fold-append}
@@ -15,13 +15,13 @@ use Rattle.memblock_model.specs.Items.{limit_after, limit_of, memory_after, memo
 use Rattle.memblock_model.specs.Labels.{Label, Labels, with_node}
 use Rattle.growth_model.specs.Carried.{AreQuiet}
 use Rattle.growth_model.specs.Growth.{grown, memory_growth, noded, two}
-use Rattle.growth_model.specs.Outcome.{Change, Outcome, Refused, ◌>>◌, followed_by, write}
+use Rattle.growth_model.specs.Outcome.{Outcome, Refused, followed_by, write}
 use Rattle.growth_model.specs.Outcome.{after as after_change}
 use Rattle.growth_model.proofs.QuietLaws.{memory_growth-quiet, quiet-grown}
 use Rattle.stage_model.specs.declared.stop.StageStop.{StageStop}
 use Rattle.stage_model.specs.declared.stop.What.TheVariants as what
 use Rattle.stage_model.specs.Doing.{Done, Doing, ◌>>=◌, after, appended, going_on, in_turn, returns, seen}
-use Rattle.stage_model.specs.Requests.{carried, placed, stop_of}
+use Rattle.stage_model.specs.Requests.{placed, stop_of}
 use Rattle.stage_model.specs.Quiet.{IsQuietStep}
 use Rattle.stage_model.proofs.DoingLaws.{appended-append}
 use Rattle.stage_model.proofs.QuietLaws.{quiet-appended_limit, quiet-appended_memory, quiet-bind, quiet-placed, quiet-returns, quiet-seen, quiet-turn}

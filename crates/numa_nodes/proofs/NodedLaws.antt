@@ -1,13 +1,12 @@
 -- Behind the stage each byte of memory has a node below 1,024, and the bytes of a frame have the same.
-use Rattle.std.proofs.Common.{◌≡◌, ◌≢◌, ℕ, zero, suc, ◌+◌, ◌-◌, ◌%◌, ◌*◌, ◌/◌, ◌^◌, ◌<◌, ◌≤◌, Bool, true, false, ◌||◌, is_some, Option, Some, None, List, [], ◌∷◌, ◌++◌, length, get_or, Ok, refl, sym, ◌∙◌, ap, subst, inl, inr, arith}
+use Rattle.std.proofs.Common.{◌≡◌, ℕ, zero, suc, ◌-◌, ◌%◌, ◌*◌, ◌/◌, ◌^◌, ◌<◌, ◌≤◌, Bool, true, false, ◌||◌, is_some, Option, Some, None, List, [], ◌∷◌, ◌++◌, Ok, refl, sym, ◌∙◌, ap, subst, inl, inr, arith}
 use Rattle.std.proofs.lemmas.Bool.{cases_lt, cases_Bool, true≢false}
 use Rattle.std.proofs.lemmas.Bool.Decides.{nat_tests}
 use Rattle.std.proofs.lemmas.Option.{none-some, same_Some}
-use Rattle.std.specs.List.{All}
 use Rattle.std.specs.Option.{option_map, option_or}
 use Rattle.bm_base.specs.Extent.{covers}
 use Rattle.address_runs.specs.Edits.{NothingFrom, relabelled}
-use Rattle.address_runs.specs.Runs.{AreRuns, RunOf, extent_of, lies_in, run_end, value_at}
+use Rattle.address_runs.specs.Runs.{AreRuns, extent_of, lies_in, run_end, value_at}
 use Rattle.address_runs.proofs.RunsLaws.{none_below, rest_from}
 use Rattle.srat_reader.specs.Table.{Affinity}
 use Rattle.memblock_model.specs.declared.item.Item.{Item}
@@ -21,9 +20,9 @@ use Rattle.node_hulls.specs.Kept.{frame_base}
 use Rattle.node_hulls.proofs.GivenLaws.{given-covers, given-frames, given-runs, given-small}
 use Rattle.stage_model.specs.Doing.{after}
 use Rattle.stage_model.specs.Noded.{AreOfFrames, IsNoded}
-use Rattle.numa_nodes.specs.Assigned.{Noded, assigned, is_memory, ranges_by, ranges_given}
+use Rattle.numa_nodes.specs.Assigned.{Noded, assigned, is_memory, ranges_by}
 use Rattle.numa_nodes.specs.Steps.{CanGetNodes}
-use Rattle.numa_nodes.proofs.MemoryLaws.{behind-answer, keeps-memory, noded_all, relabelled-some}
+use Rattle.numa_nodes.proofs.MemoryLaws.{behind-answer, noded_all, relabelled-some}
 
 -- a label with a node, where there is one to give
 abbrev relabel : Option ℕ → Option Label → Option Label
@@ -198,13 +197,13 @@ unfolding noded_all
 below-given reach limit f within = record {
   given = λ x near. elim (cases_lt x limit) as (λ _. relabelled (record { base = 0; size = limit }) (with_node (Some 0)) f x
       ≡ labelled (Some 0) (f x)) [
-    | inl below ↦
-        let here : covers (record { base = 0; size = limit }) x ≡ true = grind (arith, nat_tests) in
-        rw here refl
-    | inr above ↦
-        let not_here : covers (record { base = 0; size = limit }) x ≡ false = grind (arith, nat_tests) in
-        rw (not_here, within x above) refl
-  ];
+        | inl below ↦
+            let here : covers (record { base = 0; size = limit }) x ≡ true = grind (arith, nat_tests) in
+            rw here refl
+        | inr above ↦
+            let not_here : covers (record { base = 0; size = limit }) x ≡ false = grind (arith, nat_tests) in
+            rw (not_here, within x above) refl
+      ];
   small = λ x n at. let same : 0 ≡ n = same_Some 0 n at in omega (arith, same);
   whole = λ x near some. refl;
   frames = λ x near. refl;

@@ -1,7 +1,7 @@
 -- The nodes of memory and the data of each node (`numa_init`, `numa_register_memblks`, `alloc_node_data`).
-use Rattle.std.specs.Prelude.{ℕ, zero, suc, ◌+◌, ◌^◌, ◌==◌, Bool, true, false, not, is_some, if◌then◌else◌, Option, Some, None, List, [], ◌∷◌, ◌++◌}
+use Rattle.std.specs.Prelude.{ℕ, zero, suc, ◌+◌, ◌^◌, Bool, false, not, is_some, if◌then◌else◌, Option, Some, None, List, [], ◌∷◌, ◌++◌}
 use Rattle.bm_base.specs.Each.{each_from}
-use Rattle.address_runs.specs.Runs.{RunOf, extent_of}
+use Rattle.address_runs.specs.Runs.{extent_of}
 use Rattle.memblock_model.specs.declared.item.Item.{Item}
 use Rattle.memblock_model.specs.declared.owner.Owner.TheVariants as owner
 use Rattle.memblock_model.specs.Items.{memory_of, limit_of}

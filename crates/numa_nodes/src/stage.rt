@@ -124,7 +124,12 @@ fn place_data(memblock: &mut Memblock, nodes: &[u32]) -> Result<(), StageStop>
 {
     for node in nodes {
         let request = node_data_request(*node);
-        place(memblock, What::NodeData(*node), &request, Owner::NodeData(*node))?;
+        place(
+            memblock,
+            What::NodeData(*node),
+            &request,
+            Owner::NodeData(*node),
+        )?;
     }
     Ok(())
 }

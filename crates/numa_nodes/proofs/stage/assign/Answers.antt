@@ -1,15 +1,14 @@
 -- The table is judged by the memory that the memory table tells.
-use Rattle.std.proofs.Common.{◌≡◌, ℕ, Bool, Ok, Err, List, Option, refl, sym, ◌∙◌, ap, subst}
+use Rattle.std.proofs.Common.{◌≡◌, ℕ, Bool, List, refl, ◌∙◌, ap}
 use Rattle.std.specs.Option.{option_map, option_copied}
 use Rattle.address_runs.specs.Runs.{value_at}
 use Rattle.memblock_model.specs.Items.{limit_of, memory_of}
 use Rattle.memblock_model.specs.declared.which.Which.TheVariants as which
-use Rattle.srat_reader.specs.Table.{Affinity, affinity}
+use Rattle.srat_reader.specs.Table.{affinity}
 use Rattle.growth_model.specs.Bytes.{table_for}
 use Rattle.bm_base.specs.Extent.{Extent}
-use Rattle.node_hulls.specs.Judgement.{Judgement, judged, judgement}
+use Rattle.node_hulls.specs.Judgement.{judged, judgement}
 use Rattle.node_hulls.specs.Kept.{in_any}
-use Rattle.stage_calls.specs.Lent.{GoesOn}
 use Rattle.numa_nodes.specs.Assigned.{is_memory, nodes_view}
 use Rattle.stage_model.specs.Doing.{ok_as}
 use Rattle.numa_nodes.proofs.AssignLaws.{by-judgement, can-get, goes-lent, ranges-tell, records-tell}

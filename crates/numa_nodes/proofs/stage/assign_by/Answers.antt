@@ -1,18 +1,16 @@
 -- The ranges get their nodes, and behind them the data of the nodes is placed.
-use Rattle.std.proofs.Common.{◌≡◌, ℕ, Ok, Err, List, Result, refl, sym, ◌∙◌, ap, subst}
+use Rattle.std.proofs.Common.{◌≡◌, ℕ, Ok, Err, List, refl, sym, ◌∙◌, ap}
 use Rattle.std.proofs.lemmas.Result.{err_from_is_err_and}
-use Rattle.address_runs.specs.Runs.{RunOf, value_at}
-use Rattle.memblock_model.specs.Items.{limit_of, memory_of}
-use Rattle.memblock_model.specs.Labels.{Labels}
+use Rattle.address_runs.specs.Runs.{value_at}
+use Rattle.memblock_model.specs.Items.{memory_of}
 use Rattle.memblock_model.specs.declared.which.Which.TheVariants as which
 use Rattle.growth_model.specs.Bytes.{table_for}
-use Rattle.node_hulls.specs.Hulls.{Block}
 use Rattle.node_hulls.specs.Judgement.{judgement}
 use Rattle.stage_model.specs.declared.stop.StageStop.{StageStop}
 use Rattle.stage_model.specs.declared.stop.StageStop.TheVariants as stop
-use Rattle.stage_model.specs.Doing.{EndsAs, in_turn, ok_as}
+use Rattle.stage_model.specs.Doing.{in_turn, ok_as}
 use Rattle.stage_model.proofs.DoingLaws.{ends-along, ends-begun}
-use Rattle.numa_nodes.specs.Assigned.{Noded, given, data_placed, noded_by, nodes_view, nodes_with_memory, ranges_given, with_data}
+use Rattle.numa_nodes.specs.Assigned.{given, noded_by, nodes_view, nodes_with_memory, with_data}
 use Rattle.numa_nodes.proofs.AssignLaws.{by-ranges, by-data, data-ends, data-fails, data-wanting, ranges-told, records-tell}
 use Rattle.numa_nodes.proofs.stage.assign_by.Goals as goal
 
