@@ -1,3 +1,4 @@
 pub mod QuietLaws
 pub mod MapLaws
 pub mod GroupLaws
+mod Examples

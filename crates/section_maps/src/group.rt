@@ -72,6 +72,11 @@ pub fn place_group(
 {
     let number = first.number;
     let request = usage_request(sections.len() as u64, first.node);
-    let usage = place(memblock, What::Usage(number), &request, Owner::Usage(number))?;
+    let usage = place(
+        memblock,
+        What::Usage(number),
+        &request,
+        Owner::Usage(number),
+    )?;
     map_group(memblock, placed, first, sections, usage)
 }

@@ -4,3 +4,4 @@ pub mod AscendLaws
 pub mod NodedLaws
 pub mod QuietLaws
 pub mod RootLaws
+mod Examples

@@ -10,6 +10,8 @@ mod laws;
 mod places;
 mod roots;
 mod sections;
+#[cfg(test)]
+mod tests;
 
 pub use laws::{noded_memory_is_whole, present_sections_ascend, sections_leave_memory};
 pub use places::place_roots;

@@ -1,0 +1,46 @@
+-- Worked examples: sections in groups, the places within a group, and what is asked for.
+use Rattle.std.proofs.Common.{◌≡◌, ℕ, true, false, Some, None, List, [], ◌∷◌, Ok, refl}
+use Rattle.stage_model.specs.declared.section.Section.{Section}
+use Rattle.stage_model.specs.declared.stop.StageStop.{StageStop}
+use Rattle.stage_model.specs.Doing.{returns}
+use Rattle.section_maps.specs.declared.placed.Placed.{Placed}
+use Rattle.section_maps.specs.Maps.{Group, sections_in, groups_of, usage_request, map_request, spread, map_each, maps}
+
+abbrev section : ℕ → ℕ → Section
+section number node = record { number = number; node = node }
+
+abbrev group : Section → List Section → Group
+group first others = record { first = first; others = others }
+
+-- sections of one node that follow each other in the list are a group, also where numbers between them are missing; a node that
+-- comes again begins another
+grouped : (groups_of [] ≡ []) × (groups_of (section 0 1 ∷ []) ≡ group (section 0 1) [] ∷ [])
+    × (groups_of (section 0 0 ∷ section 1 0 ∷ section 32 0 ∷ section 33 1 ∷ section 34 0 ∷ [])
+    ≡ group (section 0 0) (section 1 0 ∷ section 32 0 ∷ []) ∷ group (section 33 1) [] ∷ group (section 34 0) [] ∷ [])
+grouped = (refl, refl, refl)
+
+all_of_a_group : sections_in (group (section 4 1) (section 5 1 ∷ [])) ≡ section 4 1 ∷ section 5 1 ∷ []
+all_of_a_group = refl
+
+-- 40 bytes of usage data and a map of 2 MiB each, one behind the other
+spread_over : spread 0x1000 0x4000000 (section 4 1 ∷ section 5 1 ∷ section 9 1 ∷ [])
+    ≡ record { section = 4; node = 1; map = 0x4000000; usage = 0x1000 } ∷ record { section = 5; node = 1; map = 0x4200000; usage = 0x1028 }
+    ∷ record { section = 9; node = 1; map = 0x4400000; usage = 0x1050 }
+    ∷ []
+spread_over = refl
+
+usage_of_three : usage_request 3 1 ≡ record { size = 120; align = 64; min = 0; max = None; node = Some 1; exact = false }
+usage_of_three = refl
+
+-- the maps of a group are wanted of the node itself, that of one section from elsewhere too
+maps_of_three : map_request 3 1 true
+    ≡ record { size = 0x600000; align = 0x200000; min = 0x1000000; max = None; node = Some 1; exact = true }
+maps_of_three = refl
+
+map_of_one : map_request 1 1 false
+    ≡ record { size = 0x200000; align = 0x200000; min = 0x1000000; max = None; node = Some 1; exact = false }
+map_of_one = refl
+
+no_sections : (map_each 0x1000 [] [] [] ≡ returns [] []) × (maps [] [] ≡ returns [] [])
+unfolding maps
+no_sections = (refl, refl)

@@ -1,0 +1,94 @@
+-- Worked examples: frames of which some are memory, records that end within sections, sections and their roots.
+use Rattle.std.proofs.Common.{◌≡◌, ℕ, ◌+◌, ◌-◌, ◌*◌, ◌/◌, ◌%◌, ◌^◌, ◌<◌, ◌≤◌, true, false, Option, Some, None, List, [], ◌∷◌, ◌++◌, refl, sym, ◌∙◌, ap, arith, lit<, lit≤}
+use Rattle.address_runs.specs.Runs.{RunOf, value_at, AreRuns}
+use Rattle.memblock_model.specs.Labels.{Label, Labels}
+use Rattle.stage_model.specs.declared.section.Section.{Section}
+use Rattle.sparse_sections.specs.Present.{first_label, section_of, section_for, sections_below, present, sections_from, IsWholeNoded, AreSections}
+use Rattle.sparse_sections.specs.Roots.{root_of, is_root, firsts_behind, small_request}
+use Rattle.sparse_sections.proofs.PresentLaws.{IsLeft, left-all, left-next, sections-record, present-none, present-end}
+
+abbrev of_node : ℕ → Label
+of_node node = record { node = Some node }
+
+abbrev record_at : ℕ → ℕ → ℕ → RunOf Label
+record_at base size node = record { base = base; size = size; value = of_node node }
+
+abbrev section : ℕ → ℕ → Section
+section number node = record { number = number; node = node }
+
+-- frames 2 and 3 are memory of node 5: none of the frames 0 and 1 is, the first of the frames 0 to 3 is frame 2; a byte within a frame
+-- that isn't its first isn't looked at
+abbrev two_frames : Labels
+two_frames = value_at (record_at 0x2000 0x2000 5 ∷ [])
+
+abbrev within_a_frame : Labels
+within_a_frame = value_at (record_at 0x1001 0xFFF 5 ∷ [])
+
+first_of_frames : (first_label two_frames 0 2 ≡ None) × (first_label two_frames 0 4 ≡ Some (of_node 5))
+    × (first_label two_frames 3 1 ≡ Some (of_node 5)) × (first_label two_frames 4 3 ≡ None) × (first_label within_a_frame 0 3 ≡ None)
+unfolding first_label
+first_of_frames = (refl, refl, refl, refl, refl)
+
+-- a section is there with its node, and isn't where nothing is memory, or where memory has no node
+of_labels : (section_for 7 None ≡ []) × (section_for 7 (Some (of_node 2)) ≡ section 7 2 ∷ [])
+    × (section_for 7 (Some (record { node = None })) ≡ [])
+of_labels = (refl, refl, refl)
+
+one_node : (sections_from 4 0 1 ≡ []) × (sections_from 4 2 1 ≡ section 4 1 ∷ section 5 1 ∷ [])
+unfolding sections_from
+one_node = (refl, refl)
+
+-- the last frame of section 0 and the first of section 1
+abbrev across : List (RunOf Label)
+across = record_at 0x7FFF000 0x2000 3 ∷ []
+
+across_runs : AreRuns across
+across_runs = (lit< tt, tt, tt)
+
+both_sections : present (value_at across) ≡ section 0 3 ∷ section 1 3 ∷ []
+unfolding sections_from
+both_sections =
+    let f : Labels = value_at across in
+    let r : RunOf Label = record_at 0x7FFF000 0x2000 3 in
+    let left : IsLeft f 0 (r ∷ []) = left-all across across_runs in
+    let last : IsLeft f 2 [] = left-next f 0 r [] left in
+    sym (present-end f 2 last (lit≤ tt)) ∙ sections-record f 0 r [] 0 2 3 left refl refl refl refl
+    ∙ ap (λ (ss : List Section). ss ++ sections_from 0 2 3) (present-none f)
+
+-- two records in section 0: it is there once, with the node of the lower one
+abbrev shared : List (RunOf Label)
+shared = record_at 0x1000 0x1000 1 ∷ record_at 0x3000 0x1000 2 ∷ []
+
+shared_runs : AreRuns shared
+shared_runs = (lit< tt, (lit≤ tt, λ touch. absurd (omega (arith, touch))), (lit< tt, tt, tt))
+
+one_section : present (value_at shared) ≡ section 0 1 ∷ []
+unfolding sections_from
+one_section =
+    let f : Labels = value_at shared in
+    let r : RunOf Label = record_at 0x1000 0x1000 1 in
+    let s : RunOf Label = record_at 0x3000 0x1000 2 in
+    let left : IsLeft f 0 (r ∷ s ∷ []) = left-all shared shared_runs in
+    let next : IsLeft f 1 (s ∷ []) = left-next f 0 r (s ∷ []) left in
+    let last : IsLeft f 1 [] = left-next f 1 s [] next in
+    sym (present-end f 1 last (lit≤ tt)) ∙ sections-record f 0 r (s ∷ []) 0 1 1 left refl refl refl refl
+    ∙ ap (λ (ss : List Section). ss ++ sections_from 0 1 1) (present-none f)
+
+-- a record in whole frames with a node
+whole : IsWholeNoded (record_at 0x1000 0x9E000 0)
+whole = record { node = 0; has = refl; base = refl; end = refl; reach = lit≤ tt }
+
+-- a root has 256 sections, and gets its place with the first of them
+root_numbers : (root_of (section 255 0) ≡ 0) × (root_of (section 256 0) ≡ 1) × (root_of (section 524287 0) ≡ 2047)
+root_numbers = (refl, refl, refl)
+
+last_root : (is_root None 0 ≡ false) × (is_root (Some 0) 0 ≡ true) × (is_root (Some 0) 1 ≡ false)
+last_root = (refl, refl, refl)
+
+roots_once : (firsts_behind None [] ≡ [])
+    × (firsts_behind None (section 0 0 ∷ section 3 1 ∷ section 255 1 ∷ section 256 2 ∷ section 300 0 ∷ []) ≡ section 0 0 ∷ section 256 2 ∷ [])
+    × (firsts_behind (Some 1) (section 256 2 ∷ section 512 0 ∷ []) ≡ section 512 0 ∷ [])
+roots_once = (refl, refl, refl)
+
+root_page : small_request 4096 (Some 1) ≡ record { size = 4096; align = 64; min = 0; max = None; node = Some 1; exact = false }
+root_page = refl
