@@ -1,24 +1,28 @@
 -- Worked examples: how much memory there is, what is asked for by that, where it may lie, and what comes of it.
-use Rattle.std.proofs.Common.{◌≡◌, ℕ, true, false, Option, Some, None, List, [], ◌∷◌, Ok, refl, inl, inr, arith, ◌∙◌}
-use Rattle.std.proofs.lemmas.Bool.{cases_Bool}
-use Rattle.bm_base.specs.Extent.{Extent}
+use Rattle.std.proofs.Common.{◌≡◌, ℕ, ◌^◌, nat_le, true, false, Some, None, List, [], ◌∷◌, refl, ap, arith}
+use Rattle.std.proofs.lemmas.Bool.Decides.{nat_tests}
+use Rattle.std.proofs.lemmas.Option.{same_Some}
+use Rattle.bm_base.specs.Extent.{Extent, covers}
 use Rattle.bm_base.specs.Each.{each_from, each_in}
-use Rattle.address_runs.specs.Runs.{RunOf, value_at}
+use Rattle.address_runs.specs.Runs.{RunOf, value_at, AreRuns}
+use Rattle.address_runs.specs.Edits.{NothingFrom}
+use Rattle.address_runs.proofs.RunsLaws.{behind}
 use Rattle.memblock_model.specs.declared.item.Item.{Item}
 use Rattle.memblock_model.specs.declared.item.Item.TheVariants as item
 use Rattle.memblock_model.specs.declared.owner.Owner.TheVariants as owner
+use Rattle.memblock_model.specs.Items.{memory_of}
 use Rattle.memblock_model.specs.Labels.{Label, plain_label, with_node}
 use Rattle.memblock_model.specs.Search.{fits, fits_in}
 use Rattle.boot_options.specs.declared.crash.CrashRange.{CrashRange}
-use Rattle.boot_options.specs.Crash.{Crash as Asked, PlainForm, no_crash, one_range}
+use Rattle.boot_options.specs.Crash.{Crash as Asked, no_crash, one_range}
 use Rattle.stage_model.specs.Doing.{returns}
-use Rattle.crash_kernel.specs.declared.area.Area.{Area}
 use Rattle.crash_kernel.specs.declared.area.Spot.TheVariants as spot
 use Rattle.crash_kernel.specs.declared.crash.Crash.TheVariants as crash
 use Rattle.crash_kernel.specs.Total.{memory_bytes}
-use Rattle.crash_kernel.specs.Area.{area_for, high_area, is_in, plain_area, size_for, sized, spot_for}
-use Rattle.crash_kernel.specs.Places.{area_query, fixed_range, low_size, main_range, needs_low, unplaced}
-use Rattle.crash_kernel.specs.Reserved.{reserved, with_area, with_main}
+use Rattle.crash_kernel.specs.Area.{area_for, is_in, size_for, spot_for}
+use Rattle.crash_kernel.specs.Places.{fixed_range, low_size, main_range, needs_low, unplaced}
+use Rattle.crash_kernel.specs.Reserved.{reserved, with_main}
+use Rattle.crash_kernel.specs.Told.{HasLowPart, IsArea, IsFree}
 use Rattle.crash_kernel.proofs.TotalLaws.{runs-bytes}
 
 -- 640 KiB less a page and, of two nodes, 1 MiB and 2 bytes: not rounded
@@ -27,6 +31,31 @@ two_nodes = record { base = 0x1000; size = 0x9F000; value = plain_label }
     ∷ (record { base = 0x100000; size = 0x80000; value = with_node (Some 0) plain_label }
     ∷ (record { base = 0x180000; size = 0x80002; value = with_node (Some 1) plain_label }
     ∷ []))
+
+are_runs : AreRuns two_nodes
+are_runs = (
+  (omega arith),
+  (omega arith, λ touch. absurd (omega arith)),
+  (
+    (omega arith),
+    (omega arith, λ touch same. absurd (let e : 0 ≡ 1 = same_Some 0 1 (ap (λ (l : Label). l.node) same) in omega arith)),
+    ((omega arith), tt, tt),
+  ),
+)
+
+nothing_behind : NothingFrom (2 ^ 64) (value_at two_nodes)
+nothing_behind x le =
+    rw (
+      behind (record { base = 0x1000; size = 0x9F000; value = plain_label }) x (omega arith),
+      behind (record { base = 0x100000; size = 0x80000; value = with_node (Some 0) plain_label }) x (omega arith),
+      behind (record { base = 0x180000; size = 0x80002; value = with_node (Some 1) plain_label }) x (omega arith),
+    ) refl
+
+counted : memory_bytes (value_at two_nodes) ≡ 0x19F002
+counted = runs-bytes two_nodes are_runs nothing_behind
+
+no_bytes : memory_bytes (value_at []) ≡ 0
+no_bytes = runs-bytes [] tt (λ x le. refl)
 
 -- a range holds its start, and not its end
 abbrev middle : CrashRange
@@ -128,6 +157,39 @@ of_two_nodes = refl
 asked_there : main_range 2 (spot.Fixed 0x100000) three ≡ Some (record { base = 0x100000; size = 2 })
 unfolding main_range fits fits_in each_in each_from
 asked_there = refl
+
+-- what is free, and an area of it that needs no low part
+abbrev two_bytes : Extent
+two_bytes = record { base = 0x100000; size = 2 }
+
+two_are_free : IsFree three two_bytes
+two_are_free = record {
+  label = plain_label;
+  memory = λ x at. let inside : covers (record { base = 0x100000; size = 3 }) x ≡ true = grind (arith, nat_tests, at) in rw inside refl;
+  free = λ x at. refl;
+}
+
+claimed_is_not_free : IsFree claimed_one two_bytes → ⊥
+claimed_is_not_free known = let free : Some owner.Initrd ≡ None = known.free 0x100001 refl in cc
+
+abbrev two_asked : Asked
+two_asked = record { plain = Some (one_range 2 0x100000); high = None; low = None }
+
+two_are_asked : (total : ℕ) → area_for total two_asked ≡ Some (record { size = 2; spot = spot.Fixed 0x100000 })
+unfolding area_for
+two_are_asked total = let any : nat_le 0 total ≡ true = grind (arith, nat_tests) in rw any refl
+
+two_told : IsArea two_asked three two_bytes None
+two_told = record {
+  spot = spot.Fixed 0x100000;
+  size = two_are_asked (memory_bytes (memory_of three));
+  free = two_are_free;
+  aligned = refl;
+  low_part = refl;
+}
+
+low_part_wanting : HasLowPart two_asked three (record { base = 0x100000000; size = 2 }) None → ⊥
+low_part_wanting known = let clash : true ≡ false = known in cc
 
 -- what comes of an area without a place
 in_use : with_main (record { size = 2; spot = spot.Fixed 0x100000 }) 0x10000000 None three ≡ returns crash.InUse three

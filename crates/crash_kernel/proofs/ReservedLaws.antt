@@ -1,5 +1,5 @@
 -- The stage step by step: how its parts end by the ends of what they carry out, and that the area meets no table once it is claimed.
-use Rattle.std.proofs.Common.{◌≡◌, ◌≢◌, ℕ, Bool, if◌then◌else◌, Option, Some, None, List, [], ◌∷◌, ◌++◌, Result, Ok, Err, refl, sym, ◌∙◌, ap, subst}
+use Rattle.std.proofs.Common.{◌≡◌, ◌≢◌, ℕ, Bool, if◌then◌else◌, Option, Some, None, List, [], ◌∷◌, ◌++◌, Result, Ok, Err, sym, ◌∙◌, ap, subst}
 use Rattle.bm_base.specs.Extent.{Extent}
 use Rattle.memblock_model.specs.declared.which.Which.TheVariants as which
 use Rattle.memblock_model.specs.declared.owner.Owner.{Owner}
@@ -7,11 +7,10 @@ use Rattle.memblock_model.specs.declared.owner.Owner.TheVariants as owner
 use Rattle.memblock_model.specs.declared.item.Item.{Item}
 use Rattle.memblock_model.specs.declared.item.Item.TheVariants as item
 use Rattle.memblock_model.specs.Items.{memory_of}
-use Rattle.memblock_model.specs.Tables.{live}
 use Rattle.growth_model.specs.declared.refusal.Refusal.{Refusal}
 use Rattle.growth_model.specs.declared.refusal.Refusal.TheVariants as refusal
 use Rattle.growth_model.specs.Outcome.{Change}
-use Rattle.growth_model.specs.Growth.{claimed, freed, new_in}
+use Rattle.growth_model.specs.Growth.{claimed, new_in}
 use Rattle.growth_model.specs.Ends.{Ends}
 use Rattle.growth_model.specs.Sound.{Clear, Placed, IsAway}
 use Rattle.growth_model.proofs.PlacedLaws.{live-same, moves-of, rooms-of, away-still}

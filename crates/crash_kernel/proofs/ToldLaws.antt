@@ -1,6 +1,6 @@
 -- An area that the stage tells was free, and it has a low part exactly where it needs one.
-use Rattle.std.proofs.Common.{◌≡◌, ◌⊎◌, inl, inr, ℕ, ◌+◌, ◌%◌, ◌^◌, ◌≤◌, ◌==◌, Bool, true, false, ◌&&◌, nat_lt, is_some, if◌then◌else◌, Option, Some, None, List, [], Result, Ok, Err, refl, sym, ◌∙◌, ap, subst, arith}
-use Rattle.std.proofs.lemmas.Bool.{and_parts, true≢false}
+use Rattle.std.proofs.Common.{◌≡◌, ◌⊎◌, inl, inr, ℕ, ◌+◌, ◌%◌, ◌^◌, ◌≤◌, ◌==◌, Bool, true, false, ◌&&◌, nat_lt, is_some, if◌then◌else◌, Option, Some, None, List, [], Result, Ok, refl, sym, ◌∙◌, ap, subst, arith}
+use Rattle.std.proofs.lemmas.Bool.{true≢false}
 use Rattle.std.proofs.lemmas.Bool.Decides.{nat_tests}
 use Rattle.std.proofs.lemmas.Option.{same_Some}
 use Rattle.std.specs.Option.{option_map, option_or}
@@ -31,9 +31,9 @@ use Rattle.crash_kernel.specs.declared.crash.Crash.{Crash}
 use Rattle.crash_kernel.specs.declared.crash.Crash.TheVariants as crash
 use Rattle.crash_kernel.specs.Total.{memory_bytes}
 use Rattle.crash_kernel.specs.Area.{area_for}
-use Rattle.crash_kernel.specs.Places.{area_query, best_range, fixed_range, high_range, low_range, low_size, main_range, needs_low, unplaced}
+use Rattle.crash_kernel.specs.Places.{area_query, best_range, high_range, low_range, low_size, main_range, needs_low, unplaced}
 use Rattle.crash_kernel.specs.Reserved.{low_part, reserved, with_area, with_low, with_main}
-use Rattle.crash_kernel.specs.Told.{HasLowPart, IsArea, IsFree, IsLowPart, with_claim}
+use Rattle.crash_kernel.specs.Told.{HasLowPart, IsArea, IsFree, with_claim}
 
 -- a place that fits is free
 no_owner : (o : Option Owner) → without_owner o ≡ None → o ≡ None

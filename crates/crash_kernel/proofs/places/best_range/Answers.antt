@@ -1,5 +1,4 @@
-use Rattle.std.proofs.Common.{◌≡◌, ℕ, ◌+◌, ◌≤◌, refl, sym, arith}
-use Rattle.memblock_model.specs.declared.query.Query.{Query}
+use Rattle.std.proofs.Common.{◌+◌, ◌≤◌, refl, sym, arith}
 use Rattle.growth_model.proofs.FoundLaws.{found-away}
 use Rattle.crash_kernel.specs.Places.{area_query}
 use Rattle.crash_kernel.proofs.PlaceLaws.{best-within}

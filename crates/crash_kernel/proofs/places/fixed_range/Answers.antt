@@ -1,8 +1,8 @@
-use Rattle.std.proofs.Common.{◌≡◌, ℕ, ◌+◌, Option, Some, None, sym, ◌∙◌, ap, subst}
+use Rattle.std.proofs.Common.{◌≡◌, ℕ, ◌+◌, Some, None, sym, ◌∙◌, ap, subst}
 use Rattle.bm_base.specs.Extent.{Extent}
 use Rattle.memblock_model.specs.Search.{best}
 use Rattle.growth_model.specs.Sound.{IsAway}
-use Rattle.crash_kernel.specs.Places.{area_query, fixed_range}
+use Rattle.crash_kernel.specs.Places.{area_query}
 use Rattle.crash_kernel.proofs.PlaceLaws.{exact-away, fixed-found, fixed-fails}
 use Rattle.crash_kernel.proofs.places.fixed_range.Goals as goal
 

@@ -1,4 +1,4 @@
-use Rattle.std.proofs.Common.{◌≡◌, ℕ, ◌^◌, true, false, List, Option, Some, None, Result, Ok, Err, refl, sym, ◌∙◌, ap, subst}
+use Rattle.std.proofs.Common.{◌≡◌, ℕ, ◌^◌, true, false, List, Some, None, Ok, Err, refl, sym, ◌∙◌, ap, subst}
 use Rattle.std.proofs.lemmas.Result.{err_from_is_err_and}
 use Rattle.bm_base.specs.Extent.{Extent}
 use Rattle.address_runs.specs.Runs.{value_at}
@@ -9,18 +9,15 @@ use Rattle.memblock_model.specs.declared.owner.Owner.TheVariants as owner
 use Rattle.memblock_model.specs.declared.item.Item.{Item}
 use Rattle.memblock_model.specs.Items.{memory_of}
 use Rattle.memblock_ranges.specs.Tables.{Contents as Tables, Table}
-use Rattle.growth_model.specs.declared.refusal.Refusal.{Refusal}
-use Rattle.growth_model.specs.declared.refusal.Refusal.TheVariants as refusal
 use Rattle.growth_model.specs.Bytes.{table_for, AreSpelled}
 use Rattle.growth_model.specs.Sound.{IsAway}
 use Rattle.memblock_grow.specs.Contents.{Contents}
-use Rattle.stage_model.specs.Doing.{EndsAs}
 use Rattle.stage_calls.specs.Lent.{GoesOn}
 use Rattle.stage_calls.proofs.LentLaws.{goes-none, goes-then}
 use Rattle.boot_options.specs.Crash.{crash_view}
 use Rattle.crash_kernel.specs.declared.crash.Crash.TheVariants as crash
 use Rattle.crash_kernel.specs.Total.{memory_bytes}
-use Rattle.crash_kernel.specs.Places.{low_size, needs_low}
+use Rattle.crash_kernel.specs.Places.{low_size}
 use Rattle.crash_kernel.specs.Reserved.{reserved}
 use Rattle.crash_kernel.proofs.TotalLaws.{records-bytes}
 use Rattle.crash_kernel.proofs.ReservedLaws.{area-by, claimed-away, exits, main-fails, main-then, reserved-by}

@@ -1,10 +1,10 @@
-use Rattle.std.proofs.Common.{◌≡◌, Ok, Err, Some, None, sym}
+use Rattle.std.proofs.Common.{Ok, Err, Some, None}
 use Rattle.std.proofs.lemmas.Result.{err_from_is_err_and}
 use Rattle.memblock_model.specs.declared.owner.Owner.TheVariants as owner
 use Rattle.growth_model.specs.Growth.{claimed, freed}
 use Rattle.stage_model.specs.Doing.{returns}
 use Rattle.crash_kernel.specs.declared.crash.Crash.TheVariants as crash
-use Rattle.crash_kernel.specs.Reserved.{low_part, with_low}
+use Rattle.crash_kernel.specs.Reserved.{low_part}
 use Rattle.crash_kernel.proofs.ReservedLaws.{change-then, change-fails, exits, low-by}
 use Rattle.crash_kernel.proofs.stage.reserve_low.Goals as goal
 
