@@ -1,5 +1,5 @@
 -- Small texts and their parts, by computing.
-use Rattle.std.proofs.Common.{◌≡◌, [], ◌∷◌, codes, refl}
+use Rattle.std.proofs.Common.{◌≡◌, [], ◌∷◌, codes, Some, None, refl}
 use Rattle.std.specs.Fmt.{digits}
 use Rattle.hex.specs.Hex.{encode_with}
 use Rattle.bm_base.specs.Extent.{Extent}
@@ -10,11 +10,13 @@ use Rattle.memblock_model.specs.declared.which.Which.TheVariants as which
 use Rattle.early_script.specs.declared.outcome.Outcome.TheVariants as outcomes
 use Rattle.frame_blocks.specs.declared.block.Block.{Block}
 use Rattle.frame_blocks.specs.Frames.{Frames}
+use Rattle.crash_kernel.specs.declared.crash.Crash.TheVariants as crash
 use Rattle.node_hulls.specs.declared.reasons.Why.TheVariants as why
 use Rattle.section_maps.specs.declared.placed.Placed.{Placed}
 use Rattle.zone_spans.specs.declared.span.Span.{Span}
 use Rattle.report_texts.specs.Lines.{lines_from}
 use Rattle.stage_texts.specs.BlocksText.{block_line}
+use Rattle.stage_texts.specs.CrashText.{crash_text, low_line}
 use Rattle.stage_texts.specs.NodesText.{domain_line, node_line, nodes_text, uncovered_line, why_line}
 use Rattle.stage_texts.specs.ScriptText.{answer_line, outcome_text, script_text}
 use Rattle.stage_texts.specs.SectionsText.{root_line, roots_line, section_line, sections_text}
@@ -82,6 +84,27 @@ no_table : nodes_text (record { why = why.Absent; domains = []; uncovered = 0; w
     ≡ codes "numa absent\nuncovered 0\n"
 unfolding digits
 no_table = refl
+
+-- the crash area
+above_4G : Extent
+above_4G = record { base = 0x100000000; size = 0x20000000 }
+
+low_part : Extent
+low_part = record { base = 0x6F000000; size = 0x10000000 }
+
+low_lines : (low_line (Some low_part) ≡ codes "crash low 0x000000006f000000..0x000000007effffff\n") × (low_line None ≡ [])
+unfolding low_part digits
+low_lines = (refl, refl)
+
+crash_examples : (crash_text crash.Nothing ≡ codes "crash none\n") × (crash_text crash.NoArea ≡ codes "crash no area\n")
+    × (crash_text crash.InUse ≡ codes "crash in use\n") × (crash_text crash.LowFailed ≡ codes "crash low failed\n")
+crash_examples = (refl, refl, refl, refl)
+
+two_parts : (crash_text (crash.At above_4G (Some low_part))
+    ≡ codes "crash at 0x0000000100000000..0x000000011fffffff\ncrash low 0x000000006f000000..0x000000007effffff\n")
+    × (crash_text (crash.At low_part None) ≡ codes "crash at 0x000000006f000000..0x000000007effffff\n")
+unfolding above_4G low_part digits
+two_parts = (refl, refl)
 
 -- sections
 root_lines : (roots_line 0x7FDC000 ≡ codes "roots 0x0000000007fdc000\n")

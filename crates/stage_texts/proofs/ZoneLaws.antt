@@ -47,7 +47,8 @@ one_more true true o m =
           let more : nat_lt o (m + 1) ≡ true = grind (arith, nat_tests) in
           rw (other, below, more) (omega arith)
       | inr least ↦
-          elim (cases_lt m o) as (λ _. cond (nat_lt o (m + 1)) (2 ^ o) 0 ≡ cond (nat_lt o m) (2 ^ o) 0 + cond ((o == m) && true) 1 0 * 2 ^ m) [
+          elim (cases_lt m o)
+          as (λ _. cond (nat_lt o (m + 1)) (2 ^ o) 0 ≡ cond (nat_lt o m) (2 ^ o) 0 + cond ((o == m) && true) 1 0 * 2 ^ m) [
             | inl greater ↦
                 let other : (o == m) ≡ false = grind (arith, nat_tests) in
                 let below : nat_lt o m ≡ false = grind (arith, nat_tests) in

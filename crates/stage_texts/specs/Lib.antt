@@ -1,4 +1,5 @@
 pub mod BlocksText
+pub mod CrashText
 pub mod NodesText
 pub mod ScriptText
 pub mod SectionsText

@@ -1,13 +1,14 @@
 //! The texts of small stages, put once each with memory to spare.
 
 use crate::{
-    Fullness, Summary, put_blocks, put_buddyinfo, put_nodes, put_script, put_sections, put_summary,
-    put_zones,
+    Fullness, Summary, put_blocks, put_buddyinfo, put_crash, put_nodes, put_script, put_sections,
+    put_summary, put_zones,
 };
 use arrayvec::ArrayVec;
 use bm_base::{Range, Zone};
 use boot_journal::{Item, Journal};
 use buddy_handover::Buddy;
+use crash_kernel::Crash;
 use early_script::{Answer, Outcome};
 use memblock_model::Which;
 use numa_nodes::{Nodes, Why};
@@ -73,6 +74,29 @@ fn nodes(rt: HostRuntime) -> Result<(), Fail> {
     put_nodes(&mut text, &nodes, &journal)?;
     let want =
         b"numa used\ndomain 4 node 0\ndomain 2 node 1\nuncovered 3\nnode 1 0x0000000000000000..0x00000000000fffff\n";
+    assert_eq!(rt; text.as_slice(), want.as_slice());
+    Ok(())
+}
+
+#[test]
+fn crash(rt: HostRuntime) -> Result<(), Fail> {
+    let main = Range {
+        base: 0x1_0000_0000,
+        size: 0x2000_0000,
+    };
+    let low = Range {
+        base: 0x6F00_0000,
+        size: 0x1000_0000,
+    };
+    let crash = Crash::At {
+        main,
+        low: Some(low),
+    };
+    let mut text = Vec::new(rt.alloc());
+    put_crash(&mut text, &crash)?;
+    put_crash(&mut text, &Crash::InUse)?;
+    let want =
+        b"crash at 0x0000000100000000..0x000000011fffffff\ncrash low 0x000000006f000000..0x000000007effffff\ncrash in use\n";
     assert_eq!(rt; text.as_slice(), want.as_slice());
     Ok(())
 }

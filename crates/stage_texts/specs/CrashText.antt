@@ -1,0 +1,18 @@
+-- What came of the crash area, as lines of this project's own.
+use Rattle.std.specs.Prelude.{ℕ, Option, Some, None, List, [], ◌++◌, codes}
+use Rattle.bm_base.specs.Extent.{Extent}
+use Rattle.crash_kernel.specs.declared.crash.Crash.{Crash}
+use Rattle.crash_kernel.specs.declared.crash.Crash.TheVariants as crash
+use Rattle.report_texts.specs.Lines.{range_text}
+
+-- the line of the low part, where there is one
+abbrev pub low_line : Option Extent → List ℕ
+low_line None = []
+low_line (Some low) = codes "crash low " ++ range_text low ++ codes "\n"
+
+abbrev pub crash_text : Crash → List ℕ
+crash_text crash.Nothing = codes "crash none\n"
+crash_text (crash.At main low) = codes "crash at " ++ range_text main ++ codes "\n" ++ low_line low
+crash_text crash.NoArea = codes "crash no area\n"
+crash_text crash.InUse = codes "crash in use\n"
+crash_text crash.LowFailed = codes "crash low failed\n"

@@ -1,0 +1,38 @@
+//! The text of the crash area: where it lies, or why it doesn't.
+
+ghost use Rattle.std.specs.Prelude.{◌≡◌, ◌++◌, OnOk};
+ghost use Rattle.stage_texts.specs.CrashText.{crash_text, low_line};
+
+use bm_base::{Memory, Range, put_text};
+use crash_kernel::Crash;
+use report_texts::put_word_range;
+
+/// Appends the text of the crash area: one line, and a second one for the low part where there is one.
+pub fn put_crash(text: &mut Vec<u8>, crash: &Crash) -> Result<(), Memory>
+    ensures { OnOk result (text.new.items ≡ text.old.items ++ crash_text crash.now) }
+{
+    match crash {
+        Crash::Nothing => put_text(text, b"crash none\n"),
+        Crash::At { main, low } => {
+            put_word_range(text, b"crash at ", main)?;
+            put_text(text, b"\n")?;
+            put_low_line(text, low)
+        }
+        Crash::NoArea => put_text(text, b"crash no area\n"),
+        Crash::InUse => put_text(text, b"crash in use\n"),
+        Crash::LowFailed => put_text(text, b"crash low failed\n"),
+    }
+}
+
+/// Appends the line of the low part, if there is one.
+fn put_low_line(text: &mut Vec<u8>, low: &Option<Range>) -> Result<(), Memory>
+    ensures { OnOk result (text.new.items ≡ text.old.items ++ low_line low.now) }
+{
+    match low {
+        Some(low) => {
+            put_word_range(text, b"crash low ", low)?;
+            put_text(text, b"\n")
+        }
+        None => Ok(()),
+    }
+}
