@@ -23,8 +23,12 @@ use Rattle.e820_usable.specs.Judged.{judged}
 use Rattle.boot_model.specs.declared.stop.Cause.{Cause}
 use Rattle.script_reader.specs.declared.act.Line.{Line}
 use Rattle.early_script.specs.Stage.{after_lines, before_sections, behind_sections}
-use Rattle.boot_model.specs.Boot.{Given, Made, begin, behind_lines, boot, claims, has_frames, has_room, later_stages, lies_in_memory, map_judged, map_stages, runs_lines, script_at, types_in_reach, unless_stopped, with_items}
-use Rattle.boot_model.proofs.StageLaws.{AllKeep, chain_keeps, goes_by, passes}
+use Rattle.boot_model.specs.Boot.{Given, Made, begin, behind_lines, boot, claims, has_frames, has_room, later_stages, lies_in_memory, map_judged, map_stages, put_crash, put_nodes, put_sections, runs_lines, script_at, types_in_reach, unless_stopped, with_items}
+use Rattle.numa_nodes.specs.Assigned.{assigned}
+use Rattle.crash_kernel.specs.Reserved.{reserved}
+use Rattle.boot_model.specs.Sections.{places_of_sections}
+use Rattle.boot_model.specs.Stop.{cause_of_refusal, cause_of_stage}
+use Rattle.boot_model.proofs.StageLaws.{AllKeep, Keeps, chain_keeps, goes_by, passes, steps_keep}
 use Rattle.boot_model.specs.Stages.{in_order}
 
 -- what is known where the stages come to an end
@@ -66,14 +70,24 @@ pub lines_passed : (kernel : Extent) (lines : List Line) (before after : Made) �
     → after ≡ behind_lines before (after_lines (script_at kernel before) lines)
 lines_passed kernel lines before after ends = cc
 
+pub lines_map : (kernel : Extent) (lines : List Line) → Keeps (λ (made : Made). made.map) (runs_lines kernel lines)
+lines_map kernel lines before after ends = ap (λ (m : Made). m.map) (lines_passed kernel lines before after ends)
+
 pub later_keep : (given : Given) → AllKeep (λ (made : Made). made.map) (later_stages given)
 later_keep given = (
   λ before after ends. (items_passed _ before after ends).1,
   (
-    λ before after ends. ap (λ (m : Made). m.map) (lines_passed given.kernel (before_sections given.lines) before after ends),
+    steps_keep (λ (made : Made). made.map) cause_of_stage put_nodes (assigned given.domains given.options.numa_off) (λ a m. refl)
+        (λ before. refl),
     (
-      λ before after ends. ap (λ (m : Made). m.map) (lines_passed given.kernel (behind_sections given.lines) before after ends),
-      tt,
+      steps_keep (λ (made : Made). made.map) cause_of_refusal put_crash (reserved given.options.crash) (λ a m. refl) (λ before. refl),
+      (
+        lines_map given.kernel (before_sections given.lines),
+        (
+          steps_keep (λ (made : Made). made.map) cause_of_stage put_sections places_of_sections (λ a m. refl) (λ before. refl),
+          (lines_map given.kernel (behind_sections given.lines), tt),
+        ),
+      ),
     ),
   ),
 )
@@ -128,7 +142,7 @@ pub types_told : (given : Given) (made : Made) (x : ℕ) → boot given ≡ Ok m
 types_told given made x ends low = rw (goes_on given made ends).map ((map_between (claims given)).within x (omega arith) (omega arith))
 
 -- a number of frames for which no stop is due
-frames_within : (n : ℕ) → (if n == 0 then Some reasons.NoRam else (if nat_lt (2 ^ 32) n then Some (reasons.TooMuchRam n) else None)) ≡ None
+pub frames_within : (n : ℕ) → (if n == 0 then Some reasons.NoRam else (if nat_lt (2 ^ 32) n then Some (reasons.TooMuchRam n) else None)) ≡ None
     → (0 < n) × (n ≤ 2 ^ 32)
 frames_within n fine = elim (cases_Bool (n == 0)) as (λ _. (0 < n) × (n ≤ 2 ^ 32)) [
   | inl none ↦ (let clash : Some reasons.NoRam ≡ None = rw none at fine in absurd (cc))

@@ -20,14 +20,37 @@ use Rattle.early_script.specs.Acted.{answer_of, state_after}
 use Rattle.early_script.specs.Stage.{Stage as Script, after_line, after_lines, before_sections, behind_sections, deed_at}
 use Rattle.early_script.proofs.QuietLaws.{acts-limit, acts-memory, deed-quiet}
 use Rattle.boot_model.specs.declared.limit.TheConstants.{MAX_PHYSMEM}
-use Rattle.boot_model.specs.Boot.{Given, Made, begin, boot, claims, has_memory, later_stages, map_judged, map_stages, runs_lines, script_at, types_in_reach}
+use Rattle.boot_model.specs.Boot.{Given, Made, Stage, begin, boot, claims, has_crash_area, has_memory, has_nodes, has_sections, later_stages, map_judged, map_stages, put_crash, put_nodes, put_sections, runs_lines, script_at, types_in_reach}
+use Rattle.boot_model.specs.Sections.{SectionPlaces, places_of_sections, sections_placed}
+use Rattle.boot_model.specs.Stop.{cause_of_refusal, cause_of_stage}
+use Rattle.numa_nodes.specs.Assigned.{assigned}
+use Rattle.numa_nodes.proofs.MemoryLaws.{keeps-limit, keeps-memory}
+use Rattle.crash_kernel.specs.Reserved.{reserved}
+use Rattle.crash_kernel.proofs.QuietLaws.{quiet-reserved}
+use Rattle.stage_model.specs.declared.section.Section.{Section}
+use Rattle.stage_model.specs.Quiet.{IsQuietStep}
+use Rattle.stage_model.specs.Doing.{◌>>=◌, returns, seen}
+use Rattle.stage_model.proofs.QuietLaws.{quiet-appended_limit, quiet-appended_memory, quiet-bind, quiet-returns, quiet-seen}
+use Rattle.sparse_sections.specs.Present.{present}
+use Rattle.sparse_sections.specs.Roots.{RootsPlaced, roots}
+use Rattle.sparse_sections.proofs.QuietLaws.{quiet-roots}
+use Rattle.section_maps.specs.declared.placed.Placed.{Placed}
+use Rattle.section_maps.specs.Maps.{maps}
+use Rattle.section_maps.proofs.QuietLaws.{quiet-maps}
 use Rattle.boot_model.specs.Stages.{in_order}
 use Rattle.boot_model.proofs.BootLaws.{frames_passed, items_passed, lines_passed, map_between, map_keep, room_passed}
-use Rattle.boot_model.proofs.StageLaws.{AllKeep, Keeps, chain_keeps, goes_by, passes}
+use Rattle.boot_model.proofs.StageLaws.{AllKeep, Keeps, chain_keeps, goes_by, passes, steps_keep}
 
 -- whether a byte is memory, by the items
 abbrev pub held_by : Made → ℕ → Bool
 held_by made x = is_some (memory_of made.items x)
+
+-- what each byte of memory carries, and the limit
+abbrev pub labels_by : Made → Labels
+labels_by made = memory_of made.items
+
+abbrev pub bound_by : Made → ℕ
+bound_by made = limit_of made.items
 
 -- what judges the map does nothing to memory
 items_keep : (given : Given) → AllKeep (λ (made : Made). made.items) (map_stages given)
@@ -54,27 +77,97 @@ lines_limit s (line ∷ lines) =
     ∙ acts-limit (Ok (answer_of s.state (deed_at s line))) s.state (state_after s.state (deed_at s line)) (deed_at s line)
     (deed-quiet s.state (byte s.state.kernel s.state.items s.fills) line.act) (refl, refl)
 
-lines_hold : (kernel : Extent) (lines : List Line) → Keeps held_by (runs_lines kernel lines)
-lines_hold kernel lines before after ends =
-    let held : Labels → ℕ → Bool = λ f x. is_some (f x) in
-    ap held_by (lines_passed kernel lines before after ends) ∙ ap held (lines_memory (script_at kernel before) lines)
+pub lines_labels : (kernel : Extent) (lines : List Line) → Keeps labels_by (runs_lines kernel lines)
+lines_labels kernel lines before last ends =
+    ap labels_by (lines_passed kernel lines before last ends) ∙ lines_memory (script_at kernel before) lines
 
-lines_bound : (kernel : Extent) (lines : List Line) → Keeps (λ (made : Made). limit_of made.items) (runs_lines kernel lines)
-lines_bound kernel lines before after ends =
-    ap (λ (made : Made). limit_of made.items) (lines_passed kernel lines before after ends)
+lines_bound : (kernel : Extent) (lines : List Line) → Keeps bound_by (runs_lines kernel lines)
+lines_bound kernel lines before last ends =
+    ap bound_by (lines_passed kernel lines before last ends)
     ∙ lines_limit (script_at kernel before) lines
+
+-- so do nodes, the crash area and the places of sections; and the last two leave the labels too
+nodes_hold : (given : Given) → Keeps held_by (has_nodes given)
+nodes_hold given =
+    steps_keep held_by cause_of_stage put_nodes (assigned given.domains given.options.numa_off) (λ a m. refl)
+    (λ before. (λ i x. keeps-memory given.domains given.options.numa_off before.items x i))
+
+nodes_bound : (given : Given) → Keeps bound_by (has_nodes given)
+nodes_bound given =
+    steps_keep bound_by cause_of_stage put_nodes (assigned given.domains given.options.numa_off) (λ a m. refl)
+    (λ before. keeps-limit given.domains given.options.numa_off before.items)
+
+pub crash_labels : (given : Given) → Keeps labels_by (has_crash_area given)
+crash_labels given =
+    steps_keep labels_by cause_of_refusal put_crash (reserved given.options.crash) (λ a m. refl)
+    (λ before. quiet-appended_memory before.items (reserved given.options.crash before.items).steps
+    ((quiet-reserved given.options.crash).each before.items))
+
+crash_bound : (given : Given) → Keeps bound_by (has_crash_area given)
+crash_bound given =
+    steps_keep bound_by cause_of_refusal put_crash (reserved given.options.crash) (λ a m. refl)
+    (λ before. quiet-appended_limit before.items (reserved given.options.crash before.items).steps
+    ((quiet-reserved given.options.crash).each before.items))
+
+quiet_places : (sections : List Section) → IsQuietStep (sections_placed sections)
+quiet_places sections =
+    let told : RootsPlaced → List Placed → SectionPlaces = λ table placed. record { roots = table; placed = placed } in
+    quiet-bind (roots sections) (λ table. maps sections >>= λ placed. returns (told table placed)) (quiet-roots sections)
+    (λ table. quiet-bind (maps sections) (λ placed. returns (told table placed)) (quiet-maps sections)
+    (λ placed. quiet-returns (told table placed)))
+
+quiet_sections : IsQuietStep places_of_sections
+unfolding places_of_sections
+quiet_sections =
+    quiet-bind (seen (λ items. present (memory_of items))) sections_placed (quiet-seen (λ items. present (memory_of items))) quiet_places
+
+pub section_labels : Keeps labels_by has_sections
+section_labels =
+    steps_keep labels_by cause_of_stage put_sections places_of_sections (λ a m. refl)
+    (λ before. quiet-appended_memory before.items (places_of_sections before.items).steps (quiet_sections.each before.items))
+
+section_bound : Keeps bound_by has_sections
+section_bound =
+    steps_keep bound_by cause_of_stage put_sections places_of_sections (λ a m. refl)
+    (λ before. quiet-appended_limit before.items (places_of_sections before.items).steps (quiet_sections.each before.items))
+
+-- where the labels stay, what is memory does
+by_labels : (stage : Stage) → Keeps labels_by stage → Keeps held_by stage
+by_labels stage keeps before last ends = let held : Labels → ℕ → Bool = λ f x. is_some (f x) in ap held (keeps before last ends)
 
 -- the stages behind memory leave it as it is, and the limit: one fact a stage
 memory_keep : (given : Given) → AllKeep held_by (drop 1 (later_stages given))
 memory_keep given = (
-  lines_hold given.kernel (before_sections given.lines),
-  (lines_hold given.kernel (behind_sections given.lines), tt),
+  nodes_hold given,
+  (
+    by_labels (has_crash_area given) (crash_labels given),
+    (
+      by_labels _ (lines_labels given.kernel (before_sections given.lines)),
+      (by_labels has_sections section_labels, (by_labels _ (lines_labels given.kernel (behind_sections given.lines)), tt)),
+    ),
+  ),
 )
 
-limit_keep : (given : Given) → AllKeep (λ (made : Made). limit_of made.items) (drop 1 (later_stages given))
+limit_keep : (given : Given) → AllKeep bound_by (drop 1 (later_stages given))
 limit_keep given = (
-  lines_bound given.kernel (before_sections given.lines),
-  (lines_bound given.kernel (behind_sections given.lines), tt),
+  nodes_bound given,
+  (
+    crash_bound given,
+    (
+      lines_bound given.kernel (before_sections given.lines),
+      (section_bound, (lines_bound given.kernel (behind_sections given.lines), tt)),
+    ),
+  ),
+)
+
+-- and those behind the nodes leave the labels
+pub labels_keep : (given : Given) → AllKeep labels_by (drop 2 (later_stages given))
+labels_keep given = (
+  crash_labels given,
+  (
+    lines_labels given.kernel (before_sections given.lines),
+    (section_labels, (lines_labels given.kernel (behind_sections given.lines), tt)),
+  ),
 )
 
 -- what is known where memory was made
@@ -114,7 +207,7 @@ reached_same c x =
       | inr past ↦ rw past refl
     ]
 
-types_same : (given : Given) → reachable MAX_PHYSMEM (value_at (map_of (claims given))) ≡ types_in_reach given
+pub types_same : (given : Given) → reachable MAX_PHYSMEM (value_at (map_of (claims given))) ≡ types_in_reach given
 types_same given = λ i x. reached_same (claims given) x i
 
 some_is : (b : Bool) → is_some (if b then Some plain_label else None) ≡ b

@@ -11,6 +11,7 @@ pub cause_of_stop : (cause : Cause) → cause_of (stop_of cause) ≡ Some cause
 cause_of_stop causes.NoRam = refl
 cause_of_stop (causes.TooMuchRam frames) = refl
 cause_of_stop (causes.MapFull runs) = refl
+cause_of_stop (causes.NoPlace thing) = refl
 cause_of_stop (causes.NoTablePlace which room) = refl
 
 -- a stop is want of memory, or it isn't
@@ -18,5 +19,6 @@ pub memory_or_not : (stop : Stop) → (stop ≡ stops.Memory) ⊎ (stop ≢ stop
 memory_or_not stops.NoRam = inr (λ same. cc same)
 memory_or_not (stops.TooMuchRam frames) = inr (λ same. cc same)
 memory_or_not (stops.MapFull runs) = inr (λ same. cc same)
+memory_or_not (stops.NoPlace thing) = inr (λ same. cc same)
 memory_or_not (stops.NoTablePlace which room) = inr (λ same. cc same)
 memory_or_not stops.Memory = inl refl

@@ -190,19 +190,15 @@ behind_lines made s = record made { items = s.state.items; ids = s.state.ids; fi
 abbrev pub runs_lines : Extent → List Line → Stage
 runs_lines kernel lines made = Ok (behind_lines made (after_lines (script_at kernel made) lines))
 
--- what a step of a stage answers is put beside what was made, and its items behind those that there were; or it stops the boot
-abbrev pub unless_stopping : Made → Option Cause → Result Made Cause
-unless_stopping next None = Ok next
-unless_stopping next (Some cause) = Err cause
-
-abbrev pub with_answer : {E A : Type 0} → (E → Option Cause) → (A → Made → Made) → Made → Result A E → Result Made Cause
+-- what the steps of a stage answer is put beside what was made, and their items behind those that there were; or they stop the boot
+abbrev pub with_answer : {E A : Type 0} → (E → Cause) → (A → Made → Made) → Made → Result A E → Result Made Cause
 with_answer cause put next (Ok a) = Ok (put a next)
-with_answer cause put next (Err error) = unless_stopping next (cause error)
+with_answer cause put next (Err error) = Err (cause error)
 
-abbrev pub with_done : {E A : Type 0} → (E → Option Cause) → (A → Made → Made) → Made → Done E A → Result Made Cause
+abbrev pub with_done : {E A : Type 0} → (E → Cause) → (A → Made → Made) → Made → Done E A → Result Made Cause
 with_done cause put made done = with_answer cause put (record made { items = after made.items done }) done.answer
 
-abbrev pub by_steps : {E A : Type 0} → (E → Option Cause) → (A → Made → Made) → Doing E A → Stage
+abbrev pub by_steps : {E A : Type 0} → (E → Cause) → (A → Made → Made) → Doing E A → Stage
 by_steps cause put doing made = with_done cause put made (doing made.items)
 
 -- memory gets its nodes, and each node its data (`initmem_init`)

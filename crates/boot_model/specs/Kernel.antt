@@ -1,5 +1,5 @@
 -- Where the kernel's image may lie, from its text to the end of its bss (`_text` to `__end_of_kernel_reserve`).
-use Rattle.std.specs.Prelude.{◌≡◌, ℕ, ◌%◌, ◌≤◌, ◌==◌, Bool, ◌&&◌, nat_le}
+use Rattle.std.specs.Prelude.{◌≡◌, ◌%◌, ◌≤◌, ◌==◌, Bool, ◌&&◌, nat_le}
 use Rattle.bm_base.specs.Extent.{Extent, end_of}
 use Rattle.boot_model.specs.declared.limit.TheConstants.{MAX_PHYSMEM}
 

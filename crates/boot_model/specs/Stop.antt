@@ -37,13 +37,13 @@ abbrev pub cause_of_growth : Refused → Cause
 cause_of_growth refused = causes.NoTablePlace refused.which refused.room
 
 -- why a stage stops the boot. No step of a stage says that memory is wanting, so what stands there for it is of no account
-abbrev pub cause_of_stage : StageStop → Option Cause
-cause_of_stage (stage.NoPlace thing) = Some (causes.NoPlace thing)
-cause_of_stage (stage.NoTablePlace w room) = Some (causes.NoTablePlace w room)
-cause_of_stage stage.Memory = None
+abbrev pub cause_of_stage : StageStop → Cause
+cause_of_stage (stage.NoPlace thing) = causes.NoPlace thing
+cause_of_stage (stage.NoTablePlace w room) = causes.NoTablePlace w room
+cause_of_stage stage.Memory = causes.NoRam
 
--- the same of a stage that looks for its places itself, and so lacks none that it asks for
-abbrev pub cause_of_refusal : Refusal → Option Cause
-cause_of_refusal refusal.NoGap = None
-cause_of_refusal (refusal.NoGapForTable w room) = Some (causes.NoTablePlace w room)
-cause_of_refusal refusal.Memory = None
+-- the same of a stage that looks for its places itself: it is never told that there is no gap
+abbrev pub cause_of_refusal : Refusal → Cause
+cause_of_refusal (refusal.NoGapForTable w room) = causes.NoTablePlace w room
+cause_of_refusal refusal.NoGap = causes.NoRam
+cause_of_refusal refusal.Memory = causes.NoRam

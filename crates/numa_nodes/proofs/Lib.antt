@@ -1,6 +1,6 @@
-mod AssignLaws
-mod ListedLaws
-mod MemoryLaws
-mod NodedLaws
-mod RecordLaws
-mod TurnLaws
+pub mod AssignLaws
+pub mod ListedLaws
+pub mod MemoryLaws
+pub mod NodedLaws
+pub mod RecordLaws
+pub mod TurnLaws

@@ -1,0 +1,129 @@
+-- Memory behind the map, and behind its nodes: what each stage may rest on.
+use Rattle.std.proofs.Common.{◌≡◌, ℕ, ◌*◌, ◌/◌, ◌<◌, ◌≤◌, ◌^◌, ◌∙◌, false, is_some, Option, Some, None, if◌then◌else◌, List, [], drop, Ok, refl, ap, sym, subst, inl, inr, arith}
+use Rattle.std.proofs.lemmas.Bool.{cases_Bool, cases_lt}
+use Rattle.address_runs.specs.Runs.{RunOf, value_at}
+use Rattle.address_runs.specs.Edits.{NothingFrom}
+use Rattle.e820_model.specs.Map.{TypeAt, map_of}
+use Rattle.e820_model.specs.Usable.{is_usable, reachable, usable_frames}
+use Rattle.e820_model.proofs.UsableLaws.{count_none}
+use Rattle.e820_usable.specs.Judged.{judged}
+use Rattle.memblock_model.specs.declared.item.Item.{Item}
+use Rattle.memblock_model.specs.Labels.{Label, Labels, plain_label}
+use Rattle.memblock_model.specs.Items.{limit_of, memory_of}
+use Rattle.growth_model.specs.Carried.{carried_out}
+use Rattle.early_stages.specs.Memory.{memory_end, usable_memory}
+use Rattle.early_stages.specs.Wanted.{first_items}
+use Rattle.early_stages.proofs.MemoryLaws.{first_limit, first_memory}
+use Rattle.early_stages.proofs.EndLaws.{end_reached, memory_below, memory_end-is}
+use Rattle.stage_model.specs.Noded.{AreOfFrames, IsNoded}
+use Rattle.numa_nodes.specs.Assigned.{assigned}
+use Rattle.numa_nodes.proofs.NodedLaws.{answer-noded}
+use Rattle.boot_model.specs.declared.limit.TheConstants.{MAX_PHYSMEM}
+use Rattle.boot_model.specs.Boot.{Given, Made, begin, boot, claims, has_frames, has_memory, has_nodes, has_room, later_stages, map_judged, map_stages, put_nodes, types_in_reach}
+use Rattle.boot_model.specs.Stages.{in_order}
+use Rattle.boot_model.specs.Stop.{cause_of_stage}
+use Rattle.boot_model.proofs.BootLaws.{frames_passed, frames_within, items_passed, map_between, room_passed}
+use Rattle.boot_model.proofs.MemoryLaws.{labels_by, labels_keep, types_same}
+use Rattle.boot_model.proofs.StageLaws.{chain_keeps, goes_by, passes, steps_answered}
+
+-- memory before it has nodes: whole frames within reach, which end by the limit; and there is some
+pub record IsFirst (items : List Item) : Type 0 where
+  pub frames : AreOfFrames (λ x. is_some (memory_of items x))
+  pub within : NothingFrom MAX_PHYSMEM (memory_of items)
+  pub low : NothingFrom (limit_of items) (memory_of items)
+  pub some : 0 < limit_of items
+
+-- nothing lies where each byte that has memory lies below
+none_from : (at : ℕ) (f : Labels) (x : ℕ) (o : Option Label) → f x ≡ o → ((label : Label) → f x ≡ Some label → x < at) → at ≤ x
+    → f x ≡ None
+none_from at f x None is below far = is
+none_from at f x (Some label) is below far = absurd (omega (arith, below label is))
+
+past_end : (limit : ℕ) (f : TypeAt) (at : ℕ) → memory_end limit f ≤ at → NothingFrom at (usable_memory limit f)
+past_end limit f at high x far =
+    none_from at (usable_memory limit f) x (usable_memory limit f x) refl
+    (λ label is. (let low : x < memory_end limit f = memory_below limit f x label is in omega arith)) far
+
+-- a map with a usable frame ends above 0
+no_frame_low : (limit : ℕ) (f : TypeAt) (frame : ℕ) → memory_end limit f ≡ 0 → is_usable (reachable limit f) frame ≡ false
+no_frame_low limit f frame zero = elim (cases_Bool (is_usable (reachable limit f) frame)) as (λ _. is_usable (reachable limit f) frame ≡ false) [
+  | inl usable ↦
+      (let number : (4096 * frame) / 4096 ≡ frame = omega arith in
+      let held : usable_memory limit f (4096 * frame) ≡ Some plain_label = rw (number, usable) refl in
+      let low : 4096 * frame < memory_end limit f = memory_below limit f (4096 * frame) plain_label held in
+      absurd (omega arith))
+  | inr other ↦ other
+]
+
+end_some : (limit : ℕ) (f : TypeAt) → 0 < usable_frames (reachable limit f) → 0 < memory_end limit f
+unfolding usable_frames
+end_some limit f some = elim (cases_lt 0 (memory_end limit f)) as (λ _. 0 < memory_end limit f) [
+  | inl above ↦ above
+  | inr below ↦
+      (let zero : memory_end limit f ≡ 0 = omega arith in
+      let none : usable_frames (reachable limit f) ≡ 0 =
+      count_none _ (2 ^ 52) (λ frame low. no_frame_low limit f frame zero) in
+      absurd (omega (arith, none, some)))
+]
+
+-- what the map comes to, where the boot goes on with it
+pub judged_first : (given : Given) (made : Made) → map_judged given ≡ Ok made
+    → (made ≡ begin given) × (judged (types_in_reach given) ≡ None)
+judged_first given made ends =
+    let behind_room = passes has_room (drop 1 (map_stages given)) (begin given) made ends in
+    let behind_frames = passes (has_frames given) (drop 2 (map_stages given)) behind_room.middle made behind_room.rest in
+    let room = room_passed _ _ (begin given) behind_room.middle behind_room.first in
+    let frames = frames_passed _ behind_room.middle behind_frames.middle behind_frames.first in
+    let last : behind_frames.middle ≡ made = cc in
+    (sym (room.1 ∙ frames.1 ∙ last), frames.0)
+
+pub first_known : (given : Given) (made : Made) (items : List Item) → map_judged given ≡ Ok made
+    → carried_out (first_items MAX_PHYSMEM given.kernel given.initrd made.map) made.items ≡ Ok items → IsFirst items
+first_known given made items ends carried =
+    let known = judged_first given made ends in
+    let map : List (RunOf ℕ) = map_of (claims given) in
+    let from : carried_out (first_items MAX_PHYSMEM given.kernel given.initrd map) [] ≡ Ok items =
+    ap (λ (m : Made). carried_out (first_items MAX_PHYSMEM given.kernel given.initrd m.map) m.items) (sym known.0) ∙ carried in
+    let memory : memory_of items ≡ usable_memory MAX_PHYSMEM (value_at map) = λ i x.
+    first_memory MAX_PHYSMEM given.kernel given.initrd map items (map_between (claims given)).runs from x i in
+    let limit : limit_of items ≡ memory_end MAX_PHYSMEM (value_at map) =
+    first_limit MAX_PHYSMEM given.kernel given.initrd map items from in
+    let below : memory_end MAX_PHYSMEM (value_at map) ≤ MAX_PHYSMEM =
+    (end_reached MAX_PHYSMEM (value_at map) _ (memory_end-is MAX_PHYSMEM (value_at map))).0 in
+    let some : 0 < usable_frames (reachable MAX_PHYSMEM (value_at map)) =
+    subst (λ (t : TypeAt). 0 < usable_frames t) (sym (types_same given)) (frames_within _ known.1).0 in
+    let FirstOf : Labels → ℕ → Type 0 = λ f at. (AreOfFrames (λ x. is_some (f x)) × NothingFrom MAX_PHYSMEM f × NothingFrom at f × (0 < at)) in
+    let whole : AreOfFrames (λ x. is_some (usable_memory MAX_PHYSMEM (value_at map) x)) = λ x.
+    (let same : (4096 * (x / 4096)) / 4096 ≡ x / 4096 = omega arith in
+    ap (λ (frame : ℕ). is_some (if is_usable (reachable MAX_PHYSMEM (value_at map)) frame then Some plain_label else None)) (sym same)) in
+    let all : FirstOf (usable_memory MAX_PHYSMEM (value_at map)) (memory_end MAX_PHYSMEM (value_at map)) = (
+      whole,
+      past_end MAX_PHYSMEM (value_at map) MAX_PHYSMEM below,
+      past_end MAX_PHYSMEM (value_at map) (memory_end MAX_PHYSMEM (value_at map)) (omega arith),
+      end_some MAX_PHYSMEM (value_at map) some,
+    ) in
+    let told : FirstOf (memory_of items) (limit_of items) = rw (memory, limit) all in
+    record { frames = told.0; within = told.1; low = told.2; some = told.3 }
+
+-- behind its nodes
+pub nodes_known : (given : Given) (before last : Made) → IsFirst before.items → has_nodes given before ≡ Ok last
+    → IsNoded MAX_PHYSMEM (labels_by last)
+nodes_known given before last first ends =
+    let told = steps_answered cause_of_stage put_nodes (assigned given.domains given.options.numa_off) before last ends in
+    subst (λ (m : Made). IsNoded MAX_PHYSMEM (labels_by m)) (sym told.same)
+    (answer-noded MAX_PHYSMEM given.domains given.options.numa_off before.items told.value told.answer (omega arith) first.frames
+    first.within first.low)
+
+-- and at the end of the boot
+pub noded_told : (given : Given) (made : Made) → boot given ≡ Ok made → IsNoded MAX_PHYSMEM (memory_of made.items)
+unfolding boot
+noded_told given made ends =
+    let judged_map = goes_by (map_judged given) (λ m. in_order (later_stages given) m) made ends in
+    let behind = passes (has_memory given) (drop 1 (later_stages given)) judged_map.middle made judged_map.rest in
+    let passed = items_passed (carried_out (first_items MAX_PHYSMEM given.kernel given.initrd judged_map.middle.map)
+    judged_map.middle.items) judged_map.middle behind.middle behind.first in
+    let first : IsFirst behind.middle.items = first_known given judged_map.middle behind.middle.items judged_map.first passed.0 in
+    let nodes = passes (has_nodes given) (drop 2 (later_stages given)) behind.middle made behind.rest in
+    let noded : IsNoded MAX_PHYSMEM (labels_by nodes.middle) = nodes_known given behind.middle nodes.middle first nodes.first in
+    subst (λ (f : Labels). IsNoded MAX_PHYSMEM f)
+    (sym (chain_keeps labels_by (drop 2 (later_stages given)) (labels_keep given) nodes.middle made nodes.rest)) noded
