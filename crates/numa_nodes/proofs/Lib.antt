@@ -1,4 +1,5 @@
 mod AssignLaws
+mod Examples
 mod ListedLaws
 mod MemoryLaws
 mod NodedLaws
