@@ -1,8 +1,8 @@
 -- Owners and the claims that the journal has for them; frames that are touched, and those that aren't.
-use Rattle.std.proofs.Common.{◌≡◌, ◌⊎◌, ℕ, zero, suc, ◌+◌, ◌*◌, ◌<◌, ◌≤◌, Bool, true, false, Option, Some, None, is_none, List, [], ◌∷◌, ◌++◌, fold, refl, sym, ◌∙◌, ap, inl, inr, ⊎_elim, arith}
+use Rattle.std.proofs.Common.{◌≡◌, ◌⊎◌, ℕ, zero, suc, ◌+◌, ◌*◌, ◌<◌, ◌≤◌, Bool, true, false, Option, Some, None, is_none, List, [], ◌∷◌, fold, refl, sym, ◌∙◌, ap, inl, inr, ⊎_elim, arith}
 use Rattle.std.specs.List.{list_any}
 use Rattle.std.proofs.lemmas.Bool.Decides.{nat_tests}
-use Rattle.std.proofs.lemmas.Bool.{cases_Bool, true≢false}
+use Rattle.std.proofs.lemmas.Bool.{cases_Bool}
 use Rattle.bm_base.specs.Extent.{Extent, covers}
 use Rattle.bm_base.specs.Each.{each_from, each_in}
 use Rattle.bm_base.specs.Frames.{bytes_of_frame}
@@ -60,7 +60,8 @@ first f (item.Grown which place room) items x who has none = inl (has, none)
 comes_from : (f : Owners) (items : List Item) (x : ℕ) (who : Owner) → fold owners_after f items x ≡ Some who → ComesFrom f items x who
 comes_from f [] x who has = inl (has, refl)
 comes_from f (i ∷ items) x who has =
-    ⊎_elim (λ (early : (owners_after f i x ≡ Some who) × (list_any (λ j. decides j x) items ≡ false)). first f i items x who early.0 early.1)
+    ⊎_elim
+    (λ (early : (owners_after f i x ≡ Some who) × (list_any (λ j. decides j x) items ≡ false)). first f i items x who early.0 early.1)
     (λ (known : IsRecorded items x who). inr (later i items x who known)) (comes_from (owners_after f i) items x who has)
 
 -- each owner has its claim in the journal

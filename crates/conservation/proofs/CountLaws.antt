@@ -11,10 +11,10 @@ use Rattle.frame_blocks.specs.Listed.{AscendFrom, Lists, block_around, block_for
 use Rattle.frame_blocks.proofs.BlockLaws.{block_found, found_block, listed_ascends, listed_complete, listed_sound}
 use Rattle.frame_blocks.proofs.SetLaws.{in_set, set_from, set_until}
 use Rattle.table_frames.proofs.TakeLaws.{both_tests, tests_both}
-use Rattle.conservation.specs.Headline.{is_in, times_in, with_buddy}
+use Rattle.conservation.specs.Headline.{has_frame, blocks_with, with_buddy}
 
 -- the frames of an aligned block are those of its set
-pub in_block : (b : Block) (frame : ℕ) → b.first % 2 ^ b.order ≡ 0 → is_in b frame ≡ true → IsInBlock b frame
+pub in_block : (b : Block) (frame : ℕ) → b.first % 2 ^ b.order ≡ 0 → has_frame b frame ≡ true → IsInBlock b frame
 in_block b frame aligned inside =
     let ends = tests_both b.first frame (b.first + 2 ^ b.order) inside in
     let above = ends.0 in
@@ -22,7 +22,7 @@ in_block b frame aligned inside =
     in_set (2 ^ b.order) b.first frame (omega (arith, above)) (omega (arith, below, aligned))
 
 -- and those of a block and its buddy are those of the set of twice as many
-pub in_buddies : (b : Block) (frame : ℕ) → IsInSet (b.order + 1) b.first frame → is_in (with_buddy b) frame ≡ true
+pub in_buddies : (b : Block) (frame : ℕ) → IsInSet (b.order + 1) b.first frame → has_frame (with_buddy b) frame ≡ true
 in_buddies b frame same =
     let s : ℕ = 2 ^ (b.order + 1) in
     both_tests (b.first - b.first % s) frame (b.first - b.first % s + s) (set_from s b.first frame same)
@@ -70,41 +70,41 @@ one_counted p b from (c ∷ cs) ascend listed holds only =
     ]
 
 -- what has a frame is free
-pub free_inside : (f : Frames) (b : Block) (frame : ℕ) → Lists (blocks_of f) b → is_in b frame ≡ true → f frame ≡ Some b.node
+pub free_inside : (f : Frames) (b : Block) (frame : ℕ) → Lists (blocks_of f) b → has_frame b frame ≡ true → f frame ≡ Some b.node
 free_inside f b frame listed inside =
     let block : IsBlock f b = listed_sound f b listed in
     (block.good frame (in_block b frame block.aligned inside)).0
 
 -- a frame that isn't free is in no block
-pub times_none : (f : Frames) (frame : ℕ) → f frame ≡ None → times_in (blocks_of f) frame ≡ 0
-times_none f frame none = none_counted (λ b. is_in b frame) (blocks_of f) (λ b listed.
-    elim (cases_Bool (is_in b frame)) as (λ _. is_in b frame ≡ false) [
+pub no_block_with : (f : Frames) (frame : ℕ) → f frame ≡ None → blocks_with (blocks_of f) frame ≡ 0
+no_block_with f frame none = none_counted (λ b. has_frame b frame) (blocks_of f) (λ b listed.
+    elim (cases_Bool (has_frame b frame)) as (λ _. has_frame b frame ≡ false) [
       | inl inside ↦ absurd (cc (sym none ∙ free_inside f b frame listed inside))
       | inr outside ↦ outside
     ])
 
 -- and one that is free is in exactly one
-pub times_one : (f : Frames) (frame node : ℕ) → NothingFrom MAX_FRAMES f → f frame ≡ Some node → times_in (blocks_of f) frame ≡ 1
-times_one f frame node none free =
+pub one_block_with : (f : Frames) (frame node : ℕ) → NothingFrom MAX_FRAMES f → f frame ≡ Some node → blocks_with (blocks_of f) frame ≡ 1
+one_block_with f frame node none free =
     let b : Block = block_around (order_up_to f frame node 10) frame node in
     let made : block_of f frame ≡ Some b = ap (block_for f frame) free in
     let found = block_found f frame b made in
-    let inside : is_in b frame ≡ true =
+    let inside : has_frame b frame ≡ true =
     (let s : ℕ = 2 ^ b.order in
     let first : b.first - b.first % s ≡ b.first = (let aligned = found.0.aligned in omega (arith, aligned)) in
     both_tests b.first frame (b.first + s)
     (subst (λ (a : ℕ). a ≤ frame) first (set_from s b.first frame found.1))
     (subst (λ (a : ℕ). frame < a + s) first (set_until s b.first frame (pow_pos b.order) found.1))) in
-    one_counted (λ c. is_in c frame) b 0 (blocks_of f) (listed_ascends f) (listed_complete f b none found.0) inside
+    one_counted (λ c. has_frame c frame) b 0 (blocks_of f) (listed_ascends f) (listed_complete f b none found.0) inside
     (λ c listed within.
     (let block : IsBlock f c = listed_sound f c listed in
     let same : block_of f frame ≡ Some c = found_block f frame c block (in_block c frame block.aligned within) in
     cc (sym same ∙ made)))
 
 -- a frame of a block is free
-some_free : (f : Frames) (frame : ℕ) (o : Option ℕ) → f frame ≡ o → 0 < times_in (blocks_of f) frame → (node : ℕ) × (f frame ≡ Some node)
-some_free f frame None is some = (let none = times_none f frame is in absurd (omega (arith, some, none)))
+some_free : (f : Frames) (frame : ℕ) (o : Option ℕ) → f frame ≡ o → 0 < blocks_with (blocks_of f) frame → (node : ℕ) × (f frame ≡ Some node)
+some_free f frame None is some = (let none = no_block_with f frame is in absurd (omega (arith, some, none)))
 some_free f frame (Some node) is some = (node, is)
 
-pub times_some : (f : Frames) (frame : ℕ) → 0 < times_in (blocks_of f) frame → (node : ℕ) × (f frame ≡ Some node)
-times_some f frame some = some_free f frame (f frame) refl some
+pub free_with_block : (f : Frames) (frame : ℕ) → 0 < blocks_with (blocks_of f) frame → (node : ℕ) × (f frame ≡ Some node)
+free_with_block f frame some = some_free f frame (f frame) refl some

@@ -1,5 +1,5 @@
 -- The frames that a boot hands over are the usable ones that no claim touches, each of the node of its memory.
-use Rattle.std.proofs.Common.{◌≡◌, ℕ, ◌+◌, ◌*◌, ◌/◌, ◌<◌, ◌≤◌, nat_lt, Bool, true, false, ◌&&◌, is_some, is_none, if◌then◌else◌, Option, Some, None, List, refl, sym, ◌∙◌, ap, subst, arith}
+use Rattle.std.proofs.Common.{◌≡◌, ℕ, ◌*◌, ◌/◌, ◌<◌, nat_lt, Bool, true, false, ◌&&◌, is_some, is_none, if◌then◌else◌, Option, Some, None, List, refl, sym, ◌∙◌, ap, subst, arith}
 use Rattle.std.proofs.lemmas.Bool.Decides.{nat_tests}
 use Rattle.std.proofs.lemmas.Bool.{and_from, and_parts}
 use Rattle.bm_base.specs.Extent.{covers}
@@ -134,8 +134,7 @@ module _ (given : Given) (items : List Item) (known : HasNodes given items) wher
   free_of_some frame usable untouched =
       let start : covers (bytes_of_frame frame) (4096 * frame) ≡ true = frame_covers frame (4096 * frame) (omega arith) (omega arith) in
       let there = some_label (memory_of items (4096 * frame)) (held frame (4096 * frame) usable start) in
-      let one = known.noded.nodes (4096 * frame) there.0 there.1 in
-      (
+      let one = known.noded.nodes (4096 * frame) there.0 there.1 in (
         one.0,
         free_is_handed frame one.0
             (record {

@@ -1,17 +1,16 @@
 -- The headline: what a boot that isn't stopped makes of each frame.
-use Rattle.std.proofs.Common.{◌≡◌, ◌⊎◌, ℕ, ◌+◌, ◌*◌, ◌/◌, ◌^◌, ◌<◌, ◌≤◌, Option, Some, None, Result, Ok, Err, refl, sym, ◌∙◌, ap, subst, inl, inr, ⊎_elim}
+use Rattle.std.proofs.Common.{◌≡◌, ℕ, ◌+◌, Option, Some, None, Ok, refl, sym, ◌∙◌, ap, subst, inl, inr, ⊎_elim}
 use Rattle.address_runs.specs.Edits.{NothingFrom}
-use Rattle.frame_blocks.specs.declared.block.Block.{Block}
 use Rattle.frame_blocks.specs.declared.run.TheConstants.{MAX_FRAMES}
 use Rattle.frame_blocks.specs.Frames.{Frames, IsBlock, IsGood}
 use Rattle.frame_blocks.proofs.BlockLaws.{listed_sound}
-use Rattle.boot_model.specs.Boot.{Given, Made, Told, boot, handed_over, told, told_boot}
+use Rattle.boot_model.specs.Boot.{Given, Told, handed_over, told_boot}
 use Rattle.boot_model.proofs.MemoryLaws.{memory_told}
 use Rattle.boot_model.proofs.NodedLaws.{noded_told}
 use Rattle.conservation.specs.Claimed.{IsTouched, IsUntouched}
-use Rattle.conservation.specs.Headline.{AreAllMaximal, AreAllOnce, AreAllWhole, AreNoOthers, IsFreeFor, IsOnce, is_in, times_in, told_blocks, with_buddy}
+use Rattle.conservation.specs.Headline.{BlocksAreMaximal, AllTouchedOrInOne, BlocksAreWhole, NoOtherInABlock}
 use Rattle.conservation.proofs.ClaimedLaws.{touched_apart, touched_or_not}
-use Rattle.conservation.proofs.CountLaws.{in_block, in_buddies, times_none, times_one, times_some}
+use Rattle.conservation.proofs.CountLaws.{in_block, in_buddies, no_block_with, one_block_with, free_with_block}
 use Rattle.conservation.proofs.ToldLaws.{IsToldOf, is_told_of}
 use Rattle.conservation.proofs.FreeLaws.{HasNodes, IsFree, free_is_handed, free_of_some, handed_below, handed_is_free}
 
@@ -48,23 +47,23 @@ module _ (given : Given) (t : Told) (ends : told_boot given ≡ Ok t) where
   not_free frame None touched is = is
   not_free frame (Some node) touched is = absurd (touched_apart t.items frame touched (is_free_by frame node is).untouched)
 
-  pub all_once : AreAllOnce given t
-  all_once frame usable =
+  pub all_touched_or_in_one : AllTouchedOrInOne given t
+  all_touched_or_in_one frame usable =
       ⊎_elim
-      (λ (touched : IsTouched t.items frame). inl (touched, times_none t.free frame (not_free frame (t.free frame) touched refl)))
+      (λ (touched : IsTouched t.items frame). inl (touched, no_block_with t.free frame (not_free frame (t.free frame) touched refl)))
       (λ (bare : IsUntouched t.items frame).
       (let some = free_of_some given t.items known.nodes frame usable bare in
-      inr (bare, times_one t.free frame some.0 below (ap (λ (f : Frames). f frame) known.free ∙ some.1))))
+      inr (bare, one_block_with t.free frame some.0 below (ap (λ (f : Frames). f frame) known.free ∙ some.1))))
       (touched_or_not t.items frame)
 
-  pub no_others : AreNoOthers given t
-  no_others frame some =
-      let free = times_some t.free frame some in
+  pub no_other_in_a_block : NoOtherInABlock given t
+  no_other_in_a_block frame some =
+      let free = free_with_block t.free frame some in
       let is = is_free_by frame free.0 free.1 in
       (is.usable, is.untouched)
 
-  pub all_whole : AreAllWhole given t
-  all_whole b listed =
+  pub blocks_whole : BlocksAreWhole given t
+  blocks_whole b listed =
       let block : IsBlock t.free b = listed_sound t.free b listed in
       record {
         small = block.small;
@@ -75,12 +74,11 @@ module _ (given : Given) (t : Told) (ends : told_boot given ≡ Ok t) where
             record { usable = is.usable; untouched = is.untouched; node = is.tags; zone = good.1 });
       }
 
-  pub all_maximal : AreAllMaximal given t
-  all_maximal b listed less all =
+  pub blocks_maximal : BlocksAreMaximal given t
+  blocks_maximal b listed less all =
       let block : IsBlock t.free b = listed_sound t.free b listed in
       let good : IsGood t.free (b.order + 1) b.first b.node b.zone = λ frame same.
-      (let is = all frame (in_buddies b frame same) in
-      (
+      (let is = all frame (in_buddies b frame same) in (
         free_by frame b.node (record { usable = is.usable; untouched = is.untouched; tags = is.node }),
         is.zone,
       )) in

@@ -1,5 +1,7 @@
+pub mod AnswerLaws
 pub mod ClaimedLaws
 pub mod CountLaws
+mod Examples
 pub mod FreeLaws
 pub mod HeadlineLaws
 pub mod MapLaws

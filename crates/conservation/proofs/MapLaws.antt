@@ -1,15 +1,15 @@
 -- Usable frames by the map that a boot tells.
-use Rattle.std.proofs.Common.{◌≡◌, ◌↔◌, ℕ, ◌+◌, ◌*◌, ◌<◌, ◌≤◌, nat_lt, Bool, true, false, if◌then◌else◌, None, Ok, refl, sym, ◌∙◌, ap, subst, inl, inr, arith}
+use Rattle.std.proofs.Common.{◌≡◌, ◌↔◌, ℕ, ◌+◌, ◌*◌, ◌≤◌, nat_lt, Bool, true, false, None, Ok, sym, ◌∙◌, subst, inl, inr, arith}
 use Rattle.std.proofs.lemmas.Bool.Decides.{nat_tests}
 use Rattle.std.proofs.lemmas.Bool.{cases_lt}
-use Rattle.bm_base.specs.Extent.{covers}
+use Rattle.bm_base.specs.Extent.{Extent}
 use Rattle.bm_base.specs.Each.{each_in}
 use Rattle.bm_base.specs.Frames.{bytes_of_frame}
 use Rattle.bm_base.proofs.EachLaws.{each_in-all, each_in-each}
 use Rattle.e820_model.specs.Map.{kinds}
 use Rattle.e820_model.specs.Usable.{is_memory, is_usable, reachable}
 use Rattle.boot_model.specs.declared.limit.TheConstants.{MAX_PHYSMEM}
-use Rattle.boot_model.specs.Boot.{Given, Made, Told, boot, claims, lies_in_memory, told, told_boot, types_in_reach}
+use Rattle.boot_model.specs.Boot.{Given, Told, claims, lies_in_memory, told_boot, types_in_reach}
 use Rattle.boot_model.proofs.BootLaws.{usable_lies}
 use Rattle.conservation.specs.ByMap.{IsUsableBy}
 use Rattle.conservation.specs.Headline.{IsUsable}
@@ -32,14 +32,14 @@ in_reach given frame usable = elim (cases_lt (4096 * frame) MAX_PHYSMEM) as (λ 
 pub usable_mapped : (given : Given) (t : Told) (frame : ℕ) → told_boot given ≡ Ok t → (IsUsable given frame ↔ IsUsableBy t.map frame)
 usable_mapped given t frame ends =
     let of : IsToldOf given t = is_told_of given t ends in
-    let made : Made = of.made in
+    let lies : ℕ → Bool = lies_in_memory of.made.map in
+    let bytes : Extent = bytes_of_frame frame in
     subst (λ (u : Told). IsUsable given frame ↔ IsUsableBy u.map frame) of.tells (
       λ usable.
           (let low = in_reach given frame usable in
-          let each : each_in (bytes_of_frame frame) (lies_in_memory made.map) ≡ true = sym (usable_lies given made frame of.boots low) ∙ usable in
-          (low, λ x inside.
-          (let ends = covers_frame frame x inside in each_in-each (bytes_of_frame frame) (lies_in_memory made.map) each x ends.0 ends.1))),
+          let each : each_in bytes lies ≡ true = sym (usable_lies given of.made frame of.boots low) ∙ usable in
+          (low, λ x inside. (let ends = covers_frame frame x inside in each_in-each bytes lies each x ends.0 ends.1))),
       λ mapped.
-          usable_lies given made frame of.boots mapped.0
-          ∙ each_in-all (bytes_of_frame frame) (lies_in_memory made.map) (λ x above below. mapped.1 x (frame_covers frame x above below)),
+          usable_lies given of.made frame of.boots mapped.0
+          ∙ each_in-all bytes lies (λ x above below. mapped.1 x (frame_covers frame x above below)),
     )

@@ -15,6 +15,6 @@
 mod laws;
 
 pub use laws::{
-    blocks_are_maximal, blocks_are_whole, frames_are_found_once, no_other_frames_are_handed_over,
-    usable_by_the_map,
+    blocks_are_maximal, blocks_are_whole, map_tells_usable_frames, no_other_frame_is_in_a_block,
+    usable_frames_are_touched_or_in_one_block,
 };
