@@ -1,0 +1,134 @@
+-- Owners and the claims that the journal has for them; frames that are touched, and those that aren't.
+use Rattle.std.proofs.Common.{◌≡◌, ◌⊎◌, ℕ, zero, suc, ◌+◌, ◌*◌, ◌<◌, ◌≤◌, Bool, true, false, Option, Some, None, is_none, List, [], ◌∷◌, fold, refl, sym, ◌∙◌, ap, inl, inr, ⊎_elim, arith}
+use Rattle.std.specs.List.{list_any}
+use Rattle.std.proofs.lemmas.Bool.Decides.{nat_tests}
+use Rattle.std.proofs.lemmas.Bool.{cases_Bool}
+use Rattle.bm_base.specs.Extent.{Extent, covers}
+use Rattle.bm_base.specs.Each.{each_from, each_in}
+use Rattle.bm_base.specs.Frames.{bytes_of_frame}
+use Rattle.bm_base.proofs.EachLaws.{each_in-each}
+use Rattle.memblock_model.specs.Items.{Owners, no_owners, owner_of, owners_after}
+use Rattle.memblock_model.specs.declared.owner.Owner.{Owner}
+use Rattle.memblock_model.specs.declared.item.Item.{Item}
+use Rattle.memblock_model.specs.declared.item.Item.TheVariants as item
+use Rattle.conservation.specs.Claimed.{decides, IsRecorded, IsTouched, IsUntouched}
+
+-- where an owner comes from: it was there before the items, of which none decides, or one of them is the claim
+abbrev pub ComesFrom : Owners → List Item → ℕ → Owner → Type 0
+ComesFrom f items x who = ((f x ≡ Some who) × (list_any (λ i. decides i x) items ≡ false)) ⊎ IsRecorded items x who
+
+-- a claim among later items is one among all
+later : (i : Item) (items : List Item) (x : ℕ) (who : Owner) → IsRecorded items x who → IsRecorded (i ∷ items) x who
+later i items x who known = record {
+  before = i ∷ known.before;
+  range = known.range;
+  behind = known.behind;
+  recorded = ap (λ (js : List Item). i ∷ js) known.recorded;
+  covered = known.covered;
+  stands = known.stands;
+}
+
+-- what the first item makes of the byte, where none behind it decides
+first : (f : Owners) (i : Item) (items : List Item) (x : ℕ) (who : Owner) → owners_after f i x ≡ Some who
+    → (list_any (λ j. decides j x) items ≡ false) → ComesFrom f (i ∷ items) x who
+first f (item.Claim range owner) items x who has none =
+    elim (cases_Bool (covers range x)) as (λ _. ComesFrom f (item.Claim range owner ∷ items) x who) [
+      | inl inside ↦
+          (let given : Some owner ≡ Some who = rw inside at has in
+          let same : owner ≡ who = cc in
+          inr (record {
+            before = [];
+            range = range;
+            behind = items;
+            recorded = ap (λ (o : Owner). item.Claim range o ∷ items) same;
+            covered = inside;
+            stands = none;
+          }))
+      | inr outside ↦ inl (rw outside at has, rw outside none)
+    ]
+first f (item.Free range) items x who has none =
+    elim (cases_Bool (covers range x)) as (λ _. ComesFrom f (item.Free range ∷ items) x who) [
+      | inl inside ↦ (let given : None ≡ Some who = rw inside at has in absurd (cc))
+      | inr outside ↦ inl (rw outside at has, rw outside none)
+    ]
+first f (item.Mem range) items x who has none = inl (has, none)
+first f item.Trim items x who has none = inl (has, none)
+first f (item.Node range node) items x who has none = inl (has, none)
+first f (item.Limit at) items x who has none = inl (has, none)
+first f (item.Grown which place room) items x who has none = inl (has, none)
+
+comes_from : (f : Owners) (items : List Item) (x : ℕ) (who : Owner) → fold owners_after f items x ≡ Some who → ComesFrom f items x who
+comes_from f [] x who has = inl (has, refl)
+comes_from f (i ∷ items) x who has =
+    ⊎_elim
+    (λ (early : (owners_after f i x ≡ Some who) × (list_any (λ j. decides j x) items ≡ false)). first f i items x who early.0 early.1)
+    (λ (known : IsRecorded items x who). inr (later i items x who known)) (comes_from (owners_after f i) items x who has)
+
+-- each owner has its claim in the journal
+pub owner_recorded : (items : List Item) (x : ℕ) (who : Owner) → owner_of items x ≡ Some who → IsRecorded items x who
+owner_recorded items x who has =
+    ⊎_elim (λ (early : (no_owners x ≡ Some who) × (list_any (λ j. decides j x) items ≡ false)). absurd (cc (early.0)))
+    (λ (known : IsRecorded items x who). known) (comes_from no_owners items x who has)
+
+-- a number that fails, where not all pass
+pub record IsFailing (p : ℕ → Bool) (x n : ℕ) : Type 0 where
+  pub at : ℕ
+  pub above : x ≤ at
+  pub below : at < x + n
+  pub fails : p at ≡ false
+
+failing_from : (p : ℕ → Bool) (x n : ℕ) → each_from p x n ≡ false → IsFailing p x n
+unfolding each_from
+failing_from p x zero not_all = absurd (cc not_all)
+failing_from p x (suc n) not_all =
+    elim (cases_Bool (p x)) as (λ _. IsFailing p x (suc n)) [
+      | inl passes ↦
+          (let rest : IsFailing p (x + 1) n = failing_from p (x + 1) n (rw passes at not_all) in
+          let above = rest.above in
+          let below = rest.below in
+          record { at = rest.at; above = omega (arith, above); below = omega (arith, below); fails = rest.fails })
+      | inr fails ↦ record { at = x; above = omega arith; below = omega arith; fails = fails }
+    ]
+
+pub failing_in : (r : Extent) (p : ℕ → Bool) → each_in r p ≡ false → IsFailing p r.base r.size
+unfolding each_in
+failing_in r p not_all = failing_from p r.base r.size not_all
+
+-- a byte of a frame lies between the frame's ends, and the other way round
+pub frame_covers : (frame x : ℕ) → 4096 * frame ≤ x → x < 4096 * frame + 4096 → covers (bytes_of_frame frame) x ≡ true
+frame_covers frame x above below = grind (arith, nat_tests)
+
+pub covers_frame : (frame x : ℕ) → covers (bytes_of_frame frame) x ≡ true → (4096 * frame ≤ x) × (x < 4096 * frame + 4096)
+covers_frame frame x inside = (grind (arith, nat_tests), grind (arith, nat_tests))
+
+none_is : {A : Type 0} (o : Option A) → is_none o ≡ true → o ≡ None
+none_is None is = refl
+none_is (Some a) is = absurd (cc is)
+
+some_is : {A : Type 0} (o : Option A) → is_none o ≡ false → (a : A) × (o ≡ Some a)
+some_is None is = absurd (cc is)
+some_is (Some a) is = (a, refl)
+
+-- a frame is untouched or touched
+pub touched_or_not : (items : List Item) (frame : ℕ) → IsTouched items frame ⊎ IsUntouched items frame
+touched_or_not items frame =
+    let bare : ℕ → Bool = λ x. is_none (owner_of items x) in
+    elim (cases_Bool (each_in (bytes_of_frame frame) bare)) as (λ _. IsTouched items frame ⊎ IsUntouched items frame) [
+      | inl all ↦ inr (λ x inside.
+          let ends = covers_frame frame x inside in
+          none_is (owner_of items x) (each_in-each (bytes_of_frame frame) bare all x ends.0 ends.1))
+      | inr not_all ↦
+          (let found = failing_in (bytes_of_frame frame) bare not_all in
+          let who = some_is (owner_of items found.at) found.fails in
+          inl (record {
+            byte = found.at;
+            owner = who.0;
+            inside = frame_covers frame found.at found.above found.below;
+            owned = who.1;
+            recorded = owner_recorded items found.at who.0 who.1;
+          }))
+    ]
+
+-- and never both
+pub touched_apart : (items : List Item) (frame : ℕ) → IsTouched items frame → IsUntouched items frame → ⊥
+touched_apart items frame touched bare = absurd (cc (sym touched.owned ∙ bare touched.byte touched.inside))

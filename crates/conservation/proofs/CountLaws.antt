@@ -1,0 +1,110 @@
+-- Which blocks have a frame, and how many of them do.
+use Rattle.std.proofs.Common.{◌≡◌, ℕ, ◌+◌, ◌-◌, ◌%◌, ◌^◌, ◌<◌, ◌≤◌, Bool, true, false, cond, count_by, Option, Some, None, List, [], ◌∷◌, refl, sym, ◌∙◌, ap, subst, inl, inr, ⊎_elim, arith}
+use Rattle.std.proofs.lemmas.Bool.{cases_Bool, true≢false}
+use Rattle.std.proofs.lemmas.Nat.{pow_pos}
+use Rattle.std.proofs.lemmas.List.Sums.{sum_by-cons}
+use Rattle.address_runs.specs.Edits.{NothingFrom}
+use Rattle.frame_blocks.specs.declared.block.Block.{Block}
+use Rattle.frame_blocks.specs.declared.run.TheConstants.{MAX_FRAMES}
+use Rattle.frame_blocks.specs.Frames.{Frames, IsBlock, IsInBlock, IsInSet}
+use Rattle.frame_blocks.specs.Listed.{AscendFrom, Lists, block_around, block_for, block_of, blocks_of, order_up_to}
+use Rattle.frame_blocks.proofs.BlockLaws.{block_found, found_block, listed_ascends, listed_complete, listed_sound}
+use Rattle.frame_blocks.proofs.SetLaws.{in_set, set_from, set_until}
+use Rattle.table_frames.proofs.TakeLaws.{both_tests, tests_both}
+use Rattle.conservation.specs.Headline.{has_frame, blocks_with, with_buddy}
+
+-- the frames of an aligned block are those of its set
+pub in_block : (b : Block) (frame : ℕ) → b.first % 2 ^ b.order ≡ 0 → has_frame b frame ≡ true → IsInBlock b frame
+in_block b frame aligned inside =
+    let ends = tests_both b.first frame (b.first + 2 ^ b.order) inside in
+    let above = ends.0 in
+    let below = ends.1 in
+    in_set (2 ^ b.order) b.first frame (omega (arith, above)) (omega (arith, below, aligned))
+
+-- and those of a block and its buddy are those of the set of twice as many
+pub in_buddies : (b : Block) (frame : ℕ) → IsInSet (b.order + 1) b.first frame → has_frame (with_buddy b) frame ≡ true
+in_buddies b frame same =
+    let s : ℕ = 2 ^ (b.order + 1) in
+    both_tests (b.first - b.first % s) frame (b.first - b.first % s + s) (set_from s b.first frame same)
+    (set_until s b.first frame (pow_pos (b.order + 1)) same)
+
+-- blocks of which none passes a test
+none_counted : (p : Block → Bool) (bs : List Block) → ((b : Block) → Lists bs b → p b ≡ false) → count_by p bs ≡ 0
+none_counted p [] fails = refl
+none_counted p (c ∷ cs) fails =
+    let here : p c ≡ false = fails c (inl refl) in
+    let rest : count_by p cs ≡ 0 = none_counted p cs (λ b listed. fails b (inr listed)) in
+    sum_by-cons (λ (b : Block). cond (p b) 1 0) c cs ∙ ap (λ t. cond t 1 0 + count_by p cs) here ∙ ap (λ n. 0 + n) rest
+
+-- each block of an ascending list begins behind where it begins
+behind_start : (from : ℕ) (bs : List Block) (d : Block) → AscendFrom from bs → Lists bs d → from ≤ d.first
+behind_start from [] d ascend listed = absurd listed
+behind_start from (c ∷ cs) d ascend listed =
+    let start = ascend.0 in
+    ⊎_elim (λ (same : c ≡ d). subst (λ (e : Block). from ≤ e.first) same start)
+    (λ (rest : Lists cs d). (let behind = behind_start (c.first + 1) cs d ascend.1 rest in omega (arith, start, behind))) listed
+
+-- and blocks of which one alone does
+one_counted : (p : Block → Bool) (b : Block) (from : ℕ) (bs : List Block) → AscendFrom from bs → Lists bs b → p b ≡ true
+    → ((c : Block) → Lists bs c → p c ≡ true → c ≡ b) → count_by p bs ≡ 1
+one_counted p b from [] ascend listed holds only = absurd listed
+one_counted p b from (c ∷ cs) ascend listed holds only =
+    elim (cases_Bool (p c)) as (λ _. count_by p (c ∷ cs) ≡ 1) [
+      | inl here ↦
+          (let same : c ≡ b = only c (inl refl) here in
+          let others : (d : Block) → Lists cs d → p d ≡ false = λ d in_rest. elim (cases_Bool (p d)) as (λ _. p d ≡ false) [
+            | inl passes ↦
+                (let equal : d ≡ c = only d (inr in_rest) passes ∙ sym same in
+                let behind : c.first + 1 ≤ d.first = behind_start (c.first + 1) cs d ascend.1 in_rest in
+                let first : d.first ≡ c.first = ap (λ (e : Block). e.first) equal in
+                absurd (omega (arith, behind, first)))
+            | inr fails ↦ fails
+          ] in
+          sum_by-cons (λ (d : Block). cond (p d) 1 0) c cs ∙ ap (λ t. cond t 1 0 + count_by p cs) here
+          ∙ ap (λ n. 1 + n) (none_counted p cs others))
+      | inr away ↦
+          (let rest : Lists cs b =
+          ⊎_elim (λ (same : c ≡ b). absurd (true≢false (sym holds ∙ ap p (sym same) ∙ away))) (λ (r : Lists cs b). r) listed in
+          sum_by-cons (λ (d : Block). cond (p d) 1 0) c cs ∙ ap (λ t. cond t 1 0 + count_by p cs) away
+          ∙ ap (λ n. 0 + n) (one_counted p b (c.first + 1) cs ascend.1 rest holds (λ d in_rest passes. only d (inr in_rest) passes)))
+    ]
+
+-- what has a frame is free
+pub free_inside : (f : Frames) (b : Block) (frame : ℕ) → Lists (blocks_of f) b → has_frame b frame ≡ true → f frame ≡ Some b.node
+free_inside f b frame listed inside =
+    let block : IsBlock f b = listed_sound f b listed in
+    (block.good frame (in_block b frame block.aligned inside)).0
+
+-- a frame that isn't free is in no block
+pub no_block_with : (f : Frames) (frame : ℕ) → f frame ≡ None → blocks_with (blocks_of f) frame ≡ 0
+no_block_with f frame none = none_counted (λ b. has_frame b frame) (blocks_of f) (λ b listed.
+    elim (cases_Bool (has_frame b frame)) as (λ _. has_frame b frame ≡ false) [
+      | inl inside ↦ absurd (cc (sym none ∙ free_inside f b frame listed inside))
+      | inr outside ↦ outside
+    ])
+
+-- and one that is free is in exactly one
+pub one_block_with : (f : Frames) (frame node : ℕ) → NothingFrom MAX_FRAMES f → f frame ≡ Some node → blocks_with (blocks_of f) frame ≡ 1
+one_block_with f frame node none free =
+    let b : Block = block_around (order_up_to f frame node 10) frame node in
+    let made : block_of f frame ≡ Some b = ap (block_for f frame) free in
+    let found = block_found f frame b made in
+    let inside : has_frame b frame ≡ true =
+    (let s : ℕ = 2 ^ b.order in
+    let first : b.first - b.first % s ≡ b.first = (let aligned = found.0.aligned in omega (arith, aligned)) in
+    both_tests b.first frame (b.first + s)
+    (subst (λ (a : ℕ). a ≤ frame) first (set_from s b.first frame found.1))
+    (subst (λ (a : ℕ). frame < a + s) first (set_until s b.first frame (pow_pos b.order) found.1))) in
+    one_counted (λ c. has_frame c frame) b 0 (blocks_of f) (listed_ascends f) (listed_complete f b none found.0) inside
+    (λ c listed within.
+    (let block : IsBlock f c = listed_sound f c listed in
+    let same : block_of f frame ≡ Some c = found_block f frame c block (in_block c frame block.aligned within) in
+    cc (sym same ∙ made)))
+
+-- a frame of a block is free
+some_free : (f : Frames) (frame : ℕ) (o : Option ℕ) → f frame ≡ o → 0 < blocks_with (blocks_of f) frame → (node : ℕ) × (f frame ≡ Some node)
+some_free f frame None is some = (let none = no_block_with f frame is in absurd (omega (arith, some, none)))
+some_free f frame (Some node) is some = (node, is)
+
+pub free_with_block : (f : Frames) (frame : ℕ) → 0 < blocks_with (blocks_of f) frame → (node : ℕ) × (f frame ≡ Some node)
+free_with_block f frame some = some_free f frame (f frame) refl some

@@ -1,0 +1,184 @@
+-- Small journals, blocks and boots: what the definitions say of them, and which boots they refuse.
+use Rattle.std.proofs.Common.{◌≡◌, ℕ, ◌<◌, ◌≤◌, ◌==◌, true, false, if◌then◌else◌, Some, None, List, [], ◌∷◌, refl, inl, inr, ⊎_elim, arith}
+use Rattle.std.proofs.lemmas.Bool.Decides.{nat_tests}
+use Rattle.std.proofs.lemmas.Bool.{cases_Bool}
+use Rattle.bm_base.specs.Extent.{Extent, covers}
+use Rattle.bm_base.specs.Frames.{bytes_of_frame}
+use Rattle.bm_base.specs.declared.zone.Zone.TheVariants as zone
+use Rattle.address_runs.specs.Runs.{RunOf}
+use Rattle.address_runs.specs.Edits.{NothingFrom}
+use Rattle.memblock_model.specs.Items.{tag_of}
+use Rattle.memblock_model.specs.declared.owner.Owner.TheVariants as owner
+use Rattle.memblock_model.specs.declared.item.Item.{Item}
+use Rattle.memblock_model.specs.declared.item.Item.TheVariants as item
+use Rattle.memblock_model.specs.declared.tag.Tag.TheVariants as tag
+use Rattle.frame_blocks.specs.declared.block.Block.{Block}
+use Rattle.frame_blocks.specs.declared.run.TheConstants.{MAX_FRAMES}
+use Rattle.frame_blocks.specs.Frames.{Frames}
+use Rattle.frame_blocks.specs.Listed.{Lists, blocks_of}
+use Rattle.frame_blocks.proofs.BlockLaws.{listed_complete}
+use Rattle.boot_model.specs.Boot.{Given, Told}
+use Rattle.conservation.specs.ByMap.{IsUsableBy}
+use Rattle.conservation.specs.Claimed.{IsRecorded, IsTouched, IsUntouched, decides}
+use Rattle.conservation.specs.Headline.{AllTouchedOrInOne, BlocksAreMaximal, BlocksAreWhole, IsFreeFor, IsMaximal, IsUsable, IsWhole, NoOtherInABlock, blocks_with, has_frame, with_buddy}
+use Rattle.conservation.proofs.CountLaws.{no_block_with, one_block_with}
+
+-- a byte of frame 4 and one of frame 5 are claimed, and the claim of frame 4 is freed again
+abbrev byte_of_four : Extent
+byte_of_four = record { base = 0x4FFF; size = 1 }
+
+abbrev byte_of_five : Extent
+byte_of_five = record { base = 0x5800; size = 1 }
+
+abbrev journal : List Item
+journal = item.Claim byte_of_four (owner.Script 3) ∷ (item.Claim byte_of_five owner.Kernel ∷ (item.Free byte_of_four ∷ []))
+
+decide_examples : (decides (item.Free byte_of_four) 0x4FFF ≡ true) × (decides (item.Free byte_of_four) 0x4FFE ≡ false)
+    × (decides (item.Claim byte_of_five owner.Kernel) 0x5800 ≡ true)
+    × (decides (item.Mem byte_of_five) 0x5800 ≡ false)
+decide_examples = (refl, refl, refl, refl)
+
+-- the claim of frame 5 stands
+five_recorded : IsRecorded journal 0x5800 owner.Kernel
+five_recorded = record {
+  before = item.Claim byte_of_four (owner.Script 3) ∷ [];
+  range = byte_of_five;
+  behind = item.Free byte_of_four ∷ [];
+  recorded = refl;
+  covered = refl;
+  stands = refl;
+}
+
+five_touched : IsTouched journal 5
+five_touched = record { byte = 0x5800; owner = owner.Kernel; inside = refl; owned = refl; recorded = five_recorded }
+
+-- that of frame 4 doesn't
+four_untouched : IsUntouched journal 4
+four_untouched x inside = grind (arith, nat_tests)
+
+five_not_untouched : IsUntouched journal 5 → ⊥
+five_not_untouched bare = let none : Some owner.Kernel ≡ None = bare 0x5800 refl in cc none
+
+-- a block of frames 6 and 7, and one of frame 4
+abbrev two : Block
+two = record { order = 1; first = 6; node = 0; zone = zone.Dma }
+
+abbrev one : Block
+one = record { order = 0; first = 4; node = 0; zone = zone.Dma }
+
+has_examples : (has_frame two 5 ≡ false) × (has_frame two 6 ≡ true) × (has_frame two 7 ≡ true) × (has_frame two 8 ≡ false)
+has_examples = (refl, refl, refl, refl)
+
+-- frame 7 is in one of them, frame 5 in none, and where a block is listed twice its frames are in two
+with_examples : (blocks_with (one ∷ (two ∷ [])) 7 ≡ 1) × (blocks_with (one ∷ (two ∷ [])) 5 ≡ 0) × (blocks_with (two ∷ (two ∷ [])) 6 ≡ 2)
+with_examples = (refl, refl, refl)
+
+-- the buddy of a block lies before it or behind it
+buddy_examples : (with_buddy two ≡ record { order = 2; first = 4; node = 0; zone = zone.Dma })
+    × (with_buddy one ≡ record { order = 1; first = 4; node = 0; zone = zone.Dma })
+buddy_examples = (refl, refl)
+
+-- a block that begins at no multiple of its frames isn't whole, and neither is one of a greater order than the lists have
+odd_example : (given : Given) (items : List Item) → IsWhole given items (record { order = 1; first = 5; node = 0; zone = zone.Dma }) → ⊥
+odd_example given items whole = let wrong : 1 ≡ 0 = whole.aligned in absurd (omega (arith, wrong))
+
+great_example : (given : Given) (items : List Item) → IsWhole given items (record { order = 11; first = 0; node = 0; zone = zone.Dma }) → ⊥
+great_example given items whole = let wrong : 11 ≤ 10 = whole.small in absurd (omega (arith, wrong))
+
+-- one of the greatest order is maximal, and so is one whose buddy is touched
+greatest_example : (given : Given) (items : List Item) → IsMaximal given items (record { order = 10; first = 0; node = 0; zone = zone.Dma })
+greatest_example given items less = absurd (omega (arith, less))
+
+touched_buddy_example : (given : Given) → IsMaximal given journal one
+touched_buddy_example given less all = five_not_untouched (all 5 refl).untouched
+
+-- by a map of two runs frame 1 is usable; frame 2 isn't, since it is reserved, and neither is a frame out of reach
+abbrev two_runs : List (RunOf ℕ)
+two_runs = record { base = 0x1000; size = 0x1000; value = 1 } ∷ (record { base = 0x2000; size = 0x1000; value = 2 } ∷ [])
+
+usable_by_runs : IsUsableBy two_runs 1
+usable_by_runs = (omega arith, λ x inside. grind (arith, nat_tests))
+
+reserved_by_runs : IsUsableBy two_runs 2 → ⊥
+reserved_by_runs usable = let wrong : false ≡ true = usable.1 0x2000 refl in cc wrong
+
+out_of_reach : (map : List (RunOf ℕ)) → IsUsableBy map 17179869184 → ⊥
+out_of_reach map usable = let low = usable.0 in absurd (omega (arith, low))
+
+-- a boot that tells these items and these free frames, whatever else it tells
+abbrev telling : Told → List Item → Frames → Told
+telling told items free = record told { items = items; free = free }
+
+-- frames 4 and 5 are memory of node 1
+abbrev pair_of_node_one : List Item
+pair_of_node_one =
+    item.Mem (record { base = 0x4000; size = 0x2000 }) ∷ (item.Node (record { base = 0x4000; size = 0x2000 }) 1 ∷ [])
+
+tagged : (frame x : ℕ) → 4 ≤ frame → frame < 6 → covers (bytes_of_frame frame) x ≡ true → tag_of pair_of_node_one x ≡ tag.Node 1
+tagged frame x above below inside =
+    let within : covers (record { base = 0x4000; size = 0x2000 }) x ≡ true = grind (arith, nat_tests) in rw within refl
+
+-- frame 5 is told as free, of some node
+abbrev five : ℕ → Frames
+five node frame = if frame == 5 then Some node else None
+
+five_alone : (node : ℕ) → NothingFrom MAX_FRAMES (five node)
+five_alone node frame far = let other : (frame == 5) ≡ false = grind (arith, nat_tests) in rw other refl
+
+-- a usable frame that is told as nobody's and in no block is refused
+lost_frame : (given : Given) (told : Told) → IsUsable given 4 → AllTouchedOrInOne given (telling told pair_of_node_one (five 1)) → ⊥
+lost_frame given told usable all =
+    ⊎_elim
+    (λ (touched : IsTouched pair_of_node_one 4 × (blocks_with (blocks_of (five 1)) 4 ≡ 0)). absurd (cc (touched.0.owned)))
+    (λ (in_one : IsUntouched pair_of_node_one 4 × (blocks_with (blocks_of (five 1)) 4 ≡ 1)).
+    (let none : blocks_with (blocks_of (five 1)) 4 ≡ 0 = no_block_with (five 1) 4 refl in
+    let count = in_one.1 in
+    absurd (omega (arith, none, count)))) (all 4 usable)
+
+-- and so is a frame in a block that somebody has a byte of
+handed_claim : (given : Given) (told : Told) → NoOtherInABlock given (telling told journal (five 1)) → ⊥
+handed_claim given told none =
+    let count : blocks_with (blocks_of (five 1)) 5 ≡ 1 = one_block_with (five 1) 5 1 (five_alone 1) refl in
+    five_not_untouched (none 5 (omega (arith, count))).1
+
+-- frame 5 is a block by itself
+abbrev five_block : ℕ → Block
+five_block node = record { order = 0; first = 5; node = node; zone = zone.Dma }
+
+five_listed : (node : ℕ) → Lists (blocks_of (five node)) (five_block node)
+five_listed node = listed_complete (five node) (five_block node) (five_alone node) (record {
+  small = omega arith;
+  aligned = refl;
+  good = λ frame same. (let is : frame ≡ 5 = omega (arith, same) in (rw is refl, rw is refl));
+  whole = λ less good. (let none : None ≡ Some node = (good 4 refl).0 in cc none);
+})
+
+-- it is refused as one of another node than its memory's
+other_node : (given : Given) (told : Told) → BlocksAreWhole given (telling told pair_of_node_one (five 0)) → ⊥
+other_node given told whole =
+    let same : tag.Node 1 ≡ tag.Node 0 = ((whole (five_block 0) (five_listed 0)).frames 5 refl).node 0x5000 refl in
+    cc same
+
+-- and it is refused as a block by itself where its buddy is free too
+half_alone : (given : Given) (told : Told) → IsUsable given 4 → IsUsable given 5
+    → BlocksAreMaximal given (telling told pair_of_node_one (five 1)) → ⊥
+half_alone given told four_usable five_usable maximal =
+    maximal (five_block 1) (five_listed 1) (omega arith) (λ frame inside.
+    (let above : 4 ≤ frame = grind (arith, nat_tests) in
+    let below : frame < 6 = grind (arith, nat_tests) in
+    elim (cases_Bool (frame == 4)) as (λ _. IsFreeFor given pair_of_node_one (with_buddy (five_block 1)) frame) [
+      | inl lower ↦ (let is : frame ≡ 4 = grind (arith, nat_tests) in
+          record {
+            usable = rw is four_usable;
+            untouched = λ x within. refl;
+            node = λ x within. tagged frame x above below within;
+            zone = rw is refl;
+          })
+      | inr upper ↦ (let is : frame ≡ 5 = grind (arith, nat_tests) in
+          record {
+            usable = rw is five_usable;
+            untouched = λ x within. refl;
+            node = λ x within. tagged frame x above below within;
+            zone = rw is refl;
+          })
+    ]))

@@ -1,0 +1,8 @@
+pub mod AnswerLaws
+pub mod ClaimedLaws
+pub mod CountLaws
+mod Examples
+pub mod FreeLaws
+pub mod HeadlineLaws
+pub mod MapLaws
+pub mod ToldLaws

@@ -1,0 +1,13 @@
+-- Usable frames by the map that a boot tells.
+use Rattle.std.specs.Prelude.{◌≡◌, ℕ, ◌+◌, ◌*◌, ◌≤◌, true, List}
+use Rattle.bm_base.specs.Frames.{bytes_of_frame}
+use Rattle.bm_base.specs.Extent.{covers}
+use Rattle.address_runs.specs.Runs.{RunOf}
+use Rattle.boot_model.specs.declared.limit.TheConstants.{MAX_PHYSMEM}
+use Rattle.boot_model.specs.Boot.{lies_in_memory}
+
+-- each byte of the frame lies below the limit of addresses, in a run of RAM or of memory of the kernel's own
+abbrev pub IsUsableBy : List (RunOf ℕ) → ℕ → Type 0
+IsUsableBy map frame =
+    (4096 * frame + 4096 ≤ MAX_PHYSMEM)
+    × ((x : ℕ) → covers (bytes_of_frame frame) x ≡ true → lies_in_memory map x ≡ true)

@@ -1,0 +1,36 @@
+-- Claims that stand in the end, as the journal records them (`memblock_reserve`, `memblock_phys_free`).
+use Rattle.std.specs.Prelude.{◌≡◌, ℕ, Bool, true, false, Some, None, List, ◌∷◌, ◌++◌}
+use Rattle.std.specs.List.{list_any}
+use Rattle.bm_base.specs.Extent.{Extent, covers}
+use Rattle.bm_base.specs.Frames.{bytes_of_frame}
+use Rattle.memblock_model.specs.Items.{owner_of}
+use Rattle.memblock_model.specs.declared.owner.Owner.{Owner}
+use Rattle.memblock_model.specs.declared.item.Item.{Item}
+use Rattle.memblock_model.specs.declared.item.Item.TheVariants as item
+
+-- whether the item says who has the byte: it claims it or frees it
+abbrev pub decides : Item → ℕ → Bool
+decides (item.Claim range who) x = covers range x
+decides (item.Free range) x = covers range x
+decides i x = false
+
+-- the journal has a claim of the byte for the owner, and the claim stands: no item behind it claims the byte anew or frees it
+pub record IsRecorded (items : List Item) (x : ℕ) (who : Owner) : Type 0 where
+  pub before : List Item
+  pub range : Extent
+  pub behind : List Item
+  pub recorded : items ≡ before ++ (item.Claim range who ∷ behind)
+  pub covered : covers range x ≡ true
+  pub stands : list_any (λ i. decides i x) behind ≡ false
+
+-- a claim touches the frame: some byte of it has an owner, for whom the journal has the claim
+pub record IsTouched (items : List Item) (frame : ℕ) : Type 0 where
+  pub byte : ℕ
+  pub owner : Owner
+  pub inside : covers (bytes_of_frame frame) byte ≡ true
+  pub owned : owner_of items byte ≡ Some owner
+  pub recorded : IsRecorded items byte owner
+
+-- none does: nobody has a byte of the frame
+abbrev pub IsUntouched : List Item → ℕ → Type 0
+IsUntouched items frame = (x : ℕ) → covers (bytes_of_frame frame) x ≡ true → owner_of items x ≡ None

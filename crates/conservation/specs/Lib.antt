@@ -1,0 +1,3 @@
+pub mod ByMap
+pub mod Claimed
+pub mod Headline
