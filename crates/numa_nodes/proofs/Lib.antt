@@ -1,16 +1,7 @@
-<<<<<<< HEAD
 pub mod AssignLaws
+mod Examples
 pub mod ListedLaws
 pub mod MemoryLaws
 pub mod NodedLaws
 pub mod RecordLaws
 pub mod TurnLaws
-=======
-mod AssignLaws
-mod Examples
-mod ListedLaws
-mod MemoryLaws
-mod NodedLaws
-mod RecordLaws
-mod TurnLaws
->>>>>>> h-nodes
