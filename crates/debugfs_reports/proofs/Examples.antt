@@ -11,7 +11,7 @@ use Rattle.frame_blocks.specs.Frames.{Frames}
 use Rattle.boot_model.specs.Boot.{Told, no_nodes}
 use Rattle.boot_model.specs.Sections.{no_sections}
 use Rattle.debugfs_reports.specs.declared.report.Report.TheVariants as reports
-use Rattle.debugfs_reports.specs.Report.{all_reports, first_named, name_of, report_named, report_text}
+use Rattle.debugfs_reports.specs.Report.{first_named, name_of, report_named, report_text}
 use Rattle.debugfs_reports.specs.ReportList.{are_reports, names_in, part, reports_in, text_of, title}
 
 reserved : RunOf ℕ
