@@ -1,5 +1,5 @@
 -- The blocks are those of the free frames, so their orders are small, and the frames of one more fit.
-use Rattle.std.proofs.Common.{◌≡◌, ℕ, ◌+◌, ◌∙◌, ◌^◌, ◌<◌, ◌≤◌, sym, subst, List, arith}
+use Rattle.std.proofs.Common.{◌≡◌, ◌+◌, ◌∙◌, ◌^◌, ◌≤◌, sym, subst, List, arith}
 use Rattle.bm_base.specs.declared.zone.Zone.TheVariants as zone
 use Rattle.frame_blocks.specs.declared.block.Block.{Block}
 use Rattle.frame_blocks.specs.Listed.{blocks_of}
