@@ -1,0 +1,6 @@
+pub mod Answers
+pub mod Entries
+pub mod Grammar
+pub mod Kernel
+pub mod View
+pub mod Words
