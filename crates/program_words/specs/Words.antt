@@ -1,5 +1,5 @@
 -- What the words after the program's name ask for, where they are accepted.
-use Rattle.std.specs.Prelude.{ℕ, Bool, ◌&&◌, is_some, not, if◌then◌else◌, List, map, codes, Option, Some, None, String, string_bytes, unwrap_or}
+use Rattle.std.specs.Prelude.{ℕ, Bool, true, false, ◌&&◌, is_some, not, if◌then◌else◌, List, map, codes, Option, Some, None, String, string_bytes, unwrap_or}
 use Rattle.std.specs.declared.alloc.Global.{Global}
 use Rattle.clap.specs.Words.{Row, first_of, matches_of}
 use Rattle.bm_base.specs.Extent.{Extent}
@@ -31,37 +31,49 @@ argument_of inputs.Extension = codes "e820ext"
 argument_of inputs.CommandLine = codes "cmdline"
 argument_of inputs.Script = codes "script"
 
-abbrev pub name_in : List Row → Named
-name_in rows input = first_of (argument_of input) rows
+-- the value of each argument, where it has one
+abbrev pub Values : Type 0
+Values = List ℕ → Option (List ℕ)
 
--- the first table of entries has one source: it is made, or a zero page is named, which an extension may go on
-abbrev pub has_source : List Row → Bool
-has_source rows =
-    if is_some (first_of (codes "make") rows)
-    then not (is_some (name_in rows inputs.ZeroPage)) && not (is_some (name_in rows inputs.Extension))
-    else is_some (name_in rows inputs.ZeroPage)
+-- what was found for an argument
+abbrev pub value_in : List Row → Values
+value_in rows name = first_of name rows
+
+abbrev pub name_in : Values → Named
+name_in value input = value (argument_of input)
+
+-- the first entries have one source: they are made, or a zero page is named, which an extension may go on
+abbrev pub has_source : Values → Bool
+has_source value =
+    if is_some (value (codes "make"))
+    then not (is_some (name_in value inputs.ZeroPage)) && not (is_some (name_in value inputs.Extension))
+    else is_some (name_in value inputs.ZeroPage)
 
 -- the list of reports where the option isn't given
 abbrev pub default_list : List ℕ
 default_list = codes "buddyinfo"
 
-abbrev pub list_asked : List Row → List ℕ
-list_asked rows = unwrap_or (first_of (codes "report") rows) default_list
+abbrev pub list_asked : Values → List ℕ
+list_asked value = unwrap_or (value (codes "report")) default_list
 
 -- each of its names is a report's
-abbrev pub list_in : List Row → Option (List ℕ)
-list_in rows = if are_reports (list_asked rows) then Some (list_asked rows) else None
+abbrev pub list_in : Values → Option (List ℕ)
+list_in value = if are_reports (list_asked value) then Some (list_asked value) else None
 
--- what was found asks for
-abbrev pub asked_in : List Row → Option Wanted
-asked_in rows = do
-  made ← entries_of (first_of (codes "make") rows)
-  kernel ← kernel_of (first_of (codes "kernel") rows)
-  list ← list_in rows
-  Some (record { named = name_in rows; kernel = kernel; reports = reports_in list; made = made })
+-- the test holds
+abbrev pub provided : Bool → Option (Unit {0})
+provided false = None
+provided true = Some tt
+
+-- what the values ask for
+abbrev pub asked_by : Values → Option Wanted
+asked_by value = do
+  source ← provided (has_source value)
+  made ← entries_of (value (codes "make"))
+  kernel ← kernel_of (value (codes "kernel"))
+  list ← list_in value
+  Some (record { named = name_in value; kernel = kernel; reports = reports_in list; made = made })
 
 -- what the words ask for: the command takes them, and nothing that they ask for is refused
 abbrev pub accepted : List (List ℕ) → Option Wanted
-accepted words =
-    let rows = matches_of program words in
-    if is_taken words && has_source rows then asked_in rows else None
+accepted words = if is_taken words then asked_by (value_in (matches_of program words)) else None

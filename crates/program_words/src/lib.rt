@@ -21,11 +21,13 @@ mod entries;
 mod error;
 mod grammar;
 mod kernel;
+mod laws;
 mod reading;
 #[cfg(test)]
 mod tests;
 mod wanted;
 
 pub use error::WordError;
+pub use laws::words_of_spelling;
 pub use reading::read_words;
 pub use wanted::Wanted;

@@ -5,7 +5,7 @@ ghost use Rattle.std.specs.Option.{option_copied, option_map};
 ghost use Rattle.clap.specs.Words.{found_of, rows_of};
 ghost use Rattle.program_words.specs.Answers.{Reads};
 ghost use Rattle.program_words.specs.View.{wanted_view};
-ghost use Rattle.program_words.specs.Words.{accepted, asked_in, has_source, list_in, texts};
+ghost use Rattle.program_words.specs.Words.{accepted, asked_by, has_source, list_in, texts, value_in};
 
 use crate::entries::entries_of;
 use crate::error::WordError;
@@ -33,18 +33,16 @@ pub fn read_words<'w>(alloc: Global, words: &'w [String]) -> Result<Wanted<'w>, 
     ensures { Reads wanted_view result (accepted (texts words.entry.now)) }
 {
     let matches = match_words(alloc, words)?;
-    if !has_source(&matches) {
-        return Err(WordError::Usage);
-    }
-    match asked_in(matches) {
+    match asked_by(matches) {
         Some(wanted) => Ok(wanted),
         None => Err(WordError::Usage),
     }
 }
 
-/// Whether the first entries have one source: they are made, or a zero page is named.
+/// Whether the first entries have one source: they are made, or a zero page is named, which an extension
+/// may go on.
 fn has_source(matches: &ArgMatches<'_>) -> bool
-    ensures { result ≡ has_source (rows_of (found_of matches.now)) }
+    ensures { result ≡ has_source (value_in (rows_of (found_of matches.now))) }
 {
     let zero_page = value_of(matches, "ZEROPAGE").is_some();
     let extension = value_of(matches, "e820ext").is_some();
@@ -55,10 +53,13 @@ fn has_source(matches: &ArgMatches<'_>) -> bool
     }
 }
 
-/// What was found asks for; `None` exactly where a value is refused.
-fn asked_in<'w>(matches: ArgMatches<'w>) -> Option<Wanted<'w>>
-    ensures { option_map wanted_view result ≡ asked_in (rows_of (found_of matches.entry)) }
+/// What the values that were found ask for; `None` exactly where they are refused.
+fn asked_by<'w>(matches: ArgMatches<'w>) -> Option<Wanted<'w>>
+    ensures { option_map wanted_view result ≡ asked_by (value_in (rows_of (found_of matches.entry))) }
 {
+    if !has_source(&matches) {
+        return None;
+    }
     let made = entries_of(value_of(&matches, "make"))?;
     let kernel = kernel_of(value_of(&matches, "kernel"))?;
     let list = list_in(&matches)?;
@@ -72,7 +73,7 @@ fn asked_in<'w>(matches: ArgMatches<'w>) -> Option<Wanted<'w>>
 
 /// The list of reports that is asked for; each name in it is a report's.
 fn list_in<'w>(matches: &ArgMatches<'w>) -> Option<&'w str>
-    ensures { option_copied result ≡ list_in (rows_of (found_of matches.now)) }
+    ensures { option_copied result ≡ list_in (value_in (rows_of (found_of matches.now))) }
 {
     let list = value_of(matches, "report").unwrap_or(DEFAULT_LIST);
     if are_reports(list.as_bytes()) {
