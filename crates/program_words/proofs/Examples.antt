@@ -18,6 +18,7 @@ record Asked : Type 0 where
   zero_page : Option (List ℕ)
   extension : Option (List ℕ)
   command_line : Option (List ℕ)
+  srat : Option (List ℕ)
   script : Option (List ℕ)
   kernel : Extent
   reports : List Report
@@ -28,6 +29,7 @@ seen wanted = record {
   zero_page = wanted.named inputs.ZeroPage;
   extension = wanted.named inputs.Extension;
   command_line = wanted.named inputs.CommandLine;
+  srat = wanted.named inputs.Srat;
   script = wanted.named inputs.Script;
   kernel = wanted.kernel;
   reports = wanted.reports;
@@ -42,6 +44,7 @@ map_of_zp = record {
   zero_page = Some (codes "zp");
   extension = None;
   command_line = None;
+  srat = None;
   script = None;
   kernel = default_kernel;
   reports = reports.Map ∷ [];
@@ -59,13 +62,14 @@ name_first = refl
 
 -- every option, in two forms
 all_words : asked (codes "--cmdline=-c" ∷ codes "--kernel" ∷ codes "16M,0x200000" ∷ codes "--script" ∷ codes "s" ∷ codes "zp" ∷
-    codes "--e820ext" ∷
-    codes "e" ∷
+    codes "--e820ext" ∷ codes "e" ∷
+    codes "--srat=t" ∷
     codes "--report=map,options,map" ∷
     []) ≡ Some (record {
       zero_page = Some (codes "zp");
       extension = Some (codes "e");
       command_line = Some (codes "-c");
+      srat = Some (codes "t");
       script = Some (codes "s");
       kernel = record { base = 0x1000000; size = 0x200000 };
       reports = reports.Map ∷ reports.Options ∷ reports.Map ∷ [];

@@ -34,34 +34,35 @@ pub record Known (name : List ℕ) : Type 0 where
   pub itself : bytes_eq name name ≡ true
   pub no_name : bytes_eq name zero_page ≡ false
 
+-- the same at once, so that it is computed at once
+abbrev Looked : Type 0
+Looked = Bool × Option (List ℕ × Option (List ℕ)) × Option Rule × Option Rule × Bool × Bool
+
+abbrev looked : List ℕ → Looked
+looked name =
+    (bytes_eq (dashed name) (codes "--"), long_of (dashed name), arg_by_long rules name, arg_by_id rules name, bytes_eq name name,
+    bytes_eq name zero_page)
+
+abbrev hoped : List ℕ → Looked
+hoped name = (false, Some (name, None), Some (option_of name), Some (option_of name), true, false)
+
+known_by : (name : List ℕ) → looked name ≡ hoped name → Known name
+known_by name is = record {
+  not_end = ap (λ (l : Looked). l.0) is;
+  long_word = ap (λ (l : Looked). l.1) is;
+  by_long = ap (λ (l : Looked). l.2) is;
+  by_id = ap (λ (l : Looked). l.3) is;
+  itself = ap (λ (l : Looked). l.4) is;
+  no_name = ap (λ (l : Looked). l.5) is;
+}
+
 AllKnown : List (List ℕ) → Type 0
 AllKnown [] = Unit {0}
-AllKnown (name ∷ names) = Known name × AllKnown names
-
-abbrev pub one : {name : List ℕ} → bytes_eq (dashed name) (codes "--") ≡ false → long_of (dashed name) ≡ Some (name, None)
-    → arg_by_long rules name ≡ Some (option_of name) → arg_by_id rules name ≡ Some (option_of name) → bytes_eq name name ≡ true
-    → bytes_eq name zero_page ≡ false → Known name
-one not_end long_word by_long by_id itself no_name = record {
-  not_end = not_end;
-  long_word = long_word;
-  by_long = by_long;
-  by_id = by_id;
-  itself = itself;
-  no_name = no_name;
-}
+AllKnown (name ∷ names) = (looked name ≡ hoped name) × AllKnown names
 
 all_known : AllKnown option_names
 unfolding program AllKnown
-all_known = (
-  one refl refl refl refl refl refl,
-  (
-    one refl refl refl refl refl refl,
-    (
-      one refl refl refl refl refl refl,
-      (one refl refl refl refl refl refl, (one refl refl refl refl refl refl, (one refl refl refl refl refl refl, tt))),
-    ),
-  ),
-)
+all_known = (refl, (refl, (refl, (refl, (refl, (refl, (refl, tt)))))))
 
 known_in : (names : List (List ℕ)) (name : List ℕ) → AllKnown names → list_any (λ option. bytes_eq option name) names ≡ true → Known name
 unfolding AllKnown
@@ -71,7 +72,7 @@ known_in (first ∷ names) name known is =
   where
     by_test : (same : Bool) → (same ≡ true → first ≡ name) → (same || list_any (λ option. bytes_eq option name) names) ≡ true
         → (list_any (λ option. bytes_eq option name) names ≡ true → Known name) → Known name
-    by_test true equal some behind = subst Known (equal refl) known.0
+    by_test true equal some behind = subst Known (equal refl) (known_by first known.0)
     by_test false equal some behind = behind some
 
 pub known : (name : List ℕ) → is_option name ≡ true → Known name

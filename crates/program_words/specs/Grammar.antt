@@ -20,7 +20,7 @@ with_positional command name = with_rule command (positional_rule name)
 
 abbrev pub option_names : List (List ℕ)
 option_names =
-    codes "cmdline" ∷ codes "e820ext" ∷ codes "script" ∷ codes "kernel" ∷ codes "report" ∷ codes "make" ∷ []
+    codes "cmdline" ∷ codes "e820ext" ∷ codes "srat" ∷ codes "script" ∷ codes "kernel" ∷ codes "report" ∷ codes "make" ∷ []
 
 -- a command without arguments, without `--help` and `--version`, whose first word isn't the program's name
 abbrev pub bare : App

@@ -29,6 +29,7 @@ abbrev pub argument_of : Input → List ℕ
 argument_of inputs.ZeroPage = codes "ZEROPAGE"
 argument_of inputs.Extension = codes "e820ext"
 argument_of inputs.CommandLine = codes "cmdline"
+argument_of inputs.Srat = codes "srat"
 argument_of inputs.Script = codes "script"
 
 -- the value of each argument, where it has one

@@ -1,6 +1,6 @@
 //! The words after the program's name: which are accepted, and what they ask for.
 //!
-//! The words are those of one command of `clap` ([`program`]): six options with one value each, and the
+//! The words are those of one command of `clap` ([`program`]): seven options with one value each, and the
 //! name of the zero page, none of which has to be given. Which words that command takes, and what it
 //! finds for each argument, is the port's own definition; nothing is read a second time here
 //! (`specs/Grammar.antt`).

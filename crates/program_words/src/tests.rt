@@ -22,11 +22,12 @@ fn told(alloc: Global, words: &[&str]) -> Result<String, Fail> {
     let zero_page = wanted.of(Input::ZeroPage).unwrap_or(".");
     let extension = wanted.of(Input::Extension).unwrap_or(".");
     let command_line = wanted.of(Input::CommandLine).unwrap_or(".");
+    let srat = wanted.of(Input::Srat).unwrap_or(".");
     let script = wanted.of(Input::Script).unwrap_or(".");
     let list = wanted.list;
     let kernel = wanted.kernel.base / 0x10_0000;
     let made = wanted.made.unwrap_or(0);
-    Ok(format!(in alloc; "{zero_page} {extension} {command_line} {script} {list} {kernel} {made}")?)
+    Ok(format!(in alloc; "{zero_page} {extension} {command_line} {srat} {script} {list} {kernel} {made}")?)
 }
 
 /// Each row is a list of words and what they come to.
@@ -42,10 +43,10 @@ fn compare(rt: &impl Abort, alloc: Global, rows: &[(&[&str], &str)]) -> Result<(
 fn forms_of_an_option(rt: HostRuntime) -> Result<(), Fail> {
     let rows: [(&[&str], &str); 24] = [
         // with its value in the next word or behind `=`, in front of the name and behind it
-        (&["--report", "map", "zp"], "zp . . . map 16 0"),
-        (&["--report=map", "zp"], "zp . . . map 16 0"),
-        (&["zp", "--report", "map"], "zp . . . map 16 0"),
-        (&["zp", "--report=map"], "zp . . . map 16 0"),
+        (&["--report", "map", "zp"], "zp . . . . map 16 0"),
+        (&["--report=map", "zp"], "zp . . . . map 16 0"),
+        (&["zp", "--report", "map"], "zp . . . . map 16 0"),
+        (&["zp", "--report=map"], "zp . . . . map 16 0"),
         (
             &[
                 "--report=map",
@@ -53,31 +54,33 @@ fn forms_of_an_option(rt: HostRuntime) -> Result<(), Fail> {
                 "zp",
                 "--cmdline",
                 "c",
+                "--srat",
+                "t",
                 "--e820ext=e",
             ],
-            "zp e c s map 16 0",
+            "zp e c t s map 16 0",
         ),
         // without a value
         (&["zp", "--report"], "refused"),
         (&["--report", "--cmdline", "c", "zp"], "refused"),
         (&["--cmdline", "--report=map", "zp"], "refused"),
         // an empty value
-        (&["--report=map", "--cmdline=", "zp"], "zp .  . map 16 0"),
-        (&["--report=map", "--cmdline", "", "zp"], "zp .  . map 16 0"),
+        (&["--report=map", "--cmdline=", "zp"], "zp .  . . map 16 0"),
+        (&["--report=map", "--cmdline", "", "zp"], "zp .  . . map 16 0"),
         (&["--report=", "zp"], "refused"),
         // a value that begins with a hyphen, or has an `=`
         (
             &["--report=map", "--cmdline=-c", "zp"],
-            "zp . -c . map 16 0",
+            "zp . -c . . map 16 0",
         ),
         (&["--report=map", "--cmdline", "-c", "zp"], "refused"),
         (
             &["--report=map", "--cmdline", "-", "zp"],
-            "zp . - . map 16 0",
+            "zp . - . . map 16 0",
         ),
         (
             &["--report=map", "--cmdline=a=b", "zp"],
-            "zp . a=b . map 16 0",
+            "zp . a=b . . map 16 0",
         ),
         // twice
         (&["--report=map", "--report=map", "zp"], "refused"),
@@ -103,19 +106,19 @@ fn names_and_the_end_of_options(rt: HostRuntime) -> Result<(), Fail> {
     let rows: [(&[&str], &str); 20] = [
         (&[], "refused"),
         (&["--report=map"], "refused"),
-        (&["--report=map", ""], " . . . map 16 0"),
-        (&["--report=map", "-"], "- . . . map 16 0"),
-        (&["--report=map", "help"], "help . . . map 16 0"),
+        (&["--report=map", ""], " . . . . map 16 0"),
+        (&["--report=map", "-"], "- . . . . map 16 0"),
+        (&["--report=map", "help"], "help . . . . map 16 0"),
         (&["--report=map", "zp", "zp"], "refused"),
         (&["--report=map", "-zp"], "refused"),
         // behind `--` each word is a name
-        (&["--report=map", "--", "zp"], "zp . . . map 16 0"),
-        (&["--report=map", "zp", "--"], "zp . . . map 16 0"),
-        (&["--report=map", "--", "-zp"], "-zp . . . map 16 0"),
-        (&["--report=map", "--", "--"], "-- . . . map 16 0"),
+        (&["--report=map", "--", "zp"], "zp . . . . map 16 0"),
+        (&["--report=map", "zp", "--"], "zp . . . . map 16 0"),
+        (&["--report=map", "--", "-zp"], "-zp . . . . map 16 0"),
+        (&["--report=map", "--", "--"], "-- . . . . map 16 0"),
         (
             &["--report=map", "--", "--cmdline"],
-            "--cmdline . . . map 16 0",
+            "--cmdline . . . . map 16 0",
         ),
         (&["--", "--report", "map", "zp"], "refused"),
         (&["--report=map", "--", "--cmdline=c", "zp"], "refused"),
@@ -136,7 +139,7 @@ fn values(rt: HostRuntime) -> Result<(), Fail> {
         // reports
         (
             &["--report=map,options,map", "zp"],
-            "zp . . . map,options,map 16 0",
+            "zp . . . . map,options,map 16 0",
         ),
         (&["--report=map,", "zp"], "refused"),
         (&["--report=,map", "zp"], "refused"),
@@ -145,15 +148,15 @@ fn values(rt: HostRuntime) -> Result<(), Fail> {
         // the kernel
         (
             &["--report=map", "--kernel", "1M,8K", "zp"],
-            "zp . . . map 1 0",
+            "zp . . . . map 1 0",
         ),
         (
             &["--report=map", "--kernel=0x2000000,0x2000000", "zp"],
-            "zp . . . map 32 0",
+            "zp . . . . map 32 0",
         ),
         (
             &["--report=map", "--kernel=0x3FFFFFFFE000,8K", "zp"],
-            "zp . . . map 67108863 0",
+            "zp . . . . map 67108863 0",
         ),
         (
             &["--report=map", "--kernel=0x3FFFFFFFF000,8K", "zp"],
@@ -166,11 +169,11 @@ fn values(rt: HostRuntime) -> Result<(), Fail> {
         (&["--report=map", "--kernel=1M,4K", "zp"], "refused"),
         (&["--report=map", "--kernel=16E,8K", "zp"], "refused"),
         // made entries
-        (&["--report=map", "--make", "2"], ". . . . map 16 2"),
-        (&["--report=map", "--make", "3000"], ". . . . map 16 3000"),
+        (&["--report=map", "--make", "2"], ". . . . . map 16 2"),
+        (&["--report=map", "--make", "3000"], ". . . . . map 16 3000"),
         (
             &["--report=map", "--make=0000000000003000"],
-            ". . . . map 16 3000",
+            ". . . . . map 16 3000",
         ),
         (
             &[
@@ -181,7 +184,7 @@ fn values(rt: HostRuntime) -> Result<(), Fail> {
                 "5",
                 "--script=s",
             ],
-            ". . c s map 16 5",
+            ". . c . s map 16 5",
         ),
         (&["--report=map", "--make", "1"], "refused"),
         (&["--report=map", "--make", "3001"], "refused"),

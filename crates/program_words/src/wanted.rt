@@ -46,6 +46,7 @@ fn argument_of(input: Input) -> &'static str
         Input::ZeroPage => "ZEROPAGE",
         Input::Extension => "e820ext",
         Input::CommandLine => "cmdline",
+        Input::Srat => "srat",
         Input::Script => "script",
     }
 }
