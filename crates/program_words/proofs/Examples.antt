@@ -79,7 +79,8 @@ unfolding program clap_on_literals
 all_words = refl
 
 -- a made table in place of a zero page
-made_words : asked (codes "--make" ∷ codes "007" ∷ codes "--report" ∷ codes "map" ∷ []) ≡ Some (record map_of_zp { zero_page = None; made = Some 7 })
+made_words : asked (codes "--make" ∷ codes "007" ∷ codes "--report" ∷ codes "map" ∷ [])
+    ≡ Some (record map_of_zp { zero_page = None; made = Some 7 })
 unfolding program clap_on_literals
 made_words = refl
 

@@ -1,6 +1,6 @@
 -- What the command knows of its arguments, and what is known of plain words: the facts by which words that are spelled are walked
 -- over, without the command itself being opened again.
-use Rattle.std.proofs.Common.{◌≡◌, ℕ, ◌==◌, Bool, true, false, not, ◌||◌, List, [], ◌∷◌, codes, Some, None, refl, subst}
+use Rattle.std.proofs.Common.{◌≡◌, ℕ, ◌==◌, Bool, true, false, not, ◌||◌, List, [], ◌∷◌, codes, Option, Some, None, refl, ap, subst}
 use Rattle.std.specs.List.{list_any}
 use Rattle.std.specs.Str.{bytes_eq}
 use Rattle.std.proofs.lemmas.Slice.Eq.{bytes_eq-Decides}
@@ -39,9 +39,14 @@ abbrev Looked : Type 0
 Looked = Bool × Option (List ℕ × Option (List ℕ)) × Option Rule × Option Rule × Bool × Bool
 
 abbrev looked : List ℕ → Looked
-looked name =
-    (bytes_eq (dashed name) (codes "--"), long_of (dashed name), arg_by_long rules name, arg_by_id rules name, bytes_eq name name,
-    bytes_eq name zero_page)
+looked name = (
+  bytes_eq (dashed name) (codes "--"),
+  long_of (dashed name),
+  arg_by_long rules name,
+  arg_by_id rules name,
+  bytes_eq name name,
+  bytes_eq name zero_page,
+)
 
 abbrev hoped : List ℕ → Looked
 hoped name = (false, Some (name, None), Some (option_of name), Some (option_of name), true, false)

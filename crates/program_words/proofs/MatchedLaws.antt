@@ -71,7 +71,8 @@ all_follow (pair ∷ pairs) are =
 -- ---- the whole
 
 module _ (pairs : List Pair) (name : Option (List ℕ)) (are : AreOptions pairs) (plain_name : IsPlain name) where
-  end : Ends pairs name (walk rules [] nothing_held (spelled pairs name)).held × (walk_fault shape [] (walk_from nothing_held) (spelled pairs name) ≡ [])
+  end : Ends pairs name (walk rules [] nothing_held (spelled pairs name)).held
+      × (walk_fault shape [] (walk_from nothing_held) (spelled pairs name) ≡ [])
   end = walks [] pairs name nothing_held start (nothing_past pairs) (all_follow pairs are) plain_name
 
   pub rows_found : matches_of program (spelled pairs name) ≡ map row_of pairs ++ name_rows name
@@ -95,7 +96,8 @@ found argument [] name = refl
 found argument (pair ∷ pairs) name = by_test (bytes_eq pair.0 argument) refl (found argument pairs name)
   where
     by_test : (same : Bool) → bytes_eq pair.0 argument ≡ same
-        → first_of argument (map row_of pairs ++ name_rows name) ≡ value_or (value_among argument pairs) (first_of argument (name_rows name))
+        → first_of argument (map row_of pairs ++ name_rows name)
+        ≡ value_or (value_among argument pairs) (first_of argument (name_rows name))
         → first_of argument (row_of pair ∷ (map row_of pairs ++ name_rows name))
         ≡ value_or (value_among argument (pair ∷ pairs)) (first_of argument (name_rows name))
     by_test true is behind = rw is refl
@@ -114,7 +116,8 @@ name_found : (name : Option (List ℕ)) → first_of zero_page (name_rows name) 
 name_found None = refl
 name_found (Some name) = refl
 
-no_name_found : (argument : List ℕ) (name : Option (List ℕ)) → bytes_eq zero_page argument ≡ false → first_of argument (name_rows name) ≡ None
+no_name_found : (argument : List ℕ) (name : Option (List ℕ)) → bytes_eq zero_page argument ≡ false
+    → first_of argument (name_rows name) ≡ None
 no_name_found argument None other = refl
 no_name_found argument (Some name) other = rw other refl
 

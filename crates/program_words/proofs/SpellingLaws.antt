@@ -94,7 +94,8 @@ no_row name (pair ∷ pairs) new = by_test (bytes_eq pair.0 name) new (no_row na
     by_test true new behind = cc
     by_test false new behind = behind new
 
-new_snoc : (name : List ℕ) (pairs : List Pair) (pair : Pair) → bytes_eq pair.0 name ≡ false → IsNew name pairs → IsNew name (pairs ++ pair ∷ [])
+new_snoc : (name : List ℕ) (pairs : List Pair) (pair : Pair) → bytes_eq pair.0 name ≡ false → IsNew name pairs
+    → IsNew name (pairs ++ pair ∷ [])
 new_snoc name [] pair other none = rw other refl
 new_snoc name (first ∷ pairs) pair other none = by_test (bytes_eq first.0 name) none (new_snoc name pairs pair other)
   where
@@ -111,8 +112,10 @@ row_added name value [] none = refl
 row_added name value (row ∷ rows) none = by_test (bytes_eq row.id name) refl none (row_added name value rows)
   where
     by_test : (same : Bool) → bytes_eq row.id name ≡ same → (same || has_row name rows) ≡ false
-        → (has_row name rows ≡ false → with_values name (reading_by name_rule) CommandLine (value ∷ []) (without name rows) ≡ rows ++ row_of (name, value) ∷ [])
-        → with_values name (reading_by name_rule) CommandLine (value ∷ []) (without name (row ∷ rows)) ≡ (row ∷ rows) ++ row_of (name, value) ∷ []
+        → (has_row name rows ≡ false
+        → with_values name (reading_by name_rule) CommandLine (value ∷ []) (without name rows) ≡ rows ++ row_of (name, value) ∷ [])
+        → with_values name (reading_by name_rule) CommandLine (value ∷ []) (without name (row ∷ rows))
+        ≡ (row ∷ rows) ++ row_of (name, value) ∷ []
     by_test true is none behind = cc
     by_test false is none behind = rw (is, is, behind none) refl
 
@@ -168,7 +171,8 @@ pub record Ends (pairs : List Pair) (name : Option (List ℕ)) (h : Held) : Type
   pub settles : settle_fault rules false h ≡ []
 
 ends : (pairs : List Pair) (name : Option (List ℕ)) (h : Held) → IsPlain name → Stands pairs h
-    → Ends pairs name (fold (walked rules []) (walk_from h) (spelled [] name)).held × (walk_fault shape [] (walk_from h) (spelled [] name) ≡ [])
+    → Ends pairs name (fold (walked rules []) (walk_from h) (spelled [] name)).held
+    × (walk_fault shape [] (walk_from h) (spelled [] name) ≡ [])
 unfolding walk_fault
 ends pairs None h plain_name stands =
     (record { rows = stands.rows ∙ sym (append-nil (map row_of pairs)); settles = stands.settles }, refl)

@@ -15,7 +15,9 @@ use clap::{Arg, ArgAction, ArgMatches, Command};
 use std::alloc::Global;
 
 /// The names of the options.
-const OPTIONS: [&str; 7] = ["cmdline", "e820ext", "srat", "script", "kernel", "report", "make"];
+const OPTIONS: [&str; 7] = [
+    "cmdline", "e820ext", "srat", "script", "kernel", "report", "make",
+];
 
 /// What the command finds for each argument in the words.
 pub fn match_words<'w>(alloc: Global, words: &'w [String]) -> Result<ArgMatches<'w>, WordError>

@@ -21,9 +21,9 @@ const DEFAULT_LIST: &str = "buddyinfo";
 
 /// What the words after the program's name ask for.
 ///
-/// The options are `--cmdline F`, `--e820ext F`, `--srat F`, `--script F`, `--kernel BASE,SIZE`, `--report LIST` and
-/// `--make N`, each at most once, in any order, also as `--NAME=VALUE`; and ZEROPAGE, at any place. There is ZEROPAGE, or
-/// `--make` with neither ZEROPAGE nor `--e820ext`.
+/// The options are `--cmdline F`, `--e820ext F`, `--srat F`, `--script F`, `--kernel BASE,SIZE`,
+/// `--report LIST` and `--make N`, each at most once, in any order, also as `--NAME=VALUE`; and ZEROPAGE
+/// at any place. There is ZEROPAGE, or `--make` with neither ZEROPAGE nor `--e820ext`.
 ///
 /// # Errors
 ///

@@ -27,7 +27,9 @@ fn told(alloc: Global, words: &[&str]) -> Result<String, Fail> {
     let list = wanted.list;
     let kernel = wanted.kernel.base / 0x10_0000;
     let made = wanted.made.unwrap_or(0);
-    Ok(format!(in alloc; "{zero_page} {extension} {command_line} {srat} {script} {list} {kernel} {made}")?)
+    Ok(format!(in alloc;
+        "{zero_page} {extension} {command_line} {srat} {script} {list} {kernel} {made}"
+    )?)
 }
 
 /// Each row is a list of words and what they come to.
@@ -66,7 +68,10 @@ fn forms_of_an_option(rt: HostRuntime) -> Result<(), Fail> {
         (&["--cmdline", "--report=map", "zp"], "refused"),
         // an empty value
         (&["--report=map", "--cmdline=", "zp"], "zp .  . . map 16 0"),
-        (&["--report=map", "--cmdline", "", "zp"], "zp .  . . map 16 0"),
+        (
+            &["--report=map", "--cmdline", "", "zp"],
+            "zp .  . . map 16 0",
+        ),
         (&["--report=", "zp"], "refused"),
         // a value that begins with a hyphen, or has an `=`
         (
