@@ -10,7 +10,7 @@ use Rattle.debugfs_reports.specs.declared.report.Report.TheVariants as reports
 use Rattle.program_words.specs.Entries.{are_digits, are_entries, entries_in, entries_of}
 use Rattle.program_words.specs.Grammar.{is_taken, program}
 use Rattle.program_words.specs.Kernel.{default_kernel, if_kernel, kernel_in, kernel_of}
-use Rattle.program_words.specs.Spelling.{Pair, dashed, given_by, is_option, is_plain, spelled, value_among}
+use Rattle.program_words.specs.Spelling.{Piece, apart, argument_in, dashed, given_by, is_option, is_plain, joined, named, spelled, text_in, words_of}
 use Rattle.program_words.specs.Words.{Values, Wanted, accepted, argument_of, asked_by, has_source, list_asked, list_in, name_in, provided, value_in}
 
 -- what words ask for, apart from the names of files by input
@@ -128,20 +128,20 @@ found_examples = (refl, refl, refl)
 
 -- values by pairs: a number and an extension, a zero page and an extension, an extension alone
 abbrev with_number : Values
-with_number = given_by ((codes "make", codes "5") ∷ (codes "e820ext", codes "e") ∷ []) None
+with_number = given_by (apart (codes "make") (codes "5") ∷ joined (codes "e820ext") (codes "e") ∷ [])
 
 abbrev with_both : Values
-with_both = given_by ((codes "e820ext", codes "e") ∷ (codes "report", codes "map") ∷ []) (Some (codes "zp"))
+with_both = given_by (named (codes "zp") ∷ apart (codes "e820ext") (codes "e") ∷ apart (codes "report") (codes "map") ∷ [])
 
 abbrev with_extension : Values
-with_extension = given_by ((codes "e820ext", codes "e") ∷ []) None
+with_extension = given_by (apart (codes "e820ext") (codes "e") ∷ [])
 
 source_examples : (has_source with_number ≡ false) × (has_source with_both ≡ true) × (has_source with_extension ≡ false)
 source_examples = (refl, refl, refl)
 
 list_examples : (list_asked with_both ≡ codes "map") × (list_in with_both ≡ Some (codes "map"))
     × (list_asked with_extension ≡ codes "buddyinfo")
-    × (list_in (given_by ((codes "report", codes "Map") ∷ []) None) ≡ None)
+    × (list_in (given_by (joined (codes "report") (codes "Map") ∷ [])) ≡ None)
 list_examples = (refl, refl, refl, refl)
 
 by_examples : (option_map (λ wanted. wanted.named inputs.Extension) (asked_by with_both) ≡ Some (Some (codes "e")))
@@ -182,18 +182,21 @@ kernel_examples : (kernel_of None ≡ Some default_kernel) × (kernel_of (Some (
 kernel_examples = (refl, refl, refl)
 
 -- spelling
-abbrev two_pairs : List Pair
-two_pairs = (codes "report", codes "map") ∷ (codes "script", codes "s") ∷ []
+abbrev three_pieces : List Piece
+three_pieces = apart (codes "report") (codes "map") ∷ named (codes "zp") ∷ joined (codes "script") (codes "-s") ∷ []
 
-spelled_examples : (dashed (codes "make") ≡ codes "--make")
-    × (spelled two_pairs (Some (codes "zp")) ≡ codes "--report" ∷ codes "map" ∷ codes "--script" ∷ codes "s" ∷ codes "zp" ∷ [])
-    × (spelled [] None ≡ [])
+spelled_examples : (dashed (codes "make") ≡ codes "--make") × (words_of (joined (codes "make") []) ≡ codes "--make=" ∷ [])
+    × (spelled three_pieces ≡ codes "--report" ∷ codes "map" ∷ codes "zp" ∷ codes "--script=-s" ∷ [])
 spelled_examples = (refl, refl, refl)
 
 word_examples : (is_plain (codes "z-p") ≡ true) × (is_plain [] ≡ true) × (is_plain (codes "-") ≡ false)
     × (is_option (codes "kernel") ≡ true) × (is_option (codes "ZEROPAGE") ≡ false)
 word_examples = (refl, refl, refl, refl, refl)
 
-value_examples : (value_among (codes "script") two_pairs ≡ Some (codes "s")) × (value_among (codes "kernel") two_pairs ≡ None)
-    × (given_by two_pairs (Some (codes "zp")) (codes "ZEROPAGE") ≡ Some (codes "zp"))
+piece_examples : (argument_in (named (codes "zp")) ≡ codes "ZEROPAGE") × (argument_in (apart (codes "make") (codes "5")) ≡ codes "make")
+    × (text_in (named (codes "zp")) ≡ codes "zp") × (text_in (joined (codes "make") (codes "5")) ≡ codes "5")
+piece_examples = (refl, refl, refl, refl)
+
+value_examples : (given_by three_pieces (codes "script") ≡ Some (codes "-s")) × (given_by three_pieces (codes "kernel") ≡ None)
+    × (given_by three_pieces (codes "ZEROPAGE") ≡ Some (codes "zp"))
 value_examples = (refl, refl, refl)

@@ -1,6 +1,6 @@
 -- What the command knows of its arguments, and what is known of plain words: the facts by which words that are spelled are walked
 -- over, without the command itself being opened again.
-use Rattle.std.proofs.Common.{◌≡◌, ℕ, ◌==◌, Bool, true, false, not, ◌||◌, List, [], ◌∷◌, codes, Option, Some, None, refl, ap, subst}
+use Rattle.std.proofs.Common.{◌≡◌, ℕ, ◌==◌, Bool, true, false, not, ◌||◌, List, [], ◌∷◌, ◌++◌, codes, Option, Some, None, refl, ap, subst}
 use Rattle.std.specs.List.{list_any}
 use Rattle.std.specs.Str.{bytes_eq}
 use Rattle.std.proofs.lemmas.Slice.Eq.{bytes_eq-Decides}
@@ -25,10 +25,15 @@ option_of name = filled (option_rule name)
 abbrev pub name_rule : Rule
 name_rule = with_index 1 (filled (positional_rule zero_page))
 
+abbrev pub joined_word : List ℕ → List ℕ → List ℕ
+joined_word name value = dashed name ++ (codes "=" ++ value)
+
 -- an option: how its word is read, and where it is found
 pub record Known (name : List ℕ) : Type 0 where
   pub not_end : bytes_eq (dashed name) (codes "--") ≡ false
   pub long_word : long_of (dashed name) ≡ Some (name, None)
+  pub joined_not_end : (value : List ℕ) → bytes_eq (joined_word name value) (codes "--") ≡ false
+  pub joined_long : (value : List ℕ) → long_of (joined_word name value) ≡ Some (name, Some value)
   pub by_long : arg_by_long rules name ≡ Some (option_of name)
   pub by_id : arg_by_id rules name ≡ Some (option_of name)
   pub itself : bytes_eq name name ≡ true
@@ -36,12 +41,16 @@ pub record Known (name : List ℕ) : Type 0 where
 
 -- the same at once, so that it is computed at once
 abbrev Looked : Type 0
-Looked = Bool × Option (List ℕ × Option (List ℕ)) × Option Rule × Option Rule × Bool × Bool
+Looked =
+    Bool × Option (List ℕ × Option (List ℕ)) × (List ℕ → Bool) × (List ℕ → Option (List ℕ × Option (List ℕ))) × Option Rule × Option Rule
+    × Bool × Bool
 
 abbrev looked : List ℕ → Looked
 looked name = (
   bytes_eq (dashed name) (codes "--"),
   long_of (dashed name),
+  λ value. bytes_eq (joined_word name value) (codes "--"),
+  λ value. long_of (joined_word name value),
   arg_by_long rules name,
   arg_by_id rules name,
   bytes_eq name name,
@@ -49,16 +58,27 @@ looked name = (
 )
 
 abbrev hoped : List ℕ → Looked
-hoped name = (false, Some (name, None), Some (option_of name), Some (option_of name), true, false)
+hoped name = (
+  false,
+  Some (name, None),
+  λ value. false,
+  λ value. Some (name, Some value),
+  Some (option_of name),
+  Some (option_of name),
+  true,
+  false,
+)
 
 known_by : (name : List ℕ) → looked name ≡ hoped name → Known name
 known_by name is = record {
   not_end = ap (λ (l : Looked). l.0) is;
   long_word = ap (λ (l : Looked). l.1) is;
-  by_long = ap (λ (l : Looked). l.2) is;
-  by_id = ap (λ (l : Looked). l.3) is;
-  itself = ap (λ (l : Looked). l.4) is;
-  no_name = ap (λ (l : Looked). l.5) is;
+  joined_not_end = λ value. ap (λ (l : Looked). l.2 value) is;
+  joined_long = λ value. ap (λ (l : Looked). l.3 value) is;
+  by_long = ap (λ (l : Looked). l.4) is;
+  by_id = ap (λ (l : Looked). l.5) is;
+  itself = ap (λ (l : Looked). l.6) is;
+  no_name = ap (λ (l : Looked). l.7) is;
 }
 
 AllKnown : List (List ℕ) → Type 0

@@ -1,213 +1,289 @@
--- The walk over words that are spelled: it stands between two pairs with one value waiting, settles it at the next word, and ends with
--- a row for each pair and for the name.
-use Rattle.std.proofs.Common.{◌≡◌, ℕ, Bool, true, false, List, [], ◌∷◌, ◌++◌, Option, Some, None, refl, sym, ap, ◌∙◌, inl, inr, map, ◌&&◌, ◌||◌, if◌then◌else◌}
-use Rattle.std.proofs.lemmas.List.{append-nil, append_assoc}
-use Rattle.std.proofs.lemmas.Slice.Eq.{bytes_eq-Decides}
+-- The walk over words that are spelled as pieces: it stands between two pieces with one value waiting at most, settles it at the next
+-- word, and ends with a row for each piece.
+use Rattle.std.proofs.Common.{◌≡◌, ℕ, Bool, true, false, ◌&&◌, ◌||◌, List, [], ◌∷◌, ◌++◌, Some, None, refl, inl, inr, sym, ap, map, ◌∙◌, if◌then◌else◌}
 use Rattle.std.specs.Prelude.{◌⊎◌, fold}
 use Rattle.std.specs.Str.{bytes_eq}
+use Rattle.std.proofs.lemmas.List.{append-nil, append_assoc}
+use Rattle.std.proofs.lemmas.Slice.Eq.{bytes_eq-Decides}
 use Rattle.clap.specs.Faults.{settle_fault, turn_fault, walk_fault}
-use Rattle.clap.specs.Walk.{Held, Row, Walk, option, idle, reading_by, settled, settled_rows, walk_from, walked, with_values, without, has_row, is_pending}
+use Rattle.clap.specs.Walk.{Held, Row, Walk, has_row, idle, is_pending, option, reading_by, settled, settled_rows, used, walked, with_values, without}
 use Rattle.clap.specs.declared.parser.matches.ValueSource.TheVariants.{CommandLine}
-use Rattle.program_words.specs.Spelling.{Pair, dashed, spelled, value_among}
-use Rattle.program_words.proofs.KnownLaws.{Known, Plain, name_by_id, name_by_index, name_rule, once, rules, shape, zero_page}
+use Rattle.program_words.specs.Spelling.{ArePieces, IsPiece, Piece, apart, argument_in, dashed, given_by, joined, named, spelled, text_in, words_of}
+use Rattle.program_words.proofs.KnownLaws.{Known, Plain, joined_word, known, name_by_id, name_by_index, name_rule, once, option_of, plain, rules, shape, zero_page}
 
--- a word that takes a value waits for it, with all before it settled
-abbrev waiting_for : List ℕ → Held → Walk
-waiting_for name h = record {
+-- ---- one word
+
+-- the walk between two pieces
+abbrev pub resting : ℕ → Held → Walk
+resting position h = record {
+  held = h;
+  waiting = idle;
+  position = position;
+  is_trailing = false;
+  stopped = None;
+}
+
+-- an option waits for its value, with all before it settled
+abbrev waiting_for : ℕ → List ℕ → Held → Walk
+waiting_for position name h = record {
   held = record (settled rules h) { pending = Some (name, []) };
   waiting = option name;
-  position = 1;
+  position = position;
   is_trailing = false;
   stopped = None;
 }
 
--- the value stands beside its option, and nothing waits
-abbrev with_pair : Pair → Held → Held
-with_pair pair h = record (settled rules h) { pending = Some (pair.0, pair.1 ∷ []) }
+-- a value waits beside its argument
+abbrev with_value : List ℕ → List ℕ → Held → Held
+with_value argument value h = record (settled rules h) { pending = Some (argument, value ∷ []) }
 
--- the name stands as the first positional's value
-abbrev with_name : List ℕ → Held → Walk
-with_name name h = record {
-  held = record (settled rules h) { pending = Some (zero_page, name ∷ []) };
-  waiting = idle;
-  position = 2;
-  is_trailing = false;
-  stopped = None;
-}
+-- a value behind `=` waits for nothing
+abbrev with_joined : List ℕ → List ℕ → Held → Held
+with_joined name value h = record h { rows = used (option_of name) (value ∷ []) (settled rules h).rows; pending = None }
 
 and_false : (b : Bool) → (b && false) ≡ false
 and_false true = refl
 and_false false = refl
 
-option_walks : (name : List ℕ) (h : Held) → Known name → walked rules [] (walk_from h) (dashed name) ≡ waiting_for name h
-unfolding walked
-option_walks name h k = rw (k.not_end, k.long_word, k.by_long) refl
+module _ (position : ℕ) (h : Held) where
+  option_walks : (name : List ℕ) → Known name → walked rules [] (resting position h) (dashed name) ≡ waiting_for position name h
+  unfolding walked
+  option_walks name k = rw (k.not_end, k.long_word, k.by_long) refl
 
-value_walks : (pair : Pair) (h : Held) → Known pair.0 → Plain pair.1
-    → walked rules [] (waiting_for pair.0 h) pair.1 ≡ walk_from (with_pair pair h)
-unfolding walked
-value_walks pair h k p = rw (p.not_end, p.no_long, p.no_short, k.by_id, k.itself) refl
+  value_walks : (name value : List ℕ) → Known name → Plain value
+      → walked rules [] (waiting_for position name h) value ≡ resting position (with_value name value h)
+  unfolding walked
+  value_walks name value k p = rw (p.not_end, p.no_long, p.no_short, k.by_id, k.itself) refl
 
-name_walks : (name : List ℕ) (h : Held) → Plain name → walked rules [] (walk_from h) name ≡ with_name name h
+  joined_walks : (name value : List ℕ) → Known name
+      → walked rules [] (resting position h) (joined_word name value) ≡ resting position (with_joined name value h)
+  unfolding walked
+  joined_walks name value k = rw (k.joined_not_end value, k.joined_long value, k.by_long) refl
+
+  -- the faults of each turn
+  option_turn : (name : List ℕ) → Known name → settle_fault rules false h ≡ []
+      → turn_fault shape [] (resting position h) (dashed name) ≡ []
+  option_turn name k settles = rw (k.not_end, k.long_word, k.by_long, once, settles) refl
+
+  value_turn : (name value : List ℕ) → Plain value → turn_fault shape [] (waiting_for position name h) value ≡ []
+  value_turn name value p = rw (p.not_end, p.no_long, p.no_short) refl
+
+  joined_turn : (name value : List ℕ) → Known name → settle_fault rules false h ≡ [] → has_row name (settled_rows rules h.pending h.rows) ≡ false
+      → turn_fault shape [] (resting position h) (joined_word name value) ≡ []
+  joined_turn name value k settles none = rw (k.joined_not_end value, k.joined_long value, k.by_long, once, settles, none) refl
+
+name_walks : (name : List ℕ) (h : Held) → Plain name → walked rules [] (resting 1 h) name ≡ resting 2 (with_value zero_page name h)
 unfolding walked
 name_walks name h p = rw (p.not_end, p.no_long, p.no_short, name_by_index, and_false (is_pending name_rule h.pending)) refl
 
--- the faults of each turn
-option_turn : (name : List ℕ) (h : Held) → Known name → settle_fault rules false h ≡ []
-    → turn_fault shape [] (walk_from h) (dashed name) ≡ []
-option_turn name h k settles = rw (k.not_end, k.long_word, k.by_long, once, settles) refl
-
-value_turn : (pair : Pair) (h : Held) → Known pair.0 → Plain pair.1 → turn_fault shape [] (waiting_for pair.0 h) pair.1 ≡ []
-value_turn pair h k p = rw (p.not_end, p.no_long, p.no_short) refl
-
-name_turn : (name : List ℕ) (h : Held) → Plain name → settle_fault rules false h ≡ [] → turn_fault shape [] (walk_from h) name ≡ []
+name_turn : (name : List ℕ) (h : Held) → Plain name → settle_fault rules false h ≡ [] → turn_fault shape [] (resting 1 h) name ≡ []
 name_turn name h p settles =
     rw (p.not_end, p.no_long, p.no_short, name_by_index, once, settles, and_false (is_pending name_rule h.pending)) refl
 
--- ---- what stands between two pairs
+-- ---- what stands between two pieces
 
-abbrev pub row_of : Pair → Row
-row_of pair = record {
-  id = pair.0;
-  values = pair.1 ∷ [];
+abbrev pub row_of : Piece → Row
+row_of piece = record {
+  id = argument_in piece;
+  values = text_in piece ∷ [];
   count = None;
   source = Some CommandLine;
   reading = reading_by name_rule;
 }
 
--- what waits may be settled, and then each pair so far has its row
-pub record Stands (earlier : List Pair) (h : Held) : Type 0 where
+-- no piece is of the argument
+abbrev pub IsNew : List ℕ → List Piece → Type 0
+IsNew argument pieces = given_by pieces argument ≡ None
+
+-- what waits may be settled, and then each piece so far has its row; before a name the walk is at the first place of names
+pub record Stands (earlier : List Piece) (position : ℕ) (h : Held) : Type 0 where
   pub rows : settled_rows rules h.pending h.rows ≡ map row_of earlier
   pub settles : settle_fault rules false h ≡ []
-  pub no_name : value_among zero_page earlier ≡ None
+  pub first : IsNew zero_page earlier → position ≡ 1
 
--- no pair has the name
-abbrev pub IsNew : List ℕ → List Pair → Type 0
-IsNew name earlier = value_among name earlier ≡ None
-
-no_row : (name : List ℕ) (earlier : List Pair) → IsNew name earlier → has_row name (map row_of earlier) ≡ false
-no_row name [] new = refl
-no_row name (pair ∷ pairs) new = by_test (bytes_eq pair.0 name) new (no_row name pairs)
+no_row : (argument : List ℕ) (earlier : List Piece) → IsNew argument earlier → has_row argument (map row_of earlier) ≡ false
+no_row argument [] new = refl
+no_row argument (piece ∷ pieces) new = by_test (bytes_eq (argument_in piece) argument) new (no_row argument pieces)
   where
-    by_test : (same : Bool) → (if same then Some pair.1 else value_among name pairs) ≡ None
-        → (value_among name pairs ≡ None → has_row name (map row_of pairs) ≡ false) → (same || has_row name (map row_of pairs)) ≡ false
+    by_test : (same : Bool) → (if same then Some (text_in piece) else given_by pieces argument) ≡ None
+        → (given_by pieces argument ≡ None → has_row argument (map row_of pieces) ≡ false)
+        → (same || has_row argument (map row_of pieces)) ≡ false
     by_test true new behind = cc
     by_test false new behind = behind new
 
-new_snoc : (name : List ℕ) (pairs : List Pair) (pair : Pair) → bytes_eq pair.0 name ≡ false → IsNew name pairs
-    → IsNew name (pairs ++ pair ∷ [])
-new_snoc name [] pair other none = rw other refl
-new_snoc name (first ∷ pairs) pair other none = by_test (bytes_eq first.0 name) none (new_snoc name pairs pair other)
+-- a piece at the end
+new_before : (argument : List ℕ) (pieces : List Piece) (piece : Piece) → IsNew argument (pieces ++ piece ∷ []) → IsNew argument pieces
+new_before argument [] piece none = refl
+new_before argument (first ∷ pieces) piece none = by_test (bytes_eq (argument_in first) argument) none (new_before argument pieces piece)
   where
-    by_test : (same : Bool) → (if same then Some first.1 else value_among name pairs) ≡ None
-        → (IsNew name pairs → IsNew name (pairs ++ pair ∷ []))
-        → (if same then Some first.1 else value_among name (pairs ++ pair ∷ [])) ≡ None
+    by_test : (same : Bool) → (if same then Some (text_in first) else given_by (pieces ++ piece ∷ []) argument) ≡ None
+        → (IsNew argument (pieces ++ piece ∷ []) → IsNew argument pieces)
+        → (if same then Some (text_in first) else given_by pieces argument) ≡ None
+    by_test true none behind = cc
+    by_test false none behind = behind none
+
+new_end : (argument : List ℕ) (pieces : List Piece) (piece : Piece) → bytes_eq (argument_in piece) argument ≡ false → IsNew argument pieces
+    → IsNew argument (pieces ++ piece ∷ [])
+new_end argument [] piece other none = rw other refl
+new_end argument (first ∷ pieces) piece other none =
+    by_test (bytes_eq (argument_in first) argument) none (new_end argument pieces piece other)
+  where
+    by_test : (same : Bool) → (if same then Some (text_in first) else given_by pieces argument) ≡ None
+        → (IsNew argument pieces → IsNew argument (pieces ++ piece ∷ []))
+        → (if same then Some (text_in first) else given_by (pieces ++ piece ∷ []) argument) ≡ None
+    by_test true none behind = cc
+    by_test false none behind = behind none
+
+not_new : (pieces : List Piece) (name : List ℕ) → IsNew zero_page (pieces ++ named name ∷ []) → ⊥
+not_new [] name none = cc
+not_new (first ∷ pieces) name none = by_test (bytes_eq (argument_in first) zero_page) none (not_new pieces name)
+  where
+    by_test : (same : Bool) → (if same then Some (text_in first) else given_by (pieces ++ named name ∷ []) zero_page) ≡ None
+        → (IsNew zero_page (pieces ++ named name ∷ []) → ⊥) → ⊥
     by_test true none behind = cc
     by_test false none behind = behind none
 
 -- a first value of an argument is one more row
-row_added : (name : List ℕ) (value : List ℕ) (rows : List Row) → has_row name rows ≡ false
-    → with_values name (reading_by name_rule) CommandLine (value ∷ []) (without name rows) ≡ rows ++ row_of (name, value) ∷ []
-row_added name value [] none = refl
-row_added name value (row ∷ rows) none = by_test (bytes_eq row.id name) refl none (row_added name value rows)
+row_added : (argument value : List ℕ) (rows : List Row) (row : Row)
+    → row ≡ record {
+      id = argument;
+      values = value ∷ [];
+      count = None;
+      source = Some CommandLine;
+      reading = reading_by name_rule;
+    } → has_row argument rows ≡ false
+    → with_values argument (reading_by name_rule) CommandLine (value ∷ []) (without argument rows) ≡ rows ++ row ∷ []
+row_added argument value [] row is none = rw is refl
+row_added argument value (first ∷ rows) row is none = by_test (bytes_eq first.id argument) refl none (row_added argument value rows row is)
   where
-    by_test : (same : Bool) → bytes_eq row.id name ≡ same → (same || has_row name rows) ≡ false
-        → (has_row name rows ≡ false
-        → with_values name (reading_by name_rule) CommandLine (value ∷ []) (without name rows) ≡ rows ++ row_of (name, value) ∷ [])
-        → with_values name (reading_by name_rule) CommandLine (value ∷ []) (without name (row ∷ rows))
-        ≡ (row ∷ rows) ++ row_of (name, value) ∷ []
+    by_test : (same : Bool) → bytes_eq first.id argument ≡ same → (same || has_row argument rows) ≡ false
+        → (has_row argument rows ≡ false
+        → with_values argument (reading_by name_rule) CommandLine (value ∷ []) (without argument rows) ≡ rows ++ row ∷ [])
+        → with_values argument (reading_by name_rule) CommandLine (value ∷ []) (without argument (first ∷ rows))
+        ≡ (first ∷ rows) ++ row ∷ []
     by_test true is none behind = cc
     by_test false is none behind = rw (is, is, behind none) refl
 
--- one pair on
-stands_more : (earlier : List Pair) (pair : Pair) (h : Held) → Known pair.0 → IsNew pair.0 earlier → Stands earlier h
-    → Stands (earlier ++ pair ∷ []) (with_pair pair h)
-stands_more earlier pair h k new stands =
-    let none = no_row pair.0 earlier new in
+map_end : (pieces : List Piece) (piece : Piece) → map row_of (pieces ++ piece ∷ []) ≡ map row_of pieces ++ row_of piece ∷ []
+map_end [] piece = refl
+map_end (first ∷ pieces) piece = ap (λ rows. row_of first ∷ rows) (map_end pieces piece)
+
+-- ---- one piece on
+
+pub record Goes (earlier : List Piece) (piece : Piece) (position : ℕ) (h : Held) : Type 0 where
+  pub now : Held
+  pub place : ℕ
+  pub stands : Stands (earlier ++ piece ∷ []) place now
+  pub walk : (rest : List (List ℕ))
+      → fold (walked rules []) (resting position h) (words_of piece ++ rest) ≡ fold (walked rules []) (resting place now) rest
+  pub fault : (rest : List (List ℕ))
+      → walk_fault shape [] (resting position h) (words_of piece ++ rest) ≡ walk_fault shape [] (resting place now) rest
+
+goes : (earlier : List Piece) (piece : Piece) (position : ℕ) (h : Held) → IsPiece piece → IsNew (argument_in piece) earlier
+    → Stands earlier position h → Goes earlier piece position h
+unfolding walk_fault
+goes earlier (apart name value) position h is new stands =
+    let k = known name is.0 in
+    let p = plain value is.1 in
+    let none = no_row name earlier new in
+    let to_value = option_walks position h name k in
+    let to_rest = value_walks position h name value k p in
     record {
-      rows = rw (k.by_id, stands.rows, row_added pair.0 pair.1 (map row_of earlier) none) (sym (map_snoc earlier pair));
-      settles = rw (k.by_id, stands.rows, none) refl;
-      no_name = new_snoc zero_page earlier pair k.no_name stands.no_name;
+      now = with_value name value h;
+      place = position;
+      stands = record {
+        rows = rw (k.by_id, stands.rows, row_added name value (map row_of earlier) (row_of (apart name value)) refl none)
+            (sym (map_end earlier (apart name value)));
+        settles = rw (k.by_id, stands.rows, none) refl;
+        first = λ fresh. stands.first (new_before zero_page earlier (apart name value) fresh);
+      };
+      walk = λ rest. ap (λ w. fold (walked rules []) w rest) (ap (λ w. walked rules [] w value) to_value ∙ to_rest);
+      fault = λ rest. rw (option_turn position h name k stands.settles, to_value, value_turn position h name value p, to_rest) refl;
     }
-  where
-    map_snoc : (pairs : List Pair) (pair : Pair) → map row_of (pairs ++ pair ∷ []) ≡ map row_of pairs ++ row_of pair ∷ []
-    map_snoc [] pair = refl
-    map_snoc (first ∷ pairs) pair = ap (λ rows. row_of first ∷ rows) (map_snoc pairs pair)
+goes earlier (joined name value) position h is new stands =
+    let k = known name is in
+    let none = no_row name earlier new in
+    let to_rest = joined_walks position h name value k in
+    record {
+      now = with_joined name value h;
+      place = position;
+      stands = record {
+        rows = rw (stands.rows, row_added name value (map row_of earlier) (row_of (joined name value)) refl none)
+            (sym (map_end earlier (joined name value)));
+        settles = refl;
+        first = λ fresh. stands.first (new_before zero_page earlier (joined name value) fresh);
+      };
+      walk = λ rest. ap (λ w. fold (walked rules []) w rest) to_rest;
+      fault = λ rest. rw (joined_turn position h name value k stands.settles (rw stands.rows none), to_rest) refl;
+    }
+goes earlier (named name) position h is new stands =
+    let p = plain name is in
+    let none = no_row zero_page earlier new in
+    let at_first = stands.first new in
+    let to_rest = name_walks name h p in
+    record {
+      now = with_value zero_page name h;
+      place = 2;
+      stands = record {
+        rows = rw (name_by_id, stands.rows, row_added zero_page name (map row_of earlier) (row_of (named name)) refl none)
+            (sym (map_end earlier (named name)));
+        settles = rw (name_by_id, stands.rows, none) refl;
+        first = λ fresh. absurd (not_new earlier name fresh);
+      };
+      walk = λ rest. rw at_first (ap (λ w. fold (walked rules []) w rest) to_rest);
+      fault = λ rest. rw (at_first, name_turn name h p stands.settles, to_rest) refl;
+    }
 
--- ---- over all pairs
+-- ---- over all pieces
 
--- no later pair has the name of an earlier one
-abbrev pub Past : List Pair → List Pair → Type 0
-Past earlier later = (name : List ℕ) → IsNew name earlier ⊎ IsNew name later
+-- no argument has a piece on both sides
+abbrev pub Past : List Piece → List Piece → Type 0
+Past earlier later = (argument : List ℕ) → IsNew argument earlier ⊎ IsNew argument later
 
-first_new : (earlier : List Pair) (pair : Pair) (pairs : List Pair) → bytes_eq pair.0 pair.0 ≡ true → Past earlier (pair ∷ pairs)
-    → IsNew pair.0 earlier
-first_new earlier pair pairs itself past = elim (past pair.0) [
+same_bytes : (bytes : List ℕ) → bytes_eq bytes bytes ≡ true
+same_bytes bytes = (bytes_eq-Decides bytes bytes).1 refl
+
+first_new : (earlier : List Piece) (piece : Piece) (pieces : List Piece) → Past earlier (piece ∷ pieces)
+    → IsNew (argument_in piece) earlier
+first_new earlier piece pieces past = elim (past (argument_in piece)) [
   | inl new ↦ new
-  | inr never ↦ let same : Some pair.1 ≡ None = rw itself at never in cc
+  | inr never ↦ let same : Some (text_in piece) ≡ None = rw (same_bytes (argument_in piece)) at never in cc
 ]
 
-past_more : (earlier : List Pair) (pair : Pair) (pairs : List Pair) → IsNew pair.0 pairs → Past earlier (pair ∷ pairs)
-    → Past (earlier ++ pair ∷ []) pairs
-past_more earlier pair pairs new past name = by_test (bytes_eq pair.0 name) refl (past name)
+past_more : (earlier : List Piece) (piece : Piece) (pieces : List Piece) → IsNew (argument_in piece) pieces → Past earlier (piece ∷ pieces)
+    → Past (earlier ++ piece ∷ []) pieces
+past_more earlier piece pieces new past argument = by_test (bytes_eq (argument_in piece) argument) refl (past argument)
   where
-    by_test : (same : Bool) → bytes_eq pair.0 name ≡ same → IsNew name earlier ⊎ IsNew name (pair ∷ pairs)
-        → IsNew name (earlier ++ pair ∷ []) ⊎ IsNew name pairs
-    by_test true is either = inr (ap (λ n. value_among n pairs) (sym ((bytes_eq-Decides pair.0 name).0 is)) ∙ new)
-    by_test false is (inl none) = inl (new_snoc name earlier pair is none)
+    by_test : (same : Bool) → bytes_eq (argument_in piece) argument ≡ same → IsNew argument earlier ⊎ IsNew argument (piece ∷ pieces)
+        → IsNew argument (earlier ++ piece ∷ []) ⊎ IsNew argument pieces
+    by_test true is either = inr (ap (given_by pieces) (sym ((bytes_eq-Decides (argument_in piece) argument).0 is)) ∙ new)
+    by_test false is (inl none) = inl (new_end argument earlier piece is none)
     by_test false is (inr none) = inr (rw is at none)
 
--- the rows at the end
-abbrev pub name_rows : Option (List ℕ) → List Row
-name_rows None = []
-name_rows (Some name) = row_of (zero_page, name) ∷ []
+pub record Walks (earlier pieces : List Piece) (position : ℕ) (h : Held) : Type 0 where
+  pub now : Held
+  pub place : ℕ
+  pub stands : Stands (earlier ++ pieces) place now
+  pub walk : fold (walked rules []) (resting position h) (spelled pieces) ≡ resting place now
+  pub fault : walk_fault shape [] (resting position h) (spelled pieces) ≡ []
 
-abbrev pub IsPlain : Option (List ℕ) → Type 0
-IsPlain None = Unit {0}
-IsPlain (Some name) = Plain name
-
-pub record Ends (pairs : List Pair) (name : Option (List ℕ)) (h : Held) : Type 0 where
-  pub rows : settled_rows rules h.pending h.rows ≡ map row_of pairs ++ name_rows name
-  pub settles : settle_fault rules false h ≡ []
-
-ends : (pairs : List Pair) (name : Option (List ℕ)) (h : Held) → IsPlain name → Stands pairs h
-    → Ends pairs name (fold (walked rules []) (walk_from h) (spelled [] name)).held
-    × (walk_fault shape [] (walk_from h) (spelled [] name) ≡ [])
+pub walks : (earlier pieces : List Piece) (position : ℕ) (h : Held) → Stands earlier position h → Past earlier pieces → ArePieces pieces
+    → Walks earlier pieces position h
 unfolding walk_fault
-ends pairs None h plain_name stands =
-    (record { rows = stands.rows ∙ sym (append-nil (map row_of pairs)); settles = stands.settles }, refl)
-ends pairs (Some name) h plain_name stands =
-    let none = no_row zero_page pairs stands.no_name in
-    let end : Ends pairs (Some name) (with_name name h).held = record {
-      rows = rw (name_by_id, stands.rows, row_added zero_page name (map row_of pairs) none) refl;
-      settles = rw (name_by_id, stands.rows, none) refl;
-    } in
-    (rw (name_walks name h plain_name) end, rw (name_turn name h plain_name stands.settles) refl)
-
-pub record Follows (pair : Pair) : Type 0 where
-  pub option_known : Known pair.0
-  pub value_plain : Plain pair.1
-
-unfoldable pub AllFollow : List Pair → Type 0
-AllFollow [] = Unit {0}
-AllFollow (pair ∷ pairs) = Follows pair × IsNew pair.0 pairs × AllFollow pairs
-
-pub walks : (earlier pairs : List Pair) (name : Option (List ℕ)) (h : Held) → Stands earlier h → Past earlier pairs → AllFollow pairs
-    → IsPlain name
-    → Ends (earlier ++ pairs) name (fold (walked rules []) (walk_from h) (spelled pairs name)).held
-    × (walk_fault shape [] (walk_from h) (spelled pairs name) ≡ [])
-unfolding walk_fault AllFollow
-walks earlier [] name h stands past follow plain_name = rw (append-nil earlier) (ends earlier name h plain_name stands)
-walks earlier (pair ∷ pairs) name h stands past follow plain_name =
-    let k = follow.0.option_known in
-    let p = follow.0.value_plain in
-    let fresh = first_new earlier pair pairs k.itself past in
-    let next = walks (earlier ++ pair ∷ []) pairs name (with_pair pair h) (stands_more earlier pair h k fresh stands)
-    (past_more earlier pair pairs follow.1 past) follow.2 plain_name in
-    let first = option_walks pair.0 h k in
-    let second = value_walks pair h k p in
-    let whole = append_assoc earlier (pair ∷ []) pairs in
-    let two : fold (walked rules []) (walk_from h) (spelled (pair ∷ pairs) name)
-    ≡ fold (walked rules []) (walk_from (with_pair pair h)) (spelled pairs name)
-    = ap (λ w. fold (walked rules []) w (spelled pairs name)) (ap (λ w. walked rules [] w pair.1) first ∙ second) in
-    (rw (two, ← whole) next.0, rw (option_turn pair.0 h k stands.settles, first, value_turn pair h k p, second) next.1)
+walks earlier [] position h stands past are = record {
+  now = h;
+  place = position;
+  stands = rw (append-nil earlier) stands;
+  walk = refl;
+  fault = refl;
+}
+walks earlier (piece ∷ pieces) position h stands past are =
+    let step = goes earlier piece position h are.0 (first_new earlier piece pieces past) stands in
+    let more = walks (earlier ++ piece ∷ []) pieces step.place step.now step.stands (past_more earlier piece pieces are.1 past) are.2 in
+    record {
+      now = more.now;
+      place = more.place;
+      stands = rw (← append_assoc earlier (piece ∷ []) pieces) more.stands;
+      walk = step.walk (spelled pieces) ∙ more.walk;
+      fault = step.fault (spelled pieces) ∙ more.fault;
+    }

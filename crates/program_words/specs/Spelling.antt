@@ -1,23 +1,43 @@
--- How words are spelled: options with their values in any order, none twice, and then the name of the zero page or nothing.
-use Rattle.std.specs.Prelude.{◌≡◌, ℕ, ◌==◌, Bool, true, not, if◌then◌else◌, List, [], ◌∷◌, ◌++◌, codes, Option, Some, None}
-use Rattle.std.specs.List.{list_any}
+-- How words are spelled: options with their values and the name of the zero page, in any order.
+use Rattle.std.specs.Prelude.{◌≡◌, ℕ, ◌==◌, Bool, true, not, if◌then◌else◌, List, [], ◌∷◌, ◌++◌, codes, Some, None}
+use Rattle.std.specs.List.{flat_map, list_any}
 use Rattle.std.specs.Str.{bytes_eq}
 use Rattle.program_words.specs.Grammar.{option_names}
 use Rattle.program_words.specs.Words.{Values}
 
--- an option and its value
-abbrev pub Pair : Type 0
-Pair = List ℕ × List ℕ
+-- an option and its value, in the next word or behind `=`; or the name of the zero page
+pub data Piece : Type 0 where
+  apart : List ℕ → List ℕ → Piece
+  joined : List ℕ → List ℕ → Piece
+  named : List ℕ → Piece
 
 -- the word that names an option
 abbrev pub dashed : List ℕ → List ℕ
 dashed name = codes "--" ++ name
 
--- the words, each value in a word of its own
-abbrev pub spelled : List Pair → Option (List ℕ) → List (List ℕ)
-spelled [] None = []
-spelled [] (Some name) = name ∷ []
-spelled (pair ∷ pairs) name = dashed pair.0 ∷ pair.1 ∷ spelled pairs name
+abbrev pub words_of : Piece → List (List ℕ)
+words_of (apart name value) = dashed name ∷ value ∷ []
+words_of (joined name value) = (dashed name ++ (codes "=" ++ value)) ∷ []
+words_of (named name) = name ∷ []
+
+abbrev pub spelled : List Piece → List (List ℕ)
+spelled pieces = flat_map words_of pieces
+
+-- the argument of a piece, and its value
+abbrev pub argument_in : Piece → List ℕ
+argument_in (apart name value) = name
+argument_in (joined name value) = name
+argument_in (named name) = codes "ZEROPAGE"
+
+abbrev pub text_in : Piece → List ℕ
+text_in (apart name value) = value
+text_in (joined name value) = value
+text_in (named name) = name
+
+-- the value that the pieces give each argument
+abbrev pub given_by : List Piece → Values
+given_by [] argument = None
+given_by (piece ∷ pieces) argument = if bytes_eq (argument_in piece) argument then Some (text_in piece) else given_by pieces argument
 
 abbrev pub is_option : List ℕ → Bool
 is_option name = list_any (λ option. bytes_eq option name) option_names
@@ -27,16 +47,13 @@ abbrev pub is_plain : List ℕ → Bool
 is_plain [] = true
 is_plain (b ∷ bs) = not (b == 45)
 
--- the value of an option, if one of the pairs has it
-abbrev pub value_among : List ℕ → List Pair → Option (List ℕ)
-value_among name [] = None
-value_among name (pair ∷ pairs) = if bytes_eq pair.0 name then Some pair.1 else value_among name pairs
+-- a value that is a word of its own is plain, and so is a name; behind `=` any value stands
+abbrev pub IsPiece : Piece → Type 0
+IsPiece (apart name value) = (is_option name ≡ true) × (is_plain value ≡ true)
+IsPiece (joined name value) = is_option name ≡ true
+IsPiece (named name) = is_plain name ≡ true
 
--- the value that the pairs or the name give each argument
-abbrev pub given_by : List Pair → Option (List ℕ) → Values
-given_by pairs name argument = if bytes_eq argument (codes "ZEROPAGE") then name else value_among argument pairs
-
--- each is an option, its value is plain, and it isn't given again behind
-abbrev pub AreOptions : List Pair → Type 0
-AreOptions [] = Unit {0}
-AreOptions (pair ∷ pairs) = (is_option pair.0 ≡ true) × (is_plain pair.1 ≡ true) × (value_among pair.0 pairs ≡ None) × AreOptions pairs
+-- each is a piece, and no argument has two
+abbrev pub ArePieces : List Piece → Type 0
+ArePieces [] = Unit {0}
+ArePieces (piece ∷ pieces) = IsPiece piece × (given_by pieces (argument_in piece) ≡ None) × ArePieces pieces
