@@ -60,6 +60,11 @@ name_first : asked (codes "zp" ∷ codes "--report=map" ∷ []) ≡ Some map_of_
 unfolding program clap_on_literals
 name_first = refl
 
+-- the name alone: the report that is given where none is asked for
+name_alone : asked (codes "zp" ∷ []) ≡ Some (record map_of_zp { reports = reports.Buddyinfo ∷ [] })
+unfolding program clap_on_literals
+name_alone = refl
+
 -- every option, in two forms
 all_words : asked (codes "--cmdline=-c" ∷ codes "--kernel" ∷ codes "16M,0x200000" ∷ codes "--script" ∷ codes "s" ∷ codes "zp" ∷
     codes "--e820ext" ∷ codes "e" ∷

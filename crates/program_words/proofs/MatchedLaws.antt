@@ -84,8 +84,16 @@ module _ (pieces : List Piece) (are : ArePieces pieces) where
   taken : is_taken (spelled pieces) ≡ true
   taken =
       let whole = leaf_fault (built program) nothing_held (argument_words program (spelled pieces)) no_subs in
-      rw (whole, all_words (spelled pieces), end.fault, once, end.walk, end.stands.settles, defaults_pass rules _ no_defaults, check_passes _)
-      refl
+      rw (
+        whole,
+        all_words (spelled pieces),
+        end.fault,
+        once,
+        end.walk,
+        end.stands.settles,
+        defaults_pass rules _ no_defaults,
+        check_passes _,
+      ) refl
 
   pub accepted_as_given : accepted (spelled pieces) ≡ asked_by (given_by pieces)
   accepted_as_given = rw (taken, rows_found) (ap asked_by (same_values pieces))

@@ -68,7 +68,8 @@ module _ (position : ℕ) (h : Held) where
   value_turn : (name value : List ℕ) → Plain value → turn_fault shape [] (waiting_for position name h) value ≡ []
   value_turn name value p = rw (p.not_end, p.no_long, p.no_short) refl
 
-  joined_turn : (name value : List ℕ) → Known name → settle_fault rules false h ≡ [] → has_row name (settled_rows rules h.pending h.rows) ≡ false
+  joined_turn : (name value : List ℕ) → Known name → settle_fault rules false h ≡ []
+      → has_row name (settled_rows rules h.pending h.rows) ≡ false
       → turn_fault shape [] (resting position h) (joined_word name value) ≡ []
   joined_turn name value k settles none = rw (k.joined_not_end value, k.joined_long value, k.by_long, once, settles, none) refl
 

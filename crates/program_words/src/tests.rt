@@ -108,8 +108,9 @@ fn forms_of_an_option(rt: HostRuntime) -> Result<(), Fail> {
 
 #[test]
 fn names_and_the_end_of_options(rt: HostRuntime) -> Result<(), Fail> {
-    let rows: [(&[&str], &str); 20] = [
+    let rows: [(&[&str], &str); 21] = [
         (&[], "refused"),
+        (&["zp"], "zp . . . . buddyinfo 16 0"),
         (&["--report=map"], "refused"),
         (&["--report=map", ""], " . . . . map 16 0"),
         (&["--report=map", "-"], "- . . . . map 16 0"),
