@@ -10,7 +10,8 @@ use Rattle.boot_model.specs.Boot.{Given, Told, told_boot}
 use Rattle.boot_model.specs.Stop.{stop_of}
 use Rattle.boot_model.specs.View.{booted_view}
 
-told_is : (said : Result Told Cause) (t : Told) → with_error stop_of said ≡ Ok t → said ≡ Ok t
+-- where the answer is no stop, the definition tells this
+pub told_is : (said : Result Told Cause) (t : Told) → with_error stop_of said ≡ Ok t → said ≡ Ok t
 told_is (Ok u) t is = cc is
 told_is (Err cause) t is = absurd (cc is)
 
