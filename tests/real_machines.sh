@@ -2,18 +2,15 @@
 # real_machines.sh [PROGRAM]: runs the program over every machine of examples/ and compares each report that the
 # program has byte for byte with the text that the kernel's own log confirms: map.txt, memory.txt, nodes.txt,
 # zones.txt, and replay/script.txt, the boot's early allocations. A text whose report the program doesn't have yet
-# is counted as waiting, and so is one whose words name an option that it doesn't have yet; that the program refuses the
-# report's name and the option is looked at, too, so none waits for ever.
+# is counted as waiting; that the program refuses the report's name is looked at, too, so none waits for ever.
 # Prints a line for each difference, and 'N passed, M failed' at its end.
 set -u
 unset CDPATH
 top=$(cd "$(dirname "$0")/.." && pwd)
 program=$(cd "$(dirname "${1:-$top/bootmem}")" && pwd)/$(basename "${1:-$top/bootmem}")
 # the reports that the program has, and those that it is going to have
-built="map memory"
-coming="nodes zones script"
-# the options of words that it is going to have
-options="--srat --script"
+built="map memory script"
+coming="nodes zones"
 passed=0
 failed=0
 waiting=0
@@ -54,16 +51,6 @@ check() {
 	fi
 }
 
-# waits REPORT FOLDER: whether the words of the report name an option that the program doesn't have yet
-waits() {
-	for option in $options; do
-		case " $(words "$1" "$2") " in
-		*" $option "*) return 0 ;;
-		esac
-	done
-	return 1
-}
-
 # each REPORT: the folders that have a text of the report, a line for each: the machine, and the folder of its files
 each() {
 	for text in "$top"/examples/*/"$1".txt "$top"/examples/*/replay/"$1".txt; do
@@ -78,17 +65,8 @@ fi
 for report in $built; do
 	each "$report" >"$work/list"
 	while read -r machine folder; do
-		if waits "$report" "$folder"; then
-			waiting=$((waiting + 1))
-		else
-			check "$machine" "$folder" "$report"
-		fi
+		check "$machine" "$folder" "$report"
 	done <"$work/list"
-done
-for option in $options; do
-	"$program" --report map "$option" "$top/examples/first/zp.bin" "$top/examples/first/zp.bin" >/dev/null 2>&1
-	status=$?
-	[ "$status" -eq 2 ] || differs first "$option" "the program has this option by now (status $status): compare its texts"
 done
 for report in $coming; do
 	each "$report" >"$work/list"
@@ -97,6 +75,6 @@ for report in $coming; do
 	status=$?
 	[ "$status" -eq 2 ] || differs first "$report" "the program has this report by now (status $status): compare it"
 done
-echo "$waiting texts wait for the reports $coming and the options $options, which the program doesn't have"
+echo "$waiting texts wait for the reports $coming, which the program doesn't have"
 echo "$passed passed, $failed failed"
 [ "$failed" -eq 0 ] && [ "$passed" -gt 0 ]

@@ -10,6 +10,9 @@ use Rattle.e820_table.specs.Initrd.{initrd_of, is_initrd_far}
 use Rattle.boot_options.specs.Crash.{no_crash}
 use Rattle.bm_base.specs.Extent.{Extent}
 use Rattle.boot_options.specs.declared.fault.OptionFault.TheVariants as options
+use Rattle.srat_reader.specs.declared.table.SratFault.TheVariants as srat
+use Rattle.srat_reader.specs.Entries.{is_whole, said_at}
+use Rattle.srat_reader.specs.Table.{Affinity, offsets_from}
 use Rattle.script_reader.specs.declared.act.Act.TheVariants as acts
 use Rattle.script_reader.specs.declared.fault.ScriptFault.TheVariants as script
 use Rattle.boot_inputs.specs.declared.fault.Fault.TheVariants as faults
@@ -19,10 +22,10 @@ use Rattle.boot_inputs.specs.declared.refusal.Refusal.{Refusal}
 use Rattle.boot_inputs.specs.declared.refusal.Refusal.TheVariants as refusals
 use Rattle.boot_inputs.specs.declared.refusal.InputError.TheVariants as errors
 use Rattle.boot_inputs.specs.Answers.{ComesTo, Fits, FitsRefusal, Gives, HasCause, IsCaused, IsOf, RefusalHasCause, RoseAt, input_of}
-use Rattle.boot_inputs.specs.Faults.{fault_of_extension, fault_of_option, fault_of_script, fault_of_zero_page, misread_of}
+use Rattle.boot_inputs.specs.Faults.{fault_of_extension, fault_of_option, fault_of_script, fault_of_srat, fault_of_zero_page, misread_of}
 use Rattle.boot_inputs.specs.Input.{limit_of, place, word_for}
 use Rattle.boot_inputs.specs.Inputs.{Held, Named, file_step, inputs_of, or_faulty, or_unread, step_if, within}
-use Rattle.boot_inputs.specs.Said.{command_line_said, extension_said, fault_told, lines_told, no_options, no_page, script_said, unless_fault, zero_page_said}
+use Rattle.boot_inputs.specs.Said.{command_line_said, extension_said, fault_told, lines_told, no_options, no_page, script_said, srat_said, table_told, unless_fault, zero_page_said}
 
 -- a zero page of so many entries, of which these 40 bytes are the first two
 abbrev page : ℕ → List ℕ → List ℕ
@@ -50,8 +53,17 @@ one_entry =
 abbrev acpi : Entry
 acpi = record { addr = 0x3000; size = 0x1000; kind = 3 }
 
+-- an SRAT of one processor, in domain 0x0C0D by its x2APIC, and what it says
+abbrev one_processor : List ℕ
+one_processor =
+    codes "SRAT" ++ (72 ∷ 0 ∷ 0 ∷ 0 ∷ 1 ∷ 0x25 ∷ []) ++ replicate 38 0
+    ++ 2 ∷ 24 ∷ 0 ∷ 0 ∷ 0x0D ∷ 0x0C ∷ 0 ∷ 0 ∷ 9 ∷ 9 ∷ 9 ∷ 9 ∷ 1 ∷ 0 ∷ 0 ∷ 0 ∷ replicate 8 0
+
+abbrev processor_alone : Affinity
+processor_alone = record { processors = 0x0C0D ∷ []; blocks = [] }
+
 -- the files: a zero page, one that is too short and one that is too long; an extension, and one without a header; a
--- command line, and one with a fault; a script, and one with a fault
+-- command line, and one with a fault; a table of domains; a script, and one with a fault
 abbrev held : Held
 held name =
     if bytes_eq name (codes "zp") then Some (page 2 ram_and_reserved)
@@ -61,14 +73,16 @@ held name =
     else (if bytes_eq name (codes "bad") then Some (replicate 15 0)
     else (if bytes_eq name (codes "cmd") then Some (codes "quiet numa=off\n")
     else (if bytes_eq name (codes "on") then Some (codes "numa=on")
+    else (if bytes_eq name (codes "srat") then Some one_processor
     else (if bytes_eq name (codes "free") then Some (codes "# one act\nfree 7\n")
     else (if bytes_eq name (codes "line") then Some (codes "free")
-    else None))))))))
+    else None)))))))))
 
 abbrev naming : List ℕ → Option (List ℕ) → Option (List ℕ) → Named
 naming zero_page ext command_line inputs.ZeroPage = Some zero_page
 naming zero_page ext command_line inputs.Extension = ext
 naming zero_page ext command_line inputs.CommandLine = command_line
+naming zero_page ext command_line inputs.Srat = None
 naming zero_page ext command_line inputs.Script = None
 
 -- what bytes say
@@ -111,6 +125,18 @@ script_examples : (fault_of_script script.Memory ≡ None) × (fault_of_script (
     × (fault_of_script (script.ZeroSize 2) ≡ Some (faults.ZeroSize 2))
 script_examples = (refl, refl, refl)
 
+srat_examples : (fault_of_srat srat.Memory ≡ None) × (fault_of_srat srat.Length ≡ Some faults.Length)
+    × (fault_of_srat (srat.BlockTooFar 48) ≡ Some (faults.BlockTooFar 48))
+srat_examples = (refl, refl, refl)
+
+table_examples : (table_told (Ok processor_alone) ≡ Ok (Some processor_alone))
+    × (table_told (Err (srat.EntryLength 88)) ≡ Err (faults.EntryLength 88))
+table_examples = (refl, refl)
+
+table_said : (srat_said one_processor ≡ Ok (Some processor_alone)) × (srat_said [] ≡ Err faults.Short)
+unfolding offsets_from is_whole said_at
+table_said = (refl, refl)
+
 lines_examples : (lines_told (Err (script.BadNumber 4)) ≡ Err (faults.BadNumber 4)) × (script_said [] ≡ Ok [])
 lines_examples = (refl, refl)
 
@@ -124,8 +150,8 @@ misread_examples = (refl, refl)
 limit_examples : (within 3 (1 ∷ 2 ∷ 3 ∷ []) ≡ Ok (1 ∷ 2 ∷ 3 ∷ [])) × (within 2 (1 ∷ 2 ∷ 3 ∷ []) ≡ Err faults.TooLong)
 limit_examples = (refl, refl)
 
-limits : (limit_of inputs.ZeroPage ≡ 4096) × (limit_of inputs.Extension ≡ 61456)
-limits = (refl, refl)
+limits : (limit_of inputs.ZeroPage ≡ 4096) × (limit_of inputs.Extension ≡ 61456) × (limit_of inputs.Srat ≡ 0x100000)
+limits = (refl, refl, refl)
 
 faulty_examples : (or_faulty {A = ℕ} inputs.Extension (Ok 7) ≡ Ok 7)
     × (or_faulty {A = ℕ} inputs.Extension (Err faults.Length) ≡ Err (refusals.Faulty inputs.Extension faults.Length))
@@ -158,6 +184,7 @@ all_inputs : inputs_of held (naming (codes "zp") (Some (codes "ext")) (Some (cod
       initrd = None;
       extension = acpi ∷ [];
       options = record { edits = []; crash = no_crash; numa_off = true };
+      domains = None;
       kernel = image;
       lines = [];
     })
@@ -169,6 +196,7 @@ abbrev with_script : List ℕ → Named
 with_script script inputs.ZeroPage = Some (codes "zp")
 with_script script inputs.Extension = None
 with_script script inputs.CommandLine = None
+with_script script inputs.Srat = None
 with_script script inputs.Script = Some script
 
 lines_are_given : inputs_of held (with_script (codes "free")) image
@@ -177,6 +205,7 @@ lines_are_given : inputs_of held (with_script (codes "free")) image
       initrd = None;
       extension = [];
       options = no_options;
+      domains = None;
       kernel = image;
       lines = record { number = 2; act = acts.Free 7 } ∷ [];
     })
@@ -190,6 +219,32 @@ script_is_faulty = refl
 script_goes_last : inputs_of held (with_script (codes "no")) image ≡ Err (refusals.Unread inputs.Script)
 unfolding entry_at is_initrd_far
 script_goes_last = refl
+
+-- a table of domains and a script beside the zero page: both are given, and the table goes first
+abbrev with_both : List ℕ → List ℕ → Named
+with_both srat script inputs.ZeroPage = Some (codes "zp")
+with_both srat script inputs.Extension = None
+with_both srat script inputs.CommandLine = None
+with_both srat script inputs.Srat = Some srat
+with_both srat script inputs.Script = Some script
+
+both_are_given : inputs_of held (with_both (codes "srat") (codes "free")) image
+    ≡ Ok (record {
+      entries = ram ∷ reserved ∷ [];
+      initrd = None;
+      extension = [];
+      options = no_options;
+      domains = Some processor_alone;
+      kernel = image;
+      lines = record { number = 2; act = acts.Free 7 } ∷ [];
+    })
+unfolding entry_at initrd_of is_initrd_far offsets_from is_whole said_at
+both_are_given = refl
+
+srat_goes_before_the_script : inputs_of held (with_both (codes "bad") (codes "no")) image
+    ≡ Err (refusals.Faulty inputs.Srat faults.Short)
+unfolding entry_at is_initrd_far
+srat_goes_before_the_script = refl
 
 page_goes_first : inputs_of held (naming (codes "short") (Some (codes "bad")) (Some (codes "on"))) image
     ≡ Err (refusals.Faulty inputs.ZeroPage faults.WrongLength)
@@ -210,8 +265,8 @@ unfolding entry_at is_initrd_far
 line_goes_last = refl
 
 -- the inputs' places and words, and whose refusal it is
-place_examples : (place inputs.ZeroPage ≡ 0) × (place inputs.CommandLine ≡ 2)
-place_examples = (refl, refl)
+place_examples : (place inputs.ZeroPage ≡ 0) × (place inputs.CommandLine ≡ 2) × (place inputs.Srat ≡ 3) × (place inputs.Script ≡ 4)
+place_examples = (refl, refl, refl, refl)
 
 word_examples : (word_for inputs.ZeroPage ≡ codes "zeropage") × (word_for inputs.CommandLine ≡ codes "cmdline")
 word_examples = (refl, refl)

@@ -6,6 +6,8 @@ use Rattle.e820_table.specs.declared.extension.ExtFault.{ExtFault}
 use Rattle.e820_table.specs.declared.extension.ExtFault.TheVariants as extension
 use Rattle.boot_options.specs.declared.fault.OptionFault.{OptionFault}
 use Rattle.boot_options.specs.declared.fault.OptionFault.TheVariants as options
+use Rattle.srat_reader.specs.declared.table.SratFault.{SratFault}
+use Rattle.srat_reader.specs.declared.table.SratFault.TheVariants as srat
 use Rattle.script_reader.specs.declared.fault.ScriptFault.{ScriptFault}
 use Rattle.script_reader.specs.declared.fault.ScriptFault.TheVariants as script
 use Rattle.boot_inputs.specs.declared.fault.Fault.{Fault}
@@ -35,6 +37,15 @@ fault_of_option (options.BadCrash word) = Some (faults.BadCrash word)
 fault_of_option (options.UserMapInvalid word) = Some (faults.UserMapInvalid word)
 fault_of_option (options.BadNuma word) = Some (faults.BadNuma word)
 fault_of_option options.Memory = None
+
+abbrev pub fault_of_srat : SratFault → Option Fault
+fault_of_srat srat.Short = Some faults.Short
+fault_of_srat srat.Signature = Some faults.Signature
+fault_of_srat srat.Length = Some faults.Length
+fault_of_srat srat.Checksum = Some faults.Checksum
+fault_of_srat (srat.EntryLength offset) = Some (faults.EntryLength offset)
+fault_of_srat (srat.BlockTooFar offset) = Some (faults.BlockTooFar offset)
+fault_of_srat srat.Memory = None
 
 abbrev pub fault_of_script : ScriptFault → Option Fault
 fault_of_script (script.BadLine line) = Some (faults.BadLine line)

@@ -10,7 +10,7 @@ use Rattle.boot_inputs.specs.declared.input.Input.TheVariants as inputs
 use Rattle.boot_inputs.specs.declared.refusal.Refusal.{Refusal}
 use Rattle.boot_inputs.specs.declared.refusal.Refusal.TheVariants as refusals
 use Rattle.boot_inputs.specs.Input.{limit_of}
-use Rattle.boot_inputs.specs.Said.{zero_page_said, extension_said, command_line_said, script_said, no_options, no_page}
+use Rattle.boot_inputs.specs.Said.{zero_page_said, extension_said, command_line_said, srat_said, script_said, no_options, no_page}
 
 -- what each name holds
 abbrev pub Held : Type 0
@@ -48,12 +48,14 @@ inputs_of held named kernel = do
   page ← step_if held inputs.ZeroPage no_page zero_page_said (named inputs.ZeroPage)
   extension ← step_if held inputs.Extension [] extension_said (named inputs.Extension)
   options ← step_if held inputs.CommandLine no_options command_line_said (named inputs.CommandLine)
+  domains ← step_if held inputs.Srat None srat_said (named inputs.Srat)
   lines ← step_if held inputs.Script [] script_said (named inputs.Script)
   Ok (record {
     entries = page.entries;
     initrd = page.initrd;
     extension = extension;
     options = options;
+    domains = domains;
     kernel = kernel;
     lines = lines;
   })

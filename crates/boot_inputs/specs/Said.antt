@@ -7,11 +7,13 @@ use Rattle.e820_table.specs.ZeroPage.{Page, page_of, zero_fault}
 use Rattle.boot_options.specs.declared.fault.OptionFault.{OptionFault}
 use Rattle.boot_options.specs.Crash.{no_crash}
 use Rattle.boot_options.specs.Options.{Chosen, options_of}
+use Rattle.srat_reader.specs.declared.table.SratFault.{SratFault}
+use Rattle.srat_reader.specs.Table.{Affinity, srat_of}
 use Rattle.script_reader.specs.declared.act.Line.{Line}
 use Rattle.script_reader.specs.declared.fault.ScriptFault.{ScriptFault}
 use Rattle.script_reader.specs.Script.{script_of}
 use Rattle.boot_inputs.specs.declared.fault.Fault.{Fault}
-use Rattle.boot_inputs.specs.Faults.{fault_of_extension, fault_of_option, fault_of_script, fault_of_zero_page}
+use Rattle.boot_inputs.specs.Faults.{fault_of_extension, fault_of_option, fault_of_script, fault_of_srat, fault_of_zero_page}
 
 -- the value, unless there is a fault
 abbrev pub unless_fault : {A : Type 0} → Option Fault → A → Result A Fault
@@ -39,6 +41,14 @@ fault_told (Err fault) = unless_fault (fault_of_option fault) no_options
 
 abbrev pub command_line_said : List ℕ → Result Chosen Fault
 command_line_said bytes = fault_told (options_of bytes)
+
+-- the same for a table of domains, which there need not be
+abbrev pub table_told : Result Affinity SratFault → Result (Option Affinity) Fault
+table_told (Ok table) = Ok (Some table)
+table_told (Err fault) = unless_fault (fault_of_srat fault) None
+
+abbrev pub srat_said : List ℕ → Result (Option Affinity) Fault
+srat_said bytes = table_told (srat_of bytes)
 
 -- the same for a script
 abbrev pub lines_told : Result (List Line) ScriptFault → Result (List Line) Fault

@@ -3,11 +3,12 @@
 //! behind has to tell a fault that is none.
 
 ghost use Rattle.std.specs.Prelude.{◌≡◌};
-ghost use Rattle.boot_inputs.specs.Faults.{fault_of_extension, fault_of_option, fault_of_script, fault_of_zero_page, misread_of};
+ghost use Rattle.boot_inputs.specs.Faults.{fault_of_extension, fault_of_option, fault_of_script, fault_of_srat, fault_of_zero_page, misread_of};
 
 use boot_options::OptionFault;
 use e820_table::{ExtFault, ZeroFault};
 use script_reader::ScriptFault;
+use srat_reader::SratFault;
 
 /// What is wrong with a file that could be read. With the file it says which fault that is.
 #[derive(Clone, Copy, Debug, PartialEq, Eq)]
@@ -26,7 +27,8 @@ pub enum Fault {
     InitrdTooFar,
     /// The extension has no whole header of its type.
     Header,
-    /// The extension's length isn't the one that its header states, or isn't that of whole entries.
+    /// The length of the extension or of the SRAT isn't the one that its header states, or an extension's
+    /// isn't that of whole entries.
     Length,
     /// The command line has more than 2,047 bytes.
     LineTooLong,
@@ -42,6 +44,17 @@ pub enum Fault {
     UserMapInvalid { word: u32 },
     /// The word is a malformed `numa=`.
     BadNuma { word: u32 },
+    /// The SRAT has fewer than 48 bytes.
+    Short,
+    /// The first four bytes of the SRAT aren't `SRAT`.
+    Signature,
+    /// The bytes of the SRAT don't sum to 0 modulo 256.
+    Checksum,
+    /// No whole entry of the SRAT begins at this offset, in bytes from its first on.
+    EntryLength { offset: u32 },
+    /// The entry at this offset of the SRAT is an enabled range of memory whose base plus length exceeds
+    /// 2^64 - 1.
+    BlockTooFar { offset: u32 },
     /// The line of the script, from 1 on, has no form, whatever its numbers are.
     BadLine { line: u32 },
     /// A number of the line isn't a size that takes its whole word, or is above its bound.
@@ -115,6 +128,21 @@ pub fn fault_of_option(fault: OptionFault) -> Option<Fault>
         OptionFault::UserMapInvalid { word } => Some(Fault::UserMapInvalid { word }),
         OptionFault::BadNuma { word } => Some(Fault::BadNuma { word }),
         OptionFault::Memory => None,
+    }
+}
+
+/// The fault of an SRAT; none for want of memory.
+pub fn fault_of_srat(fault: SratFault) -> Option<Fault>
+    ensures { result ≡ fault_of_srat fault }
+{
+    match fault {
+        SratFault::Short => Some(Fault::Short),
+        SratFault::Signature => Some(Fault::Signature),
+        SratFault::Length => Some(Fault::Length),
+        SratFault::Checksum => Some(Fault::Checksum),
+        SratFault::EntryLength { offset } => Some(Fault::EntryLength { offset }),
+        SratFault::BlockTooFar { offset } => Some(Fault::BlockTooFar { offset }),
+        SratFault::Memory => None,
     }
 }
 

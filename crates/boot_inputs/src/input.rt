@@ -12,6 +12,8 @@ pub enum Input {
     Extension,
     /// The command line of the kernel.
     CommandLine,
+    /// The firmware's table of domains (the ACPI table SRAT).
+    Srat,
     /// The script of early allocations.
     Script,
 }
@@ -26,6 +28,7 @@ impl Input {
             Input::ZeroPage => 4096,
             Input::Extension => 61_456,
             Input::CommandLine => 4096,
+            Input::Srat => 1_048_576,
             Input::Script => 1_048_576,
         }
     }
@@ -38,6 +41,7 @@ impl Input {
             Input::ZeroPage => "zeropage",
             Input::Extension => "e820ext",
             Input::CommandLine => "cmdline",
+            Input::Srat => "srat",
             Input::Script => "script",
         }
     }

@@ -1,6 +1,6 @@
 //! All files, in the order of work.
 
-ghost use Rattle.std.specs.Prelude.{◌≡◌, ℕ, List, IfOk, IfSome, OnOk};
+ghost use Rattle.std.specs.Prelude.{◌≡◌, ℕ, ◌^◌, ◌<◌, List, length, IfOk, IfSome, OnOk};
 ghost use Rattle.std.specs.List.{All};
 ghost use Rattle.e820_model.specs.Claims.{EndInSpace, HaveTypes};
 ghost use Rattle.e820_table.specs.Initrd.{IsInitrd};
@@ -17,6 +17,7 @@ use crate::fetching::fetch_input;
 use crate::names::Names;
 use crate::refusal::InputError;
 use crate::script::Scripts;
+use crate::srat::Srats;
 use crate::zero_page::ZeroPages;
 use bm_base::Range;
 use bm_io::Files;
@@ -40,17 +41,20 @@ pub fn read_inputs<F: Files, N: Names>(
     ensures initrd { IfOk result (λ inputs. IfSome inputs.zero.initrd IsInitrd) }
     ensures extension_ends { IfOk result (λ inputs. EndInSpace inputs.ext.items) }
     ensures types { IfOk result (λ inputs. HaveTypes inputs.options.edits.items) }
+    ensures domains { IfOk result (λ inputs. IfSome inputs.srat (λ srat. length srat.blocks.items < 2 ^ 32)) }
     ensures bounds { IfOk result (λ inputs. All (λ l. HasBounds l.act) inputs.lines.items) }
     ensures once { IfOk result (λ inputs. PlaceOnce inputs.lines.items) }
 {
     let zero = fetch_input::<ZeroPages, F, N>(alloc, files, names)?;
     let ext = fetch_input::<Extensions, F, N>(alloc, files, names)?;
     let options = fetch_input::<CommandLines, F, N>(alloc, files, names)?;
+    let srat = fetch_input::<Srats, F, N>(alloc, files, names)?;
     let lines = fetch_input::<Scripts, F, N>(alloc, files, names)?;
     Ok(Inputs {
         zero,
         ext,
         options,
+        srat,
         kernel,
         lines,
     })

@@ -1,12 +1,12 @@
 //! The input files of a boot: each fetched by its name and judged before the next is fetched.
 //!
-//! A boot is given a zero page, and where they are named an E820 extension, a command line and a script. What the
-//! program does with a file is the same for all of them: look up its name, fetch it up to its limit,
-//! and read it. So an input file is one value, an implementation of [`Reader`]: which [`Input`] it is,
+//! A boot is given a zero page, and where they are named an E820 extension, a command line, the firmware's table of
+//! domains (SRAT) and a script. What the program does with a file is the same for all of them: look up its name, fetch
+//! it up to its limit, and read it. So an input file is one value, an implementation of [`Reader`]: which [`Input`] it is,
 //! how its bytes are read, and what there is without it. [`fetch_input`] is proved once for every
 //! reader and all files.
 //!
-//! [`read_inputs`] does so in the order of work, zero page, extension, command line, script, of which the first
+//! [`read_inputs`] does so in the order of work, zero page, extension, command line, SRAT, script, of which the first
 //! that can't be read ([`Refusal::Unread`]) or is malformed ([`Refusal::Faulty`]) is the answer. The
 //! definition is `inputs_of` of `specs/Inputs.antt`. A file that couldn't be read has its cause in the
 //! count of faults of its name; nothing else is free but want of memory, which [`InputError`] keeps
@@ -28,6 +28,7 @@ mod names;
 mod reader;
 mod refusal;
 mod script;
+mod srat;
 #[cfg(test)]
 mod tests;
 mod zero_page;

@@ -13,22 +13,24 @@ use std::test::Fail;
 
 /// The name of each file.
 #[derive(Clone, Copy)]
-struct Four<'a> {
+struct Five<'a> {
     zp: &'a str,
     ext: &'a str,
     cmd: &'a str,
+    srat: &'a str,
     script: &'a str,
 }
 
-impl<'a> Names for Four<'a> {
+impl<'a> Names for Five<'a> {
     ghost use Rattle.std.specs.Prelude.{Some};
     ghost use Rattle.boot_inputs.specs.declared.input.Input.TheVariants as inputs;
 
-    ghost named = { λ four input. elim input [
-      | inputs.ZeroPage ↦ Some four.zp.now
-      | inputs.Extension ↦ Some four.ext.now
-      | inputs.CommandLine ↦ Some four.cmd.now
-      | inputs.Script ↦ Some four.script.now
+    ghost named = { λ five input. elim input [
+      | inputs.ZeroPage ↦ Some five.zp.now
+      | inputs.Extension ↦ Some five.ext.now
+      | inputs.CommandLine ↦ Some five.cmd.now
+      | inputs.Srat ↦ Some five.srat.now
+      | inputs.Script ↦ Some five.script.now
     ] };
 
     fn of(&self, input: Input) -> Option<&str> {
@@ -36,17 +38,19 @@ impl<'a> Names for Four<'a> {
             Input::ZeroPage => Some(self.zp),
             Input::Extension => Some(self.ext),
             Input::CommandLine => Some(self.cmd),
+            Input::Srat => Some(self.srat),
             Input::Script => Some(self.script),
         }
     }
 }
 
-/// The bytes of the files `zp`, `ext`, `cmd` and `script`.
+/// The bytes of the files `zp`, `ext`, `cmd`, `srat` and `script`.
 #[derive(Clone, Copy)]
 struct Held<'a> {
     zp: &'a [u8],
     ext: &'a [u8],
     cmd: &'a [u8],
+    srat: &'a [u8],
     script: &'a [u8],
 }
 
@@ -65,18 +69,22 @@ fn files_of(alloc: Global, held: &Held<'_>) -> Result<Vec<MemFile>, Fail>
         name: String::from_str(alloc, "cmd")?,
         bytes: Vec::from_slice(alloc, held.cmd)?,
     };
+    let srat = MemFile {
+        name: String::from_str(alloc, "srat")?,
+        bytes: Vec::from_slice(alloc, held.srat)?,
+    };
     let script = MemFile {
         name: String::from_str(alloc, "script")?,
         bytes: Vec::from_slice(alloc, held.script)?,
     };
-    Ok(vec![in alloc; zp, ext, cmd, script]?)
+    Ok(vec![in alloc; zp, ext, cmd, srat, script]?)
 }
 
 /// Reads the files, where the fetch of that number fails, and compares the refusal.
 fn expect(
     rt: &impl Abort,
     alloc: Global,
-    names: &Four<'_>,
+    names: &Five<'_>,
     held: &Held<'_>,
     failing: u64,
     want: Option<Refusal>,
@@ -92,6 +100,15 @@ fn expect(
     Ok(())
 }
 
+/// An SRAT of no entries, of revision 1.
+fn smallest_srat() -> [u8; 48] {
+    let mut table = [0; 48];
+    for (byte, given) in table.iter_mut().zip(b"SRAT\x30\0\0\0\x01\x95") {
+        *byte = *given;
+    }
+    table
+}
+
 /// Each file missing, faulty and too long in turn. So many files are fetched and no more: where the last of
 /// these fetches fails its file is unread, and where the next one would, nothing changes.
 #[test]
@@ -101,27 +118,31 @@ fn files_in_their_order(rt: HostRuntime) -> Result<(), Fail> {
     zp[0x1e8] = 2;
     let long = vec![in alloc; 0; 61_457]?;
     let long = long.as_slice();
+    let table = smallest_srat();
     let good = Held {
         zp: &zp,
         ext: &[0, 0, 0, 0, 0, 0, 0, 0, 1, 0, 0, 0, 0, 0, 0, 0],
         cmd: b"quiet",
+        srat: &table,
         script: b"free 1",
     };
-    let all = Four {
+    let all = Five {
         zp: "zp",
         ext: "ext",
         cmd: "cmd",
+        srat: "srat",
         script: "script",
     };
     let faulty = |input, fault| Some(Refusal::Faulty(input, fault));
     let page = Input::ZeroPage;
     let ext = Input::Extension;
     let line = Input::CommandLine;
+    let srat = Input::Srat;
     let script = Input::Script;
-    let cases: [(Four, Held, u64, Input, Option<Refusal>); 12] = [
-        (all, good, 4, script, None),
+    let cases: [(Five, Held, u64, Input, Option<Refusal>); 14] = [
+        (all, good, 5, script, None),
         (
-            Four { zp: "none", ..all },
+            Five { zp: "none", ..all },
             good,
             1,
             page,
@@ -145,7 +166,7 @@ fn files_in_their_order(rt: HostRuntime) -> Result<(), Fail> {
             faulty(page, Fault::TooLong),
         ),
         (
-            Four { ext: "none", ..all },
+            Five { ext: "none", ..all },
             good,
             2,
             ext,
@@ -166,7 +187,7 @@ fn files_in_their_order(rt: HostRuntime) -> Result<(), Fail> {
             faulty(ext, Fault::TooLong),
         ),
         (
-            Four { cmd: "none", ..all },
+            Five { cmd: "none", ..all },
             good,
             3,
             line,
@@ -190,12 +211,32 @@ fn files_in_their_order(rt: HostRuntime) -> Result<(), Fail> {
             faulty(line, Fault::TooLong),
         ),
         (
-            Four {
-                script: "none",
+            Five {
+                srat: "none",
                 ..all
             },
             good,
             4,
+            srat,
+            Some(Refusal::Unread(srat)),
+        ),
+        (
+            all,
+            Held {
+                srat: &zp[..48],
+                ..good
+            },
+            4,
+            srat,
+            faulty(srat, Fault::Signature),
+        ),
+        (
+            Five {
+                script: "none",
+                ..all
+            },
+            good,
+            5,
             script,
             Some(Refusal::Unread(script)),
         ),
@@ -205,7 +246,7 @@ fn files_in_their_order(rt: HostRuntime) -> Result<(), Fail> {
                 script: b"free 1\ntrim 1 0",
                 ..good
             },
-            4,
+            5,
             script,
             faulty(script, Fault::ZeroSize { line: 2 }),
         ),
@@ -236,16 +277,18 @@ fn initrd_too_far(rt: HostRuntime) -> Result<(), Fail> {
     zp[0x219] = 0xe0;
     zp[0x21c] = 1;
     zp[0x21d] = 0x10;
-    let names = Four {
+    let names = Five {
         zp: "zp",
         ext: "ext",
         cmd: "cmd",
+        srat: "srat",
         script: "script",
     };
     let held = Held {
         zp: &zp,
         ext: b"",
         cmd: b"",
+        srat: b"",
         script: b"",
     };
     let want = Refusal::Faulty(Input::ZeroPage, Fault::InitrdTooFar);

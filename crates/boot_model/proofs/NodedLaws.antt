@@ -20,18 +20,12 @@ use Rattle.numa_nodes.specs.Assigned.{assigned}
 use Rattle.numa_nodes.proofs.NodedLaws.{answer-noded}
 use Rattle.boot_model.specs.declared.limit.TheConstants.{MAX_PHYSMEM}
 use Rattle.boot_model.specs.Boot.{Given, Made, begin, boot, claims, has_frames, has_memory, has_nodes, has_room, later_stages, map_judged, map_stages, put_nodes, types_in_reach}
+use Rattle.boot_model.specs.First.{IsFirst}
 use Rattle.boot_model.specs.Stages.{in_order}
 use Rattle.boot_model.specs.Stop.{cause_of_stage}
 use Rattle.boot_model.proofs.BootLaws.{frames_passed, frames_within, items_passed, map_between, room_passed}
 use Rattle.boot_model.proofs.MemoryLaws.{labels_by, labels_keep, types_same}
 use Rattle.boot_model.proofs.StageLaws.{chain_keeps, goes_by, passes, steps_answered}
-
--- memory before it has nodes: whole frames within reach, which end by the limit; and there is some
-pub record IsFirst (items : List Item) : Type 0 where
-  pub frames : AreOfFrames (λ x. is_some (memory_of items x))
-  pub within : NothingFrom MAX_PHYSMEM (memory_of items)
-  pub low : NothingFrom (limit_of items) (memory_of items)
-  pub some : 0 < limit_of items
 
 -- nothing lies where each byte that has memory lies below
 none_from : (at : ℕ) (f : Labels) (x : ℕ) (o : Option Label) → f x ≡ o → ((label : Label) → f x ≡ Some label → x < at) → at ≤ x

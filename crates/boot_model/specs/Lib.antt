@@ -1,4 +1,5 @@
 pub mod Boot
+pub mod First
 pub mod Kernel
 pub mod Sections
 pub mod Stages

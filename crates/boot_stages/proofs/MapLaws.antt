@@ -14,20 +14,20 @@ use Rattle.e820_sanitise.specs.declared.fault.MapFault.TheVariants as faults
 use Rattle.e820_sanitise.specs.Room.{in_room}
 use Rattle.e820_usable.specs.declared.stop.MapStop.{MapStop}
 use Rattle.e820_usable.specs.Judged.{judged}
-use Rattle.boot_model.specs.declared.booted.Booted.{Booted}
 use Rattle.boot_model.specs.declared.limit.TheConstants.{MAX_PHYSMEM}
 use Rattle.boot_model.specs.declared.stop.Cause.{Cause}
 use Rattle.boot_model.specs.declared.stop.Stop.{Stop}
 use Rattle.boot_model.specs.declared.stop.Stop.TheVariants as stops
-use Rattle.boot_model.specs.Boot.{Given, Made, begin, begin_with, boot, claims, has_frames, has_memory, later_stages, map_judged, told, told_boot, types_in_reach, unless_stopped, with_items}
+use Rattle.boot_model.specs.Boot.{Given, Made, begin, begin_with, boot, claims, has_frames, has_memory, later_stages, map_judged, Told, told, told_boot, types_in_reach, unless_stopped, with_items}
 use Rattle.memblock_model.specs.declared.item.Item.{Item}
 use Rattle.growth_model.specs.Outcome.{Refused}
 use Rattle.growth_model.specs.Carried.{carried_out}
 use Rattle.early_stages.specs.Wanted.{first_items}
 use Rattle.boot_stages.specs.Carries.{or_stop}
+use Rattle.boot_model.specs.First.{IsFirst}
+use Rattle.boot_model.proofs.NodedLaws.{first_known}
 use Rattle.boot_model.specs.Stages.{in_order}
 use Rattle.boot_model.specs.Stop.{cause_of_growth, stop_of}
-use Rattle.boot_model.specs.View.{booted_view}
 use Rattle.boot_stages.specs.Boots.{AreStopped, IsDecided, MapAnswer, judged_answer, goes_on_with}
 
 -- the last stage's answer is the chain's
@@ -107,18 +107,18 @@ went_on (Ok before) later made is = let same : before ≡ made = cc in ap later 
 went_on (Err cause) later made is = absurd (cc)
 
 -- what stops the boot stops what is told of it
-pub told_stops : (given : Given) (answer : Result Booted Stop) (stop : Stop) → answer ≡ Err stop
+pub told_stops : {X : Type 0} (view : X → Told) (given : Given) (answer : Result X Stop) (stop : Stop) → answer ≡ Err stop
     → (stop ≢ stops.Memory → with_error stop_of (boot given) ≡ Err stop)
-    → Answers stops.Memory booted_view answer (with_error stop_of (told_boot given))
-told_stops given answer stop is stops_so =
+    → Answers stops.Memory view answer (with_error stop_of (told_boot given))
+told_stops view given answer stop is stops_so =
     rw is (λ other. stopped (boot given) (λ made. Ok (told given.kernel made)) stop (stops_so other))
 
-pub boot_stops : (given : Given) (answer : Result Booted Stop) (stop : Stop)
+pub boot_stops : {X : Type 0} (view : X → Told) (given : Given) (answer : Result X Stop) (stop : Stop)
     → answer ≡ Err stop → Answers stops.Memory (made_of given) (Err stop) (with_error stop_of (map_judged given))
-    → Answers stops.Memory booted_view answer (with_error stop_of (told_boot given))
+    → Answers stops.Memory view answer (with_error stop_of (told_boot given))
 unfolding boot
-boot_stops given answer stop is answers =
-    told_stops given answer stop is
+boot_stops view given answer stop is answers =
+    told_stops view given answer stop is
     (λ other. stopped (map_judged given) (λ made. in_order (later_stages given) made) stop (answers other))
 
 pub boot_goes_on : (given : Given) (made : Made) → with_error stop_of (map_judged given) ≡ Ok made
@@ -143,11 +143,11 @@ items_stop made (Err refused) stop is =
 abbrev pub memory_said : Given → Made → Result (List Item) Refused
 memory_said given made = carried_out (first_items MAX_PHYSMEM given.kernel given.initrd made.map) made.items
 
-pub memory_stops : (given : Given) (made : Made) (answer : Result Booted Stop) (stop : Stop) → answer ≡ Err stop
+pub memory_stops : {X : Type 0} (view : X → Told) (given : Given) (made : Made) (answer : Result X Stop) (stop : Stop) → answer ≡ Err stop
     → with_error stop_of (map_judged given) ≡ Ok made → (stop ≢ stops.Memory → or_stop (memory_said given made) ≡ Err stop)
-    → Answers stops.Memory booted_view answer (with_error stop_of (told_boot given))
-memory_stops given made answer stop is judged answers =
-    told_stops given answer stop is
+    → Answers stops.Memory view answer (with_error stop_of (told_boot given))
+memory_stops view given made answer stop is judged answers =
+    told_stops view given answer stop is
     (λ other. ap (with_error stop_of) (boot_goes_on given made judged)
     ∙ stopped (has_memory given made) (λ next. in_order (drop 1 (later_stages given)) next) stop
     (items_stop made (memory_said given made) stop (answers other)))
@@ -161,11 +161,11 @@ memory_goes_on given made items judged answers =
     (ap (with_error stop_of) (items_made made (memory_said given made) items answers))
 
 -- the stages behind memory
-pub stages_stop : (given : Given) (made : Made) (answer : Result Booted Stop) (stop : Stop) → answer ≡ Err stop
+pub stages_stop : {X : Type 0} (view : X → Told) (given : Given) (made : Made) (answer : Result X Stop) (stop : Stop) → answer ≡ Err stop
     → boot given ≡ in_order (drop 1 (later_stages given)) made → AreStopped given made stop
-    → Answers stops.Memory booted_view answer (with_error stop_of (told_boot given))
-stages_stop given made answer stop is comes stopped_so =
-    told_stops given answer stop is (λ other. ap (with_error stop_of) comes ∙ stopped_so other)
+    → Answers stops.Memory view answer (with_error stop_of (told_boot given))
+stages_stop view given made answer stop is comes stopped_so =
+    told_stops view given answer stop is (λ other. ap (with_error stop_of) comes ∙ stopped_so other)
 
 pub boot_told : (given : Given) (made : Made) → boot given ≡ Ok made → told_boot given ≡ Ok (told given.kernel made)
 boot_told given made comes = ap (λ (said : Result Made Cause). said >>= λ m. Ok (told given.kernel m)) comes
@@ -177,3 +177,18 @@ claims-told given c entries extension edits is first second third =
     sym (is ∙ ap (λ (es : List Entry). finished es extension edits) first
     ∙ ap (λ (es : List Entry). finished given.entries es edits) second
     ∙ ap (λ (es : List Edit). finished given.entries given.extension es) third)
+
+-- an answer that is told with another error
+pub told_ok : {A E F : Type 0} (f : E → F) (said : Result A E) (a : A) → with_error f said ≡ Ok a → said ≡ Ok a
+told_ok f (Ok b) a is = let same : b ≡ a = cc in ap (λ (x : _). Ok x) same
+told_ok f (Err e) a is = absurd (cc)
+
+carried_ok : (said : Result (List Item) Refused) (items : List Item) → or_stop said ≡ Ok items → said ≡ Ok items
+carried_ok (Ok carried) items is = let same : carried ≡ items = cc in ap (λ (x : List Item). Ok x) same
+carried_ok (Err refused) items is = absurd (cc)
+
+-- memory as the map gives it
+pub first_made : (given : Given) (made : Made) (items : List Item) → with_error stop_of (map_judged given) ≡ Ok made
+    → or_stop (memory_said given made) ≡ Ok items → IsFirst items
+first_made given made items judged answers =
+    first_known given made items (told_ok stop_of (map_judged given) made judged) (carried_ok (memory_said given made) items answers)

@@ -1,28 +1,26 @@
 -- Lines that were run on memblock are the stage of these lines.
-use Rattle.std.proofs.Common.{◌≡◌, ◌∙◌, List, [], ◌∷◌, drop, Ok, ap, sym, Result}
+use Rattle.std.proofs.Common.{◌≡◌, ◌∙◌, List, Ok, ap, sym, Result}
 use Rattle.bm_base.specs.Extent.{Extent}
-use Rattle.bm_base.specs.ResultSteps.{◌>>=◌}
 use Rattle.growth_model.specs.Bytes.{Filled}
 use Rattle.memblock_grow.specs.Contents.{Contents}
 use Rattle.script_reader.specs.declared.act.Line.{Line}
 use Rattle.early_script.specs.declared.outcome.Answer.{Answer}
 use Rattle.early_script.specs.Acted.{State}
 use Rattle.early_script.specs.Ids.{Ids}
-use Rattle.early_script.specs.Stage.{Reaches, Stage as Script, after_lines, before_sections, behind_sections, stage_of}
+use Rattle.early_script.specs.Stage.{Reaches, Stage as Script, after_lines, stage_of}
 use Rattle.boot_model.specs.declared.stop.Cause.{Cause}
-use Rattle.boot_model.specs.Boot.{Given, Made, later_stages, runs_lines}
-use Rattle.boot_model.specs.Stages.{in_order}
-use Rattle.boot_stages.specs.Boots.{HoldsWith, made_behind}
+use Rattle.boot_model.specs.Boot.{Made, runs_lines}
+use Rattle.boot_stages.specs.Boots.{HoldsWith, made_by_lines}
 
 -- what is made behind them, and the bytes then
 pub record LinesRun (kernel : Extent) (lines : List Line) (before made : Made) (m : Contents) (ids : Ids) (told : List Answer) : Type 0 where
   pub fills : List Filled
-  pub come : runs_lines kernel lines before ≡ Ok (made_behind made m ids fills told)
+  pub come : runs_lines kernel lines before ≡ Ok (made_by_lines made m ids fills told)
   pub holds : HoldsWith fills m
 
 pub lines-run : (kernel : Extent) (lines : List Line) (made : Made) (m next : Contents) (ids later : Ids) (fills : List Filled)
     (answers told : List Answer) → m.kernel ≡ kernel → Reaches (after_lines (stage_of ids m fills answers) lines) later next told
-    → LinesRun kernel lines (made_behind made m ids fills answers) made next later told
+    → LinesRun kernel lines (made_by_lines made m ids fills answers) made next later told
 lines-run kernel lines made m next ids later fills answers told same reached =
     let at : Extent → Script = λ k. record {
       state = record { kernel = k; items = m.journal.items; ids = ids };
@@ -45,15 +43,7 @@ lines-run kernel lines made m next ids later fills answers told same reached =
     } in
     let here : behind (after_lines (at kernel) lines) ≡ behind s =
     ap (λ (k : Extent). behind (after_lines (at k) lines)) (sym same) in
-    let there : behind s ≡ made_behind made next later s.fills told =
+    let there : behind s ≡ made_by_lines made next later s.fills told =
     ap by_state (sym reached.state) ∙ ap by_answers (sym reached.answers_are) in
     let answer : Made → Result Made Cause = λ n. Ok n in
     record { fills = s.fills; come = ap answer (here ∙ there); holds = reached.holds }
-
-pub runs-in_order : (given : Given) (start mid last : Made) → runs_lines given.kernel (before_sections given.lines) start ≡ Ok mid
-    → runs_lines given.kernel (behind_sections given.lines) mid ≡ Ok last → in_order (drop 1 (later_stages given)) start ≡ Ok last
-runs-in_order given start mid last first second =
-    let behind : Result Made Cause → Result Made Cause =
-    λ said. said >>= λ next. in_order (runs_lines given.kernel (behind_sections given.lines) ∷ []) next in
-    let end : Result Made Cause → Result Made Cause = λ said. said >>= λ next. Ok next in
-    ap behind first ∙ ap end second

@@ -18,7 +18,15 @@ use Rattle.boot_model.specs.declared.limit.TheConstants.{MAX_PHYSMEM}
 use Rattle.boot_model.specs.declared.stop.Cause.TheVariants as causes
 use Rattle.boot_model.specs.declared.stop.Stop.{Stop}
 use Rattle.boot_model.specs.declared.stop.Stop.TheVariants as stops
-use Rattle.boot_model.specs.Boot.{Given, Made, begin_with, has_frames, later_stages, map_judged}
+use Rattle.stage_model.specs.declared.stop.StageStop.{StageStop}
+use Rattle.stage_model.specs.declared.stop.StageStop.TheVariants as stage
+use Rattle.numa_nodes.specs.Assigned.{Noded, nodes_view}
+use Rattle.crash_kernel.specs.declared.crash.Crash.{Crash}
+use Rattle.sparse_sections.specs.Roots.{roots_view}
+use Rattle.boot_model.specs.Boot.{Given, Made, Stage, begin_with, has_frames, later_stages, map_judged}
+use Rattle.boot_model.specs.Sections.{SectionPlaces}
+use Rattle.boot_stages.specs.declared.later.Later.{Later}
+use Rattle.boot_stages.specs.declared.later.Sections.{Sections}
 use Rattle.boot_model.specs.Stages.{in_order}
 use Rattle.boot_model.specs.Stop.{cause_of_map, stop_of}
 use Rattle.growth_model.specs.Bytes.{Filled, Holds}
@@ -61,16 +69,49 @@ pub record TableStands (w : Which) (items : List Item) (store : List Stored) (he
 abbrev pub HoldsWith : List Filled → Contents → Type 0
 HoldsWith fills m = Holds m.kernel m.journal.items fills (byte_of m.tables.store)
 
--- what is made behind the stages that run over memblock, where it is this then and these are the answers
-abbrev pub made_behind : Made → Contents → Ids → List Filled → List Answer → Made
-made_behind made m ids fills answers = record made { items = m.journal.items; ids = ids; fills = fills; answers = answers }
+-- what is made where memblock is this
+abbrev pub at_memblock : Made → Contents → Made
+at_memblock made m = record made { items = m.journal.items }
+
+-- a stage over memblock ends so: what it answers stands beside what was made, or the boot stops
+abbrev pub Comes : {A : Type 0} → Stage → (A → Made → Made) → Made → Contents → Contents → Result A Stop → Type 0
+Comes stage put made old new (Ok a) = stage (at_memblock made old) ≡ Ok (put a (at_memblock made new))
+Comes stage put made old new (Err stop) = stop ≢ stops.Memory → with_error stop_of (stage (at_memblock made old)) ≡ Err stop
+
+-- what the stages behind memory make
+pub record LaterMade : Type 0 where
+  pub nodes : Noded
+  pub crash : Crash
+  pub sections : SectionPlaces
+  pub answers : List Answer
+
+abbrev pub places_view : Sections → SectionPlaces
+places_view p = record { roots = roots_view p.roots; placed = p.placed.items }
+
+abbrev pub later_view : Later → LaterMade
+later_view l = record { nodes = nodes_view l.nodes; crash = l.crash; sections = places_view l.sections; answers = l.answers.items }
+
+-- what is made where lines of the script were run, and behind all these stages
+abbrev pub made_by_lines : Made → Contents → Ids → List Filled → List Answer → Made
+made_by_lines made m ids fills answers = record made { items = m.journal.items; ids = ids; fills = fills; answers = answers }
+
+abbrev pub made_behind : Made → Contents → LaterMade → Ids → List Filled → Made
+made_behind made m later ids fills = record made {
+  items = m.journal.items;
+  nodes = later.nodes;
+  crash = later.crash;
+  sections = later.sections;
+  ids = ids;
+  fills = fills;
+  answers = later.answers;
+}
 
 -- the stages behind memory came to an end
-pub record AreRun (given : Given) (made : Made) (m : Contents) (answers : List Answer) : Type 0 where
+pub record AreRun (given : Given) (made : Made) (m : Contents) (later : LaterMade) : Type 0 where
   pub ids : Ids
   pub fills : List Filled
   pub kernel : m.kernel ≡ given.kernel
-  pub come : in_order (drop 1 (later_stages given)) made ≡ Ok (made_behind made m ids fills answers)
+  pub come : in_order (drop 1 (later_stages given)) made ≡ Ok (made_behind made m later ids fills)
   pub holds : HoldsWith fills m
 
 -- or they stop the boot
@@ -79,4 +120,10 @@ AreStopped given made stop = stop ≢ stops.Memory → with_error stop_of (in_or
 
 -- where they begin: memory was made, and nothing happened in the script
 abbrev pub begun_with : Made → Contents → Made
-begun_with made m = made_behind made m [] [] []
+begun_with made m = made_by_lines made m [] [] []
+
+-- why a stage stops the boot, by what it answers; `NoGap` stands for nothing where a stage looks for its places itself
+abbrev pub stop_of_stage : StageStop → Stop
+stop_of_stage (stage.NoPlace thing) = stops.NoPlace thing
+stop_of_stage (stage.NoTablePlace w room) = stops.NoTablePlace w room
+stop_of_stage stage.Memory = stops.Memory

@@ -16,6 +16,8 @@
 //! The layer above may rest on this: the answer is the definition's, or want of memory.
 #![tactic(auto)]
 
+mod handover;
+mod later;
 mod laws;
 mod map;
 mod memory;

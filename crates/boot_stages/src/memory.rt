@@ -179,7 +179,7 @@ fn set_up(
 }
 
 /// The stop of a refused growth. An allocation isn't made here, so none lacks a gap.
-fn stopped(refusal: Refusal) -> Stop
+pub fn stopped(refusal: Refusal) -> Stop
     requires { refusal ≢ Refusal.NoGap }
     ensures { result ≡ stop_for refusal }
 {

@@ -1,6 +1,6 @@
 //! The boot, whole: the stages in their order.
 
-ghost use Rattle.std.specs.Prelude.{◌≡◌, ℕ, [], Ok, IfOk, IfErr, IfSome};
+ghost use Rattle.std.specs.Prelude.{◌≡◌, ◌^◌, ◌<◌, ℕ, Ok, IfOk, IfSome, length};
 ghost use Rattle.std.specs.List.{All};
 ghost use Rattle.e820_table.specs.Initrd.{IsInitrd};
 ghost use Rattle.address_runs.specs.Runs.{AreRuns};
@@ -17,25 +17,29 @@ ghost use Rattle.growth_model.specs.Sound.{HasBegun};
 ghost use Rattle.growth_model.specs.Bytes.{byte};
 ghost use Rattle.script_reader.specs.Forms.{HasBounds};
 ghost use Rattle.early_script.specs.Stage.{PlaceOnce};
-ghost use Rattle.boot_stages.specs.Boots.{AreRun, AreStopped, HoldsWith, TableStands, begun_with};
+ghost use Rattle.boot_options.specs.Options.{chosen};
+ghost use Rattle.boot_stages.specs.Boots.{TableStands};
+ghost use Rattle.boot_stages.specs.Ended.{ended_view};
 
+use crate::handover::{End, hand_over_memory};
+use crate::later::{Later, Sections, run_stages};
 use crate::map::{finished_table, judged_map};
 use crate::memory::make_memory;
 use boot_model::{Booted, Inputs, Stop};
 use e820_sanitise::{Run, Table};
-use early_script::{Answer, Live, run_lines, split_at_sections};
-use memblock_grow::Memblock;
-use script_reader::Line;
 use std::alloc::Global;
 
-/// The boot (`setup_arch`), as far as memory without nodes: the entries, the extension's and the options come into
-/// one table, the BIOS's part of it is trimmed (`trim_bios_range`), its map is judged, what it says is
-/// memory becomes memory (`e820__memblock_setup`), and the lines of the early script are carried out.
+/// The boot (`setup_arch`), up to what it hands over (`mem_init`): the entries, the extension's and the options come into
+/// one table, the BIOS's part of it is trimmed (`trim_bios_range`), its map is judged, and what it says is
+/// memory becomes memory (`e820__memblock_setup`). Memory gets its nodes (`initmem_init`), the crash area is reserved
+/// (`reserve_crashkernel`), the lines of the early script are carried out around the places of the sections (`sparse_init`),
+/// and the frames of which nobody has a byte are free (`memblock_free_all`).
 ///
 /// Each entry's address plus size is at most 2^64 - 1, and no type of an edit is 0. The map is
 /// refused exactly where the definition stops: first where it has more than 3,200 runs, then where no
 /// frame of it is usable, then where more than 2^32 are. Behind it the boot stops exactly where a table had to grow
-/// and found no place; a line of the script that is refused is answered, and the boot goes on.
+/// and found no place, or a thing that it can't do without found none; a line of the script that is refused is answered,
+/// and the boot goes on.
 pub fn boot(alloc: Global, inputs: Inputs) -> Result<Booted, Stop>
     requires entries_end { EndInSpace inputs.zero.entries.items }
     requires extension_ends { EndInSpace inputs.ext.items }
@@ -43,6 +47,7 @@ pub fn boot(alloc: Global, inputs: Inputs) -> Result<Booted, Stop>
     requires initrd { IfSome inputs.zero.initrd IsInitrd }
     requires bounds { All (λ l. HasBounds l.act) inputs.lines.items }
     requires once { PlaceOnce inputs.lines.items }
+    requires few { IfSome inputs.srat (λ table. length table.blocks.items < 2 ^ 32) }
     ensures boots { Answers Stop.Memory booted_view result
         (with_error stop_of (told_boot (inputs_view inputs))) }
     ensures bytes { IfOk result (λ booted. (made : Made) → boot (inputs_view inputs) ≡ Ok made →
@@ -50,6 +55,64 @@ pub fn boot(alloc: Global, inputs: Inputs) -> Result<Booted, Stop>
     ensures runs { IfOk result (λ booted. AreRuns booted.map.items) }
     ensures memory { IfOk result (λ booted. TableStands which.Memory booted.journal.items booted.store booted.heads.memory) }
     ensures reserved { IfOk result (λ booted. TableStands which.Reserved booted.journal.items booted.store booted.heads.reserved) }
+{
+    let Ended { map, later, end } = boot_by(alloc, &inputs)?;
+    let Later {
+        nodes,
+        crash,
+        sections,
+        answers,
+    } = later;
+    let Sections { roots, placed } = sections;
+    let End {
+        journal,
+        store,
+        heads,
+        spans,
+        buddy,
+    } = end;
+    Ok(Booted {
+        map,
+        options: inputs.options,
+        journal,
+        store,
+        heads,
+        nodes,
+        crash,
+        roots,
+        placed,
+        answers,
+        spans,
+        buddy,
+    })
+}
+
+/// What the stages made, and what is handed over.
+#[derive(Drop)]
+struct Ended {
+    map: Vec<Run>,
+    later: Later,
+    end: End,
+}
+
+/// The stages in their order. The inputs are lent, since the options stand in what the boot makes.
+fn boot_by(alloc: Global, inputs: &Inputs) -> Result<Ended, Stop>
+    requires entries_end { EndInSpace inputs.now.zero.entries.items }
+    requires extension_ends { EndInSpace inputs.now.ext.items }
+    requires types { HaveTypes inputs.now.options.edits.items }
+    requires initrd { IfSome inputs.now.zero.initrd IsInitrd }
+    requires bounds { All (λ l. HasBounds l.act) inputs.now.lines.items }
+    requires once { PlaceOnce inputs.now.lines.items }
+    requires few { IfSome inputs.now.srat (λ table. length table.blocks.items < 2 ^ 32) }
+    ensures boots { Answers Stop.Memory (ended_view (chosen inputs.now.options)) result
+        (with_error stop_of (told_boot (inputs_view inputs.now))) }
+    ensures bytes { IfOk result (λ ended. (made : Made) → boot (inputs_view inputs.now) ≡ Ok made →
+        (x : ℕ) → byte_of ended.end.store x ≡ byte inputs.now.kernel made.items made.fills x) }
+    ensures runs { IfOk result (λ ended. AreRuns ended.map.items) }
+    ensures memory { IfOk result (λ ended.
+        TableStands which.Memory ended.end.journal.items ended.end.store ended.end.heads.memory) }
+    ensures reserved { IfOk result (λ ended.
+        TableStands which.Reserved ended.end.journal.items ended.end.store ended.end.heads.reserved) }
 {
     let table = finished_table(
         alloc,
@@ -59,36 +122,9 @@ pub fn boot(alloc: Global, inputs: Inputs) -> Result<Booted, Stop>
     )?;
     let map = settled_map(&table)?;
     let mut memblock = make_memory(alloc, inputs.kernel, inputs.zero.initrd, &map)?;
-    let answers = run_stages(alloc, &mut memblock, &inputs.lines)?;
-    let _tables = memblock.tables();
-    let (store, heads, journal) = memblock.into_parts();
-    Ok(Booted {
-        map,
-        options: inputs.options,
-        journal,
-        store,
-        heads,
-        answers,
-    })
-}
-
-/// The stages behind memory, in their order: the lines of the script before the one that places the sections, and those behind it.
-fn run_stages(alloc: Global, memblock: &mut Memblock, lines: &[Line]) -> Result<Vec<Answer>, Stop>
-    requires begun { HasBegun memblock.old.journal.items }
-    requires bounds { All (λ l. HasBounds l.act) lines.now }
-    requires once { PlaceOnce lines.now }
-    requires bytes { HoldsWith [] memblock.old }
-    ensures run { IfOk result (λ answers. (given : Given) (made : Made) → given.kernel ≡ memblock.old.kernel →
-        given.lines ≡ lines.now → AreRun given (begun_with made memblock.old) memblock.new answers.items) }
-    ensures stopped { IfErr result (λ stop. (given : Given) (made : Made) → given.kernel ≡ memblock.old.kernel →
-        given.lines ≡ lines.now → AreStopped given (begun_with made memblock.old) stop) }
-{
-    let mut live = Live::new(alloc);
-    let mut answers = Vec::new(alloc);
-    let (before, behind) = split_at_sections(lines);
-    run_lines(&mut live, memblock, before, &mut answers)?;
-    run_lines(&mut live, memblock, behind, &mut answers)?;
-    Ok(answers)
+    let later = run_stages(alloc, &mut memblock, inputs)?;
+    let end = hand_over_memory(alloc, memblock)?;
+    Ok(Ended { map, later, end })
 }
 
 /// The map of the table's claims, where the boot goes on with it.

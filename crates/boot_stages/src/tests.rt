@@ -54,6 +54,7 @@ fn booted(alloc: Global, entries: &[Entry], line: &[u8]) -> Result<Result<Booted
         },
         ext: Vec::from_slice(alloc, entries)?,
         options: read_options(alloc, line)?,
+        srat: None,
         kernel: Range {
             base: 0x100_0000,
             size: 0x200_0000,

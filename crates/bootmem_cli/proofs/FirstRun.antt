@@ -22,7 +22,9 @@ use Rattle.memblock_model.specs.declared.item.Item.{Item}
 use Rattle.growth_model.specs.Carried.{carried_out}
 use Rattle.early_stages.specs.Wanted.{first_items}
 use Rattle.early_stages.proofs.FewLaws.{NeedNone, few_from_nothing}
-use Rattle.boot_model.specs.Boot.{Given, begin_with, boot, claims}
+use Rattle.bm_base.specs.ResultSteps.{◌>>=◌}
+use Rattle.boot_model.specs.Boot.{Given, Made, begin_with, boot, claims, has_memory, map_judged}
+use Rattle.boot_model.proofs.BootLaws.{goes_on}
 use Rattle.bootmem_cli.specs.Words.{accepted, name_in}
 use Rattle.boot_inputs.specs.Inputs.{Held}
 use Rattle.boot_inputs.specs.Said.{no_options}
@@ -51,6 +53,7 @@ given = record {
   initrd = None;
   extension = [];
   options = no_options;
+  domains = None;
   kernel = record { base = 0x1000000; size = 0x2000000 };
   lines = [];
 }
@@ -138,11 +141,13 @@ few_wanted = (omega arith, omega arith, (omega arith, omega arith, (omega arith,
 wanted_is_made : carried_out wanted [] ≡ Ok wanted
 wanted_is_made = few_from_nothing wanted few_wanted
 
-boot_is : boot given ≡ Ok (record (begin_with runs no_options) { items = wanted })
-unfolding boot
-boot_is = rw (map_is, frames_are, wanted_is_made) refl
+-- so the boot comes to memory
+memory_is_made : (map_judged given >>= has_memory given) ≡ Ok (record (begin_with runs no_options) { items = wanted })
+memory_is_made = rw (map_is, frames_are, wanted_is_made) refl
 
-first_run : outcome (accepted (codes "--report" ∷ codes "map" ∷ codes "zp" ∷ [])) held
+-- and where each later stage finds its places, this is what is written
+first_run : (made : Made) → boot given ≡ Ok made → outcome (accepted (codes "--report" ∷ codes "map" ∷ codes "zp" ∷ [])) held
     ≡ Ok (codes "0x0000000000100000..0x0000000007fdffff 1 usable\n0x0000000007fe0000..0x0000000007ffffff 2 reserved\n")
 unfolding entry_at digits initrd_of is_initrd_far name_in
-first_run = rw boot_is refl
+first_run made ends =
+    let map : made.map ≡ runs = (goes_on given made ends).map ∙ map_is in rw (ends, map) refl

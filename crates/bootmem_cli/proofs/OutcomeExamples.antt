@@ -28,6 +28,7 @@ wanting zero_page = record {
     | inputs.ZeroPage ↦ Some zero_page
     | inputs.Extension ↦ Some (codes "ext")
     | inputs.CommandLine ↦ None
+    | inputs.Srat ↦ None
     | inputs.Script ↦ None
   ]);
   kernel = record { base = 0x1000000; size = 0x2000000 };

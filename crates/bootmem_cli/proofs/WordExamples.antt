@@ -7,6 +7,7 @@ use Rattle.boot_inputs.specs.declared.input.Input.TheVariants as inputs
 use Rattle.boot_inputs.specs.declared.refusal.InputError.TheVariants as errors
 use Rattle.boot_inputs.specs.declared.refusal.Refusal.TheVariants as refusals
 use Rattle.memblock_model.specs.declared.which.Which.TheVariants as which
+use Rattle.stage_model.specs.declared.stop.What.TheVariants as what
 use Rattle.boot_model.specs.declared.stop.Cause.TheVariants as causes
 use Rattle.boot_model.specs.declared.stop.Stop.TheVariants as stops
 use Rattle.debugfs_reports.specs.declared.report.Report.TheVariants as reports
@@ -15,13 +16,14 @@ use Rattle.bootmem_cli.specs.declared.failure.Failure.TheVariants as failures
 use Rattle.bootmem_cli.specs.Words.{Wanted, is_value, is_option, are_good, are_spelled, word_behind, values_of, at_most_one, value_of, named_by, stand_once, name_in, provided, if_reports, list_in, kernel_asked, accepted, name_text}
 use Rattle.bootmem_cli.specs.Kernel.{default_kernel, if_kernel, kernel_in, kernel_of}
 use Rattle.bootmem_cli.specs.Status.{refusal_status, reason_status, status_of, status_of_end, failure_by, failure_of_input, failure_of_stop}
-use Rattle.bootmem_cli.specs.Line.{whole_line, entry_line, word_line, fault_line, cause_line, refusal_line, reason_line, failure_line}
+use Rattle.bootmem_cli.specs.Line.{whole_line, entry_line, word_line, numbered_line, offset_line, fault_line, thing_line, place_line, table_line, table_name, cause_line, refusal_line, reason_line, failure_line}
 
--- what the words ask for, as four names
+-- what the words ask for, as five names
 pub record Found : Type 0 where
   pub zero_page : Option (List ℕ)
   pub extension : Option (List ℕ)
   pub command_line : Option (List ℕ)
+  pub srat : Option (List ℕ)
   pub script : Option (List ℕ)
 
 abbrev found : Wanted → Found
@@ -29,6 +31,7 @@ found wanted = record {
   zero_page = wanted.named inputs.ZeroPage;
   extension = wanted.named inputs.Extension;
   command_line = wanted.named inputs.CommandLine;
+  srat = wanted.named inputs.Srat;
   script = wanted.named inputs.Script;
 }
 
@@ -40,12 +43,12 @@ abbrev first_words : List (List ℕ)
 first_words = codes "--report" ∷ codes "map" ∷ codes "zp" ∷ []
 
 abbrev zero_page_alone : Found
-zero_page_alone = record { zero_page = Some (codes "zp"); extension = None; command_line = None; script = None }
+zero_page_alone = record { zero_page = Some (codes "zp"); extension = None; command_line = None; srat = None; script = None }
 
 -- all words, in another order
 abbrev all_words : List (List ℕ)
 all_words =
-    codes "--cmdline" ∷ codes "cmd" ∷ codes "--report" ∷ codes "map" ∷ codes "--script" ∷ codes "lines" ∷ codes "--e820ext" ∷ codes "ext"
+    codes "--cmdline" ∷ codes "cmd" ∷ codes "--report" ∷ codes "map" ∷ codes "--script" ∷ codes "lines" ∷ codes "--srat" ∷ codes "table" ∷ codes "--e820ext" ∷ codes "ext"
     ∷ codes "zp" ∷ []
 
 abbrev all_found : Found
@@ -53,6 +56,7 @@ all_found = record {
   zero_page = Some (codes "zp");
   extension = Some (codes "ext");
   command_line = Some (codes "cmd");
+  srat = Some (codes "table");
   script = Some (codes "lines");
 }
 
@@ -132,7 +136,7 @@ name_with_a_dash = refl
 
 -- an empty word is a name; that there is no such file is found by reading it
 empty_name : files_of (codes "--report" ∷ codes "map" ∷ [] ∷ [])
-    ≡ Some (record { zero_page = Some []; extension = None; command_line = None; script = None })
+    ≡ Some (record { zero_page = Some []; extension = None; command_line = None; srat = None; script = None })
 unfolding name_in
 empty_name = refl
 
@@ -259,6 +263,17 @@ word_lines : (fault_line (codes "cmdline") (faults.UserMapInvalid 12) ≡ codes 
 unfolding digits
 word_lines = (refl, refl, refl)
 
+script_lines : (fault_line (codes "script") (faults.ZeroSize 12) ≡ codes "bootmem: script: line 12: zero size\n")
+    × (numbered_line (codes "script") 1 (codes "form") ≡ codes "bootmem: script: line 1: form\n")
+unfolding digits
+script_lines = (refl, refl)
+
+srat_lines : (refusal_line None (refusals.Faulty inputs.Srat (faults.EntryLength 48)) ≡ codes "bootmem: srat: entry length at 48\n")
+    × (offset_line (codes "srat") (codes "block too far") 1048 ≡ codes "bootmem: srat: block too far at 1048\n")
+    × (fault_line (codes "srat") faults.Checksum ≡ codes "bootmem: srat: checksum\n")
+unfolding digits
+srat_lines = (refl, refl, refl)
+
 -- a file of too many bytes, and a line of too many
 long_lines : (refusal_line None (refusals.Faulty inputs.CommandLine faults.TooLong) ≡ codes "bootmem: cmdline: too long\n")
     × (refusal_line None (refusals.Faulty inputs.CommandLine faults.LineTooLong) ≡ codes "bootmem: cmdline: line too long\n")
@@ -273,6 +288,18 @@ cause_lines : (cause_line (causes.MapFull 3201) ≡ codes "bootmem: stopped: 320
     × (cause_line (causes.NoTablePlace which.Reserved 128) ≡ codes "bootmem: stopped: no place for table reserved room 128\n")
 unfolding digits
 cause_lines = (refl, refl, refl)
+
+place_lines : (cause_line (causes.NoPlace (what.NodeData 3)) ≡ codes "bootmem: stopped: no place for node-data 3\n")
+    × (cause_line (causes.NoPlace what.Roots) ≡ codes "bootmem: stopped: no place for roots\n")
+    × (place_line (what.Map 40) ≡ codes "bootmem: stopped: no place for map 40\n")
+    × (thing_line (codes "root") 0 ≡ codes "bootmem: stopped: no place for root 0\n")
+unfolding digits
+place_lines = (refl, refl, refl, refl)
+
+table_lines : (table_name which.Memory ≡ codes "memory")
+    × (table_line (codes "memory") 128 ≡ codes "bootmem: stopped: no place for table memory room 128\n")
+unfolding digits
+table_lines = (refl, refl)
 
 unread_line : refusal_line (accepted all_words) (refusals.Unread inputs.Extension) ≡ codes "bootmem: cannot read ext\n"
 unfolding name_in

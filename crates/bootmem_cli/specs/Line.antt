@@ -11,6 +11,8 @@ use Rattle.boot_inputs.specs.declared.refusal.Refusal.TheVariants as refusals
 use Rattle.boot_inputs.specs.Input.{word_for}
 use Rattle.memblock_model.specs.declared.which.Which.{Which}
 use Rattle.memblock_model.specs.declared.which.Which.TheVariants as which
+use Rattle.stage_model.specs.declared.stop.What.{What}
+use Rattle.stage_model.specs.declared.stop.What.TheVariants as what
 use Rattle.boot_model.specs.declared.stop.Cause.{Cause}
 use Rattle.boot_model.specs.declared.stop.Cause.TheVariants as causes
 use Rattle.bootmem_cli.specs.declared.failure.Reason.{Reason}
@@ -19,8 +21,8 @@ use Rattle.bootmem_cli.specs.declared.failure.Failure.{Failure}
 use Rattle.bootmem_cli.specs.declared.failure.Failure.TheVariants as failures
 use Rattle.bootmem_cli.specs.Words.{Wanted, name_text}
 
--- of the input of that name: a fault of the whole file, of an entry, which are numbered from 0, and of a word or of a line, which are
--- numbered from 1
+-- of the input of that name: a fault of the whole file, of an entry, which are numbered from 0, of a word or of a line, which are
+-- numbered from 1, and of what stands at an offset in bytes
 abbrev pub whole_line : List ℕ → List ℕ → List ℕ
 whole_line name what = codes "bootmem: " ++ (name ++ (codes ": " ++ (what ++ codes "\n")))
 
@@ -32,6 +34,9 @@ word_line name word what = codes "bootmem: " ++ (name ++ (codes ": word " ++ (de
 
 abbrev pub numbered_line : List ℕ → ℕ → List ℕ → List ℕ
 numbered_line name line what = codes "bootmem: " ++ (name ++ (codes ": line " ++ (decimal line ++ (codes ": " ++ (what ++ codes "\n")))))
+
+abbrev pub offset_line : List ℕ → List ℕ → ℕ → List ℕ
+offset_line name what offset = codes "bootmem: " ++ (name ++ (codes ": " ++ (what ++ (codes " at " ++ (decimal offset ++ codes "\n")))))
 
 abbrev pub fault_line : List ℕ → Fault → List ℕ
 fault_line name faults.TooLong = whole_line name (codes "too long")
@@ -49,6 +54,11 @@ fault_line name (faults.BadMemmap word) = word_line name word (codes "memmap")
 fault_line name (faults.BadCrash word) = word_line name word (codes "crashkernel")
 fault_line name (faults.UserMapInvalid word) = word_line name word (codes "user map")
 fault_line name (faults.BadNuma word) = word_line name word (codes "numa")
+fault_line name faults.Short = whole_line name (codes "short")
+fault_line name faults.Signature = whole_line name (codes "signature")
+fault_line name faults.Checksum = whole_line name (codes "checksum")
+fault_line name (faults.EntryLength offset) = offset_line name (codes "entry length") offset
+fault_line name (faults.BlockTooFar offset) = offset_line name (codes "block too far") offset
 fault_line name (faults.BadLine line) = numbered_line name line (codes "form")
 fault_line name (faults.BadNumber line) = numbered_line name line (codes "number")
 fault_line name (faults.BadAlign line) = numbered_line name line (codes "alignment")
@@ -64,10 +74,22 @@ table_name which.Reserved = codes "reserved"
 abbrev pub table_line : List ℕ → ℕ → List ℕ
 table_line name room = codes "bootmem: stopped: no place for table " ++ (name ++ (codes " room " ++ (decimal room ++ codes "\n")))
 
+-- a thing that a boot can't do without found no place; its number is that of the node, of the root, or of the section
+abbrev pub thing_line : List ℕ → ℕ → List ℕ
+thing_line name number = codes "bootmem: stopped: no place for " ++ (name ++ (codes " " ++ (decimal number ++ codes "\n")))
+
+abbrev pub place_line : What → List ℕ
+place_line (what.NodeData node) = thing_line (codes "node-data") node
+place_line what.Roots = codes "bootmem: stopped: no place for roots\n"
+place_line (what.Root root) = thing_line (codes "root") root
+place_line (what.Usage section) = thing_line (codes "usage") section
+place_line (what.Map section) = thing_line (codes "map") section
+
 abbrev pub cause_line : Cause → List ℕ
 cause_line causes.NoRam = codes "bootmem: stopped: no usable frame\n"
 cause_line (causes.TooMuchRam frames) = codes "bootmem: stopped: " ++ (decimal frames ++ codes " usable frames\n")
 cause_line (causes.MapFull runs) = codes "bootmem: stopped: " ++ (decimal runs ++ codes " map runs\n")
+cause_line (causes.NoPlace thing) = place_line thing
 cause_line (causes.NoTablePlace w room) = table_line (table_name w) room
 
 -- a file that couldn't be read is named as the words name it

@@ -29,7 +29,7 @@ is_value word = not (starts_with nat_eq word (codes "-"))
 abbrev pub is_option : List ℕ → Bool
 is_option word =
     bytes_eq word (codes "--report") || bytes_eq word (codes "--kernel") || bytes_eq word (codes "--e820ext")
-    || bytes_eq word (codes "--cmdline") || bytes_eq word (codes "--script")
+    || bytes_eq word (codes "--cmdline") || bytes_eq word (codes "--srat") || bytes_eq word (codes "--script")
 
 -- every option is one of these, and every other word may stand where it stands
 abbrev pub are_spelled : List (List ℕ) → Bool
@@ -64,7 +64,7 @@ abbrev pub stand_once : List (List ℕ) → Bool
 stand_once words =
     is_some (value_of (codes "--report") words) && is_some (value_of (codes "--kernel") words)
     && is_some (value_of (codes "--e820ext") words) && is_some (value_of (codes "--cmdline") words)
-    && is_some (value_of (codes "--script") words)
+    && is_some (value_of (codes "--srat") words) && is_some (value_of (codes "--script") words)
 
 -- the value of an option that stands once
 abbrev pub named_by : List ℕ → List (List ℕ) → Option (List ℕ)
@@ -75,6 +75,7 @@ unfoldable pub name_in : List (List ℕ) → Input → Option (List ℕ)
 name_in words inputs.ZeroPage = word_behind words
 name_in words inputs.Extension = named_by (codes "--e820ext") words
 name_in words inputs.CommandLine = named_by (codes "--cmdline") words
+name_in words inputs.Srat = named_by (codes "--srat") words
 name_in words inputs.Script = named_by (codes "--script") words
 
 -- a list of reports, as it is spelled: each name in it is a report's

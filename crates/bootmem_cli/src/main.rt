@@ -2,9 +2,10 @@
 //! lists.
 //!
 //! The program reads the zero page that a boot loader hands over, and where they are named the E820
-//! extension and the command line of the kernel; it boots with them as far as the finished map, and
-//! prints it: `bootmem --report map [--e820ext F] [--cmdline F] ZEROPAGE`. [`run`] is the whole of it
-//! over any files, output and error output; `main` hands it those of the system.
+//! extension, the command line of the kernel, the firmware's table of domains and a script of early
+//! allocations; it boots with them up to the hand-over, and prints reports of it: `bootmem --report LIST
+//! [--e820ext F] [--cmdline F] [--srat F] [--script F] ZEROPAGE`. [`run`] is the whole of it over any files,
+//! output and error output; `main` hands it those of the system.
 //!
 //! What the program answers is a definition, `outcome` of `specs/Outcome.antt`: from the words to
 //! the files that they name, from the files' bytes to the inputs (`boot_inputs`), from those to what

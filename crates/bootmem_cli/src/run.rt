@@ -1,6 +1,6 @@
 //! The whole program over any files and outputs.
 
-ghost use Rattle.std.specs.Prelude.{◌≡◌, ℕ, List, IfSome, IfErr, IsNone, IsSome, IsErrOf, OnOk, OnErr, ◌⊎◌, flat_map};
+ghost use Rattle.std.specs.Prelude.{◌≡◌, ℕ, ◌^◌, ◌<◌, List, length, IfSome, IfErr, IsNone, IsSome, IsErrOf, OnOk, OnErr, ◌⊎◌, flat_map};
 ghost use Rattle.std.specs.Option.{option_map};
 ghost use Rattle.std.specs.Io.KnownBytes.{Appends};
 ghost use Rattle.std.specs.List.{All};
@@ -32,8 +32,8 @@ use std::alloc::Global;
 
 /// The whole program: reads the files that the words name, boots with them, and writes the reports.
 /// `words` are those after the program's name: `--report LIST`, and where they are wanted
-/// `--kernel BASE,SIZE`, `--e820ext F`, `--cmdline F` and `--script F`, in any order, and then the name of the zero
-/// page. LIST is names of reports with a comma between each two. No value and no name begins with `-`.
+/// `--kernel BASE,SIZE`, `--e820ext F`, `--cmdline F`, `--srat F` and `--script F`, in any order, and then the name of the
+/// zero page. LIST is names of reports with a comma between each two. No value and no name begins with `-`.
 /// Answers the exit status.
 ///
 /// Where `outcome` is a text, that is written; where it is a reason for no report, nothing is, and the
@@ -125,6 +125,7 @@ fn boot_texts(alloc: Global, inputs: Inputs, list: &str) -> Result<Vec<Vec<u8>>,
     requires extension_ends { EndInSpace inputs.ext.items }
     requires types { HaveTypes inputs.options.edits.items }
     requires initrd { IfSome inputs.zero.initrd IsInitrd }
+    requires domains { IfSome inputs.srat (λ srat. length srat.blocks.items < 2 ^ 32) }
     requires bounds { All (λ l. HasBounds l.act) inputs.lines.items }
     requires once { PlaceOnce inputs.lines.items }
     ensures makes { Makes (λ texts. flat_map (λ text. text.items) texts.items) result

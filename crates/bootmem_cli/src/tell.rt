@@ -3,7 +3,7 @@
 
 ghost use Rattle.std.specs.Prelude.{◌≡◌, flat_map};
 ghost use Rattle.std.specs.Option.{option_map};
-ghost use Rattle.bootmem_cli.specs.Line.{Tells, cause_line, entry_line, failure_line, fault_line, numbered_line, reason_line, refusal_line, table_line, table_name, whole_line, word_line};
+ghost use Rattle.bootmem_cli.specs.Line.{Tells, cause_line, entry_line, failure_line, fault_line, numbered_line, offset_line, place_line, reason_line, refusal_line, table_line, table_name, thing_line, whole_line, word_line};
 ghost use Rattle.bootmem_cli.specs.View.{wanted_view};
 
 use crate::failure::{Failure, Reason};
@@ -14,6 +14,7 @@ use boot_inputs::{Fault, Refusal};
 use boot_model::Cause;
 use itoa::Buffer;
 use memblock_model::Which;
+use stage_model::What;
 
 /// Puts the line of a failure on the error output. What the output answers changes nothing: the line goes out
 /// piece by piece, up to the first that is refused.
@@ -72,6 +73,11 @@ fn tell_fault<E: Sink>(err: &mut E, name: &str, fault: Fault)
         Fault::BadCrash { word } => tell_word(err, name, word, "crashkernel"),
         Fault::UserMapInvalid { word } => tell_word(err, name, word, "user map"),
         Fault::BadNuma { word } => tell_word(err, name, word, "numa"),
+        Fault::Short => tell_whole(err, name, "short"),
+        Fault::Signature => tell_whole(err, name, "signature"),
+        Fault::Checksum => tell_whole(err, name, "checksum"),
+        Fault::EntryLength { offset } => tell_offset(err, name, "entry length", offset),
+        Fault::BlockTooFar { offset } => tell_offset(err, name, "block too far", offset),
         Fault::BadLine { line } => tell_line(err, name, line, "form"),
         Fault::BadNumber { line } => tell_line(err, name, line, "number"),
         Fault::BadAlign { line } => tell_line(err, name, line, "alignment"),
@@ -115,6 +121,15 @@ fn tell_line<'a, E: Sink>(err: &mut E, name: &'a str, line: u32, what: &'a str)
     put_line(err, &["bootmem: ", name, ": line ", line, ": ", what, "\n"])
 }
 
+/// The line of what stands at an offset of the file, in bytes.
+fn tell_offset<'a, E: Sink>(err: &mut E, name: &'a str, what: &'a str, offset: u32)
+    ensures { Tells E.Sink err.old err.new (offset_line name.now what.now offset) }
+{
+    let mut buffer = Buffer::new();
+    let offset = buffer.format(offset);
+    put_line(err, &["bootmem: ", name, ": ", what, " at ", offset, "\n"])
+}
+
 fn tell_cause<E: Sink>(err: &mut E, cause: Cause)
     ensures { Tells E.Sink err.old err.new (cause_line cause) }
 {
@@ -130,8 +145,34 @@ fn tell_cause<E: Sink>(err: &mut E, cause: Cause)
             let runs = buffer.format(runs);
             put_line(err, &["bootmem: stopped: ", runs, " map runs\n"])
         }
+        Cause::NoPlace { what } => tell_place(err, what),
         Cause::NoTablePlace { which, room } => tell_table(err, table_name(which), room),
     }
+}
+
+/// The line of a thing that found no place.
+fn tell_place<E: Sink>(err: &mut E, what: What)
+    ensures { Tells E.Sink err.old err.new (place_line what) }
+{
+    match what {
+        What::NodeData(node) => tell_thing(err, "node-data", node),
+        What::Roots => put_line(err, &["bootmem: stopped: no place for roots\n"]),
+        What::Root(root) => tell_thing(err, "root", root),
+        What::Usage(section) => tell_thing(err, "usage", section),
+        What::Map(section) => tell_thing(err, "map", section),
+    }
+}
+
+/// The line of a numbered thing that found no place.
+fn tell_thing<'a, E: Sink>(err: &mut E, name: &'a str, number: u32)
+    ensures { Tells E.Sink err.old err.new (thing_line name.now number) }
+{
+    let mut buffer = Buffer::new();
+    let number = buffer.format(number);
+    put_line(
+        err,
+        &["bootmem: stopped: no place for ", name, " ", number, "\n"],
+    )
 }
 
 /// The name of a table of memblock.

@@ -21,6 +21,7 @@ impl<'w> Names for Wanted<'w> {
             Input::ZeroPage => word_behind(self.words),
             Input::Extension => named_by(self.words, "--e820ext"),
             Input::CommandLine => named_by(self.words, "--cmdline"),
+            Input::Srat => named_by(self.words, "--srat"),
             Input::Script => named_by(self.words, "--script"),
         }
     }
@@ -97,6 +98,7 @@ fn is_option(word: &str) -> bool
         || word == "--kernel"
         || word == "--e820ext"
         || word == "--cmdline"
+        || word == "--srat"
         || word == "--script"
 }
 
@@ -108,6 +110,7 @@ fn stand_once(words: &[String]) -> bool
         && value_of(words, "--kernel").is_some()
         && value_of(words, "--e820ext").is_some()
         && value_of(words, "--cmdline").is_some()
+        && value_of(words, "--srat").is_some()
         && value_of(words, "--script").is_some()
 }
 

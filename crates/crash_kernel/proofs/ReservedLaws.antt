@@ -74,8 +74,8 @@ area-by r old new low area main found h =
     subst (λ (o : Option Extent). EndsAs refusal.Memory r old new (with_main area low o old)) found h
 
 -- behind the claim of the area
-pub main-then : (r : Result Crash Refusal) (old mid new : List Item) (low : ℕ) (area : Area) (main : Extent) (b : Bool) → b ≡ needs_low main low
-    → Ends {T = Unit {0}} (Ok tt) old mid (claimed main owner.Crash)
+pub main-then : (r : Result Crash Refusal) (old mid new : List Item) (low : ℕ) (area : Area) (main : Extent) (b : Bool)
+    → b ≡ needs_low main low → Ends {T = Unit {0}} (Ok tt) old mid (claimed main owner.Crash)
     → EndsAs refusal.Memory r mid new ((if b then low_part main low else returns (crash.At main None)) mid)
     → EndsAs refusal.Memory r old new (with_main area low (Some main) old)
 main-then r old mid new low area main b is claim h =
@@ -88,7 +88,8 @@ pub main-fails : (e : Refusal) (old new : List Item) (low : ℕ) (area : Area) (
     → Ends {T = Unit {0}} (Err e) old new (claimed main owner.Crash)
     → EndsAs refusal.Memory (Err e) old new (with_main area low (Some main) old)
 main-fails e old new low area main h =
-    change-fails e old new (claimed main owner.Crash) (λ done. if needs_low main low then low_part main low else returns (crash.At main None)) h
+    change-fails e old new (claimed main owner.Crash)
+    (λ done. if needs_low main low then low_part main low else returns (crash.At main None)) h
 
 -- a range that met no table meets none once it is claimed: what grew for the claim keeps beside it
 pub claimed-away : (kernel r : Extent) (items new : List Item) (who : Owner) → Placed kernel items → IsAway kernel r items

@@ -147,7 +147,8 @@ unfolding low_range
 with_low_told asked items m main low None is needs h =
     let mid = with_claim m items in
     let told : ok crash.LowFailed ≡ Ok (crash.At main low) =
-    change_told (freed m mid).steps (freed m mid).refused (λ done. record { steps = []; answer = Ok crash.LowFailed }) (crash.At main low) h in
+    change_told (freed m mid).steps (freed m mid).refused (λ done. record { steps = []; answer = Ok crash.LowFailed })
+    (crash.At main low) h in
     cc
 with_low_told asked items m main low (Some l) is needs h =
     let mid = with_claim m items in

@@ -38,7 +38,8 @@ module _ {X : Type 0} where
   start_first (r ∷ rs) = omega arith
 
   pub sizes-before : (i : ℕ) (rs : List (RunOf X)) (d : RunOf X) → AreRuns rs → i < length rs → sizes (take i rs) ≤ (get_or rs i d).base
-  sizes-before i rs d runs lt = let from : 0 + sizes (take i rs) ≤ (get_or rs i d).base = sizes_below 0 i rs d (start_first rs) runs lt in omega arith
+  sizes-before i rs d runs lt = let from : 0 + sizes (take i rs) ≤ (get_or rs i d).base =
+      sizes_below 0 i rs d (start_first rs) runs lt in omega arith
 
   -- one run more
   pub sizes-next : (i : ℕ) (rs : List (RunOf X)) (d : RunOf X) → i < length rs

@@ -12,9 +12,9 @@ use boot_options::{CrashOption, CrashPlain, CrashRange};
 pub enum Spot {
     /// At this address alone.
     Fixed(u64),
-    /// Below 4 GiB, or else above.
+    /// Below 4 GiB; where nothing fits there, below 64 TiB.
     Automatic,
-    /// Wherever there is room.
+    /// Below 64 TiB.
     High,
 }
 

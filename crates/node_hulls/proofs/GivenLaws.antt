@@ -142,8 +142,8 @@ node-few memory domains bs n few of_block =
 some-kept : (memory : ℕ → Bool) (domains : List ℕ) (i : ℕ) (bs : List SratBlock) → any_kept memory bs ≡ true
     → kept_from memory domains i bs ≢ []
 some-kept memory domains i [] any = absurd (true≢false (sym any))
-some-kept memory domains i (b ∷ bs) any = elim (cases_Bool (has_memory memory (framed b.range))) as (λ _. kept_from memory domains i (b ∷ bs)
-    ≢ []) [
+some-kept memory domains i (b ∷ bs) any =
+    elim (cases_Bool (has_memory memory (framed b.range))) as (λ _. kept_from memory domains i (b ∷ bs) ≢ []) [
       | inl here ↦ let kept : has_memory memory (extent_of (of_node domains b)) ≡ true = here in rw kept (λ same. cc)
       | inr not_here ↦
           let not_kept : has_memory memory (extent_of (of_node domains b)) ≡ false = not_here in
@@ -210,7 +210,8 @@ given-frames memory off table whole x near =
     let domains : List ℕ = names_of lists in
     let blocks : List KeptBlock = kept_of memory domains lists.blocks in
     let near_too : frame_base x < 2 ^ 64 = omega (arith, near) in (
-      given-at (nodes_by blocks) x near ∙ nodes_frame memory domains lists.blocks x ∙ sym (given-at (nodes_by blocks) (frame_base x) near_too),
+      given-at (nodes_by blocks) x near ∙ nodes_frame memory domains lists.blocks x
+          ∙ sym (given-at (nodes_by blocks) (frame_base x) near_too),
       given-at (left_by memory blocks) x near ∙ left_frame memory whole domains lists.blocks x
           ∙ sym (given-at (left_by memory blocks) (frame_base x) near_too),
     ))

@@ -1,4 +1,5 @@
 pub mod AssignLaws
+mod Examples
 pub mod ListedLaws
 pub mod MemoryLaws
 pub mod NodedLaws

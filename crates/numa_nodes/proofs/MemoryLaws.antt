@@ -160,8 +160,10 @@ module _ {V : Type 0} (seen_of : List Item → V)
 pub keeps-memory : (table : Option Affinity) (off : Bool) (items : List Item) (x : ℕ)
     → is_some (memory_of (after items (assigned table off items)) x) ≡ is_some (memory_of items x)
 keeps-memory table off items x =
-    keeps-all (λ is. is_some (memory_of is x))
-    (λ is steps quiet. ap (λ (f : Labels). is_some (f x)) (quiet-appended_memory is steps quiet)) (λ b is. given-some b is x) table off items
+    let quiet_too : (is : List Item) (steps : List (List Item)) → AreQuiet steps
+    → is_some (memory_of (appended is steps) x) ≡ is_some (memory_of is x) =
+    λ is steps quiet. ap (λ (f : Labels). is_some (f x)) (quiet-appended_memory is steps quiet) in
+    keeps-all (λ is. is_some (memory_of is x)) quiet_too (λ b is. given-some b is x) table off items
 
 pub keeps-limit : (table : Option Affinity) (off : Bool) (items : List Item)
     → limit_of (after items (assigned table off items)) ≡ limit_of items
@@ -177,7 +179,8 @@ next-memory : (r : Block) (rs : List Block) (items : List Item) (d : Done StageS
     ≡ noded_all (r ∷ rs) (memory_of items)
 unfolding noded_all
 next-memory r rs items d (Ok a) first rest answered =
-    ap memory_of (appended-append items d.steps (in_turn given tt rs (after items d)).steps) ∙ rest answered ∙ ap (noded_all rs) (first refl)
+    let last : List (List Item) = (in_turn given tt rs (after items d)).steps in
+    ap memory_of (appended-append items d.steps last) ∙ rest answered ∙ ap (noded_all rs) (first refl)
 next-memory r rs items d (Err e) first rest answered = absurd (cc)
 
 turn-memory : (rs : List Block) (items : List Item) → (in_turn given tt rs items).answer ≡ Ok tt

@@ -136,7 +136,8 @@ is-noded limit f g nodes by frames within = record {
       noded_by x label (nodes x) (label-node (nodes x) (f x) label (sym (by.given x near) ∙ at)) refl (by.whole x near memory)
 
 -- by a table that is used
-two-small : (a b : Option ℕ) (n : ℕ) → ((m : ℕ) → a ≡ Some m → m < 1024) → ((m : ℕ) → b ≡ Some m → m < 1024) → option_or b a ≡ Some n → n < 1024
+two-small : (a b : Option ℕ) (n : ℕ) → ((m : ℕ) → a ≡ Some m → m < 1024) → ((m : ℕ) → b ≡ Some m → m < 1024)
+    → option_or b a ≡ Some n → n < 1024
 two-small a None n first second at = first n at
 two-small a (Some m) n first second at = second n at
 
@@ -169,10 +170,10 @@ used-given limit f off table j reach frames is used =
     λ x near some.
     subst (λ (k : Judgement). k.why ≡ why.Used → (is_some (value_at k.joined x) || is_some (value_at k.rest x)) ≡ true) (sym is)
     (λ same. given-covers memory off table x same some (omega (arith, near, reach))) used in
-    let same : (x : ℕ) → x < limit → (value_at j.joined x ≡ value_at j.joined (frame_base x)) × (value_at j.rest x ≡ value_at j.rest
-    (frame_base x)) = λ x near.
-    subst (λ (k : Judgement). (value_at k.joined x ≡ value_at k.joined (frame_base x)) × (value_at k.rest x ≡ value_at k.rest (frame_base x)))
-    (sym is) (given-frames memory off table in_frames x (omega (arith, near, reach))) in
+    let Same : Judgement → ℕ → Type 0 = λ k x. (value_at k.joined x ≡ value_at k.joined (frame_base x))
+    × (value_at k.rest x ≡ value_at k.rest (frame_base x)) in
+    let same : (x : ℕ) → x < limit → Same j x = λ x near.
+    subst (λ (k : Judgement). Same k x) (sym is) (given-frames memory off table in_frames x (omega (arith, near, reach))) in
     record {
       given = λ x near.
           ap (λ (g : Labels). g x) (noded-append j.joined j.rest f) ∙ noded-runs j.rest (noded_all j.joined f) x runs.1

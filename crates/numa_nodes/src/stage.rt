@@ -33,6 +33,9 @@ const CACHE_LINE: u64 = 64;
 /// Gives each byte of memory its node, and each node that has memory a place for its data (`initmem_init`). The table of
 /// domains is judged by the memory that there is; `off` says that `numa=off` was given. A limit of allocations is set, and
 /// where the table isn't used the addresses below it get node 0.
+///
+/// Errors: `NoPlace` where there is no place for the data of a node, `NoTablePlace` where a table had to grow and found
+/// none, `Memory`. What was carried out by then stands.
 pub fn assign(
     alloc: Global,
     memblock: &mut Memblock,

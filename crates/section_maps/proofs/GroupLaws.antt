@@ -30,7 +30,9 @@ other-eq a b other = elim (cases_Bool (b == a)) as (λ _. (b == a) ≡ false) [
 
 -- the first section and those of its node behind it
 own-length : (s : Section) (ss : List Section) → prefix_len (is_of s.node) (s ∷ ss) ≡ suc (prefix_len (is_of s.node) ss)
-own-length s ss = rw (same-eq s.node s.node refl) (let e : 1 + prefix_len (is_of s.node) ss ≡ suc (prefix_len (is_of s.node) ss) = omega arith in e)
+own-length s ss =
+    let more : 1 + prefix_len (is_of s.node) ss ≡ suc (prefix_len (is_of s.node) ss) = omega arith in
+    rw (same-eq s.node s.node refl) more
 
 joined-group : (s t : Section) (ts : List Section) (n k : ℕ) → k ≡ suc n
     → record { first = s; others = t ∷ take n ts } ∷ groups_of (drop n ts)
@@ -84,7 +86,8 @@ pub next-group : (rest : List Section) (first : Section) (d : Section) → 0 < l
     → (n : ℕ) → n ≡ prefix_len (is_of first.node) rest → 1 ≤ n
 next-group [] first d some is n long = absurd (omega arith)
 next-group (s ∷ ss) first d some is n long =
-    let own : n ≡ suc (prefix_len (is_of s.node) ss) = long ∙ ap (λ (t : Section). prefix_len (is_of t.node) (s ∷ ss)) is ∙ own-length s ss in
+    let own : n ≡ suc (prefix_len (is_of s.node) ss) =
+    long ∙ ap (λ (t : Section). prefix_len (is_of t.node) (s ∷ ss)) is ∙ own-length s ss in
     omega (arith, own)
 
 -- the group in front of what is left
@@ -102,7 +105,8 @@ front : (entry : List Item) (sections : List Section) (now : List Item) (placed 
 front entry sections now placed s ss goes r new h =
     goes.ends r new (subst (λ (gs : List Group). EndsAs stop.Memory r now new (in_turn map_group placed gs now)) (sym (groups-next s ss)) h)
 
-next-own : (entry : List Item) (sections : List Section) (now mid : List Item) (placed longer : List Placed) (s : Section) (ss : List Section)
+next-own : (entry : List Item) (sections : List Section) (now mid : List Item) (placed longer : List Placed) (s : Section)
+    (ss : List Section)
     → EndsAs stop.Memory (Ok longer) now mid (group_placed placed s (take (prefix_len (is_of s.node) (s ∷ ss)) (s ∷ ss)) now)
     → Goes entry sections now placed (s ∷ ss)
     → Goes entry sections mid longer (drop (prefix_len (is_of s.node) (s ∷ ss)) (s ∷ ss))

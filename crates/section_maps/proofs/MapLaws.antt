@@ -65,7 +65,8 @@ pub goes-first : (entry : List Item) (usage : ℕ) (before : List Placed) (secti
     → Goes entry usage before sections entry usage before sections
 goes-first entry usage before sections = record { ends = λ r new h. h }
 
-module _ (entry : List Item) (usage : ℕ) (first : List Placed) (sections : List Section) (now : List Item) (at : ℕ) (before : List Placed) where
+module _ (entry : List Item) (usage : ℕ) (first : List Placed) (sections : List Section) (now : List Item) (at : ℕ)
+    (before : List Placed) where
   left-at : (i : ℕ) (d : Section) → i < length sections → Goes entry usage first sections now at before (drop i sections)
       → Goes entry usage first sections now at before (get_or sections i d ∷ drop (i + 1) sections)
   left-at i d few goes =

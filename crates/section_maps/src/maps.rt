@@ -15,7 +15,7 @@ use stage_model::{Section, StageStop};
 use std::alloc::Global;
 
 /// Finds places for the usage data and the map of each section, group by group: 40 bytes and 2 MiB (`sparse_init_nid`). There
-/// are at most 2^19 sections, as many as 64 TiB have.
+/// are at most 2^19 sections, as many as 64 TiB have. The first that gets no place stops the boot.
 pub fn place_maps(
     alloc: Global,
     memblock: &mut Memblock,

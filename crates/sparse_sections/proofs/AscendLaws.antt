@@ -1,14 +1,13 @@
 -- The sections with memory ascend, and their nodes are those of memory.
-use Rattle.std.proofs.Common.{◌≡◌, ℕ, zero, suc, ◌+◌, ◌-◌, ◌*◌, ◌^◌, ◌<◌, ◌≤◌, Option, Some, None, List, [], ◌∷◌, ◌++◌, length, get_or, refl, sym, ◌∙◌, ap, subst, inl, inr, arith, length-append}
+use Rattle.std.proofs.Common.{◌≡◌, ℕ, zero, suc, ◌+◌, ◌-◌, ◌^◌, ◌<◌, ◌≤◌, Option, Some, None, List, [], ◌∷◌, ◌++◌, length, get_or, refl, sym, ◌∙◌, ap, subst, inl, inr, arith, length-append}
 use Rattle.std.specs.List.{All}
-use Rattle.std.specs.Option.{option_or}
 use Rattle.std.proofs.lemmas.Bool.{cases_lt}
 use Rattle.std.proofs.lemmas.List.{append-nil, get_or_append_left, get_or-append_right}
-use Rattle.std.proofs.lemmas.List.Elements.{All-append, All-nil}
 use Rattle.memblock_model.specs.Labels.{Label, Labels}
 use Rattle.stage_model.specs.declared.section.Section.{Section}
 use Rattle.stage_model.specs.Noded.{IsNoded}
-use Rattle.sparse_sections.specs.Present.{first_label, section_label, section_of, section_for, sections_below, present, AreSections}
+use Rattle.sparse_sections.specs.Present.{section_label, section_of, section_for, sections_below, present, IsLowest, AreSections}
+use Rattle.sparse_sections.proofs.LowestLaws.{present-lowest}
 
 -- sections that ascend, all of them below the number
 pub record Ascend (n : ℕ) (ss : List Section) : Type 0 where
@@ -89,44 +88,13 @@ pub present-ascends : (f : Labels) → AreSections (present f)
 unfolding present
 present-ascends f = sections_of (2 ^ 19) (sections_below f (2 ^ 19)) (sections-ascend f (2 ^ 19)) refl
 
--- a label that is found is one of memory
-label-from : (f : Labels) (a n : ℕ) (label : Label) → first_label f a n ≡ Some label → (x : ℕ) × (f x ≡ Some label)
-unfolding first_label
-label-from f a zero label found = cc
-label-from f a (suc n) label found =
-    let From : Option Label → Type 0 = λ o. f (4096 * a) ≡ o → option_or o (first_label f (a + 1) n) ≡ Some label
-    → (x : ℕ) × (f x ≡ Some label) in
-    let from : (o : Option Label) → From o = λ o. elim o as From [
-      | None ↦ λ is rest. label-from f (a + 1) n label rest
-      | Some v ↦ λ is first. (4096 * a, is ∙ first)
-    ] in from (f (4096 * a)) refl found
-
--- and its node is that of a section
-one-has : (s : Section) → s.node < 1024 → All (λ s. s.node < 1024) (s ∷ [])
-one-has s less zero d in_list = less
-one-has s less (suc k) d in_list = absurd (omega arith)
-
-of-has : (n : ℕ) (o : Option ℕ) → ((node : ℕ) → o ≡ Some node → node < 1024) → All (λ s. s.node < 1024) (section_of n o)
-of-has n None less = All-nil (λ s. s.node < 1024)
-of-has n (Some node) less = one-has (record { number = n; node = node }) (less node refl)
-
-for-has : (n : ℕ) (o : Option Label) → ((label : Label) (node : ℕ) → o ≡ Some label → label.node ≡ Some node → node < 1024)
-    → All (λ s. s.node < 1024) (section_for n o)
-for-has n None less = All-nil (λ s. s.node < 1024)
-for-has n (Some label) less = of-has n label.node (λ node has. less label node refl has)
-
-sections-have : (limit : ℕ) (f : Labels) (n : ℕ) → IsNoded limit f → All (λ s. s.node < 1024) (sections_below f n)
-unfolding sections_below
-sections-have limit f zero noded = All-nil (λ s. s.node < 1024)
-sections-have limit f (suc n) noded =
-    All-append (λ s. s.node < 1024) (sections_below f n) (section_for n (section_label f n)) (sections-have limit f n noded)
-    (for-has n (section_label f n) (λ label node found has.
-    let at = label-from f (32768 * n) 32768 label found in
-    let told = noded.nodes at.0 label at.1 in
-    let same : told.0 ≡ node = let both : Some told.0 ≡ Some node = sym told.1 ∙ has in cc in
+-- the nodes of sections with memory are those of nodes
+node-low : (limit : ℕ) (f : Labels) (s : Section) → IsNoded limit f → IsLowest f s → s.node < 1024
+node-low limit f s noded low =
+    let told = noded.nodes low.byte low.label low.told in
+    let same : told.0 ≡ s.node = let both : Some told.0 ≡ Some s.node = sym told.1 ∙ low.node in cc in
     let less : told.0 < 1024 = told.2 in
-    omega (arith, same, less)))
+    omega (arith, same, less)
 
 pub present-has : (limit : ℕ) (f : Labels) → IsNoded limit f → All (λ s. s.node < 1024) (present f)
-unfolding present
-present-has limit f noded = sections-have limit f (2 ^ 19) noded
+present-has limit f noded k d in_list = node-low limit f (get_or (present f) k d) noded (present-lowest limit f noded k d in_list)

@@ -1,11 +1,13 @@
 -- Worked examples: frames of which some are memory, records that end within sections, sections and their roots.
-use Rattle.std.proofs.Common.{◌≡◌, ℕ, ◌+◌, ◌-◌, ◌*◌, ◌/◌, ◌%◌, ◌^◌, ◌<◌, ◌≤◌, true, false, Option, Some, None, List, [], ◌∷◌, ◌++◌, refl, sym, ◌∙◌, ap, arith, lit<, lit≤}
+use Rattle.std.proofs.Common.{◌≡◌, ℕ, true, false, Some, None, List, [], ◌∷◌, ◌++◌, refl, sym, ◌∙◌, ap, subst, arith, lit<, lit≤}
 use Rattle.address_runs.specs.Runs.{RunOf, value_at, AreRuns}
 use Rattle.memblock_model.specs.Labels.{Label, Labels}
 use Rattle.stage_model.specs.declared.section.Section.{Section}
-use Rattle.sparse_sections.specs.Present.{first_label, section_of, section_for, sections_below, present, sections_from, IsWholeNoded, AreSections}
+use Rattle.sparse_sections.specs.Present.{first_label, section_for, present, sections_from, IsWholeNoded, IsLowest, IsAt, AreSections}
 use Rattle.sparse_sections.specs.Roots.{root_of, is_root, firsts_behind, small_request}
 use Rattle.sparse_sections.proofs.PresentLaws.{IsLeft, left-all, left-next, sections-record, present-none, present-end}
+use Rattle.sparse_sections.proofs.AscendLaws.{present-ascends}
+use Rattle.address_runs.proofs.RunsLaws.{none_below}
 
 abbrev of_node : ℕ → Label
 of_node node = record { node = Some node }
@@ -86,9 +88,27 @@ last_root : (is_root None 0 ≡ false) × (is_root (Some 0) 0 ≡ true) × (is_r
 last_root = (refl, refl, refl)
 
 roots_once : (firsts_behind None [] ≡ [])
-    × (firsts_behind None (section 0 0 ∷ section 3 1 ∷ section 255 1 ∷ section 256 2 ∷ section 300 0 ∷ []) ≡ section 0 0 ∷ section 256 2 ∷ [])
+    × (firsts_behind None (section 0 0 ∷ section 3 1 ∷ section 255 1 ∷ section 256 2 ∷ section 300 0 ∷ [])
+    ≡ section 0 0 ∷ section 256 2 ∷ [])
     × (firsts_behind (Some 1) (section 256 2 ∷ section 512 0 ∷ []) ≡ section 512 0 ∷ [])
 roots_once = (refl, refl, refl)
 
 root_page : small_request 4096 (Some 1) ≡ record { size = 4096; align = 64; min = 0; max = None; node = Some 1; exact = false }
 root_page = refl
+
+-- the second of the two sections is at index 1; they ascend; and section 0 has the node of its lowest byte
+found_at : IsAt (section 0 3 ∷ section 1 3 ∷ []) 1 1
+found_at = record { within = lit< tt; is = λ d. refl }
+
+they_ascend : AreSections (section 0 3 ∷ section 1 3 ∷ [])
+they_ascend = subst AreSections both_sections (present-ascends (value_at across))
+
+lowest_byte : IsLowest (value_at across) (section 0 3)
+lowest_byte = record {
+  byte = 0x7FFF000;
+  label = of_node 3;
+  inside = refl;
+  told = refl;
+  node = refl;
+  none = λ x inside before. none_below 0x7FFF000 x across across_runs (lit≤ tt) before;
+}

@@ -1,5 +1,6 @@
 pub mod LabelLaws
 pub mod PresentLaws
+pub mod LowestLaws
 pub mod AscendLaws
 pub mod NodedLaws
 pub mod QuietLaws

@@ -44,8 +44,8 @@ pub noded-frames : (limit : ℕ) (f : Labels) (rs : List (RunOf Label)) → IsRu
 noded-frames limit f rs is noded =
     whole_by_value rs is.runs (λ x. is.each x ∙ noded.frames x ∙ sym (is.each (4096 * (x / 4096))))
 
-reach-by : (limit : ℕ) (f : Labels) (rs : List (RunOf Label)) (k : ℕ) (d : RunOf Label) → IsRunsOf f rs → NothingFrom limit f → k < length rs
-    → run_end (get_or rs k d) ≤ limit
+reach-by : (limit : ℕ) (f : Labels) (rs : List (RunOf Label)) (k : ℕ) (d : RunOf Label) → IsRunsOf f rs → NothingFrom limit f
+    → k < length rs → run_end (get_or rs k d) ≤ limit
 reach-by limit f rs k d is none few =
     let r : RunOf Label = get_or rs k d in
     let some = some-at rs k d is.runs few in

@@ -25,7 +25,8 @@ quiet-roots sections =
     quiet-bind (placed what.Roots (small_request 16384 None) owner.Roots)
     (λ table. in_turn root_placed [] (firsts_behind None sections) >>= λ places. returns (record { table = table; roots = places }))
     (quiet-placed what.Roots (small_request 16384 None) owner.Roots)
-    (λ table. quiet-bind (in_turn root_placed [] (firsts_behind None sections)) (λ places. returns (record { table = table; roots = places }))
+    (λ table. quiet-bind (in_turn root_placed [] (firsts_behind None sections))
+    (λ places. returns (record { table = table; roots = places }))
     (quiet-turn root_placed quiet-root [] (firsts_behind None sections))
     (λ places. quiet-returns (record { table = table; roots = places })))
 

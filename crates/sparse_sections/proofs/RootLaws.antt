@@ -59,8 +59,8 @@ left-at : (sections : List Section) (i : ℕ) (d : Section) → i < length secti
 left-at sections i d few =
     drop-cons sections i d few ∙ ap (λ (n : ℕ). get_or sections i d ∷ drop n sections) (sym (add-one i))
 
-pub goes-same : (entry : List Item) (sections : List Section) (now : List Item) (before : List RootPlace) (last : Option ℕ) (i : ℕ) (d : Section)
-    → i < length sections → is_root last (root_of (get_or sections i d)) ≡ true → Goes entry sections now before last (drop i sections)
+pub goes-same : (entry : List Item) (sections : List Section) (now : List Item) (before : List RootPlace) (last : Option ℕ) (i : ℕ)
+    (d : Section) → i < length sections → is_root last (root_of (get_or sections i d)) ≡ true → Goes entry sections now before last (drop i sections)
     → Goes entry sections now before last (drop (i + 1) sections)
 goes-same entry sections now before last i d few same goes =
     let s : Section = get_or sections i d in
@@ -68,8 +68,8 @@ goes-same entry sections now before last i d few same goes =
     subst (Goes entry sections now before last) (left-at sections i d few) goes in
     record { ends = λ r new h. here.ends r new (root-same r last s (drop (i + 1) sections) before now new same h) }
 
-pub goes-next : (entry : List Item) (sections : List Section) (now mid : List Item) (before roots : List RootPlace) (last : Option ℕ) (i : ℕ)
-    (d : Section) → i < length sections → is_root last (root_of (get_or sections i d)) ≡ false
+pub goes-next : (entry : List Item) (sections : List Section) (now mid : List Item) (before roots : List RootPlace) (last : Option ℕ)
+    (i : ℕ) (d : Section) → i < length sections → is_root last (root_of (get_or sections i d)) ≡ false
     → EndsAs stop.Memory (Ok roots) now mid (root_placed before (get_or sections i d) now)
     → Goes entry sections now before last (drop i sections)
     → Goes entry sections mid roots (Some (root_of (get_or sections i d))) (drop (i + 1) sections)

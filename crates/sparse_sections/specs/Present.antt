@@ -1,5 +1,5 @@
 -- Which sections have memory, and the node of each (`memory_present`, `sparse_init`).
-use Rattle.std.specs.Prelude.{◌≡◌, ℕ, zero, suc, ◌+◌, ◌*◌, ◌%◌, ◌^◌, ◌<◌, ◌≤◌, Option, Some, None, List, [], ◌∷◌, ◌++◌, length, get_or}
+use Rattle.std.specs.Prelude.{◌≡◌, ℕ, zero, suc, ◌+◌, ◌*◌, ◌/◌, ◌%◌, ◌^◌, ◌<◌, ◌≤◌, Option, Some, None, List, [], ◌∷◌, ◌++◌, length, get_or}
 use Rattle.std.specs.List.{All}
 use Rattle.std.specs.Option.{option_or}
 use Rattle.address_runs.specs.Runs.{RunOf, run_end}
@@ -45,6 +45,20 @@ pub record IsWholeNoded (r : RunOf Label) : Type 0 where
   pub base : r.base % 4096 ≡ 0
   pub end : run_end r % 4096 ≡ 0
   pub reach : run_end r ≤ 2 ^ 46
+
+-- the section has memory, and its node is that of the lowest byte
+pub record IsLowest (f : Labels) (s : Section) : Type 0 where
+  pub byte : ℕ
+  pub label : Label
+  pub inside : byte / 0x8000000 ≡ s.number
+  pub told : f byte ≡ Some label
+  pub node : label.node ≡ Some s.node
+  pub none : (x : ℕ) → x / 0x8000000 ≡ s.number → x < byte → f x ≡ None
+
+-- the list has a section of that number at the index
+pub record IsAt (ss : List Section) (i number : ℕ) : Type 0 where
+  pub within : i < length ss
+  pub is : (d : Section) → (get_or ss i d).number ≡ number
 
 -- sections in ascending order, as far as those tables reach
 pub record AreSections (ss : List Section) : Type 0 where

@@ -1,6 +1,6 @@
 //! The laws of sections, as functions that do nothing: what a boot may rest on.
 
-ghost use Rattle.std.specs.Prelude.{◌≡◌, ℕ, ◌^◌, ◌<◌, ◌≤◌, List};
+ghost use Rattle.std.specs.Prelude.{◌≡◌, ℕ, ◌/◌, ◌^◌, ◌<◌, ◌≤◌, Some, List};
 ghost use Rattle.std.specs.List.{All};
 ghost use Rattle.address_runs.specs.Runs.{RunOf, IsRunsOf, value_at};
 ghost use Rattle.memblock_model.specs.declared.item.Item.{Item as AnyItem};
@@ -12,7 +12,7 @@ ghost use Rattle.table_frames.specs.Tables.{AreWholeFrames};
 ghost use Rattle.stage_model.specs.declared.section.Section.{Section as AnySection};
 ghost use Rattle.stage_model.specs.Doing.{after};
 ghost use Rattle.stage_model.specs.Noded.{IsNoded};
-ghost use Rattle.sparse_sections.specs.Present.{present, IsWholeNoded, AreSections};
+ghost use Rattle.sparse_sections.specs.Present.{present, IsWholeNoded, IsLowest, IsAt, AreSections};
 ghost use Rattle.sparse_sections.specs.Roots.{roots};
 
 /// A law: behind the stage of nodes the records of memory are its runs and say of each byte what the items say; each list of
@@ -24,6 +24,14 @@ pub fn noded_memory_is_whole()
         value_at (records_of which.Memory items) ≡ memory_of items }
     ensures frames { (limit : ℕ) (f : Labels) (rs : List (RunOf Label)) → IsRunsOf f rs → IsNoded limit f → AreWholeFrames rs }
     ensures records { (f : Labels) (rs : List (RunOf Label)) → IsRunsOf f rs → IsNoded (2 ^ 46) f → All IsWholeNoded rs }
+{}
+
+/// A law: where memory is whole frames with nodes, each byte of it within 64 TiB is of a section that is told, and each
+/// section that is told has memory and the node of the lowest byte.
+pub fn present_sections_are_memory()
+    ensures all { (limit x : ℕ) (f : Labels) (label : Label) → IsNoded limit f → x < 2 ^ 46 → f x ≡ Some label →
+        (i : ℕ) × IsAt (present f) i (x / 0x8000000) }
+    ensures each { (limit : ℕ) (f : Labels) → IsNoded limit f → All (IsLowest f) (present f) }
 {}
 
 /// A law: the sections with memory ascend within 64 TiB, and behind the stage of nodes each has a node.

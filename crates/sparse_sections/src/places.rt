@@ -100,7 +100,8 @@ fn place_each_root(
 }
 
 /// Finds places for the table of roots and for the root of each section: 16 KiB and then a page each, on the node of the
-/// root's first section if there is room (`memory_present`, `sparse_index_alloc`). The sections ascend.
+/// root's first section if there is room (`memory_present`, `sparse_index_alloc`). Where the sections ascend each root gets one place. The
+/// first that gets none stops the boot.
 pub fn place_roots(
     alloc: Global,
     memblock: &mut Memblock,

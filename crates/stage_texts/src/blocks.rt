@@ -10,7 +10,7 @@ use crate::zones::zone_name;
 use bm_base::{FRAME_SIZE, Memory, put_text};
 use buddy_handover::{Block, Buddy};
 
-/// The bytes that the line of a block takes at most where the number of its node has one digit.
+/// The bytes that the line of a block takes at most where the number of its node has two digits.
 const LINE_ROOM: usize = 48;
 
 /// Appends the text of the free blocks: a line for each, ascending. There are up to four million, so the

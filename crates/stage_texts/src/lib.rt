@@ -7,9 +7,9 @@
 //! owners' and tables' names and numbers are those of `report_texts` and `bm_base`.
 //!
 //! A `put_` call appends the text of one part: [`put_script`] of what came of each line of the early script,
-//! [`put_nodes`] of the table of domains and the nodes that memory got, [`put_crash`] of the crash area, [`put_sections`]
-//! of the places that sections have, [`put_zones`], [`put_buddyinfo`] and [`put_blocks`] of the zones and the free blocks at the
-//! handover, [`put_summary`] of how much there is of everything.
+//! [`put_nodes`] of the table of domains and the nodes that memory got, [`put_crash`] of the crash area,
+//! [`put_sections`] of the places that sections have, [`put_zones`], [`put_buddyinfo`] and [`put_blocks`] of
+//! the zones and the free blocks at the handover, [`put_summary`] of how much there is of everything.
 //!
 //! Nothing but the text grows, and nothing but want of memory comes in its place; the text is then of no
 //! use, and whoever asked for it drops it.

@@ -48,8 +48,8 @@ loop-section-preserved c =
           rw (w.memblock-is, w.roots-is, is) (record {
             goes = goes-next entry sections now mid before w.place_root.new.roots.items last i no_section c.loop-section-test.true
                 (told ∙ w.if-not-is_root.true) w.in_ok-place_root.ensures.ends c.loop-section.invariant.goes;
-            begun = ends-begun (Ok w.place_root.new.roots.items) stop.Memory now mid (root_placed before s now) c.loop-section.invariant.begun
-                w.in_ok-place_root.ensures.ends;
+            begun = ends-begun (Ok w.place_root.new.roots.items) stop.Memory now mid (root_placed before s now)
+                c.loop-section.invariant.begun w.in_ok-place_root.ensures.ends;
             lent = goes-then c.args.memblock.now c.loop-section.memblock w.place_root.new.memblock c.loop-section.invariant.lent
                 w.in_ok-place_root.ensures.lent;
           })

@@ -1,0 +1,89 @@
+-- What both tables say of frames at the end of a boot.
+use Rattle.std.proofs.Common.{◌≡◌, ◌∙◌, ℕ, ◌*◌, ◌/◌, ◌^◌, List, ap, sym, subst, arith}
+use Rattle.address_runs.specs.Runs.{value_at}
+use Rattle.address_runs.specs.Edits.{NothingFrom}
+use Rattle.phys_store.specs.Bytes.{Stored}
+use Rattle.memblock_model.specs.declared.item.Item.{Item}
+use Rattle.memblock_model.specs.declared.which.Which.TheVariants as which
+use Rattle.memblock_model.specs.Items.{memory_of, owner_of}
+use Rattle.memblock_model.specs.Labels.{Labels}
+use Rattle.memblock_model.specs.Tables.{records_of, reserved_of}
+use Rattle.memblock_model.proofs.TableLaws.{value_at-records}
+use Rattle.memblock_ranges.specs.declared.region.Head.{Head}
+use Rattle.bm_base.specs.Extent.{Extent}
+use Rattle.memblock_ranges.specs.declared.region.Heads.{Heads}
+use Rattle.memblock_ranges.specs.Tables.{Contents as Tables, StandsIn, Table, head_of, list_in}
+use Rattle.growth_model.specs.Bytes.{table_for}
+use Rattle.sparse_sections.proofs.NodedLaws.{noded-told}
+use Rattle.stage_model.specs.Noded.{IsNoded}
+use Rattle.table_frames.specs.Frames.{free_in, node_of_frame}
+use Rattle.table_frames.specs.Tables.{AreWholeFrames, HasRecords}
+use Rattle.table_frames.proofs.StandLaws.{stands_ascending, stands_below, stands_free, stands_node, stands_whole}
+use Rattle.zone_spans.specs.Spans.{spans_of}
+use Rattle.boot_model.specs.declared.limit.TheConstants.{MAX_PHYSMEM}
+use Rattle.boot_model.specs.Boot.{handed_over, spanned}
+
+-- the tables that stand in the bytes, with the records of the items, where the heads tell
+pub record Stand (items : List Item) (store : List Stored) (memory reserved : Head) : Type 0 where
+  pub first : Table
+  pub second : Table
+  pub first_stands : StandsIn first store
+  pub second_stands : StandsIn second store
+  pub first_head : memory ≡ head_of first
+  pub second_head : reserved ≡ head_of second
+  pub first_says : value_at first.records ≡ memory_of items
+  pub second_says : value_at second.records ≡ reserved_of (owner_of items)
+  pub noded : IsNoded MAX_PHYSMEM (memory_of items)
+
+module _ (items : List Item) (store : List Stored) (memory reserved : Head) (s : Stand items store memory reserved) where
+  pub memory-records : HasRecords store memory 4503599627370496
+  memory-records =
+      let none : NothingFrom 4503599627370496 (value_at s.first.records) =
+      λ x far. ap (λ (f : Labels). f x) s.first_says ∙ s.noded.within x (omega arith) in
+      subst (λ (h : Head). HasRecords store h 4503599627370496) (sym s.first_head)
+      (stands_below s.first store 4503599627370496 s.first_stands none)
+
+  pub memory-whole : AreWholeFrames (list_in store memory)
+  memory-whole =
+      let same : (x : ℕ) → value_at s.first.records x ≡ value_at s.first.records (4096 * (x / 4096)) =
+      λ x. ap (λ (f : Labels). f x) s.first_says ∙ s.noded.frames x ∙ ap (λ (f : Labels). f (4096 * (x / 4096))) (sym s.first_says) in
+      subst (λ (h : Head). AreWholeFrames (list_in store h)) (sym s.first_head) (stands_whole s.first store s.first_stands same)
+
+  pub reserved-records : HasRecords store reserved (2 ^ 64)
+  reserved-records =
+      subst (λ (h : Head). HasRecords store h (2 ^ 64)) (sym s.second_head) (stands_ascending s.second store s.second_stands)
+
+  pub spans-told : spans_of (node_of_frame (value_at (list_in store memory))) ≡ spanned items
+  spans-told =
+      let nodes : node_of_frame (value_at (list_in store memory)) ≡ node_of_frame (memory_of items) = λ i frame.
+      (ap (λ (h : Head). node_of_frame (value_at (list_in store h)) frame) s.first_head ∙ stands_node s.first store frame s.first_stands
+      ∙ ap (λ (f : Labels). node_of_frame f frame) s.first_says) i in
+      ap spans_of nodes
+
+  pub free-told : (frame : ℕ) → free_in (value_at (list_in store memory)) (value_at (list_in store reserved)) frame ≡ handed_over items frame
+  free-told frame =
+      ap (λ (h : Head). free_in (value_at (list_in store h)) (value_at (list_in store reserved)) frame) s.first_head
+      ∙ ap (λ (h : Head). free_in (value_at (list_in store (head_of s.first))) (value_at (list_in store h)) frame) s.second_head
+      ∙ stands_free s.first s.second store frame s.first_stands s.second_stands
+      ∙ ap (λ (f : Labels). free_in f (value_at s.second.records) frame) s.first_says
+      ∙ ap (λ (f : Labels). free_in (memory_of items) f frame) s.second_says
+
+-- they do stand there
+pub stand-by : (kernel : Extent) (items : List Item) (store : List Stored) (tables found : Tables) (heads : Heads)
+    → heads ≡ record { memory = head_of found.memory; reserved = head_of found.reserved } → tables ≡ found
+    → tables.memory ≡ table_for which.Memory kernel items → tables.reserved ≡ table_for which.Reserved kernel items
+    → StandsIn (table_for which.Memory kernel items) store → StandsIn (table_for which.Reserved kernel items) store
+    → IsNoded MAX_PHYSMEM (memory_of items) → NothingFrom (2 ^ 64) (reserved_of (owner_of items))
+    → Stand items store heads.memory heads.reserved
+unfolding records_of
+stand-by kernel items store tables found heads told same first second first_stands second_stands noded within = record {
+  first = table_for which.Memory kernel items;
+  second = table_for which.Reserved kernel items;
+  first_stands = first_stands;
+  second_stands = second_stands;
+  first_head = ap (λ (h : Heads). h.memory) told ∙ ap (λ (t : Tables). head_of t.memory) (sym same) ∙ ap head_of first;
+  second_head = ap (λ (h : Heads). h.reserved) told ∙ ap (λ (t : Tables). head_of t.reserved) (sym same) ∙ ap head_of second;
+  first_says = noded-told MAX_PHYSMEM items (omega arith) noded;
+  second_says = value_at-records (reserved_of (owner_of items)) within;
+  noded = noded;
+}

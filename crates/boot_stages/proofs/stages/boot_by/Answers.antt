@@ -1,0 +1,165 @@
+-- What is decided for the map is decided for the boot, and behind it what memory comes to.
+use Rattle.std.proofs.Common.{◌≡◌, ◌≢◌, ℕ, List, [], drop, Vec, Global, ◌^◌, Ok, Err, ap, sym, ◌∙◌, subst, rules}
+use Rattle.std.proofs.lemmas.Result.{err_from_is_err_and}
+use Rattle.address_runs.specs.Runs.{RunOf}
+use Rattle.e820_model.specs.Map.{claims_of}
+use Rattle.growth_model.specs.Carried.{carried_out}
+use Rattle.early_stages.specs.Wanted.{first_items}
+use Rattle.boot_journal.specs.Contents.{Contents}
+use Rattle.boot_model.specs.declared.limit.TheConstants.{MAX_PHYSMEM}
+use Rattle.boot_model.specs.declared.stop.Stop.{Stop}
+use Rattle.boot_model.specs.declared.stop.Stop.TheVariants as stops
+use Rattle.bm_base.specs.Extent.{Extent}
+use Rattle.memblock_model.specs.declared.item.Item.{Item}
+use Rattle.memblock_model.specs.declared.which.Which.TheVariants as which
+use Rattle.memblock_ranges.specs.declared.region.Heads.{Heads}
+use Rattle.memblock_ranges.specs.Tables.{Table, head_of}
+use Rattle.growth_model.specs.Bytes.{byte}
+use Rattle.phys_store.specs.Bytes.{Stored, byte_of}
+use Rattle.memblock_grow.specs.Contents.{Contents as Memblock}
+use Rattle.bm_base.specs.ResultSteps.{with_error}
+use Rattle.boot_model.specs.Boot.{Given, Made, Told, boot, claims, handed_over, heads_of, later_stages, map_judged, spanned}
+use Rattle.boot_model.specs.Stages.{in_order}
+use Rattle.boot_model.specs.Stop.{stop_of}
+use Rattle.boot_model.specs.View.{inputs_view}
+use Rattle.address_runs.specs.Edits.{NothingFrom}
+use Rattle.memblock_model.specs.Items.{owner_of}
+use Rattle.memblock_model.specs.Tables.{reserved_of}
+use Rattle.frame_blocks.specs.Frames.{Frames}
+use Rattle.zone_spans.specs.declared.span.Span.{Span}
+use Rattle.buddy_handover.specs.Contents.{free}
+use Rattle.boot_model.specs.First.{IsFirst}
+use Rattle.boot_stages.specs.Boots.{LaterMade, begun_with, later_view, made_behind}
+use Rattle.boot_stages.specs.Carries.{or_stop}
+use Rattle.boot_stages.proofs.MapLaws.{boot_stops, boot_told, claims-told, first_made, made_of, memory_goes_on, memory_stops, stages_stop}
+use Rattle.boot_stages.proofs.stages.boot_by.Goals as goal
+
+-- the heads of two tables
+abbrev heads_in : Table → Table → Heads
+heads_in memory reserved = record { memory = head_of memory; reserved = head_of reserved }
+
+pub returns-in_err-map-clause-boots : goal.returns-in_err-map-clause-boots
+returns-in_err-map-clause-boots c =
+    let same : claims (inputs_view c.args.inputs.now) ≡ claims_of c.in_ok-table.table = search rules in
+    let p = err_from_is_err_and c.from_residual-in_err-map.result c.from_residual-in_err-map.ensures.1 in
+    boot_stops _ (inputs_view c.args.inputs.now) _ c.in_err-map.field-0.0 (p.1 ∙ ap (λ (s : Stop). Err s) p.2)
+    (c.in_err-map.ensures.answers (inputs_view c.args.inputs.now) same)
+
+pub returns-in_err-memblock-clause-boots : goal.returns-in_err-memblock-clause-boots
+returns-in_err-memblock-clause-boots c =
+    let same : claims (inputs_view c.args.inputs.now) ≡ claims_of c.in_ok-table.table = search rules in
+    let r = c.from_residual-in_err-memblock.result in
+    let p = err_from_is_err_and r c.from_residual-in_err-memblock.ensures.1 in
+    let stop : Stop = c.in_err-memblock.field-0.0 in
+    let Stops : List (RunOf ℕ) → Type 0 = λ map. stop ≢ stops.Memory
+    → or_stop (carried_out (first_items MAX_PHYSMEM c.args.inputs.now.kernel c.args.inputs.now.zero.initrd map) []) ≡ Err stop in
+    memory_stops _ (inputs_view c.args.inputs.now) (made_of (inputs_view c.args.inputs.now) c.in_ok-map.map) r stop
+    (p.1 ∙ ap (λ (s : Stop). Err s) p.2) (c.in_ok-map.ensures.answers (inputs_view c.args.inputs.now) same)
+    (subst Stops c.deref-4.ensures.value c.in_err-memblock.ensures.answers)
+
+-- a boot whose map is judged and whose memory is made goes on with the stages behind it
+goes_on : (given : Given) (map : Vec (RunOf ℕ) Global) (runs : List (RunOf ℕ)) (m : Memblock) → runs ≡ map.items
+    → with_error stop_of (map_judged given) ≡ Ok (made_of given map)
+    → or_stop (carried_out (first_items MAX_PHYSMEM given.kernel given.initrd runs) []) ≡ Ok m.journal.items
+    → boot given ≡ in_order (drop 1 (later_stages given)) (begun_with (made_of given map) m)
+goes_on given map runs m same judged carried =
+    let Goes : List (RunOf ℕ) → Type 0 =
+    λ rs. or_stop (carried_out (first_items MAX_PHYSMEM given.kernel given.initrd rs) []) ≡ Ok m.journal.items in
+    memory_goes_on given (made_of given map) m.journal.items judged (subst Goes same carried)
+
+-- what is known where memory was made
+record MemoryIsMade (given : Given) (map : Vec (RunOf ℕ) Global) (m : Memblock) : Type 0 where
+  comes : boot given ≡ in_order (drop 1 (later_stages given)) (begun_with (made_of given map) m)
+  first : IsFirst m.journal.items
+
+memory_is_made : (given : Given) (map : Vec (RunOf ℕ) Global) (runs : List (RunOf ℕ)) (m : Memblock) → runs ≡ map.items
+    → with_error stop_of (map_judged given) ≡ Ok (made_of given map)
+    → or_stop (carried_out (first_items MAX_PHYSMEM given.kernel given.initrd runs) []) ≡ Ok m.journal.items
+    → MemoryIsMade given map m
+memory_is_made given map runs m same judged carried =
+    let Goes : List (RunOf ℕ) → Type 0 =
+    λ rs. or_stop (carried_out (first_items MAX_PHYSMEM given.kernel given.initrd rs) []) ≡ Ok m.journal.items in
+    record {
+      comes = memory_goes_on given (made_of given map) m.journal.items judged (subst Goes same carried);
+      first = first_made given (made_of given map) m.journal.items judged (subst Goes same carried);
+    }
+
+pub run_stages-requires-clause-first : goal.run_stages-requires-clause-first
+run_stages-requires-clause-first c =
+    let given : Given = inputs_view c.args.inputs.now in
+    let same = claims-told given _ _ _ _ c.in_ok-table.ensures c.deref.ensures.0 c.deref-2.ensures.value c.deref-3.ensures.value in
+    (memory_is_made given c.in_ok-map.map c.deref-4.result.now c.in_ok-memblock.memblock c.deref-4.ensures.value
+    (c.in_ok-map.ensures.answers given same) c.in_ok-memblock.ensures.answers).first
+
+pub returns-in_err-later-clause-boots : goal.returns-in_err-later-clause-boots
+returns-in_err-later-clause-boots c =
+    let given : Given = inputs_view c.args.inputs.now in
+    let same = claims-told given _ _ _ _ c.in_ok-table.ensures c.deref.ensures.0 c.deref-2.ensures.value c.deref-3.ensures.value in
+    let made : Made = made_of given c.in_ok-map.map in
+    let m : Memblock = c.in_ok-memblock.memblock in
+    let p = err_from_is_err_and c.from_residual-in_err-later.result c.from_residual-in_err-later.ensures.1 in
+    stages_stop _ given (begun_with made m) _ c.in_err-later.field-0.0 (p.1 ∙ ap (λ (s : Stop). Err s) p.2)
+    (memory_is_made given c.in_ok-map.map c.deref-4.result.now m c.deref-4.ensures.value (c.in_ok-map.ensures.answers given same)
+    c.in_ok-memblock.ensures.answers).comes
+    (c.in_err-later.ensures.stopped made)
+
+pub hand_over_memory-requires-clause-within : goal.hand_over_memory-requires-clause-within
+hand_over_memory-requires-clause-within c =
+    subst (λ (m : Memblock). NothingFrom (2 ^ 64) (reserved_of (owner_of m.journal.items))) c.memblock.view_is
+    (c.memblock.invariant.kept.ends which.Reserved)
+
+-- what is told, by its parts
+told_by : Given → List (RunOf ℕ) → LaterMade → List Item → Heads → List Span → Frames → Told
+told_by given map later items heads spans free = record {
+  map = map;
+  options = given.options;
+  items = items;
+  heads = heads;
+  nodes = later.nodes;
+  crash = later.crash;
+  sections = later.sections;
+  answers = later.answers;
+  spans = spans;
+  free = free;
+}
+
+pub returns-clause-boots : goal.returns-clause-boots
+unfolding told_by
+returns-clause-boots c =
+    let given : Given = inputs_view c.args.inputs.now in
+    let same = claims-told given _ _ _ _ c.in_ok-table.ensures c.deref.ensures.0 c.deref-2.ensures.value c.deref-3.ensures.value in
+    let made : Made = made_of given c.in_ok-map.map in
+    let map : List (RunOf ℕ) = c.in_ok-map.map.items in
+    let m : Memblock = c.in_ok-memblock.memblock in
+    let last : Memblock = c.run_stages.new.memblock in
+    let later : LaterMade = later_view c.in_ok-later.later in
+    let run = c.in_ok-later.ensures.run made in
+    let comes = (memory_is_made given c.in_ok-map.map c.deref-4.result.now m c.deref-4.ensures.value
+    (c.in_ok-map.ensures.answers given same) c.in_ok-memblock.ensures.answers).comes ∙ run.come in
+    let end = c.in_ok-end.end in
+    let heads : heads_of given.kernel last.journal.items ≡ end.heads =
+    sym (c.in_ok-end.ensures.heads ∙ ap (λ (k : Extent). heads_of k last.journal.items) run.kernel) in
+    let items : last.journal.items ≡ end.journal.items = ap (λ (j : Contents). j.items) (sym c.in_ok-end.ensures.journal) in
+    ap (with_error stop_of) (boot_told given (made_behind (begun_with made m) last later run.ids run.fills) comes
+    ∙ ap (λ (h : Heads). Ok (told_by given map later last.journal.items h (spanned last.journal.items) (handed_over last.journal.items))) heads
+    ∙ ap (λ (ss : List Span). Ok (told_by given map later last.journal.items end.heads ss (handed_over last.journal.items)))
+    (sym c.in_ok-end.ensures.spans)
+    ∙ ap (λ (f : Frames). Ok (told_by given map later last.journal.items end.heads end.spans.items f)) (sym c.in_ok-end.ensures.free)
+    ∙ ap (λ (is : List Item). Ok (told_by given map later is end.heads end.spans.items (free end.buddy))) items)
+
+pub returns-clause-bytes : goal.returns-clause-bytes
+returns-clause-bytes c = λ final ends x. (
+    let given : Given = inputs_view c.args.inputs.now in
+    let same = claims-told given _ _ _ _ c.in_ok-table.ensures c.deref.ensures.0 c.deref-2.ensures.value c.deref-3.ensures.value in
+    let made : Made = made_of given c.in_ok-map.map in
+    let m : Memblock = c.in_ok-memblock.memblock in
+    let last : Memblock = c.run_stages.new.memblock in
+    let run = c.in_ok-later.ensures.run made in
+    let comes = (memory_is_made given c.in_ok-map.map c.deref-4.result.now m c.deref-4.ensures.value
+    (c.in_ok-map.ensures.answers given same) c.in_ok-memblock.ensures.answers).comes ∙ run.come in
+    let behind : Made = made_behind (begun_with made m) last (later_view c.in_ok-later.later) run.ids run.fills in
+    let told : Ok behind ≡ Ok final = sym comes ∙ ends in
+    let is : behind ≡ final = cc in
+    ap (λ (s : List Stored). byte_of s x) c.in_ok-end.ensures.store ∙ run.holds.each x
+    ∙ ap (λ (k : Extent). byte k last.journal.items run.fills x) run.kernel
+    ∙ ap (λ (n : Made). byte given.kernel n.items n.fills x) is)

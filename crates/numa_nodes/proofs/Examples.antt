@@ -1,0 +1,92 @@
+-- Worked examples: which ranges get a node, what that makes of memory, which nodes have memory, and what is asked for their data.
+use Rattle.std.proofs.Common.{◌≡◌, ℕ, true, false, Some, None, [], ◌∷◌, Ok, Err, refl, ap, arith}
+use Rattle.std.specs.List.{Contains}
+use Rattle.memblock_model.specs.declared.which.Which.TheVariants as which
+use Rattle.memblock_model.specs.declared.item.Item.TheVariants as item
+use Rattle.memblock_model.specs.Labels.{Labels, plain_label}
+use Rattle.memblock_model.specs.Items.{memory_of}
+use Rattle.node_hulls.specs.declared.reasons.Why.TheVariants as why
+use Rattle.node_hulls.specs.Hulls.{Block}
+use Rattle.node_hulls.specs.Judgement.{Judgement, unused}
+use Rattle.growth_model.specs.Outcome.{refuse}
+use Rattle.stage_model.specs.declared.stop.StageStop.TheVariants as stop
+use Rattle.stage_model.specs.Doing.{in_turn}
+use Rattle.stage_model.specs.Requests.{carried}
+use Rattle.numa_nodes.specs.Assigned.{given, has_node, is_memory, is_of_node, node_data_request, nodes_from, noded_by, nodes_with_memory, ranges_given, with_data}
+use Rattle.numa_nodes.proofs.ListedLaws.{nodes-listed, nodes-lists}
+use Rattle.numa_nodes.proofs.MemoryLaws.{noded_all}
+
+-- 16 KiB in node 1 and 16 KiB in node 0, and 4 KiB behind them that no block covers
+abbrev low : Block
+low = record { base = 0; size = 0x4000; value = 1 }
+
+abbrev high : Block
+high = record { base = 0x4000; size = 0x4000; value = 0 }
+
+abbrev last : Block
+last = record { base = 0x8000; size = 0x1000; value = 0 }
+
+abbrev two_nodes : Judgement
+two_nodes = record { why = why.Used; domains = 9 ∷ (4 ∷ []); joined = low ∷ (high ∷ []); rest = last ∷ []; uncovered = 1 }
+
+joined_before_rest : ranges_given 0x9000 two_nodes ≡ low ∷ (high ∷ (last ∷ []))
+joined_before_rest = refl
+
+all_below_the_limit : ranges_given 0x9000 (unused why.NoBlocks) ≡ record { base = 0; size = 0x9000; value = 0 } ∷ []
+all_below_the_limit = refl
+
+not_covered_too : ranges_given 0x9000 (unused (why.NotCovered 300)) ≡ record { base = 0; size = 0x9000; value = 0 } ∷ []
+not_covered_too = refl
+
+-- memory gets the nodes, and what isn't memory gets none
+abbrev memory_below : ℕ → Labels
+memory_below end x = memory_of (item.Mem (record { base = 0; size = end }) ∷ []) x
+
+byte_of_each : (noded_all (low ∷ (high ∷ (last ∷ []))) (memory_below 0x9000) 0x3FFF ≡ Some (record { node = Some 1 }))
+    × (noded_all (low ∷ (high ∷ (last ∷ []))) (memory_below 0x9000) 0x4000 ≡ Some (record { node = Some 0 }))
+    × (noded_all (low ∷ (high ∷ (last ∷ []))) (memory_below 0x9000) 0x8FFF ≡ Some (record { node = Some 0 }))
+unfolding noded_all
+byte_of_each = (refl, refl, refl)
+
+no_memory_no_node : noded_all (low ∷ (high ∷ (last ∷ []))) (memory_below 0x8000) 0x8000 ≡ None
+unfolding noded_all
+no_memory_no_node = refl
+
+memory_is : (is_memory (item.Mem (record { base = 0x1000; size = 0x1000 }) ∷ []) 0x1FFF ≡ true)
+    × (is_memory (item.Mem (record { base = 0x1000; size = 0x1000 }) ∷ []) 0x2000 ≡ false)
+memory_is = (refl, refl)
+
+-- a table that finds no place to grow to stops the boot, and then no further range gets its node
+stopped : carried (refuse which.Memory 128) [] ≡ record { steps = []; answer = Err (stop.NoTablePlace which.Memory 128) }
+stopped = refl
+
+nothing_given : in_turn given tt [] (item.Trim ∷ []) ≡ record { steps = []; answer = Ok tt }
+nothing_given = refl
+
+-- memory of node 5, memory of no node yet, and no memory
+of_node_5 : (is_of_node 5 (Some (record { node = Some 5 })) ≡ true) × (is_of_node 4 (Some (record { node = Some 5 })) ≡ false)
+    × (is_of_node 5 (Some plain_label) ≡ false) × (is_of_node 5 None ≡ false)
+of_node_5 = (refl, refl, refl, refl)
+
+-- one byte of it is enough
+one_byte : (f : Labels) → f 0x1234 ≡ Some (record { node = Some 5 }) → Contains (nodes_with_memory f) 5
+one_byte f at = nodes-lists f 5 0x1234 (omega arith) (omega arith) (ap (is_of_node 5) at)
+
+-- a node of number 1,024 is none
+too_high : (f : Labels) → Contains (nodes_with_memory f) 1024 → ⊥
+too_high f listed = let below = (nodes-listed f 1024 listed).0 in absurd (omega (arith, below))
+
+-- of nodes 3, 4 and 5 those that have memory, ascending
+third_and_fifth : (f : Labels) → has_node f 3 ≡ true → has_node f 4 ≡ false → has_node f 5 ≡ true → nodes_from f 3 3 ≡ 3 ∷ (5 ∷ [])
+third_and_fifth f third fourth fifth = rw (third, fourth, fifth) refl
+
+-- what is asked for the data of node 3, and that without nodes nothing is asked
+data_of_node_3 : node_data_request 3
+    ≡ record { size = 176128; align = 64; min = 0; max = None; node = Some 3; exact = false }
+data_of_node_3 = refl
+
+no_data : with_data two_nodes [] [] ≡ record { steps = []; answer = Ok (noded_by two_nodes []) }
+no_data = refl
+
+told : noded_by two_nodes (0 ∷ (1 ∷ [])) ≡ record { why = why.Used; domains = 9 ∷ (4 ∷ []); uncovered = 1; with_memory = 0 ∷ (1 ∷ []) }
+told = refl
