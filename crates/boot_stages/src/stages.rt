@@ -8,6 +8,7 @@ ghost use Rattle.e820_model.specs.Claims.{EndInSpace, HaveTypes};
 ghost use Rattle.e820_model.specs.Map.{claims_of};
 ghost use Rattle.boot_model.specs.Boot.{Given, Made, begin_with, boot, claims, map_judged, told_boot};
 ghost use Rattle.boot_model.specs.View.{booted_view, inputs_view};
+ghost use Rattle.conservation.specs.Headline.{AllTouchedOrInOne, BlocksAreMaximal, BlocksAreWhole, NoOtherInABlock};
 ghost use Rattle.bm_base.specs.Answers.{Answers};
 ghost use Rattle.bm_base.specs.ResultSteps.{with_error};
 ghost use Rattle.boot_model.specs.Stop.{stop_of};
@@ -55,6 +56,10 @@ pub fn boot(alloc: Global, inputs: Inputs) -> Result<Booted, Stop>
     ensures runs { IfOk result (λ booted. AreRuns booted.map.items) }
     ensures memory { IfOk result (λ booted. TableStands which.Memory booted.journal.items booted.store booted.heads.memory) }
     ensures reserved { IfOk result (λ booted. TableStands which.Reserved booted.journal.items booted.store booted.heads.reserved) }
+    ensures each { IfOk result (λ booted. AllTouchedOrInOne (inputs_view inputs) (booted_view booted)) }
+    ensures others { IfOk result (λ booted. NoOtherInABlock (inputs_view inputs) (booted_view booted)) }
+    ensures whole { IfOk result (λ booted. BlocksAreWhole (inputs_view inputs) (booted_view booted)) }
+    ensures maximal { IfOk result (λ booted. BlocksAreMaximal (inputs_view inputs) (booted_view booted)) }
 {
     let Ended { map, later, end } = boot_by(alloc, &inputs)?;
     let Later {

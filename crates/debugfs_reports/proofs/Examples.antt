@@ -6,9 +6,12 @@ use Rattle.boot_options.specs.Crash.{no_crash}
 use Rattle.e820_model.specs.declared.edit.Edit.TheVariants as edits
 use Rattle.memblock_ranges.specs.declared.region.Heads.{Heads}
 use Rattle.early_script.specs.declared.outcome.Outcome.TheVariants as outcomes
-use Rattle.boot_model.specs.Boot.{Told}
+use Rattle.crash_kernel.specs.declared.crash.Crash.TheVariants as crash
+use Rattle.frame_blocks.specs.Frames.{Frames}
+use Rattle.boot_model.specs.Boot.{Told, no_nodes}
+use Rattle.boot_model.specs.Sections.{no_sections}
 use Rattle.debugfs_reports.specs.declared.report.Report.TheVariants as reports
-use Rattle.debugfs_reports.specs.Report.{all_reports, first_named, name_of, report_named, report_text}
+use Rattle.debugfs_reports.specs.Report.{first_named, name_of, report_named, report_text}
 use Rattle.debugfs_reports.specs.ReportList.{are_reports, names_in, part, reports_in, text_of, title}
 
 reserved : RunOf ℕ
@@ -20,13 +23,22 @@ heads = record {
   reserved = record { place = 0x2FFF000; room = 128; count = 0 };
 }
 
+-- no frame is free
+abbrev no_frames : Frames
+no_frames frame = None
+
 made : Told
 made = record {
   map = reserved ∷ [];
   options = record { edits = edits.Clear ∷ []; crash = no_crash; numa_off = true };
   items = [];
   heads = heads;
+  nodes = no_nodes;
+  crash = crash.InUse;
+  sections = no_sections;
   answers = record { line = 2; outcome = outcomes.NoGap } ∷ [];
+  spans = [];
+  free = no_frames;
 }
 
 nothing : Told
@@ -35,14 +47,21 @@ nothing = record {
   options = record { edits = []; crash = no_crash; numa_off = false };
   items = [];
   heads = heads;
+  nodes = no_nodes;
+  crash = crash.Nothing;
+  sections = no_sections;
   answers = [];
+  spans = [];
+  free = no_frames;
 }
 
 text_examples : (report_text reports.Map made ≡ codes "0x0000000007fe0000..0x0000000007ffffff 2 reserved\n")
     × (report_text reports.Options made ≡ codes "clear\nnuma off\n") × (report_text reports.Options nothing ≡ [])
-    × (report_text reports.Script made ≡ codes "2: no gap\n")
+    × (report_text reports.Script made ≡ codes "2: no gap\n") × (report_text reports.Crash made ≡ codes "crash in use\n")
+    × (report_text reports.Nodes made ≡ codes "numa absent\nuncovered 0\n")
+    × (report_text reports.Sections made ≡ codes "roots 0x0000000000000000\n") × (report_text reports.Buddyinfo made ≡ [])
 unfolding made nothing reserved digits
-text_examples = (refl, refl, refl, refl)
+text_examples = (refl, refl, refl, refl, refl, refl, refl, refl)
 
 name_examples : (name_of reports.Map ≡ codes "map") × (report_named (codes "map") ≡ Some reports.Map)
     × (report_named (codes "options") ≡ Some reports.Options) × (report_named (codes "Map") ≡ None) × (report_named [] ≡ None)

@@ -13,21 +13,33 @@ use Rattle.report_texts.specs.OptionsText.{options_text}
 use Rattle.report_texts.specs.OwnersText.{owners_text}
 use Rattle.report_texts.specs.RecordsText.{records_text}
 use Rattle.report_texts.specs.TablesText.{tables_text}
+use Rattle.stage_texts.specs.BlocksText.{blocks_text}
+use Rattle.stage_texts.specs.CrashText.{crash_text}
+use Rattle.stage_texts.specs.NodesText.{nodes_text}
 use Rattle.stage_texts.specs.ScriptText.{script_text}
+use Rattle.stage_texts.specs.SectionsText.{sections_text}
+use Rattle.stage_texts.specs.ZonesText.{buddyinfo_text, zones_text}
 
 abbrev pub name_of : Report → List ℕ
 name_of reports.Map = codes "map"
 name_of reports.Options = codes "options"
+name_of reports.Nodes = codes "nodes"
 name_of reports.Memory = codes "memory"
 name_of reports.Reserved = codes "reserved"
 name_of reports.Owners = codes "owners"
 name_of reports.Journal = codes "journal"
+name_of reports.Crash = codes "crash"
+name_of reports.Sections = codes "sections"
+name_of reports.Zones = codes "zones"
 name_of reports.Script = codes "script"
 name_of reports.Tables = codes "tables"
+name_of reports.Buddyinfo = codes "buddyinfo"
+name_of reports.Blocks = codes "blocks"
 
 abbrev pub all_reports : List Report
 all_reports =
-    reports.Map ∷ reports.Options ∷ reports.Memory ∷ reports.Reserved ∷ reports.Owners ∷ reports.Journal ∷ reports.Script ∷ reports.Tables ∷ []
+    reports.Map ∷ reports.Options ∷ reports.Nodes ∷ reports.Memory ∷ reports.Reserved ∷ reports.Owners ∷ reports.Journal ∷ reports.Crash
+    ∷ reports.Sections ∷ reports.Zones ∷ reports.Script ∷ reports.Tables ∷ reports.Buddyinfo ∷ reports.Blocks ∷ []
 
 -- the first of the reports that has the name
 abbrev pub first_named : List Report → List ℕ → Option Report
@@ -40,9 +52,15 @@ report_named name = first_named all_reports name
 abbrev pub report_text : Report → Told → List ℕ
 report_text reports.Map told = map_text told.map
 report_text reports.Options told = options_text told.options
+report_text reports.Nodes told = nodes_text told.nodes told.items
 report_text reports.Memory told = records_text (records_of which.Memory told.items)
 report_text reports.Reserved told = records_text (records_of which.Reserved told.items)
 report_text reports.Owners told = owners_text (owner_runs_of told.items)
 report_text reports.Journal told = journal_text told.items
+report_text reports.Crash told = crash_text told.crash
+report_text reports.Sections told = sections_text told.sections.roots told.sections.placed
+report_text reports.Zones told = zones_text told.free told.spans
 report_text reports.Script told = script_text told.answers
 report_text reports.Tables told = tables_text told.heads
+report_text reports.Buddyinfo told = buddyinfo_text told.free told.spans
+report_text reports.Blocks told = blocks_text told.free

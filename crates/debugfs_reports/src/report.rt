@@ -9,7 +9,9 @@ ghost use Rattle.debugfs_reports.specs.Stand.{TablesStand};
 use bm_base::Memory;
 use boot_model::Booted;
 use report_texts::{put_journal, put_map, put_options, put_owners, put_records, put_tables};
-use stage_texts::put_script;
+use stage_texts::{
+    put_blocks, put_buddyinfo, put_crash, put_nodes, put_script, put_sections, put_zones,
+};
 use std::alloc::Global;
 
 /// A report of a boot.
@@ -19,6 +21,8 @@ pub enum Report {
     Map,
     /// What the command line asks of the memory set-up.
     Options,
+    /// Whether the firmware's table of domains is used, and which range has which node.
+    Nodes,
     /// The records of `memblock.memory`.
     Memory,
     /// The records of `memblock.reserved`.
@@ -27,10 +31,20 @@ pub enum Report {
     Owners,
     /// What happened to memory, item by item.
     Journal,
+    /// What came of the crash area.
+    Crash,
+    /// Where the roots, maps and usage data of sections lie.
+    Sections,
+    /// What the memory of each node spans in each zone, and how much of it is free.
+    Zones,
     /// What came of each line of the early script.
     Script,
     /// Where both tables lie, and how full they are.
     Tables,
+    /// How many free blocks there are of each order, by node and zone.
+    Buddyinfo,
+    /// Each free block.
+    Blocks,
 }
 
 impl Report {
@@ -41,26 +55,38 @@ impl Report {
         match self {
             Report::Map => "map",
             Report::Options => "options",
+            Report::Nodes => "nodes",
             Report::Memory => "memory",
             Report::Reserved => "reserved",
             Report::Owners => "owners",
             Report::Journal => "journal",
+            Report::Crash => "crash",
+            Report::Sections => "sections",
+            Report::Zones => "zones",
             Report::Script => "script",
             Report::Tables => "tables",
+            Report::Buddyinfo => "buddyinfo",
+            Report::Blocks => "blocks",
         }
     }
 }
 
 /// The reports that there are.
-const REPORTS: [Report; 8] = [
+const REPORTS: [Report; 14] = [
     Report::Map,
     Report::Options,
+    Report::Nodes,
     Report::Memory,
     Report::Reserved,
     Report::Owners,
     Report::Journal,
+    Report::Crash,
+    Report::Sections,
+    Report::Zones,
     Report::Script,
     Report::Tables,
+    Report::Buddyinfo,
+    Report::Blocks,
 ];
 
 /// Whether that is the name of the report.
@@ -103,11 +129,17 @@ pub fn put_report(text: &mut Vec<u8>, report: Report, booted: &Booted) -> Result
     match report {
         Report::Map => put_map(text, &booted.map),
         Report::Options => put_options(text, &booted.options),
+        Report::Nodes => put_nodes(text, &booted.nodes, &booted.journal),
         Report::Memory => put_records(text, &booted.store, &booted.heads.memory),
         Report::Reserved => put_records(text, &booted.store, &booted.heads.reserved),
         Report::Owners => put_owners(text, &booted.journal),
         Report::Journal => put_journal(text, &booted.journal),
+        Report::Crash => put_crash(text, &booted.crash),
+        Report::Sections => put_sections(text, &booted.roots, &booted.placed),
+        Report::Zones => put_zones(text, &booted.spans, &booted.buddy),
         Report::Script => put_script(text, &booted.answers),
         Report::Tables => put_tables(text, &booted.heads),
+        Report::Buddyinfo => put_buddyinfo(text, &booted.spans, &booted.buddy),
+        Report::Blocks => put_blocks(text, &booted.buddy),
     }
 }

@@ -1,0 +1,19 @@
+-- What the definition of the boot makes of each frame, its answer does.
+use Rattle.std.proofs.Common.{Ok}
+use Rattle.boot_model.specs.Stop.{stop_of}
+use Rattle.boot_model.specs.View.{inputs_view}
+use Rattle.conservation.proofs.HeadlineLaws.{all_touched_or_in_one, blocks_maximal, blocks_whole, no_other_in_a_block}
+use Rattle.boot_stages.proofs.MapLaws.{told_ok}
+use Rattle.boot_stages.proofs.stages.boot.Goals as goal
+
+pub returns-clause-each : goal.returns-clause-each
+returns-clause-each c = all_touched_or_in_one (inputs_view c.args.inputs) _ (told_ok stop_of _ _ c.in_ok-map.ensures.boots)
+
+pub returns-clause-others : goal.returns-clause-others
+returns-clause-others c = no_other_in_a_block (inputs_view c.args.inputs) _ (told_ok stop_of _ _ c.in_ok-map.ensures.boots)
+
+pub returns-clause-whole : goal.returns-clause-whole
+returns-clause-whole c = blocks_whole (inputs_view c.args.inputs) _ (told_ok stop_of _ _ c.in_ok-map.ensures.boots)
+
+pub returns-clause-maximal : goal.returns-clause-maximal
+returns-clause-maximal c = blocks_maximal (inputs_view c.args.inputs) _ (told_ok stop_of _ _ c.in_ok-map.ensures.boots)
