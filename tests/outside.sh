@@ -52,6 +52,8 @@ expect 3 'bootmem: cannot read missing' "$work/out" --report map --cmdline missi
 expect 5 'bootmem: zeropage: wrong length' "$work/out" --report map --cmdline missing short
 expect 5 'bootmem: zeropage: too long' "$work/out" --report map long
 expect 5 'bootmem: cmdline: word 1: mem' "$work/out" --report map --cmdline options "$zp"
+expect 5 'bootmem: srat: short' "$work/out" --report map --srat options "$zp"
+expect 5 'bootmem: script: line 1: form' "$work/out" --report map --script options "$zp"
 expect 2 '' "$work/out" --report map "$(printf '\377')"
 if [ -c /dev/full ]; then
 	expect 4 'bootmem: cannot write' /dev/full --report map "$zp"

@@ -9,7 +9,7 @@ ghost use Rattle.growth_model.specs.Sound.{HasBegun};
 ghost use Rattle.stage_model.specs.Noded.{IsNoded};
 ghost use Rattle.buddy_handover.specs.Contents.{free};
 ghost use Rattle.boot_model.specs.Boot.{handed_over, heads_of, spanned};
-ghost use Rattle.boot_stages.specs.Boots.{TableStands};
+ghost use Rattle.boot_stages.specs.Boots.{IsSpelledFree, TableStands};
 
 use bm_base::Memory;
 use boot_journal::Journal;
@@ -43,6 +43,7 @@ pub fn hand_over_memory(alloc: Global, memblock: Memblock) -> Result<End, Memory
     ensures reserved { IfOk result (λ end. TableStands which.Reserved memblock.journal.items end.store end.heads.reserved) }
     ensures spans { IfOk result (λ end. end.spans.items ≡ spanned memblock.journal.items) }
     ensures free { IfOk result (λ end. free end.buddy ≡ handed_over memblock.journal.items) }
+    ensures spelled { IfOk result (λ end. IsSpelledFree end.store end.heads end.buddy) }
 {
     let _tables = memblock.tables();
     let (store, heads, journal) = memblock.into_parts();

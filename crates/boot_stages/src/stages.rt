@@ -19,7 +19,7 @@ ghost use Rattle.growth_model.specs.Bytes.{byte};
 ghost use Rattle.script_reader.specs.Forms.{HasBounds};
 ghost use Rattle.early_script.specs.Stage.{PlaceOnce};
 ghost use Rattle.boot_options.specs.Options.{chosen};
-ghost use Rattle.boot_stages.specs.Boots.{TableStands};
+ghost use Rattle.boot_stages.specs.Boots.{IsSpelledFree, TableStands};
 ghost use Rattle.boot_stages.specs.Ended.{ended_view};
 
 use crate::handover::{End, hand_over_memory};
@@ -56,6 +56,7 @@ pub fn boot(alloc: Global, inputs: Inputs) -> Result<Booted, Stop>
     ensures runs { IfOk result (λ booted. AreRuns booted.map.items) }
     ensures memory { IfOk result (λ booted. TableStands which.Memory booted.journal.items booted.store booted.heads.memory) }
     ensures reserved { IfOk result (λ booted. TableStands which.Reserved booted.journal.items booted.store booted.heads.reserved) }
+    ensures spelled { IfOk result (λ booted. IsSpelledFree booted.store booted.heads booted.buddy) }
     ensures each { IfOk result (λ booted. AllTouchedOrInOne (inputs_view inputs) (booted_view booted)) }
     ensures others { IfOk result (λ booted. NoOtherInABlock (inputs_view inputs) (booted_view booted)) }
     ensures whole { IfOk result (λ booted. BlocksAreWhole (inputs_view inputs) (booted_view booted)) }
@@ -118,6 +119,7 @@ fn boot_by(alloc: Global, inputs: &Inputs) -> Result<Ended, Stop>
         TableStands which.Memory ended.end.journal.items ended.end.store ended.end.heads.memory) }
     ensures reserved { IfOk result (λ ended.
         TableStands which.Reserved ended.end.journal.items ended.end.store ended.end.heads.reserved) }
+    ensures spelled { IfOk result (λ ended. IsSpelledFree ended.end.store ended.end.heads ended.end.buddy) }
 {
     let table = finished_table(
         alloc,

@@ -1,5 +1,4 @@
 -- What the definition of the boot makes of each frame, its answer does.
-use Rattle.std.proofs.Common.{Ok}
 use Rattle.boot_model.specs.Stop.{stop_of}
 use Rattle.boot_model.specs.View.{inputs_view}
 use Rattle.conservation.proofs.HeadlineLaws.{all_touched_or_in_one, blocks_maximal, blocks_whole, no_other_in_a_block}
