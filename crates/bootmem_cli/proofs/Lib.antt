@@ -1,4 +1,5 @@
 mod FirstRun
+pub mod HeadlineLaws
 mod OutcomeExamples
 pub mod RunLaws
 pub mod TellLaws

@@ -13,7 +13,7 @@ use Rattle.boot_model.specs.declared.stop.Stop.TheVariants as stops
 use Rattle.debugfs_reports.specs.declared.report.Report.TheVariants as reports
 use Rattle.bootmem_cli.specs.declared.failure.Reason.TheVariants as reasons
 use Rattle.bootmem_cli.specs.declared.failure.Failure.TheVariants as failures
-use Rattle.bootmem_cli.specs.Words.{Wanted, is_value, is_option, are_good, are_spelled, word_behind, values_of, at_most_one, value_of, named_by, stand_once, name_in, provided, if_reports, list_in, kernel_asked, accepted, name_text}
+use Rattle.bootmem_cli.specs.Words.{Wanted, is_value, is_option, are_good, are_spelled, word_behind, values_of, at_most_one, value_of, named_by, stand_once, name_in, provided, if_reports, list_asked, list_in, kernel_asked, accepted, name_text}
 use Rattle.bootmem_cli.specs.Kernel.{default_kernel, if_kernel, kernel_in, kernel_of}
 use Rattle.bootmem_cli.specs.Status.{refusal_status, reason_status, status_of, status_of_end, failure_by, failure_of_input, failure_of_stop}
 use Rattle.bootmem_cli.specs.Line.{whole_line, entry_line, word_line, numbered_line, offset_line, fault_line, thing_line, place_line, table_line, table_name, cause_line, refusal_line, reason_line, failure_line}
@@ -85,13 +85,15 @@ list_is_told = refl
 kernel_given : option_map (λ wanted. wanted.kernel) (accepted list_words) ≡ Some (record { base = 0x1000000; size = 0x200000 })
 kernel_given = refl
 
--- refused: no word, no report, another report, no name, an option twice, a word behind the name, an option
+-- without a report the free blocks are asked for
+default_report : option_map (λ wanted. wanted.reports) (accepted (codes "zp" ∷ [])) ≡ Some (reports.Buddyinfo ∷ [])
+default_report = refl
+
+-- refused: no word, another report, no name, an option twice, a word behind the name, an option
 -- that there isn't, and a value or a name that looks like an option
 no_words : accepted [] ≡ None
 no_words = refl
 
-no_report : accepted (codes "zp" ∷ []) ≡ None
-no_report = refl
 
 empty_name_in_list : accepted (codes "--report" ∷ codes "map,," ∷ codes "zp" ∷ []) ≡ None
 empty_name_in_list = refl
@@ -185,7 +187,7 @@ if_reports_examples : (if_reports (codes "map,map") ≡ Some (codes "map,map")) 
 if_reports_examples = (refl, refl)
 
 list_examples : (list_in first_words ≡ Some (codes "map")) × (list_in (codes "--report" ∷ codes "Map" ∷ codes "zp" ∷ []) ≡ None)
-    × (list_in (codes "zp" ∷ []) ≡ None)
+    × (list_in (codes "zp" ∷ []) ≡ Some (codes "buddyinfo")) × (list_asked first_words ≡ codes "map")
 list_examples = (refl, refl, refl)
 
 asked_examples : (kernel_asked first_words ≡ Some default_kernel) × (kernel_asked (codes "--kernel" ∷ codes "16M" ∷ codes "zp" ∷ []) ≡ None)

@@ -1,4 +1,5 @@
 pub mod Answers
+pub mod Headline
 pub mod Kernel
 pub mod Line
 pub mod Outcome

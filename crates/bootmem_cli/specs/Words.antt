@@ -82,8 +82,12 @@ name_in words inputs.Script = named_by (codes "--script") words
 abbrev pub if_reports : List ℕ → Option (List ℕ)
 if_reports list = if are_reports list then Some list else None
 
+-- free blocks, where none is asked for
+abbrev pub list_asked : List (List ℕ) → List ℕ
+list_asked words = unwrap_or (named_by (codes "--report") words) (codes "buddyinfo")
+
 abbrev pub list_in : List (List ℕ) → Option (List ℕ)
-list_in words = named_by (codes "--report") words >>= if_reports
+list_in words = if_reports (list_asked words)
 
 -- where the kernel lies
 abbrev pub kernel_asked : List (List ℕ) → Option Extent

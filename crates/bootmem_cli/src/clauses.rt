@@ -8,6 +8,7 @@ ghost use Rattle.bm_io.specs.Told.{AppendsFront};
 ghost use Rattle.boot_inputs.specs.declared.input.Input.{Input};
 ghost use Rattle.bootmem_cli.specs.declared.failure.Failure.{Failure};
 ghost use Rattle.bootmem_cli.specs.Answers.{EndFits, Ends, FailureHasCause, IsFaulty, IsStopped, IsText, RoseFor};
+ghost use Rattle.bootmem_cli.specs.Headline.{IsReported};
 ghost use Rattle.bootmem_cli.specs.Line.{Tells, failure_line};
 ghost use Rattle.bootmem_cli.specs.Outcome.{outcome};
 ghost use Rattle.bootmem_cli.specs.Status.{status_of};
@@ -38,6 +39,11 @@ pub fn run_by_clauses<F: Files, S: Sink, E: Sink>(
     ensures wanting { result ≡ 7 → (out.new ≡ out.old) ⊎ Rose (S.wants out.old) (S.wants out.new) }
     ensures uncounted { result ≡ 0 → ((any : List ℕ) → F.faults files.new any ≡ F.faults files.old any)
         × (S.faults out.new ≡ S.faults out.old) }
+
+    // The headline: after status 0 the text of the one boot that the bytes determine was written, and in it each
+    // usable frame is touched by a claim with a recorded owner or in exactly one block, and no other frame is in any.
+    ensures headline { result ≡ 0 → IfSome (F.holds files.old) (λ held.
+        IsReported (accepted (texts words.now)) held (S.written out.old) (S.written out.new)) }
 
     // Where the files tell what they hold: the status and the output are those of the outcome.
     ensures answers { IfSome (F.holds files.old) (λ held.

@@ -53,11 +53,14 @@ pub fn read_words(words: &[String]) -> Option<Wanted<'_>>
     })
 }
 
+/// The report where none is asked for: the free blocks.
+const DEFAULT_REPORT: &str = "buddyinfo";
+
 /// The list of reports that is asked for; each name in it is a report's.
 fn list_in(words: &[String]) -> Option<&str>
     ensures { option_copied result ≡ list_in (texts words.now) }
 {
-    let list = named_by(words, "--report")?;
+    let list = named_by(words, "--report").unwrap_or(DEFAULT_REPORT);
     if are_reports(list.as_bytes()) {
         Some(list)
     } else {

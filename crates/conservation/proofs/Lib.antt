@@ -1,4 +1,3 @@
-pub mod AnswerLaws
 pub mod ClaimedLaws
 pub mod CountLaws
 mod Examples

@@ -1,4 +1,5 @@
 -- The clauses that speak of the outcome's statuses and of the line, from the record.
+use Rattle.bootmem_cli.proofs.HeadlineLaws.{ran_headline}
 use Rattle.bootmem_cli.proofs.RunLaws.{ran_answers, ran_line, ran_usage}
 use Rattle.bootmem_cli.proofs.clauses.run_by_clauses.Goals as goal
 
@@ -14,3 +15,7 @@ returns-clause-line g c =
 
 pub returns-clause-usage : goal.returns-clause-usage
 returns-clause-usage g c = ran_usage _ _ _ c.run.ensures.0 _ c.run.ensures.1 c.run.ensures.2.cause
+
+pub returns-clause-headline : goal.returns-clause-headline
+returns-clause-headline g c =
+    let ran = c.run.ensures.2 in ran_headline _ _ c.run.ensures.0 _ _ _ c.run.ensures.1 ran.said
