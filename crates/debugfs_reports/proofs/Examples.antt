@@ -1,18 +1,31 @@
 -- Small reports and lists of them, by computing.
-use Rattle.std.proofs.Common.{◌≡◌, ℕ, true, false, [], ◌∷◌, codes, Some, None, refl}
+use Rattle.std.proofs.Common.{◌≡◌, ℕ, ◌-◌, ◌^◌, nat_le, nat_lt, ◌&&◌, if◌then◌else◌, true, false, List, [], ◌∷◌, ◌++◌, codes, Some, None, refl, ◌∙◌, ap, arith}
+use Rattle.std.proofs.lemmas.Bool.Decides.{nat_tests}
 use Rattle.std.specs.Fmt.{digits}
-use Rattle.address_runs.specs.Runs.{RunOf}
+use Rattle.bm_base.proofs.EachLaws.{each_in-same}
+use Rattle.bm_base.specs.Each.{each_from, each_in}
+use Rattle.bm_base.specs.Frames.{bytes_of_frame}
+use Rattle.bm_base.specs.declared.zone.Zone.TheVariants as zone
+use Rattle.address_runs.specs.Runs.{RunOf, value_at}
+use Rattle.e820_model.specs.Usable.{is_memory, reachable, usable_frames}
+use Rattle.e820_model.proofs.UsableLaws.{count_frames_between, count_same, memory_reached, usable_count}
 use Rattle.boot_options.specs.Crash.{no_crash}
 use Rattle.e820_model.specs.declared.edit.Edit.TheVariants as edits
 use Rattle.memblock_ranges.specs.declared.region.Heads.{Heads}
 use Rattle.early_script.specs.declared.outcome.Outcome.TheVariants as outcomes
 use Rattle.crash_kernel.specs.declared.crash.Crash.TheVariants as crash
+use Rattle.frame_blocks.specs.declared.block.Block.{Block}
 use Rattle.frame_blocks.specs.Frames.{Frames}
+use Rattle.frame_blocks.specs.Listed.{are_free, blocks_from, blocks_of, order_up_to}
+use Rattle.frame_blocks.proofs.ListLaws.{from-append, from-block, from-none, not_first-bare}
+use Rattle.boot_model.specs.declared.limit.TheConstants.{MAX_PHYSMEM}
 use Rattle.boot_model.specs.Boot.{Told, no_nodes}
 use Rattle.boot_model.specs.Sections.{no_sections}
+use Rattle.stage_texts.specs.SummaryText.{summary_text}
 use Rattle.debugfs_reports.specs.declared.report.Report.TheVariants as reports
 use Rattle.debugfs_reports.specs.Report.{first_named, name_of, report_named, report_text}
 use Rattle.debugfs_reports.specs.ReportList.{are_reports, names_in, part, reports_in, text_of, title}
+use Rattle.debugfs_reports.specs.Summary.{frames_in, fullness_of, summary_of}
 
 reserved : RunOf ℕ
 reserved = record { base = 0x7FE0000; size = 0x20000; value = 2 }
@@ -111,11 +124,91 @@ no_reports = refl
 -- each report has a name, and its name finds it
 all_are_named : (report_named (codes "memory") ≡ Some reports.Memory) × (report_named (codes "reserved") ≡ Some reports.Reserved)
     × (report_named (codes "owners") ≡ Some reports.Owners) × (report_named (codes "journal") ≡ Some reports.Journal)
-    × (report_named (codes "tables") ≡ Some reports.Tables)
-all_are_named = (refl, refl, refl, refl, refl)
+    × (report_named (codes "tables") ≡ Some reports.Tables) × (report_named (codes "summary") ≡ Some reports.Summary)
+all_are_named = (refl, refl, refl, refl, refl, refl)
 
 -- both tables where they lie at first
 first_tables : report_text reports.Tables made
     ≡ codes "memory place 0x0000000002ffe000 room 128 records 0\nreserved place 0x0000000002fff000 room 128 records 0\n"
 unfolding made reserved digits
 first_tables = refl
+
+-- a block of the greatest order and one of order 3
+block : ℕ → ℕ → Block
+block order first = record { order = order; first = first; node = 0; zone = zone.Dma32 }
+
+frames_examples : (frames_in [] ≡ 0) × (frames_in (block 10 0x2000 ∷ block 3 0x2400 ∷ []) ≡ 1032)
+unfolding block
+frames_examples = (refl, refl)
+
+fullness_example : fullness_of (record { place = 0x2FFF000; room = 128; count = 17 }) ≡ record { records = 17; room = 128 }
+fullness_example = refl
+
+-- six frames of RAM, of which the last two are free: a block of order 1
+six_frames : RunOf ℕ
+six_frames = record { base = 0; size = 0x6000; value = 1 }
+
+abbrev pair : Frames
+pair frame = if nat_le 4 frame && nat_lt frame 6 then Some 0 else None
+
+pair_order : order_up_to pair 4 0 10 ≡ 1
+unfolding order_up_to are_free each_in each_from
+pair_order = refl
+
+abbrev pair_block : Block
+pair_block = record { order = 1; first = 4; node = 0; zone = zone.Dma }
+
+pair_blocks : blocks_of pair ≡ pair_block ∷ []
+unfolding blocks_of
+pair_blocks =
+    let front : blocks_from pair 0 4 ≡ [] = from-none pair 0 4 (λ y above below. not_first-bare pair y (grind (arith, nat_tests))) in
+    let middle : blocks_from pair 4 2 ≡ pair_block ∷ [] = from-block pair 1 4 0 (omega arith) refl pair_order refl in
+    let back : blocks_from pair 6 (2 ^ 40 - 6) ≡ [] =
+    from-none pair 6 (2 ^ 40 - 6) (λ y above below. not_first-bare pair y (grind (arith, nat_tests))) in
+    from-append pair 0 4 (2 ^ 40 - 4) ∙ ap (λ (bs : List Block). bs ++ blocks_from pair 4 (2 ^ 40 - 4)) front
+    ∙ from-append pair 4 2 (2 ^ 40 - 6) ∙ ap (λ (bs : List Block). bs ++ blocks_from pair 6 (2 ^ 40 - 6)) middle
+    ∙ ap (λ (bs : List Block). pair_block ∷ bs) back
+
+small : Told
+small = record {
+  map = six_frames ∷ reserved ∷ [];
+  options = record { edits = []; crash = no_crash; numa_off = false };
+  items = [];
+  heads = record {
+    memory = record { place = 0x2FFE000; room = 128; count = 1 };
+    reserved = record { place = 0x2FFF000; room = 256; count = 2 };
+  };
+  nodes = no_nodes;
+  crash = crash.Nothing;
+  sections = no_sections;
+  answers = [];
+  spans = [];
+  free = pair;
+}
+
+-- the second run of that map isn't memory
+small_memory : (x : ℕ) → is_memory (reachable MAX_PHYSMEM (value_at (six_frames ∷ reserved ∷ [])) x) ≡ (nat_le 0 x && nat_lt x 0x6000)
+unfolding six_frames reserved
+small_memory x = memory_reached MAX_PHYSMEM (value_at (six_frames ∷ reserved ∷ [])) x ∙ grind (arith, nat_tests)
+
+small_usable : usable_frames (reachable MAX_PHYSMEM (value_at (six_frames ∷ reserved ∷ []))) ≡ 6
+small_usable =
+    usable_count (reachable MAX_PHYSMEM (value_at (six_frames ∷ reserved ∷ [])))
+    ∙ count_same _ _ (2 ^ 52) (λ frame low. each_in-same (bytes_of_frame frame) _ _ (λ x from below. small_memory x))
+    ∙ count_frames_between 0 0x6000 (2 ^ 52)
+
+small_summary : summary_of small ≡ record {
+  runs = 2;
+  usable = 6;
+  free = 2;
+  memory = record { records = 1; room = 128 };
+  reserved = record { records = 2; room = 256 };
+  blocks = 1;
+}
+unfolding small
+small_summary = rw (small_usable, pair_blocks) refl
+
+small_text : report_text reports.Summary small
+    ≡ codes "runs 2\nusable 6\nfree 2\nmemory records 1 room 128\nreserved records 2 room 256\nblocks 1\n"
+unfolding digits
+small_text = ap summary_text small_summary

@@ -1,2 +1,3 @@
 mod Examples
 pub mod ListLaws
+pub mod SummaryLaws

@@ -1,3 +1,4 @@
 pub mod Report
 pub mod ReportList
 pub mod Stand
+pub mod Summary

@@ -4,6 +4,7 @@ use Rattle.std.specs.Str.{bytes_eq}
 use Rattle.boot_model.specs.Boot.{Told}
 use Rattle.debugfs_reports.specs.declared.report.Report.{Report}
 use Rattle.debugfs_reports.specs.declared.report.Report.TheVariants as reports
+use Rattle.debugfs_reports.specs.Summary.{summary_of}
 use Rattle.memblock_model.specs.declared.which.Which.TheVariants as which
 use Rattle.memblock_model.specs.Items.{owner_runs_of}
 use Rattle.memblock_model.specs.Tables.{records_of}
@@ -18,6 +19,7 @@ use Rattle.stage_texts.specs.CrashText.{crash_text}
 use Rattle.stage_texts.specs.NodesText.{nodes_text}
 use Rattle.stage_texts.specs.ScriptText.{script_text}
 use Rattle.stage_texts.specs.SectionsText.{sections_text}
+use Rattle.stage_texts.specs.SummaryText.{summary_text}
 use Rattle.stage_texts.specs.ZonesText.{buddyinfo_text, zones_text}
 
 abbrev pub name_of : Report → List ℕ
@@ -35,11 +37,13 @@ name_of reports.Script = codes "script"
 name_of reports.Tables = codes "tables"
 name_of reports.Buddyinfo = codes "buddyinfo"
 name_of reports.Blocks = codes "blocks"
+name_of reports.Summary = codes "summary"
 
 abbrev pub all_reports : List Report
 all_reports =
     reports.Map ∷ reports.Options ∷ reports.Nodes ∷ reports.Memory ∷ reports.Reserved ∷ reports.Owners ∷ reports.Journal ∷ reports.Crash
-    ∷ reports.Sections ∷ reports.Zones ∷ reports.Script ∷ reports.Tables ∷ reports.Buddyinfo ∷ reports.Blocks ∷ []
+    ∷ reports.Sections ∷ reports.Zones ∷ reports.Script ∷ reports.Tables ∷ reports.Buddyinfo ∷ reports.Blocks
+    ∷ reports.Summary ∷ []
 
 -- the first of the reports that has the name
 abbrev pub first_named : List Report → List ℕ → Option Report
@@ -64,3 +68,4 @@ report_text reports.Script told = script_text told.answers
 report_text reports.Tables told = tables_text told.heads
 report_text reports.Buddyinfo told = buddyinfo_text told.free told.spans
 report_text reports.Blocks told = blocks_text told.free
+report_text reports.Summary told = summary_text (summary_of told)

@@ -3,7 +3,8 @@
 //! A report is a text of lines, in the manner of the files below `/sys/kernel/debug`. [`Report`] names
 //! those that there are, [`report_named`] finds one by its name, and [`render`] gives its text, which
 //! is that of the definition (`report_text` of `specs/Report.antt`). The lines are those of
-//! `report_texts` and `stage_texts`, so a report is here a name and one call.
+//! `report_texts` and `stage_texts`, so a report is here a name and one call. The summary alone is counted here: [`summary_of`] makes its
+//! numbers of what the boot made (`specs/Summary.antt`).
 //!
 //! A list of reports is spelled as names with a comma between each two, and a name may stand twice:
 //! [`are_reports`] tells whether each name is a report's, and takes no memory, so that a list can be
@@ -17,7 +18,9 @@
 
 mod list;
 mod report;
+mod summary;
 
 pub use boot_model::Booted;
 pub use list::{are_reports, render_all, reports_in};
 pub use report::{Report, render, report_named};
+pub use summary::summary_of;

@@ -2,6 +2,7 @@
 
 ghost use Rattle.std.specs.Prelude.{◌≡◌, ◌++◌, IfOk, OnOk, length, map, nat_lt};
 ghost use Rattle.std.specs.List.{flat_map};
+ghost use Rattle.address_runs.specs.Runs.{AreRuns};
 ghost use Rattle.boot_model.specs.View.{booted_view};
 ghost use Rattle.debugfs_reports.specs.Stand.{TablesStand};
 ghost use Rattle.debugfs_reports.specs.ReportList.{are_reports, part, reports_in, text_of, title};
@@ -50,7 +51,8 @@ pub fn render_all(
     reports: &[Report],
     booted: &Booted,
 ) -> Result<Vec<Vec<u8>>, Memory>
-    requires { TablesStand booted.now }
+    requires tables { TablesStand booted.now }
+    requires runs { AreRuns booted.now.map.items }
     ensures each { IfOk result (λ texts. map (λ text. text.items) texts.items
         ≡ map (part (nat_lt 1 (length reports.now)) (booted_view booted.now)) reports.now) }
     ensures whole { IfOk result (λ texts. flat_map (λ text. text.items) texts.items
@@ -71,7 +73,8 @@ fn render_part(
     several: bool,
     booted: &Booted,
 ) -> Result<Vec<u8>, Memory>
-    requires { TablesStand booted.now }
+    requires tables { TablesStand booted.now }
+    requires runs { AreRuns booted.now.map.items }
     ensures { IfOk result (λ text. text.items ≡ part several (booted_view booted.now) report) }
 {
     let mut text = Vec::new(alloc);

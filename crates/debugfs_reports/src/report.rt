@@ -2,15 +2,18 @@
 
 ghost use Rattle.std.specs.Prelude.{◌≡◌, ◌++◌, IfOk, OnOk};
 ghost use Rattle.std.specs.Str.{bytes_eq};
+ghost use Rattle.address_runs.specs.Runs.{AreRuns};
 ghost use Rattle.boot_model.specs.View.{booted_view};
 ghost use Rattle.debugfs_reports.specs.Report.{name_of, report_named, report_text};
 ghost use Rattle.debugfs_reports.specs.Stand.{TablesStand};
 
+use crate::summary::summary_of;
 use bm_base::Memory;
 use boot_model::Booted;
 use report_texts::{put_journal, put_map, put_options, put_owners, put_records, put_tables};
 use stage_texts::{
-    put_blocks, put_buddyinfo, put_crash, put_nodes, put_script, put_sections, put_zones,
+    put_blocks, put_buddyinfo, put_crash, put_nodes, put_script, put_sections, put_summary,
+    put_zones,
 };
 use std::alloc::Global;
 
@@ -45,6 +48,8 @@ pub enum Report {
     Buddyinfo,
     /// Each free block.
     Blocks,
+    /// How much there is of everything.
+    Summary,
 }
 
 impl Report {
@@ -67,12 +72,13 @@ impl Report {
             Report::Tables => "tables",
             Report::Buddyinfo => "buddyinfo",
             Report::Blocks => "blocks",
+            Report::Summary => "summary",
         }
     }
 }
 
 /// The reports that there are.
-const REPORTS: [Report; 14] = [
+const REPORTS: [Report; 15] = [
     Report::Map,
     Report::Options,
     Report::Nodes,
@@ -87,6 +93,7 @@ const REPORTS: [Report; 14] = [
     Report::Tables,
     Report::Buddyinfo,
     Report::Blocks,
+    Report::Summary,
 ];
 
 /// Whether that is the name of the report.
@@ -110,9 +117,11 @@ pub fn report_named(name: &[u8]) -> Option<Report>
     None
 }
 
-/// The text of a report. The records of both tables stand in the boot's bytes, where its heads tell.
+/// The text of a report. The records of both tables stand in the boot's bytes, where its heads tell, and
+/// the runs of its map ascend, as [`summary_of`] asks.
 pub fn render(alloc: Global, report: Report, booted: &Booted) -> Result<Vec<u8>, Memory>
-    requires { TablesStand booted.now }
+    requires tables { TablesStand booted.now }
+    requires runs { AreRuns booted.now.map.items }
     ensures { IfOk result (λ text. text.items ≡ report_text report (booted_view booted.now)) }
 {
     let mut text = Vec::new(alloc);
@@ -122,7 +131,8 @@ pub fn render(alloc: Global, report: Report, booted: &Booted) -> Result<Vec<u8>,
 
 /// Appends the text of a report.
 pub fn put_report(text: &mut Vec<u8>, report: Report, booted: &Booted) -> Result<(), Memory>
-    requires { TablesStand booted.now }
+    requires tables { TablesStand booted.now }
+    requires runs { AreRuns booted.now.map.items }
     ensures { OnOk result (text.new.items
         ≡ text.old.items ++ report_text report (booted_view booted.now)) }
 {
@@ -141,5 +151,6 @@ pub fn put_report(text: &mut Vec<u8>, report: Report, booted: &Booted) -> Result
         Report::Tables => put_tables(text, &booted.heads),
         Report::Buddyinfo => put_buddyinfo(text, &booted.spans, &booted.buddy),
         Report::Blocks => put_blocks(text, &booted.buddy),
+        Report::Summary => put_summary(text, &summary_of(booted)?),
     }
 }

@@ -1,0 +1,32 @@
+-- What a boot comes to in numbers: of the map, of the two tables, and of what is free in the end.
+use Rattle.std.specs.Prelude.{ℕ, ◌^◌, List, length}
+use Rattle.std.specs.List.{sum_by}
+use Rattle.address_runs.specs.Runs.{value_at}
+use Rattle.e820_model.specs.Usable.{reachable, usable_frames}
+use Rattle.frame_blocks.specs.declared.block.Block.{Block}
+use Rattle.frame_blocks.specs.Listed.{blocks_of}
+use Rattle.memblock_ranges.specs.declared.region.Head.{Head}
+use Rattle.stage_texts.specs.declared.summary.Fullness.{Fullness}
+use Rattle.stage_texts.specs.declared.summary.Summary.{Summary}
+use Rattle.boot_model.specs.declared.limit.TheConstants.{MAX_PHYSMEM}
+use Rattle.boot_model.specs.Boot.{Told}
+
+-- how many frames these blocks have: one of an order has 2^order
+abbrev pub frames_in : List Block → ℕ
+frames_in blocks = sum_by (λ b. 2 ^ b.order) blocks
+
+-- how full a table is (`cnt` and `max` of `struct memblock_type`)
+abbrev pub fullness_of : Head → Fullness
+fullness_of head = record { records = head.count; room = head.room }
+
+-- usable are the frames of the map as far as the kernel's tables of memory reach (`e820__memblock_setup`), free those that the page
+-- allocator has (`memblock_free_all`)
+abbrev pub summary_of : Told → Summary
+summary_of told = record {
+  runs = length told.map;
+  usable = usable_frames (reachable MAX_PHYSMEM (value_at told.map));
+  free = frames_in (blocks_of told.free);
+  memory = fullness_of told.heads.memory;
+  reserved = fullness_of told.heads.reserved;
+  blocks = length (blocks_of told.free);
+}

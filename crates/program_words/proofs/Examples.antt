@@ -1,0 +1,207 @@
+-- Small command lines and their parts, computed.
+use Rattle.std.proofs.Common.{◌≡◌, ℕ, true, false, List, [], ◌∷◌, codes, Option, Some, None, refl}
+use Rattle.std.specs.Option.{option_map}
+use Rattle.clap.specs.Words.{matches_of}
+use Rattle.clap.proofs.OnLiterals.{clap_on_literals}
+use Rattle.bm_base.specs.Extent.{Extent}
+use Rattle.boot_inputs.specs.declared.input.Input.TheVariants as inputs
+use Rattle.debugfs_reports.specs.declared.report.Report.{Report}
+use Rattle.debugfs_reports.specs.declared.report.Report.TheVariants as reports
+use Rattle.program_words.specs.Entries.{are_digits, are_entries, entries_in, entries_of}
+use Rattle.program_words.specs.Grammar.{is_taken, program}
+use Rattle.program_words.specs.Kernel.{default_kernel, if_kernel, kernel_in, kernel_of}
+use Rattle.program_words.specs.Spelling.{Piece, apart, argument_in, dashed, given_by, is_option, is_plain, joined, named, spelled, text_in, words_of}
+use Rattle.program_words.specs.Words.{Values, Wanted, accepted, argument_of, asked_by, has_source, list_asked, list_in, name_in, provided, value_in}
+
+-- what words ask for, apart from the names of files by input
+record Asked : Type 0 where
+  zero_page : Option (List ℕ)
+  extension : Option (List ℕ)
+  command_line : Option (List ℕ)
+  srat : Option (List ℕ)
+  script : Option (List ℕ)
+  kernel : Extent
+  reports : List Report
+  made : Option ℕ
+
+abbrev seen : Wanted → Asked
+seen wanted = record {
+  zero_page = wanted.named inputs.ZeroPage;
+  extension = wanted.named inputs.Extension;
+  command_line = wanted.named inputs.CommandLine;
+  srat = wanted.named inputs.Srat;
+  script = wanted.named inputs.Script;
+  kernel = wanted.kernel;
+  reports = wanted.reports;
+  made = wanted.made;
+}
+
+abbrev asked : List (List ℕ) → Option Asked
+asked words = option_map seen (accepted words)
+
+abbrev map_of_zp : Asked
+map_of_zp = record {
+  zero_page = Some (codes "zp");
+  extension = None;
+  command_line = None;
+  srat = None;
+  script = None;
+  kernel = default_kernel;
+  reports = reports.Map ∷ [];
+  made = None;
+}
+
+-- `bootmem --report map zp`, and the same with the name in front and the value behind `=`
+first_words : asked (codes "--report" ∷ codes "map" ∷ codes "zp" ∷ []) ≡ Some map_of_zp
+unfolding program clap_on_literals
+first_words = refl
+
+name_first : asked (codes "zp" ∷ codes "--report=map" ∷ []) ≡ Some map_of_zp
+unfolding program clap_on_literals
+name_first = refl
+
+-- the name alone: the report that is given where none is asked for
+name_alone : asked (codes "zp" ∷ []) ≡ Some (record map_of_zp { reports = reports.Buddyinfo ∷ [] })
+unfolding program clap_on_literals
+name_alone = refl
+
+-- every option, in two forms
+all_words : asked (codes "--cmdline=-c" ∷ codes "--kernel" ∷ codes "16M,0x200000" ∷ codes "--script" ∷ codes "s" ∷ codes "zp" ∷
+    codes "--e820ext" ∷ codes "e" ∷
+    codes "--srat=t" ∷
+    codes "--report=map,options,map" ∷
+    []) ≡ Some (record {
+      zero_page = Some (codes "zp");
+      extension = Some (codes "e");
+      command_line = Some (codes "-c");
+      srat = Some (codes "t");
+      script = Some (codes "s");
+      kernel = record { base = 0x1000000; size = 0x200000 };
+      reports = reports.Map ∷ reports.Options ∷ reports.Map ∷ [];
+      made = None;
+    })
+unfolding program clap_on_literals
+all_words = refl
+
+-- a made table in place of a zero page
+made_words : asked (codes "--make" ∷ codes "007" ∷ codes "--report" ∷ codes "map" ∷ [])
+    ≡ Some (record map_of_zp { zero_page = None; made = Some 7 })
+unfolding program clap_on_literals
+made_words = refl
+
+-- behind `--` a word is a name
+name_behind_the_end : asked (codes "--report=map" ∷ codes "--" ∷ codes "-zp" ∷ [])
+    ≡ Some (record map_of_zp { zero_page = Some (codes "-zp") })
+unfolding program clap_on_literals
+name_behind_the_end = refl
+
+-- refused by the command: an option twice, an option without a value, a value with a hyphen in a word of its own, two names, an option
+-- that there isn't, one in short
+refused_by_the_command : (is_taken (codes "--report=map" ∷ codes "--report=map" ∷ codes "zp" ∷ []) ≡ false)
+    × (is_taken (codes "zp" ∷ codes "--report" ∷ []) ≡ false)
+    × (is_taken (codes "--cmdline" ∷ codes "-c" ∷ codes "zp" ∷ []) ≡ false)
+    × (is_taken (codes "zp" ∷ codes "zp" ∷ []) ≡ false)
+    × (is_taken (codes "--help" ∷ []) ≡ false)
+    × (is_taken (codes "--rep" ∷ codes "map" ∷ codes "zp" ∷ []) ≡ false)
+unfolding program clap_on_literals
+refused_by_the_command = (refl, refl, refl, refl, refl, refl)
+
+-- the command takes these, and what they ask for is refused: neither a zero page nor a number, both, an extension beside a number, an
+-- empty list, a kernel below the first MiB
+refused_for_what_they_ask : (is_taken [] ≡ true) × (accepted [] ≡ None)
+    × (accepted (codes "--make=5" ∷ codes "--report=map" ∷ codes "zp" ∷ []) ≡ None)
+    × (accepted (codes "--make=5" ∷ codes "--report=map" ∷ codes "--e820ext=e" ∷ []) ≡ None)
+    × (accepted (codes "--report=" ∷ codes "zp" ∷ []) ≡ None)
+    × (accepted (codes "--report=map" ∷ codes "--kernel=0xFF000,0x2000000" ∷ codes "zp" ∷ []) ≡ None)
+unfolding program clap_on_literals
+refused_for_what_they_ask = (refl, refl, refl, refl, refl, refl)
+
+-- ---- the parts
+
+taken_examples : (is_taken (codes "--script" ∷ codes "" ∷ []) ≡ true) × (is_taken (codes "--script" ∷ []) ≡ false)
+unfolding program clap_on_literals
+taken_examples = (refl, refl)
+
+argument_examples : (argument_of inputs.ZeroPage ≡ codes "ZEROPAGE") × (argument_of inputs.Extension ≡ codes "e820ext")
+argument_examples = (refl, refl)
+
+found_examples : (value_in (matches_of program (codes "--script" ∷ codes "s" ∷ codes "zp" ∷ [])) (codes "script") ≡ Some (codes "s"))
+    × (name_in (value_in (matches_of program (codes "zp" ∷ []))) inputs.ZeroPage ≡ Some (codes "zp"))
+    × (value_in (matches_of program (codes "zp" ∷ [])) (codes "script") ≡ None)
+unfolding program clap_on_literals
+found_examples = (refl, refl, refl)
+
+-- values by pairs: a number and an extension, a zero page and an extension, an extension alone
+abbrev with_number : Values
+with_number = given_by (apart (codes "make") (codes "5") ∷ joined (codes "e820ext") (codes "e") ∷ [])
+
+abbrev with_both : Values
+with_both = given_by (named (codes "zp") ∷ apart (codes "e820ext") (codes "e") ∷ apart (codes "report") (codes "map") ∷ [])
+
+abbrev with_extension : Values
+with_extension = given_by (apart (codes "e820ext") (codes "e") ∷ [])
+
+source_examples : (has_source with_number ≡ false) × (has_source with_both ≡ true) × (has_source with_extension ≡ false)
+source_examples = (refl, refl, refl)
+
+list_examples : (list_asked with_both ≡ codes "map") × (list_in with_both ≡ Some (codes "map"))
+    × (list_asked with_extension ≡ codes "buddyinfo")
+    × (list_in (given_by (joined (codes "report") (codes "Map") ∷ [])) ≡ None)
+list_examples = (refl, refl, refl, refl)
+
+by_examples : (option_map (λ wanted. wanted.named inputs.Extension) (asked_by with_both) ≡ Some (Some (codes "e")))
+    × (asked_by with_number ≡ None)
+by_examples = (refl, refl)
+
+provided_examples : (provided true ≡ Some tt) × (provided false ≡ None)
+provided_examples = (refl, refl)
+
+-- decimal digits alone, leading zeros among them, from 2 to 3,000
+digit_examples : (are_digits (codes "0123456789") ≡ true) × (are_digits [] ≡ true) × (are_digits (codes "+5") ≡ false)
+    × (are_digits (codes "0x5") ≡ false)
+digit_examples = (refl, refl, refl, refl)
+
+bound_examples : (are_entries 1 ≡ false) × (are_entries 2 ≡ true) × (are_entries 3000 ≡ true) × (are_entries 3001 ≡ false)
+bound_examples = (refl, refl, refl, refl)
+
+entry_examples : (entries_in (codes "2") ≡ Some 2) × (entries_in (codes "0003000") ≡ Some 3000) × (entries_in (codes "3001") ≡ None)
+    × (entries_in (codes "4294967298") ≡ None) × (entries_in [] ≡ None) × (entries_in (codes "5 ") ≡ None)
+entry_examples = (refl, refl, refl, refl, refl, refl)
+
+made_examples : (entries_of None ≡ Some None) × (entries_of (Some (codes "5")) ≡ Some (Some 5)) × (entries_of (Some (codes "1")) ≡ None)
+made_examples = (refl, refl, refl)
+
+-- the least image, and the last one; one frame too few, half a frame, and a frame too far
+image_examples : (kernel_in (codes "1M,8K") ≡ Some (record { base = 0x100000; size = 8192 }))
+    × (kernel_in (codes "0x3FFFFFFFE000,8192") ≡ Some (record { base = 0x3FFFFFFFE000; size = 8192 }))
+    × (kernel_in (codes "1M,4K") ≡ None) × (kernel_in (codes "0x100800,32M") ≡ None) × (kernel_in (codes "0x3FFFFFFFF000,8192") ≡ None)
+image_examples = (refl, refl, refl, refl, refl)
+
+-- one comma, and a size on each side of it that takes all that stands there
+comma_examples : (kernel_in (codes "16M") ≡ None) × (kernel_in (codes "16M,32M,") ≡ None) × (kernel_in (codes " 16M,32M") ≡ None)
+    × (kernel_in (codes "16M,") ≡ None) × (kernel_in (codes "16E,32M") ≡ None)
+comma_examples = (refl, refl, refl, refl, refl)
+
+kernel_examples : (kernel_of None ≡ Some default_kernel) × (kernel_of (Some (codes "0x1000000,0x2000000")) ≡ Some default_kernel)
+    × (if_kernel (record { base = 0; size = 0x2000000 }) ≡ None)
+kernel_examples = (refl, refl, refl)
+
+-- spelling
+abbrev three_pieces : List Piece
+three_pieces = apart (codes "report") (codes "map") ∷ named (codes "zp") ∷ joined (codes "script") (codes "-s") ∷ []
+
+spelled_examples : (dashed (codes "make") ≡ codes "--make") × (words_of (joined (codes "make") []) ≡ codes "--make=" ∷ [])
+    × (spelled three_pieces ≡ codes "--report" ∷ codes "map" ∷ codes "zp" ∷ codes "--script=-s" ∷ [])
+spelled_examples = (refl, refl, refl)
+
+word_examples : (is_plain (codes "z-p") ≡ true) × (is_plain [] ≡ true) × (is_plain (codes "-") ≡ false)
+    × (is_option (codes "kernel") ≡ true) × (is_option (codes "ZEROPAGE") ≡ false)
+word_examples = (refl, refl, refl, refl, refl)
+
+piece_examples : (argument_in (named (codes "zp")) ≡ codes "ZEROPAGE") × (argument_in (apart (codes "make") (codes "5")) ≡ codes "make")
+    × (text_in (named (codes "zp")) ≡ codes "zp") × (text_in (joined (codes "make") (codes "5")) ≡ codes "5")
+piece_examples = (refl, refl, refl, refl)
+
+value_examples : (given_by three_pieces (codes "script") ≡ Some (codes "-s")) × (given_by three_pieces (codes "kernel") ≡ None)
+    × (given_by three_pieces (codes "ZEROPAGE") ≡ Some (codes "zp"))
+value_examples = (refl, refl, refl)

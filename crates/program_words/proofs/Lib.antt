@@ -1,0 +1,6 @@
+pub mod EntryLaws
+mod Examples
+pub mod GrammarLaws
+pub mod KnownLaws
+pub mod MatchedLaws
+pub mod SpellingLaws

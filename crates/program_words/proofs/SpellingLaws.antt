@@ -1,0 +1,290 @@
+-- The walk over words that are spelled as pieces: it stands between two pieces with one value waiting at most, settles it at the next
+-- word, and ends with a row for each piece.
+use Rattle.std.proofs.Common.{◌≡◌, ℕ, Bool, true, false, ◌&&◌, ◌||◌, List, [], ◌∷◌, ◌++◌, Some, None, refl, inl, inr, sym, ap, map, ◌∙◌, if◌then◌else◌}
+use Rattle.std.specs.Prelude.{◌⊎◌, fold}
+use Rattle.std.specs.Str.{bytes_eq}
+use Rattle.std.proofs.lemmas.List.{append-nil, append_assoc}
+use Rattle.std.proofs.lemmas.Slice.Eq.{bytes_eq-Decides}
+use Rattle.clap.specs.Faults.{settle_fault, turn_fault, walk_fault}
+use Rattle.clap.specs.Walk.{Held, Row, Walk, has_row, idle, is_pending, option, reading_by, settled, settled_rows, used, walked, with_values, without}
+use Rattle.clap.specs.declared.parser.matches.ValueSource.TheVariants.{CommandLine}
+use Rattle.program_words.specs.Spelling.{ArePieces, IsPiece, Piece, apart, argument_in, dashed, given_by, joined, named, spelled, text_in, words_of}
+use Rattle.program_words.proofs.KnownLaws.{Known, Plain, joined_word, known, name_by_id, name_by_index, name_rule, once, option_of, plain, rules, shape, zero_page}
+
+-- ---- one word
+
+-- the walk between two pieces
+abbrev pub resting : ℕ → Held → Walk
+resting position h = record {
+  held = h;
+  waiting = idle;
+  position = position;
+  is_trailing = false;
+  stopped = None;
+}
+
+-- an option waits for its value, with all before it settled
+abbrev waiting_for : ℕ → List ℕ → Held → Walk
+waiting_for position name h = record {
+  held = record (settled rules h) { pending = Some (name, []) };
+  waiting = option name;
+  position = position;
+  is_trailing = false;
+  stopped = None;
+}
+
+-- a value waits beside its argument
+abbrev with_value : List ℕ → List ℕ → Held → Held
+with_value argument value h = record (settled rules h) { pending = Some (argument, value ∷ []) }
+
+-- a value behind `=` waits for nothing
+abbrev with_joined : List ℕ → List ℕ → Held → Held
+with_joined name value h = record h { rows = used (option_of name) (value ∷ []) (settled rules h).rows; pending = None }
+
+and_false : (b : Bool) → (b && false) ≡ false
+and_false true = refl
+and_false false = refl
+
+module _ (position : ℕ) (h : Held) where
+  option_walks : (name : List ℕ) → Known name → walked rules [] (resting position h) (dashed name) ≡ waiting_for position name h
+  unfolding walked
+  option_walks name k = rw (k.not_end, k.long_word, k.by_long) refl
+
+  value_walks : (name value : List ℕ) → Known name → Plain value
+      → walked rules [] (waiting_for position name h) value ≡ resting position (with_value name value h)
+  unfolding walked
+  value_walks name value k p = rw (p.not_end, p.no_long, p.no_short, k.by_id, k.itself) refl
+
+  joined_walks : (name value : List ℕ) → Known name
+      → walked rules [] (resting position h) (joined_word name value) ≡ resting position (with_joined name value h)
+  unfolding walked
+  joined_walks name value k = rw (k.joined_not_end value, k.joined_long value, k.by_long) refl
+
+  -- the faults of each turn
+  option_turn : (name : List ℕ) → Known name → settle_fault rules false h ≡ []
+      → turn_fault shape [] (resting position h) (dashed name) ≡ []
+  option_turn name k settles = rw (k.not_end, k.long_word, k.by_long, once, settles) refl
+
+  value_turn : (name value : List ℕ) → Plain value → turn_fault shape [] (waiting_for position name h) value ≡ []
+  value_turn name value p = rw (p.not_end, p.no_long, p.no_short) refl
+
+  joined_turn : (name value : List ℕ) → Known name → settle_fault rules false h ≡ []
+      → has_row name (settled_rows rules h.pending h.rows) ≡ false
+      → turn_fault shape [] (resting position h) (joined_word name value) ≡ []
+  joined_turn name value k settles none = rw (k.joined_not_end value, k.joined_long value, k.by_long, once, settles, none) refl
+
+name_walks : (name : List ℕ) (h : Held) → Plain name → walked rules [] (resting 1 h) name ≡ resting 2 (with_value zero_page name h)
+unfolding walked
+name_walks name h p = rw (p.not_end, p.no_long, p.no_short, name_by_index, and_false (is_pending name_rule h.pending)) refl
+
+name_turn : (name : List ℕ) (h : Held) → Plain name → settle_fault rules false h ≡ [] → turn_fault shape [] (resting 1 h) name ≡ []
+name_turn name h p settles =
+    rw (p.not_end, p.no_long, p.no_short, name_by_index, once, settles, and_false (is_pending name_rule h.pending)) refl
+
+-- ---- what stands between two pieces
+
+abbrev pub row_of : Piece → Row
+row_of piece = record {
+  id = argument_in piece;
+  values = text_in piece ∷ [];
+  count = None;
+  source = Some CommandLine;
+  reading = reading_by name_rule;
+}
+
+-- no piece is of the argument
+abbrev pub IsNew : List ℕ → List Piece → Type 0
+IsNew argument pieces = given_by pieces argument ≡ None
+
+-- what waits may be settled, and then each piece so far has its row; before a name the walk is at the first place of names
+pub record Stands (earlier : List Piece) (position : ℕ) (h : Held) : Type 0 where
+  pub rows : settled_rows rules h.pending h.rows ≡ map row_of earlier
+  pub settles : settle_fault rules false h ≡ []
+  pub first : IsNew zero_page earlier → position ≡ 1
+
+no_row : (argument : List ℕ) (earlier : List Piece) → IsNew argument earlier → has_row argument (map row_of earlier) ≡ false
+no_row argument [] new = refl
+no_row argument (piece ∷ pieces) new = by_test (bytes_eq (argument_in piece) argument) new (no_row argument pieces)
+  where
+    by_test : (same : Bool) → (if same then Some (text_in piece) else given_by pieces argument) ≡ None
+        → (given_by pieces argument ≡ None → has_row argument (map row_of pieces) ≡ false)
+        → (same || has_row argument (map row_of pieces)) ≡ false
+    by_test true new behind = cc
+    by_test false new behind = behind new
+
+-- a piece at the end
+new_before : (argument : List ℕ) (pieces : List Piece) (piece : Piece) → IsNew argument (pieces ++ piece ∷ []) → IsNew argument pieces
+new_before argument [] piece none = refl
+new_before argument (first ∷ pieces) piece none = by_test (bytes_eq (argument_in first) argument) none (new_before argument pieces piece)
+  where
+    by_test : (same : Bool) → (if same then Some (text_in first) else given_by (pieces ++ piece ∷ []) argument) ≡ None
+        → (IsNew argument (pieces ++ piece ∷ []) → IsNew argument pieces)
+        → (if same then Some (text_in first) else given_by pieces argument) ≡ None
+    by_test true none behind = cc
+    by_test false none behind = behind none
+
+new_end : (argument : List ℕ) (pieces : List Piece) (piece : Piece) → bytes_eq (argument_in piece) argument ≡ false → IsNew argument pieces
+    → IsNew argument (pieces ++ piece ∷ [])
+new_end argument [] piece other none = rw other refl
+new_end argument (first ∷ pieces) piece other none =
+    by_test (bytes_eq (argument_in first) argument) none (new_end argument pieces piece other)
+  where
+    by_test : (same : Bool) → (if same then Some (text_in first) else given_by pieces argument) ≡ None
+        → (IsNew argument pieces → IsNew argument (pieces ++ piece ∷ []))
+        → (if same then Some (text_in first) else given_by (pieces ++ piece ∷ []) argument) ≡ None
+    by_test true none behind = cc
+    by_test false none behind = behind none
+
+not_new : (pieces : List Piece) (name : List ℕ) → IsNew zero_page (pieces ++ named name ∷ []) → ⊥
+not_new [] name none = cc
+not_new (first ∷ pieces) name none = by_test (bytes_eq (argument_in first) zero_page) none (not_new pieces name)
+  where
+    by_test : (same : Bool) → (if same then Some (text_in first) else given_by (pieces ++ named name ∷ []) zero_page) ≡ None
+        → (IsNew zero_page (pieces ++ named name ∷ []) → ⊥) → ⊥
+    by_test true none behind = cc
+    by_test false none behind = behind none
+
+-- a first value of an argument is one more row
+row_added : (argument value : List ℕ) (rows : List Row) (row : Row)
+    → row ≡ record {
+      id = argument;
+      values = value ∷ [];
+      count = None;
+      source = Some CommandLine;
+      reading = reading_by name_rule;
+    } → has_row argument rows ≡ false
+    → with_values argument (reading_by name_rule) CommandLine (value ∷ []) (without argument rows) ≡ rows ++ row ∷ []
+row_added argument value [] row is none = rw is refl
+row_added argument value (first ∷ rows) row is none = by_test (bytes_eq first.id argument) refl none (row_added argument value rows row is)
+  where
+    by_test : (same : Bool) → bytes_eq first.id argument ≡ same → (same || has_row argument rows) ≡ false
+        → (has_row argument rows ≡ false
+        → with_values argument (reading_by name_rule) CommandLine (value ∷ []) (without argument rows) ≡ rows ++ row ∷ [])
+        → with_values argument (reading_by name_rule) CommandLine (value ∷ []) (without argument (first ∷ rows))
+        ≡ (first ∷ rows) ++ row ∷ []
+    by_test true is none behind = cc
+    by_test false is none behind = rw (is, is, behind none) refl
+
+map_end : (pieces : List Piece) (piece : Piece) → map row_of (pieces ++ piece ∷ []) ≡ map row_of pieces ++ row_of piece ∷ []
+map_end [] piece = refl
+map_end (first ∷ pieces) piece = ap (λ rows. row_of first ∷ rows) (map_end pieces piece)
+
+-- ---- one piece on
+
+pub record Goes (earlier : List Piece) (piece : Piece) (position : ℕ) (h : Held) : Type 0 where
+  pub now : Held
+  pub place : ℕ
+  pub stands : Stands (earlier ++ piece ∷ []) place now
+  pub walk : (rest : List (List ℕ))
+      → fold (walked rules []) (resting position h) (words_of piece ++ rest) ≡ fold (walked rules []) (resting place now) rest
+  pub fault : (rest : List (List ℕ))
+      → walk_fault shape [] (resting position h) (words_of piece ++ rest) ≡ walk_fault shape [] (resting place now) rest
+
+goes : (earlier : List Piece) (piece : Piece) (position : ℕ) (h : Held) → IsPiece piece → IsNew (argument_in piece) earlier
+    → Stands earlier position h → Goes earlier piece position h
+unfolding walk_fault
+goes earlier (apart name value) position h is new stands =
+    let k = known name is.0 in
+    let p = plain value is.1 in
+    let none = no_row name earlier new in
+    let to_value = option_walks position h name k in
+    let to_rest = value_walks position h name value k p in
+    record {
+      now = with_value name value h;
+      place = position;
+      stands = record {
+        rows = rw (k.by_id, stands.rows, row_added name value (map row_of earlier) (row_of (apart name value)) refl none)
+            (sym (map_end earlier (apart name value)));
+        settles = rw (k.by_id, stands.rows, none) refl;
+        first = λ fresh. stands.first (new_before zero_page earlier (apart name value) fresh);
+      };
+      walk = λ rest. ap (λ w. fold (walked rules []) w rest) (ap (λ w. walked rules [] w value) to_value ∙ to_rest);
+      fault = λ rest. rw (option_turn position h name k stands.settles, to_value, value_turn position h name value p, to_rest) refl;
+    }
+goes earlier (joined name value) position h is new stands =
+    let k = known name is in
+    let none = no_row name earlier new in
+    let to_rest = joined_walks position h name value k in
+    record {
+      now = with_joined name value h;
+      place = position;
+      stands = record {
+        rows = rw (stands.rows, row_added name value (map row_of earlier) (row_of (joined name value)) refl none)
+            (sym (map_end earlier (joined name value)));
+        settles = refl;
+        first = λ fresh. stands.first (new_before zero_page earlier (joined name value) fresh);
+      };
+      walk = λ rest. ap (λ w. fold (walked rules []) w rest) to_rest;
+      fault = λ rest. rw (joined_turn position h name value k stands.settles (rw stands.rows none), to_rest) refl;
+    }
+goes earlier (named name) position h is new stands =
+    let p = plain name is in
+    let none = no_row zero_page earlier new in
+    let at_first = stands.first new in
+    let to_rest = name_walks name h p in
+    record {
+      now = with_value zero_page name h;
+      place = 2;
+      stands = record {
+        rows = rw (name_by_id, stands.rows, row_added zero_page name (map row_of earlier) (row_of (named name)) refl none)
+            (sym (map_end earlier (named name)));
+        settles = rw (name_by_id, stands.rows, none) refl;
+        first = λ fresh. absurd (not_new earlier name fresh);
+      };
+      walk = λ rest. rw at_first (ap (λ w. fold (walked rules []) w rest) to_rest);
+      fault = λ rest. rw (at_first, name_turn name h p stands.settles, to_rest) refl;
+    }
+
+-- ---- over all pieces
+
+-- no argument has a piece on both sides
+abbrev pub Past : List Piece → List Piece → Type 0
+Past earlier later = (argument : List ℕ) → IsNew argument earlier ⊎ IsNew argument later
+
+same_bytes : (bytes : List ℕ) → bytes_eq bytes bytes ≡ true
+same_bytes bytes = (bytes_eq-Decides bytes bytes).1 refl
+
+first_new : (earlier : List Piece) (piece : Piece) (pieces : List Piece) → Past earlier (piece ∷ pieces)
+    → IsNew (argument_in piece) earlier
+first_new earlier piece pieces past = elim (past (argument_in piece)) [
+  | inl new ↦ new
+  | inr never ↦ let same : Some (text_in piece) ≡ None = rw (same_bytes (argument_in piece)) at never in cc
+]
+
+past_more : (earlier : List Piece) (piece : Piece) (pieces : List Piece) → IsNew (argument_in piece) pieces → Past earlier (piece ∷ pieces)
+    → Past (earlier ++ piece ∷ []) pieces
+past_more earlier piece pieces new past argument = by_test (bytes_eq (argument_in piece) argument) refl (past argument)
+  where
+    by_test : (same : Bool) → bytes_eq (argument_in piece) argument ≡ same → IsNew argument earlier ⊎ IsNew argument (piece ∷ pieces)
+        → IsNew argument (earlier ++ piece ∷ []) ⊎ IsNew argument pieces
+    by_test true is either = inr (ap (given_by pieces) (sym ((bytes_eq-Decides (argument_in piece) argument).0 is)) ∙ new)
+    by_test false is (inl none) = inl (new_end argument earlier piece is none)
+    by_test false is (inr none) = inr (rw is at none)
+
+pub record Walks (earlier pieces : List Piece) (position : ℕ) (h : Held) : Type 0 where
+  pub now : Held
+  pub place : ℕ
+  pub stands : Stands (earlier ++ pieces) place now
+  pub walk : fold (walked rules []) (resting position h) (spelled pieces) ≡ resting place now
+  pub fault : walk_fault shape [] (resting position h) (spelled pieces) ≡ []
+
+pub walks : (earlier pieces : List Piece) (position : ℕ) (h : Held) → Stands earlier position h → Past earlier pieces → ArePieces pieces
+    → Walks earlier pieces position h
+unfolding walk_fault
+walks earlier [] position h stands past are = record {
+  now = h;
+  place = position;
+  stands = rw (append-nil earlier) stands;
+  walk = refl;
+  fault = refl;
+}
+walks earlier (piece ∷ pieces) position h stands past are =
+    let step = goes earlier piece position h are.0 (first_new earlier piece pieces past) stands in
+    let more = walks (earlier ++ piece ∷ []) pieces step.place step.now step.stands (past_more earlier piece pieces are.1 past) are.2 in
+    record {
+      now = more.now;
+      place = more.place;
+      stands = rw (← append_assoc earlier (piece ∷ []) pieces) more.stands;
+      walk = step.walk (spelled pieces) ∙ more.walk;
+      fault = step.fault (spelled pieces) ∙ more.fault;
+    }

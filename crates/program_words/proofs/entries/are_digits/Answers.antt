@@ -1,0 +1,11 @@
+-- The test of each byte is the definition's.
+use Rattle.std.proofs.Common.{rules, tests}
+use Rattle.std.specs.Char.{is_ascii_digit}
+use Rattle.std.proofs.lemmas.Iterator.Adapters.{YieldsList-from_bytes}
+use Rattle.std.proofs.lemmas.Iterator.Search.{all_from_yields_List}
+use Rattle.program_words.proofs.entries.are_digits.Goals as goal
+
+pub returns : goal.returns
+returns c =
+    all_from_yields_List is_ascii_digit _ _ _ c.all.ensures.ran (YieldsList-from_bytes c.args.text.now c.bytes.ensures.rest)
+    (λ x b q k. search (rules, tests))

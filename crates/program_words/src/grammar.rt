@@ -1,0 +1,112 @@
+//! The program as a command of `clap`, and what that command makes of words.
+
+ghost use Rattle.std.specs.Prelude.{◌≡◌, ◌≢◌, IfOk, OnOk, IsErrOf, [], fold};
+ghost use Rattle.std.specs.Option.{option_copied};
+ghost use Rattle.clap.specs.Words.{app_of, fault_of, first_of, found_of, matches_of, rows_of};
+ghost use Rattle.clap.specs.declared.error.kind.ErrorKind.TheVariants as kinds;
+ghost use Rattle.program_words.specs.Grammar.{bare, program, with_option, with_positional};
+ghost use Rattle.program_words.specs.Words.{texts};
+ghost use Rattle.program_words.specs.declared.error.WordError.TheVariants as errors;
+
+use crate::error::WordError;
+use bm_base::Memory;
+use clap::error::ErrorKind;
+use clap::{Arg, ArgAction, ArgMatches, Command};
+use std::alloc::Global;
+
+/// The names of the options.
+const OPTIONS: [&str; 7] = [
+    "cmdline", "e820ext", "srat", "script", "kernel", "report", "make",
+];
+
+/// What the command finds for each argument in the words.
+pub fn match_words<'w>(alloc: Global, words: &'w [String]) -> Result<ArgMatches<'w>, WordError>
+    ensures matches { IfOk result (λ matches.
+        rows_of (found_of matches) ≡ matches_of program (texts words.entry.now)) }
+    ensures taken { OnOk result (fault_of program (texts words.entry.now) ≡ []) }
+    ensures refused { IsErrOf result WordError.Usage → fault_of program (texts words.entry.now) ≢ [] }
+{
+    let command = program(alloc)?;
+    match command.try_get_matches_from(words) {
+        Ok(matches) => Ok(matches),
+        Err(error) => Err(error_of(error.kind())),
+    }
+}
+
+/// The error of words that `clap` refuses, or of its want of memory.
+fn error_of(kind: ErrorKind) -> WordError
+    ensures { result ≡ errors.Usage → kind ≢ kinds.OutOfMemory }
+{
+    match kind {
+        ErrorKind::OutOfMemory => WordError::Memory,
+        _ => WordError::Usage,
+    }
+}
+
+/// The value that was found for an argument, if there is one.
+pub fn value_of<'w>(matches: &ArgMatches<'w>, name: &str) -> Option<&'w str>
+    ensures { option_copied result ≡ first_of name.now (rows_of (found_of matches.now)) }
+{
+    matches.get_str(name)
+}
+
+/// The command: its options, and the name of the zero page.
+fn program<'w>(alloc: Global) -> Result<Command<'w>, Memory>
+    ensures { IfOk result (λ command. app_of command ≡ program) }
+{
+    let command = with_options(alloc, bare(alloc), &OPTIONS)?;
+    with_positional(alloc, command, "ZEROPAGE")
+}
+
+/// The command without arguments, which has no `--help` and no `--version`, and whose first word isn't
+/// the program's name.
+fn bare<'w>(alloc: Global) -> Command<'w>
+    ensures { app_of result ≡ bare }
+{
+    Command::new(alloc, "bootmem")
+        .no_binary_name(true)
+        .disable_help_flag(true)
+        .disable_version_flag(true)
+}
+
+/// The command with these options, in their order.
+fn with_options<'w>(
+    alloc: Global,
+    command: Command<'w>,
+    names: &[&'w str],
+) -> Result<Command<'w>, Memory>
+    ensures { IfOk result (λ made.
+        app_of made ≡ fold (λ app name. with_option app name.now) (app_of command.entry) names.now) }
+{
+    let mut made = command;
+    let mut rest = names;
+    while let [name, others @ ..] = rest {
+        made = with_option(alloc, made, name)?;
+        rest = others;
+    }
+    Ok(made)
+}
+
+/// The command with one more option, which has one value.
+fn with_option<'w>(
+    alloc: Global,
+    command: Command<'w>,
+    name: &'w str,
+) -> Result<Command<'w>, Memory>
+    ensures { IfOk result (λ made. app_of made ≡ with_option (app_of command.entry) name.entry.now) }
+{
+    let option = Arg::new(alloc, name).long(name).action(ArgAction::Set);
+    Ok(command.arg(option)?)
+}
+
+/// The command with a word that belongs to no option.
+fn with_positional<'w>(
+    alloc: Global,
+    command: Command<'w>,
+    name: &'w str,
+) -> Result<Command<'w>, Memory>
+    ensures { IfOk result (λ made. app_of made ≡ with_positional (app_of command.entry) name.entry.now) }
+{
+    let word = Arg::new(alloc, name).action(ArgAction::Set);
+    Ok(command.arg(word)?)
+}
