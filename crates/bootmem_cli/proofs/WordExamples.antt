@@ -188,7 +188,7 @@ if_reports_examples = (refl, refl)
 
 list_examples : (list_in first_words ≡ Some (codes "map")) × (list_in (codes "--report" ∷ codes "Map" ∷ codes "zp" ∷ []) ≡ None)
     × (list_in (codes "zp" ∷ []) ≡ Some (codes "buddyinfo")) × (list_asked first_words ≡ codes "map")
-list_examples = (refl, refl, refl)
+list_examples = (refl, refl, refl, refl)
 
 asked_examples : (kernel_asked first_words ≡ Some default_kernel) × (kernel_asked (codes "--kernel" ∷ codes "16M" ∷ codes "zp" ∷ []) ≡ None)
 asked_examples = (refl, refl)
