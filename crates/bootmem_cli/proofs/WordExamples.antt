@@ -94,7 +94,6 @@ default_report = refl
 no_words : accepted [] ≡ None
 no_words = refl
 
-
 empty_name_in_list : accepted (codes "--report" ∷ codes "map,," ∷ codes "zp" ∷ []) ≡ None
 empty_name_in_list = refl
 
