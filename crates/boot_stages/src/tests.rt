@@ -141,8 +141,8 @@ fn maps_and_stops(rt: HostRuntime) -> Result<(), Fail> {
     expect(&rt, alloc, &vast, b"", Err(too_much))
 }
 
-// A virtual machine of 128 MiB: the first claims, two runs of RAM, of which the first ends within a frame, and
-// the limit at the end of the second.
+// A virtual machine of 128 MiB: the first claims, two runs of RAM, of which the first ends within a frame, the limit at
+// the end of the second; then node 0 for all of it, and the places of its data and of one section.
 #[test]
 fn journal_of_a_virtual_machine(rt: HostRuntime) -> Result<(), Fail> {
     let machine = [
@@ -174,6 +174,30 @@ fn journal_of_a_virtual_machine(rt: HostRuntime) -> Result<(), Fail> {
         Item::Claim {
             range: range(0, 0xF_FFFF),
             owner: Owner::Low1M,
+        },
+        Item::Node {
+            range: range(0, 0x7FD_FFFF),
+            node: 0,
+        },
+        Item::Claim {
+            range: range(0x7FB_5000, 0x7FD_FFFF),
+            owner: Owner::NodeData(0),
+        },
+        Item::Claim {
+            range: range(0x7FB_1000, 0x7FB_4FFF),
+            owner: Owner::Roots,
+        },
+        Item::Claim {
+            range: range(0x7FB_0000, 0x7FB_0FFF),
+            owner: Owner::Root(0),
+        },
+        Item::Claim {
+            range: range(0x7FA_FFC0, 0x7FA_FFE7),
+            owner: Owner::Usage(0),
+        },
+        Item::Claim {
+            range: range(0x7C0_0000, 0x7DF_FFFF),
+            owner: Owner::Map(0),
         },
     ];
     match booted(rt.alloc(), &machine, b"")? {
