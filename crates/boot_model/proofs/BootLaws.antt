@@ -142,7 +142,8 @@ pub types_told : (given : Given) (made : Made) (x : ℕ) → boot given ≡ Ok m
 types_told given made x ends low = rw (goes_on given made ends).map ((map_between (claims given)).within x (omega arith) (omega arith))
 
 -- a number of frames for which no stop is due
-pub frames_within : (n : ℕ) → (if n == 0 then Some reasons.NoRam else (if nat_lt (2 ^ 32) n then Some (reasons.TooMuchRam n) else None)) ≡ None
+pub frames_within : (n : ℕ) → (if n == 0 then Some reasons.NoRam else (if nat_lt (2 ^ 32) n then Some (reasons.TooMuchRam n) else
+    None)) ≡ None
     → (0 < n) × (n ≤ 2 ^ 32)
 frames_within n fine = elim (cases_Bool (n == 0)) as (λ _. (0 < n) × (n ≤ 2 ^ 32)) [
   | inl none ↦ (let clash : Some reasons.NoRam ≡ None = rw none at fine in absurd (cc))

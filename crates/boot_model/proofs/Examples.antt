@@ -167,7 +167,15 @@ abbrev empty : Entry
 empty = record { addr = 0; size = 0; kind = 0 }
 
 abbrev two_empty : Given
-two_empty = record { entries = empty ∷ empty ∷ []; initrd = None; extension = []; options = no_options; domains = None; kernel = image; lines = [] }
+two_empty = record {
+  entries = empty ∷ empty ∷ [];
+  initrd = None;
+  extension = [];
+  options = no_options;
+  domains = None;
+  kernel = image;
+  lines = [];
+}
 
 none_covers : Nothing (claims_of_entries (empty ∷ empty ∷ []))
 unfolding Nothing

@@ -40,14 +40,15 @@ past_end limit f at high x far =
 
 -- a map with a usable frame ends above 0
 no_frame_low : (limit : ℕ) (f : TypeAt) (frame : ℕ) → memory_end limit f ≡ 0 → is_usable (reachable limit f) frame ≡ false
-no_frame_low limit f frame zero = elim (cases_Bool (is_usable (reachable limit f) frame)) as (λ _. is_usable (reachable limit f) frame ≡ false) [
-  | inl usable ↦
-      (let number : (4096 * frame) / 4096 ≡ frame = omega arith in
-      let held : usable_memory limit f (4096 * frame) ≡ Some plain_label = rw (number, usable) refl in
-      let low : 4096 * frame < memory_end limit f = memory_below limit f (4096 * frame) plain_label held in
-      absurd (omega arith))
-  | inr other ↦ other
-]
+no_frame_low limit f frame zero = elim (cases_Bool (is_usable (reachable limit f) frame)) as (λ _. is_usable (reachable limit f) frame
+    ≡ false) [
+      | inl usable ↦
+          (let number : (4096 * frame) / 4096 ≡ frame = omega arith in
+          let held : usable_memory limit f (4096 * frame) ≡ Some plain_label = rw (number, usable) refl in
+          let low : 4096 * frame < memory_end limit f = memory_below limit f (4096 * frame) plain_label held in
+          absurd (omega arith))
+      | inr other ↦ other
+    ]
 
 end_some : (limit : ℕ) (f : TypeAt) → 0 < usable_frames (reachable limit f) → 0 < memory_end limit f
 unfolding usable_frames
@@ -86,7 +87,8 @@ first_known given made items ends carried =
     (end_reached MAX_PHYSMEM (value_at map) _ (memory_end-is MAX_PHYSMEM (value_at map))).0 in
     let some : 0 < usable_frames (reachable MAX_PHYSMEM (value_at map)) =
     subst (λ (t : TypeAt). 0 < usable_frames t) (sym (types_same given)) (frames_within _ known.1).0 in
-    let FirstOf : Labels → ℕ → Type 0 = λ f at. (AreOfFrames (λ x. is_some (f x)) × NothingFrom MAX_PHYSMEM f × NothingFrom at f × (0 < at)) in
+    let FirstOf : Labels → ℕ → Type 0 = λ f at. (AreOfFrames (λ x. is_some (f x)) × NothingFrom MAX_PHYSMEM f × NothingFrom at f × (0 <
+    at)) in
     let whole : AreOfFrames (λ x. is_some (usable_memory MAX_PHYSMEM (value_at map) x)) = λ x.
     (let same : (4096 * (x / 4096)) / 4096 ≡ x / 4096 = omega arith in
     ap (λ (frame : ℕ). is_some (if is_usable (reachable MAX_PHYSMEM (value_at map)) frame then Some plain_label else None)) (sym same)) in

@@ -67,5 +67,6 @@ answered cause put next last (Err error) ends = absurd (cc)
 pub steps_answered : {E A : Type 0} (cause : E → Cause) (put : A → Made → Made) (doing : Doing E A) (before last : Made)
     → by_steps cause put doing before ≡ Ok last → Answered put doing before last
 steps_answered cause put doing before last ends =
-    let told = answered cause put (record before { items = after before.items (doing before.items) }) last (doing before.items).answer ends in
+    let told = answered cause put (record before { items = after before.items (doing before.items) }) last (doing before.items).answer
+    ends in
     record { value = told.0; answer = told.1; same = told.2 }

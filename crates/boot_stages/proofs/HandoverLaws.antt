@@ -60,7 +60,8 @@ module _ (items : List Item) (store : List Stored) (memory reserved : Head) (s :
       ∙ ap (λ (f : Labels). node_of_frame f frame) s.first_says) i in
       ap spans_of nodes
 
-  pub free-told : (frame : ℕ) → free_in (value_at (list_in store memory)) (value_at (list_in store reserved)) frame ≡ handed_over items frame
+  pub free-told : (frame : ℕ) → free_in (value_at (list_in store memory)) (value_at (list_in store reserved)) frame ≡ handed_over items
+      frame
   free-told frame =
       ap (λ (h : Head). free_in (value_at (list_in store h)) (value_at (list_in store reserved)) frame) s.first_head
       ∙ ap (λ (h : Head). free_in (value_at (list_in store (head_of s.first))) (value_at (list_in store h)) frame) s.second_head

@@ -24,7 +24,10 @@ from_present : (r : Result SectionPlaces StageStop) (old new : List Item) (secti
     → EndsAs stage.Memory r old new (sections_placed sections old) → EndsAs stage.Memory r old new (places_of_sections old)
 unfolding places_of_sections
 from_present r old new sections is ends =
-    ends-second (present (memory_of old)) r stage.Memory old old new (seen (λ items. present (memory_of items))) sections_placed (refl, refl)
+    ends-second (present (memory_of old)) r stage.Memory old old new (seen (λ items. present (memory_of items))) sections_placed (
+      refl,
+      refl,
+    )
     (subst (λ (ss : List Section). EndsAs stage.Memory r old new (sections_placed ss old)) is ends)
 
 pub places-first : (e : StageStop) (r : Result Sections StageStop) (y : StageStop) (old new : List Item) (sections : List Section)
@@ -50,6 +53,7 @@ pub places-all : (old mid new : List Item) (sections : List Section) (table : Ro
     → EndsAs stage.Memory (Ok (record { roots = table; placed = placed })) old new (places_of_sections old)
 places-all old mid new sections table placed present_is first ends =
     from_present (Ok (record { roots = table; placed = placed })) old new sections present_is
-    (ends-second table (Ok (record { roots = table; placed = placed })) stage.Memory old mid new (roots sections) (behind_roots sections) first
+    (ends-second table (Ok (record { roots = table; placed = placed })) stage.Memory old mid new (roots sections) (behind_roots
+    sections) first
     (ends-second placed (Ok (record { roots = table; placed = placed })) stage.Memory mid new new (maps sections)
     (λ p. returns (record { roots = table; placed = p })) ends (refl, refl)))

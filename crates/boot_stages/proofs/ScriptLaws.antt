@@ -13,10 +13,11 @@ use Rattle.boot_model.specs.Boot.{Made, runs_lines}
 use Rattle.boot_stages.specs.Boots.{HoldsWith, made_by_lines}
 
 -- what is made behind them, and the bytes then
-pub record LinesRun (kernel : Extent) (lines : List Line) (before made : Made) (m : Contents) (ids : Ids) (told : List Answer) : Type 0 where
-  pub fills : List Filled
-  pub come : runs_lines kernel lines before ≡ Ok (made_by_lines made m ids fills told)
-  pub holds : HoldsWith fills m
+pub record LinesRun (kernel : Extent) (lines : List Line) (before made : Made) (m : Contents) (ids : Ids) (told : List Answer) : Type 0
+  where
+    pub fills : List Filled
+    pub come : runs_lines kernel lines before ≡ Ok (made_by_lines made m ids fills told)
+    pub holds : HoldsWith fills m
 
 pub lines-run : (kernel : Extent) (lines : List Line) (made : Made) (m next : Contents) (ids later : Ids) (fills : List Filled)
     (answers told : List Answer) → m.kernel ≡ kernel → Reaches (after_lines (stage_of ids m fills answers) lines) later next told

@@ -90,7 +90,8 @@ pub record AllRun (given : Given) (made : Made) (start last : Contents) (later :
   pub run : AreRun given (begun_with made start) last later
   pub noded : IsNoded MAX_PHYSMEM (memory_of last.journal.items)
 
-pub all_run : (given : Given) (made : Made) (start mid second m next last : Contents) (nodes : Noded) (area : Crash) (places : SectionPlaces)
+pub all_run : (given : Given) (made : Made) (start mid second m next last : Contents) (nodes : Noded) (area : Crash) (places :
+    SectionPlaces)
     (ids final : Ids) (answers told : List Answer) (behind : List Line)
     → UpToLines given made start mid second m nodes area ids answers
     → ((n : Made) → Comes has_sections put_sections n m next (Ok places)) → GoesOn m next

@@ -60,7 +60,8 @@ left-at sections i d few =
     drop-cons sections i d few ∙ ap (λ (n : ℕ). get_or sections i d ∷ drop n sections) (sym (add-one i))
 
 pub goes-same : (entry : List Item) (sections : List Section) (now : List Item) (before : List RootPlace) (last : Option ℕ) (i : ℕ)
-    (d : Section) → i < length sections → is_root last (root_of (get_or sections i d)) ≡ true → Goes entry sections now before last (drop i sections)
+    (d : Section) → i < length sections → is_root last (root_of (get_or sections i d)) ≡ true → Goes entry sections now before last
+    (drop i sections)
     → Goes entry sections now before last (drop (i + 1) sections)
 goes-same entry sections now before last i d few same goes =
     let s : Section = get_or sections i d in

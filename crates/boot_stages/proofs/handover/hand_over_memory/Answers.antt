@@ -5,7 +5,8 @@ use Rattle.boot_stages.proofs.handover.hand_over_memory.Goals as goal
 
 pub spans-requires-clause-memory : goal.spans-requires-clause-memory
 spans-requires-clause-memory c =
-    memory-records c.args.memblock.journal.items c.into_parts-store.result.0 c.into_parts-store.result.1.memory c.into_parts-store.result.1.reserved
+    memory-records c.args.memblock.journal.items c.into_parts-store.result.0 c.into_parts-store.result.1.memory
+    c.into_parts-store.result.1.reserved
     (stand-by c.args.memblock.kernel c.args.memblock.journal.items c.into_parts-store.result.0 c.tables-tables.result.now
     c.args.memblock.tables c.into_parts-store.result.1 c.into_parts-store.ensures.heads c.tables-tables.ensures.tables
     c.tables-tables.ensures.memory c.tables-tables.ensures.reserved c.into_parts-store.ensures.memory c.into_parts-store.ensures.reserved
@@ -13,7 +14,8 @@ spans-requires-clause-memory c =
 
 pub spans-requires-clause-whole : goal.spans-requires-clause-whole
 spans-requires-clause-whole c =
-    memory-whole c.args.memblock.journal.items c.into_parts-store.result.0 c.into_parts-store.result.1.memory c.into_parts-store.result.1.reserved
+    memory-whole c.args.memblock.journal.items c.into_parts-store.result.0 c.into_parts-store.result.1.memory
+    c.into_parts-store.result.1.reserved
     (stand-by c.args.memblock.kernel c.args.memblock.journal.items c.into_parts-store.result.0 c.tables-tables.result.now
     c.args.memblock.tables c.into_parts-store.result.1 c.into_parts-store.ensures.heads c.tables-tables.ensures.tables
     c.tables-tables.ensures.memory c.tables-tables.ensures.reserved c.into_parts-store.ensures.memory c.into_parts-store.ensures.reserved
@@ -21,7 +23,8 @@ spans-requires-clause-whole c =
 
 pub hand_over-requires-clause-memory : goal.hand_over-requires-clause-memory
 hand_over-requires-clause-memory c =
-    memory-records c.args.memblock.journal.items c.into_parts-store.result.0 c.into_parts-store.result.1.memory c.into_parts-store.result.1.reserved
+    memory-records c.args.memblock.journal.items c.into_parts-store.result.0 c.into_parts-store.result.1.memory
+    c.into_parts-store.result.1.reserved
     (stand-by c.args.memblock.kernel c.args.memblock.journal.items c.into_parts-store.result.0 c.tables-tables.result.now
     c.args.memblock.tables c.into_parts-store.result.1 c.into_parts-store.ensures.heads c.tables-tables.ensures.tables
     c.tables-tables.ensures.memory c.tables-tables.ensures.reserved c.into_parts-store.ensures.memory c.into_parts-store.ensures.reserved
@@ -29,7 +32,8 @@ hand_over-requires-clause-memory c =
 
 pub hand_over-requires-clause-whole : goal.hand_over-requires-clause-whole
 hand_over-requires-clause-whole c =
-    memory-whole c.args.memblock.journal.items c.into_parts-store.result.0 c.into_parts-store.result.1.memory c.into_parts-store.result.1.reserved
+    memory-whole c.args.memblock.journal.items c.into_parts-store.result.0 c.into_parts-store.result.1.memory
+    c.into_parts-store.result.1.reserved
     (stand-by c.args.memblock.kernel c.args.memblock.journal.items c.into_parts-store.result.0 c.tables-tables.result.now
     c.args.memblock.tables c.into_parts-store.result.1 c.into_parts-store.ensures.heads c.tables-tables.ensures.tables
     c.tables-tables.ensures.memory c.tables-tables.ensures.reserved c.into_parts-store.ensures.memory c.into_parts-store.ensures.reserved
@@ -37,7 +41,8 @@ hand_over-requires-clause-whole c =
 
 pub hand_over-requires-clause-reserved : goal.hand_over-requires-clause-reserved
 hand_over-requires-clause-reserved c =
-    reserved-records c.args.memblock.journal.items c.into_parts-store.result.0 c.into_parts-store.result.1.memory c.into_parts-store.result.1.reserved
+    reserved-records c.args.memblock.journal.items c.into_parts-store.result.0 c.into_parts-store.result.1.memory
+    c.into_parts-store.result.1.reserved
     (stand-by c.args.memblock.kernel c.args.memblock.journal.items c.into_parts-store.result.0 c.tables-tables.result.now
     c.args.memblock.tables c.into_parts-store.result.1 c.into_parts-store.ensures.heads c.tables-tables.ensures.tables
     c.tables-tables.ensures.memory c.tables-tables.ensures.reserved c.into_parts-store.ensures.memory c.into_parts-store.ensures.reserved
@@ -45,7 +50,8 @@ hand_over-requires-clause-reserved c =
 
 pub returns-clause-spans : goal.returns-clause-spans
 returns-clause-spans c =
-    c.in_ok-spans.ensures ∙ spans-told c.args.memblock.journal.items c.into_parts-store.result.0 c.into_parts-store.result.1.memory c.into_parts-store.result.1.reserved
+    c.in_ok-spans.ensures ∙ spans-told c.args.memblock.journal.items c.into_parts-store.result.0 c.into_parts-store.result.1.memory
+    c.into_parts-store.result.1.reserved
     (stand-by c.args.memblock.kernel c.args.memblock.journal.items c.into_parts-store.result.0 c.tables-tables.result.now
     c.args.memblock.tables c.into_parts-store.result.1 c.into_parts-store.ensures.heads c.tables-tables.ensures.tables
     c.tables-tables.ensures.memory c.tables-tables.ensures.reserved c.into_parts-store.ensures.memory c.into_parts-store.ensures.reserved
@@ -54,7 +60,8 @@ returns-clause-spans c =
 pub returns-clause-free : goal.returns-clause-free
 returns-clause-free c = λ i frame.
     (c.in_ok-buddy.ensures frame
-    ∙ free-told c.args.memblock.journal.items c.into_parts-store.result.0 c.into_parts-store.result.1.memory c.into_parts-store.result.1.reserved
+    ∙ free-told c.args.memblock.journal.items c.into_parts-store.result.0 c.into_parts-store.result.1.memory
+    c.into_parts-store.result.1.reserved
     (stand-by c.args.memblock.kernel c.args.memblock.journal.items c.into_parts-store.result.0 c.tables-tables.result.now
     c.args.memblock.tables c.into_parts-store.result.1 c.into_parts-store.ensures.heads c.tables-tables.ensures.tables
     c.tables-tables.ensures.memory c.tables-tables.ensures.reserved c.into_parts-store.ensures.memory c.into_parts-store.ensures.reserved

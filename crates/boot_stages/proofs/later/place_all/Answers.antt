@@ -36,7 +36,8 @@ returns-in_err-roots-clause-ends c =
     ∙ ap (λ (t : Table). present (value_at t.records)) c.tables.ensures.memory
     ∙ ap present (noded-told MAX_PHYSMEM items (omega arith) c.requires.noded) in
     let p = err_from_is_err_and c.from_residual-in_err-roots.result c.from_residual-in_err-roots.ensures.1 in
-    places-first c.in_err-roots.field-0.0 c.from_residual-in_err-roots.result p.0 items c.place_roots.new.memblock.journal.items sections p.1 p.2 is
+    places-first c.in_err-roots.field-0.0 c.from_residual-in_err-roots.result p.0 items c.place_roots.new.memblock.journal.items
+    sections p.1 p.2 is
     c.in_err-roots.ensures.ends
 
 pub place_maps-requires-clause-few : goal.place_maps-requires-clause-few
@@ -62,7 +63,8 @@ returns-in_err-placed-clause-ends c =
 
 pub returns-in_err-placed-clause-lent : goal.returns-in_err-placed-clause-lent
 returns-in_err-placed-clause-lent c =
-    goes-then c.args.memblock.now c.place_roots.new.memblock c.place_maps.new.memblock c.in_ok-roots.ensures.lent c.in_err-placed.ensures.lent
+    goes-then c.args.memblock.now c.place_roots.new.memblock c.place_maps.new.memblock c.in_ok-roots.ensures.lent
+    c.in_err-placed.ensures.lent
 
 pub returns-clause-ends : goal.returns-clause-ends
 returns-clause-ends c =
@@ -78,4 +80,5 @@ returns-clause-ends c =
 
 pub returns-clause-lent : goal.returns-clause-lent
 returns-clause-lent c =
-    goes-then c.args.memblock.now c.place_roots.new.memblock c.place_maps.new.memblock c.in_ok-roots.ensures.lent c.in_ok-placed.ensures.lent
+    goes-then c.args.memblock.now c.place_roots.new.memblock c.place_maps.new.memblock c.in_ok-roots.ensures.lent
+    c.in_ok-placed.ensures.lent

@@ -32,7 +32,8 @@ returns-in_err-crash-clause-stopped c =
     let m : Contents = c.args.memblock.now in
     let behind : Made → Made = λ made. behind_nodes made m c.give_nodes.new.memblock (nodes_view c.in_ok-nodes.nodes) in
     let p = err_from_is_err_and c.from_residual-in_err-crash.result c.from_residual-in_err-crash.ensures.1 in
-    if_err c.from_residual-in_err-crash.result (λ stop. (made : Made) → AreStopped given (begun_with made m) stop) p.0 c.in_err-crash.field-0.0
+    if_err c.from_residual-in_err-crash.result (λ stop. (made : Made) → AreStopped given (begun_with made m) stop) p.0
+    c.in_err-crash.field-0.0
     p.1 p.2
     (λ made some.
     ap (with_error stop_of) (link-on (has_nodes given) (drop 2 (later_stages given)) (begun_with made m) (behind made)

@@ -141,7 +141,8 @@ returns-clause-boots c =
     sym (c.in_ok-end.ensures.heads ∙ ap (λ (k : Extent). heads_of k last.journal.items) run.kernel) in
     let items : last.journal.items ≡ end.journal.items = ap (λ (j : Contents). j.items) (sym c.in_ok-end.ensures.journal) in
     ap (with_error stop_of) (boot_told given (made_behind (begun_with made m) last later run.ids run.fills) comes
-    ∙ ap (λ (h : Heads). Ok (told_by given map later last.journal.items h (spanned last.journal.items) (handed_over last.journal.items))) heads
+    ∙ ap (λ (h : Heads). Ok (told_by given map later last.journal.items h (spanned last.journal.items) (handed_over
+    last.journal.items))) heads
     ∙ ap (λ (ss : List Span). Ok (told_by given map later last.journal.items end.heads ss (handed_over last.journal.items)))
     (sym c.in_ok-end.ensures.spans)
     ∙ ap (λ (f : Frames). Ok (told_by given map later last.journal.items end.heads end.spans.items f)) (sym c.in_ok-end.ensures.free)

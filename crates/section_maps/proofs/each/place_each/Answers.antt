@@ -54,4 +54,5 @@ loop-section-preserved c =
 pub returns-clause-ends : goal.returns-clause-ends
 returns-clause-ends c =
     goes-all c.args.memblock.now.journal.items c.args.usage c.args.placed.now.items c.args.sections.now
-    c.loop-section.memblock.journal.items c.loop-section.at c.loop-section.placed.items c.loop-section.section-index c.loop-section-test.false c.loop-section.invariant.goes
+    c.loop-section.memblock.journal.items c.loop-section.at c.loop-section.placed.items c.loop-section.section-index
+    c.loop-section-test.false c.loop-section.invariant.goes
