@@ -26,6 +26,7 @@ mod domains;
 mod hulls;
 mod kept;
 mod laws;
+mod memory;
 mod node_range;
 mod reasons;
 mod rest;
