@@ -1,5 +1,7 @@
 //! Preparing a range: with the extents that it meets or touches it becomes one extent, so that extents stay
-//! apart. All memory is taken before the list of extents changes, and a failure leaves it as it was.
+//! apart. The largest of them is kept and widened, and the others are copied into it; where it meets none, a new
+//! extent of its size stands in the list. All memory is taken before a byte or an address changes: what a
+//! failure leaves may have more room in front of an extent, and is else as it was.
 ghost use Rattle.std.specs.Prelude.{◌≡◌, ℕ, ◌+◌, ◌-◌, ◌^◌, ◌<◌, ◌≤◌, ◌||◌, IsTrue, ◌++◌, ◌∷◌, [], take, drop, map, replicate, length, OnOk, OnErr};
 ghost use Rattle.bm_base.specs.Extent.{end_of, covers};
 ghost use Rattle.phys_store.specs.Bytes.{past, byte_of, is_ready};
@@ -100,7 +102,7 @@ fn largest(extents: &[Held], first: usize, behind: usize) -> usize
     best
 }
 
-/// Appends as many zeros.
+/// Appends `count` zeros.
 fn append_zeros(bytes: &mut Vec<u8>, count: usize) -> Result<(), Memory>
     ensures ok { OnOk result (bytes.new.items ≡ bytes.old.items ++ replicate count 0) }
     ensures err { OnErr result (bytes.new.items ≡ bytes.old.items) }
@@ -112,8 +114,8 @@ fn append_zeros(bytes: &mut Vec<u8>, count: usize) -> Result<(), Memory>
     Ok(())
 }
 
-/// The extent has room for `down` bytes in front of its first. Where there was too little, there is room for as many
-/// bytes as it has, at least: so its bytes are moved again only once they are twice as many.
+/// The extent has room for `down` bytes in front. Where there was too little, there is room for as many bytes as it
+/// has, at least: so its bytes are moved for room again only once they are twice as many.
 fn make_room(extent: &mut Held, down: usize) -> Result<(), Memory>
     requires { 0 < length (stored extent.old).bytes }
     ensures same { stored extent.new ≡ stored extent.old }
@@ -191,7 +193,7 @@ fn replace(extents: &mut Vec<Held>, first: usize, behind: usize, extent: Held)
 }
 
 /// The extents from the index `first` up to `behind` are one, from `low` up to `high`. The largest of them is widened,
-/// and the others are copied into it: so a byte is copied again only once it lies in an extent of twice the size.
+/// and the others are copied into it: so a byte that is copied comes into an extent of twice the size, at least.
 fn join(
     extents: &mut Vec<Held>,
     first: usize,
@@ -219,7 +221,7 @@ fn join(
     Ok(())
 }
 
-/// The extents from the index `first` up to `behind` are one, from `low` up to `high`, where there are any or not.
+/// The extents of the reach are one, or a new one where there is none.
 fn unite(extents: &mut Vec<Held>, reach: Reach) -> Result<(), Memory>
     requires apart { Apart 0 (map stored extents.old.items) }
     requires joins { Joins (map stored extents.old.items) reach.first reach.behind reach.low reach.high }
@@ -242,8 +244,8 @@ fn unite(extents: &mut Vec<Held>, reach: Reach) -> Result<(), Memory>
     }
 }
 
-/// Each address of the range is prepared, and what was so stays. All memory is taken before anything
-/// changes.
+/// Each address of the range is prepared, and what was so stays. After `Memory` no byte and no prepared address
+/// has changed.
 pub fn prepare(extents: &mut Vec<Held>, range: Range) -> Result<(), Memory>
     requires { Apart 0 (map stored extents.old.items) }
     ensures apart { Apart 0 (map stored extents.new.items) }
