@@ -2,12 +2,13 @@
 # collect.sh: gathers what this machine's kernel was given at boot; --help says how.
 set -u
 unset CDPATH
+me=${0##*/}
 sys=/sys
 cmdline=/proc/cmdline
 
 help() {
-	cat <<'END'
-usage: collect.sh [--sys DIR] [--cmdline FILE] FOLDER
+	cat <<END
+usage: $me [--sys DIR] [--cmdline FILE] FOLDER
 
 Gathers what this machine's kernel was given at boot into FOLDER, in the files that bootmem reads:
 
@@ -36,12 +37,12 @@ END
 }
 
 usage() {
-	echo "collect.sh: usage: collect.sh [--sys DIR] [--cmdline FILE] FOLDER; --help tells more" >&2
+	echo "$me: usage: $me [--sys DIR] [--cmdline FILE] FOLDER; --help tells more" >&2
 	exit 2
 }
 
 complain() {
-	echo "collect.sh: $1" >&2
+	echo "$me: $1" >&2
 }
 
 while [ $# -gt 0 ]; do
