@@ -440,6 +440,30 @@ def test_hull(work):
           (0, "3 agree, 1 differ as docs/KERNEL.md says, 0 differ, 1 can't be compared"))
 
 
+def test_installed(work):
+    """The tools as they are installed: beside the program in bin, with the shared module in share/bootmem."""
+    for folder in ("bin", "share/bootmem"):
+        os.makedirs(os.path.join(work, folder))
+    for name in ("bootmem-draw", "bootmem-where", "bootmem-diff", "bootmem-live", "zp-from-log"):
+        shutil.copy(os.path.join(TOP, "tools", name), os.path.join(work, "bin"))
+    shutil.copy(os.path.join(TOP, "tools", "collect.sh"), os.path.join(work, "bin", "bootmem-collect"))
+    shutil.copy(os.path.join(TOP, "tools", "bootmem_reports.py"), os.path.join(work, "share/bootmem"))
+    os.symlink(PROGRAM, os.path.join(work, "bin", "bootmem"))
+    path = {"BOOTMEM": "", "PATH": os.path.join(work, "bin") + os.pathsep + os.environ["PATH"]}
+    status, out, err = tool(os.path.join(work, "bin", "bootmem-where"), "0x17be00040", "--", *words_of("q35-8g-numa2"),
+                            folder=example("q35-8g-numa2"), variables={"BOOTMEM": ""})
+    check("installed: beside", (status, out, err), (0, WHERE, ""))
+    os.rename(os.path.join(work, "bin", "bootmem-diff"), os.path.join(work, "bootmem-diff"))
+    shutil.copy(os.path.join(TOP, "tools", "bootmem_reports.py"), work)
+    for variables, wanted in ((path, 0), ({"BOOTMEM": "/nowhere/bootmem"}, 2)):
+        check("installed: on the PATH", tool(os.path.join(work, "bootmem-diff"), "--a", "zp.bin", "--b", "zp.bin",
+                                             folder=example("q35-1g"), variables=variables)[:2], (wanted, ""))
+    place = stand_in(work, "pc-128m")
+    status, out, err = tool(os.path.join(work, "bin", "bootmem-live"), "--sys", os.path.join(place, "sys"), "--proc",
+                            os.path.join(place, "proc"), variables={"BOOTMEM": ""})
+    check("installed: bootmem-collect", (status, err, out.splitlines()[-1][:8]), (0, "", "3 agree,"))
+
+
 def main():
     """Runs every test."""
     if not os.access(PROGRAM, os.X_OK):
@@ -449,7 +473,7 @@ def main():
     test_where()
     test_diff()
     test_draw()
-    for test in (test_round_trips, test_logs, test_live, test_hull):
+    for test in (test_round_trips, test_logs, test_live, test_hull, test_installed):
         with tempfile.TemporaryDirectory() as work:
             test(work)
     print(f"{COUNTS[True]} passed, {COUNTS[False]} failed")
