@@ -130,8 +130,8 @@ def run_program(program, names, words, folder=None):
     if any(word == "--report" or word.startswith("--report=") for word in words):
         raise Trouble("this tool asks for its own reports: leave --report out of the program's words", 2)
     command = [program, "--report", ",".join(names)] + words
-    done = subprocess.run(command, stdin=subprocess.DEVNULL, stdout=subprocess.PIPE, stderr=subprocess.PIPE, cwd=folder,
-                          check=False)
+    # standard input is the program's: a word may be /dev/stdin
+    done = subprocess.run(command, stdout=subprocess.PIPE, stderr=subprocess.PIPE, cwd=folder, check=False)
     said = done.stderr.decode("utf-8", "replace").strip()
     if done.returncode != 0:
         raise Trouble(f"the program ended with status {done.returncode}: {said or 'it said nothing'}")

@@ -37,7 +37,7 @@ END
 }
 
 usage() {
-	echo "$me: usage: $me [--sys DIR] [--cmdline FILE] FOLDER; --help tells more" >&2
+	echo "usage: $me [--sys DIR] [--cmdline FILE] FOLDER" >&2
 	exit 2
 }
 
