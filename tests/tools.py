@@ -81,6 +81,7 @@ def test_help(_):
         status, out, err = tool(name, "--help")
         check(f"{name} --help", (status, err), (0, ""))
         has(f"{name} --help", out, "isn't proved")
+        check(f"{name} --help: lines of 80 letters", max(len(line) for line in out.splitlines()) <= 80, True)
         status, out, err = tool(name, "--unknown")
         check(f"{name} --unknown", (status, out, err == ""), (2, "", False))
 
@@ -326,10 +327,9 @@ def test_refused(work):
     plain = log_of("q35-1g")
     headless = "".join(line for line in (log_of("pc-128m") + plain).splitlines(True) if "provided" not in line)
     many = "".join(f"{index * 2}M 1M usable\n" for index in range(129))
-    refused = {"129 entries and no extension": many,
+    refused = {"129 entries and no extension": many, "one entry": "0 1M usable\n", "nothing": "", "another text": "hello\n",
                "an unknown type": plain + "BIOS-e820: [mem 0x0004000000000000-0x0004000000000fff] strange\n",
-               "one entry": "0 1M usable\n", "nothing": "", "another text": "hello\n", "too far": "0 1M 1\n0xfffffffffffff000 4K 1\n",
-               "two boots without heads": headless}
+               "too far": "0 1M 1\n0xfffffffffffff000 4K 1\n", "two boots without heads": headless}
     for what, log in refused.items():
         status, out, err = tool("zp-from-log", "--output", "none", "--no-initrd", given=log, folder=work)
         check(f"zp-from-log, {what}", (status, out, err.count("\n"), os.path.exists(os.path.join(work, "none"))), (1, "", 1, False))
@@ -500,7 +500,8 @@ def test_installed(work):
 
 
 TESTS = {"help": test_help, "where": test_where, "diff": test_diff, "draw": test_draw, "trips": test_round_trips,
-         "logs": test_logs, "refused": test_refused, "live": test_live, "hidden": test_hidden, "hull": test_hull, "installed": test_installed}
+         "logs": test_logs, "refused": test_refused, "live": test_live, "hidden": test_hidden, "hull": test_hull,
+         "installed": test_installed}
 
 
 def main():
