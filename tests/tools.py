@@ -98,7 +98,7 @@ block    none: not free
 """
 
 
-def test_where(_):
+def test_where(work):
     """One address by run, by its frame's number, by a file and by standard input; a table of memblock; a hole; refusals."""
     folder, words = example("q35-8g-numa2"), words_of("q35-8g-numa2")
     check("where", tool("bootmem-where", "0x17be00040", "--", *words, folder=folder), (0, WHERE, ""))
@@ -121,6 +121,11 @@ def test_where(_):
     alone = "address  0x000000007fff0000 (2.0 GiB), frame 524272\nmap      reserved 0x000000007ffdf000-0x000000007fffffff\n"
     check("where FILE", tool("bootmem-where", "0x7fff0000", "map.txt", folder=folder), (0, alone, ""))
     check("where -", tool("bootmem-where", "0x7fff0000", "-", given=text_of(example("q35-8g-numa2", "map.txt"))), (0, alone, ""))
+    with open(os.path.join(work, "script"), "w", encoding="utf-8") as file:
+        file.write("alloc 1 64K 4K max 16M\nfree 1\n")
+    freed = tool("bootmem-where", "0xff0000", "--", "--script", os.path.join(work, "script"), "zp.bin", folder=example("q35-1g"))[1]
+    check("where, freed", re.findall(r"^(?:owner|freed|claimed) .*", re.sub(r"journal \d+", "journal N", freed), re.MULTILINE),
+          ["owner    none", "freed    journal N: free 0x0000000000ff0000..0x0000000000ffffff"])
     for bad in ("0xg", "12Q", "-5", "0x10000000000000000", "16777216T"):
         check(f"where {bad}", tool("bootmem-where", bad, "map.txt", folder=folder)[:2], (2, ""))
     check("where, --report", tool("bootmem-where", "0", "--", "--report", "map", "zp.bin", folder=folder)[:2], (2, ""))
