@@ -43,6 +43,8 @@ install: bootmem
 	install -d "$(DESTDIR)$(PREFIX)/bin" "$(DESTDIR)$(PREFIX)/share/man/man1"
 	install -m 755 bootmem "$(DESTDIR)$(PREFIX)/bin/bootmem"
 	install -m 644 bootmem.1 "$(DESTDIR)$(PREFIX)/share/man/man1/bootmem.1"
+	install -d "$(DESTDIR)$(PREFIX)/share/bash-completion/completions"
+	install -m 644 tools/bootmem.bash-completion "$(DESTDIR)$(PREFIX)/share/bash-completion/completions/bootmem"
 
 clean:
 	rm -f bootmem
