@@ -106,66 +106,84 @@ fn forms_of_an_option(rt: HostRuntime) -> Result<(), Fail> {
     compare(&rt, rt.alloc(), &rows)
 }
 
-// Each option that stands beside a name, in each form: the option, a value that it takes, the option cut short and with one
-// hyphen, and what comes of the value and of an empty one.
+// Each option that stands beside a name, in each form. The words are the option, a value that it takes, both as one word, an
+// empty value, the option cut short and with one hyphen; then what comes of the value, of an empty one, and of the one word as a name.
 #[test]
 fn each_form_of_every_option(rt: HostRuntime) -> Result<(), Fail> {
-    let alloc = rt.alloc();
     let options = [
         (
-            "--cmdline",
-            "f",
-            "--cmd",
-            "-c",
-            "zp . f . . buddyinfo 16 0",
-            "zp .  . . buddyinfo 16 0",
+            ["--cmdline", "f", "--cmdline=f", "--cmdline=", "--cmd", "-c"],
+            [
+                "zp . f . . buddyinfo 16 0",
+                "zp .  . . buddyinfo 16 0",
+                "--cmdline=f . . . . buddyinfo 16 0",
+            ],
         ),
         (
-            "--e820ext",
-            "f",
-            "--e820",
-            "-e",
-            "zp f . . . buddyinfo 16 0",
-            "zp  . . . buddyinfo 16 0",
+            [
+                "--e820ext",
+                "f",
+                "--e820ext=f",
+                "--e820ext=",
+                "--e820",
+                "-e",
+            ],
+            [
+                "zp f . . . buddyinfo 16 0",
+                "zp  . . . buddyinfo 16 0",
+                "--e820ext=f . . . . buddyinfo 16 0",
+            ],
         ),
         (
-            "--srat",
-            "f",
-            "--sra",
-            "-srat",
-            "zp . . f . buddyinfo 16 0",
-            "zp . .  . buddyinfo 16 0",
+            ["--srat", "f", "--srat=f", "--srat=", "--sra", "-srat"],
+            [
+                "zp . . f . buddyinfo 16 0",
+                "zp . .  . buddyinfo 16 0",
+                "--srat=f . . . . buddyinfo 16 0",
+            ],
         ),
         (
-            "--script",
-            "f",
-            "--scr",
-            "-s",
-            "zp . . . f buddyinfo 16 0",
-            "zp . . .  buddyinfo 16 0",
+            ["--script", "f", "--script=f", "--script=", "--scr", "-s"],
+            [
+                "zp . . . f buddyinfo 16 0",
+                "zp . . .  buddyinfo 16 0",
+                "--script=f . . . . buddyinfo 16 0",
+            ],
         ),
         (
-            "--kernel",
-            "1M,8K",
-            "--kern",
-            "-k",
-            "zp . . . . buddyinfo 1 0",
-            "refused",
+            [
+                "--kernel",
+                "1M,8K",
+                "--kernel=1M,8K",
+                "--kernel=",
+                "--kern",
+                "-k",
+            ],
+            [
+                "zp . . . . buddyinfo 1 0",
+                "refused",
+                "--kernel=1M,8K . . . . buddyinfo 16 0",
+            ],
         ),
         (
-            "--report",
-            "map",
-            "--rep",
-            "-report",
-            "zp . . . . map 16 0",
-            "refused",
+            [
+                "--report",
+                "map",
+                "--report=map",
+                "--report=",
+                "--rep",
+                "-report",
+            ],
+            [
+                "zp . . . . map 16 0",
+                "refused",
+                "--report=map . . . . buddyinfo 16 0",
+            ],
         ),
     ];
-    for (long, value, cut, single, taken, empty) in options {
-        let joined = format!(in alloc; "{long}={value}")?;
-        let without = format!(in alloc; "{long}=")?;
-        let named = format!(in alloc; "{joined} . . . . buddyinfo 16 0")?;
-        let (joined, without) = (joined.as_str(), without.as_str());
+    for (words, answers) in options {
+        let [long, value, joined, without, cut, single] = words;
+        let [taken, empty, named] = answers;
         let rows: [(&[&str], &str); 14] = [
             // in front of the name and behind it
             (&[long, value, "zp"], taken),
@@ -181,13 +199,13 @@ fn each_form_of_every_option(rt: HostRuntime) -> Result<(), Fail> {
             (&[joined, joined, "zp"], "refused"),
             (&[long, value, "zp", joined], "refused"),
             // behind the end of options
-            (&["--", joined], named.as_str()),
+            (&["--", joined], named),
             (&["--", joined, "zp"], "refused"),
             // cut short, and with one hyphen
             (&[cut, value, "zp"], "refused"),
             (&[single, value, "zp"], "refused"),
         ];
-        compare(&rt, alloc, &rows)?;
+        compare(&rt, rt.alloc(), &rows)?;
     }
     Ok(())
 }
