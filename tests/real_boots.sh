@@ -1,14 +1,14 @@
 #!/bin/sh
 # real_boots.sh [PROGRAM]: runs the program over every machine of examples/ and compares its reports byte for byte with
-# the texts that the kernel's own log confirms: map.txt, memory.txt, nodes.txt, zones.txt, and replay/script.txt, the boot's
-# early allocations, each address of which is the kernel's own.
+# the texts that the kernel's own log confirms: map.txt, memory.txt, nodes.txt, zones.txt, crash.txt, and replay/script.txt, the
+# boot's early allocations, each address of which is the kernel's own.
 # Prints a line for each difference, how many texts of each report agree, how many answers and addresses the replays that
 # agree have, and 'N passed, M failed' at its end.
 set -u
 unset CDPATH
 top=$(cd "$(dirname "$0")/.." && pwd)
 program=$(cd "$(dirname "${1:-$top/bootmem}")" && pwd)/$(basename "${1:-$top/bootmem}")
-reports="map memory nodes zones script"
+reports="map memory nodes zones crash script"
 passed=0
 failed=0
 answers=0
