@@ -91,8 +91,8 @@ is "the README has no link into docs/" "$(grep -c '](docs/' "$share/doc/bootmem/
 
 # the tools run from where they are
 for tool in "$root"/bin/*; do
-	case $(head -n 1 "$tool") in
-	'#!'*python3) ok "$(basename "$tool") --help" "$tool" --help ;;
+	case $(head -n 1 "$tool" | tr -d '\0') in
+	'#!'*python3) ! command -v python3 >/dev/null 2>&1 || ok "$(basename "$tool") --help" "$tool" --help ;;
 	esac
 done
 is "bootmem-collect without a folder" "$("$root/bin/bootmem-collect" 2>&1 | grep -c '^usage: ')" 1
