@@ -17,7 +17,7 @@ program=$(cd "$(dirname "${1:-$top/bootmem}")" && pwd)/$(basename "${1:-$top/boo
 	echo "shown.sh: there is no program $program: 'make bootmem' builds it" >&2
 	exit 2
 }
-[ $# -gt 0 ] || set -- "$top/README.md" "$top/bootmem.1" "$top/bootmem.5"
+[ $# -gt 0 ] || set -- "$top/README.md" "$top/bootmem.1" "$top/bootmem.5" "$top/docs/TOOLS.md"
 work=$(mktemp -d) || exit 1
 trap 'rm -rf "$work"' EXIT
 passed=0
