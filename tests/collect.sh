@@ -56,31 +56,68 @@ mkdir -p "$work/sys/firmware/acpi/tables"
 printf 'SRAT' >"$work/sys/firmware/acpi/tables/SRAT"
 printf 'mem=1G\n' >"$work/line"
 
-said=$("$top/tools/collect.sh" --sys "$work/sys" --cmdline "$work/line" "$work/out")
+# collect FOLDER: gathers the imitated machine into a folder of $work; its two outputs go to said and err there
+collect() {
+	"$top/tools/collect.sh" --sys "$work/sys" --cmdline "$work/line" "$work/$1" >"$work/said" 2>"$work/err"
+}
+
+collect out
 is "status" "$?" 0
 same "zero page" "$work/out/zp.bin" 70616765
 same "extension" "$work/out/e820ext.bin" 000000000000000001000000060000006162636465"7a"
 same "command line" "$work/out/cmdline" 6d656d3d31470a
 same "SRAT" "$work/out/srat.bin" 53524154
-says "no SLIT" "$said" "slit.bin: no SLIT here"
+is "release" "$(cat "$work/out/release")" "$(uname -r)"
+is "what is told" "$(sed -e "s|$work|WORK|" -e 's/^release: .*/release/' "$work/said")" \
+	"zp.bin: zero page, 4 bytes
+e820ext.bin: the E820 extension, 22 bytes
+cmdline: command line, 7 bytes
+srat.bin: SRAT, 4 bytes
+release
+next: cd WORK/out && bootmem --cmdline cmdline --e820ext e820ext.bin --srat srat.bin zp.bin
+      (--kernel BASE,SIZE tells where the kernel's image lies; bootmem-live reads it from /proc/iomem)"
+is "what is complained of" "$(sed "s|$work|WORK|" "$work/err")" \
+	"collect.sh: slit.bin: no SLIT here (WORK/sys/firmware/acpi/tables/SLIT)
+collect.sh: cmdline may hold secrets: look at it before you hand the folder on"
+
+# a folder whose name a shell would split
+collect "a b'c"
+is "the next command's folder" "$(sed -n "s/^next: \(cd .*\) && .*/\1/p" "$work/said" | tail -n 1)" "cd '$work/a b'\\''c'"
 
 rm -r "$params/setup_data"
-"$top/tools/collect.sh" --sys "$work/sys" --cmdline "$work/line" "$work/plain" >/dev/null
+collect plain
 is "without setup_data" "$(ls "$work/plain")" "cmdline
+release
 srat.bin
 zp.bin"
+says "words without an extension" "$(cat "$work/said")" "bootmem --cmdline cmdline --srat srat.bin zp.bin"
+
+: >"$params/data"
+collect empty
+is "status for an empty zero page" "$?" 1
+says "an empty zero page" "$(cat "$work/err")" "zp.bin: $params/data is empty"
 
 rm "$params/data"
-said=$("$top/tools/collect.sh" --sys "$work/sys" --cmdline "$work/line" "$work/none")
-status=$?
-is "status without a zero page" "$status" 1
-says "no zero page" "$said" "zp.bin: no zero page here"
+collect none
+is "status without a zero page" "$?" 1
+says "no zero page" "$(cat "$work/err")" "zp.bin: no zero page here"
+is "no next command" "$(grep -c '^next' "$work/said")" 0
 
 mkdir "$work/again"
 printf 'old' >"$work/again/e820ext.bin"
-"$top/tools/collect.sh" --sys "$work/sys" --cmdline "$work/line" "$work/again" >/dev/null
+collect again
 is "what an earlier run left" "$(ls "$work/again")" "cmdline
+release
 srat.bin"
+
+for words in '' --sys "--sys $work/sys" "--unknown $work/out" "$work/out $work/out"; do
+	# shellcheck disable=SC2086 # the words are separated by blanks
+	"$top/tools/collect.sh" $words >"$work/said" 2>"$work/err"
+	is "status for '$words'" "$? $(wc -l <"$work/said" | tr -d ' ') $(wc -l <"$work/err" | tr -d ' ')" "2 0 1"
+done
+"$top/tools/collect.sh" --help >"$work/said" 2>"$work/err"
+is "status of --help" "$? $(cat "$work/err")" "0 "
+says "--help" "$(cat "$work/said")" "usage: collect.sh [--sys DIR] [--cmdline FILE] FOLDER"
 
 echo "$passed passed, $failed failed"
 [ "$failed" -eq 0 ]
