@@ -1,5 +1,5 @@
 #!/usr/bin/env python3
-"""tools.py [PROGRAM]: runs the tools beside the program over the machines of examples/ and compares what they print.
+"""tools.py [PROGRAM [TEST..]]: runs the tools beside the program over the machines of examples/ and compares what they print.
 
 Expected values are those of the kernel's own logs (map.txt, memory.txt, zones.txt), or worked out by hand from them.
 Prints a line for each difference, and 'N passed, M failed' at its end. It needs no root and no network.
@@ -65,12 +65,17 @@ def bytes_of(path):
         return file.read()
 
 
+def last_line(text):
+    """The last line of a text, empty where it has none."""
+    return (text.splitlines() or [""])[-1]
+
+
 def words_of(name):
     """The program's words for a machine."""
     return text_of(example(name, "words")).split()
 
 
-def test_help():
+def test_help(_):
     """Each tool tells how it is used and that it isn't proved; words that it doesn't know are refused."""
     for name in ("bootmem-draw", "bootmem-where", "bootmem-diff", "bootmem-live", "zp-from-log", "collect.sh"):
         status, out, err = tool(name, "--help")
@@ -92,7 +97,7 @@ block    none: not free
 """
 
 
-def test_where():
+def test_where(_):
     """One address by run, by its frame's number, by a file and by standard input; a table of memblock; a hole; refusals."""
     folder, words = example("q35-8g-numa2"), words_of("q35-8g-numa2")
     check("where", tool("bootmem-where", "0x17be00040", "--", *words, folder=folder), (0, WHERE, ""))
@@ -105,6 +110,10 @@ def test_where():
     # record 1 of the memory table, whose place is 8,192 bytes below the end of the kernel's image
     has("where, a table", tool("bootmem-where", "0x43fe018", "--", *words, folder=folder)[1],
         "table    memory of memblock, record 1\n")
+    # the newest claim decides; the kernel claims the first 64 KiB, and later the first MiB
+    has("where, claimed twice", tool("bootmem-where", "0", "--", *words, folder=folder)[1], "claimed  journal 10: claim low-1m ")
+    has("where, the last byte", tool("bootmem-where", "0xffff", "--", *words, folder=folder)[1], "claimed  journal 10: claim low-1m ")
+    has("where, the last byte of an entry", tool("bootmem-where", "0x7ffdefff", "map.txt", folder=folder)[1], "map      usable ")
     hole = tool("bootmem-where", "3G", "--", *words, folder=folder)[1]
     for part in ("map      none\n", "memory   none\n", "owner    none\n", "zone     none\n", "section  24, which has no memory\n"):
         has("where, a hole", hole, part)
@@ -121,7 +130,7 @@ def test_where():
     check("where, no program", tool("bootmem-where", "0", "--program", "/nowhere", "--", "zp.bin", folder=folder)[:2], (1, ""))
 
 
-def test_diff():
+def test_diff(_):
     """The kernel's own maps of two machines, two runs, and what can't be compared."""
     folder = example("q35-8g-numa2")
     check("diff, equal", tool("bootmem-diff", "map.txt", "map.txt", folder=folder), (0, "", ""))
@@ -136,6 +145,13 @@ def test_diff():
               "0x00000000000f0000-0x00000000000fffff none -> reserved\n"
               "0x00000000fffc0000-0x00000000ffffffff none -> reserved\n"
               "0x000000fd00000000-0x000000ffffffffff none -> reserved\n"))
+    # two records of the one memory, and a range of one byte
+    check("diff, joined", tool("bootmem-diff", "memory.txt", "../q35-4g-mem2g/memory.txt", folder=folder),
+          (1, "0x0000000100000000-0x000000027fffffff memory -> none\n", ""))
+    cut = text_of(example("q35-8g-numa2", "map.txt")).replace("..0x000000000009fbff 1 usable", "..0x000000000009fbfe 1 usable\n"
+                                                               "0x000000000009fbff..0x000000000009fbff 5 unusable")
+    check("diff, one byte", tool("bootmem-diff", "map.txt", "-", folder=folder, given=cut),
+          (1, "0x000000000009fbff-0x000000000009fbff usable -> unusable\n", ""))
     status, out, _ = tool("bootmem-diff", "--a", "zp.bin", "--b", "--cmdline cmdline zp.bin", folder=folder)
     check("diff, two runs", (status, out.splitlines()[:1]), (1, ["== owners"]))
     has("diff, two runs", out, "0x000000006f000000-0x000000007effffff none -> crash\n")
@@ -187,7 +203,7 @@ def rows_of(picture):
     return found
 
 
-def test_draw():
+def test_draw(_):
     """Tables for a terminal, and pictures: their rows have room for their text, and none lies over another."""
     check("draw --text", tool("bootmem-draw", "--text", example("first", "map.txt")), (0, FIRST, ""))
     check("draw --text, overlapping zones", tool("bootmem-draw", "--text", given=OVER), (0, OVER_TABLE, ""))
@@ -280,6 +296,7 @@ def test_logs(work):
     forms = {
         "journalctl": "".join(re.sub(r"^\[.*?\]", "Nov 27 22:41:01 host kernel:", line) + "\n" for line in plain.splitlines()),
         "a serial console": plain.replace("\n", "\r\n"),
+        "blanks at ends": plain.replace("\n", " \t\n"),
         "colours": re.sub(r"^(\[.*?\])", "\x1b[32m\\1\x1b[0m", plain, flags=re.MULTILINE).replace("\n", "\x1b[0m\n"),
         "no time stamps": re.sub(r"^\[.*?\] ", "", plain, flags=re.MULTILINE),
         "two boots": log_of("pc-128m") + plain,
@@ -289,22 +306,30 @@ def test_logs(work):
         check(f"zp-from-log, {what}", (status, out, bytes_of(os.path.join(work, "zp")) == page), (0, "", True))
         check(f"zp-from-log, {what}: said", err, "zp-from-log: the log has 2 boots: the last is taken\n" if "two" in what else "")
     listed = "# by hand\n0x100000 0x7ee0000 usable\n\n0x7fe0000 128K 2\n1T 4K ACPI NVS\n2T 1 type 9\n3T 1M persistent (type 12)\n"
+    listed += "4T 2M unusable\n5T 0x10K persistent (type 7)\n6T 4K soft reserved\n"
     status, _, err = tool("zp-from-log", "--output", "zp", given=listed, folder=work)
     check("zp-from-log, a list", status, 0)
     has("zp-from-log, a list", err, "no initrd")
     data = bytes_of(os.path.join(work, "zp"))
-    check("zp-from-log, a list: entries", (data[0x1E8], entries_of(data, 5, 0x2D0)),
-          (5, [(0x100000, 0x7EE0000, 1), (0x7FE0000, 0x20000, 2), (1 << 40, 4096, 4), (2 << 40, 1, 9), (3 << 40, 1 << 20, 12)]))
+    check("zp-from-log, a list: entries", (data[0x1E8], entries_of(data, 8, 0x2D0)),
+          (8, [(0x100000, 0x7EE0000, 1), (0x7FE0000, 0x20000, 2), (1 << 40, 4096, 4), (2 << 40, 1, 9), (3 << 40, 1 << 20, 12),
+               (4 << 40, 2 << 20, 5), (5 << 40, 16384, 7), (6 << 40, 4096, 0xEFFFFFFF)]))
     status, _, err = tool("zp-from-log", "--output", "zp", "--initrd", "0x1ffe40000,1M", given=listed, folder=work)
     data = bytes_of(os.path.join(work, "zp"))
     check("zp-from-log --initrd", (status, err, data[0x210] != 0, [struct.unpack_from("<I", data, place)[0]
                                                                   for place in (0x0C0, 0x218, 0x0C4, 0x21C)]),
           (0, "", True, [1, 0xFFE40000, 0, 0x100000]))
+
+
+def test_refused(work):
+    """Logs and lists of which no zero page is made: status 1, one line, no file."""
+    plain = log_of("q35-1g")
+    headless = "".join(line for line in (log_of("pc-128m") + plain).splitlines(True) if "provided" not in line)
     many = "".join(f"{index * 2}M 1M usable\n" for index in range(129))
     refused = {"129 entries and no extension": many,
                "an unknown type": plain + "BIOS-e820: [mem 0x0004000000000000-0x0004000000000fff] strange\n",
                "one entry": "0 1M usable\n", "nothing": "", "another text": "hello\n", "too far": "0 1M 1\n0xfffffffffffff000 4K 1\n",
-               "two boots without heads": "".join(line for line in forms["two boots"].splitlines(True) if "provided" not in line)}
+               "two boots without heads": headless}
     for what, log in refused.items():
         status, out, err = tool("zp-from-log", "--output", "none", "--no-initrd", given=log, folder=work)
         check(f"zp-from-log, {what}", (status, out, err.count("\n"), os.path.exists(os.path.join(work, "none"))), (1, "", 1, False))
@@ -379,7 +404,7 @@ def test_live(work):
         kinds = [line.split()[0] for line in out.splitlines()[1:-1]]
         zones = text_of(example(name, "zones.txt")).count("\n")
         check(f"live {name}", (status, err, kinds), (0, "", ["agrees"] * (1 + zones)))
-        check(f"live {name}: end", out.splitlines()[-1],
+        check(f"live {name}: end", last_line(out),
               f"{1 + zones} agree, 0 differ as docs/KERNEL.md says, 0 differ, 0 can't be compared")
     place = os.path.join(work, "q35-1g")
     has("live: the image by iomem", live(place)[1], "bootmem --cmdline cmdline --kernel 0x1000000,0x3400000 zp.bin\n")
@@ -387,7 +412,8 @@ def test_live(work):
     status, out, _ = edit(place, "iomem", "00100000-3ffdefff : System RAM", "00100000-3fedefff : System RAM")
     check("live: less RAM", (status, [line[:71] for line in out.splitlines() if line.startswith("differs")]),
           (1, ["differs  iomem 0x000000003fedf000-0x000000003ffdefff (1 MiB): usable by"]))
-    status, out, _ = edit(place, "iomem", "fed00000-fed003ff : HPET 0\n", "240000000-27fffffff : System RAM\n")
+    status, out, _ = edit(place, "iomem", "fed00000-fed003ff : HPET 0\n",
+                          "240000000-24fffffff : System RAM\n250000000-27fffffff : System RAM\n")
     check("live: more RAM", status, 1)
     has("live: more RAM", out, "differs  iomem 0x0000000240000000-0x000000027fffffff (1 GiB): System RAM here, ")
     status, out, _ = edit(place, "iomem", "fed00000-fed003ff : HPET 0\n", "240000000-27fffffff : System RAM (kmem)\n")
@@ -397,6 +423,15 @@ def test_live(work):
     status, out, _ = edit(place, "zoneinfo", "Movable\n  pages free     0\n        spanned  0\n        present  0\n",
                           "Movable\n  pages free     9\n        spanned  9\n        present  9\n")
     check("live: frames in Movable", (status, "node 0 Movable: start unknown spanned 9 present 9 here, no such zone" in out), (1, True))
+    status, out, _ = edit(place, "zoneinfo", "Movable\n  pages free     0\n        spanned  0\n",
+                          "Device\n  pages free     0\n        spanned  9\n")
+    check("live: a zone without frames", (status, "passed   zoneinfo node 0 Device: start unknown spanned 9 present 0: it" in out),
+          (0, True))
+
+
+def test_hidden(work):
+    """Addresses that are hidden, and what isn't there at all."""
+    place = stand_in(work, "q35-1g")
     write(os.path.join(place, "proc/iomem"), re.sub(r"[0-9a-f]+-[0-9a-f]+ :", "00000000-00000000 :",
                                                     text_of(os.path.join(place, "proc/iomem"))).encode())
     status, out, _ = live(place)
@@ -436,7 +471,7 @@ def test_hull(work):
     shutil.copy(example(name, "srat.bin"), os.path.join(work, name, "sys/firmware/acpi/tables/SRAT"))
     write(os.path.join(work, name, "proc/zoneinfo"), HULL)
     status, out, _ = live(os.path.join(work, name))
-    check("live: a node's hull", (status, out.splitlines()[-1]),
+    check("live: a node's hull", (status, last_line(out)),
           (0, "3 agree, 1 differ as docs/KERNEL.md says, 0 differ, 1 can't be compared"))
 
 
@@ -455,27 +490,27 @@ def test_installed(work):
     check("installed: beside", (status, out, err), (0, WHERE, ""))
     os.rename(os.path.join(work, "bin", "bootmem-diff"), os.path.join(work, "bootmem-diff"))
     shutil.copy(os.path.join(TOP, "tools", "bootmem_reports.py"), work)
-    for variables, wanted in ((path, 0), ({"BOOTMEM": "/nowhere/bootmem"}, 2)):
+    for variables, wanted in ((path, 0), ({**path, "BOOTMEM": "/nowhere/bootmem"}, 2)):
         check("installed: on the PATH", tool(os.path.join(work, "bootmem-diff"), "--a", "zp.bin", "--b", "zp.bin",
                                              folder=example("q35-1g"), variables=variables)[:2], (wanted, ""))
     place = stand_in(work, "pc-128m")
     status, out, err = tool(os.path.join(work, "bin", "bootmem-live"), "--sys", os.path.join(place, "sys"), "--proc",
                             os.path.join(place, "proc"), variables={"BOOTMEM": ""})
-    check("installed: bootmem-collect", (status, err, out.splitlines()[-1][:8]), (0, "", "3 agree,"))
+    check("installed: bootmem-collect", (status, err, last_line(out)[:8]), (0, "", "3 agree,"))
+
+
+TESTS = {"help": test_help, "where": test_where, "diff": test_diff, "draw": test_draw, "trips": test_round_trips,
+         "logs": test_logs, "refused": test_refused, "live": test_live, "hidden": test_hidden, "hull": test_hull, "installed": test_installed}
 
 
 def main():
-    """Runs every test."""
+    """Runs every test, or the named ones."""
     if not os.access(PROGRAM, os.X_OK):
         print(f"tools.py: there is no program {PROGRAM}: 'make bootmem' builds it", file=sys.stderr)
         return 2
-    test_help()
-    test_where()
-    test_diff()
-    test_draw()
-    for test in (test_round_trips, test_logs, test_live, test_hull, test_installed):
+    for name in sys.argv[2:] or TESTS:
         with tempfile.TemporaryDirectory() as work:
-            test(work)
+            TESTS[name](work)
     print(f"{COUNTS[True]} passed, {COUNTS[False]} failed")
     return 1 if COUNTS[False] else 0
 
