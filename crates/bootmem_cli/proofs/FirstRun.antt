@@ -25,8 +25,12 @@ use Rattle.early_stages.proofs.FewLaws.{NeedNone, few_from_nothing}
 use Rattle.bm_base.specs.ResultSteps.{◌>>=◌}
 use Rattle.boot_model.specs.Boot.{Given, Made, begin_with, boot, claims, has_memory, map_judged}
 use Rattle.boot_model.proofs.BootLaws.{goes_on}
-use Rattle.bootmem_cli.specs.Words.{accepted, name_in}
+use Rattle.program_words.specs.Kernel.{default_kernel}
+use Rattle.program_words.specs.Spelling.{ArePieces, Piece, apart, given_by, named, spelled}
+use Rattle.program_words.specs.Words.{Wanted, accepted, name_in}
+use Rattle.program_words.proofs.MatchedLaws.{accepted_as_given}
 use Rattle.boot_inputs.specs.Inputs.{Held}
+use Rattle.debugfs_reports.specs.declared.report.Report.TheVariants as reports
 use Rattle.boot_inputs.specs.Said.{no_options}
 use Rattle.bootmem_cli.specs.Outcome.{outcome}
 
@@ -145,9 +149,23 @@ wanted_is_made = few_from_nothing wanted few_wanted
 memory_is_made : (map_judged given >>= has_memory given) ≡ Ok (record (begin_with runs no_options) { items = wanted })
 memory_is_made = rw (map_is, frames_are, wanted_is_made) refl
 
+-- the words ask for the map of that page
+abbrev pieces : List Piece
+pieces = apart (codes "report") (codes "map") ∷ named (codes "zp") ∷ []
+
+are_pieces : ArePieces pieces
+are_pieces = ((refl, refl), refl, (refl, refl, tt))
+
+abbrev asked : Wanted
+asked = record { named = name_in (given_by pieces); kernel = default_kernel; reports = reports.Map ∷ []; made = None }
+
+words_ask : accepted (codes "--report" ∷ codes "map" ∷ codes "zp" ∷ []) ≡ Some asked
+words_ask = accepted_as_given pieces are_pieces
+
 -- and where each later stage finds its places, this is what is written
 first_run : (made : Made) → boot given ≡ Ok made → outcome (accepted (codes "--report" ∷ codes "map" ∷ codes "zp" ∷ [])) held
     ≡ Ok (codes "0x0000000000100000..0x0000000007fdffff 1 usable\n0x0000000007fe0000..0x0000000007ffffff 2 reserved\n")
-unfolding entry_at digits initrd_of is_initrd_far name_in
+unfolding entry_at digits initrd_of is_initrd_far
 first_run made ends =
-    let map : made.map ≡ runs = (goes_on given made ends).map ∙ map_is in rw (ends, map) refl
+    let map : made.map ≡ runs = (goes_on given made ends).map ∙ map_is in
+    ap (λ words. outcome words held) words_ask ∙ rw (ends, map) refl

@@ -4,7 +4,7 @@ use Rattle.std.specs.Io.KnownBytes.{Appends}
 use Rattle.bm_base.specs.ResultSteps.{◌>>=◌}
 use Rattle.boot_inputs.specs.declared.refusal.Refusal.{Refusal}
 use Rattle.boot_inputs.specs.declared.refusal.Refusal.TheVariants as refusals
-use Rattle.boot_inputs.specs.Inputs.{Held, inputs_of}
+use Rattle.boot_inputs.specs.Inputs.{Held}
 use Rattle.boot_model.specs.declared.stop.Cause.{Cause}
 use Rattle.boot_model.specs.Boot.{Given, Told, told_boot}
 use Rattle.conservation.proofs.HeadlineLaws.{all_touched_or_in_one, blocks_maximal, blocks_whole, no_other_in_a_block}
@@ -15,9 +15,9 @@ use Rattle.bootmem_cli.specs.declared.failure.Failure.TheVariants as failures
 use Rattle.bootmem_cli.specs.declared.failure.Reason.TheVariants as reasons
 use Rattle.bootmem_cli.specs.Answers.{IsText, Writes}
 use Rattle.bootmem_cli.specs.Headline.{IsReported}
-use Rattle.bootmem_cli.specs.Outcome.{or_refused, or_stopped, outcome, reported}
+use Rattle.bootmem_cli.specs.Outcome.{given_by, or_refused, or_stopped, outcome, reported}
 use Rattle.bootmem_cli.specs.Status.{End, status_of, status_of_end}
-use Rattle.bootmem_cli.specs.Words.{Wanted}
+use Rattle.program_words.specs.Words.{Wanted}
 
 by_told : (reports : List Report) (answer : Result Told Cause) (P : List ℕ → Type 0)
     → IsText (or_stopped answer >>= λ told. Ok (text_of reports told)) P
@@ -36,7 +36,7 @@ pub is_reported : (accepted : Option Wanted) (held : Held) (old new : Option (Li
 is_reported None held old new is = absurd is
 is_reported (Some wanted) held old new is =
     let P : List ℕ → Type 0 = λ text. Appends old new text in
-    let first = by_given wanted.reports (inputs_of held wanted.named wanted.kernel) P is in
+    let first = by_given wanted.reports (given_by held wanted) P is in
     let last = by_told wanted.reports (told_boot first.0) P first.2 in
     record {
       wanted = wanted;

@@ -1,7 +1,7 @@
 mod FirstRun
+pub mod GivenLaws
 pub mod HeadlineLaws
-mod OutcomeExamples
+mod LineExamples
+pub mod OutcomeExamples
 pub mod RunLaws
 pub mod TellLaws
-mod WordExamples
-pub mod WordLaws

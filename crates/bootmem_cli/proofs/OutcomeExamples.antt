@@ -1,28 +1,26 @@
 -- What the program comes to, and how answers stand to that, on small answers and counts.
-use Rattle.std.proofs.Common.{◌≡◌, ℕ, if◌then◌else◌, List, [], ◌∷◌, codes, Option, Some, None, Ok, Err, refl, inl, arith}
-use Rattle.std.specs.Prelude.{Result, String, string_bytes, replicate}
+use Rattle.std.proofs.Common.{◌≡◌, ℕ, if◌then◌else◌, List, [], ◌∷◌, codes, Option, Some, None, Ok, Err, refl, inl, inr, arith}
+use Rattle.std.specs.Prelude.{Result, replicate}
 use Rattle.std.specs.Str.{bytes_eq}
-use Rattle.std.specs.declared.alloc.Global.{Global}
 use Rattle.bm_io.specs.declared.writing.Sink.{Ghosts as SinkOf}
 use Rattle.boot_inputs.specs.declared.fault.Fault.TheVariants as faults
 use Rattle.boot_inputs.specs.declared.input.Input.TheVariants as inputs
 use Rattle.boot_inputs.specs.declared.refusal.Refusal.TheVariants as refusals
 use Rattle.boot_inputs.specs.Inputs.{Held}
+use Rattle.boot_inputs.specs.Said.{no_options}
+use Rattle.e820_table.specs.Made.{entries_behind, high_ram, low_ram}
 use Rattle.boot_model.specs.declared.stop.Cause.TheVariants as causes
 use Rattle.boot_model.specs.Boot.{Given, boot}
 use Rattle.debugfs_reports.specs.declared.report.Report.TheVariants as reports
-use Rattle.debugfs_reports.specs.ReportList.{reports_in}
 use Rattle.bootmem_cli.specs.declared.failure.Reason.{Reason}
 use Rattle.bootmem_cli.specs.declared.failure.Reason.TheVariants as reasons
 use Rattle.bootmem_cli.specs.declared.failure.Failure.TheVariants as failures
-use Rattle.bootmem_cli.specs.declared.wanted.Wanted.{Wanted as WantedBy}
 use Rattle.bootmem_cli.specs.Answers.{EndFits, EndHasCause, Ends, FailureHasCause, FileHasCause, FitsFailure, FitsFile, FitsReason, IsFaulty, IsOfBoot, IsStopped, IsText, Makes, ReachesFile, ReasonHasCause, ReportHasCause, RoseFor, Writes, WritingHasCause}
-use Rattle.bootmem_cli.specs.Outcome.{or_refused, or_stopped, or_usage, outcome, reported}
+use Rattle.bootmem_cli.specs.Outcome.{given_by, or_refused, or_stopped, or_usage, outcome, reported, with_made}
 use Rattle.bootmem_cli.specs.Run.{IsTold}
-use Rattle.bootmem_cli.specs.View.{wanted_view}
-use Rattle.bootmem_cli.specs.Words.{Wanted, name_in, texts}
+use Rattle.program_words.specs.Words.{Wanted}
 
-abbrev wanting : List ℕ → Wanted
+abbrev pub wanting : List ℕ → Wanted
 wanting zero_page = record {
   named = λ input. (elim input [
     | inputs.ZeroPage ↦ Some zero_page
@@ -33,6 +31,7 @@ wanting zero_page = record {
   ]);
   kernel = record { base = 0x1000000; size = 0x2000000 };
   reports = reports.Map ∷ [];
+  made = None;
 }
 
 -- one file, a zero page that is too short
@@ -49,6 +48,33 @@ without_a_page = refl
 with_a_short_page : outcome (Some (wanting (codes "short"))) held
     ≡ Err (reasons.Refused (refusals.Faulty inputs.ZeroPage faults.WrongLength))
 with_a_short_page = refl
+
+-- a made table in place of the files' entries
+abbrev of_files : Given
+of_files = record {
+  entries = low_ram ∷ low_ram ∷ low_ram ∷ [];
+  initrd = Some (record { base = 0x7D00000; size = 0x1000 });
+  extension = low_ram ∷ [];
+  options = no_options;
+  domains = None;
+  kernel = record { base = 0x1000000; size = 0x2000000 };
+  lines = [];
+}
+
+-- two entries are the first two, and nothing is left for the extension; without a number the files' entries stay
+made_examples : (with_made (Some 2) of_files ≡ record of_files { entries = low_ram ∷ high_ram ∷ []; initrd = None; extension = [] })
+    × (with_made None of_files ≡ of_files)
+unfolding entries_behind
+made_examples = (refl, refl)
+
+given_examples : (h : Held) → given_by h (record {
+  named = λ input. None;
+  kernel = record { base = 0x1000000; size = 0x2000000 };
+  reports = [];
+  made = Some 2;
+}) ≡ Ok (record of_files { entries = low_ram ∷ high_ram ∷ []; initrd = None; extension = [] })
+unfolding entries_behind
+given_examples h = refl
 
 -- the parts of that definition
 usage_examples : (or_usage None ≡ Err reasons.Usage) × (or_usage (Some (wanting (codes "zp"))) ≡ Ok (wanting (codes "zp")))
@@ -113,8 +139,10 @@ report_causes : ReportHasCause {X = ℕ} before before wanted (Ok 7)
     × (ReportHasCause {X = ℕ} before before wanted (Err failures.Unwritten) → ⊥)
 report_causes = (refl, λ cause. cause)
 
-failure_causes : FailureHasCause before before wanted failures.Memory × (FailureHasCause before before None failures.Memory → ⊥)
-failure_causes = (refl, λ some. cc some)
+-- memory may be wanting while the words are read, be they accepted or not
+failure_causes : FailureHasCause before before wanted failures.Unwritten × (FailureHasCause before before None failures.Unwritten → ⊥)
+    × FailureHasCause before before None failures.Memory
+failure_causes = (refl, (λ some. cc some), tt)
 
 end_causes : EndHasCause before before wanted (Ok tt) × (EndHasCause before before None (Ok tt) → ⊥)
 end_causes = (refl, λ some. cc some)
@@ -136,12 +164,12 @@ stop_examples = ((causes.NoRam, refl), λ is. cc is.1)
 end_fits_examples : EndFits failures.Unwritten text × (EndFits failures.Unwritten too_few → ⊥)
 end_fits_examples = (tt, λ is. is)
 
--- where the outcome is a text, the status is 0, 3, 4 or 7; refused words are status 2 alone
+-- where the outcome is a text, the status is 0, 3, 4 or 7; refused words are status 2, or 7
 text_ends : Ends text 0 × (Ends text 5 → ⊥)
 text_ends = (inl refl, λ ends. grind arith)
 
-usage_ends : Ends (Err reasons.Usage) 2 × (Ends (Err reasons.Usage) 3 → ⊥)
-usage_ends = (refl, λ ends. omega (arith, ends))
+usage_ends : Ends (Err reasons.Usage) 2 × Ends (Err reasons.Usage) 7 × (Ends (Err reasons.Usage) 3 → ⊥)
+usage_ends = (inl refl, inr refl, λ ends. grind arith)
 
 stop_ends : Ends (Err (reasons.Stopped causes.NoRam)) 6 × (Ends (Err (reasons.Stopped causes.NoRam)) 5 → ⊥)
 stop_ends = (inl refl, λ ends. grind arith)
@@ -165,14 +193,3 @@ writing_without_a_cause rose = omega (arith, rose)
 -- after status 0 the error output is as it was
 told_examples : (errors : SinkOf ℕ) → IsTold errors wanted 3 3 (Ok tt) × (IsTold errors wanted 3 4 (Ok tt) → ⊥)
 told_examples errors = (refl, λ same. omega (arith, same))
-
--- a word is its bytes, and what words ask for is looked up in them
-no_words : texts [] ≡ []
-no_words = refl
-
-words_are_bytes : (first second : String Global) → texts (first ∷ second ∷ []) ≡ string_bytes first ∷ string_bytes second ∷ []
-words_are_bytes first second = refl
-
-wanted_is_in_words : (w : WantedBy) → ((wanted_view w).named ≡ name_in (texts w.words.now)) × ((wanted_view w).kernel ≡ w.kernel)
-    × ((wanted_view w).reports ≡ reports_in w.list.now)
-wanted_is_in_words w = (refl, refl, refl)

@@ -9,8 +9,8 @@ use Rattle.boot_inputs.specs.declared.refusal.Refusal.{Refusal}
 use Rattle.boot_inputs.specs.declared.refusal.Refusal.TheVariants as refusals
 use Rattle.boot_inputs.specs.declared.refusal.InputError.{InputError}
 use Rattle.boot_inputs.specs.declared.refusal.InputError.TheVariants as errors
-use Rattle.boot_inputs.specs.Answers.{ComesTo, Fits}
-use Rattle.boot_inputs.specs.Inputs.{Held, inputs_of}
+use Rattle.boot_inputs.specs.Answers.{ComesTo, Fits, Gives}
+use Rattle.boot_inputs.specs.Inputs.{Held}
 use Rattle.boot_model.specs.declared.stop.Cause.{Cause}
 use Rattle.boot_model.specs.Boot.{Given, Told, told_boot}
 use Rattle.debugfs_reports.specs.declared.report.Report.{Report}
@@ -21,35 +21,14 @@ use Rattle.bootmem_cli.specs.declared.failure.Failure.{Failure}
 use Rattle.bootmem_cli.specs.declared.failure.Failure.TheVariants as failures
 use Rattle.bootmem_cli.specs.Answers.{EndFits, EndHasCause, Ends, FailureHasCause, FitsFailure, IsText, Makes, ReachesFile, RoseFor, Writes}
 use Rattle.bootmem_cli.specs.Line.{Tells, failure_line}
-use Rattle.bootmem_cli.specs.Outcome.{or_refused, or_stopped, outcome, reported}
+use Rattle.bootmem_cli.specs.Outcome.{given_by, or_refused, or_stopped, outcome, reported}
 use Rattle.bootmem_cli.specs.Run.{IsTold}
 use Rattle.bootmem_cli.specs.Status.{End, failure_of_input, status_of, status_of_end}
-use Rattle.bootmem_cli.specs.Words.{Wanted}
-
--- with accepted words the outcome isn't that they are refused: by the types of what comes behind them
-abbrev NotUsage : Result (List ℕ) Reason → Type 0
-NotUsage (Ok text) = Unit {0}
-NotUsage (Err reasons.Usage) = ⊥
-NotUsage (Err (reasons.Refused refusal)) = Unit {0}
-NotUsage (Err (reasons.Stopped cause)) = Unit {0}
-
-past_inputs : (said : Result Given Refusal) (next : Given → Result (List ℕ) Reason) → ((given : Given) → NotUsage (next given))
-    → NotUsage (or_refused said >>= next)
-past_inputs (Ok given) next later = later given
-past_inputs (Err refusal) next later = tt
-
-past_boot : (told : Result Told Cause) (shown : Told → List ℕ) → NotUsage (or_stopped told >>= λ t. Ok (shown t))
-past_boot (Ok told) shown = tt
-past_boot (Err cause) shown = tt
-
-past_words : (held : Held) (accepted : Option Wanted) → IsSome accepted → NotUsage (outcome accepted held)
-past_words held None some = cc
-past_words held (Some wanted) some =
-    past_inputs (inputs_of held wanted.named wanted.kernel) (reported wanted.reports)
-    (λ given. past_boot (told_boot given) (text_of wanted.reports))
+use Rattle.program_words.specs.Words.{Wanted}
 
 -- refused inputs are refused in the outcome, and where an input's file is reached it is reached there
-reached_behind : (input : Input) (told : Result Told Cause) (shown : Told → List ℕ) → ReachesFile input (or_stopped told >>= λ t. Ok (shown t))
+reached_behind : (input : Input) (told : Result Told Cause) (shown : Told → List ℕ)
+    → ReachesFile input (or_stopped told >>= λ t. Ok (shown t))
 reached_behind input (Ok told) shown = tt
 reached_behind input (Err cause) shown = tt
 
@@ -59,9 +38,9 @@ reached input (Ok given) reports comes = reached_behind input (told_boot given) 
 reached input (Err refusal) reports comes = comes
 
 pub inputs_fit : (held : Held) (wanted : Wanted) (error : InputError) (failure : Failure) → failure ≡ failure_of_input error
-    → Fits error (inputs_of held wanted.named wanted.kernel) → FitsFailure failure (outcome (Some wanted) held)
+    → Fits error (given_by held wanted) → FitsFailure failure (outcome (Some wanted) held)
 inputs_fit held wanted (errors.Refused (refusals.Unread input)) failure is fits =
-    rw is (reached input (inputs_of held wanted.named wanted.kernel) wanted.reports fits)
+    rw is (reached input (given_by held wanted) wanted.reports fits)
 inputs_fit held wanted (errors.Refused (refusals.Faulty input fault)) failure is fits =
     rw is (ap (λ (said : Result Given Refusal). or_refused said >>= reported wanted.reports) fits)
 inputs_fit held wanted errors.Memory failure is fits = rw is tt
@@ -73,7 +52,7 @@ if_told (Some a) P Q step holds = step a holds
 
 pub makes_none : {X : Type 0} (view : X → List ℕ) (r : Result X Failure) (failure : Failure) (told : Option Held)
     (accepted : Option Wanted) (wanted : Wanted) (error : InputError) → r ≡ Err failure → failure ≡ failure_of_input error
-    → accepted ≡ Some wanted → IfSome told (λ held. Fits error (inputs_of held wanted.named wanted.kernel))
+    → accepted ≡ Some wanted → IfSome told (λ held. Fits error (given_by held wanted))
     → IfSome told (λ held. Makes view r (outcome accepted held))
 makes_none view r failure told accepted wanted error is from some fits =
     if_told told _ _ (λ held h. rw (is, some) (inputs_fit held wanted error failure from h)) fits
@@ -90,37 +69,32 @@ ends_unwritten : (said : Result (List ℕ) Reason) (P : List ℕ → Type 0) →
 ends_unwritten (Ok text) P is = inr (inr (inl refl))
 ends_unwritten (Err reason) P is = absurd is
 
-ends_wanting : (said : Result (List ℕ) Reason) → NotUsage said → Ends said 7
-ends_wanting (Ok text) past = inr (inr (inr refl))
-ends_wanting (Err reasons.Usage) past = absurd past
-ends_wanting (Err (reasons.Refused (refusals.Unread other))) past = inr refl
-ends_wanting (Err (reasons.Refused (refusals.Faulty other fault))) past = inr (inr refl)
-ends_wanting (Err (reasons.Stopped cause)) past = inr (inr refl)
+ends_wanting : (said : Result (List ℕ) Reason) → Ends said 7
+ends_wanting (Ok text) = inr (inr (inr refl))
+ends_wanting (Err reasons.Usage) = inr refl
+ends_wanting (Err (reasons.Refused (refusals.Unread other))) = inr refl
+ends_wanting (Err (reasons.Refused (refusals.Faulty other fault))) = inr (inr refl)
+ends_wanting (Err (reasons.Stopped cause)) = inr (inr refl)
 
-ends_by : (said : Result (List ℕ) Reason) (end : End) (old new : Option (List ℕ))
-    → (end ≡ Err failures.Memory → NotUsage said) → Writes old new end said → Ends said (status_of_end end)
-ends_by (Ok text) (Ok done) old new past writes = inl refl
-ends_by (Err reason) (Ok done) old new past writes = absurd writes
-ends_by said (Err (failures.NoReport reasons.Usage)) old new past writes =
-    let P : Result (List ℕ) Reason → Type 0 = λ s. Ends s 2 in subst P (sym writes) refl
-ends_by said (Err (failures.NoReport (reasons.Refused (refusals.Unread input)))) old new past writes = ends_unread said input writes
-ends_by said (Err (failures.NoReport (reasons.Refused (refusals.Faulty input fault)))) old new past writes =
+ends_by : (said : Result (List ℕ) Reason) (end : End) (old new : Option (List ℕ)) → Writes old new end said → Ends said (status_of_end end)
+ends_by (Ok text) (Ok done) old new writes = inl refl
+ends_by (Err reason) (Ok done) old new writes = absurd writes
+ends_by said (Err (failures.NoReport reasons.Usage)) old new writes =
+    let P : Result (List ℕ) Reason → Type 0 = λ s. Ends s 2 in subst P (sym writes) (inl refl)
+ends_by said (Err (failures.NoReport (reasons.Refused (refusals.Unread input)))) old new writes = ends_unread said input writes
+ends_by said (Err (failures.NoReport (reasons.Refused (refusals.Faulty input fault)))) old new writes =
     let P : Result (List ℕ) Reason → Type 0 = λ s. Ends s 5 in subst P (sym writes) (inl refl)
-ends_by said (Err (failures.NoReport (reasons.Stopped cause))) old new past writes =
+ends_by said (Err (failures.NoReport (reasons.Stopped cause))) old new writes =
     let P : Result (List ℕ) Reason → Type 0 = λ s. Ends s 6 in subst P (sym writes) (inl refl)
-ends_by said (Err failures.Unwritten) old new past writes = ends_unwritten said (λ text. AppendsFront old new text) writes
-ends_by said (Err failures.Memory) old new past writes = ends_wanting said (past refl)
+ends_by said (Err failures.Unwritten) old new writes = ends_unwritten said (λ text. AppendsFront old new text) writes
+ends_by said (Err failures.Memory) old new writes = ends_wanting said
 
 -- the status is one that the outcome may end with, where the files tell what they hold
-pub ran_answers : (holds : Option Held) (before now : List ℕ → ℕ) (accepted : Option Wanted) (end : End) (status : ℕ)
-    (old new : Option (List ℕ))
-    → status ≡ status_of_end end → EndHasCause before now accepted end
-    → IfSome holds (λ held. Writes old new end (outcome accepted held)) → IfSome holds (λ held. Ends (outcome accepted held) status)
-ran_answers None before now accepted end status old new is cause writes = tt
-ran_answers (Some held) before now accepted end status old new is cause writes =
-    rw is (ends_by (outcome accepted held) end old new
-    (λ wanting. let P : End → Type 0 = λ e. EndHasCause before now accepted e in past_words held accepted (subst P wanting cause))
-    writes)
+pub ran_answers : (holds : Option Held) (accepted : Option Wanted) (end : End) (status : ℕ) (old new : Option (List ℕ))
+    → status ≡ status_of_end end → IfSome holds (λ held. Writes old new end (outcome accepted held))
+    → IfSome holds (λ held. Ends (outcome accepted held) status)
+ran_answers None accepted end status old new is writes = tt
+ran_answers (Some held) accepted end status old new is writes = rw is (ends_by (outcome accepted held) end old new writes)
 
 -- a failure fits the outcome
 end_fits : (said : Result (List ℕ) Reason) (failure : Failure) (old new : Option (List ℕ)) → Writes old new (Err failure) said
@@ -148,7 +122,7 @@ ran_line errors holds before now accepted (Ok done) status err_old err_new old n
 ran_line errors holds before now accepted (Err failure) status err_old err_new old new is cause told writes other =
     (failure, is, told, cause, fits_held holds accepted failure old new writes)
 
--- status 2 comes exactly where the words are refused
+-- status 2 comes where the words are refused alone, and they give that or want of memory
 both : (accepted : Option Wanted) → IsSome accepted → IsNone accepted → ⊥
 both None some none = cc
 both (Some wanted) some none = cc
@@ -157,15 +131,17 @@ named_some : (before now : List ℕ → ℕ) (accepted : Option Wanted) (input :
 named_some before now None input rose = absurd rose
 named_some before now (Some wanted) input rose = refl
 
-not_two : (accepted : Option Wanted) (status other : ℕ) → status ≡ other → other ≢ 2 → IsSome accepted
-    → (status ≡ 2 → IsNone accepted) × (IsNone accepted → status ≡ 2)
-not_two accepted status other is differs some =
-    ((λ two. absurd (differs (sym is ∙ two))), λ none. absurd (both accepted some none))
+-- what the status says of the words, and they of it
+abbrev pub Refuses : Option Wanted → ℕ → Type 0
+Refuses accepted status = (status ≡ 2 → IsNone accepted) × (IsNone accepted → (status ≡ 2) ⊎ (status ≡ 7))
+
+not_two : (accepted : Option Wanted) (status other : ℕ) → status ≡ other → other ≢ 2 → IsSome accepted → Refuses accepted status
+not_two accepted status other is differs some = ((λ two. absurd (differs (sym is ∙ two))), λ none. absurd (both accepted some none))
 
 pub ran_usage : (before now : List ℕ → ℕ) (accepted : Option Wanted) (end : End) (status : ℕ) → status ≡ status_of_end end
-    → EndHasCause before now accepted end → (status ≡ 2 → IsNone accepted) × (IsNone accepted → status ≡ 2)
+    → EndHasCause before now accepted end → Refuses accepted status
 ran_usage before now accepted (Ok done) status is cause = not_two accepted status 0 is (λ same. omega (arith, same)) cause
-ran_usage before now accepted (Err (failures.NoReport reasons.Usage)) status is cause = ((λ two. cause), λ none. is)
+ran_usage before now accepted (Err (failures.NoReport reasons.Usage)) status is cause = ((λ two. cause), λ none. inl is)
 ran_usage before now accepted (Err (failures.NoReport (reasons.Refused (refusals.Unread input)))) status is cause =
     not_two accepted status 3 is (λ same. omega (arith, same)) (named_some before now accepted input cause)
 ran_usage before now accepted (Err (failures.NoReport (reasons.Refused (refusals.Faulty input fault)))) status is cause =
@@ -173,4 +149,5 @@ ran_usage before now accepted (Err (failures.NoReport (reasons.Refused (refusals
 ran_usage before now accepted (Err (failures.NoReport (reasons.Stopped cause_of))) status is cause =
     not_two accepted status 6 is (λ same. omega (arith, same)) cause
 ran_usage before now accepted (Err failures.Unwritten) status is cause = not_two accepted status 4 is (λ same. omega (arith, same)) cause
-ran_usage before now accepted (Err failures.Memory) status is cause = not_two accepted status 7 is (λ same. omega (arith, same)) cause
+ran_usage before now accepted (Err failures.Memory) status is cause =
+    ((λ two. let other : 7 ≡ 2 = sym is ∙ two in absurd (omega (arith, other))), λ none. inr is)

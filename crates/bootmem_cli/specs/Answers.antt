@@ -16,7 +16,7 @@ use Rattle.bootmem_cli.specs.declared.failure.Reason.TheVariants as reasons
 use Rattle.bootmem_cli.specs.declared.failure.Failure.{Failure}
 use Rattle.bootmem_cli.specs.declared.failure.Failure.TheVariants as failures
 use Rattle.bootmem_cli.specs.Status.{End}
-use Rattle.bootmem_cli.specs.Words.{Wanted}
+use Rattle.program_words.specs.Words.{Wanted}
 
 -- the work comes to the input's file: the words are accepted, and each input before it is held and has no fault
 abbrev pub ReachesFile : {Y : Type 0} → Input → Result Y Reason → Type 0
@@ -97,11 +97,11 @@ WritingHasCause faults wants old new (Err (failures.NoReport reason)) = new ≡ 
 WritingHasCause faults wants old new (Err failures.Unwritten) = Rose (faults old) (faults new)
 WritingHasCause faults wants old new (Err failures.Memory) = (new ≡ old) ⊎ Rose (wants old) (wants new)
 
--- the cause of a failure, whatever the files tell
+-- the cause of a failure, whatever the files tell; memory may be wanting from the words on, be they accepted or not
 abbrev pub FailureHasCause : (before now : List ℕ → ℕ) → Option Wanted → Failure → Type 0
 FailureHasCause before now accepted (failures.NoReport reason) = ReasonHasCause before now accepted reason
 FailureHasCause before now accepted failures.Unwritten = IsSome accepted
-FailureHasCause before now accepted failures.Memory = IsSome accepted
+FailureHasCause before now accepted failures.Memory = Unit {0}
 
 -- and of the way it ended
 abbrev pub EndHasCause : (before now : List ℕ → ℕ) → Option Wanted → End → Type 0
@@ -121,10 +121,10 @@ IsFaulty said = (input : Input) × ((fault : Fault) × (said ≡ Err (reasons.Re
 abbrev pub IsStopped : Result (List ℕ) Reason → Type 0
 IsStopped said = (cause : Cause) × (said ≡ Err (reasons.Stopped cause))
 
--- the statuses that an outcome may end with
+-- the statuses that an outcome may end with: what comes of it, 3 or 4 where the outside fails, or 7
 abbrev pub Ends : Result (List ℕ) Reason → ℕ → Type 0
 Ends (Ok text) status = (status ≡ 0) ⊎ (status ≡ 3) ⊎ (status ≡ 4) ⊎ (status ≡ 7)
-Ends (Err reasons.Usage) status = status ≡ 2
+Ends (Err reasons.Usage) status = (status ≡ 2) ⊎ (status ≡ 7)
 Ends (Err (reasons.Refused (refusals.Unread input))) status = (status ≡ 3) ⊎ (status ≡ 7)
 Ends (Err (reasons.Refused (refusals.Faulty input fault))) status = (status ≡ 5) ⊎ (status ≡ 3) ⊎ (status ≡ 7)
 Ends (Err (reasons.Stopped cause)) status = (status ≡ 6) ⊎ (status ≡ 3) ⊎ (status ≡ 7)

@@ -1,11 +1,12 @@
 -- The one line on the error output.
-use Rattle.std.specs.Prelude.{ℕ, List, ◌++◌, codes, decimal, Option, ◌⊎◌}
+use Rattle.std.specs.Prelude.{ℕ, List, [], ◌++◌, codes, decimal, Option, Some, None, ◌⊎◌, unwrap_or}
 use Rattle.std.specs.Io.KnownBytes.{Appends}
 use Rattle.bm_io.specs.Counts.{Rose}
 use Rattle.bm_io.specs.Told.{AppendsFront}
 use Rattle.bm_io.specs.declared.writing.Sink.{Ghosts as SinkOf}
 use Rattle.boot_inputs.specs.declared.fault.Fault.{Fault}
 use Rattle.boot_inputs.specs.declared.fault.Fault.TheVariants as faults
+use Rattle.boot_inputs.specs.declared.input.Input.{Input}
 use Rattle.boot_inputs.specs.declared.refusal.Refusal.{Refusal}
 use Rattle.boot_inputs.specs.declared.refusal.Refusal.TheVariants as refusals
 use Rattle.boot_inputs.specs.Input.{word_for}
@@ -19,7 +20,7 @@ use Rattle.bootmem_cli.specs.declared.failure.Reason.{Reason}
 use Rattle.bootmem_cli.specs.declared.failure.Reason.TheVariants as reasons
 use Rattle.bootmem_cli.specs.declared.failure.Failure.{Failure}
 use Rattle.bootmem_cli.specs.declared.failure.Failure.TheVariants as failures
-use Rattle.bootmem_cli.specs.Words.{Wanted, name_text}
+use Rattle.program_words.specs.Words.{Wanted}
 
 -- of the input of that name: a fault of the whole file, of an entry, which are numbered from 0, of a word or of a line, which are
 -- numbered from 1, and of what stands at an offset in bytes
@@ -92,7 +93,12 @@ cause_line (causes.MapFull runs) = codes "bootmem: stopped: " ++ (decimal runs +
 cause_line (causes.NoPlace thing) = place_line thing
 cause_line (causes.NoTablePlace w room) = table_line (table_name w) room
 
--- a file that couldn't be read is named as the words name it
+-- the name of an input's file as the words name it, which is empty where there is none
+abbrev pub name_text : Option Wanted → Input → List ℕ
+name_text None input = []
+name_text (Some wanted) input = unwrap_or (wanted.named input) []
+
+-- a file that couldn't be read is named so
 abbrev pub refusal_line : Option Wanted → Refusal → List ℕ
 refusal_line accepted (refusals.Unread input) = codes "bootmem: cannot read " ++ (name_text accepted input ++ codes "\n")
 refusal_line accepted (refusals.Faulty input fault) = fault_line (word_for input) fault

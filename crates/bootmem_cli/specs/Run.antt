@@ -6,7 +6,7 @@ use Rattle.bootmem_cli.specs.Answers.{EndHasCause, Writes, WritingHasCause}
 use Rattle.bootmem_cli.specs.Line.{Tells, failure_line}
 use Rattle.bootmem_cli.specs.Outcome.{outcome}
 use Rattle.bootmem_cli.specs.Status.{End}
-use Rattle.bootmem_cli.specs.Words.{Wanted}
+use Rattle.program_words.specs.Words.{Wanted}
 
 -- after status 0 nothing stands on the error output; else a front of the failure's line, and all of it unless the
 -- error output itself failed

@@ -1,7 +1,7 @@
 //! The contract of [`run`] clause by clause, for a reader who asks when a status comes or what stays as it was.
 //! They follow from its record, so the function that has them does nothing else.
 
-ghost use Rattle.std.specs.Prelude.{◌≡◌, ◌≢◌, ℕ, List, IfSome, IsNone, ◌⊎◌, ◌↔◌};
+ghost use Rattle.std.specs.Prelude.{◌≡◌, ◌≢◌, ℕ, List, IfSome, IsNone, ◌⊎◌};
 ghost use Rattle.std.specs.Io.KnownBytes.{Appends};
 ghost use Rattle.bm_io.specs.Counts.{Rose};
 ghost use Rattle.bm_io.specs.Told.{AppendsFront};
@@ -12,7 +12,7 @@ ghost use Rattle.bootmem_cli.specs.Headline.{IsReported};
 ghost use Rattle.bootmem_cli.specs.Line.{Tells, failure_line};
 ghost use Rattle.bootmem_cli.specs.Outcome.{outcome};
 ghost use Rattle.bootmem_cli.specs.Status.{status_of};
-ghost use Rattle.bootmem_cli.specs.Words.{accepted, texts};
+ghost use Rattle.program_words.specs.Words.{accepted, texts};
 
 use crate::run::run;
 use bm_io::{Files, Sink};
@@ -26,15 +26,17 @@ pub fn run_by_clauses<F: Files, S: Sink, E: Sink>(
     out: &mut S,
     err: &mut E,
 ) -> u8
-    // When each status comes, whatever the files tell.
-    ensures usage { (result ≡ 2) ↔ IsNone (accepted (texts words.now)) }
+    // When each status comes, whatever the files tell. Refused words give 2, or 7 where memory is wanting to
+    // read them.
+    ensures usage { result ≡ 2 → IsNone (accepted (texts words.now)) }
+    ensures refused { IsNone (accepted (texts words.now)) → (result ≡ 2) ⊎ (result ≡ 7) }
     ensures unread { result ≡ 3 → (input : Input)
         × RoseFor (F.faults files.old) (F.faults files.new) (accepted (texts words.now)) input }
     ensures unwritten { result ≡ 4 → Rose (S.faults out.old) (S.faults out.new) }
 
     // What stays as it was, whatever the files tell: with refused words no file is fetched, before the
     // text is there nothing is put into the output, and after status 0 no fault was counted.
-    ensures unfetched { result ≡ 2 → files.new ≡ files.old }
+    ensures unfetched { IsNone (accepted (texts words.now)) → files.new ≡ files.old }
     ensures early { (result ≡ 2) ⊎ (result ≡ 3) ⊎ (result ≡ 5) ⊎ (result ≡ 6) → out.new ≡ out.old }
     ensures wanting { result ≡ 7 → (out.new ≡ out.old) ⊎ Rose (S.wants out.old) (S.wants out.new) }
     ensures uncounted { result ≡ 0 → ((any : List ℕ) → F.faults files.new any ≡ F.faults files.old any)

@@ -3,12 +3,13 @@
 //!
 //! The program reads the zero page that a boot loader hands over, and where they are named the E820
 //! extension, the command line of the kernel, the firmware's table of domains and a script of early
-//! allocations; it boots with them up to the hand-over, and prints reports of it: `bootmem --report LIST
-//! [--e820ext F] [--cmdline F] [--srat F] [--script F] ZEROPAGE`. [`run`] is the whole of it over any files,
-//! output and error output; `main` hands it those of the system.
+//! allocations; it boots with them up to the hand-over, and prints reports of it: `bootmem [--report LIST]
+//! [--e820ext F] [--cmdline F] [--srat F] [--script F] [--kernel BASE,SIZE] ZEROPAGE`, or `--make N` in place of
+//! ZEROPAGE for a table of N entries that a generator makes. [`run`] is the whole of it over any files, output and
+//! error output; `main` hands it those of the system.
 //!
 //! What the program answers is a definition, `outcome` of `specs/Outcome.antt`: from the words to
-//! the files that they name, from the files' bytes to the inputs (`boot_inputs`), from those to what
+//! what they ask for (`program_words`), from the files' bytes to the inputs (`boot_inputs`), from those to what
 //! the boot makes (`boot_model`), and from that to the text of the report (`debugfs_reports`), each
 //! step by cases. `run` answers what it says, but where the outside fails: a file that couldn't be
 //! read, an output that refused, want of memory. The first two have their cause in a count of the
@@ -22,13 +23,11 @@
 
 mod clauses;
 mod failure;
-mod kernel;
+mod given;
 mod run;
 mod tell;
 #[cfg(test)]
 mod tests;
-mod wanted;
-mod words;
 
 use bm_io::{RealFiles, StdSink};
 pub use boot_model::{Booted, Inputs, Stop, map_gives_frames, map_gives_types};

@@ -1,6 +1,6 @@
 //! The whole program over any files and outputs.
 
-ghost use Rattle.std.specs.Prelude.{◌≡◌, ℕ, ◌^◌, ◌<◌, List, length, IfSome, IfErr, IsNone, IsSome, IsErrOf, OnOk, OnErr, ◌⊎◌, flat_map};
+ghost use Rattle.std.specs.Prelude.{◌≡◌, ℕ, ◌^◌, ◌<◌, List, length, IfSome, IfErr, IsNone, IsSome, IsErrOf, OnOk, OnErr, IfOk, ◌⊎◌, flat_map};
 ghost use Rattle.std.specs.Option.{option_map};
 ghost use Rattle.std.specs.Io.KnownBytes.{Appends};
 ghost use Rattle.std.specs.List.{All};
@@ -12,29 +12,27 @@ ghost use Rattle.bm_io.specs.Counts.{Rose};
 ghost use Rattle.bm_io.specs.Told.{AppendsFront};
 ghost use Rattle.boot_model.specs.View.{inputs_view};
 ghost use Rattle.debugfs_reports.specs.ReportList.{reports_in};
+ghost use Rattle.program_words.specs.View.{wanted_view};
+ghost use Rattle.program_words.specs.Words.{accepted, texts};
 ghost use Rattle.bootmem_cli.specs.Answers.{FailureHasCause, IsOfBoot, Makes, ReportHasCause, Writes, WritingHasCause};
 ghost use Rattle.bootmem_cli.specs.Outcome.{outcome, reported};
 ghost use Rattle.bootmem_cli.specs.Run.{RanTo};
 ghost use Rattle.bootmem_cli.specs.Status.{End, status_of_end};
-ghost use Rattle.bootmem_cli.specs.View.{wanted_view};
-ghost use Rattle.bootmem_cli.specs.Words.{accepted, texts};
 
 use crate::failure::{Failure, Reason};
+use crate::given::read_given;
 use crate::tell::tell;
-use crate::wanted::Wanted;
-use crate::words::read_words;
+use bm_base::Memory;
 use bm_io::{Files, Put, Sink, put_all};
-use boot_inputs::read_inputs;
 use boot_model::Inputs;
 use boot_stages::boot;
 use debugfs_reports::{render_all, reports_in};
+use program_words::{Wanted, WordError, read_words};
 use std::alloc::Global;
 
 /// The whole program: reads the files that the words name, boots with them, and writes the reports.
-/// `words` are those after the program's name: `--report LIST`, and where they are wanted
-/// `--kernel BASE,SIZE`, `--e820ext F`, `--cmdline F`, `--srat F` and `--script F`, in any order, and then the name of the
-/// zero page. LIST is names of reports with a comma between each two. No value and no name begins with `-`.
-/// Answers the exit status.
+/// `words` are those after the program's name, of which [`program_words::read_words`] says what they may be. Answers the
+/// exit status.
 ///
 /// Where `outcome` is a text, that is written; where it is a reason for no report, nothing is, and the
 /// line of the reason goes to `err`. Three answers come from elsewhere: 3 where a named file couldn't
@@ -49,12 +47,26 @@ pub fn run<F: Files, S: Sink, E: Sink>(
     ensures { (end : End) × (result ≡ status_of_end end) × RanTo F.Files S.Sink E.Sink
         (accepted (texts words.now)) files.old files.new out.old out.new err.old err.new end }
 {
-    let wanted = read_words(words);
+    let Ok(wanted) = wanted_by(alloc, words) else {
+        tell(err, &None, Failure::Memory);
+        return Failure::Memory.status();
+    };
     let Err(failure) = write_reports(alloc, &wanted, files, out) else {
         return 0;
     };
     tell(err, &wanted, failure);
     failure.status()
+}
+
+/// What the words ask for; `None` exactly where they are refused for another cause than want of memory.
+fn wanted_by<'w>(alloc: Global, words: &'w [String]) -> Result<Option<Wanted<'w>>, Memory>
+    ensures { IfOk result (λ wanted. option_map wanted_view wanted ≡ accepted (texts words.entry.now)) }
+{
+    match read_words(alloc, words) {
+        Ok(wanted) => Ok(Some(wanted)),
+        Err(WordError::Usage) => Ok(None),
+        Err(WordError::Memory) => Err(Memory),
+    }
 }
 
 /// Writes the reports that are asked for, once all of them are there.
@@ -115,7 +127,7 @@ fn make_texts<F: Files>(
     let Some(wanted) = wanted else {
         return Err(Failure::NoReport(Reason::Usage));
     };
-    let inputs = read_inputs::<F, Wanted<'_>>(alloc, files, wanted, wanted.kernel)?;
+    let inputs = read_given(alloc, wanted, files)?;
     boot_texts(alloc, inputs, wanted.list)
 }
 

@@ -3,17 +3,16 @@
 
 ghost use Rattle.std.specs.Prelude.{◌≡◌, flat_map};
 ghost use Rattle.std.specs.Option.{option_map};
-ghost use Rattle.bootmem_cli.specs.Line.{Tells, cause_line, entry_line, failure_line, fault_line, numbered_line, offset_line, place_line, reason_line, refusal_line, table_line, table_name, thing_line, whole_line, word_line};
-ghost use Rattle.bootmem_cli.specs.View.{wanted_view};
+ghost use Rattle.bootmem_cli.specs.Line.{Tells, cause_line, entry_line, failure_line, fault_line, name_text, numbered_line, offset_line, place_line, reason_line, refusal_line, table_line, table_name, thing_line, whole_line, word_line};
+ghost use Rattle.program_words.specs.View.{wanted_view};
 
 use crate::failure::{Failure, Reason};
-use crate::wanted::Wanted;
-use crate::words::name_text;
 use bm_io::{Sink, put_all};
-use boot_inputs::{Fault, Refusal};
+use boot_inputs::{Fault, Input, Names, Refusal};
 use boot_model::Cause;
 use itoa::Buffer;
 use memblock_model::Which;
+use program_words::Wanted;
 use stage_model::What;
 
 /// Puts the line of a failure on the error output. What the output answers changes nothing: the line goes out
@@ -50,6 +49,16 @@ fn tell_refusal<E: Sink>(err: &mut E, wanted: &Option<Wanted<'_>>, refusal: Refu
             )
         }
         Refusal::Faulty(input, fault) => tell_fault(err, input.word(), fault),
+    }
+}
+
+/// The name of an input's file, empty where there is none or the words weren't accepted.
+fn name_text<'a>(wanted: &'a Option<Wanted<'_>>, input: Input) -> &'a str
+    ensures { result.now ≡ name_text (option_map wanted_view wanted.now) input }
+{
+    match wanted {
+        Some(wanted) => wanted.of(input).unwrap_or(""),
+        None => "",
     }
 }
 

@@ -26,6 +26,10 @@ const RESERVED: Entry = Entry {
 const MAP: &str = "0x0000000000100000..0x0000000007fdffff 1 usable\n\
                    0x0000000007fe0000..0x0000000007ffffff 2 reserved\n";
 
+/// What the made input of two entries comes to.
+const SUMMARY: &str = "runs 3\nusable 32927\nfree 23503\n\
+                       memory records 2 room 128\nreserved records 5 room 128\nblocks 30\n";
+
 /// An extension of one entry, RAM over `RESERVED` and 4,096 bytes behind it.
 const EXTENSION: [u8; 36] = [
     0, 0, 0, 0, 0, 0, 0, 0, 1, 0, 0, 0, 20, 0, 0, 0, // next, type, length
@@ -129,6 +133,24 @@ fn words_and_what_fails(rt: HostRuntime) -> Result<(), Fail> {
             2,
             "",
             "bootmem",
+        ),
+        // the name at any place, and the end of the options
+        (["zp", "--report", "map"], [none, none, none], 0, MAP, ""),
+        (["--report=map", "--", "zp"], [none, none, none], 0, MAP, ""),
+        // a made input: no file is fetched for it, and a name beside it is refused
+        (
+            ["--make", "2", "--report=summary"],
+            [first, none, none],
+            0,
+            SUMMARY,
+            "",
+        ),
+        (
+            ["--make=2", "--report=summary", "zp"],
+            [none, none, none],
+            2,
+            "",
+            "bootmem: usage\n",
         ),
     ];
     for (words, failing, status, text, line) in cases {

@@ -106,6 +106,92 @@ fn forms_of_an_option(rt: HostRuntime) -> Result<(), Fail> {
     compare(&rt, rt.alloc(), &rows)
 }
 
+// Each option that stands beside a name, in each form: the option, a value that it takes, the option cut short and with one
+// hyphen, and what comes of the value and of an empty one.
+#[test]
+fn each_form_of_every_option(rt: HostRuntime) -> Result<(), Fail> {
+    let alloc = rt.alloc();
+    let options = [
+        (
+            "--cmdline",
+            "f",
+            "--cmd",
+            "-c",
+            "zp . f . . buddyinfo 16 0",
+            "zp .  . . buddyinfo 16 0",
+        ),
+        (
+            "--e820ext",
+            "f",
+            "--e820",
+            "-e",
+            "zp f . . . buddyinfo 16 0",
+            "zp  . . . buddyinfo 16 0",
+        ),
+        (
+            "--srat",
+            "f",
+            "--sra",
+            "-srat",
+            "zp . . f . buddyinfo 16 0",
+            "zp . .  . buddyinfo 16 0",
+        ),
+        (
+            "--script",
+            "f",
+            "--scr",
+            "-s",
+            "zp . . . f buddyinfo 16 0",
+            "zp . . .  buddyinfo 16 0",
+        ),
+        (
+            "--kernel",
+            "1M,8K",
+            "--kern",
+            "-k",
+            "zp . . . . buddyinfo 1 0",
+            "refused",
+        ),
+        (
+            "--report",
+            "map",
+            "--rep",
+            "-report",
+            "zp . . . . map 16 0",
+            "refused",
+        ),
+    ];
+    for (long, value, cut, single, taken, empty) in options {
+        let joined = format!(in alloc; "{long}={value}")?;
+        let without = format!(in alloc; "{long}=")?;
+        let named = format!(in alloc; "{joined} . . . . buddyinfo 16 0")?;
+        let (joined, without) = (joined.as_str(), without.as_str());
+        let rows: [(&[&str], &str); 14] = [
+            // in front of the name and behind it
+            (&[long, value, "zp"], taken),
+            (&["zp", long, value], taken),
+            (&[joined, "zp"], taken),
+            (&["zp", joined], taken),
+            // without a value, and with an empty one
+            (&[long, "zp"], "refused"),
+            (&["zp", long], "refused"),
+            (&[without, "zp"], empty),
+            (&["zp", long, ""], empty),
+            // twice
+            (&[joined, joined, "zp"], "refused"),
+            (&[long, value, "zp", joined], "refused"),
+            // behind the end of options
+            (&["--", joined], named.as_str()),
+            (&["--", joined, "zp"], "refused"),
+            // cut short, and with one hyphen
+            (&[cut, value, "zp"], "refused"),
+            (&[single, value, "zp"], "refused"),
+        ];
+        compare(&rt, alloc, &rows)?;
+    }
+    Ok(())
+}
+
 #[test]
 fn names_and_the_end_of_options(rt: HostRuntime) -> Result<(), Fail> {
     let rows: [(&[&str], &str); 21] = [
@@ -141,7 +227,7 @@ fn names_and_the_end_of_options(rt: HostRuntime) -> Result<(), Fail> {
 
 #[test]
 fn values(rt: HostRuntime) -> Result<(), Fail> {
-    let rows: [(&[&str], &str); 31] = [
+    let rows: [(&[&str], &str); 34] = [
         // reports
         (
             &["--report=map,options,map", "zp"],
@@ -204,6 +290,9 @@ fn values(rt: HostRuntime) -> Result<(), Fail> {
         (&["--report=map", "--make=5", "zp"], "refused"),
         (&["--report=map", "--make=5", "--e820ext=e"], "refused"),
         (&["--report=map", "--make=5", "--make=5"], "refused"),
+        (&["--report=map", "--mak", "5"], "refused"),
+        (&["--report=map", "-m", "5"], "refused"),
+        (&["--report=map", "--", "--make", "5"], "refused"),
     ];
     compare(&rt, rt.alloc(), &rows)
 }

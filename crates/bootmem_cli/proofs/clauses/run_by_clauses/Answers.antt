@@ -6,7 +6,7 @@ use Rattle.bootmem_cli.proofs.clauses.run_by_clauses.Goals as goal
 pub returns-clause-answers : goal.returns-clause-answers
 returns-clause-answers g c =
     let ran = c.run.ensures.2 in
-    ran_answers _ _ _ _ c.run.ensures.0 _ _ _ c.run.ensures.1 ran.cause ran.said
+    ran_answers _ _ c.run.ensures.0 _ _ _ c.run.ensures.1 ran.said
 
 pub returns-clause-line : goal.returns-clause-line
 returns-clause-line g c =
@@ -14,7 +14,10 @@ returns-clause-line g c =
     ran_line g.E.Sink _ _ _ _ c.run.ensures.0 _ _ _ _ _ c.run.ensures.1 ran.cause ran.line ran.said
 
 pub returns-clause-usage : goal.returns-clause-usage
-returns-clause-usage g c = ran_usage _ _ _ c.run.ensures.0 _ c.run.ensures.1 c.run.ensures.2.cause
+returns-clause-usage g c = (ran_usage _ _ _ c.run.ensures.0 _ c.run.ensures.1 c.run.ensures.2.cause).0
+
+pub returns-clause-refused : goal.returns-clause-refused
+returns-clause-refused g c = (ran_usage _ _ _ c.run.ensures.0 _ c.run.ensures.1 c.run.ensures.2.cause).1
 
 pub returns-clause-headline : goal.returns-clause-headline
 returns-clause-headline g c =

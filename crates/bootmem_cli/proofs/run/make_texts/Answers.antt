@@ -2,7 +2,7 @@
 use Rattle.std.proofs.Common.{ap}
 use Rattle.std.proofs.lemmas.Result.{err_from_is_err_and}
 use Rattle.std.specs.Option.{option_map}
-use Rattle.bootmem_cli.specs.View.{wanted_view}
+use Rattle.program_words.specs.View.{wanted_view}
 use Rattle.bootmem_cli.proofs.RunLaws.{makes_none}
 use Rattle.bootmem_cli.proofs.run.make_texts.Goals as goal
 
