@@ -81,6 +81,7 @@ def test_help(_):
         status, out, err = tool(name, "--help")
         check(f"{name} --help", (status, err), (0, ""))
         has(f"{name} --help", out, "isn't proved")
+        check(f"{name} --help: lines of 80 letters", max(len(line) for line in out.splitlines()) <= 80, True)
         status, out, err = tool(name, "--unknown")
         check(f"{name} --unknown", (status, out, err == ""), (2, "", False))
 
@@ -97,7 +98,7 @@ block    none: not free
 """
 
 
-def test_where(_):
+def test_where(work):
     """One address by run, by its frame's number, by a file and by standard input; a table of memblock; a hole; refusals."""
     folder, words = example("q35-8g-numa2"), words_of("q35-8g-numa2")
     check("where", tool("bootmem-where", "0x17be00040", "--", *words, folder=folder), (0, WHERE, ""))
@@ -120,6 +121,11 @@ def test_where(_):
     alone = "address  0x000000007fff0000 (2.0 GiB), frame 524272\nmap      reserved 0x000000007ffdf000-0x000000007fffffff\n"
     check("where FILE", tool("bootmem-where", "0x7fff0000", "map.txt", folder=folder), (0, alone, ""))
     check("where -", tool("bootmem-where", "0x7fff0000", "-", given=text_of(example("q35-8g-numa2", "map.txt"))), (0, alone, ""))
+    with open(os.path.join(work, "script"), "w", encoding="utf-8") as file:
+        file.write("alloc 1 64K 4K max 16M\nfree 1\n")
+    freed = tool("bootmem-where", "0xff0000", "--", "--script", os.path.join(work, "script"), "zp.bin", folder=example("q35-1g"))[1]
+    check("where, freed", re.findall(r"^(?:owner|freed|claimed) .*", re.sub(r"journal \d+", "journal N", freed), re.MULTILINE),
+          ["owner    none", "freed    journal N: free 0x0000000000ff0000..0x0000000000ffffff"])
     for bad in ("0xg", "12Q", "-5", "0x10000000000000000", "16777216T"):
         check(f"where {bad}", tool("bootmem-where", bad, "map.txt", folder=folder)[:2], (2, ""))
     check("where, --report", tool("bootmem-where", "0", "--", "--report", "map", "zp.bin", folder=folder)[:2], (2, ""))
@@ -326,10 +332,9 @@ def test_refused(work):
     plain = log_of("q35-1g")
     headless = "".join(line for line in (log_of("pc-128m") + plain).splitlines(True) if "provided" not in line)
     many = "".join(f"{index * 2}M 1M usable\n" for index in range(129))
-    refused = {"129 entries and no extension": many,
+    refused = {"129 entries and no extension": many, "one entry": "0 1M usable\n", "nothing": "", "another text": "hello\n",
                "an unknown type": plain + "BIOS-e820: [mem 0x0004000000000000-0x0004000000000fff] strange\n",
-               "one entry": "0 1M usable\n", "nothing": "", "another text": "hello\n", "too far": "0 1M 1\n0xfffffffffffff000 4K 1\n",
-               "two boots without heads": headless}
+               "too far": "0 1M 1\n0xfffffffffffff000 4K 1\n", "two boots without heads": headless}
     for what, log in refused.items():
         status, out, err = tool("zp-from-log", "--output", "none", "--no-initrd", given=log, folder=work)
         check(f"zp-from-log, {what}", (status, out, err.count("\n"), os.path.exists(os.path.join(work, "none"))), (1, "", 1, False))
@@ -500,7 +505,8 @@ def test_installed(work):
 
 
 TESTS = {"help": test_help, "where": test_where, "diff": test_diff, "draw": test_draw, "trips": test_round_trips,
-         "logs": test_logs, "refused": test_refused, "live": test_live, "hidden": test_hidden, "hull": test_hull, "installed": test_installed}
+         "logs": test_logs, "refused": test_refused, "live": test_live, "hidden": test_hidden, "hull": test_hull,
+         "installed": test_installed}
 
 
 def main():

@@ -12,7 +12,9 @@ import shutil
 import signal
 import subprocess
 import sys
+import textwrap
 
+WIDTH = 80  # of help, in letters
 FRAME = 4096
 SECTION = 128 << 20
 TOP = (1 << 64) - 1
@@ -81,13 +83,20 @@ class Help(argparse.RawDescriptionHelpFormatter):
     """Help whose text keeps its lines."""
 
     def __init__(self, prog):
-        super().__init__(prog, max_help_position=28, width=100)
+        super().__init__(prog, max_help_position=28, width=WIDTH)
+
+
+def filled(text):
+    """The text with its paragraphs filled, but for those that have an indented line."""
+    parts = text.split("\n\n")
+    return "\n\n".join(part if re.search(r"^ ", part, re.MULTILINE) else
+                       textwrap.fill(part, WIDTH, break_long_words=False, break_on_hyphens=False) for part in parts)
 
 
 def new_parser(name, usage, description, epilog):
     """A parser of a tool's words, whose help ends with what holds for every tool."""
-    return argparse.ArgumentParser(prog=name, usage=usage, description=description, epilog=f"{epilog}\n\n{UNPROVED}",
-                                   formatter_class=Help, allow_abbrev=False)
+    return argparse.ArgumentParser(prog=name, usage=usage, description=filled(description),
+                                   epilog=filled(f"{epilog}\n\n{UNPROVED}"), formatter_class=Help, allow_abbrev=False)
 
 
 def add_program(parser):
@@ -135,7 +144,7 @@ def run_program(program, names, words, folder=None):
     said = done.stderr.decode("utf-8", "replace").strip()
     if done.returncode != 0:
         raise Trouble(f"the program ended with status {done.returncode}: {said or 'it said nothing'}")
-    text = done.stdout.decode("ascii")
+    text = done.stdout.decode("utf-8", "replace")
     return split_reports(text) if len(names) > 1 else {names[0]: text.splitlines()}
 
 

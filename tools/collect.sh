@@ -10,27 +10,31 @@ help() {
 	cat <<END
 usage: $me [--sys DIR] [--cmdline FILE] FOLDER
 
-Gathers what this machine's kernel was given at boot into FOLDER, in the files that bootmem reads:
+Gathers what this machine's kernel was given at boot into FOLDER, in the files
+that bootmem reads:
 
-  zp.bin       the zero page        (/sys/kernel/boot_params/data)
-  e820ext.bin  the E820 extension   (made from /sys/kernel/boot_params/setup_data, where one is there)
-  cmdline      the command line     (/proc/cmdline)
-  srat.bin     the ACPI table SRAT  (/sys/firmware/acpi/tables/SRAT, for root alone)
+  zp.bin       the zero page, /sys/kernel/boot_params/data
+  e820ext.bin  the E820 extension, made from /sys/kernel/boot_params/setup_data
+               where one is there
+  cmdline      the command line, /proc/cmdline
+  srat.bin     the ACPI table SRAT, /sys/firmware/acpi/tables/SRAT (root alone)
 
 and beside them, for those who read them later,
 
-  slit.bin     the ACPI table SLIT  (/sys/firmware/acpi/tables/SLIT, for root alone)
-  release      the kernel's release (uname -r)
+  slit.bin     the ACPI table SLIT, /sys/firmware/acpi/tables/SLIT (root alone)
+  release      the kernel's release, of uname -r
 
-Files of these names that FOLDER has already are removed first. It reads and writes nothing else and needs no root for
-zero page and command line. What it gathered, and the command to run next, go to standard output; what it couldn't read
-to standard error. A command line may hold secrets: look at it before you hand the folder on.
+Files of these names that FOLDER has already are removed first. It reads and
+writes nothing else and needs no root for zero page and command line. What it
+gathered, and the command to run next, go to standard output; what it couldn't
+read to standard error. A command line may hold secrets: look at it before you
+hand the folder on.
 
   --sys DIR       what stands for /sys
   --cmdline FILE  what stands for /proc/cmdline
 
-exit status: 0; 1 where zero page, extension or command line couldn't be read, or FOLDER not be written; 2 for words
-that aren't those above.
+exit status: 0; 1 where zero page, extension or command line couldn't be read,
+or FOLDER not be written; 2 for words that aren't those above.
 
 This tool isn't proved: it only copies what the proved program reads.
 END
