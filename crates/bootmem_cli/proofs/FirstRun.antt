@@ -26,7 +26,7 @@ use Rattle.bm_base.specs.ResultSteps.{◌>>=◌}
 use Rattle.boot_model.specs.Boot.{Given, Made, begin_with, boot, claims, has_memory, map_judged}
 use Rattle.boot_model.proofs.BootLaws.{goes_on}
 use Rattle.program_words.specs.Kernel.{default_kernel}
-use Rattle.program_words.specs.Spelling.{ArePieces, Piece, apart, given_by, named, spelled}
+use Rattle.program_words.specs.Spelling.{ArePieces, Piece, apart, given_by, named}
 use Rattle.program_words.specs.Words.{Wanted, accepted, name_in}
 use Rattle.program_words.proofs.MatchedLaws.{accepted_as_given}
 use Rattle.boot_inputs.specs.Inputs.{Held}

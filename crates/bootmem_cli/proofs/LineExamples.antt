@@ -13,7 +13,6 @@ use Rattle.bootmem_cli.specs.declared.failure.Reason.TheVariants as reasons
 use Rattle.bootmem_cli.specs.declared.failure.Failure.TheVariants as failures
 use Rattle.bootmem_cli.specs.Status.{refusal_status, reason_status, status_of, status_of_end, failure_by, failure_of_input, failure_of_stop}
 use Rattle.bootmem_cli.specs.Line.{whole_line, entry_line, word_line, numbered_line, offset_line, fault_line, thing_line, place_line, table_line, table_name, cause_line, refusal_line, reason_line, failure_line, name_text}
-use Rattle.program_words.specs.Words.{Wanted}
 use Rattle.bootmem_cli.proofs.OutcomeExamples.{wanting}
 
 -- the status of each way to end

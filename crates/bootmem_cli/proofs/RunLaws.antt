@@ -1,6 +1,6 @@
 -- What follows of a run's record: the statuses that an outcome may end with, and the line of each failure.
 use Rattle.std.proofs.Common.{◌≡◌, ◌≢◌, ℕ, List, Option, Some, None, Result, Ok, Err, refl, inl, inr, ap, sym, subst, ◌∙◌, arith}
-use Rattle.std.specs.Prelude.{IfSome, IsNone, IsSome}
+use Rattle.std.specs.Prelude.{IfSome, IsNone, IsSome, ◌⊎◌}
 use Rattle.bm_base.specs.ResultSteps.{◌>>=◌}
 use Rattle.bm_io.specs.Told.{AppendsFront}
 use Rattle.bm_io.specs.declared.writing.Sink.{Ghosts as SinkOf}
@@ -9,7 +9,7 @@ use Rattle.boot_inputs.specs.declared.refusal.Refusal.{Refusal}
 use Rattle.boot_inputs.specs.declared.refusal.Refusal.TheVariants as refusals
 use Rattle.boot_inputs.specs.declared.refusal.InputError.{InputError}
 use Rattle.boot_inputs.specs.declared.refusal.InputError.TheVariants as errors
-use Rattle.boot_inputs.specs.Answers.{ComesTo, Fits, Gives}
+use Rattle.boot_inputs.specs.Answers.{ComesTo, Fits}
 use Rattle.boot_inputs.specs.Inputs.{Held}
 use Rattle.boot_model.specs.declared.stop.Cause.{Cause}
 use Rattle.boot_model.specs.Boot.{Given, Told, told_boot}
@@ -95,6 +95,12 @@ pub ran_answers : (holds : Option Held) (accepted : Option Wanted) (end : End) (
     → IfSome holds (λ held. Ends (outcome accepted held) status)
 ran_answers None accepted end status old new is writes = tt
 ran_answers (Some held) accepted end status old new is writes = rw is (ends_by (outcome accepted held) end old new writes)
+
+-- want of memory before anything was written fits every outcome
+pub wanting_fits : (holds : Option Held) (accepted : Option Wanted) (written : Option (List ℕ))
+    → IfSome holds (λ held. Writes written written (Err failures.Memory) (outcome accepted held))
+wanting_fits None accepted written = tt
+wanting_fits (Some held) accepted written = inl refl
 
 -- a failure fits the outcome
 end_fits : (said : Result (List ℕ) Reason) (failure : Failure) (old new : Option (List ℕ)) → Writes old new (Err failure) said

@@ -20,8 +20,9 @@ pub record RanTo {F S E : Type 0} (files : FilesOf F) (sink : SinkOf S) (errors 
     (held_before held_now : F) (out_before out_now : S) (err_before err_now : E) (end : End) : Type 0 where
   -- the end has its cause, whatever the files tell
   pub cause : EndHasCause (files.faults held_before) (files.faults held_now) accepted end
-  -- with refused words no file is fetched
+  -- with refused words no file is fetched, and nothing is put into the output
   pub unfetched : IsNone accepted → held_now ≡ held_before
+  pub unput : IsNone accepted → out_now ≡ out_before
   -- the output is as it was, or has the cause of what became of it
   pub output : WritingHasCause sink.faults sink.wants out_before out_now end
   -- after status 0 no fault was counted, of any file or of the output

@@ -34,9 +34,10 @@ pub fn run_by_clauses<F: Files, S: Sink, E: Sink>(
         × RoseFor (F.faults files.old) (F.faults files.new) (accepted (texts words.now)) input }
     ensures unwritten { result ≡ 4 → Rose (S.faults out.old) (S.faults out.new) }
 
-    // What stays as it was, whatever the files tell: with refused words no file is fetched, before the
-    // text is there nothing is put into the output, and after status 0 no fault was counted.
+    // What stays as it was, whatever the files tell: the files and the output with refused words, the output
+    // where no text came to be, and after status 0 each count of faults.
     ensures unfetched { IsNone (accepted (texts words.now)) → files.new ≡ files.old }
+    ensures unput { IsNone (accepted (texts words.now)) → out.new ≡ out.old }
     ensures early { (result ≡ 2) ⊎ (result ≡ 3) ⊎ (result ≡ 5) ⊎ (result ≡ 6) → out.new ≡ out.old }
     ensures wanting { result ≡ 7 → (out.new ≡ out.old) ⊎ Rose (S.wants out.old) (S.wants out.new) }
     ensures uncounted { result ≡ 0 → ((any : List ℕ) → F.faults files.new any ≡ F.faults files.old any)

@@ -83,6 +83,7 @@ fn write_reports<F: Files, S: Sink>(
     ensures cause { IfErr result (λ failure. FailureHasCause (F.faults files.old)
         (F.faults files.new) (option_map wanted_view wanted.now) failure) }
     ensures unfetched { IsNone (option_map wanted_view wanted.now) → files.new ≡ files.old }
+    ensures unput { IsNone (option_map wanted_view wanted.now) → out.new ≡ out.old }
     ensures output { WritingHasCause S.faults S.wants out.old out.new result }
     ensures uncounted { OnOk result (((any : List ℕ) →
         F.faults files.new any ≡ F.faults files.old any) × (S.faults out.new ≡ S.faults out.old)) }

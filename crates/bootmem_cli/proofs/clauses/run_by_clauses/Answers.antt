@@ -1,4 +1,5 @@
 -- The clauses that speak of the outcome's statuses and of the line, from the record.
+use Rattle.program_words.specs.Words.{accepted, texts}
 use Rattle.bootmem_cli.proofs.HeadlineLaws.{ran_headline}
 use Rattle.bootmem_cli.proofs.RunLaws.{ran_answers, ran_line, ran_usage}
 use Rattle.bootmem_cli.proofs.clauses.run_by_clauses.Goals as goal
@@ -6,7 +7,7 @@ use Rattle.bootmem_cli.proofs.clauses.run_by_clauses.Goals as goal
 pub returns-clause-answers : goal.returns-clause-answers
 returns-clause-answers g c =
     let ran = c.run.ensures.2 in
-    ran_answers _ _ c.run.ensures.0 _ _ _ c.run.ensures.1 ran.said
+    ran_answers _ (accepted (texts c.args.words.now)) c.run.ensures.0 _ _ _ c.run.ensures.1 ran.said
 
 pub returns-clause-line : goal.returns-clause-line
 returns-clause-line g c =
