@@ -5,13 +5,20 @@
 #   make bootmem              proves and builds ./bootmem
 #   make try ARGS="..."       runs the program on these words without proof, within half a minute
 #   make test                 the whole gate: every proof, every test, the real machines
-#   make install PREFIX=DIR   installs the program and its manual page (DESTDIR is honoured)
+#   make install PREFIX=DIR   installs program, tools, manual pages, documents and examples; where there is a ./bootmem
+#                             it is installed as it is, and nothing is proved (DESTDIR and MANDIR are honoured)
+#   make uninstall PREFIX=DIR removes what 'make install' put there
+#   make deb                  makes a Debian package of what 'make install' installs (needs dpkg-deb)
 #   make clean                removes what was built
+#   make help                 prints these lines
 #
 # RT names the toolchain's command, where it isn't rt on the PATH: make bootmem RT=/opt/kit/bin/rt
 
+VERSION := 0.1.0
+
 RT ?= rt
 PREFIX ?= /usr/local
+MANDIR ?= $(PREFIX)/share/man
 DESTDIR ?=
 ARGS ?=
 
@@ -22,7 +29,7 @@ SOURCES := crates.txt $(shell find crates -name out -prune -o \( -name '*.rt' -o
 
 export RT
 
-.PHONY: all run try test install clean
+.PHONY: all run try test install uninstall deb clean help
 
 all: bootmem
 
@@ -39,13 +46,22 @@ try:
 test:
 	@PATH="$(if $(findstring /,$(RT)),$(abspath $(dir $(RT))):)$$PATH" .ci/run
 
-install: bootmem
-	install -d "$(DESTDIR)$(PREFIX)/bin" "$(DESTDIR)$(PREFIX)/share/man/man1"
-	install -m 755 bootmem "$(DESTDIR)$(PREFIX)/bin/bootmem"
-	install -m 644 bootmem.1 "$(DESTDIR)$(PREFIX)/share/man/man1/bootmem.1"
-	install -d "$(DESTDIR)$(PREFIX)/share/bash-completion/completions"
-	install -m 644 tools/bootmem.bash-completion "$(DESTDIR)$(PREFIX)/share/bash-completion/completions/bootmem"
+# a program that is there is installed as it is: an installation proves nothing
+install:
+	@if [ ! -f bootmem ]; then $(MAKE) --no-print-directory bootmem; \
+	elif ! $(MAKE) -q --no-print-directory bootmem >/dev/null 2>&1; then \
+		echo "bootmem: some sources are newer than ./bootmem, which is installed as it is; 'make bootmem' builds it anew" >&2; fi
+	@tools/install.sh install "$(DESTDIR)" "$(PREFIX)" "$(MANDIR)"
+
+uninstall:
+	@tools/install.sh uninstall "$(DESTDIR)" "$(PREFIX)" "$(MANDIR)"
+
+deb:
+	@tools/deb.sh "$(VERSION)" "$(MAKE)"
 
 clean:
-	rm -f bootmem
+	rm -f bootmem bootmem_*.deb
 	rm -rf crates/*/out
+
+help:
+	@sed -n '3,15s/^# *//p' Makefile | sed '/^$$/d; s/^/  /'

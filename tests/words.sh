@@ -39,7 +39,8 @@ same "OPTIONS of bootmem.1" "$(section OPTIONS | grep '^\.BI ' | options)" "$pro
 same "grammar of docs/FORMATS.md" "$(grep '^    bootmem \[' "$top/docs/FORMATS.md" | options)" "$program"
 same "completion" "$(grep 'local options=' "$top/tools/bootmem.bash-completion" | options)" "$program"
 same "reports of the completion" "$(sed -n "s/.*local reports='\(.*\)'/\1/p" "$top/tools/bootmem.bash-completion")" "$names"
-same "REPORTS of bootmem.1" "$(section REPORTS | sed -n 's/^\.B \([a-z]*\)$/\1/p')" "$names"
+same "REPORTS of bootmem.5" "$(sed -n '/^\.SH REPORTS$/,/^\.SH /s/^\.SS \([a-z]*\)$/\1/p' "$top/bootmem.5")" "$names"
+same "reports of README.md" "$(sed -n '/^LIST is one or more/,/^$/p' "$top/README.md" | sed 's/with a comma.*//' | grep -o '`[a-z]*`' | tr -d '`')" "$names"
 
 # completed WORD..: what bash proposes for the last word
 completed() {

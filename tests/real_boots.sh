@@ -1,15 +1,19 @@
 #!/bin/sh
-# real_machines.sh [PROGRAM]: runs the program over every machine of examples/ and compares its reports byte for byte with
-# the texts that the kernel's own log confirms: map.txt, memory.txt, nodes.txt, zones.txt, and replay/script.txt, the boot's
-# early allocations, each address of which is the kernel's own.
-# Prints a line for each difference, and 'N passed, M failed' at its end.
+# real_boots.sh [PROGRAM]: runs the program over every machine of examples/ and compares its reports byte for byte with
+# the texts that the kernel's own log confirms: map.txt, memory.txt, nodes.txt, zones.txt, crash.txt, and replay/script.txt, the
+# boot's early allocations, each address of which is the kernel's own.
+# Prints a line for each difference, how many texts of each report agree, how many answers and addresses the replays that
+# agree have, and 'N passed, M failed' at its end.
 set -u
 unset CDPATH
 top=$(cd "$(dirname "$0")/.." && pwd)
 program=$(cd "$(dirname "${1:-$top/bootmem}")" && pwd)/$(basename "${1:-$top/bootmem}")
-reports="map memory nodes zones script"
+reports="map memory nodes zones crash script"
 passed=0
 failed=0
+answers=0
+addresses=0
+texts=
 work=$(mktemp -d) || exit 1
 trap 'rm -rf "$work"' EXIT
 
@@ -44,6 +48,11 @@ check() {
 		differs "$1" "$3" "standard error has $(cat "$work/err")"
 	else
 		passed=$((passed + 1))
+		agree=$((agree + 1))
+		if [ "$3" = script ]; then
+			answers=$((answers + $(wc -l <"$work/got")))
+			addresses=$((addresses + $(grep -c ': at 0x' "$work/got")))
+		fi
 	fi
 }
 
@@ -55,14 +64,17 @@ each() {
 }
 
 if [ ! -x "$program" ]; then
-	echo "real_machines.sh: there is no program $program: 'make bootmem' builds it" >&2
+	echo "real_boots.sh: there is no program $program: 'make bootmem' builds it" >&2
 	exit 2
 fi
 for report in $reports; do
+	agree=0
 	each "$report" >"$work/list"
 	while read -r machine folder; do
 		check "$machine" "$folder" "$report"
 	done <"$work/list"
+	texts="$texts${texts:+, }$agree of $report"
 done
+echo "texts that agree: $texts; the replays have $answers answers, $addresses of them addresses"
 echo "$passed passed, $failed failed"
 [ "$failed" -eq 0 ] && [ "$passed" -gt 0 ]

@@ -1,0 +1,129 @@
+#!/bin/sh
+# install.sh: installs ./bootmem into a folder as 'make install' does, and looks that what the manual pages and the README point
+# to is there, that the program and the tools run from there, that an installation proves nothing, and that 'make uninstall'
+# leaves nothing. Prints a line for each difference, and 'N passed, M failed' at its end.
+set -u
+unset CDPATH
+cd "$(dirname "$0")/.." || exit 1
+top=$PWD
+[ -x bootmem ] || {
+	echo "install.sh: there is no program $top/bootmem: 'make bootmem' builds it" >&2
+	exit 2
+}
+work=$(mktemp -d) || exit 1
+trap 'rm -rf "$work"' EXIT
+passed=0
+failed=0
+make=${MAKE:-make}
+
+# ok WHAT COMMAND..: the command's status is 0
+ok() {
+	what=$1
+	shift
+	if "$@" >"$work/out" 2>"$work/err"; then
+		passed=$((passed + 1))
+	else
+		failed=$((failed + 1))
+		echo "$what: $(head -n 3 "$work/err")"
+	fi
+}
+
+# is WHAT GOT WANTED: the two are the same
+is() {
+	if [ "$2" = "$3" ]; then
+		passed=$((passed + 1))
+	else
+		failed=$((failed + 1))
+		echo "$1: '$2', wanted '$3'"
+	fi
+}
+
+# there WHAT FILE..: each of the files is there
+there() {
+	what=$1
+	shift
+	for file; do
+		ok "$what: $file isn't there" test -e "$file"
+	done
+}
+
+# installed PREFIX [WORD..]: make's answer, as it would be with a tree of these sources alone and no toolchain
+installed() {
+	prefix=$1
+	shift
+	"$make" --no-print-directory -C "$work/tree" install RT="$work/none" DESTDIR="$work/root" PREFIX="$prefix" "$@"
+}
+
+# a tree without crates: none of what is installed is made of them
+mkdir -p "$work/tree/crates" "$work/root"
+cp -r Makefile README.md CHANGELOG.md CONTRIBUTING.md bootmem.1 bootmem.5 crates.txt docs examples tools "$work/tree" &&
+	cp bootmem "$work/tree/bootmem" || exit 1
+root=$work/root/opt/it
+share=$root/share
+
+ok "make install" installed /opt/it
+is "make install says" "$(cat "$work/out" "$work/err")" ""
+there "the program" "$root/bin/bootmem" "$root/bin/bootmem-collect" "$share/man/man1/bootmem.1" "$share/man/man5/bootmem.5"
+is "the first run" "$("$root/bin/bootmem" --report map "$share/bootmem/examples/first/zp.bin")" "$(cat examples/first/map.txt)"
+
+# what the pages point to: documents, machines, commands, places under the prefix, links
+pages="$share/man/man1/bootmem.1 $share/man/man5/bootmem.5 $share/doc/bootmem/README.md"
+for page in $pages; do
+	name=$(basename "$page")
+	sed 's/\\-/-/g' "$page" >"$work/page"
+	for document in $(grep -o '[A-Z][A-Z]*\.md' "$work/page" | sort -u); do
+		there "$name" "$share/doc/bootmem/$document"
+	done
+	for machine in $(grep -o 'examples/[a-z0-9][a-zA-Z0-9_./-]*' "$work/page" | sort -u); do
+		there "$name" "$share/bootmem/${machine%.}"
+	done
+	for command in $(grep -o 'bootmem-[a-z][a-z]*\|zp-from-log' "$work/page" | sort -u); do
+		there "$name" "$root/bin/$command"
+	done
+	for place in $(grep -o 'share/[a-z/]*' "$work/page" | sort -u); do
+		there "$name" "$root/$place"
+	done
+	for link in $(grep -o '](\([^)#]*\)' "$work/page" | sed 's/^](//' | grep -v '^https*:' | sort -u); do
+		there "$name" "$share/doc/bootmem/$link"
+	done
+done
+is "the README has no link into docs/" "$(grep -c '](docs/' "$share/doc/bootmem/README.md")" 0
+
+# the tools run from where they are
+for tool in "$root"/bin/*; do
+	case $(head -n 1 "$tool" | tr -d '\0') in
+	'#!'*python3) ! command -v python3 >/dev/null 2>&1 || ok "$(basename "$tool") --help" "$tool" --help ;;
+	esac
+done
+is "bootmem-collect without a folder" "$("$root/bin/bootmem-collect" 2>&1 | grep -c '^usage: ')" 1
+
+# one version everywhere
+version=$(sed -n 's/^VERSION := //p' Makefile)
+is "the version of CHANGELOG.md" "$(sed -n 's/^## \([0-9.]*\), [0-9-]*$/\1/p' CHANGELOG.md | head -n 1)" "$version"
+is "the date of the newest changes" "$(sed -n "s/^## $version, //p" CHANGELOG.md)" "$(sed -n 's/^\.TH BOOTMEM 1 \([^ ]*\) .*/\1/p' bootmem.1)"
+for page in bootmem.1 bootmem.5; do
+	is "the version of $page" "$(sed -n 's/^\.TH .*"bootmem \([0-9.]*\)".*/\1/p' "$page")" "$version"
+done
+for target in $(sed -n 's/^\.PHONY: all //p' Makefile); do
+	ok "make help tells of $target" sh -c "'$make' --no-print-directory help | grep -q '^ *make $target'"
+done
+
+# what uninstall leaves
+ok "make uninstall" "$make" --no-print-directory -C "$work/tree" uninstall DESTDIR="$work/root" PREFIX=/opt/it
+is "what make uninstall leaves" "$(find "$work/root" ! -type d | head -n 3)" ""
+
+# another place for the pages; sources that are newer; no program at all
+ok "make install MANDIR=/pages" installed /opt/it MANDIR=/pages
+there "MANDIR" "$work/root/pages/man1/bootmem.1" "$work/root/pages/man5/bootmem.5"
+ok "make uninstall MANDIR=/pages" "$make" --no-print-directory -C "$work/tree" uninstall DESTDIR="$work/root" PREFIX=/opt/it MANDIR=/pages
+is "what make uninstall leaves with MANDIR" "$(find "$work/root" ! -type d | head -n 3)" ""
+touch -d '+1 hour' "$work/tree/crates.txt"
+ok "make install with newer sources" installed /opt/it
+is "what it says of them" "$(cat "$work/out" "$work/err")" \
+	"bootmem: some sources are newer than ./bootmem, which is installed as it is; 'make bootmem' builds it anew"
+rm "$work/tree/bootmem"
+installed /opt/it >"$work/out" 2>"$work/err"
+is "make install without a program or a toolchain" "$([ $? -ne 0 ] && grep -c "there is no command" "$work/err")" 1
+
+echo "$passed passed, $failed failed"
+[ "$failed" -eq 0 ]

@@ -1,0 +1,66 @@
+#!/bin/sh
+# install.sh install|uninstall DESTDIR PREFIX MANDIR: puts the built program, the tools, the manual pages, the documents and the
+# examples under DESTDIR, or removes what it put there. 'make install' and 'make uninstall' call it.
+#
+#   PREFIX/bin                bootmem, the tools that are there, and tools/collect.sh as bootmem-collect
+#   MANDIR/man1, MANDIR/man5  the manual pages
+#   PREFIX/share/doc/bootmem  the documents
+#   PREFIX/share/bootmem      the machines of examples/, and what the tools share
+#   PREFIX/share/bash-completion/completions/bootmem
+set -eu
+unset CDPATH
+cd "$(dirname "$0")/.."
+deed=$1
+bin=$2$3/bin
+share=$2$3/share
+man=$2$4
+tools="bootmem-draw bootmem-where bootmem-diff bootmem-live zp-from-log"
+
+uninstall() {
+	for tool in bootmem bootmem-collect $tools; do
+		rm -f "$bin/$tool"
+	done
+	rm -f "$man/man1/bootmem.1" "$man/man5/bootmem.5" "$share/bash-completion/completions/bootmem"
+	rm -rf "$share/doc/bootmem" "$share/bootmem"
+}
+
+# examples FOLDER: the files of the machines of examples/, and nothing else that lies there
+examples() {
+	(cd examples && find . -type f \( -name '*.bin' -o -name '*.txt' -o -name cmdline -o -name words -o -name script \
+		-o -name README.md \) -print | tar -c -f - -T -) | (cd "$1" && tar -x --no-same-owner -f -)
+	chmod -R u=rwX,go=rX "$1"
+}
+
+install_all() {
+	install -d "$bin" "$man/man1" "$man/man5" "$share/doc/bootmem" "$share/bootmem/examples"
+	install -m 755 bootmem "$bin/bootmem"
+	install -m 755 tools/collect.sh "$bin/bootmem-collect"
+	for tool in $tools; do
+		[ ! -f "tools/$tool" ] || install -m 755 "tools/$tool" "$bin/$tool"
+	done
+	for module in tools/*.py; do
+		[ ! -f "$module" ] || install -m 644 "$module" "$share/bootmem/$(basename "$module")"
+	done
+	if [ -f tools/bootmem.bash-completion ]; then
+		install -d "$share/bash-completion/completions"
+		install -m 644 tools/bootmem.bash-completion "$share/bash-completion/completions/bootmem"
+	fi
+	install -m 644 bootmem.1 "$man/man1/bootmem.1"
+	install -m 644 bootmem.5 "$man/man5/bootmem.5"
+	for document in CHANGELOG.md CONTRIBUTING.md docs/*.md docs/*.svg; do
+		[ ! -f "$document" ] || install -m 644 "$document" "$share/doc/bootmem/$(basename "$document")"
+	done
+	# the documents lie beside the README there
+	sed 's|](docs/|](|g; s|`docs/|`|g' README.md >"$share/doc/bootmem/README.md"
+	chmod 644 "$share/doc/bootmem/README.md"
+	examples "$share/bootmem/examples"
+}
+
+case $deed in
+install) install_all ;;
+uninstall) uninstall ;;
+*)
+	echo "usage: install.sh install|uninstall DESTDIR PREFIX MANDIR" >&2
+	exit 2
+	;;
+esac
