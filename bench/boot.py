@@ -9,6 +9,8 @@ Before the rounds each text is looked at: it must have the lines that it has whe
 
 script lines  over 64 GiB in one run of memory. `reserve`: pages with a page between, in no order; `alloc`: pages, each below the last;
               `alloc, free`: a page is allocated and freed in turn.
+fills         over the same memory: 10,000 places of 65,536 bytes are claimed and then filled, beyond the same script without the fills.
+              `alloc`: each place right below the last; `reserve`: places that lie apart, in no order.
 domains       3,000 runs of memory with gaps between, mostly of 4 MiB, and an SRAT of 2,048 blocks of 1,024 domains over them, a block
               over one run or two. `apart`: the two blocks of a domain have those of all others between them, and the table is in no
               order; `together`: they lie side by side, and the table is in order.
@@ -47,6 +49,23 @@ def allocs_and_frees(count):
 
 
 KINDS = (("reserve", reserves), ("alloc", allocs), ("alloc, free", allocs_and_frees))
+
+
+def great_allocs(count):
+    return ["alloc %d 64K 64K" % i for i in range(count)]
+
+
+def great_reserves(count):
+    places = list(range(count))
+    random.Random(1).shuffle(places)
+    return ["reserve %d 0x%x 64K" % (i, 64 * MIB + 0x20000 * i) for i in places]
+
+
+def fills(count):
+    return ["fill %d 0xA5" % i for i in range(count)]
+
+
+FILLED = (("alloc", great_allocs), ("reserve", great_reserves))
 
 
 def one_run(end):
@@ -115,6 +134,10 @@ def make_inputs(folder):
             held = "".join(line + "\n" for line in lines_of(count)).encode()
             path = write(folder, "script-%d-%d" % (number, count), held)
             inputs[kind, count] = (["script", "--script", path] + plain, count)
+    for kind, lines_of in FILLED:
+        for what, lines in (("claimed", lines_of(MANY)), ("filled", lines_of(MANY) + fills(MANY))):
+            path = write(folder, "fills-%s-%s" % (kind, what), "".join(line + "\n" for line in lines).encode())
+            inputs[what, kind] = (["script", "--script", path] + plain, len(lines))
     for name, blocks, joined in (("apart", domains_apart(), BLOCKS), ("together", domains_together(), DOMAINS)):
         path = write(folder, name + ".srat", srat(blocks))
         inputs["srat", name] = (["nodes", "--srat", path] + runs, 2 + DOMAINS + joined)
@@ -200,6 +223,8 @@ def figures(seconds):
         rows.append(("script lines: %s, one of 10,000" % kind, many, "us", None))
         rows.append(("script lines: %s, one of 10,000 to one of 1,000" % kind, many / few, "times", 12))
     rows.append(("script lines: 10,000 of each kind, in all", sum(seconds[kind, MANY] for kind, _ in KINDS) * 1e3, "ms", 1000))
+    for kind, _ in FILLED:
+        rows.append(("fills: 10,000 of 65,536 bytes, %s" % kind, (seconds["filled", kind] - seconds["claimed", kind]) * 1e3, "ms", 1000))
     for name in ("apart", "together"):
         rows.append(("domains: %s, beyond no SRAT" % name, (seconds["srat", name] - seconds["no srat"]) * 1e3, "ms", 20))
     rows.append(("16 TiB: sections, beyond memory", (seconds["great", "sections"] - seconds["great", "memory"]) * 1e3, "ms", 50))

@@ -66,5 +66,23 @@ if [ -c /dev/full ]; then
 		echo "a full standard error: status $status, wanted 3"
 	fi
 fi
+
+# an output that takes some hundred bytes and then no more: what was written is where the text begins
+printf '\0\0\0\0\0\0\0\0\1\0\0\0\0\0\0\0' >ext
+{ printf 'SRAT\060\0\0\0\1\225' && head -c 38 /dev/zero; } >srat
+: >empty
+set -- --e820ext ext --cmdline empty --srat srat --script empty --report map,buddyinfo,blocks "$zp"
+"$program" "$@" >whole
+(trap '' XFSZ && ulimit -f 1 && exec "$program" "$@" >part 2>"$work/err")
+status=$?
+written=$(($(wc -c <part)))
+head -c "$written" whole >front
+if [ "$status" -eq 4 ] && [ "$written" -gt 0 ] && [ "$written" -lt "$(($(wc -c <whole)))" ] && cmp -s part front &&
+	[ "$(cat "$work/err")" = 'bootmem: cannot write' ]; then
+	passed=$((passed + 1))
+else
+	failed=$((failed + 1))
+	echo "an output that fills up: status $status, $written bytes, $(cat "$work/err")"
+fi
 echo "$passed passed, $failed failed"
 [ "$failed" -eq 0 ]

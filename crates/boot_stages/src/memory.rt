@@ -8,6 +8,7 @@ ghost use Rattle.memblock_model.specs.declared.item.Item.TheVariants as item;
 ghost use Rattle.memblock_model.specs.declared.owner.Owner.TheVariants as owner;
 ghost use Rattle.growth_model.specs.Sound.{HasBegun, IsImage};
 ghost use Rattle.growth_model.specs.Carried.{carried_out};
+ghost use Rattle.stage_calls.specs.Lent.{GoesOn};
 ghost use Rattle.early_stages.specs.Memory.{end_of_runs, memory_end};
 ghost use Rattle.early_stages.specs.Wanted.{early_claims, first_items, items_of_map, items_of_run, up_to};
 ghost use Rattle.boot_stages.specs.Boots.{HoldsWith};
@@ -24,6 +25,7 @@ use growth_model::Refusal;
 use memblock_grow::Memblock;
 use memblock_model::Which;
 use memblock_ranges::Tables;
+use stage_calls::stand_still;
 use std::alloc::Global;
 
 /// The bytes from 0 up to the address.
@@ -42,8 +44,7 @@ fn claim_early(memblock: &mut Memblock, kernel: Range, initrd: Option<Range>) ->
     requires initrd { IfSome initrd (λ range. 0 < range.size) }
     ensures carries { Carries result (early_claims kernel initrd) memblock.old.journal.items memblock.new.journal.items }
     ensures begun { OnOk result (HasBegun memblock.new.journal.items) }
-    ensures kernel { memblock.new.kernel ≡ memblock.old.kernel }
-    ensures bytes { OnOk result (HoldsWith [] memblock.old → HoldsWith [] memblock.new) }
+    ensures lent { GoesOn memblock.old memblock.new }
 {
     memblock.claim(kernel, Owner::Kernel)?;
     memblock.claim(up_to(LOW_END), Owner::Low64K)?;
@@ -60,9 +61,9 @@ fn add_run(memblock: &mut Memblock, run: &Run) -> Result<(), Refusal>
     requires begun { HasBegun memblock.old.journal.items }
     ensures carries { Carries result (items_of_run MAX_PHYSMEM run.now) memblock.old.journal.items memblock.new.journal.items }
     ensures begun { HasBegun memblock.new.journal.items }
-    ensures kernel { memblock.new.kernel ≡ memblock.old.kernel }
-    ensures bytes { OnOk result (HoldsWith [] memblock.old → HoldsWith [] memblock.new) }
+    ensures lent { GoesOn memblock.old memblock.new }
 {
+    stand_still(memblock);
     let range = run.range;
     if run.kind == E820_TYPE_SOFT_RESERVED {
         return memblock.claim(range, Owner::Soft);
@@ -94,9 +95,9 @@ fn add_map(memblock: &mut Memblock, map: &[Run]) -> Result<(), Refusal>
     requires begun { HasBegun memblock.old.journal.items }
     ensures carries { Carries result (items_of_map MAX_PHYSMEM map.now) memblock.old.journal.items memblock.new.journal.items }
     ensures begun { HasBegun memblock.new.journal.items }
-    ensures kernel { memblock.new.kernel ≡ memblock.old.kernel }
-    ensures bytes { OnOk result (HoldsWith [] memblock.old → HoldsWith [] memblock.new) }
+    ensures lent { GoesOn memblock.old memblock.new }
 {
+    stand_still(memblock);
     for run in map {
         add_run(memblock, run)?;
     }
@@ -131,8 +132,7 @@ fn map_memory(
         (early_claims kernel initrd ++ (item.Limit ISA_END_ADDRESS ∷ (items_of_map MAX_PHYSMEM map.now ++ item.Trim ∷ [])))
         memblock.old.journal.items memblock.new.journal.items }
     ensures begun { OnOk result (HasBegun memblock.new.journal.items) }
-    ensures kernel { memblock.new.kernel ≡ memblock.old.kernel }
-    ensures bytes { OnOk result (HoldsWith [] memblock.old → HoldsWith [] memblock.new) }
+    ensures lent { GoesOn memblock.old memblock.new }
 {
     claim_early(memblock, kernel, initrd)?;
     memblock.set_limit(ISA_END_ADDRESS)?;
@@ -148,8 +148,7 @@ fn limit_memory(memblock: &mut Memblock, end: u64) -> Result<(), Refusal>
     ensures carries { Carries result (item.Limit end ∷ item.Claim (up_to ISA_END_ADDRESS) owner.Low1M ∷ [])
         memblock.old.journal.items memblock.new.journal.items }
     ensures begun { OnOk result (HasBegun memblock.new.journal.items) }
-    ensures kernel { memblock.new.kernel ≡ memblock.old.kernel }
-    ensures bytes { OnOk result (HoldsWith [] memblock.old → HoldsWith [] memblock.new) }
+    ensures lent { GoesOn memblock.old memblock.new }
 {
     memblock.set_limit(end)?;
     memblock.claim(up_to(ISA_END_ADDRESS), Owner::Low1M)
@@ -170,8 +169,7 @@ fn set_up(
     ensures carries { Carries result (first_items MAX_PHYSMEM kernel initrd map.now)
         memblock.old.journal.items memblock.new.journal.items }
     ensures begun { OnOk result (HasBegun memblock.new.journal.items) }
-    ensures kernel { memblock.new.kernel ≡ memblock.old.kernel }
-    ensures bytes { OnOk result (HoldsWith [] memblock.old → HoldsWith [] memblock.new) }
+    ensures lent { GoesOn memblock.old memblock.new }
 {
     map_memory(memblock, kernel, initrd, map)?;
     let end = end_of_memory(memblock.tables());

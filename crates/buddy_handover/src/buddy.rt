@@ -4,11 +4,12 @@ ghost use Rattle.std.specs.Prelude.{◌≡◌, ℕ, ◌+◌, ◌-◌, ◌^◌, �
 ghost use Rattle.address_runs.specs.Runs.{IsRunsOf};
 ghost use Rattle.address_runs.specs.Edits.{replaced, NothingFrom};
 ghost use Rattle.frame_blocks.specs.Listed.{block_of, blocks_of, count_of};
+ghost use Rattle.frame_blocks.specs.Rows.{blocks_of_rows};
 ghost use Rattle.buddy_handover.specs.Contents.{free};
 
 use crate::runs::put;
 use bm_base::{Memory, Range, Zone};
-use frame_blocks::{Block, FrameRun, MAX_FRAMES};
+use frame_blocks::{Block, BlockRow, FrameRun, MAX_FRAMES};
 use std::alloc::Global;
 use std::marker::Model;
 
@@ -103,6 +104,13 @@ impl Buddy {
         ensures low { NothingFrom MAX_FRAMES (free self.now) }
     {
         frame_blocks::blocks(*self.runs.allocator(), &self.runs)
+    }
+
+    /// The same blocks row by row: some twenty rows for each run of free frames, however long it is.
+    pub fn rows(&self) -> Result<Vec<BlockRow>, Memory>
+        ensures { IfOk result (λ rows. blocks_of_rows rows.items ≡ blocks_of (free self.now)) }
+    {
+        frame_blocks::rows(*self.runs.allocator(), &self.runs)
     }
 
     /// How many blocks there are of the node, in the zone and of the order (`nr_free` of `struct free_area`).

@@ -3,8 +3,8 @@
 //!
 //! [`hand_over`] reads memblock's two tables from the bytes in which they lie, in one pass, and frees what is
 //! memory and of which no byte is reserved. What it answers is a [`Buddy`]: the frames that are free, each with
-//! its node. [`Buddy::free_frames`] frees more; [`Buddy::blocks`], [`Buddy::count`] and [`Buddy::block_of`] tell the
-//! blocks (`frame_blocks`).
+//! its node. [`Buddy::free_frames`] frees more; [`Buddy::blocks`], [`Buddy::rows`], [`Buddy::count`] and
+//! [`Buddy::block_of`] tell the blocks (`frame_blocks`).
 //!
 //! The kernel's lists have an entry a block. Here the free frames are one ascending list of runs, however
 //! long a run is: one call adds two entries at most, for which [`Buddy::ready`] takes the memory beforehand, and
@@ -21,5 +21,5 @@ mod runs;
 mod tests;
 
 pub use buddy::Buddy;
-pub use frame_blocks::{Block, MAX_FRAMES, MAX_ORDER};
+pub use frame_blocks::{Block, BlockRow, MAX_FRAMES, MAX_ORDER};
 pub use handover::hand_over;

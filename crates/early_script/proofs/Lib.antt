@@ -6,6 +6,7 @@ pub mod RunLaws
 pub mod DeedLaws
 pub mod HoldLaws
 pub mod StageLaws
+pub mod OutLaws
 pub mod SectionLaws
 pub mod QuietLaws
 mod Examples

@@ -133,11 +133,14 @@ answer_of s d = answer_to (d.change s.items).refused d.answer
 abbrev pub state_after : State → Deed → State
 state_after s d = state_by s d.ids (d.change s.items)
 
--- a line ends with its answer, and leaves what it comes to; for want of the program's own memory it leaves some steps of its change, and
--- the IDs as they were
+-- the program's own memory ran out amid a line: some steps of its change stand, and the IDs are as they were
+abbrev pub IsAmid : State → State → Deed → Type 0
+IsAmid old new d = IsCut old.items new.items (d.change old.items) × (new.kernel ≡ old.kernel) × (new.ids ≡ old.ids)
+
+-- a line ends with its answer, and leaves what it comes to; or it wants the program's own memory
 abbrev pub Acts : Result Outcome Memory → State → State → Deed → Type 0
 Acts (Ok answer) old new d = (answer ≡ answer_of old d) × (new ≡ state_after old d)
-Acts (Err memory) old new d = IsCut old.items new.items (d.change old.items) × (new.kernel ≡ old.kernel) × (new.ids ≡ old.ids)
+Acts (Err memory) old new d = IsAmid old new d
 
 -- what a fill makes of a byte, where there is one
 abbrev pub put_by : Option Filled → ℕ → ℕ → ℕ

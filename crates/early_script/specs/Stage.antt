@@ -1,13 +1,14 @@
 -- Lines one behind another, each with its answer.
-use Rattle.std.specs.Prelude.{◌≡◌, ℕ, if◌then◌else◌, List, [], ◌∷◌, ◌++◌}
+use Rattle.std.specs.Prelude.{◌≡◌, ◌⊎◌, ℕ, ◌+◌, if◌then◌else◌, List, [], ◌∷◌, ◌++◌, take}
 use Rattle.std.specs.List.{All}
+use Rattle.memblock_model.specs.declared.item.Item.{Item}
 use Rattle.script_reader.specs.Script.{is_sections}
 use Rattle.script_reader.specs.declared.act.Line.{Line}
 use Rattle.growth_model.specs.Bytes.{Filled, byte, Holds}
 use Rattle.memblock_grow.specs.Contents.{Contents}
 use Rattle.early_script.specs.declared.outcome.Answer.{Answer}
 use Rattle.early_script.specs.Ids.{Ids}
-use Rattle.early_script.specs.Acted.{State, Deed, IsRun, with_fill, deed, answer_of, state_after}
+use Rattle.early_script.specs.Acted.{State, Deed, IsAmid, IsRun, with_fill, deed, answer_of, state_after}
 use Rattle.early_script.specs.Found.{state_of, bytes_in}
 
 -- what stands before a line: the state, the fills so far, and the answers so far
@@ -44,6 +45,31 @@ pub record Reaches (s : Stage) (ids : Ids) (m : Contents) (answers : List Answer
   pub state : state_of ids m ≡ s.state
   pub answers_are : answers ≡ s.answers
   pub holds : Holds m.kernel m.journal.items s.fills (bytes_in m)
+
+-- the program's own memory ran out amid the line: some steps of its change stand, and nothing else of it
+pub record EndsAmid (s : Stage) (line : Line) (ids : Ids) (m : Contents) : Type 0 where
+  pub amid : IsAmid s.state (state_of ids m) (deed_at s line)
+  pub holds : Holds m.kernel m.journal.items s.fills (bytes_in m)
+
+-- or behind it, so that its answer alone isn't kept
+pub record EndsBehind (s : Stage) (line : Line) (ids : Ids) (m : Contents) : Type 0 where
+  pub state : state_of ids m ≡ (after_line s line).state
+  pub holds : Holds m.kernel m.journal.items (after_line s line).fills (bytes_in m)
+
+-- where it ran out: so many lines have been run and answered, and the program's own memory ran out amid the next or behind it
+pub record RunsOut (s : Stage) (lines : List Line) (ids : Ids) (m : Contents) (answers : List Answer) : Type 0 where
+  pub count : ℕ
+  pub line : Line
+  pub next : take (count + 1) lines ≡ take count lines ++ line ∷ []
+  pub answers_are : answers ≡ (after_lines s (take count lines)).answers
+  pub ends : EndsAmid (after_lines s (take count lines)) line ids m ⊎ EndsBehind (after_lines s (take count lines)) line ids m
+
+-- the first list goes on to the second, and that to the third
+pub record IsBetween (first second third : List Item) : Type 0 where
+  pub more : List Item
+  pub rest : List Item
+  pub goes_on : second ≡ first ++ more
+  pub goes_further : third ≡ second ++ rest
 
 -- the lines before the one that places the sections, or all of them; and the lines behind it
 abbrev pub before_sections : List Line → List Line

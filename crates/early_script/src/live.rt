@@ -82,6 +82,7 @@ impl Live {
         ensures bytes { Follows mb.old.kernel mb.old.journal.items mb.new.journal.items (bytes_in mb.old) (bytes_in mb.new) }
     {
         stand_still(mb);
+        // A live ID is taken, whether or not a place fits.
         if self.is_live(id) {
             return Ok(Outcome::Taken);
         }

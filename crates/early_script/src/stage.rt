@@ -1,12 +1,12 @@
 //! The lines of a script one behind another, each with its answer.
-ghost use Rattle.std.specs.Prelude.{◌≡◌, ℕ, List, OnOk};
+ghost use Rattle.std.specs.Prelude.{◌≡◌, ℕ, List, OnOk, OnErr};
 ghost use Rattle.std.specs.List.{All};
 ghost use Rattle.script_reader.specs.Forms.{HasBounds};
 ghost use Rattle.growth_model.specs.Sound.{HasBegun};
 ghost use Rattle.growth_model.specs.Bytes.{Filled, Holds};
 ghost use Rattle.early_script.specs.Acted.{IsRun};
 ghost use Rattle.early_script.specs.Found.{bytes_in};
-ghost use Rattle.early_script.specs.Stage.{Reaches, PlaceOnce, stage_of, after_lines, before_sections, behind_sections};
+ghost use Rattle.early_script.specs.Stage.{IsBetween, Reaches, RunsOut, PlaceOnce, stage_of, after_lines, before_sections, behind_sections};
 
 use crate::live::Live;
 use crate::outcome::Answer;
@@ -28,6 +28,11 @@ pub fn run_lines(
     requires bounds { All (λ l. HasBounds l.act) lines.now }
     ensures ok { OnOk result ((fills : List Filled) → Holds mb.old.kernel mb.old.journal.items fills (bytes_in mb.old) →
         Reaches (after_lines (stage_of live.old mb.old fills answers.old.items) lines.now) live.new mb.new answers.new.items) }
+    ensures memory { OnErr result ((fills : List Filled) → Holds mb.old.kernel mb.old.journal.items fills (bytes_in mb.old) →
+        RunsOut (stage_of live.old mb.old fills answers.old.items) lines.now live.new mb.new answers.new.items) }
+    ensures journal { (fills : List Filled) → Holds mb.old.kernel mb.old.journal.items fills (bytes_in mb.old) →
+        IsBetween mb.old.journal.items mb.new.journal.items
+        (after_lines (stage_of live.old mb.old fills answers.old.items) lines.now).state.items }
     ensures kernel { mb.new.kernel ≡ mb.old.kernel }
     ensures begun { HasBegun mb.new.journal.items }
 {

@@ -1,26 +1,27 @@
 -- How many blocks of a node, a zone and an order there are.
-use Rattle.std.proofs.Common.{◌≡◌, ◌≢◌, ◌⊎◌, ◌↔◌, ℕ, zero, suc, ◌+◌, ◌-◌, ◌*◌, ◌%◌, ◌^◌, ◌<◌, ◌≤◌, ◌==◌, Bool, true, false, ◌&&◌, cond, if◌then◌else◌, Some, None, List, [], ◌∷◌, ◌++◌, length, get_or, drop, refl, sym, ◌∙◌, ap, subst, inl, inr, ⊎_elim, arith}
+use Rattle.std.proofs.Common.{◌≡◌, ◌≢◌, ◌⊎◌, ◌↔◌, ℕ, zero, suc, ◌+◌, ◌-◌, ◌*◌, ◌%◌, ◌^◌, ◌<◌, ◌≤◌, ◌==◌, Bool, true, false, ◌&&◌, cond, Some, List, [], ◌∷◌, length, get_or, drop, refl, sym, ◌∙◌, ap, subst, inl, inr, arith}
 use Rattle.std.specs.Bool.{IsTrue}
 use Rattle.std.specs.List.{count_by}
 use Rattle.std.proofs.lemmas.Bool.Decides.{nat_tests}
-use Rattle.std.proofs.lemmas.Bool.{cases_lt, cases_Bool, eq-eqb, eqb-true, true≢false}
+use Rattle.std.proofs.lemmas.Bool.{cases_Bool, eq-eqb, eqb-true, true≢false}
 use Rattle.std.proofs.lemmas.Nat.{pow_pos}
 use Rattle.std.proofs.lemmas.List.Sums.{sum_by-cons, sum_by-append, count_by-le-length}
-use Rattle.std.proofs.Math.Nat.{add-mod_right, add-mul-mod_self_right, suc-mul, mul-le-mul_left}
+use Rattle.std.proofs.Math.Nat.{add-mul-mod_self_right, suc-mul, mul-le-mul_left}
 use Rattle.bm_base.specs.declared.zone.Zone.{Zone}
 use Rattle.bm_base.specs.declared.zone.Zone.TheVariants as zone
 use Rattle.bm_base.specs.Zones.{zone_of}
 use Rattle.address_runs.specs.Runs.{RunOf, run_end, value_at, AreRuns}
 use Rattle.address_runs.specs.Edits.{NothingFrom}
 use Rattle.frame_blocks.specs.declared.block.Block.{Block}
-use Rattle.frame_blocks.specs.Frames.{Frames, AreFree}
+use Rattle.frame_blocks.specs.Frames.{Frames}
 use Rattle.frame_blocks.specs.Listed.{block_of, block_for, led_by_block, blocks_from, blocks_of, order_up_to, same_zone, is_of, count_of}
 use Rattle.frame_blocks.specs.declared.run.TheConstants.{MAX_FRAMES}
+use Rattle.frame_blocks.specs.Rows.{row_from}
 use Rattle.frame_blocks.specs.Sets.{IsRun, Fits, IsGreatest, IsStart}
-use Rattle.frame_blocks.proofs.ListLaws.{from-append, from-block, from-few}
-use Rattle.frame_blocks.proofs.GoodLaws.{up_is}
-use Rattle.frame_blocks.proofs.RunLaws.{found, free_inside, start_next, start_at_ten}
-use Rattle.frame_blocks.proofs.LookLaws.{run_of_list, listed, listed_all, listed_more, listed_none}
+use Rattle.frame_blocks.proofs.ListLaws.{from-few}
+use Rattle.frame_blocks.proofs.RunLaws.{start_next, start_at_ten}
+use Rattle.frame_blocks.proofs.RowLaws.{row_more}
+use Rattle.frame_blocks.proofs.LookLaws.{listed, listed_all, listed_more, listed_none}
 
 -- the test of a zone tells
 zone_self : (a : Zone) → same_zone a a ≡ true
@@ -51,71 +52,17 @@ one_block n o x order z wanted made is =
     ap (λ (c : Block). count_by (is_of n wanted order) (c ∷ [])) is ∙ sum_by-cons (λ (c : Block). cond (is_of n wanted order c) 1 0) b []
     ∙ rw node (omega arith)
 
-pub alike : (k : ℕ) (f : Frames) (n o s at order : ℕ) (z wanted : Zone) → o ≤ 10 → s ≡ 2 ^ o → at % 2 ^ o ≡ 0
-    → ((i : ℕ) → i < k → f (at + i * s) ≡ Some n) → ((i : ℕ) → i < k → order_up_to f (at + i * s) n 10 ≡ o)
-    → ((i : ℕ) → i < k → zone_of (at + i * s) ≡ z)
-    → count_by (is_of n wanted order) (blocks_from f at (k * s)) ≡ k * if_alike o z order wanted
-alike zero f n o s at order z wanted small size whole free found zones =
-    let none : 0 * s ≡ 0 = omega arith in
-    let nothing : blocks_from f at 0 ≡ [] = unfold blocks_from in refl in
-    ap (λ m. count_by (is_of n wanted order) (blocks_from f at m)) none
-    ∙ ap (λ (bs : List Block). count_by (is_of n wanted order) bs) nothing
-    ∙ (let h : 0 ≡ 0 * if_alike o z order wanted = omega arith in h)
-alike (suc k) f n o s at order z wanted small size whole free found zones =
+row_count : (k n o at order : ℕ) (z wanted : Zone) → count_by (is_of n wanted order) (row_from o at n z k) ≡ k * if_alike o z order wanted
+unfolding row_from
+row_count zero n o at order z wanted = let h : 0 ≡ 0 * if_alike o z order wanted = omega arith in h
+row_count (suc k) n o at order z wanted =
     let p : Block → Bool = is_of n wanted order in
     let v : ℕ = if_alike o z order wanted in
-    let some : 0 < suc k = omega arith in
-    let here : at + 0 * s ≡ at = omega arith in
-    let is : f at ≡ Some n = ap f (sym here) ∙ free 0 some in
-    let order_is : order_up_to f at n 10 ≡ o = ap (λ x. order_up_to f x n 10) (sym here) ∙ found 0 some in
-    let zone_is : zone_of at ≡ z = ap zone_of (sym here) ∙ zones 0 some in
-    let made : Block = record { order = o; first = at; node = n; zone = zone_of at } in
-    let one : blocks_from f at (2 ^ o) ≡ made ∷ [] = from-block f o at n small is order_is whole in
-    let sum : suc k * s ≡ 2 ^ o + k * s = let h = suc-mul k s in omega (arith, h, size) in
-    let next : (i : ℕ) → at + 2 ^ o + i * s ≡ at + suc i * s = λ i. let h = suc-mul i s in omega (arith, h, size) in
-    let rest : count_by p (blocks_from f (at + 2 ^ o) (k * s)) ≡ k * v =
-    alike k f n o s (at + 2 ^ o) order z wanted small size
-    (add-mod_right at (2 ^ o) ∙ whole)
-    (λ i lt. ap f (next i) ∙ free (suc i) (omega arith))
-    (λ i lt. ap (λ x. order_up_to f x n 10) (next i) ∙ found (suc i) (omega arith))
-    (λ i lt. ap zone_of (next i) ∙ zones (suc i) (omega arith)) in
-    let first : count_by p (blocks_from f at (2 ^ o)) ≡ v =
-    ap (λ (bs : List Block). count_by p bs) one
-    ∙ one_block n o at order z wanted made (ap (λ y. let b : Block = record { order = o; first = at; node = n; zone = y } in b) zone_is) in
+    let b : Block = record { order = o; first = at; node = n; zone = z } in
     let total : v + k * v ≡ suc k * v = let h = suc-mul k v in omega (arith, h) in
-    ap (λ m. count_by p (blocks_from f at m)) sum ∙ ap (λ (bs : List Block). count_by p bs) (from-append f at (2 ^ o) (k * s))
-    ∙ sum_by-append (λ (c : Block). cond (p c) 1 0) (blocks_from f at (2 ^ o)) (blocks_from f (at + 2 ^ o) (k * s))
-    ∙ ap (λ a. a + count_by p (blocks_from f (at + 2 ^ o) (k * s))) first ∙ ap (λ a. v + a) rest ∙ total
-
--- the blocks of a stretch that lies in a run: the first by the greatest set, those behind it by the greatest order
-in_a_row : (f : Frames) (first end n o s at k : ℕ) → IsRun f first end n → first ≤ at → 0 < k → at + k * s ≤ end → o ≤ 10 → s ≡ 2 ^ o
-    → at % s ≡ 0 → Fits first end at s → IsGreatest first end at o → ((o ≡ 10) ⊎ (k ≡ 1)) → (i : ℕ) → i < k
-    → (f (at + i * s) ≡ Some n) × (order_up_to f (at + i * s) n 10 ≡ o)
-in_a_row f first end n o s at k run above some room small size whole fits greatest (inr one) i lt =
-    let start : at + i * s ≡ at = let zeroth : i ≡ 0 = omega arith in ap (λ j. at + j * s) zeroth ∙ omega arith in
-    let positive : 0 < s = let h = pow_pos o in omega (arith, size, h) in
-    let inner : at < end = let h = suc-mul 0 s in let all = ap (λ j. j * s) one in omega (arith, room, all, h, positive) in (
-      ap f start ∙ run.inside at above inner,
-      ap (λ x. order_up_to f x n 10) start
-          ∙ found f first end n o at run above inner small (subst (λ (t : ℕ). Fits first end at t) size fits) greatest,
-    )
-in_a_row f first end n o s at k run above some room small size whole fits greatest (inl ten) i lt =
-    let s_is : s ≡ 1024 = size ∙ ap (λ p. 2 ^ p) ten in
-    let x : ℕ = at + i * s in
-    let all = ap (λ t. at + k * t) s_is in
-    let here : x ≡ at + i * 1024 = ap (λ t. at + i * t) s_is in
-    let fits_here : x + 1024 ≤ end = omega (arith, room, all, here, lt) in
-    let at_whole : at % 1024 ≡ 0 = subst (λ (t : ℕ). at % t ≡ 0) s_is whole in
-    let x_whole : x % 1024 ≡ 0 = ap (λ y. y % 1024) here ∙ add-mul-mod_self_right at i 1024 ∙ at_whole in
-    let is : f x ≡ Some n = run.inside x (omega arith) (omega (arith, fits_here)) in
-    let fits_ten : Fits first end x (2 ^ 10) = record {
-      above = omega (arith, x_whole, above);
-      below = omega
-          (arith, x_whole, fits_here);
-    } in (
-      is,
-      up_is f x n 10 10 is (omega arith) (free_inside f first end n 10 x run fits_ten) (λ less free. absurd (omega arith)) ∙ sym ten,
-    )
+    sum_by-append (λ (c : Block). cond (p c) 1 0) (b ∷ []) (row_from o (at + 2 ^ o) n z k)
+    ∙ ap (λ a. a + count_by p (row_from o (at + 2 ^ o) n z k)) (one_block n o at order z wanted b refl)
+    ∙ ap (λ a. v + a) (row_count k n o (at + 2 ^ o) order z wanted) ∙ total
 
 pub alike_more : (f : Frames) (first end n o s at k order : ℕ) (wanted : Zone) → IsRun f first end n → first ≤ at → 0 < k → at + k * s ≤ end
     → o ≤ 10 → s ≡ 2 ^ o → at % s ≡ 0 → Fits first end at s → IsGreatest first end at o → ((o ≡ 10) ⊎ (k ≡ 1))
@@ -124,16 +71,9 @@ pub alike_more : (f : Frames) (first end n o s at k order : ℕ) (wanted : Zone)
     ≡ count_by (is_of n wanted order) (blocks_from f first (at - first)) + k * if_alike o (zone_of at) order wanted
 alike_more f first end n o s at k order wanted run above some room small size whole fits greatest single zones =
     let p : Block → Bool = is_of n wanted order in
-    let row = in_a_row f first end n o s at k run above some room small size whole fits greatest single in
-    let parts : at + k * s - first ≡ (at - first) + k * s = omega arith in
-    let there : first + (at - first) ≡ at = omega arith in
-    let start : at % 2 ^ o ≡ 0 = subst (λ (t : ℕ). at % t ≡ 0) size whole in
-    ap (λ m. count_by p (blocks_from f first m)) parts
-    ∙ ap (λ (bs : List Block). count_by p bs) (from-append f first (at - first) (k * s))
-    ∙ sum_by-append (λ (c : Block). cond (p c) 1 0) (blocks_from f first (at - first)) (blocks_from f (first + (at - first)) (k * s))
-    ∙ ap (λ (y : ℕ). count_by p (blocks_from f first (at - first)) + count_by p (blocks_from f y (k * s))) there
-    ∙ ap (λ a. count_by p (blocks_from f first (at - first)) + a)
-    (alike k f n o s at order (zone_of at) wanted small size start (λ i lt. (row i lt).0) (λ i lt. (row i lt).1) zones)
+    ap (λ (bs : List Block). count_by p bs) (row_more f first end n o s at k run above some room small size whole fits greatest single zones)
+    ∙ sum_by-append (λ (c : Block). cond (p c) 1 0) (blocks_from f first (at - first)) (row_from o at n (zone_of at) k)
+    ∙ ap (λ a. count_by p (blocks_from f first (at - first)) + a) (row_count k n o at order (zone_of at) wanted)
 
 -- frames of another node have none
 led_other : (f : Frames) (x n node order : ℕ) (wanted : Zone) (bs : List Block) → f x ≡ Some n → (n == node) ≡ false

@@ -4,5 +4,6 @@ pub mod GoodLaws
 pub mod ListLaws
 pub mod RunLaws
 pub mod LookLaws
+pub mod RowLaws
 pub mod CountLaws
 pub mod BlockLaws

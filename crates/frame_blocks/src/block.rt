@@ -1,4 +1,4 @@
-//! A block as the page allocator's lists hold it.
+//! A block as the page allocator's lists hold it, and blocks of one kind that follow one another.
 
 use bm_base::Zone;
 
@@ -13,6 +13,20 @@ pub struct Block {
     pub order: u32,
     /// The number of its first frame.
     pub first: u64,
+    pub node: u32,
+    pub zone: Zone,
+}
+
+/// Blocks of one kind, one behind another: all of one order and one node and in one zone. Memory that is free
+/// from one end to the other is a few rows, since nearly all of its blocks are of the greatest order.
+#[derive(Clone, Copy, Debug, PartialEq, Eq)]
+pub struct BlockRow {
+    /// From 0 to [`MAX_ORDER`], of each block.
+    pub order: u32,
+    /// The number of the first frame of the first block.
+    pub first: u64,
+    /// How many blocks there are.
+    pub count: u64,
     pub node: u32,
     pub zone: Zone,
 }

@@ -60,7 +60,7 @@ fn is_alike(set: Set, at: u64, zone: Zone, order: u32) -> bool
 
 /// How many blocks of the set's size follow one another from the frame on, all in its zone: of the greatest
 /// order as many as there is room for, of another order at least this one.
-fn blocks_alike(at: u64, end: u64, set: Set) -> u64
+pub fn blocks_alike(at: u64, end: u64, set: Set) -> u64
     requires small { set.order ≤ 10 }
     requires size { set.order ≡ 10 → set.size ≡ 1024 }
     requires start { set.order ≡ 10 → at % 1024 ≡ 0 }

@@ -10,7 +10,7 @@
 //!
 //! The free frames are kept as runs ([`FrameRun`], `address_runs`): consecutive frames of one node, as many as
 //! there are. The blocks are worked out when they are asked for, so that 16 TiB are one record and not four
-//! million: [`blocks`] lists them, [`block_of`] finds the one that has a frame, [`count_blocks`] counts those of a
+//! million: [`blocks`] lists them, [`rows`] lists them row by row, [`block_of`] finds the one that has a frame, [`count_blocks`] counts those of a
 //! node, a zone and an order in a few steps a run. `specs/Listed.antt` says what each gives, frame by frame;
 //! [`listed_blocks_are_blocks`] and [`sets_lie_in_one_zone`] are the laws that tie that to sets of frames.
 #![tactic(auto)]
@@ -23,9 +23,9 @@ mod run;
 mod set;
 mod zones;
 
-pub use block::{Block, MAX_ORDER};
+pub use block::{Block, BlockRow, MAX_ORDER};
 pub use count::count_blocks;
 pub use laws::{listed_blocks_are_blocks, sets_lie_in_one_zone};
-pub use list::{block_of, blocks};
+pub use list::{block_of, blocks, rows};
 pub use run::{FrameRun, MAX_FRAMES};
 pub use zones::zone_until;

@@ -1,13 +1,16 @@
-//! The blocks of runs of free frames: all of them, ascending, and the one in which a frame is.
+//! The blocks of runs of free frames: all of them, ascending, one by one or row by row, and the one in which a
+//! frame is.
 
 ghost use Rattle.std.specs.Prelude.{◌≡◌, ◌-◌, ◌≤◌, ◌++◌, OnOk, IfOk};
 ghost use Rattle.address_runs.specs.Runs.{AreRuns, value_at};
 ghost use Rattle.address_runs.specs.Edits.{NothingFrom};
 ghost use Rattle.frame_blocks.specs.Frames.{Frames};
 ghost use Rattle.frame_blocks.specs.Listed.{block_of, blocks_from, blocks_of};
+ghost use Rattle.frame_blocks.specs.Rows.{blocks_of_rows};
 ghost use Rattle.frame_blocks.specs.Sets.{IsRun};
 
-use crate::block::Block;
+use crate::block::{Block, BlockRow};
+use crate::count::blocks_alike;
 use crate::run::{FrameRun, MAX_FRAMES};
 use crate::set::set_within;
 use bm_base::{Memory, zone_of};
@@ -44,6 +47,43 @@ fn push_blocks(blocks: &mut Vec<Block>, first: u64, end: u64, node: u32) -> Resu
             zone: zone_of(at),
         })?;
         at += set.size;
+    }
+    Ok(())
+}
+
+/// All blocks of the free frames, ascending, row by row: a run of frames is a row for each zone in which it has
+/// blocks of the greatest order, and one for each other block, of which there are some twenty.
+pub fn rows(alloc: Global, runs: &[FrameRun]) -> Result<Vec<BlockRow>, Memory>
+    requires runs { AreRuns runs.now }
+    requires low { NothingFrom MAX_FRAMES (value_at runs.now) }
+    ensures { IfOk result (λ rows. blocks_of_rows rows.items ≡ blocks_of (value_at runs.now)) }
+{
+    let mut rows = Vec::new(alloc);
+    for run in runs {
+        push_rows(&mut rows, run.first, run.first + run.count, run.node)?;
+    }
+    Ok(rows)
+}
+
+/// The blocks of one run, row by row.
+fn push_rows(rows: &mut Vec<BlockRow>, first: u64, end: u64, node: u32) -> Result<(), Memory>
+    requires { first ≤ end }
+    ensures { OnOk result ((f : Frames) → IsRun f first end node →
+        blocks_of_rows rows.new.items ≡ blocks_of_rows rows.old.items ++ blocks_from f first (end - first)) }
+{
+    let mut at = first;
+    while at < end {
+        let set = set_within(first, end, at);
+        let count = blocks_alike(at, end, set);
+        let zone = zone_of(at);
+        rows.push(BlockRow {
+            order: set.order,
+            first: at,
+            count,
+            node,
+            zone,
+        })?;
+        at += count * set.size;
     }
     Ok(())
 }

@@ -5,6 +5,7 @@ pub mod GivenLaws
 pub mod InListLaws
 pub mod JudgedLaws
 pub mod KeptLaws
+pub mod MemoryLaws
 pub mod MeaningLaws
 pub mod NodesLaws
 pub mod RestLaws

@@ -1,7 +1,8 @@
 -- Blocks of different nodes that share no address: the joined runs of their nodes are the runs of what each address has.
-use Rattle.std.proofs.Common.{◌≡◌, ◌≢◌, ℕ, ◌^◌, ◌<◌, ◌≤◌, ◌==◌, Bool, true, false, ◌&&◌, ◌||◌, not, nat_le, nat_lt, max, min, Option, Some, None, List, [], ◌∷◌, refl, sym, ◌∙◌, ap, subst, inl, inr, arith}
+use Rattle.std.proofs.Common.{◌≡◌, ◌≢◌, ℕ, zero, suc, ◌+◌, ◌^◌, ◌<◌, ◌≤◌, ◌==◌, Bool, true, false, ◌&&◌, ◌||◌, not, nat_le, nat_lt, max, min, Option, Some, None, List, [], ◌∷◌, map, length, get_or, refl, sym, ◌∙◌, ap, subst, inl, inr, arith}
 use Rattle.std.proofs.lemmas.Bool.{cases_lt, cases_Bool, and_parts, and_from, true≢false}
 use Rattle.std.proofs.lemmas.Bool.Decides.{nat_tests}
+use Rattle.std.proofs.lemmas.List.{get_or_default, map-id}
 use Rattle.std.proofs.lemmas.Option.{none-some, same_Some}
 use Rattle.std.specs.List.{list_any}
 use Rattle.std.specs.Option.{option_or}
@@ -34,8 +35,11 @@ first_given (b ∷ bs) x = elim (cases_Bool (lies_in b x)) as (λ _. all_overlai
   | inr outside ↦ rw outside (first_given bs x)
 ]
 
+pub laid_given : (blocks rs : List Block) → IsRunsOf (all_overlaid option_or blocks) rs → IsRunsOf (value_at blocks) rs
+laid_given blocks rs known = record { runs = known.runs; each = λ x. known.each x ∙ first_given blocks x }
+
 -- which is the node of each of them
-given : (blocks : List Block) (b : Block) (x : ℕ) → Apart blocks → IsIn b blocks → lies_in b x ≡ true → value_at blocks x ≡ Some b.value
+pub given : (blocks : List Block) (b : Block) (x : ℕ) → Apart blocks → IsIn b blocks → lies_in b x ≡ true → value_at blocks x ≡ Some b.value
 given [] b x apart member lies = absurd member
 given (c ∷ cs) b x apart member lies = elim (cases_Bool (lies_in c x)) as (λ _. value_at (c ∷ cs) x ≡ Some b.value) [
   | inl first ↦ rw first (ap (λ n. Some n) (apart c b x (inl refl) member first lies))
@@ -272,12 +276,11 @@ node_given blocks rs ts x apart some known joined = by (value_at ts x) (first_ha
       let of_block : has blocks block.0.value x ≡ true = subst (λ (k : ℕ). has blocks k x ≡ true) (sym block.2) has_it in
       absurd (first_some blocks x blocks block.0 block.1 of_block had)
 
-pub joined_blocks : (blocks rs : List Block) → Apart blocks → HaveAddresses blocks → IsRunsOf (all_overlaid option_or blocks) rs
+pub joined_blocks : (blocks rs : List Block) → Apart blocks → HaveAddresses blocks → IsRunsOf (value_at blocks) rs
     → IsRunsOf (node_at blocks) (filled rs)
 joined_blocks blocks rs apart some known =
-    let runs_of_blocks : IsRunsOf (value_at blocks) rs = record { runs = known.runs; each = λ x. known.each x ∙ first_given blocks x } in
     let joined : IsFilledBy rs (filled rs) = filled_by rs known.runs in
-    record { runs = joined.runs; each = λ x. node_given blocks rs (filled rs) x apart some runs_of_blocks joined }
+    record { runs = joined.runs; each = λ x. node_given blocks rs (filled rs) x apart some known joined }
 
 -- where no two kept blocks clash, blocks of different nodes share no address
 no_clash : (a b : KeptBlock) (x : ℕ) → clash a b ≡ false → lies_in a.block x ≡ true → lies_in b.block x ≡ true → a.block.value
@@ -337,6 +340,68 @@ apart_blocks ks none a b x in_a in_b lies_a lies_b =
     let at_a : lies_in one.0.block x ≡ true = ap (λ (c : Block). lies_in c x) (sym one.2) ∙ lies_a in
     let at_b : lies_in two.0.block x ≡ true = ap (λ (c : Block). lies_in c x) (sym two.2) ∙ lies_b in
     ap (λ (c : Block). c.value) one.2 ∙ kept_apart ks none one.0 two.0 x one.1 two.1 at_a at_b ∙ ap (λ (c : Block). c.value) (sym two.2)
+
+-- so the joined runs of blocks of which no two clash are the runs of what each address has
+pub joined_kept : (ks : List KeptBlock) (laid rs joined : List Block) → first_clash ks ≡ None → HaveAddresses (blocks_of ks)
+    → IsRunsOf (value_at (blocks_of ks)) laid → rs ≡ laid → joined ≡ filled rs → IsRunsOf (node_at (blocks_of ks)) joined
+joined_kept ks laid rs joined none some known same is =
+    rw (is, same) (joined_blocks (blocks_of ks) laid (apart_blocks ks none) some known)
+
+-- no two clash exactly where each address of each block has its node, by the blocks laid over one another
+abbrev pub HasOwn : (ℕ → Option ℕ) → Block → Type 0
+HasOwn f b = (x : ℕ) → b.base ≤ x → x < run_end b → f x ≡ Some b.value
+
+own_none : (f : ℕ → Option ℕ) (a b : KeptBlock) → HasOwn f a.block → HasOwn f b.block → clash a b ≡ false
+own_none f a b own_a own_b = elim (cases_Bool (clash a b)) as (λ _. clash a b ≡ false) [
+  | inl clashing ↦
+      let parts = and_parts (not (a.block.value == b.block.value)) (meets a.block.base (run_end a.block) b.block) clashing in
+      let place = meeting_place a.block.base (run_end a.block) b.block parts.1 in
+      let x : ℕ = max a.block.base b.block.base in
+      let in_b = bounds b.block x place.2 in
+      let same : a.block.value ≡ b.block.value =
+      same_Some a.block.value b.block.value (sym (own_a x place.0 place.1) ∙ own_b x in_b.0 in_b.1) in
+      absurd (grind (arith, nat_tests, parts.0))
+  | inr apart ↦ apart
+]
+
+none_found : {X : Type 0} (p : X → Bool) (xs : List X) → ((i : ℕ) (d : X) → i < length xs → p (get_or xs i d) ≡ false) → find p xs ≡ None
+none_found p [] none = refl
+none_found p (y ∷ ys) none = rw (none zero y (omega arith)) (none_found p ys (λ i d lt. none (suc i) d (omega arith)))
+
+pub own_apart : (f : ℕ → Option ℕ) (ks : List KeptBlock)
+    → ((i : ℕ) (d : KeptBlock) → i < length ks → HasOwn f (get_or ks i d).block) → first_clash ks ≡ None
+own_apart f [] own = refl
+own_apart f (k ∷ ks) own =
+    let none : find (clash k) ks ≡ None =
+    none_found (clash k) ks (λ i d lt. own_none f k (get_or ks i d) (own zero k (omega arith)) (own (suc i) d (omega arith))) in
+    rw none (own_apart f ks (λ i d lt. own (suc i) d (omega arith)))
+
+block_in : (ks : List KeptBlock) (i : ℕ) (k : KeptBlock) → i < length ks → k ≡ get_or ks i k → IsIn k.block (blocks_of ks)
+block_in [] i k lt is = absurd (omega arith)
+block_in (c ∷ cs) zero k lt is = inl (ap (λ (d : KeptBlock). d.block) is)
+block_in (c ∷ cs) (suc i) k lt is = inr (block_in cs i k (omega arith) is)
+
+apart_own : (ks : List KeptBlock) (i : ℕ) (k : KeptBlock) → first_clash ks ≡ None → i < length ks → k ≡ get_or ks i k
+    → HasOwn (value_at (blocks_of ks)) k.block
+apart_own ks i k none lt is x above under =
+    given (blocks_of ks) k.block x (apart_blocks ks none) (block_in ks i k lt is) (inside k.block x above under)
+
+-- the blocks laid over one another, as contracts of any record see them
+pub laid_own : (ks : List KeptBlock) (laid : List Block) (i : ℕ) (k : KeptBlock) → IsRunsOf (value_at (blocks_of ks)) laid
+    → first_clash ks ≡ None → i < length ks → k ≡ get_or ks i k → HasOwn (value_at (map (λ (r : Block). r) laid)) k.block
+laid_own ks laid i k known none lt is x above under =
+    rw (map-id laid) (known.each x ∙ apart_own ks i k none lt is x above under)
+
+pub own_more : (f : ℕ → Option ℕ) (ks : List KeptBlock) (i : ℕ) (one : KeptBlock) → i < length ks → one ≡ get_or ks i one → HasOwn f one.block
+    → ((k : ℕ) (d : KeptBlock) → k < i → HasOwn f (get_or ks k d).block)
+    → (k : ℕ) (d : KeptBlock) → k < i + 1 → HasOwn f (get_or ks k d).block
+own_more f ks i one lt is own before k d under = elim (cases_lt k i) as (λ _. HasOwn f (get_or ks k d).block) [
+  | inl earlier ↦ before k d earlier
+  | inr here ↦
+      let at : k ≡ i = omega arith in
+      let same : get_or ks k d ≡ one = ap (λ (n : ℕ). get_or ks n d) at ∙ get_or_default ks i d one lt ∙ sym is in
+      subst (λ (c : KeptBlock). HasOwn f c.block) (sym same) own
+]
 
 -- an address that has a node lies below the end of a block
 has_bound : (blocks : List Block) (n x : ℕ) → has blocks n x ≡ true → (b : Block) × IsIn b blocks × (x < run_end b)

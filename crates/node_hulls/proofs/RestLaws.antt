@@ -22,7 +22,7 @@ use Rattle.node_hulls.specs.Kept.{in_any, HaveBytes}
 use Rattle.node_hulls.specs.Steps.{bare, noded, bare_runs, with_node, begun_before, EndInSpace}
 
 -- what memory alone says, and what the runs with a node alone say
-bare_given : (memory : List Extent) (x : ℕ) → all_overlaid option_or (map bare memory) x
+pub bare_given : (memory : List Extent) (x : ℕ) → all_overlaid option_or (map bare memory) x
     ≡ (if in_any memory x then Some false else None)
 bare_given [] x = refl
 bare_given (r ∷ rs) x = elim (cases_Bool (covers r x)) as (λ _. all_overlaid option_or (map bare (r ∷ rs)) x
@@ -42,7 +42,7 @@ noded_given (r ∷ rs) x =
     ]
 
 -- each as a stretch has an address
-bare_addresses : (memory : List Extent) → HaveBytes memory → HaveAddresses (map bare memory)
+pub bare_addresses : (memory : List Extent) → HaveBytes memory → HaveAddresses (map bare memory)
 bare_addresses [] some = tt
 bare_addresses (r ∷ rs) some = (some.0, bare_addresses rs some.1)
 

@@ -1,6 +1,6 @@
 -- Words for the steps of the code, which private clauses and proofs cite.
-use Rattle.std.specs.Prelude.{ℕ, ◌+◌, ◌/◌, ◌-◌, ◌^◌, ◌<◌, ◌==◌, Bool, true, false, nat_le, if◌then◌else◌, List, [], ◌∷◌, length}
-use Rattle.address_runs.specs.Runs.{RunOf, run_end}
+use Rattle.std.specs.Prelude.{ℕ, ◌+◌, ◌/◌, ◌-◌, ◌^◌, ◌<◌, ◌==◌, Bool, true, false, nat_le, is_some, if◌then◌else◌, List, [], ◌∷◌, length}
+use Rattle.address_runs.specs.Runs.{RunOf, run_end, value_at}
 use Rattle.bm_base.specs.Extent.{Extent}
 use Rattle.srat_reader.specs.declared.table.SratBlock.{SratBlock}
 use Rattle.node_hulls.specs.Domains.{with_name}
@@ -30,6 +30,10 @@ bare r = record { base = r.base; size = r.size; value = false }
 
 abbrev pub noded : Block → RunOf Bool
 noded r = record { base = r.base; size = r.size; value = true }
+
+-- whether an address lies in a run of memory
+abbrev pub in_runs : List (RunOf Bool) → ℕ → Bool
+in_runs runs x = is_some (value_at runs x)
 
 -- the runs without a node, each with the node that it gets
 abbrev pub with_node : ℕ → RunOf Bool → Block

@@ -2,11 +2,10 @@
 //! (`numa_cleanup_meminfo`). Blocks that don't overlap any of another node are runs once they are laid over one another,
 //! and then it is enough to look at neighbours.
 
-ghost use Rattle.std.specs.Prelude.{◌≡◌, ℕ, ◌+◌, ◌-◌, ◌<◌, ◌≤◌, None, OnOk, IfOk, length, map, reverse};
+ghost use Rattle.std.specs.Prelude.{◌≡◌, ℕ, ◌+◌, ◌-◌, ◌<◌, ◌≤◌, OnOk, IfOk, length, map, reverse};
 ghost use Rattle.address_runs.specs.Overlay.{HaveAddresses};
-ghost use Rattle.address_runs.specs.Runs.{AreRuns, IsRunsOf, run_end};
-ghost use Rattle.node_hulls.specs.Hulls.{node_at};
-ghost use Rattle.node_hulls.specs.Kept.{blocks_of, first_clash};
+ghost use Rattle.address_runs.specs.Runs.{AreRuns, IsRunsOf, run_end, value_at};
+ghost use Rattle.node_hulls.specs.Kept.{blocks_of};
 ghost use Rattle.node_hulls.specs.Steps.{filled, led_by_run};
 
 use crate::kept::KeptBlock;
@@ -15,15 +14,13 @@ use address_runs::{RunOf, overlay_all};
 use bm_base::{Memory, Range};
 use std::alloc::Global;
 
-/// The runs of addresses of one node, ascending.
-pub fn join_blocks(alloc: Global, kept: &[KeptBlock]) -> Result<Vec<NodeRange>, Memory>
-    requires some { HaveAddresses (blocks_of kept.now) }
-    requires apart { first_clash kept.now ≡ None }
-    ensures { IfOk result (λ joined. IsRunsOf (node_at (blocks_of kept.now)) joined.items) }
+/// The blocks laid over one another, as runs, ascending: where several lie over an address the first one's node holds.
+pub fn lay_blocks(alloc: Global, kept: &[KeptBlock]) -> Result<Vec<NodeRange>, Memory>
+    requires { HaveAddresses (blocks_of kept.now) }
+    ensures { IfOk result (λ laid. IsRunsOf (value_at (blocks_of kept.now)) laid.items) }
 {
     let blocks = blocks_alone(alloc, kept)?;
-    let runs = overlay_all(alloc, &blocks)?;
-    fill_gaps(alloc, &runs)
+    overlay_all(alloc, &blocks)
 }
 
 /// The blocks without their numbers.
@@ -37,8 +34,9 @@ fn blocks_alone(alloc: Global, kept: &[KeptBlock]) -> Result<Vec<NodeRange>, Mem
     Ok(blocks)
 }
 
-/// The runs, where each is joined with its next neighbour of the same node.
-fn fill_gaps(alloc: Global, runs: &[NodeRange]) -> Result<Vec<NodeRange>, Memory>
+/// The runs, where each is joined with its next neighbour of the same node. Of blocks that don't overlap any of another
+/// node these are the runs of addresses of one node.
+pub fn fill_gaps(alloc: Global, runs: &[NodeRange]) -> Result<Vec<NodeRange>, Memory>
     requires { AreRuns runs.now }
     ensures { IfOk result (λ joined. joined.items ≡ filled runs.now) }
 {

@@ -1,15 +1,17 @@
 //! Which blocks of the table are kept: those of which a byte is memory, in whole frames (`numa_cleanup_meminfo`
 //! cuts blocks to memory and removes the empty ones). And which of them overlap.
 
-ghost use Rattle.std.specs.Prelude.{◌≡◌, ℕ, ◌+◌, ◌++◌, ◌^◌, ◌<◌, ◌≤◌, OnOk, IfOk, length, option_map, find, is_some};
-ghost use Rattle.address_runs.specs.Runs.{run_end};
-ghost use Rattle.node_hulls.specs.Kept.{in_any, blocks_of, framed, kept_one, has_memory, of_node, kept_of, any_kept, count_some, clash, first_clash};
-ghost use Rattle.node_hulls.specs.Steps.{EndInSpace};
+ghost use Rattle.std.specs.Prelude.{◌≡◌, ◌↔◌, ℕ, ◌+◌, ◌++◌, ◌^◌, ◌<◌, ◌≤◌, None, IsTrue, OnOk, IfOk, length, option_map, find, is_some};
+ghost use Rattle.address_runs.specs.Runs.{AreRuns, IsRunsOf, run_end, value_at};
+ghost use Rattle.node_hulls.specs.Kept.{blocks_of, framed, kept_one, of_node, kept_of, any_kept, count_some, clash, first_clash};
+ghost use Rattle.node_hulls.specs.Steps.{EndInSpace, in_runs};
 
 use crate::domains::node_of;
+use crate::memory::has_memory;
 use crate::node_range::{NodeRange, overlap};
 use address_runs::RunOf;
 use bm_base::{FRAME_SIZE, Memory, Range, round_down};
+use run_edits::holds;
 use srat_reader::SratBlock;
 use std::alloc::Global;
 
@@ -34,21 +36,10 @@ fn framed(range: &Range) -> Range
     }
 }
 
-/// Whether some byte of the range is memory.
-fn has_memory(memory: &[Range], range: &Range) -> bool
-    ensures { result ≡ has_memory (in_any memory.now) range.now }
-{
-    for part in memory {
-        if part.overlaps(range) {
-            return true;
-        }
-    }
-    false
-}
-
 /// Whether any block is kept.
-pub fn is_any_kept(memory: &[Range], blocks: &[SratBlock]) -> bool
-    ensures { result ≡ any_kept (in_any memory.now) blocks.now }
+pub fn is_any_kept(memory: &Vec<RunOf<bool>>, blocks: &[SratBlock]) -> bool
+    requires { AreRuns memory.now.items }
+    ensures { result ≡ any_kept (in_runs memory.now.items) blocks.now }
 {
     for block in blocks {
         if has_memory(memory, &framed(&block.range)) {
@@ -68,13 +59,14 @@ pub fn count_with_addresses(blocks: &[SratBlock]) -> usize
 /// The blocks that are kept, in the order of the table.
 pub fn keep_blocks(
     alloc: Global,
-    memory: &[Range],
+    memory: &Vec<RunOf<bool>>,
     domains: &[u32],
     blocks: &[SratBlock],
 ) -> Result<Vec<KeptBlock>, Memory>
+    requires memory { AreRuns memory.now.items }
     requires nodes { length domains.now ≤ 1024 }
     requires few { length blocks.now < 2 ^ 32 }
-    ensures value { IfOk result (λ kept. kept.items ≡ kept_of (in_any memory.now) domains.now blocks.now) }
+    ensures value { IfOk result (λ kept. kept.items ≡ kept_of (in_runs memory.now.items) domains.now blocks.now) }
     ensures space { IfOk result (λ kept. EndInSpace (blocks_of kept.items)) }
 {
     let mut kept = Vec::new(alloc);
@@ -88,11 +80,12 @@ pub fn keep_blocks(
 /// Keeps the block of that number, if a byte of it is memory.
 fn keep_one(
     kept: &mut Vec<KeptBlock>,
-    memory: &[Range],
+    memory: &Vec<RunOf<bool>>,
     number: u32,
     block: NodeRange,
 ) -> Result<(), Memory>
-    ensures { OnOk result (kept.new.items ≡ kept.old.items ++ kept_one (in_any memory.now) number block) }
+    requires { AreRuns memory.now.items }
+    ensures { OnOk result (kept.new.items ≡ kept.old.items ++ kept_one (in_runs memory.now.items) number block) }
 {
     if has_memory(memory, &block.range) {
         kept.push(KeptBlock { number, block })?;
@@ -113,8 +106,33 @@ fn in_frames(domains: &[u32], block: &SratBlock) -> NodeRange
 }
 
 /// The numbers of the first kept block that shares an address with a later one of another node, and of the
-/// first such block.
-pub fn first_overlap(kept: &[KeptBlock]) -> Option<(u32, u32)>
+/// first such block. `laid` has the blocks laid over one another; the pair is looked for only where there is one.
+pub fn first_overlap(kept: &[KeptBlock], laid: &Vec<NodeRange>) -> Option<(u32, u32)>
+    requires { IsRunsOf (value_at (blocks_of kept.now)) laid.now.items }
+    ensures { result ≡ first_clash kept.now }
+{
+    if are_apart(kept, laid) {
+        return None;
+    }
+    first_pair(kept)
+}
+
+/// Whether no two blocks of different nodes share an address: then each address of each block has its node, by
+/// the blocks laid over one another. A look-up for each block.
+fn are_apart(kept: &[KeptBlock], laid: &Vec<NodeRange>) -> bool
+    requires { IsRunsOf (value_at (blocks_of kept.now)) laid.now.items }
+    ensures { IsTrue result ↔ (first_clash kept.now ≡ None) }
+{
+    for one in kept {
+        if !holds(laid, &one.block.range, one.block.value) {
+            return false;
+        }
+    }
+    true
+}
+
+/// The same by a look at each pair.
+fn first_pair(kept: &[KeptBlock]) -> Option<(u32, u32)>
     ensures { result ≡ first_clash kept.now }
 {
     let mut rest = kept;

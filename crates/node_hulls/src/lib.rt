@@ -10,9 +10,9 @@
 //!
 //! The definitions look at each address alone: it has a node where it lies in a kept block of that node, or
 //! between two of them whose hull meets no block of another node (`specs/Hulls.antt`). The code never goes over
-//! addresses: where no two blocks of different nodes overlap, it lays the blocks over one another as runs
-//! (`address_runs`), and one pass joins each run with its neighbour of the same node. That this is the same is
-//! proved in `proofs/`.
+//! addresses: it lays the blocks over one another as runs (`address_runs`), and where no two blocks of different nodes
+//! overlap, which look-ups of the blocks in these runs tell (`run_edits`), one pass joins each run with its neighbour of
+//! the same node. Memory is laid out as runs too, for a look-up of each block. That this is the same is proved in `proofs/`.
 //!
 //! The laws say what the words mean to each other: an address has one node at most ([`one_node_an_address`]), nodes are domains by
 //! other numbers ([`one_node_a_domain`]), whole frames have one node ([`one_node_a_frame`]), a node has memory exactly where a
@@ -26,6 +26,7 @@ mod domains;
 mod hulls;
 mod kept;
 mod laws;
+mod memory;
 mod node_range;
 mod reasons;
 mod rest;

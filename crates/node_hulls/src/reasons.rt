@@ -9,8 +9,9 @@ ghost use Rattle.node_hulls.specs.Kept.{in_any, blocks_of, HaveBytes};
 ghost use Rattle.node_hulls.specs.Steps.{EndInSpace};
 
 use crate::domains::name_domains;
-use crate::hulls::join_blocks;
+use crate::hulls::{fill_gaps, lay_blocks};
 use crate::kept::{KeptBlock, count_with_addresses, first_overlap, is_any_kept, keep_blocks};
+use crate::memory::memory_runs;
 use crate::node_range::NodeRange;
 use crate::rest::{count_frames, left_over_runs};
 use bm_base::{Memory, Range};
@@ -98,7 +99,8 @@ fn judge_table(
     ensures { IfOk result (λ found. judgement found ≡
         judged_table (in_any memory.now) (record { processors = processors.now; blocks = blocks.now })) }
 {
-    if !is_any_kept(memory, blocks) {
+    let runs = memory_runs(alloc, memory)?;
+    if !is_any_kept(&runs, blocks) {
         return Ok(unused(alloc, Why::NoBlocks));
     }
     let domains = name_domains(alloc, processors, blocks)?;
@@ -108,7 +110,7 @@ fn judge_table(
     if count_with_addresses(blocks) > MAX_BLOCKS {
         return Ok(unused(alloc, Why::TooManyBlocks));
     }
-    let kept = keep_blocks(alloc, memory, &domains, blocks)?;
+    let kept = keep_blocks(alloc, &runs, &domains, blocks)?;
     judge_kept(alloc, memory, domains, &kept)
 }
 
@@ -124,10 +126,11 @@ fn judge_kept(
     requires space { EndInSpace (blocks_of kept.now) }
     ensures { IfOk result (λ found. judgement found ≡ judged_kept (in_any memory.now) domains.items kept.now) }
 {
-    if let Some((i, j)) = first_overlap(kept) {
+    let laid = lay_blocks(alloc, kept)?;
+    if let Some((i, j)) = first_overlap(kept, &laid) {
         return Ok(unused(alloc, Why::Overlap { i, j }));
     }
-    let joined = join_blocks(alloc, kept)?;
+    let joined = fill_gaps(alloc, &laid)?;
     let rest = left_over_runs(alloc, memory, &joined, lowest_node(kept))?;
     let uncovered = count_frames(&rest);
     if uncovered >= UNCOVERED_FRAMES {

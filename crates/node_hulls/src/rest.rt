@@ -8,6 +8,7 @@ ghost use Rattle.node_hulls.specs.Judgement.{left_over, frames_given};
 ghost use Rattle.node_hulls.specs.Kept.{in_any, HaveBytes};
 ghost use Rattle.node_hulls.specs.Steps.{bare, noded, bare_runs, with_node, begun_before, EndInSpace};
 
+use crate::memory::tell_memory;
 use crate::node_range::NodeRange;
 use address_runs::{RunOf, overlay_all};
 use bm_base::{FRAME_SIZE, Memory, Range};
@@ -39,23 +40,6 @@ fn tell(alloc: Global, memory: &[Range], joined: &[NodeRange]) -> Result<Vec<Run
     tell_nodes(&mut told, joined)?;
     tell_memory(&mut told, memory)?;
     Ok(told)
-}
-
-/// Memory as it covers its addresses.
-fn tell_memory(told: &mut Vec<RunOf<bool>>, memory: &[Range]) -> Result<(), Memory>
-    ensures { OnOk result (told.new.items ≡ told.old.items ++ map bare memory.now) }
-{
-    for part in memory {
-        let range = Range {
-            base: part.base,
-            size: part.size,
-        };
-        told.push(RunOf {
-            range,
-            value: false,
-        })?;
-    }
-    Ok(())
 }
 
 /// The runs with a node as they cover their addresses.

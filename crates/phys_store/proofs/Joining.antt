@@ -2,14 +2,13 @@
 use Rattle.std.proofs.Common.{◌≡◌, ℕ, zero, suc, ◌+◌, ◌-◌, ◌^◌, ◌<◌, ◌≤◌, Bool, true, false, ◌||◌, List, [], ◌∷◌, ◌++◌, length, min, max, get_or, take, drop, map, refl, sym, ◌∙◌, ap, subst, arith, inl, inr, IsTrue}
 use Rattle.std.proofs.lemmas.Bool.{cases_Bool, cases_lt}
 use Rattle.std.proofs.lemmas.Bool.Decides.{nat_tests}
-use Rattle.std.proofs.lemmas.List.{get_or_default, get_or-map, drop_more, get_or-take, get_or-drop, length-take, map-append, take-map, drop-map, drop-drop}
+use Rattle.std.proofs.lemmas.List.{get_or_default, get_or-map, get_or-take, get_or-drop, length-take, take-map, drop-map, drop-drop}
 use Rattle.std.specs.List.{remove}
 use Rattle.bm_base.specs.Extent.{Extent, end_of, covers}
 use Rattle.phys_store.specs.declared.extents.Held.{Held}
 use Rattle.phys_store.specs.Bytes.{Stored, past, inside, byte_of, is_ready, AreReady}
-use Rattle.phys_store.specs.Extents.{stored, Apart, nth, Joins}
-use Rattle.phys_store.proofs.Writes.{mid-in, mid-out}
-use borrow.Rule.Slice.PartMut.{put_mid}
+use Rattle.phys_store.specs.Extents.{stored, Apart, nth, Joins, covering, as_one}
+use Rattle.phys_store.proofs.ByteLists.{length-bytes_at, get-bytes_at}
 use Rattle.phys_store.proofs.Lookup.{inside-low, inside-high, ready-below, byte-unready, at-least, fits, ready-at}
 
 -- the i-th extent, as it is read
@@ -122,7 +121,7 @@ joined (suc f) e (suc b) n (q ∷ ps) p apart low some small count joins told =
     }
 
 -- the i-th of several extents that are apart: it ends in the address space, and its addresses are prepared
-there : (ps : List Stored) (i : ℕ) → i < length ps → get_or ps i (nth ps i) ≡ nth ps i
+pub there : (ps : List Stored) (i : ℕ) → i < length ps → get_or ps i (nth ps i) ≡ nth ps i
 there ps i count = get_or_default ps i (nth ps i) (record { base = 0; bytes = [] }) count
 
 pub nth-fits : (ps : List Stored) (i : ℕ) → Apart 0 ps → i < length ps → past (nth ps i) < 2 ^ 64
@@ -201,24 +200,8 @@ hull_joins ps r first behind from to apart h stop = record {
   ];
 }
 
--- the bytes of one more extent in front are gathered
-pub gathered_more : (ps : List Stored) (i from to k m : ℕ) (bs ys : List ℕ) → i < length ps → length bs ≡ to - from →
-    from ≤ (nth ps i).base → past (nth ps i) ≤ to → k ≡ (nth ps i).base - from → m ≡ length (nth ps i).bytes → ys ≡ (nth ps i).bytes →
-    ((x : ℕ) → from ≤ x → x < to → get_or bs (x - from) 0 ≡ byte_of (drop (i + 1) ps) x) →
-    (x : ℕ) → from ≤ x → x < to → get_or (put_mid k m bs ys) (x - from) 0 ≡ byte_of (drop i ps) x
-gathered_more ps i from to k m bs ys count len low high at long is told x least below =
-    let p = nth ps i in
-    let size : length ys ≡ m = ap length is ∙ sym long in
-    let within : k + m ≤ length bs = omega (arith, at, long, len) in
-    rw (drop_more ps i (record { base = 0; bytes = [] }) count) (elim (cases_Bool (inside p x)) [
-      | inl lies ↦ let from_it = inside-low p x lies in let to_it = inside-high p x lies in
-          rw lies (ap (λ j. get_or (put_mid k m bs ys) j 0) (omega (arith, at))
-          ∙ mid-in k m bs ys (x - p.base) size within (omega (arith, long)) ∙ ap (λ (zs : List ℕ). get_or zs (x - p.base) 0) is)
-      | inr out ↦ rw out (mid-out k m bs ys (x - from) size within (grind (arith, nat_tests)) ∙ told x least below)
-    ])
-
 -- the i-th of some extents of a list
-nth_part : (es : List Held) (f n i : ℕ) → i < length (take n (drop f es)) →
+pub nth_part : (es : List Held) (f n i : ℕ) → i < length (take n (drop f es)) →
     nth (map stored (take n (drop f es))) i ≡ nth (map stored es) (f + i)
 nth_part es f n i count =
     let none : Stored = record { base = 0; bytes = [] } in
@@ -226,20 +209,6 @@ nth_part es f n i count =
     let inner : i < n = omega (arith, short) in
     ap (λ (ps : List Stored). get_or ps i none) (sym (take-map stored n (drop f es)) ∙ ap (take n) (sym (drop-map stored f es)))
     ∙ get_or-take n (drop f (map stored es)) i none inner ∙ get_or-drop f (map stored es) i none
-
-module _ (es ds : List Held) (f b from to : ℕ) (joins : Joins (map stored es) f b from to) (same : ds ≡ es) (i : ℕ)
-    (count : i < length (take (b - f) (drop f ds))) where
-  part_inner : f + i < b
-  part_inner = let short = length-take (b - f) (drop f ds) in omega (arith, short, count, joins.order)
-
-  part_is : nth (map stored (take (b - f) (drop f ds))) i ≡ nth (map stored es) (f + i)
-  part_is = nth_part ds f (b - f) i count ∙ ap (λ (l : List Held). nth (map stored l) (f + i)) same
-
-  pub part_low : from ≤ (nth (map stored (take (b - f) (drop f ds))) i).base
-  part_low = rw part_is (joins.low (f + i) (omega arith) part_inner)
-
-  pub part_high : past (nth (map stored (take (b - f) (drop f ds))) i) ≤ to
-  part_high = rw part_is (joins.high (f + i) (omega arith) part_inner)
 
 -- the element right behind one is removed
 removed : (xs ys : List Held) (x : Held) → remove (xs ++ x ∷ ys) (suc (length xs)) ≡ xs ++ x ∷ drop 1 ys
@@ -256,10 +225,10 @@ removed_behind es new now x f k most was is =
     ∙ removed (take f es) (drop k es) x ∙ ap (λ (l : List Held). take f es ++ x ∷ l) (drop-drop 1 k es)
 
 -- what holds once a range is prepared
-pub record Prepared (es new : List Held) (r : Extent) : Type 0 where
-  pub apart : Apart 0 (map stored new)
-  pub bytes : (x : ℕ) → byte_of (map stored new) x ≡ byte_of (map stored es) x
-  pub ready : (x : ℕ) → is_ready (map stored new) x ≡ (covers r x || is_ready (map stored es) x)
+pub record Prepared (ps new : List Stored) (r : Extent) : Type 0 where
+  pub apart : Apart 0 new
+  pub bytes : (x : ℕ) → byte_of new x ≡ byte_of ps x
+  pub ready : (x : ℕ) → is_ready new x ≡ (covers r x || is_ready ps x)
 
 some_size : (ps : List Stored) (r : Extent) → (AreReady ps r.base r.size → ⊥) → 0 < r.size
 some_size ps r not_ready = elim (cases_lt 0 r.size) [ inl some ↦ some | inr none ↦ absurd (not_ready (λ x low high. absurd (omega arith))) ]
@@ -273,30 +242,24 @@ exact ps r p low high ready x = elim (cases_Bool (inside p x)) [
   | inr out ↦ let off : covers r x ≡ false = grind (arith, nat_tests) in rw (out, off) refl
 ]
 
-pub prepared : (es new : List Held) (e : Held) (r : Extent) (f b from to : ℕ) → Apart 0 (map stored es)
-    → Joins (map stored es) f b from to →
-    from ≤ r.base → end_of r ≤ to → to < 2 ^ 64 → (AreReady (map stored es) r.base r.size → ⊥) →
-    ((x : ℕ) → from ≤ x → x < to → IsTrue (covers r x || is_ready (map stored es) x)) →
-    e.base ≡ from → length e.bytes.items ≡ to - from →
-    ((x : ℕ) → from ≤ x → x < to → get_or e.bytes.items (x - from) 0 ≡ byte_of (map stored (take (b - f) (drop f es))) x) →
-    new ≡ take f es ++ e ∷ drop b es → Prepared es new r
-prepared es new e r f b from to apart joins low high small not_ready ready base len told is =
-    let some : 0 < r.size = some_size (map stored es) r not_ready in
-    let end : past (stored e) ≡ to = omega (arith, base, len, low, high, some) in
-    let at : map stored new ≡ take f (map stored es) ++ stored e ∷ drop b (map stored es) =
-    ap (map stored) is ∙ map-append stored (take f es) (e ∷ drop b es)
-    ∙ rw (take-map stored f es, drop-map stored b es) refl in
-    let part : map stored (take (b - f) (drop f es)) ≡ take (b - f) (drop f (map stored es)) =
-    sym (take-map stored (b - f) (drop f es)) ∙ ap (take (b - f)) (sym (drop-map stored f es)) in
-    let j = joined f 0 b (b - f) (map stored es) (stored e) apart (omega arith) (omega (arith, len, low, high, some))
+pub prepared : (ps new : List Stored) (r : Extent) (f b from to : ℕ) → Apart 0 ps → Joins ps f b from to →
+    from ≤ r.base → end_of r ≤ to → to < 2 ^ 64 → (AreReady ps r.base r.size → ⊥) →
+    ((x : ℕ) → from ≤ x → x < to → IsTrue (covers r x || is_ready ps x)) →
+    new ≡ as_one ps f b from to → Prepared ps new r
+prepared ps new r f b from to apart joins low high small not_ready ready is =
+    let some : 0 < r.size = some_size ps r not_ready in
+    let g : ℕ → ℕ = byte_of (take (b - f) (drop f ps)) in
+    let e : Stored = covering (take (b - f) (drop f ps)) from to in
+    let len : length e.bytes ≡ to - from = length-bytes_at g from (to - from) in
+    let end : past e ≡ to = omega (arith, len, low, high, some) in
+    let j = joined f 0 b (b - f) ps e apart (omega arith) (omega (arith, len, low, high, some))
     (omega (arith, end, small))
     (omega (arith, joins.order))
-    (subst (λ m. Joins (map stored es) f b m (past (stored e))) (sym base) (subst (λ m. Joins (map stored es) f b from m) (sym end) joins))
-    (λ x least below. ap (λ m. get_or e.bytes.items (x - m) 0) base
-    ∙ told x (omega (arith, base, least)) (omega (arith, end, below)) ∙ ap (λ (ps : List Stored). byte_of ps x) part) in
+    (subst (λ m. Joins ps f b from m) (sym end) joins)
+    (λ x least below. get-bytes_at g from (to - from) (x - from) (omega (arith, least, below, end)) ∙ ap g (omega (arith, least))) in
     record {
-      apart = rw at j.apart;
-      bytes = λ x. rw at (j.bytes x);
-      ready = λ x. rw at (j.ready x ∙ exact (map stored es) r (stored e) (omega (arith, base, low)) (omega (arith, end, high))
-          (λ y least below. ready y (omega (arith, base, least)) (omega (arith, end, below))) x);
+      apart = rw is j.apart;
+      bytes = λ x. rw is (j.bytes x);
+      ready = λ x. rw is (j.ready x ∙ exact ps r e low (omega (arith, end, high))
+          (λ y least below. ready y least (omega (arith, end, below))) x);
     }

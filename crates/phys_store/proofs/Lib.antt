@@ -2,4 +2,5 @@ mod Examples
 pub mod ByteLists
 pub mod Joining
 pub mod Lookup
+pub mod Widening
 pub mod Writes

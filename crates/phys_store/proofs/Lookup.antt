@@ -1,8 +1,8 @@
 -- What lies in one of several extents that are apart, and what a look-up finds.
-use Rattle.std.proofs.Common.{◌≡◌, ℕ, zero, suc, ◌+◌, ◌-◌, ◌^◌, ◌<◌, ◌≤◌, Bool, true, false, not, cond, ◌||◌, Some, None, List, [], ◌∷◌, length, get_or, map, refl, sym, ◌∙◌, ap, subst, arith, inl, inr, nat_lt}
+use Rattle.std.proofs.Common.{◌≡◌, ℕ, zero, suc, ◌+◌, ◌-◌, ◌^◌, ◌<◌, ◌≤◌, Bool, true, false, not, cond, ◌||◌, Some, None, List, [], ◌∷◌, length, get_or, drop, map, refl, sym, ◌∙◌, ap, subst, arith, inl, inr, nat_lt}
 use Rattle.std.proofs.lemmas.Bool.{cases_lt, false≢true}
 use Rattle.std.proofs.lemmas.Bool.Decides.{nat_tests}
-use Rattle.std.proofs.lemmas.List.{length-map, get_or-map}
+use Rattle.std.proofs.lemmas.List.{length-map, get_or-map, length-drop}
 use Rattle.std.proofs.lemmas.List.Sums.{prefix_len-le-length}
 use Rattle.std.proofs.lemmas.List.Quantifiers.{position-Some}
 use Rattle.std.proofs.lemmas.Option.{none-some}
@@ -58,6 +58,11 @@ fits e [] i p apart count there = absurd (omega arith)
 fits e (q ∷ ps) zero p apart count there = subst (λ (r : Stored). past r < 2 ^ 64) there apart.2
 fits e (q ∷ ps) (suc i) p apart count there = fits (past q + 1) ps i p apart.3 (omega arith) there
 
+pub some-at : (e : ℕ) (ps : List Stored) (i : ℕ) (p : Stored) → Apart e ps → i < length ps → get_or ps i p ≡ p → 0 < length p.bytes
+some-at e [] i p apart count there = absurd (omega arith)
+some-at e (q ∷ ps) zero p apart count there = subst (λ (r : Stored). 0 < length r.bytes) there apart.1
+some-at e (q ∷ ps) (suc i) p apart count there = some-at (past q + 1) ps i p apart.3 (omega arith) there
+
 -- the address behind a extent isn't prepared
 pub unready-past : (e : ℕ) (ps : List Stored) (i : ℕ) (p : Stored) → Apart e ps → i < length ps → get_or ps i p ≡ p →
     is_ready ps (past p) ≡ false
@@ -102,9 +107,10 @@ pub record Holds (es : List Held) (a n i : ℕ) (e : Held) : Type 0 where
   pub count : i < length (map stored es)
   pub there : get_or (map stored es) i (stored e) ≡ stored e
   pub low : e.base ≤ a
-  pub inner : a < e.base + length e.bytes.items
-  pub high : a + n ≤ e.base + length e.bytes.items
-  pub small : e.base + length e.bytes.items < 2 ^ 64
+  pub inner : a < past (stored e)
+  pub high : a + n ≤ past (stored e)
+  pub small : past (stored e) < 2 ^ 64
+  pub long : length (drop e.front e.bytes.items) ≡ length e.bytes.items - e.front
 
 -- what the look-up finds holds the whole of a prepared range
 pub holds : (es : List Held) (a n i : ℕ) (e : Held) → Apart 0 (map stored es) → AreReady (map stored es) a n →
@@ -123,6 +129,7 @@ holds es a n i e apart ready found is =
       inner = high;
       high = whole 0 (map stored es) i (stored e) a n apart count there low high ready;
       small = fits 0 (map stored es) i (stored e) apart count there;
+      long = length-drop e.front e.bytes.items;
     }
 
 -- the same of one byte, prepared or not

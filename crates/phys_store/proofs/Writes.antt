@@ -2,7 +2,7 @@
 use Rattle.std.proofs.Common.{◌≡◌, ℕ, zero, suc, ◌+◌, ◌-◌, ◌^◌, ◌<◌, ◌≤◌, false, ◌||◌, List, [], ◌∷◌, length, get_or, set, map, refl, sym, ◌∙◌, ap, subst, arith, rules, length-set, take, drop, replicate, nat_lt, nat_le, IsTrue, inl, inr}
 use Rattle.std.proofs.lemmas.Bool.{cases_lt, cases_Bool}
 use Rattle.std.proofs.lemmas.Bool.Decides.{nat_tests}
-use Rattle.std.proofs.lemmas.List.{get_or-set_same, get_or-replicate, length-replicate, length-take, length-drop, map-set, with_items_is, places}
+use Rattle.std.proofs.lemmas.List.{get_or-set_same, get_or-replicate, length-replicate, length-take, length-drop, get_or-drop, map-set, with_items_is, places}
 use Rattle.std.specs.Vec.{with_items}
 use Rattle.std.specs.List.{CopiedTo, SameBelow, SameFrom}
 use borrow.Rule.Slice.PartMut.{put_mid}
@@ -83,22 +83,27 @@ mid-out k m xs ys j len within off = grind (arith, places, nat_tests)
 -- the extent that holds a range gets other bytes there
 pub wrote-mid : (es : List Held) (a n i : ℕ) (e : Held) (g : ℕ → ℕ) (k m : ℕ) (xs ys : List ℕ) → Apart 0 (map stored es)
     → Holds es a n i e →
-    k ≡ a - e.base → m ≡ n → xs ≡ e.bytes.items → length ys ≡ n → ((j : ℕ) → j < n → get_or ys j 0 ≡ g j) →
-    let new = set es i (record { base = e.base; bytes = with_items e.bytes (put_mid k m xs ys) }) in
+    k ≡ e.front + (a - e.base) → m ≡ n → xs ≡ e.bytes.items → length ys ≡ n → ((j : ℕ) → j < n → get_or ys j 0 ≡ g j) →
+    let new = set es i (record { base = e.base; front = e.front; bytes = with_items e.bytes (put_mid k m xs ys) }) in
     Apart 0 (map stored new) × Wrote (map stored es) (map stored new) a n g
 wrote-mid es a n i e g k m xs ys apart h at count value len told =
-    let d : Held = record { base = e.base; bytes = with_items e.bytes (put_mid k m xs ys) } in
+    let f : ℕ = e.front in
+    let d : Held = record { base = e.base; front = f; bytes = with_items e.bytes (put_mid k m xs ys) } in
     let long : length xs ≡ length e.bytes.items = ap length value in
-    let within : k + m ≤ length xs = omega (arith, long, h.low, h.high) in
+    let within : k + m ≤ length xs = omega (arith, long, h.low, h.high, h.inner, h.long) in
+    let same : length (put_mid k m xs ys) ≡ length xs = length-mid k m xs ys (len ∙ sym count) within in
     let is : (with_items e.bytes (put_mid k m xs ys)).items ≡ put_mid k m xs ys =
-    with_items_is e.bytes (put_mid k m xs ys) (length-mid k m xs ys (len ∙ sym count) within ∙ long ∙ sym e.bytes.ok.0) in
+    with_items_is e.bytes (put_mid k m xs ys) (same ∙ long ∙ sym e.bytes.ok.0) in
+    let each : (j : ℕ) → get_or (drop f d.bytes.items) j 0 ≡ get_or (put_mid k m xs ys) (f + j) 0 =
+    λ j. get_or-drop f d.bytes.items j 0 ∙ ap (λ (zs : List ℕ). get_or zs (f + j) 0) is in
     rw (map-set stored es i d)
     (wrote-set (map stored es) i (stored e) (stored d) a n g apart h.count h.there refl
-    (ap length is ∙ length-mid k m xs ys (len ∙ sym count) within ∙ long) h.low h.high
-    (λ j below. ap (λ (zs : List ℕ). get_or zs (a - e.base + j) 0) is ∙ ap (λ l. get_or (put_mid k m xs ys) (l + j) 0) (sym at)
+    (length-drop f d.bytes.items ∙ ap (λ l. l - f) (ap length is ∙ same ∙ long) ∙ sym (length-drop f e.bytes.items)) h.low h.high
+    (λ j below. each (a - e.base + j) ∙ ap (λ l. get_or (put_mid k m xs ys) l 0) (omega (arith, at))
     ∙ mid-in k m xs ys j (len ∙ sym count) within (omega (arith, below, count)) ∙ told j below)
-    (λ j off. ap (λ (zs : List ℕ). get_or zs j 0) is
-    ∙ mid-out k m xs ys j (len ∙ sym count) within (rw (at, count) off) ∙ ap (λ (zs : List ℕ). get_or zs j 0) value))
+    (λ j off. each j
+    ∙ mid-out k m xs ys (f + j) (len ∙ sym count) within (grind (arith, nat_tests, at, count, off))
+    ∙ ap (λ (zs : List ℕ). get_or zs (f + j) 0) value ∙ sym (get_or-drop f e.bytes.items j 0)))
 
 -- nothing is written
 pub wrote-none : (ps : List Stored) (a n : ℕ) (g : ℕ → ℕ) → n ≡ 0 → Wrote ps ps a n g
@@ -115,23 +120,35 @@ filled k m xs ys b within is =
     )
 
 -- the extent that holds two ranges gets in the one what stood in the other
-pub wrote-copied : (es : List Held) (a n i : ℕ) (e d : Held) (from to count m : ℕ) → Apart 0 (map stored es) → Holds es a n i e →
-    a ≤ from → a ≤ to → from + count ≤ a + n → to + count ≤ a + n → d.base ≡ e.base → length d.bytes.items ≡ length e.bytes.items →
-    m ≡ count →
-    CopiedTo e.bytes.items d.bytes.items (from - e.base) (to - e.base) m →
-    SameBelow e.bytes.items d.bytes.items (to - e.base) → SameFrom e.bytes.items d.bytes.items (to - e.base + m) →
+pub wrote-copied : (es : List Held) (a n i : ℕ) (e d : Held) (from to count source target m : ℕ) → Apart 0 (map stored es)
+    → Holds es a n i e →
+    a ≤ from → a ≤ to → from + count ≤ a + n → to + count ≤ a + n → d.base ≡ e.base → d.front ≡ e.front →
+    length d.bytes.items ≡ length e.bytes.items →
+    source ≡ e.front + (from - e.base) → target ≡ e.front + (to - e.base) → m ≡ count →
+    CopiedTo e.bytes.items d.bytes.items source target m →
+    SameBelow e.bytes.items d.bytes.items target → SameFrom e.bytes.items d.bytes.items (target + m) →
     let new = set es i d in
     Apart 0 (map stored new) × Wrote (map stored es) (map stored new) to count (λ k. byte_of (map stored es) (from + k))
-wrote-copied es a n i e d from to count m apart h from_low to_low from_high to_high base len at copied below behind =
+wrote-copied es a n i e d from to count source target m apart h from_low to_low from_high to_high base front len at_source at_target
+    at copied below behind =
+    let f : ℕ = e.front in
+    let new : (j : ℕ) → get_or (drop d.front d.bytes.items) j 0 ≡ get_or d.bytes.items (f + j) 0 =
+    λ j. get_or-drop d.front d.bytes.items j 0 ∙ ap (λ l. get_or d.bytes.items (l + j) 0) front in
+    let old : (j : ℕ) → get_or e.bytes.items (f + j) 0 ≡ get_or (drop f e.bytes.items) j 0 =
+    λ j. sym (get_or-drop f e.bytes.items j 0) in
     rw (map-set stored es i d)
-    (wrote-set (map stored es) i (stored e) (stored d) to count (λ k. byte_of (map stored es) (from + k)) apart h.count h.there base len
+    (wrote-set (map stored es) i (stored e) (stored d) to count (λ k. byte_of (map stored es) (from + k)) apart h.count h.there base
+    (length-drop d.front d.bytes.items ∙ ap (λ l. length d.bytes.items - l) front ∙ ap (λ l. l - f) len
+    ∙ sym (length-drop f e.bytes.items))
     (omega (arith, h.low)) (omega (arith, h.high))
-    (λ k less. copied (to - e.base + k) 0 (omega arith) (omega (arith, at))
-    ∙ ap (λ j. get_or e.bytes.items j 0) (omega (arith, h.low))
+    (λ k less. new (to - e.base + k)
+    ∙ copied (f + (to - e.base + k)) 0 (omega (arith, at_target)) (omega (arith, at, at_target))
+    ∙ ap (λ j. get_or e.bytes.items j 0) (omega (arith, h.low, at_source, at_target))
+    ∙ old (from + k - e.base)
     ∙ sym (byte-at 0 (map stored es) i (stored e) (from + k) apart h.count h.there (omega (arith, h.low)) (omega (arith, h.high))))
-    (λ j off. elim (cases_lt j (to - e.base)) [
-      | inl less ↦ below j 0 less
-      | inr more ↦ behind j 0 (grind (arith, nat_tests))
+    (λ j off. new j ∙ elim (cases_lt j (to - e.base)) [
+      | inl less ↦ below (f + j) 0 (omega (arith, at_target)) ∙ old j
+      | inr more ↦ behind (f + j) 0 (grind (arith, nat_tests, at_target, at)) ∙ old j
     ]))
 
 -- one write behind another is one write

@@ -1,12 +1,12 @@
 -- How the bytes are kept: in extents that are as long as they can be, so that a range that is prepared address by address
 -- lies in one of them.
-use Rattle.std.specs.Prelude.{ℕ, ◌+◌, ◌^◌, ◌<◌, ◌≤◌, List, [], ◌∷◌, length, slice_index_or}
+use Rattle.std.specs.Prelude.{ℕ, ◌+◌, ◌-◌, ◌^◌, ◌<◌, ◌≤◌, List, [], ◌∷◌, ◌++◌, take, drop, length, slice_index_or}
 use Rattle.phys_store.specs.declared.extents.Held.{Held}
-use Rattle.phys_store.specs.Bytes.{Stored, past}
+use Rattle.phys_store.specs.Bytes.{Stored, past, byte_of, bytes_at}
 
--- an extent, as contracts see it
+-- an extent, as contracts see it: the room in front of its first byte isn't part of it
 abbrev pub stored : Held → Stored
-stored e = record { base = e.base; bytes = e.bytes.items }
+stored e = record { base = e.base; bytes = drop e.front e.bytes.items }
 
 -- the extents ascend from e on, none is empty, none touches the next, and none passes 2^64 - 1
 abbrev pub Apart : ℕ → List Stored → Type 0
@@ -25,3 +25,11 @@ pub record Joins (ps : List Stored) (first behind from to : ℕ) : Type 0 where
   pub low : (i : ℕ) → first ≤ i → i < behind → from ≤ (nth ps i).base
   pub high : (i : ℕ) → first ≤ i → i < behind → past (nth ps i) ≤ to
   pub above : (i : ℕ) → behind ≤ i → i < length ps → to < (nth ps i).base
+
+-- one extent of the addresses from `from` up to `to`, with the bytes of others: 0 where these have none
+abbrev pub covering : List Stored → ℕ → ℕ → Stored
+covering ps from to = record { base = from; bytes = bytes_at (byte_of ps) from (to - from) }
+
+-- the extents from the index `first` up to `behind` are one, which goes from `from` up to `to`
+abbrev pub as_one : List Stored → ℕ → ℕ → ℕ → ℕ → List Stored
+as_one ps first behind from to = take first ps ++ covering (take (behind - first) (drop first ps)) from to ∷ drop behind ps

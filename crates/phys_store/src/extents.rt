@@ -7,19 +7,31 @@ ghost use Rattle.phys_store.specs.Extents.{stored, Apart};
 
 use bm_base::Range;
 
-/// Consecutive bytes that are prepared, with none prepared right before or behind them.
+/// Consecutive bytes that are prepared, with none prepared right before or behind them. In front of them there
+/// may be room for more, so that an extent that grows downward is seldom moved.
 #[derive(Debug, Drop)]
 pub struct Held {
     /// The address of the first byte.
     pub base: u64,
+    /// How many of `bytes` are room in front of the first byte.
+    pub front: usize,
     pub bytes: Vec<u8>,
+}
+
+/// The number of bytes of the extent.
+pub fn size_of(extent: &Held) -> u64
+    ensures { result ≡ length (stored extent.now).bytes }
+{
+    extent.bytes.len().saturating_sub(extent.front) as u64
 }
 
 /// The index of the extent in which the address lies.
 fn place_of(extents: &[Held], address: u64) -> Option<usize>
     ensures { result ≡ position (λ e. inside (stored e) address) extents.now }
 {
-    extents.iter().position(|e| e.base <= address && address - e.base < e.bytes.len() as u64)
+    extents
+        .iter()
+        .position(|e| e.base <= address && address - e.base < size_of(e))
 }
 
 /// Whether each address of the range is prepared.
@@ -33,7 +45,7 @@ pub fn are_ready(extents: &[Held], range: Range) -> bool
     match place_of(extents, range.base) {
         Some(i) => {
             let extent = &extents[i];
-            range.end() - extent.base <= extent.bytes.len() as u64
+            range.end() - extent.base <= size_of(extent)
         }
         None => false,
     }
@@ -47,7 +59,7 @@ pub fn byte_at(extents: &[Held], address: u64) -> u8
     match place_of(extents, address) {
         Some(i) => {
             let extent = &extents[i];
-            extent.bytes[(address - extent.base) as usize]
+            extent.bytes[extent.front + (address - extent.base) as usize]
         }
         None => 0,
     }
@@ -62,7 +74,7 @@ pub fn slice(extents: &[Held], at: u64, count: u64) -> &[u8]
     match place_of(extents, at) {
         Some(i) => {
             let extent = &extents[i];
-            let from = (at - extent.base) as usize;
+            let from = extent.front + (at - extent.base) as usize;
             &extent.bytes[from..from + count as usize]
         }
         None => &[],
@@ -78,7 +90,7 @@ pub fn write(extents: &mut [Held], at: u64, bytes: &[u8])
 {
     if let Some(i) = place_of(extents, at) {
         let extent = &mut extents[i];
-        let from = (at - extent.base) as usize;
+        let from = extent.front + (at - extent.base) as usize;
         extent.bytes[from..from + bytes.len()].copy_from_slice(bytes);
     }
 }
@@ -92,7 +104,7 @@ pub fn fill(extents: &mut [Held], range: Range, byte: u8)
 {
     if let Some(i) = place_of(extents, range.base) {
         let extent = &mut extents[i];
-        let from = (range.base - extent.base) as usize;
+        let from = extent.front + (range.base - extent.base) as usize;
         extent.bytes[from..from + range.size as usize].fill(byte);
     }
 }
@@ -107,8 +119,8 @@ pub fn shift(extents: &mut [Held], from: u64, to: u64, count: u64)
 {
     if let Some(i) = place_of(extents, from.min(to)) {
         let extent = &mut extents[i];
-        let source = (from - extent.base) as usize;
-        let target = (to - extent.base) as usize;
+        let source = extent.front + (from - extent.base) as usize;
+        let target = extent.front + (to - extent.base) as usize;
         extent
             .bytes
             .copy_within(source..source + count as usize, target);

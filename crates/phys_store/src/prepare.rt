@@ -1,13 +1,15 @@
 //! Preparing a range: with the extents that it meets or touches it becomes one extent, so that extents stay
-//! apart. All memory is taken before the list of extents changes, and a failure leaves it as it was.
-ghost use Rattle.std.specs.Prelude.{◌≡◌, ℕ, ◌+◌, ◌-◌, ◌^◌, ◌<◌, ◌≤◌, ◌||◌, IsTrue, ◌++◌, ◌∷◌, take, drop, map, length, slice_index, IfOk, OnOk, OnErr};
+//! apart. The largest of them is kept and widened, and the others are copied into it; where it meets none, a new
+//! extent of its size stands in the list. All memory is taken before a byte or an address changes: what a
+//! failure leaves may have more room in front of an extent, and is else as it was.
+ghost use Rattle.std.specs.Prelude.{◌≡◌, ℕ, ◌+◌, ◌-◌, ◌^◌, ◌<◌, ◌≤◌, ◌||◌, IsTrue, ◌++◌, ◌∷◌, [], take, drop, map, replicate, length, OnOk, OnErr};
 ghost use Rattle.bm_base.specs.Extent.{end_of, covers};
 ghost use Rattle.phys_store.specs.Bytes.{past, byte_of, is_ready};
-ghost use Rattle.phys_store.specs.Extents.{stored, nth, Apart, Joins};
+ghost use Rattle.phys_store.specs.Extents.{stored, nth, Apart, Joins, covering, as_one};
 
-use crate::extents::{Held, are_ready};
+use crate::extents::{Held, are_ready, size_of};
 use bm_base::{Memory, Range};
-use std::alloc::Global;
+use std::mem;
 
 /// The addresses from `low` up to `high`, and the extents that they meet or touch: those from the index
 /// `first` up to `behind`.
@@ -23,7 +25,7 @@ fn end_of(extent: &Held) -> u64
     requires { past (stored extent.now) < 2 ^ 64 }
     ensures { result ≡ past (stored extent.now) }
 {
-    extent.base + extent.bytes.len() as u64
+    extent.base + size_of(extent)
 }
 
 /// The index of the first extent that ends at the address or behind it.
@@ -67,60 +69,195 @@ fn hull(extents: &[Held], range: Range) -> Reach
     }
 }
 
-/// The bytes from `low` up to `high`: those of the extents, and 0 between them.
-fn gathered(alloc: Global, extents: &[Held], low: u64, high: u64) -> Result<Vec<u8>, Memory>
+/// An extent of zeros from `low` up to `high` stands at the index `first`.
+fn begin(extents: &mut Vec<Held>, first: usize, low: u64, high: u64) -> Result<(), Memory>
     requires order { low ≤ high }
-    requires within_low { (i : ℕ) → i < length extents.now → low ≤ (nth (map stored extents.now) i).base }
-    requires within_high { (i : ℕ) → i < length extents.now → past (nth (map stored extents.now) i) ≤ high }
-    ensures count { IfOk result (λ bytes. length bytes.items ≡ high - low) }
-    ensures bytes { IfOk result (λ bytes. (x : ℕ) → low ≤ x → x < high →
-        slice_index bytes.items (x - low) ≡ byte_of (map stored extents.now) x) }
-{
-    let mut bytes = vec![in alloc; 0; (high - low) as usize]?;
-    let mut i = extents.len();
-    while i > 0 {
-        i -= 1;
-        let extent = &extents[i];
-        let from = (extent.base - low) as usize;
-        bytes[from..from + extent.bytes.len()].copy_from_slice(&extent.bytes);
-    }
-    Ok(bytes)
-}
-
-/// The extent stands in place of those from the index `first` up to `behind`.
-fn replace(extents: &mut Vec<Held>, first: usize, behind: usize, extent: Held) -> Result<(), Memory>
-    requires order { first ≤ behind }
-    requires most { behind ≤ length extents.old.items }
-    ensures ok { OnOk result (extents.new.items ≡ take first extents.old.items ++ extent ∷ drop behind extents.old.items) }
+    requires most { first ≤ length extents.old.items }
+    ensures ok { OnOk result (map stored extents.new.items ≡ as_one (map stored extents.old.items) first first low high) }
     ensures err { OnErr result (extents.new.items ≡ extents.old.items) }
 {
+    let bytes = vec![in *extents.allocator(); 0; (high - low) as usize]?;
+    let extent = Held {
+        base: low,
+        front: 0,
+        bytes,
+    };
     extents.insert(first, extent)?;
-    for _gone in first..behind {
-        drop(extents.remove(first + 1));
-    }
     Ok(())
 }
 
-/// Each address of the range is prepared, and what was so stays. All memory is taken before anything
-/// changes.
+/// The index of the extent with the most bytes, of those from the index `first` up to `behind`.
+fn largest(extents: &[Held], first: usize, behind: usize) -> usize
+    requires some { first < behind }
+    requires most { behind ≤ length extents.now }
+    ensures least { first ≤ result }
+    ensures below { result < behind }
+{
+    let mut best = first;
+    for i in first + 1..behind {
+        if size_of(&extents[best]) < size_of(&extents[i]) {
+            best = i;
+        }
+    }
+    best
+}
+
+/// Appends `count` zeros.
+fn append_zeros(bytes: &mut Vec<u8>, count: usize) -> Result<(), Memory>
+    ensures ok { OnOk result (bytes.new.items ≡ bytes.old.items ++ replicate count 0) }
+    ensures err { OnErr result (bytes.new.items ≡ bytes.old.items) }
+{
+    let Some(all) = bytes.len().checked_add(count) else {
+        return Err(Memory);
+    };
+    bytes.resize(all, 0)?;
+    Ok(())
+}
+
+/// The extent has room for `down` bytes in front. Where there was too little, there is room for as many bytes as it
+/// has, at least: so its bytes are moved for room again only once they are twice as many.
+fn make_room(extent: &mut Held, down: usize) -> Result<(), Memory>
+    requires { 0 < length (stored extent.old).bytes }
+    ensures same { stored extent.new ≡ stored extent.old }
+    ensures room { OnOk result (down ≤ extent.new.front) }
+{
+    if down <= extent.front {
+        return Ok(());
+    }
+    let end = extent.bytes.len();
+    let more = down.max(end - extent.front);
+    append_zeros(&mut extent.bytes, more)?;
+    extent
+        .bytes
+        .copy_within(extent.front..end, extent.front + more);
+    extent.front += more;
+    Ok(())
+}
+
+/// The extent goes from `low` up to `high`: its bytes stay, and the others are 0.
+fn widen(extent: &mut Held, low: u64, high: u64) -> Result<(), Memory>
+    requires some { 0 < length (stored extent.old).bytes }
+    requires low { low ≤ extent.old.base }
+    requires high { past (stored extent.old) ≤ high }
+    requires small { high < 2 ^ 64 }
+    ensures ok { OnOk result (stored extent.new ≡ covering (stored extent.old ∷ []) low high) }
+    ensures err { OnErr result (stored extent.new ≡ stored extent.old) }
+{
+    let down = (extent.base - low) as usize;
+    let up = (high - end_of(extent)) as usize;
+    make_room(extent, down)?;
+    append_zeros(&mut extent.bytes, up)?;
+    let first = extent.front;
+    extent.base = low;
+    extent.front -= down;
+    extent.bytes[extent.front..first].fill(0);
+    Ok(())
+}
+
+/// The bytes of the extent.
+fn bytes_of(extent: &Held) -> &[u8]
+    ensures { result.now ≡ (stored extent.now).bytes }
+{
+    let front = extent.front.min(extent.bytes.len());
+    &extent.bytes[front..]
+}
+
+/// Each byte of the other extents, which lie in the extent, is written to it.
+fn absorb(extent: &mut Held, others: &[Held])
+    requires some { 0 < length (stored extent.old).bytes }
+    requires low { (i : ℕ) → i < length others.now → extent.old.base ≤ (nth (map stored others.now) i).base }
+    requires high { (i : ℕ) → i < length others.now → past (nth (map stored others.now) i) ≤ past (stored extent.old) }
+    ensures { stored extent.new ≡
+        covering (map stored others.now ++ stored extent.old ∷ []) extent.old.base (past (stored extent.old)) }
+{
+    let mut i = others.len();
+    while i > 0 {
+        i -= 1;
+        let other = &others[i];
+        let bytes = bytes_of(other);
+        let from = extent.front + (other.base - extent.base) as usize;
+        extent.bytes[from..from + bytes.len()].copy_from_slice(bytes);
+    }
+}
+
+/// The extent stands in place of those from the index `first` up to `behind`.
+fn replace(extents: &mut Vec<Held>, first: usize, behind: usize, extent: Held)
+    requires some { first < behind }
+    requires most { behind ≤ length extents.old.items }
+    ensures { extents.new.items ≡ take first extents.old.items ++ extent ∷ drop behind extents.old.items }
+{
+    extents[first] = extent;
+    for _gone in first + 1..behind {
+        drop(extents.remove(first + 1));
+    }
+}
+
+/// The extents from the index `first` up to `behind` are one, from `low` up to `high`. The largest of them is widened,
+/// and the others are copied into it: so a byte that is copied comes into an extent of twice the size, at least.
+fn join(
+    extents: &mut Vec<Held>,
+    first: usize,
+    behind: usize,
+    low: u64,
+    high: u64,
+) -> Result<(), Memory>
+    requires apart { Apart 0 (map stored extents.old.items) }
+    requires joins { Joins (map stored extents.old.items) first behind low high }
+    requires some { first < behind }
+    requires small { high < 2 ^ 64 }
+    ensures ok { OnOk result (map stored extents.new.items ≡ as_one (map stored extents.old.items) first behind low high) }
+    ensures err { OnErr result (map stored extents.new.items ≡ map stored extents.old.items) }
+{
+    let kept = largest(extents, first, behind);
+    widen(&mut extents[kept], low, high)?;
+    let nothing = Held {
+        base: low,
+        front: 0,
+        bytes: Vec::new(*extents.allocator()),
+    };
+    let mut whole = mem::replace(&mut extents[kept], nothing);
+    absorb(&mut whole, &extents[first..behind]);
+    replace(extents, first, behind, whole);
+    Ok(())
+}
+
+/// The extents of the reach are one, or a new one where there is none.
+fn unite(extents: &mut Vec<Held>, reach: Reach) -> Result<(), Memory>
+    requires apart { Apart 0 (map stored extents.old.items) }
+    requires joins { Joins (map stored extents.old.items) reach.first reach.behind reach.low reach.high }
+    requires order { reach.low ≤ reach.high }
+    requires small { reach.high < 2 ^ 64 }
+    ensures ok { OnOk result
+        (map stored extents.new.items ≡ as_one (map stored extents.old.items) reach.first reach.behind reach.low reach.high) }
+    ensures err { OnErr result (map stored extents.new.items ≡ map stored extents.old.items) }
+{
+    let Reach {
+        first,
+        behind,
+        low,
+        high,
+    } = reach;
+    if first == behind {
+        begin(extents, first, low, high)
+    } else {
+        join(extents, first, behind, low, high)
+    }
+}
+
+/// Each address of the range is prepared, and what was so stays. After `Memory` no byte and no prepared address
+/// has changed.
 pub fn prepare(extents: &mut Vec<Held>, range: Range) -> Result<(), Memory>
     requires { Apart 0 (map stored extents.old.items) }
     ensures apart { Apart 0 (map stored extents.new.items) }
     ensures bytes { (x : ℕ) → byte_of (map stored extents.new.items) x ≡ byte_of (map stored extents.old.items) x }
     ensures ready { OnOk result ((x : ℕ) →
         is_ready (map stored extents.new.items) x ≡ (covers range x || is_ready (map stored extents.old.items) x)) }
-    ensures err { OnErr result (extents.new.items ≡ extents.old.items) }
+    ensures err { OnErr result (map stored extents.new.items ≡ map stored extents.old.items) }
 {
     if are_ready(extents, range) {
         return Ok(());
     }
-    let Reach {
-        first,
-        behind,
-        low,
-        high,
-    } = hull(extents, range);
-    let bytes = gathered(*extents.allocator(), &extents[first..behind], low, high)?;
-    replace(extents, first, behind, Held { base: low, bytes })?;
+    let reach = hull(extents, range);
+    unite(extents, reach)?;
     Ok(())
 }

@@ -1,5 +1,5 @@
 -- The listed blocks are in bounds: their orders, their first frames, and how many they are.
-use Rattle.std.proofs.Common.{◌≡◌, ℕ, zero, suc, ◌+◌, ◌^◌, ◌<◌, ◌≤◌, ◌==◌, Option, Some, None, List, [], ◌∷◌, ◌++◌, length, get_or, drop, refl, sym, ap, ◌∙◌, add-one, append_assoc, drop-cons, arith, inl, inr}
+use Rattle.std.proofs.Common.{◌≡◌, ℕ, zero, suc, ◌+◌, ◌^◌, ◌<◌, ◌≤◌, ◌==◌, Option, Some, None, List, [], ◌∷◌, length, get_or, arith, inl, inr}
 use Rattle.std.proofs.lemmas.Bool.{cases_Bool}
 use Rattle.frame_blocks.specs.declared.block.Block.{Block}
 use Rattle.frame_blocks.specs.declared.run.TheConstants.{MAX_FRAMES}
@@ -7,8 +7,6 @@ use Rattle.frame_blocks.specs.Frames.{Frames}
 use Rattle.frame_blocks.specs.Listed.{block_for, block_of, blocks_from, blocks_of, led_by_block}
 use Rattle.frame_blocks.proofs.GoodLaws.{up_small}
 use Rattle.frame_blocks.proofs.ListLaws.{from-few}
-use Rattle.report_texts.specs.Lines.{lines_from}
-use Rattle.stage_texts.specs.BlocksText.{block_line}
 
 -- the order is at most 10, and the first frame lies below 2^40
 pub record InBounds (b : Block) : Type 0 where
@@ -56,13 +54,3 @@ pub at_in_bounds : (bs : List Block) (i : ℕ) (d : Block) → AreInBounds bs �
 at_in_bounds [] i d all within = absurd (omega arith)
 at_in_bounds (b ∷ bs) zero d all within = all.0
 at_in_bounds (b ∷ bs) (suc i) d all within = at_in_bounds bs i d all.1 (omega arith)
-
--- the line of one more block
-pub block_put : (bs : List Block) (i : ℕ) (d b : Block) (before after whole : List ℕ) → i < length bs → b ≡ get_or bs i d
-    → after ≡ before ++ block_line 0 b → before ++ lines_from block_line i (drop i bs) ≡ whole
-    → after ++ lines_from block_line (i + 1) (drop (i + 1) bs) ≡ whole
-block_put bs i d b before after whole within is put so_far =
-    let rest : drop i bs ≡ b ∷ drop (i + 1) bs = rw (add-one i, is) (drop-cons bs i d within) in
-    let lines : lines_from block_line i (drop i bs) ≡ block_line 0 b ++ lines_from block_line (i + 1) (drop (i + 1) bs) = rw rest refl in
-    let more : List ℕ = lines_from block_line (i + 1) (drop (i + 1) bs) in
-    ap (λ t. t ++ more) put ∙ append_assoc before (block_line 0 b) more ∙ ap (λ t. before ++ t) (sym lines) ∙ so_far

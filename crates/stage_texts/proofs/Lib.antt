@@ -1,3 +1,4 @@
 mod Examples
 pub mod BlockLaws
+pub mod SheetLaws
 pub mod ZoneLaws

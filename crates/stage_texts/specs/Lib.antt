@@ -3,5 +3,6 @@ pub mod CrashText
 pub mod NodesText
 pub mod ScriptText
 pub mod SectionsText
+pub mod Sheets
 pub mod SummaryText
 pub mod ZonesText

@@ -7,9 +7,9 @@ ghost use Rattle.growth_model.specs.Sound.{IsImage, HasBegun};
 use super::Memblock;
 use crate::{Refusal, Request};
 use bm_base::Range;
-use boot_journal::{Owner, Which};
+use boot_journal::{Journal, Owner, Which};
 use memblock_find::Query;
-use memblock_ranges::Head;
+use memblock_ranges::{Head, Tables};
 use std::alloc::Global;
 use std::test::Fail;
 
@@ -211,13 +211,32 @@ fn allocations_come_from_the_top(rt: HostRuntime) -> Result<(), Fail> {
     assert!(rt; !act(&mut memblock, Step::Free(0x2FFE000, 1))?);
     assert_eq!(rt; memblock.journal().items().len(), 11);
     assert_eq!(rt; memblock.tables().head(Which::Reserved).count, 5);
+
+    // These fields are all that there is: beside the items there is no list but those in the tables' bytes.
+    let Memblock {
+        kernel,
+        journal,
+        tables,
+        limit,
+    } = memblock;
+    let kernel: Range = kernel;
+    let journal: Journal = journal;
+    let tables: Tables = tables;
+    let limit: u64 = limit;
+    assert_eq!(rt; kernel, bytes(0x1000000, 0x2000000));
+    assert_eq!(rt; journal.items().len(), 11);
+    assert_eq!(rt; tables.head(Which::Reserved).count, 5);
+    assert_eq!(rt; limit, 0x7FE0000);
     Ok(())
 }
 
-// Claims and added ranges, each beside a gap, until each table has moved, and the reserved one twice.
+// Claims and added ranges, each beside a gap, until each table has moved, and the reserved one twice. The place that the memory
+// table moves to was filled before, and so was a place where no memory is.
 #[test]
 fn tables_move(rt: HostRuntime) -> Result<(), Fail> {
     let mut memblock = machine(rt.alloc())?;
+    assert!(rt; fill(&mut memblock, 0x7FDE000, 0x2000, 0xA5)?);
+    assert!(rt; fill(&mut memblock, 0x200000000, 2, 0xA5)?);
     for i in 0..300 {
         assert!(rt; act(&mut memblock, Step::Claim(0x200000 + 0x2000 * i, 0x1000))?);
     }
@@ -246,9 +265,18 @@ fn tables_move(rt: HostRuntime) -> Result<(), Fail> {
     memblock.peek(0x7FDE000 + 24 * 202, &mut record);
     assert_eq!(rt; record, [0; 24]);
 
+    // Across the end of its bytes what was filled before is there; what it left may be filled.
+    let mut edge = [0; 4];
+    memblock.peek(0x7FDF7FE, &mut edge);
+    assert_eq!(rt; edge, [0, 0, 0xA5, 0xA5]);
+    assert!(rt; fill(&mut memblock, 0x2FFE000, 24, 0x5A)?);
+    memblock.peek(0x2FFE000, &mut record);
+    assert_eq!(rt; record, [0x5A; 24]);
+    memblock.peek(0x1FFFFFFFF, &mut edge);
+    assert_eq!(rt; edge, [0, 0xA5, 0xA5, 0]);
+
     assert!(rt; fill(&mut memblock, 0x300000, 0x10, 0x5A)?);
     assert!(rt; !fill(&mut memblock, 0x7FDB000, 1, 0x5A)?);
-    let mut edge = [0; 4];
     memblock.peek(0x2FFFFF, &mut edge);
     assert_eq!(rt; edge, [0, 0x5A, 0x5A, 0x5A]);
     memblock.peek(0x30000E, &mut edge);

@@ -5,6 +5,7 @@ use Rattle.std.proofs.lemmas.Result.{err_from_is_err_and}
 use Rattle.address_runs.specs.Runs.{RunOf}
 use Rattle.memblock_model.specs.declared.item.Item.{Item}
 use Rattle.growth_model.specs.Carried.{carried_out}
+use Rattle.stage_calls.proofs.LentLaws.{goes-then}
 use Rattle.early_stages.specs.Wanted.{items_of_map, items_of_run}
 use Rattle.boot_model.specs.declared.limit.TheConstants.{MAX_PHYSMEM}
 use Rattle.boot_stages.proofs.CarriesLaws.{carried-on, carries-exit, carries-left, carries-nothing}
@@ -39,8 +40,8 @@ loop-run-preserved c =
       runs = runs_next c.args.map.now c.loop-run.run-index c.run-item.result (omega (arith, c.loop-run-test.true))
           c.loop-run.invariant.runs;
       begun = c.in_ok-add_run.ensures.begun;
-      kernel = c.in_ok-add_run.ensures.kernel ∙ c.loop-run.invariant.kernel;
-      bytes = λ holds. c.in_ok-add_run.ensures.bytes (c.loop-run.invariant.bytes holds);
+      lent = goes-then c.args.memblock.now c.loop-run.memblock c.add_run.new.memblock c.loop-run.invariant.lent
+          c.in_ok-add_run.ensures.lent;
     }
 
 pub returns-clause-carries : goal.returns-clause-carries
@@ -51,5 +52,6 @@ returns-clause-carries c =
     c.args.map.now c.loop-run.run-index (omega (arith, c.loop-run-test.false)) in
     sym left ∙ rest ∙ carries-nothing c.loop-run.memblock.journal.items
 
-pub returns-clause-bytes : goal.returns-clause-bytes
-returns-clause-bytes c = c.loop-run.invariant.bytes
+pub returns-in_err-add_run-clause-lent : goal.returns-in_err-add_run-clause-lent
+returns-in_err-add_run-clause-lent c =
+    goes-then c.args.memblock.now c.loop-run.memblock c.add_run.new.memblock c.loop-run.invariant.lent c.in_err-add_run.ensures.lent

@@ -1,11 +1,11 @@
 -- What is left of the map's items, carried out from here, is all of them carried out from the start.
-use Rattle.std.proofs.Common.{◌≡◌, [], drop}
+use Rattle.std.proofs.Common.{◌≡◌, drop}
 use Rattle.address_runs.specs.Runs.{AreRuns}
 use Rattle.growth_model.specs.Sound.{HasBegun}
 use Rattle.growth_model.specs.Carried.{carried_out}
 use Rattle.early_stages.specs.Wanted.{items_of_map}
 use Rattle.boot_model.specs.declared.limit.TheConstants.{MAX_PHYSMEM}
-use Rattle.boot_stages.specs.Boots.{HoldsWith}
+use Rattle.stage_calls.specs.Lent.{GoesOn}
 use Rattle.boot_stages.proofs.memory.add_map.Given as goal
 
 abbrev pub invariant-loop-run : goal.invariant-loop-run
@@ -14,6 +14,5 @@ invariant-loop-run l = record {
       ≡ carried_out (items_of_map MAX_PHYSMEM l.map) l.fn.memblock.journal.items;
   runs : AreRuns (drop l.run-index l.map);
   begun : HasBegun l.memblock.journal.items;
-  kernel : l.memblock.kernel ≡ l.fn.memblock.kernel;
-  bytes : HoldsWith [] l.fn.memblock → HoldsWith [] l.memblock;
+  lent : GoesOn l.fn.memblock l.memblock;
 }

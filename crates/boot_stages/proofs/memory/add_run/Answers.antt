@@ -9,8 +9,8 @@ use Rattle.growth_model.specs.Carried.{carried_out}
 use Rattle.early_stages.specs.Wanted.{items_of_run}
 use Rattle.boot_model.specs.declared.limit.TheConstants.{MAX_PHYSMEM}
 use Rattle.boot_stages.specs.Carries.{Carries}
-use Rattle.boot_stages.proofs.BytesLaws.{holds-on}
-use Rattle.boot_stages.proofs.CarriesLaws.{carries-change, carries-nothing, on_ok}
+use Rattle.boot_stages.proofs.BytesLaws.{goes-once}
+use Rattle.boot_stages.proofs.CarriesLaws.{carries-change, carries-nothing}
 use Rattle.boot_stages.proofs.MemoryLaws.{high_run, memory_run, other_run, soft_run}
 use Rattle.boot_stages.proofs.memory.add_run.Goals as goal
 
@@ -50,11 +50,11 @@ returns-clause-carries c =
     subst Ends c.run.view_is (rw (memory_run MAX_PHYSMEM run c.if-run.false memory low)
     (subst Adds c.below_limit.ensures (carries-change r (item.Mem c.below_limit.result) old new c.add_memory.ensures.ends)))
 
-pub returns-then-run-clause-bytes : goal.returns-then-run-clause-bytes
-returns-then-run-clause-bytes c =
-    on_ok c.claim.result _ (holds-on [] c.args.memblock.now c.claim.new.self c.claim.ensures.kernel c.claim.ensures.bytes)
+pub returns-then-run-clause-lent : goal.returns-then-run-clause-lent
+returns-then-run-clause-lent c =
+    goes-once c.args.memblock.now c.claim.new.self c.claim.ensures.kernel c.claim.ensures.bytes c.claim.ensures.still_ready
 
-pub returns-clause-bytes : goal.returns-clause-bytes
-returns-clause-bytes c =
-    on_ok c.add_memory.result _
-    (holds-on [] c.args.memblock.now c.add_memory.new.self c.add_memory.ensures.kernel c.add_memory.ensures.bytes)
+pub returns-clause-lent : goal.returns-clause-lent
+returns-clause-lent c =
+    goes-once c.args.memblock.now c.add_memory.new.self c.add_memory.ensures.kernel c.add_memory.ensures.bytes
+    c.add_memory.ensures.still_ready

@@ -7,9 +7,10 @@ use Rattle.memblock_model.specs.declared.item.Item.TheVariants as item
 use Rattle.growth_model.specs.Growth.{claimed}
 use Rattle.growth_model.specs.Carried.{carried_out}
 use Rattle.growth_model.proofs.SoundLaws.{ends-begun, may-keep}
+use Rattle.stage_calls.proofs.LentLaws.{goes-then}
 use Rattle.early_stages.specs.Wanted.{initrd_claims}
 use Rattle.boot_stages.specs.Carries.{Carries}
-use Rattle.boot_stages.proofs.BytesLaws.{holds-on}
+use Rattle.boot_stages.proofs.BytesLaws.{goes-once}
 use Rattle.boot_stages.proofs.CarriesLaws.{carries-change, change-exit, change-second, claim-begun, on_ok}
 use Rattle.boot_stages.proofs.memory.claim_early.Goals as goal
 
@@ -78,13 +79,27 @@ pub returns-in-None-clause-begun : goal.returns-in-None-clause-begun
 returns-in-None-clause-begun c =
     claim-begun _ c.claim.new.self.journal.items c.claim-2.new.self.journal.items c.up_to.result owner.Low64K c.in_ok-claim-2.ensures.ends
 
-pub returns-in-Some-clause-bytes : goal.returns-in-Some-clause-bytes
-returns-in-Some-clause-bytes c =
-    on_ok c.claim-in-Some.result _ (λ holds. holds-on [] c.claim-2.new.self c.claim-in-Some.new.self c.claim-in-Some.ensures.kernel
-    c.claim-in-Some.ensures.bytes (holds-on [] c.claim.new.self c.claim-2.new.self c.claim-2.ensures.kernel c.claim-2.ensures.bytes
-    (holds-on [] c.args.memblock.now c.claim.new.self c.claim.ensures.kernel c.claim.ensures.bytes holds)))
+pub returns-in_err-claim-clause-lent : goal.returns-in_err-claim-clause-lent
+returns-in_err-claim-clause-lent c =
+    goes-once c.args.memblock.now c.claim.new.self c.claim.ensures.kernel c.claim.ensures.bytes c.claim.ensures.still_ready
 
-pub returns-in-None-clause-bytes : goal.returns-in-None-clause-bytes
-returns-in-None-clause-bytes c =
-    λ holds. holds-on [] c.claim.new.self c.claim-2.new.self c.claim-2.ensures.kernel c.claim-2.ensures.bytes
-    (holds-on [] c.args.memblock.now c.claim.new.self c.claim.ensures.kernel c.claim.ensures.bytes holds)
+pub returns-in_err-claim-2-clause-lent : goal.returns-in_err-claim-2-clause-lent
+returns-in_err-claim-2-clause-lent c =
+    goes-then c.args.memblock.now c.claim.new.self c.claim-2.new.self
+    (goes-once c.args.memblock.now c.claim.new.self c.claim.ensures.kernel c.claim.ensures.bytes c.claim.ensures.still_ready)
+    (goes-once c.claim.new.self c.claim-2.new.self c.claim-2.ensures.kernel c.claim-2.ensures.bytes c.claim-2.ensures.still_ready)
+
+pub returns-in-Some-clause-lent : goal.returns-in-Some-clause-lent
+returns-in-Some-clause-lent c =
+    goes-then c.args.memblock.now c.claim-2.new.self c.claim-in-Some.new.self
+    (goes-then c.args.memblock.now c.claim.new.self c.claim-2.new.self
+    (goes-once c.args.memblock.now c.claim.new.self c.claim.ensures.kernel c.claim.ensures.bytes c.claim.ensures.still_ready)
+    (goes-once c.claim.new.self c.claim-2.new.self c.claim-2.ensures.kernel c.claim-2.ensures.bytes c.claim-2.ensures.still_ready))
+    (goes-once c.claim-2.new.self c.claim-in-Some.new.self c.claim-in-Some.ensures.kernel c.claim-in-Some.ensures.bytes
+    c.claim-in-Some.ensures.still_ready)
+
+pub returns-in-None-clause-lent : goal.returns-in-None-clause-lent
+returns-in-None-clause-lent c =
+    goes-then c.args.memblock.now c.claim.new.self c.claim-2.new.self
+    (goes-once c.args.memblock.now c.claim.new.self c.claim.ensures.kernel c.claim.ensures.bytes c.claim.ensures.still_ready)
+    (goes-once c.claim.new.self c.claim-2.new.self c.claim-2.ensures.kernel c.claim-2.ensures.bytes c.claim-2.ensures.still_ready)

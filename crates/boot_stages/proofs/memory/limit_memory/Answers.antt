@@ -3,9 +3,10 @@ use Rattle.std.proofs.Common.{[], ◌∷◌, Result, subst}
 use Rattle.bm_base.specs.Extent.{Extent}
 use Rattle.memblock_model.specs.declared.owner.Owner.TheVariants as owner
 use Rattle.memblock_model.specs.declared.item.Item.TheVariants as item
+use Rattle.stage_calls.proofs.LentLaws.{goes-then}
 use Rattle.boot_stages.specs.Carries.{Carries}
-use Rattle.boot_stages.proofs.BytesLaws.{holds-on}
-use Rattle.boot_stages.proofs.CarriesLaws.{carries-change, carries-limit, carries-second, on_ok}
+use Rattle.boot_stages.proofs.BytesLaws.{goes-once}
+use Rattle.boot_stages.proofs.CarriesLaws.{carries-change, carries-limit, carries-second}
 use Rattle.boot_stages.proofs.memory.limit_memory.Goals as goal
 
 pub returns-clause-carries : goal.returns-clause-carries
@@ -19,7 +20,13 @@ returns-clause-carries c =
     (carries-limit c.args.end old mid c.in_ok-set_limit.ensures.ok)
     (carries-change r (item.Claim c.up_to.result owner.Low1M) mid new c.claim.ensures.ends))
 
-pub returns-clause-bytes : goal.returns-clause-bytes
-returns-clause-bytes c =
-    on_ok c.claim.result _ (λ holds. holds-on [] c.set_limit.new.self c.claim.new.self c.claim.ensures.kernel c.claim.ensures.bytes
-    (holds-on [] c.args.memblock.now c.set_limit.new.self c.set_limit.ensures.kernel c.set_limit.ensures.bytes holds))
+pub returns-in_err-set_limit-clause-lent : goal.returns-in_err-set_limit-clause-lent
+returns-in_err-set_limit-clause-lent c =
+    goes-once c.args.memblock.now c.set_limit.new.self c.set_limit.ensures.kernel c.set_limit.ensures.bytes c.set_limit.ensures.still_ready
+
+pub returns-clause-lent : goal.returns-clause-lent
+returns-clause-lent c =
+    goes-then c.args.memblock.now c.set_limit.new.self c.claim.new.self
+    (goes-once c.args.memblock.now c.set_limit.new.self c.set_limit.ensures.kernel c.set_limit.ensures.bytes
+    c.set_limit.ensures.still_ready)
+    (goes-once c.set_limit.new.self c.claim.new.self c.claim.ensures.kernel c.claim.ensures.bytes c.claim.ensures.still_ready)

@@ -3,9 +3,10 @@ use Rattle.std.proofs.Common.{[], ◌∷◌, ◌++◌, Ok}
 use Rattle.std.proofs.lemmas.Result.{err_from_is_err_and}
 use Rattle.memblock_model.specs.declared.item.Item.TheVariants as item
 use Rattle.early_stages.specs.declared.low.TheConstants.{ISA_END_ADDRESS}
+use Rattle.stage_calls.proofs.LentLaws.{goes-then}
 use Rattle.early_stages.specs.Wanted.{early_claims, items_of_map}
 use Rattle.boot_model.specs.declared.limit.TheConstants.{MAX_PHYSMEM}
-use Rattle.boot_stages.proofs.BytesLaws.{holds-on}
+use Rattle.boot_stages.proofs.BytesLaws.{goes-once}
 use Rattle.boot_stages.proofs.CarriesLaws.{carries-exit, carries-limit, carries-second, carries-trim, carries-wanting, written-begun}
 use Rattle.boot_stages.proofs.MemoryLaws.{opening}
 use Rattle.boot_stages.proofs.memory.map_memory.Goals as goal
@@ -64,8 +65,36 @@ returns-clause-carries c =
 pub returns-clause-begun : goal.returns-clause-begun
 returns-clause-begun c = written-begun c.add_map.new.memblock.journal.items c.trim.new.self.journal.items item.Trim c.in_ok-trim.ensures.ok
 
-pub returns-clause-bytes : goal.returns-clause-bytes
-returns-clause-bytes c =
-    λ holds. holds-on [] c.add_map.new.memblock c.trim.new.self c.trim.ensures.kernel c.trim.ensures.bytes
-    (c.in_ok-add_map.ensures.bytes (holds-on [] c.claim_early.new.memblock c.set_limit.new.self c.set_limit.ensures.kernel
-    c.set_limit.ensures.bytes (c.in_ok-claim_early.ensures.bytes holds)))
+pub returns-in_err-set_limit-clause-lent : goal.returns-in_err-set_limit-clause-lent
+returns-in_err-set_limit-clause-lent c =
+    goes-then c.args.memblock.now c.claim_early.new.memblock c.set_limit.new.self c.in_ok-claim_early.ensures.lent
+    (goes-once c.claim_early.new.memblock c.set_limit.new.self c.set_limit.ensures.kernel c.set_limit.ensures.bytes
+    c.set_limit.ensures.still_ready)
+
+pub returns-in_err-add_map-clause-lent : goal.returns-in_err-add_map-clause-lent
+returns-in_err-add_map-clause-lent c =
+    goes-then c.args.memblock.now c.set_limit.new.self c.add_map.new.memblock
+    (goes-then c.args.memblock.now c.claim_early.new.memblock c.set_limit.new.self c.in_ok-claim_early.ensures.lent
+    (goes-once c.claim_early.new.memblock c.set_limit.new.self c.set_limit.ensures.kernel c.set_limit.ensures.bytes
+    c.set_limit.ensures.still_ready))
+    c.in_err-add_map.ensures.lent
+
+pub returns-in_err-trim-clause-lent : goal.returns-in_err-trim-clause-lent
+returns-in_err-trim-clause-lent c =
+    goes-then c.args.memblock.now c.add_map.new.memblock c.trim.new.self
+    (goes-then c.args.memblock.now c.set_limit.new.self c.add_map.new.memblock
+    (goes-then c.args.memblock.now c.claim_early.new.memblock c.set_limit.new.self c.in_ok-claim_early.ensures.lent
+    (goes-once c.claim_early.new.memblock c.set_limit.new.self c.set_limit.ensures.kernel c.set_limit.ensures.bytes
+    c.set_limit.ensures.still_ready))
+    c.in_ok-add_map.ensures.lent)
+    (goes-once c.add_map.new.memblock c.trim.new.self c.trim.ensures.kernel c.trim.ensures.bytes c.trim.ensures.still_ready)
+
+pub returns-clause-lent : goal.returns-clause-lent
+returns-clause-lent c =
+    goes-then c.args.memblock.now c.add_map.new.memblock c.trim.new.self
+    (goes-then c.args.memblock.now c.set_limit.new.self c.add_map.new.memblock
+    (goes-then c.args.memblock.now c.claim_early.new.memblock c.set_limit.new.self c.in_ok-claim_early.ensures.lent
+    (goes-once c.claim_early.new.memblock c.set_limit.new.self c.set_limit.ensures.kernel c.set_limit.ensures.bytes
+    c.set_limit.ensures.still_ready))
+    c.in_ok-add_map.ensures.lent)
+    (goes-once c.add_map.new.memblock c.trim.new.self c.trim.ensures.kernel c.trim.ensures.bytes c.trim.ensures.still_ready)

@@ -5,6 +5,7 @@ use Rattle.address_runs.specs.Runs.{value_at}
 use Rattle.memblock_model.specs.declared.item.Item.{Item}
 use Rattle.memblock_ranges.specs.Tables.{Table}
 use Rattle.growth_model.specs.Carried.{carried_out}
+use Rattle.stage_calls.proofs.LentLaws.{goes-then}
 use Rattle.early_stages.specs.Memory.{end_of_runs, memory_end}
 use Rattle.boot_model.specs.declared.limit.TheConstants.{MAX_PHYSMEM}
 use Rattle.boot_stages.specs.Carries.{Carries}
@@ -42,3 +43,8 @@ returns-clause-carries c =
     subst Ends (in_two MAX_PHYSMEM c.args.kernel c.args.initrd map)
     (carries-second r first (ending (memory_end MAX_PHYSMEM (value_at map))) old mid new carried
     (subst Rest end c.limit_memory.ensures.carries))
+
+pub returns-clause-lent : goal.returns-clause-lent
+returns-clause-lent c =
+    goes-then c.args.memblock.now c.map_memory.new.memblock c.limit_memory.new.memblock c.in_ok-map_memory.ensures.lent
+    c.limit_memory.ensures.lent

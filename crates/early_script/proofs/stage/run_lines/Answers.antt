@@ -1,12 +1,14 @@
 -- The next line goes on from the stage that the lines before it reached.
-use Rattle.std.proofs.Common.{◌+◌, ◌<◌, List, [], ◌∷◌, ◌++◌, length, take, sym, ◌∙◌, ap, subst, arith}
-use Rattle.std.proofs.lemmas.List.{take_more}
+use Rattle.std.proofs.Common.{◌≡◌, ◌+◌, ◌<◌, List, [], ◌∷◌, ◌++◌, length, take, Result, Ok, Err, OnErr, refl, sym, ◌∙◌, ap, subst, arith}
+use Rattle.std.proofs.lemmas.List.{take_all, take_more}
+use Rattle.bm_base.specs.declared.memory.Memory.{Memory}
 use Rattle.script_reader.specs.declared.act.Line.{Line}
 use Rattle.growth_model.specs.Outcome.{joined}
 use Rattle.early_script.specs.declared.outcome.Answer.{Answer}
 use Rattle.early_script.specs.Acted.{State, deed}
 use Rattle.early_script.specs.Found.{state_of, bytes_in}
 use Rattle.early_script.specs.Stage.{Stage, Reaches, stage_of, after_lines}
+use Rattle.early_script.proofs.OutLaws.{out-amid, out-behind, between-all, between-out}
 use Rattle.early_script.proofs.StageLaws.{after_lines-append, begun-along, reaches-line}
 use Rattle.early_script.proofs.stage.run_lines.Goals as goal
 
@@ -37,3 +39,70 @@ loop-line-preserved c =
           c.run_line.new.mb told)
           (sym c.in_ok-push.ensures.items) here;
     }
+
+-- what holds anyway
+on_err : (r : Result (Unit {0}) Memory) (P : Type 0) → P → OnErr r P
+on_err (Ok x) P holds = tt
+on_err (Err memory) P holds = holds
+
+pub returns-in_err-outcome-clause-memory : goal.returns-in_err-outcome-clause-memory
+returns-in_err-outcome-clause-memory c =
+    let line = c.line-item.result in
+    let i = c.loop-line.line-index in
+    let below : i < length c.args.lines.now = omega arith in
+    let more = take_more c.args.lines.now i line below
+    ∙ ap (λ (l : Line). take i c.args.lines.now ++ l ∷ []) (sym c.line-item.is) in
+    on_err c.from_residual.result _ (λ fills holds. out-amid (stage_of c.args.live.now c.args.mb.now fills c.args.answers.now.items)
+    c.args.lines.now i line c.loop-line.live c.run_line.new.self c.loop-line.mb c.run_line.new.mb c.loop-line.answers.items
+    c.loop-line.answers.items more (c.loop-line.invariant.reached fills holds) c.in_err-outcome.ensures.acts
+    c.in_err-outcome.ensures.holds refl)
+
+pub returns-in_err-outcome-clause-journal : goal.returns-in_err-outcome-clause-journal
+returns-in_err-outcome-clause-journal c =
+    let line = c.line-item.result in
+    let i = c.loop-line.line-index in
+    let below : i < length c.args.lines.now = omega arith in
+    let more = take_more c.args.lines.now i line below
+    ∙ ap (λ (l : Line). take i c.args.lines.now ++ l ∷ []) (sym c.line-item.is) in
+    λ fills holds. (
+    let start = stage_of c.args.live.now c.args.mb.now fills c.args.answers.now.items in
+    between-out start c.args.lines.now c.run_line.new.self c.run_line.new.mb c.loop-line.answers.items
+    (out-amid start c.args.lines.now i line c.loop-line.live c.run_line.new.self c.loop-line.mb c.run_line.new.mb
+    c.loop-line.answers.items c.loop-line.answers.items more (c.loop-line.invariant.reached fills holds) c.in_err-outcome.ensures.acts
+    c.in_err-outcome.ensures.holds refl))
+
+pub returns-in_err-push-clause-memory : goal.returns-in_err-push-clause-memory
+returns-in_err-push-clause-memory c =
+    let line = c.line-item.result in
+    let i = c.loop-line.line-index in
+    let below : i < length c.args.lines.now = omega arith in
+    let more = take_more c.args.lines.now i line below
+    ∙ ap (λ (l : Line). take i c.args.lines.now ++ l ∷ []) (sym c.line-item.is) in
+    on_err c.from_residual-in_err-push.result _ (λ fills holds. out-behind (stage_of c.args.live.now c.args.mb.now fills
+    c.args.answers.now.items) c.args.lines.now i line c.loop-line.live c.run_line.new.self c.loop-line.mb c.run_line.new.mb
+    c.loop-line.answers.items c.push.new.self.items c.in_ok-outcome.outcome more (c.loop-line.invariant.reached fills holds)
+    c.in_ok-outcome.ensures.acts c.in_ok-outcome.ensures.holds c.in_err-push.ensures.items)
+
+pub returns-in_err-push-clause-journal : goal.returns-in_err-push-clause-journal
+returns-in_err-push-clause-journal c =
+    let line = c.line-item.result in
+    let i = c.loop-line.line-index in
+    let below : i < length c.args.lines.now = omega arith in
+    let more = take_more c.args.lines.now i line below
+    ∙ ap (λ (l : Line). take i c.args.lines.now ++ l ∷ []) (sym c.line-item.is) in
+    λ fills holds. (
+    let start = stage_of c.args.live.now c.args.mb.now fills c.args.answers.now.items in
+    between-out start c.args.lines.now c.run_line.new.self c.run_line.new.mb c.push.new.self.items
+    (out-behind start c.args.lines.now i line c.loop-line.live c.run_line.new.self c.loop-line.mb c.run_line.new.mb
+    c.loop-line.answers.items c.push.new.self.items c.in_ok-outcome.outcome more (c.loop-line.invariant.reached fills holds)
+    c.in_ok-outcome.ensures.acts c.in_ok-outcome.ensures.holds c.in_err-push.ensures.items))
+
+pub returns-clause-journal : goal.returns-clause-journal
+returns-clause-journal c =
+    λ fills holds. (
+    let start = stage_of c.args.live.now c.args.mb.now fills c.args.answers.now.items in
+    let all : take c.loop-line.line-index c.args.lines.now ≡ c.args.lines.now =
+    take_all c.loop-line.line-index c.args.lines.now (omega arith) in
+    between-all start c.args.lines.now c.loop-line.live c.loop-line.mb c.loop-line.answers.items
+    (subst (λ (ls : List Line). Reaches (after_lines start ls) c.loop-line.live c.loop-line.mb c.loop-line.answers.items) all
+    (c.loop-line.invariant.reached fills holds)))

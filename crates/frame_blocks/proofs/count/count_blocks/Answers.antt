@@ -1,9 +1,9 @@
-use Rattle.std.proofs.Common.{◌≡◌, ◌+◌, ◌-◌, ◌≤◌, ℕ, List, Bool, drop, refl, sym, ◌∙◌, ap, subst, arith}
+use Rattle.std.proofs.Common.{◌≡◌, ◌+◌, ◌-◌, ℕ, Bool, ◌∙◌, ap, arith}
 use Rattle.std.specs.List.{count_by}
 use Rattle.address_runs.specs.Runs.{RunOf, run_end, value_at}
 use Rattle.frame_blocks.specs.declared.block.Block.{Block}
 use Rattle.frame_blocks.specs.Listed.{is_of, count_of, blocks_from}
-use Rattle.frame_blocks.proofs.LookLaws.{listed, run_at}
+use Rattle.frame_blocks.proofs.LookLaws.{run_at}
 use Rattle.frame_blocks.proofs.CountLaws.{count_all, count_more_at, next_count, no_count, other_run}
 use Rattle.frame_blocks.proofs.count.count_blocks.Goals as goal
 use Rattle.frame_blocks.proofs.count.count_blocks.Goals.{then-run-node, else-run-node}

@@ -1,10 +1,9 @@
-use Rattle.std.proofs.Common.{◌≡◌, ◌⊎◌, ◌+◌, ◌-◌, ◌*◌, ◌%◌, ◌^◌, ◌≤◌, ℕ, List, [], Bool, cond, refl, sym, ◌∙◌, ap, subst, inl, inr, arith}
+use Rattle.std.proofs.Common.{◌≡◌, ◌⊎◌, ◌+◌, ◌-◌, ◌*◌, ◌%◌, ◌≤◌, ℕ, List, [], Bool, cond, sym, ◌∙◌, ap, arith}
 use Rattle.std.specs.List.{count_by}
-use Rattle.std.proofs.Math.Nat.{add-mul-mod_self_right, one-mul}
 use Rattle.bm_base.specs.Zones.{zone_of}
 use Rattle.frame_blocks.specs.declared.block.Block.{Block}
 use Rattle.frame_blocks.specs.Listed.{is_of, blocks_from}
-use Rattle.frame_blocks.proofs.RunLaws.{nothing_more, start_first, start_whole, start_next, start_at_ten}
+use Rattle.frame_blocks.proofs.RunLaws.{nothing_more, start_first, start_whole}
 use Rattle.frame_blocks.proofs.CountLaws.{alike_more, alike_told, if_alike, many, at_most_one, mul_one_most, next_start}
 use Rattle.frame_blocks.proofs.count.count_in_run.Goals as goal
 use Rattle.frame_blocks.proofs.count.count_in_run.Goals.{then-is_alike, else-is_alike}

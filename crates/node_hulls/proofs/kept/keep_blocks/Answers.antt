@@ -1,12 +1,13 @@
 use Rattle.std.proofs.Common.{◌+◌, ◌++◌, drop, ap, sym, ◌∙◌, append_assoc, arith}
-use Rattle.node_hulls.specs.Kept.{in_any, kept_from, kept_one, of_node}
+use Rattle.node_hulls.specs.Kept.{kept_from, kept_one, of_node}
+use Rattle.node_hulls.specs.Steps.{in_runs}
 use Rattle.node_hulls.proofs.KeptLaws.{kept_step, kept_space}
 use Rattle.node_hulls.proofs.kept.keep_blocks.Goals as goal
 
 pub loop-index-preserved : goal.loop-index-preserved
 loop-index-preserved c =
     let l = c.loop-index in
-    let memory = in_any c.args.memory.now in
+    let memory = in_runs c.args.memory.now.items in
     let domains = c.args.domains.now in
     let blocks = c.args.blocks.now in
     let b = c.index-blocks-index.result in

@@ -4,6 +4,7 @@ use Rattle.node_hulls.specs.Hulls.{Block}
 use Rattle.node_hulls.specs.Judgement.{frames_given, left_over}
 use Rattle.node_hulls.specs.Kept.{in_any}
 use Rattle.node_hulls.proofs.JudgedLaws.{Found, found_overlap, found_uncovered, found_used}
+use Rattle.node_hulls.proofs.NodesLaws.{joined_kept}
 use Rattle.node_hulls.proofs.reasons.judge_kept.Goals as goal
 
 pub returns-in-Some : goal.returns-in-Some
@@ -21,12 +22,13 @@ returns-then-uncovered-ge-UNCOVERED_FRAMES c =
     let found : Found memory kept joined rest c.count_frames-uncovered.result = record {
       apart = sym c.first_overlap.ensures ∙ c.in_default.is;
       kept_space = c.requires.space;
-      hulls = c.in_ok-joined.ensures;
+      hulls = joined_kept kept c.in_ok-laid.laid.items c.deref.result.now joined (sym c.first_overlap.ensures ∙ c.in_default.is)
+          c.requires.some c.in_ok-laid.ensures c.deref.ensures.value c.in_ok-joined.ensures;
       left = subst (λ (n : ℕ). IsRunsOf (left_over memory (value_at joined) n) rest) c.lowest_node.ensures
-          (subst (λ (js : List Block). IsRunsOf (left_over memory (value_at js) c.lowest_node.result) rest) c.deref.ensures.value
+          (subst (λ (js : List Block). IsRunsOf (left_over memory (value_at js) c.lowest_node.result) rest) c.deref-2.ensures.value
           c.in_ok-rest.ensures.runs);
       left_space = c.in_ok-rest.ensures.space;
-      counted = c.count_frames-uncovered.ensures ∙ ap (λ (rs : List Block). frames_given (value_at rs)) c.deref-2.ensures.value;
+      counted = c.count_frames-uncovered.ensures ∙ ap (λ (rs : List Block). frames_given (value_at rs)) c.deref-3.ensures.value;
     } in
     c.unused-then-uncovered-ge-UNCOVERED_FRAMES.ensures
     ∙ sym (found_uncovered memory kept joined rest c.count_frames-uncovered.result found c.args.domains.items
@@ -41,12 +43,18 @@ returns c =
     let found : Found memory kept joined rest c.count_frames-uncovered.result = record {
       apart = sym c.first_overlap.ensures ∙ c.in_default.is;
       kept_space = c.requires.space;
-      hulls = c.in_ok-joined.ensures;
+      hulls = joined_kept kept c.in_ok-laid.laid.items c.deref.result.now joined (sym c.first_overlap.ensures ∙ c.in_default.is)
+          c.requires.some c.in_ok-laid.ensures c.deref.ensures.value c.in_ok-joined.ensures;
       left = subst (λ (n : ℕ). IsRunsOf (left_over memory (value_at joined) n) rest) c.lowest_node.ensures
-          (subst (λ (js : List Block). IsRunsOf (left_over memory (value_at js) c.lowest_node.result) rest) c.deref.ensures.value
+          (subst (λ (js : List Block). IsRunsOf (left_over memory (value_at js) c.lowest_node.result) rest) c.deref-2.ensures.value
           c.in_ok-rest.ensures.runs);
       left_space = c.in_ok-rest.ensures.space;
-      counted = c.count_frames-uncovered.ensures ∙ ap (λ (rs : List Block). frames_given (value_at rs)) c.deref-2.ensures.value;
+      counted = c.count_frames-uncovered.ensures ∙ ap (λ (rs : List Block). frames_given (value_at rs)) c.deref-3.ensures.value;
     } in
     sym (found_used memory kept joined rest c.count_frames-uncovered.result found c.args.domains.items
     c.if-uncovered-ge-UNCOVERED_FRAMES.false)
+
+pub left_over_runs-requires-clause-joined : goal.left_over_runs-requires-clause-joined
+left_over_runs-requires-clause-joined c =
+    rw c.deref-2.ensures.value (joined_kept c.args.kept.now c.in_ok-laid.laid.items c.deref.result.now c.in_ok-joined.joined.items
+    (sym c.first_overlap.ensures ∙ c.in_default.is) c.requires.some c.in_ok-laid.ensures c.deref.ensures.value c.in_ok-joined.ensures).runs

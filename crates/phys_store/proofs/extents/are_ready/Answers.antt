@@ -26,10 +26,10 @@ returns-in-Some c =
     let ps = map stored c.args.extents.now in (
       λ yes x low below. let ends = leb-true _ _ yes in
           ready-at 0 ps c.in-Some.i (stored e) x c.requires h.count h.there
-          (omega (arith, h.low)) (omega (arith, h.low, h.inner, ends, c.end.ensures.value, c.len.ensures, e.bytes.ok.0)),
+          (omega (arith, h.low)) (omega (arith, h.low, h.inner, ends, c.end.ensures.value, c.size_of.ensures)),
       λ ready. let ends = whole 0 ps c.in-Some.i
           (stored e) c.args.range.base c.args.range.size c.requires h.count h.there h.low h.inner ready in
-          le-leb _ _ (omega (arith, h.low, ends, c.end.ensures.value, c.len.ensures, e.bytes.ok.0)),
+          le-leb _ _ (omega (arith, h.low, ends, c.end.ensures.value, c.size_of.ensures)),
     )
 
 pub returns-in-None : goal.returns-in-None

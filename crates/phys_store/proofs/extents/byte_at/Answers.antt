@@ -1,5 +1,5 @@
-use Rattle.std.proofs.Common.{◌-◌, ◌<◌, length, map, sym, ◌∙◌, arith}
-use Rattle.std.proofs.lemmas.List.{get_or_read}
+use Rattle.std.proofs.Common.{◌+◌, ◌-◌, ◌<◌, length, map, sym, ◌∙◌, arith}
+use Rattle.std.proofs.lemmas.List.{get_or_read, get_or-drop}
 use Rattle.phys_store.specs.Extents.{stored}
 use Rattle.phys_store.proofs.Lookup.{holds_one, byte-at, none-found, byte-unready}
 use Rattle.phys_store.proofs.extents.byte_at.Goals as goal
@@ -16,16 +16,24 @@ index-requires c =
     let e = c.index-extents-i.result in
     let h = holds_one c.args.extents.now c.args.address c.in-Some.i e c.requires
     (sym c.place_of.ensures ∙ c.in-Some.is) c.index-extents-i.is in
-    omega (arith, h.low, h.inner, e.bytes.ok.0)
+    omega (arith, h.low, h.inner, h.long, e.bytes.ok.0)
+
+pub overflow_add-extent : goal.overflow_add-extent
+overflow_add-extent c =
+    let e = c.index-extents-i.result in
+    let h = holds_one c.args.extents.now c.args.address c.in-Some.i e c.requires
+    (sym c.place_of.ensures ∙ c.in-Some.is) c.index-extents-i.is in
+    omega (arith, h.low, h.inner, h.long, e.bytes.ok.0)
 
 pub returns-in-Some : goal.returns-in-Some
 returns-in-Some c =
     let e = c.index-extents-i.result in
     let h = holds_one c.args.extents.now c.args.address c.in-Some.i e c.requires
     (sym c.place_of.ensures ∙ c.in-Some.is) c.index-extents-i.is in
-    let k = c.args.address - e.base in
-    let below : k < length e.bytes.items = omega (arith, h.low, h.inner) in
+    let k = e.front + (c.args.address - e.base) in
+    let below : k < length e.bytes.items = omega (arith, h.low, h.inner, h.long) in
     get_or_read e.bytes.items k c.index.result.now below c.index.ensures 0
+    ∙ sym (get_or-drop e.front e.bytes.items (c.args.address - e.base) 0)
     ∙ sym (byte-at 0 (map stored c.args.extents.now) c.in-Some.i (stored e) c.args.address c.requires h.count h.there h.low h.inner)
 
 pub returns-in-None : goal.returns-in-None

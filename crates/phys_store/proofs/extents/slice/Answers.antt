@@ -18,31 +18,38 @@ overflow_add-result c =
     let e = c.index-extents-i.result in
     let h = holds c.args.extents.now c.args.at c.args.count c.in-Some.i e c.requires.apart c.requires.prepared
     (sym c.place_of.ensures ∙ c.in-Some.is) c.index-extents-i.is in
-    omega (arith, h.low, h.high, h.small)
+    omega (arith, h.low, h.high, h.inner, h.long, e.bytes.ok.0)
+
+pub overflow_add-from : goal.overflow_add-from
+overflow_add-from c =
+    let e = c.index-extents-i.result in
+    let h = holds c.args.extents.now c.args.at c.args.count c.in-Some.i e c.requires.apart c.requires.prepared
+    (sym c.place_of.ensures ∙ c.in-Some.is) c.index-extents-i.is in
+    omega (arith, h.low, h.high, h.inner, h.long, e.bytes.ok.0)
 
 pub slice_bounds-result-end : goal.slice_bounds-result-end
 slice_bounds-result-end c =
     let e = c.index-extents-i.result in
     let h = holds c.args.extents.now c.args.at c.args.count c.in-Some.i e c.requires.apart c.requires.prepared
     (sym c.place_of.ensures ∙ c.in-Some.is) c.index-extents-i.is in
-    omega (arith, h.low, h.high, c.deref.ensures.len, e.bytes.ok.0)
+    omega (arith, h.low, h.high, h.inner, h.long, c.deref.ensures.len, e.bytes.ok.0)
 
 pub returns-in-Some : goal.returns-in-Some
 returns-in-Some c =
     let e = c.index-extents-i.result in
     let h = holds c.args.extents.now c.args.at c.args.count c.in-Some.i e c.requires.apart c.requires.prepared
     (sym c.place_of.ensures ∙ c.in-Some.is) c.index-extents-i.is in
-    let m = c.args.at - e.base in
-    let n = c.args.at - e.base + c.args.count - (c.args.at - e.base) in
+    let m = e.front + (c.args.at - e.base) in
+    let n = m + c.args.count - m in
     let ps = map stored c.args.extents.now in
     let xs = c.deref.result.now in
     let value : xs ≡ e.bytes.items = c.deref.ensures.value in
     let long : length xs ≡ length e.bytes.items = ap length value in
     told_bytes (byte_of ps) c.args.at c.args.count (take n (drop m xs))
-    (length-take n (drop m xs) ∙ omega (arith, length-drop m xs, long, h.low, h.high))
+    (length-take n (drop m xs) ∙ omega (arith, length-drop m xs, long, h.low, h.high, h.inner, h.long))
     (λ k below.
     get_or-take n (drop m xs) k 0 (omega arith) ∙ get_or-drop m xs k 0 ∙ ap (λ ys. get_or ys (m + k) 0) value
-    ∙ ap (λ j. get_or e.bytes.items j 0) (omega (arith, h.low))
+    ∙ ap (λ j. get_or e.bytes.items j 0) (omega (arith, h.low)) ∙ sym (get_or-drop e.front e.bytes.items (c.args.at + k - e.base) 0)
     ∙ sym (byte-at 0 ps c.in-Some.i (stored e) (c.args.at + k) c.requires.apart h.count h.there (omega (arith, h.low))
     (omega (arith, h.high))))
 

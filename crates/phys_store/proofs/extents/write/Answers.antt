@@ -19,7 +19,15 @@ overflow_add-from c =
     let e = get_or es c.in-Some.i c.index-extents-i.result in
     let h = holds es c.args.at (length c.args.bytes.now) c.in-Some.i e c.requires.apart c.requires.prepared
     (sym c.place_of.ensures ∙ c.in-Some.is) (ap (λ (d : Held). get_or es c.in-Some.i d) c.index-extents-i.is) in
-    omega (arith, h.low, h.high, h.small)
+    omega (arith, h.low, h.high, h.inner, h.long, e.bytes.ok.0)
+
+pub overflow_add-from-in-Some : goal.overflow_add-from-in-Some
+overflow_add-from-in-Some c =
+    let es = c.args.extents.now in
+    let e = get_or es c.in-Some.i c.index-extents-i.result in
+    let h = holds es c.args.at (length c.args.bytes.now) c.in-Some.i e c.requires.apart c.requires.prepared
+    (sym c.place_of.ensures ∙ c.in-Some.is) (ap (λ (d : Held). get_or es c.in-Some.i d) c.index-extents-i.is) in
+    omega (arith, h.low, h.high, h.inner, h.long, e.bytes.ok.0)
 
 pub slice_bounds-copy_from_slice-end : goal.slice_bounds-copy_from_slice-end
 slice_bounds-copy_from_slice-end c =
@@ -27,7 +35,7 @@ slice_bounds-copy_from_slice-end c =
     let e = get_or es c.in-Some.i c.index-extents-i.result in
     let h = holds es c.args.at (length c.args.bytes.now) c.in-Some.i e c.requires.apart c.requires.prepared
     (sym c.place_of.ensures ∙ c.in-Some.is) (ap (λ (d : Held). get_or es c.in-Some.i d) c.index-extents-i.is) in
-    omega (arith, h.low, h.high, c.deref_mut.ensures.len, e.bytes.ok.0)
+    omega (arith, h.low, h.high, h.inner, h.long, c.deref_mut.ensures.len, e.bytes.ok.0)
 
 pub returns-in-Some-clause-apart : goal.returns-in-Some-clause-apart
 returns-in-Some-clause-apart c =
@@ -35,8 +43,8 @@ returns-in-Some-clause-apart c =
     let e = get_or es c.in-Some.i c.index-extents-i.result in
     let h = holds es c.args.at (length c.args.bytes.now) c.in-Some.i e c.requires.apart c.requires.prepared
     (sym c.place_of.ensures ∙ c.in-Some.is) (ap (λ (d : Held). get_or es c.in-Some.i d) c.index-extents-i.is) in
-    let k = c.args.at - e.base in
-    let m = c.args.at - e.base + length c.args.bytes.now - (c.args.at - e.base) in
+    let k = e.front + (c.args.at - e.base) in
+    let m = k + length c.args.bytes.now - k in
     let both = wrote-mid es c.args.at (length c.args.bytes.now) c.in-Some.i e
     (λ j. get_or c.args.bytes.now j 0) k m c.deref_mut.result.now c.copy_from_slice.new.self
     c.requires.apart h refl (omega arith) c.deref_mut.ensures.value (ap length c.copy_from_slice.ensures.after)
@@ -49,8 +57,8 @@ returns-in-Some-clause-wrote c =
     let e = get_or es c.in-Some.i c.index-extents-i.result in
     let h = holds es c.args.at (length c.args.bytes.now) c.in-Some.i e c.requires.apart c.requires.prepared
     (sym c.place_of.ensures ∙ c.in-Some.is) (ap (λ (d : Held). get_or es c.in-Some.i d) c.index-extents-i.is) in
-    let k = c.args.at - e.base in
-    let m = c.args.at - e.base + length c.args.bytes.now - (c.args.at - e.base) in
+    let k = e.front + (c.args.at - e.base) in
+    let m = k + length c.args.bytes.now - k in
     let both = wrote-mid es c.args.at (length c.args.bytes.now) c.in-Some.i e
     (λ j. get_or c.args.bytes.now j 0) k m c.deref_mut.result.now c.copy_from_slice.new.self
     c.requires.apart h refl (omega arith) c.deref_mut.ensures.value (ap length c.copy_from_slice.ensures.after)

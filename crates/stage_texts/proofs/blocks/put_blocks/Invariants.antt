@@ -1,10 +1,9 @@
--- The text so far and the lines of the blocks that are left are those of all blocks.
+-- The text so far and the lines of the rows that are left are those of all blocks.
 use Rattle.std.proofs.Common.{◌≡◌, ◌++◌, drop}
-use Rattle.report_texts.specs.Lines.{lines_from}
-use Rattle.stage_texts.specs.BlocksText.{block_line}
+use Rattle.frame_blocks.specs.Rows.{blocks_of_rows}
+use Rattle.stage_texts.proofs.SheetLaws.{lines}
 use Rattle.stage_texts.proofs.blocks.put_blocks.Given as goal
 
-abbrev pub invariant-loop-block : goal.invariant-loop-block
-invariant-loop-block l =
-    l.text.items ++ lines_from block_line l.block-index (drop l.block-index l.block-items)
-    ≡ l.fn.text.items ++ lines_from block_line 0 l.block-items
+abbrev pub invariant-loop-row : goal.invariant-loop-row
+invariant-loop-row l =
+    l.text.items ++ lines (blocks_of_rows (drop l.row-index l.row-items)) ≡ l.fn.text.items ++ lines (blocks_of_rows l.row-items)

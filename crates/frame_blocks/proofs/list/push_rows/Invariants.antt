@@ -1,0 +1,18 @@
+use Rattle.std.proofs.Common.{◌≡◌, ◌≤◌, ◌-◌, ◌++◌}
+use Rattle.frame_blocks.specs.Frames.{Frames}
+use Rattle.frame_blocks.specs.Listed.{blocks_from}
+use Rattle.frame_blocks.specs.Rows.{blocks_of_rows}
+use Rattle.frame_blocks.specs.Sets.{IsRun, IsStart}
+use Rattle.frame_blocks.proofs.list.push_rows.Given as goal
+
+abbrev pub invariant-loop-at : goal.invariant-loop-at
+invariant-loop-at l = record {
+  above : l.first ≤ l.at;
+  below : l.at ≤ l.end;
+  start : IsStart l.first l.end l.at;
+  listed : (f : Frames) → IsRun f l.first l.end l.node
+      → blocks_of_rows l.rows.items ≡ blocks_of_rows l.fn.rows.items ++ blocks_from f l.first (l.at - l.first);
+}
+
+abbrev pub decreases-loop-at : goal.decreases-loop-at
+decreases-loop-at l = l.end - l.at

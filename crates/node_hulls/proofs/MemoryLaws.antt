@@ -1,0 +1,92 @@
+-- Memory as runs: the first run that ends behind a range's first address tells whether a byte of the range is memory.
+use Rattle.std.proofs.Common.{◌≡◌, ◌↔◌, ℕ, suc, ◌+◌, ◌<◌, ◌≤◌, Bool, true, false, not, max, if◌then◌else◌, Option, Some, None, List, ◌∷◌, map, length, get_or, drop, drop-cons, refl, sym, ◌∙◌, ap, subst, inl, inr, arith}
+use Rattle.std.proofs.lemmas.Bool.{cases_lt, true≢false}
+use Rattle.std.proofs.lemmas.Bool.Decides.{nat_tests}
+use Rattle.std.proofs.lemmas.List.{at_drop_all}
+use Rattle.std.specs.Option.{option_or}
+use Rattle.std.specs.Prelude.{is_some}
+use Rattle.bm_base.specs.Each.{each_in}
+use Rattle.bm_base.specs.Extent.{Extent, Meet}
+use Rattle.bm_base.proofs.EachLaws.{each_in-all, each_in-fails}
+use Rattle.address_runs.specs.Overlay.{all_overlaid}
+use Rattle.address_runs.specs.Runs.{RunOf, run_end, extent_of, value_at, IsRunsOf}
+use Rattle.address_runs.specs.Sweep.{IsRestFrom}
+use Rattle.address_runs.proofs.RunsLaws.{inside, none_below}
+use Rattle.node_hulls.specs.Kept.{in_any, has_memory}
+use Rattle.node_hulls.specs.Steps.{bare, in_runs}
+use Rattle.node_hulls.proofs.RestLaws.{bare_given}
+
+-- the runs of memory tell of each address whether it is memory
+pub told_memory : (memory : List Extent) (rs : List (RunOf Bool)) → IsRunsOf (all_overlaid option_or (map bare memory)) rs → (x : ℕ)
+    → in_runs rs x ≡ in_any memory x
+told_memory memory rs known x = ap (λ (o : Option Bool). is_some o) (known.each x ∙ bare_given memory x) ∙ by (in_any memory x) where
+  by : (m : Bool) → is_some (if m then Some false else None) ≡ m
+  by true = refl
+  by false = refl
+
+-- a range with a byte of memory, and one with none
+some_in : (rs : List (RunOf Bool)) (range : Extent) (x : ℕ) (v : Bool) → range.base ≤ x → x < range.base + range.size → value_at rs x ≡ Some v
+    → has_memory (in_runs rs) range ≡ true
+some_in rs range x v low high found =
+    let missed : each_in range (λ y. not (in_runs rs y)) ≡ false =
+    each_in-fails range (λ y. not (in_runs rs y)) x low high (rw found refl) in
+    rw missed refl
+
+none_in : (rs : List (RunOf Bool)) (range : Extent) → ((y : ℕ) → range.base ≤ y → y < range.base + range.size → value_at rs y ≡ None)
+    → has_memory (in_runs rs) range ≡ false
+none_in rs range none =
+    let all : each_in range (λ y. not (in_runs rs y)) ≡ true =
+    each_in-all range (λ y. not (in_runs rs y)) (λ y low high. rw (none y low high) refl) in
+    rw all refl
+
+-- no run is left
+pub nothing_left : (rs : List (RunOf Bool)) (i : ℕ) (range : Extent) → IsRestFrom (value_at rs) range.base (drop i rs) → length rs ≤ i
+    → has_memory (in_runs rs) range ≡ false
+nothing_left rs i range rest all =
+    none_in rs range (λ y low high. sym (rest.each y low) ∙ at_drop_all (λ (ss : List (RunOf Bool)). value_at ss y) rs i all)
+
+-- the first one that is left shares an address with the range, or not
+abbrev Left : List (RunOf Bool) → Extent → RunOf Bool → List (RunOf Bool) → Type 0
+Left rs range r ss = IsRestFrom (value_at rs) range.base (r ∷ ss)
+
+left_at : (rs : List (RunOf Bool)) (i : ℕ) (range : Extent) (r : RunOf Bool) → IsRestFrom (value_at rs) range.base (drop i rs) → i < length rs
+    → r ≡ get_or rs i r → Left rs range r (drop (suc i) rs)
+left_at rs i range r rest few is =
+    let left : drop i rs ≡ r ∷ drop (suc i) rs = rw (drop-cons rs i r few, ← is) refl in
+    subst (λ (ss : List (RunOf Bool)). IsRestFrom (value_at rs) range.base ss) left rest
+
+first_meets : (rs : List (RunOf Bool)) (i : ℕ) (range : Extent) (r : RunOf Bool) → IsRestFrom (value_at rs) range.base (drop i rs)
+    → i < length rs → r ≡ get_or rs i r → Meet (extent_of r) range → has_memory (in_runs rs) range ≡ true
+first_meets rs i range r rest few is met =
+    let left = left_at rs i range r rest few is in
+    let x : ℕ = met.0 in
+    let low : range.base ≤ x = grind (arith, nat_tests, met.1) in
+    let high : x < range.base + range.size = grind (arith, nat_tests, met.1) in
+    let above : r.base ≤ x = grind (arith, nat_tests, met.1) in
+    let under : x < r.base + r.size = grind (arith, nat_tests, met.1) in
+    some_in rs range x r.value low high (sym (left.each x low) ∙ rw (inside r x above under) refl)
+
+begins_above : (r : RunOf Bool) (range : Extent) (y : ℕ) → (Meet (extent_of r) range → ⊥) → range.base < run_end r → 0 < r.size
+    → range.base ≤ y → y < range.base + range.size → y < r.base
+begins_above r range y apart ends some low high = elim (cases_lt y r.base) as (λ _. y < r.base) [
+  | inl under ↦ under
+  | inr above ↦
+      let x : ℕ = max r.base range.base in
+      absurd (apart (x, grind (arith, nat_tests)))
+]
+
+first_misses : (rs : List (RunOf Bool)) (i : ℕ) (range : Extent) (r : RunOf Bool) → IsRestFrom (value_at rs) range.base (drop i rs)
+    → i < length rs → r ≡ get_or rs i r → (Meet (extent_of r) range → ⊥) → has_memory (in_runs rs) range ≡ false
+first_misses rs i range r rest few is apart =
+    let left = left_at rs i range r rest few is in
+    none_in rs range
+    (λ y low high.
+    sym (left.each y low)
+    ∙ none_below r.base y (r ∷ drop (suc i) rs) left.runs (omega arith)
+    (begins_above r range y apart left.ends left.runs.0 low high))
+
+pub first_tells : (rs : List (RunOf Bool)) (i : ℕ) (range : Extent) (r : RunOf Bool) → IsRestFrom (value_at rs) range.base (drop i rs)
+    → i < length rs → r ≡ get_or rs i r → (met : Bool) → (met ≡ true ↔ Meet (extent_of r) range) → met ≡ has_memory (in_runs rs) range
+first_tells rs i range r rest few is true tells = sym (first_meets rs i range r rest few is (tells.0 refl))
+first_tells rs i range r rest few is false tells =
+    sym (first_misses rs i range r rest few is (λ met. true≢false (sym (tells.1 met))))

@@ -1,0 +1,23 @@
+use Rattle.std.proofs.Common.{map, refl, sym, subst, ◌∙◌, arith}
+use Rattle.std.proofs.lemmas.Bool.{true≢false}
+use Rattle.address_runs.specs.Runs.{value_at}
+use Rattle.node_hulls.specs.declared.kept.KeptBlock.{KeptBlock}
+use Rattle.node_hulls.specs.Hulls.{Block}
+use Rattle.node_hulls.proofs.NodesLaws.{HasOwn, own_apart, laid_own}
+use Rattle.node_hulls.proofs.kept.are_apart.Goals as goal
+
+pub returns-then-not-holds : goal.returns-then-not-holds
+returns-then-not-holds c = (
+  λ yes. absurd (true≢false (sym yes)),
+  λ none.
+      let laid = c.args.laid.now.items in
+      let own = laid_own c.args.kept.now laid c.loop-one.one-index c.one-item.result c.requires none (omega arith) c.one-item.is in
+      let here = subst (λ (k : KeptBlock). HasOwn (value_at (map (λ (r : Block). r) laid)) k.block) (sym c.one.view_is) own in
+      absurd (true≢false (sym (c.holds.ensures.1 here) ∙ c.if-not-holds.true)),
+)
+
+pub returns : goal.returns
+returns c = (
+  λ yes. own_apart (value_at c.args.laid.now.items) c.args.kept.now (λ k d lt. c.loop-one.invariant k d (omega arith)),
+  λ none. refl,
+)

@@ -1,0 +1,54 @@
+//! Memory as runs. Its ranges come in any order; they are laid over one another once, and then a look-up tells whether a byte of
+//! a range is memory.
+
+ghost use Rattle.std.specs.Prelude.{◌≡◌, ℕ, ◌++◌, OnOk, IfOk, map};
+ghost use Rattle.address_runs.specs.Overlay.{HaveAddresses};
+ghost use Rattle.address_runs.specs.Runs.{AreRuns};
+ghost use Rattle.node_hulls.specs.Kept.{in_any, has_memory, HaveBytes};
+ghost use Rattle.node_hulls.specs.Steps.{bare, in_runs};
+
+use address_runs::{RunOf, overlay_all};
+use bm_base::{Memory, Range};
+use run_edits::seek;
+use std::alloc::Global;
+
+/// The runs of memory, ascending. The value says that they have no node so far.
+pub fn memory_runs(alloc: Global, memory: &[Range]) -> Result<Vec<RunOf<bool>>, Memory>
+    requires { HaveBytes memory.now }
+    ensures runs { IfOk result (λ runs. AreRuns runs.items) }
+    ensures bytes { IfOk result (λ runs. (x : ℕ) → in_runs runs.items x ≡ in_any memory.now x) }
+{
+    let mut told = Vec::new(alloc);
+    tell_memory(&mut told, memory)?;
+    overlay_all(alloc, &told)
+}
+
+/// Memory as it covers its addresses.
+pub fn tell_memory(told: &mut Vec<RunOf<bool>>, memory: &[Range]) -> Result<(), Memory>
+    ensures { OnOk result (told.new.items ≡ told.old.items ++ map bare memory.now) }
+{
+    for part in memory {
+        let range = Range {
+            base: part.base,
+            size: part.size,
+        };
+        told.push(RunOf {
+            range,
+            value: false,
+        })?;
+    }
+    Ok(())
+}
+
+/// Whether some byte of the range is memory. A look-up: the first run that ends behind the range's first address tells.
+pub fn has_memory(memory: &Vec<RunOf<bool>>, range: &Range) -> bool
+    requires { AreRuns memory.now.items }
+    ensures { result ≡ has_memory (in_runs memory.now.items) range.now }
+{
+    let first = seek(memory, range.base) as usize;
+    if first >= memory.len() {
+        return false;
+    }
+    let run = memory[first];
+    run.range.overlaps(range)
+}

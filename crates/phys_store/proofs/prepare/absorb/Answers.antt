@@ -1,0 +1,136 @@
+use Rattle.std.proofs.Common.{◌≡◌, ℕ, ◌+◌, ◌-◌, ◌<◌, ◌≤◌, ◌++◌, ◌∷◌, [], List, length, get_or, drop, map, subst, sym, ◌∙◌, ap, arith}
+use Rattle.std.proofs.lemmas.List.{length-map, length-drop, with_items_is}
+use borrow.Rule.Slice.PartMut.{put_mid}
+use Rattle.phys_store.specs.Bytes.{Stored, past, byte_of}
+use Rattle.phys_store.specs.Extents.{stored, nth}
+use Rattle.phys_store.proofs.ByteLists.{told_bytes}
+use Rattle.phys_store.proofs.Joining.{nth_piece}
+use Rattle.phys_store.proofs.Writes.{length-mid}
+use Rattle.phys_store.proofs.Widening.{absorbed, same_piece}
+use Rattle.phys_store.proofs.prepare.absorb.Goals as goal
+
+pub overflow_sub-from : goal.overflow_sub-from
+overflow_sub-from c =
+    let es = c.args.others.now in
+    let i = c.loop-i.i - 1 in
+    let d = c.index-others-i.result in
+    let w = c.args.extent.now in
+    let v = c.loop-i.invariant in
+    let count : i < length es = omega (arith, c.loop-i-test.true, v.most) in
+    let is = nth_piece es i d count c.index-others-i.is in
+    let low : w.base ≤ d.base = subst (λ (q : Stored). w.base ≤ q.base) is (c.requires.low i count) in
+    let high : past (stored d) ≤ past (stored w) = subst (λ (q : Stored). past q ≤ past (stored w)) is (c.requires.high i count) in
+    let long = length-drop w.front w.bytes.items in
+    omega (arith, low, v.base)
+
+pub overflow_add-from : goal.overflow_add-from
+overflow_add-from c =
+    let es = c.args.others.now in
+    let i = c.loop-i.i - 1 in
+    let d = c.index-others-i.result in
+    let w = c.args.extent.now in
+    let v = c.loop-i.invariant in
+    let count : i < length es = omega (arith, c.loop-i-test.true, v.most) in
+    let is = nth_piece es i d count c.index-others-i.is in
+    let low : w.base ≤ d.base = subst (λ (q : Stored). w.base ≤ q.base) is (c.requires.low i count) in
+    let high : past (stored d) ≤ past (stored w) = subst (λ (q : Stored). past q ≤ past (stored w)) is (c.requires.high i count) in
+    let long = length-drop w.front w.bytes.items in
+    omega (arith, low, high, v.base, v.front, long, c.requires.some, w.bytes.ok.0)
+
+pub overflow_add-from-in-loop-i : goal.overflow_add-from-in-loop-i
+overflow_add-from-in-loop-i c =
+    let es = c.args.others.now in
+    let i = c.loop-i.i - 1 in
+    let d = c.index-others-i.result in
+    let w = c.args.extent.now in
+    let v = c.loop-i.invariant in
+    let count : i < length es = omega (arith, c.loop-i-test.true, v.most) in
+    let is = nth_piece es i d count c.index-others-i.is in
+    let low : w.base ≤ d.base = subst (λ (q : Stored). w.base ≤ q.base) is (c.requires.low i count) in
+    let high : past (stored d) ≤ past (stored w) = subst (λ (q : Stored). past q ≤ past (stored w)) is (c.requires.high i count) in
+    let long = length-drop w.front w.bytes.items in
+    omega (arith, low, high, v.base, v.front, long, c.requires.some, w.bytes.ok.0, ap length c.bytes_of-bytes.ensures)
+
+pub slice_bounds-copy_from_slice-end : goal.slice_bounds-copy_from_slice-end
+slice_bounds-copy_from_slice-end c =
+    let es = c.args.others.now in
+    let i = c.loop-i.i - 1 in
+    let d = c.index-others-i.result in
+    let w = c.args.extent.now in
+    let v = c.loop-i.invariant in
+    let count : i < length es = omega (arith, c.loop-i-test.true, v.most) in
+    let is = nth_piece es i d count c.index-others-i.is in
+    let low : w.base ≤ d.base = subst (λ (q : Stored). w.base ≤ q.base) is (c.requires.low i count) in
+    let high : past (stored d) ≤ past (stored w) = subst (λ (q : Stored). past q ≤ past (stored w)) is (c.requires.high i count) in
+    let long = length-drop w.front w.bytes.items in
+    omega (
+      arith,
+      low,
+      high,
+      v.base,
+      v.front,
+      v.count,
+      long,
+      c.requires.some,
+      w.bytes.ok.0,
+      ap length c.bytes_of-bytes.ensures,
+      c.deref_mut.ensures.len,
+    )
+
+pub loop-i-preserved : goal.loop-i-preserved
+loop-i-preserved c =
+    let es = c.args.others.now in
+    let i = c.loop-i.i - 1 in
+    let d = c.index-others-i.result in
+    let w = c.args.extent.now in
+    let v = c.loop-i.invariant in
+    let count : i < length es = omega (arith, c.loop-i-test.true, v.most) in
+    let is = nth_piece es i d count c.index-others-i.is in
+    let low : w.base ≤ d.base = subst (λ (q : Stored). w.base ≤ q.base) is (c.requires.low i count) in
+    let high : past (stored d) ≤ past (stored w) = subst (λ (q : Stored). past q ≤ past (stored w)) is (c.requires.high i count) in
+    let long = length-drop w.front w.bytes.items in
+    let ps = map stored es in
+    let e = c.loop-i.extent in
+    let f : ℕ = e.front in
+    let k : ℕ = f + (d.base - e.base) in
+    let m : ℕ = k + length c.bytes_of-bytes.result.now - k in
+    let xs : List ℕ = c.deref_mut.result.now in
+    let ys : List ℕ = c.copy_from_slice.new.self in
+    let value : xs ≡ e.bytes.items = c.deref_mut.ensures.value in
+    let ys_is : ys ≡ (stored d).bytes = c.copy_from_slice.ensures.after ∙ c.bytes_of-bytes.ensures in
+    let size : m ≡ length (stored d).bytes = omega (arith, ap length c.bytes_of-bytes.ensures) in
+    let all : length xs ≡ f + (past (stored w) - w.base) =
+    omega (arith, ap length value, e.bytes.ok.0, w.bytes.ok.0, v.count, v.front, long, c.requires.some) in
+    let next : i + 1 ≡ c.loop-i.i = omega (arith, c.loop-i-test.true) in
+    let at : k ≡ f + ((nth ps i).base - w.base) =
+    ap (λ b. f + (d.base - b)) v.base ∙ ap (λ (q : Stored). f + (q.base - w.base)) (sym is) in
+    let put = length-mid k m xs ys (ap length ys_is ∙ sym size) (omega (arith, all, size, low, high, v.base)) in
+    record {
+      most = omega (arith, count);
+      base = v.base;
+      front = v.front;
+      count = v.count;
+      told = λ x least below.
+          ap (λ (zs : List ℕ). get_or (drop f zs) (x - w.base) 0) (with_items_is e.bytes (put_mid k m xs ys)
+          (put ∙ ap length value ∙ sym e.bytes.ok.0))
+          ∙ absorbed ps (stored w ∷ []) i w.base (past (stored w)) f k m xs ys (omega (arith, count, length-map es stored)) all
+          (c.requires.low i count) (c.requires.high i count) at (size ∙ ap (λ (q : Stored). length q.bytes) (sym is))
+          (ys_is ∙ ap (λ (q : Stored). q.bytes) (sym is))
+          (λ y from to. ap (λ (zs : List ℕ). get_or (drop f zs) (y - w.base) 0) value ∙ v.told y from to
+          ∙ ap (λ n. byte_of (drop n ps ++ stored w ∷ []) y) (sym next))
+          x least below;
+    }
+
+pub returns : goal.returns
+returns c =
+    let w = c.args.extent.now in
+    let e = c.loop-i.extent in
+    let v = c.loop-i.invariant in
+    let ps = map stored c.args.others.now in
+    let none : c.loop-i.i ≡ 0 = omega (arith, c.loop-i-test.false) in
+    same_piece e.base w.base (drop e.front e.bytes.items) _ v.base
+    (told_bytes (byte_of (ps ++ stored w ∷ [])) w.base (past (stored w) - w.base) (drop e.front e.bytes.items)
+    (length-drop e.front e.bytes.items ∙ omega (arith, v.front, v.count, e.bytes.ok.0, w.bytes.ok.0, length-drop w.front w.bytes.items))
+    (λ k below. ap (λ j. get_or (drop e.front e.bytes.items) j 0) (omega arith)
+    ∙ v.told (w.base + k) (omega arith) (omega (arith, below))
+    ∙ ap (λ n. byte_of (drop n ps ++ stored w ∷ []) (w.base + k)) none))

@@ -1,0 +1,115 @@
+#!/usr/bin/env python3
+"""allocations.py LIBRARY PROGRAM MOST: what allocations.sh does once the library is built that makes an allocation fail."""
+import os
+import subprocess
+import sys
+import tempfile
+from concurrent.futures import ThreadPoolExecutor
+
+sys.dont_write_bytecode = True
+
+from growth import HERE, LOW, MAIN, PC, high, reserves, soft
+from inputs import RAM, machine_files
+
+TOP = os.path.dirname(os.path.dirname(os.path.abspath(__file__)))
+EXAMPLES = os.path.join(TOP, "examples")
+WANTING = (7, b"", b"bootmem: out of memory\n")
+SILENT = (7, b"", b"")
+SECONDS = 60
+
+
+def example(name, words):
+    """The words over the files of an example, in its folder."""
+    return os.path.join(EXAMPLES, name), words.split(), {}
+
+
+def machine(entries, script, reports):
+    """The words and the files of a machine that is made here."""
+    words, files = machine_files(entries)
+    files["script"] = script.encode()
+    return None, ["--script", "script", "--report", reports, *words, "zp"], files
+
+
+CASES = [
+    ("map options", example("pc-1g-memmapmix", "--report map --cmdline cmdline zp.bin")),
+    ("an extension", example("zp-holes129", "--report map --cmdline cmdline --e820ext e820ext.bin zp.bin")),
+    ("a claim makes the other table grow", machine([LOW, MAIN] + soft(126) + high(127), "", "journal,tables")),
+    ("a place and then none", machine([(0x11000, 0x2000, RAM), MAIN] + soft(126) + high(127), "", "journal")),
+    ("a release makes the other table grow", machine([LOW, MAIN] + soft(124) + high(255), "", "journal,tables")),
+    ("that growth is refused", machine([(0x11000, 0x5000, RAM), MAIN] + soft(124) + high(255), "", "journal,tables")),
+    ("the script makes a table grow twice", machine(PC, reserves(1, 260, HERE) + "free 7\npeek 0x7fb0000 64\n", "script,tables")),
+    ("nodes, sections, blocks and a script", example(
+        "q35-8g-numa2", "--report map,options,nodes,memory,reserved,owners,journal,crash,sections,zones,script,tables,buddyinfo,blocks,"
+        "summary --script replay/script --cmdline cmdline --srat srat.bin --kernel 0x1000000,0x3400000 zp.bin")),
+]
+
+
+class Failing:
+    """Runs of a program in a folder where the allocation of a number fails."""
+
+    def __init__(self, library, program, folder, words):
+        self.library, self.program, self.folder, self.words = library, program, folder, words
+
+    def run(self, number):
+        """The status and both outputs where the allocation of that number fails; 0 is none."""
+        with tempfile.NamedTemporaryFile() as count:
+            surroundings = {**os.environ, "LD_PRELOAD": self.library, "FAIL_ALLOC": str(number), "FAIL_ALLOC_COUNT": count.name}
+            done = subprocess.run([self.program, *self.words], cwd=self.folder, env=surroundings, capture_output=True, timeout=SECONDS)
+            self.total = int(count.read() or 0) if number == 0 else self.total
+        return done.returncode, done.stdout, done.stderr
+
+
+def numbers(total, most):
+    """The numbers from 1 to the total, or so many of them, evenly spaced."""
+    if total <= most:
+        return range(1, total + 1)
+    return sorted({1 + place * total // most for place in range(most)} | {total})
+
+
+def told(end):
+    status, out, line = end
+    return f"status {status}, {len(out)} bytes, {line!r}"
+
+
+def differences(name, failing, most):
+    """How many of the runs were as they should be, and how many weren't."""
+    plain = failing.run(0)
+    if failing.total == 0 or plain[0] not in (0, 6):
+        print(f"{name}: {failing.total} allocations seen, {told(plain)}")
+        return 0, 1
+    tried = numbers(failing.total, most)
+    with ThreadPoolExecutor(os.cpu_count()) as pool:
+        ends = list(pool.map(failing.run, tried))
+    wanting = [number for number, end in zip(tried, ends) if end == WANTING]
+    first = min(wanting, default=failing.total + 1)
+    silent = [number for number, end in zip(tried, ends) if end == SILENT and number < first]
+    same = [number for number, end in zip(tried, ends) if end == plain]
+    right = {*wanting, *silent, *same}
+    for number, end in zip(tried, ends):
+        if number not in right:
+            print(f"{name}: allocation {number}: {told(end)}")
+    print(f"{name}: {failing.total} allocations, {len(tried)} tried: {len(wanting)} answers 7 with the line, the first {len(silent)} "
+          f"without, {len(same)} as where none fails")
+    return len(right), len(tried) - len(right)
+
+
+def main():
+    library, program, most = os.path.abspath(sys.argv[1]), os.path.abspath(sys.argv[2]), int(sys.argv[3])
+    if not os.access(program, os.X_OK):
+        print(f"allocations.sh: there is no program {program}: 'make bootmem' builds it", file=sys.stderr)
+        return 2
+    passed = failed = 0
+    for name, (folder, words, files) in CASES:
+        with tempfile.TemporaryDirectory() as made:
+            for file, held in files.items():
+                with open(os.path.join(made, file), "wb") as written:
+                    written.write(held)
+            right, wrong = differences(name, Failing(library, program, folder or made, words), most)
+        passed += right
+        failed += wrong
+    print(f"{passed} passed, {failed} failed")
+    return 1 if failed else 0
+
+
+if __name__ == "__main__":
+    sys.exit(main())

@@ -1,0 +1,30 @@
+"""Each input is read and judged before the next one is read: zero page, extension, command line, SRAT, script."""
+from inputs import MACHINE, extension, srat, zero_page
+
+PAGE = zero_page(MACHINE)
+GOOD = {"zp": PAGE, "ext": extension([]), "cmd": b"", "srat": srat(), "script": b""}
+BAD = {"zp": PAGE[:4095], "ext": b"", "cmd": b"mem=0", "srat": b"", "script": b"free"}
+LINES = {
+    "zp": "bootmem: zeropage: wrong length",
+    "ext": "bootmem: e820ext: header",
+    "cmd": "bootmem: cmdline: word 1: mem",
+    "srat": "bootmem: srat: short",
+    "script": "bootmem: script: line 1: form",
+}
+# in another order than the files are read
+WORDS = ["--script", "script", "--srat", "srat", "--cmdline", "cmd", "--e820ext", "ext", "zp"]
+ORDER = list(LINES)
+
+
+def cases():
+    """For each input: it and all behind it are wrong; it alone is missing, and all behind it are wrong; it is wrong, and all behind it
+    are missing."""
+    for place, name in enumerate(ORDER):
+        before = {each: GOOD[each] for each in ORDER[:place]}
+        behind = {each: BAD[each] for each in ORDER[place + 1:]}
+        yield f"wrong from {name} on", WORDS, {**before, name: BAD[name], **behind}, 5, LINES[name]
+        yield f"no {name}, and wrong behind it", WORDS, {**before, **behind}, 3, f"bootmem: cannot read {name}"
+        yield f"a wrong {name}, and none behind it", WORDS, {**before, name: BAD[name]}, 5, LINES[name]
+
+
+CASES = list(cases())

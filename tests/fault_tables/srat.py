@@ -1,0 +1,104 @@
+"""The SRAT: its faults, in their order: too long, short, signature, length, checksum, and then, entry by entry, the length
+of an entry and a range too far."""
+import struct
+
+from inputs import memory_of, sealed, srat
+
+INPUT = "srat"
+OPTION = "--srat"
+
+FAR_BASE, FAR_SIZE = 2**64 - 0x1000, 0x1000
+FAR = memory_of(0, FAR_BASE, FAR_SIZE)
+NEAR = memory_of(0, FAR_BASE, FAR_SIZE - 1)
+SHORTER = memory_of(0, 0, 0x1000, length=39)
+
+
+def other(length, stated=None):
+    """An entry of a type that isn't read."""
+    return bytes([9, length if stated is None else stated]) + bytes(length - 2)
+
+
+def unsealed(table):
+    """The table whose bytes sum to 1."""
+    return table[:9] + bytes([(table[9] + 1) % 256]) + table[10:]
+
+
+def signed(table, signature):
+    return sealed(signature + table[4:])
+
+
+EMPTY = srat()
+LONGEST = srat(*[other(254)] * 4128, other(16))
+
+REFUSED = [
+    # each alone
+    ("a byte too many", srat(*[other(254)] * 4128, other(17)), "too long"),
+    ("no byte", b"", "short"),
+    ("a header less a byte", srat(length=47)[:47], "short"),
+    ("another signature", signed(EMPTY, b"SLIT"), "signature"),
+    ("a signature in small letters", signed(EMPTY, b"srat"), "signature"),
+    ("a length of a byte less", srat(length=47), "length"),
+    ("a length of a byte more", srat(length=49), "length"),
+    ("a length whose low bytes are right", srat(length=0x10030), "length"),
+    ("bytes that sum to 1", unsealed(EMPTY), "checksum"),
+    ("one byte alone", srat(b"\x09"), "entry length at 48"),
+    ("one byte alone behind an entry", srat(other(2), b"\x09"), "entry length at 50"),
+    ("an entry of no length", srat(other(8, stated=0)), "entry length at 48"),
+    ("an entry of one byte", srat(other(8, stated=1)), "entry length at 48"),
+    ("an entry that ends a byte behind the table", srat(other(8, stated=9)), "entry length at 48"),
+    ("a second entry that ends behind the table", srat(other(8), other(8, stated=255)), "entry length at 56"),
+    ("a processor of 15 bytes", srat(b"\0\x0f" + bytes(13)), "entry length at 48"),
+    ("a processor of 17 bytes", srat(b"\0\x11" + bytes(15)), "entry length at 48"),
+    ("a processor of 24 bytes", srat(b"\0\x18" + bytes(22)), "entry length at 48"),
+    ("a range of 39 bytes", srat(SHORTER[:39]), "entry length at 48"),
+    ("a range of 41 bytes", srat(memory_of(0, 0, 0x1000, length=41) + b"\0"), "entry length at 48"),
+    ("a range of 41 bytes that isn't enabled", srat(memory_of(0, 0, 0, 0, length=41) + b"\0"), "entry length at 48"),
+    ("an x2APIC processor of 23 bytes", srat(b"\2\x17" + bytes(21)), "entry length at 48"),
+    ("an x2APIC processor of 25 bytes", srat(b"\2\x19" + bytes(23)), "entry length at 48"),
+    ("an x2APIC processor of 16 bytes", srat(b"\2\x10" + bytes(14)), "entry length at 48"),
+    ("a range that ends a byte too far", srat(FAR), "block too far at 48"),
+    ("a byte at the last address", srat(memory_of(0, 2**64 - 1, 1)), "block too far at 48"),
+    ("the greatest base and the greatest length", srat(memory_of(0, 2**64 - 1, 2**64 - 1)), "block too far at 48"),
+    ("a second range too far", srat(NEAR, FAR), "block too far at 88"),
+    ("a range too far whose other flags are set", srat(memory_of(0, FAR_BASE, FAR_SIZE, 0xFFFFFFFF)), "block too far at 48"),
+    # two at once
+    ("too long, and another signature", signed(LONGEST + b"\0", b"SLIT"), "too long"),
+    ("too long, and of another length", LONGEST + b"\0", "too long"),
+    ("47 bytes of another signature", signed(EMPTY, b"SLIT")[:47], "short"),
+    ("47 bytes that state another length", EMPTY[:47], "short"),
+    ("another signature and another length", signed(srat(length=47), b"SLIT"), "signature"),
+    ("another signature and another sum", unsealed(signed(EMPTY, b"SLIT")), "signature"),
+    ("another length and another sum", unsealed(srat(length=47)), "length"),
+    ("another length and a wrong entry", srat(other(8, stated=0), length=57), "length"),
+    ("another sum and a wrong entry", unsealed(srat(other(8, stated=0))), "checksum"),
+    ("another sum and a range too far", unsealed(srat(FAR)), "checksum"),
+    ("a wrong entry before a range too far", srat(other(8, stated=1), FAR), "entry length at 48"),
+    ("a range too far before a wrong entry", srat(FAR, other(8, stated=1)), "block too far at 48"),
+    ("a range too far before one byte alone", srat(FAR, b"\x09"), "block too far at 48"),
+    ("a range of 39 bytes too far", srat(memory_of(0, FAR_BASE, FAR_SIZE, length=39)), "entry length at 48"),
+    ("a range of 41 bytes too far", srat(memory_of(0, FAR_BASE, FAR_SIZE, length=41) + b"\0"), "entry length at 48"),
+    ("a range too far that the table cuts", srat(FAR[:39]), "entry length at 48"),
+    ("two wrong entries", srat(other(8), other(8, stated=0), other(8, stated=1)), "entry length at 56"),
+    ("two ranges too far", srat(NEAR, FAR, FAR), "block too far at 88"),
+]
+
+NO_BLOCKS = """\
+numa no blocks
+uncovered 0
+node 0 0x0000000000000000..0x0000000007fdffff
+"""
+APIC = b"\0\x10" + bytes(14)
+X2APIC = b"\2\x18" + struct.pack("<HIII", 0, 0, 0, 1) + bytes(8)
+
+ACCEPTED = [
+    ("no entry", EMPTY, "nodes", NO_BLOCKS),
+    ("no entry, of revision 255", srat(revision=255), "nodes", NO_BLOCKS),
+    ("as long as one can be", LONGEST, "nodes", NO_BLOCKS),
+    ("an entry of two bytes", srat(other(2)), "nodes", NO_BLOCKS),
+    ("an entry of 255 bytes", srat(other(255)), "nodes", NO_BLOCKS),
+    ("an entry of each kind", srat(APIC, NEAR, X2APIC), "nodes", NO_BLOCKS),
+    ("a range that ends as far as one can", srat(NEAR), "nodes", NO_BLOCKS),
+    ("a range of no length at the last address", srat(memory_of(0, 2**64 - 1, 0)), "nodes", NO_BLOCKS),
+    ("a range too far that isn't enabled", srat(memory_of(0, FAR_BASE, FAR_SIZE, 0)), "nodes", NO_BLOCKS),
+    ("a range too far with another flag", srat(memory_of(0, FAR_BASE, FAR_SIZE, 0xFFFFFFFE)), "nodes", NO_BLOCKS),
+]
