@@ -134,30 +134,35 @@ fn words_and_what_fails(rt: HostRuntime) -> Result<(), Fail> {
             "",
             "bootmem",
         ),
-        // the name at any place, and the end of the options
-        (["zp", "--report", "map"], [none, none, none], 0, MAP, ""),
-        (["--report=map", "--", "zp"], [none, none, none], 0, MAP, ""),
-        // a made input: no file is fetched for it, and a name beside it is refused
-        (
-            ["--make", "2", "--report=summary"],
-            [first, none, none],
-            0,
-            SUMMARY,
-            "",
-        ),
-        (
-            ["--make=2", "--report=summary", "zp"],
-            [none, none, none],
-            2,
-            "",
-            "bootmem: usage\n",
-        ),
     ];
     for (words, failing, status, text, line) in cases {
         let ended = run_on(rt.alloc(), &words, b"", failing)?;
         assert_eq!(rt; ended.status, status, "{line}");
         assert_eq!(rt; ended.out.written(), text.as_bytes(), "{line}");
         assert_eq!(rt; ended.err.written(), line.as_bytes(), "{line}");
+    }
+    Ok(())
+}
+
+// The name at any place, the end of the options, and a made input, for which no file is fetched.
+#[test]
+fn other_orders_and_made_inputs(rt: HostRuntime) -> Result<(), Fail> {
+    let cases = [
+        (["zp", "--report", "map"], 0, MAP, ""),
+        (["--report=map", "--", "zp"], 0, MAP, ""),
+        (["--make", "2", "--report=summary"], 0, SUMMARY, ""),
+        (
+            ["--make=2", "--report=summary", "zp"],
+            2,
+            "",
+            "bootmem: usage\n",
+        ),
+    ];
+    for (words, status, text, line) in cases {
+        let ended = run_on(rt.alloc(), &words, b"", [&[], &[], &[]])?;
+        assert_eq!(rt; ended.status, status, "{text}");
+        assert_eq!(rt; ended.out.written(), text.as_bytes(), "{text}");
+        assert_eq!(rt; ended.err.written(), line.as_bytes(), "{text}");
     }
     Ok(())
 }
