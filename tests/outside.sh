@@ -65,12 +65,36 @@ if [ -c /dev/full ]; then
 		failed=$((failed + 1))
 		echo "a full standard error: status $status, wanted 3"
 	fi
+	"$program" 2>/dev/full
+	status=$?
+	if [ "$status" -eq 2 ]; then
+		passed=$((passed + 1))
+	else
+		failed=$((failed + 1))
+		echo "no word, and a full standard error: status $status, wanted 2"
+	fi
 fi
 
-# an output that takes some hundred bytes and then no more: what was written is where the text begins
+# five files and two reports: each file in turn can't be read, and one that is malformed goes before one behind it that can't
 printf '\0\0\0\0\0\0\0\0\1\0\0\0\0\0\0\0' >ext
 { printf 'SRAT\060\0\0\0\1\225' && head -c 38 /dev/zero; } >srat
 : >empty
+head -c 15 ext >header
+# five STATUS LINE EXTENSION CMDLINE SRAT SCRIPT ZEROPAGE: what comes of files of these names
+five() {
+	expect "$1" "$2" "$work/out" --e820ext "$3" --cmdline "$4" --srat "$5" --script "$6" --report map,buddyinfo "$7"
+}
+five 3 'bootmem: cannot read missing' ext empty srat empty missing
+five 3 'bootmem: cannot read missing' missing empty srat empty "$zp"
+five 3 'bootmem: cannot read missing' ext missing srat empty "$zp"
+five 3 'bootmem: cannot read missing' ext empty missing empty "$zp"
+five 3 'bootmem: cannot read missing' ext empty srat missing "$zp"
+five 5 'bootmem: zeropage: wrong length' missing missing missing missing short
+five 5 'bootmem: e820ext: header' header missing missing missing "$zp"
+five 5 'bootmem: cmdline: word 1: mem' ext options missing missing "$zp"
+five 5 'bootmem: srat: short' ext empty options missing "$zp"
+
+# an output that takes some hundred bytes and then no more: what was written is where the text begins
 set -- --e820ext ext --cmdline empty --srat srat --script empty --report map,buddyinfo,blocks "$zp"
 "$program" "$@" >whole
 (trap '' XFSZ && ulimit -f 1 && exec "$program" "$@" >part 2>"$work/err")
