@@ -24,7 +24,7 @@ use Rattle.frame_blocks.proofs.RowLaws.{row_more}
 use Rattle.frame_blocks.proofs.LookLaws.{listed, listed_all, listed_more, listed_none}
 
 -- the test of a zone tells
-zone_self : (a : Zone) → same_zone a a ≡ true
+pub zone_self : (a : Zone) → same_zone a a ≡ true
 zone_self zone.Dma = refl
 zone_self zone.Dma32 = refl
 zone_self zone.Normal = refl
