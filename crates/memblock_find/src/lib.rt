@@ -18,6 +18,7 @@ mod cursor;
 mod down;
 mod free;
 mod laws;
+mod node;
 mod search;
 mod up;
 
