@@ -51,6 +51,16 @@ fn end_of(records: &Records<'_>, count: u64) -> u64
 }
 
 impl Cursor {
+    /// Whether the memory that the cursor's look tells of is of the node.
+    fn is_of(&self, node: u32) -> bool
+        ensures { result ≡ allows (Some node) self.now.memory.label }
+    {
+        match self.memory.label {
+            Some(label) => is_allowed(Some(node), label),
+            None => false,
+        }
+    }
+
     /// The cursor at the end of the next memory of the node, below all that the cursor's look at memory
     /// tells of, or at the lowest address where there is none.
     // A hint, as for `cursor_below`.
@@ -80,14 +90,11 @@ impl Cursor {
         ensures passed { NoneAllowed (value_at lists.now.memory) node result.at (max self.now.memory.bound self.now.reserved.bound) }
         ensures down { IsDownAt lists.now.memory lists.now.reserved result }
     {
-        let Some(wanted) = node else {
-            return self.down(lists);
-        };
-        if let Some(label) = self.memory.label {
-            if is_allowed(node, label) {
-                return self.down(lists);
+        if let Some(wanted) = node {
+            if !self.is_of(wanted) {
+                return self.down_to_node(lists, wanted);
             }
         }
-        self.down_to_node(lists, wanted)
+        self.down(lists)
     }
 }
