@@ -92,8 +92,8 @@ fn append_zeros(bytes: &mut Vec<u8>, count: usize) -> Result<(), Memory>
     Ok(())
 }
 
-/// The extent has room for `down` bytes in front. Where there was too little, there is room for as many bytes as it
-/// has, at least: so its bytes are moved for room again only once they are twice as many.
+/// The extent has room for `down` bytes in front. Where there was too little, there is room for seven eighths of the
+/// bytes that it has, at least: so they are moved for room again only once they are nearly twice as many.
 fn make_room(extent: &mut Held, down: usize) -> Result<(), Memory>
     requires { 0 < length (stored extent.old).bytes }
     ensures same { stored extent.new ≡ stored extent.old }
@@ -103,7 +103,7 @@ fn make_room(extent: &mut Held, down: usize) -> Result<(), Memory>
         return Ok(());
     }
     let end = extent.bytes.len();
-    let more = down.max(end - extent.front);
+    let more = down.max((end - extent.front) / 8 * 7);
     append_zeros(&mut extent.bytes, more)?;
     extent
         .bytes
