@@ -7,7 +7,7 @@ ghost use Rattle.bm_base.specs.Extent.{end_of, covers};
 ghost use Rattle.phys_store.specs.Bytes.{past, byte_of, is_ready};
 ghost use Rattle.phys_store.specs.Extents.{stored, nth, Apart, Joins, covering, as_one};
 
-use crate::extents::{Held, are_ready, size_of};
+use crate::extents::{Held, are_ready, end_of, first_reaching, size_of};
 use bm_base::{Memory, Range};
 use std::mem;
 
@@ -18,28 +18,6 @@ struct Reach {
     behind: usize,
     low: u64,
     high: u64,
-}
-
-/// The address behind the extent's last byte.
-fn end_of(extent: &Held) -> u64
-    requires { past (stored extent.now) < 2 ^ 64 }
-    ensures { result ≡ past (stored extent.now) }
-{
-    extent.base + size_of(extent)
-}
-
-/// The index of the first extent that ends at the address or behind it.
-fn first_reaching(extents: &[Held], address: u64) -> usize
-    requires { Apart 0 (map stored extents.now) }
-    ensures most { result ≤ length extents.now }
-    ensures below { (i : ℕ) → i < result → past (nth (map stored extents.now) i) < address }
-    ensures reaches { result < length extents.now → address ≤ past (nth (map stored extents.now) result) }
-{
-    let mut first = 0;
-    while first < extents.len() && end_of(&extents[first]) < address {
-        first += 1;
-    }
-    first
 }
 
 /// The range, and each extent that it meets or touches, as one.
@@ -114,8 +92,8 @@ fn append_zeros(bytes: &mut Vec<u8>, count: usize) -> Result<(), Memory>
     Ok(())
 }
 
-/// The extent has room for `down` bytes in front. Where there was too little, there is room for as many bytes as it
-/// has, at least: so its bytes are moved for room again only once they are twice as many.
+/// The extent has room for `down` bytes in front. Where there was too little, there is room for seven eighths of the
+/// bytes that it has, at least: so they are moved for room again only once they are nearly twice as many.
 fn make_room(extent: &mut Held, down: usize) -> Result<(), Memory>
     requires { 0 < length (stored extent.old).bytes }
     ensures same { stored extent.new ≡ stored extent.old }
@@ -125,7 +103,7 @@ fn make_room(extent: &mut Held, down: usize) -> Result<(), Memory>
         return Ok(());
     }
     let end = extent.bytes.len();
-    let more = down.max(end - extent.front);
+    let more = down.max((end - extent.front) / 8 * 7);
     append_zeros(&mut extent.bytes, more)?;
     extent
         .bytes
