@@ -1,5 +1,6 @@
-//! Memory of the node that a query asks for. A search for a node passes over all other memory a record at a
-//! time, and reads nothing of it but whose it is; the claims are looked at again where it goes on.
+//! Memory of the node that a query asks for. From unclaimed memory of another node a search for a node passes
+//! over all other memory a record at a time, and reads nothing of it but whose it is; the claims are looked at
+//! again where it goes on.
 ghost use Rattle.std.specs.Prelude.{◌≡◌, ℕ, ◌-◌, ◌<◌, ◌≤◌, false, max, Some, length};
 ghost use Rattle.address_runs.specs.Runs.{run_end, value_at};
 ghost use Rattle.memblock_model.specs.Search.{allows};
