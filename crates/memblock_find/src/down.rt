@@ -1,5 +1,6 @@
 //! The walk down: from an address to lower ones, as `__next_mem_range_rev` goes. Where it begins, a binary
-//! search finds the record of each table; from there on each record is looked at once in either table.
+//! search finds the record of each table; from there on each record is looked at once in either table, but for
+//! those that a search for a node passes over (`node.rt`).
 ghost use Rattle.std.specs.Prelude.{◌≡◌, ◌≢◌, ◌<◌, ◌≤◌, max, None};
 ghost use Rattle.address_runs.specs.Sweep.{Stays};
 ghost use Rattle.memblock_find.specs.Free.{free_in, IsDownTo};

@@ -1,6 +1,6 @@
 //! The search from the top down (`memblock_find_in_range_node`, `__memblock_find_range_top_down`): unclaimed
 //! memory is walked from the window's end down, a stretch of one label at a time, and the first stretch in
-//! which a place lies has the greatest one.
+//! which a place lies has the greatest one. A search for a node passes over memory of other nodes (`node.rt`).
 ghost use Rattle.std.specs.Prelude.{◌≡◌, ◌≢◌, ℕ, ◌^◌, ◌≤◌, MatchOption, Option, Some, None};
 ghost use Rattle.address_runs.specs.Runs.{value_at};
 ghost use Rattle.address_runs.specs.Sweep.{Stays};
