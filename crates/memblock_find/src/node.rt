@@ -1,6 +1,5 @@
-//! Memory of the node that a query asks for. From unclaimed memory of another node a search for a node passes
-//! over all other memory a record at a time, and reads nothing of it but whose it is; the claims are looked at
-//! again where it goes on.
+//! Memory of the node that a query asks for. A search for a node passes over all other memory a record at a
+//! time, and reads nothing of it but whose it is; the claims are looked at again where it goes on.
 ghost use Rattle.std.specs.Prelude.{◌≡◌, ℕ, ◌-◌, ◌<◌, ◌≤◌, false, max, Some, length};
 ghost use Rattle.address_runs.specs.Runs.{run_end, value_at};
 ghost use Rattle.memblock_model.specs.Search.{allows};
@@ -52,6 +51,16 @@ fn end_of(records: &Records<'_>, count: u64) -> u64
 }
 
 impl Cursor {
+    /// Whether the memory that the cursor's look tells of is of the node.
+    fn is_of(&self, node: u32) -> bool
+        ensures { result ≡ allows (Some node) self.now.memory.label }
+    {
+        match self.memory.label {
+            Some(label) => is_allowed(Some(node), label),
+            None => false,
+        }
+    }
+
     /// The cursor at the end of the next memory of the node, below all that the cursor's look at memory
     /// tells of, or at the lowest address where there is none.
     // A hint, as for `cursor_below`.
@@ -71,8 +80,8 @@ impl Cursor {
         }
     }
 
-    /// The cursor further down: at its bottom, or, where the cursor is in unclaimed memory of another node than
-    /// the one asked, below all memory of other nodes.
+    /// The cursor further down: at its bottom, or below that where a query for the node may be answered with
+    /// no memory in between.
     // A hint, as for `cursor_below`.
     #[inline]
     pub fn down_for(&self, lists: &Lists<'_>, node: Option<u32>) -> Cursor
@@ -81,11 +90,11 @@ impl Cursor {
         ensures passed { NoneAllowed (value_at lists.now.memory) node result.at (max self.now.memory.bound self.now.reserved.bound) }
         ensures down { IsDownAt lists.now.memory lists.now.reserved result }
     {
-        match (self.label(), node) {
-            (Some(label), Some(wanted)) if !is_allowed(node, label) => {
-                self.down_to_node(lists, wanted)
+        if let Some(wanted) = node {
+            if !self.is_of(wanted) {
+                return self.down_to_node(lists, wanted);
             }
-            _ => self.down(lists),
         }
+        self.down(lists)
     }
 }
