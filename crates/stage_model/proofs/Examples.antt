@@ -1,5 +1,7 @@
 -- Worked examples: steps that answer, stop and go on; an allocation without a place; calls that were cut short.
 use Rattle.std.proofs.Common.{◌≡◌, ℕ, ◌+◌, None, Some, List, [], ◌∷◌, Ok, Err, refl, inl, inr, arith}
+use Rattle.std.proofs.lemmas.Option.{same_Some}
+use Rattle.memblock_model.specs.Labels.{Label}
 use Rattle.memblock_model.specs.declared.which.Which.TheVariants as which
 use Rattle.memblock_model.specs.declared.owner.Owner.TheVariants as owner
 use Rattle.memblock_model.specs.declared.item.Item.{Item}
@@ -11,6 +13,7 @@ use Rattle.stage_model.specs.declared.stop.What.TheVariants as what
 use Rattle.stage_model.specs.declared.stop.StageStop.{StageStop}
 use Rattle.stage_model.specs.declared.stop.StageStop.TheVariants as stop
 use Rattle.stage_model.specs.Doing.{Done, Doing, appended, after, returns, stops, seen, ◌>>=◌, in_turn, IsCut, EndsAs, ok_as}
+use Rattle.stage_model.specs.Noded.{IsNoded}
 use Rattle.stage_model.specs.Requests.{changes, claimed_at, or_stop, or_else, refusal_of}
 
 -- a step that writes a limit and answers it
@@ -66,3 +69,20 @@ cut_behind_one = record { count = 1; within = omega arith; stands = refl }
 
 ends_cut : EndsAs {A = ℕ} stop.Memory (Err stop.Memory) [] (item.Limit 5 ∷ []) ((limited 0 5 >>= λ a. limited a 7) [])
 ends_cut = inr (refl, record { count = 1; within = omega arith; stands = refl })
+
+-- which no other error may do
+other_error_cut : EndsAs {A = ℕ} stop.Memory (Err (stop.NoPlace what.Roots)) [] (item.Limit 5 ∷ [])
+    ((limited 0 5 >>= λ a. limited a 7) []) → ⊥
+other_error_cut (inl told) = let wrong = told.0 in cc wrong
+other_error_cut (inr cut) = let wrong = cut.0 in cc wrong
+
+-- no memory is of node 1,024
+abbrev of_node_1024 : Label
+of_node_1024 = record { node = Some 1024 }
+
+too_great_a_node : (limit : ℕ) → IsNoded limit (λ x. Some of_node_1024) → ⊥
+too_great_a_node limit noded =
+    let known = noded.nodes 0 of_node_1024 refl in
+    let is : 1024 ≡ known.0 = same_Some 1024 known.0 known.1 in
+    let low = known.2 in
+    absurd (omega (arith, is, low))
