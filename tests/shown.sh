@@ -1,13 +1,16 @@
 #!/bin/sh
 # shown.sh [PROGRAM [FILE..]]: runs the commands that the documents show, and compares what they print with what is shown, byte
-# for byte. The documents are README.md and the manual pages, or the files that are named.
+# for byte. The documents are README.md, the manual pages and some of docs/ and examples/, or the files that are named.
 #
 # A command stands behind '$ ' in an indented block of a .md file, or between .nf and .fi of a manual page; what follows
 # it, up to the next one, is its output and its standard error as they come. A here-document belongs to its command, and so
-# does the line behind one that ends with a backslash. A block whose first line has no '$ ' is not run. Each block begins at the
-# top of a copy of the repository's examples and tools, with the program as ./bootmem and on the PATH; files that an earlier
-# block of the same document made are still there.
-# Prints a line for each difference, and 'N passed, M failed' at its end.
+# does the line behind one that ends with a backslash. Each block begins at the top of a copy of the repository's examples and
+# tools, with the program as ./bootmem and on the PATH; files that an earlier block of the same document made are still there.
+# A block whose first line has no '$ ' shows no command and isn't run: `plain` names each that may be so, another one fails.
+#
+# What a command needs of the machine is stood in for by `stand_in`, and none of it is read from the machine that runs the test.
+# Folders of the test's own are told as a user would see them: the copy as /home/me/bootmem, the stand-ins without their front.
+# Prints a line for each difference, and 'N passed, M failed; K blocks show no command' at its end.
 set -u
 unset CDPATH
 top=$(cd "$(dirname "$0")/.." && pwd)
@@ -17,11 +20,57 @@ program=$(cd "$(dirname "${1:-$top/bootmem}")" && pwd)/$(basename "${1:-$top/boo
 	echo "shown.sh: there is no program $program: 'make bootmem' builds it" >&2
 	exit 2
 }
-[ $# -gt 0 ] || set -- "$top/README.md" "$top/bootmem.1" "$top/bootmem.5" "$top/docs/TOOLS.md"
+[ $# -gt 0 ] || set -- "$top/README.md" "$top/bootmem.1" "$top/bootmem.5" "$top/docs/TOOLS.md" "$top/examples/README.md"
 work=$(mktemp -d) || exit 1
 trap 'rm -rf "$work"' EXIT
+machine=$work/machine
 passed=0
 failed=0
+without=0
+# a make that runs the test isn't the one that a command calls
+unset MAKEFLAGS MFLAGS MAKELEVEL
+
+# script FILE LINE..: the lines as a script that can be run
+script() {
+	file=$1
+	shift
+	printf '%s\n' '#!/bin/sh' "$@" >"$file" && chmod 755 "$file"
+}
+
+# stand_in COPY: a machine, that of examples/q35-8g-numa2, for the commands that look at the one they run on. The tool that
+# gathers reads /sys and /proc/cmdline of it, under both of its names; dmesg and uname -r answer for it; and an image of its
+# memory, with the place of the zero page in a System.map, lies in the copy.
+stand_in() {
+	given=$top/examples/q35-8g-numa2
+	mkdir -p "$machine/sys/kernel/boot_params" "$machine/sys/firmware/acpi/tables" "$machine/proc" "$machine/bin" "$machine/tools" &&
+		cp "$given/zp.bin" "$machine/sys/kernel/boot_params/data" &&
+		cp "$given/srat.bin" "$machine/sys/firmware/acpi/tables/SRAT" &&
+		cp "$given/cmdline" "$machine/proc/cmdline" || return 1
+	for tool in "$1/tools/collect.sh" "$machine/bin/bootmem-collect"; do
+		real=$machine/tools/$(basename "$tool")
+		cp "$top/tools/collect.sh" "$real" &&
+			script "$tool" "exec '$real' --sys '$machine/sys' --cmdline '$machine/proc/cmdline' \"\$@\"" || return 1
+	done
+	# the kernel's lines for the map and the initrd, whose address and size are the u32 at 0x218 and 0x21C
+	sed 's/^\(0x[0-9a-f]*\)\.\.\(0x[0-9a-f]*\) [0-9]* \(.*\)/BIOS-e820: [mem \1-\2] \3/' "$given/map.txt" >"$machine/log" &&
+		od -An -tu4 -j 536 -N 8 "$given/zp.bin" | {
+			read -r address size && printf 'RAMDISK: [mem 0x%x-0x%x]\n' "$address" $((address + size - 1))
+		} >>"$machine/log" &&
+		script "$machine/bin/dmesg" "cat '$machine/log'" &&
+		script "$machine/bin/uname" "if [ \"\$*\" = -r ]; then echo 6.1.192; else command -p uname \"\$@\"; fi" || return 1
+	echo 'ffffffff82c47020 B boot_params' >"$1/System.map" &&
+		dd if="$given/zp.bin" of="$1/memory" bs=32 seek=$((0x2c47020 / 32)) 2>"$machine/dd"
+}
+
+# plain LINE: a block that begins with this line shows no command: the words of the program, or what a tool printed on a
+# machine that isn't here
+plain() {
+	case $1 in
+	'bootmem [--report LIST] '*) ;;
+	'bootmem --cmdline cmdline --kernel 0x1000000,0x2c58000 zp.bin') ;;
+	*) return 1 ;;
+	esac
+}
 
 # blocks FILE: the lines of its blocks as a reader sees them, each block behind a line of one byte 1
 blocks() {
@@ -33,7 +82,7 @@ blocks() {
 }
 
 # split FOLDER: of the blocks on standard input, one script each, N.sh, and what its commands print, N-C.want; the command
-# itself, for what is told of it, is N-C.command
+# itself, for what is told of it, is N-C.command. The first lines of blocks without a command are in `plain`.
 split() {
 	awk -v folder="$1" '
 		function begin() { command++; want = folder "/" block "-" command ".want"; printf "" >want
@@ -42,7 +91,7 @@ split() {
 			more = $0 ~ /\\$/; if (behind == "" && !more) end() }
 		function end() { print "} >\"$shown/" block "-" command ".got\" 2>&1 </dev/null" >script; behind = ""; more = 0 }
 		$0 == "\001" { first = 1; on = 0; next }
-		first { first = 0; on = /^\$ /; if (on) { block++; command = 0; script = folder "/" block ".sh" } }
+		first { first = 0; on = /^\$ /; if (on) { block++; command = 0; script = folder "/" block ".sh" } else print >(folder "/plain") }
 		!on { next }
 		behind != "" { print >script; if ($0 == behind) end(); next }
 		more { print >script; if ($0 !~ /\\$/) end(); next }
@@ -50,31 +99,57 @@ split() {
 		{ print >want }'
 }
 
+# run_block FOLDER COPY BLOCK: runs the block's script, and tells what it printed as a user would see it
+run_block() {
+	(cd "$2" && PATH="$machine/bin:$2:$2/tools:$PATH" LC_ALL=C exec sh "$1/$3.sh") >"$1/said" 2>&1
+	[ ! -s "$1/said" ] || echo "$name: block $3: $(cat "$1/said")"
+	for got in "$1/$3"-*.got; do
+		sed -e "s|$machine/|/|g" -e "s|$2|/home/me/bootmem|g" "$got" >"$1/seen" && mv "$1/seen" "$got"
+	done
+}
+
+# compare FOLDER BLOCK: what each command of the block printed, and what is shown
+compare() {
+	command=1
+	while [ -f "$1/$2-$command.want" ]; do
+		if cmp -s "$1/$2-$command.want" "$1/$2-$command.got"; then
+			passed=$((passed + 1))
+		else
+			failed=$((failed + 1))
+			echo "$name: $(cat "$1/$2-$command.command"):"
+			diff "$1/$2-$command.want" "$1/$2-$command.got" | head -n 10
+		fi
+		command=$((command + 1))
+	done
+}
+
+number=0
 for document; do
-	name=$(basename "$document")
-	shown=$work/shown-$name
-	copy=$work/copy-$name
+	number=$((number + 1))
+	name=${document#"$top/"}
+	shown=$work/shown-$number
+	copy=$work/copy-$number
 	export shown
 	mkdir "$shown" "$copy" || exit 1
-	cp -r "$top/examples" "$top/tools" "$copy" && cp "$program" "$copy/bootmem" || exit 1
+	# without crates none is newer than the program, so 'make run' runs it as it is
+	mkdir "$copy/crates" && cp -r "$top/examples" "$top/tools" "$top/Makefile" "$top/crates.txt" "$copy" &&
+		cp "$program" "$copy/bootmem" && stand_in "$copy" || exit 1
+	: >"$shown/plain"
 	blocks "$document" | split "$shown"
 	block=1
 	while [ -f "$shown/$block.sh" ]; do
-		(cd "$copy" && PATH="$copy:$copy/tools:$PATH" LC_ALL=C exec sh "$shown/$block.sh") >"$shown/said" 2>&1
-		[ ! -s "$shown/said" ] || echo "$name: block $block: $(cat "$shown/said")"
-		command=1
-		while [ -f "$shown/$block-$command.want" ]; do
-			if cmp -s "$shown/$block-$command.want" "$shown/$block-$command.got"; then
-				passed=$((passed + 1))
-			else
-				failed=$((failed + 1))
-				echo "$name: $(cat "$shown/$block-$command.command"):"
-				diff "$shown/$block-$command.want" "$shown/$block-$command.got" | head -n 10
-			fi
-			command=$((command + 1))
-		done
+		run_block "$shown" "$copy" "$block"
+		compare "$shown" "$block"
 		block=$((block + 1))
 	done
+	while IFS= read -r line; do
+		if plain "$line"; then
+			without=$((without + 1))
+		else
+			failed=$((failed + 1))
+			echo "$name: a block without '\$ ' isn't run: $line"
+		fi
+	done <"$shown/plain"
 done
-echo "$passed passed, $failed failed"
+echo "$passed passed, $failed failed; $without blocks show no command"
 [ "$failed" -eq 0 ] && [ "$passed" -gt 0 ]

@@ -86,6 +86,43 @@ def test_help(_):
         check(f"{name} --unknown", (status, out, err == ""), (2, "", False))
 
 
+def shown_examples(name):
+    """The commands under `example:` or `examples:` of a tool's --help."""
+    match = re.search(r"^examples?:\n((?:  .+\n)+)", tool(name, "--help")[1], re.MULTILINE)
+    return [line.strip() for line in match.group(1).splitlines()] if match else []
+
+
+def test_examples(work):
+    """The commands that --help shows run where the files that they name are those of a machine, and complain of nothing."""
+    commands = os.path.join(work, "bin")
+    os.makedirs(commands)
+    os.symlink(PROGRAM, os.path.join(commands, "bootmem"))
+    write(os.path.join(work, "log"), log_of("q35-8g-numa2").encode())
+    write(os.path.join(commands, "dmesg"), f"#!/bin/sh\ncat '{work}/log'\n".encode())
+    os.chmod(os.path.join(commands, "dmesg"), 0o755)
+    names = ("bootmem-draw", "bootmem-where", "bootmem-diff", "zp-from-log")
+    for name in names:
+        os.symlink(os.path.join(TOP, "tools", name), os.path.join(commands, name))
+    ran = 0
+    for name in names:
+        folder = os.path.join(work, name)
+        shutil.copytree(example("q35-8g-numa2"), folder)
+        for file, source in (("old.txt", example("q35-8g-numa2", "map.txt")), ("new.txt", example("q35-4g-mem2g", "map.txt")),
+                             ("1", example("q35-8g-numa2", "cmdline")), ("2", example("q35-4g-mem2g", "cmdline"))):
+            shutil.copy(source, os.path.join(folder, file))
+        write(os.path.join(folder, "reports.txt"),
+              program(folder, "--report", "map,memory,owners,journal,tables,nodes,zones,sections,blocks", "zp.bin").encode())
+        for command in shown_examples(name):
+            ran += 1
+            done = subprocess.run(["sh", "-c", command], stdin=subprocess.DEVNULL, stdout=subprocess.PIPE, stderr=subprocess.PIPE,
+                                  cwd=folder, env={**os.environ, "BOOTMEM": "", "PATH": commands + os.pathsep + os.environ["PATH"]},
+                                  check=False)
+            wanted = 1 if name == "bootmem-diff" else 0
+            check(f"example: {command}", (done.returncode, done.stderr.decode()), (wanted, ""))
+            check(f"example: {command}: it prints or writes", bool(done.stdout) != ("--output" in command), True)
+    check("examples of --help", ran, 9)
+
+
 WHERE = """address  0x000000017be00040 (5.9 GiB), frame 1555968
 map      usable 0x0000000100000000-0x000000027fffffff
 memory   0x0000000100000000-0x000000017fffffff
@@ -504,9 +541,9 @@ def test_installed(work):
     check("installed: bootmem-collect", (status, err, last_line(out)[:8]), (0, "", "3 agree,"))
 
 
-TESTS = {"help": test_help, "where": test_where, "diff": test_diff, "draw": test_draw, "trips": test_round_trips,
-         "logs": test_logs, "refused": test_refused, "live": test_live, "hidden": test_hidden, "hull": test_hull,
-         "installed": test_installed}
+TESTS = {"help": test_help, "examples": test_examples, "where": test_where, "diff": test_diff, "draw": test_draw,
+         "trips": test_round_trips, "logs": test_logs, "refused": test_refused, "live": test_live, "hidden": test_hidden,
+         "hull": test_hull, "installed": test_installed}
 
 
 def main():

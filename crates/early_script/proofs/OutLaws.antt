@@ -19,7 +19,8 @@ use Rattle.early_script.proofs.StageLaws.{after_lines-append, reaches-line}
 
 -- amid the next line
 pub out-amid : (start : Stage) (lines : List Line) (i : ℕ) (line : Line) (ids later : Ids) (m next : Contents)
-    (answers told : List Answer) → take (i + 1) lines ≡ take i lines ++ line ∷ [] → Reaches (after_lines start (take i lines)) ids m answers →
+    (answers told : List Answer) → take (i + 1) lines ≡ take i lines ++ line ∷ [] →
+    Reaches (after_lines start (take i lines)) ids m answers →
     IsAmid (state_of ids m) (state_of later next) (deed (state_of ids m) (bytes_in m) line.act) →
     ((fills : List Filled) → Holds m.kernel m.journal.items fills (bytes_in m) →
     Holds next.kernel next.journal.items fills (bytes_in next)) → told ≡ answers →

@@ -1,13 +1,16 @@
 -- A line claims and frees, and nothing else: memory and the limit stay.
-use Rattle.std.proofs.Common.{◌≡◌, ℕ, ◌+◌, ◌-◌, Bool, true, false, nat_le, nat_lt, if◌then◌else◌, Option, Some, None, take, length, Result, Ok, Err, ◌∙◌, ap}
+use Rattle.std.proofs.Common.{◌≡◌, ℕ, ◌+◌, ◌-◌, Bool, true, false, nat_le, nat_lt, if◌then◌else◌, Option, Some, None, List, take, length, Result, Ok, Err, ◌∙◌, ap}
 use Rattle.bm_base.specs.declared.memory.Memory.{Memory}
 use Rattle.bm_base.specs.Extent.{Extent}
 use Rattle.memblock_model.specs.declared.owner.Owner.TheVariants as owner
+use Rattle.memblock_model.specs.declared.item.Item.{Item}
 use Rattle.memblock_model.specs.Items.{owner_of, memory_of, limit_of}
 use Rattle.script_reader.specs.declared.act.Act.{Act}
 use Rattle.script_reader.specs.declared.act.Act.TheVariants as acts
 use Rattle.growth_model.specs.declared.request.Request.{Request}
+use Rattle.growth_model.specs.Carried.{AreQuiet}
 use Rattle.growth_model.specs.Growth.{claimed}
+use Rattle.growth_model.specs.Outcome.{Outcome as Steps, after}
 use Rattle.growth_model.specs.Request.{place_for}
 use Rattle.growth_model.proofs.MemoryItemLaws.{quiet-take}
 use Rattle.growth_model.proofs.QuietLaws.{IsQuiet, claimed-quiet, freed-quiet, quiet-memory, quiet-limit}
@@ -70,22 +73,22 @@ deed-quiet s bytes (acts.Fill id byte) =
 deed-quiet s bytes (acts.Peek at len) = record { change = record { each = λ items. tt } }
 deed-quiet s bytes acts.Sections = answers-quiet s outcomes.Done
 
+-- what a row of quiet steps leaves as it is, an act leaves as it is, however it ends
+pub acts-keep : {X : Type 0} (f : List Item → X) →
+    ((items : List Item) (o : Steps) → AreQuiet o.steps → f (after items o) ≡ f items) →
+    (r : Result Outcome Memory) (old new : State) (d : Deed) → IsQuietDeed d → Acts r old new d → f new.items ≡ f old.items
+acts-keep f keeps (Ok answer) old new d quiet acts =
+    ap (λ (s : State). f s.items) acts.1 ∙ keeps old.items (d.change old.items) (quiet.change.each old.items)
+acts-keep f keeps (Err memory) old new d quiet acts =
+    let steps = take acts.0.count (d.change old.items).steps in
+    ap f acts.0.stands
+    ∙ keeps old.items (record { steps = steps; refused = None })
+    (quiet-take acts.0.count (d.change old.items).steps (quiet.change.each old.items))
+
 pub acts-memory : (r : Result Outcome Memory) (old new : State) (d : Deed) → IsQuietDeed d → Acts r old new d →
     memory_of new.items ≡ memory_of old.items
-acts-memory (Ok answer) old new d quiet acts =
-    ap (λ (s : State). memory_of s.items) acts.1 ∙ quiet-memory old.items (d.change old.items) (quiet.change.each old.items)
-acts-memory (Err memory) old new d quiet acts =
-    let steps = take acts.0.count (d.change old.items).steps in
-    ap memory_of acts.0.stands
-    ∙ quiet-memory old.items (record { steps = steps; refused = None })
-    (quiet-take acts.0.count (d.change old.items).steps (quiet.change.each old.items))
+acts-memory = acts-keep memory_of quiet-memory
 
 pub acts-limit : (r : Result Outcome Memory) (old new : State) (d : Deed) → IsQuietDeed d → Acts r old new d →
     limit_of new.items ≡ limit_of old.items
-acts-limit (Ok answer) old new d quiet acts =
-    ap (λ (s : State). limit_of s.items) acts.1 ∙ quiet-limit old.items (d.change old.items) (quiet.change.each old.items)
-acts-limit (Err memory) old new d quiet acts =
-    let steps = take acts.0.count (d.change old.items).steps in
-    ap limit_of acts.0.stands
-    ∙ quiet-limit old.items (record { steps = steps; refused = None })
-    (quiet-take acts.0.count (d.change old.items).steps (quiet.change.each old.items))
+acts-limit = acts-keep limit_of quiet-limit

@@ -24,7 +24,7 @@ use Rattle.frame_blocks.proofs.RowLaws.{row_more}
 use Rattle.frame_blocks.proofs.LookLaws.{listed, listed_all, listed_more, listed_none}
 
 -- the test of a zone tells
-zone_self : (a : Zone) → same_zone a a ≡ true
+pub zone_self : (a : Zone) → same_zone a a ≡ true
 zone_self zone.Dma = refl
 zone_self zone.Dma32 = refl
 zone_self zone.Normal = refl
@@ -71,7 +71,8 @@ pub alike_more : (f : Frames) (first end n o s at k order : ℕ) (wanted : Zone)
     ≡ count_by (is_of n wanted order) (blocks_from f first (at - first)) + k * if_alike o (zone_of at) order wanted
 alike_more f first end n o s at k order wanted run above some room small size whole fits greatest single zones =
     let p : Block → Bool = is_of n wanted order in
-    ap (λ (bs : List Block). count_by p bs) (row_more f first end n o s at k run above some room small size whole fits greatest single zones)
+    ap (λ (bs : List Block). count_by p bs)
+    (row_more f first end n o s at k run above some room small size whole fits greatest single zones)
     ∙ sum_by-append (λ (c : Block). cond (p c) 1 0) (blocks_from f first (at - first)) (row_from o at n (zone_of at) k)
     ∙ ap (λ a. count_by p (blocks_from f first (at - first)) + a) (row_count k n o at order (zone_of at) wanted)
 

@@ -7,7 +7,7 @@ use Rattle.memblock_model.specs.Labels.{Label, Labels}
 use Rattle.memblock_find.specs.declared.cursor.Look.{Look}
 use Rattle.memblock_find.specs.declared.cursor.Cursor.{Cursor}
 use Rattle.memblock_find.specs.Free.{unclaimed, IsDownTo}
-use Rattle.memblock_find.specs.Walk.{run_at, BegunBelow, IsLookDown, IsDownAt, label_at}
+use Rattle.memblock_find.specs.Walk.{run_at, BegunAmong, BegunBelow, IsLookDown, IsDownAt, label_at}
 use Rattle.memblock_find.proofs.SlotLaws.{ends_before, ends_ascend, bases_ascend, size_at, value_in, none_beside, other_under}
 
 -- with no record below the address nothing is there
@@ -131,17 +131,26 @@ stretch_down ms rs c from label known from_is label_is some =
       another = λ x next same. ends x next (same ∙ label_is);
     }
 
--- the records of a table that is searched for those that begin below an address
-pub all_begun : (rs : List (RunOf Label)) (at count : ℕ) → AreRuns rs → count ≡ length rs → (0 < count → (run_at rs (count - 1)).base < at)
-    → BegunBelow at rs count
-all_begun rs at count runs all last = record {
+-- no more records begin below an address than there are
+pub among_all : (rs : List (RunOf Label)) (at count : ℕ) → AreRuns rs → count ≡ length rs → BegunAmong at rs count
+among_all rs at count runs all = record {
   runs = runs;
   within = omega arith;
+  behind = λ i from less. absurd (omega arith);
+}
+
+-- the records of a table that is searched for those that begin below an address: all that may, where the last of them does
+pub all_begun : (rs : List (RunOf Label)) (at count : ℕ) → BegunAmong at rs count → (0 < count → (run_at rs (count - 1)).base < at)
+    → BegunBelow at rs count
+all_begun rs at count among last = record {
+  runs = among.runs;
+  within = among.within;
   before = λ i less.
-      let bases = bases_ascend i (count - 1) rs runs (omega arith) (omega arith) in
+      let within = among.within in
+      let bases = bases_ascend i (count - 1) rs among.runs (omega arith) (omega arith) in
       let top = last (omega arith) in
       omega arith;
-  behind = λ i from less. absurd (omega arith);
+  behind = among.behind;
 }
 
 pub begun_so_far : (rs : List (RunOf Label)) (at middle : ℕ) → AreRuns rs → middle < length rs → (run_at rs middle).base < at

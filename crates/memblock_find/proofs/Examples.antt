@@ -1,19 +1,20 @@
 -- Two small tables, computed or by the laws: what is unclaimed, the runs and stretches of it, places, and positions in a table.
-use Rattle.std.proofs.Common.{◌≡◌, ℕ, zero, suc, ◌+◌, ◌-◌, ◌^◌, ◌<◌, ◌≤◌, true, is_some, Option, Some, None, unwrap_or, List, [], ◌∷◌, refl, sym, ◌∙◌, ap, inl, inr, arith}
+use Rattle.std.proofs.Common.{◌≡◌, ℕ, zero, suc, ◌+◌, ◌-◌, ◌^◌, ◌<◌, ◌≤◌, true, false, is_some, Option, Some, None, unwrap_or, List, [], ◌∷◌, refl, sym, ◌∙◌, ap, inl, inr, arith}
 use Rattle.std.proofs.lemmas.Bool.{cases_lt, true≢false}
 use Rattle.std.proofs.lemmas.Bool.Decides.{nat_tests}
 use Rattle.address_runs.specs.Runs.{RunOf, value_at, AreRuns}
 use Rattle.memblock_model.specs.Labels.{Label, Labels, plain_label}
 use Rattle.memblock_model.specs.declared.query.Query.{Query}
-use Rattle.memblock_model.specs.Search.{fits_in}
+use Rattle.memblock_model.specs.Search.{allows, fits_in}
 use Rattle.memblock_model.proofs.SearchLaws.{fits_in-parts, fits_in-whole}
 use Rattle.memblock_ranges.specs.Tables.{Contents}
 use Rattle.memblock_find.specs.declared.cursor.Look.{Look}
 use Rattle.memblock_find.specs.declared.cursor.Cursor.{Cursor}
 use Rattle.memblock_find.specs.Free.{unclaimed, free_in, Pass, free_of, IsDownTo, IsUpTo, IsRunBelow, IsRunFrom}
-use Rattle.memblock_find.specs.Places.{IsBetween, NoPlaceEnds, IsBestBy}
-use Rattle.memblock_find.specs.Walk.{run_at, BegunBelow, EndedBy, IsLookDown, IsLookUp, label_at, IsDownAt, IsUpAt}
-use Rattle.memblock_find.proofs.DownLaws.{look_gap, look_in, all_begun}
+use Rattle.memblock_find.specs.Places.{IsBetween, NoPlaceEnds, NoneAllowed, IsBestBy}
+use Rattle.memblock_find.specs.Walk.{run_at, BegunAmong, BegunBelow, EndedBy, IsLookDown, IsLookUp, label_at, IsDownAt, IsUpAt}
+use Rattle.memblock_find.proofs.DownLaws.{look_gap, look_in, among_all, all_begun}
+use Rattle.memblock_find.proofs.NodeLaws.{not_of_node}
 use Rattle.memblock_find.proofs.UpLaws.{look_top, look_over}
 
 -- 0x1000 to 0x1FFF of node 0 and 0x2000 to 0x2FFF of node 1, of which 0x1800 to 0x18FF are claimed
@@ -182,7 +183,7 @@ claims_in_order = (omega arith, tt, tt)
 
 -- both records of memory begin below 0x2800, and one below 0x2000
 begun_both : BegunBelow 0x2800 memory_runs 2
-begun_both = all_begun memory_runs 0x2800 2 memory_in_order refl (λ some. omega arith)
+begun_both = all_begun memory_runs 0x2800 2 (among_all memory_runs 0x2800 2 memory_in_order refl) (λ some. omega arith)
 
 first_base : (i : ℕ) → i < 1 → (run_at memory_runs i).base < 0x2000
 first_base zero less = omega arith
@@ -198,6 +199,16 @@ begun_one = record { runs = memory_in_order; within = omega arith; before = firs
 
 not_both_begun : BegunBelow 0x2000 memory_runs 2 → ⊥
 not_both_begun known = let base = known.before 1 (omega arith) in omega arith
+
+-- no more than both begin below 0x2000, and no more than one; one isn't all that begin below 0x2800
+among_both : BegunAmong 0x2000 memory_runs 2
+among_both = among_all memory_runs 0x2000 2 memory_in_order refl
+
+among_one : BegunAmong 0x2000 memory_runs 1
+among_one = record { runs = memory_in_order; within = omega arith; behind = second_base }
+
+not_among_one : BegunAmong 0x2800 memory_runs 1 → ⊥
+not_among_one known = let base = known.behind 1 (omega arith) (omega arith) in omega arith
 
 -- one record of memory ends by 0x2800, and the claim
 first_end : (i : ℕ) → i < 1 → (run_at memory_runs i).base + (run_at memory_runs i).size ≤ 0x2800
@@ -222,6 +233,22 @@ ended_claim = record { runs = claims_in_order; within = omega arith; before = cl
 not_ended : EndedBy 0x2800 memory_runs 2 → ⊥
 not_ended known = let end = known.before 1 (omega arith) in omega arith
 
+-- from 0x2000 on there is no memory of node 0, but there is of node 1, and of any
+second_alone : (i x : ℕ) → i < 2 → 0x2000 ≤ x → x < (run_at memory_runs i).base + (run_at memory_runs i).size
+    → allows (Some 0) (Some (run_at memory_runs i).value) ≡ false
+second_alone zero x less above under = absurd (omega arith)
+second_alone (suc zero) x less above under = refl
+second_alone (suc (suc i)) x less above under = absurd (omega arith)
+
+none_of_node_0 : NoneAllowed (value_at memory_runs) (Some 0) 0x2000 0x4000
+none_of_node_0 x above under = not_of_node 0 x memory_runs (λ i less base ends. second_alone i x less above ends)
+
+some_of_node_1 : NoneAllowed (value_at memory_runs) (Some 1) 0x2000 0x4000 → ⊥
+some_of_node_1 none = true≢false (none 0x2000 (omega arith) (omega arith))
+
+some_of_any : NoneAllowed (value_at memory_runs) None 0x3000 0x4000 → ⊥
+some_of_any none = true≢false (none 0x3000 (omega arith) (omega arith))
+
 -- a walk down at 0x2800: memory of node 1 down to 0x2000, no claim down to 0x1900
 abbrev memory_below : Look
 memory_below = record { label = Some (of_node 1); bound = 0x2000; slot = 1 }
@@ -233,7 +260,8 @@ look_down_in : IsLookDown memory_runs 0x2800 memory_below
 look_down_in = look_in memory_runs 2 0x2800 (omega arith) begun_both (omega arith)
 
 look_down_gap : IsLookDown claims 0x2800 no_claim_below
-look_down_gap = look_gap claims 1 0x2800 (omega arith) (all_begun claims 0x2800 1 claims_in_order refl (λ some. omega arith)) (omega arith)
+look_down_gap = look_gap claims 1 0x2800 (omega arith)
+    (all_begun claims 0x2800 1 (among_all claims 0x2800 1 claims_in_order refl) (λ some. omega arith)) (omega arith)
 
 abbrev down_here : Cursor
 down_here = record { at = 0x2800; memory = memory_below; reserved = no_claim_below }

@@ -12,6 +12,12 @@ use Rattle.memblock_find.specs.declared.cursor.Cursor.{Cursor}
 abbrev pub run_at : List (RunOf Label) → ℕ → RunOf Label
 run_at rs i = get_or rs i (record { base = 0; size = 0; value = plain_label })
 
+-- of the list, which is in order, no more than so many records begin below the address
+pub record BegunAmong (at : ℕ) (rs : List (RunOf Label)) (count : ℕ) : Type 0 where
+  pub runs : AreRuns rs
+  pub within : count ≤ length rs
+  pub behind : (i : ℕ) → count ≤ i → i < length rs → at ≤ (run_at rs i).base
+
 -- so many records of the list, which is in order, begin below the address
 pub record BegunBelow (at : ℕ) (rs : List (RunOf Label)) (count : ℕ) : Type 0 where
   pub runs : AreRuns rs

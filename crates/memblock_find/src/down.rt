@@ -1,9 +1,10 @@
 //! The walk down: from an address to lower ones, as `__next_mem_range_rev` goes. Where it begins, a binary
-//! search finds the record of each table; from there on each record is looked at once in either table.
+//! search finds the record of each table; from there on each record is looked at once in either table, but for
+//! those that a search for a node passes over (`node.rt`).
 ghost use Rattle.std.specs.Prelude.{◌≡◌, ◌≢◌, ◌<◌, ◌≤◌, max, None};
 ghost use Rattle.address_runs.specs.Sweep.{Stays};
 ghost use Rattle.memblock_find.specs.Free.{free_in, IsDownTo};
-ghost use Rattle.memblock_find.specs.Walk.{BegunBelow, IsLookDown, IsDownAt};
+ghost use Rattle.memblock_find.specs.Walk.{BegunAmong, BegunBelow, IsLookDown, IsDownAt};
 
 use crate::cursor::{Cursor, Lists, Look};
 use memblock_ranges::{Records, label_of};
@@ -12,7 +13,14 @@ use memblock_ranges::{Records, label_of};
 fn begun_below(records: &Records<'_>, at: u64) -> u64
     ensures { BegunBelow at records.now result }
 {
-    let count = records.count();
+    begun_of(records, records.count(), at)
+}
+
+/// How many records begin below the address, where that is some of the first `count`.
+fn begun_of(records: &Records<'_>, count: u64, at: u64) -> u64
+    requires { BegunAmong at records.now count }
+    ensures { BegunBelow at records.now result }
+{
     if count == 0 || records.get(count - 1).base < at {
         return count;
     }
@@ -30,7 +38,7 @@ fn begun_below(records: &Records<'_>, at: u64) -> u64
 }
 
 /// What the records say of the addresses below `at`, where so many of them begin below it.
-fn look_down(records: &Records<'_>, slot: u64, at: u64) -> Look
+pub fn look_down(records: &Records<'_>, slot: u64, at: u64) -> Look
     requires { BegunBelow at records.now slot }
     ensures { IsLookDown records.now at result }
 {
@@ -70,6 +78,20 @@ fn look_on(records: &Records<'_>, look: Look, from: u64, at: u64) -> Look
     } else {
         look
     }
+}
+
+/// The look of a walk that goes on at `at`, whatever lies in between. The records that it passes aren't read:
+/// where they are several, a binary search finds the first one below.
+pub fn look_past(records: &Records<'_>, look: Look, from: u64, at: u64) -> Look
+    requires look { IsLookDown records.now from look }
+    requires below { at ≤ from }
+    ensures { IsLookDown records.now at result }
+{
+    if look.bound < at {
+        return look;
+    }
+    let slot = begun_of(records, look.slot, at);
+    look_down(records, slot, at)
 }
 
 /// The cursor of a walk down that begins at the address.

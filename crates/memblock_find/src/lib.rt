@@ -11,13 +11,15 @@
 //!
 //! Nothing here takes memory or changes a table. A walk reads the records where they lie, those that it passes
 //! and no others, so a search costs what lies between the window's end and the place that it finds, and two
-//! binary searches.
+//! binary searches. A search for a node reads of other nodes' memory only whose it is, and goes on where memory
+//! of the node ends, with a binary search for the claims there where it has passed several.
 #![tactic(auto)]
 
 mod cursor;
 mod down;
 mod free;
 mod laws;
+mod node;
 mod search;
 mod up;
 

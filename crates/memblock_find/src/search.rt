@@ -1,16 +1,17 @@
 //! The search from the top down (`memblock_find_in_range_node`, `__memblock_find_range_top_down`): unclaimed
 //! memory is walked from the window's end down, a stretch of one label at a time, and the first stretch in
-//! which a place lies has the greatest one.
+//! which a place lies has the greatest one. A search for a node passes over memory of other nodes (`node.rt`).
 ghost use Rattle.std.specs.Prelude.{◌≡◌, ◌≢◌, ℕ, ◌^◌, ◌≤◌, MatchOption, Option, Some, None};
 ghost use Rattle.address_runs.specs.Runs.{value_at};
 ghost use Rattle.address_runs.specs.Sweep.{Stays};
 ghost use Rattle.memblock_model.specs.Labels.{Label as AnyLabel, Labels};
-ghost use Rattle.memblock_model.specs.Search.{allows, best_in};
+ghost use Rattle.memblock_model.specs.Search.{best_in};
 ghost use Rattle.memblock_find.specs.Free.{unclaimed, IsDownTo};
 ghost use Rattle.memblock_find.specs.Places.{IsBetween, NoPlaceEnds, IsBestBy};
 
 use crate::cursor::{Lists, lists_of};
 use crate::down::cursor_below;
+use crate::node::is_allowed;
 use bm_base::FRAME_SIZE;
 use memblock_model::{Label, Query};
 use memblock_ranges::Tables;
@@ -40,7 +41,7 @@ fn find_in(lists: &Lists<'_>, query: &Query) -> Option<u64>
         if place.is_some() {
             return place;
         }
-        cursor = cursor.down(lists);
+        cursor = cursor.down_for(lists, query.node);
     }
     None
 }
@@ -63,16 +64,6 @@ fn place_in_run(query: &Query, label: Option<Label>, from: u64, until: u64) -> O
     }
     let low = from.max(query.lo).max(FRAME_SIZE);
     last_between(low, until, query.size, query.align)
-}
-
-/// Whether a query for the node, or for any, may be answered with memory of the label.
-fn is_allowed(node: Option<u32>, label: Label) -> bool
-    ensures { result ≡ allows node (Some label) }
-{
-    match node {
-        None => true,
-        Some(_) => label.node == node,
-    }
 }
 
 /// The greatest multiple of the alignment at which so many bytes lie between the two addresses.

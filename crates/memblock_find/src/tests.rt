@@ -182,6 +182,46 @@ fn a_node_border(rt: HostRuntime) -> Result<(), Fail> {
     Ok(())
 }
 
+// node 0       0x100000 .. 0x200000       0x400000 .. 0x4F0000, 0x4F8000 .. 0x500000
+// node 1       0x200000 .. 0x300000       0x500000 .. 0x580000, 0x581000 .. 0x600000       0x802000 .. 0x900000
+// node 2                                                 0x600000 .. 0x6FF000
+// no node                                                              0x701000 .. 0x800000
+#[test]
+fn nodes_in_turn(rt: HostRuntime) -> Result<(), Fail> {
+    let memory = [
+        (0x100000, 0x100000, 0),
+        (0x200000, 0x100000, 1),
+        (0x400000, 0x100000, 0),
+        (0x500000, 0x100000, 1),
+        (0x600000, 0x100000, 2),
+        (0x700000, 0x100000, 1024),
+        (0x800000, 0x100000, 1),
+    ];
+    let reserved = [
+        (0x4F0000, 0x8000),
+        (0x580000, 0x1000),
+        (0x6FF000, 0x2000),
+        (0x800000, 0x2000),
+    ];
+    let tables = tables_of(rt.alloc(), &memory, &reserved)?.ok_or("no room")?;
+    let searches = [
+        (0x1000, Some(0), Answer::At(0x4FF000)),
+        (0x9000, Some(0), Answer::At(0x4E7000)),
+        (0x100000, Some(0), Answer::At(0x100000)),
+        (0x100001, Some(0), Answer::Nothing),
+        (0xFE000, Some(1), Answer::At(0x802000)),
+        (0xFF000, Some(1), Answer::At(0x201000)),
+        (0x1000, Some(2), Answer::At(0x6FE000)),
+        (0xFF001, Some(2), Answer::Nothing),
+        (0x1000, Some(3), Answer::Nothing),
+        (0xFF000, None, Answer::At(0x701000)),
+    ];
+    for (size, node, answer) in searches {
+        assert_eq!(rt; search(&tables, 0, u64::MAX, size, 12, node), answer);
+    }
+    Ok(())
+}
+
 // The first frame is never answered, and a window may end at the last address.
 #[test]
 fn the_first_frame(rt: HostRuntime) -> Result<(), Fail> {

@@ -25,8 +25,8 @@ told_memory memory rs known x = ap (λ (o : Option Bool). is_some o) (known.each
   by false = refl
 
 -- a range with a byte of memory, and one with none
-some_in : (rs : List (RunOf Bool)) (range : Extent) (x : ℕ) (v : Bool) → range.base ≤ x → x < range.base + range.size → value_at rs x ≡ Some v
-    → has_memory (in_runs rs) range ≡ true
+some_in : (rs : List (RunOf Bool)) (range : Extent) (x : ℕ) (v : Bool) → range.base ≤ x → x < range.base + range.size
+    → value_at rs x ≡ Some v → has_memory (in_runs rs) range ≡ true
 some_in rs range x v low high found =
     let missed : each_in range (λ y. not (in_runs rs y)) ≡ false =
     each_in-fails range (λ y. not (in_runs rs y)) x low high (rw found refl) in
@@ -49,8 +49,8 @@ nothing_left rs i range rest all =
 abbrev Left : List (RunOf Bool) → Extent → RunOf Bool → List (RunOf Bool) → Type 0
 Left rs range r ss = IsRestFrom (value_at rs) range.base (r ∷ ss)
 
-left_at : (rs : List (RunOf Bool)) (i : ℕ) (range : Extent) (r : RunOf Bool) → IsRestFrom (value_at rs) range.base (drop i rs) → i < length rs
-    → r ≡ get_or rs i r → Left rs range r (drop (suc i) rs)
+left_at : (rs : List (RunOf Bool)) (i : ℕ) (range : Extent) (r : RunOf Bool) → IsRestFrom (value_at rs) range.base (drop i rs)
+    → i < length rs → r ≡ get_or rs i r → Left rs range r (drop (suc i) rs)
 left_at rs i range r rest few is =
     let left : drop i rs ≡ r ∷ drop (suc i) rs = rw (drop-cons rs i r few, ← is) refl in
     subst (λ (ss : List (RunOf Bool)). IsRestFrom (value_at rs) range.base ss) left rest

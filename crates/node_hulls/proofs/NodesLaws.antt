@@ -392,8 +392,8 @@ pub laid_own : (ks : List KeptBlock) (laid : List Block) (i : ℕ) (k : KeptBloc
 laid_own ks laid i k known none lt is x above under =
     rw (map-id laid) (known.each x ∙ apart_own ks i k none lt is x above under)
 
-pub own_more : (f : ℕ → Option ℕ) (ks : List KeptBlock) (i : ℕ) (one : KeptBlock) → i < length ks → one ≡ get_or ks i one → HasOwn f one.block
-    → ((k : ℕ) (d : KeptBlock) → k < i → HasOwn f (get_or ks k d).block)
+pub own_more : (f : ℕ → Option ℕ) (ks : List KeptBlock) (i : ℕ) (one : KeptBlock) → i < length ks → one ≡ get_or ks i one
+    → HasOwn f one.block → ((k : ℕ) (d : KeptBlock) → k < i → HasOwn f (get_or ks k d).block)
     → (k : ℕ) (d : KeptBlock) → k < i + 1 → HasOwn f (get_or ks k d).block
 own_more f ks i one lt is own before k d under = elim (cases_lt k i) as (λ _. HasOwn f (get_or ks k d).block) [
   | inl earlier ↦ before k d earlier

@@ -2,8 +2,9 @@
 use Rattle.std.proofs.Common.{◌≡◌, ℕ, zero, suc, ◌+◌, ◌-◌, ◌<◌, ◌≤◌, false, List, [], ◌∷◌, ◌++◌, length, get_or, set, take, drop, map, replicate, refl, sym, ◌∙◌, ap, arith, inl, inr, length-append}
 use Rattle.std.proofs.lemmas.Bool.{cases_Bool, cases_lt, false≢true}
 use Rattle.std.proofs.lemmas.Bool.Decides.{nat_tests}
-use Rattle.std.proofs.lemmas.List.{drop_more, get_or-drop, get_or-take, get_or-map, get_or-replicate, length-replicate, length-drop, length-take, length-map, take-map, drop-map, map-append, map-set, set-set, get_or-set_same, get_or-set_other, take-set-le, drop-set-lt, drop-set-add, places}
+use Rattle.std.proofs.lemmas.List.{ext_get_or, drop_more, get_or-drop, get_or-take, get_or-map, get_or-replicate, length-replicate, length-drop, length-take, length-map, take-map, drop-map, map-append, map-set, set-set, get_or-set_same, get_or-set_other, take-set-le, drop-set-lt, drop-set-add, places}
 use Rattle.std.proofs.Math.Seq.{take-set-lt}
+use Rattle.std.specs.List.{CopiedTo, SameFrom, slice_range}
 use borrow.Rule.Slice.PartMut.{put_mid}
 use Rattle.phys_store.specs.declared.extents.Held.{Held}
 use Rattle.phys_store.specs.Bytes.{Stored, past, inside, byte_of, is_ready, bytes_at}
@@ -43,6 +44,34 @@ append_low xs zs k below = grind (arith, places)
 
 append_high : (xs : List ℕ) (n k : ℕ) → length xs ≤ k → get_or (xs ++ replicate n 0) k 0 ≡ 0
 append_high xs n k above = grind (arith, places)
+
+append_part : (xs : List ℕ) (cut j : ℕ) → cut ≤ length xs → length xs ≤ j → j < length xs + (length xs - cut) →
+    get_or (xs ++ take (length xs - cut) (drop cut xs)) j 0 ≡ get_or xs (cut + (j - length xs)) 0
+append_part xs cut j part from to = grind (arith, places)
+
+-- the last bytes are appended, and those before them moved up to them: all lie further up
+pub moved_up : (old more_of new : List ℕ) (from more end : ℕ) → end ≡ length old → from + more ≤ end →
+    more_of ≡ old ++ slice_range old (end - more) (length old) → length new ≡ length more_of →
+    CopiedTo more_of new from (from + more) (end - more - from) → SameFrom more_of new (from + more + (end - more - from)) →
+    drop (from + more) new ≡ drop from old
+moved_up old more_of new from more end at fits is len copied behind =
+    let cut : ℕ = end - more in
+    let all : more_of ≡ old ++ take (length old - cut) (drop cut old) = is in
+    let long : length more_of ≡ length old + more =
+    ap length all ∙ length-append old (take (length old - cut) (drop cut old))
+    ∙ ap (λ n. length old + n) (length-take (length old - cut) (drop cut old) ∙ omega (arith, length-drop cut old, at, fits)) in
+    ext_get_or 0 (drop (from + more) new) (drop from old)
+    (length-drop (from + more) new ∙ omega (arith, len, long) ∙ sym (length-drop from old))
+    (λ k below. let inner : k < length old - from = omega (arith, below, length-drop (from + more) new, len, long) in
+    get_or-drop (from + more) new k 0 ∙ elim (cases_lt (from + k) cut) [
+      | inl low ↦ copied (from + more + k) 0 (omega arith) (omega (arith, low))
+          ∙ ap (λ j. get_or more_of j 0) (omega arith) ∙ ap (λ (l : List ℕ). get_or l (from + k) 0) all
+          ∙ append_low old (take (length old - cut) (drop cut old)) (from + k) (omega (arith, low, at)) ∙ sym (get_or-drop from old k 0)
+      | inr high ↦ behind (from + more + k) 0 (omega (arith, high, fits))
+          ∙ ap (λ (l : List ℕ). get_or l (from + more + k) 0) all
+          ∙ append_part old cut (from + more + k) (omega (arith, at)) (omega (arith, high, at, fits)) (omega (arith, inner, at, fits))
+          ∙ ap (λ j. get_or old j 0) (omega (arith, high, at, fits)) ∙ sym (get_or-drop from old k 0)
+    ])
 
 -- an extent with room in front and zeros behind goes further both ways
 pub widened : (p : Stored) (low high f1 f2 up : ℕ) (xs zs ys : List ℕ) → 0 < length p.bytes → drop f1 xs ≡ p.bytes →

@@ -2,8 +2,8 @@
 //! the extent of the first address; that it holds the whole of a prepared range follows from the
 //! extents being apart, so no call goes from one extent to the next.
 ghost use Rattle.std.specs.Prelude.{◌≡◌, ℕ, ◌+◌, ◌-◌, ◌^◌, ◌<◌, ◌≤◌, ◌↔◌, Bool, true, ◌||◌, nat_le, min, max, map, length, slice_index, position, IsTrue};
-ghost use Rattle.phys_store.specs.Bytes.{inside, byte_of, AreReady, Wrote, bytes_at};
-ghost use Rattle.phys_store.specs.Extents.{stored, Apart};
+ghost use Rattle.phys_store.specs.Bytes.{past, inside, byte_of, AreReady, Wrote, bytes_at};
+ghost use Rattle.phys_store.specs.Extents.{stored, nth, Apart};
 
 use bm_base::Range;
 
@@ -25,13 +25,59 @@ pub fn size_of(extent: &Held) -> u64
     extent.bytes.len().saturating_sub(extent.front) as u64
 }
 
-/// The index of the extent in which the address lies.
+/// The address behind the extent's last byte.
+pub fn end_of(extent: &Held) -> u64
+    requires { past (stored extent.now) < 2 ^ 64 }
+    ensures { result ≡ past (stored extent.now) }
+{
+    extent.base + size_of(extent)
+}
+
+/// Whether the address lies in the extent.
+fn has(extent: &Held, address: u64) -> bool
+    ensures { result ≡ inside (stored extent.now) address }
+{
+    extent.base <= address && address - extent.base < size_of(extent)
+}
+
+/// The index of the first extent that ends at the address or behind it, by halves.
+pub fn first_reaching(extents: &[Held], address: u64) -> usize
+    requires { Apart 0 (map stored extents.now) }
+    ensures most { result ≤ length extents.now }
+    ensures below { (i : ℕ) → i < result → past (nth (map stored extents.now) i) < address }
+    ensures reaches { result < length extents.now → address ≤ past (nth (map stored extents.now) result) }
+{
+    let mut low = 0;
+    let mut high = extents.len();
+    while low < high {
+        let middle = low + (high - low) / 2;
+        if end_of(&extents[middle]) < address {
+            low = middle + 1;
+        } else {
+            high = middle;
+        }
+    }
+    low
+}
+
+/// So many extents are looked through one by one, which is faster for a few of them.
+const FEW: usize = 8;
+
+/// The index of the extent in which the address lies. No other than the first that reaches it does: where that
+/// ends at the address, the next begins above it.
 fn place_of(extents: &[Held], address: u64) -> Option<usize>
+    requires { Apart 0 (map stored extents.now) }
     ensures { result ≡ position (λ e. inside (stored e) address) extents.now }
 {
-    extents
-        .iter()
-        .position(|e| e.base <= address && address - e.base < size_of(e))
+    if extents.len() <= FEW {
+        return extents.iter().position(|e| has(e, address));
+    }
+    let i = first_reaching(extents, address);
+    if i < extents.len() && has(&extents[i], address) {
+        Some(i)
+    } else {
+        None
+    }
 }
 
 /// Whether each address of the range is prepared.

@@ -10,7 +10,7 @@
 //! address by address lies in one of them. A table is then one slice, and opening or closing a gap in it
 //! is one bulk move. Where a range joins extents, the largest grows where it lies, downward into room that it
 //! has in front and upward as a `Vec` does, and the others are copied into it: so ranges that are prepared one by
-//! one, in whatever order they lie, move a byte only as often as the extent that it lies in doubles.
+//! one, in whatever order they lie, move a byte only as often as the extent that it lies in nearly doubles.
 //!
 //! Contracts see the byte and the readiness of every address (`byte_of` and `is_ready` of
 //! `specs/Bytes.antt`). Each call that writes says one thing, `Wrote`: which bytes it wrote, that every

@@ -2,12 +2,12 @@
 //! apart. The largest of them is kept and widened, and the others are copied into it; where it meets none, a new
 //! extent of its size stands in the list. All memory is taken before a byte or an address changes: what a
 //! failure leaves may have more room in front of an extent, and is else as it was.
-ghost use Rattle.std.specs.Prelude.{◌≡◌, ℕ, ◌+◌, ◌-◌, ◌^◌, ◌<◌, ◌≤◌, ◌||◌, IsTrue, ◌++◌, ◌∷◌, [], take, drop, map, replicate, length, OnOk, OnErr};
+ghost use Rattle.std.specs.Prelude.{◌≡◌, ℕ, ◌+◌, ◌-◌, ◌^◌, ◌<◌, ◌≤◌, ◌||◌, IsTrue, ◌++◌, ◌∷◌, [], take, drop, map, replicate, length, slice_range, OnOk, OnErr};
 ghost use Rattle.bm_base.specs.Extent.{end_of, covers};
 ghost use Rattle.phys_store.specs.Bytes.{past, byte_of, is_ready};
 ghost use Rattle.phys_store.specs.Extents.{stored, nth, Apart, Joins, covering, as_one};
 
-use crate::extents::{Held, are_ready, size_of};
+use crate::extents::{Held, are_ready, end_of, first_reaching, size_of};
 use bm_base::{Memory, Range};
 use std::mem;
 
@@ -18,28 +18,6 @@ struct Reach {
     behind: usize,
     low: u64,
     high: u64,
-}
-
-/// The address behind the extent's last byte.
-fn end_of(extent: &Held) -> u64
-    requires { past (stored extent.now) < 2 ^ 64 }
-    ensures { result ≡ past (stored extent.now) }
-{
-    extent.base + size_of(extent)
-}
-
-/// The index of the first extent that ends at the address or behind it.
-fn first_reaching(extents: &[Held], address: u64) -> usize
-    requires { Apart 0 (map stored extents.now) }
-    ensures most { result ≤ length extents.now }
-    ensures below { (i : ℕ) → i < result → past (nth (map stored extents.now) i) < address }
-    ensures reaches { result < length extents.now → address ≤ past (nth (map stored extents.now) result) }
-{
-    let mut first = 0;
-    while first < extents.len() && end_of(&extents[first]) < address {
-        first += 1;
-    }
-    first
 }
 
 /// The range, and each extent that it meets or touches, as one.
@@ -114,8 +92,42 @@ fn append_zeros(bytes: &mut Vec<u8>, count: usize) -> Result<(), Memory>
     Ok(())
 }
 
-/// The extent has room for `down` bytes in front. Where there was too little, there is room for as many bytes as it
-/// has, at least: so its bytes are moved for room again only once they are twice as many.
+/// Appends a copy of the bytes from the index `from` on. The `Vec` is taken out of its place meanwhile: so the compiler
+/// sees that none of the bytes lies in the `Vec` itself, and copies them in bulk.
+fn append_from(bytes: &mut Vec<u8>, from: usize) -> Result<(), Memory>
+    requires { from ≤ length bytes.old.items }
+    ensures ok { OnOk result (bytes.new.items ≡ bytes.old.items ++ slice_range bytes.old.items from (length bytes.old.items)) }
+    ensures err { OnErr result (bytes.new.items ≡ bytes.old.items) }
+{
+    let nothing = Vec::new(*bytes.allocator());
+    let mut all = mem::replace(bytes, nothing);
+    let done = all.extend_from_within(from..all.len());
+    *bytes = all;
+    done?;
+    Ok(())
+}
+
+/// The bytes from the index `from` on lie `more` further up, each byte copied once. What then lies before them is left open.
+fn move_up(bytes: &mut Vec<u8>, from: usize, more: usize) -> Result<(), Memory>
+    requires { from ≤ length bytes.old.items }
+    ensures moved { OnOk result (drop (from + more) bytes.new.items ≡ drop from bytes.old.items) }
+    ensures len { OnOk result (length bytes.new.items ≡ length bytes.old.items + more) }
+    ensures err { OnErr result (bytes.new.items ≡ bytes.old.items) }
+{
+    let end = bytes.len();
+    if end - from < more {
+        append_zeros(bytes, more)?;
+        bytes.copy_within(from..end, from + more);
+    } else {
+        let cut = end - more;
+        append_from(bytes, cut)?;
+        bytes.copy_within(from..cut, from + more);
+    }
+    Ok(())
+}
+
+/// The extent has room for `down` bytes in front. Where there was too little, there is room for seven eighths of the
+/// bytes that it has, at least: so they are moved for room again only once they are nearly twice as many.
 fn make_room(extent: &mut Held, down: usize) -> Result<(), Memory>
     requires { 0 < length (stored extent.old).bytes }
     ensures same { stored extent.new ≡ stored extent.old }
@@ -124,12 +136,8 @@ fn make_room(extent: &mut Held, down: usize) -> Result<(), Memory>
     if down <= extent.front {
         return Ok(());
     }
-    let end = extent.bytes.len();
-    let more = down.max(end - extent.front);
-    append_zeros(&mut extent.bytes, more)?;
-    extent
-        .bytes
-        .copy_within(extent.front..end, extent.front + more);
+    let more = down.max((extent.bytes.len() - extent.front) / 8 * 7);
+    move_up(&mut extent.bytes, extent.front, more)?;
     extent.front += more;
     Ok(())
 }

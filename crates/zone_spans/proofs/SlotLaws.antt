@@ -10,6 +10,7 @@ use Rattle.address_runs.specs.Edits.{NothingFrom}
 use Rattle.frame_blocks.specs.declared.run.TheConstants.{MAX_FRAMES}
 use Rattle.frame_blocks.specs.Frames.{Frames}
 use Rattle.frame_blocks.specs.Listed.{is_node, same_zone}
+use Rattle.frame_blocks.proofs.CountLaws.{zone_self}
 use Rattle.table_frames.specs.declared.frames.TheConstants.{MAX_NODES}
 use Rattle.zone_spans.specs.declared.span.Span.{Span}
 use Rattle.zone_spans.specs.Spans.{is_in, with_frames, span_below, span_of, spans_of_node, spans_from, spans_of}
@@ -17,11 +18,6 @@ use Rattle.zone_spans.specs.Slots.{place_of, IsTold, AreBounded, with_run, slot_
 use Rattle.zone_spans.proofs.SpanLaws.{same_below, skip, grow}
 
 -- zones tell by their places
-zone_self : (a : Zone) → same_zone a a ≡ true
-zone_self zone.Dma = refl
-zone_self zone.Dma32 = refl
-zone_self zone.Normal = refl
-
 low_place : (a : Zone) → place_of a < 3
 low_place zone.Dma = omega arith
 low_place zone.Dma32 = omega arith

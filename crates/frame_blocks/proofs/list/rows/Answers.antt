@@ -10,7 +10,8 @@ use Rattle.frame_blocks.proofs.list.rows.Goals as goal
 pub loop-run-init : goal.loop-run-init
 loop-run-init c =
     let rs = c.args.runs.now in
-    ap (λ (rows : List BlockRow). blocks_of_rows rows ++ listed (value_at rs) rs) c.new-rows.ensures.items ∙ listed_all rs c.requires.runs c.requires.low
+    ap (λ (rows : List BlockRow). blocks_of_rows rows ++ listed (value_at rs) rs) c.new-rows.ensures.items
+    ∙ listed_all rs c.requires.runs c.requires.low
 
 pub loop-run-preserved : goal.loop-run-preserved
 loop-run-preserved c =

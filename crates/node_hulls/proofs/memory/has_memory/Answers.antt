@@ -18,5 +18,6 @@ returns c =
     let rs = c.args.memory.now.items in
     let rest = subst (λ (g : Extent). IsRestFrom (value_at rs) g.base (drop c.seek-first.result rs)) c.range.view_is
     (rw (map-id rs) at c.seek-first.ensures.rest) in
-    let tells = subst (λ (r : RunOf Bool). c.overlaps.result ≡ true ↔ Meet (extent_of r) c.args.range.now) c.run.view_is c.overlaps.ensures in
+    let tells = subst (λ (r : RunOf Bool). c.overlaps.result ≡ true ↔ Meet (extent_of r) c.args.range.now) c.run.view_is
+    c.overlaps.ensures in
     first_tells rs c.seek-first.result c.args.range.now c.index.result.now rest (omega arith) c.index.ensures c.overlaps.result tells

@@ -11,7 +11,8 @@ use Rattle.node_hulls.proofs.memory.memory_runs.Goals as goal
 
 pub overlay_all-requires : goal.overlay_all-requires
 overlay_all-requires c =
-    plain_addresses c.deref.result.now (rw (c.deref.ensures.value, c.in_ok-tell_memory.ensures, c.new-told.ensures.items) (bare_addresses c.args.memory.now c.requires))
+    plain_addresses c.deref.result.now (rw (c.deref.ensures.value, c.in_ok-tell_memory.ensures, c.new-told.ensures.items)
+    (bare_addresses c.args.memory.now c.requires))
 
 pub returns-clause-runs : goal.returns-clause-runs
 returns-clause-runs c =

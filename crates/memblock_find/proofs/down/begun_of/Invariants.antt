@@ -1,6 +1,6 @@
 use Rattle.std.proofs.Common.{ℕ, ◌-◌, ◌<◌, ◌≤◌, length}
 use Rattle.memblock_find.specs.Walk.{run_at}
-use Rattle.memblock_find.proofs.down.begun_below.Given as goal
+use Rattle.memblock_find.proofs.down.begun_of.Given as goal
 
 -- the records before `low` begin below the address, and those from `high` on don't
 abbrev pub invariant-loop-low : goal.invariant-loop-low

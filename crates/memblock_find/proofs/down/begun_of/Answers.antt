@@ -1,21 +1,20 @@
-use Rattle.std.proofs.Common.{◌≡◌, ℕ, ◌+◌, ◌-◌, ◌/◌, List, length, ap, arith}
+use Rattle.std.proofs.Common.{◌≡◌, ℕ, ◌+◌, ◌-◌, ◌/◌, List, ap, arith}
 use Rattle.address_runs.specs.Runs.{RunOf}
 use Rattle.memblock_model.specs.Labels.{Label}
 use Rattle.memblock_ranges.specs.declared.region.Region.{Region}
 use Rattle.memblock_find.specs.Walk.{run_at}
 use Rattle.memblock_find.proofs.DownLaws.{all_begun, begun_so_far, not_begun_from}
-use Rattle.memblock_find.proofs.down.begun_below.Goals as goal
-use Rattle.memblock_find.proofs.down.begun_below.Goals.{then-count-eq0-via-then-count-eq0, then-count-eq0-via-else-count-eq0+then-get-at}
+use Rattle.memblock_find.proofs.down.begun_of.Goals as goal
+use Rattle.memblock_find.proofs.down.begun_of.Goals.{then-count-eq0-via-then-count-eq0, then-count-eq0-via-else-count-eq0+then-get-at}
 
 pub returns-then-count-eq0 : goal.returns-then-count-eq0
 returns-then-count-eq0 c =
     let rs : List (RunOf Label) = c.args.records.now in
-    let count : c.count-count.result ≡ length rs = c.count-count.ensures.count in
-    all_begun rs c.args.at c.count-count.result c.count-count.ensures.records.runs count
+    all_begun rs c.args.at c.args.count c.requires
     (λ some. elim c.then-count-eq0.branch [
       | then-count-eq0-via-then-count-eq0 w ↦ absurd (omega (arith, w.if-count-eq0.true))
       | then-count-eq0-via-else-count-eq0+then-get-at w ↦
-          let base : w.get.result.base ≡ (run_at rs (c.count-count.result - 1)).base =
+          let base : w.get.result.base ≡ (run_at rs (c.args.count - 1)).base =
           ap (λ (g : Region). g.base) (w.get.ensures.region _) in
           let under = w.if-get-at.true in
           omega arith
@@ -32,7 +31,7 @@ loop-low-preserved-then-get-at-2 c =
     record {
       order = omega arith;
       within = within;
-      before = begun_so_far rs c.args.at middle c.count-count.ensures.records.runs (omega arith) (omega arith);
+      before = begun_so_far rs c.args.at middle c.requires.runs (omega arith) (omega arith);
       behind = c.loop-low.invariant.behind;
     }
 
@@ -48,5 +47,5 @@ loop-low-preserved c =
       order = omega arith;
       within = omega arith;
       before = c.loop-low.invariant.before;
-      behind = not_begun_from rs c.args.at middle c.count-count.ensures.records.runs (omega arith);
+      behind = not_begun_from rs c.args.at middle c.requires.runs (omega arith);
     }

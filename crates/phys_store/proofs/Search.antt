@@ -1,0 +1,66 @@
+-- What the search by halves finds in extents that are apart.
+use Rattle.std.proofs.Common.{◌≡◌, ℕ, ◌<◌, ◌≤◌, Bool, true, false, Some, None, List, [], ◌∷◌, length, get_or, map, refl, sym, ◌∙◌, ap, arith, inl, inr, nat_lt}
+use Rattle.std.proofs.lemmas.Bool.{cases_lt}
+use Rattle.std.proofs.lemmas.Bool.Decides.{nat_tests}
+use Rattle.std.proofs.lemmas.List.{get_or-map, length-map}
+use Rattle.std.proofs.lemmas.List.Sums.{position_or_len_is}
+use Rattle.std.specs.List.{position, position_or_len}
+use Rattle.phys_store.specs.declared.extents.Held.{Held}
+use Rattle.phys_store.specs.Bytes.{Stored, past, inside}
+use Rattle.phys_store.specs.Extents.{stored, nth, Apart}
+use Rattle.phys_store.proofs.Lookup.{inside-below, inside-above}
+use Rattle.phys_store.proofs.Joining.{before}
+
+-- an earlier extent ends no later
+pub ends_rise : (ps : List Stored) (i j : ℕ) → Apart 0 ps → i ≤ j → j < length ps → past (nth ps i) ≤ past (nth ps j)
+ends_rise ps i j apart order count =
+    elim (cases_lt i j) [
+      | inl less ↦ let far = before 0 ps i j apart less count in omega (arith, far)
+      | inr most ↦ let is : i ≡ j = omega (arith, order, most) in rw is (omega arith)
+    ]
+
+-- no extent but the first that reaches the address has it
+others_out : (ps : List Stored) (a i k : ℕ) → Apart 0 ps → ((j : ℕ) → j < i → past (nth ps j) < a) →
+    (i < length ps → a ≤ past (nth ps i)) → (i < length ps → inside (nth ps i) a ≡ false) → k < length ps → inside (nth ps k) a ≡ false
+others_out ps a i k apart below reaches out count =
+    elim (cases_lt k i) [
+      | inl less ↦ let ends = below k less in inside-above (nth ps k) a (omega (arith, ends))
+      | inr most ↦ elim (cases_lt i k) [
+        | inl more ↦ let far = before 0 ps i k apart more count in let reach = reaches (omega (arith, more, count)) in
+            inside-below (nth ps k) a (omega (arith, far, reach))
+        | inr least ↦ let is : k ≡ i = omega (arith, most, least) in rw is (out (omega (arith, is, count)))
+      ]
+    ]
+
+-- where no element passes there is no position
+no_position : {X : Type 0} (p : X → Bool) (xs : List X) → ((k : ℕ) (d : X) → k < length xs → p (get_or xs k d) ≡ false) →
+    position p xs ≡ None
+no_position p [] each = refl
+no_position p (x ∷ xs) each =
+    let all = position_or_len_is p (x ∷ xs) (length (x ∷ xs)) x (omega arith) (λ k less. each k x less)
+    (λ less. absurd (omega (arith, less))) in
+    let none : nat_lt (length (x ∷ xs)) (length (x ∷ xs)) ≡ false = grind (arith, nat_tests) in
+    rw (all, none) refl
+
+-- the k-th extent, as it is read
+same_test : (es : List Held) (a k : ℕ) (d : Held) → k < length es → inside (stored (get_or es k d)) a ≡ inside (nth (map stored es) k) a
+same_test es a k d count = ap (λ (q : Stored). inside q a) (sym (get_or-map stored es k d (record { base = 0; bytes = [] }) count))
+
+pub first_has : (es : List Held) (a i : ℕ) (e : Held) → ((j : ℕ) → j < i → past (nth (map stored es) j) < a) → i < length es →
+    e ≡ get_or es i e → inside (stored e) a ≡ true → Some i ≡ position (λ d. inside (stored d) a) es
+first_has es a i e below count is lies =
+    let at : position_or_len (λ d. inside (stored d) a) es ≡ i = position_or_len_is (λ d. inside (stored d) a) es i e (omega arith)
+    (λ k less. let ends = below k less in
+    same_test es a k e (omega (arith, less, count)) ∙ inside-above (nth (map stored es) k) a (omega (arith, ends)))
+    (λ same. ap (λ (d : Held). inside (stored d) a) (sym is) ∙ lies) in
+    let some : nat_lt i (length es) ≡ true = grind (arith, nat_tests) in
+    sym (rw (at, some) refl)
+
+pub first_has_not : (es : List Held) (a i : ℕ) → Apart 0 (map stored es) → ((j : ℕ) → j < i → past (nth (map stored es) j) < a) →
+    (i < length es → a ≤ past (nth (map stored es) i)) → (i < length es → inside (nth (map stored es) i) a ≡ false) →
+    None ≡ position (λ d. inside (stored d) a) es
+first_has_not es a i apart below reaches out =
+    let long = length-map es stored in
+    sym (no_position (λ d. inside (stored d) a) es (λ k d count. same_test es a k d count
+    ∙ others_out (map stored es) a i k apart below (λ less. reaches (omega (arith, less, long))) (λ less. out (omega (arith, less, long)))
+    (omega (arith, count, long))))
