@@ -153,6 +153,14 @@ pub fn put_report(draft: &mut Draft, report: Report, booted: &Booted) -> Result<
         Report::Tables => put_tables(text, &booted.heads),
         Report::Buddyinfo => put_buddyinfo(text, &booted.spans, &booted.buddy),
         Report::Blocks => put_blocks(draft, &booted.buddy),
-        Report::Summary => put_summary(text, &summary_of(booted)?),
+        Report::Summary => put_numbers(text, booted),
     }
+}
+
+/// Appends the text of the summary.
+fn put_numbers(text: &mut Vec<u8>, booted: &Booted) -> Result<(), Memory>
+    requires { AreRuns booted.now.map.items }
+    ensures { OnOk result (text.new.items ≡ text.old.items ++ report_text Report.Summary (booted_view booted.now)) }
+{
+    put_summary(text, &summary_of(booted)?)
 }
