@@ -3,5 +3,6 @@ pub mod GivenLaws
 pub mod HeadlineLaws
 mod LineExamples
 pub mod OutcomeExamples
+pub mod PutLaws
 pub mod RunLaws
 pub mod TellLaws

@@ -24,6 +24,7 @@
 mod clauses;
 mod failure;
 mod given;
+mod pieces;
 mod run;
 mod tell;
 #[cfg(test)]

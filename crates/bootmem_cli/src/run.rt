@@ -12,6 +12,7 @@ ghost use Rattle.bm_io.specs.Counts.{Rose};
 ghost use Rattle.bm_io.specs.Told.{AppendsFront};
 ghost use Rattle.boot_model.specs.View.{inputs_view};
 ghost use Rattle.debugfs_reports.specs.ReportList.{reports_in};
+ghost use Rattle.stage_texts.specs.Pieces.{text_of_pieces};
 ghost use Rattle.program_words.specs.View.{wanted_view};
 ghost use Rattle.program_words.specs.Words.{accepted, texts};
 ghost use Rattle.bootmem_cli.specs.Answers.{FailureHasCause, IsOfBoot, Makes, ReportHasCause, Writes, WritingHasCause};
@@ -21,13 +22,15 @@ ghost use Rattle.bootmem_cli.specs.Status.{End, status_of_end};
 
 use crate::failure::{Failure, Reason};
 use crate::given::read_given;
+use crate::pieces::put_reports;
 use crate::tell::tell;
 use bm_base::Memory;
-use bm_io::{Files, Put, Sink, put_all};
+use bm_io::{Files, Put, Sink};
 use boot_model::Inputs;
 use boot_stages::boot;
 use debugfs_reports::{render_all, reports_in};
 use program_words::{Wanted, WordError, read_words};
+use stage_texts::Piece;
 use std::alloc::Global;
 
 /// The whole program: reads the files that the words name, boots with them, and writes the reports.
@@ -89,22 +92,22 @@ fn write_reports<F: Files, S: Sink>(
         F.faults files.new any ≡ F.faults files.old any) × (S.faults out.new ≡ S.faults out.old)) }
 {
     let texts = make_texts(alloc, wanted, files)?;
-    put_texts(out, &texts)
+    put_texts(out, texts)
 }
 
-/// Puts the texts of reports, each that isn't empty in one piece.
-fn put_texts<S: Sink>(out: &mut S, texts: &[Vec<u8>]) -> Result<(), Failure>
+/// Puts the texts of reports, each of their pieces that isn't empty by one put, or one a sheet.
+fn put_texts<S: Sink>(out: &mut S, texts: Vec<Vec<Piece>>) -> Result<(), Failure>
     ensures whole { OnOk result (Appends (S.written out.old) (S.written out.new)
-        (flat_map (λ text. text.items) texts.now)) }
+        (flat_map (λ pieces. text_of_pieces pieces.items) texts.items)) }
     ensures front { OnErr result (AppendsFront (S.written out.old) (S.written out.new)
-        (flat_map (λ text. text.items) texts.now)) }
+        (flat_map (λ pieces. text_of_pieces pieces.items) texts.items)) }
     ensures only { IfErr result (λ failure. (failure ≡ Failure.Unwritten)
         ⊎ (failure ≡ Failure.Memory)) }
     ensures failed { IsErrOf result Failure.Unwritten → Rose (S.faults out.old) (S.faults out.new) }
     ensures wanting { IsErrOf result Failure.Memory → Rose (S.wants out.old) (S.wants out.new) }
     ensures uncounted { OnOk result (S.faults out.new ≡ S.faults out.old) }
 {
-    match put_all(out, texts) {
+    match put_reports(out, texts) {
         Ok(()) => Ok(()),
         Err(Put::Failed) => Err(Failure::Unwritten),
         Err(Put::Memory) => Err(Failure::Memory),
@@ -116,9 +119,9 @@ fn make_texts<F: Files>(
     alloc: Global,
     wanted: &Option<Wanted<'_>>,
     files: &mut F,
-) -> Result<Vec<Vec<u8>>, Failure>
+) -> Result<Vec<Vec<Piece>>, Failure>
     ensures makes { IfSome (F.holds files.old) (λ held.
-        Makes (λ texts. flat_map (λ text. text.items) texts.items) result
+        Makes (λ texts. flat_map (λ pieces. text_of_pieces pieces.items) texts.items) result
         (outcome (option_map wanted_view wanted.now) held)) }
     ensures cause { ReportHasCause (F.faults files.old) (F.faults files.new)
         (option_map wanted_view wanted.now) result }
@@ -133,7 +136,7 @@ fn make_texts<F: Files>(
 }
 
 /// The texts of a list of reports, of what the boot makes of the inputs.
-fn boot_texts(alloc: Global, inputs: Inputs, list: &str) -> Result<Vec<Vec<u8>>, Failure>
+fn boot_texts(alloc: Global, inputs: Inputs, list: &str) -> Result<Vec<Vec<Piece>>, Failure>
     requires entries_end { EndInSpace inputs.zero.entries.items }
     requires extension_ends { EndInSpace inputs.ext.items }
     requires types { HaveTypes inputs.options.edits.items }
@@ -141,7 +144,7 @@ fn boot_texts(alloc: Global, inputs: Inputs, list: &str) -> Result<Vec<Vec<u8>>,
     requires domains { IfSome inputs.srat (λ srat. length srat.blocks.items < 2 ^ 32) }
     requires bounds { All (λ l. HasBounds l.act) inputs.lines.items }
     requires once { PlaceOnce inputs.lines.items }
-    ensures makes { Makes (λ texts. flat_map (λ text. text.items) texts.items) result
+    ensures makes { Makes (λ texts. flat_map (λ pieces. text_of_pieces pieces.items) texts.items) result
         (reported (reports_in list.now) (inputs_view inputs)) }
     ensures cause { IsOfBoot result }
 {

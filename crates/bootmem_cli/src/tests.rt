@@ -254,3 +254,41 @@ fn lists_of_reports(rt: HostRuntime) -> Result<(), Fail> {
     assert_eq!(rt; ended.out.written(), b"".as_slice());
     Ok(())
 }
+
+// Of 16 GiB above 4 GiB the lines of the blocks are put by sheets of 1,024, behind one put of what stands before them.
+#[test]
+fn sheets_of_blocks(rt: HostRuntime) -> Result<(), Fail> {
+    let words = ["--cmdline", "cmd", "--report", "blocks", "zp"];
+    let line = b"memmap=16G@4G";
+    let none: &[u64] = &[];
+    let second: &[u64] = &[2];
+    let whole = run_on(rt.alloc(), &words, line, [none, none, none])?;
+    assert_eq!(rt; whole.status, 0);
+    let text = whole.out.written();
+    let first = b"node 0 zone Normal order 10 0x0000000100000000\n";
+    let at = text
+        .windows(47)
+        .position(|part| part == first)
+        .ok_or("no great block")?;
+    let great = text.get(at..).ok_or("no great block")?;
+    let cases = [
+        (1023, "node 0 zone Normal order 10 0x00000001ffc00000\n"),
+        (1024, "node 0 zone Normal order 10 0x0000000200000000\n"),
+        (2047, "node 0 zone Normal order 10 0x00000002ffc00000\n"),
+        (3071, "node 0 zone Normal order 10 0x00000003ffc00000\n"),
+        (3072, "node 0 zone Normal order 10 0x0000000400000000\n"),
+    ];
+    for (index, want) in cases {
+        assert_eq!(rt;
+            great.chunks(47).nth(index),
+            Some(want.as_bytes()),
+            "{index}"
+        );
+    }
+    // the half of the first sheet
+    let part = run_on(rt.alloc(), &words, line, [none, second, none])?;
+    assert_eq!(rt; part.status, 4);
+    assert_eq!(rt; part.out.written().len().checked_sub(at), Some(512 * 47));
+    assert!(rt; text.starts_with(part.out.written()));
+    Ok(())
+}

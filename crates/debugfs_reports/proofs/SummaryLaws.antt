@@ -1,11 +1,15 @@
--- The frames of the listed blocks are few: there are at most 2^40 blocks, of at most 2^10 frames.
-use Rattle.std.proofs.Common.{◌≡◌, ℕ, ◌+◌, ◌*◌, ◌%◌, ◌^◌, ◌<◌, ◌≤◌, List, [], ◌∷◌, get_or, length, take, arith}
-use Rattle.std.proofs.Math.Nat.{mod-eq_of_lt}
+-- The frames of the listed blocks are few: there are at most 2^40 blocks, of at most 2^10 frames. And they are those of rows.
+use Rattle.std.proofs.Common.{◌≡◌, ◌∙◌, ℕ, zero, suc, ◌+◌, ◌*◌, ◌^◌, ◌<◌, ◌≤◌, List, [], ◌∷◌, ◌++◌, get_or, length, drop, drop-cons, refl, ap, length-append, ⊎_elim, arith}
+use Rattle.std.proofs.Math.Nat.{suc-mul}
 use Rattle.std.proofs.Math.Pow.{pow_mono}
-use Rattle.std.proofs.lemmas.List.Sums.{sum_by-cons, sum_by_more, sum_by_more_le, sum_by-take-le}
+use Rattle.std.proofs.lemmas.Bool.{cases_lt}
+use Rattle.std.proofs.lemmas.List.Sums.{sum_by-append, sum_by-cons}
+use Rattle.bm_base.specs.declared.zone.Zone.{Zone}
 use Rattle.frame_blocks.specs.declared.block.Block.{Block}
+use Rattle.frame_blocks.specs.declared.block.BlockRow.{BlockRow}
 use Rattle.frame_blocks.specs.Frames.{Frames}
 use Rattle.frame_blocks.specs.Listed.{blocks_of}
+use Rattle.frame_blocks.specs.Rows.{blocks_of_row, blocks_of_rows, row_from}
 use Rattle.stage_texts.proofs.BlockLaws.{AreInBounds, listed_few, listed_in_bounds}
 use Rattle.debugfs_reports.specs.Summary.{frames_in}
 
@@ -23,18 +27,69 @@ listed_frames f =
     let length = listed_few f in
     omega (arith, few, length)
 
--- so the frames of one more block fit, and with them they are those of one more block
-pub more_frames : (bs : List Block) (i free : ℕ) (d : Block) → i < length bs → frames_in bs ≤ 2 ^ 50 → free ≡ frames_in (take i bs)
-    → free + 1 * 2 ^ (get_or bs i d).order % 2 ^ 64 ≡ frames_in (take (i + 1) bs)
-more_frames bs i free d within few so_far =
-    let size : ℕ = 2 ^ (get_or bs i d).order in
-    let most = sum_by_more_le (λ (c : Block). 2 ^ c.order) bs i d within in
-    let more = sum_by_more (λ (c : Block). 2 ^ c.order) bs i d within in
-    let small : 1 * size < 2 ^ 64 = omega (arith, most, few) in
-    let whole : 1 * size % 2 ^ 64 ≡ 1 * size = mod-eq_of_lt small in
-    omega (arith, more, whole, so_far)
+-- a row has as many blocks as it says, and so many frames
+row_frames : (o x n k : ℕ) (z : Zone) → (frames_in (row_from o x n z k) ≡ k * 2 ^ o) × (length (row_from o x n z k) ≡ k)
+unfolding row_from
+row_frames o x n zero z = (omega arith, refl)
+row_frames o x n (suc k) z =
+    let b : Block = record { order = o; first = x; node = n; zone = z } in
+    let rest = row_frames o (x + 2 ^ o) n k z in
+    let total = sum_by-cons (λ (c : Block). 2 ^ c.order) b (row_from o (x + 2 ^ o) n z k) in
+    let product = suc-mul k (2 ^ o) in
+    let frames = rest.0 in
+    let count = rest.1 in
+    (omega (arith, frames, total, product), omega (arith, count))
 
-pub part_fits : (bs : List Block) (i : ℕ) → frames_in bs ≤ 2 ^ 50 → frames_in (take i bs) < 2 ^ 64
-part_fits bs i few =
-    let part = sum_by-take-le (λ (c : Block). 2 ^ c.order) bs i in
-    omega (arith, part, few)
+-- the rows that are left are one row and the others
+pub row_left : (rs : List BlockRow) (i : ℕ) (d : BlockRow) → i < length rs
+    → (frames_in (blocks_of_rows (drop i rs))
+    ≡ (get_or rs i d).count * 2 ^ (get_or rs i d).order + frames_in (blocks_of_rows (drop (i + 1) rs)))
+    × (length (blocks_of_rows (drop i rs)) ≡ (get_or rs i d).count + length (blocks_of_rows (drop (i + 1) rs)))
+row_left rs i d within =
+    let r : BlockRow = get_or rs i d in
+    let rest : List Block = blocks_of_rows (drop (i + 1) rs) in
+    let next : suc i ≡ i + 1 = omega arith in
+    let first : drop i rs ≡ r ∷ drop (i + 1) rs = drop-cons rs i d within ∙ ap (λ k. r ∷ drop k rs) next in
+    let whole : blocks_of_rows (drop i rs) ≡ blocks_of_row r ++ rest = ap (λ (qs : List BlockRow). blocks_of_rows qs) first in
+    let one = row_frames r.order r.first r.node r.count r.zone in (
+      ap frames_in whole ∙ sum_by-append (λ (c : Block). 2 ^ c.order) (blocks_of_row r) rest ∙ ap (λ n. n + frames_in rest) one.0,
+      ap (λ (bs : List Block). length bs) whole ∙ length-append (blocks_of_row r) rest ∙ ap (λ n. n + length rest) one.1,
+    )
+
+-- and what was counted before it, with it
+pub record Counted (rs : List BlockRow) (i free blocks : ℕ) : Type 0 where
+  pub all_frames : free + frames_in (blocks_of_rows (drop i rs)) ≡ frames_in (blocks_of_rows rs)
+  pub all_blocks : blocks + length (blocks_of_rows (drop i rs)) ≡ length (blocks_of_rows rs)
+
+pub row_more : (rs : List BlockRow) (i free blocks frames : ℕ) (d : BlockRow) → i < length rs
+    → frames ≡ (get_or rs i d).count * 2 ^ (get_or rs i d).order → Counted rs i free blocks
+    → Counted rs (i + 1) (free + frames) (blocks + (get_or rs i d).count)
+row_more rs i free blocks frames d within is so_far =
+    let left = row_left rs i d within in
+    let some = left.0 in
+    let many = left.1 in
+    let before = so_far.all_frames in
+    let count = so_far.all_blocks in
+    record { all_frames = omega (arith, some, before, is); all_blocks = omega (arith, many, count) }
+
+pub counted_few : (rs : List BlockRow) (i free blocks : ℕ) (f : Frames) → blocks_of_rows rs ≡ blocks_of f → Counted rs i free blocks
+    → (free + frames_in (blocks_of_rows (drop i rs)) ≤ 2 ^ 50) × (blocks + length (blocks_of_rows (drop i rs)) ≤ 2 ^ 40)
+counted_few rs i free blocks f is so_far =
+    let frames : frames_in (blocks_of_rows rs) ≡ frames_in (blocks_of f) = ap frames_in is in
+    let count : length (blocks_of_rows rs) ≡ length (blocks_of f) = ap (λ (bs : List Block). length bs) is in
+    let most = listed_frames f in
+    let few = listed_few f in
+    let one = so_far.all_frames in
+    let two = so_far.all_blocks in
+    (omega (arith, frames, most, one), omega (arith, count, few, two))
+
+-- where a product with a power is small and isn't 0, the power is small
+pub shift_small : (k o : ℕ) → 0 < k → k * 2 ^ o < 2 ^ 64 → o < 64
+shift_small zero o some small = absurd (omega (arith, some))
+shift_small (suc k) o some small =
+    ⊎_elim (λ below. below)
+    (λ above.
+    let most : 2 ^ 64 ≤ 2 ^ o = pow_mono above in
+    let product = suc-mul k (2 ^ o) in
+    absurd (omega (arith, most, product, small)))
+    (cases_lt o 64)

@@ -6,10 +6,12 @@ ghost use Rattle.address_runs.specs.Runs.{AreRuns};
 ghost use Rattle.boot_model.specs.View.{booted_view};
 ghost use Rattle.debugfs_reports.specs.Stand.{TablesStand};
 ghost use Rattle.debugfs_reports.specs.ReportList.{are_reports, part, reports_in, text_of, title};
+ghost use Rattle.stage_texts.specs.Pieces.{text_of_pieces};
 
 use crate::report::{Report, put_report, report_named};
 use bm_base::{Memory, put_text};
 use boot_model::Booted;
+use stage_texts::{Draft, Piece};
 use std::alloc::Global;
 use text_words::{Separators, next_part};
 
@@ -44,18 +46,18 @@ pub fn reports_in(alloc: Global, list: &[u8]) -> Result<Vec<Report>, Memory>
     Ok(reports)
 }
 
-/// The texts of all reports of a list, each with the line that says whose it is where there are two or
+/// The texts of all reports of a list in pieces, each with the line that says whose it is where there are two or
 /// more. Together they are the whole text.
 pub fn render_all(
     alloc: Global,
     reports: &[Report],
     booted: &Booted,
-) -> Result<Vec<Vec<u8>>, Memory>
+) -> Result<Vec<Vec<Piece>>, Memory>
     requires tables { TablesStand booted.now }
     requires runs { AreRuns booted.now.map.items }
-    ensures each { IfOk result (λ texts. map (λ text. text.items) texts.items
+    ensures each { IfOk result (λ texts. map (λ pieces. text_of_pieces pieces.items) texts.items
         ≡ map (part (nat_lt 1 (length reports.now)) (booted_view booted.now)) reports.now) }
-    ensures whole { IfOk result (λ texts. flat_map (λ text. text.items) texts.items
+    ensures whole { IfOk result (λ texts. flat_map (λ pieces. text_of_pieces pieces.items) texts.items
         ≡ text_of reports.now (booted_view booted.now)) }
 {
     let several = reports.len() > 1;
@@ -72,15 +74,15 @@ fn render_part(
     report: Report,
     several: bool,
     booted: &Booted,
-) -> Result<Vec<u8>, Memory>
+) -> Result<Vec<Piece>, Memory>
     requires tables { TablesStand booted.now }
     requires runs { AreRuns booted.now.map.items }
-    ensures { IfOk result (λ text. text.items ≡ part several (booted_view booted.now) report) }
+    ensures { IfOk result (λ pieces. text_of_pieces pieces.items ≡ part several (booted_view booted.now) report) }
 {
-    let mut text = Vec::new(alloc);
-    put_title(&mut text, several, report)?;
-    put_report(&mut text, report, booted)?;
-    Ok(text)
+    let mut draft = Draft::new(alloc);
+    put_title(&mut draft.text, several, report)?;
+    put_report(&mut draft, report, booted)?;
+    draft.into_pieces()
 }
 
 /// Appends the line that says whose the text behind it is, where there are several.

@@ -6,14 +6,15 @@ ghost use Rattle.address_runs.specs.Runs.{AreRuns};
 ghost use Rattle.boot_model.specs.View.{booted_view};
 ghost use Rattle.debugfs_reports.specs.Report.{name_of, report_named, report_text};
 ghost use Rattle.debugfs_reports.specs.Stand.{TablesStand};
+ghost use Rattle.stage_texts.specs.Pieces.{draft_text, text_of_pieces};
 
 use crate::summary::summary_of;
 use bm_base::Memory;
 use boot_model::Booted;
 use report_texts::{put_journal, put_map, put_options, put_owners, put_records, put_tables};
 use stage_texts::{
-    put_blocks, put_buddyinfo, put_crash, put_nodes, put_script, put_sections, put_summary,
-    put_zones,
+    Draft, Piece, put_blocks, put_buddyinfo, put_crash, put_nodes, put_script, put_sections,
+    put_summary, put_zones,
 };
 use std::alloc::Global;
 
@@ -117,25 +118,26 @@ pub fn report_named(name: &[u8]) -> Option<Report>
     None
 }
 
-/// The text of a report. The records of both tables stand in the boot's bytes, where its heads tell, and
+/// The text of a report, in pieces. The records of both tables stand in the boot's bytes, where its heads tell, and
 /// the runs of its map ascend, as [`summary_of`] asks.
-pub fn render(alloc: Global, report: Report, booted: &Booted) -> Result<Vec<u8>, Memory>
+pub fn render(alloc: Global, report: Report, booted: &Booted) -> Result<Vec<Piece>, Memory>
     requires tables { TablesStand booted.now }
     requires runs { AreRuns booted.now.map.items }
-    ensures { IfOk result (λ text. text.items ≡ report_text report (booted_view booted.now)) }
+    ensures { IfOk result (λ pieces. text_of_pieces pieces.items ≡ report_text report (booted_view booted.now)) }
 {
-    let mut text = Vec::new(alloc);
-    put_report(&mut text, report, booted)?;
-    Ok(text)
+    let mut draft = Draft::new(alloc);
+    put_report(&mut draft, report, booted)?;
+    draft.into_pieces()
 }
 
 /// Appends the text of a report.
-pub fn put_report(text: &mut Vec<u8>, report: Report, booted: &Booted) -> Result<(), Memory>
+pub fn put_report(draft: &mut Draft, report: Report, booted: &Booted) -> Result<(), Memory>
     requires tables { TablesStand booted.now }
     requires runs { AreRuns booted.now.map.items }
-    ensures { OnOk result (text.new.items
-        ≡ text.old.items ++ report_text report (booted_view booted.now)) }
+    ensures { OnOk result (draft_text draft.new
+        ≡ draft_text draft.old ++ report_text report (booted_view booted.now)) }
 {
+    let text = &mut draft.text;
     match report {
         Report::Map => put_map(text, &booted.map),
         Report::Options => put_options(text, &booted.options),
@@ -150,7 +152,15 @@ pub fn put_report(text: &mut Vec<u8>, report: Report, booted: &Booted) -> Result
         Report::Script => put_script(text, &booted.answers),
         Report::Tables => put_tables(text, &booted.heads),
         Report::Buddyinfo => put_buddyinfo(text, &booted.spans, &booted.buddy),
-        Report::Blocks => put_blocks(text, &booted.buddy),
-        Report::Summary => put_summary(text, &summary_of(booted)?),
+        Report::Blocks => put_blocks(draft, &booted.buddy),
+        Report::Summary => put_numbers(text, booted),
     }
+}
+
+/// Appends the text of the summary.
+fn put_numbers(text: &mut Vec<u8>, booted: &Booted) -> Result<(), Memory>
+    requires { AreRuns booted.now.map.items }
+    ensures { OnOk result (text.new.items ≡ text.old.items ++ report_text Report.Summary (booted_view booted.now)) }
+{
+    put_summary(text, &summary_of(booted)?)
 }

@@ -1,17 +1,19 @@
 -- The listed blocks are in bounds: their orders, their first frames, and how many they are.
-use Rattle.std.proofs.Common.{◌≡◌, ℕ, zero, suc, ◌+◌, ◌^◌, ◌<◌, ◌≤◌, ◌==◌, Option, Some, None, List, [], ◌∷◌, length, get_or, arith, inl, inr}
+use Rattle.std.proofs.Common.{◌≡◌, ℕ, zero, suc, ◌+◌, ◌%◌, ◌^◌, ◌<◌, ◌≤◌, ◌==◌, Option, Some, None, List, [], ◌∷◌, length, get_or, arith, inl, inr}
 use Rattle.std.proofs.lemmas.Bool.{cases_Bool}
 use Rattle.frame_blocks.specs.declared.block.Block.{Block}
 use Rattle.frame_blocks.specs.declared.run.TheConstants.{MAX_FRAMES}
 use Rattle.frame_blocks.specs.Frames.{Frames}
-use Rattle.frame_blocks.specs.Listed.{block_for, block_of, blocks_from, blocks_of, led_by_block}
+use Rattle.frame_blocks.specs.Listed.{block_for, block_of, blocks_from, blocks_of, led_by_block, order_up_to}
 use Rattle.frame_blocks.proofs.GoodLaws.{up_small}
+use Rattle.frame_blocks.proofs.SetLaws.{base_whole}
 use Rattle.frame_blocks.proofs.ListLaws.{from-few}
 
--- the order is at most 10, and the first frame lies below 2^40
+-- the order is at most 10, the first frame lies below 2^40, and its number is a multiple of how many there are
 pub record InBounds (b : Block) : Type 0 where
   pub order : b.order ≤ 10
   pub first : b.first < 2 ^ 40
+  pub aligned : b.first % 2 ^ b.order ≡ 0
 
 abbrev pub AreInBounds : List Block → Type 0
 AreInBounds [] = Unit {0}
@@ -32,7 +34,8 @@ led_in_bounds x (Some b) bs one rest =
 
 found_in_bounds : (f : Frames) (x : ℕ) (n : Option ℕ) → x < 2 ^ 40 → MayBeInBounds (block_for f x n)
 found_in_bounds f x None low = tt
-found_in_bounds f x (Some n) low = record { order = up_small f x n 10; first = omega arith }
+found_in_bounds f x (Some n) low =
+    record { order = up_small f x n 10; first = omega arith; aligned = base_whole (2 ^ order_up_to f x n 10) x }
 
 from_in_bounds : (f : Frames) (x n : ℕ) → x + n ≤ 2 ^ 40 → AreInBounds (blocks_from f x n)
 unfolding blocks_from

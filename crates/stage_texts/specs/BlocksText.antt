@@ -3,8 +3,10 @@ use Rattle.std.specs.Prelude.{ℕ, List, ◌++◌, codes, decimal}
 use Rattle.bm_base.specs.Frames.{bytes_of_frame}
 use Rattle.bm_base.specs.Text.{hex_text}
 use Rattle.frame_blocks.specs.declared.block.Block.{Block}
+use Rattle.frame_blocks.specs.declared.block.BlockRow.{BlockRow}
 use Rattle.frame_blocks.specs.Frames.{Frames}
 use Rattle.frame_blocks.specs.Listed.{blocks_of}
+use Rattle.frame_blocks.specs.Rows.{blocks_of_row}
 use Rattle.report_texts.specs.Lines.{lines_from}
 use Rattle.stage_texts.specs.ZonesText.{zone_name}
 
@@ -17,3 +19,7 @@ block_line n b =
 -- all blocks, ascending, by the frames that are free
 abbrev pub blocks_text : Frames → List ℕ
 blocks_text f = lines_from block_line 0 (blocks_of f)
+
+-- those of a row
+abbrev pub row_text : BlockRow → List ℕ
+row_text row = lines_from block_line 0 (blocks_of_row row)

@@ -1,6 +1,7 @@
 pub mod BlocksText
 pub mod CrashText
 pub mod NodesText
+pub mod Pieces
 pub mod ScriptText
 pub mod SectionsText
 pub mod Sheets

@@ -1,8 +1,8 @@
 //! The texts of small stages, put once each with memory to spare.
 
 use crate::{
-    Fullness, Summary, put_blocks, put_buddyinfo, put_crash, put_nodes, put_script, put_sections,
-    put_summary, put_zones,
+    Draft, Fullness, Piece, Summary, put_blocks, put_buddyinfo, put_crash, put_nodes, put_script,
+    put_sections, put_summary, put_zones,
 };
 use arrayvec::ArrayVec;
 use bm_base::{Range, Zone};
@@ -158,11 +158,56 @@ fn zones_and_blocks(rt: HostRuntime) -> Result<(), Fail> {
         b"Node 1, zone      DMA      1      1      0      0      0      0      0      0      0      0      0 \nNode 1, zone    DMA32      0      0      1      0      0      0      0      0      0      0      0 \n";
     assert_eq!(rt; text.as_slice(), want.as_slice());
 
-    let mut text = Vec::new(rt.alloc());
-    put_blocks(&mut text, &buddy)?;
+    let mut draft = Draft::new(rt.alloc());
+    put_blocks(&mut draft, &buddy)?;
     let want =
         b"node 1 zone DMA order 0 0x0000000000ffd000\nnode 1 zone DMA order 1 0x0000000000ffe000\nnode 1 zone DMA32 order 2 0x0000000001000000\n";
-    assert_eq!(rt; text.as_slice(), want.as_slice());
+    assert_eq!(rt; draft.text.as_slice(), want.as_slice());
+    assert_eq!(rt; draft.into_pieces()?.len(), 1);
+    Ok(())
+}
+
+// 2,050 blocks of the greatest order, from 4 MiB below 8 GiB on: a line, two sheets, and a line.
+#[test]
+fn sheets(rt: HostRuntime) -> Result<(), Fail> {
+    let mut buddy = Buddy::new(rt.alloc());
+    buddy.free_frames(0x1F_FC00, 2050 << 10, 0)?;
+    let mut draft = Draft::new(rt.alloc());
+    put_blocks(&mut draft, &buddy)?;
+    let mut pieces = draft.into_pieces()?;
+    let [
+        Piece::Text(before),
+        Piece::Sheets(sheets),
+        Piece::Text(behind),
+    ] = pieces.as_mut_slice()
+    else {
+        return Err("other pieces".into());
+    };
+    let want = b"node 0 zone Normal order 10 0x00000001ffc00000\n";
+    assert_eq!(rt; before.as_slice(), want.as_slice());
+    assert!(rt; !sheets.is_empty());
+    let want =
+        b"node 0 zone Normal order 10 0x0000000200000000\nnode 0 zone Normal order 10 0x0000000200400000\n";
+    assert!(rt; sheets.sheet().starts_with(want));
+    assert!(rt;
+        sheets
+            .sheet()
+            .ends_with(b"node 0 zone Normal order 10 0x00000002ffc00000\n")
+    );
+    sheets.turn();
+    assert!(rt; !sheets.is_empty());
+    let want =
+        b"node 0 zone Normal order 10 0x0000000300000000\nnode 0 zone Normal order 10 0x0000000300400000\n";
+    assert!(rt; sheets.sheet().starts_with(want));
+    assert!(rt;
+        sheets
+            .sheet()
+            .ends_with(b"node 0 zone Normal order 10 0x00000003ffc00000\n")
+    );
+    sheets.turn();
+    assert!(rt; sheets.is_empty());
+    let want = b"node 0 zone Normal order 10 0x0000000400000000\n";
+    assert_eq!(rt; behind.as_slice(), want.as_slice());
     Ok(())
 }
 

@@ -1,43 +1,49 @@
--- The blocks are those of the free frames, so their orders are small, and the frames of one more fit.
-use Rattle.std.proofs.Common.{◌≡◌, ◌+◌, ◌∙◌, ◌^◌, ◌≤◌, sym, subst, List, arith}
+-- The blocks of the rows are those of the free frames, so the frames of one more row fit.
+use Rattle.std.proofs.Common.{◌≡◌, ◌∙◌, List, ap, arith}
 use Rattle.bm_base.specs.declared.zone.Zone.TheVariants as zone
-use Rattle.frame_blocks.specs.declared.block.Block.{Block}
+use Rattle.frame_blocks.specs.declared.block.BlockRow.{BlockRow}
 use Rattle.frame_blocks.specs.Listed.{blocks_of}
+use Rattle.frame_blocks.specs.Rows.{blocks_of_rows}
 use Rattle.buddy_handover.specs.Contents.{free}
-use Rattle.stage_texts.proofs.BlockLaws.{AreInBounds, at_in_bounds, listed_in_bounds}
-use Rattle.debugfs_reports.specs.Summary.{frames_in}
-use Rattle.debugfs_reports.proofs.SummaryLaws.{listed_frames, more_frames, part_fits}
+use Rattle.debugfs_reports.proofs.SummaryLaws.{counted_few, row_left, row_more}
 use Rattle.debugfs_reports.proofs.summary.summary_of.Goals as goal
 
--- what stands for a block behind the last one
-abbrev no_block : Block
-no_block = record { order = 0; first = 0; node = 0; zone = zone.Dma }
+-- what stands for a row behind the last one
+abbrev no_row : BlockRow
+no_row = record { order = 0; first = 0; count = 0; node = 0; zone = zone.Dma }
 
-pub overflow_shl-free : goal.overflow_shl-free
-overflow_shl-free c =
-    let is : c.deref-block-items.result.now ≡ blocks_of (free c.args.booted.now.buddy) =
-    c.deref-block-items.ensures.value ∙ c.in_ok-blocks.ensures.list in
-    let all = subst (λ (bs : List Block). AreInBounds bs) (sym is) (listed_in_bounds (free c.args.booted.now.buddy)) in
-    let small = (at_in_bounds c.deref-block-items.result.now c.loop-block.block-index no_block all c.loop-block-test.true).order in
-    omega (arith, small)
+pub frames_of-free-requires : goal.frames_of-free-requires
+frames_of-free-requires c =
+    let rows = c.deref-row-items.result.now in
+    let l = c.loop-row in
+    let is : blocks_of_rows rows ≡ blocks_of (free c.args.booted.now.buddy) =
+    ap (λ (rs : List BlockRow). blocks_of_rows rs) c.deref-row-items.ensures.value ∙ c.in_ok-rows.ensures in
+    let few = (counted_few rows l.row-index l.free l.blocks (free c.args.booted.now.buddy) is l.invariant).0 in
+    let left = (row_left rows l.row-index no_row c.loop-row-test.true).0 in
+    omega (arith, few, left)
 
 pub overflow_add-free : goal.overflow_add-free
 overflow_add-free c =
-    let is : c.deref-block-items.result.now ≡ blocks_of (free c.args.booted.now.buddy) =
-    c.deref-block-items.ensures.value ∙ c.in_ok-blocks.ensures.list in
-    let few : frames_in c.deref-block-items.result.now ≤ 2 ^ 50 =
-    subst (λ (bs : List Block). frames_in bs ≤ 2 ^ 50) (sym is) (listed_frames (free c.args.booted.now.buddy)) in
-    let more =
-    more_frames c.deref-block-items.result.now c.loop-block.block-index c.loop-block.free no_block c.loop-block-test.true few
-    c.loop-block.invariant in
-    let fits = part_fits c.deref-block-items.result.now (c.loop-block.block-index + 1) few in
-    omega (arith, more, fits)
+    let rows = c.deref-row-items.result.now in
+    let l = c.loop-row in
+    let is : blocks_of_rows rows ≡ blocks_of (free c.args.booted.now.buddy) =
+    ap (λ (rs : List BlockRow). blocks_of_rows rs) c.deref-row-items.ensures.value ∙ c.in_ok-rows.ensures in
+    let few = (counted_few rows l.row-index l.free l.blocks (free c.args.booted.now.buddy) is l.invariant).0 in
+    let left = (row_left rows l.row-index no_row c.loop-row-test.true).0 in
+    let more = c.frames_of-free.ensures in
+    omega (arith, few, left, more)
 
-pub loop-block-preserved : goal.loop-block-preserved
-loop-block-preserved c =
-    let is : c.deref-block-items.result.now ≡ blocks_of (free c.args.booted.now.buddy) =
-    c.deref-block-items.ensures.value ∙ c.in_ok-blocks.ensures.list in
-    let few : frames_in c.deref-block-items.result.now ≤ 2 ^ 50 =
-    subst (λ (bs : List Block). frames_in bs ≤ 2 ^ 50) (sym is) (listed_frames (free c.args.booted.now.buddy)) in
-    more_frames c.deref-block-items.result.now c.loop-block.block-index c.loop-block.free no_block c.loop-block-test.true few
-    c.loop-block.invariant
+pub overflow_add-blocks : goal.overflow_add-blocks
+overflow_add-blocks c =
+    let rows = c.deref-row-items.result.now in
+    let l = c.loop-row in
+    let is : blocks_of_rows rows ≡ blocks_of (free c.args.booted.now.buddy) =
+    ap (λ (rs : List BlockRow). blocks_of_rows rs) c.deref-row-items.ensures.value ∙ c.in_ok-rows.ensures in
+    let few = (counted_few rows l.row-index l.free l.blocks (free c.args.booted.now.buddy) is l.invariant).1 in
+    let left = (row_left rows l.row-index no_row c.loop-row-test.true).1 in
+    omega (arith, few, left)
+
+pub loop-row-preserved : goal.loop-row-preserved
+loop-row-preserved c =
+    row_more c.deref-row-items.result.now c.loop-row.row-index _ _ _ no_row c.loop-row-test.true c.frames_of-free.ensures
+    c.loop-row.invariant

@@ -1,7 +1,6 @@
--- The frames of the blocks so far.
-use Rattle.std.proofs.Common.{◌≡◌, take}
-use Rattle.debugfs_reports.specs.Summary.{frames_in}
+-- The blocks so far and those of the rows that are left are all, and so are their frames.
+use Rattle.debugfs_reports.proofs.SummaryLaws.{Counted}
 use Rattle.debugfs_reports.proofs.summary.summary_of.Given as goal
 
-abbrev pub invariant-loop-block : goal.invariant-loop-block
-invariant-loop-block l = l.free ≡ frames_in (take l.block-index l.block-items)
+abbrev pub invariant-loop-row : goal.invariant-loop-row
+invariant-loop-row l = Counted l.row-items l.row-index l.free l.blocks

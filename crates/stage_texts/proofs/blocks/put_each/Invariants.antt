@@ -1,13 +1,13 @@
 -- The text so far and the lines of the blocks that are left are those of all blocks.
 use Rattle.std.proofs.Common.{◌≡◌, ◌++◌}
 use Rattle.frame_blocks.specs.Rows.{row_from, blocks_of_row}
-use Rattle.stage_texts.specs.Sheets.{HaveAddresses}
-use Rattle.stage_texts.proofs.SheetLaws.{lines}
+use Rattle.stage_texts.specs.Sheets.{ArePlaced}
+use Rattle.stage_texts.proofs.RowLaws.{lines}
 use Rattle.stage_texts.proofs.blocks.put_each.Given as goal
 
 abbrev pub invariant-loop-left : goal.invariant-loop-left
 invariant-loop-left l = record {
-  low : HaveAddresses (row_from l.row.order l.first l.row.node l.row.zone l.left);
+  low : ArePlaced (row_from l.row.order l.first l.row.node l.row.zone l.left);
   text : l.text.items ++ lines (row_from l.row.order l.first l.row.node l.row.zone l.left)
       ≡ l.fn.text.items ++ lines (blocks_of_row l.row);
 }

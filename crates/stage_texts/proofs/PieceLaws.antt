@@ -1,0 +1,98 @@
+-- The text of a draft: what is appended to its text, and pieces behind it.
+use Rattle.std.proofs.Common.{◌≡◌, ℕ, ◌+◌, ◌-◌, ◌*◌, ◌/◌, ◌%◌, ◌^◌, ◌<◌, ◌≤◌, List, [], ◌∷◌, ◌++◌, sym, ap, ◌∙◌, subst, append_assoc, append-nil, Result, Ok, Err, arith}
+use Rattle.std.specs.Prelude.{OnOk}
+use Rattle.std.proofs.lemmas.Grind.{flat_map-append}
+use Rattle.frame_blocks.specs.declared.block.BlockRow.{BlockRow}
+use Rattle.frame_blocks.specs.declared.block.Block.{Block}
+use Rattle.frame_blocks.specs.Rows.{row_from, blocks_of_row}
+use Rattle.stage_texts.specs.declared.pieces.Piece.{Piece}
+use Rattle.stage_texts.specs.BlocksText.{row_text}
+use Rattle.stage_texts.specs.Pieces.{piece_text, text_of_pieces}
+use Rattle.stage_texts.specs.Sheets.{ArePlaced, FillSheets}
+use Rattle.stage_texts.proofs.RowLaws.{first_placed, lines, lines_append, part, placed_before, placed_behind, row_end, three_parts}
+
+-- what follows of a fact that holds after Ok
+pub on_ok : {E A B : Type 0} (answer : Result (Unit {0}) E) → (A → B) → OnOk answer A → OnOk answer B
+on_ok (Ok done) step holds = step holds
+on_ok (Err error) step holds = tt
+
+-- one piece more
+pub pieces_more : (pieces : List Piece) (piece : Piece) → text_of_pieces (pieces ++ piece ∷ []) ≡ text_of_pieces pieces ++ piece_text piece
+pieces_more pieces piece =
+    flat_map-append piece_text pieces (piece ∷ []) ∙ ap (λ t. text_of_pieces pieces ++ t) (append-nil (piece_text piece))
+
+-- text behind the text that is begun
+pub text_more : (pieces : List Piece) (old new more : List ℕ) → new ≡ old ++ more
+    → text_of_pieces pieces ++ new ≡ (text_of_pieces pieces ++ old) ++ more
+text_more pieces old new more is = ap (λ t. text_of_pieces pieces ++ t) is ∙ sym (append_assoc (text_of_pieces pieces) old more)
+
+-- where the text that is begun becomes a piece, and another one follows
+pub two_pieces : (old new : List Piece) (first second : Piece) (text : List ℕ) → new ≡ (old ++ first ∷ []) ++ second ∷ [] → text ≡ []
+    → text_of_pieces new ++ text ≡ (text_of_pieces old ++ piece_text first) ++ piece_text second
+two_pieces old new first second text is none =
+    ap (λ t. text_of_pieces new ++ t) none ∙ append-nil (text_of_pieces new) ∙ ap text_of_pieces is ∙ pieces_more (old ++ first ∷ []) second
+    ∙ ap (λ t. t ++ piece_text second) (pieces_more old first)
+
+-- how many blocks stand before the first multiple of 4 GiB
+abbrev pub before : ℕ → ℕ
+before x = (1048576 - x % 1048576) % 1048576 / 1024
+
+before_is : (x : ℕ) → x % 1024 ≡ 0 → (before x < 1024) × ((x + before x * 1024) % 1048576 ≡ 0)
+before_is x aligned = (omega arith, omega (arith, aligned))
+
+-- a great row in three parts, of which the middle one fills sheets: b blocks before it, and e behind it
+pub record InParts (row : BlockRow) (b e : ℕ) : Type 0 where
+  pub few : b + e < row.count
+  pub end : row.first + row.count * 1024 ≤ 2 ^ 40
+  pub before : ArePlaced (blocks_of_row (part row 0 b))
+  pub fill : FillSheets (part row b (row.count - b - e))
+  pub behind : ArePlaced (blocks_of_row (part row (row.count - e) e))
+  pub text : row_text row ≡ row_text (part row 0 b) ++ (row_text (part row b (row.count - b - e)) ++ row_text (part row (row.count - e) e))
+
+in_parts : (row : BlockRow) (b m e : ℕ) → row.order ≡ 10 → row.count ≡ b + (m + e) → 0 < m → m % 1024 ≡ 0 → m ≡ row.count - b - e
+    → (row.first + b * 1024) % 1048576 ≡ 0 → row.first + row.count * 1024 ≤ 2 ^ 40 → ArePlaced (blocks_of_row row) → InParts row b e
+in_parts row b m e great count some whole middle aligned end placed =
+    let front : List Block = blocks_of_row (part row 0 b) in
+    let back : List Block = blocks_of_row (part row (row.count - e) e) in
+    let all : blocks_of_row row ≡ front ++ (blocks_of_row (part row b (row.count - b - e)) ++ back) =
+    three_parts row b m e great count ∙ ap (λ k. front ++ (blocks_of_row (part row b k) ++ back)) middle in
+    let parts = subst (λ (bs : List Block). ArePlaced bs) all placed in
+    record {
+      few = omega (arith, count, some);
+      end = end;
+      before = placed_before front _ parts;
+      fill = record {
+        order = great;
+        first = aligned;
+        count = subst (λ (k : ℕ). k % 1024 ≡ 0) middle whole;
+        end = omega (arith, count, end);
+      };
+      behind = placed_behind (blocks_of_row (part row b (row.count - b - e))) back (placed_behind front _ parts);
+      text = ap lines all ∙ lines_append front _
+          ∙ ap (λ t. lines front ++ t) (lines_append (blocks_of_row (part row b (row.count - b - e))) back);
+    }
+
+pub great_parts : (row : BlockRow) → row.order ≡ 10 → 2048 ≤ row.count → ArePlaced (blocks_of_row row)
+    → InParts row (before row.first) ((row.count - before row.first) % 1024)
+great_parts row great many placed =
+    let here = subst (λ (o : ℕ). ArePlaced (row_from o row.first row.node row.zone row.count)) great placed in
+    let first = first_placed 10 row.first row.node row.count row.zone here (omega (arith, many)) in
+    let aligned = first.2 in
+    let front = before_is row.first aligned in
+    let few = front.0 in
+    let b : ℕ = before row.first in
+    in_parts row b ((row.count - b) / 1024 * 1024) ((row.count - b) % 1024) great (omega (arith, many, few)) (omega (arith, many, few))
+    (omega arith) (omega (arith, many, few)) front.1 (row_end row.count row.first row.node row.zone here (omega (arith, many))) placed
+
+-- the text of the three parts, one behind another
+pub parts_put : (row : BlockRow) (b e : ℕ) (old first second third : List ℕ) → InParts row b e
+    → first ≡ old ++ row_text (part row 0 b)
+    → second ≡ first ++ row_text (part row b (row.count - b - e))
+    → third ≡ second ++ row_text (part row (row.count - e) e)
+    → third ≡ old ++ row_text row
+parts_put row b e old first second third parts one two three =
+    let p : List ℕ = row_text (part row 0 b) in
+    let q : List ℕ = row_text (part row b (row.count - b - e)) in
+    let r : List ℕ = row_text (part row (row.count - e) e) in
+    three ∙ ap (λ t. t ++ r) (two ∙ ap (λ t. t ++ q) one) ∙ append_assoc (old ++ p) q r ∙ append_assoc old p (q ++ r)
+    ∙ ap (λ t. old ++ t) (sym parts.text)

@@ -1,0 +1,162 @@
+-- The lines of blocks that follow one another in rows, and where such blocks lie.
+use Rattle.std.proofs.Common.{◌≡◌, ℕ, zero, suc, ◌+◌, ◌-◌, ◌*◌, ◌%◌, ◌^◌, ◌<◌, ◌≤◌, List, [], ◌∷◌, ◌++◌, length, drop, refl, sym, ap, ◌∙◌, subst, append_assoc, append-nil, drop-cons, get_or, arith}
+use Rattle.std.proofs.Math.Nat.{suc-mul, pow-le-pow_right}
+use Rattle.bm_base.specs.declared.zone.Zone.{Zone}
+use Rattle.frame_blocks.specs.declared.block.Block.{Block}
+use Rattle.frame_blocks.specs.declared.block.BlockRow.{BlockRow}
+use Rattle.frame_blocks.specs.Rows.{row_from, blocks_of_row, blocks_of_rows}
+use Rattle.report_texts.specs.Lines.{lines_from}
+use Rattle.stage_texts.specs.BlocksText.{block_line}
+use Rattle.stage_texts.specs.Sheets.{ArePlaced}
+use Rattle.stage_texts.proofs.BlockLaws.{AreInBounds}
+
+-- the lines of blocks
+abbrev pub lines : List Block → List ℕ
+lines bs = lines_from block_line 0 bs
+
+-- no line has its index
+lines_any : (i k : ℕ) (bs : List Block) → lines_from block_line i bs ≡ lines_from block_line k bs
+lines_any i k [] = refl
+lines_any i k (b ∷ bs) = ap (λ t. block_line 0 b ++ t) (lines_any (i + 1) (k + 1) bs)
+
+pub lines_first : (b : Block) (bs : List Block) → lines (b ∷ bs) ≡ block_line 0 b ++ lines bs
+lines_first b bs = ap (λ t. block_line 0 b ++ t) (lines_any 1 0 bs)
+
+pub lines_append : (bs cs : List Block) → lines (bs ++ cs) ≡ lines bs ++ lines cs
+lines_append [] cs = refl
+lines_append (b ∷ bs) cs =
+    lines_first b (bs ++ cs) ∙ ap (λ t. block_line 0 b ++ t) (lines_append bs cs)
+    ∙ sym (append_assoc (block_line 0 b) (lines bs) (lines cs)) ∙ ap (λ t. t ++ lines cs) (sym (lines_first b bs))
+
+-- two rows, one behind the other
+pub row_parts : (k m o x n : ℕ) (z : Zone) → row_from o x n z (k + m) ≡ row_from o x n z k ++ row_from o (x + k * 2 ^ o) n z m
+unfolding row_from
+row_parts zero m o x n z =
+    let none : 0 + m ≡ m = omega arith in
+    let here : x ≡ x + 0 * 2 ^ o = omega arith in
+    ap (λ i. row_from o x n z i) none ∙ ap (λ y. row_from o y n z m) here
+row_parts (suc k) m o x n z =
+    let more : suc k + m ≡ suc (k + m) = omega arith in
+    let there : x + 2 ^ o + k * 2 ^ o ≡ x + suc k * 2 ^ o = let h = suc-mul k (2 ^ o) in omega (arith, h) in
+    let b : Block = record { order = o; first = x; node = n; zone = z } in
+    ap (λ i. row_from o x n z i) more
+    ∙ ap (λ (bs : List Block). b ∷ bs) (row_parts k m o (x + 2 ^ o) n z
+    ∙ ap (λ y. row_from o (x + 2 ^ o) n z k ++ row_from o y n z m) there)
+
+pub some_first : (o x n k : ℕ) (z : Zone) → 0 < k
+    → row_from o x n z k ≡ (let b : Block = record { order = o; first = x; node = n; zone = z } in b) ∷ row_from o (x + 2 ^ o) n z (k - 1)
+unfolding row_from
+some_first o x n zero z some = absurd (omega arith)
+some_first o x n (suc k) z some =
+    let less : k ≡ suc k - 1 = omega arith in
+    ap (λ i. row_from o x n z 1 ++ row_from o (x + 2 ^ o) n z i) less
+
+-- blocks in bounds are placed
+pub bounds_placed : (bs : List Block) → AreInBounds bs → ArePlaced bs
+bounds_placed [] all = tt
+bounds_placed (b ∷ bs) all = (all.0.order, all.0.first, all.0.aligned, bounds_placed bs all.1)
+
+-- those behind others are placed too, and so are those before them
+pub placed_behind : (bs cs : List Block) → ArePlaced (bs ++ cs) → ArePlaced cs
+placed_behind [] cs all = all
+placed_behind (b ∷ bs) cs all = placed_behind bs cs all.3
+
+pub placed_before : (bs cs : List Block) → ArePlaced (bs ++ cs) → ArePlaced bs
+placed_before [] cs all = tt
+placed_before (b ∷ bs) cs all = (all.0, all.1, all.2, placed_before bs cs all.3)
+
+-- the first of some blocks in a row, and those behind it
+pub first_placed : (o x n k : ℕ) (z : Zone) → ArePlaced (row_from o x n z k) → 0 < k → (o ≤ 10) × (x < 2 ^ 40) × (x % 2 ^ o ≡ 0)
+first_placed o x n k z all some =
+    let parts = subst (λ (bs : List Block). ArePlaced bs) (some_first o x n k z some) all in (parts.0, parts.1, parts.2)
+
+pub rest_placed : (o x n k : ℕ) (z : Zone) → ArePlaced (row_from o x n z k) → 0 < k → ArePlaced (row_from o (x + 2 ^ o) n z (k - 1))
+rest_placed o x n k z all some =
+    let parts = subst (λ (bs : List Block). ArePlaced bs) (some_first o x n k z some) all in parts.3
+
+-- the line of one of them more, and none left
+pub next_block : (o x n k y : ℕ) (z : Zone) (before after whole : List ℕ) → 0 < k → y ≡ x + 2 ^ o
+    → after ≡ before ++ block_line 0 (record { order = o; first = x; node = n; zone = z })
+    → before ++ lines (row_from o x n z k) ≡ whole → after ++ lines (row_from o y n z (k - 1)) ≡ whole
+next_block o x n k y z before after whole some next put so_far =
+    let b : Block = record { order = o; first = x; node = n; zone = z } in
+    let rest : List Block = row_from o (x + 2 ^ o) n z (k - 1) in
+    ap (λ i. after ++ lines (row_from o i n z (k - 1))) next ∙ ap (λ t. t ++ lines rest) put
+    ∙ append_assoc before (block_line 0 b) (lines rest)
+    ∙ ap (λ t. before ++ t) (sym (ap lines (some_first o x n k z some) ∙ lines_first b rest)) ∙ so_far
+
+pub none_more : (o x n k : ℕ) (z : Zone) (text whole : List ℕ) → k ≡ 0 → text ++ lines (row_from o x n z k) ≡ whole → text ≡ whole
+none_more o x n k z text whole none so_far =
+    let empty : lines (row_from o x n z 0) ≡ [] = unfold row_from in refl in
+    sym (append-nil text) ∙ ap (λ t. text ++ t) (sym (ap (λ i. lines (row_from o x n z i)) none ∙ empty)) ∙ so_far
+
+pub no_lines : (o x n k : ℕ) (z : Zone) → k ≡ 0 → lines (row_from o x n z k) ≡ []
+no_lines o x n k z none =
+    let empty : lines (row_from o x n z 0) ≡ [] = unfold row_from in refl in
+    ap (λ i. lines (row_from o x n z i)) none ∙ empty
+
+-- blocks of the greatest order that end by 2^40
+pub row_low : (k x n : ℕ) (z : Zone) → x % 1024 ≡ 0 → x + k * 1024 ≤ 2 ^ 40 → ArePlaced (row_from 10 x n z k)
+unfolding row_from
+row_low zero x n z aligned low = tt
+row_low (suc k) x n z aligned low =
+    let sum = suc-mul k 1024 in
+    (omega arith, omega (arith, sum, low), aligned, row_low k (x + 2 ^ 10) n z (omega (arith, aligned)) (omega (arith, sum, low)))
+
+-- and they do end there
+pub row_end : (k x n : ℕ) (z : Zone) → ArePlaced (row_from 10 x n z k) → 0 < k → x + k * 1024 ≤ 2 ^ 40
+unfolding row_from
+row_end zero x n z all some = absurd (omega (arith, some))
+row_end (suc zero) x n z all some = let low = all.1 in let aligned = all.2 in omega (arith, low, aligned)
+row_end (suc (suc k)) x n z all some =
+    let rest = row_end (suc k) (x + 2 ^ 10) n z all.3 (omega arith) in
+    let sum = suc-mul (suc k) 1024 in
+    omega (arith, rest, sum)
+
+-- so many blocks of such a row, from the given one on
+abbrev pub part : BlockRow → ℕ → ℕ → BlockRow
+part row skipped count = record row { first = row.first + skipped * 1024; count = count }
+
+-- the row in three parts
+pub three_parts : (row : BlockRow) (b m e : ℕ) → row.order ≡ 10 → row.count ≡ b + (m + e)
+    → blocks_of_row row ≡ blocks_of_row (part row 0 b) ++ (blocks_of_row (part row b m) ++ blocks_of_row (part row (row.count - e) e))
+three_parts row b m e great count =
+    let o : ℕ = row.order in
+    let n : ℕ = row.node in
+    let z : Zone = row.zone in
+    let x : ℕ = row.first in
+    let here : x ≡ x + 0 * 1024 = omega arith in
+    let next : x + b * 2 ^ o ≡ x + b * 1024 = ap (λ i. x + b * 2 ^ i) great in
+    let last : x + b * 1024 + m * 2 ^ o ≡ x + (row.count - e) * 1024 =
+    ap (λ i. x + b * 1024 + m * 2 ^ i) great ∙ omega (arith, count) in
+    ap (λ k. row_from o x n z k) count ∙ row_parts b (m + e) o x n z
+    ∙ ap (λ y. row_from o y n z b ++ row_from o (x + b * 2 ^ o) n z (m + e)) here
+    ∙ ap (λ y. blocks_of_row (part row 0 b) ++ row_from o y n z (m + e)) next
+    ∙ ap (λ bs. blocks_of_row (part row 0 b) ++ bs) (row_parts m e o (x + b * 1024) n z
+    ∙ ap (λ y. blocks_of_row (part row b m) ++ row_from o y n z e) last)
+
+-- one row of a list, and the text with its lines
+pub rows_placed : (rs : List BlockRow) (i : ℕ) (d : BlockRow) → ArePlaced (blocks_of_rows rs) → i < length rs
+    → ArePlaced (blocks_of_row (get_or rs i d))
+rows_placed [] i d all within = absurd (omega arith)
+rows_placed (r ∷ rs) zero d all within = placed_before (blocks_of_row r) (blocks_of_rows rs) all
+rows_placed (r ∷ rs) (suc i) d all within =
+    rows_placed rs i d (placed_behind (blocks_of_row r) (blocks_of_rows rs) all) (omega arith)
+
+pub row_put : (rs : List BlockRow) (i : ℕ) (d : BlockRow) (before after whole : List ℕ) → i < length rs
+    → after ≡ before ++ lines (blocks_of_row (get_or rs i d)) → before ++ lines (blocks_of_rows (drop i rs)) ≡ whole
+    → after ++ lines (blocks_of_rows (drop (i + 1) rs)) ≡ whole
+row_put rs i d before after whole within put so_far =
+    let r : BlockRow = get_or rs i d in
+    let rest : List Block = blocks_of_rows (drop (i + 1) rs) in
+    let next : suc i ≡ i + 1 = omega arith in
+    let first : drop i rs ≡ r ∷ drop (i + 1) rs =
+    drop-cons rs i d within ∙ ap (λ k. r ∷ drop k rs) next in
+    ap (λ t. t ++ lines rest) put ∙ append_assoc before (lines (blocks_of_row r)) (lines rest)
+    ∙ ap (λ t. before ++ t) (sym (ap (λ (qs : List BlockRow). lines (blocks_of_rows qs)) first ∙ lines_append (blocks_of_row r) rest))
+    ∙ so_far
+
+-- the frames of a block as code says them
+pub size_is : (o : ℕ) → o ≤ 10 → (1 * 2 ^ o % 18446744073709551616 ≡ 2 ^ o) × (2 ^ o ≤ 1024)
+size_is o small =
+    let few : 2 ^ o ≤ 2 ^ 10 = pow-le-pow_right {n = 2} (omega arith) small in (omega (arith, few), omega (arith, few))
