@@ -268,7 +268,7 @@ fn sheets_of_blocks(rt: HostRuntime) -> Result<(), Fail> {
     let first = b"node 0 zone Normal order 10 0x0000000100000000\n";
     let at = text
         .windows(47)
-        .position(|part| part == first)
+        .position(|part| part == first.as_slice())
         .ok_or("no great block")?;
     let great = text.get(at..).ok_or("no great block")?;
     let cases = [

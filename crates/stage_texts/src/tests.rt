@@ -175,14 +175,11 @@ fn sheets(rt: HostRuntime) -> Result<(), Fail> {
     let mut draft = Draft::new(rt.alloc());
     put_blocks(&mut draft, &buddy)?;
     let mut pieces = draft.into_pieces()?;
-    let [
-        Piece::Text(before),
-        Piece::Sheets(sheets),
-        Piece::Text(behind),
-    ] = pieces.as_mut_slice()
-    else {
+    let (Some(Piece::Text(behind)), Some(Piece::Sheets(sheets)), Some(Piece::Text(before)), None) =
+        (pieces.pop(), pieces.pop(), pieces.pop(), pieces.pop()) else {
         return Err("other pieces".into());
     };
+    let mut sheets = sheets;
     let want = b"node 0 zone Normal order 10 0x00000001ffc00000\n";
     assert_eq!(rt; before.as_slice(), want.as_slice());
     assert!(rt; !sheets.is_empty());
