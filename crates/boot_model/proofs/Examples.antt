@@ -25,10 +25,21 @@ use Rattle.boot_model.specs.declared.stop.Stop.TheVariants as stops
 use Rattle.script_reader.specs.declared.act.Act.TheVariants as acts
 use Rattle.early_script.specs.declared.outcome.Outcome.TheVariants as outcomes
 use Rattle.early_script.specs.Acted.{deed}
-use Rattle.boot_model.specs.Boot.{Given, Made, begin, begin_with, boot, claims, has_room, lies_in_memory, runs_lines, told, unless_stopped, with_items}
+use Rattle.early_script.specs.Stage.{Stage as Script}
+use Rattle.bm_base.specs.Each.{each_from, each_in}
+use Rattle.table_frames.specs.Frames.{free_in}
+use Rattle.memblock_model.specs.declared.item.Item.{Item}
+use Rattle.memblock_model.specs.declared.owner.Owner.TheVariants as owner
+use Rattle.numa_nodes.specs.Assigned.{Noded}
+use Rattle.crash_kernel.specs.declared.crash.Crash.{Crash}
+use Rattle.growth_model.specs.declared.refusal.Refusal.TheVariants as refusal
+use Rattle.stage_model.specs.declared.stop.StageStop.TheVariants as stage
+use Rattle.stage_model.specs.declared.stop.What.TheVariants as what
+use Rattle.boot_model.specs.Boot.{Given, Made, begin, begin_with, behind_lines, boot, claims, handed_over, has_room, lies_in_memory, put_crash, put_nodes, put_sections, runs_lines, told, unless_stopped, with_items}
 use Rattle.boot_model.specs.Kernel.{IsKernel, is_kernel}
+use Rattle.boot_model.specs.Sections.{SectionPlaces}
 use Rattle.boot_model.specs.Stages.{in_order}
-use Rattle.boot_model.specs.Stop.{cause_of, cause_of_growth, cause_of_map, stop_of}
+use Rattle.boot_model.specs.Stop.{cause_of, cause_of_growth, cause_of_map, cause_of_refusal, cause_of_stage, stop_of}
 use Rattle.boot_model.specs.View.{inputs_view, booted_view}
 
 -- a chain of two stages on numbers, of which the second stops at 2
@@ -75,6 +86,25 @@ unknown_line : runs_lines image (record { number = 3; act = acts.Free 7 } ∷ []
 unfolding deed
 unknown_line = refl
 
+-- behind lines all that their script has stands, and what a stage answers is put beside what was made
+behind_example : (s : Script) → behind_lines made s
+    ≡ record made { items = s.state.items; ids = s.state.ids; fills = s.fills; answers = s.answers }
+behind_example s = refl
+
+put_examples : (n : Noded) (c : Crash) (s : SectionPlaces) → ((put_nodes n made).nodes ≡ n) × ((put_crash c made).crash ≡ c)
+    × ((put_sections s made).sections ≡ s)
+put_examples n c s = (refl, refl, refl)
+
+-- of two frames of node 3 the one of which somebody has a byte isn't handed over
+abbrev two_frames : List Item
+two_frames =
+    item.Mem (record { base = 0x1000; size = 0x2000 }) ∷ item.Node (record { base = 0x1000; size = 0x2000 }) 3
+    ∷ item.Claim (record { base = 0x1800; size = 1 }) owner.Kernel ∷ []
+
+handed_examples : (handed_over two_frames 1 ≡ None) × (handed_over two_frames 2 ≡ Some 3)
+unfolding free_in each_in each_from
+handed_examples = (refl, refl)
+
 few_runs : has_room made ≡ Ok made
 few_runs = refl
 
@@ -94,6 +124,11 @@ map_examples = (refl, refl)
 
 growth_example : cause_of_growth (record { which = which.Memory; room = 256 }) ≡ causes.NoTablePlace which.Memory 256
 growth_example = refl
+
+stage_examples : (cause_of_stage (stage.NoPlace (what.Root 3)) ≡ causes.NoPlace (what.Root 3))
+    × (cause_of_stage (stage.NoTablePlace which.Reserved 128) ≡ causes.NoTablePlace which.Reserved 128)
+    × (cause_of_refusal (refusal.NoGapForTable which.Memory 256) ≡ causes.NoTablePlace which.Memory 256)
+stage_examples = (refl, refl, refl)
 
 -- RAM and the kernel's own memory are memory; a reserved run isn't, nor is what lies in no run
 memory_examples : (lies_in_memory two_runs 0x1000 ≡ true) × (lies_in_memory two_runs 0x1FFF ≡ true)

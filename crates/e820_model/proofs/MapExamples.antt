@@ -1,7 +1,8 @@
 -- Small maps: the types of addresses, and the runs of them over all addresses.
-use Rattle.std.proofs.Common.{◌≡◌, ℕ, ◌^◌, ◌+◌, ◌<◌, true, false, Some, None, List, [], ◌∷◌, refl, arith}
+use Rattle.std.proofs.Common.{◌≡◌, ℕ, ◌^◌, ◌+◌, ◌*◌, ◌<◌, true, false, Some, None, List, [], ◌∷◌, refl, arith}
 use Rattle.std.proofs.lemmas.Bool.Decides.{nat_tests}
 use Rattle.address_runs.specs.Runs.{RunOf, value_at}
+use Rattle.e820_model.specs.declared.room.TheConstants.{E820_MAX_ENTRIES}
 use Rattle.e820_model.specs.Claims.{type_of}
 use Rattle.e820_model.specs.Map.{some_kind, kinds, same_kind, map_of, claims_of, AreClaims}
 use Rattle.e820_model.specs.Greater.{greater}
@@ -85,3 +86,7 @@ halves_are_one_run =
 -- no claims, no runs
 no_claims_no_runs : [] ≡ map_of (claims_of [])
 no_claims_no_runs = map_unique [] [] tt (record { runs = tt; each = λ x. rw (type_top [] x tt) refl })
+
+-- the table has room for the zero page's 128 entries, and for three more of each of 1,024 nodes
+room_example : E820_MAX_ENTRIES ≡ 128 + 3 * 1024
+room_example = refl

@@ -58,6 +58,13 @@ nothing_wanted_of_no_map : first_items limit (bytes 0x1000000 0x2000000) None []
     ∷ closing_items (memory_end limit (value_at []))
 nothing_wanted_of_no_map = refl
 
+-- and an initrd is claimed before that limit
+wanted_with_an_initrd : first_items limit (bytes 0x1000000 0x2000000) (Some (bytes 0x7000000 0x3000)) []
+    ≡ item.Claim (bytes 0x1000000 0x2000000) owner.Kernel ∷ item.Claim (bytes 0 0x10000) owner.Low64K
+    ∷ item.Claim (bytes 0x7000000 0x3000) owner.Initrd ∷ item.Limit 0x100000
+    ∷ closing_items (memory_end limit (value_at []))
+wanted_with_an_initrd = refl
+
 -- ends
 frame_ends : (behind_frame None ≡ 0) × (behind_frame (Some 0) ≡ 0x1000) × (behind_frame (Some 3) ≡ 0x4000)
 frame_ends = (refl, refl, refl)

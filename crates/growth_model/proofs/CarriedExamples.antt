@@ -6,7 +6,7 @@ use Rattle.memblock_model.specs.declared.owner.Owner.TheVariants as owner
 use Rattle.memblock_model.specs.declared.item.Item.{Item}
 use Rattle.memblock_model.specs.declared.item.Item.TheVariants as item
 use Rattle.growth_model.specs.Outcome.{Refused}
-use Rattle.growth_model.specs.Growth.{added}
+use Rattle.growth_model.specs.Growth.{claimed, freed, added, noded}
 use Rattle.growth_model.specs.Carried.{AreQuiet, carried_out, change, ended, is_of_memory, memory_items, unless_refused}
 
 abbrev page : Extent
@@ -18,6 +18,12 @@ full = record { which = which.Reserved; room = 128 }
 -- a range is added behind growth; a trim is written as it is
 changes : (items : List Item) → (change (item.Mem page) items ≡ added page items) × ((change item.Trim items).steps ≡ (item.Trim ∷ []) ∷ [])
 changes items = (refl, refl)
+
+-- and so does a node, a claim and a free
+grow_first : (items : List Item) → (change (item.Node page 3) items ≡ noded page 3 items)
+    × (change (item.Claim page owner.Soft) items ≡ claimed page owner.Soft items)
+    × (change (item.Free page) items ≡ freed page items)
+grow_first items = (refl, refl, refl)
 
 -- what a change comes to, with and without a refusal
 ends_well : ended (item.Trim ∷ []) (record { steps = (item.Free page ∷ []) ∷ []; refused = None }) ≡ Ok (item.Trim ∷ item.Free page ∷ [])

@@ -12,7 +12,7 @@ use Rattle.memblock_model.specs.declared.owner.Owner.TheVariants as owner
 use Rattle.memblock_model.specs.declared.item.Item.{Item}
 use Rattle.memblock_model.specs.declared.item.Item.TheVariants as item
 use Rattle.memblock_model.specs.Labels.{Label, plain_label}
-use Rattle.memblock_model.specs.Tables.{table_of, records_of}
+use Rattle.memblock_model.specs.Tables.{table_of, records_of, room_of}
 use Rattle.memblock_model.specs.Search.{fits_in, best}
 use Rattle.memblock_model.proofs.SearchLaws.{fits_in-parts, fits_in-whole, best_in-last, best_in-fails}
 use Rattle.memblock_model.proofs.TableLaws.{records_for-is}
@@ -352,6 +352,21 @@ nothing_to_leave = refl
 a_frame_to_leave : leave (Some (frame 16)) small ≡ write (item.Free (frame 16)) small
 a_frame_to_leave = ap (λ (o : Outcome). let whole : Outcome = record { steps = o.steps; refused = None } in whole) a_free
 
+leaving_is_never_refused : (frames : Extent) (items : List Item) → (leave (Some frames) items).refused ≡ None
+leaving_is_never_refused frames items = refl
+
+-- a free may add two records: where 127 of 128 are there, the table grows first, and without a place the free is refused
+free_behind_127 : (range : Extent) (items : List Item) → count which.Reserved items ≡ 127 → room_of which.Reserved items ≡ 128
+    → place_beside range 128 items ≡ None → freed range items ≡ refuse which.Reserved 128 items
+unfolding freed reserved_growth reserved_growth_at
+free_behind_127 range items many room none =
+    let due = is_full which.Reserved two in
+    let past : room_of which.Reserved items < count which.Reserved items + 2 = omega (arith, many, room) in
+    let full : is_full which.Reserved two items ≡ true = grind (arith, nat_tests, past) in
+    let first : if_due due (reserved_growth range) items ≡ refuse which.Reserved 128 items = rw full (rw room (rw none refl)) in
+    let both : Outcome → Outcome = λ o. followed_by o o.refused (if_due due (reserved_growth range) (after items o)) in
+    ap (λ (o : Outcome). followed_by (both o) (both o).refused (write (item.Free range) (after items (both o)))) first
+
 -- the growth of the memory table: the claim of its new place, and the move
 place_claimed : claimed (frames_at 253952 6144) (owner.Table which.Memory) small
     ≡ write (item.Claim (record { base = 253952; size = 8192 }) (owner.Table which.Memory)) small
@@ -381,6 +396,14 @@ memory_grows : memory_growth small ≡ first_growth
 unfolding memory_growth
 memory_grows = ap (λ (o : Option ℕ). memory_growth_at 128 None o small)
     (window_place 0 262144 253952 refl (omega arith) refl (omega arith) (omega arith)) ∙ place_taken
+
+-- memory goes on above the limit, and the new place doesn't
+abbrev half_allowed : List Item
+half_allowed = item.Mem (record { base = 0; size = 262144 }) ∷ (item.Claim image owner.Kernel ∷ (item.Limit 131072 ∷ []))
+
+grows_below_the_limit : memory_growth half_allowed ≡ memory_growth_at 128 None (best half_allowed (table_query 128 0 131072)) half_allowed
+unfolding memory_growth
+grows_below_the_limit = refl
 
 without_memory : memory_growth [] ≡ refuse which.Memory 128 []
 unfolding memory_growth memory_growth_at best
@@ -442,6 +465,10 @@ no_search = refl
 second_search : first_best small (table_query 128 5 5 ∷ (table_query 128 0 262144 ∷ [])) ≡ Some 253952
 second_search = ap (λ (o : Option ℕ). option_or o (first_best small (table_query 128 0 262144 ∷ []))) (no_window 5 5 (omega arith))
     ∙ ap (λ (o : Option ℕ). option_or o None) (window_place 0 262144 253952 refl (omega arith) refl (omega arith) (omega arith))
+
+first_search : first_best small (table_query 128 0 131072 ∷ (table_query 128 0 262144 ∷ [])) ≡ Some 122880
+first_search = ap (λ (o : Option ℕ). option_or o (first_best small (table_query 128 0 262144 ∷ [])))
+    (window_place 0 131072 122880 refl (omega arith) refl (omega arith) (omega arith))
 
 -- eight KiB go to the top of memory; half a MiB doesn't fit
 abbrev two_frames_please : Request

@@ -43,6 +43,9 @@ a_spot = record {
 not_aligned : Spot claims (record { base = 4097; size = 16 }) → ⊥
 not_aligned spot = let aligned = spot.aligned in cc
 
+amid_a_frame : Spot claims (record { base = 2048; size = 16 }) → ⊥
+amid_a_frame spot = let aligned = spot.aligned in cc
+
 not_of_script : Spot claims (record { base = 8192; size = 3072 }) → ⊥
 not_of_script spot = let kept = spot.kept 9000 refl in cc
 
@@ -55,6 +58,9 @@ two_frames_apart x y at_x at_y same =
 
 one_frame : Apart (record { base = 0; size = 16 }) (record { base = 32; size = 16 }) → ⊥
 one_frame apart = apart 0 32 refl refl refl
+
+both_halves : Apart (record { base = 0; size = 16 }) (record { base = 2048; size = 16 }) → ⊥
+both_halves apart = apart 0 2048 refl refl refl
 
 -- which is enough to be clear
 one_frame_clear : Clear (record { base = 0; size = 16 }) (record { base = 32; size = 16 })

@@ -1,5 +1,5 @@
 -- Worked examples: steps that answer, stop and go on; an allocation without a place; calls that were cut short.
-use Rattle.std.proofs.Common.{◌≡◌, ℕ, ◌+◌, None, Some, List, [], ◌∷◌, Ok, Err, refl, inl, inr, arith}
+use Rattle.std.proofs.Common.{◌≡◌, ℕ, ◌+◌, nat_lt, if◌then◌else◌, None, Some, List, [], ◌∷◌, Ok, Err, refl, inl, inr, arith}
 use Rattle.std.proofs.lemmas.Option.{same_Some}
 use Rattle.memblock_model.specs.Labels.{Label}
 use Rattle.memblock_model.specs.declared.which.Which.TheVariants as which
@@ -13,7 +13,7 @@ use Rattle.stage_model.specs.declared.stop.What.TheVariants as what
 use Rattle.stage_model.specs.declared.stop.StageStop.{StageStop}
 use Rattle.stage_model.specs.declared.stop.StageStop.TheVariants as stop
 use Rattle.stage_model.specs.Doing.{Done, Doing, appended, after, returns, stops, seen, ◌>>=◌, in_turn, IsCut, EndsAs, ok_as}
-use Rattle.stage_model.specs.Noded.{IsNoded}
+use Rattle.stage_model.specs.Noded.{AreOfFrames, IsNoded}
 use Rattle.stage_model.specs.Requests.{changes, claimed_at, or_stop, or_else, refusal_of}
 
 -- a step that writes a limit and answers it
@@ -38,6 +38,9 @@ three_in_turn = refl
 none_in_turn : in_turn limited 4 [] [] ≡ returns 4 []
 none_in_turn = refl
 
+groups_in_turn : (in_turn limited 0 (1 ∷ (2 ∷ [])) []).steps ≡ (item.Limit 1 ∷ []) ∷ ((item.Limit 2 ∷ []) ∷ [])
+groups_in_turn = refl
+
 -- a change that is written, and one that is refused
 changed : changes (write item.Trim) [] ≡ record { steps = (item.Trim ∷ []) ∷ []; answer = Ok tt }
 changed = refl
@@ -52,6 +55,9 @@ no_place = refl
 no_roots : or_stop {A = ℕ} what.Roots (Err refusal.NoGap) ≡ Err (stop.NoPlace what.Roots)
 no_roots = refl
 
+no_map : or_stop {A = ℕ} (what.Map 3) (Err refusal.NoGap) ≡ Err (stop.NoPlace (what.Map 3))
+no_map = refl
+
 no_table : or_stop {A = ℕ} what.Roots (Err (refusal.NoGapForTable which.Reserved 256)) ≡ Err (stop.NoTablePlace which.Reserved 256)
 no_table = refl
 
@@ -62,6 +68,9 @@ tried = refl
 not_tried : (or_else (what.Map 3) (stops (refusal.NoGapForTable which.Memory 128)) (limited 0 9) []).answer
     ≡ Err (stop.NoTablePlace which.Memory 128)
 not_tried = refl
+
+wants_memory : (or_else (what.Map 3) (stops refusal.Memory) (limited 0 9) []).answer ≡ Err stop.Memory
+wants_memory = refl
 
 -- memory ran out behind the first of two groups
 cut_behind_one : IsCut [] (item.Trim ∷ []) ((item.Trim ∷ []) ∷ ((item.Limit 7 ∷ []) ∷ []))
@@ -76,6 +85,12 @@ other_error_cut : EndsAs {A = ℕ} stop.Memory (Err (stop.NoPlace what.Roots)) [
 other_error_cut (inl told) = let wrong = told.0 in cc wrong
 other_error_cut (inr cut) = let wrong = cut.0 in cc wrong
 
+-- nor is one told where all groups stand and the step answers
+other_error_told : EndsAs {A = ℕ} stop.Memory (Err (stop.NoPlace what.Roots)) [] (item.Limit 5 ∷ (item.Limit 7 ∷ []))
+    ((limited 0 5 >>= λ a. limited a 7) []) → ⊥
+other_error_told (inl told) = let wrong = told.0 in cc wrong
+other_error_told (inr cut) = let wrong = cut.0 in cc wrong
+
 -- no memory is of node 1,024
 abbrev of_node_1024 : Label
 of_node_1024 = record { node = Some 1024 }
@@ -86,3 +101,14 @@ too_great_a_node limit noded =
     let is : 1024 ≡ known.0 = same_Some 1024 known.0 known.1 in
     let low = known.2 in
     absurd (omega (arith, is, low))
+
+-- half a frame isn't enough
+half_a_frame : AreOfFrames (λ x. nat_lt x 2048) → ⊥
+half_a_frame same = let wrong = same 2048 in cc wrong
+
+-- no memory lies behind the limit
+abbrev of_node_3 : Label
+of_node_3 = record { node = Some 3 }
+
+frame_behind_the_limit : IsNoded 4096 (λ x. if nat_lt x 8192 then Some of_node_3 else None) → ⊥
+frame_behind_the_limit noded = let wrong = noded.within 4096 (omega arith) in cc wrong
