@@ -230,3 +230,14 @@ no_ram_from_640K = let ram : type_of (after_edits edits second_claims) 0xA0000 �
 
 ram_below_640K : finished ram_and_acpi extension edits 0x9FFFF 1 ≡ true
 ram_below_640K = let ram : type_of (after_edits edits second_claims) 0x9FFFF ≡ 1 = ram_until_the_trim 0x9FFFF (omega arith) in rw ram refl
+
+-- options go before the trim: RAM that one adds from 0 to 1 MiB isn't RAM in the first page, nor from 640 KiB on
+trimmed_of_ram : (c : Claims) → (bios_trimmed c 0 1 ≡ false) × (bios_trimmed c 0xA0000 1 ≡ false)
+trimmed_of_ram c = (grind (arith, nat_tests), grind (arith, nat_tests))
+
+abbrev ram_added : List Edit
+ram_added = edit.Add (record { base = 0; size = 0x100000 }) 1 ∷ []
+
+options_before_the_trim : (entries more : List Entry) → (finished entries more ram_added 0 1 ≡ false)
+    × (finished entries more ram_added 0xA0000 1 ≡ false)
+options_before_the_trim entries more = trimmed_of_ram (with_edits ram_added (with_extension more (of_zero_page entries)))

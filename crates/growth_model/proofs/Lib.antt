@@ -5,6 +5,7 @@ pub mod FoundLaws
 pub mod PlacedLaws
 pub mod PlacedReservedLaws
 pub mod PlacedMemoryLaws
+pub mod LimitLaws
 pub mod IdleLaws
 pub mod FirstLaws
 pub mod SoundLaws

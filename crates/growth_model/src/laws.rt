@@ -3,19 +3,21 @@
 //! Each change keeps both tables in good places wherever a call of it ends: at its end, at a refusal, and between two of its
 //! steps where memory ran out. Nothing is asked of the tables' bytes or records for that, nor of the addresses.
 
-ghost use Rattle.std.specs.Prelude.{◌≡◌, ℕ, ◌+◌, ◌*◌, ◌%◌, ◌^◌, ◌≤◌, Option, Some, List, [], ◌∷◌, ◌++◌, Result, Ok, Err};
+ghost use Rattle.std.specs.Prelude.{◌≡◌, ◌⊎◌, ℕ, ◌+◌, ◌*◌, ◌%◌, ◌^◌, ◌≤◌, Option, Some, List, [], ◌∷◌, ◌++◌, Result, Ok, Err};
 ghost use Rattle.bm_base.specs.Extent.{Extent, end_of};
+ghost use Rattle.memblock_model.specs.declared.which.Which.TheVariants as which;
 ghost use Rattle.memblock_model.specs.declared.owner.Owner.{Owner};
 ghost use Rattle.memblock_model.specs.declared.owner.Owner.TheVariants as owner;
 ghost use Rattle.memblock_model.specs.declared.query.Query.{Query};
 ghost use Rattle.memblock_model.specs.declared.item.Item.{Item};
 ghost use Rattle.memblock_model.specs.declared.item.Item.TheVariants as item;
 ghost use Rattle.memblock_model.specs.Items.{owner_of, limit_of};
+ghost use Rattle.memblock_model.specs.Tables.{room_of, moved_to};
 ghost use Rattle.memblock_model.specs.Search.{best};
 ghost use Rattle.growth_model.specs.declared.refusal.Refusal.{Refusal};
 ghost use Rattle.growth_model.specs.declared.request.Request.{Request};
 ghost use Rattle.growth_model.specs.Outcome.{Change, ◌>>◌ as in_turn, write};
-ghost use Rattle.growth_model.specs.Growth.{frames_of, frames_at, place_beside, claimed, freed, added, noded};
+ghost use Rattle.growth_model.specs.Growth.{frames_of, frames_at, place_beside, claimed, freed, memory_growth, added, noded};
 ghost use Rattle.growth_model.specs.Request.{place_for};
 ghost use Rattle.growth_model.specs.Ends.{Ends, Allocates};
 ghost use Rattle.growth_model.specs.Sound.{Clear, Unclaimed, Placed, IsImage, HasBegun, IsAway, MayClaim};
@@ -63,7 +65,8 @@ pub fn allocations_keep_places()
 {}
 
 /// A law: nobody has a byte of a place that a search finds, so it meets neither table. A new place for the
-/// reserved table lies beside the range that is avoided, and below the limit.
+/// reserved table lies beside the range that is avoided, and below the limit. However a growth of the
+/// memory table ends, that table lies where it did, or in a new place below the limit.
 pub fn found_places_are_free()
     ensures unclaimed { (items : List Item) (query : Query) (place : ℕ) → best items query ≡ Some place →
         Unclaimed (owner_of items) (record { base = place; size = query.size }) }
@@ -79,4 +82,7 @@ pub fn found_places_are_free()
         Clear avoid (frames_at place (48 * room)) }
     ensures below { (avoid : Extent) (room : ℕ) (items : List Item) (place : ℕ) → place_beside avoid room items ≡ Some place →
         place + frames_of (48 * room) ≤ limit_of items }
+    ensures memory { (result : Result (Unit {0}) Refusal) (old new : List Item) (place : ℕ) → Ends result old new memory_growth →
+        moved_to which.Memory new ≡ Some place →
+        (moved_to which.Memory old ≡ Some place) ⊎ (place + frames_of (48 * room_of which.Memory old) ≤ limit_of old) }
 {}

@@ -1,4 +1,5 @@
 use Rattle.growth_model.proofs.FoundLaws.{found-unclaimed, found-away, beside-new, place-unclaimed, place-within}
+use Rattle.growth_model.proofs.LimitLaws.{memory-below}
 use Rattle.growth_model.proofs.laws.found_places_are_free.Goals as goal
 
 pub returns-clause-unclaimed : goal.returns-clause-unclaimed
@@ -21,3 +22,6 @@ returns-clause-beside c = λ avoid room items place found. (beside-new items avo
 
 pub returns-clause-below : goal.returns-clause-below
 returns-clause-below c = λ avoid room items place found. (beside-new items avoid room place found).within
+
+pub returns-clause-memory : goal.returns-clause-memory
+returns-clause-memory c = λ result old new place ends at. memory-below result old new place ends at
