@@ -63,15 +63,25 @@ pub fn first_reaching(extents: &[Held], address: u64) -> usize
 /// So many extents are looked through one by one, which is faster for a few of them.
 const FEW: usize = 8;
 
-/// The index of the extent in which the address lies. No other than the first that reaches it does: where that
-/// ends at the address, the next begins above it.
+/// The index of the extent in which the address lies.
 fn place_of(extents: &[Held], address: u64) -> Option<usize>
     requires { Apart 0 (map stored extents.now) }
     ensures { result ≡ position (λ e. inside (stored e) address) extents.now }
 {
-    if extents.len() <= FEW {
-        return extents.iter().position(|e| has(e, address));
+    if extents.len() > FEW {
+        return place_by_halves(extents, address);
     }
+    extents.iter().position(|e| has(e, address))
+}
+
+/// The same by halves. No other extent than the first that reaches the address has it: where that ends at the
+/// address, the next begins above it.
+// Apart from the look through a few, so that this is small enough to be compiled into its callers.
+#[inline(never)]
+fn place_by_halves(extents: &[Held], address: u64) -> Option<usize>
+    requires { Apart 0 (map stored extents.now) }
+    ensures { result ≡ position (λ e. inside (stored e) address) extents.now }
+{
     let i = first_reaching(extents, address);
     if i < extents.len() && has(&extents[i], address) {
         Some(i)

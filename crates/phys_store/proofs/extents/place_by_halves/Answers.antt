@@ -2,8 +2,8 @@ use Rattle.std.proofs.Common.{sym, ◌∙◌, ap, arith}
 use Rattle.phys_store.specs.Bytes.{Stored, inside}
 use Rattle.phys_store.proofs.Joining.{nth_piece}
 use Rattle.phys_store.proofs.Search.{first_has, first_has_not}
-use Rattle.phys_store.proofs.extents.place_of.Goals.{else-i-extents-via-then-i-extents+else-has, else-i-extents-via-else-i-extents}
-use Rattle.phys_store.proofs.extents.place_of.Goals as goal
+use Rattle.phys_store.proofs.extents.place_by_halves.Goals.{else-i-extents-via-then-i-extents+else-has, else-i-extents-via-else-i-extents}
+use Rattle.phys_store.proofs.extents.place_by_halves.Goals as goal
 
 pub returns-then-has : goal.returns-then-has
 returns-then-has c =
