@@ -1,7 +1,7 @@
 //! What is read from and written to the extents of a store, none of which takes memory. Each call looks up
 //! the extent of the first address; that it holds the whole of a prepared range follows from the
 //! extents being apart, so no call goes from one extent to the next.
-ghost use Rattle.std.specs.Prelude.{◌≡◌, ℕ, ◌+◌, ◌-◌, ◌^◌, ◌<◌, ◌≤◌, ◌↔◌, Bool, true, ◌||◌, nat_le, min, max, map, length, slice_index, position, IsTrue};
+ghost use Rattle.std.specs.Prelude.{◌≡◌, MatchOption, Some, None, get_or, ℕ, ◌+◌, ◌-◌, ◌^◌, ◌<◌, ◌≤◌, ◌↔◌, Bool, true, ◌||◌, nat_le, min, max, map, length, slice_index, position, IsTrue};
 ghost use Rattle.phys_store.specs.Bytes.{past, inside, byte_of, AreReady, Wrote, bytes_at};
 ghost use Rattle.phys_store.specs.Extents.{stored, nth, Apart};
 
@@ -61,7 +61,7 @@ pub fn first_reaching(extents: &[Held], address: u64) -> usize
 }
 
 /// So many extents are looked through one by one, which is faster for a few of them.
-const FEW: usize = 8;
+const FEW: usize = 16;
 
 /// The index of the extent in which the address lies.
 fn place_of(extents: &[Held], address: u64) -> Option<usize>
@@ -71,6 +71,13 @@ fn place_of(extents: &[Held], address: u64) -> Option<usize>
     if extents.len() > FEW {
         return place_by_halves(extents, address);
     }
+    place_among(extents, address)
+}
+
+/// The same, looked for one by one.
+fn place_among(extents: &[Held], address: u64) -> Option<usize>
+    ensures { result ≡ position (λ e. inside (stored e) address) extents.now }
+{
     extents.iter().position(|e| has(e, address))
 }
 
@@ -90,6 +97,30 @@ fn place_by_halves(extents: &[Held], address: u64) -> Option<usize>
     }
 }
 
+/// The extent in which the address lies, to be read.
+fn extent_at(extents: &[Held], address: u64) -> Option<&Held>
+    requires { Apart 0 (map stored extents.now) }
+    ensures { MatchOption result (position (λ e. inside (stored e) address) extents.now ≡ None) (λ e. (i : ℕ) ×
+        (position (λ d. inside (stored d) address) extents.now ≡ Some i) × (e.now ≡ get_or extents.now i e.now)) }
+{
+    if extents.len() > FEW {
+        return extent_by_halves(extents, address);
+    }
+    let i = place_among(extents, address)?;
+    Some(&extents[i])
+}
+
+/// The same by halves.
+#[inline(never)]
+fn extent_by_halves(extents: &[Held], address: u64) -> Option<&Held>
+    requires { Apart 0 (map stored extents.now) }
+    ensures { MatchOption result (position (λ e. inside (stored e) address) extents.now ≡ None) (λ e. (i : ℕ) ×
+        (position (λ d. inside (stored d) address) extents.now ≡ Some i) × (e.now ≡ get_or extents.now i e.now)) }
+{
+    let i = place_by_halves(extents, address)?;
+    Some(&extents[i])
+}
+
 /// Whether each address of the range is prepared.
 pub fn are_ready(extents: &[Held], range: Range) -> bool
     requires { Apart 0 (map stored extents.now) }
@@ -98,11 +129,8 @@ pub fn are_ready(extents: &[Held], range: Range) -> bool
     if range.size == 0 {
         return true;
     }
-    match place_of(extents, range.base) {
-        Some(i) => {
-            let extent = &extents[i];
-            range.end() - extent.base <= size_of(extent)
-        }
+    match extent_at(extents, range.base) {
+        Some(extent) => range.end() - extent.base <= size_of(extent),
         None => false,
     }
 }
@@ -112,11 +140,8 @@ pub fn byte_at(extents: &[Held], address: u64) -> u8
     requires { Apart 0 (map stored extents.now) }
     ensures { result ≡ byte_of (map stored extents.now) address }
 {
-    match place_of(extents, address) {
-        Some(i) => {
-            let extent = &extents[i];
-            extent.bytes[extent.front + (address - extent.base) as usize]
-        }
+    match extent_at(extents, address) {
+        Some(extent) => extent.bytes[extent.front + (address - extent.base) as usize],
         None => 0,
     }
 }
@@ -127,9 +152,8 @@ pub fn slice(extents: &[Held], at: u64, count: u64) -> &[u8]
     requires prepared { AreReady (map stored extents.now) at count }
     ensures { result.now ≡ bytes_at (byte_of (map stored extents.now)) at count }
 {
-    match place_of(extents, at) {
-        Some(i) => {
-            let extent = &extents[i];
+    match extent_at(extents, at) {
+        Some(extent) => {
             let from = extent.front + (at - extent.base) as usize;
             &extent.bytes[from..from + count as usize]
         }

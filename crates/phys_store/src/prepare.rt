@@ -4,7 +4,7 @@
 //! failure leaves may have more room in front of an extent, and is else as it was.
 ghost use Rattle.std.specs.Prelude.{◌≡◌, ℕ, ◌+◌, ◌-◌, ◌^◌, ◌<◌, ◌≤◌, ◌||◌, IsTrue, ◌++◌, ◌∷◌, [], take, drop, map, replicate, length, slice_range, OnOk, OnErr};
 ghost use Rattle.bm_base.specs.Extent.{end_of, covers};
-ghost use Rattle.phys_store.specs.Bytes.{past, byte_of, is_ready};
+ghost use Rattle.phys_store.specs.Bytes.{past, byte_of, is_ready, AreReady};
 ghost use Rattle.phys_store.specs.Extents.{stored, nth, Apart, Joins, covering, as_one};
 
 use crate::extents::{Held, are_ready, end_of, first_reaching, size_of};
@@ -261,6 +261,7 @@ pub fn prepare(extents: &mut Vec<Held>, range: Range) -> Result<(), Memory>
     ensures ready { OnOk result ((x : ℕ) →
         is_ready (map stored extents.new.items) x ≡ (covers range x || is_ready (map stored extents.old.items) x)) }
     ensures err { OnErr result (map stored extents.new.items ≡ map stored extents.old.items) }
+    ensures memory { OnErr result (AreReady (map stored extents.old.items) range.base range.size → ⊥) }
 {
     if are_ready(extents, range) {
         return Ok(());

@@ -47,6 +47,7 @@ impl Store {
         ensures bytes { (x : ℕ) → byte_of self.new x ≡ byte_of self.old x }
         ensures ready { OnOk result ((x : ℕ) → is_ready self.new x ≡ (covers range x || is_ready self.old x)) }
         ensures err { OnErr result (self.new ≡ self.old) }
+        ensures memory { OnErr result (AreReady self.old range.base range.size → ⊥) }
     {
         prepare::prepare(&mut self.extents, range)?;
         Ok(())

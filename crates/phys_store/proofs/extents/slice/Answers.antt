@@ -8,37 +8,37 @@ use Rattle.phys_store.proofs.extents.slice.Goals as goal
 
 pub overflow_sub-from : goal.overflow_sub-from
 overflow_sub-from c =
-    let e = c.index-extents-i.result in
-    let h = holds c.args.extents.now c.args.at c.args.count c.in-Some.i e c.requires.apart c.requires.prepared
-    (sym c.place_of.ensures ∙ c.in-Some.is) c.index-extents-i.is in
+    let e = c.in-Some.extent.now in
+    let (i, found, is) = c.in-Some.ensures in
+    let h = holds c.args.extents.now c.args.at c.args.count i e c.requires.apart c.requires.prepared found is in
     h.low
 
 pub overflow_add-result : goal.overflow_add-result
 overflow_add-result c =
-    let e = c.index-extents-i.result in
-    let h = holds c.args.extents.now c.args.at c.args.count c.in-Some.i e c.requires.apart c.requires.prepared
-    (sym c.place_of.ensures ∙ c.in-Some.is) c.index-extents-i.is in
+    let e = c.in-Some.extent.now in
+    let (i, found, is) = c.in-Some.ensures in
+    let h = holds c.args.extents.now c.args.at c.args.count i e c.requires.apart c.requires.prepared found is in
     omega (arith, h.low, h.high, h.inner, h.long, e.bytes.ok.0)
 
 pub overflow_add-from : goal.overflow_add-from
 overflow_add-from c =
-    let e = c.index-extents-i.result in
-    let h = holds c.args.extents.now c.args.at c.args.count c.in-Some.i e c.requires.apart c.requires.prepared
-    (sym c.place_of.ensures ∙ c.in-Some.is) c.index-extents-i.is in
+    let e = c.in-Some.extent.now in
+    let (i, found, is) = c.in-Some.ensures in
+    let h = holds c.args.extents.now c.args.at c.args.count i e c.requires.apart c.requires.prepared found is in
     omega (arith, h.low, h.high, h.inner, h.long, e.bytes.ok.0)
 
 pub slice_bounds-result-end : goal.slice_bounds-result-end
 slice_bounds-result-end c =
-    let e = c.index-extents-i.result in
-    let h = holds c.args.extents.now c.args.at c.args.count c.in-Some.i e c.requires.apart c.requires.prepared
-    (sym c.place_of.ensures ∙ c.in-Some.is) c.index-extents-i.is in
+    let e = c.in-Some.extent.now in
+    let (i, found, is) = c.in-Some.ensures in
+    let h = holds c.args.extents.now c.args.at c.args.count i e c.requires.apart c.requires.prepared found is in
     omega (arith, h.low, h.high, h.inner, h.long, c.deref.ensures.len, e.bytes.ok.0)
 
 pub returns-in-Some : goal.returns-in-Some
 returns-in-Some c =
-    let e = c.index-extents-i.result in
-    let h = holds c.args.extents.now c.args.at c.args.count c.in-Some.i e c.requires.apart c.requires.prepared
-    (sym c.place_of.ensures ∙ c.in-Some.is) c.index-extents-i.is in
+    let e = c.in-Some.extent.now in
+    let (i, found, is) = c.in-Some.ensures in
+    let h = holds c.args.extents.now c.args.at c.args.count i e c.requires.apart c.requires.prepared found is in
     let m = e.front + (c.args.at - e.base) in
     let n = m + c.args.count - m in
     let ps = map stored c.args.extents.now in
@@ -50,11 +50,11 @@ returns-in-Some c =
     (λ k below.
     get_or-take n (drop m xs) k 0 (omega arith) ∙ get_or-drop m xs k 0 ∙ ap (λ ys. get_or ys (m + k) 0) value
     ∙ ap (λ j. get_or e.bytes.items j 0) (omega (arith, h.low)) ∙ sym (get_or-drop e.front e.bytes.items (c.args.at + k - e.base) 0)
-    ∙ sym (byte-at 0 ps c.in-Some.i (stored e) (c.args.at + k) c.requires.apart h.count h.there (omega (arith, h.low))
+    ∙ sym (byte-at 0 ps i (stored e) (c.args.at + k) c.requires.apart h.count h.there (omega (arith, h.low))
     (omega (arith, h.high))))
 
 pub returns-in-None : goal.returns-in-None
 unfolding bytes_at
 returns-in-None c =
-    let none = none_ready c.args.extents.now c.args.at c.args.count (sym c.place_of.ensures ∙ c.in-None.is) c.requires.prepared in
+    let none = none_ready c.args.extents.now c.args.at c.args.count c.in-None.ensures c.requires.prepared in
     rw none refl
