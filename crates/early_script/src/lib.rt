@@ -15,7 +15,8 @@
 //!
 //! What a line may claim, free or fill never meets memblock's tables: a `reserve` that does is refused, and a byte of
 //! a table has no owner of a script. A table moves only where a claim or a freeing makes it grow. Where the program's
-//! own memory runs out amid a line, some steps of its change stand, and the IDs are as before.
+//! own memory runs out amid a line, some steps of its change stand, and the IDs are as before. What was
+//! prepared stays prepared, whatever a line answers.
 #![tactic(auto)]
 
 mod laws;

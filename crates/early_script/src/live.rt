@@ -5,6 +5,7 @@ ghost use Rattle.bm_base.specs.Extent.{Extent};
 ghost use Rattle.script_reader.specs.Forms.{HasBounds};
 ghost use Rattle.growth_model.specs.Sound.{HasBegun, IsAway};
 ghost use Rattle.growth_model.specs.Bytes.{Filled, Follows, Holds};
+ghost use Rattle.memblock_grow.specs.Kept.{StayReady};
 
 use crate::outcome::Outcome;
 use crate::steps::{asked, peek, refused, split, stand_still, touches};
@@ -61,6 +62,7 @@ impl Live {
         ensures holds { (fills : List Filled) → Holds mb.old.kernel mb.old.journal.items fills (bytes_in mb.old) →
             Holds mb.new.kernel mb.new.journal.items
             (fills_by result (deed (state_of self.old mb.old) (bytes_in mb.old) line.now.act) fills) (bytes_in mb.new) }
+        ensures still_ready { StayReady mb.old.tables.store mb.new.tables.store }
     {
         match line.act {
             Act::Alloc { id, request } => self.alloc(mb, id, &asked(&request)),
@@ -80,6 +82,7 @@ impl Live {
         ensures acts { Acts result (state_of self.old mb.old) (state_of self.new mb.new)
             (alloc_deed (state_of self.old mb.old) id request.now) }
         ensures bytes { Follows mb.old.kernel mb.old.journal.items mb.new.journal.items (bytes_in mb.old) (bytes_in mb.new) }
+        ensures still_ready { StayReady mb.old.tables.store mb.new.tables.store }
     {
         stand_still(mb);
         // A live ID is taken, whether or not a place fits.
@@ -105,6 +108,7 @@ impl Live {
         ensures acts { Acts result (state_of self.old mb.old) (state_of self.new mb.new)
             (reserve_deed (state_of self.old mb.old) id range) }
         ensures bytes { Follows mb.old.kernel mb.old.journal.items mb.new.journal.items (bytes_in mb.old) (bytes_in mb.new) }
+        ensures still_ready { StayReady mb.old.tables.store mb.new.tables.store }
     {
         stand_still(mb);
         if self.is_live(id) {
@@ -127,6 +131,7 @@ impl Live {
         ensures acts { Acts result (state_of self.old mb.old) (state_of self.new mb.new)
             (free_deed (state_of self.old mb.old) id) }
         ensures bytes { Follows mb.old.kernel mb.old.journal.items mb.new.journal.items (bytes_in mb.old) (bytes_in mb.new) }
+        ensures still_ready { StayReady mb.old.tables.store mb.new.tables.store }
     {
         stand_still(mb);
         let range = match self.whole(mb, id) {
@@ -148,6 +153,7 @@ impl Live {
         ensures acts { Acts result (state_of self.old mb.old) (state_of self.new mb.new)
             (trim_deed (state_of self.old mb.old) id keep) }
         ensures bytes { Follows mb.old.kernel mb.old.journal.items mb.new.journal.items (bytes_in mb.old) (bytes_in mb.new) }
+        ensures still_ready { StayReady mb.old.tables.store mb.new.tables.store }
     {
         stand_still(mb);
         let range = match self.whole(mb, id) {
@@ -175,6 +181,7 @@ impl Live {
         ensures holds { (fills : List Filled) → Holds mb.old.kernel mb.old.journal.items fills (bytes_in mb.old) →
             Holds mb.new.kernel mb.new.journal.items
             (fills_by result (fill_deed (state_of self.old mb.old) id byte) fills) (bytes_in mb.new) }
+        ensures still_ready { StayReady mb.old.tables.store mb.new.tables.store }
     {
         stand_still(mb);
         let range = match self.whole(mb, id) {

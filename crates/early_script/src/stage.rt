@@ -4,6 +4,7 @@ ghost use Rattle.std.specs.List.{All};
 ghost use Rattle.script_reader.specs.Forms.{HasBounds};
 ghost use Rattle.growth_model.specs.Sound.{HasBegun};
 ghost use Rattle.growth_model.specs.Bytes.{Filled, Holds};
+ghost use Rattle.memblock_grow.specs.Kept.{StayReady};
 ghost use Rattle.early_script.specs.Acted.{IsRun};
 ghost use Rattle.early_script.specs.Found.{bytes_in};
 ghost use Rattle.early_script.specs.Stage.{IsBetween, Reaches, RunsOut, PlaceOnce, stage_of, after_lines, before_sections, behind_sections};
@@ -35,6 +36,7 @@ pub fn run_lines(
         (after_lines (stage_of live.old mb.old fills answers.old.items) lines.now).state.items }
     ensures kernel { mb.new.kernel ≡ mb.old.kernel }
     ensures begun { HasBegun mb.new.journal.items }
+    ensures still_ready { StayReady mb.old.tables.store mb.new.tables.store }
 {
     for line in lines {
         let outcome = live.run_line(mb, line)?;

@@ -38,6 +38,7 @@ loop-line-preserved c =
           subst (λ (told : List Answer). Reaches (after_lines start (take (i + 1) c.args.lines.now)) c.run_line.new.self
           c.run_line.new.mb told)
           (sym c.in_ok-push.ensures.items) here;
+      ready = λ x h. c.run_line.ensures.still_ready x (c.loop-line.invariant.ready x h);
     }
 
 -- what holds anyway

@@ -2,6 +2,7 @@
 use Rattle.std.proofs.Common.{◌≡◌, List, take}
 use Rattle.growth_model.specs.Sound.{HasBegun}
 use Rattle.growth_model.specs.Bytes.{Filled, Holds}
+use Rattle.memblock_grow.specs.Kept.{StayReady}
 use Rattle.early_script.specs.Found.{bytes_in}
 use Rattle.early_script.specs.Stage.{Reaches, stage_of, after_lines}
 use Rattle.early_script.proofs.stage.run_lines.Given as goal
@@ -12,4 +13,5 @@ invariant-loop-line l = record {
   kernel : l.mb.kernel ≡ l.fn.mb.kernel;
   reached : (fills : List Filled) → Holds l.fn.mb.kernel l.fn.mb.journal.items fills (bytes_in l.fn.mb) →
       Reaches (after_lines (stage_of l.fn.live l.fn.mb fills l.fn.answers.items) (take l.line-index l.lines)) l.live l.mb l.answers.items;
+  ready : StayReady l.fn.mb.tables.store l.mb.tables.store;
 }
