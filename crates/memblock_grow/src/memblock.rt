@@ -8,7 +8,7 @@
 //! that true.
 ghost use Rattle.std.specs.Prelude.{◌≡◌, ℕ, ◌+◌, ◌-◌, ◌*◌, ◌^◌, ◌<◌, ◌≤◌, ◌↔◌, Bool, false, max, Some, [], ◌∷◌, ◌++◌, length, OnOk, OnErr, IfOk, IsOk, IsTrue};
 ghost use Rattle.address_runs.specs.Edits.{NothingFrom};
-ghost use Rattle.phys_store.specs.Bytes.{byte_of, bytes_at};
+ghost use Rattle.phys_store.specs.Bytes.{AreReady, byte_of, bytes_at};
 ghost use Rattle.memblock_model.specs.declared.which.Which.{Which as AnyWhich};
 ghost use Rattle.memblock_model.specs.declared.which.Which.TheVariants as tables_of;
 ghost use Rattle.memblock_model.specs.declared.item.Item.TheVariants as item;
@@ -142,6 +142,9 @@ impl Memblock {
         ensures bytes { Follows self.old.kernel self.old.journal.items self.new.journal.items
             (byte_of self.old.tables.store) (byte_of self.new.tables.store) }
         ensures still_ready { StayReady self.old.tables.store self.new.tables.store }
+        ensures ready { 0 < self.old.journal.spare →
+            is_full_by tables_of.Memory (new_in tables_of.Memory range) self.old.journal.items ≡ false →
+            IsOk result × (self.new.journal.spare ≡ self.old.journal.spare - 1) }
     {
         memory::add(&mut self.journal, &mut self.tables, self.limit, range)
     }
@@ -157,6 +160,8 @@ impl Memblock {
         ensures bytes { Follows self.old.kernel self.old.journal.items self.new.journal.items
             (byte_of self.old.tables.store) (byte_of self.new.tables.store) }
         ensures still_ready { StayReady self.old.tables.store self.new.tables.store }
+        ensures ready { 0 < self.old.journal.spare → is_full_by tables_of.Memory two self.old.journal.items ≡ false →
+            IsOk result × (self.new.journal.spare ≡ self.old.journal.spare - 1) }
     {
         memory::set_node(&mut self.journal, &mut self.tables, self.limit, range, node)
     }
@@ -219,6 +224,9 @@ impl Memblock {
         ensures bytes { Follows self.old.kernel self.old.journal.items self.new.journal.items
             (byte_of self.old.tables.store) (byte_of self.new.tables.store) }
         ensures still_ready { StayReady self.old.tables.store self.new.tables.store }
+        ensures ready { (place : ℕ) → place_for request.now self.old.journal.items ≡ Some place → 0 < self.old.journal.spare →
+            is_full_by tables_of.Reserved (new_in tables_of.Reserved (record { base = place; size = request.now.size }))
+            self.old.journal.items ≡ false → IsOk result × (self.new.journal.spare ≡ self.old.journal.spare - 1) }
     {
         request::allocate(
             &mut self.journal,
@@ -229,7 +237,8 @@ impl Memblock {
         )
     }
 
-    /// Writes the byte to each address of the range, which meets no table. After `Memory` each byte is as before.
+    /// Writes the byte to each address of the range, which meets no table. After `Memory` each byte is as before, and some
+    /// address of the range wasn't prepared.
     pub fn fill(&mut self, range: Range, byte: u8) -> Result<(), Memory>
         requires { IsAway self.old.kernel range self.old.journal.items }
         ensures kernel { self.new.kernel ≡ self.old.kernel }
@@ -238,6 +247,7 @@ impl Memblock {
             put (record { range = range; byte = byte; at = length self.old.journal.items }) x (byte_of self.old.tables.store x)) }
         ensures err { OnErr result ((x : ℕ) → byte_of self.new.tables.store x ≡ byte_of self.old.tables.store x) }
         ensures still_ready { StayReady self.old.tables.store self.new.tables.store }
+        ensures memory { OnErr result (AreReady self.old.tables.store range.base range.size → ⊥) }
     {
         self.tables.prepare(range)?;
         self.tables.fill(range, byte);

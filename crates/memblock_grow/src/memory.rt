@@ -5,7 +5,7 @@
 ghost use Rattle.std.specs.Prelude.{◌≡◌, ◌+◌, ◌-◌, ◌<◌, ◌≤◌, ◌⊎◌, false, OnOk, OnErr, IsOk, IfSome, length};
 ghost use Rattle.memblock_model.specs.declared.which.Which.TheVariants as tables_of;
 ghost use Rattle.growth_model.specs.Outcome.{if_due};
-ghost use Rattle.growth_model.specs.Growth.{memory_growth, grown, added, noded, leave as left_by, is_full as is_full_by};
+ghost use Rattle.growth_model.specs.Growth.{memory_growth, grown, added, noded, new_in, two, leave as left_by, is_full as is_full_by};
 ghost use Rattle.growth_model.specs.Ends.{Ends};
 ghost use Rattle.growth_model.specs.Sound.{HasBegun};
 ghost use Rattle.memblock_grow.specs.Kept.{IsKept, AllowsFree, Keeps, KeepsBytes, StayReady};
@@ -114,12 +114,15 @@ fn make_memory_room(
     ensures bytes { KeepsBytes journal.old.items tables.old journal.new.items tables.new limit }
     ensures still_ready { StayReady tables.old.store tables.new.store }
     ensures room { OnOk result (HasRoom more.now tables.new.memory) }
+    ensures idle { HasRoom more.now tables.old.memory →
+        IsOk result × (journal.new ≡ journal.old) × (tables.new ≡ tables.old) }
 {
     grow_memory_once(journal, tables, limit, more)?;
     grow_memory_once(journal, tables, limit, more)
 }
 
-/// The range becomes memory without a node; what is memory already keeps its node (`memblock_add`).
+/// The range becomes memory without a node; what is memory already keeps its node (`memblock_add`). Where an item can be
+/// appended without wanting memory and the table has room, the call takes none.
 pub fn add(
     journal: &mut Journal,
     tables: &mut Tables,
@@ -133,6 +136,8 @@ pub fn add(
     ensures kept { Keeps journal.old.items tables.old journal.new.items tables.new limit }
     ensures bytes { KeepsBytes journal.old.items tables.old journal.new.items tables.new limit }
     ensures still_ready { StayReady tables.old.store tables.new.store }
+    ensures ready { 0 < journal.old.spare → is_full_by tables_of.Memory (new_in tables_of.Memory range) journal.old.items ≡ false →
+        IsOk result × (journal.new.spare ≡ journal.old.spare - 1) }
 {
     make_memory_room(journal, tables, limit, &More::PiecesOf(range))?;
     journal.push(Item::Mem { range })?;
@@ -140,7 +145,7 @@ pub fn add(
     Ok(())
 }
 
-/// The memory of the range gets the node (`memblock_set_node`).
+/// The memory of the range gets the node (`memblock_set_node`). It takes no memory where [`add`] wouldn't.
 pub fn set_node(
     journal: &mut Journal,
     tables: &mut Tables,
@@ -156,6 +161,8 @@ pub fn set_node(
     ensures kept { Keeps journal.old.items tables.old journal.new.items tables.new limit }
     ensures bytes { KeepsBytes journal.old.items tables.old journal.new.items tables.new limit }
     ensures still_ready { StayReady tables.old.store tables.new.store }
+    ensures ready { 0 < journal.old.spare → is_full_by tables_of.Memory two journal.old.items ≡ false →
+        IsOk result × (journal.new.spare ≡ journal.old.spare - 1) }
 {
     make_memory_room(journal, tables, limit, &More::Two)?;
     journal.push(Item::Node { range, node })?;

@@ -3,7 +3,9 @@
 //! The addresses from the request's minimum on, below its maximum and the limit, are searched for memory of the node that is wanted,
 //! then, unless no other node will do, of any; and behind that, where there is a minimum, the same without it
 //! (`memblock_alloc_range_nid`).
-ghost use Rattle.std.specs.Prelude.{◌≡◌, ℕ, ◌+◌, ◌^◌, ◌<◌, ◌≤◌, IfOk};
+ghost use Rattle.std.specs.Prelude.{◌≡◌, ℕ, ◌+◌, ◌-◌, ◌^◌, ◌<◌, ◌≤◌, false, Some, IsOk, IfOk};
+ghost use Rattle.memblock_model.specs.declared.which.Which.TheVariants as tables_of;
+ghost use Rattle.growth_model.specs.Growth.{new_in, is_full as is_full_by};
 ghost use Rattle.growth_model.specs.Request.{attempt as attempt_by, round, attempts, place_for as place_by};
 ghost use Rattle.growth_model.specs.Ends.{Allocates};
 ghost use Rattle.growth_model.specs.Sound.{HasBegun};
@@ -65,7 +67,8 @@ fn place_for(tables: &Tables, request: &Request, limit: u64) -> Option<u64>
     first_place(tables, request, limit, 0)
 }
 
-/// The place that is found is claimed for the owner (`memblock_alloc_range_nid`); its address is the answer.
+/// The place that is found is claimed for the owner (`memblock_alloc_range_nid`); its address is the answer. It takes no memory
+/// where the claim of that place takes none.
 pub fn allocate(
     journal: &mut Journal,
     tables: &mut Tables,
@@ -82,6 +85,9 @@ pub fn allocate(
     ensures kept { Keeps journal.old.items tables.old journal.new.items tables.new limit }
     ensures bytes { KeepsBytes journal.old.items tables.old journal.new.items tables.new limit }
     ensures still_ready { StayReady tables.old.store tables.new.store }
+    ensures ready { (place : ℕ) → place_by request.now journal.old.items ≡ Some place → 0 < journal.old.spare →
+        is_full_by tables_of.Reserved (new_in tables_of.Reserved (record { base = place; size = request.now.size })) journal.old.items ≡ false →
+        IsOk result × (journal.new.spare ≡ journal.old.spare - 1) }
 {
     let Some(base) = place_for(tables, request, limit) else {
         return Err(Refusal::NoGap)

@@ -188,13 +188,15 @@ impl Tables {
         lent::trim(&mut self.store, &mut self.heads.memory);
     }
 
-    /// Prepares each address of the range, as the store's call of that name.
+    /// Prepares each address of the range, as the store's call of that name. `Memory` comes only where some address
+    /// wasn't prepared.
     pub fn prepare(&mut self, range: Range) -> Result<(), Memory>
         ensures memory { self.new.memory ≡ self.old.memory }
         ensures reserved { self.new.reserved ≡ self.old.reserved }
         ensures bytes { (x : ℕ) → byte_of self.new.store x ≡ byte_of self.old.store x }
         ensures ready { OnOk result ((x : ℕ) → is_ready self.new.store x ≡ (covers range x || is_ready self.old.store x)) }
         ensures err { OnErr result (self.new.store ≡ self.old.store) }
+        ensures wants { OnErr result (AreReady self.old.store range.base range.size → ⊥) }
     {
         self.store.prepare(range)?;
         Ok(())

@@ -1,4 +1,5 @@
 use Rattle.std.proofs.Common.{List, [], ◌∷◌, ◌++◌, Err, sym, ◌∙◌, ap, subst, refl}
+use Rattle.std.proofs.lemmas.Bool.{true≢false}
 use Rattle.std.proofs.lemmas.Result.{err_from_is_err_and}
 use Rattle.phys_store.specs.Bytes.{byte_of}
 use Rattle.memblock_model.specs.declared.which.Which.TheVariants as which
@@ -9,8 +10,10 @@ use Rattle.growth_model.specs.declared.refusal.Refusal.{Refusal}
 use Rattle.growth_model.specs.Growth.{memory_growth, new_in, grown, added}
 use Rattle.growth_model.specs.Bytes.{Follows}
 use Rattle.growth_model.proofs.FollowLaws.{follows-item, follows-then}
+use Rattle.memblock_grow.specs.declared.more.More.TheVariants as more
 use Rattle.memblock_grow.specs.Kept.{AreKept}
 use Rattle.memblock_grow.proofs.KeptLaws.{kept-mem}
+use Rattle.memblock_grow.proofs.MoreLaws.{room-of}
 use Rattle.memblock_grow.proofs.ChangeLaws.{change-fails, change-wants, change-done}
 use Rattle.memblock_grow.proofs.memory.add.Goals as goal
 
@@ -21,6 +24,12 @@ returns-in_err-make_memory_room-clause-ends c =
     change-fails (grown which.Memory (new_in which.Memory c.args.range) memory_growth)
     (item.Mem c.args.range) c.in_err-make_memory_room.field-0.0 c.from_residual.result c.args.journal.now.items
     c.make_memory_room.new.journal.items (p.1 ∙ ap (λ (e : Refusal). Err e) p.2) c.in_err-make_memory_room.ensures.ends
+
+pub returns-in_err-make_memory_room-clause-ready : goal.returns-in_err-make_memory_room-clause-ready
+returns-in_err-make_memory_room-clause-ready c = λ spare idle.
+    absurd (true≢false (sym (c.in_err-make_memory_room.ensures.idle
+    (room-of which.Memory (more.PiecesOf c.args.range) c.requires.kept.0 c.args.journal.now.items c.args.tables.now c.args.limit
+    c.requires.kept.1.kept idle)).0))
 
 pub returns-in_err-push-clause-ends : goal.returns-in_err-push-clause-ends
 unfolding added

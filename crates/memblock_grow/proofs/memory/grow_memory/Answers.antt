@@ -7,8 +7,10 @@ use Rattle.memblock_model.specs.declared.item.Item.{Item}
 use Rattle.memblock_model.specs.declared.item.Item.TheVariants as item
 use Rattle.memblock_ranges.specs.declared.region.Head.{Head}
 use Rattle.growth_model.specs.declared.refusal.Refusal.{Refusal}
-use Rattle.growth_model.specs.Growth.{frames_of}
+use Rattle.growth_model.specs.declared.refusal.Refusal.TheVariants as refusal
+use Rattle.growth_model.specs.Growth.{frames_of, memory_growth}
 use Rattle.growth_model.specs.Bytes.{Follows}
+use Rattle.growth_model.proofs.EndLaws.{Ends-along, Ends-wanting}
 use Rattle.growth_model.proofs.FollowLaws.{follows-then, follows-stands}
 use Rattle.memblock_grow.specs.Kept.{AreKept}
 use Rattle.memblock_grow.proofs.KeptLaws.{kept-same}
@@ -40,6 +42,13 @@ left_place-old-requires c =
       far = subst (λ (h : Head). h.room ≢ 128 → h.place + frames_of (24 * h.room) < 2 ^ 64) (sym head)
           (left-far which.Memory c.requires.kept.0 c.args.journal.now.items c.args.tables.now c.args.limit c.requires.kept.1.kept);
     }
+
+pub returns-in_err-prepare-clause-ends : goal.returns-in_err-prepare-clause-ends
+returns-in_err-prepare-clause-ends c =
+    let p = err_from_is_err_and c.from_residual.result c.from_residual.ensures.1 in
+    let items = c.args.journal.now.items in
+    Ends-along (Err refusal.Memory) c.from_residual.result items items memory_growth (sym (p.1 ∙ ap (λ (e : Refusal). Err e) p.2))
+    (Ends-wanting (Unit {0}) items memory_growth)
 
 pub returns-in_err-prepare-clause-bytes : goal.returns-in_err-prepare-clause-bytes
 returns-in_err-prepare-clause-bytes c = λ kernel kept spelled.

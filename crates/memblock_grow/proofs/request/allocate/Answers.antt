@@ -1,6 +1,10 @@
-use Rattle.std.proofs.Common.{Some, None, Err, refl, ◌∙◌, ap}
+use Rattle.std.proofs.Common.{◌≡◌, false, Some, None, Err, refl, sym, ◌∙◌, ap, subst}
+use Rattle.std.proofs.lemmas.Bool.{true≢false}
+use Rattle.std.proofs.lemmas.Option.{none-some}
 use Rattle.std.proofs.lemmas.Result.{err_from_is_err_and}
+use Rattle.memblock_model.specs.declared.which.Which.TheVariants as which
 use Rattle.growth_model.specs.declared.refusal.Refusal.{Refusal}
+use Rattle.growth_model.specs.Growth.{is_full, new_in}
 use Rattle.growth_model.specs.Request.{place_for}
 use Rattle.memblock_grow.proofs.ReservedLaws.{still-bytes}
 use Rattle.memblock_grow.proofs.RequestLaws.{place-is-for, place-small, place-allowed, alloc-none, alloc-fails, alloc-done}
@@ -59,3 +63,30 @@ returns-clause-inside c =
     c.requires.kept.1.kept c.place_for.ensures c.in-Some.is in
     place-small c.requires.kept.0 c.args.journal.now.items c.args.tables.now c.args.limit c.args.request.now c.in-Some.base
     c.requires.kept.1.kept found c.ranges.limit.fits
+
+pub returns-in_default-clause-ready : goal.returns-in_default-clause-ready
+returns-in_default-clause-ready c = λ place is spare idle.
+    let found = place-is-for c.requires.kept.0 c.args.journal.now.items c.args.tables.now c.args.limit c.args.request.now
+    c.place_for.result None
+    c.requires.kept.1.kept c.place_for.ensures c.in_default.is in
+    absurd (none-some place (sym found ∙ is))
+
+pub returns-in_err-claim-clause-ready : goal.returns-in_err-claim-clause-ready
+returns-in_err-claim-clause-ready c = λ place is spare idle.
+    let found = place-is-for c.requires.kept.0 c.args.journal.now.items c.args.tables.now c.args.limit c.args.request.now
+    c.place_for.result (Some c.in-Some.base)
+    c.requires.kept.1.kept c.place_for.ensures c.in-Some.is in
+    let at : c.in-Some.base ≡ place = cc (sym found ∙ is) in
+    let room = subst (λ b. is_full which.Reserved (new_in which.Reserved (record { base = b; size = c.args.request.now.size }))
+    c.args.journal.now.items ≡ false) (sym at) idle in
+    absurd (true≢false (sym (c.in_err-claim.ensures.ready spare room).0))
+
+pub returns-clause-ready : goal.returns-clause-ready
+returns-clause-ready c = λ place is spare idle.
+    let found = place-is-for c.requires.kept.0 c.args.journal.now.items c.args.tables.now c.args.limit c.args.request.now
+    c.place_for.result (Some c.in-Some.base)
+    c.requires.kept.1.kept c.place_for.ensures c.in-Some.is in
+    let at : c.in-Some.base ≡ place = cc (sym found ∙ is) in
+    let room = subst (λ b. is_full which.Reserved (new_in which.Reserved (record { base = b; size = c.args.request.now.size }))
+    c.args.journal.now.items ≡ false) (sym at) idle in
+    c.in_ok-claim.ensures.ready spare room
