@@ -1,6 +1,6 @@
 #!/bin/sh
 # outside.sh [PROGRAM]: what the program answers where the outside fails: files that can't be read, an output
-# that is full. Prints a line for each difference, and 'N passed, M failed' at its end.
+# that is full or whose reader leaves. Prints a line for each difference, and 'N passed, M failed' at its end.
 set -u
 unset CDPATH
 top=$(cd "$(dirname "$0")/.." && pwd)
@@ -94,19 +94,63 @@ five 5 'bootmem: e820ext: header' header missing missing missing "$zp"
 five 5 'bootmem: cmdline: word 1: mem' ext options missing missing "$zp"
 five 5 'bootmem: srat: short' ext empty options missing "$zp"
 
-# an output that takes some hundred bytes and then no more: what was written is where the text begins
-set -- --e820ext ext --cmdline empty --srat srat --script empty --report map,buddyinfo,blocks "$zp"
-"$program" "$@" >whole
-(trap '' XFSZ && ulimit -f 1 && exec "$program" "$@" >part 2>"$work/err")
-status=$?
-written=$(($(wc -c <part)))
-head -c "$written" whole >front
-if [ "$status" -eq 4 ] && [ "$written" -gt 0 ] && [ "$written" -lt "$(($(wc -c <whole)))" ] && cmp -s part front &&
-	[ "$(cat "$work/err")" = 'bootmem: cannot write' ]; then
+# a full output: exactly the bytes that there is room for go out. The room is what is left of a file below the size that a file may have
+(trap '' XFSZ && ulimit -f 1024 && exec head -c 4194304 /dev/zero >output 2>"$work/err")
+most=$(($(wc -c <output)))
+# room STATUS BYTES LIST WORD..: the program's status where there is room for so many bytes of the reports, which are in whole
+room() {
+	wanted=$1
+	room=$2
+	shift 2
+	if [ "$wanted" -ne 0 ]; then echo 'bootmem: cannot write'; fi >"$work/line"
+	head -c "$((most - room))" /dev/zero >output
+	(trap '' XFSZ && ulimit -f 1024 && exec "$program" --report "$@" >>output 2>"$work/err")
+	status=$?
+	tail -c "+$((most - room + 1))" output >part
+	head -c "$room" whole >front
+	if [ "$status" = "$wanted" ] && cmp -s "$work/err" "$work/line" && cmp -s part front; then
+		passed=$((passed + 1))
+	else
+		failed=$((failed + 1))
+		echo "room for $room bytes: status $status, wanted $wanted, $(($(wc -c <part))) bytes: $(cat "$work/err")"
+	fi
+}
+
+# before LINE: how many bytes of whole stand before the first line that ends so
+before() {
+	echo "$(($(sed "/$1\$/,\$d" whole | wc -c)))"
+}
+
+# three reports, each a put of its own: one of them fails at its first byte, amid its text or at its last byte
+set -- --e820ext ext --cmdline empty --srat srat --script empty "$zp"
+"$program" --report map,buddyinfo,blocks "$@" >whole
+second=$(before '== buddyinfo')
+third=$(before '== blocks')
+end=$(($(wc -c <whole)))
+for bytes in 0 1 "$((second - 1))" "$second" "$((second + 1))" "$((third - 1))" "$third" "$((third + 1))" "$((end - 1))"; do
+	room 4 "$bytes" map,buddyinfo,blocks "$@"
+done
+room 0 "$end" map,buddyinfo,blocks "$@"
+
+# blocks whose lines are put by sheets of 1,024: one sheet goes out, and the next one fails
+great=$top/examples/q35-20g-numa4/zp.bin
+"$program" --report map,blocks "$great" >whole
+sheet=$(before ' 0x0000000200000000')
+room 4 "$sheet" map,blocks "$great"
+room 4 "$((sheet + 1))" map,blocks "$great"
+room 0 "$(($(wc -c <whole)))" map,blocks "$great"
+
+# a reader that leaves before the whole text is in the pipe
+{
+	"$program" --report map,blocks "$great" 2>"$work/err"
+	echo $? >status
+} | head -c 100 >part
+head -c 100 whole >front
+if [ "$(cat status)" = 4 ] && cmp -s part front && [ "$(cat "$work/err")" = 'bootmem: cannot write' ]; then
 	passed=$((passed + 1))
 else
 	failed=$((failed + 1))
-	echo "an output that fills up: status $status, $written bytes, $(cat "$work/err")"
+	echo "a reader that leaves: status $(cat status), wanted 4: $(cat "$work/err")"
 fi
 echo "$passed passed, $failed failed"
 [ "$failed" -eq 0 ]
