@@ -8,6 +8,7 @@ and prints the microseconds of one call: the least time of several runs with ROU
 none. `half`: a claim or a free that moves half of the runs; `none`: one that moves none; `owns`: the test of a range's owner.
 """
 import os
+import re
 import shutil
 import subprocess
 import sys
@@ -41,11 +42,17 @@ def add_programs(folder):
 
 
 def build(folder, name, kind):
+    return build_from(folder, name, kind)[0]
+
+
+def build_from(folder, name, kind):
+    """Proves and builds the program; answers it, and the files that it was linked from."""
     here = os.path.join(folder, "crates", "bench_" + name)
     done = subprocess.run(["rt", "run", "--", kind, "2", "1"], cwd=here, capture_output=True, text=True)
     if done.returncode != 0:
         sys.exit("bench: %s isn't built\n" % name + done.stdout[-3000:] + done.stderr[-3000:])
-    return os.path.join(here, "out", "bench_" + name)
+    files = re.search("^linked .* files=(.*)$", done.stdout + done.stderr, re.MULTILINE).group(1)
+    return os.path.join(here, "out", "bench_" + name), [os.path.join(here, file) for file in files.split(",")]
 
 
 def least_time(words, runs=7):
