@@ -5,6 +5,7 @@ ghost use Rattle.std.specs.Prelude.{◌≡◌, ◌≢◌, ℕ, ◌^◌, ◌<◌,
 ghost use Rattle.std.specs.List.{All};
 ghost use Rattle.memblock_model.specs.Items.{limit_of, memory_of};
 ghost use Rattle.growth_model.specs.Sound.{HasBegun};
+ghost use Rattle.memblock_grow.specs.Kept.{StayReady};
 ghost use Rattle.stage_model.specs.declared.stop.StageStop.TheVariants as stage;
 ghost use Rattle.stage_model.specs.Doing.{EndsAs, ok_as};
 ghost use Rattle.stage_model.specs.Noded.{IsNoded};
@@ -135,6 +136,7 @@ pub fn run_stages(alloc: Global, memblock: &mut Memblock, inputs: &Inputs) -> Re
     ensures stopped { IfErr result (λ stop. (made : Made) →
         AreStopped (inputs_view inputs.now) (begun_with made memblock.old) stop) }
     ensures noded { IfOk result (λ _. IsNoded MAX_PHYSMEM (memory_of memblock.new.journal.items)) }
+    ensures still_ready { StayReady memblock.old.tables.store memblock.new.tables.store }
 {
     let nodes = give_nodes(alloc, memblock, inputs)?;
     let crash = reserve_area(memblock, inputs)?;
