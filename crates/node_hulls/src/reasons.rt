@@ -1,6 +1,6 @@
 //! Whether the table is used: the reasons why it isn't, in the order in which the boot meets them.
 
-ghost use Rattle.std.specs.Prelude.{◌≡◌, ℕ, ◌^◌, ◌<◌, ◌≤◌, IfOk, length};
+ghost use Rattle.std.specs.Prelude.{◌≡◌, ℕ, ◌^◌, ◌<◌, ◌≤◌, IfOk, IsFalse, IsSome, OnErr, length};
 ghost use Rattle.std.specs.Option.{ForSome, option_map, option_copied};
 ghost use Rattle.address_runs.specs.Overlay.{HaveAddresses};
 ghost use Rattle.srat_reader.specs.Table.{affinity};
@@ -66,7 +66,7 @@ pub struct Judged {
 }
 
 /// Judges the table. `memory` has the ranges of memory, in any order, none of them empty; `off` says that
-/// `numa=off` was given.
+/// `numa=off` was given. Want of memory comes only where there is a table and it isn't off.
 pub fn judge(
     alloc: Global,
     memory: &[Range],
@@ -75,8 +75,9 @@ pub fn judge(
 ) -> Result<Judged, Memory>
     requires memory { HaveBytes memory.now }
     requires few { ForSome srat (λ table. length table.now.blocks.items < 2 ^ 32) }
-    ensures { IfOk result (λ found. judgement found ≡
+    ensures value { IfOk result (λ found. judgement found ≡
         judged (in_any memory.now) off (option_map affinity (option_copied srat.entry))) }
+    ensures memory { OnErr result (IsFalse off × IsSome srat.entry) }
 {
     if off {
         return Ok(unused(alloc, Why::Off));

@@ -27,7 +27,7 @@ returns-in_err-found-clause-lent c =
 pub assign_by-requires-clause-ranges : goal.assign_by-requires-clause-ranges
 assign_by-requires-clause-ranges c =
     can-get (limit_of c.args.memblock.now.journal.items) (judgement c.in_ok-found.found) (in_any c.deref.result.now) c.args.off
-    (option_map affinity (option_copied c.args.srat)) c.requires.limit c.in_ok-found.ensures
+    (option_map affinity (option_copied c.args.srat)) c.requires.limit c.in_ok-found.ensures.value
 
 pub returns-clause-ends : goal.returns-clause-ends
 returns-clause-ends c =
@@ -40,7 +40,7 @@ returns-clause-ends c =
     let memory : in_any c.in_ok-memory.memory.items ≡ is_memory items =
     ranges-tell items c.in_ok-memory.memory.items c.records.result c.in_ok-memory.ensures.bytes tells in
     let found : judgement c.in_ok-found.found ≡ judged (is_memory items) c.args.off table =
-    c.in_ok-found.ensures
+    c.in_ok-found.ensures.value
     ∙ ap (λ (ranges : List Extent). judged (in_any ranges) c.args.off table) c.deref.ensures.value
     ∙ ap (λ (f : ℕ → Bool). judged f c.args.off table) memory in
     by-judgement (ok_as nodes_view c.assign_by.result) items c.assign_by.new.memblock.journal.items (judgement c.in_ok-found.found) table
