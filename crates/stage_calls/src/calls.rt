@@ -1,6 +1,7 @@
 //! One call of memblock each, with its refusal as the stop of a stage.
-ghost use Rattle.std.specs.Prelude.{◌≡◌, ℕ, ◌+◌, ◌^◌, ◌<◌, ◌≤◌, IfOk};
+ghost use Rattle.std.specs.Prelude.{◌≡◌, ℕ, ◌+◌, ◌^◌, ◌<◌, ◌≤◌, IfOk, None, Err};
 ghost use Rattle.growth_model.specs.Growth.{noded};
+ghost use Rattle.growth_model.specs.Request.{place_for};
 ghost use Rattle.growth_model.specs.Sound.{HasBegun};
 ghost use Rattle.stage_model.specs.declared.stop.StageStop.TheVariants as stops;
 ghost use Rattle.stage_model.specs.Doing.{EndsAs};
@@ -25,6 +26,7 @@ pub fn stop_for(what: What, refusal: Refusal) -> StageStop
 }
 
 /// An allocation that the boot can't do without: its place, in bytes. The size is at least 1, the alignment a power of two.
+/// Where no place fits the boot stops for that, and never for want of memory.
 pub fn place(
     memblock: &mut Memblock,
     what: What,
@@ -36,6 +38,7 @@ pub fn place(
     requires aligned { (k : ℕ) × (request.now.align ≡ 2 ^ k) }
     ensures ends { EndsAs stops.Memory result memblock.old.journal.items memblock.new.journal.items
         (placed what request.now owner memblock.old.journal.items) }
+    ensures none { place_for request.now memblock.old.journal.items ≡ None → result ≡ Err (stops.NoPlace what) }
     ensures inside { IfOk result (λ base. base + request.now.size < 2 ^ 64) }
     ensures lent { GoesOn memblock.old memblock.new }
 {
