@@ -1,5 +1,5 @@
 -- The stage step by step: how its parts end by the ends of what they carry out, and that the area meets no table once it is claimed.
-use Rattle.std.proofs.Common.{◌≡◌, ◌≢◌, ℕ, Bool, if◌then◌else◌, Option, Some, None, List, [], ◌∷◌, ◌++◌, Result, Ok, Err, sym, ◌∙◌, ap, subst}
+use Rattle.std.proofs.Common.{◌≡◌, ◌≢◌, ℕ, Bool, if◌then◌else◌, Option, Some, None, List, [], ◌∷◌, ◌++◌, Result, Ok, Err, refl, sym, ◌∙◌, ap, subst}
 use Rattle.bm_base.specs.Extent.{Extent}
 use Rattle.memblock_model.specs.declared.which.Which.TheVariants as which
 use Rattle.memblock_model.specs.declared.owner.Owner.{Owner}
@@ -9,14 +9,14 @@ use Rattle.memblock_model.specs.declared.item.Item.TheVariants as item
 use Rattle.memblock_model.specs.Items.{memory_of}
 use Rattle.growth_model.specs.declared.refusal.Refusal.{Refusal}
 use Rattle.growth_model.specs.declared.refusal.Refusal.TheVariants as refusal
-use Rattle.growth_model.specs.Outcome.{Change}
-use Rattle.growth_model.specs.Growth.{claimed, new_in}
+use Rattle.growth_model.specs.Outcome.{Change, Outcome, Refused, followed_by, write}
+use Rattle.growth_model.specs.Growth.{claimed, grown, new_in, reserved_growth}
 use Rattle.growth_model.specs.Ends.{Ends}
 use Rattle.growth_model.specs.Sound.{Clear, Placed, IsAway}
 use Rattle.growth_model.proofs.PlacedLaws.{live-same, moves-of, rooms-of, away-still}
 use Rattle.growth_model.proofs.PlacedReservedLaws.{roomy, room-going, claimed-after}
-use Rattle.stage_model.specs.Doing.{Doing, Done, ◌>>=◌, returns, EndsAs}
-use Rattle.stage_model.specs.Requests.{changes}
+use Rattle.stage_model.specs.Doing.{Doing, Done, ◌>>=◌, after, going_on, returns, EndsAs}
+use Rattle.stage_model.specs.Requests.{changes, refusal_of}
 use Rattle.stage_model.proofs.DoingLaws.{ends-second, ends-first, ends-returns}
 use Rattle.stage_model.proofs.RequestLaws.{ends-change}
 use Rattle.boot_options.specs.Crash.{Crash as Asked}
@@ -106,3 +106,54 @@ claimed-away kernel r items new who placed away ends =
       subst (λ (e : Extent). Clear r e) (sym (live-same which.Reserved kernel t (t ++ one) (moves-of which.Reserved t one)
           (rooms-of which.Reserved t one))) still.1,
     )
+
+-- the stage as it goes on from the total, the size of a low part, the area and the place that was found
+pub reserved-at : (items : List Item) (asked : Asked) (total low : ℕ) (area : Option Area) → total ≡ memory_bytes (memory_of items)
+    → low ≡ low_size asked → area ≡ area_for total asked → reserved asked items ≡ with_area low area items
+unfolding reserved
+reserved-at items asked total low area counted said is =
+    ap (λ (n : ℕ). with_area (low_size asked) (area_for n asked) items) (sym counted)
+    ∙ ap (λ (n : ℕ). with_area n (area_for total asked) items) (sym said)
+    ∙ ap (λ (o : Option Area). with_area low o items) (sym is)
+
+-- an answer behind no step is the one that is told
+pub idle-ok : (a told : Crash) (old new : List Item) (d : Done Refusal Crash) → EndsAs refusal.Memory (Ok a) old new d
+    → d ≡ returns told old → ◌≡◌ {A = Result Crash Refusal} (Ok a) (Ok told)
+idle-ok a told old new d h is = sym h.0 ∙ ap (λ (t : Done Refusal Crash). t.answer) is
+
+-- steps of which one is written in their midst
+some-step : (before behind : List (List Item)) (one : List Item) → (before ++ one ∷ []) ++ behind ≢ []
+some-step [] behind one = λ is. cc
+some-step (s ∷ ss) behind one = λ is. cc
+
+-- a change that ends with a written item, and goes on to an answer, has a step
+writes : (told : Crash) (items : List Item) (first : Outcome) (refused : Option Refused) (i : Item)
+    (next : Unit {0} → Done Refusal Crash) → first.refused ≡ refused
+    → going_on (followed_by first refused (write i items)).steps (refusal_of (followed_by first refused (write i items)).refused) next
+    ≢ returns told items
+writes told items first None i next same = λ is.
+    some-step first.steps (next tt).steps (i ∷ []) (ap (λ (t : Done Refusal Crash). t.steps) is)
+writes told items first (Some r) i next same = λ is.
+    let answer : (going_on first.steps (refusal_of first.refused) next).answer ≡ Ok told =
+    ap (λ (t : Done Refusal Crash). t.answer) is in
+    let none : ◌≡◌ {A = Result Crash Refusal} (Err (refusal.NoGapForTable r.which r.room)) (Ok told) =
+    subst (λ (o : Option Refused). (going_on first.steps (refusal_of o) next).answer ≡ Ok told) same answer in
+    cc
+
+-- so a claim is no answer behind no step
+claim-writes : (told : Crash) (items : List Item) (range : Extent) (who : Owner) (next : Unit {0} → Doing Refusal Crash)
+    → (changes (claimed range who) >>= next) items ≢ returns told items
+unfolding claimed
+claim-writes told items range who next =
+    let first : Outcome = grown which.Reserved (new_in which.Reserved range) (reserved_growth range) items in
+    writes told items first first.refused (item.Claim range who) (λ done. next done (after items (changes (claimed range who) items))) refl
+
+-- where the area has a place it is claimed
+pub claims : (told : Crash) (items : List Item) (asked : Asked) (total low : ℕ) (area : Area) (main : Extent)
+    → total ≡ memory_bytes (memory_of items) → low ≡ low_size asked → Some area ≡ area_for total asked
+    → Some main ≡ main_range area.size area.spot items → reserved asked items ≢ returns told items
+claims told items asked total low area main counted said is found = λ idle.
+    let at : with_area low (Some area) items ≡ with_main area low (Some main) items =
+    ap (λ (o : Option Extent). with_main area low o items) (sym found) in
+    claim-writes told items main owner.Crash (λ done. if needs_low main low then low_part main low else returns (crash.At main None))
+    (sym at ∙ sym (reserved-at items asked total low (Some area) counted said is) ∙ idle)

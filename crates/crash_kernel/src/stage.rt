@@ -1,11 +1,12 @@
 //! The stage: the area is claimed, and its low part, or what was claimed is given back.
 
-ghost use Rattle.std.specs.Prelude.{◌≡◌, ◌≢◌, ◌<◌, IfErr};
+ghost use Rattle.std.specs.Prelude.{◌≡◌, ◌≢◌, ◌<◌, IfErr, Ok};
 ghost use Rattle.growth_model.specs.Sound.{HasBegun, IsAway};
 ghost use Rattle.growth_model.specs.declared.refusal.Refusal.TheVariants as refusals;
-ghost use Rattle.stage_model.specs.Doing.{EndsAs};
+ghost use Rattle.stage_model.specs.Doing.{EndsAs, returns};
 ghost use Rattle.stage_calls.specs.Lent.{GoesOn};
 ghost use Rattle.boot_options.specs.Crash.{crash_view};
+ghost use Rattle.crash_kernel.specs.declared.crash.Crash.{Crash as AnyCrash};
 ghost use Rattle.crash_kernel.specs.Reserved.{low_part, reserved};
 
 use crate::area::area_for;
@@ -23,10 +24,13 @@ const DEFAULT_LOW: u64 = 1 << 28;
 
 /// Reserves the crash area that the line asks for (`reserve_crashkernel`), and answers what came of it. `NoGapForTable`
 /// comes where a table has to grow for a claim or a release and finds no place; what was claimed before stays then.
+/// Where nothing is claimed, since nothing is asked for or it has no place, no memory is taken, and none is wanted.
 pub fn reserve(memblock: &mut Memblock, option: &CrashOption) -> Result<Crash, Refusal>
     requires begun { HasBegun memblock.old.journal.items }
     ensures ends { EndsAs refusals.Memory result memblock.old.journal.items memblock.new.journal.items
         (reserved (crash_view option.now) memblock.old.journal.items) }
+    ensures idle { (crash : AnyCrash) →
+        reserved (crash_view option.now) memblock.old.journal.items ≡ returns crash memblock.old.journal.items → result ≡ Ok crash }
     ensures found { IfErr result (λ refusal. refusal ≢ refusals.NoGap) }
     ensures lent { GoesOn memblock.old memblock.new }
 {

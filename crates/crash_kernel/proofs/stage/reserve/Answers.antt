@@ -20,7 +20,7 @@ use Rattle.crash_kernel.specs.Total.{memory_bytes}
 use Rattle.crash_kernel.specs.Places.{low_size}
 use Rattle.crash_kernel.specs.Reserved.{reserved}
 use Rattle.crash_kernel.proofs.TotalLaws.{records-bytes}
-use Rattle.crash_kernel.proofs.ReservedLaws.{area-by, claimed-away, exits, main-fails, main-then, reserved-by}
+use Rattle.crash_kernel.proofs.ReservedLaws.{area-by, claimed-away, claims, exits, idle-ok, main-fails, main-then, reserved-by}
 use Rattle.crash_kernel.proofs.stage.reserve.Goals as goal
 
 -- the total of the memory table is that of the items
@@ -45,6 +45,11 @@ returns-in_default-clause-ends c =
     reserved-by (Ok crash.Nothing) items items asked c.total_memory-total.result (low_size asked) None total refl c.in_default.ensures.area
     (refl, refl)
 
+pub returns-in_default-clause-idle : goal.returns-in_default-clause-idle
+returns-in_default-clause-idle c = λ told idle.
+    let items = c.args.memblock.now.journal.items in
+    idle-ok crash.Nothing told items items (reserved (crash_view c.args.option.now) items) (returns-in_default-clause-ends c) idle
+
 pub returns-in_default-clause-lent : goal.returns-in_default-clause-lent
 returns-in_default-clause-lent c =
     still c.args.memblock.now c.tables.result.now c.tables.ensures.tables c.tables.ensures.memory c.tables.ensures.reserved
@@ -60,6 +65,12 @@ returns-in_default-main_range-clause-ends c =
     reserved-by r items items asked c.total_memory-total.result (low_size asked) (Some c.in-Some.area) total refl c.in-Some.ensures.area
     (area-by r items items (low_size asked) c.in-Some.area None c.in_default-main_range.ensures.range
     (ap (λ (a : crash.the_data). Ok a) (sym c.unplaced.ensures), refl))
+
+pub returns-in_default-main_range-clause-idle : goal.returns-in_default-main_range-clause-idle
+returns-in_default-main_range-clause-idle c = λ told idle.
+    let items = c.args.memblock.now.journal.items in
+    idle-ok c.unplaced.result told items items (reserved (crash_view c.args.option.now) items)
+    (returns-in_default-main_range-clause-ends c) idle
 
 pub returns-in_default-main_range-clause-lent : goal.returns-in_default-main_range-clause-lent
 returns-in_default-main_range-clause-lent c =
@@ -81,6 +92,15 @@ returns-in_err-claim-clause-ends c =
     c.in-Some.ensures.area
     (area-by (Err e) items new (low_size asked) c.in-Some.area (Some main) c.in-Some-main_range.ensures.range
     (main-fails e items new (low_size asked) c.in-Some.area main c.in_err-claim.ensures.ends)))
+
+pub returns-in_err-claim-clause-idle : goal.returns-in_err-claim-clause-idle
+returns-in_err-claim-clause-idle c = λ told idle.
+    let items = c.args.memblock.now.journal.items in
+    let asked = crash_view c.args.option.now in
+    let total = total_is c.args.memblock.now.kernel items c.tables.result.now c.total_memory-total.result c.tables.ensures.memory
+    c.tables.ensures.within c.total_memory-total.ensures in
+    absurd (claims told items asked c.total_memory-total.result (low_size asked) c.in-Some.area c.in-Some-main_range.main total refl
+    c.in-Some.ensures.area c.in-Some-main_range.ensures.range idle)
 
 pub reserve_low-requires-clause-away : goal.reserve_low-requires-clause-away
 reserve_low-requires-clause-away c =
@@ -107,6 +127,15 @@ returns-then-needs_low-clause-ends c =
     (area-by r items new low c.in-Some.area (Some main) c.in-Some-main_range.ensures.range
     (main-then r items mid new low c.in-Some.area main true c.if-needs_low.ensures c.in_ok-claim.ensures.ends c.reserve_low.ensures.ends))
 
+pub returns-then-needs_low-clause-idle : goal.returns-then-needs_low-clause-idle
+returns-then-needs_low-clause-idle c = λ told idle.
+    let items = c.args.memblock.now.journal.items in
+    let asked = crash_view c.args.option.now in
+    let total = total_is c.args.memblock.now.kernel items c.tables.result.now c.total_memory-total.result c.tables.ensures.memory
+    c.tables.ensures.within c.total_memory-total.ensures in
+    absurd (claims told items asked c.total_memory-total.result (low_size asked) c.in-Some.area c.in-Some-main_range.main total refl
+    c.in-Some.ensures.area c.in-Some-main_range.ensures.range idle)
+
 pub returns-then-needs_low-clause-lent : goal.returns-then-needs_low-clause-lent
 returns-then-needs_low-clause-lent c =
     let claimed : GoesOn c.args.memblock.now c.claim.new.self = record {
@@ -129,3 +158,9 @@ returns-else-needs_low-clause-ends c =
     reserved-by r items new asked c.total_memory-total.result low (Some c.in-Some.area) total c.unwrap_or-low.ensures c.in-Some.ensures.area
     (area-by r items new low c.in-Some.area (Some main) c.in-Some-main_range.ensures.range
     (main-then r items new new low c.in-Some.area main false c.if-needs_low.ensures c.in_ok-claim.ensures.ends (refl, refl)))
+
+pub returns-else-needs_low-clause-idle : goal.returns-else-needs_low-clause-idle
+returns-else-needs_low-clause-idle c = λ told idle.
+    let items = c.args.memblock.now.journal.items in
+    idle-ok (crash.At c.in-Some-main_range.main None) told items c.claim.new.self.journal.items
+    (reserved (crash_view c.args.option.now) items) (returns-else-needs_low-clause-ends c) idle
