@@ -69,12 +69,14 @@ impl Buddy {
 
     /// The frames from `first` on, `count` of them, become free (`__free_pages_core`). Each lies below
     /// [`MAX_FRAMES`], and none is free already. Where `spare` is 32 or more, it takes no memory and answers `Ok`,
-    /// however many frames there are; else `Memory` may come, and nothing has changed then.
+    /// however many frames there are; else `Memory` may come, and nothing has changed then. It uses up two of
+    /// `spare`, and takes memory first where there are fewer.
     pub fn free_frames(&mut self, first: u64, count: u64, node: u32) -> Result<(), Memory>
         requires low { first + count ≤ MAX_FRAMES }
         requires held { (x : ℕ) → first ≤ x → x < first + count → free self.old x ≡ None }
         ensures runs { OnOk result (IsRunsOf (replaced (record { base = first; size = count }) node (free self.old)) self.new.runs) }
         ensures enough { 32 ≤ self.old.spare → IsOk result }
+        ensures spare { OnOk result (self.new.spare ≡ max self.old.spare 2 - 2) }
         ensures err { OnErr result (self.new ≡ self.old) }
     {
         self.note(first, count, node)
@@ -85,6 +87,7 @@ impl Buddy {
         requires low { first + count ≤ MAX_FRAMES }
         ensures runs { OnOk result (IsRunsOf (replaced (record { base = first; size = count }) node (free self.old)) self.new.runs) }
         ensures memory { OnErr result (self.old.spare < 2) }
+        ensures spare { OnOk result (self.new.spare ≡ max self.old.spare 2 - 2) }
         ensures err { OnErr result (self.new ≡ self.old) }
     {
         self.ready(ENTRIES)?;
