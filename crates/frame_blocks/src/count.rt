@@ -1,7 +1,7 @@
 //! How many blocks there are of a node, a zone and an order, without a list of them: a long run is as good as
 //! all blocks of the greatest order, and those are taken at once.
 
-ghost use Rattle.std.specs.Prelude.{◌≡◌, ◌⊎◌, ◌↔◌, ℕ, IsTrue, ◌+◌, ◌-◌, ◌*◌, ◌%◌, ◌<◌, ◌≤◌, count_by};
+ghost use Rattle.std.specs.Prelude.{◌≡◌, ◌≢◌, ◌⊎◌, ◌↔◌, ℕ, IsTrue, ◌+◌, ◌-◌, ◌*◌, ◌%◌, ◌<◌, ◌≤◌, count_by};
 ghost use Rattle.bm_base.specs.Zones.{zone_of};
 ghost use Rattle.address_runs.specs.Runs.{AreRuns, value_at};
 ghost use Rattle.address_runs.specs.Edits.{NothingFrom};
@@ -59,7 +59,7 @@ fn is_alike(set: Set, at: u64, zone: Zone, order: u32) -> bool
 }
 
 /// How many blocks of the set's size follow one another from the frame on, all in its zone: of the greatest
-/// order as many as there is room for, of another order at least this one.
+/// order as many as there is room for, so that behind them there is none or another zone; of another order this one.
 pub fn blocks_alike(at: u64, end: u64, set: Set) -> u64
     requires small { set.order ≤ 10 }
     requires size { set.order ≡ 10 → set.size ≡ 1024 }
@@ -69,6 +69,8 @@ pub fn blocks_alike(at: u64, end: u64, set: Set) -> u64
     ensures single { (set.order ≡ 10) ⊎ (result ≡ 1) }
     ensures room { at + result * set.size ≤ end }
     ensures zone { (i : ℕ) → i < result → zone_of (at + i * set.size) ≡ zone_of at }
+    ensures most { set.order ≡ 10 →
+        (end < at + (result + 1) * set.size) ⊎ (zone_of (at + result * set.size) ≢ zone_of at) }
 {
     if set.order < MAX_ORDER {
         return 1;
