@@ -4,7 +4,7 @@ ghost use Rattle.std.specs.Prelude.{◌≡◌, ℕ, ◌+◌, ◌-◌, ◌^◌, �
 ghost use Rattle.address_runs.specs.Runs.{IsRunsOf};
 ghost use Rattle.address_runs.specs.Edits.{replaced, NothingFrom};
 ghost use Rattle.frame_blocks.specs.Listed.{block_of, blocks_of, count_of};
-ghost use Rattle.frame_blocks.specs.Rows.{blocks_of_rows};
+ghost use Rattle.frame_blocks.specs.Rows.{blocks_of_rows, AreRows};
 ghost use Rattle.buddy_handover.specs.Contents.{free};
 
 use crate::runs::put;
@@ -109,9 +109,11 @@ impl Buddy {
         frame_blocks::blocks(*self.runs.allocator(), &self.runs)
     }
 
-    /// The same blocks row by row: some twenty rows for each run of free frames, however long it is.
+    /// The same blocks row by row: some twenty rows for each run of free frames, however long it is. No row is empty,
+    /// and no two rows of the greatest order could be one.
     pub fn rows(&self) -> Result<Vec<BlockRow>, Memory>
-        ensures { IfOk result (λ rows. blocks_of_rows rows.items ≡ blocks_of (free self.now)) }
+        ensures blocks { IfOk result (λ rows. blocks_of_rows rows.items ≡ blocks_of (free self.now)) }
+        ensures longest { IfOk result (λ rows. AreRows rows.items) }
     {
         frame_blocks::rows(*self.runs.allocator(), &self.runs)
     }

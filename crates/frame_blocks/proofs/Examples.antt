@@ -6,9 +6,11 @@ use Rattle.bm_base.specs.Each.{each_from, each_in}
 use Rattle.bm_base.specs.declared.zone.Zone.TheVariants as zone
 use Rattle.bm_base.specs.Zones.{zone_of}
 use Rattle.frame_blocks.specs.declared.block.Block.{Block}
+use Rattle.frame_blocks.specs.declared.block.BlockRow.{BlockRow}
 use Rattle.frame_blocks.specs.Frames.{Frames, IsInSet, AreFree, IsGood, IsBlock, IsInBlock}
 use Rattle.frame_blocks.specs.Listed.{is_node, set_around, are_free, order_up_to, block_around, block_for, block_of, led_by_block, blocks_from, same_zone, is_of, Lists, AscendFrom}
-use Rattle.frame_blocks.specs.Sets.{IsRun, Fits, IsStart}
+use Rattle.frame_blocks.specs.Rows.{row_end, GoesOn, AreRows}
+use Rattle.frame_blocks.specs.Sets.{IsRun, Fits, IsStart, OfLast, EndsFree}
 use Rattle.frame_blocks.proofs.RunLaws.{start_first}
 
 -- frames 4 and 5 are free, of node 7; or frame 5 alone
@@ -107,3 +109,35 @@ fit_examples = (record { above = omega arith; below = omega arith }, λ fits. le
 
 start_example : IsStart 4 6 4
 start_example = start_first 4 6
+
+-- two great blocks; a row that goes on with them, and one of another node in its place
+abbrev great_row : ℕ → ℕ → ℕ → BlockRow
+great_row first count node = record { order = 10; first = first; count = count; node = node; zone = zone.Dma }
+
+end_example : row_end (great_row 1024 2 0) ≡ 3072
+end_example = refl
+
+goes_on_examples : GoesOn (great_row 0 2 0) (great_row 2048 1 0) × (GoesOn (great_row 0 2 0) (great_row 2048 1 1) → ⊥)
+    × (GoesOn (great_row 0 1 0) (great_row 2048 1 0) → ⊥)
+goes_on_examples = (
+  record { great = refl; order = refl; node = refl; zone = refl; touch = refl },
+  λ goes. let same = goes.node in absurd (omega (arith, same)),
+  λ goes. let touch = goes.touch in absurd (omega (arith, touch)),
+)
+
+row_examples : AreRows (great_row 0 2 0 ∷ (great_row 2048 1 1 ∷ [])) × (AreRows (great_row 0 2 0 ∷ (great_row 2048 1 0 ∷ [])) → ⊥)
+    × (AreRows (great_row 0 0 0 ∷ []) → ⊥) × (AreRows (record { order = 1; first = 2; count = 2; node = 0; zone = zone.Dma } ∷ []) → ⊥)
+row_examples = (
+  (omega arith, inl refl, goes_on_examples.1, (omega arith, inl refl, tt, tt)),
+  λ are. are.2 goes_on_examples.0,
+  λ are. let some = are.0 in absurd (omega (arith, some)),
+  λ are. elim are.1 as (λ _. ⊥) [
+    | inl ten ↦ absurd (omega (arith, ten))
+    | inr one ↦ absurd (omega (arith, one))
+  ],
+)
+
+-- the last frame of the last row
+last_examples : OfLast (EndsFree pair) (great_row 0 1 0 ∷ (record { order = 1; first = 4; count = 1; node = 7; zone = zone.Dma } ∷ []))
+    × (OfLast (EndsFree pair) (great_row 0 1 0 ∷ []) → ⊥)
+last_examples = ((omega arith, refl), λ ends. let none : None ≡ Some 0 = ends.1 in cc none)

@@ -5,5 +5,6 @@ pub mod ListLaws
 pub mod RunLaws
 pub mod LookLaws
 pub mod RowLaws
+pub mod LongLaws
 pub mod CountLaws
 pub mod BlockLaws

@@ -1,6 +1,8 @@
 -- Aligned sets within the frames of a run: what the functions that cut a run into blocks say to one another.
-use Rattle.std.specs.Prelude.{◌≡◌, ◌≢◌, ℕ, suc, ◌+◌, ◌-◌, ◌%◌, ◌^◌, ◌<◌, ◌≤◌, Some}
+use Rattle.std.specs.Prelude.{◌≡◌, ◌≢◌, ℕ, suc, ◌+◌, ◌-◌, ◌%◌, ◌^◌, ◌<◌, ◌≤◌, Some, List, [], ◌∷◌}
+use Rattle.frame_blocks.specs.declared.block.BlockRow.{BlockRow}
 use Rattle.frame_blocks.specs.Frames.{Frames}
+use Rattle.frame_blocks.specs.Rows.{row_end}
 
 -- the frames from `first` up to `end` are all free frames of a run of the node: neither neighbour belongs to it
 pub record IsRun (f : Frames) (first end n : ℕ) : Type 0 where
@@ -20,3 +22,13 @@ IsGreatest first end frame order = (o : ℕ) → order < o → o ≤ 10 → Fits
 -- each set around the frame that lies between both ends begins at the frame
 abbrev pub IsStart : ℕ → ℕ → ℕ → Type 0
 IsStart first end at = (o : ℕ) → o ≤ 10 → Fits first end at (2 ^ o) → at % 2 ^ o ≡ 0
+
+-- this holds of the last row of the list, if there is one
+abbrev pub OfLast : (BlockRow → Type 0) → List BlockRow → Type 0
+OfLast P [] = Unit {0}
+OfLast P (r ∷ []) = P r
+OfLast P (r ∷ (q ∷ qs)) = OfLast P (q ∷ qs)
+
+-- the last frame of the row is free, of its node
+abbrev pub EndsFree : Frames → BlockRow → Type 0
+EndsFree f r = (0 < row_end r) × (f (row_end r - 1) ≡ Some r.node)

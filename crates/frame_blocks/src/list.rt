@@ -6,8 +6,8 @@ ghost use Rattle.address_runs.specs.Runs.{AreRuns, value_at};
 ghost use Rattle.address_runs.specs.Edits.{NothingFrom};
 ghost use Rattle.frame_blocks.specs.Frames.{Frames};
 ghost use Rattle.frame_blocks.specs.Listed.{block_of, blocks_from, blocks_of};
-ghost use Rattle.frame_blocks.specs.Rows.{blocks_of_rows};
-ghost use Rattle.frame_blocks.specs.Sets.{IsRun};
+ghost use Rattle.frame_blocks.specs.Rows.{blocks_of_rows, AreRows};
+ghost use Rattle.frame_blocks.specs.Sets.{IsRun, OfLast, EndsFree};
 
 use crate::block::{Block, BlockRow};
 use crate::count::blocks_alike;
@@ -52,11 +52,13 @@ fn push_blocks(blocks: &mut Vec<Block>, first: u64, end: u64, node: u32) -> Resu
 }
 
 /// All blocks of the free frames, ascending, row by row: a run of frames is a row for each zone in which it has
-/// blocks of the greatest order, and one for each other block, of which there are some twenty.
+/// blocks of the greatest order, and one for each other block, of which there are some twenty. No row is empty, and
+/// no two rows of the greatest order could be one.
 pub fn rows(alloc: Global, runs: &[FrameRun]) -> Result<Vec<BlockRow>, Memory>
     requires runs { AreRuns runs.now }
     requires low { NothingFrom MAX_FRAMES (value_at runs.now) }
-    ensures { IfOk result (λ rows. blocks_of_rows rows.items ≡ blocks_of (value_at runs.now)) }
+    ensures blocks { IfOk result (λ rows. blocks_of_rows rows.items ≡ blocks_of (value_at runs.now)) }
+    ensures longest { IfOk result (λ rows. AreRows rows.items) }
 {
     let mut rows = Vec::new(alloc);
     for run in runs {
@@ -65,11 +67,13 @@ pub fn rows(alloc: Global, runs: &[FrameRun]) -> Result<Vec<BlockRow>, Memory>
     Ok(rows)
 }
 
-/// The blocks of one run, row by row.
+/// The blocks of one run, row by row; each row is as long as it can be, if those before it are and lie in runs.
 fn push_rows(rows: &mut Vec<BlockRow>, first: u64, end: u64, node: u32) -> Result<(), Memory>
     requires { first ≤ end }
-    ensures { OnOk result ((f : Frames) → IsRun f first end node →
+    ensures blocks { OnOk result ((f : Frames) → IsRun f first end node →
         blocks_of_rows rows.new.items ≡ blocks_of_rows rows.old.items ++ blocks_from f first (end - first)) }
+    ensures longest { OnOk result ((f : Frames) → IsRun f first end node → OfLast (EndsFree f) rows.old.items →
+        AreRows rows.old.items → OfLast (EndsFree f) rows.new.items × AreRows rows.new.items) }
 {
     let mut at = first;
     while at < end {

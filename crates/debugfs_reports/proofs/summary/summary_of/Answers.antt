@@ -17,7 +17,7 @@ frames_of-free-requires c =
     let rows = c.deref-row-items.result.now in
     let l = c.loop-row in
     let is : blocks_of_rows rows ≡ blocks_of (free c.args.booted.now.buddy) =
-    ap (λ (rs : List BlockRow). blocks_of_rows rs) c.deref-row-items.ensures.value ∙ c.in_ok-rows.ensures in
+    ap (λ (rs : List BlockRow). blocks_of_rows rs) c.deref-row-items.ensures.value ∙ c.in_ok-rows.ensures.blocks in
     let few = (counted_few rows l.row-index l.free l.blocks (free c.args.booted.now.buddy) is l.invariant).0 in
     let left = (row_left rows l.row-index no_row c.loop-row-test.true).0 in
     omega (arith, few, left)
@@ -27,7 +27,7 @@ overflow_add-free c =
     let rows = c.deref-row-items.result.now in
     let l = c.loop-row in
     let is : blocks_of_rows rows ≡ blocks_of (free c.args.booted.now.buddy) =
-    ap (λ (rs : List BlockRow). blocks_of_rows rs) c.deref-row-items.ensures.value ∙ c.in_ok-rows.ensures in
+    ap (λ (rs : List BlockRow). blocks_of_rows rs) c.deref-row-items.ensures.value ∙ c.in_ok-rows.ensures.blocks in
     let few = (counted_few rows l.row-index l.free l.blocks (free c.args.booted.now.buddy) is l.invariant).0 in
     let left = (row_left rows l.row-index no_row c.loop-row-test.true).0 in
     let more = c.frames_of-free.ensures in
@@ -38,7 +38,7 @@ overflow_add-blocks c =
     let rows = c.deref-row-items.result.now in
     let l = c.loop-row in
     let is : blocks_of_rows rows ≡ blocks_of (free c.args.booted.now.buddy) =
-    ap (λ (rs : List BlockRow). blocks_of_rows rs) c.deref-row-items.ensures.value ∙ c.in_ok-rows.ensures in
+    ap (λ (rs : List BlockRow). blocks_of_rows rs) c.deref-row-items.ensures.value ∙ c.in_ok-rows.ensures.blocks in
     let few = (counted_few rows l.row-index l.free l.blocks (free c.args.booted.now.buddy) is l.invariant).1 in
     let left = (row_left rows l.row-index no_row c.loop-row-test.true).1 in
     omega (arith, few, left)

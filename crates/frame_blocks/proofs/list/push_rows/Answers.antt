@@ -6,6 +6,7 @@ use Rattle.frame_blocks.specs.Listed.{blocks_from}
 use Rattle.frame_blocks.specs.Rows.{blocks_of_row, blocks_of_rows}
 use Rattle.frame_blocks.proofs.RunLaws.{nothing_more, start_first, start_whole}
 use Rattle.frame_blocks.proofs.RowLaws.{row_more, rows_more}
+use Rattle.frame_blocks.proofs.LongLaws.{ends_at_first, long_more}
 use Rattle.frame_blocks.proofs.CountLaws.{next_start}
 use Rattle.frame_blocks.proofs.list.push_rows.Goals as goal
 
@@ -15,6 +16,7 @@ loop-at-init c = record {
   below = c.requires;
   start = start_first c.args.first c.args.end;
   listed = λ f run. nothing_more f c.args.first (blocks_of_rows c.args.rows.now.items);
+  longest = λ f run free are. (free, ends_at_first f c.args.first c.args.end c.args.node c.args.rows.now.items run free, are);
 }
 
 pub loop-at-preserved : goal.loop-at-preserved
@@ -26,19 +28,26 @@ loop-at-preserved c =
     let b = c.blocks_alike-count.ensures in
     let whole : at % s ≡ 0 = start_whole first end at o s c.loop-at.invariant.start e.small e.size e.fits in
     let above = c.loop-at.invariant.above in
+    let made : BlockRow = record { order = o; first = at; count = k; node = c.args.node; zone = zone_of at } in
+    let put : c.push.new.self.items ≡ c.loop-at.rows.items ++ made ∷ [] =
+    c.in_ok-push.ensures.items
+    ∙ ap (λ z. let row : BlockRow = record { order = o; first = at; count = k; node = c.args.node; zone = z } in
+    c.loop-at.rows.items ++ row ∷ []) c.zone_of-zone.ensures in
     record {
       above = omega (arith, above);
       below = b.room;
       start = next_start first end at o s k whole e.small e.size e.greatest b.single;
       listed = λ f run.
-          let made : BlockRow = record { order = o; first = at; count = k; node = c.args.node; zone = zone_of at } in
           let old : List Block = blocks_of_rows c.args.rows.now.items in
-          ap (λ (rs : List BlockRow). blocks_of_rows rs) (c.in_ok-push.ensures.items
-          ∙ ap (λ z. let row : BlockRow = record { order = o; first = at; count = k; node = c.args.node; zone = z } in
-          c.loop-at.rows.items ++ row ∷ []) c.zone_of-zone.ensures)
-          ∙ rows_more c.loop-at.rows.items made
+          ap (λ (rs : List BlockRow). blocks_of_rows rs) put ∙ rows_more c.loop-at.rows.items made
           ∙ ap (λ (bs : List Block). bs ++ blocks_of_row made) (c.loop-at.invariant.listed f run)
           ∙ append_assoc old (blocks_from f first (at - first)) (blocks_of_row made)
           ∙ sym (ap (λ (bs : List Block). old ++ bs)
           (row_more f first end c.args.node o s at k run above b.some b.room e.small e.size whole e.fits e.greatest b.single b.zone));
+      longest = λ f run free are.
+          long_more f first end c.args.node o s at k c.loop-at.rows.items c.push.new.self.items put run above b.some b.room e.size whole
+          e.fits b.single b.most (c.loop-at.invariant.longest f run free are);
     }
+
+pub returns-clause-longest : goal.returns-clause-longest
+returns-clause-longest c = λ f run free are. let h = c.loop-at.invariant.longest f run free are in (h.0, h.2)

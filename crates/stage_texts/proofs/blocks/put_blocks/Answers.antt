@@ -14,5 +14,5 @@ pub put_rows-requires : goal.put_rows-requires
 put_rows-requires c =
     let f = free c.args.buddy.now in
     let is : blocks_of_rows c.deref.result.now ≡ blocks_of f =
-    ap (λ (rs : List BlockRow). blocks_of_rows rs) c.deref.ensures.value ∙ c.in_ok-rows.ensures in
+    ap (λ (rs : List BlockRow). blocks_of_rows rs) c.deref.ensures.value ∙ c.in_ok-rows.ensures.blocks in
     subst (λ (bs : List Block). ArePlaced bs) (sym is) (bounds_placed (blocks_of f) (listed_in_bounds f))

@@ -1,0 +1,86 @@
+-- Rows are as long as they can be.
+use Rattle.std.proofs.Common.{◌≡◌, ◌≢◌, ◌⊎◌, ℕ, zero, suc, ◌+◌, ◌-◌, ◌*◌, ◌%◌, ◌^◌, ◌<◌, ◌≤◌, Some, List, [], ◌∷◌, ◌++◌, sym, ◌∙◌, ap, subst, inl, inr, arith}
+use Rattle.std.proofs.lemmas.Nat.{pow_pos}
+use Rattle.std.proofs.Math.Nat.{suc-mul}
+use Rattle.bm_base.specs.Zones.{zone_of}
+use Rattle.frame_blocks.specs.declared.block.BlockRow.{BlockRow}
+use Rattle.frame_blocks.specs.Frames.{Frames}
+use Rattle.frame_blocks.specs.Rows.{row_end, GoesOn, AreRows}
+use Rattle.frame_blocks.specs.Sets.{IsRun, Fits, OfLast, EndsFree}
+
+-- no row of the node that begins at the frame, in frames up to the end, goes on with the row
+abbrev pub EndsAt : ℕ → ℕ → ℕ → BlockRow → Type 0
+EndsAt at end n r = r.order ≡ 10 → r.node ≡ n → row_end r ≡ at → (end < at + 1024) ⊎ (zone_of at ≢ r.zone)
+
+-- what holds of the last row
+last_put : (P : BlockRow → Type 0) (rs : List BlockRow) (r : BlockRow) → P r → OfLast P (rs ++ r ∷ [])
+last_put P [] r holds = holds
+last_put P (q ∷ []) r holds = holds
+last_put P (q ∷ (p ∷ rs)) r holds = last_put P (p ∷ rs) r holds
+
+last_so : (P Q : BlockRow → Type 0) (rs : List BlockRow) → ((r : BlockRow) → P r → Q r) → OfLast P rs → OfLast Q rs
+last_so P Q [] so holds = tt
+last_so P Q (r ∷ []) so holds = so r holds
+last_so P Q (r ∷ (q ∷ rs)) so holds = last_so P Q (q ∷ rs) so holds
+
+-- one row more, which doesn't go on with the last one
+rows_put : (rs : List BlockRow) (r : BlockRow) → 0 < r.count → ((r.order ≡ 10) ⊎ (r.count ≡ 1))
+    → OfLast (λ q. GoesOn q r → ⊥) rs → AreRows rs → AreRows (rs ++ r ∷ [])
+rows_put [] r some single ends are = (some, single, tt, tt)
+rows_put (q ∷ []) r some single ends are = (are.0, are.1, ends, (some, single, tt, tt))
+rows_put (q ∷ (p ∷ rs)) r some single ends are = (are.0, are.1, are.2, rows_put (p ∷ rs) r some single ends are.3)
+
+-- a run begins behind a frame that isn't free or of another node
+pub ends_at_first : (f : Frames) (first end n : ℕ) (rs : List BlockRow) → IsRun f first end n → OfLast (EndsFree f) rs
+    → OfLast (EndsAt first end n) rs
+ends_at_first f first end n rs run free =
+    last_so (EndsFree f) (EndsAt first end n) rs
+    (λ r last ten node touch.
+    let some = last.0 in
+    let next : suc (row_end r - 1) ≡ first = omega (arith, some, touch) in
+    absurd (run.before (row_end r - 1) next (last.1 ∙ ap (λ m. Some m) node)))
+    free
+
+-- so many blocks have frames
+some_frames : (k s : ℕ) → 0 < k → 0 < s → 0 < k * s
+some_frames zero s some size = absurd (omega arith)
+some_frames (suc k) s some size = let h = suc-mul k s in omega (arith, h, size)
+
+-- the blocks that follow one another from here on are one row more
+pub long_more : (f : Frames) (first end n o s at k : ℕ) (rs new : List BlockRow)
+    → new ≡ rs ++ record { order = o; first = at; count = k; node = n; zone = zone_of at } ∷ []
+    → IsRun f first end n → first ≤ at → 0 < k → at + k * s ≤ end → s ≡ 2 ^ o → at % s ≡ 0 → Fits first end at s
+    → ((o ≡ 10) ⊎ (k ≡ 1)) → (o ≡ 10 → (end < at + (k + 1) * s) ⊎ (zone_of (at + k * s) ≢ zone_of at))
+    → OfLast (EndsFree f) rs × OfLast (EndsAt at end n) rs × AreRows rs
+    → OfLast (EndsFree f) new × OfLast (EndsAt (at + k * s) end n) new × AreRows new
+long_more f first end n o s at k rs new put run above some room size whole fits single most old =
+    let r : BlockRow = record { order = o; first = at; count = k; node = n; zone = zone_of at } in
+    let below = fits.below in
+    let positive : 0 < s = let h = pow_pos o in omega (arith, size, h) in
+    let frames : 0 < k * s = some_frames k s some positive in
+    let end_is : row_end r ≡ at + k * s = ap (λ t. at + k * t) (sym size) in
+    let ends : EndsFree f r = (
+      omega (arith, end_is, frames),
+      run.inside (row_end r - 1) (omega (arith, end_is, frames, above)) (omega (arith, end_is, frames, room)),
+    ) in
+    let next : EndsAt (at + k * s) end n r = λ ten node touch.
+    let s_is : s ≡ 1024 = size ∙ ap (λ p. 2 ^ p) ten in
+    let sum : (k + 1) * s ≡ k * s + s = grind arith in
+    elim (most ten) as (λ _. (end < at + k * s + 1024) ⊎ (zone_of (at + k * s) ≢ zone_of at)) [
+      | inl lt ↦ inl (omega (arith, lt, sum, s_is))
+      | inr other ↦ inr other
+    ] in
+    let apart : OfLast (λ q. GoesOn q r → ⊥) rs =
+    last_so (EndsAt at end n) (λ q. GoesOn q r → ⊥) rs
+    (λ q last goes.
+    let ten : o ≡ 10 = goes.order ∙ goes.great in
+    let s_is : s ≡ 1024 = size ∙ ap (λ p. 2 ^ p) ten in
+    elim (last goes.great (sym goes.node) (sym goes.touch)) as (λ _. ⊥) [
+      | inl lt ↦ absurd (omega (arith, lt, below, whole, s_is))
+      | inr other ↦ other goes.zone
+    ])
+    old.1 in (
+      subst (λ (ts : List BlockRow). OfLast (EndsFree f) ts) (sym put) (last_put (EndsFree f) rs r ends),
+      subst (λ (ts : List BlockRow). OfLast (EndsAt (at + k * s) end n) ts) (sym put) (last_put (EndsAt (at + k * s) end n) rs r next),
+      subst (λ (ts : List BlockRow). AreRows ts) (sym put) (rows_put rs r some single apart old.2),
+    )
