@@ -9,7 +9,7 @@ use Rattle.frame_blocks.specs.declared.block.Block.{Block}
 use Rattle.frame_blocks.specs.declared.block.BlockRow.{BlockRow}
 use Rattle.frame_blocks.specs.Frames.{Frames, IsInSet, AreFree, IsGood, IsBlock, IsInBlock}
 use Rattle.frame_blocks.specs.Listed.{is_node, set_around, are_free, order_up_to, block_around, block_for, block_of, led_by_block, blocks_from, same_zone, is_of, Lists, AscendFrom}
-use Rattle.frame_blocks.specs.Rows.{row_end, GoesOn, AreRows}
+use Rattle.frame_blocks.specs.Rows.{row_end, CouldBeOne, AreRows}
 use Rattle.frame_blocks.specs.Sets.{IsRun, Fits, IsStart, OfLast, EndsFree}
 use Rattle.frame_blocks.proofs.RunLaws.{start_first}
 
@@ -117,9 +117,9 @@ great_row first count node = record { order = 10; first = first; count = count; 
 end_example : row_end (great_row 1024 2 0) ≡ 3072
 end_example = refl
 
-goes_on_examples : GoesOn (great_row 0 2 0) (great_row 2048 1 0) × (GoesOn (great_row 0 2 0) (great_row 2048 1 1) → ⊥)
-    × (GoesOn (great_row 0 1 0) (great_row 2048 1 0) → ⊥)
-goes_on_examples = (
+one_row_examples : CouldBeOne (great_row 0 2 0) (great_row 2048 1 0) × (CouldBeOne (great_row 0 2 0) (great_row 2048 1 1) → ⊥)
+    × (CouldBeOne (great_row 0 1 0) (great_row 2048 1 0) → ⊥)
+one_row_examples = (
   record { great = refl; order = refl; node = refl; zone = refl; touch = refl },
   λ goes. let same = goes.node in absurd (omega (arith, same)),
   λ goes. let touch = goes.touch in absurd (omega (arith, touch)),
@@ -128,8 +128,8 @@ goes_on_examples = (
 row_examples : AreRows (great_row 0 2 0 ∷ (great_row 2048 1 1 ∷ [])) × (AreRows (great_row 0 2 0 ∷ (great_row 2048 1 0 ∷ [])) → ⊥)
     × (AreRows (great_row 0 0 0 ∷ []) → ⊥) × (AreRows (record { order = 1; first = 2; count = 2; node = 0; zone = zone.Dma } ∷ []) → ⊥)
 row_examples = (
-  (omega arith, inl refl, goes_on_examples.1, (omega arith, inl refl, tt, tt)),
-  λ are. are.2 goes_on_examples.0,
+  (omega arith, inl refl, one_row_examples.1, (omega arith, inl refl, tt, tt)),
+  λ are. are.2 one_row_examples.0,
   λ are. let some = are.0 in absurd (omega (arith, some)),
   λ are. elim are.1 as (λ _. ⊥) [
     | inl ten ↦ absurd (omega (arith, ten))

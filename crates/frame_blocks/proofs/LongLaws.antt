@@ -5,7 +5,7 @@ use Rattle.std.proofs.Math.Nat.{suc-mul}
 use Rattle.bm_base.specs.Zones.{zone_of}
 use Rattle.frame_blocks.specs.declared.block.BlockRow.{BlockRow}
 use Rattle.frame_blocks.specs.Frames.{Frames}
-use Rattle.frame_blocks.specs.Rows.{row_end, GoesOn, AreRows}
+use Rattle.frame_blocks.specs.Rows.{row_end, CouldBeOne, AreRows}
 use Rattle.frame_blocks.specs.Sets.{IsRun, Fits, OfLast, EndsFree}
 
 -- no row of the node that begins at the frame, in frames up to the end, goes on with the row
@@ -25,7 +25,7 @@ last_so P Q (r ∷ (q ∷ rs)) so holds = last_so P Q (q ∷ rs) so holds
 
 -- one row more, which doesn't go on with the last one
 rows_put : (rs : List BlockRow) (r : BlockRow) → 0 < r.count → ((r.order ≡ 10) ⊎ (r.count ≡ 1))
-    → OfLast (λ q. GoesOn q r → ⊥) rs → AreRows rs → AreRows (rs ++ r ∷ [])
+    → OfLast (λ q. CouldBeOne q r → ⊥) rs → AreRows rs → AreRows (rs ++ r ∷ [])
 rows_put [] r some single ends are = (some, single, tt, tt)
 rows_put (q ∷ []) r some single ends are = (are.0, are.1, ends, (some, single, tt, tt))
 rows_put (q ∷ (p ∷ rs)) r some single ends are = (are.0, are.1, are.2, rows_put (p ∷ rs) r some single ends are.3)
@@ -70,8 +70,8 @@ long_more f first end n o s at k rs new put run above some room size whole fits 
       | inl lt ↦ inl (omega (arith, lt, sum, s_is))
       | inr other ↦ inr other
     ] in
-    let apart : OfLast (λ q. GoesOn q r → ⊥) rs =
-    last_so (EndsAt at end n) (λ q. GoesOn q r → ⊥) rs
+    let apart : OfLast (λ q. CouldBeOne q r → ⊥) rs =
+    last_so (EndsAt at end n) (λ q. CouldBeOne q r → ⊥) rs
     (λ q last goes.
     let ten : o ≡ 10 = goes.order ∙ goes.great in
     let s_is : s ≡ 1024 = size ∙ ap (λ p. 2 ^ p) ten in

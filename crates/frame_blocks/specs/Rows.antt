@@ -22,21 +22,21 @@ blocks_of_rows (r ∷ rs) = blocks_of_row r ++ blocks_of_rows rs
 abbrev pub row_end : BlockRow → ℕ
 row_end r = r.first + r.count * 2 ^ r.order
 
--- the row q goes on with the row r: both are of the greatest order, of one node and in one zone, and no frame lies between them
-pub record GoesOn (r q : BlockRow) : Type 0 where
+-- the rows r and q could be one: both are of the greatest order, of one node and in one zone, and no frame lies between them
+pub record CouldBeOne (r q : BlockRow) : Type 0 where
   pub great : r.order ≡ 10
   pub order : q.order ≡ r.order
   pub node : q.node ≡ r.node
   pub zone : q.zone ≡ r.zone
   pub touch : q.first ≡ row_end r
 
--- the next row of the list doesn't go on with this one
-abbrev pub EndsBefore : BlockRow → List BlockRow → Type 0
-EndsBefore r [] = Unit {0}
-EndsBefore r (q ∷ qs) = GoesOn r q → ⊥
+-- the row and the next one of the list could not be one
+abbrev pub EndsRow : BlockRow → List BlockRow → Type 0
+EndsRow r [] = Unit {0}
+EndsRow r (q ∷ qs) = CouldBeOne r q → ⊥
 
 -- the list is canonical: no row is empty, blocks below the greatest order are rows of their own, and no two rows of the greatest order
 -- could be one
 abbrev pub AreRows : List BlockRow → Type 0
 AreRows [] = Unit {0}
-AreRows (r ∷ rs) = (0 < r.count) × ((r.order ≡ 10) ⊎ (r.count ≡ 1)) × EndsBefore r rs × AreRows rs
+AreRows (r ∷ rs) = (0 < r.count) × ((r.order ≡ 10) ⊎ (r.count ≡ 1)) × EndsRow r rs × AreRows rs
