@@ -9,7 +9,7 @@ use Rattle.debugfs_reports.proofs.list.render_all.Given as goal
 abbrev pub invariant-loop-report : goal.invariant-loop-report
 invariant-loop-report l = record {
   each : map (λ pieces. text_of_pieces pieces.items) l.texts.items
-    ≡ map (part l.several (booted_view l.booted)) (take l.report-index l.reports);
+      ≡ map (part l.several (booted_view l.booted)) (take l.report-index l.reports);
   whole : flat_map (λ pieces. text_of_pieces pieces.items) l.texts.items
-    ≡ flat_map (part l.several (booted_view l.booted)) (take l.report-index l.reports);
+      ≡ flat_map (part l.several (booted_view l.booted)) (take l.report-index l.reports);
 }

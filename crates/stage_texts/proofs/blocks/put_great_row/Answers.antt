@@ -48,8 +48,8 @@ returns c =
     on_ok c.put_each-2.result
     (λ third. parts_put row _ _ _ _ _ _ parts
     (text_more c.args.draft.now.pieces.items _ _ _ c.in_ok-put_each.ensures
-        ∙ ap (λ (r : BlockRow). draft_text c.args.draft.now ++ row_text r) c.part_of.ensures)
+    ∙ ap (λ (r : BlockRow). draft_text c.args.draft.now ++ row_text r) c.part_of.ensures)
     (c.in_ok-put_sheets.ensures
-        ∙ ap (λ (r : BlockRow). draft_text first ++ row_text r) c.part_of-2.ensures)
+    ∙ ap (λ (r : BlockRow). draft_text first ++ row_text r) c.part_of-2.ensures)
     (text_more pieces _ _ _ third ∙ ap (λ (r : BlockRow). draft_text c.put_sheets.new.draft ++ row_text r) c.part_of-3.ensures))
     c.put_each-2.ensures
