@@ -1,25 +1,32 @@
 #!/usr/bin/env python3
-"""What a boot over a large table costs: runs ./bootmem over generated tables and prints times and ratios.
+"""What the map costs over 800 and over 3,200 entries, without what is in front of it and behind it.
 
-usage: bench/map.py [ROUNDS] [PROGRAM..]
+usage: bench/map.py [RUNS]
 
-Each shape is a table of 3,200 entries (of 800 for the first column), of which the first 128 stand in the zero page and the others in the
-extension, with a command line. Two of the entries are RAM: below 640 KiB, where memblock's tables grow while memory isn't known, and
-256 MiB from 4 GiB on, where node data and section maps find places. In each round every program runs once over every shape, in no fixed
-order; of each the least time counts, and the least time of the same program over four entries is taken off. What is left is the map's own
-work, with the reading of its bytes and the printing of its lines, and that of the boot behind it, for which any report pays. Several
-programs are measured in the same rounds, so their figures compare.
+It proves and builds bench/map.main.txt as a program over a copy of the crates of the map, in a folder of its own. A round of it reads
+the bytes of a zero page, an extension and a command line, settles the table behind each, trims the BIOS's part, makes the map and
+judges it; no file is opened in it, no text made, no memory set up. Each shape is a table of which the first 128 entries stand in the
+zero page and the others in the extension, with a command line.
+
+The program runs over each shape with ROUNDS rounds, with one and with none, in no fixed order, RUNS times each, and of each the least
+time counts. `first`: one round less none, so one in a new process, which touches its memory for the first time; `next`: each round
+behind it. How many milliseconds a round over 3,200 entries is to take at most stands beside it.
 """
 import os
 import random
+import shutil
 import struct
+import subprocess
 import sys
 import tempfile
 import time
 
+from memblock import TOP, copy_crates
+
+CRATES = ("bm_base", "address_runs", "e820_model", "e820_sanitise", "e820_table", "e820_usable", "text_words", "boot_options")
 SMALL, LARGE = 800, 3200
+ROUNDS = 21
 BASE, SLOT = 0x100000, 0x4000
-ROOM = [(0x1000, 0x9F000, 1), (1 << 32, 256 << 20, 1)]
 TYPES = (1, 2, 3, 4, 5, 7, 12)
 
 
@@ -62,79 +69,90 @@ def removes(count):
 
 
 SHAPES = (
-    ("disjoint", disjoint, b""),
-    ("shuffled", shuffled, b""),
-    ("overlapping at random", overlapping, b""),
-    ("nested", nested, b""),
-    ("every two join", joined, b""),
-    ("disjoint, 100 adds", disjoint, adds(100)),
-    ("disjoint, 100 removes", disjoint, removes(100)),
+    ("disjoint", disjoint, b"", 0.6),
+    ("shuffled", shuffled, b"", None),
+    ("overlapping at random", overlapping, b"", 1.2),
+    ("nested", nested, b"", None),
+    ("every two join", joined, b"", None),
+    ("disjoint, 100 adds", disjoint, adds(100), 1.5),
+    ("disjoint, 100 removes", disjoint, removes(100), 1.5),
 )
 
 
+def build(folder):
+    """Proves and builds the program in the folder, and gives its path."""
+    lines = copy_crates(folder, CRATES)
+    here = os.path.join(folder, "crates", "bench_map")
+    for part, name, source in (("src", "main.rt", "map.main.txt"), ("proofs/edit", "Invariants.antt", "map.invariants.txt")):
+        os.makedirs(os.path.join(here, part))
+        shutil.copy(os.path.join(TOP, "bench", source), os.path.join(here, part, name))
+    lines.append("bench_map: e820_usable e820_sanitise e820_table e820_model boot_options address_runs bm_base\n")
+    with open(os.path.join(folder, "crates.txt"), "w") as file:
+        file.writelines(lines)
+    words = write_inputs(os.path.join(folder, "first"), disjoint(SMALL, None), b"")
+    done = subprocess.run(["rt", "run", "--"] + words + ["1"], cwd=here, capture_output=True, text=True)
+    if done.returncode != 0:
+        sys.exit("bench: map isn't built\n" + done.stdout[-3000:] + done.stderr[-3000:])
+    return os.path.join(here, "out", "bench_map")
+
+
 def write_inputs(folder, entries, line):
-    """Writes the three files, and gives the words that name them."""
+    """Writes the three files, and gives their names."""
     page = bytearray(4096)
-    entries = ROOM + entries
     first, others = entries[:128], entries[128:]
     page[0x1E8] = len(first)
     for i, entry in enumerate(first):
         struct.pack_into("<QQI", page, 0x2D0 + 20 * i, *entry)
     data = b"".join(struct.pack("<QQI", *entry) for entry in others)
     os.mkdir(folder)
-    paths = [os.path.join(folder, name) for name in ("ext.bin", "line", "zp.bin")]
-    for path, held in zip(paths, (struct.pack("<QII", 0, 1, len(data)) + data, line + b"\n", bytes(page))):
+    paths = [os.path.join(folder, name) for name in ("zp.bin", "ext.bin", "line")]
+    for path, held in zip(paths, (bytes(page), struct.pack("<QII", 0, 1, len(data)) + data, line + b"\n")):
         with open(path, "wb") as file:
             file.write(held)
-    return ["--report", "map", "--e820ext", paths[0], "--cmdline", paths[1], paths[2]]
+    return paths
 
 
-def one_run(program, words):
-    """The seconds that the program takes on these words."""
-    nothing = [(os.POSIX_SPAWN_OPEN, 1, os.devnull, os.O_WRONLY, 0)]
+def one_run(words):
+    """The seconds that a program takes on its words."""
     start = time.perf_counter()
-    status = os.waitpid(os.posix_spawn(program, [program] + words, os.environ, file_actions=nothing), 0)[1]
+    status = os.waitpid(os.posix_spawn(words[0], words, os.environ), 0)[1]
     took = time.perf_counter() - start
     if status != 0:
-        sys.exit("bench: %s %s: status %d" % (program, " ".join(words), os.waitstatus_to_exitcode(status)))
+        sys.exit("bench: %s: status %d" % (" ".join(words), os.waitstatus_to_exitcode(status)))
     return took
 
 
-def least_times(programs, inputs, rounds):
-    """The least time of each program on each input; all of them once in each round, in another order each time."""
-    order = [(program, name) for program in programs for name in inputs]
+def least_times(program, inputs, runs):
+    """The least time of each input with each number of rounds; all of them once in each run, in another order each time."""
+    order = [(name, rounds) for name in inputs for rounds in (0, 1, ROUNDS)]
     least = dict.fromkeys(order, float("inf"))
     chance = random.Random(1)
-    for _ in range(rounds):
+    for _ in range(runs):
         chance.shuffle(order)
-        for program, name in order:
-            least[program, name] = min(least[program, name], one_run(program, inputs[name]))
+        for name, rounds in order:
+            least[name, rounds] = min(least[name, rounds], one_run([program] + inputs[name] + [str(rounds)]))
     return least
 
 
 def main():
-    words = sys.argv[1:]
-    rounds = int(words.pop(0)) if words and words[0].isdigit() else 100
-    programs = [os.path.abspath(word) for word in words or ["bootmem"]]
-    for program in programs:
-        if not os.access(program, os.X_OK):
-            sys.exit("bench: there is no program %s: 'make bootmem' builds it" % program)
+    runs = int(sys.argv[1]) if len(sys.argv) > 1 else 100
     with tempfile.TemporaryDirectory() as folder:
-        inputs = {"base": write_inputs(os.path.join(folder, "base"), disjoint(2, None), b"")}
-        for number, (name, make, line) in enumerate(SHAPES):
+        program = build(folder)
+        inputs = {}
+        for number, (name, make, line, _) in enumerate(SHAPES):
             for count in (SMALL, LARGE):
                 place = os.path.join(folder, "%d-%d" % (number, count))
-                inputs[name, count] = write_inputs(place, make(count - len(ROOM), random.Random(1)), line)
-        least = least_times(programs, inputs, rounds)
-    for program in programs:
-        base = least[program, "base"]
-        own = {name: max(least[program, name] - base, 1e-6) for name in inputs if name != "base"}
-        print("%s, the least of %d rounds; four entries take %.2f ms, which is taken off" % (program, rounds, base * 1e3))
-        print("%-24s %10s %10s %9s %9s" % ("", "800", "3,200", "times", "disjoint"))
-        for name, _, _ in SHAPES:
-            small, large = own[name, SMALL], own[name, LARGE]
-            print("%-24s %7.2f ms %7.2f ms %9.1f %9.2f"
-                  % (name, small * 1e3, large * 1e3, large / small, large / own["disjoint", LARGE]))
+                inputs[name, count] = write_inputs(place, make(count, random.Random(1)), line)
+        least = least_times(program, inputs, runs)
+    first = {name: max(least[name, 1] - least[name, 0], 1e-9) * 1e3 for name in inputs}
+    each = {name: max(least[name, ROUNDS] - least[name, 1], 1e-9) / (ROUNDS - 1) * 1e3 for name in inputs}
+    print("the map, milliseconds of a round, the least of %d runs" % runs)
+    print("%-22s %9s %9s %9s %9s %7s %7s %9s" % ("", "800 first", "next", "3,200 first", "next", "at most", "times", "disjoint"))
+    for name, _, _, most in SHAPES:
+        small, large = (name, SMALL), (name, LARGE)
+        print("%-22s %9.3f %9.3f %11.3f %9.3f %7s %7.1f %9.2f"
+              % (name, first[small], each[small], first[large], each[large], most or "-", each[large] / each[small],
+                 each[large] / each["disjoint", LARGE]))
 
 
 if __name__ == "__main__":
