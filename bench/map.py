@@ -83,7 +83,7 @@ def build(folder):
     """Proves and builds the program in the folder, and gives its path."""
     lines = copy_crates(folder, CRATES)
     here = os.path.join(folder, "crates", "bench_map")
-    for part, name, source in (("src", "main.rt", "map.main.txt"), ("proofs/edit", "Invariants.antt", "map.invariants.txt")):
+    for part, name, source in (("src", "main.rt", "map.main.txt"), ("proofs/edit_settled", "Invariants.antt", "map.invariants.txt")):
         os.makedirs(os.path.join(here, part))
         shutil.copy(os.path.join(TOP, "bench", source), os.path.join(here, part, name))
     lines.append("bench_map: e820_usable e820_sanitise e820_table e820_model boot_options address_runs bm_base\n")
