@@ -1,5 +1,5 @@
 -- Laws of the entries at an offset: none too far means that all end in the address space.
-use Rattle.std.proofs.Common.{◌≡◌, ℕ, zero, suc, ◌+◌, ◌^◌, ◌<◌, ◌≤◌, Bool, true, false, Some, None, List, [], ◌∷◌, ◌++◌, refl, sym, ◌∙◌, arith, ⊎_elim}
+use Rattle.std.proofs.Common.{◌≡◌, ℕ, zero, suc, ◌+◌, ◌^◌, ◌<◌, ◌≤◌, Bool, true, false, Some, None, List, [], ◌∷◌, ◌++◌, length, length-append, refl, sym, ◌∙◌, arith, ⊎_elim}
 use Rattle.std.proofs.lemmas.Bool.{cases_lt}
 use Rattle.std.proofs.lemmas.Bool.Decides.{nat_tests}
 use Rattle.e820_model.specs.declared.entry.Entry.{Entry}
@@ -50,3 +50,10 @@ space_first start (suc n) bytes near =
 
 pub space_of_none : (start n : ℕ) (bytes : List ℕ) → first_far start n bytes ≡ None → EndInSpace (first_entries start n bytes)
 space_of_none start n bytes none = space_first start n bytes (λ k below. none_far start 0 n k bytes none (omega arith) (omega arith))
+
+-- there are as many entries as are read
+pub count_first : (start n : ℕ) (bytes : List ℕ) → length (first_entries start n bytes) ≡ n
+count_first start zero bytes = refl
+count_first start (suc n) bytes =
+    let before = count_first start n bytes in
+    simp length-append (omega arith)

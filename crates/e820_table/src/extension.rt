@@ -1,7 +1,7 @@
 //! The extension: the entries that the zero page has no room for (`SETUP_E820_EXT`). Their number is bounded by the
 //! file alone, so reading them takes memory.
 
-ghost use Rattle.std.specs.Prelude.{◌≡◌, ◌≢◌, ℕ, ◌+◌, ◌*◌, ◌≤◌, length, IfOk, IfErr, IfSome, OnOk, SomeIff, IsTrue};
+ghost use Rattle.std.specs.Prelude.{◌≡◌, ◌≢◌, ℕ, ◌+◌, ◌*◌, ◌<◌, ◌≤◌, length, IfOk, IfErr, IfSome, IsErr, OnOk, SomeIff, IsTrue};
 ghost use Rattle.e820_model.specs.Claims.{EndInSpace};
 ghost use Rattle.e820_table.specs.Entries.{first_entries};
 ghost use Rattle.e820_table.specs.Extension.{ext_count, ext_entries_of, ext_fault, has_header, has_length};
@@ -26,7 +26,8 @@ pub enum ExtFault {
     ExtHeader,
     /// The stated length isn't the number of bytes behind the header, or is no multiple of 20.
     ExtLength,
-    /// The program's own memory ran out; only where the bytes have none of the other faults.
+    /// The program's own memory ran out; only where the bytes have none of the other faults, and there
+    /// are entries.
     Memory,
 }
 
@@ -47,6 +48,7 @@ pub fn read_ext(alloc: Global, bytes: &[u8]) -> Result<Vec<Entry>, ExtFault>
     ensures fault { IfErr result (λ fault. fault ≢ ExtFault.Memory → ext_fault bytes.now ≡ Some fault) }
     ensures well_formed { OnOk result (ext_fault bytes.now ≡ None) }
     ensures memory { IfErr result (λ fault. fault ≡ ExtFault.Memory → ext_fault bytes.now ≡ None) }
+    ensures some { IfErr result (λ fault. fault ≡ ExtFault.Memory → 0 < length (ext_entries_of bytes.now)) }
     ensures value { IfOk result (λ entries. entries.items ≡ ext_entries_of bytes.now) }
     ensures space { IfOk result (λ entries. EndInSpace entries.items) }
 {
@@ -84,7 +86,8 @@ fn stated_entries(bytes: &[u8]) -> Option<u32>
 /// The first `count` entries of the extension.
 fn read_entries(alloc: Global, bytes: &[u8], count: u32) -> Result<Vec<Entry>, Memory>
     requires { 16 + 20 * count ≤ length bytes.now }
-    ensures { IfOk result (λ entries. entries.items ≡ first_entries 16 count bytes.now) }
+    ensures entries { IfOk result (λ entries. entries.items ≡ first_entries 16 count bytes.now) }
+    ensures some { IsErr result → 0 < count }
 {
     let mut entries = Vec::new(alloc);
     for index in 0..count {

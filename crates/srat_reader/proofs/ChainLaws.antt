@@ -1,5 +1,6 @@
 -- The chain of entries: what is left of it from an offset on, and that the bound on its steps never matters.
-use Rattle.std.proofs.Common.{◌≡◌, ◌≢◌, ℕ, zero, suc, ◌+◌, ◌<◌, ◌≤◌, Bool, true, false, List, [], ◌∷◌, ◌++◌, length, Option, Some, None, option_to_list, append_assoc, refl, sym, ap, ◌∙◌, arith}
+use Rattle.std.proofs.Common.{◌≡◌, ◌≢◌, ℕ, zero, suc, ◌+◌, ◌<◌, ◌≤◌, Bool, true, false, List, [], ◌∷◌, ◌++◌, length, length-append, Option, Some, None, IsSome, option_to_list, append_assoc, refl, sym, ap, ◌∙◌, arith}
+use Rattle.std.proofs.lemmas.Bool.{false≢true}
 use Rattle.std.proofs.lemmas.Bool.Decides.{nat_tests}
 use Rattle.std.proofs.lemmas.List.{append-nil}
 use Rattle.std.specs.List.{filter_map}
@@ -126,6 +127,14 @@ told_here {X} f at bytes before here whole = rw (rest_whole at bytes here whole)
 pub told_end : {X : Type 0} (f : ℕ → Option X) (at : ℕ) (bytes : List ℕ) (before : List X) → length bytes ≤ at
     → before ++ filter_map f (rest_from at bytes) ≡ before
 told_end f at bytes before ended = rw (rest_end at bytes ended) (rw append-nil refl)
+
+-- what the entry here tells is among what is told in all
+pub some_told : {X : Type 0} (f : ℕ → Option X) (at : ℕ) (bytes : List ℕ) (before : List X) → at < length bytes
+    → is_whole at bytes ≡ true → IsSome (f at) → 0 < length (before ++ filter_map f (rest_from at bytes))
+some_told {X} f at bytes before here whole some = rw (rest_whole at bytes here whole) (by (f at) refl some) where
+  by : (o : Option X) → f at ≡ o → IsSome o → 0 < length (before ++ filter_map f (at ∷ rest_from (at + length_at at bytes) bytes))
+  by None is some = absurd (false≢true some)
+  by (Some x) is some = rw is (simp length-append (omega arith))
 
 -- none of these faults is want of memory
 pub not_memory : (bytes offsets : List ℕ) → first_fault bytes offsets ≢ Some faults.Memory

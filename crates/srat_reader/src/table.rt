@@ -1,5 +1,5 @@
 //! The table as a whole: its header, the chain of its entries, the first fault and the two lists.
-ghost use Rattle.std.specs.Prelude.{◌≡◌, ◌≢◌, ℕ, None, Some, ◌^◌, ◌<◌, ◌≤◌, ◌%◌, ◌++◌, length, sum, IfOk, IfErr, IfNone, OnOk, false};
+ghost use Rattle.std.specs.Prelude.{◌≡◌, ◌≢◌, ℕ, None, Some, ◌^◌, ◌<◌, ◌≤◌, ◌%◌, ◌++◌, ◌⊎◌, length, sum, IfOk, IfErr, IfNone, IsErr, IsSome, OnOk, false};
 ghost use Rattle.std.specs.Option.{option_to_list};
 ghost use Rattle.srat_reader.specs.Entries.{is_far};
 ghost use Rattle.bm_base.specs.Answers.{Answers};
@@ -51,7 +51,8 @@ pub enum SratFault {
     EntryLength { offset: u32 },
     /// The entry at this offset is an enabled range of memory whose base plus length exceeds 2^64 - 1.
     BlockTooFar { offset: u32 },
-    /// The program's own memory ran out; only where the bytes have none of the other faults.
+    /// The program's own memory ran out; only where the bytes have none of the other faults, and an
+    /// entry tells a processor or a range of memory.
     Memory,
 }
 
@@ -70,6 +71,8 @@ impl From<Memory> for SratFault {
 pub fn read_srat(alloc: Global, bytes: &[u8]) -> Result<Srat, SratFault>
     ensures answers { Answers SratFault.Memory affinity result (srat_of bytes.now) }
     ensures memory { IfErr result (λ fault. fault ≡ SratFault.Memory → srat_fault bytes.now ≡ None) }
+    ensures some { IfErr result (λ fault. fault ≡ SratFault.Memory →
+        (0 < length (processors_of bytes.now)) ⊎ (0 < length (blocks_of bytes.now))) }
     ensures few_processors { IfOk result (λ srat. length srat.cpus.items < 2 ^ 32) }
     ensures few_blocks { IfOk result (λ srat. length srat.blocks.items < 2 ^ 32) }
 {
@@ -137,6 +140,7 @@ fn read_entries(alloc: Global, bytes: &[u8]) -> Result<Srat, Memory>
     requires { first_fault bytes.now (offsets_of bytes.now) ≡ None }
     ensures processors { IfOk result (λ srat. srat.cpus.items ≡ processors_of bytes.now) }
     ensures blocks { IfOk result (λ srat. srat.blocks.items ≡ blocks_of bytes.now) }
+    ensures some { IsErr result → (0 < length (processors_of bytes.now)) ⊎ (0 < length (blocks_of bytes.now)) }
 {
     let mut srat = Srat {
         cpus: Vec::new(alloc),
@@ -155,6 +159,7 @@ fn keep(srat: &mut Srat, said: Said) -> Result<(), Memory>
     requires { is_far said ≡ false }
     ensures processors { OnOk result (srat.new.cpus.items ≡ srat.old.cpus.items ++ option_to_list (processor_of said)) }
     ensures blocks { OnOk result (srat.new.blocks.items ≡ srat.old.blocks.items ++ option_to_list (block_of said)) }
+    ensures some { IsErr result → IsSome (processor_of said) ⊎ IsSome (block_of said) }
 {
     match said {
         Said::Nothing => {}

@@ -1,6 +1,10 @@
-use Rattle.std.proofs.Common.{sym, ◌∙◌, arith}
-use Rattle.srat_reader.specs.Table.{processor_at, block_at}
-use Rattle.srat_reader.proofs.ChainLaws.{whole_bounds, whole_here, near_here, sound_behind, told_here, told_end}
+use Rattle.std.proofs.Common.{◌≡◌, ◌⊎◌, ℕ, ◌<◌, true, List, ◌++◌, length, IsSome, refl, sym, ◌∙◌, subst, inl, inr, arith}
+use Rattle.std.specs.List.{filter_map}
+use Rattle.srat_reader.specs.declared.entries.Said.{Said}
+use Rattle.srat_reader.specs.declared.table.SratBlock.{SratBlock}
+use Rattle.srat_reader.specs.Entries.{is_whole, said_at}
+use Rattle.srat_reader.specs.Table.{processor_of, block_of, processor_at, block_at, processors_of, blocks_of}
+use Rattle.srat_reader.proofs.ChainLaws.{rest_from, whole_bounds, whole_here, near_here, sound_behind, told_here, told_end, some_told}
 use Rattle.srat_reader.proofs.table.read_entries.Goals as goal
 
 pub read_entry-requires-clause-header : goal.read_entry-requires-clause-header
@@ -40,6 +44,27 @@ loop-at-preserved c =
       blocks = rw (c.entry_length-at.ensures, c.in_ok-keep.ensures.blocks, c.read_entry.ensures)
           (sym (told_here (block_at bytes) l.at bytes l.srat.blocks.items c.loop-at-test.true whole) ∙ l.invariant.blocks);
     }
+
+-- an entry that tells something, amid the table, tells something of the table
+one_more : (at : ℕ) (bytes cpus : List ℕ) (blocks : List SratBlock) (said : Said) → at < length bytes → is_whole at bytes ≡ true
+    → said ≡ said_at at bytes
+    → cpus ++ filter_map (processor_at bytes) (rest_from at bytes) ≡ processors_of bytes
+    → blocks ++ filter_map (block_at bytes) (rest_from at bytes) ≡ blocks_of bytes
+    → IsSome (processor_of said) ⊎ IsSome (block_of said) → (0 < length (processors_of bytes)) ⊎ (0 < length (blocks_of bytes))
+one_more at bytes cpus blocks said here whole is processors others (inl some) =
+    inl (subst (λ (told : List ℕ). 0 < length told) processors
+    (some_told (processor_at bytes) at bytes cpus here whole (subst (λ (s : Said). IsSome (processor_of s)) is some)))
+one_more at bytes cpus blocks said here whole is processors others (inr some) =
+    inr (subst (λ (told : List SratBlock). 0 < length told) others
+    (some_told (block_at bytes) at bytes blocks here whole (subst (λ (s : Said). IsSome (block_of s)) is some)))
+
+pub returns-in_err-keep-clause-some : goal.returns-in_err-keep-clause-some
+returns-in_err-keep-clause-some c = λ err.
+    let l = c.loop-at in
+    let bytes = c.args.bytes.now in
+    let whole = whole_here l.at bytes c.loop-at-test.true l.invariant.sound in
+    one_more l.at bytes l.srat.cpus.items l.srat.blocks.items c.read_entry.result c.loop-at-test.true whole c.read_entry.ensures
+    l.invariant.processors l.invariant.blocks (c.in_err-keep.ensures.some refl)
 
 pub returns-clause-processors : goal.returns-clause-processors
 returns-clause-processors c =

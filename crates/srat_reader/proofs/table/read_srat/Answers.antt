@@ -7,6 +7,10 @@ pub returns-in-Some-find_entry_fault-clause-memory : goal.returns-in-Some-find_e
 returns-in-Some-find_entry_fault-clause-memory c is =
     absurd (not_memory c.args.bytes.now (offsets_of c.args.bytes.now) (sym c.in-Some-find_entry_fault.ensures ∙ rw is refl))
 
+pub returns-in-Some-find_entry_fault-clause-some : goal.returns-in-Some-find_entry_fault-clause-some
+returns-in-Some-find_entry_fault-clause-some c is =
+    absurd (not_memory c.args.bytes.now (offsets_of c.args.bytes.now) (sym c.in-Some-find_entry_fault.ensures ∙ rw is refl))
+
 pub returns-clause-few_processors : goal.returns-clause-few_processors
 returns-clause-few_processors c =
     rw c.in_ok-read_entries.ensures.processors
