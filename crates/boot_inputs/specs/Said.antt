@@ -1,5 +1,5 @@
 -- What the bytes of each file say: a value, or their first fault.
-use Rattle.std.specs.Prelude.{ℕ, false, List, [], Option, Some, None, Result, Ok, Err}
+use Rattle.std.specs.Prelude.{ℕ, ◌<◌, ◌⊎◌, false, List, [], length, Option, Some, None, Result, Ok, Err}
 use Rattle.std.specs.Option.{option_map, option_and_then}
 use Rattle.e820_model.specs.declared.entry.Entry.{Entry}
 use Rattle.e820_table.specs.Extension.{ext_fault, ext_entries_of}
@@ -57,3 +57,8 @@ lines_told (Err fault) = unless_fault (fault_of_script fault) []
 
 abbrev pub script_said : List ℕ → Result (List Line) Fault
 script_said bytes = lines_told (script_of bytes)
+
+-- a table takes memory for its processors and its ranges of memory
+abbrev pub TakesMemory : Option Affinity → Type 0
+TakesMemory None = ⊥
+TakesMemory (Some table) = (0 < length table.processors) ⊎ (0 < length table.blocks)

@@ -1,10 +1,10 @@
 //! The command line of the kernel as an input.
 
-ghost use Rattle.std.specs.Prelude.{◌≡◌, IfOk};
+ghost use Rattle.std.specs.Prelude.{◌≡◌, IfOk, IsErrOf, IsOkAnd};
 ghost use Rattle.bm_base.specs.Answers.{Answers};
 ghost use Rattle.bm_base.specs.ResultSteps.{with_error};
 ghost use Rattle.e820_model.specs.Claims.{HaveTypes};
-ghost use Rattle.boot_options.specs.Options.{Chosen, chosen};
+ghost use Rattle.boot_options.specs.Options.{Chosen, WantsMemory, chosen};
 ghost use Rattle.boot_inputs.specs.Said.{command_line_said, no_options};
 ghost use Rattle.boot_inputs.specs.declared.input.Input.TheVariants as inputs;
 
@@ -25,6 +25,8 @@ impl Reader for CommandLines {
     ghost seen = { chosen };
 
     ghost said = { command_line_said };
+
+    ghost takes_memory = { WantsMemory };
 
     ghost without = { no_options };
 

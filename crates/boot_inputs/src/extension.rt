@@ -1,6 +1,6 @@
 //! The E820 extension as an input.
 
-ghost use Rattle.std.specs.Prelude.{◌≡◌, List, [], IfOk};
+ghost use Rattle.std.specs.Prelude.{◌≡◌, ◌<◌, List, [], length, IfOk, IsErrOf, IsOkAnd};
 ghost use Rattle.bm_base.specs.Answers.{Answers};
 ghost use Rattle.bm_base.specs.ResultSteps.{with_error};
 ghost use Rattle.e820_model.specs.Claims.{EndInSpace};
@@ -25,6 +25,8 @@ impl Reader for Extensions {
     ghost seen = { λ entries. entries.items };
 
     ghost said = { extension_said };
+
+    ghost takes_memory = { λ entries. 0 < length entries };
 
     ghost without = { [] };
 

@@ -1,6 +1,6 @@
 //! One step for every file: look up the name, fetch, read.
 
-ghost use Rattle.std.specs.Prelude.{◌≡◌, ℕ, ◌≤◌, List, Some, length, IfOk, IfSome, IsNone, OnOk};
+ghost use Rattle.std.specs.Prelude.{◌≡◌, ℕ, ◌≤◌, List, Some, length, IfOk, IfSome, IsNone, IsOk, OnOk};
 ghost use Rattle.boot_inputs.specs.Answers.{Gives, HasCause, IsCaused, IsOf};
 ghost use Rattle.boot_inputs.specs.Input.{limit_of};
 ghost use Rattle.boot_inputs.specs.Inputs.{file_step, or_faulty, step_if};
@@ -12,8 +12,8 @@ use crate::refusal::{InputError, Refusal};
 use bm_io::{Fetch, Files};
 use std::alloc::Global;
 
-/// The value of an input: what its file gives, or where none is named what there is without it. Its
-/// refusals are of this input alone.
+/// The value of an input: what its file gives, or where none is named what there is without it, which
+/// takes no memory. Its refusals are of this input alone.
 pub fn fetch_input<R: Reader, F: Files, N: Names>(
     alloc: Global,
     files: &mut F,
@@ -24,6 +24,7 @@ pub fn fetch_input<R: Reader, F: Files, N: Names>(
     ensures cause { HasCause (F.faults files.old) (F.faults files.new) (N.named names.now) result }
     ensures own { IsOf R.input result }
     ensures sound { IfOk result R.sound }
+    ensures unnamed { IsNone (N.named names.now R.input) → IsOk result }
     ensures unfetched { IsNone (N.named names.now R.input) → files.new ≡ files.old }
     ensures kept { F.holds files.new ≡ F.holds files.old }
     ensures uncounted { OnOk result ((any : List ℕ) → F.faults files.new any ≡ F.faults files.old any) }

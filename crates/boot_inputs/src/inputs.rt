@@ -1,6 +1,6 @@
 //! All files, in the order of work.
 
-ghost use Rattle.std.specs.Prelude.{◌≡◌, ℕ, ◌^◌, ◌<◌, List, length, IfOk, IfSome, OnOk};
+ghost use Rattle.std.specs.Prelude.{◌≡◌, ℕ, ◌^◌, ◌<◌, List, length, IfOk, IfSome, IsNone, IsOk, OnOk};
 ghost use Rattle.std.specs.List.{All};
 ghost use Rattle.e820_model.specs.Claims.{EndInSpace, HaveTypes};
 ghost use Rattle.e820_table.specs.Initrd.{IsInitrd};
@@ -10,6 +10,7 @@ ghost use Rattle.boot_model.specs.Kernel.{IsKernel};
 ghost use Rattle.boot_model.specs.View.{inputs_view};
 ghost use Rattle.boot_inputs.specs.Answers.{Gives, HasCause};
 ghost use Rattle.boot_inputs.specs.Inputs.{inputs_of};
+ghost use Rattle.boot_inputs.specs.declared.input.Input.{Input as AnyInput};
 
 use crate::command_line::CommandLines;
 use crate::extension::Extensions;
@@ -25,7 +26,7 @@ use boot_model::Inputs;
 use std::alloc::Global;
 
 /// Fetches each file that is named, in the order of work, and judges it before the next; the first
-/// refusal is the answer. The kernel lies where it is said.
+/// refusal is the answer. Where none is named there is no refusal. The kernel lies where it is said.
 pub fn read_inputs<F: Files, N: Names>(
     alloc: Global,
     files: &mut F,
@@ -36,6 +37,7 @@ pub fn read_inputs<F: Files, N: Names>(
     ensures gives { IfSome (F.holds files.old) (λ held.
         Gives inputs_view result (inputs_of held (N.named names.now) kernel)) }
     ensures cause { HasCause (F.faults files.old) (F.faults files.new) (N.named names.now) result }
+    ensures unnamed { ((input : AnyInput) → IsNone (N.named names.now input)) → IsOk result }
     ensures uncounted { OnOk result ((any : List ℕ) → F.faults files.new any ≡ F.faults files.old any) }
     ensures entries_end { IfOk result (λ inputs. EndInSpace inputs.zero.entries.items) }
     ensures initrd { IfOk result (λ inputs. IfSome inputs.zero.initrd IsInitrd) }

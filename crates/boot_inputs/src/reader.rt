@@ -1,6 +1,6 @@
 //! An input file as one value: which one it is, how its bytes are read, and what there is without it.
 
-ghost use Rattle.std.specs.Prelude.{◌≡◌, ◌≤◌, ℕ, List, length, Result, IfOk};
+ghost use Rattle.std.specs.Prelude.{◌≡◌, ◌≤◌, ℕ, List, length, Result, IfOk, IsErrOf, IsOkAnd};
 ghost use Rattle.bm_base.specs.Answers.{Answers};
 ghost use Rattle.bm_base.specs.ResultSteps.{with_error};
 ghost use Rattle.boot_inputs.specs.declared.fault.Fault.{Fault as AnyFault};
@@ -25,6 +25,9 @@ pub trait Reader {
     // What bytes say: a value, or their first fault.
     ghost said: { List ℕ → Result Seen AnyFault };
 
+    // A value that takes memory to be read.
+    ghost takes_memory: { Seen → Type 0 };
+
     // What there is without a file.
     ghost without: { Seen };
 
@@ -37,10 +40,12 @@ pub trait Reader {
     fn input() -> Input
         ensures { result ≡ input };
 
-    /// What the bytes give, which are within the input's limit.
+    /// What the bytes give, which are within the input's limit. Memory is wanting only where they have no
+    /// fault, and give a value that takes some.
     fn read(alloc: Global, bytes: &[u8]) -> Result<Self::Value, Misread>
         requires within { length bytes.now ≤ limit_of input }
         ensures answers { Answers misreads.Memory seen result (with_error misreads.Fault (said bytes.now)) }
+        ensures memory { IsErrOf result misreads.Memory → IsOkAnd (said bytes.now) takes_memory }
         ensures sound { IfOk result sound };
 
     /// What there is without a file. Takes no memory.

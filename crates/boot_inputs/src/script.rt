@@ -1,6 +1,6 @@
 //! The script of early allocations as an input.
 
-ghost use Rattle.std.specs.Prelude.{◌≡◌, ◌≤◌, List, [], length, IfOk};
+ghost use Rattle.std.specs.Prelude.{◌≡◌, ◌<◌, ◌≤◌, List, [], length, IfOk, IsErrOf, IsOkAnd};
 ghost use Rattle.std.specs.List.{All};
 ghost use Rattle.bm_base.specs.Answers.{Answers};
 ghost use Rattle.bm_base.specs.ResultSteps.{with_error};
@@ -28,6 +28,8 @@ impl Reader for Scripts {
     ghost seen = { λ lines. lines.items };
 
     ghost said = { script_said };
+
+    ghost takes_memory = { λ lines. 0 < length lines };
 
     ghost without = { [] };
 

@@ -1,11 +1,11 @@
 //! The firmware's table of domains as an input.
 
-ghost use Rattle.std.specs.Prelude.{◌≡◌, ◌^◌, ◌<◌, Option, None, length, IfOk, IfSome};
+ghost use Rattle.std.specs.Prelude.{◌≡◌, ◌^◌, ◌<◌, Option, None, length, IfOk, IfSome, IsErrOf, IsOkAnd};
 ghost use Rattle.std.specs.Option.{option_map};
 ghost use Rattle.bm_base.specs.Answers.{Answers};
 ghost use Rattle.bm_base.specs.ResultSteps.{with_error};
 ghost use Rattle.srat_reader.specs.Table.{Affinity, affinity};
-ghost use Rattle.boot_inputs.specs.Said.{srat_said};
+ghost use Rattle.boot_inputs.specs.Said.{TakesMemory, srat_said};
 ghost use Rattle.boot_inputs.specs.declared.input.Input.TheVariants as inputs;
 
 use crate::fault::{Misread, fault_of_srat};
@@ -25,6 +25,8 @@ impl Reader for Srats {
     ghost seen = { λ table. option_map affinity table };
 
     ghost said = { srat_said };
+
+    ghost takes_memory = { TakesMemory };
 
     ghost without = { None };
 

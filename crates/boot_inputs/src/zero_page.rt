@@ -1,13 +1,12 @@
 //! The zero page as an input.
 
-ghost use Rattle.std.specs.Prelude.{◌≡◌, List, [], IfOk, IfSome, IsErrOf};
+ghost use Rattle.std.specs.Prelude.{◌≡◌, List, [], IfOk, IfSome, IsErrOf, IsOkAnd};
 ghost use Rattle.bm_base.specs.Answers.{Answers};
 ghost use Rattle.bm_base.specs.ResultSteps.{with_error};
 ghost use Rattle.e820_model.specs.Claims.{EndInSpace};
 ghost use Rattle.e820_table.specs.Initrd.{IsInitrd};
 ghost use Rattle.e820_table.specs.ZeroPage.{Page, page_view};
 ghost use Rattle.boot_inputs.specs.Said.{no_page, zero_page_said};
-ghost use Rattle.boot_inputs.specs.declared.fault.Misread.TheVariants as misreads;
 ghost use Rattle.boot_inputs.specs.declared.input.Input.TheVariants as inputs;
 
 use crate::fault::{Misread, fault_of_zero_page};
@@ -29,6 +28,8 @@ impl Reader for ZeroPages {
 
     ghost said = { zero_page_said };
 
+    ghost takes_memory = { λ page. ⊥ };
+
     ghost without = { no_page };
 
     ghost input = { inputs.ZeroPage };
@@ -39,12 +40,7 @@ impl Reader for ZeroPages {
         Input::ZeroPage
     }
 
-    /// What the bytes give. Takes no memory, and so never wants any.
-    fn read(_alloc: Global, bytes: &[u8]) -> Result<ZeroPage, Misread>
-        ensures answers { Answers misreads.Memory page_view result (with_error misreads.Fault (zero_page_said bytes.now)) }
-        ensures sound { IfOk result (λ zero. EndInSpace zero.entries.items × IfSome zero.initrd IsInitrd) }
-        ensures always { ¬ IsErrOf result misreads.Memory }
-    {
+    fn read(_alloc: Global, bytes: &[u8]) -> Result<ZeroPage, Misread> {
         match read_zero_page(bytes) {
             Ok(zero) => Ok(zero),
             Err(fault) => Err(Misread::Fault(fault_of_zero_page(fault))),
