@@ -113,6 +113,13 @@ one_type_0_is_enough have = let some : 0 < 0 = have.1.0 in absurd (omega arith)
 type_0_is_none : ¬ HasTypes (edit.Add page 0)
 type_0_is_none some = absurd (omega arith)
 
+-- neither type of a change is 0
+no_change_to_type_0 : ¬ HasTypes (edit.Change page 1 0)
+no_change_to_type_0 some = let none : 0 < 0 = some.1 in absurd (omega arith)
+
+no_change_of_type_0 : ¬ HasTypes (edit.Change page 0 1)
+no_change_of_type_0 some = let none : 0 < 0 = some.0 in absurd (omega arith)
+
 -- edits go in their order: what is cleared first is added again, and what is added first is cleared
 after_examples : (after_edits (edit.Clear ∷ edit.Add page 1 ∷ []) ram_and_nvs 0x1000 1 ≡ true)
     × (after_edits (edit.Add page 1 ∷ edit.Clear ∷ []) ram_and_nvs 0x1000 1 ≡ false)

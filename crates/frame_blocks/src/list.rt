@@ -67,7 +67,8 @@ pub fn rows(alloc: Global, runs: &[FrameRun]) -> Result<Vec<BlockRow>, Memory>
     Ok(rows)
 }
 
-/// The blocks of one run, row by row; each row is as long as it can be, if those before it are and lie in runs.
+/// The blocks of one run, row by row. Where the rows that stand there are canonical (`AreRows`) and the last of them ends in a
+/// free frame of its node, the same holds with the new ones behind them.
 fn push_rows(rows: &mut Vec<BlockRow>, first: u64, end: u64, node: u32) -> Result<(), Memory>
     requires { first ≤ end }
     ensures blocks { OnOk result ((f : Frames) → IsRun f first end node →

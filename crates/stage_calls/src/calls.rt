@@ -1,6 +1,7 @@
 //! One call of memblock each, with its refusal as the stop of a stage.
-ghost use Rattle.std.specs.Prelude.{◌≡◌, ℕ, ◌+◌, ◌^◌, ◌<◌, ◌≤◌, IfOk, None, Err};
-ghost use Rattle.growth_model.specs.Growth.{noded};
+ghost use Rattle.std.specs.Prelude.{◌≡◌, ℕ, ◌+◌, ◌-◌, ◌^◌, ◌<◌, ◌≤◌, false, IfOk, IsOk, Some, None, Err};
+ghost use Rattle.memblock_model.specs.declared.which.Which.TheVariants as tables_of;
+ghost use Rattle.growth_model.specs.Growth.{noded, new_in, two, is_full as is_full_by};
 ghost use Rattle.growth_model.specs.Request.{place_for};
 ghost use Rattle.growth_model.specs.Sound.{HasBegun};
 ghost use Rattle.stage_model.specs.declared.stop.StageStop.TheVariants as stops;
@@ -26,7 +27,8 @@ pub fn stop_for(what: What, refusal: Refusal) -> StageStop
 }
 
 /// An allocation that the boot can't do without: its place, in bytes. The size is at least 1, the alignment a power of two.
-/// Where no place fits the boot stops for that, and never for want of memory.
+/// Where no place fits the boot stops for that, and never for want of memory; nor for that where an item can be appended without
+/// memory and the reserved table has room for the place.
 pub fn place(
     memblock: &mut Memblock,
     what: What,
@@ -40,6 +42,9 @@ pub fn place(
         (placed what request.now owner memblock.old.journal.items) }
     ensures none { place_for request.now memblock.old.journal.items ≡ None → result ≡ Err (stops.NoPlace what) }
     ensures inside { IfOk result (λ base. base + request.now.size < 2 ^ 64) }
+    ensures ready { (place : ℕ) → place_for request.now memblock.old.journal.items ≡ Some place → 0 < memblock.old.journal.spare →
+        is_full_by tables_of.Reserved (new_in tables_of.Reserved (record { base = place; size = request.now.size }))
+        memblock.old.journal.items ≡ false → IsOk result × (memblock.new.journal.spare ≡ memblock.old.journal.spare - 1) }
     ensures lent { GoesOn memblock.old memblock.new }
 {
     match memblock.alloc(request, owner) {
@@ -55,13 +60,16 @@ pub fn stand_still(memblock: &Memblock)
     let _tables = memblock.tables();
 }
 
-/// Gives the memory of a range its node, or the boot stops.
+/// Gives the memory of a range its node, or the boot stops. It doesn't where an item can be appended without memory and the
+/// memory table has room for two more records.
 pub fn set_node(memblock: &mut Memblock, range: Range, node: u32) -> Result<(), StageStop>
     requires begun { HasBegun memblock.old.journal.items }
     requires some { 0 < range.size }
     requires node { node < 1024 }
     ensures ends { EndsAs stops.Memory result memblock.old.journal.items memblock.new.journal.items
         (carried (noded range node) memblock.old.journal.items) }
+    ensures ready { 0 < memblock.old.journal.spare → is_full_by tables_of.Memory two memblock.old.journal.items ≡ false →
+        IsOk result × (memblock.new.journal.spare ≡ memblock.old.journal.spare - 1) }
     ensures lent { GoesOn memblock.old memblock.new }
 {
     match memblock.set_node(range, node) {

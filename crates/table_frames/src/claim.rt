@@ -23,13 +23,14 @@ pub struct Claim {
 }
 
 /// The next frames, from `at` on, of which a record from the index on has a byte. The records before it have
-/// none from there on.
+/// none from there on. The search never goes back to a lower index.
 pub fn next_claim(store: &Store, head: &Head, index: u64, at: u64) -> Claim
     requires table { HasRecords store.now head.now (2 ^ 64) }
     requires index { index ≤ head.now.count }
     requires passed { IsPassed (list_in store.now head.now) index at }
     requires low { at < 2 ^ 52 }
     ensures index { result.index ≤ head.now.count }
+    ensures forward { index ≤ result.index }
     ensures passed { IsPassed (list_in store.now head.now) result.index at }
     ensures order { at ≤ result.first }
     ensures behind { at < result.end }

@@ -45,6 +45,7 @@ loop-i-preserved c =
     let by = c.if-at-frames.false in
     record {
       few = let test = c.loop-i-test.true in omega (arith, test);
+      forward = let onward = c.loop-i.invariant.forward in omega (arith, onward);
       passed = passed_more _ rs c.loop-i.i c.args.at nobody c.requires.table.ascend few (omega (arith, end, by)) c.loop-i.invariant.passed;
     }
 

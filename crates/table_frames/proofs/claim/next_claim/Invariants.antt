@@ -5,7 +5,11 @@ use Rattle.table_frames.specs.Frames.{IsPassed}
 use Rattle.table_frames.proofs.claim.next_claim.Given as goal
 
 abbrev pub invariant-loop-i : goal.invariant-loop-i
-invariant-loop-i l = record { few : l.i ≤ l.head.count; passed : IsPassed (list_in l.store l.head) l.i l.at }
+invariant-loop-i l = record {
+  few : l.i ≤ l.head.count;
+  forward : l.index ≤ l.i;
+  passed : IsPassed (list_in l.store l.head) l.i l.at;
+}
 
 abbrev pub decreases-loop-i : goal.decreases-loop-i
 decreases-loop-i l = l.head.count - l.i
