@@ -1,8 +1,9 @@
 -- Small boots and their parts: what the definitions say of them. A map isn't computed, since `map_of` goes over all
 -- addresses; that of empty entries follows from laws.
-use Rattle.std.proofs.Common.{◌≡◌, ℕ, ◌*◌, ◌^◌, ◌==◌, nat_lt, if◌then◌else◌, Bool, true, false, List, [], ◌∷◌, Some, None, Ok, Err, refl, sym, arith}
+use Rattle.std.proofs.Common.{◌≡◌, ℕ, ◌*◌, ◌^◌, ◌<◌, ◌==◌, nat_lt, if◌then◌else◌, Bool, true, false, List, [], ◌∷◌, length, Some, None, Ok, Err, refl, sym, arith}
 use Rattle.std.proofs.lemmas.Bool.Decides.{nat_tests}
 use Rattle.std.specs.Prelude.{Result}
+use Rattle.std.specs.Option.{option_map}
 use Rattle.bm_base.specs.Extent.{Extent}
 use Rattle.address_runs.specs.Runs.{RunOf}
 use Rattle.address_runs.proofs.RunsLaws.{one_list}
@@ -20,6 +21,7 @@ use Rattle.memblock_model.specs.declared.which.Which.TheVariants as which
 use Rattle.memblock_model.specs.declared.item.Item.TheVariants as item
 use Rattle.boot_model.specs.declared.booted.Booted.{Booted}
 use Rattle.boot_model.specs.declared.inputs.Inputs.{Inputs}
+use Rattle.boot_model.specs.declared.stop.Cause.{Cause}
 use Rattle.boot_model.specs.declared.stop.Cause.TheVariants as causes
 use Rattle.boot_model.specs.declared.stop.Stop.TheVariants as stops
 use Rattle.script_reader.specs.declared.act.Act.TheVariants as acts
@@ -27,17 +29,23 @@ use Rattle.early_script.specs.declared.outcome.Outcome.TheVariants as outcomes
 use Rattle.early_script.specs.Acted.{deed}
 use Rattle.early_script.specs.Stage.{Stage as Script}
 use Rattle.bm_base.specs.Each.{each_from, each_in}
-use Rattle.table_frames.specs.Frames.{free_in}
+use Rattle.table_frames.specs.Frames.{free_in, node_of_frame}
+use Rattle.zone_spans.specs.Spans.{spans_of}
 use Rattle.memblock_model.specs.declared.item.Item.{Item}
 use Rattle.memblock_model.specs.declared.owner.Owner.TheVariants as owner
-use Rattle.numa_nodes.specs.Assigned.{Noded}
+use Rattle.memblock_model.specs.Items.{memory_of}
+use Rattle.srat_reader.specs.Table.{affinity}
+use Rattle.numa_nodes.specs.Assigned.{Noded, nodes_view}
+use Rattle.buddy_handover.specs.Contents.{free}
 use Rattle.crash_kernel.specs.declared.crash.Crash.{Crash}
+use Rattle.crash_kernel.specs.declared.crash.Crash.TheVariants as crash
+use Rattle.sparse_sections.specs.Roots.{roots_view}
 use Rattle.growth_model.specs.declared.refusal.Refusal.TheVariants as refusal
 use Rattle.stage_model.specs.declared.stop.StageStop.TheVariants as stage
 use Rattle.stage_model.specs.declared.stop.What.TheVariants as what
-use Rattle.boot_model.specs.Boot.{Given, Made, begin, begin_with, behind_lines, boot, claims, handed_over, has_room, lies_in_memory, put_crash, put_nodes, put_sections, runs_lines, told, unless_stopped, with_items}
+use Rattle.boot_model.specs.Boot.{Given, Made, begin, begin_with, behind_lines, boot, claims, handed_over, has_room, lies_in_memory, no_nodes, put_crash, put_nodes, put_sections, runs_lines, script_at, told, told_boot, unless_stopped, with_items}
 use Rattle.boot_model.specs.Kernel.{IsKernel, is_kernel}
-use Rattle.boot_model.specs.Sections.{SectionPlaces}
+use Rattle.boot_model.specs.Sections.{SectionPlaces, no_sections}
 use Rattle.boot_model.specs.Stages.{in_order}
 use Rattle.boot_model.specs.Stop.{cause_of, cause_of_growth, cause_of_map, cause_of_refusal, cause_of_stage, stop_of}
 use Rattle.boot_model.specs.View.{inputs_view, booted_view}
@@ -74,8 +82,23 @@ carried_examples : (with_items made (Ok (item.Trim ∷ [])) ≡ Ok (record made 
 carried_examples = (refl, refl)
 
 -- what is told of it: both tables are empty, in the image's last two frames
-told_example : (told image made).heads.memory.place ≡ 0x2FFE000
-told_example = refl
+told_example : ((told image made).heads.memory.place ≡ 0x2FFE000) × ((told image made).heads.reserved.place ≡ 0x2FFF000)
+told_example = (refl, refl)
+
+-- at first nothing happened, no node has memory, no frame is uncovered, and nothing of sections is placed
+nothing_yet : (made.items ≡ []) × (made.crash ≡ crash.Nothing) × (made.ids ≡ []) × (made.fills ≡ []) × (made.answers ≡ [])
+nothing_yet = (refl, refl, refl, refl, refl)
+
+no_nodes_yet : (no_nodes.domains ≡ []) × (no_nodes.uncovered ≡ 0) × (no_nodes.with_memory ≡ [])
+no_nodes_yet = (refl, refl, refl)
+
+no_sections_yet : (no_sections.roots.table ≡ 0) × (no_sections.roots.roots ≡ []) × (no_sections.placed ≡ [])
+no_sections_yet = (refl, refl, refl)
+
+-- lines begin where those before them ended, with what these filled and were answered
+lines_begin : (m : Made) → ((script_at image m).state.kernel ≡ image) × ((script_at image m).state.items ≡ m.items)
+    × ((script_at image m).state.ids ≡ m.ids) × ((script_at image m).fills ≡ m.fills) × ((script_at image m).answers ≡ m.answers)
+lines_begin m = (refl, refl, refl, refl, refl)
 
 -- a line of the script that finds nothing: it is answered, and nothing else is made
 no_line : runs_lines image [] made ≡ Ok made
@@ -105,11 +128,33 @@ handed_examples : (handed_over two_frames 1 ≡ None) × (handed_over two_frames
 unfolding free_in each_in each_from
 handed_examples = (refl, refl)
 
+-- what was made is told as it is, and by its items the frames that are free and the spans of memory
+told_as_made : (m : Made) → ((told image m).map ≡ m.map) × ((told image m).options ≡ m.options) × ((told image m).items ≡ m.items)
+    × ((told image m).nodes ≡ m.nodes) × ((told image m).crash ≡ m.crash) × ((told image m).sections ≡ m.sections)
+    × ((told image m).answers ≡ m.answers)
+told_as_made m = (refl, refl, refl, refl, refl, refl, refl)
+
+told_free : ((told image (record made { items = two_frames })).free 1 ≡ None)
+    × ((told image (record made { items = two_frames })).free 2 ≡ Some 3)
+unfolding free_in each_in each_from
+told_free = (refl, refl)
+
+told_spans : (items : List Item) → (told image (record made { items = items })).spans ≡ spans_of (node_of_frame (memory_of items))
+told_spans items = refl
+
+-- 3,200 runs have room, 3,201 don't, and so many are told
 few_runs : has_room made ≡ Ok made
 few_runs = refl
 
+full_map : (runs : List (RunOf ℕ)) → length runs ≡ 3200 → has_room (record made { map = runs }) ≡ Ok (record made { map = runs })
+full_map runs many = rw many refl
+
+too_long_a_map : (runs : List (RunOf ℕ)) → length runs ≡ 3201 → has_room (record made { map = runs }) ≡ Err (causes.MapFull 3201)
+too_long_a_map runs many = rw many refl
+
 unless_examples : (unless_stopped None made ≡ Ok made) × (unless_stopped (Some reasons.NoRam) made ≡ Err causes.NoRam)
-unless_examples = (refl, refl)
+    × (unless_stopped (Some (reasons.TooMuchRam 4294967297)) made ≡ Err (causes.TooMuchRam 4294967297))
+unless_examples = (refl, refl, refl)
 
 -- the cause of a stop, and the stop of a cause
 cause_examples : (cause_of (stops.MapFull 3201) ≡ Some (causes.MapFull 3201)) × (cause_of stops.Memory ≡ None)
@@ -151,14 +196,37 @@ kernel_examples = (
   λ low. omega (arith, low.above),
 )
 
+-- an image has two frames at least, begins and ends where frames do, and ends in reach
+one_frame : IsKernel (record { base = 0x1000000; size = 4096 }) → ⊥
+one_frame known = omega (arith, known.long)
+
+ends_amid_a_frame : IsKernel (record { base = 0x1000000; size = 0x2800 }) → ⊥
+ends_amid_a_frame known = let wrong : 0x800 ≡ 0 = known.of_frames in absurd (omega (arith, wrong))
+
+begins_amid_a_frame : IsKernel (record { base = 0x1000800; size = 0x2000 }) → ⊥
+begins_amid_a_frame known = let wrong : 0x800 ≡ 0 = known.at_frame in absurd (omega (arith, wrong))
+
+ends_out_of_reach : IsKernel (record { base = 0x3FFFFFFFF000; size = 0x2000 }) → ⊥
+ends_out_of_reach known = omega (arith, known.in_reach)
+
 -- the values of a boot as its definition has them
 inputs_are_items : (i : Inputs) → ((inputs_view i).entries ≡ i.zero.entries.items) × ((inputs_view i).extension ≡ i.ext.items)
     × ((inputs_view i).initrd ≡ i.zero.initrd) × ((inputs_view i).kernel ≡ i.kernel)
 inputs_are_items i = (refl, refl, refl, refl)
 
+inputs_are_all : (i : Inputs) → ((inputs_view i).options ≡ chosen i.options) × ((inputs_view i).domains ≡ option_map affinity i.srat)
+    × ((inputs_view i).lines ≡ i.lines.items)
+inputs_are_all i = (refl, refl, refl)
+
 booted_are_items : (b : Booted) → ((booted_view b).map ≡ b.map.items) × ((booted_view b).options ≡ chosen b.options)
     × ((booted_view b).items ≡ b.journal.items) × ((booted_view b).answers ≡ b.answers.items)
 booted_are_items b = (refl, refl, refl, refl)
+
+booted_is_all : (b : Booted) → ((booted_view b).heads ≡ b.heads) × ((booted_view b).nodes ≡ nodes_view b.nodes)
+    × ((booted_view b).crash ≡ b.crash) × ((booted_view b).sections.roots ≡ roots_view b.roots)
+    × ((booted_view b).sections.placed ≡ b.placed.items) × ((booted_view b).spans ≡ b.spans.items)
+    × ((booted_view b).free ≡ free b.buddy)
+booted_is_all b = (refl, refl, refl, refl, refl, refl, refl)
 
 -- two entries of size 0 claim nothing, so no frame is usable, and the boot stops
 Nothing : Claims → Type 0
@@ -230,3 +298,10 @@ begins_without_a_run = no_runs (claims two_empty) nothing_claimed
 no_ram : boot two_empty ≡ Err causes.NoRam
 unfolding boot
 no_ram = rw (no_runs (claims two_empty) nothing_claimed, no_frame (claims two_empty) nothing_claimed) refl
+
+-- what a boot made is told with the image that it was given, and its stop is its own
+boot_tells : (given : Given) (last : Made) → boot given ≡ Ok last → told_boot given ≡ Ok (told given.kernel last)
+boot_tells given last ends = rw ends refl
+
+boot_stops : (given : Given) (cause : Cause) → boot given ≡ Err cause → told_boot given ≡ Err cause
+boot_stops given cause ends = rw ends refl
