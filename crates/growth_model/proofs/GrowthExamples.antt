@@ -23,6 +23,7 @@ use Rattle.growth_model.specs.Outcome.{Outcome, Change, joined, after, nothing, 
 use Rattle.growth_model.specs.Growth.{frames_of, frames_at, count, table_query, place_beside, left, reserved_items, reserved_growth_at, reserved_growth, is_full, new_in, two, grown, claimed, freed, old_frames, leave, memory_growth_at, memory_growth, added, noded}
 use Rattle.growth_model.specs.Request.{attempt, anywhere, round, attempts, first_best, place_for}
 use Rattle.growth_model.specs.Ends.{IsCut, IsCutShort, EndsBy, Ends, Allocates}
+use Rattle.growth_model.proofs.EndLaws.{cut-short}
 use Rattle.growth_model.proofs.FirstLaws.{no_records, first-full_by_two, first-claimed}
 use Rattle.growth_model.proofs.IdleLaws.{claimed-idle, freed-idle, added-idle, noded-idle}
 
@@ -485,11 +486,11 @@ no_place_so_low = ap (λ (o : Option ℕ). option_or o None) (no_window 0 0 (ome
 all_of_two : IsCut [] (joined two_steps.steps) two_steps
 all_of_two = record { count = 2; within = omega arith; stands = refl }
 
-one_of_two : IsCut [] (item.Trim ∷ (item.Limit 5 ∷ [])) two_steps
-one_of_two = record { count = 1; within = omega arith; stands = refl }
+one_of_two : IsCutShort [] (item.Trim ∷ (item.Limit 5 ∷ [])) two_steps
+one_of_two = record { count = 1; short = omega arith; stands = refl }
 
-short_of_two : IsCutShort [] (item.Trim ∷ (item.Limit 5 ∷ [])) two_steps
-short_of_two = record { count = 1; short = omega arith; stands = refl }
+some_of_two : IsCut [] (item.Trim ∷ (item.Limit 5 ∷ [])) two_steps
+some_of_two = cut-short [] (item.Trim ∷ (item.Limit 5 ∷ [])) two_steps one_of_two
 
 -- fewer steps than both don't write all of their items
 fewer_of_two : (n : ℕ) → n < 2 → joined two_steps.steps ≡ joined (take n two_steps.steps) → ⊥
