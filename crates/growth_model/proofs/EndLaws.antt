@@ -1,5 +1,5 @@
 -- How one call after another ends: by the ends of both.
-use Rattle.std.proofs.Common.{◌≡◌, ◌≢◌, ℕ, ◌+◌, ◌≤◌, Bool, true, false, Option, Some, None, List, [], ◌∷◌, ◌++◌, length, take, Result, Ok, Err, refl, sym, ◌∙◌, ap, subst, append_assoc, arith}
+use Rattle.std.proofs.Common.{◌≡◌, ◌≢◌, ℕ, ◌+◌, ◌<◌, Bool, true, false, Option, Some, None, List, [], ◌∷◌, ◌++◌, length, take, Result, Ok, Err, refl, sym, ◌∙◌, ap, subst, append_assoc, arith}
 use Rattle.std.proofs.lemmas.List.{append-nil, length-append, take-append-le}
 use Rattle.std.proofs.Math.Seq.{take-append-add}
 use Rattle.memblock_model.specs.declared.which.Which.{Which}
@@ -7,7 +7,7 @@ use Rattle.memblock_model.specs.declared.item.Item.{Item}
 use Rattle.growth_model.specs.declared.refusal.Refusal.{Refusal}
 use Rattle.growth_model.specs.declared.refusal.Refusal.TheVariants as refusal
 use Rattle.growth_model.specs.Outcome.{Refused, Outcome, Change, joined, after, nothing, step, refuse, followed_by, ◌>>◌, if_due, whatever_refused}
-use Rattle.growth_model.specs.Ends.{IsCut, EndsBy, Ends}
+use Rattle.growth_model.specs.Ends.{IsCut, IsCutShort, EndsBy, Ends}
 
 pub joined-append : (a b : List (List Item)) → joined (a ++ b) ≡ joined a ++ joined b
 joined-append [] b = refl
@@ -21,22 +21,29 @@ pub after-both : (items : List Item) (o p : Outcome) → after (after items o) p
 after-both items o p = append_assoc items (joined o.steps) (joined p.steps)
     ∙ ap (λ (t : List Item). items ++ t) (sym (joined-append o.steps p.steps))
 
+-- what is cut short is cut
+pub cut-short : (old new : List Item) (o : Outcome) → IsCutShort old new o → IsCut old new o
+cut-short old new o cut =
+    let short : cut.count < length o.steps = cut.short in
+    record { count = cut.count; within = omega (arith, short); stands = cut.stands }
+
 -- some steps of the first change are some steps of both, and so are all of the first and some of the second
-cut_first : (old new : List Item) (o p : Outcome) → IsCut old new o → IsCut old new (both_steps o p)
+cut_first : (old new : List Item) (o p : Outcome) → IsCutShort old new o → IsCutShort old new (both_steps o p)
 cut_first old new o p cut =
-    let few : cut.count ≤ length o.steps = cut.within in
+    let short : cut.count < length o.steps = cut.short in
     record {
       count = cut.count;
-      within = omega (arith, length-append o.steps p.steps, few);
-      stands = cut.stands ∙ ap (λ (t : List (List Item)). old ++ joined t) (sym (take-append-le cut.count o.steps p.steps few));
+      short = omega (arith, length-append o.steps p.steps, short);
+      stands = cut.stands
+          ∙ ap (λ (t : List (List Item)). old ++ joined t) (sym (take-append-le cut.count o.steps p.steps (omega (arith, short))));
     }
 
-cut_second : (old new : List Item) (o p : Outcome) → IsCut (after old o) new p → IsCut old new (both_steps o p)
+cut_second : (old new : List Item) (o p : Outcome) → IsCutShort (after old o) new p → IsCutShort old new (both_steps o p)
 cut_second old new o p cut =
-    let few : cut.count ≤ length p.steps = cut.within in
+    let short : cut.count < length p.steps = cut.short in
     record {
       count = length o.steps + cut.count;
-      within = omega (arith, length-append o.steps p.steps, few);
+      short = omega (arith, length-append o.steps p.steps, short);
       stands = cut.stands ∙ append_assoc old (joined o.steps) (joined (take cut.count p.steps))
           ∙ ap (λ (t : List Item). old ++ t) (sym (joined-append o.steps (take cut.count p.steps)))
           ∙ ap (λ (t : List (List Item)). old ++ joined t) (sym (take-append-add o.steps p.steps cut.count));
@@ -95,9 +102,10 @@ pub Ends-refused : (T : Type 0) (w : Which) (room : ℕ) (items : List Item)
     → Ends {T = T} (Err (refusal.NoGapForTable w room)) items items (refuse w room)
 Ends-refused T w room items = (refl, sym (append-nil items))
 
--- memory ran out before anything was written
-pub Ends-wanting : (T : Type 0) (items : List Item) (change : Change) → Ends {T = T} (Err refusal.Memory) items items change
-Ends-wanting T items change = record { count = 0; within = omega arith; stands = sym (append-nil items) }
+-- memory ran out before the first step of a change that has one
+pub Ends-wanting : (T : Type 0) (items : List Item) (change : Change) → 0 < length (change items).steps
+    → Ends {T = T} (Err refusal.Memory) items items change
+Ends-wanting T items change some = record { count = 0; short = some; stands = sym (append-nil items) }
 
 -- a refusal that doesn't count
 whatever_by : {T U : Type 0} (x : U) (r : Result T Refusal) (old new : List Item) (o : Outcome) → r ≢ Err refusal.Memory
@@ -113,7 +121,7 @@ Ends-whatever x r old new change other h = whatever_by x r old new (change old) 
 
 pub Ends-whatever_wanting : (T U : Type 0) (old new : List Item) (change : Change) → Ends {T = T} (Err refusal.Memory) old new change
     → Ends {T = U} (Err refusal.Memory) old new (whatever_refused change)
-Ends-whatever_wanting T U old new change cut = record { count = cut.count; within = cut.within; stands = cut.stands }
+Ends-whatever_wanting T U old new change cut = record { count = cut.count; short = cut.short; stands = cut.stands }
 
 -- the ends of an answer that is known
 pub Ends-along : {T : Type 0} (r s : Result T Refusal) (old new : List Item) (change : Change) → r ≡ s → Ends r old new change

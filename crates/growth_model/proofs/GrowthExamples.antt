@@ -1,5 +1,5 @@
 -- Small changes, computed: what is written step by step, which growth is refused, what an allocation tries, and how calls end.
-use Rattle.std.proofs.Common.{◌≡◌, ℕ, ◌+◌, ◌*◌, ◌%◌, ◌^◌, ◌<◌, ◌≤◌, true, false, nat_lt, Option, Some, None, List, [], ◌∷◌, ◌++◌, length, Ok, Err, refl, sym, ◌∙◌, ap, subst, inl, inr, arith}
+use Rattle.std.proofs.Common.{◌≡◌, ℕ, zero, suc, ◌+◌, ◌*◌, ◌%◌, ◌^◌, ◌<◌, ◌≤◌, true, false, nat_lt, Option, Some, None, List, [], ◌∷◌, ◌++◌, length, take, Ok, Err, refl, sym, ◌∙◌, ap, subst, inl, inr, arith}
 use Rattle.std.specs.Option.{option_or}
 use Rattle.std.proofs.lemmas.Bool.{cases_Bool}
 use Rattle.std.proofs.lemmas.Bool.Decides.{nat_tests}
@@ -22,7 +22,8 @@ use Rattle.growth_model.specs.declared.request.Request.{Request}
 use Rattle.growth_model.specs.Outcome.{Outcome, Change, joined, after, nothing, step, write, refuse, followed_by, ◌>>◌, if_due, whatever_refused}
 use Rattle.growth_model.specs.Growth.{frames_of, frames_at, count, table_query, place_beside, left, reserved_items, reserved_growth_at, reserved_growth, is_full, new_in, two, grown, claimed, freed, old_frames, leave, memory_growth_at, memory_growth, added, noded}
 use Rattle.growth_model.specs.Request.{attempt, anywhere, round, attempts, first_best, place_for}
-use Rattle.growth_model.specs.Ends.{IsCut, EndsBy, Ends, Allocates}
+use Rattle.growth_model.specs.Ends.{IsCut, IsCutShort, EndsBy, Ends, Allocates}
+use Rattle.growth_model.proofs.EndLaws.{cut-short}
 use Rattle.growth_model.proofs.FirstLaws.{no_records, first-full_by_two, first-claimed}
 use Rattle.growth_model.proofs.IdleLaws.{claimed-idle, freed-idle, added-idle, noded-idle}
 
@@ -485,8 +486,24 @@ no_place_so_low = ap (λ (o : Option ℕ). option_or o None) (no_window 0 0 (ome
 all_of_two : IsCut [] (joined two_steps.steps) two_steps
 all_of_two = record { count = 2; within = omega arith; stands = refl }
 
-one_of_two : IsCut [] (item.Trim ∷ (item.Limit 5 ∷ [])) two_steps
-one_of_two = record { count = 1; within = omega arith; stands = refl }
+one_of_two : IsCutShort [] (item.Trim ∷ (item.Limit 5 ∷ [])) two_steps
+one_of_two = record { count = 1; short = omega arith; stands = refl }
+
+some_of_two : IsCut [] (item.Trim ∷ (item.Limit 5 ∷ [])) two_steps
+some_of_two = cut-short [] (item.Trim ∷ (item.Limit 5 ∷ [])) two_steps one_of_two
+
+-- fewer steps than both don't write all of their items
+fewer_of_two : (n : ℕ) → n < 2 → joined two_steps.steps ≡ joined (take n two_steps.steps) → ⊥
+fewer_of_two zero less same = cc
+fewer_of_two (suc zero) less same = cc
+fewer_of_two (suc (suc n)) less same = omega (arith, less)
+
+-- where all steps were taken no memory is wanted, nor where a growth is refused before any
+wanted_behind_all : EndsBy {T = ℕ} (Err refusal.Memory) [] (joined two_steps.steps) two_steps → ⊥
+wanted_behind_all cut = fewer_of_two cut.count cut.short cut.stands
+
+wanted_at_a_refusal : Ends {T = ℕ} (Err refusal.Memory) small small (refuse which.Memory 128) → ⊥
+wanted_at_a_refusal cut = let none : cut.count < 0 = cut.short in omega (arith, none)
 
 ends_well : EndsBy {T = ℕ} (Ok 3) [] (item.Trim ∷ (item.Limit 5 ∷ (item.Limit 7 ∷ []))) two_steps
 ends_well = (refl, refl)
@@ -501,7 +518,7 @@ a_claim_ends : Ends {T = ℕ} (Ok 3) small (small ++ item.Trim ∷ []) (write it
 a_claim_ends = (refl, refl)
 
 memory_ran_out : Ends {T = ℕ} (Err refusal.Memory) small small (write item.Trim)
-memory_ran_out = record { count = 0; within = omega arith; stands = refl }
+memory_ran_out = record { count = 0; short = omega arith; stands = refl }
 
 no_gap : Allocates (Err refusal.NoGap) small small None 4096 owner.Soft
 no_gap = (refl, refl)
@@ -512,3 +529,7 @@ a_gap = (
   subst (λ (o : Outcome). EndsBy {T = ℕ} (Ok 131072) small (small ++ item.Claim (frame 32) owner.Soft ∷ []) o) (sym a_claim)
       (refl, refl),
 )
+
+-- the place that was found is answered, and no other
+another_place : Allocates (Ok 4096) small (small ++ item.Claim (frame 32) owner.Soft ∷ []) (Some 131072) 4096 owner.Soft → ⊥
+another_place ends = let wrong : 4096 ≡ 131072 = ends.0 in absurd (omega (arith, wrong))

@@ -1,5 +1,5 @@
--- How a call ends that carries a change out: as the change says, or, where the program's own memory ran out, amid it.
-use Rattle.std.specs.Prelude.{◌≡◌, ℕ, ◌≤◌, Option, Some, None, List, ◌++◌, length, take, Result, Ok, Err, IfOk}
+-- How a call ends that carries a change out: as the change says, or, where the program's own memory ran out, before one of its steps.
+use Rattle.std.specs.Prelude.{◌≡◌, ℕ, ◌<◌, ◌≤◌, Option, Some, None, List, ◌++◌, length, take, Result, Ok, Err, IfOk}
 use Rattle.memblock_model.specs.declared.item.Item.{Item}
 use Rattle.memblock_model.specs.declared.owner.Owner.{Owner}
 use Rattle.growth_model.specs.declared.refusal.Refusal.{Refusal}
@@ -13,13 +13,19 @@ pub record IsCut (old new : List Item) (o : Outcome) : Type 0 where
   pub within : count ≤ length o.steps
   pub stands : new ≡ old ++ joined (take count o.steps)
 
--- Ok where no growth was refused, and that refusal where one was: the items are those of the change either way. A change by itself looks
--- for no gap, so it never lacks one
+-- and a step is still to be taken
+pub record IsCutShort (old new : List Item) (o : Outcome) : Type 0 where
+  pub count : ℕ
+  pub short : count < length o.steps
+  pub stands : new ≡ old ++ joined (take count o.steps)
+
+-- Ok where no growth was refused, and that refusal where one was: the items are those of the change either way. Memory is wanted only for a
+-- step that is still to be taken. A change by itself looks for no gap, so it never lacks one
 abbrev pub EndsBy : {T : Type 0} → Result T Refusal → List Item → List Item → Outcome → Type 0
 EndsBy (Ok x) old new o = (o.refused ≡ None) × (new ≡ after old o)
 EndsBy (Err refusal.NoGap) old new o = ⊥
 EndsBy (Err (refusal.NoGapForTable w room)) old new o = (o.refused ≡ Some (record { which = w; room = room })) × (new ≡ after old o)
-EndsBy (Err refusal.Memory) old new o = IsCut old new o
+EndsBy (Err refusal.Memory) old new o = IsCutShort old new o
 
 abbrev pub Ends : {T : Type 0} → Result T Refusal → List Item → List Item → Change → Type 0
 Ends result old new change = EndsBy result old new (change old)

@@ -13,7 +13,7 @@ use Rattle.memblock_model.specs.declared.item.Item.TheVariants as item
 use Rattle.memblock_model.specs.Items.{limit_of}
 use Rattle.memblock_model.specs.Tables.{table_of, records_of, room_of, moved_to, pieces}
 use Rattle.memblock_model.specs.Search.{best}
-use Rattle.growth_model.specs.Outcome.{Outcome, Change, ◌>>◌, nothing, step, write, refuse, if_due, whatever_refused}
+use Rattle.growth_model.specs.Outcome.{Change, ◌>>◌, nothing, step, write, refuse, if_due, whatever_refused}
 
 -- that many bytes, rounded up to frames
 abbrev pub frames_of : ℕ → ℕ

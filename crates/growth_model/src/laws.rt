@@ -1,7 +1,7 @@
 //! The laws of growth, as functions that do nothing: what the layers above may rest on.
 //!
-//! Each change keeps both tables in good places wherever a call of it ends: at its end, at a refusal, and between two of its
-//! steps where memory ran out. Nothing is asked of the tables' bytes or records for that, nor of the addresses.
+//! Each change keeps both tables in good places wherever a call of it ends: at its end, at a refusal, and before a step
+//! for which memory ran out. Nothing is asked of the tables' bytes or records for that, nor of the addresses.
 
 ghost use Rattle.std.specs.Prelude.{◌≡◌, ◌⊎◌, ℕ, ◌+◌, ◌*◌, ◌%◌, ◌^◌, ◌≤◌, Option, Some, List, [], ◌∷◌, ◌++◌, Result, Ok, Err};
 ghost use Rattle.bm_base.specs.Extent.{Extent, end_of};

@@ -10,7 +10,7 @@
 //!   an added range, a range that gets a node.
 //! - `specs/Request.antt`: what an allocation tries, in its order.
 //! - `specs/Ends.antt`: how a call may end that carries a change out: as the definition says, or, for want of the
-//!   program's own memory, after some whole steps of it.
+//!   program's own memory, before one of its steps.
 //! - `specs/Sound.antt`: what holds of the items of each boot: both tables lie in claimed frames, apart from each
 //!   other, and each has room for its records.
 //! - `specs/Bytes.antt`: the byte at each address, from the items and the fills, and what a call makes of it.

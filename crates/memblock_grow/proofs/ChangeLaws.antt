@@ -1,5 +1,5 @@
 -- A change that makes room and then writes one item: how it ends, wherever it ends.
-use Rattle.std.proofs.Common.{◌≡◌, List, [], ◌∷◌, ◌++◌, Result, Ok, Err, sym, subst}
+use Rattle.std.proofs.Common.{◌≡◌, List, [], ◌∷◌, ◌++◌, Result, Ok, Err, sym, subst, arith}
 use Rattle.memblock_model.specs.declared.item.Item.{Item}
 use Rattle.growth_model.specs.declared.refusal.Refusal.{Refusal}
 use Rattle.growth_model.specs.declared.refusal.Refusal.TheVariants as refusal
@@ -18,7 +18,7 @@ change-wants growths i r old mid new is h same =
     Ends-along (Err refusal.Memory) r old new (growths >> write i) (sym is)
     (subst (λ (l : List Item). Ends {T = Unit {0}} (Err refusal.Memory) old l (growths >> write i)) (sym same)
     (Ends-second {T = Unit {0}} {U = Unit {0}} tt (Err refusal.Memory) old mid mid growths (write i) h
-    (Ends-wanting (Unit {0}) mid (write i))))
+    (Ends-wanting (Unit {0}) mid (write i) (omega arith))))
 
 pub change-done : (growths : Change) (i : Item) (old mid new : List Item) → Ends {T = Unit {0}} (Ok tt) old mid growths
     → new ≡ mid ++ i ∷ [] → Ends {T = Unit {0}} (Ok tt) old new (growths >> write i)

@@ -24,7 +24,6 @@ use Rattle.growth_model.proofs.SpotLaws.{frames-more}
 use Rattle.growth_model.proofs.FoundLaws.{away-within, away-apart}
 use Rattle.growth_model.proofs.PlacedMemoryLaws.{IsTaken, claimed-taken}
 use Rattle.growth_model.proofs.FollowLaws.{follows-still, follows-grown, follows-then, follows-stands}
-use Rattle.growth_model.proofs.ToldLaws.{still-told}
 use Rattle.memblock_grow.specs.Kept.{AreKept, IsMemblock, AllowsFree, Keeps, KeepsBytes}
 use Rattle.memblock_grow.specs.Places.{frames_between}
 use Rattle.memblock_grow.proofs.KeptLaws.{room-is, kept-same, kept-grown}
@@ -106,7 +105,7 @@ memory-wants items mid new place r known is h same =
     (Ends-along (Err refusal.Memory) r items new (taking place >> rest) (sym is)
     (subst (λ (l : List Item). Ends {T = Unit {0}} (Err refusal.Memory) items l (taking place >> rest)) (sym same)
     (Ends-second {T = Unit {0}} {U = Unit {0}} tt (Err refusal.Memory) items mid mid (taking place) rest h
-    (Ends-wanting (Unit {0}) mid rest))))
+    (Ends-wanting (Unit {0}) mid rest (omega arith)))))
 
 pub memory-done : (items mid next new : List Item) (place : Extent) (base room : ℕ) (old : Option Extent)
     (r : Result (Unit {0}) Refusal) → IsBest items place → base ≡ place.base → room ≡ 2 * room_of which.Memory items
@@ -137,15 +136,15 @@ best-taken kernel items mid place placed known was =
     claimed-taken {T = Unit {0}} tt kernel items mid place.base placed known.found
     (subst (λ (e : Extent). Ends {T = Unit {0}} (Ok tt) items mid (claimed e (owner.Table which.Memory))) known.is was)
 
--- the tables before the move and behind it
-pub record MovedMemory (items : List Item) (t p k r : Contents) (base : ℕ) (place : Extent) : Type 0 where
-  pub first : p.memory ≡ t.memory
-  pub second : p.reserved ≡ t.reserved
-  pub same : (x : ℕ) → byte_of p.store x ≡ byte_of t.store x
-  pub claimed : k.memory ≡ p.memory
-  pub table : r.memory ≡ record k.memory { place = base; room = 2 * k.memory.room }
-  pub other : r.reserved ≡ k.reserved
-  pub told : (x : ℕ) → byte_of r.store x ≡ shown_by r.memory r.reserved x (left_by k.memory x (byte_of k.store x))
+-- the tables behind the claim of the place, once its bytes are prepared, and behind the move
+pub record MovedMemory (items : List Item) (t k p r : Contents) (base : ℕ) (place : Extent) : Type 0 where
+  pub claimed : k.memory ≡ t.memory
+  pub first : p.memory ≡ k.memory
+  pub second : p.reserved ≡ k.reserved
+  pub same : (x : ℕ) → byte_of p.store x ≡ byte_of k.store x
+  pub table : r.memory ≡ record p.memory { place = base; room = 2 * p.memory.room }
+  pub other : r.reserved ≡ p.reserved
+  pub told : (x : ℕ) → byte_of r.store x ≡ shown_by r.memory r.reserved x (left_by p.memory x (byte_of p.store x))
   pub here : base ≡ place.base
   pub is : place ≡ frames_at place.base (48 * room_of which.Memory items)
   pub ends : end_of place < 2 ^ 64
@@ -169,42 +168,51 @@ memory-apart kernel items mid t k at base place kept after same here taken =
     subst (λ (m : ℕ). ¬ Overlaps k (record { base = base; size = 48 * m })) (sym room)
     (subst (λ (b : ℕ). ¬ Overlaps k (record { base = b; size = 48 * n })) (sym here) apart)
 
-pub memory-kept : (kernel : Extent) (items mid : List Item) (t p k r : Contents) (at base room : ℕ) (place : Extent)
-    → AreKept kernel items t at → MovedMemory items t p k r base place → Keeps items p mid k at
+pub memory-kept : (kernel : Extent) (items mid : List Item) (t k p r : Contents) (at base room : ℕ) (place : Extent)
+    → AreKept kernel items t at → MovedMemory items t k p r base place → Keeps items t mid k at
     → AreKept kernel (mid ++ item.Grown which.Memory base room ∷ []) r at
-memory-kept kernel items mid t p k r at base room place kept m keeps =
-    let after = keeps kernel (kept-same kernel items t p at m.first m.second kept) in
-    let same = room-stays kernel items mid t k at kept after (m.claimed ∙ m.first) in
+memory-kept kernel items mid t k p r at base room place kept m keeps =
+    let after = kept-same kernel mid k p at m.first m.second (keeps kernel kept) in
+    let same = room-stays kernel items mid t p at kept after (m.first ∙ m.claimed) in
     let size : place.size ≡ frames_of (48 * room_of which.Memory items) = ap (λ (e : Extent). e.size) m.is in
     let ends = m.ends in
     let here = m.here in
     let small : base + frames_of (48 * room_of which.Memory items) < 2 ^ 64 = omega (arith, size, ends, here) in
-    kept-grown which.Memory kernel mid base room k r at
+    kept-grown which.Memory kernel mid base room p r at
     (subst (λ (n : ℕ). base + frames_of (48 * n) < 2 ^ 64) (sym same) small) m.table m.other after
 
-pub memory-bytes : (kernel : Extent) (items mid : List Item) (t p k r : Contents) (at base room : ℕ) (place : Extent)
-    → AreKept kernel items t at → AreSpelled t.memory t.reserved (byte_of t.store) → MovedMemory items t p k r base place
-    → Keeps items p mid k at → KeepsBytes items p mid k at
+-- bytes that are prepared behind the claim stay what they are
+pub prepared-bytes : (kernel : Extent) (items mid new : List Item) (t k p : Contents) (at : ℕ) → AreKept kernel items t at
+    → AreSpelled t.memory t.reserved (byte_of t.store) → Keeps items t mid k at → KeepsBytes items t mid k at → new ≡ mid
+    → ((x : ℕ) → byte_of p.store x ≡ byte_of k.store x) → Follows kernel items new (byte_of t.store) (byte_of p.store)
+prepared-bytes kernel items mid new t k p at kept spelled keeps bytes is same =
+    let after = keeps kernel kept in
+    let path = bytes kernel kept spelled in
+    let stands = follows-stands kernel items mid k.memory k.reserved (byte_of t.store) (byte_of k.store) after.memory after.reserved path in
+    subst (λ (l : List Item). Follows kernel items l (byte_of t.store) (byte_of p.store)) (sym is)
+    (follows-then kernel items mid mid (byte_of t.store) (byte_of k.store) (byte_of p.store) path
+    (follows-still kernel mid k.memory k.reserved (byte_of k.store) (byte_of p.store) after.memory after.reserved stands same))
+
+pub memory-bytes : (kernel : Extent) (items mid : List Item) (t k p r : Contents) (at base room : ℕ) (place : Extent)
+    → AreKept kernel items t at → AreSpelled t.memory t.reserved (byte_of t.store) → MovedMemory items t k p r base place
+    → Keeps items t mid k at → KeepsBytes items t mid k at
     → Follows kernel items (mid ++ item.Grown which.Memory base room ∷ []) (byte_of t.store) (byte_of r.store)
-memory-bytes kernel items mid t p k r at base room place kept spelled m keeps bytes =
-    let before = kept-same kernel items t p at m.first m.second kept in
-    let after = keeps kernel before in
-    let moved = memory-kept kernel items mid t p k r at base room place kept m keeps in
+memory-bytes kernel items mid t k p r at base room place kept spelled m keeps bytes =
+    let after = kept-same kernel mid k p at m.first m.second (keeps kernel kept) in
+    let moved = memory-kept kernel items mid t k p r at base room place kept m keeps in
     let i : Item = item.Grown which.Memory base room in
-    follows-then kernel items items (mid ++ i ∷ []) (byte_of t.store) (byte_of p.store) (byte_of r.store)
-    (follows-still kernel items t.memory t.reserved (byte_of t.store) (byte_of p.store) kept.memory kept.reserved spelled m.same)
-    (follows-then kernel items mid (mid ++ i ∷ []) (byte_of p.store) (byte_of k.store) (byte_of r.store)
-    (bytes kernel before (still-told t p m.first m.second m.same spelled))
-    (follows-grown kernel mid which.Memory base room k.memory r.memory r.reserved (byte_of k.store) (byte_of r.store) after.memory
-    moved.memory moved.reserved m.told))
+    follows-then kernel items mid (mid ++ i ∷ []) (byte_of t.store) (byte_of p.store) (byte_of r.store)
+    (prepared-bytes kernel items mid mid t k p at kept spelled keeps bytes refl m.same)
+    (follows-grown kernel mid which.Memory base room p.memory r.memory r.reserved (byte_of p.store) (byte_of r.store) after.memory
+    moved.memory moved.reserved m.told)
 
 -- what stands before the old place is freed
-pub memory-stands : (kernel : Extent) (items mid : List Item) (t p k r : Contents) (at base room : ℕ) (place : Extent)
-    → IsMemblock kernel items t at → MovedMemory items t p k r base place → Keeps items p mid k at → KeepsBytes items p mid k at
+pub memory-stands : (kernel : Extent) (items mid : List Item) (t k p r : Contents) (at base room : ℕ) (place : Extent)
+    → IsMemblock kernel items t at → MovedMemory items t k p r base place → Keeps items t mid k at → KeepsBytes items t mid k at
     → room ≡ 2 * room_of which.Memory items → IsTaken kernel mid (room_of which.Memory items) (moved_to which.Memory items) place.base
     → IsMemblock kernel (mid ++ item.Grown which.Memory base room ∷ []) r at
-memory-stands kernel items mid t p k r at base room place whole m keeps bytes twice taken =
-    let moved = memory-kept kernel items mid t p k r at base room place whole.kept m keeps in
+memory-stands kernel items mid t k p r at base room place whole m keeps bytes twice taken =
+    let moved = memory-kept kernel items mid t k p r at base room place whole.kept m keeps in
     record {
       image = whole.image;
       kept = moved;
@@ -213,7 +221,7 @@ memory-stands kernel items mid t p k r at base room place whole m keeps bytes tw
           (sym m.here) taken.next);
       spelled = follows-stands kernel items (mid ++ item.Grown which.Memory base room ∷ []) r.memory r.reserved (byte_of t.store)
           (byte_of r.store) moved.memory moved.reserved
-          (memory-bytes kernel items mid t p k r at base room place whole.kept whole.spelled m keeps bytes);
+          (memory-bytes kernel items mid t k p r at base room place whole.kept whole.spelled m keeps bytes);
     }
 
 away-by : (kernel : Extent) (is : List Item) (n : ℕ) (o : Option ℕ) (range : Extent)
@@ -228,13 +236,13 @@ free-by : (kernel : Extent) (is : List Item) (t : Contents) (at n : ℕ) (o : Op
 free-by kernel is t at n o None whole away h = tt
 free-by kernel is t at n o (Some range) whole away h = (kernel, whole, away-by kernel is n o range away (sym h))
 
-pub memory-free : (kernel : Extent) (items mid next : List Item) (t p k r : Contents) (at base room : ℕ) (place : Extent)
-    (left : Option Extent) → IsMemblock kernel items t at → MovedMemory items t p k r base place → Keeps items p mid k at
-    → KeepsBytes items p mid k at → room ≡ 2 * room_of which.Memory items
+pub memory-free : (kernel : Extent) (items mid next : List Item) (t k p r : Contents) (at base room : ℕ) (place : Extent)
+    (left : Option Extent) → IsMemblock kernel items t at → MovedMemory items t k p r base place → Keeps items t mid k at
+    → KeepsBytes items t mid k at → room ≡ 2 * room_of which.Memory items
     → IsTaken kernel mid (room_of which.Memory items) (moved_to which.Memory items) place.base
     → left ≡ old_frames (room_of which.Memory items) (moved_to which.Memory items)
     → next ≡ mid ++ item.Grown which.Memory base room ∷ [] → IfSome left (λ range. AllowsFree next r at range)
-memory-free kernel items mid next t p k r at base room place left whole m keeps bytes twice taken old is =
+memory-free kernel items mid next t k p r at base room place left whole m keeps bytes twice taken old is =
     let n = room_of which.Memory items in
     let here : (q : ℕ) → moved_to which.Memory items ≡ Some q
     → IsAway kernel (frames_at q (24 * n)) (mid ++ item.Grown which.Memory base room ∷ []) =
@@ -243,7 +251,7 @@ memory-free kernel items mid next t p k r at base room place left whole m keeps 
     (taken.left q was)) in
     subst (λ (l : List Item). IfSome left (λ range. AllowsFree l r at range)) (sym is)
     (free-by kernel (mid ++ item.Grown which.Memory base room ∷ []) r at n (moved_to which.Memory items) left
-    (memory-stands kernel items mid t p k r at base room place whole m keeps bytes twice taken) here old)
+    (memory-stands kernel items mid t k p r at base room place whole m keeps bytes twice taken) here old)
 
 pub left-some : (items : List Item) (left : Option Extent) → left ≡ old_frames (room_of which.Memory items) (moved_to which.Memory items)
     → IfSome left (λ range. 0 < range.size)

@@ -1,5 +1,5 @@
 -- The growth of the reserved table: where it goes, what it writes, and what it makes of the tables and of each byte.
-use Rattle.std.proofs.Common.{◌≡◌, ℕ, ◌+◌, ◌-◌, ◌*◌, ◌^◌, ◌<◌, ◌≤◌, Option, Some, None, List, [], ◌∷◌, ◌++◌, length, Ok, Err, refl, sym, ◌∙◌, ap, subst, append_assoc, arith}
+use Rattle.std.proofs.Common.{◌≡◌, ℕ, ◌+◌, ◌-◌, ◌*◌, ◌^◌, ◌<◌, ◌≤◌, Option, Some, None, List, [], ◌∷◌, ◌++◌, length, Result, Ok, Err, refl, sym, ◌∙◌, ap, subst, append_assoc, arith}
 use Rattle.std.specs.Option.{option_map}
 use Rattle.bm_base.specs.Extent.{Extent, end_of}
 use Rattle.phys_store.specs.Bytes.{byte_of}
@@ -18,13 +18,14 @@ use Rattle.boot_journal.specs.Contents.{Contents as Journal}
 use Rattle.memblock_ranges.specs.declared.region.Head.{Head}
 use Rattle.memblock_ranges.specs.Tables.{Table, Contents, table_in, room_in, head_of, Overlaps}
 use Rattle.memblock_ranges.proofs.CountLaws.{one-piece}
+use Rattle.growth_model.specs.declared.refusal.Refusal.{Refusal}
 use Rattle.growth_model.specs.declared.refusal.Refusal.TheVariants as refusal
 use Rattle.growth_model.specs.Outcome.{Outcome, step, refuse}
 use Rattle.growth_model.specs.Growth.{frames_of, frames_at, place_beside, left, old_frames, reserved_items, reserved_growth_at, reserved_growth}
 use Rattle.growth_model.specs.Ends.{EndsBy, Ends}
 use Rattle.growth_model.specs.Sound.{Unclaimed, Placed}
 use Rattle.growth_model.specs.Bytes.{shown_by, left_by, AreSpelled, Follows}
-use Rattle.growth_model.proofs.EndLaws.{Ends-step, Ends-refused}
+use Rattle.growth_model.proofs.EndLaws.{Ends-step, Ends-refused, Ends-along, Ends-wanting}
 use Rattle.growth_model.proofs.SpotLaws.{covers-to}
 use Rattle.growth_model.proofs.FoundLaws.{beside-new, found-apart}
 use Rattle.growth_model.proofs.FollowLaws.{follows-still, follows-item, follows-grown, follows-then}
@@ -125,6 +126,16 @@ written-by items avoid place new known is =
     let all = reserved_items (room_of which.Reserved items) (moved_to which.Reserved items) place.base in
     subst (λ (o : Outcome). EndsBy {T = Unit {0}} (Ok tt) items new o) (sym (growth-some items avoid place known))
     (subst (λ (l : List Item). EndsBy {T = Unit {0}} (Ok tt) items l (step all items)) (sym is) (Ends-step {T = Unit {0}} tt items all))
+
+-- and where memory ran out before it
+pub growth-wants : (items new : List Item) (avoid place : Extent) (r : Result (Unit {0}) Refusal) → IsBeside items avoid place
+    → r ≡ Err refusal.Memory → new ≡ items → Ends r items new (reserved_growth avoid)
+growth-wants items new avoid place r known is same =
+    let all = reserved_items (room_of which.Reserved items) (moved_to which.Reserved items) place.base in
+    subst (λ (o : Outcome). EndsBy r items new o) (sym (growth-some items avoid place known))
+    (Ends-along (Err refusal.Memory) r items new (step all) (sym is)
+    (subst (λ (l : List Item). Ends {T = Unit {0}} (Err refusal.Memory) items l (step all)) (sym same)
+    (Ends-wanting (Unit {0}) items (step all) (omega arith))))
 
 left-none : (n : ℕ) (o : Option ℕ) → old_frames n o ≡ None → left n o ≡ []
 left-none n None h = refl

@@ -1,5 +1,5 @@
 -- Small ranges over the built-in places and beside them, computed.
-use Rattle.std.proofs.Common.{◌≡◌, ℕ, Bool, true, List, [], ◌∷◌, refl, arith}
+use Rattle.std.proofs.Common.{List, [], ◌∷◌, refl, arith}
 use Rattle.std.proofs.lemmas.Bool.{and_parts}
 use Rattle.bm_base.specs.Extent.{Extent, covers}
 use Rattle.memblock_model.specs.declared.owner.Owner.TheVariants as owner

@@ -4,7 +4,7 @@
 //! parts still belong together wherever that call ends: the tables are those of the items, they lie in the bytes that spell
 //! them, and each lies in claimed frames of its own. So whoever has a `Memblock` has that, and asks for nothing.
 //!
-//! A call that takes memory of the program's own may want it at any time. It ends then between two of its steps, with all of
+//! A call that takes memory of the program's own may want it for any of its steps. It ends then before that step, with all of
 //! that true.
 ghost use Rattle.std.specs.Prelude.{◌≡◌, ℕ, ◌+◌, ◌-◌, ◌*◌, ◌^◌, ◌<◌, ◌≤◌, ◌↔◌, Bool, false, max, Some, [], ◌∷◌, ◌++◌, length, OnOk, OnErr, IfOk, IsOk, IsTrue};
 ghost use Rattle.address_runs.specs.Edits.{NothingFrom};

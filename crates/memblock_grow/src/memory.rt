@@ -61,8 +61,9 @@ fn grow_memory(journal: &mut Journal, tables: &mut Tables, limit: u64) -> Result
         });
     };
     let old = left_place(head);
-    tables.prepare(place)?;
     claim(journal, tables, limit, place, Owner::Table(Which::Memory))?;
+    // Behind the claim: where that is refused at once, no step is left that may want memory.
+    tables.prepare(place)?;
     journal.ready(1)?;
     relocate(tables, Which::Memory, place.base);
     journal.push_ready(Item::Grown {

@@ -1,5 +1,5 @@
 -- Changes and allocations as steps: how a call that carries one out ends.
-use Rattle.std.proofs.Common.{◌≡◌, ◌⊎◌, inl, inr, ℕ, Option, Some, None, List, [], ◌∷◌, ◌++◌, take, Result, Ok, Err, IfOk, refl, sym, ◌∙◌, ap, subst}
+use Rattle.std.proofs.Common.{◌≡◌, ◌⊎◌, inl, inr, ℕ, Option, Some, None, List, [], ◌∷◌, ◌++◌, take, Result, Ok, Err, IfOk, refl, sym, ◌∙◌, ap, subst, arith}
 use Rattle.bm_base.specs.Extent.{Extent}
 use Rattle.memblock_model.specs.declared.which.Which.{Which}
 use Rattle.memblock_model.specs.declared.owner.Owner.{Owner}
@@ -31,7 +31,7 @@ ends-change (Err refusal.Memory) old new change cut =
       refl,
       record {
         count = cut.count;
-        within = cut.within;
+        within = omega (arith, cut.short);
         stands = cut.stands ∙ sym (appended-joined old (take cut.count (change old).steps));
       },
     )
@@ -53,7 +53,7 @@ carried-wanting T old new change cut =
       refl,
       record {
         count = cut.count;
-        within = cut.within;
+        within = omega (arith, cut.short);
         stands = cut.stands ∙ sym (appended-joined old (take cut.count (change old).steps));
       },
     )

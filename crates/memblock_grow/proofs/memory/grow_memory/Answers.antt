@@ -7,16 +7,14 @@ use Rattle.memblock_model.specs.declared.item.Item.{Item}
 use Rattle.memblock_model.specs.declared.item.Item.TheVariants as item
 use Rattle.memblock_ranges.specs.declared.region.Head.{Head}
 use Rattle.growth_model.specs.declared.refusal.Refusal.{Refusal}
-use Rattle.growth_model.specs.declared.refusal.Refusal.TheVariants as refusal
-use Rattle.growth_model.specs.Growth.{frames_of, memory_growth}
+use Rattle.growth_model.specs.Growth.{frames_of}
 use Rattle.growth_model.specs.Bytes.{Follows}
-use Rattle.growth_model.proofs.EndLaws.{Ends-along, Ends-wanting}
 use Rattle.growth_model.proofs.FollowLaws.{follows-then, follows-stands}
 use Rattle.memblock_grow.specs.Kept.{AreKept}
 use Rattle.memblock_grow.proofs.KeptLaws.{kept-same}
 use Rattle.memblock_grow.proofs.PlaceLaws.{left-far}
 use Rattle.memblock_grow.proofs.ReservedLaws.{room-least, frames-some, left-found, twice-is, still-bytes}
-use Rattle.memblock_grow.proofs.MemoryLaws.{IsBest, best-found, memory-none, memory-fails, memory-wants, memory-done, pushed-items, best-taken, MovedMemory, memory-apart, memory-kept, memory-bytes, memory-free, left-some}
+use Rattle.memblock_grow.proofs.MemoryLaws.{IsBest, best-found, memory-none, memory-fails, memory-wants, memory-done, pushed-items, best-taken, MovedMemory, memory-apart, memory-kept, prepared-bytes, memory-bytes, memory-free, left-some}
 use Rattle.memblock_grow.proofs.memory.grow_memory.Goals as goal
 
 pub place_between-requires : goal.place_between-requires
@@ -43,18 +41,6 @@ left_place-old-requires c =
           (left-far which.Memory c.requires.kept.0 c.args.journal.now.items c.args.tables.now c.args.limit c.requires.kept.1.kept);
     }
 
-pub returns-in_err-prepare-clause-ends : goal.returns-in_err-prepare-clause-ends
-returns-in_err-prepare-clause-ends c =
-    let p = err_from_is_err_and c.from_residual.result c.from_residual.ensures.1 in
-    let items = c.args.journal.now.items in
-    Ends-along (Err refusal.Memory) c.from_residual.result items items memory_growth (sym (p.1 ∙ ap (λ (e : Refusal). Err e) p.2))
-    (Ends-wanting (Unit {0}) items memory_growth)
-
-pub returns-in_err-prepare-clause-bytes : goal.returns-in_err-prepare-clause-bytes
-returns-in_err-prepare-clause-bytes c = λ kernel kept spelled.
-    still-bytes kernel c.args.journal.now.items c.args.journal.now.items c.args.tables.now c.prepare.new.self c.args.limit refl
-    c.in_err-prepare.ensures.bytes kept spelled
-
 pub claim-requires-clause-some : goal.claim-requires-clause-some
 claim-requires-clause-some c =
     let known : IsBest c.args.journal.now.items c.in-Some.place =
@@ -69,9 +55,30 @@ returns-in_err-claim-clause-ends c =
     best-found c.requires.kept.0 c.args.journal.now.items c.args.tables.now c.args.limit c.head-head.result.room c.place_between.result
     c.in-Some.place
     c.requires.kept.1.kept (ap (λ (h : Head). h.room) c.head-head.ensures.head) c.place_between.ensures c.in-Some.is in
-    let p = err_from_is_err_and c.from_residual-in_err-claim.result c.from_residual-in_err-claim.ensures.1 in
+    let p = err_from_is_err_and c.from_residual.result c.from_residual.ensures.1 in
     memory-fails c.args.journal.now.items c.claim.new.journal.items c.in-Some.place c.in_err-claim.field-0.0
-    c.from_residual-in_err-claim.result known (p.1 ∙ ap (λ (e : Refusal). Err e) p.2) c.in_err-claim.ensures.ends
+    c.from_residual.result known (p.1 ∙ ap (λ (e : Refusal). Err e) p.2) c.in_err-claim.ensures.ends
+
+pub returns-in_err-prepare-clause-ends : goal.returns-in_err-prepare-clause-ends
+returns-in_err-prepare-clause-ends c =
+    let known : IsBest c.args.journal.now.items c.in-Some.place =
+    best-found c.requires.kept.0 c.args.journal.now.items c.args.tables.now c.args.limit c.head-head.result.room c.place_between.result
+    c.in-Some.place
+    c.requires.kept.1.kept (ap (λ (h : Head). h.room) c.head-head.ensures.head) c.place_between.ensures c.in-Some.is in
+    let p = err_from_is_err_and c.from_residual-in_err-prepare.result c.from_residual-in_err-prepare.ensures.1 in
+    memory-wants c.args.journal.now.items c.claim.new.journal.items c.claim.new.journal.items c.in-Some.place
+    c.from_residual-in_err-prepare.result known (p.1 ∙ ap (λ (e : Refusal). Err e) p.2) c.in_ok-claim.ensures.ends refl
+
+pub returns-in_err-prepare-clause-kept : goal.returns-in_err-prepare-clause-kept
+returns-in_err-prepare-clause-kept c = λ kernel kept.
+    kept-same kernel c.claim.new.journal.items c.claim.new.tables c.prepare.new.self c.args.limit c.in_err-prepare.ensures.memory
+    c.in_err-prepare.ensures.reserved (c.claim.ensures.kept kernel kept)
+
+pub returns-in_err-prepare-clause-bytes : goal.returns-in_err-prepare-clause-bytes
+returns-in_err-prepare-clause-bytes c = λ kernel kept spelled.
+    prepared-bytes kernel c.args.journal.now.items c.claim.new.journal.items c.claim.new.journal.items c.args.tables.now
+    c.claim.new.tables c.prepare.new.self c.args.limit kept spelled c.claim.ensures.kept c.claim.ensures.bytes refl
+    c.in_err-prepare.ensures.bytes
 
 pub returns-in_err-ready-clause-ends : goal.returns-in_err-ready-clause-ends
 returns-in_err-ready-clause-ends c =
@@ -84,6 +91,12 @@ returns-in_err-ready-clause-ends c =
     c.from_residual-in_err-ready.result known (p.1 ∙ ap (λ (e : Refusal). Err e) p.2) c.in_ok-claim.ensures.ends
     c.in_err-ready.ensures.items
 
+pub returns-in_err-ready-clause-bytes : goal.returns-in_err-ready-clause-bytes
+returns-in_err-ready-clause-bytes c = λ kernel kept spelled.
+    prepared-bytes kernel c.args.journal.now.items c.claim.new.journal.items c.ready.new.self.items c.args.tables.now
+    c.claim.new.tables c.prepare.new.self c.args.limit kept spelled c.claim.ensures.kept c.claim.ensures.bytes
+    c.in_err-ready.ensures.items c.in_ok-prepare.ensures.bytes
+
 pub relocate-requires-clause-apart : goal.relocate-requires-clause-apart
 relocate-requires-clause-apart c =
     let known : IsBest c.args.journal.now.items c.in-Some.place =
@@ -93,12 +106,11 @@ relocate-requires-clause-apart c =
     let taken = best-taken c.requires.kept.0 c.args.journal.now.items c.claim.new.journal.items c.in-Some.place
     (c.requires.kept.1.placed c.requires.begun)
     known c.in_ok-claim.ensures.ends in
-    memory-apart c.requires.kept.0 c.args.journal.now.items c.claim.new.journal.items c.args.tables.now c.claim.new.tables c.args.limit
+    memory-apart c.requires.kept.0 c.args.journal.now.items c.claim.new.journal.items c.args.tables.now c.prepare.new.self c.args.limit
     c.place.inside.base c.in-Some.place c.requires.kept.1.kept
-    (c.claim.ensures.kept c.requires.kept.0 (kept-same c.requires.kept.0 c.args.journal.now.items c.args.tables.now c.prepare.new.self
-    c.args.limit
-    c.in_ok-prepare.ensures.memory c.in_ok-prepare.ensures.reserved c.requires.kept.1.kept))
-    (c.claim.ensures.memory ∙ c.in_ok-prepare.ensures.memory) (ap (λ (e : Extent). e.base) c.place.view_is) taken
+    (kept-same c.requires.kept.0 c.claim.new.journal.items c.claim.new.tables c.prepare.new.self c.args.limit
+    c.in_ok-prepare.ensures.memory c.in_ok-prepare.ensures.reserved (c.claim.ensures.kept c.requires.kept.0 c.requires.kept.1.kept))
+    (c.in_ok-prepare.ensures.memory ∙ c.claim.ensures.memory) (ap (λ (e : Extent). e.base) c.place.view_is) taken
 
 pub leave-requires-clause-some : goal.leave-requires-clause-some
 leave-requires-clause-some c =
@@ -119,12 +131,12 @@ leave-requires-clause-away c =
     let left = left-found which.Memory c.requires.kept.0 c.args.journal.now.items c.args.tables.now c.args.limit c.head-head.result
     c.left_place-old.result
     c.requires.kept.1.kept c.head-head.ensures.head c.left_place-old.ensures in
-    let moved : MovedMemory c.args.journal.now.items c.args.tables.now c.prepare.new.self c.claim.new.tables c.relocate.new.tables
+    let moved : MovedMemory c.args.journal.now.items c.args.tables.now c.claim.new.tables c.prepare.new.self c.relocate.new.tables
     c.place.inside.base c.in-Some.place = record {
+      claimed = c.claim.ensures.memory;
       first = c.in_ok-prepare.ensures.memory;
       second = c.in_ok-prepare.ensures.reserved;
       same = c.in_ok-prepare.ensures.bytes;
-      claimed = c.claim.ensures.memory;
       table = c.relocate.ensures.table;
       other = c.relocate.ensures.other;
       told = c.relocate.ensures.bytes;
@@ -135,7 +147,7 @@ leave-requires-clause-away c =
     let next = pushed-items c.claim.new.journal c.ready.new.self c.push_ready.new.self
     (item.Grown which.Memory c.place.inside.base (2 * c.head-head.result.room)) c.in_ok-ready.ensures.items c.push_ready.ensures in
     memory-free c.requires.kept.0 c.args.journal.now.items c.claim.new.journal.items c.push_ready.new.self.items c.args.tables.now
-    c.prepare.new.self c.claim.new.tables c.relocate.new.tables c.args.limit c.place.inside.base
+    c.claim.new.tables c.prepare.new.self c.relocate.new.tables c.args.limit c.place.inside.base
     (2 * c.head-head.result.room) c.in-Some.place c.left_place-old.result c.requires.kept.1 moved c.claim.ensures.kept c.claim.ensures.bytes
     (twice-is which.Memory c.requires.kept.0 c.args.journal.now.items c.args.tables.now c.args.limit c.head-head.result.room
     c.requires.kept.1.kept
@@ -165,12 +177,12 @@ returns-clause-kept c = λ kernel kept.
     best-found c.requires.kept.0 c.args.journal.now.items c.args.tables.now c.args.limit c.head-head.result.room c.place_between.result
     c.in-Some.place
     c.requires.kept.1.kept (ap (λ (h : Head). h.room) c.head-head.ensures.head) c.place_between.ensures c.in-Some.is in
-    let moved : MovedMemory c.args.journal.now.items c.args.tables.now c.prepare.new.self c.claim.new.tables c.relocate.new.tables
+    let moved : MovedMemory c.args.journal.now.items c.args.tables.now c.claim.new.tables c.prepare.new.self c.relocate.new.tables
     c.place.inside.base c.in-Some.place = record {
+      claimed = c.claim.ensures.memory;
       first = c.in_ok-prepare.ensures.memory;
       second = c.in_ok-prepare.ensures.reserved;
       same = c.in_ok-prepare.ensures.bytes;
-      claimed = c.claim.ensures.memory;
       table = c.relocate.ensures.table;
       other = c.relocate.ensures.other;
       told = c.relocate.ensures.bytes;
@@ -181,7 +193,7 @@ returns-clause-kept c = λ kernel kept.
     let next = pushed-items c.claim.new.journal c.ready.new.self c.push_ready.new.self
     (item.Grown which.Memory c.place.inside.base (2 * c.head-head.result.room)) c.in_ok-ready.ensures.items c.push_ready.ensures in
     c.leave.ensures.kept kernel (subst (λ (l : List Item). AreKept kernel l c.relocate.new.tables c.args.limit) (sym next)
-    (memory-kept kernel c.args.journal.now.items c.claim.new.journal.items c.args.tables.now c.prepare.new.self c.claim.new.tables
+    (memory-kept kernel c.args.journal.now.items c.claim.new.journal.items c.args.tables.now c.claim.new.tables c.prepare.new.self
     c.relocate.new.tables c.args.limit c.place.inside.base (2 * c.head-head.result.room) c.in-Some.place kept moved
     c.claim.ensures.kept))
 
@@ -191,12 +203,12 @@ returns-clause-bytes c = λ kernel kept spelled.
     best-found c.requires.kept.0 c.args.journal.now.items c.args.tables.now c.args.limit c.head-head.result.room c.place_between.result
     c.in-Some.place
     c.requires.kept.1.kept (ap (λ (h : Head). h.room) c.head-head.ensures.head) c.place_between.ensures c.in-Some.is in
-    let moved : MovedMemory c.args.journal.now.items c.args.tables.now c.prepare.new.self c.claim.new.tables c.relocate.new.tables
+    let moved : MovedMemory c.args.journal.now.items c.args.tables.now c.claim.new.tables c.prepare.new.self c.relocate.new.tables
     c.place.inside.base c.in-Some.place = record {
+      claimed = c.claim.ensures.memory;
       first = c.in_ok-prepare.ensures.memory;
       second = c.in_ok-prepare.ensures.reserved;
       same = c.in_ok-prepare.ensures.bytes;
-      claimed = c.claim.ensures.memory;
       table = c.relocate.ensures.table;
       other = c.relocate.ensures.other;
       told = c.relocate.ensures.bytes;
@@ -206,11 +218,11 @@ returns-clause-bytes c = λ kernel kept spelled.
     } in
     let next = pushed-items c.claim.new.journal c.ready.new.self c.push_ready.new.self
     (item.Grown which.Memory c.place.inside.base (2 * c.head-head.result.room)) c.in_ok-ready.ensures.items c.push_ready.ensures in
-    let there = memory-kept kernel c.args.journal.now.items c.claim.new.journal.items c.args.tables.now c.prepare.new.self
-    c.claim.new.tables
+    let there = memory-kept kernel c.args.journal.now.items c.claim.new.journal.items c.args.tables.now c.claim.new.tables
+    c.prepare.new.self
     c.relocate.new.tables c.args.limit c.place.inside.base (2 * c.head-head.result.room) c.in-Some.place kept moved
     c.claim.ensures.kept in
-    let on = memory-bytes kernel c.args.journal.now.items c.claim.new.journal.items c.args.tables.now c.prepare.new.self c.claim.new.tables
+    let on = memory-bytes kernel c.args.journal.now.items c.claim.new.journal.items c.args.tables.now c.claim.new.tables c.prepare.new.self
     c.relocate.new.tables c.args.limit c.place.inside.base (2 * c.head-head.result.room) c.in-Some.place kept spelled moved
     c.claim.ensures.kept c.claim.ensures.bytes in
     let before = subst (λ (l : List Item). AreKept kernel l c.relocate.new.tables c.args.limit) (sym next) there in

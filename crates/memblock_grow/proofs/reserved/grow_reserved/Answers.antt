@@ -7,17 +7,15 @@ use Rattle.memblock_model.specs.declared.item.Item.{Item}
 use Rattle.memblock_model.specs.declared.item.Item.TheVariants as item
 use Rattle.memblock_ranges.specs.declared.region.Head.{Head}
 use Rattle.growth_model.specs.declared.refusal.Refusal.{Refusal}
-use Rattle.growth_model.specs.declared.refusal.Refusal.TheVariants as refusal
 use Rattle.growth_model.specs.Growth.{frames_of, reserved_growth}
 use Rattle.growth_model.specs.Ends.{Ends}
 use Rattle.growth_model.specs.Bytes.{Follows}
-use Rattle.growth_model.proofs.EndLaws.{Ends-along, Ends-wanting}
 use Rattle.growth_model.proofs.FollowLaws.{follows-then}
 use Rattle.memblock_grow.specs.Kept.{AreKept}
 use Rattle.memblock_grow.proofs.reserved.grow_reserved.Goals as goal
 use Rattle.memblock_grow.proofs.KeptLaws.{few-kept}
 use Rattle.memblock_grow.proofs.PlaceLaws.{left-far}
-use Rattle.memblock_grow.proofs.ReservedLaws.{room-least, frames-some, IsBeside, beside-found, beside-free, beside-apart, growth-none, moved_items, written-two, written-three, journal-two, journal-three, left-size, left-found, twice-is, Moved, claim-room, claimed-kept, claimed-grew, claimed-bytes, Freed, freed-kept, freed-bytes, freed-room, claimed-grown, freed-grown, still-bytes}
+use Rattle.memblock_grow.proofs.ReservedLaws.{room-least, frames-some, IsBeside, beside-found, beside-free, beside-apart, growth-none, growth-wants, moved_items, written-two, written-three, journal-two, journal-three, left-size, left-found, twice-is, Moved, claim-room, claimed-kept, claimed-grew, claimed-bytes, Freed, freed-kept, freed-bytes, freed-room, claimed-grown, freed-grown, still-bytes}
 
 pub place_beside-requires : goal.place_beside-requires
 place_beside-requires c =
@@ -46,15 +44,30 @@ left_place-left-requires c =
 
 pub returns-in_err-prepare-clause-ends : goal.returns-in_err-prepare-clause-ends
 returns-in_err-prepare-clause-ends c =
+    let room = ap (λ (h : Head). h.room) c.head-head.ensures.head in
+    let known : IsBeside c.args.journal.now.items c.args.avoid c.in-Some.place =
+    beside-found c.requires.kept.0 c.args.journal.now.items c.args.tables.now c.args.limit c.head-head.result.room c.args.avoid
+    c.place_beside.result
+    c.in-Some.place c.requires.kept.1.kept room c.place_beside.ensures c.in-Some.is in
     let p = err_from_is_err_and c.from_residual.result c.from_residual.ensures.1 in
-    let items = c.args.journal.now.items in
-    Ends-along (Err refusal.Memory) c.from_residual.result items items (reserved_growth c.args.avoid) (sym (p.1 ∙ ap (λ (e : Refusal). Err e) p.2))
-    (Ends-wanting (Unit {0}) items (reserved_growth c.args.avoid))
+    growth-wants c.args.journal.now.items c.args.journal.now.items c.args.avoid c.in-Some.place c.from_residual.result known
+    (p.1 ∙ ap (λ (e : Refusal). Err e) p.2) refl
 
 pub returns-in_err-prepare-clause-bytes : goal.returns-in_err-prepare-clause-bytes
 returns-in_err-prepare-clause-bytes c = λ kernel kept spelled.
     still-bytes kernel c.args.journal.now.items c.args.journal.now.items c.args.tables.now c.prepare.new.self c.args.limit refl
     c.in_err-prepare.ensures.bytes kept spelled
+
+pub returns-in_err-ready-clause-ends : goal.returns-in_err-ready-clause-ends
+returns-in_err-ready-clause-ends c =
+    let room = ap (λ (h : Head). h.room) c.head-head.ensures.head in
+    let known : IsBeside c.args.journal.now.items c.args.avoid c.in-Some.place =
+    beside-found c.requires.kept.0 c.args.journal.now.items c.args.tables.now c.args.limit c.head-head.result.room c.args.avoid
+    c.place_beside.result
+    c.in-Some.place c.requires.kept.1.kept room c.place_beside.ensures c.in-Some.is in
+    let p = err_from_is_err_and c.from_residual-in_err-ready.result c.from_residual-in_err-ready.ensures.1 in
+    growth-wants c.args.journal.now.items c.ready.new.self.items c.args.avoid c.in-Some.place c.from_residual-in_err-ready.result known
+    (p.1 ∙ ap (λ (e : Refusal). Err e) p.2) c.in_err-ready.ensures.items
 
 pub returns-in_err-ready-clause-bytes : goal.returns-in_err-ready-clause-bytes
 returns-in_err-ready-clause-bytes c = λ kernel kept spelled.
