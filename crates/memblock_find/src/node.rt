@@ -6,12 +6,12 @@ ghost use Rattle.memblock_model.specs.Search.{allows, best_in};
 ghost use Rattle.memblock_find.specs.Places.{NoneAllowed};
 ghost use Rattle.memblock_find.specs.Walk.{run_at, IsDownAt};
 
-use crate::cursor::{Cursor, Lists};
+use crate::cursor::{Cursor, Lists, lists_of};
 use crate::down::{cursor_below, look_down, look_past};
 use crate::search::place_in_run;
 use bm_base::FRAME_SIZE;
 use memblock_model::{Label, Query};
-use memblock_ranges::{Records, label_of};
+use memblock_ranges::{Records, Tables, label_of};
 
 /// Whether a query for the node, or for any, may be answered with memory of the label.
 pub fn is_allowed(node: Option<u32>, label: Label) -> bool
@@ -98,22 +98,24 @@ impl Cursor {
 }
 
 /// The search for memory of the node, which is the query's.
-// A loop apart from `find_in`: where one loop does for both, each record of a search for any node costs a third more.
+// A loop apart from `find_in`, and never compiled into `find`: together the two have too few registers, which tells in each
+// record of a search for any node.
 #[inline(never)]
-pub fn find_on_node(lists: &Lists<'_>, query: &Query, node: u32) -> Option<u64>
+pub fn find_on_node(tables: &Tables, query: &Query, node: u32) -> Option<u64>
     requires node { query.now.node ≡ Some node }
     requires some { 1 ≤ query.now.size }
     requires aligned { (k : ℕ) × (query.now.align ≡ 2 ^ k) }
-    ensures { result ≡ best_in (value_at lists.now.memory) (value_at lists.now.reserved) query.now }
+    ensures { result ≡ best_in (value_at tables.now.memory.records) (value_at tables.now.reserved.records) query.now }
 {
+    let lists = lists_of(tables);
     let low = query.lo.max(FRAME_SIZE);
-    let mut cursor = cursor_below(lists, query.hi);
+    let mut cursor = cursor_below(&lists, query.hi);
     while cursor.at > low {
         let place = place_in_run(query, cursor.label(), cursor.bottom(), cursor.at);
         if place.is_some() {
             return place;
         }
-        cursor = cursor.down_for(lists, node);
+        cursor = cursor.down_for(&lists, node);
     }
     None
 }

@@ -25,10 +25,9 @@ pub fn find(tables: &Tables, query: &Query) -> Option<u64>
     requires aligned { (k : ℕ) × (query.now.align ≡ 2 ^ k) }
     ensures { result ≡ best_in (value_at tables.now.memory.records) (value_at tables.now.reserved.records) query.now }
 {
-    let lists = lists_of(tables);
     match query.node {
-        None => find_in(&lists, query),
-        Some(node) => find_on_node(&lists, query, node),
+        None => find_in(&lists_of(tables), query),
+        Some(node) => find_on_node(tables, query, node),
     }
 }
 

@@ -8,18 +8,19 @@ use Rattle.memblock_find.proofs.node.find_on_node.Goals as goal
 
 pub returns-then-is_some : goal.returns-then-is_some
 returns-then-is_some c =
-    let t = c.args.lists.now in
+    let t = c.lists_of-lists.result in
     let i = c.loop-cursor.invariant in
-    best_answer (value_at t.memory) (value_at t.reserved) c.args.query.now c.bottom.result c.loop-cursor.cursor.at
+    rw (← c.lists_of-lists.ensures.memory, ← c.lists_of-lists.ensures.reserved)
+    (best_answer (value_at t.memory) (value_at t.reserved) c.args.query.now c.bottom.result c.loop-cursor.cursor.at
     c.place_in_run-place.result i.past
     (c.place_in_run-place.ensures (value_at t.memory) (value_at t.reserved)
     (stretch_stays t.memory t.reserved c.loop-cursor.cursor c.bottom.result c.label.result i.walk c.bottom.ensures c.label.ensures)
     (stretch_down t.memory t.reserved c.loop-cursor.cursor c.bottom.result c.label.result i.walk c.bottom.ensures c.label.ensures))
-    (grind (arith, common_steps)) (omega arith)
+    (grind (arith, common_steps)) (omega arith))
 
 pub loop-cursor-preserved : goal.loop-cursor-preserved
 loop-cursor-preserved c =
-    let t = c.args.lists.now in
+    let t = c.lists_of-lists.result in
     let i = c.loop-cursor.invariant in
     let further = c.down_for-cursor.ensures in
     let memory = i.walk.memory.order in
@@ -39,7 +40,8 @@ loop-cursor-preserved c =
 
 pub returns : goal.returns
 returns c =
-    let t = c.args.lists.now in
+    let t = c.lists_of-lists.result in
     let low : c.loop-cursor.cursor.at ≤ max c.args.query.now.lo 4096 = grind (arith, common_steps) in
-    sym (none_found (value_at t.memory) (value_at t.reserved) c.args.query.now c.loop-cursor.cursor.at c.requires.some
-    c.loop-cursor.invariant.past low)
+    rw (← c.lists_of-lists.ensures.memory, ← c.lists_of-lists.ensures.reserved)
+    (sym (none_found (value_at t.memory) (value_at t.reserved) c.args.query.now c.loop-cursor.cursor.at c.requires.some
+    c.loop-cursor.invariant.past low))
