@@ -25,7 +25,7 @@ pub struct Lists<'a> {
 }
 
 /// The records of both tables.
-// Returned by a call the records go through memory, which is a third of a search whose first gap fits.
+// Returned by a call the records go through memory, which tells in a search whose first gap fits.
 #[inline(always)]
 pub fn lists_of(tables: &Tables) -> Lists<'_>
     ensures memory { result.memory ≡ tables.now.memory.records }

@@ -1,15 +1,17 @@
 //! Memory of the node that a query asks for. A search for a node passes over all other memory a record at a
 //! time, and reads nothing of it but whose it is; the claims are looked at again where it goes on.
-ghost use Rattle.std.specs.Prelude.{◌≡◌, ℕ, ◌-◌, ◌<◌, ◌≤◌, false, max, Some, length};
+ghost use Rattle.std.specs.Prelude.{◌≡◌, ℕ, ◌-◌, ◌^◌, ◌<◌, ◌≤◌, false, max, Some, length};
 ghost use Rattle.address_runs.specs.Runs.{run_end, value_at};
-ghost use Rattle.memblock_model.specs.Search.{allows};
+ghost use Rattle.memblock_model.specs.Search.{allows, best_in};
 ghost use Rattle.memblock_find.specs.Places.{NoneAllowed};
 ghost use Rattle.memblock_find.specs.Walk.{run_at, IsDownAt};
 
-use crate::cursor::{Cursor, Lists};
-use crate::down::{look_down, look_past};
-use memblock_model::Label;
-use memblock_ranges::{Records, label_of};
+use crate::cursor::{Cursor, Lists, lists_of};
+use crate::down::{cursor_below, look_down, look_past};
+use crate::search::place_in_run;
+use bm_base::FRAME_SIZE;
+use memblock_model::{Label, Query};
+use memblock_ranges::{Records, Tables, label_of};
 
 /// Whether a query for the node, or for any, may be answered with memory of the label.
 pub fn is_allowed(node: Option<u32>, label: Label) -> bool
@@ -80,21 +82,40 @@ impl Cursor {
         }
     }
 
-    /// The cursor further down: at its bottom, or below that where a query for the node may be answered with
-    /// no memory in between.
-    // A hint, as for `cursor_below`.
-    #[inline]
-    pub fn down_for(&self, lists: &Lists<'_>, node: Option<u32>) -> Cursor
+    /// The cursor further down: at its bottom, or below that where no memory in between is of the node.
+    fn down_for(&self, lists: &Lists<'_>, node: u32) -> Cursor
         requires { IsDownAt lists.now.memory lists.now.reserved self.now }
         ensures order { result.at ≤ max self.now.memory.bound self.now.reserved.bound }
-        ensures passed { NoneAllowed (value_at lists.now.memory) node result.at (max self.now.memory.bound self.now.reserved.bound) }
+        ensures passed { NoneAllowed (value_at lists.now.memory) (Some node) result.at (max self.now.memory.bound self.now.reserved.bound) }
         ensures down { IsDownAt lists.now.memory lists.now.reserved result }
     {
-        if let Some(wanted) = node {
-            if !self.is_of(wanted) {
-                return self.down_to_node(lists, wanted);
-            }
+        if self.is_of(node) {
+            self.down(lists)
+        } else {
+            self.down_to_node(lists, node)
         }
-        self.down(lists)
     }
+}
+
+/// The search for memory of the node, which is the query's.
+// A loop apart from `find_in`, and never compiled into `find`: together the two have too few registers, which tells in each
+// record of a search for any node.
+#[inline(never)]
+pub fn find_on_node(tables: &Tables, query: &Query, node: u32) -> Option<u64>
+    requires node { query.now.node ≡ Some node }
+    requires some { 1 ≤ query.now.size }
+    requires aligned { (k : ℕ) × (query.now.align ≡ 2 ^ k) }
+    ensures { result ≡ best_in (value_at tables.now.memory.records) (value_at tables.now.reserved.records) query.now }
+{
+    let lists = lists_of(tables);
+    let low = query.lo.max(FRAME_SIZE);
+    let mut cursor = cursor_below(&lists, query.hi);
+    while cursor.at > low {
+        let place = place_in_run(query, cursor.label(), cursor.bottom(), cursor.at);
+        if place.is_some() {
+            return place;
+        }
+        cursor = cursor.down_for(&lists, node);
+    }
+    None
 }

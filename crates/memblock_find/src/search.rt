@@ -11,7 +11,7 @@ ghost use Rattle.memblock_find.specs.Places.{IsBetween, NoPlaceEnds, IsBestBy};
 
 use crate::cursor::{Lists, lists_of};
 use crate::down::cursor_below;
-use crate::node::is_allowed;
+use crate::node::{find_on_node, is_allowed};
 use bm_base::FRAME_SIZE;
 use memblock_model::{Label, Query};
 use memblock_ranges::Tables;
@@ -25,10 +25,13 @@ pub fn find(tables: &Tables, query: &Query) -> Option<u64>
     requires aligned { (k : ℕ) × (query.now.align ≡ 2 ^ k) }
     ensures { result ≡ best_in (value_at tables.now.memory.records) (value_at tables.now.reserved.records) query.now }
 {
-    find_in(&lists_of(tables), query)
+    match query.node {
+        None => find_in(&lists_of(tables), query),
+        Some(node) => find_on_node(tables, query, node),
+    }
 }
 
-/// The search over the records of both tables.
+/// The search over the records of both tables, a stretch at a time.
 fn find_in(lists: &Lists<'_>, query: &Query) -> Option<u64>
     requires some { 1 ≤ query.now.size }
     requires aligned { (k : ℕ) × (query.now.align ≡ 2 ^ k) }
@@ -41,14 +44,14 @@ fn find_in(lists: &Lists<'_>, query: &Query) -> Option<u64>
         if place.is_some() {
             return place;
         }
-        cursor = cursor.down_for(lists, query.node);
+        cursor = cursor.down(lists);
     }
     None
 }
 
 /// The greatest place in the addresses from `from` up to `until`, where that is a stretch of unclaimed
 /// memory of one label, or of none, and unclaimed memory of that label doesn't go on below it.
-fn place_in_run(query: &Query, label: Option<Label>, from: u64, until: u64) -> Option<u64>
+pub fn place_in_run(query: &Query, label: Option<Label>, from: u64, until: u64) -> Option<u64>
     requires some { 1 ≤ query.now.size }
     requires aligned { (k : ℕ) × (query.now.align ≡ 2 ^ k) }
     requires window { until ≤ query.now.hi }

@@ -1,9 +1,8 @@
-use Rattle.std.proofs.Common.{◌≤◌, max, sym, arith}
+use Rattle.std.proofs.Common.{◌≡◌, ◌≤◌, max, sym, ◌∙◌, arith}
 use Rattle.std.proofs.lemmas.Grind.{common_steps}
 use Rattle.address_runs.specs.Runs.{value_at}
 use Rattle.memblock_find.proofs.DownLaws.{stretch_stays, stretch_down}
 use Rattle.memblock_find.proofs.PlaceLaws.{best_answer, no_answer, none_found}
-use Rattle.memblock_find.proofs.NodeLaws.{past_refused}
 use Rattle.memblock_find.proofs.search.find_in.Goals as goal
 
 pub returns-then-is_some : goal.returns-then-is_some
@@ -21,15 +20,14 @@ pub loop-cursor-preserved : goal.loop-cursor-preserved
 loop-cursor-preserved c =
     let t = c.args.lists.now in
     let i = c.loop-cursor.invariant in
-    let further = c.down_for-cursor.ensures in
+    let at = c.down-cursor.ensures.at in
     let memory = i.walk.memory.order in
     let reserved = i.walk.reserved.order in
+    let bottom : c.bottom.result ≡ c.down-cursor.result.at = c.bottom.ensures ∙ sym at in
     record {
-      walk = further.down;
-      window = omega (arith, i.window, further.order);
-      past = past_refused (value_at t.memory) (value_at t.reserved) c.args.query.now c.down_for-cursor.result.at c.bottom.result
-          c.requires.some (rw c.bottom.ensures further.passed)
-          (no_answer (value_at t.memory) (value_at t.reserved) c.args.query.now c.bottom.result
+      walk = c.down-cursor.ensures.down;
+      window = omega (arith, i.window);
+      past = rw (← bottom) (no_answer (value_at t.memory) (value_at t.reserved) c.args.query.now c.bottom.result
           c.loop-cursor.cursor.at c.place_in_run-place.result i.past
           (c.place_in_run-place.ensures (value_at t.memory) (value_at t.reserved)
           (stretch_stays t.memory t.reserved c.loop-cursor.cursor c.bottom.result c.label.result i.walk c.bottom.ensures c.label.ensures)
