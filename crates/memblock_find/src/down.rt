@@ -95,8 +95,8 @@ pub fn look_past(records: &Records<'_>, look: Look, from: u64, at: u64) -> Look
 }
 
 /// The cursor of a walk down that begins at the address.
-// A hint, since it has several callers: returned by a call the cursor goes through memory, which is a third of
-// a search whose first gap fits.
+// A hint, since it has several callers: returned by a call the cursor goes through memory, which tells in a
+// search whose first gap fits.
 #[inline]
 pub fn cursor_below(lists: &Lists<'_>, at: u64) -> Cursor
     ensures at { result.at ≡ at }
