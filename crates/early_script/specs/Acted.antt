@@ -39,6 +39,11 @@ pub record Deed : Type 0 where
 abbrev pub answers : State → Outcome → Deed
 answers s answer = record { change = nothing; answer = answer; ids = s.ids; fill = None }
 
+-- where it does: its change comes to nothing, and no byte is filled
+pub record OnlyAnswers (s : State) (d : Deed) : Type 0 where
+  pub unchanged : d.change s.items ≡ nothing s.items
+  pub unfilled : d.fill ≡ None
+
 -- the same request, as memblock takes it
 abbrev pub request_of : Asked → Request
 request_of a = record { size = a.size; align = a.align; min = a.min; max = a.max; node = a.node; exact = a.exact }

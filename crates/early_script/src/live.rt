@@ -1,6 +1,6 @@
 //! The live IDs, and the lines that are run on them.
 
-ghost use Rattle.std.specs.Prelude.{◌≡◌, ℕ, ◌+◌, ◌-◌, ◌^◌, ◌<◌, ◌≤◌, List, [], OnOk, OnErr, IfOk, IfErr};
+ghost use Rattle.std.specs.Prelude.{◌≡◌, ℕ, ◌+◌, ◌-◌, ◌^◌, ◌<◌, ◌≤◌, List, [], OnOk, OnErr, IfOk, IfErr, IsOk};
 ghost use Rattle.bm_base.specs.Extent.{Extent};
 ghost use Rattle.script_reader.specs.Forms.{HasBounds};
 ghost use Rattle.growth_model.specs.Sound.{HasBegun, IsAway};
@@ -38,7 +38,7 @@ impl Model for Live {
 
 impl Live {
     ghost use Rattle.early_script.specs.Ids.{is_live as has_range, with_range};
-    ghost use Rattle.early_script.specs.Acted.{Deed as AnyDeed, Acts, IsRun, byte_by, fills_by, answers, request_of, on_whole, deed, alloc_deed, reserve_deed, free_deed, trim_deed, fill_deed};
+    ghost use Rattle.early_script.specs.Acted.{Deed as AnyDeed, Acts, IsRun, OnlyAnswers, byte_by, fills_by, answers, request_of, on_whole, deed, alloc_deed, reserve_deed, free_deed, trim_deed, fill_deed};
     ghost use Rattle.early_script.specs.Found.{state_of, bytes_in};
 
     /// No ID is live.
@@ -50,13 +50,16 @@ impl Live {
         }
     }
 
-    /// Carries one line out, which doesn't place the sections and has the bounds that its reader gives it.
+    /// Carries one line out, which doesn't place the sections and has the bounds that its reader gives it. A line that
+    /// only answers takes no memory.
     pub fn run_line(&mut self, mb: &mut Memblock, line: &Line) -> Result<Outcome, Memory>
         requires begun { HasBegun mb.old.journal.items }
         requires run { IsRun line.now.act }
         requires bounds { HasBounds line.now.act }
         ensures acts { Acts result (state_of self.old mb.old) (state_of self.new mb.new)
             (deed (state_of self.old mb.old) (bytes_in mb.old) line.now.act) }
+        ensures answered { OnlyAnswers (state_of self.old mb.old)
+            (deed (state_of self.old mb.old) (bytes_in mb.old) line.now.act) → IsOk result }
         ensures bytes { (x : ℕ) → bytes_in mb.new x ≡ byte_by result (state_of self.old mb.old) (state_of self.new mb.new)
             (deed (state_of self.old mb.old) (bytes_in mb.old) line.now.act) x (bytes_in mb.old x) }
         ensures holds { (fills : List Filled) → Holds mb.old.kernel mb.old.journal.items fills (bytes_in mb.old) →
@@ -81,6 +84,8 @@ impl Live {
         requires aligned { (k : ℕ) × (request.now.align ≡ 2 ^ k) }
         ensures acts { Acts result (state_of self.old mb.old) (state_of self.new mb.new)
             (alloc_deed (state_of self.old mb.old) id request.now) }
+        ensures answered { OnlyAnswers (state_of self.old mb.old)
+            (alloc_deed (state_of self.old mb.old) id request.now) → IsOk result }
         ensures bytes { Follows mb.old.kernel mb.old.journal.items mb.new.journal.items (bytes_in mb.old) (bytes_in mb.new) }
         ensures still_ready { StayReady mb.old.tables.store mb.new.tables.store }
     {
@@ -107,6 +112,8 @@ impl Live {
         requires some { 0 < range.size }
         ensures acts { Acts result (state_of self.old mb.old) (state_of self.new mb.new)
             (reserve_deed (state_of self.old mb.old) id range) }
+        ensures answered { OnlyAnswers (state_of self.old mb.old)
+            (reserve_deed (state_of self.old mb.old) id range) → IsOk result }
         ensures bytes { Follows mb.old.kernel mb.old.journal.items mb.new.journal.items (bytes_in mb.old) (bytes_in mb.new) }
         ensures still_ready { StayReady mb.old.tables.store mb.new.tables.store }
     {
@@ -130,6 +137,8 @@ impl Live {
         requires { HasBegun mb.old.journal.items }
         ensures acts { Acts result (state_of self.old mb.old) (state_of self.new mb.new)
             (free_deed (state_of self.old mb.old) id) }
+        ensures answered { OnlyAnswers (state_of self.old mb.old)
+            (free_deed (state_of self.old mb.old) id) → IsOk result }
         ensures bytes { Follows mb.old.kernel mb.old.journal.items mb.new.journal.items (bytes_in mb.old) (bytes_in mb.new) }
         ensures still_ready { StayReady mb.old.tables.store mb.new.tables.store }
     {
@@ -152,6 +161,8 @@ impl Live {
         requires some { 0 < keep }
         ensures acts { Acts result (state_of self.old mb.old) (state_of self.new mb.new)
             (trim_deed (state_of self.old mb.old) id keep) }
+        ensures answered { OnlyAnswers (state_of self.old mb.old)
+            (trim_deed (state_of self.old mb.old) id keep) → IsOk result }
         ensures bytes { Follows mb.old.kernel mb.old.journal.items mb.new.journal.items (bytes_in mb.old) (bytes_in mb.new) }
         ensures still_ready { StayReady mb.old.tables.store mb.new.tables.store }
     {
@@ -176,6 +187,8 @@ impl Live {
         requires { HasBegun mb.old.journal.items }
         ensures acts { Acts result (state_of self.old mb.old) (state_of self.new mb.new)
             (fill_deed (state_of self.old mb.old) id byte) }
+        ensures answered { OnlyAnswers (state_of self.old mb.old)
+            (fill_deed (state_of self.old mb.old) id byte) → IsOk result }
         ensures bytes { (x : ℕ) → bytes_in mb.new x ≡ byte_by result (state_of self.old mb.old) (state_of self.new mb.new)
             (fill_deed (state_of self.old mb.old) id byte) x (bytes_in mb.old x) }
         ensures holds { (fills : List Filled) → Holds mb.old.kernel mb.old.journal.items fills (bytes_in mb.old) →

@@ -1,0 +1,15 @@
+-- A line that only answers finds no place, and that is the answer.
+use Rattle.std.proofs.Common.{sym, ◌∙◌}
+use Rattle.early_script.specs.Found.{state_of}
+use Rattle.early_script.proofs.AnswerLaws.{alloc-placed, alloc-refused}
+use Rattle.early_script.proofs.live.Live.alloc.Goals as goal
+
+pub returns-in_err-keep-in-Ok-clause-answered : goal.returns-in_err-keep-in-Ok-clause-answered
+returns-in_err-keep-in-Ok-clause-answered c = λ only.
+    absurd (alloc-placed c.in-Ok.base (state_of c.args.self.now c.args.mb.now) c.alloc.new.self.journal.items c.args.id c.args.request.now
+    (sym c.is_live.ensures ∙ c.if-is_live.false) c.in-Ok.ensures.ends only)
+
+pub returns-in-Err-clause-answered : goal.returns-in-Err-clause-answered
+returns-in-Err-clause-answered c = λ only.
+    alloc-refused c.refused.result c.in-Err.refusal (state_of c.args.self.now c.args.mb.now) c.alloc.new.self.journal.items c.args.id
+    c.args.request.now c.refused.ensures (sym c.is_live.ensures ∙ c.if-is_live.false) c.in-Err.ensures.ends only
