@@ -1,7 +1,8 @@
 //! One call of memblock each, with its refusal as the stop of a stage.
 ghost use Rattle.std.specs.Prelude.{◌≡◌, ℕ, ◌+◌, ◌-◌, ◌^◌, ◌<◌, ◌≤◌, false, IfOk, IsOk, Some, None, Err};
 ghost use Rattle.memblock_model.specs.declared.which.Which.TheVariants as tables_of;
-ghost use Rattle.growth_model.specs.Growth.{noded, new_in, two, is_full as is_full_by};
+ghost use Rattle.growth_model.specs.Ends.{IsCutShort};
+ghost use Rattle.growth_model.specs.Growth.{claimed, noded, new_in, two, is_full as is_full_by};
 ghost use Rattle.growth_model.specs.Request.{place_for};
 ghost use Rattle.growth_model.specs.Sound.{HasBegun};
 ghost use Rattle.stage_model.specs.declared.stop.StageStop.TheVariants as stops;
@@ -28,7 +29,7 @@ pub fn stop_for(what: What, refusal: Refusal) -> StageStop
 
 /// An allocation that the boot can't do without: its place, in bytes. The size is at least 1, the alignment a power of two.
 /// Where no place fits the boot stops for that, and never for want of memory; nor for that where an item can be appended without
-/// memory and the reserved table has room for the place.
+/// memory and the reserved table has room for the place, nor behind the last step.
 pub fn place(
     memblock: &mut Memblock,
     what: What,
@@ -41,6 +42,9 @@ pub fn place(
     ensures ends { EndsAs stops.Memory result memblock.old.journal.items memblock.new.journal.items
         (placed what request.now owner memblock.old.journal.items) }
     ensures none { place_for request.now memblock.old.journal.items ≡ None → result ≡ Err (stops.NoPlace what) }
+    ensures short { (place : ℕ) → place_for request.now memblock.old.journal.items ≡ Some place → result ≡ Err stops.Memory →
+        IsCutShort memblock.old.journal.items memblock.new.journal.items
+        (claimed (record { base = place; size = request.now.size }) owner memblock.old.journal.items) }
     ensures inside { IfOk result (λ base. base + request.now.size < 2 ^ 64) }
     ensures ready { (place : ℕ) → place_for request.now memblock.old.journal.items ≡ Some place → 0 < memblock.old.journal.spare →
         is_full_by tables_of.Reserved (new_in tables_of.Reserved (record { base = place; size = request.now.size }))
@@ -61,13 +65,15 @@ pub fn stand_still(memblock: &Memblock)
 }
 
 /// Gives the memory of a range its node, or the boot stops. It doesn't where an item can be appended without memory and the
-/// memory table has room for two more records.
+/// memory table has room for two more records; and never for want of memory behind the last step.
 pub fn set_node(memblock: &mut Memblock, range: Range, node: u32) -> Result<(), StageStop>
     requires begun { HasBegun memblock.old.journal.items }
     requires some { 0 < range.size }
     requires node { node < 1024 }
     ensures ends { EndsAs stops.Memory result memblock.old.journal.items memblock.new.journal.items
         (carried (noded range node) memblock.old.journal.items) }
+    ensures short { result ≡ Err stops.Memory → IsCutShort memblock.old.journal.items memblock.new.journal.items
+        (noded range node memblock.old.journal.items) }
     ensures ready { 0 < memblock.old.journal.spare → is_full_by tables_of.Memory two memblock.old.journal.items ≡ false →
         IsOk result × (memblock.new.journal.spare ≡ memblock.old.journal.spare - 1) }
     ensures lent { GoesOn memblock.old memblock.new }
