@@ -9,6 +9,7 @@ use bm_io::{MemFile, MemFiles, MemSink};
 use byteorder::{ByteOrder, LittleEndian};
 use e820_model::Entry;
 use std::alloc::Global;
+use std::process::Abort;
 use std::test::Fail;
 
 const RAM: Entry = Entry {
@@ -62,6 +63,15 @@ struct Ended {
     err: MemSink,
 }
 
+impl Ended {
+    /// Whether the status is this one, and the output and the error output hold these texts.
+    fn is(&self, status: u8, text: &str, line: &str) -> bool {
+        self.status == status
+            && self.out.written() == text.as_bytes()
+            && self.err.written() == line.as_bytes()
+    }
+}
+
 /// The zero page `zp`, the extension `ext`, and a command line `cmd` of these bytes.
 fn files_of(alloc: Global, line: &[u8]) -> Result<Vec<MemFile>, Fail>
     ensures { IfOk result (λ files. HaveOwnNames (held_files files.items)) }
@@ -96,73 +106,78 @@ fn run_on(alloc: Global, words: &[&str], line: &[u8], failing: [&[u64]; 3]) -> R
     Ok(Ended { status, out, err })
 }
 
+/// The words of a run; the numbers of the fetches, of the puts and of the lines that fail; the status, the
+/// output and the error output that are wanted.
+type Row<'a> = (&'a [&'a str], [&'a [u64]; 3], u8, &'a str, &'a str);
+
+/// Compares a run for each row, over a command line of these bytes.
+fn compare(rt: &impl Abort, alloc: Global, line: &[u8], rows: &[Row<'_>]) -> Result<(), Fail> {
+    for (words, failing, status, text, error) in rows {
+        let ended = run_on(alloc, words, line, *failing)?;
+        assert!(rt; ended.is(*status, text, error), "{words:?} {failing:?}");
+    }
+    Ok(())
+}
+
+/// No call fails.
+const NONE: [&[u64]; 3] = [&[], &[], &[]];
+
 #[test]
 fn words_and_what_fails(rt: HostRuntime) -> Result<(), Fail> {
     let half = "0x0000000000100000..0x0000000007fdffff 1 usable\n0";
-    let none: &[u64] = &[];
-    let first: &[u64] = &[1];
-    let second: &[u64] = &[2];
-    let map = ["--report", "map", "zp"];
-    let other = ["--report", "map", "other"];
-    let cases = [
-        (map, [none, none, none], 0, MAP, ""),
-        (
-            other,
-            [none, none, none],
-            3,
-            "",
-            "bootmem: cannot read other\n",
-        ),
-        (map, [first, none, none], 3, "", "bootmem: cannot read zp\n"),
-        (map, [second, none, none], 0, MAP, ""),
-        (map, [none, first, none], 4, half, "bootmem: cannot write\n"),
+    let map: &[&str] = &["--report", "map", "zp"];
+    let other: &[&str] = &["--report", "map", "other"];
+    let rows: [Row<'_>; 10] = [
+        (map, NONE, 0, MAP, ""),
+        (other, NONE, 3, "", "bootmem: cannot read other\n"),
+        (map, [&[1], &[], &[]], 3, "", "bootmem: cannot read zp\n"),
+        (map, [&[2], &[], &[]], 0, MAP, ""),
+        (map, [&[], &[1], &[]], 4, half, "bootmem: cannot write\n"),
         // the report is put in one piece
-        (map, [none, second, none], 0, MAP, ""),
-        (map, [none, first, first], 4, half, "bootmem: ca"),
-        (other, [none, none, first], 3, "", "bootmem: c"),
+        (map, [&[], &[2], &[]], 0, MAP, ""),
+        (map, [&[], &[1], &[1]], 4, half, "bootmem: ca"),
+        (other, [&[], &[], &[1]], 3, "", "bootmem: c"),
+        (&["--report", "map", "-zp"], NONE, 2, "", "bootmem: usage\n"),
         (
-            ["--report", "map", "-zp"],
-            [none, none, none],
-            2,
-            "",
-            "bootmem: usage\n",
-        ),
-        (
-            ["map", "--report", "zp"],
-            [none, none, first],
+            &["map", "--report", "zp"],
+            [&[], &[], &[1]],
             2,
             "",
             "bootmem",
         ),
     ];
-    for (words, failing, status, text, line) in cases {
-        let ended = run_on(rt.alloc(), &words, b"", failing)?;
-        assert_eq!(rt; ended.status, status, "{line}");
-        assert_eq!(rt; ended.out.written(), text.as_bytes(), "{line}");
-        assert_eq!(rt; ended.err.written(), line.as_bytes(), "{line}");
-    }
-    Ok(())
+    compare(&rt, rt.alloc(), b"", &rows)
 }
 
 // The name at any place, the end of the options, and a made input, for which no file is fetched.
 #[test]
 fn other_orders_and_made_inputs(rt: HostRuntime) -> Result<(), Fail> {
-    let cases = [
-        (["zp", "--report", "map"], 0, MAP, ""),
-        (["--report=map", "--", "zp"], 0, MAP, ""),
-        (["--make", "2", "--report=summary"], 0, SUMMARY, ""),
+    let rows: [Row<'_>; 4] = [
+        (&["zp", "--report", "map"], NONE, 0, MAP, ""),
+        (&["--report=map", "--", "zp"], NONE, 0, MAP, ""),
+        (&["--make", "2", "--report=summary"], NONE, 0, SUMMARY, ""),
         (
-            ["--make=2", "--report=summary", "zp"],
+            &["--make=2", "--report=summary", "zp"],
+            NONE,
             2,
             "",
             "bootmem: usage\n",
         ),
     ];
-    for (words, status, text, line) in cases {
-        let ended = run_on(rt.alloc(), &words, b"", [&[], &[], &[]])?;
-        assert_eq!(rt; ended.status, status, "{text}");
-        assert_eq!(rt; ended.out.written(), text.as_bytes(), "{text}");
-        assert_eq!(rt; ended.err.written(), line.as_bytes(), "{text}");
+    compare(&rt, rt.alloc(), b"", &rows)
+}
+
+/// Compares a run on these words for each command line, with the status, the output and the error output that
+/// are wanted.
+fn compare_lines(
+    rt: &impl Abort,
+    alloc: Global,
+    words: &[&str],
+    rows: &[(&str, u8, &str, &str)],
+) -> Result<(), Fail> {
+    for (line, status, text, error) in rows {
+        let ended = run_on(alloc, words, line.as_bytes(), NONE)?;
+        assert!(rt; ended.is(*status, text, error), "{line}");
     }
     Ok(())
 }
@@ -174,7 +189,7 @@ fn extension_and_command_line(rt: HostRuntime) -> Result<(), Fail> {
                   0x0000000008000000..0x0000000008000fff 1 usable\n";
     let shorter = "0x0000000000100000..0x0000000003ffffff 1 usable\n\
                    0x0000000007fe0000..0x0000000007ffffff 2 reserved\n";
-    let cases = [
+    let rows = [
         ("", 0, longer, ""),
         ("mem=0x4000000 -- mem=0", 0, shorter, ""),
         ("x memmap=1M@", 5, "", "bootmem: cmdline: word 2: memmap\n"),
@@ -201,13 +216,7 @@ fn extension_and_command_line(rt: HostRuntime) -> Result<(), Fail> {
         "ext",
         "zp",
     ];
-    for (line, status, text, want) in cases {
-        let ended = run_on(rt.alloc(), &words, line.as_bytes(), [&[], &[], &[]])?;
-        assert_eq!(rt; ended.status, status, "{want}");
-        assert_eq!(rt; ended.out.written(), text.as_bytes(), "{want}");
-        assert_eq!(rt; ended.err.written(), want.as_bytes(), "{want}");
-    }
-    Ok(())
+    compare_lines(&rt, rt.alloc(), &words, &rows)
 }
 
 // All texts are there before the first is put, and each that isn't empty is one put.
@@ -220,39 +229,46 @@ fn lists_of_reports(rt: HostRuntime) -> Result<(), Fail> {
     let half = "== options\nnuma off\n\
                 == map\n\
                 0x0000000000100000..0x0000000007fdffff 1 usab";
-    let none: &[u64] = &[];
-    let first: &[u64] = &[1];
-    let second: &[u64] = &[2];
-    let third: &[u64] = &[3];
-    let cases = [
-        ("options,map", "16M,32M", none, 0, both),
-        ("options,map", "16M,32M", first, 4, "== options"),
-        ("options,map", "16M,32M", second, 4, half),
-        ("options,map", "16M,32M", third, 0, both),
-        // a name that is no report's, and an image that ends too far
-        ("options,maps", "16M,32M", none, 2, ""),
-        ("options,map", "16M,64T", none, 2, ""),
+    let list: &[&str] = &[
+        "--kernel=16M,32M",
+        "--report",
+        "options,map",
+        "--cmdline",
+        "cmd",
+        "zp",
     ];
-    for (list, kernel, puts, status, text) in cases {
-        let words = [
-            "--kernel",
-            kernel,
-            "--report",
-            list,
-            "--cmdline",
-            "cmd",
-            "zp",
-        ];
-        let ended = run_on(rt.alloc(), &words, b"numa=off", [none, puts, none])?;
-        assert_eq!(rt; ended.status, status, "{list} {kernel}");
-        assert_eq!(rt; ended.out.written(), text.as_bytes(), "{list} {kernel}");
-    }
+    let unwritten = "bootmem: cannot write\n";
+    let usage = "bootmem: usage\n";
+    let rows: [Row<'_>; 6] = [
+        (list, NONE, 0, both, ""),
+        (list, [&[], &[1], &[]], 4, "== options", unwritten),
+        (list, [&[], &[2], &[]], 4, half, unwritten),
+        (list, [&[], &[3], &[]], 0, both, ""),
+        // a name that is no report's, and an image that ends too far
+        (&["--report", "options,maps", "zp"], NONE, 2, "", usage),
+        (
+            &["--kernel=16M,64T", "--report", "map", "zp"],
+            NONE,
+            2,
+            "",
+            usage,
+        ),
+    ];
+    compare(&rt, rt.alloc(), b"numa=off", &rows)?;
     // a report without lines makes no put
-    let words = ["--report", "options", "zp"];
-    let ended = run_on(rt.alloc(), &words, b"", [none, first, none])?;
-    assert_eq!(rt; ended.status, 0);
-    assert_eq!(rt; ended.out.written(), b"".as_slice());
-    Ok(())
+    let empty: [Row<'_>; 1] = [(&["--report", "options", "zp"], [&[], &[1], &[]], 0, "", "")];
+    compare(&rt, rt.alloc(), b"", &empty)
+}
+
+/// Where the lines of the blocks from 4 GiB on begin.
+fn great_at(text: &[u8]) -> Option<usize> {
+    let first = b"node 0 zone Normal order 10 0x0000000100000000\n";
+    text.windows(47).position(|part| part == first.as_slice())
+}
+
+/// The numbered line of 47 bytes from there on.
+fn line_at(text: &[u8], at: usize, index: usize) -> Option<&[u8]> {
+    text.get(at..)?.chunks(47).nth(index)
 }
 
 // Of 16 GiB above 4 GiB the lines of the blocks are put by sheets of 1,024, behind one put of what stands before them.
@@ -260,17 +276,10 @@ fn lists_of_reports(rt: HostRuntime) -> Result<(), Fail> {
 fn sheets_of_blocks(rt: HostRuntime) -> Result<(), Fail> {
     let words = ["--cmdline", "cmd", "--report", "blocks", "zp"];
     let line = b"memmap=16G@4G";
-    let none: &[u64] = &[];
-    let second: &[u64] = &[2];
-    let whole = run_on(rt.alloc(), &words, line, [none, none, none])?;
+    let whole = run_on(rt.alloc(), &words, line, NONE)?;
     assert_eq!(rt; whole.status, 0);
     let text = whole.out.written();
-    let first = b"node 0 zone Normal order 10 0x0000000100000000\n";
-    let at = text
-        .windows(47)
-        .position(|part| part == first.as_slice())
-        .ok_or("no great block")?;
-    let great = text.get(at..).ok_or("no great block")?;
+    let at = great_at(text).ok_or("no great block")?;
     let cases = [
         (1023, "node 0 zone Normal order 10 0x00000001ffc00000\n"),
         (1024, "node 0 zone Normal order 10 0x0000000200000000\n"),
@@ -279,14 +288,10 @@ fn sheets_of_blocks(rt: HostRuntime) -> Result<(), Fail> {
         (3072, "node 0 zone Normal order 10 0x0000000400000000\n"),
     ];
     for (index, want) in cases {
-        assert_eq!(rt;
-            great.chunks(47).nth(index),
-            Some(want.as_bytes()),
-            "{index}"
-        );
+        assert_eq!(rt; line_at(text, at, index), Some(want.as_bytes()), "{index}");
     }
     // the half of the first sheet
-    let part = run_on(rt.alloc(), &words, line, [none, second, none])?;
+    let part = run_on(rt.alloc(), &words, line, [&[], &[2], &[]])?;
     assert_eq!(rt; part.status, 4);
     assert_eq!(rt; part.out.written().len().checked_sub(at), Some(512 * 47));
     assert!(rt; text.starts_with(part.out.written()));

@@ -106,108 +106,128 @@ fn forms_of_an_option(rt: HostRuntime) -> Result<(), Fail> {
     compare(&rt, rt.alloc(), &rows)
 }
 
-// Each option that stands beside a name, in each form. The words are the option, a value that it takes, both as one word, an
-// empty value, the option cut short and with one hyphen; then what comes of the value, of an empty one, and of the one word as a name.
-#[test]
-fn each_form_of_every_option(rt: HostRuntime) -> Result<(), Fail> {
-    let options = [
-        (
-            ["--cmdline", "f", "--cmdline=f", "--cmdline=", "--cmd", "-c"],
-            [
-                "zp . f . . buddyinfo 16 0",
-                "zp .  . . buddyinfo 16 0",
-                "--cmdline=f . . . . buddyinfo 16 0",
-            ],
-        ),
-        (
-            [
-                "--e820ext",
-                "f",
-                "--e820ext=f",
-                "--e820ext=",
-                "--e820",
-                "-e",
-            ],
-            [
-                "zp f . . . buddyinfo 16 0",
-                "zp  . . . buddyinfo 16 0",
-                "--e820ext=f . . . . buddyinfo 16 0",
-            ],
-        ),
-        (
-            ["--srat", "f", "--srat=f", "--srat=", "--sra", "-srat"],
-            [
-                "zp . . f . buddyinfo 16 0",
-                "zp . .  . buddyinfo 16 0",
-                "--srat=f . . . . buddyinfo 16 0",
-            ],
-        ),
-        (
-            ["--script", "f", "--script=f", "--script=", "--scr", "-s"],
-            [
-                "zp . . . f buddyinfo 16 0",
-                "zp . . .  buddyinfo 16 0",
-                "--script=f . . . . buddyinfo 16 0",
-            ],
-        ),
-        (
-            [
-                "--kernel",
-                "1M,8K",
-                "--kernel=1M,8K",
-                "--kernel=",
-                "--kern",
-                "-k",
-            ],
-            [
-                "zp . . . . buddyinfo 1 0",
-                "refused",
-                "--kernel=1M,8K . . . . buddyinfo 16 0",
-            ],
-        ),
-        (
-            [
-                "--report",
-                "map",
-                "--report=map",
-                "--report=",
-                "--rep",
-                "-report",
-            ],
-            [
-                "zp . . . . map 16 0",
-                "refused",
-                "--report=map . . . . buddyinfo 16 0",
-            ],
-        ),
+/// Compares an option that stands beside a name in each form. The words are the option, a value that it takes,
+/// both as one word, an empty value, the option cut short and with one hyphen; the answers what comes of the
+/// value, of an empty one, and of the one word as a name.
+fn compare_forms(
+    rt: &impl Abort,
+    alloc: Global,
+    words: [&str; 6],
+    answers: [&str; 3],
+) -> Result<(), Fail> {
+    let [long, value, joined, without, cut, single] = words;
+    let [taken, empty, named] = answers;
+    let rows: [(&[&str], &str); 14] = [
+        // in front of the name and behind it
+        (&[long, value, "zp"], taken),
+        (&["zp", long, value], taken),
+        (&[joined, "zp"], taken),
+        (&["zp", joined], taken),
+        // without a value, and with an empty one
+        (&[long, "zp"], "refused"),
+        (&["zp", long], "refused"),
+        (&[without, "zp"], empty),
+        (&["zp", long, ""], empty),
+        // twice
+        (&[joined, joined, "zp"], "refused"),
+        (&[long, value, "zp", joined], "refused"),
+        // behind the end of options
+        (&["--", joined], named),
+        (&["--", joined, "zp"], "refused"),
+        // cut short, and with one hyphen
+        (&[cut, value, "zp"], "refused"),
+        (&[single, value, "zp"], "refused"),
     ];
-    for (words, answers) in options {
-        let [long, value, joined, without, cut, single] = words;
-        let [taken, empty, named] = answers;
-        let rows: [(&[&str], &str); 14] = [
-            // in front of the name and behind it
-            (&[long, value, "zp"], taken),
-            (&["zp", long, value], taken),
-            (&[joined, "zp"], taken),
-            (&["zp", joined], taken),
-            // without a value, and with an empty one
-            (&[long, "zp"], "refused"),
-            (&["zp", long], "refused"),
-            (&[without, "zp"], empty),
-            (&["zp", long, ""], empty),
-            // twice
-            (&[joined, joined, "zp"], "refused"),
-            (&[long, value, "zp", joined], "refused"),
-            // behind the end of options
-            (&["--", joined], named),
-            (&["--", joined, "zp"], "refused"),
-            // cut short, and with one hyphen
-            (&[cut, value, "zp"], "refused"),
-            (&[single, value, "zp"], "refused"),
-        ];
-        compare(&rt, rt.alloc(), &rows)?;
-    }
-    Ok(())
+    compare(rt, alloc, &rows)
+}
+
+#[test]
+fn each_form_of_a_file(rt: HostRuntime) -> Result<(), Fail> {
+    compare_forms(
+        &rt,
+        rt.alloc(),
+        ["--cmdline", "f", "--cmdline=f", "--cmdline=", "--cmd", "-c"],
+        [
+            "zp . f . . buddyinfo 16 0",
+            "zp .  . . buddyinfo 16 0",
+            "--cmdline=f . . . . buddyinfo 16 0",
+        ],
+    )?;
+    compare_forms(
+        &rt,
+        rt.alloc(),
+        [
+            "--e820ext",
+            "f",
+            "--e820ext=f",
+            "--e820ext=",
+            "--e820",
+            "-e",
+        ],
+        [
+            "zp f . . . buddyinfo 16 0",
+            "zp  . . . buddyinfo 16 0",
+            "--e820ext=f . . . . buddyinfo 16 0",
+        ],
+    )?;
+    compare_forms(
+        &rt,
+        rt.alloc(),
+        ["--srat", "f", "--srat=f", "--srat=", "--sra", "-srat"],
+        [
+            "zp . . f . buddyinfo 16 0",
+            "zp . .  . buddyinfo 16 0",
+            "--srat=f . . . . buddyinfo 16 0",
+        ],
+    )?;
+    compare_forms(
+        &rt,
+        rt.alloc(),
+        ["--script", "f", "--script=f", "--script=", "--scr", "-s"],
+        [
+            "zp . . . f buddyinfo 16 0",
+            "zp . . .  buddyinfo 16 0",
+            "--script=f . . . . buddyinfo 16 0",
+        ],
+    )
+}
+
+#[test]
+fn each_form_of_a_value(rt: HostRuntime) -> Result<(), Fail> {
+    compare_forms(
+        &rt,
+        rt.alloc(),
+        [
+            "--kernel",
+            "1M,8K",
+            "--kernel=1M,8K",
+            "--kernel=",
+            "--kern",
+            "-k",
+        ],
+        [
+            "zp . . . . buddyinfo 1 0",
+            "refused",
+            "--kernel=1M,8K . . . . buddyinfo 16 0",
+        ],
+    )?;
+    compare_forms(
+        &rt,
+        rt.alloc(),
+        [
+            "--report",
+            "map",
+            "--report=map",
+            "--report=",
+            "--rep",
+            "-report",
+        ],
+        [
+            "zp . . . . map 16 0",
+            "refused",
+            "--report=map . . . . buddyinfo 16 0",
+        ],
+    )
 }
 
 #[test]

@@ -140,29 +140,50 @@ fn best(memblock: &Memblock, query: &Query) -> Option<u64>
     memblock.find(query)
 }
 
-// What a request is answered; `None` where nothing was claimed yet.
-fn alloc(memblock: &mut Memblock, request: &Request) -> Option<Result<u64, Refusal>>
-    requires some { 1 ≤ request.now.size }
-    requires aligned { request.now.align ≡ 2 ^ 12 }
-{
-    if !has_begun(memblock) {
+// What a request for so many bytes is answered; `None` where nothing was claimed yet, or no byte is asked for.
+fn alloc(
+    memblock: &mut Memblock,
+    size: u64,
+    window: (u64, Option<u64>),
+    node: Option<u32>,
+) -> Option<Result<u64, Refusal>> {
+    if size == 0 || !has_begun(memblock) {
         return None;
     }
-    Some(memblock.alloc(request, Owner::Soft))
-}
-
-fn request(size: u64, min: u64, max: Option<u64>, node: Option<u32>) -> Request
-    ensures size { result.size ≡ size }
-    ensures align { result.align ≡ 2 ^ 12 }
-{
-    Request {
+    let (min, max) = window;
+    let request = Request {
         size,
         align: 0x1000,
         min,
         max,
         node,
         exact: false,
-    }
+    };
+    Some(memblock.alloc(&request, Owner::Soft))
+}
+
+// Whether there are so many items, and so many records of claims.
+fn has_counts(memblock: &Memblock, items: usize, claims: u64) -> bool {
+    memblock.journal().items().len() == items
+        && memblock.tables().head(Which::Reserved).count == claims
+}
+
+// These fields are all that there is: beside the items there is no list but those in the tables' bytes.
+fn has_fields(memblock: &Memblock, image: Range, items: usize, end: u64) -> bool {
+    let Memblock {
+        kernel,
+        journal,
+        tables,
+        limit,
+    } = memblock;
+    let kernel: &Range = kernel;
+    let journal: &Journal = journal;
+    let tables: &Tables = tables;
+    let limit: &u64 = limit;
+    *kernel == image
+        && journal.items().len() == items
+        && tables.head(Which::Reserved).count == 5
+        && *limit == end
 }
 
 // A virtual machine of 128 MiB, as far as its nodes; the kernel's image is 0x1000000..0x2ffffff.
@@ -186,7 +207,7 @@ fn machine(alloc: Global) -> Result<Memblock, Refusal> {
 #[test]
 fn allocations_come_from_the_top(rt: HostRuntime) -> Result<(), Fail> {
     let mut memblock = machine(rt.alloc())?;
-    assert_eq!(rt; memblock.journal().items().len(), 7);
+    assert!(rt; has_counts(&memblock, 7, 2));
     let query = Query {
         lo: 0,
         hi: 0x7FE0000,
@@ -196,92 +217,98 @@ fn allocations_come_from_the_top(rt: HostRuntime) -> Result<(), Fail> {
     };
     assert_eq!(rt; best(&memblock, &query), Some(0x7FDE000));
     memblock.ready(8)?;
-    let first = alloc(&mut memblock, &request(0x2B000, 0, None, None));
-    assert_eq!(rt; first, Some(Ok(0x7FB5000)));
-    let second = alloc(&mut memblock, &request(0x4000, 0, None, Some(0)));
-    assert_eq!(rt; second, Some(Ok(0x7FB1000)));
-    let large = alloc(&mut memblock, &request(0x8000000, 0, None, None));
-    assert_eq!(rt; large, Some(Err(Refusal::NoGap)));
-    let low = alloc(
-        &mut memblock,
-        &request(0x1000, 0x100000, Some(0x200000), Some(1)),
-    );
-    assert_eq!(rt; low, Some(Ok(0x1FF000)));
+    let cases = [
+        (0x2B000, (0, None), None, Ok(0x7FB5000)),
+        (0x4000, (0, None), Some(0), Ok(0x7FB1000)),
+        (0x8000000, (0, None), None, Err(Refusal::NoGap)),
+        (0x1000, (0x100000, Some(0x200000)), Some(1), Ok(0x1FF000)),
+    ];
+    for (size, window, node, want) in cases {
+        assert_eq!(rt;
+            alloc(&mut memblock, size, window, node),
+            Some(want),
+            "{size}"
+        );
+    }
     assert!(rt; act(&mut memblock, Step::Free(0x7FB5000, 0x1000))?);
     assert!(rt; !act(&mut memblock, Step::Free(0x2FFE000, 1))?);
-    assert_eq!(rt; memblock.journal().items().len(), 11);
-    assert_eq!(rt; memblock.tables().head(Which::Reserved).count, 5);
-
-    // These fields are all that there is: beside the items there is no list but those in the tables' bytes.
-    let Memblock {
-        kernel,
-        journal,
-        tables,
-        limit,
-    } = memblock;
-    let kernel: Range = kernel;
-    let journal: Journal = journal;
-    let tables: Tables = tables;
-    let limit: u64 = limit;
-    assert_eq!(rt; kernel, bytes(0x1000000, 0x2000000));
-    assert_eq!(rt; journal.items().len(), 11);
-    assert_eq!(rt; tables.head(Which::Reserved).count, 5);
-    assert_eq!(rt; limit, 0x7FE0000);
+    assert!(rt; has_fields(&memblock, bytes(0x1000000, 0x2000000), 11, 0x7FE0000));
     Ok(())
 }
 
-// Claims and added ranges, each beside a gap, until each table has moved, and the reserved one twice. The place that the memory
-// table moves to was filled before, and so was a place where no memory is.
+// Claims 300 frames, each beside a gap.
+fn claim_apart(memblock: &mut Memblock) -> Result<bool, Refusal> {
+    for i in 0..300 {
+        if !act(memblock, Step::Claim(0x200000 + 0x2000 * i, 0x1000))? {
+            return Ok(false);
+        }
+    }
+    Ok(true)
+}
+
+// Adds 200 frames of memory, each beside a gap.
+fn add_apart(memblock: &mut Memblock) -> Result<bool, Refusal> {
+    for i in 0..200 {
+        if !act(memblock, Step::Add(0x100000000 + 0x2000 * i, 0x1000))? {
+            return Ok(false);
+        }
+    }
+    Ok(true)
+}
+
+// Whether these bytes, at most 24, are read from the address on.
+fn reads(memblock: &Memblock, base: u64, bytes: &[u8]) -> bool {
+    if base.checked_add(24).is_none() {
+        return false;
+    }
+    let mut read = [0; 24];
+    let Some(read) = read.get_mut(..bytes.len()) else {
+        return false;
+    };
+    memblock.peek(base, read);
+    *read == *bytes
+}
+
+// The places that the tables moved to belong to them.
+fn owns_places(journal: &Journal) -> bool {
+    journal.owner_at(0x7FDBFFF) == Some(Owner::Table(Which::Reserved))
+        && journal.owner_at(0x7FDE000) == Some(Owner::Table(Which::Memory))
+}
+
+// The first record of memory.
+const FIRST: [u8; 24] = [
+    0, 0x10, 0, 0, 0, 0, 0, 0, 0, 0xE0, 9, 0, 0, 0, 0, 0, 0, 0, 0, 0, 0, 0, 0, 0,
+];
+
+// Both tables move, the reserved one twice. The place that the memory table moves to was filled before, and so was a place where no memory is.
 #[test]
 fn tables_move(rt: HostRuntime) -> Result<(), Fail> {
     let mut memblock = machine(rt.alloc())?;
     assert!(rt; fill(&mut memblock, 0x7FDE000, 0x2000, 0xA5)?);
     assert!(rt; fill(&mut memblock, 0x200000000, 2, 0xA5)?);
-    for i in 0..300 {
-        assert!(rt; act(&mut memblock, Step::Claim(0x200000 + 0x2000 * i, 0x1000))?);
-    }
-    for i in 0..200 {
-        assert!(rt; act(&mut memblock, Step::Add(0x100000000 + 0x2000 * i, 0x1000))?);
-    }
-    assert_eq!(rt; memblock.journal().items().len(), 514);
-    assert_eq!(rt;
-        memblock.journal().owner_at(0x7FDBFFF),
-        Some(Owner::Table(Which::Reserved))
-    );
-    assert_eq!(rt;
-        memblock.journal().owner_at(0x7FDE000),
-        Some(Owner::Table(Which::Memory))
-    );
-
-    // The first place of the memory table is zeros; at its new one stand the first record and, behind the last one, zeros.
-    let mut record = [0; 24];
-    memblock.peek(0x2FFE000, &mut record);
-    assert_eq!(rt; record, [0; 24]);
-    memblock.peek(0x7FDE000, &mut record);
-    let first = [
-        0, 0x10, 0, 0, 0, 0, 0, 0, 0, 0xE0, 9, 0, 0, 0, 0, 0, 0, 0, 0, 0, 0, 0, 0, 0,
+    assert!(rt; claim_apart(&mut memblock)?);
+    assert!(rt; add_apart(&mut memblock)?);
+    assert!(rt; has_counts(&memblock, 514, 303));
+    assert!(rt; owns_places(memblock.journal()));
+    let cases = [
+        // the first place of the memory table is zeros; at its new one stand the first record and, behind the last one, zeros
+        (0x2FFE000, [0; 24].as_slice()),
+        (0x7FDE000, FIRST.as_slice()),
+        (0x7FDE000 + 24 * 202, [0; 24].as_slice()),
+        // across the end of its bytes what was filled before is there
+        (0x7FDF7FE, [0, 0, 0xA5, 0xA5].as_slice()),
+        (0x1FFFFFFFF, [0, 0xA5, 0xA5, 0].as_slice()),
     ];
-    assert_eq!(rt; record, first);
-    memblock.peek(0x7FDE000 + 24 * 202, &mut record);
-    assert_eq!(rt; record, [0; 24]);
-
-    // Across the end of its bytes what was filled before is there; what it left may be filled.
-    let mut edge = [0; 4];
-    memblock.peek(0x7FDF7FE, &mut edge);
-    assert_eq!(rt; edge, [0, 0, 0xA5, 0xA5]);
+    for (base, bytes) in cases {
+        assert!(rt; reads(&memblock, base, bytes), "{base}");
+    }
+    // what it left may be filled, and its bytes may not
     assert!(rt; fill(&mut memblock, 0x2FFE000, 24, 0x5A)?);
-    memblock.peek(0x2FFE000, &mut record);
-    assert_eq!(rt; record, [0x5A; 24]);
-    memblock.peek(0x1FFFFFFFF, &mut edge);
-    assert_eq!(rt; edge, [0, 0xA5, 0xA5, 0]);
-
+    assert!(rt; reads(&memblock, 0x2FFE000, &[0x5A; 24]));
     assert!(rt; fill(&mut memblock, 0x300000, 0x10, 0x5A)?);
     assert!(rt; !fill(&mut memblock, 0x7FDB000, 1, 0x5A)?);
-    memblock.peek(0x2FFFFF, &mut edge);
-    assert_eq!(rt; edge, [0, 0x5A, 0x5A, 0x5A]);
-    memblock.peek(0x30000E, &mut edge);
-    assert_eq!(rt; edge, [0x5A, 0x5A, 0, 0]);
-
+    assert!(rt; reads(&memblock, 0x2FFFFF, &[0, 0x5A, 0x5A, 0x5A]));
+    assert!(rt; reads(&memblock, 0x30000E, &[0x5A, 0x5A, 0, 0]));
     let (_store, heads, _journal) = memblock.into_parts();
     let memory = Head {
         place: 0x7FDE000,
@@ -293,7 +320,6 @@ fn tables_move(rt: HostRuntime) -> Result<(), Fail> {
         room: 512,
         count: 303,
     };
-    assert_eq!(rt; heads.memory, memory);
-    assert_eq!(rt; heads.reserved, reserved);
+    assert!(rt; heads.memory == memory && heads.reserved == reserved);
     Ok(())
 }
