@@ -1,7 +1,7 @@
 //! What the boot is given: what the named files say, and where the words ask for a made table, that in place of the zero
 //! page's and the extension's.
 
-ghost use Rattle.std.specs.Prelude.{◌≡◌, ℕ, ◌^◌, ◌<◌, List, length, IfOk, IfSome, OnOk};
+ghost use Rattle.std.specs.Prelude.{◌≡◌, ℕ, ◌^◌, ◌<◌, List, length, IfOk, IfSome, IsErr, IsSomeAnd, OnOk};
 ghost use Rattle.std.specs.List.{All};
 ghost use Rattle.e820_model.specs.Claims.{EndInSpace, HaveTypes};
 ghost use Rattle.e820_table.specs.Initrd.{IsInitrd};
@@ -50,6 +50,7 @@ pub fn read_given<F: Files>(
 fn put_made(alloc: Global, inputs: &mut Inputs, entries: Option<u32>) -> Result<(), Memory>
     requires few { IfSome entries AreEntries }
     ensures put { OnOk result (inputs_view inputs.new ≡ with_made entries (inputs_view inputs.old)) }
+    ensures many { IsErr result → IsSomeAnd entries (λ n. 128 < n) }
     ensures entries_end { OnOk result (EndInSpace inputs.old.zero.entries.items
         → EndInSpace inputs.new.zero.entries.items) }
     ensures initrd { OnOk result (IfSome inputs.old.zero.initrd IsInitrd

@@ -6,9 +6,10 @@
 //! cut makes a new list, and what is added takes its place in one push, so a table is as before where memory runs out on
 //! the way. No list is sorted here: what an address is claimed for doesn't depend on the order.
 
-ghost use Rattle.std.specs.Prelude.{◌≡◌, ℕ, ◌+◌, ◌^◌, ◌<◌, Option, [], ◌∷◌, ◌++◌, OnOk, OnErr, IfOk, IsTrue};
+ghost use Rattle.std.specs.Prelude.{◌≡◌, ℕ, ◌+◌, ◌^◌, ◌<◌, Option, [], ◌∷◌, ◌++◌, OnOk, OnErr, IfOk, IsOk, IsTrue};
 ghost use Rattle.bm_base.specs.Extent.{end_of};
 ghost use Rattle.e820_model.specs.Claims.{EndInSpace, HasTypes, with_claims, claims_of_entries, edited, bios_trimmed};
+ghost use Rattle.e820_model.specs.declared.edit.Edit.TheVariants as edits;
 ghost use Rattle.e820_model.specs.Map.{AreClaims, claims_of};
 ghost use Rattle.e820_sanitise.specs.Cuts.{between, between_if, claim_of, cut_out, left_inside, parts};
 
@@ -137,6 +138,7 @@ pub fn edit_claims(claims: &mut Vec<Run>, edit: &Edit) -> Result<(), Memory>
     ensures same { OnOk result (claims_of claims.new.items ≡ edited edit.now (claims_of claims.old.items)) }
     ensures claims { AreClaims claims.new.items }
     ensures err { OnErr result (claims.new.items ≡ claims.old.items) }
+    ensures clear { edit.now ≡ edits.Clear → IsOk result }
 {
     match edit {
         Edit::Add { range, kind } => push_between(claims, range.base, range.end(), *kind),

@@ -1,9 +1,10 @@
 //! The table itself: claims, and the calls that change them, each a step of the kernel's `e820_table`. A call makes the
 //! new list of claims first and puts it in place of the old one last, so want of memory changes nothing.
 
-ghost use Rattle.std.specs.Prelude.{◌≡◌, ◌≢◌, IfErr, IfOk, OnErr, OnOk};
+ghost use Rattle.std.specs.Prelude.{◌≡◌, ◌≢◌, IfErr, IfOk, IsOk, OnErr, OnOk};
 ghost use Rattle.address_runs.specs.Runs.{IsRunsOf};
 ghost use Rattle.e820_model.specs.Claims.{EndInSpace, HasTypes, with_claims, claims_of_entries, edited, no_claims, settled, bios_trimmed, type_of};
+ghost use Rattle.e820_model.specs.declared.edit.Edit.TheVariants as edits;
 ghost use Rattle.e820_model.specs.Map.{claims_of, kinds, map_of};
 ghost use Rattle.bm_base.specs.Answers.{Answers};
 ghost use Rattle.e820_sanitise.specs.Room.{in_room};
@@ -61,11 +62,12 @@ impl Table {
 
     /// Changes the claims as an option says (`e820__range_add`, `e820__range_remove`,
     /// `e820__range_update`). Each type of the edit is above 0. After `Memory` the table is as
-    /// before.
+    /// before; to clear it takes none.
     pub fn edit(&mut self, edit: &Edit) -> Result<(), Memory>
         requires { HasTypes edit.now }
         ensures ok { OnOk result (claims_of self.new ≡ edited edit.now (claims_of self.old)) }
         ensures err { OnErr result (self.new ≡ self.old) }
+        ensures clear { edit.now ≡ edits.Clear → IsOk result }
     {
         cuts::edit_claims(&mut self.claims, edit)
     }

@@ -1,7 +1,7 @@
 //! Made inputs: tables of any size, the same ones each time. A real machine has some dozens of entries; how the memory
 //! set-up fares with thousands is tried and measured with these.
 
-ghost use Rattle.std.specs.Prelude.{◌≡◌, ℕ, ◌+◌, ◌*◌, ◌^◌, ◌<◌, ◌≤◌, [], ◌∷◌, ◌++◌, length, take, drop, min, None, IfOk, OnOk};
+ghost use Rattle.std.specs.Prelude.{◌≡◌, ℕ, ◌+◌, ◌*◌, ◌^◌, ◌<◌, ◌≤◌, [], ◌∷◌, ◌++◌, length, take, drop, min, None, IfOk, IsErr, OnOk};
 ghost use Rattle.e820_model.specs.Claims.{EndInSpace};
 ghost use Rattle.e820_table.specs.Made.{frames_of, made_entries, made_entry, next_of};
 
@@ -26,7 +26,7 @@ const HIGH_RAM: Entry = Entry {
 };
 
 /// The made input of `n` entries, of which the first 128 are the zero page's and the others the
-/// extension's. `n` is from 2 to 3,000; there is no initrd.
+/// extension's, for which alone memory is taken. `n` is from 2 to 3,000; there is no initrd.
 pub fn made(alloc: Global, n: u32) -> Result<Made, Memory>
     requires some { 2 ≤ n }
     requires few { n ≤ 3000 }
@@ -35,6 +35,7 @@ pub fn made(alloc: Global, n: u32) -> Result<Made, Memory>
     ensures initrd { IfOk result (λ made. made.zero.initrd ≡ None) }
     ensures page_space { IfOk result (λ made. EndInSpace made.zero.entries.items) }
     ensures extension_space { IfOk result (λ made. EndInSpace made.ext.items) }
+    ensures some { IsErr result → 128 < n }
 {
     let mut page = ArrayVec::new();
     page.push(LOW_RAM);
@@ -67,6 +68,8 @@ fn put_entry(
         (page.new.items ≡ page.old.items) × (ext.new.items ≡ ext.old.items ++ entry ∷ [])) }
     ensures room { OnOk result (length page.old.items < 128 →
         (page.new.items ≡ page.old.items ++ entry ∷ []) × (ext.new.items ≡ ext.old.items)) }
+    ensures one { OnOk result (length page.new.items ≤ length page.old.items + 1) }
+    ensures some { IsErr result → 128 ≤ length page.old.items }
 {
     if page.len() < ZERO_PAGE_ENTRIES {
         page.push(entry);

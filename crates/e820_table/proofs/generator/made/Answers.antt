@@ -33,6 +33,7 @@ loop-index-preserved c =
       entries = ap (λ (es : List Entry). es ++ behind) split.whole ∙ append_assoc front (e ∷ []) behind
           ∙ ap (λ (es : List Entry). front ++ es) (sym step) ∙ l.invariant.entries;
       fits = split.fits;
+      so_many = omega (arith, c.in_ok-put_entry.ensures.one, l.invariant.so_many);
       alone = split.alone;
       low = omega arith;
       page_space = split.page_space;

@@ -7,6 +7,7 @@ abbrev pub invariant-loop-index : goal.invariant-loop-index
 invariant-loop-index l = record {
   entries : (l.page.items ++ l.ext.items) ++ entries_behind (l.n - l.index) l.index l.base l.number ≡ made_entries l.n;
   fits : length l.page.items ≤ 128;
+  so_many : length l.page.items ≤ l.index;
   alone : length l.page.items < 128 → l.ext.items ≡ [];
   low : l.base ≤ 0x8100000 + 65536 * l.index;
   page_space : EndInSpace l.page.items;

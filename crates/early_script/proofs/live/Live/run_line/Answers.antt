@@ -166,13 +166,15 @@ returns-in-Alloc-clause-answered c = λ only.
     let old = state_of c.args.self.now c.args.mb.now in
     let is = deed-alloc old (bytes_in c.args.mb.now) c.args.line.now.act c.in-Alloc.id c.in-Alloc.request c.asked.result c.in-Alloc.is
     c.asked.ensures in
-    c.alloc.ensures.answered (only-as old (deed old (bytes_in c.args.mb.now) c.args.line.now.act) (alloc_deed old c.in-Alloc.id c.asked.result) is only)
+    c.alloc.ensures.answered
+    (only-as old (deed old (bytes_in c.args.mb.now) c.args.line.now.act) (alloc_deed old c.in-Alloc.id c.asked.result) is only)
 
 pub returns-in-Reserve-clause-answered : goal.returns-in-Reserve-clause-answered
 returns-in-Reserve-clause-answered c = λ only.
     let old = state_of c.args.self.now c.args.mb.now in
     let is = deed-reserve old (bytes_in c.args.mb.now) c.args.line.now.act c.in-Reserve.id c.in-Reserve.range c.in-Reserve.is in
-    c.reserve.ensures.answered (only-as old (deed old (bytes_in c.args.mb.now) c.args.line.now.act) (reserve_deed old c.in-Reserve.id c.in-Reserve.range) is only)
+    c.reserve.ensures.answered
+    (only-as old (deed old (bytes_in c.args.mb.now) c.args.line.now.act) (reserve_deed old c.in-Reserve.id c.in-Reserve.range) is only)
 
 pub returns-in-Free-clause-answered : goal.returns-in-Free-clause-answered
 returns-in-Free-clause-answered c = λ only.
@@ -184,10 +186,12 @@ pub returns-in-Trim-clause-answered : goal.returns-in-Trim-clause-answered
 returns-in-Trim-clause-answered c = λ only.
     let old = state_of c.args.self.now c.args.mb.now in
     let is = deed-trim old (bytes_in c.args.mb.now) c.args.line.now.act c.in-Trim.id c.in-Trim.keep c.in-Trim.is in
-    c.trim.ensures.answered (only-as old (deed old (bytes_in c.args.mb.now) c.args.line.now.act) (trim_deed old c.in-Trim.id c.in-Trim.keep) is only)
+    c.trim.ensures.answered
+    (only-as old (deed old (bytes_in c.args.mb.now) c.args.line.now.act) (trim_deed old c.in-Trim.id c.in-Trim.keep) is only)
 
 pub returns-in-Fill-clause-answered : goal.returns-in-Fill-clause-answered
 returns-in-Fill-clause-answered c = λ only.
     let old = state_of c.args.self.now c.args.mb.now in
     let is = deed-fill old (bytes_in c.args.mb.now) c.args.line.now.act c.in-Fill.id c.in-Fill.byte c.in-Fill.is in
-    c.fill.ensures.answered (only-as old (deed old (bytes_in c.args.mb.now) c.args.line.now.act) (fill_deed old c.in-Fill.id c.in-Fill.byte) is only)
+    c.fill.ensures.answered
+    (only-as old (deed old (bytes_in c.args.mb.now) c.args.line.now.act) (fill_deed old c.in-Fill.id c.in-Fill.byte) is only)
