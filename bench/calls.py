@@ -9,25 +9,13 @@ claimed in no order, from a machine's start on, so that the reserved table doubl
 above, each below a maximum that lies a page below the last; `half`: the page of the middle is freed and claimed; `first`: a page is
 allocated right below memory's end and freed; `last`: two pages that only the memory below all claims has are allocated and freed.
 """
-import os
-import shutil
 import tempfile
 
-from memblock import CRATES, TOP, build, copy_crates, least_time
+from memblock import CRATES, build, least_time, write_crates
 
 # What one round calls, for so many pages, and how many calls are counted in all.
 KINDS = {"claims": (lambda count: count, 200000), "allocs": (lambda count: count, 200000), "half": (lambda count: 2, 20000),
          "first": (lambda count: 2, 200000), "last": (lambda count: 2, 2000)}
-
-
-def add_program(folder):
-    lines = copy_crates(folder, CRATES + ("memblock_find", "growth_model", "memblock_grow"))
-    source = os.path.join(folder, "crates", "bench_calls", "src")
-    os.makedirs(source)
-    shutil.copy(os.path.join(TOP, "bench", "calls.main.txt"), os.path.join(source, "main.rt"))
-    lines.append("bench_calls: memblock_grow growth_model boot_journal bm_base\n")
-    with open(os.path.join(folder, "crates.txt"), "w") as file:
-        file.writelines(lines)
 
 
 def call_cost(program, kind, count):
@@ -40,7 +28,8 @@ def call_cost(program, kind, count):
 
 def main():
     with tempfile.TemporaryDirectory() as folder:
-        add_program(folder)
+        write_crates(folder, CRATES + ("memblock_find", "growth_model", "memblock_grow"),
+                     [("calls", "memblock_grow growth_model boot_journal bm_base", ())])
         program = build(folder, "calls", "claims")
         for kind in KINDS:
             costs = [call_cost(program, kind, count) for count in (1000, 10000)]

@@ -10,25 +10,13 @@ going over them all. The program is linked four times, its code 16 bytes further
 of few instructions lies tells for as much as a third of its time, and says nothing of the search.
 """
 import os
-import shutil
 import subprocess
 import tempfile
 
-from memblock import TOP, build_from, copy_crates, least_time
+from memblock import build_from, least_time, write_crates
 
 CRATES = ("bm_base", "address_runs", "run_edits", "memblock_model", "phys_store", "memblock_ranges", "memblock_find")
 ROUNDS = {"first": 3000000, "last": 3000, "walk": 1000}
-
-
-def add_program(folder):
-    lines = copy_crates(folder, CRATES)
-    here = os.path.join(folder, "crates", "bench_find")
-    for part, name, source in (("src", "main.rt", "find.main.txt"), ("proofs/search", "Answers.antt", "find.answers.txt")):
-        os.makedirs(os.path.join(here, part))
-        shutil.copy(os.path.join(TOP, "bench", source), os.path.join(here, part, name))
-    lines.append("bench_find: memblock_find memblock_ranges memblock_model bm_base\n")
-    with open(os.path.join(folder, "crates.txt"), "w") as file:
-        file.writelines(lines)
 
 
 def placed(folder):
@@ -46,7 +34,8 @@ def placed(folder):
 
 def main():
     with tempfile.TemporaryDirectory() as folder:
-        add_program(folder)
+        write_crates(folder, CRATES, [("find", "memblock_find memblock_ranges memblock_model bm_base",
+                                       [("proofs/search/Answers.antt", "find.answers.txt")])])
         programs = placed(folder)
         for kind, rounds in ROUNDS.items():
             costs = []

@@ -14,14 +14,13 @@ behind it. How many milliseconds a round over 3,200 entries is to take at most s
 """
 import os
 import random
-import shutil
 import struct
 import subprocess
 import sys
 import tempfile
 import time
 
-from memblock import TOP, copy_crates
+from memblock import write_crates
 
 CRATES = ("bm_base", "address_runs", "e820_model", "e820_sanitise", "e820_table", "e820_usable", "text_words", "boot_options")
 SMALL, LARGE = 800, 3200
@@ -81,14 +80,9 @@ SHAPES = (
 
 def build(folder):
     """Proves and builds the program in the folder, and gives its path."""
-    lines = copy_crates(folder, CRATES)
+    write_crates(folder, CRATES, [("map", "e820_usable e820_sanitise e820_table e820_model boot_options address_runs bm_base",
+                                   [("proofs/edit_settled/Invariants.antt", "map.invariants.txt")])])
     here = os.path.join(folder, "crates", "bench_map")
-    for part, name, source in (("src", "main.rt", "map.main.txt"), ("proofs/edit_settled", "Invariants.antt", "map.invariants.txt")):
-        os.makedirs(os.path.join(here, part))
-        shutil.copy(os.path.join(TOP, "bench", source), os.path.join(here, part, name))
-    lines.append("bench_map: e820_usable e820_sanitise e820_table e820_model boot_options address_runs bm_base\n")
-    with open(os.path.join(folder, "crates.txt"), "w") as file:
-        file.writelines(lines)
     words = write_inputs(os.path.join(folder, "first"), disjoint(SMALL, None), b"")
     done = subprocess.run(["rt", "run", "--"] + words + ["1"], cwd=here, capture_output=True, text=True)
     if done.returncode != 0:

@@ -21,21 +21,19 @@ PROGRAMS = (("journal", "boot_journal bm_base", ("half", "none", "owns")),
             ("tables", "memblock_ranges memblock_model bm_base", ("half", "none")))
 
 
-def copy_crates(folder, crates=CRATES):
-    """Copies the crates to `folder`; answers the lines of crates.txt that name them."""
+def write_crates(folder, crates, programs):
+    """Copies the crates to the folder, and writes the programs over them beside: of each its name, the libraries that it uses, and for
+    each of its files but src/main.rt the path and the file of bench/ that it is."""
     for crate in crates:
         shutil.copytree(os.path.join(TOP, "crates", crate), os.path.join(folder, "crates", crate),
                         ignore=shutil.ignore_patterns("out", "must-fail"))
     with open(os.path.join(TOP, "crates.txt")) as file:
-        return [line for line in file if line.split(":")[0] in crates]
-
-
-def add_programs(folder):
-    lines = copy_crates(folder)
-    for name, uses, _ in PROGRAMS:
-        source = os.path.join(folder, "crates", "bench_" + name, "src")
-        os.makedirs(source)
-        shutil.copy(os.path.join(TOP, "bench", name + ".main.txt"), os.path.join(source, "main.rt"))
+        lines = [line for line in file if line.split(":")[0] in crates]
+    for name, uses, files in programs:
+        for path, source in (("src/main.rt", name + ".main.txt"), *files):
+            here = os.path.join(folder, "crates", "bench_" + name, path)
+            os.makedirs(os.path.dirname(here))
+            shutil.copy(os.path.join(TOP, "bench", source), here)
         lines.append("bench_%s: %s\n" % (name, uses))
     with open(os.path.join(folder, "crates.txt"), "w") as file:
         file.writelines(lines)
@@ -70,7 +68,7 @@ def least_time(words, runs=7):
 def main():
     rounds = int(sys.argv[1]) if len(sys.argv) > 1 else 10000
     with tempfile.TemporaryDirectory() as folder:
-        add_programs(folder)
+        write_crates(folder, CRATES, [(name, uses, ()) for name, uses, _ in PROGRAMS])
         for name, _, kinds in PROGRAMS:
             program = build(folder, name, kinds[0])
             for kind in kinds:
