@@ -140,6 +140,31 @@ fn best(memblock: &Memblock, query: &Query) -> Option<u64>
     memblock.find(query)
 }
 
+// A request for so many bytes in a window, its least address and its end, at a multiple of a frame.
+fn request(size: u64, window: (u64, Option<u64>), node: Option<u32>) -> Request
+    ensures size { result.size ≡ size }
+    ensures align { result.align ≡ 2 ^ 12 }
+{
+    let (min, max) = window;
+    Request {
+        size,
+        align: 0x1000,
+        min,
+        max,
+        node,
+        exact: false,
+    }
+}
+
+// What a request is answered.
+fn answer(memblock: &mut Memblock, request: &Request) -> Result<u64, Refusal>
+    requires begun { HasBegun memblock.old.journal.items }
+    requires some { 1 ≤ request.now.size }
+    requires aligned { request.now.align ≡ 2 ^ 12 }
+{
+    memblock.alloc(request, Owner::Soft)
+}
+
 // What a request for so many bytes is answered; `None` where nothing was claimed yet, or no byte is asked for.
 fn alloc(
     memblock: &mut Memblock,
@@ -150,16 +175,7 @@ fn alloc(
     if size == 0 || !has_begun(memblock) {
         return None;
     }
-    let (min, max) = window;
-    let request = Request {
-        size,
-        align: 0x1000,
-        min,
-        max,
-        node,
-        exact: false,
-    };
-    Some(memblock.alloc(&request, Owner::Soft))
+    Some(answer(memblock, &request(size, window, node)))
 }
 
 // Whether there are so many items, and so many records of claims.
