@@ -17,14 +17,3 @@ pub fn runs_by_address<T>()
     ensures { (same : T → T → Bool) (f : ℕ → Option T) → Tells same →
         ((x : ℕ) → 2 ^ 64 ≤ x → f x ≡ None) → IsRunsOf f (runs_of same f) }
 {}
-
-#[cfg(test)]
-mod tests {
-    use super::{one_list_of_runs, runs_by_address};
-
-    #[test]
-    fn laws_are_called() {
-        one_list_of_runs::<u32>();
-        runs_by_address::<u32>();
-    }
-}

@@ -28,8 +28,6 @@ mod memory;
 mod range;
 mod rounding;
 mod size;
-#[cfg(test)]
-mod tests;
 mod text;
 mod zone;
 

@@ -29,8 +29,6 @@ mod reader;
 mod refusal;
 mod script;
 mod srat;
-#[cfg(test)]
-mod tests;
 mod zero_page;
 
 pub use fault::{Fault, Misread};

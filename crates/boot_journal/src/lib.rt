@@ -23,5 +23,3 @@ mod tags;
 pub use journal::Journal;
 pub use memblock_model::{Item, Owner, OwnerRun, Tag, Which};
 
-#[cfg(test)]
-mod tests;

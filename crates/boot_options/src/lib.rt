@@ -26,8 +26,6 @@ mod kept;
 mod map_option;
 mod options;
 mod reading;
-#[cfg(test)]
-mod tests;
 
 pub use crash::{CrashOption, CrashPlain, CrashRange, crash_forms_of_spelling};
 pub use e820_model::Edit;

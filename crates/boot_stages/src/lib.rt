@@ -22,8 +22,6 @@ mod laws;
 mod map;
 mod memory;
 mod stages;
-#[cfg(test)]
-mod tests;
 
 pub use laws::map_is_judged;
 pub use stages::boot;

@@ -17,8 +17,6 @@
 mod buddy;
 mod handover;
 mod runs;
-#[cfg(test)]
-mod tests;
 
 pub use buddy::Buddy;
 pub use frame_blocks::{Block, BlockRow, MAX_FRAMES, MAX_ORDER};

@@ -20,8 +20,6 @@ mod crash;
 mod laws;
 mod places;
 mod stage;
-#[cfg(test)]
-mod tests;
 mod total;
 
 pub use crash::Crash;

@@ -20,8 +20,6 @@ mod cuts;
 mod fault;
 mod settle;
 mod table;
-#[cfg(test)]
-mod tests;
 
 pub use e820_model::{E820_MAX_ENTRIES, Run};
 pub use fault::MapFault;

@@ -20,8 +20,6 @@ mod extension;
 mod generator;
 mod initrd;
 mod made_input;
-#[cfg(test)]
-mod tests;
 mod zero_page;
 
 pub use e820_model::{Edit, Entry};

@@ -19,8 +19,6 @@
 
 mod frames;
 mod stop;
-#[cfg(test)]
-mod tests;
 
 pub use frames::{is_memory, usable_frames};
 pub use stop::{MapStop, judge};

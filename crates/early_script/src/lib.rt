@@ -24,8 +24,6 @@ mod live;
 mod outcome;
 mod stage;
 mod steps;
-#[cfg(test)]
-mod tests;
 
 pub use laws::{lines_leave_memory, scripts_place_once};
 pub use live::Live;

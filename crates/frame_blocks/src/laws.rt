@@ -25,14 +25,3 @@ pub fn listed_blocks_are_blocks()
     ensures complete { (f : Frames) (b : AnyBlock) → NothingFrom MAX_FRAMES f → IsBlock f b → Lists (blocks_of f) b }
     ensures ascending { (f : Frames) → AscendFrom 0 (blocks_of f) }
 {}
-
-#[cfg(test)]
-mod tests {
-    use super::{listed_blocks_are_blocks, sets_lie_in_one_zone};
-
-    #[test]
-    fn laws_are_called() {
-        sets_lie_in_one_zone();
-        listed_blocks_are_blocks();
-    }
-}

@@ -28,5 +28,3 @@ pub use laws::{runs_are_one, searches_follow_the_items};
 pub use memblock_model::Query;
 pub use search::find;
 
-#[cfg(test)]
-mod tests;

@@ -37,5 +37,3 @@ pub use run::OwnerRun;
 pub use tag::Tag;
 pub use which::Which;
 
-#[cfg(test)]
-mod tests;

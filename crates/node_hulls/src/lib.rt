@@ -30,8 +30,6 @@ mod memory;
 mod node_range;
 mod reasons;
 mod rest;
-#[cfg(test)]
-mod tests;
 
 pub use kept::KeptBlock;
 pub use laws::{

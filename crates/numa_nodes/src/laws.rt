@@ -38,15 +38,3 @@ pub fn listed_nodes_have_memory()
     ensures ascending { (f : Labels) (i j : ℕ) → i < j → j < length (nodes_with_memory f) →
         get_or (nodes_with_memory f) i 0 < get_or (nodes_with_memory f) j 0 }
 {}
-
-#[cfg(test)]
-mod tests {
-    use super::{listed_nodes_have_memory, nodes_leave_memory, nodes_reach_memory};
-
-    #[test]
-    fn laws_are_called() {
-        nodes_leave_memory();
-        nodes_reach_memory();
-        listed_nodes_have_memory();
-    }
-}

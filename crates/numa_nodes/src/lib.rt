@@ -20,8 +20,6 @@ mod limit;
 mod memory;
 mod nodes;
 mod stage;
-#[cfg(test)]
-mod tests;
 
 pub use laws::{listed_nodes_have_memory, nodes_leave_memory, nodes_reach_memory};
 pub use node_hulls::Why;

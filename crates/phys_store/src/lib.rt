@@ -21,7 +21,5 @@
 mod extents;
 mod prepare;
 mod store;
-#[cfg(test)]
-mod tests;
 
 pub use store::Store;

@@ -23,8 +23,6 @@ mod grammar;
 mod kernel;
 mod laws;
 mod reading;
-#[cfg(test)]
-mod tests;
 mod wanted;
 
 pub use error::WordError;

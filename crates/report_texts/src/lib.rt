@@ -22,8 +22,6 @@ mod owners;
 mod ranges;
 mod records;
 mod tables;
-#[cfg(test)]
-mod tests;
 
 pub use journal::{put_item, put_journal};
 pub use lines::put_lines;

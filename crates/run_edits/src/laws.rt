@@ -20,26 +20,3 @@ pub fn edits_add_few<T>()
         end_of r ≤ 2 ^ 64 → NothingFrom (2 ^ 64) f →
         length (runs_of same (replaced r v f)) ≤ length (runs_of same f) + 2 }
 {}
-
-#[cfg(test)]
-mod tests {
-    use super::edits_add_few;
-    use crate::{Change, Cover, Replace, Uncover};
-    use std::test::Fail;
-
-    #[test]
-    fn changes_of_one_address(rt: HostRuntime) -> Result<(), Fail> {
-        edits_add_few::<u32>();
-        let cases = [
-            (Cover(7u32).apply(None), Some(7)),
-            (Cover(7).apply(Some(3)), Some(3)),
-            (Uncover.apply(Some(3u32)), None),
-            (Replace(7).apply(None), Some(7)),
-            (Replace(7).apply(Some(3)), Some(7)),
-        ];
-        for (is, expected) in cases {
-            assert_eq!(rt; is, expected);
-        }
-        Ok(())
-    }
-}

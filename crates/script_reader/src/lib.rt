@@ -22,8 +22,6 @@ mod fault;
 mod forms;
 mod request;
 mod script;
-#[cfg(test)]
-mod tests;
 mod words;
 
 pub use act::{Act, Line};

@@ -11,8 +11,6 @@ mod laws;
 mod maps;
 mod placed;
 mod requests;
-#[cfg(test)]
-mod tests;
 
 pub use laws::maps_leave_memory;
 pub use maps::place_maps;

@@ -17,8 +17,6 @@ mod laws;
 mod places;
 mod roots;
 mod sections;
-#[cfg(test)]
-mod tests;
 
 pub use laws::{
     noded_memory_is_whole, present_sections_are_memory, present_sections_ascend,

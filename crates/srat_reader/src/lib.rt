@@ -19,7 +19,5 @@
 
 mod entries;
 mod table;
-#[cfg(test)]
-mod tests;
 
 pub use table::{Srat, SratBlock, SratFault, read_srat};

@@ -26,8 +26,6 @@ mod script;
 mod sections;
 mod sheets;
 mod summary;
-#[cfg(test)]
-mod tests;
 mod words;
 mod zones;
 

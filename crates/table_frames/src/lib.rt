@@ -15,8 +15,6 @@ mod check;
 mod claim;
 mod frames;
 mod laws;
-#[cfg(test)]
-mod tests;
 
 pub use check::{has_records, has_whole_frames};
 pub use claim::{Claim, next_claim};

@@ -14,13 +14,3 @@ pub fn spans_are_of_frames()
     ensures some { (f : Frames) (n : ℕ) (z : AnyZone) (s : AnySpan) → span_of f n z ≡ Some s → IsSpan f n z MAX_FRAMES s }
     ensures none { (f : Frames) (n : ℕ) (z : AnyZone) (x : ℕ) → span_of f n z ≡ None → x < MAX_FRAMES → is_in f n z x ≡ false }
 {}
-
-#[cfg(test)]
-mod tests {
-    use super::spans_are_of_frames;
-
-    #[test]
-    fn laws_are_called() {
-        spans_are_of_frames();
-    }
-}

@@ -11,8 +11,6 @@
 mod laws;
 mod slots;
 mod span;
-#[cfg(test)]
-mod tests;
 
 pub use laws::spans_are_of_frames;
 pub use span::{Span, spans};

@@ -1,0 +1,227 @@
+//! Handovers of whole machines, and frames that come in any order; all numbers from outside.
+ghost use Rattle.std.specs.Prelude.{◌≡◌, ◌+◌, ◌≤◌, None, IsTrue};
+ghost use Rattle.buddy_handover.specs.Contents.{free};
+
+use buddy_handover::{Block, Buddy, MAX_FRAMES, hand_over};
+use bm_base::{FRAME_SIZE, Memory, Range, Zone};
+use memblock_model::Which;
+use memblock_ranges::{Heads, Tables};
+use phys_store::Store;
+use std::alloc::Global;
+use std::test::Fail;
+use table_frames::{has_records, has_whole_frames};
+
+// Whether the range can be covered with the node; then it is.
+fn cover(tables: &mut Tables, which: Which, base: u64, size: u64, node: u32) -> bool {
+    let Some(range) = Range::new(base, size) else {
+        return false;
+    };
+    let head = tables.head(which);
+    let pieces = tables.pieces(which, range);
+    if size == 0 || pieces > head.room - head.count {
+        return false;
+    }
+    match which {
+        Which::Memory if node <= 1024 => tables.insert(which, range, node),
+        Which::Reserved if node == 1024 => tables.insert(which, range, node),
+        _ => return false,
+    }
+    true
+}
+
+// The bytes of tables with these ranges; a range of memory has a node.
+fn tables_of(
+    alloc: Global,
+    memory: &[(u64, u64, u32)],
+    reserved: &[(u64, u64)],
+) -> Result<(Store, Heads), Fail> {
+    let Some(kernel) = Range::new(0x1000000, 0x2000000) else {
+        return Err("kernel".into());
+    };
+    let mut tables = Tables::new(alloc, kernel)?;
+    for (first, behind, node) in memory {
+        if *behind < *first || !cover(&mut tables, Which::Memory, *first, *behind - *first, *node) {
+            return Err("memory".into());
+        }
+    }
+    for (first, behind) in reserved {
+        if *behind < *first
+            || !cover(&mut tables, Which::Reserved, *first, *behind - *first, 1024)
+        {
+            return Err("reserved".into());
+        }
+    }
+    Ok(tables.into_parts())
+}
+
+// The handover, where the bytes are records.
+fn handed(alloc: Global, store: &Store, heads: &Heads) -> Result<Buddy, Fail> {
+    if has_records(store, &heads.memory, FRAME_SIZE * MAX_FRAMES)
+        && has_records(store, &heads.reserved, u64::MAX)
+        && has_whole_frames(store, &heads.memory)
+    {
+        let buddy = hand_over(alloc, store, heads)?;
+        return Ok(buddy);
+    }
+    Err("records".into())
+}
+
+// How many blocks there are of each order.
+fn counts(buddy: &Buddy, node: u32, zone: Zone) -> [u64; 11] {
+    let mut counts = [0; 11];
+    for order in 0..11 {
+        counts[order] = buddy.count(node, zone, order as u32);
+    }
+    counts
+}
+
+// Frees the frames, if none of them is free.
+fn free(buddy: &mut Buddy, first: u64, count: u64, node: u32) -> Result<bool, Memory> {
+    if first > MAX_FRAMES || count > MAX_FRAMES - first {
+        return Ok(false);
+    }
+    for frame in first..first + count {
+        if buddy.block_of(frame).is_some() {
+            return Ok(false);
+        }
+    }
+    buddy.free_frames(first, count, node)?;
+    Ok(true)
+}
+
+// A virtual machine of 128 MiB, with the kernel at 16 MiB: `/proc/buddyinfo` of it, and blocks at both ends.
+#[test]
+fn a_virtual_machine_of_128_mib(rt: HostRuntime) -> Result<(), Fail> {
+    let memory = [(0x1000, 0x9F000, 0), (0x100000, 0x7FE0000, 0)];
+    let reserved = [
+        (0, 0x100000),
+        (0x1000000, 0x3000000),
+        (0x7C00000, 0x7E00000),
+        (0x7FAFFC0, 0x7FAFFE8),
+        (0x7FB0000, 0x7FE0000),
+    ];
+    let (store, heads) = tables_of(rt.alloc(), &memory, &reserved)?;
+    let buddy = handed(rt.alloc(), &store, &heads)?;
+    assert_eq!(rt;
+        counts(&buddy, 0, Zone::Dma),
+        [0, 0, 0, 0, 0, 0, 0, 0, 1, 1, 3]
+    );
+    assert_eq!(rt;
+        counts(&buddy, 0, Zone::Dma32),
+        [1, 1, 1, 1, 0, 1, 0, 1, 1, 0, 19]
+    );
+    assert_eq!(rt; counts(&buddy, 0, Zone::Normal), [0; 11]);
+    assert_eq!(rt; counts(&buddy, 1, Zone::Dma32), [0; 11]);
+
+    let blocks = buddy.blocks()?;
+    assert_eq!(rt; blocks.len(), 31);
+    let first = Block {
+        order: 8,
+        first: 0x100,
+        node: 0,
+        zone: Zone::Dma,
+    };
+    let last = Block {
+        order: 0,
+        first: 0x7FAE,
+        node: 0,
+        zone: Zone::Dma32,
+    };
+    assert_eq!(rt; blocks.first().copied(), Some(first));
+    assert_eq!(rt; blocks.last().copied(), Some(last));
+    assert_eq!(rt; buddy.block_of(0x1FF), Some(first));
+    assert_eq!(rt; buddy.block_of(0x7FAE), Some(last));
+    assert_eq!(rt; buddy.block_of(0x7FAF), None);
+    assert_eq!(rt; buddy.block_of(0), None);
+    Ok(())
+}
+
+// The same machine with a node border inside a set of 1,024 frames, both sides of it free.
+//
+//     0x4000000 ..node 0.. 0x4100000 ..node 1.. 0x4400000
+#[test]
+fn a_node_border_inside_a_set(rt: HostRuntime) -> Result<(), Fail> {
+    let memory = [
+        (0x1000, 0x9F000, 0),
+        (0x100000, 0x4100000, 0),
+        (0x4100000, 0x6000000, 1),
+        (0x6000000, 0x7FE0000, 0),
+    ];
+    let reserved = [
+        (0, 0x100000),
+        (0x1000000, 0x3000000),
+        (0x5FD5000, 0x6000000),
+        (0x7C00000, 0x7E00000),
+        (0x7FAFFC0, 0x7FAFFE8),
+        (0x7FB0000, 0x7FE0000),
+    ];
+    let (store, heads) = tables_of(rt.alloc(), &memory, &reserved)?;
+    let buddy = handed(rt.alloc(), &store, &heads)?;
+    assert_eq!(rt;
+        counts(&buddy, 0, Zone::Dma32),
+        [1, 1, 1, 1, 0, 1, 0, 1, 2, 0, 11]
+    );
+    assert_eq!(rt;
+        counts(&buddy, 1, Zone::Dma32),
+        [1, 0, 1, 0, 1, 0, 1, 1, 2, 2, 6]
+    );
+    let below = Block {
+        order: 8,
+        first: 0x4000,
+        node: 0,
+        zone: Zone::Dma32,
+    };
+    let above = Block {
+        order: 8,
+        first: 0x4100,
+        node: 1,
+        zone: Zone::Dma32,
+    };
+    assert_eq!(rt; buddy.block_of(0x40FF), Some(below));
+    assert_eq!(rt; buddy.block_of(0x4100), Some(above));
+    Ok(())
+}
+
+// Two ranges that meet give one block, whichever comes first; with memory for 32 entries neither wants any.
+#[test]
+fn ranges_that_meet(rt: HostRuntime) -> Result<(), Fail> {
+    let whole = Block {
+        order: 10,
+        first: 0x2000,
+        node: 5,
+        zone: Zone::Dma32,
+    };
+    for (first, second) in [(0x2000, 0x2200), (0x2200, 0x2000)] {
+        let mut buddy = Buddy::new(rt.alloc());
+        buddy.ready(32)?;
+        assert!(rt; free(&mut buddy, first, 0x200, 5)?);
+        assert!(rt; !free(&mut buddy, first + 0x1FF, 1, 5)?);
+        assert_eq!(rt; buddy.block_of(second), None);
+        assert!(rt; free(&mut buddy, second, 0x200, 5)?);
+        assert_eq!(rt; buddy.block_of(first), Some(whole));
+        assert_eq!(rt; buddy.block_of(second), Some(whole));
+        assert_eq!(rt; buddy.blocks()?.len(), 1);
+    }
+    Ok(())
+}
+
+// The borders of zones: DMA ends at 16 MiB, DMA32 at 4 GiB.
+#[test]
+fn borders_of_zones(rt: HostRuntime) -> Result<(), Fail> {
+    let mut buddy = Buddy::new(rt.alloc());
+    assert!(rt; free(&mut buddy, 0xFFF, 2, 0)?);
+    assert!(rt; free(&mut buddy, 0xFFFFF, 2, 0)?);
+    let expected = [
+        (0xFFF, Zone::Dma),
+        (0x1000, Zone::Dma32),
+        (0xFFFFF, Zone::Dma32),
+        (0x100000, Zone::Normal),
+    ];
+    for (frame, zone) in expected {
+        assert_eq!(rt;
+            buddy.block_of(frame).map(|b| (b.order, b.zone)),
+            Some((0, zone))
+        );
+    }
+    Ok(())
+}

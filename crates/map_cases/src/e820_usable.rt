@@ -1,0 +1,100 @@
+//! Maps that stop a boot and maps that don't, and frames at the ends of runs and of what is within reach.
+
+ghost use Rattle.std.specs.Prelude.{◌≡◌, ◌+◌, ◌^◌, ◌<◌};
+ghost use Rattle.address_runs.specs.Runs.{AreRuns};
+
+use e820_usable::{MapStop, judge, usable_frames};
+use bm_base::Range;
+use e820_model::Run;
+use std::process::Abort;
+
+fn run(base: u64, size: u64, kind: u32) -> Run
+    requires { base + size < 2 ^ 64 }
+    ensures { result ≡ record { base = base; size = size; value = kind } }
+{
+    Run {
+        range: Range { base, size },
+        kind,
+    }
+}
+
+/// The first address that page tables of five levels don't reach.
+const LIMIT: u64 = 1 << 52;
+
+fn expect(rt: &impl Abort, runs: &[Run], frames: u64, stop: Option<MapStop>)
+    requires { AreRuns runs.now }
+{
+    assert_eq!(rt; usable_frames(runs, LIMIT), frames);
+    assert_eq!(rt; judge(runs, LIMIT), stop);
+}
+
+#[test]
+fn maps_that_stop_a_boot(rt: HostRuntime) {
+    let reserved = run(0, 0x1000, 2);
+    let low = run(0x1000, 0x9_F000, 1);
+    expect(&rt, &[], 0, Some(MapStop::NoRam));
+    expect(&rt, &[reserved], 0, Some(MapStop::NoRam));
+    // 16 TiB from 1 MiB on are 2^32 frames; the first 640 KiB but one page are 159 more
+    let high = run(0x10_0000, 0x1000_0000_0000, 1);
+    expect(&rt, &[reserved, high], 4_294_967_296, None);
+    let too_much = MapStop::TooMuchRam {
+        frames: 4_294_967_455,
+    };
+    expect(&rt, &[reserved, low, high], 4_294_967_455, Some(too_much));
+    // no frame at the limit or above it counts, and none that begins there
+    let over = MapStop::TooMuchRam {
+        frames: 1_099_511_627_776,
+    };
+    expect(
+        &rt,
+        &[run(0, 0x14_0000_0000_0000, 1)],
+        1_099_511_627_776,
+        Some(over),
+    );
+    expect(
+        &rt,
+        &[run(0x10_0000_0000_0000, 0x1_0000, 1)],
+        0,
+        Some(MapStop::NoRam),
+    );
+}
+
+#[test]
+fn frames_at_the_ends_of_runs(rt: HostRuntime) {
+    // frames  |0  |1  |2  |3  |
+    // first   |  ####         |
+    // kernel  |      ####     |
+    // last    |          #### |
+    let first = run(0x800, 0x1000, 1);
+    expect(&rt, &[first], 0, Some(MapStop::NoRam));
+    let kernel = run(0x1800, 0x1000, 128);
+    expect(&rt, &[first, kernel], 1, None);
+    let last = run(0x2800, 0x1000, 1);
+    expect(&rt, &[first, kernel, last], 2, None);
+    // other types inside a frame, and bytes of none
+    let reserved = run(0x1800, 0x1000, 2);
+    expect(&rt, &[first, reserved, last], 0, Some(MapStop::NoRam));
+    let page = run(0, 0x1000, 1);
+    expect(
+        &rt,
+        &[page, run(0x1000, 1, 2), run(0x1001, 0x1FFF, 1)],
+        2,
+        None,
+    );
+    expect(&rt, &[page, run(0x1001, 0x1FFE, 1)], 1, None);
+}
+
+#[test]
+fn limits_of_addresses(rt: HostRuntime) {
+    let low = [run(0, 0x4000, 1)];
+    assert_eq!(rt; usable_frames(&low, 0), 0);
+    assert_eq!(rt; judge(&low, 0), Some(MapStop::NoRam));
+    // a limit inside a frame, at its end, and behind all memory
+    assert_eq!(rt; usable_frames(&low, 0x2FFF), 2);
+    assert_eq!(rt; usable_frames(&low, 0x3000), 3);
+    assert_eq!(rt; usable_frames(&low, u64::MAX), 4);
+    // with all addresses within reach, the last frame of 64-bit addresses misses its last byte
+    let high = [run(0xFFFF_FFFF_FFFF_D000, 0x2FFF, 1)];
+    assert_eq!(rt; usable_frames(&high, u64::MAX), 2);
+    assert_eq!(rt; usable_frames(&high, LIMIT), 0);
+}

@@ -1,0 +1,162 @@
+//! Small machines: what the table of domains gives on them, and why it isn't used.
+ghost use Rattle.std.specs.Prelude.{◌≡◌, ℕ, ◌-◌, ◌^◌, ◌<◌, ◌≤◌, IfOk, length};
+
+use node_hulls::{Judged, NodeRange, Why, judge};
+use address_runs::RunOf;
+use bm_base::Range;
+use srat_reader::{Srat, SratBlock};
+use std::alloc::{AllocError, Global};
+use std::test::Fail;
+
+/// The addresses from one up to another.
+fn part(from: u64, until: u64) -> Range
+    requires { from < until }
+    ensures { result ≡ record { base = from; size = until - from } }
+{
+    Range {
+        base: from,
+        size: until - from,
+    }
+}
+
+/// The addresses from one up to another, in the domain.
+fn block(domain: u32, from: u64, until: u64) -> SratBlock
+    requires { from ≤ until }
+{
+    let range = Range {
+        base: from,
+        size: until - from,
+    };
+    SratBlock { domain, range }
+}
+
+/// The addresses from one up to another, in the node.
+fn in_node(node: u32, from: u64, until: u64) -> NodeRange
+    requires { from < until }
+{
+    let range = part(from, until);
+    RunOf { range, value: node }
+}
+
+/// A table of these entries.
+fn table(alloc: Global, processors: &[u32], blocks: &[SratBlock]) -> Result<Srat, AllocError>
+    ensures { IfOk result (λ srat. length srat.blocks.items ≡ length blocks.now) }
+{
+    Ok(Srat {
+        cpus: Vec::from_slice(alloc, processors)?,
+        blocks: Vec::from_slice(alloc, blocks)?,
+    })
+}
+
+/// What is made of a table of these blocks on a machine of 128 MiB, of which the last 32 frames are the firmware's.
+fn judged(alloc: Global, blocks: &[SratBlock]) -> Result<Judged, Fail>
+    requires { length blocks.now < 2 ^ 32 }
+{
+    let srat = table(alloc, &[], blocks)?;
+    let memory = [part(0x1000, 0x9f000), part(0x10_0000, 0x7fe_0000)];
+    Ok(judge(alloc, &memory, Some(&srat), false)?)
+}
+
+// node 0 on both sides of the hole below 4 GiB, node 1 behind it; the domain that a processor names first is node 0
+#[test]
+fn two_nodes_and_a_hole(rt: HostRuntime) -> Result<(), Fail> {
+    let memory = [
+        part(0x1000, 0x9f000),
+        part(0x10_0000, 0xc000_0000),
+        part(0x1_0000_0000, 0x2_4000_0000),
+    ];
+    let blocks = [
+        block(2, 0x1_4000_0000, 0x2_4000_0000),
+        block(5, 0, 0xa0000),
+        block(5, 0x10_0000, 0xc000_0000),
+        block(5, 0x1_0000_0000, 0x1_4000_0000),
+        block(9, 0x4_0000_0000, 0x5_0000_0000),
+    ];
+    let srat = table(rt.alloc(), &[5, 5], &blocks)?;
+    let found = judge(rt.alloc(), &memory, Some(&srat), false)?;
+    assert_eq!(rt; found.why, Why::Used);
+    assert_eq!(rt; found.domains.as_slice(), [5, 2, 9].as_slice());
+    let joined = [
+        in_node(0, 0, 0x1_4000_0000),
+        in_node(1, 0x1_4000_0000, 0x2_4000_0000),
+    ];
+    assert_eq!(rt; found.joined.as_slice(), joined.as_slice());
+    assert!(rt; found.rest.is_empty());
+    assert_eq!(rt;
+        judge(rt.alloc(), &memory, Some(&srat), true)?.why,
+        Why::Off
+    );
+    assert_eq!(rt; judge(rt.alloc(), &memory, None, false)?.why, Why::Absent);
+    Ok(())
+}
+
+// a block of node 1 between two of node 0: their hull isn't its own, and what lies around the block has no node
+#[test]
+fn another_node_in_between(rt: HostRuntime) -> Result<(), Fail> {
+    let blocks = [
+        block(0, 0, 0x300_0000),
+        block(1, 0x310_0000, 0x320_0000),
+        block(0, 0x320_0000, 0x800_0000),
+    ];
+    let found = judged(rt.alloc(), &blocks)?;
+    assert_eq!(rt; found.why, Why::NotCovered { frames: 256 });
+    assert!(rt; found.joined.is_empty());
+    let covered = [
+        block(0, 0, 0x300_0000),
+        block(1, 0x300_1000, 0x320_0000),
+        block(0, 0x320_0000, 0x800_0000),
+    ];
+    let found = judged(rt.alloc(), &covered)?;
+    assert_eq!(rt; found.why, Why::Used);
+    assert_eq!(rt;
+        found.rest.as_slice(),
+        [in_node(0, 0x300_0000, 0x300_1000)].as_slice()
+    );
+    assert_eq!(rt; found.uncovered, 1);
+    Ok(())
+}
+
+// the reasons on 128 MiB, each with its numbers
+#[test]
+fn reasons(rt: HostRuntime) -> Result<(), Fail> {
+    let cases = [
+        (
+            [block(0, 0, 0x400_0000), block(1, 0x300_0000, 0x800_0000)],
+            Why::Overlap { i: 0, j: 1 },
+            0,
+        ),
+        (
+            [block(0, 0, 0x7ee_0000), block(0, 0, 0)],
+            Why::NotCovered { frames: 256 },
+            0,
+        ),
+        ([block(0, 0, 0x7ee_1000), block(0, 0, 0)], Why::Used, 255),
+        (
+            [
+                block(0, 0x10_0000, 0x400_0000),
+                block(1, 0x400_0000, 0x800_0000),
+            ],
+            Why::Used,
+            158,
+        ),
+        (
+            [block(0, 0, 0xfff), block(1, 0xa_0000, 0x10_0fff)],
+            Why::NoBlocks,
+            0,
+        ),
+        (
+            [
+                block(0, 0x800_0000, 0x900_0000),
+                block(1, 0x7fd_ffff, 0x7fe_0fff),
+            ],
+            Why::NotCovered { frames: 32637 },
+            0,
+        ),
+    ];
+    for (blocks, why, uncovered) in &cases {
+        let found = judged(rt.alloc(), blocks)?;
+        assert_eq!(rt; found.why, *why);
+        assert_eq!(rt; found.uncovered, *uncovered);
+    }
+    Ok(())
+}

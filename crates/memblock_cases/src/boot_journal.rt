@@ -1,0 +1,192 @@
+//! A journal in use: tags around a trim, claims over one another, runs of owners, by values worked out by hand.
+
+ghost use Rattle.std.specs.Prelude.{◌≡◌, ◌+◌, ◌^◌, ◌<◌};
+
+use boot_journal::{Item, Journal, Owner, OwnerRun, Tag, Which};
+use bm_base::Range;
+use std::test::Fail;
+
+fn bytes(base: u64, size: u64) -> Range
+    requires { base + size < 2 ^ 64 }
+    ensures { result ≡ record { base = base; size = size } }
+{
+    Range { base, size }
+}
+
+// The frames from 0x0 on, as they are memory before the first trim: whole, of two tags, one byte short.
+//
+//     0x0        0x1000     0x2000     0x3000
+//     |..........|....11111|.........  |
+#[test]
+fn tags(rt: HostRuntime) -> Result<(), Fail> {
+    let mut journal = Journal::new(rt.alloc());
+    journal.push(Item::Mem {
+        range: bytes(0, 0x2FFF),
+    })?;
+    journal.push(Item::Node {
+        range: bytes(0x1800, 0x800),
+        node: 1,
+    })?;
+    assert_eq!(rt; journal.tag_at(0x17FF), Tag::NoNode);
+    assert_eq!(rt; journal.tag_at(0x1800), Tag::Node(1));
+    assert_eq!(rt; journal.tag_at(0x2FFE), Tag::NoNode);
+    assert_eq!(rt; journal.tag_at(0x2FFF), Tag::Absent);
+
+    journal.push(Item::Trim)?;
+    assert_eq!(rt; journal.tag_at(0), Tag::NoNode);
+    assert_eq!(rt; journal.tag_at(0xFFF), Tag::NoNode);
+    assert_eq!(rt; journal.tag_at(0x1000), Tag::Absent);
+    assert_eq!(rt; journal.tag_at(0x1FFF), Tag::Absent);
+    assert_eq!(rt; journal.tag_at(0x2000), Tag::Absent);
+
+    // Memory that has a node is added again, with more behind it; then the trim keeps all of it.
+    journal.push(Item::Node {
+        range: bytes(0, 0x4000),
+        node: 3,
+    })?;
+    journal.push(Item::Mem {
+        range: bytes(0, 0x4000),
+    })?;
+    journal.push(Item::Trim)?;
+    assert_eq!(rt; journal.tag_at(0xFFF), Tag::Node(3));
+    assert_eq!(rt; journal.tag_at(0x1000), Tag::NoNode);
+    assert_eq!(rt; journal.tag_at(0x3FFF), Tag::NoNode);
+    assert_eq!(rt; journal.tag_at(0x4000), Tag::Absent);
+    Ok(())
+}
+
+// Claims over one another, freed in part, claimed again; runs that touch with equal and with other owners.
+#[test]
+fn owners(rt: HostRuntime) -> Result<(), Fail> {
+    let mut journal = Journal::new(rt.alloc());
+    journal.push(Item::Claim {
+        range: bytes(0x1000, 0x4000),
+        owner: Owner::Kernel,
+    })?;
+    journal.push(Item::Claim {
+        range: bytes(0x3000, 0x1000),
+        owner: Owner::Soft,
+    })?;
+    journal.push(Item::Free {
+        range: bytes(0x2000, 0x400),
+    })?;
+    journal.push(Item::Claim {
+        range: bytes(0x2100, 0x100),
+        owner: Owner::Script(7),
+    })?;
+    journal.push(Item::Claim {
+        range: bytes(0x5000, 0x1000),
+        owner: Owner::Kernel,
+    })?;
+    journal.push(Item::Claim {
+        range: bytes(0x6000, 0x1000),
+        owner: Owner::Script(8),
+    })?;
+    journal.push(Item::Claim {
+        range: bytes(u64::MAX - 1, 1),
+        owner: Owner::Table(Which::Memory),
+    })?;
+
+    let expected = [
+        (0xFFF, None),
+        (0x1000, Some(Owner::Kernel)),
+        (0x1FFF, Some(Owner::Kernel)),
+        (0x2000, None),
+        (0x2100, Some(Owner::Script(7))),
+        (0x21FF, Some(Owner::Script(7))),
+        (0x2200, None),
+        (0x23FF, None),
+        (0x2400, Some(Owner::Kernel)),
+        (0x3000, Some(Owner::Soft)),
+        (0x3FFF, Some(Owner::Soft)),
+        (0x4000, Some(Owner::Kernel)),
+        (0x6FFF, Some(Owner::Script(8))),
+        (0x7000, None),
+        (u64::MAX - 1, Some(Owner::Table(Which::Memory))),
+        (u64::MAX, None),
+    ];
+    for (x, owner) in expected {
+        assert_eq!(rt; journal.owner_at(x), owner, "at {x:#x}");
+    }
+
+    let runs = journal.owner_runs()?;
+    let expected = [
+        OwnerRun {
+            range: bytes(0x1000, 0x1000),
+            owner: Owner::Kernel,
+        },
+        OwnerRun {
+            range: bytes(0x2100, 0x100),
+            owner: Owner::Script(7),
+        },
+        OwnerRun {
+            range: bytes(0x2400, 0xC00),
+            owner: Owner::Kernel,
+        },
+        OwnerRun {
+            range: bytes(0x3000, 0x1000),
+            owner: Owner::Soft,
+        },
+        OwnerRun {
+            range: bytes(0x4000, 0x2000),
+            owner: Owner::Kernel,
+        },
+        OwnerRun {
+            range: bytes(0x6000, 0x1000),
+            owner: Owner::Script(8),
+        },
+        OwnerRun {
+            range: bytes(u64::MAX - 1, 1),
+            owner: Owner::Table(Which::Memory),
+        },
+    ];
+    assert_eq!(rt; runs.as_slice(), expected.as_slice());
+    assert_eq!(rt; journal.owners(), expected.as_slice());
+
+    let asked = [
+        (bytes(0x2400, 0xC00), Owner::Kernel, true),
+        (bytes(0x2400, 0xC01), Owner::Kernel, false),
+        (bytes(0x23FF, 2), Owner::Kernel, false),
+        (bytes(0x2480, 0x10), Owner::Kernel, true),
+        (bytes(0x2480, 0x10), Owner::Soft, false),
+        (bytes(0x2000, 0), Owner::Kernel, true),
+        (bytes(u64::MAX - 1, 1), Owner::Table(Which::Memory), true),
+    ];
+    for (range, owner, is_owned) in asked {
+        assert_eq!(rt;
+            journal.owns(&range, owner),
+            is_owned,
+            "{range:?} for {owner:?}"
+        );
+    }
+    Ok(())
+}
+
+#[test]
+fn items_stand_in_their_order(rt: HostRuntime) -> Result<(), Fail> {
+    let mut journal = Journal::new(rt.alloc());
+    assert_eq!(rt; journal.items().len(), 0);
+    assert_eq!(rt; journal.owner_runs()?.len(), 0);
+    journal.push(Item::Limit { at: 0x10_0000 })?;
+    journal.ready(1)?;
+    journal.push_ready(Item::Grown {
+        which: Which::Reserved,
+        place: 0x5000,
+        room: 256,
+    });
+    let expected = [
+        Item::Limit { at: 0x10_0000 },
+        Item::Grown {
+            which: Which::Reserved,
+            place: 0x5000,
+            room: 256,
+        },
+    ];
+    assert_eq!(rt; journal.items(), expected.as_slice());
+    let text = format!(in rt.alloc(); "{journal:?}")?;
+    assert_eq!(rt;
+        text.as_str(),
+        "Journal { items: [Limit { at: 1048576 }, Grown { which: Reserved, place: 20480, room: 256 }], owners: [], spare: 0 }"
+    );
+    Ok(())
+}

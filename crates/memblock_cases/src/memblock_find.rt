@@ -1,0 +1,249 @@
+//! The search and the runs of unclaimed memory in the tables that a virtual machine's boot leaves.
+ghost use Rattle.std.specs.Prelude.{◌≡◌, ◌+◌, ◌^◌, ◌<◌};
+
+use memblock_find::{FreeRange, FreeRuns, Query, find, next_free, prev_free};
+use bm_base::{Memory, Range};
+use memblock_model::Which;
+use memblock_ranges::Tables;
+use std::alloc::Global;
+use std::test::Fail;
+
+fn bytes(base: u64, size: u64) -> Range
+    requires { base + size < 2 ^ 64 }
+    ensures { result ≡ record { base = base; size = size } }
+{
+    Range { base, size }
+}
+
+// Covers the range, where it isn't empty and there is room.
+fn cover(tables: &mut Tables, which: Which, base: u64, size: u64, node: u32) -> bool {
+    let Some(range) = Range::new(base, size) else {
+        return false;
+    };
+    let head = tables.head(which);
+    let pieces = tables.pieces(which, range);
+    let allowed = match which {
+        Which::Memory => node <= 1024,
+        Which::Reserved => node == 1024,
+    };
+    if size == 0 || !allowed || pieces > head.room - head.count {
+        return false;
+    }
+    tables.insert(which, range, node);
+    true
+}
+
+// Tables with these records: base, size, and the node of memory.
+fn tables_of(
+    alloc: Global,
+    memory: &[(u64, u64, u32)],
+    reserved: &[(u64, u64)],
+) -> Result<Option<Tables>, Memory> {
+    let mut tables = Tables::new(alloc, bytes(0x1000000, 0x2000000))?;
+    for &(base, size, node) in memory {
+        if !cover(&mut tables, Which::Memory, base, size, node) {
+            return Ok(None);
+        }
+    }
+    for &(base, size) in reserved {
+        if !cover(&mut tables, Which::Reserved, base, size, 1024) {
+            return Ok(None);
+        }
+    }
+    Ok(Some(tables))
+}
+
+// What a search says: its answer, or that it isn't a search.
+#[derive(Clone, Copy, Debug, PartialEq, Eq)]
+enum Answer {
+    At(u64),
+    Nothing,
+    NoSearch,
+}
+
+// The search for so many bytes in the window, aligned to that power of two.
+fn search(tables: &Tables, lo: u64, hi: u64, size: u64, power: u32, node: Option<u32>) -> Answer {
+    if size == 0 || power >= 64 {
+        return Answer::NoSearch;
+    }
+    let query = Query {
+        lo,
+        hi,
+        size,
+        align: 1 << power,
+        node,
+    };
+    match find(tables, &query) {
+        Some(at) => Answer::At(at),
+        None => Answer::Nothing,
+    }
+}
+
+fn is_run(run: Option<FreeRange>, base: u64, size: u64, node: u32) -> bool {
+    match run {
+        Some(run) => run.range.base == base && run.range.size == size && run.node == node,
+        None => false,
+    }
+}
+
+// A virtual machine of 128 MiB: where the node data, the section roots, the sections of node 0, the usage map
+// and the memory map lie, each the best place once those before it are claimed.
+#[test]
+fn a_virtual_machine_of_128_mib(rt: HostRuntime) -> Result<(), Fail> {
+    let memory = [(0x1000, 0x9E000, 0), (0x100000, 0x7EE0000, 0)];
+    let reserved = [(0, 0x100000), (0x1000000, 0x2000000)];
+    let mut tables = tables_of(rt.alloc(), &memory, &reserved)?.ok_or("no room")?;
+    let places = [
+        (0x2B000, 6, 0x7FB5000),
+        (0x4000, 6, 0x7FB1000),
+        (0x1000, 6, 0x7FB0000),
+        (0x28, 6, 0x7FAFFC0),
+        (0x200000, 21, 0x7C00000),
+    ];
+    for (size, power, at) in places {
+        assert_eq!(rt;
+            search(&tables, 0, 0x7FE0000, size, power, Some(0)),
+            Answer::At(at)
+        );
+        assert!(rt; cover(&mut tables, Which::Reserved, at, size, 1024));
+    }
+
+    // What is left, from below and from above, and cut in the middle of a run.
+    assert!(rt; is_run(next_free(&tables, 0), 0x100000, 0xF00000, 0));
+    assert!(rt; is_run(next_free(&tables, 0x1000000), 0x3000000, 0x4C00000, 0));
+    assert!(rt; is_run(next_free(&tables, 0x7C00000), 0x7E00000, 0x1AFFC0, 0));
+    assert!(rt; is_run(next_free(&tables, 0x7FAFFC0), 0x7FAFFE8, 0x18, 0));
+    assert!(rt; is_run(next_free(&tables, 0x7FAFFF0), 0x7FAFFF0, 0x10, 0));
+    assert!(rt; next_free(&tables, 0x7FB0000).is_none());
+    assert!(rt; is_run(prev_free(&tables, u64::MAX), 0x7FAFFE8, 0x18, 0));
+    assert!(rt; is_run(prev_free(&tables, 0x3000001), 0x3000000, 1, 0));
+    assert!(rt; is_run(prev_free(&tables, 0x3000000), 0x100000, 0xF00000, 0));
+    assert!(rt; prev_free(&tables, 0x100000).is_none());
+    // And all of it, in one pass.
+    let mut runs = FreeRuns::from(&tables, 0x200000);
+    assert!(rt; is_run(runs.next_run(), 0x200000, 0xE00000, 0));
+    assert!(rt; is_run(runs.next_run(), 0x3000000, 0x4C00000, 0));
+    assert!(rt; is_run(runs.next_run(), 0x7E00000, 0x1AFFC0, 0));
+    assert!(rt; is_run(runs.next_run(), 0x7FAFFE8, 0x18, 0));
+    assert!(rt; runs.next_run().is_none());
+    assert!(rt; runs.next_run().is_none());
+    Ok(())
+}
+
+// An exact fit, and one byte more, from 0x3000000 on.
+#[test]
+fn an_exact_fit(rt: HostRuntime) -> Result<(), Fail> {
+    let memory = [(0x1000, 0x9E000, 0), (0x100000, 0x7EE0000, 0)];
+    let reserved = [(0, 0x100000), (0x1000000, 0x2000000), (0x7FB5000, 0x2B000)];
+    let tables = tables_of(rt.alloc(), &memory, &reserved)?.ok_or("no room")?;
+    let searches = [
+        (0x3000000, 0x4FB5001, 12, Answer::Nothing),
+        (0, 0x4FB5000, 12, Answer::At(0x3000000)),
+        (0x100001, 0x1, 27, Answer::Nothing),
+        (0, 0, 12, Answer::NoSearch),
+    ];
+    for (lo, size, power, answer) in searches {
+        assert_eq!(rt; search(&tables, lo, 0x7FE0000, size, power, None), answer);
+    }
+    Ok(())
+}
+
+// node 0       0x3000000 .. 0x4000000      0x6000000 .. 0x7FB5000
+// node 1                    0x4000000 .. 0x5FD5000
+#[test]
+fn a_node_border(rt: HostRuntime) -> Result<(), Fail> {
+    let memory = [
+        (0x1000, 0x9E000, 0),
+        (0x100000, 0x3F00000, 0),
+        (0x4000000, 0x2000000, 1),
+        (0x6000000, 0x1FE0000, 0),
+    ];
+    let reserved = [
+        (0, 0x100000),
+        (0x1000000, 0x2000000),
+        (0x5FD5000, 0x2B000),
+        (0x7FB5000, 0x2B000),
+    ];
+    let tables = tables_of(rt.alloc(), &memory, &reserved)?.ok_or("no room")?;
+    let searches = [
+        (0x2000000, None, Answer::Nothing),
+        (0x1FD5000, None, Answer::At(0x4000000)),
+        (0x1000, Some(0), Answer::At(0x7FB4000)),
+        (0x1000, Some(1), Answer::At(0x5FD4000)),
+        (0x1000, Some(2), Answer::Nothing),
+        (0x1000, Some(1024), Answer::Nothing),
+    ];
+    for (size, node, answer) in searches {
+        assert_eq!(rt; search(&tables, 0, 0x7FE0000, size, 12, node), answer);
+    }
+    assert!(rt; is_run(next_free(&tables, 0x3FFFFFF), 0x3FFFFFF, 1, 0));
+    assert!(rt; is_run(next_free(&tables, 0x4000000), 0x4000000, 0x1FD5000, 1));
+    assert!(rt; is_run(prev_free(&tables, 0x6000001), 0x6000000, 1, 0));
+    Ok(())
+}
+
+// node 0       0x100000 .. 0x200000       0x400000 .. 0x4F0000, 0x4F8000 .. 0x500000
+// node 1       0x200000 .. 0x300000       0x500000 .. 0x580000, 0x581000 .. 0x600000       0x802000 .. 0x900000
+// node 2                                                 0x600000 .. 0x6FF000
+// no node                                                              0x701000 .. 0x800000
+#[test]
+fn nodes_in_turn(rt: HostRuntime) -> Result<(), Fail> {
+    let memory = [
+        (0x100000, 0x100000, 0),
+        (0x200000, 0x100000, 1),
+        (0x400000, 0x100000, 0),
+        (0x500000, 0x100000, 1),
+        (0x600000, 0x100000, 2),
+        (0x700000, 0x100000, 1024),
+        (0x800000, 0x100000, 1),
+    ];
+    let reserved = [
+        (0x4F0000, 0x8000),
+        (0x580000, 0x1000),
+        (0x6FF000, 0x2000),
+        (0x800000, 0x2000),
+    ];
+    let tables = tables_of(rt.alloc(), &memory, &reserved)?.ok_or("no room")?;
+    let searches = [
+        (0x1000, Some(0), Answer::At(0x4FF000)),
+        (0x9000, Some(0), Answer::At(0x4E7000)),
+        (0x100000, Some(0), Answer::At(0x100000)),
+        (0x100001, Some(0), Answer::Nothing),
+        (0xFE000, Some(1), Answer::At(0x802000)),
+        (0xFF000, Some(1), Answer::At(0x201000)),
+        (0x1000, Some(2), Answer::At(0x6FE000)),
+        (0xFF001, Some(2), Answer::Nothing),
+        (0x1000, Some(3), Answer::Nothing),
+        (0xFF000, None, Answer::At(0x701000)),
+    ];
+    for (size, node, answer) in searches {
+        assert_eq!(rt; search(&tables, 0, u64::MAX, size, 12, node), answer);
+    }
+    Ok(())
+}
+
+// The first frame is never answered, and a window may end at the last address.
+#[test]
+fn the_first_frame(rt: HostRuntime) -> Result<(), Fail> {
+    let memory = [(0, 0x3000, 1024), (0xFFFFFFFFFFFFE000, 0x1000, 1024)];
+    let tables = tables_of(rt.alloc(), &memory, &[])?.ok_or("no room")?;
+    let last = 0xFFFFFFFFFFFFE000;
+    assert_eq!(rt;
+        search(&tables, 0, u64::MAX, 0x1000, 12, None),
+        Answer::At(last)
+    );
+    assert_eq!(rt;
+        search(&tables, 0, last, 0x1000, 12, None),
+        Answer::At(0x2000)
+    );
+    assert_eq!(rt;
+        search(&tables, 0, last, 0x2000, 12, None),
+        Answer::At(0x1000)
+    );
+    assert_eq!(rt; search(&tables, 0, last, 0x2001, 0, None), Answer::Nothing);
+    assert_eq!(rt; search(&tables, 0, 0x1000, 1, 0, None), Answer::Nothing);
+    assert!(rt; is_run(prev_free(&tables, last), 0, 0x3000, 1024));
+    assert!(rt; is_run(next_free(&tables, 0x3000), last, 0x1000, 1024));
+    assert!(rt; next_free(&tables, u64::MAX).is_none());
+    Ok(())
+}

@@ -1,0 +1,150 @@
+//! The plain data of this crate: values that differ in one part differ, and they print their parts.
+
+ghost use Rattle.std.specs.Prelude.{◌≡◌, ◌+◌, ◌^◌, ◌<◌};
+ghost use Rattle.memblock_model.specs.declared.owner.Owner.{Owner as AnyOwner};
+
+use memblock_model::{Item, Label, Owner, OwnerRun, Query, Tag, Which};
+use bm_base::Range;
+use std::test::Fail;
+
+fn bytes(base: u64, size: u64) -> Range
+    requires { base + size < 2 ^ 64 }
+    ensures { result ≡ record { base = base; size = size } }
+{
+    Range { base, size }
+}
+
+// What contracts see of a run are its fields.
+fn base_of(run: &OwnerRun) -> u64
+    ensures { result ≡ run.now.base }
+{
+    run.range.base
+}
+
+fn size_of(run: &OwnerRun) -> u64
+    ensures { result ≡ run.now.size }
+{
+    run.range.size
+}
+
+fn owner_of(run: &OwnerRun) -> Owner
+    ensures { result ≡ run.now.value }
+{
+    run.owner
+}
+
+// Each variant beside one that differs from it in one part.
+#[test]
+fn values_that_differ_in_one_part(rt: HostRuntime) -> Result<(), Fail> {
+    let items = [
+        Item::Mem {
+            range: bytes(0x1000, 0x2000),
+        },
+        Item::Mem {
+            range: bytes(0x1000, 0x2001),
+        },
+        Item::Free {
+            range: bytes(0x1000, 0x2000),
+        },
+        Item::Trim,
+        Item::Node {
+            range: bytes(0x1000, 0x2000),
+            node: 1,
+        },
+        Item::Node {
+            range: bytes(0x1000, 0x2000),
+            node: 2,
+        },
+        Item::Claim {
+            range: bytes(0x1000, 0x2000),
+            owner: Owner::Root(1),
+        },
+        Item::Claim {
+            range: bytes(0x1000, 0x2000),
+            owner: Owner::Usage(1),
+        },
+        Item::Limit { at: 0x1000 },
+        Item::Limit { at: 0x2000 },
+        Item::Grown {
+            which: Which::Memory,
+            place: 0x1000,
+            room: 256,
+        },
+        Item::Grown {
+            which: Which::Reserved,
+            place: 0x1000,
+            room: 256,
+        },
+        Item::Grown {
+            which: Which::Reserved,
+            place: 0x1000,
+            room: 512,
+        },
+    ];
+    for (i, first) in items.iter().enumerate() {
+        for (j, second) in items.iter().enumerate() {
+            assert_eq!(rt; first == second, i == j, "{first:?} and {second:?}");
+        }
+    }
+
+    let query = Query {
+        lo: 0x1000,
+        hi: 0x9000,
+        size: 0x800,
+        align: 0x1000,
+        node: None,
+    };
+    let of_node_0 = Query {
+        lo: 0x1000,
+        hi: 0x9000,
+        size: 0x800,
+        align: 0x1000,
+        node: Some(0),
+    };
+    assert_eq!(rt; query, query);
+    assert_ne!(rt; query, of_node_0);
+    assert_ne!(rt; Tag::NoNode, Tag::Node(0));
+    assert_ne!(rt; Label::plain(), Label::plain().with_node(0));
+    assert_eq!(rt; Label::plain().with_node(1023).node(), Some(1023));
+
+    // The run ends where addresses end.
+    let run = OwnerRun {
+        range: bytes(u64::MAX - 0x2000, 0x2000),
+        owner: Owner::Table(Which::Memory),
+    };
+    let other = OwnerRun {
+        range: bytes(u64::MAX - 0x2000, 0x2000),
+        owner: Owner::Table(Which::Reserved),
+    };
+    assert_ne!(rt; run, other);
+    assert_eq!(rt; base_of(&run), u64::MAX - 0x2000);
+    assert_eq!(rt; size_of(&run), 0x2000);
+    assert_eq!(rt; owner_of(&run), Owner::Table(Which::Memory));
+    Ok(())
+}
+
+#[test]
+fn values_print_their_parts(rt: HostRuntime) -> Result<(), Fail> {
+    let item = Item::Claim {
+        range: bytes(1, 2),
+        owner: Owner::Table(Which::Memory),
+    };
+    let text = format!(in rt.alloc(); "{item:?}")?;
+    assert_eq!(rt;
+        text.as_str(),
+        "Claim { range: Range { base: 1, size: 2 }, owner: Table(Memory) }"
+    );
+    let query = Query {
+        lo: 1,
+        hi: 9,
+        size: 2,
+        align: 1,
+        node: Some(3),
+    };
+    let text = format!(in rt.alloc(); "{query:?} {:?}", Tag::Node(3))?;
+    assert_eq!(rt;
+        text.as_str(),
+        "Query { lo: 1, hi: 9, size: 2, align: 1, node: Some(3) } Node(3)"
+    );
+    Ok(())
+}

@@ -1,6 +1,0 @@
-use Rattle.std.proofs.Common.{arith}
-use Rattle.std.proofs.lemmas.Nat.{one_shl}
-use Rattle.memblock_find.proofs.tests.search.Goals as goal
-
-pub find-requires-clause-aligned : goal.find-requires-clause-aligned
-find-requires-clause-aligned c = (c.args.power, one_shl c.args.power 64 (omega arith))

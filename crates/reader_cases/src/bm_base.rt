@@ -1,0 +1,97 @@
+//! Numbers in reports, ranges at the end of numbers, multiples and zones, by values from outside.
+
+use bm_base::{
+    NumFault, Range, Zone, put_dec, put_hex, put_text, read_number, read_size, round_down, round_up, zone_of,
+};
+use std::test::Fail;
+
+#[test]
+fn numbers_as_the_log_prints_them(rt: HostRuntime) -> Result<(), Fail> {
+    let mut out = Vec::new(rt.alloc());
+    for value in [0, 0x9fc00, u64::MAX] {
+        put_hex(&mut out, value)?;
+        put_text(&mut out, b"\n")?;
+    }
+    for (value, width) in [(0, 0), (7, 4), (12345, 4), (u64::MAX, 20)] {
+        put_dec(&mut out, value, width)?;
+        put_text(&mut out, b"\n")?;
+    }
+    let want =
+        b"0x0000000000000000\n0x000000000009fc00\n0xffffffffffffffff\n0\n   7\n12345\n18446744073709551615\n";
+    assert_eq!(rt; out.as_slice(), want.as_slice());
+    Ok(())
+}
+
+#[test]
+fn ranges_end_below_two_to_64(rt: HostRuntime) -> Result<(), Fail> {
+    assert_eq!(rt; Range::new(1, u64::MAX), None);
+    let last = Range::new(1, u64::MAX - 1).ok_or("the greatest end")?;
+    assert_eq!(rt; last.end(), u64::MAX);
+    assert_eq!(rt; Range::between(5, 5), None);
+    assert_eq!(rt; Range::between(1, u64::MAX), Some(last));
+    assert!(rt; !last.contains(0));
+    assert!(rt; last.contains(1));
+    assert!(rt; last.contains(u64::MAX - 1));
+    assert!(rt; !last.contains(u64::MAX));
+    let first = Range { base: 0, size: 1 };
+    let empty = Range { base: 4, size: 0 };
+    assert!(rt; !last.overlaps(&first));
+    assert!(rt; !last.overlaps(&empty));
+    assert!(rt; last.overlaps(&Range { base: 0, size: 2 }));
+    Ok(())
+}
+
+#[test]
+fn multiples_and_zones(rt: HostRuntime) {
+    assert_eq!(rt; round_up(0, 4096), Some(0));
+    assert_eq!(rt; round_up(1, 4096), Some(4096));
+    assert_eq!(rt; round_up(u64::MAX - 4095, 4096), Some(u64::MAX - 4095));
+    assert_eq!(rt; round_up(u64::MAX - 4094, 4096), None);
+    assert_eq!(rt; round_down(8191, 4096), 4096);
+    assert_eq!(rt;
+        (zone_of(4095), zone_of(4096), zone_of(1 << 20)),
+        (Zone::Dma, Zone::Dma32, Zone::Normal)
+    );
+}
+
+#[test]
+fn sizes_and_their_bytes(rt: HostRuntime) {
+    let cases = [
+        ("640K", Ok((655360, 4))),
+        ("0x1E", Ok((30, 4))),
+        ("1E", Ok((1 << 60, 2))),
+        ("010", Ok((8, 3))),
+        ("08", Ok((0, 1))),
+        ("0xg", Ok((0, 1))),
+        ("16E", Err(NumFault::TooLarge)),
+        ("K", Err(NumFault::NoDigits)),
+        ("", Err(NumFault::NoDigits)),
+        ("-1", Err(NumFault::NoDigits)),
+        ("0", Ok((0, 1))),
+        ("0K", Ok((0, 2))),
+        ("0x", Ok((0, 1))),
+        ("0XaBk@", Ok((0xab << 10, 5))),
+        ("1kK", Ok((1024, 2))),
+        ("2m", Ok((2 << 20, 2))),
+        ("3g,", Ok((3 << 30, 2))),
+        ("4T", Ok((4 << 40, 2))),
+        ("5p", Ok((5 << 50, 2))),
+        ("15e", Ok((15 << 60, 3))),
+        ("010M@1", Ok((8 << 20, 4))),
+        ("7B", Ok((7, 1))),
+        ("0xFFFFFFFFFFFFFFFF", Ok((u64::MAX, 18))),
+        ("0x10000000000000000", Err(NumFault::TooLarge)),
+        ("18446744073709551615", Ok((u64::MAX, 20))),
+        ("18446744073709551616", Err(NumFault::TooLarge)),
+        (
+            "99999999999999999999999999999999999999999",
+            Err(NumFault::TooLarge),
+        ),
+        ("01777777777777777777777", Ok((u64::MAX, 23))),
+    ];
+    for (text, want) in cases {
+        assert_eq!(rt; read_size(text.as_bytes()), want, "at {text}");
+    }
+    assert_eq!(rt; read_number(b"1K".as_slice()), Ok((1, 1)));
+    assert_eq!(rt; read_number(b"0x10+2".as_slice()), Ok((16, 4)));
+}

@@ -1,0 +1,198 @@
+//! Zero pages and extensions with one fault each, and with several, where the first of them is answered; initrds;
+//! made inputs, whose entries come from an independent program.
+
+ghost use Rattle.std.specs.Prelude.{ℕ, ◌+◌, ◌≤◌, length};
+
+use e820_table::{Entry, ExtFault, ZeroFault, made, read_ext, read_zero_page};
+use byteorder::{ByteOrder, LittleEndian};
+use std::test::Fail;
+
+/// Writes an entry at the offset.
+fn put_entry(bytes: &mut [u8], offset: usize, entry: Entry)
+    requires { offset + 20 ≤ length bytes.old }
+{
+    LittleEndian::write_u64(&mut bytes[offset..], entry.addr);
+    LittleEndian::write_u64(&mut bytes[offset + 8..], entry.size);
+    LittleEndian::write_u32(&mut bytes[offset + 16..], entry.kind);
+}
+
+/// Writes a number of 4 bytes at the offset.
+fn put_number(bytes: &mut [u8], offset: usize, number: u32)
+    requires { offset + 4 ≤ length bytes.old }
+{
+    LittleEndian::write_u32(&mut bytes[offset..], number);
+}
+
+/// A zero page that states `count` entries, of which the first two are given.
+fn page(count: u8, first: Entry, second: Entry) -> [u8; 4096] {
+    let mut bytes = [0; 4096];
+    bytes[0x1e8] = count;
+    put_entry(&mut bytes, 0x2d0, first);
+    put_entry(&mut bytes, 0x2e4, second);
+    bytes
+}
+
+const RAM: Entry = Entry {
+    addr: 0x100000,
+    size: 0x7f00000,
+    kind: 1,
+};
+
+const LAST: Entry = Entry {
+    addr: 0x1000,
+    size: 0xffff_ffff_ffff_efff,
+    kind: 2,
+};
+
+const FAR: Entry = Entry {
+    addr: 0x1000,
+    size: 0xffff_ffff_ffff_f000,
+    kind: 2,
+};
+
+#[test]
+fn zero_pages(rt: HostRuntime) -> Result<(), Fail> {
+    let read = read_zero_page(&page(2, RAM, LAST))?;
+    assert_eq!(rt; read.entries.as_slice(), [RAM, LAST].as_slice());
+    let cases = [
+        (4095, page(2, RAM, LAST), ZeroFault::WrongLength),
+        (0, page(0, RAM, LAST), ZeroFault::WrongLength),
+        (4096, page(0, RAM, LAST), ZeroFault::TooFew),
+        (4096, page(1, FAR, FAR), ZeroFault::TooFew),
+        (4096, page(129, FAR, FAR), ZeroFault::TooMany),
+        (4096, page(2, RAM, FAR), ZeroFault::EntryTooFar { index: 1 }),
+        (4096, page(2, FAR, FAR), ZeroFault::EntryTooFar { index: 0 }),
+    ];
+    for (length, bytes, want) in &cases {
+        assert_eq!(rt; read_zero_page(&bytes[..*length]).err(), Some(*want));
+    }
+    let mut longer = Vec::from_slice(rt.alloc(), &page(0, RAM, LAST))?;
+    longer.push(0)?;
+    assert_eq!(rt; read_zero_page(&longer).err(), Some(ZeroFault::WrongLength));
+    Ok(())
+}
+
+/// A zero page of two entries that names this loader, and an initrd by the upper half and the lower
+/// half of its address, and of its size.
+fn page_with_initrd(second: Entry, loader: u8, address: [u32; 2], size: [u32; 2]) -> [u8; 4096] {
+    let mut bytes = page(2, RAM, second);
+    bytes[0x210] = loader;
+    put_number(&mut bytes, 0x0c0, address[0]);
+    put_number(&mut bytes, 0x218, address[1]);
+    put_number(&mut bytes, 0x0c4, size[0]);
+    put_number(&mut bytes, 0x21c, size[1]);
+    bytes
+}
+
+#[test]
+fn initrds(rt: HostRuntime) -> Result<(), Fail> {
+    let top = [0xffff_ffff, 0xffff_e000];
+    let cases = [
+        (
+            0xb0,
+            [0, 0x7d0_0000],
+            [0, 0x12_3457],
+            Some((0x7d0_0000, 0x12_4000)),
+        ),
+        (
+            1,
+            [1, 0x801],
+            [1, 0x7ff],
+            Some((0x1_0000_0801, 0x1_0000_07ff)),
+        ),
+        (1, top, [0, 0x1000], Some((0xffff_ffff_ffff_e000, 0x1000))),
+        (0, [0, 0x7d0_0000], [0, 0x12_3457], None),
+        (0xb0, [0, 0], [0, 0x12_3457], None),
+        (0xb0, [0, 0x7d0_0000], [0, 0], None),
+        (0, top, [0, 0x1001], None),
+    ];
+    for (loader, address, size, want) in cases {
+        let read = read_zero_page(&page_with_initrd(LAST, loader, address, size))?;
+        let initrd = read.initrd.map(|range| (range.base, range.size));
+        assert_eq!(rt; initrd, want);
+    }
+    let far = [
+        (LAST, [0, 0x1001], ZeroFault::InitrdTooFar),
+        (LAST, [0xffff_ffff, 0xffff_ffff], ZeroFault::InitrdTooFar),
+        (FAR, [0, 0x1001], ZeroFault::EntryTooFar { index: 1 }),
+    ];
+    for (second, size, want) in far {
+        let bytes = page_with_initrd(second, 1, top, size);
+        assert_eq!(rt; read_zero_page(&bytes).err(), Some(want));
+    }
+    Ok(())
+}
+
+#[test]
+fn extensions(rt: HostRuntime) -> Result<(), Fail> {
+    let mut bytes = [0; 56];
+    put_entry(&mut bytes, 16, FAR);
+    put_entry(&mut bytes, 36, FAR);
+    let cases = [
+        (0, 1, 0, Some(ExtFault::ExtHeader)),
+        (15, 1, 0, Some(ExtFault::ExtHeader)),
+        (56, 2, 39, Some(ExtFault::ExtHeader)),
+        (16, 1, 0, None),
+        (16, 1, 20, Some(ExtFault::ExtLength)),
+        (55, 1, 39, Some(ExtFault::ExtLength)),
+        (56, 1, 39, Some(ExtFault::ExtLength)),
+        (56, 1, 40, Some(ExtFault::EntryTooFar { index: 0 })),
+    ];
+    for (length, kind, stated, want) in cases {
+        LittleEndian::write_u32(&mut bytes[8..], kind);
+        LittleEndian::write_u32(&mut bytes[12..], stated);
+        assert_eq!(rt; read_ext(rt.alloc(), &bytes[..length]).err(), want);
+    }
+    put_entry(&mut bytes, 16, RAM);
+    assert_eq!(rt;
+        read_ext(rt.alloc(), &bytes).err(),
+        Some(ExtFault::EntryTooFar { index: 1 })
+    );
+    put_entry(&mut bytes, 36, LAST);
+    assert_eq!(rt;
+        read_ext(rt.alloc(), &bytes)?.as_slice(),
+        [RAM, LAST].as_slice()
+    );
+    Ok(())
+}
+
+#[test]
+fn made_inputs(rt: HostRuntime) -> Result<(), Fail> {
+    // of so many entries: the last one of the page, those behind it, and the last one of these
+    let cases = [
+        (2, (0x10_0000, 0x800_0000, 1), 0, None),
+        (3, (135_266_304, 16_384, 2), 0, None),
+        (5, (135_372_800, 36_864, 2), 0, None),
+        (128, (139_169_792, 4096, 1), 0, None),
+        (
+            129,
+            (140_214_272, 12_288, 1),
+            1,
+            Some((140_226_560, 12_288, 2)),
+        ),
+        (
+            130,
+            (139_661_312, 16_384, 1),
+            2,
+            Some((139_722_752, 12_288, 1)),
+        ),
+        (
+            3000,
+            (139_825_152, 4096, 1),
+            2872,
+            Some((239_824_896, 32_768, 1)),
+        ),
+    ];
+    for (n, page, behind, last) in cases {
+        let input = made(rt.alloc(), n)?;
+        let seen = |entry: &Entry| (entry.addr, entry.size, entry.kind);
+        assert_eq!(rt;
+            input.zero.entries.as_slice().last().map(seen),
+            Some(page),
+            "{n}"
+        );
+        assert_eq!(rt; input.ext.len(), behind, "{n}");
+        assert_eq!(rt; input.ext.as_slice().last().map(seen), last, "{n}");
+    }
+    Ok(())
+}

@@ -1,0 +1,98 @@
+//! Each form of a line once, and each fault with the neighbours that one line can have at once.
+
+use script_reader::{Act, Line, Request, ScriptFault, read_script};
+use bm_base::Range;
+use std::test::Fail;
+
+#[test]
+fn each_form(rt: HostRuntime) -> Result<(), Fail> {
+    let text =
+        "# a comment\nalloc 1 64K 4096\nalloc 0x2 1 1 min 1M max 2M node 3 exact\n\n \treserve 3 0x1000 8K\r\nfree 1\ntrim 3 1\nfill 2 0xff\nsections\npeek 0 64";
+    let any = Request {
+        size: 65_536,
+        align: 4_096,
+        min: 0,
+        max: None,
+        node: None,
+        exact: false,
+    };
+    let on_node = Request {
+        size: 1,
+        align: 1,
+        min: 1 << 20,
+        max: Some(2 << 20),
+        node: Some(3),
+        exact: true,
+    };
+    let range = Range {
+        base: 4_096,
+        size: 8_192,
+    };
+    let want = [
+        (
+            2,
+            Act::Alloc {
+                id: 1,
+                request: any,
+            },
+        ),
+        (
+            3,
+            Act::Alloc {
+                id: 2,
+                request: on_node,
+            },
+        ),
+        (5, Act::Reserve { id: 3, range }),
+        (6, Act::Free { id: 1 }),
+        (7, Act::Trim { id: 3, keep: 1 }),
+        (8, Act::Fill { id: 2, byte: 255 }),
+        (9, Act::Sections),
+        (10, Act::Peek { at: 0, len: 64 }),
+    ];
+    let lines = read_script(rt.alloc(), text.as_bytes()).expect(&rt, "the lines");
+    assert_eq!(rt; lines.len(), want.len());
+    for (line, (number, act)) in lines.iter().zip(want) {
+        assert_eq!(rt; *line, Line { number, act }, "line {number}");
+    }
+    Ok(())
+}
+
+#[test]
+fn the_first_fault_of_the_lowest_line(rt: HostRuntime) {
+    let cases = [
+        ("free 1\nfree x\nfree\n", ScriptFault::BadNumber { line: 2 }),
+        ("free", ScriptFault::BadLine { line: 1 }),
+        ("free 1 2", ScriptFault::BadLine { line: 1 }),
+        ("alloc 1 2 4 max 1 min 1", ScriptFault::BadLine { line: 1 }),
+        ("alloc 1 2 4 exact", ScriptFault::BadLine { line: 1 }),
+        ("alloc x 0 3 node", ScriptFault::BadLine { line: 1 }),
+        ("alloc 1 0 3 node 1024", ScriptFault::BadNumber { line: 1 }),
+        ("alloc 4294967296 1 1", ScriptFault::BadNumber { line: 1 }),
+        ("alloc 1 0 3", ScriptFault::BadAlign { line: 1 }),
+        ("alloc 1 0 0", ScriptFault::BadAlign { line: 1 }),
+        ("alloc 1 0 2", ScriptFault::ZeroSize { line: 1 }),
+        ("fill 1 256", ScriptFault::BadNumber { line: 1 }),
+        ("peek 0 65", ScriptFault::BadNumber { line: 1 }),
+        ("peek 0 0", ScriptFault::ZeroSize { line: 1 }),
+        ("trim 1 0", ScriptFault::ZeroSize { line: 1 }),
+        (
+            "reserve 1 0xffffffffffffffff 1",
+            ScriptFault::TooFar { line: 1 },
+        ),
+        (
+            "peek 0xffffffffffffffc0 64",
+            ScriptFault::TooFar { line: 1 },
+        ),
+        (
+            "sections\n\nsections",
+            ScriptFault::SecondSections { line: 3 },
+        ),
+        ("sections\nsections 1", ScriptFault::BadLine { line: 2 }),
+        ("Free 1", ScriptFault::BadLine { line: 1 }),
+    ];
+    for (text, want) in cases {
+        let answer = read_script(rt.alloc(), text.as_bytes());
+        assert_eq!(rt; answer.err(), Some(want), "{text}");
+    }
+}

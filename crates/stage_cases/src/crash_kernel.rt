@@ -1,0 +1,235 @@
+//! Crash areas of two machines, line by line. The values are those of an implementation of the same rules in another
+//! language.
+
+ghost use Rattle.std.specs.Prelude.{◌≡◌, ◌+◌, ◌^◌, ◌<◌, IsTrue};
+ghost use Rattle.growth_model.specs.Sound.{IsImage, HasBegun};
+
+use crash_kernel::{Crash, reserve};
+use bm_base::Range;
+use boot_options::read_options;
+use growth_model::Refusal;
+use memblock_grow::Memblock;
+use memblock_model::{Item, Owner};
+use std::alloc::Global;
+use std::test::Fail;
+
+/// From one address up to another, and the node of what lies between.
+type Part = (u64, u64, u32);
+
+/// 512 MiB, less what firmware keeps.
+const SMALL: [Part; 2] = [(0x1000, 0x9F000, 0), (0x100000, 0x1FFE_0000, 0)];
+
+/// 2 GiB below 4 GiB and 6 GiB above, of two nodes.
+const LARGE: [Part; 4] = [
+    (0x1000, 0x9F000, 0),
+    (0x100000, 0x7FFD_F000, 0),
+    (0x1_0000_0000, 0x1_8000_0000, 0),
+    (0x1_8000_0000, 0x2_8000_0000, 1),
+];
+
+fn bytes(base: u64, size: u64) -> Range
+    requires { base + size < 2 ^ 64 }
+    ensures { result ≡ record { base = base; size = size } }
+{
+    Range { base, size }
+}
+
+fn at(base: u64, size: u64) -> Crash
+    requires { base + size < 2 ^ 64 }
+{
+    Crash::At {
+        main: bytes(base, size),
+        low: None,
+    }
+}
+
+fn at_both(base: u64, size: u64, low: u64, low_size: u64) -> Crash
+    requires main { base + size < 2 ^ 64 }
+    requires low { low + low_size < 2 ^ 64 }
+{
+    Crash::At {
+        main: bytes(base, size),
+        low: Some(bytes(low, low_size)),
+    }
+}
+
+// The machine's image is claimed.
+fn started(alloc: Global, kernel: Range) -> Result<Memblock, Refusal>
+    requires image { IsImage kernel }
+    requires some { 0 < kernel.size }
+{
+    let mut memblock = Memblock::new(alloc, kernel)?;
+    memblock.claim(kernel, Owner::Kernel)?;
+    Ok(memblock)
+}
+
+fn has_begun(memblock: &Memblock) -> bool
+    ensures { IsTrue result → HasBegun memblock.now.journal.items }
+{
+    memblock.journal().items().len() > 0
+}
+
+// Whether the part can be added and get its node; then it is.
+fn add(memblock: &mut Memblock, part: Part) -> Result<bool, Refusal> {
+    let (from, until, node) = part;
+    let Some(range) = Range::between(from, until) else {
+        return Ok(false);
+    };
+    if !has_begun(memblock) {
+        return Ok(false);
+    }
+    memblock.add_memory(range)?;
+    if node >= 1024 || !has_begun(memblock) {
+        return Ok(false);
+    }
+    memblock.set_node(range, node)?;
+    Ok(true)
+}
+
+// The machine with this memory, whose kernel lies at 16 MiB.
+fn machine(alloc: Global, memory: &[Part]) -> Result<Memblock, Fail> {
+    let mut memblock = started(alloc, bytes(0x100_0000, 0x240_0000))?;
+    for part in memory {
+        if !add(&mut memblock, *part)? {
+            return Err("memory".into());
+        }
+    }
+    Ok(memblock)
+}
+
+// What comes of the line, and the last thing that happened.
+fn reserved(alloc: Global, memory: &[Part], line: &[u8]) -> Result<(Crash, Option<Item>), Fail> {
+    let options = read_options(alloc, line)?;
+    let mut memblock = machine(alloc, memory)?;
+    if !has_begun(&memblock) {
+        return Err("items".into());
+    }
+    let crash = reserve(&mut memblock, &options.crash)?;
+    let last = memblock.journal().items().last().copied();
+    Ok((crash, last))
+}
+
+#[test]
+fn areas_below_4_gib(rt: HostRuntime) -> Result<(), Fail> {
+    let cases = [
+        (b"crashkernel=64M".as_slice(), at(0x1B00_0000, 0x400_0000)),
+        (b"crashkernel=64M@32M".as_slice(), Crash::InUse),
+        (
+            b"crashkernel=64M@256M".as_slice(),
+            at(0x1000_0000, 0x400_0000),
+        ),
+        (
+            b"crashkernel=64M@257M".as_slice(),
+            at(0x1010_0000, 0x400_0000),
+        ),
+        (b"crashkernel=64M@0x10080000".as_slice(), Crash::InUse),
+        (b"crashkernel=448M".as_slice(), Crash::NoArea),
+        (b"crashkernel=448M@64M".as_slice(), Crash::InUse),
+        (
+            b"crashkernel=447M@64M".as_slice(),
+            at(0x400_0000, 0x1BF0_0000),
+        ),
+        (
+            b"crashkernel=64M,high".as_slice(),
+            at(0x1B00_0000, 0x400_0000),
+        ),
+        (b"crashkernel=0".as_slice(), Crash::Nothing),
+        (b"crashkernel=1M,low".as_slice(), Crash::Nothing),
+        (b"crashkernel=16M@16777200T".as_slice(), Crash::InUse),
+    ];
+    for (line, want) in cases {
+        let (crash, _) = reserved(rt.alloc(), &SMALL, line)?;
+        assert_eq!(rt; crash, want, "at {line:?}");
+    }
+    Ok(())
+}
+
+// The memory of this machine is 0x1FF7E000 bytes.
+#[test]
+fn ranges_of_the_total(rt: HostRuntime) -> Result<(), Fail> {
+    let cases = [
+        (
+            b"crashkernel=0-512M:16M,512M-:32M".as_slice(),
+            at(0x1E00_0000, 0x100_0000),
+        ),
+        (
+            b"crashkernel=0-0x1ff7f000:16M,0x1ff7f000-:32M".as_slice(),
+            at(0x1E00_0000, 0x100_0000),
+        ),
+        (
+            b"crashkernel=0-0x1ff7e000:16M,0x1ff7e000-:32M".as_slice(),
+            at(0x1D00_0000, 0x200_0000),
+        ),
+        (
+            b"crashkernel=0-511M:16M crashkernel=48M,high".as_slice(),
+            at(0x1C00_0000, 0x300_0000),
+        ),
+        (
+            b"crashkernel=0 crashkernel=8M,high".as_slice(),
+            at(0x1F00_0000, 0x80_0000),
+        ),
+    ];
+    for (line, want) in cases {
+        let (crash, _) = reserved(rt.alloc(), &SMALL, line)?;
+        assert_eq!(rt; crash, want, "at {line:?}");
+    }
+    Ok(())
+}
+
+#[test]
+fn areas_above_4_gib(rt: HostRuntime) -> Result<(), Fail> {
+    let cases = [
+        (b"crashkernel=64M".as_slice(), at(0x7B00_0000, 0x400_0000)),
+        (
+            b"crashkernel=512M,high".as_slice(),
+            at_both(0x2_6000_0000, 0x2000_0000, 0x6F00_0000, 0x1000_0000),
+        ),
+        (
+            b"crashkernel=512M,high crashkernel=64M,low".as_slice(),
+            at_both(0x2_6000_0000, 0x2000_0000, 0x7B00_0000, 0x400_0000),
+        ),
+        (
+            b"crashkernel=512M,high crashkernel=0,low".as_slice(),
+            at(0x2_6000_0000, 0x2000_0000),
+        ),
+        (
+            b"crashkernel=3G".as_slice(),
+            at_both(0x1_C000_0000, 0xC000_0000, 0x6F00_0000, 0x1000_0000),
+        ),
+        (b"crashkernel=5G".as_slice(), Crash::NoArea),
+        (
+            b"crashkernel=64M@4G".as_slice(),
+            at_both(0x1_0000_0000, 0x400_0000, 0x6F00_0000, 0x1000_0000),
+        ),
+        (b"crashkernel=64M@6112M".as_slice(), Crash::InUse),
+        (
+            b"crashkernel=64M@6080M".as_slice(),
+            at_both(0x1_7C00_0000, 0x400_0000, 0x6F00_0000, 0x1000_0000),
+        ),
+    ];
+    for (line, want) in cases {
+        let (crash, _) = reserved(rt.alloc(), &LARGE, line)?;
+        assert_eq!(rt; crash, want, "at {line:?}");
+    }
+    Ok(())
+}
+
+// The low part is claimed behind the area; where it has no place, the area is given back.
+#[test]
+fn low_parts(rt: HostRuntime) -> Result<(), Fail> {
+    let line = b"crashkernel=512M,high".as_slice();
+    let (_, last) = reserved(rt.alloc(), &LARGE, line)?;
+    let claim = Item::Claim {
+        range: bytes(0x6F00_0000, 0x1000_0000),
+        owner: Owner::CrashLow,
+    };
+    assert_eq!(rt; last, Some(claim));
+    let line = b"crashkernel=512M,high crashkernel=2G,low".as_slice();
+    let (crash, last) = reserved(rt.alloc(), &LARGE, line)?;
+    let free = Item::Free {
+        range: bytes(0x2_6000_0000, 0x2000_0000),
+    };
+    assert_eq!(rt; crash, Crash::LowFailed);
+    assert_eq!(rt; last, Some(free));
+    Ok(())
+}

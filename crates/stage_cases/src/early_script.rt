@@ -1,0 +1,128 @@
+//! Each outcome once, on a machine of 128 MiB with its kernel at 16 MiB. The places are the greatest addresses by hand.
+ghost use Rattle.std.specs.Prelude.{◌≡◌, ◌+◌, ◌^◌, ◌<◌, ◌≤◌, length, IsTrue};
+ghost use Rattle.growth_model.specs.Sound.{HasBegun};
+ghost use Rattle.early_script.specs.Acted.{IsRun};
+
+use early_script::{Answer, Live, Outcome};
+use arrayvec::ArrayVec;
+use bm_base::Range;
+use memblock_grow::Memblock;
+use memblock_model::{Owner, Which};
+use script_reader::{Act, read_script};
+use std::alloc::Global;
+use std::test::Fail;
+
+const KERNEL: Range = Range {
+    base: 0x100_0000,
+    size: 0x100_0000,
+};
+
+const MEMORY: Range = Range {
+    base: 0,
+    size: 0x800_0000,
+};
+
+fn has_begun(memblock: &Memblock) -> bool
+    ensures { IsTrue result → HasBegun memblock.now.journal.items }
+{
+    memblock.journal().items().len() > 0
+}
+
+fn is_run(act: &Act) -> bool
+    ensures { IsTrue result → IsRun act.now }
+{
+    match act {
+        Act::Sections => false,
+        _ => true,
+    }
+}
+
+// The machine, whose allocations end at the address.
+fn machine(alloc: Global, limit: u64) -> Result<Memblock, Fail> {
+    let mut memblock = Memblock::new(alloc, KERNEL)?;
+    memblock.claim(KERNEL, Owner::Kernel)?;
+    if has_begun(&memblock) {
+        memblock.add_memory(MEMORY)?;
+    }
+    if has_begun(&memblock) {
+        memblock.set_limit(limit)?;
+    }
+    Ok(memblock)
+}
+
+// What comes of the lines of a script.
+fn run(alloc: Global, memblock: &mut Memblock, text: &str) -> Result<Vec<Outcome>, Fail>
+    requires { length text.now < 2 ^ 32 }
+{
+    let lines = read_script(alloc, text.as_bytes())?;
+    let mut live = Live::new(alloc);
+    let mut outcomes = Vec::new(alloc);
+    for line in &lines {
+        if has_begun(memblock) && is_run(&line.act) {
+            outcomes.push(live.run_line(memblock, line)?)?;
+        }
+    }
+    Ok(outcomes)
+}
+
+#[test]
+fn each_outcome(rt: HostRuntime) -> Result<(), Fail> {
+    let alloc = rt.alloc();
+    let mut memblock = machine(alloc, 0x800_0000)?;
+    let outcomes = run(
+        alloc,
+        &mut memblock,
+        "alloc 1 64K 4096\nalloc 1 1 1\nreserve 2 0x3000000 8K\nreserve 3 0x1ffdfff 2\nreserve 4 0x3001000 4K\nfree 2\nfree 9\ntrim 1 64K\ntrim 1 4K\nalloc 5 4K 4096\nalloc 6 4K 4096 max 8K\nalloc 7 4K 4096 max 8191\nfill 4 0xab\npeek 0x3000fff 3\nreserve 8 0x4000000 65537\nfill 8 1\nfree 4\nfill 4 1",
+    )?;
+    let mut told = ArrayVec::new();
+    told.try_push(0).ok().ok_or("no room")?;
+    told.try_push(0xAB).ok().ok_or("no room")?;
+    told.try_push(0xAB).ok().ok_or("no room")?;
+    let want = [
+        Outcome::At(0x7FF_0000),
+        Outcome::Taken,
+        Outcome::Done,
+        Outcome::TableInUse,
+        Outcome::Done,
+        Outcome::NotWhole,
+        Outcome::Unknown,
+        Outcome::TooLargeKeep,
+        Outcome::Done,
+        Outcome::At(0x7FF_F000),
+        Outcome::At(0x1000),
+        Outcome::NoGap,
+        Outcome::Done,
+        Outcome::Bytes(told),
+        Outcome::Done,
+        Outcome::TooLargeFill,
+        Outcome::Done,
+        Outcome::Unknown,
+    ];
+    assert_eq!(rt; outcomes.as_slice(), want.as_slice());
+    Ok(())
+}
+
+// The reserved table has room for 128 records, one of them the kernel's; with a limit of 0 it finds no place to grow to.
+#[test]
+fn no_place_for_a_table(rt: HostRuntime) -> Result<(), Fail> {
+    let alloc = rt.alloc();
+    let mut memblock = machine(alloc, 0)?;
+    let mut text = String::new(alloc);
+    for id in 0..128u32 {
+        let line = format!(in alloc; "reserve {id} {} 4K\n", 0x300_0000 + u64::from(id) * 8192)?;
+        text.push_str(line.as_str())?;
+    }
+    if text.len() < 65_536 {
+        let outcomes = run(alloc, &mut memblock, text.as_str())?;
+        assert_eq!(rt; outcomes.len(), 128);
+        assert_eq!(rt; outcomes[126], Outcome::Done);
+        assert_eq!(rt;
+            outcomes[127],
+            Outcome::NoGapForTable {
+                which: Which::Reserved,
+                room: 128
+            }
+        );
+    }
+    Ok(())
+}

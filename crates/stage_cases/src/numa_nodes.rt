@@ -1,0 +1,195 @@
+//! A machine of 128 MiB with its kernel at 16 MiB: its Node items and the places of node data, by hand.
+ghost use Rattle.std.specs.Prelude.{◌≡◌, ◌-◌, ◌^◌, ◌<◌, ◌≤◌, IfOk, IsTrue, length};
+ghost use Rattle.memblock_model.specs.Items.{limit_of};
+ghost use Rattle.growth_model.specs.Sound.{HasBegun};
+
+use numa_nodes::{Nodes, Why, assign, listed_nodes_have_memory, nodes_leave_memory, nodes_reach_memory};
+use bm_base::Range;
+use boot_journal::{Item, Owner};
+use memblock_grow::Memblock;
+use srat_reader::{Srat, SratBlock};
+use stage_model::{StageStop, What};
+use std::alloc::{AllocError, Global};
+use std::test::Fail;
+
+const KERNEL: Range = Range {
+    base: 0x100_0000,
+    size: 0x100_0000,
+};
+
+const MEMORY: Range = Range {
+    base: 0,
+    size: 0x800_0000,
+};
+
+/// The bytes of a node's data.
+const DATA: u64 = 0x2B000;
+
+fn has_begun(memblock: &Memblock) -> bool
+    ensures { IsTrue result → HasBegun memblock.now.journal.items }
+{
+    memblock.journal().items().len() > 0
+}
+
+fn has_limit(memblock: &Memblock) -> bool
+    ensures { IsTrue result → 0 < limit_of memblock.now.journal.items }
+{
+    matches!(memblock.journal().items(), [.., Item::Limit { at }] if *at > 0)
+}
+
+// The addresses from one up to another.
+fn part(from: u64, until: u64) -> Range
+    requires { from ≤ until }
+    ensures { result ≡ record { base = from; size = until - from } }
+{
+    Range {
+        base: from,
+        size: until - from,
+    }
+}
+
+fn block(domain: u32, from: u64, until: u64) -> SratBlock
+    requires { from ≤ until }
+{
+    SratBlock {
+        domain,
+        range: part(from, until),
+    }
+}
+
+// The machine, whose allocations end at the address.
+fn machine(alloc: Global, limit: u64) -> Result<Memblock, Fail> {
+    let mut memblock = Memblock::new(alloc, KERNEL)?;
+    memblock.claim(KERNEL, Owner::Kernel)?;
+    if has_begun(&memblock) {
+        memblock.add_memory(MEMORY)?;
+    }
+    if has_begun(&memblock) {
+        memblock.set_limit(limit)?;
+    }
+    Ok(memblock)
+}
+
+// A table of these blocks.
+fn table(alloc: Global, blocks: &[SratBlock]) -> Result<Srat, AllocError>
+    ensures { IfOk result (λ srat. length srat.blocks.items ≡ length blocks.now) }
+{
+    Ok(Srat {
+        cpus: Vec::new(alloc),
+        blocks: Vec::from_slice(alloc, blocks)?,
+    })
+}
+
+// The items behind those of the machine.
+fn items_behind(memblock: &Memblock) -> &[Item] {
+    match memblock.journal().items() {
+        [_, _, _, behind @ ..] => behind,
+        _ => &[],
+    }
+}
+
+// The nodes of the machine by a table of these blocks.
+fn nodes_by(
+    alloc: Global,
+    memblock: &mut Memblock,
+    blocks: &[SratBlock],
+) -> Result<Option<Nodes>, Fail>
+    requires { length blocks.now < 2 ^ 32 }
+{
+    let srat = table(alloc, blocks)?;
+    if !has_begun(memblock) || !has_limit(memblock) {
+        return Ok(None);
+    }
+    Ok(Some(assign(alloc, memblock, Some(&srat), false)?))
+}
+
+// Three blocks of two domains, with a hole between those of the second one, and 64 KiB that none covers: the lowest node
+// gets these, and they are too few for its data
+#[test]
+fn two_nodes_and_a_rest(rt: HostRuntime) -> Result<(), Fail> {
+    let alloc = rt.alloc();
+    let mut memblock = machine(alloc, 0x800_0000)?;
+    let blocks = [
+        block(7, 0, 0x400_0000),
+        block(3, 0x400_0000, 0x500_0000),
+        block(3, 0x600_0000, 0x7FF_0000),
+    ];
+    let nodes = nodes_by(alloc, &mut memblock, &blocks)?.ok_or("not ready")?;
+    assert_eq!(rt; nodes.why, Why::Used);
+    assert_eq!(rt; nodes.domains.as_slice(), [7, 3].as_slice());
+    assert_eq!(rt; nodes.uncovered, 16);
+    assert_eq!(rt; nodes.with_memory.as_slice(), [0, 1].as_slice());
+    let want = [
+        Item::Node {
+            range: part(0, 0x400_0000),
+            node: 0,
+        },
+        Item::Node {
+            range: part(0x400_0000, 0x7FF_0000),
+            node: 1,
+        },
+        Item::Node {
+            range: part(0x7FF_0000, 0x800_0000),
+            node: 0,
+        },
+        Item::Claim {
+            range: part(0x3FD_5000, 0x400_0000),
+            owner: Owner::NodeData(0),
+        },
+        Item::Claim {
+            range: part(0x7FC_5000, 0x7FF_0000),
+            owner: Owner::NodeData(1),
+        },
+    ];
+    assert_eq!(rt; items_behind(&memblock), want.as_slice());
+    Ok(())
+}
+
+// No table: all below the limit is of node 0, whose data goes to the top
+#[test]
+fn no_table(rt: HostRuntime) -> Result<(), Fail> {
+    let alloc = rt.alloc();
+    let mut memblock = machine(alloc, 0x800_0000)?;
+    if has_begun(&memblock) && has_limit(&memblock) {
+        let nodes = assign(alloc, &mut memblock, None, false)?;
+        assert_eq!(rt; nodes.why, Why::Absent);
+        assert_eq!(rt; nodes.domains.len(), 0);
+        assert_eq!(rt; nodes.with_memory.as_slice(), [0].as_slice());
+    }
+    let want = [
+        Item::Node {
+            range: MEMORY,
+            node: 0,
+        },
+        Item::Claim {
+            range: part(0x800_0000 - DATA, 0x800_0000),
+            owner: Owner::NodeData(0),
+        },
+    ];
+    assert_eq!(rt; items_behind(&memblock), want.as_slice());
+    Ok(())
+}
+
+// Where no place is left for the data of a node the boot stops
+#[test]
+fn no_place_for_node_data(rt: HostRuntime) -> Result<(), Fail> {
+    let alloc = rt.alloc();
+    let mut memblock = machine(alloc, DATA - 1)?;
+    if has_begun(&memblock) && has_limit(&memblock) {
+        let stop = assign(alloc, &mut memblock, None, true).err();
+        assert_eq!(rt;
+            stop,
+            Some(StageStop::NoPlace {
+                what: What::NodeData(0)
+            })
+        );
+    }
+    Ok(())
+}
+
+#[test]
+fn laws_are_called() {
+    nodes_leave_memory();
+    nodes_reach_memory();
+    listed_nodes_have_memory();
+}

@@ -1,0 +1,108 @@
+//! The maps of two groups, the second of which has no piece for all of its maps. The places are the greatest addresses by hand.
+ghost use Rattle.std.specs.Prelude.{◌<◌, IsTrue};
+ghost use Rattle.growth_model.specs.Sound.{HasBegun};
+
+use section_maps::{Placed, place_maps};
+use bm_base::Range;
+use memblock_grow::Memblock;
+use memblock_model::Owner;
+use stage_model::Section;
+use std::alloc::Global;
+use std::test::Fail;
+
+const KERNEL: Range = Range {
+    base: 0x100_0000,
+    size: 0x100_0000,
+};
+
+// Sections 0 and 1; of sections 2 and 3 the first 3 MiB each.
+const FIRST: Range = Range {
+    base: 0,
+    size: 0x1000_0000,
+};
+
+const SECOND: Range = Range {
+    base: 0x1000_0000,
+    size: 0x30_0000,
+};
+
+const THIRD: Range = Range {
+    base: 0x1800_0000,
+    size: 0x30_0000,
+};
+
+fn has_begun(memblock: &Memblock) -> bool
+    ensures { IsTrue result → HasBegun memblock.now.journal.items }
+{
+    memblock.journal().items().len() > 0
+}
+
+fn add(memblock: &mut Memblock, range: Range, node: u32) -> Result<(), Fail>
+    requires some { 0 < range.size }
+    requires node { node < 1024 }
+{
+    if has_begun(memblock) {
+        memblock.add_memory(range)?;
+    }
+    if has_begun(memblock) {
+        memblock.set_node(range, node)?;
+    }
+    Ok(())
+}
+
+// The machine, whose allocations end with its memory.
+fn machine(alloc: Global) -> Result<Memblock, Fail> {
+    let mut memblock = Memblock::new(alloc, KERNEL)?;
+    memblock.claim(KERNEL, Owner::Kernel)?;
+    add(&mut memblock, FIRST, 0)?;
+    add(&mut memblock, SECOND, 1)?;
+    add(&mut memblock, THIRD, 1)?;
+    if has_begun(&memblock) {
+        memblock.set_limit(0x1830_0000)?;
+    }
+    Ok(memblock)
+}
+
+#[test]
+fn one_piece_and_one_by_one(rt: HostRuntime) -> Result<(), Fail> {
+    let alloc = rt.alloc();
+    let mut memblock = machine(alloc)?;
+    let sections = [
+        Section { number: 0, node: 0 },
+        Section { number: 1, node: 0 },
+        Section { number: 2, node: 1 },
+        Section { number: 3, node: 1 },
+    ];
+    if !has_begun(&memblock) {
+        return Err("nothing has happened".into());
+    }
+    let placed = place_maps(alloc, &mut memblock, &sections)?;
+    let want = [
+        Placed {
+            section: 0,
+            node: 0,
+            map: 0xFA0_0000,
+            usage: 0xFFF_FF80,
+        },
+        Placed {
+            section: 1,
+            node: 0,
+            map: 0xFC0_0000,
+            usage: 0xFFF_FFA8,
+        },
+        Placed {
+            section: 2,
+            node: 1,
+            map: 0x1800_0000,
+            usage: 0x182F_FF80,
+        },
+        Placed {
+            section: 3,
+            node: 1,
+            map: 0x1000_0000,
+            usage: 0x182F_FFA8,
+        },
+    ];
+    assert_eq!(rt; placed.as_slice(), want.as_slice());
+    Ok(())
+}

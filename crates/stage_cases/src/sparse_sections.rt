@@ -1,0 +1,131 @@
+//! Sections and roots of a machine of two nodes. The places are the greatest addresses by hand.
+ghost use Rattle.std.specs.Prelude.{◌≡◌, ◌+◌, ◌%◌, ◌^◌, ◌<◌, ◌≤◌, IsTrue};
+ghost use Rattle.std.specs.List.{All};
+ghost use Rattle.growth_model.specs.Sound.{HasBegun};
+ghost use Rattle.sparse_sections.specs.Present.{IsWholeNoded};
+
+use sparse_sections::{RootPlace, place_roots, present};
+use bm_base::{FRAME_SIZE, Range};
+use memblock_grow::Memblock;
+use memblock_model::{Owner, Which};
+use memblock_ranges::{Region, Tables};
+use stage_model::Section;
+use std::alloc::Global;
+use std::test::Fail;
+
+const KERNEL: Range = Range {
+    base: 0x100_0000,
+    size: 0x100_0000,
+};
+
+// Sections 0 and 1, then section 2 and a frame of section 3, and section 256.
+const FIRST: Range = Range {
+    base: 0,
+    size: 0x1000_0000,
+};
+
+const SECOND: Range = Range {
+    base: 0x1000_0000,
+    size: 0x800_1000,
+};
+
+const FAR: Range = Range {
+    base: 0x8_0000_0000,
+    size: 0x800_0000,
+};
+
+fn has_begun(memblock: &Memblock) -> bool
+    ensures { IsTrue result → HasBegun memblock.now.journal.items }
+{
+    memblock.journal().items().len() > 0
+}
+
+fn is_whole(region: &Region) -> bool
+    ensures base { IsTrue result → region.now.base % 4096 ≡ 0 }
+    ensures size { IsTrue result → region.now.size % 4096 ≡ 0 }
+    ensures node { IsTrue result → region.now.node < 1024 }
+    ensures reach { IsTrue result → region.now.base + region.now.size ≤ 2 ^ 46 }
+{
+    region.base % FRAME_SIZE == 0
+        && region.size % FRAME_SIZE == 0
+        && region.node < 1024
+        && region.size <= 0x4000_0000_0000
+        && region.base <= 0x4000_0000_0000 - region.size
+}
+
+fn add(memblock: &mut Memblock, range: Range, node: u32) -> Result<(), Fail>
+    requires some { 0 < range.size }
+    requires node { node < 1024 }
+{
+    if has_begun(memblock) {
+        memblock.add_memory(range)?;
+    }
+    if has_begun(memblock) {
+        memblock.set_node(range, node)?;
+    }
+    Ok(())
+}
+
+// The machine, whose allocations end with its memory.
+fn machine(alloc: Global) -> Result<Memblock, Fail> {
+    let mut memblock = Memblock::new(alloc, KERNEL)?;
+    memblock.claim(KERNEL, Owner::Kernel)?;
+    add(&mut memblock, FIRST, 0)?;
+    add(&mut memblock, SECOND, 1)?;
+    add(&mut memblock, FAR, 1)?;
+    if has_begun(&memblock) {
+        memblock.set_limit(0x8_0800_0000)?;
+    }
+    Ok(memblock)
+}
+
+// Whether each record is such that sections are found by it.
+fn are_whole(tables: &Tables) -> bool
+    ensures { IsTrue result → All IsWholeNoded tables.now.memory.records }
+{
+    let records = tables.records(Which::Memory);
+    for i in 0..records.count() {
+        if !is_whole(&records.get(i)) {
+            return false;
+        }
+    }
+    true
+}
+
+#[test]
+fn sections_and_roots(rt: HostRuntime) -> Result<(), Fail> {
+    let alloc = rt.alloc();
+    let mut memblock = machine(alloc)?;
+    if !are_whole(memblock.tables()) {
+        return Err("a record isn't whole".into());
+    }
+    let sections = present(alloc, memblock.tables())?;
+    let want = [(0, 0), (1, 0), (2, 1), (3, 1), (256, 1)];
+    assert_eq!(rt; sections.len(), want.len());
+    for (section, (number, node)) in sections.iter().zip(&want) {
+        assert_eq!(rt;
+            *section,
+            Section {
+                number: *number,
+                node: *node
+            }
+        );
+    }
+    if !has_begun(&memblock) {
+        return Err("nothing has happened".into());
+    }
+    let roots = place_roots(alloc, &mut memblock, &sections)?;
+    let places = [
+        RootPlace {
+            number: 0,
+            place: 0xFFF_F000,
+        },
+        RootPlace {
+            number: 1,
+            place: 0x8_07FF_B000,
+        },
+    ];
+    assert_eq!(rt; roots.table, 0x8_07FF_C000);
+    assert_eq!(rt; roots.roots.as_slice(), places.as_slice());
+    Ok(())
+}
