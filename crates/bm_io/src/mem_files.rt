@@ -143,6 +143,7 @@ fn file_named<'a>(files: &'a [MemFile], name: &str) -> Option<&'a MemFile>
 #[cfg(test)]
 mod tests {
     use super::*;
+    use std::process::Abort;
     use std::test::Fail;
 
     #[test]
@@ -159,11 +160,24 @@ mod tests {
             ("zp", 2, Err(Fetch::TooLong)),
             ("other", 3, Err(Fetch::Failed)),
         ];
-        for (name, limit, want) in cases {
-            let answer = files.fetch(alloc, name, limit);
+        compare(&rt, alloc, &mut files, &cases);
+        let answer = files.fetch(alloc, "zp", 3).expect(&rt, "the file");
+        assert_eq!(rt; answer.as_slice(), b"\x01\x02\x03".as_slice());
+        Ok(())
+    }
+
+    /// Each row is a name, a limit, and how many bytes are given.
+    fn compare(
+        rt: &impl Abort,
+        alloc: Global,
+        files: &mut MemFiles,
+        rows: &[(&str, u64, Result<usize, Fetch>)],
+    ) {
+        for (name, limit, want) in rows {
+            let answer = files.fetch(alloc, name, *limit);
             assert_eq!(rt;
                 answer.map(|bytes| bytes.len()),
-                want,
+                *want,
                 "{name} up to {limit}"
             );
         }
@@ -171,8 +185,5 @@ mod tests {
             (files.calls, files.faults, files.taken, files.wants),
             (4, 2, 6, 0)
         );
-        let answer = files.fetch(alloc, "zp", 3).expect(&rt, "the file");
-        assert_eq!(rt; answer.as_slice(), b"\x01\x02\x03".as_slice());
-        Ok(())
     }
 }

@@ -140,6 +140,7 @@ mod tests {
     use super::*;
     use crate::system::SystemStream;
     use std::io::Read;
+    use std::process::Abort;
     use std::test::Fail;
     use std::{fs, io, process};
 
@@ -174,21 +175,39 @@ mod tests {
             (8, 5, 8, Ok(8)),
             (0, 0, 0, Ok(0)),
         ];
-        for (left, failing, limit, want) in cases {
-            let mut files = RealFiles::new(&rt);
-            let slow = Slow {
-                left,
-                calls: 0,
-                failing,
-            };
-            let mut reader = SystemStream { inner: slow };
-            let answer = files.read_whole(&mut reader, rt.alloc(), limit);
-            assert_eq!(rt;
-                answer.map(|bytes| bytes.len()),
-                want,
-                "{left} up to {limit}, failing at {failing}"
-            );
+        compare_reads(&rt, &rt, rt.alloc(), &cases);
+    }
+
+    /// Each row is how many bytes are left, the call that fails, a limit, and how many bytes are given.
+    fn compare_reads(
+        rt: &impl Abort,
+        system: &impl rt::Files,
+        alloc: Global,
+        rows: &[(usize, u64, u64, Result<usize, Fetch>)],
+    ) {
+        for (left, failing, limit, want) in rows {
+            let answer = read_slowly(system, alloc, *left, *failing, *limit);
+            assert_eq!(rt; answer, *want, "{left} up to {limit}, failing at {failing}");
         }
+    }
+
+    /// How many bytes a fetch from such a reader gives.
+    fn read_slowly(
+        system: &impl rt::Files,
+        alloc: Global,
+        left: usize,
+        failing: u64,
+        limit: u64,
+    ) -> Result<usize, Fetch> {
+        let mut files = RealFiles::new(system);
+        let slow = Slow {
+            left,
+            calls: 0,
+            failing,
+        };
+        let mut reader = SystemStream { inner: slow };
+        let bytes = files.read_whole(&mut reader, alloc, limit)?;
+        Ok(bytes.len())
     }
 
     #[test]
@@ -203,21 +222,31 @@ mod tests {
             ("/tmp/bm_io-no-such-file", 10_000, Err(Fetch::Failed)),
             ("/tmp", 10_000, Err(Fetch::Failed)),
         ];
-        let mut files = RealFiles::new(&rt);
-        for (name, limit, want) in cases {
-            let answer = files.fetch(alloc, name, limit);
-            assert_eq!(rt;
-                answer.map(|bytes| bytes.len()),
-                want,
-                "{name} up to {limit}"
-            );
-        }
-        assert_eq!(rt; (files.faults, files.taken), (2, 20_000));
-        let answer = files
+        compare_files(&rt, &rt, alloc, &cases);
+        let answer = RealFiles::new(&rt)
             .fetch(alloc, there.as_str(), 10_000)
             .expect(&rt, "the file");
         assert_eq!(rt; answer.as_slice(), bytes.as_slice());
         fs::remove_file(&rt, there.as_str())?;
         Ok(())
+    }
+
+    /// Each row is a name, a limit, and how many bytes are given.
+    fn compare_files(
+        rt: &impl Abort,
+        system: &impl rt::Files,
+        alloc: Global,
+        rows: &[(&str, u64, Result<usize, Fetch>)],
+    ) {
+        let mut files = RealFiles::new(system);
+        for (name, limit, want) in rows {
+            let answer = files.fetch(alloc, name, *limit);
+            assert_eq!(rt;
+                answer.map(|bytes| bytes.len()),
+                *want,
+                "{name} up to {limit}"
+            );
+        }
+        assert_eq!(rt; (files.faults, files.taken), (2, 20_000));
     }
 }

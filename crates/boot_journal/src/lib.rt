@@ -22,4 +22,3 @@ mod tags;
 
 pub use journal::Journal;
 pub use memblock_model::{Item, Owner, OwnerRun, Tag, Which};
-

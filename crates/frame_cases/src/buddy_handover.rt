@@ -1,13 +1,14 @@
 //! Handovers of whole machines, and frames that come in any order; all numbers from outside.
-ghost use Rattle.std.specs.Prelude.{◌≡◌, ◌+◌, ◌≤◌, None, IsTrue};
+ghost use Rattle.std.specs.Prelude.{◌≡◌, ◌+◌, ◌^◌, ◌<◌, ◌≤◌, None, IsTrue};
 ghost use Rattle.buddy_handover.specs.Contents.{free};
 
-use buddy_handover::{Block, Buddy, MAX_FRAMES, hand_over};
 use bm_base::{FRAME_SIZE, Memory, Range, Zone};
+use buddy_handover::{Block, Buddy, MAX_FRAMES, hand_over};
 use memblock_model::Which;
 use memblock_ranges::{Heads, Tables};
 use phys_store::Store;
 use std::alloc::Global;
+use std::process::Abort;
 use std::test::Fail;
 use table_frames::{has_records, has_whole_frames};
 
@@ -89,6 +90,36 @@ fn free(buddy: &mut Buddy, first: u64, count: u64, node: u32) -> Result<bool, Me
     Ok(true)
 }
 
+// How many blocks of each order a node has in a zone.
+type Counts = (u32, Zone, [u64; 11]);
+
+fn compare_counts(rt: &impl Abort, buddy: &Buddy, rows: &[Counts]) {
+    for (node, zone, expected) in rows {
+        assert_eq!(rt; counts(buddy, *node, *zone), *expected);
+    }
+}
+
+fn compare_blocks(rt: &impl Abort, buddy: &Buddy, rows: &[(u64, Option<Block>)]) {
+    for (frame, block) in rows {
+        assert_eq!(rt; buddy.block_of(*frame), *block, "frame {frame:#x}");
+    }
+}
+
+// How many blocks there are, and the first and the last of them.
+fn compare_list(
+    rt: &impl Abort,
+    buddy: &Buddy,
+    many: usize,
+    ends: [Block; 2],
+) -> Result<(), Memory> {
+    let blocks = buddy.blocks()?;
+    assert_eq!(rt; blocks.len(), many);
+    let [first, last] = ends;
+    assert_eq!(rt; blocks.first().copied(), Some(first));
+    assert_eq!(rt; blocks.last().copied(), Some(last));
+    Ok(())
+}
+
 // A virtual machine of 128 MiB, with the kernel at 16 MiB: `/proc/buddyinfo` of it, and blocks at both ends.
 #[test]
 fn a_virtual_machine_of_128_mib(rt: HostRuntime) -> Result<(), Fail> {
@@ -102,19 +133,13 @@ fn a_virtual_machine_of_128_mib(rt: HostRuntime) -> Result<(), Fail> {
     ];
     let (store, heads) = tables_of(rt.alloc(), &memory, &reserved)?;
     let buddy = handed(rt.alloc(), &store, &heads)?;
-    assert_eq!(rt;
-        counts(&buddy, 0, Zone::Dma),
-        [0, 0, 0, 0, 0, 0, 0, 0, 1, 1, 3]
-    );
-    assert_eq!(rt;
-        counts(&buddy, 0, Zone::Dma32),
-        [1, 1, 1, 1, 0, 1, 0, 1, 1, 0, 19]
-    );
-    assert_eq!(rt; counts(&buddy, 0, Zone::Normal), [0; 11]);
-    assert_eq!(rt; counts(&buddy, 1, Zone::Dma32), [0; 11]);
-
-    let blocks = buddy.blocks()?;
-    assert_eq!(rt; blocks.len(), 31);
+    let expected = [
+        (0, Zone::Dma, [0, 0, 0, 0, 0, 0, 0, 0, 1, 1, 3]),
+        (0, Zone::Dma32, [1, 1, 1, 1, 0, 1, 0, 1, 1, 0, 19]),
+        (0, Zone::Normal, [0; 11]),
+        (1, Zone::Dma32, [0; 11]),
+    ];
+    compare_counts(&rt, &buddy, &expected);
     let first = Block {
         order: 8,
         first: 0x100,
@@ -127,12 +152,14 @@ fn a_virtual_machine_of_128_mib(rt: HostRuntime) -> Result<(), Fail> {
         node: 0,
         zone: Zone::Dma32,
     };
-    assert_eq!(rt; blocks.first().copied(), Some(first));
-    assert_eq!(rt; blocks.last().copied(), Some(last));
-    assert_eq!(rt; buddy.block_of(0x1FF), Some(first));
-    assert_eq!(rt; buddy.block_of(0x7FAE), Some(last));
-    assert_eq!(rt; buddy.block_of(0x7FAF), None);
-    assert_eq!(rt; buddy.block_of(0), None);
+    compare_list(&rt, &buddy, 31, [first, last])?;
+    let expected = [
+        (0x1FF, Some(first)),
+        (0x7FAE, Some(last)),
+        (0x7FAF, None),
+        (0, None),
+    ];
+    compare_blocks(&rt, &buddy, &expected);
     Ok(())
 }
 
@@ -157,14 +184,11 @@ fn a_node_border_inside_a_set(rt: HostRuntime) -> Result<(), Fail> {
     ];
     let (store, heads) = tables_of(rt.alloc(), &memory, &reserved)?;
     let buddy = handed(rt.alloc(), &store, &heads)?;
-    assert_eq!(rt;
-        counts(&buddy, 0, Zone::Dma32),
-        [1, 1, 1, 1, 0, 1, 0, 1, 2, 0, 11]
-    );
-    assert_eq!(rt;
-        counts(&buddy, 1, Zone::Dma32),
-        [1, 0, 1, 0, 1, 0, 1, 1, 2, 2, 6]
-    );
+    let expected = [
+        (0, Zone::Dma32, [1, 1, 1, 1, 0, 1, 0, 1, 2, 0, 11]),
+        (1, Zone::Dma32, [1, 0, 1, 0, 1, 0, 1, 1, 2, 2, 6]),
+    ];
+    compare_counts(&rt, &buddy, &expected);
     let below = Block {
         order: 8,
         first: 0x4000,
@@ -177,9 +201,26 @@ fn a_node_border_inside_a_set(rt: HostRuntime) -> Result<(), Fail> {
         node: 1,
         zone: Zone::Dma32,
     };
-    assert_eq!(rt; buddy.block_of(0x40FF), Some(below));
-    assert_eq!(rt; buddy.block_of(0x4100), Some(above));
+    compare_blocks(&rt, &buddy, &[(0x40FF, Some(below)), (0x4100, Some(above))]);
     Ok(())
+}
+
+// Frees two halves of a block, in this order.
+fn free_halves(
+    rt: &impl Abort,
+    buddy: &mut Buddy,
+    first: u64,
+    second: u64,
+    whole: Block,
+) -> Result<(), Memory>
+    requires { first + 0x1FF < 2 ^ 64 }
+{
+    assert!(rt; free(buddy, first, 0x200, 5)?);
+    assert!(rt; !free(buddy, first + 0x1FF, 1, 5)?);
+    assert_eq!(rt; buddy.block_of(second), None);
+    assert!(rt; free(buddy, second, 0x200, 5)?);
+    compare_blocks(rt, buddy, &[(first, Some(whole)), (second, Some(whole))]);
+    compare_list(rt, buddy, 1, [whole, whole])
 }
 
 // Two ranges that meet give one block, whichever comes first; with memory for 32 entries neither wants any.
@@ -194,15 +235,17 @@ fn ranges_that_meet(rt: HostRuntime) -> Result<(), Fail> {
     for (first, second) in [(0x2000, 0x2200), (0x2200, 0x2000)] {
         let mut buddy = Buddy::new(rt.alloc());
         buddy.ready(32)?;
-        assert!(rt; free(&mut buddy, first, 0x200, 5)?);
-        assert!(rt; !free(&mut buddy, first + 0x1FF, 1, 5)?);
-        assert_eq!(rt; buddy.block_of(second), None);
-        assert!(rt; free(&mut buddy, second, 0x200, 5)?);
-        assert_eq!(rt; buddy.block_of(first), Some(whole));
-        assert_eq!(rt; buddy.block_of(second), Some(whole));
-        assert_eq!(rt; buddy.blocks()?.len(), 1);
+        free_halves(&rt, &mut buddy, first, second, whole)?;
     }
     Ok(())
+}
+
+// Each frame is a block of its own, in this zone.
+fn compare_zones(rt: &impl Abort, buddy: &Buddy, rows: &[(u64, Zone)]) {
+    for (frame, zone) in rows {
+        let block = buddy.block_of(*frame).map(|b| (b.order, b.zone));
+        assert_eq!(rt; block, Some((0, *zone)));
+    }
 }
 
 // The borders of zones: DMA ends at 16 MiB, DMA32 at 4 GiB.
@@ -217,11 +260,6 @@ fn borders_of_zones(rt: HostRuntime) -> Result<(), Fail> {
         (0xFFFFF, Zone::Dma32),
         (0x100000, Zone::Normal),
     ];
-    for (frame, zone) in expected {
-        assert_eq!(rt;
-            buddy.block_of(frame).map(|b| (b.order, b.zone)),
-            Some((0, zone))
-        );
-    }
+    compare_zones(&rt, &buddy, &expected);
     Ok(())
 }

@@ -1,11 +1,11 @@
 //! What small tables say of frames, from their bytes.
 
-use table_frames::{Claim, RecordFrames, frames_at, has_records, has_whole_frames, next_claim};
 use bm_base::Range;
 use memblock_model::Which;
 use memblock_ranges::{Head, Tables};
 use phys_store::Store;
 use std::test::Fail;
+use table_frames::{Claim, RecordFrames, frames_at, has_records, has_whole_frames, next_claim};
 
 // Whether the range can be covered with the node; then it is.
 fn cover(tables: &mut Tables, which: Which, base: u64, size: u64, node: u32) -> bool {

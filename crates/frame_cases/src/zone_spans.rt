@@ -1,6 +1,5 @@
 //! The spans of whole machines, by values from outside.
 
-use zone_spans::{Span, spans, spans_are_of_frames};
 use bm_base::{FRAME_SIZE, Range, Zone};
 use frame_blocks::MAX_FRAMES;
 use memblock_model::Which;
@@ -9,6 +8,7 @@ use phys_store::Store;
 use std::alloc::Global;
 use std::test::Fail;
 use table_frames::{has_records, has_whole_frames};
+use zone_spans::{Span, spans, spans_are_of_frames};
 
 // Whether the memory can be added with the node; then it is.
 fn add(tables: &mut Tables, first: u64, behind: u64, node: u32) -> bool {

@@ -3,9 +3,9 @@
 ghost use Rattle.std.specs.Prelude.{◌≡◌, ◌+◌, ◌^◌, ◌<◌};
 ghost use Rattle.e820_model.specs.Claims.{EndInSpace, HasTypes};
 
-use e820_sanitise::{MapFault, Run, Table};
 use bm_base::Range;
 use e820_model::{Edit, Entry};
+use e820_sanitise::{MapFault, Run, Table};
 use std::alloc::Global;
 use std::process::Abort;
 

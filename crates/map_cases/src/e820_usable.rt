@@ -3,9 +3,9 @@
 ghost use Rattle.std.specs.Prelude.{◌≡◌, ◌+◌, ◌^◌, ◌<◌};
 ghost use Rattle.address_runs.specs.Runs.{AreRuns};
 
-use e820_usable::{MapStop, judge, usable_frames};
 use bm_base::Range;
 use e820_model::Run;
+use e820_usable::{MapStop, judge, usable_frames};
 use std::process::Abort;
 
 fn run(base: u64, size: u64, kind: u32) -> Run

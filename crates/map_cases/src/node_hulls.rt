@@ -1,9 +1,9 @@
 //! Small machines: what the table of domains gives on them, and why it isn't used.
 ghost use Rattle.std.specs.Prelude.{◌≡◌, ℕ, ◌-◌, ◌^◌, ◌<◌, ◌≤◌, IfOk, length};
 
-use node_hulls::{Judged, NodeRange, Why, judge};
 use address_runs::RunOf;
 use bm_base::Range;
+use node_hulls::{Judged, NodeRange, Why, judge};
 use srat_reader::{Srat, SratBlock};
 use std::alloc::{AllocError, Global};
 use std::test::Fail;

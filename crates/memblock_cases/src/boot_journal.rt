@@ -2,8 +2,9 @@
 
 ghost use Rattle.std.specs.Prelude.{◌≡◌, ◌+◌, ◌^◌, ◌<◌};
 
-use boot_journal::{Item, Journal, Owner, OwnerRun, Tag, Which};
-use bm_base::Range;
+use bm_base::{Memory, Range};
+use boot_journal::{Item, Journal, Owner, Tag, Which};
+use std::process::Abort;
 use std::test::Fail;
 
 fn bytes(base: u64, size: u64) -> Range
@@ -13,33 +14,19 @@ fn bytes(base: u64, size: u64) -> Range
     Range { base, size }
 }
 
-// The frames from 0x0 on, as they are memory before the first trim: whole, of two tags, one byte short.
-//
-//     0x0        0x1000     0x2000     0x3000
-//     |..........|....11111|.........  |
-#[test]
-fn tags(rt: HostRuntime) -> Result<(), Fail> {
-    let mut journal = Journal::new(rt.alloc());
+// What is memory of one byte less than three frames, the upper half of the second one node 1's.
+fn add_memory(journal: &mut Journal) -> Result<(), Memory> {
     journal.push(Item::Mem {
         range: bytes(0, 0x2FFF),
     })?;
     journal.push(Item::Node {
         range: bytes(0x1800, 0x800),
         node: 1,
-    })?;
-    assert_eq!(rt; journal.tag_at(0x17FF), Tag::NoNode);
-    assert_eq!(rt; journal.tag_at(0x1800), Tag::Node(1));
-    assert_eq!(rt; journal.tag_at(0x2FFE), Tag::NoNode);
-    assert_eq!(rt; journal.tag_at(0x2FFF), Tag::Absent);
+    })
+}
 
-    journal.push(Item::Trim)?;
-    assert_eq!(rt; journal.tag_at(0), Tag::NoNode);
-    assert_eq!(rt; journal.tag_at(0xFFF), Tag::NoNode);
-    assert_eq!(rt; journal.tag_at(0x1000), Tag::Absent);
-    assert_eq!(rt; journal.tag_at(0x1FFF), Tag::Absent);
-    assert_eq!(rt; journal.tag_at(0x2000), Tag::Absent);
-
-    // Memory that has a node is added again, with more behind it; then the trim keeps all of it.
+// Memory that has a node is added again, with more behind it; then a trim.
+fn add_more(journal: &mut Journal) -> Result<(), Memory> {
     journal.push(Item::Node {
         range: bytes(0, 0x4000),
         node: 3,
@@ -47,18 +34,55 @@ fn tags(rt: HostRuntime) -> Result<(), Fail> {
     journal.push(Item::Mem {
         range: bytes(0, 0x4000),
     })?;
+    journal.push(Item::Trim)
+}
+
+fn compare_tags(rt: &impl Abort, journal: &Journal, rows: &[(u64, Tag)]) {
+    for (x, tag) in rows {
+        assert_eq!(rt; journal.tag_at(*x), *tag, "at {x:#x}");
+    }
+}
+
+// The frames from 0x0 on, as they are memory before the first trim: whole, of two tags, one byte short.
+//
+//     0x0        0x1000     0x2000     0x3000
+//     |..........|....11111|.........  |
+#[test]
+fn tags(rt: HostRuntime) -> Result<(), Fail> {
+    let mut journal = Journal::new(rt.alloc());
+    add_memory(&mut journal)?;
+    let rows = [
+        (0x17FF, Tag::NoNode),
+        (0x1800, Tag::Node(1)),
+        (0x2FFE, Tag::NoNode),
+        (0x2FFF, Tag::Absent),
+    ];
+    compare_tags(&rt, &journal, &rows);
+
     journal.push(Item::Trim)?;
-    assert_eq!(rt; journal.tag_at(0xFFF), Tag::Node(3));
-    assert_eq!(rt; journal.tag_at(0x1000), Tag::NoNode);
-    assert_eq!(rt; journal.tag_at(0x3FFF), Tag::NoNode);
-    assert_eq!(rt; journal.tag_at(0x4000), Tag::Absent);
+    let rows = [
+        (0, Tag::NoNode),
+        (0xFFF, Tag::NoNode),
+        (0x1000, Tag::Absent),
+        (0x1FFF, Tag::Absent),
+        (0x2000, Tag::Absent),
+    ];
+    compare_tags(&rt, &journal, &rows);
+
+    // The second trim keeps all of it.
+    add_more(&mut journal)?;
+    let rows = [
+        (0xFFF, Tag::Node(3)),
+        (0x1000, Tag::NoNode),
+        (0x3FFF, Tag::NoNode),
+        (0x4000, Tag::Absent),
+    ];
+    compare_tags(&rt, &journal, &rows);
     Ok(())
 }
 
-// Claims over one another, freed in part, claimed again; runs that touch with equal and with other owners.
-#[test]
-fn owners(rt: HostRuntime) -> Result<(), Fail> {
-    let mut journal = Journal::new(rt.alloc());
+// Claims over one another, freed in part, claimed again.
+fn claim_over(journal: &mut Journal) -> Result<(), Memory> {
     journal.push(Item::Claim {
         range: bytes(0x1000, 0x4000),
         owner: Owner::Kernel,
@@ -73,7 +97,11 @@ fn owners(rt: HostRuntime) -> Result<(), Fail> {
     journal.push(Item::Claim {
         range: bytes(0x2100, 0x100),
         owner: Owner::Script(7),
-    })?;
+    })
+}
+
+// Claims that touch with equal and with other owners, and one of the last address.
+fn claim_beside(journal: &mut Journal) -> Result<(), Memory> {
     journal.push(Item::Claim {
         range: bytes(0x5000, 0x1000),
         owner: Owner::Kernel,
@@ -85,9 +113,49 @@ fn owners(rt: HostRuntime) -> Result<(), Fail> {
     journal.push(Item::Claim {
         range: bytes(u64::MAX - 1, 1),
         owner: Owner::Table(Which::Memory),
-    })?;
+    })
+}
 
-    let expected = [
+fn compare_owners(rt: &impl Abort, journal: &Journal, rows: &[(u64, Option<Owner>)]) {
+    for (x, owner) in rows {
+        assert_eq!(rt; journal.owner_at(*x), *owner, "at {x:#x}");
+    }
+}
+
+// Each row is a range and the owner of each byte of it: the runs are these, and no byte beside them has an owner.
+fn compare_runs(
+    rt: &impl Abort,
+    journal: &Journal,
+    rows: &[(u64, u64, Owner)],
+) -> Result<(), Memory> {
+    let runs = journal.owner_runs()?;
+    assert_eq!(rt; journal.owners(), runs.as_slice());
+    assert_eq!(rt; runs.len(), rows.len());
+    for (run, (base, size, owner)) in runs.iter().zip(rows) {
+        assert_eq!(rt;
+            (run.range.base, run.range.size, run.owner),
+            (*base, *size, *owner)
+        );
+    }
+    Ok(())
+}
+
+fn compare_owned(rt: &impl Abort, journal: &Journal, rows: &[(Range, Owner, bool)]) {
+    for (range, owner, is_owned) in rows {
+        assert_eq!(rt;
+            journal.owns(range, *owner),
+            *is_owned,
+            "{range:?} for {owner:?}"
+        );
+    }
+}
+
+#[test]
+fn owners(rt: HostRuntime) -> Result<(), Fail> {
+    let mut journal = Journal::new(rt.alloc());
+    claim_over(&mut journal)?;
+    claim_beside(&mut journal)?;
+    let rows = [
         (0xFFF, None),
         (0x1000, Some(Owner::Kernel)),
         (0x1FFF, Some(Owner::Kernel)),
@@ -105,45 +173,18 @@ fn owners(rt: HostRuntime) -> Result<(), Fail> {
         (u64::MAX - 1, Some(Owner::Table(Which::Memory))),
         (u64::MAX, None),
     ];
-    for (x, owner) in expected {
-        assert_eq!(rt; journal.owner_at(x), owner, "at {x:#x}");
-    }
-
-    let runs = journal.owner_runs()?;
-    let expected = [
-        OwnerRun {
-            range: bytes(0x1000, 0x1000),
-            owner: Owner::Kernel,
-        },
-        OwnerRun {
-            range: bytes(0x2100, 0x100),
-            owner: Owner::Script(7),
-        },
-        OwnerRun {
-            range: bytes(0x2400, 0xC00),
-            owner: Owner::Kernel,
-        },
-        OwnerRun {
-            range: bytes(0x3000, 0x1000),
-            owner: Owner::Soft,
-        },
-        OwnerRun {
-            range: bytes(0x4000, 0x2000),
-            owner: Owner::Kernel,
-        },
-        OwnerRun {
-            range: bytes(0x6000, 0x1000),
-            owner: Owner::Script(8),
-        },
-        OwnerRun {
-            range: bytes(u64::MAX - 1, 1),
-            owner: Owner::Table(Which::Memory),
-        },
+    compare_owners(&rt, &journal, &rows);
+    let rows = [
+        (0x1000, 0x1000, Owner::Kernel),
+        (0x2100, 0x100, Owner::Script(7)),
+        (0x2400, 0xC00, Owner::Kernel),
+        (0x3000, 0x1000, Owner::Soft),
+        (0x4000, 0x2000, Owner::Kernel),
+        (0x6000, 0x1000, Owner::Script(8)),
+        (u64::MAX - 1, 1, Owner::Table(Which::Memory)),
     ];
-    assert_eq!(rt; runs.as_slice(), expected.as_slice());
-    assert_eq!(rt; journal.owners(), expected.as_slice());
-
-    let asked = [
+    compare_runs(&rt, &journal, &rows)?;
+    let rows = [
         (bytes(0x2400, 0xC00), Owner::Kernel, true),
         (bytes(0x2400, 0xC01), Owner::Kernel, false),
         (bytes(0x23FF, 2), Owner::Kernel, false),
@@ -152,13 +193,7 @@ fn owners(rt: HostRuntime) -> Result<(), Fail> {
         (bytes(0x2000, 0), Owner::Kernel, true),
         (bytes(u64::MAX - 1, 1), Owner::Table(Which::Memory), true),
     ];
-    for (range, owner, is_owned) in asked {
-        assert_eq!(rt;
-            journal.owns(&range, owner),
-            is_owned,
-            "{range:?} for {owner:?}"
-        );
-    }
+    compare_owned(&rt, &journal, &rows);
     Ok(())
 }
 

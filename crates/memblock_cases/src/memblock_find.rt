@@ -1,11 +1,12 @@
 //! The search and the runs of unclaimed memory in the tables that a virtual machine's boot leaves.
 ghost use Rattle.std.specs.Prelude.{◌≡◌, ◌+◌, ◌^◌, ◌<◌};
 
-use memblock_find::{FreeRange, FreeRuns, Query, find, next_free, prev_free};
 use bm_base::{Memory, Range};
+use memblock_find::{FreeRange, FreeRuns, Query, find, next_free, prev_free};
 use memblock_model::Which;
 use memblock_ranges::Tables;
 use std::alloc::Global;
+use std::process::Abort;
 use std::test::Fail;
 
 fn bytes(base: u64, size: u64) -> Range
@@ -79,11 +80,47 @@ fn search(tables: &Tables, lo: u64, hi: u64, size: u64, power: u32, node: Option
     }
 }
 
-fn is_run(run: Option<FreeRange>, base: u64, size: u64, node: u32) -> bool {
+// Whether this run is answered; a size of 0 is none.
+fn is_told(run: Option<FreeRange>, base: u64, size: u64, node: u32) -> bool {
     match run {
         Some(run) => run.range.base == base && run.range.size == size && run.node == node,
-        None => false,
+        None => size == 0,
     }
+}
+
+// Each row is a size, its alignment's power of two, and the best place of node 0, which is claimed then.
+fn claim_each(rt: &impl Abort, tables: &mut Tables, rows: &[(u64, u32, u64)]) {
+    for (size, power, at) in rows {
+        let answer = search(tables, 0, 0x7FE0000, *size, *power, Some(0));
+        assert_eq!(rt; answer, Answer::At(*at));
+        assert!(rt; cover(tables, Which::Reserved, *at, *size, 1024));
+    }
+}
+
+// Each row is an address, and the first run at or behind it; a size of 0 is none.
+fn compare_next(rt: &impl Abort, tables: &Tables, rows: &[(u64, u64, u64, u32)]) {
+    for (from, base, size, node) in rows {
+        let run = next_free(tables, *from);
+        assert!(rt; is_told(run, *base, *size, *node), "from {from:#x}");
+    }
+}
+
+// Each row is an address, and the last run that begins before it, up to it; a size of 0 is none.
+fn compare_prev(rt: &impl Abort, tables: &Tables, rows: &[(u64, u64, u64, u32)]) {
+    for (until, base, size, node) in rows {
+        let run = prev_free(tables, *until);
+        assert!(rt; is_told(run, *base, *size, *node), "until {until:#x}");
+    }
+}
+
+// All runs behind an address, in one pass.
+fn compare_pass(rt: &impl Abort, tables: &Tables, from: u64, rows: &[(u64, u64, u32)]) {
+    let mut runs = FreeRuns::from(tables, from);
+    for (base, size, node) in rows {
+        assert!(rt; is_told(runs.next_run(), *base, *size, *node));
+    }
+    assert!(rt; runs.next_run().is_none());
+    assert!(rt; runs.next_run().is_none());
 }
 
 // A virtual machine of 128 MiB: where the node data, the section roots, the sections of node 0, the usage map
@@ -100,34 +137,42 @@ fn a_virtual_machine_of_128_mib(rt: HostRuntime) -> Result<(), Fail> {
         (0x28, 6, 0x7FAFFC0),
         (0x200000, 21, 0x7C00000),
     ];
-    for (size, power, at) in places {
-        assert_eq!(rt;
-            search(&tables, 0, 0x7FE0000, size, power, Some(0)),
-            Answer::At(at)
-        );
-        assert!(rt; cover(&mut tables, Which::Reserved, at, size, 1024));
-    }
+    claim_each(&rt, &mut tables, &places);
 
     // What is left, from below and from above, and cut in the middle of a run.
-    assert!(rt; is_run(next_free(&tables, 0), 0x100000, 0xF00000, 0));
-    assert!(rt; is_run(next_free(&tables, 0x1000000), 0x3000000, 0x4C00000, 0));
-    assert!(rt; is_run(next_free(&tables, 0x7C00000), 0x7E00000, 0x1AFFC0, 0));
-    assert!(rt; is_run(next_free(&tables, 0x7FAFFC0), 0x7FAFFE8, 0x18, 0));
-    assert!(rt; is_run(next_free(&tables, 0x7FAFFF0), 0x7FAFFF0, 0x10, 0));
-    assert!(rt; next_free(&tables, 0x7FB0000).is_none());
-    assert!(rt; is_run(prev_free(&tables, u64::MAX), 0x7FAFFE8, 0x18, 0));
-    assert!(rt; is_run(prev_free(&tables, 0x3000001), 0x3000000, 1, 0));
-    assert!(rt; is_run(prev_free(&tables, 0x3000000), 0x100000, 0xF00000, 0));
-    assert!(rt; prev_free(&tables, 0x100000).is_none());
-    // And all of it, in one pass.
-    let mut runs = FreeRuns::from(&tables, 0x200000);
-    assert!(rt; is_run(runs.next_run(), 0x200000, 0xE00000, 0));
-    assert!(rt; is_run(runs.next_run(), 0x3000000, 0x4C00000, 0));
-    assert!(rt; is_run(runs.next_run(), 0x7E00000, 0x1AFFC0, 0));
-    assert!(rt; is_run(runs.next_run(), 0x7FAFFE8, 0x18, 0));
-    assert!(rt; runs.next_run().is_none());
-    assert!(rt; runs.next_run().is_none());
+    let from_below = [
+        (0, 0x100000, 0xF00000, 0),
+        (0x1000000, 0x3000000, 0x4C00000, 0),
+        (0x7C00000, 0x7E00000, 0x1AFFC0, 0),
+        (0x7FAFFC0, 0x7FAFFE8, 0x18, 0),
+        (0x7FAFFF0, 0x7FAFFF0, 0x10, 0),
+        (0x7FB0000, 0, 0, 0),
+    ];
+    compare_next(&rt, &tables, &from_below);
+    let from_above = [
+        (u64::MAX, 0x7FAFFE8, 0x18, 0),
+        (0x3000001, 0x3000000, 1, 0),
+        (0x3000000, 0x100000, 0xF00000, 0),
+        (0x100000, 0, 0, 0),
+    ];
+    compare_prev(&rt, &tables, &from_above);
+    let pass = [
+        (0x200000, 0xE00000, 0),
+        (0x3000000, 0x4C00000, 0),
+        (0x7E00000, 0x1AFFC0, 0),
+        (0x7FAFFE8, 0x18, 0),
+    ];
+    compare_pass(&rt, &tables, 0x200000, &pass);
     Ok(())
+}
+
+// A search: its window, its size, its alignment's power of two, its node, and what is answered.
+type Row = (u64, u64, u64, u32, Option<u32>, Answer);
+
+fn compare(rt: &impl Abort, tables: &Tables, rows: &[Row]) {
+    for (lo, hi, size, power, node, answer) in rows {
+        assert_eq!(rt; search(tables, *lo, *hi, *size, *power, *node), *answer);
+    }
 }
 
 // An exact fit, and one byte more, from 0x3000000 on.
@@ -136,15 +181,14 @@ fn an_exact_fit(rt: HostRuntime) -> Result<(), Fail> {
     let memory = [(0x1000, 0x9E000, 0), (0x100000, 0x7EE0000, 0)];
     let reserved = [(0, 0x100000), (0x1000000, 0x2000000), (0x7FB5000, 0x2B000)];
     let tables = tables_of(rt.alloc(), &memory, &reserved)?.ok_or("no room")?;
-    let searches = [
-        (0x3000000, 0x4FB5001, 12, Answer::Nothing),
-        (0, 0x4FB5000, 12, Answer::At(0x3000000)),
-        (0x100001, 0x1, 27, Answer::Nothing),
-        (0, 0, 12, Answer::NoSearch),
+    let end = 0x7FE0000;
+    let rows = [
+        (0x3000000, end, 0x4FB5001, 12, None, Answer::Nothing),
+        (0, end, 0x4FB5000, 12, None, Answer::At(0x3000000)),
+        (0x100001, end, 0x1, 27, None, Answer::Nothing),
+        (0, end, 0, 12, None, Answer::NoSearch),
     ];
-    for (lo, size, power, answer) in searches {
-        assert_eq!(rt; search(&tables, lo, 0x7FE0000, size, power, None), answer);
-    }
+    compare(&rt, &tables, &rows);
     Ok(())
 }
 
@@ -165,20 +209,22 @@ fn a_node_border(rt: HostRuntime) -> Result<(), Fail> {
         (0x7FB5000, 0x2B000),
     ];
     let tables = tables_of(rt.alloc(), &memory, &reserved)?.ok_or("no room")?;
-    let searches = [
-        (0x2000000, None, Answer::Nothing),
-        (0x1FD5000, None, Answer::At(0x4000000)),
-        (0x1000, Some(0), Answer::At(0x7FB4000)),
-        (0x1000, Some(1), Answer::At(0x5FD4000)),
-        (0x1000, Some(2), Answer::Nothing),
-        (0x1000, Some(1024), Answer::Nothing),
+    let end = 0x7FE0000;
+    let rows = [
+        (0, end, 0x2000000, 12, None, Answer::Nothing),
+        (0, end, 0x1FD5000, 12, None, Answer::At(0x4000000)),
+        (0, end, 0x1000, 12, Some(0), Answer::At(0x7FB4000)),
+        (0, end, 0x1000, 12, Some(1), Answer::At(0x5FD4000)),
+        (0, end, 0x1000, 12, Some(2), Answer::Nothing),
+        (0, end, 0x1000, 12, Some(1024), Answer::Nothing),
     ];
-    for (size, node, answer) in searches {
-        assert_eq!(rt; search(&tables, 0, 0x7FE0000, size, 12, node), answer);
-    }
-    assert!(rt; is_run(next_free(&tables, 0x3FFFFFF), 0x3FFFFFF, 1, 0));
-    assert!(rt; is_run(next_free(&tables, 0x4000000), 0x4000000, 0x1FD5000, 1));
-    assert!(rt; is_run(prev_free(&tables, 0x6000001), 0x6000000, 1, 0));
+    compare(&rt, &tables, &rows);
+    let from_below = [
+        (0x3FFFFFF, 0x3FFFFFF, 1, 0),
+        (0x4000000, 0x4000000, 0x1FD5000, 1),
+    ];
+    compare_next(&rt, &tables, &from_below);
+    compare_prev(&rt, &tables, &[(0x6000001, 0x6000000, 1, 0)]);
     Ok(())
 }
 
@@ -204,21 +250,20 @@ fn nodes_in_turn(rt: HostRuntime) -> Result<(), Fail> {
         (0x800000, 0x2000),
     ];
     let tables = tables_of(rt.alloc(), &memory, &reserved)?.ok_or("no room")?;
-    let searches = [
-        (0x1000, Some(0), Answer::At(0x4FF000)),
-        (0x9000, Some(0), Answer::At(0x4E7000)),
-        (0x100000, Some(0), Answer::At(0x100000)),
-        (0x100001, Some(0), Answer::Nothing),
-        (0xFE000, Some(1), Answer::At(0x802000)),
-        (0xFF000, Some(1), Answer::At(0x201000)),
-        (0x1000, Some(2), Answer::At(0x6FE000)),
-        (0xFF001, Some(2), Answer::Nothing),
-        (0x1000, Some(3), Answer::Nothing),
-        (0xFF000, None, Answer::At(0x701000)),
+    let end = u64::MAX;
+    let rows = [
+        (0, end, 0x1000, 12, Some(0), Answer::At(0x4FF000)),
+        (0, end, 0x9000, 12, Some(0), Answer::At(0x4E7000)),
+        (0, end, 0x100000, 12, Some(0), Answer::At(0x100000)),
+        (0, end, 0x100001, 12, Some(0), Answer::Nothing),
+        (0, end, 0xFE000, 12, Some(1), Answer::At(0x802000)),
+        (0, end, 0xFF000, 12, Some(1), Answer::At(0x201000)),
+        (0, end, 0x1000, 12, Some(2), Answer::At(0x6FE000)),
+        (0, end, 0xFF001, 12, Some(2), Answer::Nothing),
+        (0, end, 0x1000, 12, Some(3), Answer::Nothing),
+        (0, end, 0xFF000, 12, None, Answer::At(0x701000)),
     ];
-    for (size, node, answer) in searches {
-        assert_eq!(rt; search(&tables, 0, u64::MAX, size, 12, node), answer);
-    }
+    compare(&rt, &tables, &rows);
     Ok(())
 }
 
@@ -228,22 +273,16 @@ fn the_first_frame(rt: HostRuntime) -> Result<(), Fail> {
     let memory = [(0, 0x3000, 1024), (0xFFFFFFFFFFFFE000, 0x1000, 1024)];
     let tables = tables_of(rt.alloc(), &memory, &[])?.ok_or("no room")?;
     let last = 0xFFFFFFFFFFFFE000;
-    assert_eq!(rt;
-        search(&tables, 0, u64::MAX, 0x1000, 12, None),
-        Answer::At(last)
-    );
-    assert_eq!(rt;
-        search(&tables, 0, last, 0x1000, 12, None),
-        Answer::At(0x2000)
-    );
-    assert_eq!(rt;
-        search(&tables, 0, last, 0x2000, 12, None),
-        Answer::At(0x1000)
-    );
-    assert_eq!(rt; search(&tables, 0, last, 0x2001, 0, None), Answer::Nothing);
-    assert_eq!(rt; search(&tables, 0, 0x1000, 1, 0, None), Answer::Nothing);
-    assert!(rt; is_run(prev_free(&tables, last), 0, 0x3000, 1024));
-    assert!(rt; is_run(next_free(&tables, 0x3000), last, 0x1000, 1024));
-    assert!(rt; next_free(&tables, u64::MAX).is_none());
+    let rows = [
+        (0, u64::MAX, 0x1000, 12, None, Answer::At(last)),
+        (0, last, 0x1000, 12, None, Answer::At(0x2000)),
+        (0, last, 0x2000, 12, None, Answer::At(0x1000)),
+        (0, last, 0x2001, 0, None, Answer::Nothing),
+        (0, 0x1000, 1, 0, None, Answer::Nothing),
+    ];
+    compare(&rt, &tables, &rows);
+    compare_prev(&rt, &tables, &[(last, 0, 0x3000, 1024)]);
+    let from_below = [(0x3000, last, 0x1000, 1024), (u64::MAX, 0, 0, 0)];
+    compare_next(&rt, &tables, &from_below);
     Ok(())
 }

@@ -3,8 +3,8 @@
 ghost use Rattle.std.specs.Prelude.{◌≡◌, ◌+◌, ◌^◌, ◌<◌};
 ghost use Rattle.memblock_model.specs.declared.owner.Owner.{Owner as AnyOwner};
 
-use memblock_model::{Item, Label, Owner, OwnerRun, Query, Tag, Which};
 use bm_base::Range;
+use memblock_model::{Item, Label, Owner, OwnerRun, Query, Tag, Which};
 use std::test::Fail;
 
 fn bytes(base: u64, size: u64) -> Range

@@ -1,8 +1,8 @@
 //! The calls of a store on small ranges, in memory that is ample.
 ghost use Rattle.std.specs.Prelude.{◌≡◌, ◌+◌, ◌^◌, ◌<◌};
 
-use phys_store::Store;
 use bm_base::Range;
+use phys_store::Store;
 use std::test::Fail;
 
 fn bytes(base: u64, size: u64) -> Range

@@ -27,4 +27,3 @@ pub use free::{FreeRange, FreeRuns, next_free, prev_free};
 pub use laws::{runs_are_one, searches_follow_the_items};
 pub use memblock_model::Query;
 pub use search::find;
-

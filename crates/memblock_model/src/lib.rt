@@ -36,4 +36,3 @@ pub use query::Query;
 pub use run::OwnerRun;
 pub use tag::Tag;
 pub use which::Which;
-

@@ -1,7 +1,8 @@
 //! Numbers in reports, ranges at the end of numbers, multiples and zones, by values from outside.
 
 use bm_base::{
-    NumFault, Range, Zone, put_dec, put_hex, put_text, read_number, read_size, round_down, round_up, zone_of,
+    NumFault, Range, Zone, put_dec, put_hex, put_text, read_number, read_size, round_down,
+    round_up, zone_of,
 };
 use std::test::Fail;
 

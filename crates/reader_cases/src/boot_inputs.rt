@@ -4,9 +4,9 @@
 ghost use Rattle.std.specs.Prelude.{IfOk};
 ghost use Rattle.bm_io.specs.HeldFiles.{held_files, HaveOwnNames};
 
-use boot_inputs::{Fault, Input, InputError, Names, Refusal, read_inputs};
 use bm_base::Range;
 use bm_io::{MemFile, MemFiles};
+use boot_inputs::{Fault, Input, InputError, Names, Refusal, read_inputs};
 use std::alloc::Global;
 use std::process::Abort;
 use std::test::Fail;

@@ -1,8 +1,8 @@
 //! Lines as files hold them, read with ample memory: worked examples as tables. What one map option
 //! says, and the edges of sizes and types, are examples of the definitions, in proofs/Examples.antt.
 
-use boot_options::{CrashRange, OptionFault, Options, read_options};
 use bm_base::Range;
+use boot_options::{CrashRange, OptionFault, Options, read_options};
 use e820_model::Edit;
 use std::alloc::Global;
 use std::test::Fail;

@@ -3,8 +3,8 @@
 
 ghost use Rattle.std.specs.Prelude.{ℕ, ◌+◌, ◌≤◌, length};
 
-use e820_table::{Entry, ExtFault, ZeroFault, made, read_ext, read_zero_page};
 use byteorder::{ByteOrder, LittleEndian};
+use e820_table::{Entry, ExtFault, ZeroFault, made, read_ext, read_zero_page};
 use std::test::Fail;
 
 /// Writes an entry at the offset.

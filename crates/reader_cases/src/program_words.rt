@@ -1,8 +1,8 @@
 //! Words that the command takes and refuses, each form of an option in turn. The expected answers are worked out
 //! from the port's definition, word by word.
 
-use program_words::{WordError, read_words};
 use boot_inputs::{Input, Names};
+use program_words::{WordError, read_words};
 use std::alloc::Global;
 use std::process::Abort;
 use std::test::Fail;

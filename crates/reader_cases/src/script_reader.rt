@@ -1,7 +1,7 @@
 //! Each form of a line once, and each fault with the neighbours that one line can have at once.
 
-use script_reader::{Act, Line, Request, ScriptFault, read_script};
 use bm_base::Range;
+use script_reader::{Act, Line, Request, ScriptFault, read_script};
 use std::test::Fail;
 
 #[test]

@@ -1,9 +1,9 @@
 //! Small tables, written entry by entry: what is read of them, and the first fault of those that have one.
 ghost use Rattle.std.specs.Prelude.{ℕ, ◌+◌, ◌^◌, ◌≤◌, ◌<◌, length};
 
-use srat_reader::{SratBlock, SratFault, read_srat};
 use bm_base::Range;
 use byteorder::{ByteOrder, LittleEndian};
+use srat_reader::{SratBlock, SratFault, read_srat};
 use std::test::Fail;
 
 /// Writes the header: the signature, the number of bytes, the revision, and the checksum.

@@ -3,12 +3,12 @@
 ghost use Rattle.std.specs.Prelude.{◌≡◌, ◌+◌, ◌^◌, ◌<◌, ◌≤◌};
 ghost use Rattle.e820_model.specs.Claims.{EndInSpace};
 
-use boot_stages::boot;
 use arrayvec::ArrayVec;
 use bm_base::Range;
 use boot_journal::{Item, Owner};
 use boot_model::{Booted, Inputs, Stop};
 use boot_options::read_options;
+use boot_stages::boot;
 use e820_sanitise::Run;
 use e820_table::{Entry, ZeroPage};
 use std::alloc::Global;

@@ -4,13 +4,14 @@
 ghost use Rattle.std.specs.Prelude.{◌≡◌, ◌+◌, ◌^◌, ◌<◌, IsTrue};
 ghost use Rattle.growth_model.specs.Sound.{IsImage, HasBegun};
 
-use crash_kernel::{Crash, reserve};
 use bm_base::Range;
 use boot_options::read_options;
+use crash_kernel::{Crash, reserve};
 use growth_model::Refusal;
 use memblock_grow::Memblock;
 use memblock_model::{Item, Owner};
 use std::alloc::Global;
+use std::process::Abort;
 use std::test::Fail;
 
 /// From one address up to another, and the node of what lies between.
@@ -109,6 +110,20 @@ fn reserved(alloc: Global, memory: &[Part], line: &[u8]) -> Result<(Crash, Optio
     Ok((crash, last))
 }
 
+/// Each row is a command line and what comes of it.
+fn compare(
+    rt: &impl Abort,
+    alloc: Global,
+    memory: &[Part],
+    rows: &[(&[u8], Crash)],
+) -> Result<(), Fail> {
+    for (line, expected) in rows {
+        let (crash, _) = reserved(alloc, memory, line)?;
+        assert_eq!(rt; crash, *expected, "at {line:?}");
+    }
+    Ok(())
+}
+
 #[test]
 fn areas_below_4_gib(rt: HostRuntime) -> Result<(), Fail> {
     let cases = [
@@ -137,11 +152,7 @@ fn areas_below_4_gib(rt: HostRuntime) -> Result<(), Fail> {
         (b"crashkernel=1M,low".as_slice(), Crash::Nothing),
         (b"crashkernel=16M@16777200T".as_slice(), Crash::InUse),
     ];
-    for (line, want) in cases {
-        let (crash, _) = reserved(rt.alloc(), &SMALL, line)?;
-        assert_eq!(rt; crash, want, "at {line:?}");
-    }
-    Ok(())
+    compare(&rt, rt.alloc(), &SMALL, &cases)
 }
 
 // The memory of this machine is 0x1FF7E000 bytes.
@@ -169,11 +180,7 @@ fn ranges_of_the_total(rt: HostRuntime) -> Result<(), Fail> {
             at(0x1F00_0000, 0x80_0000),
         ),
     ];
-    for (line, want) in cases {
-        let (crash, _) = reserved(rt.alloc(), &SMALL, line)?;
-        assert_eq!(rt; crash, want, "at {line:?}");
-    }
-    Ok(())
+    compare(&rt, rt.alloc(), &SMALL, &cases)
 }
 
 #[test]
@@ -207,11 +214,7 @@ fn areas_above_4_gib(rt: HostRuntime) -> Result<(), Fail> {
             at_both(0x1_7C00_0000, 0x400_0000, 0x6F00_0000, 0x1000_0000),
         ),
     ];
-    for (line, want) in cases {
-        let (crash, _) = reserved(rt.alloc(), &LARGE, line)?;
-        assert_eq!(rt; crash, want, "at {line:?}");
-    }
-    Ok(())
+    compare(&rt, rt.alloc(), &LARGE, &cases)
 }
 
 // The low part is claimed behind the area; where it has no place, the area is given back.

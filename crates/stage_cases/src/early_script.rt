@@ -3,9 +3,9 @@ ghost use Rattle.std.specs.Prelude.{◌≡◌, ◌+◌, ◌^◌, ◌<◌, ◌≤
 ghost use Rattle.growth_model.specs.Sound.{HasBegun};
 ghost use Rattle.early_script.specs.Acted.{IsRun};
 
-use early_script::{Answer, Live, Outcome};
 use arrayvec::ArrayVec;
 use bm_base::Range;
+use early_script::{Answer, Live, Outcome};
 use memblock_grow::Memblock;
 use memblock_model::{Owner, Which};
 use script_reader::{Act, read_script};
@@ -65,6 +65,15 @@ fn run(alloc: Global, memblock: &mut Memblock, text: &str) -> Result<Vec<Outcome
     Ok(outcomes)
 }
 
+// What a peek that sees these bytes tells.
+fn bytes_told(bytes: &[u8]) -> Option<ArrayVec<u8, 64>> {
+    let mut told = ArrayVec::new();
+    for byte in bytes {
+        told.try_push(*byte).ok()?;
+    }
+    Some(told)
+}
+
 #[test]
 fn each_outcome(rt: HostRuntime) -> Result<(), Fail> {
     let alloc = rt.alloc();
@@ -74,10 +83,7 @@ fn each_outcome(rt: HostRuntime) -> Result<(), Fail> {
         &mut memblock,
         "alloc 1 64K 4096\nalloc 1 1 1\nreserve 2 0x3000000 8K\nreserve 3 0x1ffdfff 2\nreserve 4 0x3001000 4K\nfree 2\nfree 9\ntrim 1 64K\ntrim 1 4K\nalloc 5 4K 4096\nalloc 6 4K 4096 max 8K\nalloc 7 4K 4096 max 8191\nfill 4 0xab\npeek 0x3000fff 3\nreserve 8 0x4000000 65537\nfill 8 1\nfree 4\nfill 4 1",
     )?;
-    let mut told = ArrayVec::new();
-    told.try_push(0).ok().ok_or("no room")?;
-    told.try_push(0xAB).ok().ok_or("no room")?;
-    told.try_push(0xAB).ok().ok_or("no room")?;
+    let told = bytes_told(&[0, 0xAB, 0xAB]).ok_or("no room")?;
     let want = [
         Outcome::At(0x7FF_0000),
         Outcome::Taken,
@@ -102,27 +108,31 @@ fn each_outcome(rt: HostRuntime) -> Result<(), Fail> {
     Ok(())
 }
 
+// Claims of so many pages, with a page between them.
+fn claims(alloc: Global, many: u32) -> Result<String, Fail> {
+    let mut text = String::new(alloc);
+    for id in 0..many {
+        let line = format!(in alloc; "reserve {id} {} 4K\n", 0x300_0000 + u64::from(id) * 8192)?;
+        text.push_str(line.as_str())?;
+    }
+    Ok(text)
+}
+
 // The reserved table has room for 128 records, one of them the kernel's; with a limit of 0 it finds no place to grow to.
 #[test]
 fn no_place_for_a_table(rt: HostRuntime) -> Result<(), Fail> {
     let alloc = rt.alloc();
     let mut memblock = machine(alloc, 0)?;
-    let mut text = String::new(alloc);
-    for id in 0..128u32 {
-        let line = format!(in alloc; "reserve {id} {} 4K\n", 0x300_0000 + u64::from(id) * 8192)?;
-        text.push_str(line.as_str())?;
-    }
+    let text = claims(alloc, 128)?;
     if text.len() < 65_536 {
         let outcomes = run(alloc, &mut memblock, text.as_str())?;
+        let none = Outcome::NoGapForTable {
+            which: Which::Reserved,
+            room: 128,
+        };
         assert_eq!(rt; outcomes.len(), 128);
-        assert_eq!(rt; outcomes[126], Outcome::Done);
-        assert_eq!(rt;
-            outcomes[127],
-            Outcome::NoGapForTable {
-                which: Which::Reserved,
-                room: 128
-            }
-        );
+        assert_eq!(rt; outcomes.get(126), Some(&Outcome::Done));
+        assert_eq!(rt; outcomes.get(127), Some(&none));
     }
     Ok(())
 }

@@ -3,13 +3,16 @@ ghost use Rattle.std.specs.Prelude.{◌≡◌, ◌-◌, ◌^◌, ◌<◌, ◌≤
 ghost use Rattle.memblock_model.specs.Items.{limit_of};
 ghost use Rattle.growth_model.specs.Sound.{HasBegun};
 
-use numa_nodes::{Nodes, Why, assign, listed_nodes_have_memory, nodes_leave_memory, nodes_reach_memory};
 use bm_base::Range;
 use boot_journal::{Item, Owner};
 use memblock_grow::Memblock;
+use numa_nodes::{
+    Nodes, Why, assign, listed_nodes_have_memory, nodes_leave_memory, nodes_reach_memory,
+};
 use srat_reader::{Srat, SratBlock};
 use stage_model::{StageStop, What};
 use std::alloc::{AllocError, Global};
+use std::process::Abort;
 use std::test::Fail;
 
 const KERNEL: Range = Range {
@@ -103,6 +106,12 @@ fn nodes_by(
     Ok(Some(assign(alloc, memblock, Some(&srat), false)?))
 }
 
+fn compare(rt: &impl Abort, nodes: &Nodes, why: Why, domains: &[u32], with_memory: &[u32]) {
+    assert_eq!(rt; nodes.why, why);
+    assert_eq!(rt; nodes.domains.as_slice(), domains);
+    assert_eq!(rt; nodes.with_memory.as_slice(), with_memory);
+}
+
 // Three blocks of two domains, with a hole between those of the second one, and 64 KiB that none covers: the lowest node
 // gets these, and they are too few for its data
 #[test]
@@ -115,10 +124,8 @@ fn two_nodes_and_a_rest(rt: HostRuntime) -> Result<(), Fail> {
         block(3, 0x600_0000, 0x7FF_0000),
     ];
     let nodes = nodes_by(alloc, &mut memblock, &blocks)?.ok_or("not ready")?;
-    assert_eq!(rt; nodes.why, Why::Used);
-    assert_eq!(rt; nodes.domains.as_slice(), [7, 3].as_slice());
+    compare(&rt, &nodes, Why::Used, &[7, 3], &[0, 1]);
     assert_eq!(rt; nodes.uncovered, 16);
-    assert_eq!(rt; nodes.with_memory.as_slice(), [0, 1].as_slice());
     let want = [
         Item::Node {
             range: part(0, 0x400_0000),
@@ -152,9 +159,7 @@ fn no_table(rt: HostRuntime) -> Result<(), Fail> {
     let mut memblock = machine(alloc, 0x800_0000)?;
     if has_begun(&memblock) && has_limit(&memblock) {
         let nodes = assign(alloc, &mut memblock, None, false)?;
-        assert_eq!(rt; nodes.why, Why::Absent);
-        assert_eq!(rt; nodes.domains.len(), 0);
-        assert_eq!(rt; nodes.with_memory.as_slice(), [0].as_slice());
+        compare(&rt, &nodes, Why::Absent, &[], &[0]);
     }
     let want = [
         Item::Node {

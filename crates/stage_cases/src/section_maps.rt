@@ -2,10 +2,10 @@
 ghost use Rattle.std.specs.Prelude.{◌<◌, IsTrue};
 ghost use Rattle.growth_model.specs.Sound.{HasBegun};
 
-use section_maps::{Placed, place_maps};
 use bm_base::Range;
 use memblock_grow::Memblock;
 use memblock_model::Owner;
+use section_maps::{Placed, place_maps};
 use stage_model::Section;
 use std::alloc::Global;
 use std::test::Fail;

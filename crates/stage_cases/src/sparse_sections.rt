@@ -4,11 +4,11 @@ ghost use Rattle.std.specs.List.{All};
 ghost use Rattle.growth_model.specs.Sound.{HasBegun};
 ghost use Rattle.sparse_sections.specs.Present.{IsWholeNoded};
 
-use sparse_sections::{RootPlace, place_roots, present};
 use bm_base::{FRAME_SIZE, Range};
 use memblock_grow::Memblock;
 use memblock_model::{Owner, Which};
 use memblock_ranges::{Region, Tables};
+use sparse_sections::{RootPlace, place_roots, present};
 use stage_model::Section;
 use std::alloc::Global;
 use std::test::Fail;

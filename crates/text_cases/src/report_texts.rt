@@ -1,11 +1,11 @@
 //! The texts of a small boot, put once each with memory to spare.
 
-use report_texts::{put_journal, put_map, put_options, put_owners, put_records, put_tables};
 use bm_base::Range;
 use boot_journal::{Item, Journal, Owner, Which};
 use boot_options::{CrashOption, CrashPlain, CrashRange, Edit, Options};
 use e820_model::Run;
 use memblock_ranges::Tables;
+use report_texts::{put_journal, put_map, put_options, put_owners, put_records, put_tables};
 use std::test::Fail;
 
 const LOW: Range = Range {

@@ -1,9 +1,5 @@
 //! The texts of small stages, put once each with memory to spare.
 
-use stage_texts::{
-    Draft, Fullness, Piece, Summary, put_blocks, put_buddyinfo, put_crash, put_nodes, put_script,
-    put_sections, put_summary, put_zones,
-};
 use arrayvec::ArrayVec;
 use bm_base::{Range, Zone};
 use boot_journal::{Item, Journal};
@@ -14,6 +10,10 @@ use memblock_model::Which;
 use numa_nodes::{Nodes, Why};
 use section_maps::Placed;
 use sparse_sections::{RootPlace, Roots};
+use stage_texts::{
+    Draft, Fullness, Piece, Summary, put_blocks, put_buddyinfo, put_crash, put_nodes, put_script,
+    put_sections, put_summary, put_zones,
+};
 use std::test::Fail;
 use zone_spans::Span;
 

@@ -6,6 +6,7 @@ use crate::{Head, Heads, Region, region_at};
 use bm_base::{Memory, Range};
 use memblock_model::Which;
 use phys_store::Store;
+use std::process::Abort;
 use std::test::Fail;
 
 fn bytes(base: u64, size: u64) -> Range
@@ -109,6 +110,21 @@ fn has(tables: &Tables, which: Which, records: &[(u64, u64, u32)]) -> bool {
     true
 }
 
+fn act_all(rt: &impl Abort, tables: &mut Tables, steps: &[Step]) {
+    for step in steps {
+        assert!(rt; act(tables, *step));
+    }
+}
+
+// Each row is the address of 24 bytes, and these.
+fn compare_bytes(rt: &impl Abort, tables: &Tables, rows: &[(u64, [u8; 24])]) {
+    for (at, expected) in rows {
+        let mut bytes = [9; 24];
+        tables.read(*at, &mut bytes);
+        assert_eq!(rt; bytes, *expected, "at {at:#x}");
+    }
+}
+
 // A virtual machine of 128 MiB, through the node data; the kernel's image is 0x1000000..0x2ffffff.
 #[test]
 fn a_virtual_machine_of_128_mib(rt: HostRuntime) -> Result<(), Fail> {
@@ -127,9 +143,7 @@ fn a_virtual_machine_of_128_mib(rt: HostRuntime) -> Result<(), Fail> {
         Step::Reserve(0x7FAFFC0, 0x28),
         Step::Reserve(0x7C00000, 0x200000),
     ];
-    for step in steps {
-        assert!(rt; act(&mut tables, step));
-    }
+    act_all(&rt, &mut tables, &steps);
     let memory = [(0x1000, 0x9E000, 0), (0x100000, 0x7EE0000, 0)];
     let reserved = [
         (0, 0x100000, 1024),
@@ -141,22 +155,20 @@ fn a_virtual_machine_of_128_mib(rt: HostRuntime) -> Result<(), Fail> {
     assert!(rt; has(&tables, Which::Memory, &memory));
     assert!(rt; has(&tables, Which::Reserved, &reserved));
 
-    // The memory table lies two frames before the image's end: its first record, and zeros behind its two.
-    let mut record = [0; 24];
-    tables.read(0x2FFE000, &mut record);
-    let worked = [
+    // The memory table lies two frames before the image's end: its first record, and zeros behind its two. The end of
+    // the reserved table's last record, and zeros behind it.
+    let first = [
         0, 0x10, 0, 0, 0, 0, 0, 0, 0, 0xE0, 9, 0, 0, 0, 0, 0, 0, 0, 0, 0, 0, 0, 0, 0,
     ];
-    assert_eq!(rt; record, worked);
-    tables.read(0x2FFE030, &mut record);
-    assert_eq!(rt; record, [0; 24]);
-
-    // The end of the reserved table's last record, and zeros behind it.
-    tables.read(0x2FFF064, &mut record);
     let across = [
         0, 0, 0, 0, 0, 0, 3, 0, 0, 0, 0, 0, 0, 0, 0, 0, 0, 4, 0, 0, 0, 0, 0, 0,
     ];
-    assert_eq!(rt; record, across);
+    let rows = [
+        (0x2FFE000, first),
+        (0x2FFE030, [0; 24]),
+        (0x2FFF064, across),
+    ];
+    compare_bytes(&rt, &tables, &rows);
     Ok(())
 }
 
@@ -168,32 +180,44 @@ fn a_virtual_machine_of_128_mib(rt: HostRuntime) -> Result<(), Fail> {
 #[test]
 fn nodes_gaps_and_the_last_address(rt: HostRuntime) -> Result<(), Fail> {
     let mut tables = Tables::new(rt.alloc(), bytes(0x1000000, 0x2000000))?;
-    assert!(rt; act(&mut tables, Step::Add(0x1000, 0x1000, 0)));
-    assert!(rt; act(&mut tables, Step::Add(0x2000, 0x1000, 1)));
-    assert!(rt; act(&mut tables, Step::Add(0x1000, 0x4000, 1024)));
-    assert!(rt; act(&mut tables, Step::Add(0x9000, 0x1000, 1024)));
+    nodes_that_touch(&rt, &mut tables);
+    a_frame_of_two_nodes(&rt, &mut tables);
+    claims_and_gaps(&rt, &mut tables);
+    Ok(())
+}
+
+fn nodes_that_touch(rt: &impl Abort, tables: &mut Tables) {
+    let steps = [
+        Step::Add(0x1000, 0x1000, 0),
+        Step::Add(0x2000, 0x1000, 1),
+        Step::Add(0x1000, 0x4000, 1024),
+        Step::Add(0x9000, 0x1000, 1024),
+    ];
+    act_all(rt, tables, &steps);
     let records = [
         (0x1000, 0x1000, 0),
         (0x2000, 0x1000, 1),
         (0x3000, 0x2000, 1024),
         (0x9000, 0x1000, 1024),
     ];
-    assert!(rt; has(&tables, Which::Memory, &records));
+    assert!(rt; has(tables, Which::Memory, &records));
     assert_eq!(rt; tables.pieces(Which::Memory, bytes(0, 0xB000)), 3);
     assert_eq!(rt; tables.pieces(Which::Memory, bytes(0x1000, 0x4000)), 0);
     assert_eq!(rt; tables.pieces(Which::Reserved, bytes(0x1000, 0x4000)), 1);
+}
 
-    assert!(rt; act(&mut tables, Step::Node(0x1800, 0x8000, 1)));
+fn a_frame_of_two_nodes(rt: &impl Abort, tables: &mut Tables) {
+    assert!(rt; act(tables, Step::Node(0x1800, 0x8000, 1)));
     let records = [
         (0x1000, 0x800, 0),
         (0x1800, 0x3800, 1),
         (0x9000, 0x800, 1),
         (0x9800, 0x800, 1024),
     ];
-    assert!(rt; has(&tables, Which::Memory, &records));
+    assert!(rt; has(tables, Which::Memory, &records));
 
     let last = u64::MAX - 0x1000;
-    assert!(rt; act(&mut tables, Step::Add(last, 0x1000, 7)));
+    assert!(rt; act(tables, Step::Add(last, 0x1000, 7)));
     let with_last = [
         (0x1000, 0x800, 0),
         (0x1800, 0x3800, 1),
@@ -201,28 +225,28 @@ fn nodes_gaps_and_the_last_address(rt: HostRuntime) -> Result<(), Fail> {
         (0x9800, 0x800, 1024),
         (last, 0x1000, 7),
     ];
-    assert!(rt; has(&tables, Which::Memory, &with_last));
-    assert!(rt; act(&mut tables, Step::Trim));
-    assert!(rt; has(&tables, Which::Memory, &[(0x2000, 0x3000, 1)]));
+    assert!(rt; has(tables, Which::Memory, &with_last));
+    assert!(rt; act(tables, Step::Trim));
+    assert!(rt; has(tables, Which::Memory, &[(0x2000, 0x3000, 1)]));
+}
 
-    for step in [
+fn claims_and_gaps(rt: &impl Abort, tables: &mut Tables) {
+    let steps = [
         Step::Reserve(0x1000, 0x1000),
         Step::Reserve(0x3000, 0x1000),
         Step::Reserve(0x2000, 0x1000),
         Step::Reserve(u64::MAX - 1, 1),
         Step::Free(0x1800, 0x1000),
         Step::Free(0, 0),
-    ] {
-        assert!(rt; act(&mut tables, step));
-    }
+    ];
+    act_all(rt, tables, &steps);
     let reserved = [
         (0x1000, 0x800, 1024),
         (0x2800, 0x1800, 1024),
         (u64::MAX - 1, 1, 1024),
     ];
-    assert!(rt; has(&tables, Which::Reserved, &reserved));
-    assert!(rt; has(&tables, Which::Memory, &[(0x2000, 0x3000, 1)]));
-    Ok(())
+    assert!(rt; has(tables, Which::Reserved, &reserved));
+    assert!(rt; has(tables, Which::Memory, &[(0x2000, 0x3000, 1)]));
 }
 
 // Whether the place is free of tables; then the table moves there.
@@ -245,29 +269,33 @@ fn moved(tables: &mut Tables, which: Which, place: u64) -> Result<bool, Memory> 
 #[test]
 fn a_table_moves_and_leaves_zeros(rt: HostRuntime) -> Result<(), Fail> {
     let mut tables = Tables::new(rt.alloc(), bytes(0x1000000, 0x2000000))?;
-    assert!(rt; act(&mut tables, Step::Reserve(0x1000000, 0x2000000)));
-    assert!(rt; act(&mut tables, Step::Add(0x1000, 0x9E000, 0)));
+    let steps = [
+        Step::Reserve(0x1000000, 0x2000000),
+        Step::Add(0x1000, 0x9E000, 0),
+    ];
+    act_all(&rt, &mut tables, &steps);
+    move_reserved(&rt, &mut tables)?;
+    read_across(&rt, &mut tables)?;
+    compare_fields(&rt, tables);
+    Ok(())
+}
+
+fn move_reserved(rt: &impl Abort, tables: &mut Tables) -> Result<(), Memory> {
     assert!(rt; tables.overlaps_table(bytes(0x2FFFBFF, 1)));
     assert!(rt; !tables.overlaps_table(bytes(0x2FFFC00, 0x400)));
-    assert!(rt; !moved(&mut tables, Which::Reserved, 0x2FFEBFF)?);
-    assert!(rt; moved(&mut tables, Which::Reserved, 0x100000)?);
-
-    let head = tables.head(Which::Reserved);
-    let expected = Head {
-        place: 0x100000,
-        room: 256,
-        count: 1,
-    };
-    assert_eq!(rt; head, expected);
+    assert!(rt; !moved(tables, Which::Reserved, 0x2FFEBFF)?);
+    assert!(rt; moved(tables, Which::Reserved, 0x100000)?);
+    assert_eq!(rt; tables.head(Which::Reserved), MOVED);
     let reserved = [(0x1000000, 0x2000000, 1024)];
-    assert!(rt; has(&tables, Which::Reserved, &reserved));
-    assert!(rt; has(&tables, Which::Memory, &[(0x1000, 0x9E000, 0)]));
-    let mut record = [9; 24];
-    tables.read(0x2FFF000, &mut record);
-    assert_eq!(rt; record, [0; 24]);
+    assert!(rt; has(tables, Which::Reserved, &reserved));
+    assert!(rt; has(tables, Which::Memory, &[(0x1000, 0x9E000, 0)]));
+    compare_bytes(rt, tables, &[(0x2FFF000, [0; 24])]);
+    Ok(())
+}
 
-    // What it left may be written now; a read goes across the end of the memory table's bytes, which are
-    // followed by others there.
+// What it left may be written now; a read goes across the end of the memory table's bytes, which are followed by
+// others there.
+fn read_across(rt: &impl Abort, tables: &mut Tables) -> Result<(), Memory> {
     let freed = bytes(0x2FFF000, 0x10);
     assert!(rt; !tables.overlaps_table(freed));
     tables.prepare(bytes(0x2FFEC00, 8))?;
@@ -278,11 +306,26 @@ fn a_table_moves_and_leaves_zeros(rt: HostRuntime) -> Result<(), Fail> {
     let mut across = [9; 12];
     tables.read(0x2FFEBFC, &mut across);
     assert_eq!(rt; across, [0, 0, 0, 0, 7, 7, 7, 7, 7, 7, 7, 7]);
+    Ok(())
+}
 
-    // The two fields are all that there is, and each record is read from the bytes.
+/// The reserved table's head once it has moved.
+const MOVED: Head = Head {
+    place: 0x100000,
+    room: 256,
+    count: 1,
+};
+
+// The two fields are all that there is.
+fn compare_fields(rt: &impl Abort, tables: Tables) {
     let Tables { store, heads } = tables;
     let store: Store = store;
     let heads: Heads = heads;
+    compare_records(rt, &store, &heads);
+}
+
+// Each record is read from the bytes.
+fn compare_records(rt: &impl Abort, store: &Store, heads: &Heads) {
     let first = Region {
         base: 0x1000000,
         size: 0x2000000,
@@ -295,9 +338,8 @@ fn a_table_moves_and_leaves_zeros(rt: HostRuntime) -> Result<(), Fail> {
         count: 1,
     };
     assert_eq!(rt; heads.memory, built_in);
-    assert_eq!(rt; heads.reserved, expected);
-    assert_eq!(rt; region_at(&store, &heads.reserved, 0), first);
-    assert_eq!(rt; region_at(&store, &heads.memory, 0).size, 0x9E000);
-    assert_eq!(rt; region_at(&store, &heads.memory, 1).size, 0);
-    Ok(())
+    assert_eq!(rt; heads.reserved, MOVED);
+    assert_eq!(rt; region_at(store, &heads.reserved, 0), first);
+    assert_eq!(rt; region_at(store, &heads.memory, 0).size, 0x9E000);
+    assert_eq!(rt; region_at(store, &heads.memory, 1).size, 0);
 }
