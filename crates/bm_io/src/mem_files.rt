@@ -146,24 +146,15 @@ mod tests {
     use std::process::Abort;
     use std::test::Fail;
 
-    #[test]
-    fn files_in_memory(rt: HostRuntime) -> Result<(), Fail> {
-        let alloc = rt.alloc();
-        let file = MemFile {
-            name: String::from_str(alloc, "zp")?,
-            bytes: vec![in alloc; 1, 2, 3]?,
-        };
-        let mut files = MemFiles::new(vec![in alloc; file]?, vec![in alloc; 2]?);
-        let cases = [
-            ("zp", 3, Ok(3)),
-            ("zp", 3, Err(Fetch::Failed)),
-            ("zp", 2, Err(Fetch::TooLong)),
-            ("other", 3, Err(Fetch::Failed)),
-        ];
-        compare(&rt, alloc, &mut files, &cases);
-        let answer = files.fetch(alloc, "zp", 3).expect(&rt, "the file");
-        assert_eq!(rt; answer.as_slice(), b"\x01\x02\x03".as_slice());
-        Ok(())
+    /// How many bytes a fetch gives.
+    fn fetched(
+        files: &mut MemFiles,
+        alloc: Global,
+        name: &str,
+        limit: u64,
+    ) -> Result<usize, Fetch> {
+        let bytes = files.fetch(alloc, name, limit)?;
+        Ok(bytes.len())
     }
 
     /// Each row is a name, a limit, and how many bytes are given.
@@ -174,9 +165,8 @@ mod tests {
         rows: &[(&str, u64, Result<usize, Fetch>)],
     ) {
         for (name, limit, want) in rows {
-            let answer = files.fetch(alloc, name, *limit);
             assert_eq!(rt;
-                answer.map(|bytes| bytes.len()),
+                fetched(files, alloc, name, *limit),
                 *want,
                 "{name} up to {limit}"
             );
@@ -185,5 +175,30 @@ mod tests {
             (files.calls, files.faults, files.taken, files.wants),
             (4, 2, 6, 0)
         );
+    }
+
+    /// One file of three bytes, and a second call that fails.
+    fn files_of_three_bytes(alloc: Global) -> Result<MemFiles, Fail> {
+        let file = MemFile {
+            name: String::from_str(alloc, "zp")?,
+            bytes: vec![in alloc; 1, 2, 3]?,
+        };
+        Ok(MemFiles::new(vec![in alloc; file]?, vec![in alloc; 2]?))
+    }
+
+    #[test]
+    fn files_in_memory(rt: HostRuntime) -> Result<(), Fail> {
+        let alloc = rt.alloc();
+        let mut files = files_of_three_bytes(alloc)?;
+        let cases = [
+            ("zp", 3, Ok(3)),
+            ("zp", 3, Err(Fetch::Failed)),
+            ("zp", 2, Err(Fetch::TooLong)),
+            ("other", 3, Err(Fetch::Failed)),
+        ];
+        compare(&rt, alloc, &mut files, &cases);
+        let answer = files.fetch(alloc, "zp", 3).expect(&rt, "the file");
+        assert_eq!(rt; answer.as_slice(), b"\x01\x02\x03".as_slice());
+        Ok(())
     }
 }

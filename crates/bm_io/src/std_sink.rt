@@ -92,9 +92,9 @@ mod tests {
     use std::{fs, process};
 
     fn put_two(rt: &impl Abort, sink: &mut impl Sink) {
-        assert_eq!(rt; sink.put(b"one "), Ok(()));
-        assert_eq!(rt; sink.put(b""), Ok(()));
-        assert_eq!(rt; sink.put(b"two"), Ok(()));
+        for bytes in [b"one ".as_slice(), b"".as_slice(), b"two".as_slice()] {
+            assert_eq!(rt; sink.put(bytes), Ok(()));
+        }
     }
 
     #[test]
