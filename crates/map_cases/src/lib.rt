@@ -1,19 +1,19 @@
 //! Worked cases of runs, the map and the hulls of nodes.
 //!
-//! Each module has the cases of the crate of its name, called as any other crate calls it: by its public names, and by
+//! Each module has the cases of the crate that it is named for, called as any other crate calls it: by its public names, and by
 //! what its contracts say alone. The tests of a crate are proved with the crate, so those that need no more than that stand here, and
 //! a crate that stands is proved once.
 #![tactic(auto)]
 
 #[cfg(test)]
-mod address_runs;
+mod of_address_runs;
 #[cfg(test)]
-mod e820_model;
+mod of_e820_model;
 #[cfg(test)]
-mod e820_sanitise;
+mod of_e820_sanitise;
 #[cfg(test)]
-mod e820_usable;
+mod of_e820_usable;
 #[cfg(test)]
-mod node_hulls;
+mod of_node_hulls;
 #[cfg(test)]
-mod run_edits;
+mod of_run_edits;

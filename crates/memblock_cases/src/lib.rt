@@ -1,15 +1,15 @@
 //! Worked cases of what memblock stands on: items and owners, the journal, bytes at addresses, the search.
 //!
-//! Each module has the cases of the crate of its name, called as any other crate calls it: by its public names, and by
+//! Each module has the cases of the crate that it is named for, called as any other crate calls it: by its public names, and by
 //! what its contracts say alone. The tests of a crate are proved with the crate, so those that need no more than that stand here, and
 //! a crate that stands is proved once.
 #![tactic(auto)]
 
 #[cfg(test)]
-mod boot_journal;
+mod of_boot_journal;
 #[cfg(test)]
-mod memblock_find;
+mod of_memblock_find;
 #[cfg(test)]
-mod memblock_model;
+mod of_memblock_model;
 #[cfg(test)]
-mod phys_store;
+mod of_phys_store;

@@ -1,23 +1,23 @@
 //! Worked cases of bytes and texts that come in, and of what is below them.
 //!
-//! Each module has the cases of the crate of its name, called as any other crate calls it: by its public names, and by
+//! Each module has the cases of the crate that it is named for, called as any other crate calls it: by its public names, and by
 //! what its contracts say alone. The tests of a crate are proved with the crate, so those that need no more than that stand here, and
 //! a crate that stands is proved once.
 #![tactic(auto)]
 
 #[cfg(test)]
-mod bm_base;
+mod of_bm_base;
 #[cfg(test)]
-mod boot_inputs;
+mod of_boot_inputs;
 #[cfg(test)]
-mod boot_options;
+mod of_boot_options;
 #[cfg(test)]
-mod e820_table;
+mod of_e820_table;
 #[cfg(test)]
-mod program_words;
+mod of_program_words;
 #[cfg(test)]
-mod script_reader;
+mod of_script_reader;
 #[cfg(test)]
-mod srat_reader;
+mod of_srat_reader;
 #[cfg(test)]
-mod text_words;
+mod of_text_words;

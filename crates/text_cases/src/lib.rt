@@ -1,11 +1,11 @@
 //! Worked cases of the texts of reports.
 //!
-//! Each module has the cases of the crate of its name, called as any other crate calls it: by its public names, and by
+//! Each module has the cases of the crate that it is named for, called as any other crate calls it: by its public names, and by
 //! what its contracts say alone. The tests of a crate are proved with the crate, so those that need no more than that stand here, and
 //! a crate that stands is proved once.
 #![tactic(auto)]
 
 #[cfg(test)]
-mod report_texts;
+mod of_report_texts;
 #[cfg(test)]
-mod stage_texts;
+mod of_stage_texts;

@@ -8,9 +8,10 @@ use bm_base::{FRAME_SIZE, Range};
 use memblock_grow::Memblock;
 use memblock_model::{Owner, Which};
 use memblock_ranges::{Region, Tables};
-use sparse_sections::{RootPlace, place_roots, present};
+use sparse_sections::{RootPlace, Roots, place_roots, present};
 use stage_model::Section;
 use std::alloc::Global;
+use std::process::Abort;
 use std::test::Fail;
 
 const KERNEL: Range = Range {
@@ -70,13 +71,18 @@ fn add(memblock: &mut Memblock, range: Range, node: u32) -> Result<(), Fail>
 fn machine(alloc: Global) -> Result<Memblock, Fail> {
     let mut memblock = Memblock::new(alloc, KERNEL)?;
     memblock.claim(KERNEL, Owner::Kernel)?;
-    add(&mut memblock, FIRST, 0)?;
-    add(&mut memblock, SECOND, 1)?;
-    add(&mut memblock, FAR, 1)?;
-    if has_begun(&memblock) {
+    add_all(&mut memblock)?;
+    Ok(memblock)
+}
+
+fn add_all(memblock: &mut Memblock) -> Result<(), Fail> {
+    add(memblock, FIRST, 0)?;
+    add(memblock, SECOND, 1)?;
+    add(memblock, FAR, 1)?;
+    if has_begun(memblock) {
         memblock.set_limit(0x8_0800_0000)?;
     }
-    Ok(memblock)
+    Ok(())
 }
 
 // Whether each record is such that sections are found by it.
@@ -92,29 +98,44 @@ fn are_whole(tables: &Tables) -> bool
     true
 }
 
+// Each row is a section's number and its node.
+fn compare_sections(rt: &impl Abort, sections: &[Section], rows: &[(u32, u32)]) {
+    assert!(rt; sections.len() == rows.len());
+    for (section, (number, node)) in sections.iter().zip(rows) {
+        assert!(rt;
+            section.number == *number && section.node == *node,
+            "{section:?}"
+        );
+    }
+}
+
+// The sections of the machine.
+fn sections_of(alloc: Global, memblock: &Memblock) -> Result<Vec<Section>, Fail> {
+    if !are_whole(memblock.tables()) {
+        return Err("a record isn't whole".into());
+    }
+    Ok(present(alloc, memblock.tables())?)
+}
+
+fn roots_of(alloc: Global, memblock: &mut Memblock, sections: &[Section]) -> Result<Roots, Fail> {
+    if !has_begun(memblock) {
+        return Err("nothing has happened".into());
+    }
+    Ok(place_roots(alloc, memblock, sections)?)
+}
+
+fn compare_roots(rt: &impl Abort, roots: &Roots, table: u64, places: &[RootPlace]) {
+    assert!(rt; roots.table == table);
+    assert!(rt; roots.roots.as_slice() == places);
+}
+
 #[test]
 fn sections_and_roots(rt: HostRuntime) -> Result<(), Fail> {
     let alloc = rt.alloc();
     let mut memblock = machine(alloc)?;
-    if !are_whole(memblock.tables()) {
-        return Err("a record isn't whole".into());
-    }
-    let sections = present(alloc, memblock.tables())?;
-    let want = [(0, 0), (1, 0), (2, 1), (3, 1), (256, 1)];
-    assert_eq!(rt; sections.len(), want.len());
-    for (section, (number, node)) in sections.iter().zip(&want) {
-        assert_eq!(rt;
-            *section,
-            Section {
-                number: *number,
-                node: *node
-            }
-        );
-    }
-    if !has_begun(&memblock) {
-        return Err("nothing has happened".into());
-    }
-    let roots = place_roots(alloc, &mut memblock, &sections)?;
+    let sections = sections_of(alloc, &memblock)?;
+    compare_sections(&rt, &sections, &[(0, 0), (1, 0), (2, 1), (3, 1), (256, 1)]);
+    let roots = roots_of(alloc, &mut memblock, &sections)?;
     let places = [
         RootPlace {
             number: 0,
@@ -125,7 +146,6 @@ fn sections_and_roots(rt: HostRuntime) -> Result<(), Fail> {
             place: 0x8_07FF_B000,
         },
     ];
-    assert_eq!(rt; roots.table, 0x8_07FF_C000);
-    assert_eq!(rt; roots.roots.as_slice(), places.as_slice());
+    compare_roots(&rt, &roots, 0x8_07FF_C000, &places);
     Ok(())
 }

@@ -3,7 +3,8 @@
 ghost use Rattle.std.specs.Prelude.{◌≡◌, ◌+◌, ◌^◌, ◌<◌};
 
 use bm_base::{Memory, Range};
-use boot_journal::{Item, Journal, Owner, Tag, Which};
+use boot_journal::{Item, Journal, Owner, OwnerRun, Tag, Which};
+use std::alloc::Global;
 use std::process::Abort;
 use std::test::Fail;
 
@@ -122,22 +123,24 @@ fn compare_owners(rt: &impl Abort, journal: &Journal, rows: &[(u64, Option<Owner
     }
 }
 
-// Each row is a range and the owner of each byte of it: the runs are these, and no byte beside them has an owner.
+// Each row is a range and the owner of each byte of it: the runs are these.
 fn compare_runs(
     rt: &impl Abort,
     journal: &Journal,
     rows: &[(u64, u64, Owner)],
 ) -> Result<(), Memory> {
     let runs = journal.owner_runs()?;
-    assert_eq!(rt; journal.owners(), runs.as_slice());
-    assert_eq!(rt; runs.len(), rows.len());
-    for (run, (base, size, owner)) in runs.iter().zip(rows) {
-        assert_eq!(rt;
-            (run.range.base, run.range.size, run.owner),
-            (*base, *size, *owner)
-        );
-    }
+    compare_list(rt, runs.as_slice(), rows);
+    compare_list(rt, journal.owners(), rows);
     Ok(())
+}
+
+fn compare_list(rt: &impl Abort, runs: &[OwnerRun], rows: &[(u64, u64, Owner)]) {
+    assert!(rt; runs.len() == rows.len());
+    for (run, (base, size, owner)) in runs.iter().zip(rows) {
+        let is_it = run.range.base == *base && run.range.size == *size && run.owner == *owner;
+        assert!(rt; is_it, "at {base:#x}");
+    }
 }
 
 fn compare_owned(rt: &impl Abort, journal: &Journal, rows: &[(Range, Owner, bool)]) {
@@ -197,11 +200,8 @@ fn owners(rt: HostRuntime) -> Result<(), Fail> {
     Ok(())
 }
 
-#[test]
-fn items_stand_in_their_order(rt: HostRuntime) -> Result<(), Fail> {
-    let mut journal = Journal::new(rt.alloc());
-    assert_eq!(rt; journal.items().len(), 0);
-    assert_eq!(rt; journal.owner_runs()?.len(), 0);
+// The second item takes the room that was made for it.
+fn limit_and_growth(journal: &mut Journal) -> Result<(), Memory> {
     journal.push(Item::Limit { at: 0x10_0000 })?;
     journal.ready(1)?;
     journal.push_ready(Item::Grown {
@@ -209,7 +209,21 @@ fn items_stand_in_their_order(rt: HostRuntime) -> Result<(), Fail> {
         place: 0x5000,
         room: 256,
     });
-    let expected = [
+    Ok(())
+}
+
+fn compare_text(rt: &impl Abort, alloc: Global, journal: &Journal, want: &str) -> Result<(), Fail> {
+    let text = format!(in alloc; "{journal:?}")?;
+    assert_eq!(rt; text.as_str(), want);
+    Ok(())
+}
+
+#[test]
+fn items_stand_in_their_order(rt: HostRuntime) -> Result<(), Fail> {
+    let mut journal = Journal::new(rt.alloc());
+    compare_runs(&rt, &journal, &[])?;
+    limit_and_growth(&mut journal)?;
+    let items = [
         Item::Limit { at: 0x10_0000 },
         Item::Grown {
             which: Which::Reserved,
@@ -217,11 +231,8 @@ fn items_stand_in_their_order(rt: HostRuntime) -> Result<(), Fail> {
             room: 256,
         },
     ];
-    assert_eq!(rt; journal.items(), expected.as_slice());
-    let text = format!(in rt.alloc(); "{journal:?}")?;
-    assert_eq!(rt;
-        text.as_str(),
-        "Journal { items: [Limit { at: 1048576 }, Grown { which: Reserved, place: 20480, room: 256 }], owners: [], spare: 0 }"
-    );
-    Ok(())
+    assert!(rt; journal.items() == items.as_slice());
+    let text =
+        "Journal { items: [Limit { at: 1048576 }, Grown { which: Reserved, place: 20480, room: 256 }], owners: [], spare: 0 }";
+    compare_text(&rt, rt.alloc(), &journal, text)
 }

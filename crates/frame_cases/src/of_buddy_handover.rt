@@ -95,14 +95,26 @@ type Counts = (u32, Zone, [u64; 11]);
 
 fn compare_counts(rt: &impl Abort, buddy: &Buddy, rows: &[Counts]) {
     for (node, zone, expected) in rows {
-        assert_eq!(rt; counts(buddy, *node, *zone), *expected);
+        assert!(rt;
+            counts(buddy, *node, *zone) == *expected,
+            "node {node}, {zone:?}"
+        );
     }
 }
 
 fn compare_blocks(rt: &impl Abort, buddy: &Buddy, rows: &[(u64, Option<Block>)]) {
     for (frame, block) in rows {
-        assert_eq!(rt; buddy.block_of(*frame), *block, "frame {frame:#x}");
+        assert!(rt; buddy.block_of(*frame) == *block, "frame {frame:#x}");
     }
+}
+
+fn compare_ends(rt: &impl Abort, blocks: &[Block], many: usize, ends: [Block; 2]) {
+    let [first, last] = ends;
+    assert!(rt; blocks.len() == many);
+    assert!(rt;
+        blocks.first() == Some(&first) && blocks.last() == Some(&last),
+        "{blocks:?}"
+    );
 }
 
 // How many blocks there are, and the first and the last of them.
@@ -113,10 +125,7 @@ fn compare_list(
     ends: [Block; 2],
 ) -> Result<(), Memory> {
     let blocks = buddy.blocks()?;
-    assert_eq!(rt; blocks.len(), many);
-    let [first, last] = ends;
-    assert_eq!(rt; blocks.first().copied(), Some(first));
-    assert_eq!(rt; blocks.last().copied(), Some(last));
+    compare_ends(rt, &blocks, many, ends);
     Ok(())
 }
 
@@ -217,7 +226,7 @@ fn free_halves(
 {
     assert!(rt; free(buddy, first, 0x200, 5)?);
     assert!(rt; !free(buddy, first + 0x1FF, 1, 5)?);
-    assert_eq!(rt; buddy.block_of(second), None);
+    assert!(rt; buddy.block_of(second).is_none());
     assert!(rt; free(buddy, second, 0x200, 5)?);
     compare_blocks(rt, buddy, &[(first, Some(whole)), (second, Some(whole))]);
     compare_list(rt, buddy, 1, [whole, whole])
@@ -244,7 +253,7 @@ fn ranges_that_meet(rt: HostRuntime) -> Result<(), Fail> {
 fn compare_zones(rt: &impl Abort, buddy: &Buddy, rows: &[(u64, Zone)]) {
     for (frame, zone) in rows {
         let block = buddy.block_of(*frame).map(|b| (b.order, b.zone));
-        assert_eq!(rt; block, Some((0, *zone)));
+        assert!(rt; block == Some((0, *zone)), "frame {frame:#x}");
     }
 }
 

@@ -2,8 +2,9 @@
 
 use bm_base::Range;
 use memblock_model::Which;
-use memblock_ranges::{Head, Tables};
+use memblock_ranges::{Head, Heads, Tables};
 use phys_store::Store;
+use std::process::Abort;
 use std::test::Fail;
 use table_frames::{Claim, RecordFrames, frames_at, has_records, has_whole_frames, next_claim};
 
@@ -53,22 +54,20 @@ fn records_by_frames(rt: HostRuntime) -> Result<(), Fail> {
     assert!(rt; cover(&mut tables, Which::Memory, 0x1000, 0x9E000, 3));
     assert!(rt; cover(&mut tables, Which::Reserved, 0x4FC0, 0x28, 1024));
     let (store, heads) = tables.into_parts();
-    assert!(rt; has_records(&store, &heads.memory, 0x9F000));
-    assert!(rt; !has_records(&store, &heads.memory, 0x9EFFF));
-    let memory = frames(&store, &heads.memory, 0);
-    assert_eq!(rt;
-        memory.map(|f| (f.first, f.end, f.node)),
-        Some((1, 0x9F, Some(3)))
-    );
-    let reserved = frames(&store, &heads.reserved, 0);
-    assert_eq!(rt;
-        reserved.map(|f| (f.first, f.end, f.node)),
-        Some((4, 5, None))
-    );
-    let claim = first_claim(&store, &heads.reserved);
-    assert_eq!(rt; claim.map(|c| (c.index, c.first, c.end)), Some((0, 4, 5)));
-    if has_records(&store, &heads.reserved, u64::MAX) {
-        assert!(rt; !has_whole_frames(&store, &heads.reserved));
-    }
+    compare(&rt, &store, &heads);
     Ok(())
+}
+
+fn compare(rt: &impl Abort, store: &Store, heads: &Heads) {
+    assert!(rt; has_records(store, &heads.memory, 0x9F000));
+    assert!(rt; !has_records(store, &heads.memory, 0x9EFFF));
+    let memory = frames(store, &heads.memory, 0).map(|f| (f.first, f.end, f.node));
+    assert!(rt; memory == Some((1, 0x9F, Some(3))));
+    let reserved = frames(store, &heads.reserved, 0).map(|f| (f.first, f.end, f.node));
+    assert!(rt; reserved == Some((4, 5, None)));
+    let claim = first_claim(store, &heads.reserved).map(|c| (c.index, c.first, c.end));
+    assert!(rt; claim == Some((0, 4, 5)));
+    if has_records(store, &heads.reserved, u64::MAX) {
+        assert!(rt; !has_whole_frames(store, &heads.reserved));
+    }
 }

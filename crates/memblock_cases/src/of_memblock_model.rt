@@ -5,6 +5,7 @@ ghost use Rattle.memblock_model.specs.declared.owner.Owner.{Owner as AnyOwner};
 
 use bm_base::Range;
 use memblock_model::{Item, Label, Owner, OwnerRun, Query, Tag, Which};
+use std::process::Abort;
 use std::test::Fail;
 
 fn bytes(base: u64, size: u64) -> Range
@@ -35,7 +36,7 @@ fn owner_of(run: &OwnerRun) -> Owner
 
 // Each variant beside one that differs from it in one part.
 #[test]
-fn values_that_differ_in_one_part(rt: HostRuntime) -> Result<(), Fail> {
+fn items_that_differ_in_one_part(rt: HostRuntime) {
     let items = [
         Item::Mem {
             range: bytes(0x1000, 0x2000),
@@ -82,11 +83,19 @@ fn values_that_differ_in_one_part(rt: HostRuntime) -> Result<(), Fail> {
         },
     ];
     for (i, first) in items.iter().enumerate() {
-        for (j, second) in items.iter().enumerate() {
-            assert_eq!(rt; first == second, i == j, "{first:?} and {second:?}");
-        }
+        compare_with_all(&rt, &items, i, first);
     }
+}
 
+// The item equals that of its own number alone.
+fn compare_with_all(rt: &impl Abort, items: &[Item], i: usize, first: &Item) {
+    for (j, second) in items.iter().enumerate() {
+        assert!(rt; (first == second) == (i == j), "{first:?} and {second:?}");
+    }
+}
+
+#[test]
+fn queries_and_labels(rt: HostRuntime) {
     let query = Query {
         lo: 0x1000,
         hi: 0x9000,
@@ -101,13 +110,15 @@ fn values_that_differ_in_one_part(rt: HostRuntime) -> Result<(), Fail> {
         align: 0x1000,
         node: Some(0),
     };
-    assert_eq!(rt; query, query);
-    assert_ne!(rt; query, of_node_0);
-    assert_ne!(rt; Tag::NoNode, Tag::Node(0));
-    assert_ne!(rt; Label::plain(), Label::plain().with_node(0));
-    assert_eq!(rt; Label::plain().with_node(1023).node(), Some(1023));
+    assert!(rt; query == query && query != of_node_0);
+    assert!(rt; Tag::NoNode != Tag::Node(0));
+    assert!(rt; Label::plain() != Label::plain().with_node(0));
+    assert!(rt; Label::plain().with_node(1023).node() == Some(1023));
+}
 
-    // The run ends where addresses end.
+// The run ends where addresses end.
+#[test]
+fn runs_of_owners(rt: HostRuntime) {
     let run = OwnerRun {
         range: bytes(u64::MAX - 0x2000, 0x2000),
         owner: Owner::Table(Which::Memory),
@@ -116,11 +127,9 @@ fn values_that_differ_in_one_part(rt: HostRuntime) -> Result<(), Fail> {
         range: bytes(u64::MAX - 0x2000, 0x2000),
         owner: Owner::Table(Which::Reserved),
     };
-    assert_ne!(rt; run, other);
-    assert_eq!(rt; base_of(&run), u64::MAX - 0x2000);
-    assert_eq!(rt; size_of(&run), 0x2000);
-    assert_eq!(rt; owner_of(&run), Owner::Table(Which::Memory));
-    Ok(())
+    assert!(rt; run != other);
+    assert!(rt; base_of(&run) == u64::MAX - 0x2000 && size_of(&run) == 0x2000);
+    assert!(rt; owner_of(&run) == Owner::Table(Which::Memory));
 }
 
 #[test]

@@ -74,8 +74,8 @@ fn expect(
     requires { EndInSpace entries.now }
 {
     match booted(alloc, entries, line)? {
-        Ok(booted) => assert_eq!(rt; Ok(booted.map.as_slice()), want),
-        Err(stop) => assert_eq!(rt; Err(stop), want),
+        Ok(booted) => assert!(rt; want == Ok(booted.map.as_slice())),
+        Err(stop) => assert!(rt; want == Err(stop)),
     }
     Ok(())
 }
@@ -201,8 +201,8 @@ fn journal_of_a_virtual_machine(rt: HostRuntime) -> Result<(), Fail> {
         },
     ];
     match booted(rt.alloc(), &machine, b"")? {
-        Ok(booted) => assert_eq!(rt; booted.journal.items(), want.as_slice()),
-        Err(stop) => assert_eq!(rt; Err::<(), Stop>(stop), Ok(())),
+        Ok(booted) => assert!(rt; booted.journal.items() == want.as_slice()),
+        Err(_) => return Err("the boot stops".into()),
     }
     Ok(())
 }

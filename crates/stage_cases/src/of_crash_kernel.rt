@@ -119,7 +119,7 @@ fn compare(
 ) -> Result<(), Fail> {
     for (line, expected) in rows {
         let (crash, _) = reserved(alloc, memory, line)?;
-        assert_eq!(rt; crash, *expected, "at {line:?}");
+        assert!(rt; crash == *expected, "{crash:?} at {line:?}");
     }
     Ok(())
 }
@@ -226,13 +226,12 @@ fn low_parts(rt: HostRuntime) -> Result<(), Fail> {
         range: bytes(0x6F00_0000, 0x1000_0000),
         owner: Owner::CrashLow,
     };
-    assert_eq!(rt; last, Some(claim));
+    assert!(rt; last == Some(claim));
     let line = b"crashkernel=512M,high crashkernel=2G,low".as_slice();
     let (crash, last) = reserved(rt.alloc(), &LARGE, line)?;
     let free = Item::Free {
         range: bytes(0x2_6000_0000, 0x2000_0000),
     };
-    assert_eq!(rt; crash, Crash::LowFailed);
-    assert_eq!(rt; last, Some(free));
+    assert!(rt; crash == Crash::LowFailed && last == Some(free));
     Ok(())
 }

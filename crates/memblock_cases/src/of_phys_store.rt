@@ -1,0 +1,117 @@
+//! The calls of a store on small ranges, in memory that is ample.
+ghost use Rattle.std.specs.Prelude.{◌≡◌, ◌+◌, ◌^◌, ◌<◌};
+
+use bm_base::{Memory, Range};
+use phys_store::Store;
+use std::process::Abort;
+use std::test::Fail;
+
+fn bytes(base: u64, size: u64) -> Range
+    requires { base + size < 2 ^ 64 }
+    ensures { result ≡ record { base = base; size = size } }
+{
+    Range { base, size }
+}
+
+// Each row is a range, and whether it is prepared.
+fn compare_prepared(rt: &impl Abort, store: &Store, rows: &[(Range, bool)]) {
+    for (range, is_prepared) in rows {
+        assert!(rt; store.is_prepared(*range) == *is_prepared, "{range:?}");
+    }
+}
+
+// Each row is the address of four bytes, and these.
+fn compare_bytes(rt: &impl Abort, store: &Store, rows: &[(u64, [u8; 4])]) {
+    for (at, expected) in rows {
+        assert!(rt; *at <= u64::MAX - 4);
+        let mut read = [9; 4];
+        store.read(*at, &mut read);
+        assert!(rt; read == *expected, "at {at:#x}");
+    }
+}
+
+// Two frames with a frame between them, the inner ends of both written.
+fn write_apart(store: &mut Store) -> Result<(), Memory> {
+    store.prepare(bytes(0x1000, 0x1000))?;
+    store.prepare(bytes(0x3000, 0x1000))?;
+    store.fill(bytes(0x1FFE, 2), 7);
+    store.write(0x3000, b"ab");
+    Ok(())
+}
+
+// The last address that a range can have.
+fn write_last(store: &mut Store) -> Result<(), Memory> {
+    store.prepare(bytes(u64::MAX - 1, 1))?;
+    store.fill(bytes(u64::MAX - 1, 1), 1);
+    Ok(())
+}
+
+// Two frames with a frame between them, then the three as one.
+//
+//     0x1000     0x2000     0x3000     0x4000
+//     |..........|          |..........|
+#[test]
+fn frames_are_prepared_and_joined(rt: HostRuntime) -> Result<(), Fail> {
+    let mut store = Store::new(rt.alloc());
+    let none = [(bytes(0x1000, 1), false), (bytes(0x1000, 0), true)];
+    compare_prepared(&rt, &store, &none);
+    write_apart(&mut store)?;
+    let apart = [
+        (bytes(0x1000, 0x1000), true),
+        (bytes(0xFFF, 2), false),
+        (bytes(0x1FFF, 2), false),
+        (bytes(0x1000, 0x3000), false),
+    ];
+    compare_prepared(&rt, &store, &apart);
+
+    store.prepare(bytes(0x1800, 0x1800))?;
+    let joined = [
+        (bytes(0x1000, 0x3000), true),
+        (bytes(0x1000, 0x3001), false),
+    ];
+    compare_prepared(&rt, &store, &joined);
+    write_last(&mut store)?;
+    let read = [
+        (0x1FFD, [0, 7, 7, 0]),
+        (0x2FFF, [0, b'a', b'b', 0]),
+        (u64::MAX - 4, [0, 0, 0, 1]),
+    ];
+    compare_bytes(&rt, &store, &read);
+    Ok(())
+}
+
+// Bytes move up and down within one extent.
+fn move_both_ways(rt: &impl Abort, store: &mut Store) -> Result<(), Memory> {
+    store.prepare(bytes(0x1000, 0x400))?;
+    store.write(0x1000, b"abcdef".as_slice());
+    store.move_bytes(0x1001, 0x1003, 5);
+    assert!(rt; store.slice(0x1000, 8) == b"abcbcdef".as_slice());
+    store.move_bytes(0x1003, 0x1000, 5);
+    assert!(rt; store.slice(0x1000, 8) == b"bcdefdef".as_slice());
+    Ok(())
+}
+
+// More than is copied at a time, to another extent.
+fn copy_across(store: &mut Store) -> Result<(), Memory> {
+    store.prepare(bytes(0x1000, 0x400))?;
+    store.prepare(bytes(0x9000, 0x400))?;
+    store.fill(bytes(0x1010, 0x300), 5);
+    store.copy(0x1000, 0x9100, 0x300);
+    Ok(())
+}
+
+#[test]
+fn bytes_are_moved_and_copied(rt: HostRuntime) -> Result<(), Fail> {
+    let mut store = Store::new(rt.alloc());
+    move_both_ways(&rt, &mut store)?;
+    copy_across(&mut store)?;
+    // What lies across the end of an extent reads as 0.
+    let read = [
+        (0x90FC, [0; 4]),
+        (0x9100, [b'b', b'c', b'd', b'e']),
+        (0x9104, [b'f', b'd', b'e', b'f']),
+        (0x93FE, [5, 5, 0, 0]),
+    ];
+    compare_bytes(&rt, &store, &read);
+    Ok(())
+}
