@@ -6,6 +6,8 @@
 #![tactic(auto)]
 
 #[cfg(test)]
+mod common;
+#[cfg(test)]
 mod of_buddy_handover;
 #[cfg(test)]
 mod of_frame_blocks;

@@ -2,58 +2,15 @@
 ghost use Rattle.std.specs.Prelude.{◌≡◌, ◌+◌, ◌^◌, ◌<◌, ◌≤◌, None, IsTrue};
 ghost use Rattle.buddy_handover.specs.Contents.{free};
 
-use bm_base::{FRAME_SIZE, Memory, Range, Zone};
+use crate::common::parts_of;
+use bm_base::{FRAME_SIZE, Memory, Zone};
 use buddy_handover::{Block, Buddy, MAX_FRAMES, hand_over};
-use memblock_model::Which;
-use memblock_ranges::{Heads, Tables};
+use memblock_ranges::Heads;
 use phys_store::Store;
 use std::alloc::Global;
 use std::process::Abort;
 use std::test::Fail;
 use table_frames::{has_records, has_whole_frames};
-
-// Whether the range can be covered with the node; then it is.
-fn cover(tables: &mut Tables, which: Which, base: u64, size: u64, node: u32) -> bool {
-    let Some(range) = Range::new(base, size) else {
-        return false;
-    };
-    let head = tables.head(which);
-    let pieces = tables.pieces(which, range);
-    if size == 0 || pieces > head.room - head.count {
-        return false;
-    }
-    match which {
-        Which::Memory if node <= 1024 => tables.insert(which, range, node),
-        Which::Reserved if node == 1024 => tables.insert(which, range, node),
-        _ => return false,
-    }
-    true
-}
-
-// The bytes of tables with these ranges; a range of memory has a node.
-fn tables_of(
-    alloc: Global,
-    memory: &[(u64, u64, u32)],
-    reserved: &[(u64, u64)],
-) -> Result<(Store, Heads), Fail> {
-    let Some(kernel) = Range::new(0x1000000, 0x2000000) else {
-        return Err("kernel".into());
-    };
-    let mut tables = Tables::new(alloc, kernel)?;
-    for (first, behind, node) in memory {
-        if *behind < *first || !cover(&mut tables, Which::Memory, *first, *behind - *first, *node) {
-            return Err("memory".into());
-        }
-    }
-    for (first, behind) in reserved {
-        if *behind < *first
-            || !cover(&mut tables, Which::Reserved, *first, *behind - *first, 1024)
-        {
-            return Err("reserved".into());
-        }
-    }
-    Ok(tables.into_parts())
-}
 
 // The handover, where the bytes are records.
 fn handed(alloc: Global, store: &Store, heads: &Heads) -> Result<Buddy, Fail> {
@@ -140,7 +97,7 @@ fn a_virtual_machine_of_128_mib(rt: HostRuntime) -> Result<(), Fail> {
         (0x7FAFFC0, 0x7FAFFE8),
         (0x7FB0000, 0x7FE0000),
     ];
-    let (store, heads) = tables_of(rt.alloc(), &memory, &reserved)?;
+    let (store, heads) = parts_of(rt.alloc(), &memory, &reserved)?;
     let buddy = handed(rt.alloc(), &store, &heads)?;
     let expected = [
         (0, Zone::Dma, [0, 0, 0, 0, 0, 0, 0, 0, 1, 1, 3]),
@@ -191,7 +148,7 @@ fn a_node_border_inside_a_set(rt: HostRuntime) -> Result<(), Fail> {
         (0x7FAFFC0, 0x7FAFFE8),
         (0x7FB0000, 0x7FE0000),
     ];
-    let (store, heads) = tables_of(rt.alloc(), &memory, &reserved)?;
+    let (store, heads) = parts_of(rt.alloc(), &memory, &reserved)?;
     let buddy = handed(rt.alloc(), &store, &heads)?;
     let expected = [
         (0, Zone::Dma32, [1, 1, 1, 1, 0, 1, 0, 1, 2, 0, 11]),

@@ -6,6 +6,8 @@
 #![tactic(auto)]
 
 #[cfg(test)]
+mod common;
+#[cfg(test)]
 mod of_address_runs;
 #[cfg(test)]
 mod of_e820_model;

@@ -1,20 +1,8 @@
 //! An overlay whose records are runs of the map.
-ghost use Rattle.std.specs.Prelude.{◌≡◌, ◌+◌, ◌^◌, ◌<◌};
 
+use crate::common::run;
 use address_runs::overlay_all;
-use bm_base::Range;
-use e820_model::Run;
 use std::test::Fail;
-
-fn run(base: u64, size: u64, kind: u32) -> Run
-    requires { base + size < 2 ^ 64 }
-    ensures { result ≡ record { base = base; size = size; value = kind } }
-{
-    Run {
-        range: Range { base, size },
-        kind,
-    }
-}
 
 // RAM with a reserved hole in it, and RAM again behind it, told in another order
 #[test]

@@ -3,6 +3,7 @@
 ghost use Rattle.std.specs.Prelude.{◌≡◌, ◌+◌, ◌^◌, ◌<◌};
 ghost use Rattle.e820_model.specs.Claims.{EndInSpace, HasTypes};
 
+use crate::common::run;
 use bm_base::Range;
 use e820_model::{Edit, Entry};
 use e820_sanitise::{MapFault, Run, Table};
@@ -20,15 +21,6 @@ fn range(base: u64, size: u64) -> Range
     ensures { result ≡ record { base = base; size = size } }
 {
     Range { base, size }
-}
-
-fn run(base: u64, size: u64, kind: u32) -> Run
-    requires { base + size < 2 ^ 64 }
-{
-    Run {
-        range: range(base, size),
-        kind,
-    }
 }
 
 fn settled(rt: &impl Abort, alloc: Global, entries: &[Entry]) -> Table

@@ -1,22 +1,11 @@
 //! Maps that stop a boot and maps that don't, and frames at the ends of runs and of what is within reach.
 
-ghost use Rattle.std.specs.Prelude.{◌≡◌, ◌+◌, ◌^◌, ◌<◌};
 ghost use Rattle.address_runs.specs.Runs.{AreRuns};
 
-use bm_base::Range;
+use crate::common::run;
 use e820_model::Run;
 use e820_usable::{MapStop, judge, usable_frames};
 use std::process::Abort;
-
-fn run(base: u64, size: u64, kind: u32) -> Run
-    requires { base + size < 2 ^ 64 }
-    ensures { result ≡ record { base = base; size = size; value = kind } }
-{
-    Run {
-        range: Range { base, size },
-        kind,
-    }
-}
 
 /// The first address that page tables of five levels don't reach.
 const LIMIT: u64 = 1 << 52;

@@ -6,6 +6,8 @@
 #![tactic(auto)]
 
 #[cfg(test)]
+mod common;
+#[cfg(test)]
 mod of_boot_journal;
 #[cfg(test)]
 mod of_memblock_find;

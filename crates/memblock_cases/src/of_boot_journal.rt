@@ -1,19 +1,11 @@
 //! A journal in use: tags around a trim, claims over one another, runs of owners, by values worked out by hand.
 
-ghost use Rattle.std.specs.Prelude.{◌≡◌, ◌+◌, ◌^◌, ◌<◌};
-
+use crate::common::bytes;
 use bm_base::{Memory, Range};
 use boot_journal::{Item, Journal, Owner, OwnerRun, Tag, Which};
 use std::alloc::Global;
 use std::process::Abort;
 use std::test::Fail;
-
-fn bytes(base: u64, size: u64) -> Range
-    requires { base + size < 2 ^ 64 }
-    ensures { result ≡ record { base = base; size = size } }
-{
-    Range { base, size }
-}
 
 // What is memory of one byte less than three frames, the upper half of the second one node 1's.
 fn add_memory(journal: &mut Journal) -> Result<(), Memory> {

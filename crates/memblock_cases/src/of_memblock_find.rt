@@ -1,6 +1,6 @@
 //! The search and the runs of unclaimed memory in the tables that a virtual machine's boot leaves.
-ghost use Rattle.std.specs.Prelude.{◌≡◌, ◌+◌, ◌^◌, ◌<◌};
 
+use crate::common::bytes;
 use bm_base::{Memory, Range};
 use memblock_find::{FreeRange, FreeRuns, Query, find, next_free, prev_free};
 use memblock_model::Which;
@@ -8,13 +8,6 @@ use memblock_ranges::Tables;
 use std::alloc::Global;
 use std::process::Abort;
 use std::test::Fail;
-
-fn bytes(base: u64, size: u64) -> Range
-    requires { base + size < 2 ^ 64 }
-    ensures { result ≡ record { base = base; size = size } }
-{
-    Range { base, size }
-}
 
 // Covers the range, where it isn't empty and there is room.
 fn cover(tables: &mut Tables, which: Which, base: u64, size: u64, node: u32) -> bool {

@@ -1,19 +1,13 @@
 //! The plain data of this crate: values that differ in one part differ, and they print their parts.
 
-ghost use Rattle.std.specs.Prelude.{◌≡◌, ◌+◌, ◌^◌, ◌<◌};
+ghost use Rattle.std.specs.Prelude.{◌≡◌};
 ghost use Rattle.memblock_model.specs.declared.owner.Owner.{Owner as AnyOwner};
 
+use crate::common::bytes;
 use bm_base::Range;
 use memblock_model::{Item, Label, Owner, OwnerRun, Query, Tag, Which};
 use std::process::Abort;
 use std::test::Fail;
-
-fn bytes(base: u64, size: u64) -> Range
-    requires { base + size < 2 ^ 64 }
-    ensures { result ≡ record { base = base; size = size } }
-{
-    Range { base, size }
-}
 
 // What contracts see of a run are its fields.
 fn base_of(run: &OwnerRun) -> u64

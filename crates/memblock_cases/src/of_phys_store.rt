@@ -1,17 +1,10 @@
 //! The calls of a store on small ranges, in memory that is ample.
-ghost use Rattle.std.specs.Prelude.{◌≡◌, ◌+◌, ◌^◌, ◌<◌};
 
+use crate::common::bytes;
 use bm_base::{Memory, Range};
 use phys_store::Store;
 use std::process::Abort;
 use std::test::Fail;
-
-fn bytes(base: u64, size: u64) -> Range
-    requires { base + size < 2 ^ 64 }
-    ensures { result ≡ record { base = base; size = size } }
-{
-    Range { base, size }
-}
 
 // Each row is a range, and whether it is prepared.
 fn compare_prepared(rt: &impl Abort, store: &Store, rows: &[(Range, bool)]) {

@@ -6,6 +6,8 @@
 #![tactic(auto)]
 
 #[cfg(test)]
+mod common;
+#[cfg(test)]
 mod of_boot_stages;
 #[cfg(test)]
 mod of_crash_kernel;

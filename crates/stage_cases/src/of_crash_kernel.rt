@@ -2,8 +2,9 @@
 //! language.
 
 ghost use Rattle.std.specs.Prelude.{◌≡◌, ◌+◌, ◌^◌, ◌<◌, IsTrue};
-ghost use Rattle.growth_model.specs.Sound.{IsImage, HasBegun};
+ghost use Rattle.growth_model.specs.Sound.{IsImage};
 
+use crate::common::has_begun;
 use bm_base::Range;
 use boot_options::read_options;
 use crash_kernel::{Crash, reserve};
@@ -62,12 +63,6 @@ fn started(alloc: Global, kernel: Range) -> Result<Memblock, Refusal>
     let mut memblock = Memblock::new(alloc, kernel)?;
     memblock.claim(kernel, Owner::Kernel)?;
     Ok(memblock)
-}
-
-fn has_begun(memblock: &Memblock) -> bool
-    ensures { IsTrue result → HasBegun memblock.now.journal.items }
-{
-    memblock.journal().items().len() > 0
 }
 
 // Whether the part can be added and get its node; then it is.

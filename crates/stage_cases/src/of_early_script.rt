@@ -1,33 +1,16 @@
 //! Each outcome once, on a machine of 128 MiB with its kernel at 16 MiB. The places are the greatest addresses by hand.
 ghost use Rattle.std.specs.Prelude.{◌≡◌, ◌+◌, ◌^◌, ◌<◌, ◌≤◌, length, IsTrue};
-ghost use Rattle.growth_model.specs.Sound.{HasBegun};
 ghost use Rattle.early_script.specs.Acted.{IsRun};
 
+use crate::common::{has_begun, machine};
 use arrayvec::ArrayVec;
-use bm_base::Range;
 use early_script::{Answer, Live, Outcome};
 use memblock_grow::Memblock;
-use memblock_model::{Owner, Which};
+use memblock_model::Which;
 use script_reader::{Act, read_script};
 use std::alloc::Global;
 use std::process::Abort;
 use std::test::Fail;
-
-const KERNEL: Range = Range {
-    base: 0x100_0000,
-    size: 0x100_0000,
-};
-
-const MEMORY: Range = Range {
-    base: 0,
-    size: 0x800_0000,
-};
-
-fn has_begun(memblock: &Memblock) -> bool
-    ensures { IsTrue result → HasBegun memblock.now.journal.items }
-{
-    memblock.journal().items().len() > 0
-}
 
 fn is_run(act: &Act) -> bool
     ensures { IsTrue result → IsRun act.now }
@@ -36,19 +19,6 @@ fn is_run(act: &Act) -> bool
         Act::Sections => false,
         _ => true,
     }
-}
-
-// The machine, whose allocations end at the address.
-fn machine(alloc: Global, limit: u64) -> Result<Memblock, Fail> {
-    let mut memblock = Memblock::new(alloc, KERNEL)?;
-    memblock.claim(KERNEL, Owner::Kernel)?;
-    if has_begun(&memblock) {
-        memblock.add_memory(MEMORY)?;
-    }
-    if has_begun(&memblock) {
-        memblock.set_limit(limit)?;
-    }
-    Ok(memblock)
 }
 
 // What comes of the lines of a script.

@@ -1,8 +1,8 @@
 //! A machine of 128 MiB with its kernel at 16 MiB: its Node items and the places of node data, by hand.
 ghost use Rattle.std.specs.Prelude.{◌≡◌, ◌-◌, ◌^◌, ◌<◌, ◌≤◌, IfOk, IsTrue, length};
 ghost use Rattle.memblock_model.specs.Items.{limit_of};
-ghost use Rattle.growth_model.specs.Sound.{HasBegun};
 
+use crate::common::{MEMORY, has_begun, machine};
 use bm_base::Range;
 use boot_journal::{Item, Owner};
 use memblock_grow::Memblock;
@@ -15,24 +15,8 @@ use std::alloc::{AllocError, Global};
 use std::process::Abort;
 use std::test::Fail;
 
-const KERNEL: Range = Range {
-    base: 0x100_0000,
-    size: 0x100_0000,
-};
-
-const MEMORY: Range = Range {
-    base: 0,
-    size: 0x800_0000,
-};
-
 /// The bytes of a node's data.
 const DATA: u64 = 0x2B000;
-
-fn has_begun(memblock: &Memblock) -> bool
-    ensures { IsTrue result → HasBegun memblock.now.journal.items }
-{
-    memblock.journal().items().len() > 0
-}
 
 fn has_limit(memblock: &Memblock) -> bool
     ensures { IsTrue result → 0 < limit_of memblock.now.journal.items }
@@ -58,19 +42,6 @@ fn block(domain: u32, from: u64, until: u64) -> SratBlock
         domain,
         range: part(from, until),
     }
-}
-
-// The machine, whose allocations end at the address.
-fn machine(alloc: Global, limit: u64) -> Result<Memblock, Fail> {
-    let mut memblock = Memblock::new(alloc, KERNEL)?;
-    memblock.claim(KERNEL, Owner::Kernel)?;
-    if has_begun(&memblock) {
-        memblock.add_memory(MEMORY)?;
-    }
-    if has_begun(&memblock) {
-        memblock.set_limit(limit)?;
-    }
-    Ok(memblock)
 }
 
 // A table of these blocks.

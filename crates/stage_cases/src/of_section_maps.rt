@@ -1,19 +1,12 @@
 //! The maps of two groups, the second of which has no piece for all of its maps. The places are the greatest addresses by hand.
-ghost use Rattle.std.specs.Prelude.{◌<◌, IsTrue};
-ghost use Rattle.growth_model.specs.Sound.{HasBegun};
 
+use crate::common::{add, has_begun, started};
 use bm_base::Range;
 use memblock_grow::Memblock;
-use memblock_model::Owner;
 use section_maps::{Placed, place_maps};
 use stage_model::Section;
 use std::alloc::Global;
 use std::test::Fail;
-
-const KERNEL: Range = Range {
-    base: 0x100_0000,
-    size: 0x100_0000,
-};
 
 // Sections 0 and 1; of sections 2 and 3 the first 3 MiB each.
 const FIRST: Range = Range {
@@ -31,29 +24,9 @@ const THIRD: Range = Range {
     size: 0x30_0000,
 };
 
-fn has_begun(memblock: &Memblock) -> bool
-    ensures { IsTrue result → HasBegun memblock.now.journal.items }
-{
-    memblock.journal().items().len() > 0
-}
-
-fn add(memblock: &mut Memblock, range: Range, node: u32) -> Result<(), Fail>
-    requires some { 0 < range.size }
-    requires node { node < 1024 }
-{
-    if has_begun(memblock) {
-        memblock.add_memory(range)?;
-    }
-    if has_begun(memblock) {
-        memblock.set_node(range, node)?;
-    }
-    Ok(())
-}
-
 // The machine, whose allocations end with its memory.
 fn machine(alloc: Global) -> Result<Memblock, Fail> {
-    let mut memblock = Memblock::new(alloc, KERNEL)?;
-    memblock.claim(KERNEL, Owner::Kernel)?;
+    let mut memblock = started(alloc)?;
     add_all(&mut memblock)?;
     Ok(memblock)
 }

@@ -1,23 +1,18 @@
 //! Sections and roots of a machine of two nodes. The places are the greatest addresses by hand.
 ghost use Rattle.std.specs.Prelude.{◌≡◌, ◌+◌, ◌%◌, ◌^◌, ◌<◌, ◌≤◌, IsTrue};
 ghost use Rattle.std.specs.List.{All};
-ghost use Rattle.growth_model.specs.Sound.{HasBegun};
 ghost use Rattle.sparse_sections.specs.Present.{IsWholeNoded};
 
+use crate::common::{add, has_begun, started};
 use bm_base::{FRAME_SIZE, Range};
 use memblock_grow::Memblock;
-use memblock_model::{Owner, Which};
+use memblock_model::Which;
 use memblock_ranges::{Region, Tables};
 use sparse_sections::{RootPlace, Roots, place_roots, present};
 use stage_model::Section;
 use std::alloc::Global;
 use std::process::Abort;
 use std::test::Fail;
-
-const KERNEL: Range = Range {
-    base: 0x100_0000,
-    size: 0x100_0000,
-};
 
 // Sections 0 and 1, then section 2 and a frame of section 3, and section 256.
 const FIRST: Range = Range {
@@ -35,12 +30,6 @@ const FAR: Range = Range {
     size: 0x800_0000,
 };
 
-fn has_begun(memblock: &Memblock) -> bool
-    ensures { IsTrue result → HasBegun memblock.now.journal.items }
-{
-    memblock.journal().items().len() > 0
-}
-
 fn is_whole(region: &Region) -> bool
     ensures base { IsTrue result → region.now.base % 4096 ≡ 0 }
     ensures size { IsTrue result → region.now.size % 4096 ≡ 0 }
@@ -54,23 +43,9 @@ fn is_whole(region: &Region) -> bool
         && region.base <= 0x4000_0000_0000 - region.size
 }
 
-fn add(memblock: &mut Memblock, range: Range, node: u32) -> Result<(), Fail>
-    requires some { 0 < range.size }
-    requires node { node < 1024 }
-{
-    if has_begun(memblock) {
-        memblock.add_memory(range)?;
-    }
-    if has_begun(memblock) {
-        memblock.set_node(range, node)?;
-    }
-    Ok(())
-}
-
 // The machine, whose allocations end with its memory.
 fn machine(alloc: Global) -> Result<Memblock, Fail> {
-    let mut memblock = Memblock::new(alloc, KERNEL)?;
-    memblock.claim(KERNEL, Owner::Kernel)?;
+    let mut memblock = started(alloc)?;
     add_all(&mut memblock)?;
     Ok(memblock)
 }
