@@ -119,6 +119,7 @@ fn act_all(rt: &impl Abort, tables: &mut Tables, steps: &[Step]) {
 // Each row is the address of 24 bytes, and these.
 fn compare_bytes(rt: &impl Abort, tables: &Tables, rows: &[(u64, [u8; 24])]) {
     for (at, expected) in rows {
+        assert!(rt; *at <= u64::MAX - 24);
         let mut bytes = [9; 24];
         tables.read(*at, &mut bytes);
         assert_eq!(rt; bytes, *expected, "at {at:#x}");
