@@ -106,5 +106,6 @@ fn bytes_are_moved_and_copied(rt: HostRuntime) -> Result<(), Fail> {
         (0x93FE, [5, 5, 0, 0]),
     ];
     compare_bytes(&rt, &store, &read);
+    assert!(rt; store.byte_at(0x93FF) == 5 && store.byte_at(u64::MAX) == 0);
     Ok(())
 }
