@@ -5,15 +5,8 @@
 //! extension, the command line of the kernel, the firmware's table of domains and a script of early
 //! allocations; it boots with them up to the hand-over, and prints reports of it: `bootmem [--report LIST]
 //! [--e820ext F] [--cmdline F] [--srat F] [--script F] [--kernel BASE,SIZE] ZEROPAGE`, or `--make N` in place of
-//! ZEROPAGE for a table of N entries that a generator makes. [`run`] is the whole of it over any files, output and
-//! error output; `main` hands it those of the system.
-//!
-//! What the program answers is a definition, `outcome` of `specs/Outcome.antt`: from the words to
-//! what they ask for (`program_words`), from the files' bytes to the inputs (`boot_inputs`), from those to what
-//! the boot makes (`boot_model`), and from that to the text of the report (`debugfs_reports`), each
-//! step by cases. `run` answers what it says, but where the outside fails: a file that couldn't be
-//! read, an output that refused, want of memory. The first two have their cause in a count of the
-//! object that was handed in. The contract is the record `RanTo` of `specs/Run.antt`.
+//! ZEROPAGE for a table of N entries that a generator makes. [`run`] of `program_run` is the whole of it over any files,
+//! output and error output, with the contract; `main` hands it those of the system.
 //!
 //! Exit statuses: 0 written, 2 the words are refused, 3 a file couldn't be read, 4 the output
 //! failed, 5 an input has a fault, 6 the boot stops, 7 out of memory. All but 0 put one line on the
@@ -21,20 +14,10 @@
 //! a word that isn't UTF-8 and with 7 for want of memory.
 #![tactic(auto)]
 
-mod clauses;
-mod failure;
-mod given;
-mod pieces;
-mod run;
-mod tell;
-#[cfg(test)]
-mod tests;
-
 use bm_io::{RealFiles, StdSink};
 pub use boot_model::{Booted, Inputs, Stop, map_gives_frames, map_gives_types};
 pub use boot_stages::boot;
-pub use clauses::run_by_clauses;
-pub use run::run;
+pub use program_run::{run, run_by_clauses};
 use std::env;
 use std::io::ErrorKind;
 use std::process::ExitCode;

@@ -1,5 +1,0 @@
--- The pieces of the line are the line.
-use Rattle.bootmem_cli.proofs.tell.tell_thing.Goals as goal
-
-pub returns : goal.returns
-returns g c = rw (← c.format-number.ensures.text) c.put_line.ensures

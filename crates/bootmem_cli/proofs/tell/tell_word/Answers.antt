@@ -1,5 +1,0 @@
--- The pieces of the line are the line.
-use Rattle.bootmem_cli.proofs.tell.tell_word.Goals as goal
-
-pub returns : goal.returns
-returns g c = rw (← c.format-word.ensures.text) c.put_line.ensures

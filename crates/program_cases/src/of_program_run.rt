@@ -1,0 +1,299 @@
+//! The program over files in memory: its reports with memory to spare, and what each object of the outside
+//! does to it. What each input comes to is proved, on examples too (`proofs/`), and not repeated here.
+
+ghost use Rattle.std.specs.Prelude.{◌+◌, ◌≤◌, length, IfOk};
+ghost use Rattle.bm_io.specs.HeldFiles.{held_files, HaveOwnNames};
+
+use bm_io::{MemFile, MemFiles, MemSink};
+use byteorder::{ByteOrder, LittleEndian};
+use e820_model::Entry;
+use program_run::run_by_clauses;
+use std::alloc::Global;
+use std::process::Abort;
+use std::test::Fail;
+
+const RAM: Entry = Entry {
+    addr: 0x100000,
+    size: 0x7f00000,
+    kind: 1,
+};
+
+const RESERVED: Entry = Entry {
+    addr: 0x7fe0000,
+    size: 0x20000,
+    kind: 2,
+};
+
+const MAP: &str = "0x0000000000100000..0x0000000007fdffff 1 usable\n\
+                   0x0000000007fe0000..0x0000000007ffffff 2 reserved\n";
+
+/// What the made input of two entries comes to.
+const SUMMARY: &str = "runs 3\nusable 32927\nfree 23503\n\
+                       memory records 2 room 128\nreserved records 5 room 128\nblocks 30\n";
+
+/// An extension of one entry, RAM over `RESERVED` and 4,096 bytes behind it.
+const EXTENSION: [u8; 36] = [
+    0, 0, 0, 0, 0, 0, 0, 0, 1, 0, 0, 0, 20, 0, 0, 0, // next, type, length
+    0, 0, 0xFE, 7, 0, 0, 0, 0, 0, 0x10, 2, 0, 0, 0, 0, 0, 1, 0, 0, 0, // address, size, type
+];
+
+/// Writes an entry at the offset.
+fn put_entry(bytes: &mut [u8], offset: usize, entry: Entry)
+    requires { offset + 20 ≤ length bytes.old }
+{
+    LittleEndian::write_u64(&mut bytes[offset..], entry.addr);
+    LittleEndian::write_u64(&mut bytes[offset + 8..], entry.size);
+    LittleEndian::write_u32(&mut bytes[offset + 16..], entry.kind);
+}
+
+/// A zero page of these two entries.
+fn page(first: Entry, second: Entry) -> [u8; 4096] {
+    let mut bytes = [0; 4096];
+    bytes[0x1e8] = 2;
+    put_entry(&mut bytes, 0x2d0, first);
+    put_entry(&mut bytes, 0x2e4, second);
+    bytes
+}
+
+/// What became of a run: the status, the output and the error output.
+#[derive(Drop)]
+struct Ended {
+    status: u8,
+    out: MemSink,
+    err: MemSink,
+}
+
+impl Ended {
+    /// Whether the status is this one, and the output and the error output hold these texts.
+    fn is(&self, status: u8, text: &str, line: &str) -> bool {
+        self.status == status
+            && self.out.written() == text.as_bytes()
+            && self.err.written() == line.as_bytes()
+    }
+}
+
+/// The zero page `zp`, the extension `ext`, and a command line `cmd` of these bytes.
+fn files_of(alloc: Global, line: &[u8]) -> Result<Vec<MemFile>, Fail>
+    ensures { IfOk result (λ files. HaveOwnNames (held_files files.items)) }
+{
+    let zp = MemFile {
+        name: String::from_str(alloc, "zp")?,
+        bytes: Vec::from_slice(alloc, &page(RAM, RESERVED))?,
+    };
+    let ext = MemFile {
+        name: String::from_str(alloc, "ext")?,
+        bytes: Vec::from_slice(alloc, &EXTENSION)?,
+    };
+    let cmd = MemFile {
+        name: String::from_str(alloc, "cmd")?,
+        bytes: Vec::from_slice(alloc, line)?,
+    };
+    Ok(vec![in alloc; zp, ext, cmd]?)
+}
+
+/// Runs on these words and files, where the numbered fetches and the numbered calls of the two outputs
+/// fail.
+fn run_on(alloc: Global, words: &[&str], line: &[u8], failing: [&[u64]; 3]) -> Result<Ended, Fail> {
+    let mut owned = Vec::new(alloc);
+    for word in words {
+        owned.push(String::from_str(alloc, word)?)?;
+    }
+    let [fetches, puts, lines] = failing;
+    let mut files = MemFiles::new(files_of(alloc, line)?, Vec::from_slice(alloc, fetches)?);
+    let mut out = MemSink::new(Vec::from_slice(alloc, puts)?);
+    let mut err = MemSink::new(Vec::from_slice(alloc, lines)?);
+    let status = run_by_clauses(alloc, &owned, &mut files, &mut out, &mut err);
+    Ok(Ended { status, out, err })
+}
+
+/// The words of a run; the numbers of the fetches, of the puts and of the lines that fail; the status, the
+/// output and the error output that are wanted.
+type Row<'a> = (&'a [&'a str], [&'a [u64]; 3], u8, &'a str, &'a str);
+
+/// Compares a run for each row, over a command line of these bytes.
+fn compare(rt: &impl Abort, alloc: Global, line: &[u8], rows: &[Row<'_>]) -> Result<(), Fail> {
+    for (words, failing, status, text, error) in rows {
+        let ended = run_on(alloc, words, line, *failing)?;
+        assert!(rt; ended.is(*status, text, error), "{words:?} {failing:?}");
+    }
+    Ok(())
+}
+
+/// No call fails.
+const NONE: [&[u64]; 3] = [&[], &[], &[]];
+
+#[test]
+fn words_and_what_fails(rt: HostRuntime) -> Result<(), Fail> {
+    let half = "0x0000000000100000..0x0000000007fdffff 1 usable\n0";
+    let map: &[&str] = &["--report", "map", "zp"];
+    let other: &[&str] = &["--report", "map", "other"];
+    let rows: [Row<'_>; 10] = [
+        (map, NONE, 0, MAP, ""),
+        (other, NONE, 3, "", "bootmem: cannot read other\n"),
+        (map, [&[1], &[], &[]], 3, "", "bootmem: cannot read zp\n"),
+        (map, [&[2], &[], &[]], 0, MAP, ""),
+        (map, [&[], &[1], &[]], 4, half, "bootmem: cannot write\n"),
+        // the report is put in one piece
+        (map, [&[], &[2], &[]], 0, MAP, ""),
+        (map, [&[], &[1], &[1]], 4, half, "bootmem: ca"),
+        (other, [&[], &[], &[1]], 3, "", "bootmem: c"),
+        (&["--report", "map", "-zp"], NONE, 2, "", "bootmem: usage\n"),
+        (
+            &["map", "--report", "zp"],
+            [&[], &[], &[1]],
+            2,
+            "",
+            "bootmem",
+        ),
+    ];
+    compare(&rt, rt.alloc(), b"", &rows)
+}
+
+// The name at any place, the end of the options, and a made input, for which no file is fetched.
+#[test]
+fn other_orders_and_made_inputs(rt: HostRuntime) -> Result<(), Fail> {
+    let rows: [Row<'_>; 4] = [
+        (&["zp", "--report", "map"], NONE, 0, MAP, ""),
+        (&["--report=map", "--", "zp"], NONE, 0, MAP, ""),
+        (&["--make", "2", "--report=summary"], NONE, 0, SUMMARY, ""),
+        (
+            &["--make=2", "--report=summary", "zp"],
+            NONE,
+            2,
+            "",
+            "bootmem: usage\n",
+        ),
+    ];
+    compare(&rt, rt.alloc(), b"", &rows)
+}
+
+/// Compares a run on these words for each command line, with the status, the output and the error output that
+/// are wanted.
+fn compare_lines(
+    rt: &impl Abort,
+    alloc: Global,
+    words: &[&str],
+    rows: &[(&str, u8, &str, &str)],
+) -> Result<(), Fail> {
+    for (line, status, text, error) in rows {
+        let ended = run_on(alloc, words, line.as_bytes(), NONE)?;
+        assert!(rt; ended.is(*status, text, error), "{line}");
+    }
+    Ok(())
+}
+
+#[test]
+fn extension_and_command_line(rt: HostRuntime) -> Result<(), Fail> {
+    let longer = "0x0000000000100000..0x0000000007fdffff 1 usable\n\
+                  0x0000000007fe0000..0x0000000007ffffff 2 reserved\n\
+                  0x0000000008000000..0x0000000008000fff 1 usable\n";
+    let shorter = "0x0000000000100000..0x0000000003ffffff 1 usable\n\
+                   0x0000000007fe0000..0x0000000007ffffff 2 reserved\n";
+    let rows = [
+        ("", 0, longer, ""),
+        ("mem=0x4000000 -- mem=0", 0, shorter, ""),
+        ("x memmap=1M@", 5, "", "bootmem: cmdline: word 2: memmap\n"),
+        (
+            "crashkernel=64M-32M:8M",
+            5,
+            "",
+            "bootmem: cmdline: word 1: crashkernel\n",
+        ),
+        ("crashkernel=64M crashkernel=0", 0, longer, ""),
+        (
+            "memmap=exactmap memmap=4K$8K memmap=4K$16K",
+            6,
+            "",
+            "bootmem: stopped: no usable frame\n",
+        ),
+    ];
+    let words = [
+        "--cmdline",
+        "cmd",
+        "--report",
+        "map",
+        "--e820ext",
+        "ext",
+        "zp",
+    ];
+    compare_lines(&rt, rt.alloc(), &words, &rows)
+}
+
+// All texts are there before the first is put, and each that isn't empty is one put.
+#[test]
+fn lists_of_reports(rt: HostRuntime) -> Result<(), Fail> {
+    let both = "== options\nnuma off\n\
+                == map\n\
+                0x0000000000100000..0x0000000007fdffff 1 usable\n\
+                0x0000000007fe0000..0x0000000007ffffff 2 reserved\n";
+    let half = "== options\nnuma off\n\
+                == map\n\
+                0x0000000000100000..0x0000000007fdffff 1 usab";
+    let list: &[&str] = &[
+        "--kernel=16M,32M",
+        "--report",
+        "options,map",
+        "--cmdline",
+        "cmd",
+        "zp",
+    ];
+    let unwritten = "bootmem: cannot write\n";
+    let usage = "bootmem: usage\n";
+    let rows: [Row<'_>; 6] = [
+        (list, NONE, 0, both, ""),
+        (list, [&[], &[1], &[]], 4, "== options", unwritten),
+        (list, [&[], &[2], &[]], 4, half, unwritten),
+        (list, [&[], &[3], &[]], 0, both, ""),
+        // a name that is no report's, and an image that ends too far
+        (&["--report", "options,maps", "zp"], NONE, 2, "", usage),
+        (
+            &["--kernel=16M,64T", "--report", "map", "zp"],
+            NONE,
+            2,
+            "",
+            usage,
+        ),
+    ];
+    compare(&rt, rt.alloc(), b"numa=off", &rows)?;
+    // a report without lines makes no put
+    let empty: [Row<'_>; 1] = [(&["--report", "options", "zp"], [&[], &[1], &[]], 0, "", "")];
+    compare(&rt, rt.alloc(), b"", &empty)
+}
+
+/// Where the lines of the blocks from 4 GiB on begin.
+fn great_at(text: &[u8]) -> Option<usize> {
+    let first = b"node 0 zone Normal order 10 0x0000000100000000\n";
+    text.windows(47).position(|part| part == first.as_slice())
+}
+
+/// The numbered line of 47 bytes from there on.
+fn line_at(text: &[u8], at: usize, index: usize) -> Option<&[u8]> {
+    text.get(at..)?.chunks(47).nth(index)
+}
+
+// Of 16 GiB above 4 GiB the lines of the blocks are put by sheets of 1,024, behind one put of what stands before them.
+#[test]
+fn sheets_of_blocks(rt: HostRuntime) -> Result<(), Fail> {
+    let words = ["--cmdline", "cmd", "--report", "blocks", "zp"];
+    let line = b"memmap=16G@4G";
+    let whole = run_on(rt.alloc(), &words, line, NONE)?;
+    assert_eq!(rt; whole.status, 0);
+    let text = whole.out.written();
+    let at = great_at(text).ok_or("no great block")?;
+    let cases = [
+        (1023, "node 0 zone Normal order 10 0x00000001ffc00000\n"),
+        (1024, "node 0 zone Normal order 10 0x0000000200000000\n"),
+        (2047, "node 0 zone Normal order 10 0x00000002ffc00000\n"),
+        (3071, "node 0 zone Normal order 10 0x00000003ffc00000\n"),
+        (3072, "node 0 zone Normal order 10 0x0000000400000000\n"),
+    ];
+    for (index, want) in cases {
+        assert_eq!(rt; line_at(text, at, index), Some(want.as_bytes()), "{index}");
+    }
+    // the half of the first sheet
+    let part = run_on(rt.alloc(), &words, line, [&[], &[2], &[]])?;
+    assert_eq!(rt; part.status, 4);
+    assert_eq!(rt; part.out.written().len().checked_sub(at), Some(512 * 47));
+    assert!(rt; text.starts_with(part.out.written()));
+    Ok(())
+}

@@ -1,0 +1,171 @@
+-- The first run, whole: `bootmem --report map zp`, where `zp` holds a zero page of two entries, of which the second
+-- reserves the end of the first. The map follows from laws, the rest is computed.
+use Rattle.std.proofs.Common.{◌≡◌, ℕ, ◌-◌, ◌^◌, ◌<◌, ◌≤◌, ◌==◌, ◌&&◌, nat_lt, nat_le, if◌then◌else◌, List, [], ◌∷◌, ◌++◌, codes, Some, None, Ok, refl, sym, ap, ◌∙◌, arith}
+use Rattle.std.proofs.lemmas.Bool.Decides.{nat_tests}
+use Rattle.std.specs.Fmt.{digits}
+use Rattle.std.specs.Prelude.{replicate}
+use Rattle.std.specs.Str.{bytes_eq}
+use Rattle.address_runs.specs.Runs.{RunOf, value_at, AreRuns}
+use Rattle.address_runs.proofs.RunsLaws.{one_list}
+use Rattle.e820_model.specs.declared.entry.Entry.{Entry}
+use Rattle.e820_model.specs.Claims.{Claims, claims_of_entries, type_of, settled, with_claims, bios_trimmed}
+use Rattle.e820_model.specs.Map.{kinds, map_of, some_kind}
+use Rattle.e820_model.specs.Usable.{is_memory, reachable, usable_frames}
+use Rattle.e820_model.proofs.ClaimLaws.{greatest_is, map_runs}
+use Rattle.e820_model.proofs.UsableLaws.{count_same, count_frames_between, memory_reached, usable_count}
+use Rattle.bm_base.specs.Frames.{bytes_of_frame}
+use Rattle.bm_base.proofs.EachLaws.{each_in-same}
+use Rattle.boot_model.specs.declared.limit.TheConstants.{MAX_PHYSMEM}
+use Rattle.e820_table.specs.Entries.{entry_at}
+use Rattle.e820_table.specs.Initrd.{initrd_of, is_initrd_far}
+use Rattle.memblock_model.specs.declared.item.Item.{Item}
+use Rattle.growth_model.specs.Carried.{carried_out}
+use Rattle.early_stages.specs.Wanted.{first_items}
+use Rattle.early_stages.proofs.FewLaws.{NeedNone, few_from_nothing}
+use Rattle.bm_base.specs.ResultSteps.{◌>>=◌}
+use Rattle.boot_model.specs.Boot.{Given, Made, begin_with, boot, claims, has_memory, map_judged}
+use Rattle.boot_model.proofs.BootLaws.{goes_on}
+use Rattle.program_words.specs.Kernel.{default_kernel}
+use Rattle.program_words.specs.Spelling.{ArePieces, Piece, apart, given_by, named}
+use Rattle.program_words.specs.Words.{Wanted, accepted, name_in}
+use Rattle.program_words.proofs.MatchedLaws.{accepted_as_given}
+use Rattle.boot_inputs.specs.Inputs.{Held}
+use Rattle.debugfs_reports.specs.declared.report.Report.TheVariants as reports
+use Rattle.boot_inputs.specs.Said.{no_options}
+use Rattle.program_run.specs.Outcome.{outcome}
+
+-- RAM from 1 MiB up to 128 MiB
+abbrev ram : Entry
+ram = record { addr = 0x100000; size = 0x7F00000; kind = 1 }
+
+abbrev reserved : Entry
+reserved = record { addr = 0x7FE0000; size = 0x20000; kind = 2 }
+
+abbrev page : List ℕ
+page =
+    replicate 0x1E8 0 ++ (2 ∷ replicate (0x2D0 - 0x1E9) 0)
+    ++ (0 ∷ 0 ∷ 0x10 ∷ 0 ∷ 0 ∷ 0 ∷ 0 ∷ 0 ∷ 0 ∷ 0 ∷ 0xF0 ∷ 7 ∷ 0 ∷ 0 ∷ 0 ∷ 0 ∷ 1 ∷ 0 ∷ 0 ∷ 0 ∷ [])
+    ++ (0 ∷ 0 ∷ 0xFE ∷ 7 ∷ 0 ∷ 0 ∷ 0 ∷ 0 ∷ 0 ∷ 0 ∷ 2 ∷ 0 ∷ 0 ∷ 0 ∷ 0 ∷ 0 ∷ 2 ∷ 0 ∷ 0 ∷ 0 ∷ [])
+    ++ replicate (4096 - 0x2D0 - 40) 0
+
+abbrev held : Held
+held name = if bytes_eq name (codes "zp") then Some page else None
+
+abbrev given : Given
+given = record {
+  entries = ram ∷ reserved ∷ [];
+  initrd = None;
+  extension = [];
+  options = no_options;
+  domains = None;
+  kernel = record { base = 0x1000000; size = 0x2000000 };
+  lines = [];
+}
+
+-- the type of each address: where both entries claim it, the greater one
+kind_at : ℕ → ℕ
+kind_at x = if nat_lt x 0x100000 then 0 else (if nat_lt x 0x7FE0000 then 1 else (if nat_lt x 0x8000000 then 2 else 0))
+
+small : (x : ℕ) → kind_at x < 2 ^ 32
+unfolding kind_at
+small x = grind (arith, nat_tests)
+
+entries_give : (x : ℕ) → type_of (claims_of_entries given.entries) x ≡ kind_at x
+unfolding kind_at
+entries_give x = greatest_is (claims_of_entries given.entries x) (kind_at x) (small x)
+    (λ some. grind (arith, nat_tests))
+    (λ k higher low. grind (arith, nat_tests))
+
+-- each address has that claim alone
+IsOnly : Claims → Type 0
+IsOnly c = (x k : ℕ) → c x k ≡ (nat_lt 0 k && k == kind_at x)
+
+only_settled : (c : Claims) → ((x : ℕ) → type_of c x ≡ kind_at x) → IsOnly (settled c)
+unfolding IsOnly
+only_settled c gives x k = rw (gives x) refl
+
+only_gives : (c : Claims) → IsOnly c → (x : ℕ) → type_of c x ≡ kind_at x
+unfolding IsOnly
+only_gives c only x = greatest_is (c x) (kind_at x) (small x)
+    (λ some. rw (only x (kind_at x)) (grind (arith, nat_tests)))
+    (λ k higher low. rw (only x k) (grind (arith, nat_tests)))
+
+only_added : (c : Claims) → IsOnly c → IsOnly (with_claims c (claims_of_entries []))
+unfolding IsOnly
+only_added c only x k = rw (only x k) (grind (arith, nat_tests))
+
+only_trimmed : (c : Claims) → IsOnly c → IsOnly (bios_trimmed c)
+unfolding IsOnly kind_at
+only_trimmed c only x k = rw (only x k, only x 1) (grind (arith, nat_tests))
+
+only_claims : IsOnly (claims given)
+only_claims =
+    only_trimmed _ (only_settled _ (only_gives _ (only_settled _ (only_gives _ (only_added _ (only_settled _ entries_give))))))
+
+-- so these are the runs of the map
+abbrev runs : List (RunOf ℕ)
+runs = record { base = 0x100000; size = 0x7EE0000; value = 1 } ∷ record { base = 0x7FE0000; size = 0x20000; value = 2 } ∷ []
+
+runs_give : (x : ℕ) → value_at runs x ≡ some_kind (kind_at x)
+unfolding kind_at
+runs_give x = grind (arith, nat_tests)
+
+kinds_are : (x : ℕ) → kinds (claims given) x ≡ value_at runs x
+kinds_are x = ap some_kind (only_gives (claims given) only_claims x) ∙ sym (runs_give x)
+
+none_above : (x : ℕ) → 2 ^ 64 ≤ x → kinds (claims given) x ≡ None
+unfolding kind_at
+none_above x far = kinds_are x ∙ grind (arith, nat_tests)
+
+are_runs : AreRuns runs
+are_runs = (omega arith, (omega arith, λ touch same. omega (arith, same)), (omega arith, tt, tt))
+
+map_is : map_of (claims given) ≡ runs
+map_is =
+    one_list (kinds (claims given)) _ _ (map_runs (claims given) none_above)
+    (record { runs = are_runs; each = λ x. sym (kinds_are x) })
+
+-- RAM makes 32,480 whole frames, all of them within reach
+memory_is : (x : ℕ) → is_memory (reachable MAX_PHYSMEM (kinds (claims given)) x) ≡ (nat_le 0x100000 x && nat_lt x 0x7FE0000)
+memory_is x = memory_reached MAX_PHYSMEM (kinds (claims given)) x ∙ rw (kinds_are x) (grind (arith, nat_tests))
+
+frames_are : usable_frames (reachable MAX_PHYSMEM (kinds (claims given))) ≡ 32480
+frames_are =
+    usable_count (reachable MAX_PHYSMEM (kinds (claims given)))
+    ∙ count_same _ _ (2 ^ 52) (λ frame low. each_in-same (bytes_of_frame frame) _ _ (λ x from below. memory_is x))
+    ∙ count_frames_between 0x100000 0x7FE0000 (2 ^ 52)
+
+-- what a boot wants of them, so few items that no table grows
+abbrev wanted : List Item
+wanted = first_items MAX_PHYSMEM given.kernel given.initrd runs
+
+few_wanted : NeedNone 0 0 wanted
+few_wanted = (omega arith, omega arith, (omega arith, omega arith, (omega arith, omega arith, (omega arith, omega arith, tt))))
+
+wanted_is_made : carried_out wanted [] ≡ Ok wanted
+wanted_is_made = few_from_nothing wanted few_wanted
+
+-- so the boot comes to memory
+memory_is_made : (map_judged given >>= has_memory given) ≡ Ok (record (begin_with runs no_options) { items = wanted })
+memory_is_made = rw (map_is, frames_are, wanted_is_made) refl
+
+-- the words ask for the map of that page
+abbrev pieces : List Piece
+pieces = apart (codes "report") (codes "map") ∷ named (codes "zp") ∷ []
+
+are_pieces : ArePieces pieces
+are_pieces = ((refl, refl), refl, (refl, refl, tt))
+
+abbrev asked : Wanted
+asked = record { named = name_in (given_by pieces); kernel = default_kernel; reports = reports.Map ∷ []; made = None }
+
+words_ask : accepted (codes "--report" ∷ codes "map" ∷ codes "zp" ∷ []) ≡ Some asked
+words_ask = accepted_as_given pieces are_pieces
+
+-- and where each later stage finds its places, this is what is written
+first_run : (made : Made) → boot given ≡ Ok made → outcome (accepted (codes "--report" ∷ codes "map" ∷ codes "zp" ∷ [])) held
+    ≡ Ok (codes "0x0000000000100000..0x0000000007fdffff 1 usable\n0x0000000007fe0000..0x0000000007ffffff 2 reserved\n")
+unfolding entry_at digits initrd_of is_initrd_far
+first_run made ends =
+    let map : made.map ≡ runs = (goes_on given made ends).map ∙ map_is in
+    ap (λ words. outcome words held) words_ask ∙ rw (ends, map) refl

@@ -1,0 +1,110 @@
+-- The ways in which the program ends, and the line of each, computed.
+use Rattle.std.proofs.Common.{◌≡◌, codes, [], Some, None, Ok, Err, refl}
+use Rattle.std.specs.Fmt.{digits}
+use Rattle.boot_inputs.specs.declared.fault.Fault.TheVariants as faults
+use Rattle.boot_inputs.specs.declared.input.Input.TheVariants as inputs
+use Rattle.boot_inputs.specs.declared.refusal.InputError.TheVariants as errors
+use Rattle.boot_inputs.specs.declared.refusal.Refusal.TheVariants as refusals
+use Rattle.memblock_model.specs.declared.which.Which.TheVariants as which
+use Rattle.stage_model.specs.declared.stop.What.TheVariants as what
+use Rattle.boot_model.specs.declared.stop.Cause.TheVariants as causes
+use Rattle.boot_model.specs.declared.stop.Stop.TheVariants as stops
+use Rattle.program_run.specs.declared.failure.Reason.TheVariants as reasons
+use Rattle.program_run.specs.declared.failure.Failure.TheVariants as failures
+use Rattle.program_run.specs.Status.{refusal_status, reason_status, status_of, status_of_end, failure_by, failure_of_input, failure_of_stop}
+use Rattle.program_run.specs.Line.{whole_line, entry_line, word_line, numbered_line, offset_line, fault_line, thing_line, place_line, table_line, table_name, cause_line, refusal_line, reason_line, failure_line, name_text}
+use Rattle.program_run.proofs.OutcomeExamples.{wanting}
+
+-- the status of each way to end
+refusal_examples : (refusal_status (refusals.Unread inputs.Extension) ≡ 3)
+    × (refusal_status (refusals.Faulty inputs.ZeroPage faults.TooLong) ≡ 5)
+refusal_examples = (refl, refl)
+
+reason_examples : (reason_status reasons.Usage ≡ 2) × (reason_status (reasons.Stopped (causes.MapFull 3201)) ≡ 6)
+reason_examples = (refl, refl)
+
+status_examples : (status_of (failures.NoReport (reasons.Stopped causes.NoRam)) ≡ 6) × (status_of failures.Unwritten ≡ 4)
+    × (status_of failures.Memory ≡ 7)
+status_examples = (refl, refl, refl)
+
+end_examples : (status_of_end (Ok tt) ≡ 0) × (status_of_end (Err failures.Unwritten) ≡ 4)
+end_examples = (refl, refl)
+
+-- want of memory is 7 wherever it comes from
+by_examples : (failure_by None ≡ failures.Memory) × (failure_by (Some causes.NoRam) ≡ failures.NoReport (reasons.Stopped causes.NoRam))
+by_examples = (refl, refl)
+
+stop_examples : (failure_of_stop (stops.TooMuchRam 4294967297) ≡ failures.NoReport (reasons.Stopped (causes.TooMuchRam 4294967297)))
+    × (failure_of_stop stops.Memory ≡ failures.Memory)
+stop_examples = (refl, refl)
+
+input_error_examples : (failure_of_input (errors.Refused (refusals.Unread inputs.Extension))
+    ≡ failures.NoReport (reasons.Refused (refusals.Unread inputs.Extension)))
+    × (failure_of_input errors.Memory ≡ failures.Memory)
+input_error_examples = (refl, refl)
+
+-- the line of each way to end
+entry_lines : (fault_line (codes "zeropage") (faults.EntryTooFar 3) ≡ codes "bootmem: zeropage: entry 3 too far\n")
+    × (entry_line (codes "e820ext") 3071 ≡ codes "bootmem: e820ext: entry 3071 too far\n")
+    × (fault_line (codes "zeropage") faults.InitrdTooFar ≡ codes "bootmem: zeropage: initrd too far\n")
+unfolding digits
+entry_lines = (refl, refl, refl)
+
+word_lines : (fault_line (codes "cmdline") (faults.UserMapInvalid 12) ≡ codes "bootmem: cmdline: word 12: user map\n")
+    × (word_line (codes "cmdline") 1 (codes "mem") ≡ codes "bootmem: cmdline: word 1: mem\n")
+    × (fault_line (codes "cmdline") (faults.BadCrash 1) ≡ codes "bootmem: cmdline: word 1: crashkernel\n")
+unfolding digits
+word_lines = (refl, refl, refl)
+
+script_lines : (fault_line (codes "script") (faults.ZeroSize 12) ≡ codes "bootmem: script: line 12: zero size\n")
+    × (numbered_line (codes "script") 1 (codes "form") ≡ codes "bootmem: script: line 1: form\n")
+unfolding digits
+script_lines = (refl, refl)
+
+srat_lines : (refusal_line None (refusals.Faulty inputs.Srat (faults.EntryLength 48)) ≡ codes "bootmem: srat: entry length at 48\n")
+    × (offset_line (codes "srat") (codes "block too far") 1048 ≡ codes "bootmem: srat: block too far at 1048\n")
+    × (fault_line (codes "srat") faults.Checksum ≡ codes "bootmem: srat: checksum\n")
+unfolding digits
+srat_lines = (refl, refl, refl)
+
+-- a file of too many bytes, and a line of too many
+long_lines : (refusal_line None (refusals.Faulty inputs.CommandLine faults.TooLong) ≡ codes "bootmem: cmdline: too long\n")
+    × (refusal_line None (refusals.Faulty inputs.CommandLine faults.LineTooLong) ≡ codes "bootmem: cmdline: line too long\n")
+long_lines = (refl, refl)
+
+plain_lines : (refusal_line None (refusals.Faulty inputs.ZeroPage faults.TooFew) ≡ codes "bootmem: zeropage: too few entries\n")
+    × (whole_line (codes "e820ext") (codes "header") ≡ codes "bootmem: e820ext: header\n")
+plain_lines = (refl, refl)
+
+cause_lines : (cause_line (causes.MapFull 3201) ≡ codes "bootmem: stopped: 3201 map runs\n")
+    × (cause_line causes.NoRam ≡ codes "bootmem: stopped: no usable frame\n")
+    × (cause_line (causes.NoTablePlace which.Reserved 128) ≡ codes "bootmem: stopped: no place for table reserved room 128\n")
+unfolding digits
+cause_lines = (refl, refl, refl)
+
+place_lines : (cause_line (causes.NoPlace (what.NodeData 3)) ≡ codes "bootmem: stopped: no place for node-data 3\n")
+    × (cause_line (causes.NoPlace what.Roots) ≡ codes "bootmem: stopped: no place for roots\n")
+    × (place_line (what.Map 40) ≡ codes "bootmem: stopped: no place for map 40\n")
+    × (thing_line (codes "root") 0 ≡ codes "bootmem: stopped: no place for root 0\n")
+unfolding digits
+place_lines = (refl, refl, refl, refl)
+
+table_lines : (table_name which.Memory ≡ codes "memory")
+    × (table_line (codes "memory") 128 ≡ codes "bootmem: stopped: no place for table memory room 128\n")
+unfolding digits
+table_lines = (refl, refl)
+
+unread_line : refusal_line (Some (wanting (codes "zp"))) (refusals.Unread inputs.Extension) ≡ codes "bootmem: cannot read ext\n"
+unread_line = refl
+
+name_examples : (name_text (Some (wanting (codes "zp"))) inputs.Extension ≡ codes "ext")
+    × (name_text (Some (wanting (codes "zp"))) inputs.CommandLine ≡ []) × (name_text None inputs.ZeroPage ≡ [])
+name_examples = (refl, refl, refl)
+
+usage_line : (reason_line None reasons.Usage ≡ codes "bootmem: usage\n")
+    × (failure_line None (failures.NoReport reasons.Usage) ≡ codes "bootmem: usage\n")
+usage_line = (refl, refl)
+
+outside_lines : (failure_line None failures.Unwritten ≡ codes "bootmem: cannot write\n")
+    × (failure_line None failures.Memory ≡ codes "bootmem: out of memory\n")
+outside_lines = (refl, refl)

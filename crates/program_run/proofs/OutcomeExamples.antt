@@ -1,0 +1,195 @@
+-- What the program comes to, and how answers stand to that, on small answers and counts.
+use Rattle.std.proofs.Common.{◌≡◌, ℕ, if◌then◌else◌, List, [], ◌∷◌, codes, Option, Some, None, Ok, Err, refl, inl, inr, arith}
+use Rattle.std.specs.Prelude.{Result, replicate}
+use Rattle.std.specs.Str.{bytes_eq}
+use Rattle.bm_io.specs.declared.writing.Sink.{Ghosts as SinkOf}
+use Rattle.boot_inputs.specs.declared.fault.Fault.TheVariants as faults
+use Rattle.boot_inputs.specs.declared.input.Input.TheVariants as inputs
+use Rattle.boot_inputs.specs.declared.refusal.Refusal.TheVariants as refusals
+use Rattle.boot_inputs.specs.Inputs.{Held}
+use Rattle.boot_inputs.specs.Said.{no_options}
+use Rattle.e820_table.specs.Made.{entries_behind, high_ram, low_ram}
+use Rattle.boot_model.specs.declared.stop.Cause.TheVariants as causes
+use Rattle.boot_model.specs.Boot.{Given, boot}
+use Rattle.debugfs_reports.specs.declared.report.Report.TheVariants as reports
+use Rattle.program_run.specs.declared.failure.Reason.{Reason}
+use Rattle.program_run.specs.declared.failure.Reason.TheVariants as reasons
+use Rattle.program_run.specs.declared.failure.Failure.TheVariants as failures
+use Rattle.program_run.specs.Answers.{EndFits, EndHasCause, Ends, FailureHasCause, FileHasCause, FitsFailure, FitsFile, FitsReason, IsFaulty, IsOfBoot, IsStopped, IsText, Makes, ReachesFile, ReasonHasCause, ReportHasCause, RoseFor, Writes, WritingHasCause}
+use Rattle.program_run.specs.Outcome.{given_by, or_refused, or_stopped, or_usage, outcome, reported, with_made}
+use Rattle.program_run.specs.Run.{IsTold}
+use Rattle.program_words.specs.Words.{Wanted}
+
+abbrev pub wanting : List ℕ → Wanted
+wanting zero_page = record {
+  named = λ input. (elim input [
+    | inputs.ZeroPage ↦ Some zero_page
+    | inputs.Extension ↦ Some (codes "ext")
+    | inputs.CommandLine ↦ None
+    | inputs.Srat ↦ None
+    | inputs.Script ↦ None
+  ]);
+  kernel = record { base = 0x1000000; size = 0x2000000 };
+  reports = reports.Map ∷ [];
+  made = None;
+}
+
+-- one file, a zero page that is too short
+abbrev held : Held
+held name = if bytes_eq name (codes "short") then Some (replicate 4095 0) else None
+
+-- refused words, whatever is held; and a zero page that is missing, or has a fault
+refused_words : (h : Held) → outcome None h ≡ Err reasons.Usage
+refused_words h = refl
+
+without_a_page : outcome (Some (wanting (codes "no"))) held ≡ Err (reasons.Refused (refusals.Unread inputs.ZeroPage))
+without_a_page = refl
+
+with_a_short_page : outcome (Some (wanting (codes "short"))) held
+    ≡ Err (reasons.Refused (refusals.Faulty inputs.ZeroPage faults.WrongLength))
+with_a_short_page = refl
+
+-- a made table in place of the files' entries
+abbrev of_files : Given
+of_files = record {
+  entries = low_ram ∷ low_ram ∷ low_ram ∷ [];
+  initrd = Some (record { base = 0x7D00000; size = 0x1000 });
+  extension = low_ram ∷ [];
+  options = no_options;
+  domains = None;
+  kernel = record { base = 0x1000000; size = 0x2000000 };
+  lines = [];
+}
+
+-- two entries are the first two, and nothing is left for the extension; without a number the files' entries stay
+made_examples : (with_made (Some 2) of_files ≡ record of_files { entries = low_ram ∷ high_ram ∷ []; initrd = None; extension = [] })
+    × (with_made None of_files ≡ of_files)
+unfolding entries_behind
+made_examples = (refl, refl)
+
+given_examples : (h : Held) → given_by h (record {
+  named = λ input. None;
+  kernel = record { base = 0x1000000; size = 0x2000000 };
+  reports = [];
+  made = Some 2;
+}) ≡ Ok (record of_files { entries = low_ram ∷ high_ram ∷ []; initrd = None; extension = [] })
+unfolding entries_behind
+given_examples h = refl
+
+-- the parts of that definition
+usage_examples : (or_usage None ≡ Err reasons.Usage) × (or_usage (Some (wanting (codes "zp"))) ≡ Ok (wanting (codes "zp")))
+usage_examples = (refl, refl)
+
+refused_examples : (or_refused {A = ℕ} (Ok 7) ≡ Ok 7) × (or_refused {A = ℕ} (Err (refusals.Unread inputs.ZeroPage))
+    ≡ Err (reasons.Refused (refusals.Unread inputs.ZeroPage)))
+refused_examples = (refl, refl)
+
+stopped_examples : (or_stopped {A = ℕ} (Ok 7) ≡ Ok 7) × (or_stopped {A = ℕ} (Err causes.NoRam) ≡ Err (reasons.Stopped causes.NoRam))
+stopped_examples = (refl, refl)
+
+stop_is_reported : (given : Given) → boot given ≡ Err causes.NoRam → reported (reports.Map ∷ []) given ≡ Err (reasons.Stopped causes.NoRam)
+stop_is_reported given stops = rw stops refl
+
+abbrev text : Result (List ℕ) Reason
+text = Ok (codes "ab")
+
+abbrev too_few : Result (List ℕ) Reason
+too_few = Err (reasons.Refused (refusals.Faulty inputs.ZeroPage faults.TooFew))
+
+-- the work comes to the extension's file where nothing is at fault; not where the zero page is, or the words are
+reaches_examples : ReachesFile inputs.Extension text × (ReachesFile inputs.Extension too_few → ⊥)
+    × (ReachesFile {Y = ℕ} inputs.Extension (Err reasons.Usage) → ⊥)
+reaches_examples = (tt, (λ comes. omega (arith, comes)), λ comes. comes)
+
+file_fits : FitsFile (refusals.Faulty inputs.ZeroPage faults.TooFew) too_few × FitsFile (refusals.Unread inputs.CommandLine) text
+file_fits = (refl, tt)
+
+reason_fits : FitsReason {Y = ℕ} (reasons.Stopped causes.NoRam) (Err (reasons.Stopped causes.NoRam)) × (FitsReason reasons.Usage text → ⊥)
+reason_fits = (refl, λ same. cc same)
+
+-- want of memory fits everything, a failed output nothing that comes before it
+failure_fits : FitsFailure failures.Memory text × (FitsFailure failures.Unwritten text → ⊥)
+failure_fits = (tt, λ fits. fits)
+
+makes_examples : Makes (λ (n : ℕ). codes "ab") (Ok 7) text × (Makes {X = ℕ} (λ n. codes "ab") (Err (failures.NoReport reasons.Usage)) text
+    → ⊥)
+makes_examples = (refl, λ same. cc same)
+
+-- before the call no fetch of any name had failed; after it one of each had
+abbrev before : List ℕ → ℕ
+before name = 0
+
+abbrev wanted : Option Wanted
+wanted = Some (wanting (codes "zp"))
+
+rose_examples : RoseFor before (λ name. 1) wanted inputs.Extension × (RoseFor before (λ name. 1) wanted inputs.CommandLine → ⊥)
+    × (RoseFor before before wanted inputs.ZeroPage → ⊥)
+rose_examples = (omega arith, (λ rose. rose), λ rose. omega (arith, rose))
+
+file_causes : FileHasCause before (λ name. 1) wanted (refusals.Unread inputs.Extension)
+    × (FileHasCause before before None (refusals.Faulty inputs.ZeroPage faults.TooFew) → ⊥)
+file_causes = (omega arith, λ some. cc some)
+
+-- refused words are the cause of status 2 alone
+reason_causes : ReasonHasCause before before None reasons.Usage
+    × (ReasonHasCause before before wanted (reasons.Refused (refusals.Unread inputs.Extension)) → ⊥)
+reason_causes = (refl, λ rose. omega (arith, rose))
+
+report_causes : ReportHasCause {X = ℕ} before before wanted (Ok 7)
+    × (ReportHasCause {X = ℕ} before before wanted (Err failures.Unwritten) → ⊥)
+report_causes = (refl, λ cause. cause)
+
+-- memory may be wanting while the words are read, be they accepted or not
+failure_causes : FailureHasCause before before wanted failures.Unwritten × (FailureHasCause before before None failures.Unwritten → ⊥)
+    × FailureHasCause before before None failures.Memory
+failure_causes = (refl, (λ some. cc some), tt)
+
+end_causes : EndHasCause before before wanted (Ok tt) × (EndHasCause before before None (Ok tt) → ⊥)
+end_causes = (refl, λ some. cc some)
+
+boot_examples : IsOfBoot {X = ℕ} (Err (failures.NoReport (reasons.Stopped causes.NoRam)))
+    × (IsOfBoot {X = ℕ} (Err (failures.NoReport reasons.Usage)) → ⊥)
+boot_examples = (tt, λ of_boot. of_boot)
+
+-- an outcome is a text, a fault or a stop
+text_examples : IsText text (λ t. t ≡ codes "ab") × (IsText too_few (λ t. t ≡ codes "ab") → ⊥)
+text_examples = (refl, λ is. is)
+
+faulty_examples : IsFaulty too_few × (IsFaulty text → ⊥)
+faulty_examples = ((inputs.ZeroPage, (faults.TooFew, refl)), λ is. cc is.1.1)
+
+stop_examples : IsStopped (Err (reasons.Stopped causes.NoRam)) × (IsStopped too_few → ⊥)
+stop_examples = ((causes.NoRam, refl), λ is. cc is.1)
+
+end_fits_examples : EndFits failures.Unwritten text × (EndFits failures.Unwritten too_few → ⊥)
+end_fits_examples = (tt, λ is. is)
+
+-- where the outcome is a text, the status is 0, 3, 4 or 7; refused words are status 2, or 7
+text_ends : Ends text 0 × (Ends text 5 → ⊥)
+text_ends = (inl refl, λ ends. grind arith)
+
+usage_ends : Ends (Err reasons.Usage) 2 × Ends (Err reasons.Usage) 7 × (Ends (Err reasons.Usage) 3 → ⊥)
+usage_ends = (inl refl, inr refl, λ ends. grind arith)
+
+stop_ends : Ends (Err (reasons.Stopped causes.NoRam)) 6 × (Ends (Err (reasons.Stopped causes.NoRam)) 5 → ⊥)
+stop_ends = (inl refl, λ ends. grind arith)
+
+-- written whole, in part, and not at all
+writes_examples : Writes (Some []) (Some (codes "ab")) (Ok tt) text × Writes (Some []) (Some (codes "a")) (Err failures.Unwritten) text
+    × Writes (Some []) (Some []) (Err failures.Memory) text
+writes_examples = (refl, (1, omega arith, refl), inl refl)
+
+written_short : Writes (Some []) (Some (codes "a")) (Ok tt) text → ⊥
+written_short same = cc same
+
+-- an output object that is a count of faults: it rose where a put failed, and is as it was where nothing was put
+writing_examples : WritingHasCause {S = ℕ} (λ s. s) (λ s. 0) 3 4 (Err failures.Unwritten)
+    × WritingHasCause {S = ℕ} (λ s. s) (λ s. 0) 3 3 (Err (failures.NoReport reasons.Usage))
+writing_examples = (omega arith, refl)
+
+writing_without_a_cause : WritingHasCause {S = ℕ} (λ s. s) (λ s. 0) 3 3 (Err failures.Unwritten) → ⊥
+writing_without_a_cause rose = omega (arith, rose)
+
+-- after status 0 the error output is as it was
+told_examples : (errors : SinkOf ℕ) → IsTold errors wanted 3 3 (Ok tt) × (IsTold errors wanted 3 4 (Ok tt) → ⊥)
+told_examples errors = (refl, λ same. omega (arith, same))

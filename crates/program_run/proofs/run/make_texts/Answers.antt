@@ -1,0 +1,13 @@
+-- Inputs that are refused are the reason for no report.
+use Rattle.std.proofs.Common.{ap}
+use Rattle.std.proofs.lemmas.Result.{err_from_is_err_and}
+use Rattle.std.specs.Option.{option_map}
+use Rattle.program_words.specs.View.{wanted_view}
+use Rattle.program_run.proofs.RunLaws.{makes_none}
+use Rattle.program_run.proofs.run.make_texts.Goals as goal
+
+pub returns-in_err-inputs-clause-makes : goal.returns-in_err-inputs-clause-makes
+returns-in_err-inputs-clause-makes g c =
+    let p = err_from_is_err_and c.from_residual.result c.from_residual.ensures.1 in
+    makes_none _ c.from_residual.result p.0 (g.F.Files.holds c.args.files.now) _ (wanted_view c.in-Some.wanted) c.in_err-inputs.field-0.0
+    p.1 p.2 (ap (option_map wanted_view) c.in-Some.is) c.in_err-inputs.ensures.gives

@@ -1,0 +1,11 @@
+-- The pieces of each line are the line.
+use Rattle.program_run.proofs.tell.tell_cause.Goals as goal
+
+pub returns-in-TooMuchRam : goal.returns-in-TooMuchRam
+returns-in-TooMuchRam g c = rw (c.in-TooMuchRam.is, ← c.format-frames.ensures.text) c.put_line-in-TooMuchRam.ensures
+
+pub returns-in-MapFull : goal.returns-in-MapFull
+returns-in-MapFull g c = rw (c.in-MapFull.is, ← c.format-runs.ensures.text) c.put_line-in-MapFull.ensures
+
+pub returns-in-NoTablePlace : goal.returns-in-NoTablePlace
+returns-in-NoTablePlace g c = rw (c.in-NoTablePlace.is, ← c.table_name.ensures) c.tell_table.ensures

@@ -1,0 +1,8 @@
+-- The pieces of the line are the line; the word for an input is its name there.
+use Rattle.program_run.proofs.tell.tell_refusal.Goals as goal
+
+pub returns-in-Unread : goal.returns-in-Unread
+returns-in-Unread g c = rw (c.in-Unread.is, ← c.name_text.ensures) c.put_line.ensures
+
+pub returns-in-Faulty : goal.returns-in-Faulty
+returns-in-Faulty g c = rw (c.in-Faulty.is, ← c.word.ensures) c.tell_fault.ensures

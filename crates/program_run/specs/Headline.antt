@@ -1,0 +1,24 @@
+-- What status 0 says, where the files tell what they hold and the output what was written.
+use Rattle.std.specs.Prelude.{◌≡◌, ℕ, List, Option, Some, Ok}
+use Rattle.std.specs.Io.KnownBytes.{Appends}
+use Rattle.boot_inputs.specs.Inputs.{Held}
+use Rattle.boot_model.specs.Boot.{Given, Told, told_boot}
+use Rattle.conservation.specs.Headline.{AllTouchedOrInOne, BlocksAreMaximal, BlocksAreWhole, NoOtherInABlock}
+use Rattle.debugfs_reports.specs.ReportList.{text_of}
+use Rattle.program_run.specs.Outcome.{given_by}
+use Rattle.program_words.specs.Words.{Wanted}
+
+-- the reports that the words ask for were written whole, of the one boot that the words and the bytes determine; and in it each usable
+-- frame is touched by a claim with a recorded owner or in exactly one block, no other frame is in any, and each block is whole and maximal
+pub record IsReported (accepted : Option Wanted) (held : Held) (old new : Option (List ℕ)) : Type 0 where
+  pub wanted : Wanted
+  pub given : Given
+  pub told : Told
+  pub words : accepted ≡ Some wanted
+  pub inputs : given_by held wanted ≡ Ok given
+  pub boots : told_boot given ≡ Ok told
+  pub written : Appends old new (text_of wanted.reports told)
+  pub each : AllTouchedOrInOne given told
+  pub others : NoOtherInABlock given told
+  pub whole : BlocksAreWhole given told
+  pub maximal : BlocksAreMaximal given told

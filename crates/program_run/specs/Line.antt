@@ -1,0 +1,121 @@
+-- The one line on the error output.
+use Rattle.std.specs.Prelude.{ℕ, List, [], ◌++◌, codes, decimal, Option, Some, None, ◌⊎◌, unwrap_or}
+use Rattle.std.specs.Io.KnownBytes.{Appends}
+use Rattle.bm_io.specs.Counts.{Rose}
+use Rattle.bm_io.specs.Told.{AppendsFront}
+use Rattle.bm_io.specs.declared.writing.Sink.{Ghosts as SinkOf}
+use Rattle.boot_inputs.specs.declared.fault.Fault.{Fault}
+use Rattle.boot_inputs.specs.declared.fault.Fault.TheVariants as faults
+use Rattle.boot_inputs.specs.declared.input.Input.{Input}
+use Rattle.boot_inputs.specs.declared.refusal.Refusal.{Refusal}
+use Rattle.boot_inputs.specs.declared.refusal.Refusal.TheVariants as refusals
+use Rattle.boot_inputs.specs.Input.{word_for}
+use Rattle.memblock_model.specs.declared.which.Which.{Which}
+use Rattle.memblock_model.specs.declared.which.Which.TheVariants as which
+use Rattle.stage_model.specs.declared.stop.What.{What}
+use Rattle.stage_model.specs.declared.stop.What.TheVariants as what
+use Rattle.boot_model.specs.declared.stop.Cause.{Cause}
+use Rattle.boot_model.specs.declared.stop.Cause.TheVariants as causes
+use Rattle.program_run.specs.declared.failure.Reason.{Reason}
+use Rattle.program_run.specs.declared.failure.Reason.TheVariants as reasons
+use Rattle.program_run.specs.declared.failure.Failure.{Failure}
+use Rattle.program_run.specs.declared.failure.Failure.TheVariants as failures
+use Rattle.program_words.specs.Words.{Wanted}
+
+-- of the input of that name: a fault of the whole file, of an entry, which are numbered from 0, of a word or of a line, which are
+-- numbered from 1, and of what stands at an offset in bytes
+abbrev pub whole_line : List ℕ → List ℕ → List ℕ
+whole_line name what = codes "bootmem: " ++ (name ++ (codes ": " ++ (what ++ codes "\n")))
+
+abbrev pub entry_line : List ℕ → ℕ → List ℕ
+entry_line name index = codes "bootmem: " ++ (name ++ (codes ": entry " ++ (decimal index ++ codes " too far\n")))
+
+abbrev pub word_line : List ℕ → ℕ → List ℕ → List ℕ
+word_line name word what = codes "bootmem: " ++ (name ++ (codes ": word " ++ (decimal word ++ (codes ": " ++ (what ++ codes "\n")))))
+
+abbrev pub numbered_line : List ℕ → ℕ → List ℕ → List ℕ
+numbered_line name line what = codes "bootmem: " ++ (name ++ (codes ": line " ++ (decimal line ++ (codes ": " ++ (what ++ codes "\n")))))
+
+abbrev pub offset_line : List ℕ → List ℕ → ℕ → List ℕ
+offset_line name what offset = codes "bootmem: " ++ (name ++ (codes ": " ++ (what ++ (codes " at " ++ (decimal offset ++ codes "\n")))))
+
+abbrev pub fault_line : List ℕ → Fault → List ℕ
+fault_line name faults.TooLong = whole_line name (codes "too long")
+fault_line name faults.WrongLength = whole_line name (codes "wrong length")
+fault_line name faults.TooFew = whole_line name (codes "too few entries")
+fault_line name faults.TooMany = whole_line name (codes "too many entries")
+fault_line name (faults.EntryTooFar index) = entry_line name index
+fault_line name faults.InitrdTooFar = whole_line name (codes "initrd too far")
+fault_line name faults.Header = whole_line name (codes "header")
+fault_line name faults.Length = whole_line name (codes "length")
+fault_line name faults.LineTooLong = whole_line name (codes "line too long")
+fault_line name faults.OpenQuote = whole_line name (codes "open quote")
+fault_line name (faults.BadMem word) = word_line name word (codes "mem")
+fault_line name (faults.BadMemmap word) = word_line name word (codes "memmap")
+fault_line name (faults.BadCrash word) = word_line name word (codes "crashkernel")
+fault_line name (faults.UserMapInvalid word) = word_line name word (codes "user map")
+fault_line name (faults.BadNuma word) = word_line name word (codes "numa")
+fault_line name faults.Short = whole_line name (codes "short")
+fault_line name faults.Signature = whole_line name (codes "signature")
+fault_line name faults.Checksum = whole_line name (codes "checksum")
+fault_line name (faults.EntryLength offset) = offset_line name (codes "entry length") offset
+fault_line name (faults.BlockTooFar offset) = offset_line name (codes "block too far") offset
+fault_line name (faults.BadLine line) = numbered_line name line (codes "form")
+fault_line name (faults.BadNumber line) = numbered_line name line (codes "number")
+fault_line name (faults.BadAlign line) = numbered_line name line (codes "alignment")
+fault_line name (faults.ZeroSize line) = numbered_line name line (codes "zero size")
+fault_line name (faults.SecondSections line) = numbered_line name line (codes "second sections")
+fault_line name (faults.LineTooFar line) = numbered_line name line (codes "too far")
+
+-- the name of a table of memblock
+abbrev pub table_name : Which → List ℕ
+table_name which.Memory = codes "memory"
+table_name which.Reserved = codes "reserved"
+
+abbrev pub table_line : List ℕ → ℕ → List ℕ
+table_line name room = codes "bootmem: stopped: no place for table " ++ (name ++ (codes " room " ++ (decimal room ++ codes "\n")))
+
+-- a thing that a boot can't do without found no place; its number is that of the node, of the root, or of the section
+abbrev pub thing_line : List ℕ → ℕ → List ℕ
+thing_line name number = codes "bootmem: stopped: no place for " ++ (name ++ (codes " " ++ (decimal number ++ codes "\n")))
+
+abbrev pub place_line : What → List ℕ
+place_line (what.NodeData node) = thing_line (codes "node-data") node
+place_line what.Roots = codes "bootmem: stopped: no place for roots\n"
+place_line (what.Root root) = thing_line (codes "root") root
+place_line (what.Usage section) = thing_line (codes "usage") section
+place_line (what.Map section) = thing_line (codes "map") section
+
+abbrev pub cause_line : Cause → List ℕ
+cause_line causes.NoRam = codes "bootmem: stopped: no usable frame\n"
+cause_line (causes.TooMuchRam frames) = codes "bootmem: stopped: " ++ (decimal frames ++ codes " usable frames\n")
+cause_line (causes.MapFull runs) = codes "bootmem: stopped: " ++ (decimal runs ++ codes " map runs\n")
+cause_line (causes.NoPlace thing) = place_line thing
+cause_line (causes.NoTablePlace w room) = table_line (table_name w) room
+
+-- the name of an input's file as the words name it, which is empty where there is none
+abbrev pub name_text : Option Wanted → Input → List ℕ
+name_text None input = []
+name_text (Some wanted) input = unwrap_or (wanted.named input) []
+
+-- a file that couldn't be read is named so
+abbrev pub refusal_line : Option Wanted → Refusal → List ℕ
+refusal_line accepted (refusals.Unread input) = codes "bootmem: cannot read " ++ (name_text accepted input ++ codes "\n")
+refusal_line accepted (refusals.Faulty input fault) = fault_line (word_for input) fault
+
+abbrev pub reason_line : Option Wanted → Reason → List ℕ
+reason_line accepted reasons.Usage = codes "bootmem: usage\n"
+reason_line accepted (reasons.Refused refusal) = refusal_line accepted refusal
+reason_line accepted (reasons.Stopped cause) = cause_line cause
+
+abbrev pub failure_line : Option Wanted → Failure → List ℕ
+failure_line accepted (failures.NoReport reason) = reason_line accepted reason
+failure_line accepted failures.Unwritten = codes "bootmem: cannot write\n"
+failure_line accepted failures.Memory = codes "bootmem: out of memory\n"
+
+-- the front of the line was appended to the output, and all of it unless the output itself failed; `sink` is what the
+-- output's kind tells
+pub record Tells {S : Type 0} (sink : SinkOf S) (old new : S) (line : List ℕ) : Type 0 where
+  pub front : AppendsFront (sink.written old) (sink.written new) line
+  pub whole : Appends (sink.written old) (sink.written new) line ⊎ Rose (sink.faults old) (sink.faults new)
+      ⊎ Rose (sink.wants old) (sink.wants new)

@@ -1,0 +1,54 @@
+-- What the program comes to, from the words and from what each name holds.
+use Rattle.std.specs.Prelude.{ℕ, List, drop, take, Option, Some, None, Result, Ok, Err}
+use Rattle.bm_base.specs.ResultSteps.{◌>>=◌, with_error}
+use Rattle.e820_table.specs.Made.{made_entries}
+use Rattle.boot_inputs.specs.declared.refusal.Refusal.{Refusal}
+use Rattle.boot_inputs.specs.Inputs.{Held, inputs_of}
+use Rattle.boot_model.specs.declared.stop.Cause.{Cause}
+use Rattle.boot_model.specs.Boot.{Given, told_boot}
+use Rattle.debugfs_reports.specs.declared.report.Report.{Report}
+use Rattle.debugfs_reports.specs.ReportList.{text_of}
+use Rattle.program_run.specs.declared.failure.Reason.{Reason}
+use Rattle.program_run.specs.declared.failure.Reason.TheVariants as reasons
+use Rattle.program_words.specs.Words.{Wanted}
+
+-- what the words ask for, where they are accepted
+abbrev pub or_usage : Option Wanted → Result Wanted Reason
+or_usage None = Err reasons.Usage
+or_usage (Some wanted) = Ok wanted
+
+-- a file that is refused, and a boot that stops, are the reason
+abbrev pub or_refused : {A : Type 0} → Result A Refusal → Result A Reason
+or_refused answer = with_error reasons.Refused answer
+
+abbrev pub or_stopped : {A : Type 0} → Result A Cause → Result A Reason
+or_stopped answer = with_error reasons.Stopped answer
+
+-- where the words ask for a made input, its first 128 entries stand for those of the zero page and the others for those of the extension,
+-- and there is no initrd
+abbrev pub with_made : Option ℕ → Given → Given
+with_made None given = given
+with_made (Some count) given = record given {
+  entries = take 128 (made_entries count);
+  initrd = None;
+  extension = drop 128 (made_entries count);
+}
+
+-- what the boot is given, by the words and by the files that they name
+abbrev pub given_by : Held → Wanted → Result Given Refusal
+given_by held wanted = do
+  given ← inputs_of held wanted.named wanted.kernel
+  Ok (with_made wanted.made given)
+
+-- the text of the reports of what the boot makes of the inputs
+abbrev pub reported : List Report → Given → Result (List ℕ) Reason
+reported reports given = do
+  told ← or_stopped (told_boot given)
+  Ok (text_of reports told)
+
+-- what the program comes to: the text that it writes, or why there is none
+abbrev pub outcome : Option Wanted → Held → Result (List ℕ) Reason
+outcome accepted held = do
+  wanted ← or_usage accepted
+  given ← or_refused (given_by held wanted)
+  reported wanted.reports given

@@ -1,0 +1,69 @@
+//! What the boot is given: what the named files say, and where the words ask for a made table, that in place of the zero
+//! page's and the extension's.
+
+ghost use Rattle.std.specs.Prelude.{◌≡◌, ℕ, ◌^◌, ◌<◌, List, length, IfOk, IfSome, IsErr, IsSomeAnd, OnOk};
+ghost use Rattle.std.specs.List.{All};
+ghost use Rattle.e820_model.specs.Claims.{EndInSpace, HaveTypes};
+ghost use Rattle.e820_table.specs.Initrd.{IsInitrd};
+ghost use Rattle.script_reader.specs.Forms.{HasBounds};
+ghost use Rattle.early_script.specs.Stage.{PlaceOnce};
+ghost use Rattle.boot_model.specs.View.{inputs_view};
+ghost use Rattle.boot_inputs.specs.Answers.{Gives, HasCause};
+ghost use Rattle.program_words.specs.Entries.{AreEntries};
+ghost use Rattle.program_words.specs.View.{wanted_view};
+ghost use Rattle.program_run.specs.Outcome.{given_by, with_made};
+
+use bm_base::Memory;
+use bm_io::Files;
+use boot_inputs::{InputError, read_inputs};
+use boot_model::Inputs;
+use e820_table::made;
+use program_words::Wanted;
+use std::alloc::Global;
+
+/// Reads the files that the words name, and makes the table that they ask for. The first refusal of a file is the answer.
+pub fn read_given<F: Files>(
+    alloc: Global,
+    wanted: &Wanted<'_>,
+    files: &mut F,
+) -> Result<Inputs, InputError>
+    ensures gives { IfSome (F.holds files.old) (λ held.
+        Gives inputs_view result (given_by held (wanted_view wanted.now))) }
+    ensures cause { HasCause (F.faults files.old) (F.faults files.new) (wanted_view wanted.now).named result }
+    ensures uncounted { OnOk result ((any : List ℕ) → F.faults files.new any ≡ F.faults files.old any) }
+    ensures entries_end { IfOk result (λ inputs. EndInSpace inputs.zero.entries.items) }
+    ensures initrd { IfOk result (λ inputs. IfSome inputs.zero.initrd IsInitrd) }
+    ensures extension_ends { IfOk result (λ inputs. EndInSpace inputs.ext.items) }
+    ensures types { IfOk result (λ inputs. HaveTypes inputs.options.edits.items) }
+    ensures domains { IfOk result (λ inputs. IfSome inputs.srat (λ srat. length srat.blocks.items < 2 ^ 32)) }
+    ensures bounds { IfOk result (λ inputs. All (λ l. HasBounds l.act) inputs.lines.items) }
+    ensures once { IfOk result (λ inputs. PlaceOnce inputs.lines.items) }
+{
+    let mut inputs = read_inputs::<F, Wanted<'_>>(alloc, files, wanted, wanted.kernel)?;
+    match put_made(alloc, &mut inputs, wanted.made) {
+        Ok(()) => Ok(inputs),
+        Err(_) => Err(InputError::Memory),
+    }
+}
+
+/// Puts a made table of so many entries in place of those that the files give, where one is asked for. It has no initrd.
+fn put_made(alloc: Global, inputs: &mut Inputs, entries: Option<u32>) -> Result<(), Memory>
+    requires few { IfSome entries AreEntries }
+    ensures put { OnOk result (inputs_view inputs.new ≡ with_made entries (inputs_view inputs.old)) }
+    ensures many { IsErr result → IsSomeAnd entries (λ n. 128 < n) }
+    ensures entries_end { OnOk result (EndInSpace inputs.old.zero.entries.items
+        → EndInSpace inputs.new.zero.entries.items) }
+    ensures initrd { OnOk result (IfSome inputs.old.zero.initrd IsInitrd
+        → IfSome inputs.new.zero.initrd IsInitrd) }
+    ensures extension_ends { OnOk result (EndInSpace inputs.old.ext.items → EndInSpace inputs.new.ext.items) }
+    ensures options_stay { OnOk result (inputs.new.options ≡ inputs.old.options) }
+    ensures srat_stays { OnOk result (inputs.new.srat ≡ inputs.old.srat) }
+    ensures lines_stay { OnOk result (inputs.new.lines ≡ inputs.old.lines) }
+{
+    if let Some(count) = entries {
+        let made = made(alloc, count)?;
+        inputs.zero = made.zero;
+        inputs.ext = made.ext;
+    }
+    Ok(())
+}

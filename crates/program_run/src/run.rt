@@ -1,0 +1,154 @@
+//! The whole program over any files and outputs.
+
+ghost use Rattle.std.specs.Prelude.{◌≡◌, ℕ, ◌^◌, ◌<◌, List, length, IfSome, IfErr, IsNone, IsSome, IsErrOf, OnOk, OnErr, IfOk, ◌⊎◌, flat_map};
+ghost use Rattle.std.specs.Option.{option_map};
+ghost use Rattle.std.specs.Io.KnownBytes.{Appends};
+ghost use Rattle.std.specs.List.{All};
+ghost use Rattle.e820_table.specs.Initrd.{IsInitrd};
+ghost use Rattle.e820_model.specs.Claims.{EndInSpace, HaveTypes};
+ghost use Rattle.script_reader.specs.Forms.{HasBounds};
+ghost use Rattle.early_script.specs.Stage.{PlaceOnce};
+ghost use Rattle.bm_io.specs.Counts.{Rose};
+ghost use Rattle.bm_io.specs.Told.{AppendsFront};
+ghost use Rattle.boot_model.specs.View.{inputs_view};
+ghost use Rattle.debugfs_reports.specs.ReportList.{reports_in};
+ghost use Rattle.stage_texts.specs.Pieces.{text_of_pieces};
+ghost use Rattle.program_words.specs.View.{wanted_view};
+ghost use Rattle.program_words.specs.Words.{accepted, texts};
+ghost use Rattle.program_run.specs.Answers.{FailureHasCause, IsOfBoot, Makes, ReportHasCause, Writes, WritingHasCause};
+ghost use Rattle.program_run.specs.Outcome.{outcome, reported};
+ghost use Rattle.program_run.specs.Run.{RanTo};
+ghost use Rattle.program_run.specs.Status.{End, status_of_end};
+
+use crate::failure::{Failure, Reason};
+use crate::given::read_given;
+use crate::pieces::put_reports;
+use crate::tell::tell;
+use bm_base::Memory;
+use bm_io::{Files, Put, Sink};
+use boot_model::Inputs;
+use boot_stages::boot;
+use debugfs_reports::{render_all, reports_in};
+use program_words::{Wanted, WordError, read_words};
+use stage_texts::Piece;
+use std::alloc::Global;
+
+/// The whole program: reads the files that the words name, boots with them, and writes the reports.
+/// `words` are those after the program's name, of which [`program_words::read_words`] says what they may be. Answers the
+/// exit status.
+///
+/// Where `outcome` is a text, that is written; where it is a reason for no report, nothing is, and the
+/// line of the reason goes to `err`. Three answers come from elsewhere: 3 where a named file couldn't
+/// be read, 4 where `out` failed, and 7 where memory is wanting. What `err` answers changes no status.
+pub fn run<F: Files, S: Sink, E: Sink>(
+    alloc: Global,
+    words: &[String],
+    files: &mut F,
+    out: &mut S,
+    err: &mut E,
+) -> u8
+    ensures { (end : End) × (result ≡ status_of_end end) × RanTo F.Files S.Sink E.Sink
+        (accepted (texts words.now)) files.old files.new out.old out.new err.old err.new end }
+{
+    let Ok(wanted) = wanted_by(alloc, words) else {
+        tell(err, &None, Failure::Memory);
+        return Failure::Memory.status();
+    };
+    let Err(failure) = write_reports(alloc, &wanted, files, out) else {
+        return 0;
+    };
+    tell(err, &wanted, failure);
+    failure.status()
+}
+
+/// What the words ask for; `None` exactly where they are refused for another cause than want of memory.
+fn wanted_by<'w>(alloc: Global, words: &'w [String]) -> Result<Option<Wanted<'w>>, Memory>
+    ensures { IfOk result (λ wanted. option_map wanted_view wanted ≡ accepted (texts words.entry.now)) }
+{
+    match read_words(alloc, words) {
+        Ok(wanted) => Ok(Some(wanted)),
+        Err(WordError::Usage) => Ok(None),
+        Err(WordError::Memory) => Err(Memory),
+    }
+}
+
+/// Writes the reports that are asked for, once all of them are there.
+fn write_reports<F: Files, S: Sink>(
+    alloc: Global,
+    wanted: &Option<Wanted<'_>>,
+    files: &mut F,
+    out: &mut S,
+) -> Result<(), Failure>
+    ensures writes { IfSome (F.holds files.old) (λ held.
+        Writes (S.written out.old) (S.written out.new) result
+        (outcome (option_map wanted_view wanted.now) held)) }
+    ensures accepted { OnOk result (IsSome (option_map wanted_view wanted.now)) }
+    ensures cause { IfErr result (λ failure. FailureHasCause (F.faults files.old)
+        (F.faults files.new) (option_map wanted_view wanted.now) failure) }
+    ensures unfetched { IsNone (option_map wanted_view wanted.now) → files.new ≡ files.old }
+    ensures unput { IsNone (option_map wanted_view wanted.now) → out.new ≡ out.old }
+    ensures output { WritingHasCause S.faults S.wants out.old out.new result }
+    ensures uncounted { OnOk result (((any : List ℕ) →
+        F.faults files.new any ≡ F.faults files.old any) × (S.faults out.new ≡ S.faults out.old)) }
+{
+    let texts = make_texts(alloc, wanted, files)?;
+    put_texts(out, texts)
+}
+
+/// Puts the texts of reports, each of their pieces that isn't empty by one put, or one a sheet.
+fn put_texts<S: Sink>(out: &mut S, texts: Vec<Vec<Piece>>) -> Result<(), Failure>
+    ensures whole { OnOk result (Appends (S.written out.old) (S.written out.new)
+        (flat_map (λ pieces. text_of_pieces pieces.items) texts.items)) }
+    ensures front { OnErr result (AppendsFront (S.written out.old) (S.written out.new)
+        (flat_map (λ pieces. text_of_pieces pieces.items) texts.items)) }
+    ensures only { IfErr result (λ failure. (failure ≡ Failure.Unwritten)
+        ⊎ (failure ≡ Failure.Memory)) }
+    ensures failed { IsErrOf result Failure.Unwritten → Rose (S.faults out.old) (S.faults out.new) }
+    ensures wanting { IsErrOf result Failure.Memory → Rose (S.wants out.old) (S.wants out.new) }
+    ensures uncounted { OnOk result (S.faults out.new ≡ S.faults out.old) }
+{
+    match put_reports(out, texts) {
+        Ok(()) => Ok(()),
+        Err(Put::Failed) => Err(Failure::Unwritten),
+        Err(Put::Memory) => Err(Failure::Memory),
+    }
+}
+
+/// The texts of the reports that are asked for.
+fn make_texts<F: Files>(
+    alloc: Global,
+    wanted: &Option<Wanted<'_>>,
+    files: &mut F,
+) -> Result<Vec<Vec<Piece>>, Failure>
+    ensures makes { IfSome (F.holds files.old) (λ held.
+        Makes (λ texts. flat_map (λ pieces. text_of_pieces pieces.items) texts.items) result
+        (outcome (option_map wanted_view wanted.now) held)) }
+    ensures cause { ReportHasCause (F.faults files.old) (F.faults files.new)
+        (option_map wanted_view wanted.now) result }
+    ensures unfetched { IsNone (option_map wanted_view wanted.now) → files.new ≡ files.old }
+    ensures uncounted { OnOk result ((any : List ℕ) → F.faults files.new any ≡ F.faults files.old any) }
+{
+    let Some(wanted) = wanted else {
+        return Err(Failure::NoReport(Reason::Usage));
+    };
+    let inputs = read_given(alloc, wanted, files)?;
+    boot_texts(alloc, inputs, wanted.list)
+}
+
+/// The texts of a list of reports, of what the boot makes of the inputs.
+fn boot_texts(alloc: Global, inputs: Inputs, list: &str) -> Result<Vec<Vec<Piece>>, Failure>
+    requires entries_end { EndInSpace inputs.zero.entries.items }
+    requires extension_ends { EndInSpace inputs.ext.items }
+    requires types { HaveTypes inputs.options.edits.items }
+    requires initrd { IfSome inputs.zero.initrd IsInitrd }
+    requires domains { IfSome inputs.srat (λ srat. length srat.blocks.items < 2 ^ 32) }
+    requires bounds { All (λ l. HasBounds l.act) inputs.lines.items }
+    requires once { PlaceOnce inputs.lines.items }
+    ensures makes { Makes (λ texts. flat_map (λ pieces. text_of_pieces pieces.items) texts.items) result
+        (reported (reports_in list.now) (inputs_view inputs)) }
+    ensures cause { IsOfBoot result }
+{
+    let booted = boot(alloc, inputs)?;
+    let reports = reports_in(alloc, list.as_bytes())?;
+    Ok(render_all(alloc, &reports, &booted)?)
+}

@@ -1,0 +1,220 @@
+//! The line of a failure, piece by piece: it takes no memory, and no kind of failure that comes here can be
+//! want of memory under another name.
+
+ghost use Rattle.std.specs.Prelude.{◌≡◌, flat_map};
+ghost use Rattle.std.specs.Option.{option_map};
+ghost use Rattle.program_run.specs.Line.{Tells, cause_line, entry_line, failure_line, fault_line, name_text, numbered_line, offset_line, place_line, reason_line, refusal_line, table_line, table_name, thing_line, whole_line, word_line};
+ghost use Rattle.program_words.specs.View.{wanted_view};
+
+use crate::failure::{Failure, Reason};
+use bm_io::{Sink, put_all};
+use boot_inputs::{Fault, Input, Names, Refusal};
+use boot_model::Cause;
+use itoa::Buffer;
+use memblock_model::Which;
+use program_words::Wanted;
+use stage_model::What;
+
+/// Puts the line of a failure on the error output. What the output answers changes nothing: the line goes out
+/// piece by piece, up to the first that is refused.
+pub fn tell<E: Sink>(err: &mut E, wanted: &Option<Wanted<'_>>, failure: Failure)
+    ensures { Tells E.Sink err.old err.new (failure_line (option_map wanted_view wanted.now) failure) }
+{
+    match failure {
+        Failure::NoReport(reason) => tell_reason(err, wanted, reason),
+        Failure::Unwritten => put_line(err, &["bootmem: cannot write\n"]),
+        Failure::Memory => put_line(err, &["bootmem: out of memory\n"]),
+    }
+}
+
+fn tell_reason<E: Sink>(err: &mut E, wanted: &Option<Wanted<'_>>, reason: Reason)
+    ensures { Tells E.Sink err.old err.new (reason_line (option_map wanted_view wanted.now) reason) }
+{
+    match reason {
+        Reason::Usage => put_line(err, &["bootmem: usage\n"]),
+        Reason::Refused(refusal) => tell_refusal(err, wanted, refusal),
+        Reason::Stopped(cause) => tell_cause(err, cause),
+    }
+}
+
+fn tell_refusal<E: Sink>(err: &mut E, wanted: &Option<Wanted<'_>>, refusal: Refusal)
+    ensures { Tells E.Sink err.old err.new
+        (refusal_line (option_map wanted_view wanted.now) refusal) }
+{
+    match refusal {
+        Refusal::Unread(input) => {
+            put_line(
+                err,
+                &["bootmem: cannot read ", name_text(wanted, input), "\n"],
+            )
+        }
+        Refusal::Faulty(input, fault) => tell_fault(err, input.word(), fault),
+    }
+}
+
+/// The name of an input's file, empty where there is none or the words weren't accepted.
+fn name_text<'a>(wanted: &'a Option<Wanted<'_>>, input: Input) -> &'a str
+    ensures { result.now ≡ name_text (option_map wanted_view wanted.now) input }
+{
+    match wanted {
+        Some(wanted) => wanted.of(input).unwrap_or(""),
+        None => "",
+    }
+}
+
+/// The line of a fault of the input of that name.
+fn tell_fault<E: Sink>(err: &mut E, name: &str, fault: Fault)
+    ensures { Tells E.Sink err.old err.new (fault_line name.now fault) }
+{
+    match fault {
+        Fault::TooLong => tell_whole(err, name, "too long"),
+        Fault::WrongLength => tell_whole(err, name, "wrong length"),
+        Fault::TooFew => tell_whole(err, name, "too few entries"),
+        Fault::TooMany => tell_whole(err, name, "too many entries"),
+        Fault::EntryTooFar { index } => tell_entry(err, name, index),
+        Fault::InitrdTooFar => tell_whole(err, name, "initrd too far"),
+        Fault::Header => tell_whole(err, name, "header"),
+        Fault::Length => tell_whole(err, name, "length"),
+        Fault::LineTooLong => tell_whole(err, name, "line too long"),
+        Fault::OpenQuote => tell_whole(err, name, "open quote"),
+        Fault::BadMem { word } => tell_word(err, name, word, "mem"),
+        Fault::BadMemmap { word } => tell_word(err, name, word, "memmap"),
+        Fault::BadCrash { word } => tell_word(err, name, word, "crashkernel"),
+        Fault::UserMapInvalid { word } => tell_word(err, name, word, "user map"),
+        Fault::BadNuma { word } => tell_word(err, name, word, "numa"),
+        Fault::Short => tell_whole(err, name, "short"),
+        Fault::Signature => tell_whole(err, name, "signature"),
+        Fault::Checksum => tell_whole(err, name, "checksum"),
+        Fault::EntryLength { offset } => tell_offset(err, name, "entry length", offset),
+        Fault::BlockTooFar { offset } => tell_offset(err, name, "block too far", offset),
+        Fault::BadLine { line } => tell_line(err, name, line, "form"),
+        Fault::BadNumber { line } => tell_line(err, name, line, "number"),
+        Fault::BadAlign { line } => tell_line(err, name, line, "alignment"),
+        Fault::ZeroSize { line } => tell_line(err, name, line, "zero size"),
+        Fault::SecondSections { line } => tell_line(err, name, line, "second sections"),
+        Fault::LineTooFar { line } => tell_line(err, name, line, "too far"),
+    }
+}
+
+/// The line of a fault of the whole file.
+fn tell_whole<'a, E: Sink>(err: &mut E, name: &'a str, what: &'a str)
+    ensures { Tells E.Sink err.old err.new (whole_line name.now what.now) }
+{
+    put_line(err, &["bootmem: ", name, ": ", what, "\n"])
+}
+
+/// The line of an entry that ends too far, numbered from 0.
+fn tell_entry<E: Sink>(err: &mut E, name: &str, index: u32)
+    ensures { Tells E.Sink err.old err.new (entry_line name.now index) }
+{
+    let mut buffer = Buffer::new();
+    let index = buffer.format(index);
+    put_line(err, &["bootmem: ", name, ": entry ", index, " too far\n"])
+}
+
+/// The line of a word of the file, numbered from 1.
+fn tell_word<'a, E: Sink>(err: &mut E, name: &'a str, word: u32, what: &'a str)
+    ensures { Tells E.Sink err.old err.new (word_line name.now word what.now) }
+{
+    let mut buffer = Buffer::new();
+    let word = buffer.format(word);
+    put_line(err, &["bootmem: ", name, ": word ", word, ": ", what, "\n"])
+}
+
+/// The line of a line of the file, numbered from 1.
+fn tell_line<'a, E: Sink>(err: &mut E, name: &'a str, line: u32, what: &'a str)
+    ensures { Tells E.Sink err.old err.new (numbered_line name.now line what.now) }
+{
+    let mut buffer = Buffer::new();
+    let line = buffer.format(line);
+    put_line(err, &["bootmem: ", name, ": line ", line, ": ", what, "\n"])
+}
+
+/// The line of what stands at an offset of the file, in bytes.
+fn tell_offset<'a, E: Sink>(err: &mut E, name: &'a str, what: &'a str, offset: u32)
+    ensures { Tells E.Sink err.old err.new (offset_line name.now what.now offset) }
+{
+    let mut buffer = Buffer::new();
+    let offset = buffer.format(offset);
+    put_line(err, &["bootmem: ", name, ": ", what, " at ", offset, "\n"])
+}
+
+fn tell_cause<E: Sink>(err: &mut E, cause: Cause)
+    ensures { Tells E.Sink err.old err.new (cause_line cause) }
+{
+    match cause {
+        Cause::NoRam => put_line(err, &["bootmem: stopped: no usable frame\n"]),
+        Cause::TooMuchRam { frames } => {
+            let mut buffer = Buffer::new();
+            let frames = buffer.format(frames);
+            put_line(err, &["bootmem: stopped: ", frames, " usable frames\n"])
+        }
+        Cause::MapFull { runs } => {
+            let mut buffer = Buffer::new();
+            let runs = buffer.format(runs);
+            put_line(err, &["bootmem: stopped: ", runs, " map runs\n"])
+        }
+        Cause::NoPlace { what } => tell_place(err, what),
+        Cause::NoTablePlace { which, room } => tell_table(err, table_name(which), room),
+    }
+}
+
+/// The line of a thing that found no place.
+fn tell_place<E: Sink>(err: &mut E, what: What)
+    ensures { Tells E.Sink err.old err.new (place_line what) }
+{
+    match what {
+        What::NodeData(node) => tell_thing(err, "node-data", node),
+        What::Roots => put_line(err, &["bootmem: stopped: no place for roots\n"]),
+        What::Root(root) => tell_thing(err, "root", root),
+        What::Usage(section) => tell_thing(err, "usage", section),
+        What::Map(section) => tell_thing(err, "map", section),
+    }
+}
+
+/// The line of a numbered thing that found no place.
+fn tell_thing<'a, E: Sink>(err: &mut E, name: &'a str, number: u32)
+    ensures { Tells E.Sink err.old err.new (thing_line name.now number) }
+{
+    let mut buffer = Buffer::new();
+    let number = buffer.format(number);
+    put_line(
+        err,
+        &["bootmem: stopped: no place for ", name, " ", number, "\n"],
+    )
+}
+
+/// The name of a table of memblock.
+fn table_name(which: Which) -> &'static str
+    ensures { result.now ≡ table_name which }
+{
+    match which {
+        Which::Memory => "memory",
+        Which::Reserved => "reserved",
+    }
+}
+
+/// The line of a table that found no place, of so many records.
+fn tell_table<'a, E: Sink>(err: &mut E, name: &'a str, room: u64)
+    ensures { Tells E.Sink err.old err.new (table_line name.now room) }
+{
+    let mut buffer = Buffer::new();
+    let room = buffer.format(room);
+    put_line(
+        err,
+        &[
+            "bootmem: stopped: no place for table ",
+            name,
+            " room ",
+            room,
+            "\n",
+        ],
+    )
+}
+
+/// Puts the pieces of a line, up to the first that is refused.
+fn put_line<E: Sink>(err: &mut E, pieces: &[&str])
+    ensures { Tells E.Sink err.old err.new (flat_map (λ piece. piece.now) pieces.now) }
+{
+    let _put = put_all(err, pieces);
+}
