@@ -21,7 +21,7 @@ use Rattle.boot_inputs.specs.declared.input.Input.TheVariants as inputs
 use Rattle.boot_inputs.specs.declared.refusal.Refusal.{Refusal}
 use Rattle.boot_inputs.specs.declared.refusal.Refusal.TheVariants as refusals
 use Rattle.boot_inputs.specs.declared.refusal.InputError.TheVariants as errors
-use Rattle.boot_inputs.specs.Answers.{ComesTo, Fits, FitsRefusal, Gives, HasCause, IsCaused, IsOf, RefusalHasCause, RoseAt, input_of}
+use Rattle.boot_inputs.specs.Answers.{ComesTo, Fits, FitsRefusal, Gives, HasCause, IsCaused, IsOf, Passes, RefusalHasCause, RoseAt, input_of}
 use Rattle.boot_inputs.specs.Faults.{fault_of_extension, fault_of_option, fault_of_script, fault_of_srat, fault_of_zero_page, misread_of}
 use Rattle.boot_inputs.specs.Input.{limit_of, place, word_for}
 use Rattle.boot_inputs.specs.Inputs.{Held, Named, file_step, inputs_of, or_faulty, or_unread, step_if, within}
@@ -282,6 +282,14 @@ comes_to_it = (omega arith, tt)
 
 never_comes_to_it : ComesTo {Y = List ℕ} inputs.Extension (Err (refusals.Faulty inputs.ZeroPage faults.TooFew)) → ⊥
 never_comes_to_it comes = omega (arith, comes)
+
+-- the work goes beyond the extension's file where the command line is at fault; not where it is itself
+goes_beyond_it : Passes {Y = List ℕ} inputs.Extension (Err (refusals.Unread inputs.CommandLine))
+    × Passes {Y = List ℕ} inputs.Script (Ok [])
+goes_beyond_it = (omega arith, tt)
+
+never_goes_beyond_it : Passes {Y = List ℕ} inputs.Extension (Err (refusals.Faulty inputs.Extension faults.Header)) → ⊥
+never_goes_beyond_it passes = omega (arith, passes)
 
 -- how an answer fits what is said
 abbrev few : Result (List ℕ) Refusal

@@ -1,6 +1,6 @@
 -- How answers about files stand to what the definitions say, and what counts as their cause. `said` is what a
 -- definition comes to; `before` and `now` are how many fetches of each name had failed before the call and after it.
-use Rattle.std.specs.Prelude.{◌≡◌, ℕ, ◌≤◌, List, Option, Some, None, Result, Ok, Err}
+use Rattle.std.specs.Prelude.{◌≡◌, ℕ, ◌<◌, ◌≤◌, List, Option, Some, None, Result, Ok, Err}
 use Rattle.bm_io.specs.Counts.{Rose}
 use Rattle.boot_inputs.specs.declared.input.Input.{Input}
 use Rattle.boot_inputs.specs.declared.refusal.Refusal.{Refusal}
@@ -19,6 +19,11 @@ input_of (refusals.Faulty input fault) = input
 abbrev pub ComesTo : {Y : Type 0} → Input → Result Y Refusal → Type 0
 ComesTo input (Ok y) = Unit {0}
 ComesTo input (Err refusal) = place input ≤ place (input_of refusal)
+
+-- the work goes beyond the input's file: neither it nor one before it is refused
+abbrev pub Passes : {Y : Type 0} → Input → Result Y Refusal → Type 0
+Passes input (Ok y) = Unit {0}
+Passes input (Err refusal) = place input < place (input_of refusal)
 
 -- a refusal is the one that the definition gives; but a file may fail to be read where the work comes to it
 abbrev pub FitsRefusal : {Y : Type 0} → Refusal → Result Y Refusal → Type 0

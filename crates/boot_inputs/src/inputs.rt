@@ -1,6 +1,6 @@
 //! All files, in the order of work.
 
-ghost use Rattle.std.specs.Prelude.{◌≡◌, ℕ, ◌^◌, ◌<◌, List, length, IfOk, IfSome, IsNone, IsOk, OnOk};
+ghost use Rattle.std.specs.Prelude.{◌≡◌, ℕ, ◌^◌, ◌<◌, List, length, IfOk, IfSome, IsErrOf, IsNone, IsOk, IsSome, OnOk, ◌⊎◌};
 ghost use Rattle.std.specs.List.{All};
 ghost use Rattle.e820_model.specs.Claims.{EndInSpace, HaveTypes};
 ghost use Rattle.e820_table.specs.Initrd.{IsInitrd};
@@ -8,7 +8,9 @@ ghost use Rattle.script_reader.specs.Forms.{HasBounds};
 ghost use Rattle.early_script.specs.Stage.{PlaceOnce};
 ghost use Rattle.boot_model.specs.Kernel.{IsKernel};
 ghost use Rattle.boot_model.specs.View.{inputs_view};
-ghost use Rattle.boot_inputs.specs.Answers.{Gives, HasCause};
+ghost use Rattle.bm_io.specs.Counts.{Rose};
+ghost use Rattle.boot_inputs.specs.Answers.{Gives, HasCause, Passes};
+ghost use Rattle.boot_inputs.specs.Input.{place};
 ghost use Rattle.boot_inputs.specs.Inputs.{inputs_of};
 ghost use Rattle.boot_inputs.specs.declared.input.Input.{Input as AnyInput};
 
@@ -26,7 +28,8 @@ use boot_model::Inputs;
 use std::alloc::Global;
 
 /// Fetches each file that is named, in the order of work, and judges it before the next; the first
-/// refusal is the answer. Where none is named there is no refusal. The kernel lies where it is said.
+/// refusal is the answer. Where none is named there is no refusal. The kernel lies where it is said. Memory is wanting only
+/// where a fetch says so, or for what a file without a fault gives, behind files without a fault; a zero page takes none.
 pub fn read_inputs<F: Files, N: Names>(
     alloc: Global,
     files: &mut F,
@@ -37,6 +40,11 @@ pub fn read_inputs<F: Files, N: Names>(
     ensures gives { IfSome (F.holds files.old) (λ held.
         Gives inputs_view result (inputs_of held (N.named names.now) kernel)) }
     ensures cause { HasCause (F.faults files.old) (F.faults files.new) (N.named names.now) result }
+    ensures memory { IsErrOf result InputError.Memory → Rose (F.wants files.old) (F.wants files.new)
+        ⊎ IfSome (F.holds files.old) (λ held. (input : AnyInput) × (0 < place input)
+        × IsSome (N.named names.now input) × Passes input (inputs_of held (N.named names.now) kernel)) }
+    ensures unfailed { IsErrOf result InputError.Memory
+        → ((any : List ℕ) → F.faults files.new any ≡ F.faults files.old any) }
     ensures unnamed { ((input : AnyInput) → IsNone (N.named names.now input)) → IsOk result }
     ensures uncounted { OnOk result ((any : List ℕ) → F.faults files.new any ≡ F.faults files.old any) }
     ensures entries_end { IfOk result (λ inputs. EndInSpace inputs.zero.entries.items) }
