@@ -1,7 +1,7 @@
 -- Where the work goes beyond a file: those before it and the file itself have their values, and whatever the later files come to,
--- a refusal is one of theirs.
-use Rattle.std.proofs.Common.{◌≡◌, ℕ, ◌<◌, List, Option, Some, None, Ok, Err, sym, subst, arith}
-use Rattle.std.specs.Prelude.{Result, IsOkAnd}
+-- a refusal is one of theirs. Of the SRAT it is seen without a law.
+use Rattle.std.proofs.Common.{◌≡◌, ℕ, ◌<◌, List, [], length, Option, Some, None, Ok, Err, refl, sym, subst, arith}
+use Rattle.std.specs.Prelude.{Result, IfSome, IsOkAnd, IsSome}
 use Rattle.bm_base.specs.Extent.{Extent}
 use Rattle.bm_base.specs.ResultSteps.{◌>>=◌}
 use Rattle.e820_model.specs.declared.entry.Entry.{Entry}
@@ -42,63 +42,92 @@ then_passes input (Ok a) f first rest = rest a
 then_passes input (Err refusal) f first rest = first
 
 -- the file's own step, which has a value
-value_passes : {A B : Type 0} → {T : A → Type 0} → (input : Input) → (x : Result A Refusal) → (f : A → Result B Refusal)
+value_passes : {A B : Type 0} → (T : A → Type 0) → (input : Input) → (x : Result A Refusal) → (f : A → Result B Refusal)
     → IsOkAnd x T → ((a : A) → Passes input (f a)) → Passes input (x >>= f)
-value_passes input (Ok a) f has rest = rest a
+value_passes T input (Ok a) f has rest = rest a
+value_passes T input (Err refusal) f has rest = elim has [ ]
 
 -- a step of which the value is known
 known_passes : {A B : Type 0} → (input : Input) → (x : Result A Refusal) → (f : A → Result B Refusal) → (a : A) → x ≡ Ok a
     → Passes input (f a) → Passes input (x >>= f)
 known_passes input x f a is rest = subst (λ y. Passes input (y >>= f)) (sym is) rest
 
-pub passes_extension : {T : List Entry → Type 0} → (held : Held) → (named : Named) → (kernel : Extent) → (page : Page)
+pub passes_extension : (held : Held) → (named : Named) → (kernel : Extent) → (page : Page)
     → step_if held inputs.ZeroPage no_page zero_page_said (named inputs.ZeroPage) ≡ Ok page
-    → IsOkAnd (step_if held inputs.Extension [] extension_said (named inputs.Extension)) T
+    → IsOkAnd (step_if held inputs.Extension [] extension_said (named inputs.Extension)) (λ entries. 0 < length entries)
     → Passes inputs.Extension (inputs_of held named kernel)
 passes_extension held named kernel page page_is has =
-    known_passes _ _ _ page page_is
-    (value_passes _ _ _ has
-    (λ extension. then_passes _ _ _ (step_passes _ _ held no_options command_line_said (named inputs.CommandLine) (omega arith))
-    (λ options. then_passes _ _ _ (step_passes _ _ held None srat_said (named inputs.Srat) (omega arith))
-    (λ domains. then_passes _ _ _ (step_passes _ _ held [] script_said (named inputs.Script) (omega arith)) (λ lines. tt)))))
+    known_passes inputs.Extension _ _ page page_is
+    (value_passes (λ entries. 0 < length entries) inputs.Extension _ _ has
+    (λ extension. then_passes inputs.Extension _ _
+    (step_passes inputs.Extension inputs.CommandLine held no_options command_line_said (named inputs.CommandLine) (omega arith))
+    (λ options. then_passes inputs.Extension _ _
+    (step_passes inputs.Extension inputs.Srat held None srat_said (named inputs.Srat) (omega arith))
+    (λ domains. then_passes inputs.Extension _ _
+    (step_passes inputs.Extension inputs.Script held [] script_said (named inputs.Script) (omega arith)) (λ lines. tt)))))
 
-pub passes_options : {T : Chosen → Type 0} → (held : Held) → (named : Named) → (kernel : Extent) → (page : Page)
+pub passes_options : (T : Chosen → Type 0) → (held : Held) → (named : Named) → (kernel : Extent) → (page : Page)
     → (extension : List Entry)
     → step_if held inputs.ZeroPage no_page zero_page_said (named inputs.ZeroPage) ≡ Ok page
     → step_if held inputs.Extension [] extension_said (named inputs.Extension) ≡ Ok extension
     → IsOkAnd (step_if held inputs.CommandLine no_options command_line_said (named inputs.CommandLine)) T
     → Passes inputs.CommandLine (inputs_of held named kernel)
-passes_options held named kernel page extension page_is extension_is has =
-    known_passes _ _ _ page page_is
-    (known_passes _ _ _ extension extension_is
-    (value_passes _ _ _ has
-    (λ options. then_passes _ _ _ (step_passes _ _ held None srat_said (named inputs.Srat) (omega arith))
-    (λ domains. then_passes _ _ _ (step_passes _ _ held [] script_said (named inputs.Script) (omega arith)) (λ lines. tt)))))
+passes_options T held named kernel page extension page_is extension_is has =
+    known_passes inputs.CommandLine _ _ page page_is
+    (known_passes inputs.CommandLine _ _ extension extension_is
+    (value_passes T inputs.CommandLine _ _ has
+    (λ options. then_passes inputs.CommandLine _ _
+    (step_passes inputs.CommandLine inputs.Srat held None srat_said (named inputs.Srat) (omega arith))
+    (λ domains. then_passes inputs.CommandLine _ _
+    (step_passes inputs.CommandLine inputs.Script held [] script_said (named inputs.Script) (omega arith)) (λ lines. tt)))))
 
-pub passes_srat : {T : Option Affinity → Type 0} → (held : Held) → (named : Named) → (kernel : Extent) → (page : Page)
-    → (extension : List Entry) → (options : Chosen)
-    → step_if held inputs.ZeroPage no_page zero_page_said (named inputs.ZeroPage) ≡ Ok page
-    → step_if held inputs.Extension [] extension_said (named inputs.Extension) ≡ Ok extension
-    → step_if held inputs.CommandLine no_options command_line_said (named inputs.CommandLine) ≡ Ok options
-    → IsOkAnd (step_if held inputs.Srat None srat_said (named inputs.Srat)) T
-    → Passes inputs.Srat (inputs_of held named kernel)
-passes_srat held named kernel page extension options page_is extension_is options_are has =
-    known_passes _ _ _ page page_is
-    (known_passes _ _ _ extension extension_is
-    (known_passes _ _ _ options options_are
-    (value_passes _ _ _ has
-    (λ domains. then_passes _ _ _ (step_passes _ _ held [] script_said (named inputs.Script) (omega arith)) (λ lines. tt)))))
-
-pub passes_script : {T : List Line → Type 0} → (held : Held) → (named : Named) → (kernel : Extent) → (page : Page)
+pub passes_script : (held : Held) → (named : Named) → (kernel : Extent) → (page : Page)
     → (extension : List Entry) → (options : Chosen) → (domains : Option Affinity)
     → step_if held inputs.ZeroPage no_page zero_page_said (named inputs.ZeroPage) ≡ Ok page
     → step_if held inputs.Extension [] extension_said (named inputs.Extension) ≡ Ok extension
     → step_if held inputs.CommandLine no_options command_line_said (named inputs.CommandLine) ≡ Ok options
     → step_if held inputs.Srat None srat_said (named inputs.Srat) ≡ Ok domains
-    → IsOkAnd (step_if held inputs.Script [] script_said (named inputs.Script)) T
+    → IsOkAnd (step_if held inputs.Script [] script_said (named inputs.Script)) (λ lines. 0 < length lines)
     → Passes inputs.Script (inputs_of held named kernel)
 passes_script held named kernel page extension options domains page_is extension_is options_are domains_are has =
-    known_passes _ _ _ page page_is
-    (known_passes _ _ _ extension extension_is
-    (known_passes _ _ _ options options_are
-    (known_passes _ _ _ domains domains_are (value_passes _ _ _ has (λ lines. tt)))))
+    known_passes inputs.Script _ _ page page_is
+    (known_passes inputs.Script _ _ extension extension_is
+    (known_passes inputs.Script _ _ options options_are
+    (known_passes inputs.Script _ _ domains domains_are (value_passes (λ lines. 0 < length lines) inputs.Script _ _ has (λ lines. tt)))))
+
+-- a file that is named, since it gives something that there isn't without one
+named_behind : {A : Type 0} → (T : A → Type 0) → (held : Held) → (input : Input) → (without : A)
+    → (said : List ℕ → Result A Fault) → (name : Option (List ℕ)) → (T without → ⊥)
+    → IsOkAnd (step_if held input without said name) T → IsSome name
+named_behind T held input without said None never has = absurd (never has)
+named_behind T held input without said (Some name) never has = refl
+
+-- the same where the files tell what they hold
+pub told_extension : (holds : Option Held) → (named : Named) → (kernel : Extent) → (page : Page)
+    → IfSome holds (λ held. step_if held inputs.ZeroPage no_page zero_page_said (named inputs.ZeroPage) ≡ Ok page)
+    → IfSome holds (λ held. IsOkAnd (step_if held inputs.Extension [] extension_said (named inputs.Extension))
+    (λ entries. 0 < length entries))
+    → IfSome holds (λ held. (input : Input) × (0 < place input) × IsSome (named input) × Passes input (inputs_of held named kernel))
+told_extension None named kernel page page_is has = tt
+told_extension (Some held) named kernel page page_is has = (
+  inputs.Extension,
+  omega arith,
+  named_behind _ held inputs.Extension [] extension_said (named inputs.Extension) (λ never. omega (arith, never)) has,
+  passes_extension held named kernel page page_is has,
+)
+
+pub told_script : (holds : Option Held) → (named : Named) → (kernel : Extent) → (page : Page) → (extension : List Entry)
+    → (options : Chosen) → (domains : Option Affinity)
+    → IfSome holds (λ held. step_if held inputs.ZeroPage no_page zero_page_said (named inputs.ZeroPage) ≡ Ok page)
+    → IfSome holds (λ held. step_if held inputs.Extension [] extension_said (named inputs.Extension) ≡ Ok extension)
+    → IfSome holds (λ held. step_if held inputs.CommandLine no_options command_line_said (named inputs.CommandLine) ≡ Ok options)
+    → IfSome holds (λ held. step_if held inputs.Srat None srat_said (named inputs.Srat) ≡ Ok domains)
+    → IfSome holds (λ held. IsOkAnd (step_if held inputs.Script [] script_said (named inputs.Script)) (λ lines. 0 < length lines))
+    → IfSome holds (λ held. (input : Input) × (0 < place input) × IsSome (named input) × Passes input (inputs_of held named kernel))
+told_script None named kernel page extension options domains page_is extension_is options_are domains_are has = tt
+told_script (Some held) named kernel page extension options domains page_is extension_is options_are domains_are has = (
+  inputs.Script,
+  omega arith,
+  named_behind _ held inputs.Script [] script_said (named inputs.Script) (λ never. omega (arith, never)) has,
+  passes_script held named kernel page extension options domains page_is extension_is options_are domains_are has,
+)
