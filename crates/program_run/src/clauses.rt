@@ -14,7 +14,7 @@ ghost use Rattle.program_run.specs.Outcome.{outcome};
 ghost use Rattle.program_run.specs.Status.{status_of};
 ghost use Rattle.program_words.specs.Words.{accepted, texts};
 
-use crate::run::run;
+use crate::program::run;
 use bm_io::{Files, Sink};
 use std::alloc::Global;
 

@@ -15,8 +15,8 @@ mod clauses;
 mod failure;
 mod given;
 mod pieces;
-mod run;
+mod program;
 mod tell;
 
 pub use clauses::run_by_clauses;
-pub use run::run;
+pub use program::run;

@@ -4,7 +4,7 @@ use Rattle.std.proofs.lemmas.Result.{err_from_is_err_and}
 use Rattle.std.specs.Option.{option_map}
 use Rattle.program_words.specs.View.{wanted_view}
 use Rattle.program_run.proofs.RunLaws.{makes_none}
-use Rattle.program_run.proofs.run.make_texts.Goals as goal
+use Rattle.program_run.proofs.program.make_texts.Goals as goal
 
 pub returns-in_err-inputs-clause-makes : goal.returns-in_err-inputs-clause-makes
 returns-in_err-inputs-clause-makes g c =

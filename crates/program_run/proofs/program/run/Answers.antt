@@ -3,7 +3,7 @@ use Rattle.std.proofs.Common.{Err, refl, inl}
 use Rattle.program_words.specs.Words.{accepted, texts}
 use Rattle.program_run.specs.declared.failure.Failure.TheVariants as failures
 use Rattle.program_run.proofs.RunLaws.{wanting_fits}
-use Rattle.program_run.proofs.run.run.Goals as goal
+use Rattle.program_run.proofs.program.run.Goals as goal
 
 pub returns-in_default : goal.returns-in_default
 returns-in_default g c = (
