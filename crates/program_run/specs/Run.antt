@@ -1,7 +1,8 @@
 -- What is said of a run, whole.
-use Rattle.std.specs.Prelude.{◌≡◌, ℕ, List, Option, IfSome, IsNone, OnOk, Ok, Err}
+use Rattle.std.specs.Prelude.{◌≡◌, ℕ, List, Option, IfSome, IsErrOf, IsNone, OnOk, Ok, Err}
 use Rattle.bm_io.specs.declared.reading.Files.{Ghosts as FilesOf}
 use Rattle.bm_io.specs.declared.writing.Sink.{Ghosts as SinkOf}
+use Rattle.program_run.specs.declared.failure.Failure.TheVariants as failures
 use Rattle.program_run.specs.Answers.{EndHasCause, Writes, WritingHasCause}
 use Rattle.program_run.specs.Line.{Tells, failure_line}
 use Rattle.program_run.specs.Outcome.{outcome}
@@ -28,6 +29,8 @@ pub record RanTo {F S E : Type 0} (files : FilesOf F) (sink : SinkOf S) (errors 
   -- after status 0 no fault was counted, of any file or of the output
   pub uncounted : OnOk end (((any : List ℕ) → files.faults held_now any ≡ files.faults held_before any)
       × (sink.faults out_now ≡ sink.faults out_before))
+  -- a file that couldn't be read isn't told as want of memory
+  pub unfailed : IsErrOf end failures.Memory → (any : List ℕ) → files.faults held_now any ≡ files.faults held_before any
   -- where the files tell what they hold, the end and the output are those of the outcome
   pub said : IfSome (files.holds held_before) (λ held. Writes (sink.written out_before) (sink.written out_now) end (outcome accepted held))
   -- the line of a failure goes to the error output

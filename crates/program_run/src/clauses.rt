@@ -35,11 +35,13 @@ pub fn run_by_clauses<F: Files, S: Sink, E: Sink>(
     ensures unwritten { result ≡ 4 → Rose (S.faults out.old) (S.faults out.new) }
 
     // What stays as it was, whatever the files tell: the files and the output with refused words, the output
-    // where no text came to be, and after status 0 each count of faults.
+    // where no text came to be, after status 0 each count of faults, and after status 7 those of files: a file that
+    // couldn't be read isn't told as want of memory.
     ensures unfetched { IsNone (accepted (texts words.now)) → files.new ≡ files.old }
     ensures unput { IsNone (accepted (texts words.now)) → out.new ≡ out.old }
     ensures early { (result ≡ 2) ⊎ (result ≡ 3) ⊎ (result ≡ 5) ⊎ (result ≡ 6) → out.new ≡ out.old }
     ensures wanting { result ≡ 7 → (out.new ≡ out.old) ⊎ Rose (S.wants out.old) (S.wants out.new) }
+    ensures unfailed { result ≡ 7 → (any : List ℕ) → F.faults files.new any ≡ F.faults files.old any }
     ensures uncounted { result ≡ 0 → ((any : List ℕ) → F.faults files.new any ≡ F.faults files.old any)
         × (S.faults out.new ≡ S.faults out.old) }
 

@@ -1,7 +1,7 @@
 //! What the boot is given: what the named files say, and where the words ask for a made table, that in place of the zero
 //! page's and the extension's.
 
-ghost use Rattle.std.specs.Prelude.{◌≡◌, ℕ, ◌^◌, ◌<◌, List, length, IfOk, IfSome, IsErr, IsSomeAnd, OnOk};
+ghost use Rattle.std.specs.Prelude.{◌≡◌, ℕ, ◌^◌, ◌<◌, List, length, IfOk, IfSome, IsErr, IsErrOf, IsSomeAnd, OnOk};
 ghost use Rattle.std.specs.List.{All};
 ghost use Rattle.e820_model.specs.Claims.{EndInSpace, HaveTypes};
 ghost use Rattle.e820_table.specs.Initrd.{IsInitrd};
@@ -30,6 +30,8 @@ pub fn read_given<F: Files>(
     ensures gives { IfSome (F.holds files.old) (λ held.
         Gives inputs_view result (given_by held (wanted_view wanted.now))) }
     ensures cause { HasCause (F.faults files.old) (F.faults files.new) (wanted_view wanted.now).named result }
+    ensures unfailed { IsErrOf result InputError.Memory
+        → ((any : List ℕ) → F.faults files.new any ≡ F.faults files.old any) }
     ensures uncounted { OnOk result ((any : List ℕ) → F.faults files.new any ≡ F.faults files.old any) }
     ensures entries_end { IfOk result (λ inputs. EndInSpace inputs.zero.entries.items) }
     ensures initrd { IfOk result (λ inputs. IfSome inputs.zero.initrd IsInitrd) }

@@ -87,6 +87,8 @@ fn write_reports<F: Files, S: Sink>(
         (F.faults files.new) (option_map wanted_view wanted.now) failure) }
     ensures unfetched { IsNone (option_map wanted_view wanted.now) → files.new ≡ files.old }
     ensures unput { IsNone (option_map wanted_view wanted.now) → out.new ≡ out.old }
+    ensures unfailed { IsErrOf result Failure.Memory
+        → ((any : List ℕ) → F.faults files.new any ≡ F.faults files.old any) }
     ensures output { WritingHasCause S.faults S.wants out.old out.new result }
     ensures uncounted { OnOk result (((any : List ℕ) →
         F.faults files.new any ≡ F.faults files.old any) × (S.faults out.new ≡ S.faults out.old)) }
@@ -126,6 +128,8 @@ fn make_texts<F: Files>(
     ensures cause { ReportHasCause (F.faults files.old) (F.faults files.new)
         (option_map wanted_view wanted.now) result }
     ensures unfetched { IsNone (option_map wanted_view wanted.now) → files.new ≡ files.old }
+    ensures unfailed { IsErrOf result Failure.Memory
+        → ((any : List ℕ) → F.faults files.new any ≡ F.faults files.old any) }
     ensures uncounted { OnOk result ((any : List ℕ) → F.faults files.new any ≡ F.faults files.old any) }
 {
     let Some(wanted) = wanted else {

@@ -15,6 +15,7 @@ returns-in_default g c = (
     unput = λ none. refl;
     output = inl refl;
     uncounted = tt;
+    unfailed = λ wanting any. refl;
     said = wanting_fits (g.F.Files.holds c.args.files.now) (accepted (texts c.args.words.now)) (g.S.Sink.written c.args.out.now);
     line = c.tell.ensures;
   },
