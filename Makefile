@@ -1,9 +1,9 @@
 # bootmem: the boot-time memory set-up of x86-64 Linux 6.1, proved.
 #
 #   make run                  prints the map of the example zero page: by ./bootmem where it is up to date, else by an
-#                             unproved build, within half a minute
+#                             unproved build, within a minute
 #   make bootmem              proves and builds ./bootmem
-#   make try ARGS="..."       runs the program on these words without proof, within half a minute
+#   make try ARGS="..."       runs the program on these words without proof, within a minute
 #   make test                 the whole gate: every proof, every test, the real machines
 #   make install PREFIX=DIR   installs program, tools, manual pages, documents and examples; where there is a ./bootmem
 #                             it is installed as it is, and nothing is proved (DESTDIR and MANDIR are honoured)
