@@ -1,0 +1,70 @@
+//! The map of a zero page: from its bytes to the text, and from its file to the output. Each step is a call of a crate
+//! of the map, and the contract is that crate's definitions one behind the other.
+
+ghost use Rattle.std.specs.Prelude.{◌≡◌, ◌⊎◌, IfErr, IfSome, IsErrOf, OnOk};
+ghost use Rattle.bm_base.specs.Answers.{Answers};
+ghost use Rattle.bm_io.specs.Counts.{Rose};
+ghost use Rattle.e820_model.specs.Claims.{EndInSpace, bios_trimmed, of_zero_page};
+ghost use Rattle.e820_model.specs.Map.{map_of};
+ghost use Rattle.e820_sanitise.specs.Room.{in_room};
+ghost use Rattle.e820_map.specs.Text.{page_text, IsRefusedAs, WritesPage};
+
+use crate::failure::Failure;
+use bm_io::{Files, Sink};
+use e820_model::{Entry, Run};
+use e820_sanitise::{MapFault, Table};
+use e820_table::read_zero_page;
+use report_texts::put_map;
+use std::alloc::Global;
+
+/// The bytes of a zero page.
+const PAGE_BYTES: u64 = 4096;
+
+/// Writes the map of the zero page in the file of that name.
+pub fn print_map<F: Files, S: Sink>(
+    alloc: Global,
+    name: &str,
+    files: &mut F,
+    out: &mut S,
+) -> Result<(), Failure>
+    ensures written { OnOk result (IfSome (F.holds files.old) (λ held.
+        IfSome (held name.now) (WritesPage (S.written out.old) (S.written out.new)))) }
+    ensures no_page { IsErrOf result Failure.NoZeroPage
+        → IfSome (F.holds files.old) (λ held. IfSome (held name.now) (IsRefusedAs Failure.NoZeroPage)) }
+    ensures asked { ¬ IsErrOf result Failure.Usage }
+    ensures unread { IsErrOf result Failure.Unread
+        → Rose (F.faults files.old name.now) (F.faults files.new name.now) }
+    ensures unwritten { IsErrOf result Failure.Unwritten → Rose (S.faults out.old) (S.faults out.new) }
+    ensures unput { IfErr result (λ failure. (failure ≡ Failure.Unwritten) ⊎ (failure ≡ Failure.Memory)
+        ⊎ (out.new ≡ out.old)) }
+{
+    let bytes = files.fetch(alloc, name, PAGE_BYTES)?;
+    let text = page_text(alloc, &bytes)?;
+    Ok(out.put(&text)?)
+}
+
+/// The text of the map of a zero page, a line for each run.
+pub fn page_text(alloc: Global, bytes: &[u8]) -> Result<Vec<u8>, Failure>
+    ensures answers { Answers Failure.Memory (λ text. text.items) result (page_text bytes.now) }
+    ensures full { IsErrOf result Failure.MapFull → IsRefusedAs Failure.MapFull bytes.now }
+    ensures asked { ¬ IsErrOf result Failure.Usage }
+{
+    let page = read_zero_page(bytes)?;
+    let runs = page_map(alloc, &page.entries)?;
+    let mut text = Vec::new(alloc);
+    put_map(&mut text, &runs)?;
+    Ok(text)
+}
+
+/// The map of the entries of a zero page (`e820__memory_setup`), without what the BIOS has (`trim_bios_range`).
+fn page_map(alloc: Global, entries: &[Entry]) -> Result<Vec<Run>, MapFault>
+    requires { EndInSpace entries.now }
+    ensures answers { Answers MapFault.Memory (λ runs. runs.items) result
+        (in_room (map_of (bios_trimmed (of_zero_page entries.now)))) }
+{
+    let mut table = Table::new(alloc);
+    table.append(entries)?;
+    table.settle()?;
+    table.trim_bios()?;
+    table.runs()
+}
