@@ -1,7 +1,7 @@
 # bootmem: the boot-time memory set-up of x86-64 Linux 6.1, proved.
 #
 #   make run                  prints the map of the example zero page: by ./bootmem where it is up to date, else by an
-#                             unproved build, within a minute
+#                             unproved build of e820_map, a program for the map alone, within half a minute
 #   make bootmem              proves and builds ./bootmem
 #   make try ARGS="..."       runs the program on these words without proof, within a minute
 #   make test                 the whole gate: every proof, every test, the real machines
@@ -37,10 +37,10 @@ bootmem: $(SOURCES)
 	@tools/build.sh bootmem_cli $@ --report map "$(CURDIR)/examples/first/zp.bin"
 
 run:
-	@if $(MAKE) -q --no-print-directory bootmem >/dev/null 2>&1; then ./bootmem $(FIRST); else tools/try.sh $(FIRST); fi
+	@if $(MAKE) -q --no-print-directory bootmem >/dev/null 2>&1; then ./bootmem $(FIRST); else tools/try.sh e820_map examples/first/zp.bin </dev/null; fi
 
 try:
-	@tools/try.sh $(ARGS)
+	@tools/try.sh bootmem_cli $(ARGS)
 
 # the gate calls rt by its name, so a toolchain that RT names goes onto the PATH
 test:

@@ -1,5 +1,5 @@
 #!/bin/sh
-# try.sh WORD..: runs the program on these words without proving it, within a minute.
+# try.sh CRATE WORD..: runs the crate's program on these words without proving it.
 # Its output and its standard error are the program's, behind one line that says that it isn't proved. Words that name files are
 # handed to the run as copies under plain names, so a line on standard error may name such a copy.
 set -eu
@@ -8,7 +8,13 @@ rt=${RT:-rt}
 top=$(cd "$(dirname "$0")/.." && pwd)
 
 "$top/tools/toolchain.sh"
-echo "bootmem: an unproved build; 'make bootmem' gives the proved program" >&2
+crate=$1
+shift
+case $crate in
+bootmem_cli) part= ;;
+*) part=" of $crate alone" ;;
+esac
+echo "bootmem: an unproved build$part; 'make bootmem' gives the proved program" >&2
 copies=$(mktemp -d)
 trap 'rm -rf "$copies"' EXIT
 given=$#
@@ -33,7 +39,7 @@ set -- -- "$@"
 for copy in "$copies"/*; do
 	[ ! -f "$copy" ] || set -- --data "$(basename "$copy")=$copy" "$@"
 done
-cd "$top/crates/bootmem_cli"
+cd "$top/crates/$crate"
 status=0
 "$rt" try "$@" 2>"$copies/said" || status=$?
 # what the toolchain says of its own run is left out
