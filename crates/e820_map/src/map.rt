@@ -1,7 +1,7 @@
 //! The map of a zero page: from its bytes to the text, and from its file to the output. Each step is a call of a crate
 //! of the map, and the contract is that crate's definitions one behind the other.
 
-ghost use Rattle.std.specs.Prelude.{◌≡◌, ◌⊎◌, IfErr, IfSome, IsErrOf, OnOk};
+ghost use Rattle.std.specs.Prelude.{◌≡◌, ◌⊎◌, IfErr, IfOk, IfSome, IsErrOf, Ok, OnOk};
 ghost use Rattle.bm_base.specs.Answers.{Answers};
 ghost use Rattle.bm_io.specs.Counts.{Rose};
 ghost use Rattle.e820_model.specs.Claims.{EndInSpace, bios_trimmed, of_zero_page};
@@ -31,6 +31,8 @@ pub fn print_map<F: Files, S: Sink>(
         IfSome (held name.now) (WritesPage (S.written out.old) (S.written out.new)))) }
     ensures no_page { IsErrOf result Failure.NoZeroPage
         → IfSome (F.holds files.old) (λ held. IfSome (held name.now) (IsRefusedAs Failure.NoZeroPage)) }
+    ensures full { IsErrOf result Failure.MapFull
+        → IfSome (F.holds files.old) (λ held. IfSome (held name.now) (IsRefusedAs Failure.MapFull)) }
     ensures asked { ¬ IsErrOf result Failure.Usage }
     ensures unread { IsErrOf result Failure.Unread
         → Rose (F.faults files.old name.now) (F.faults files.new name.now) }
@@ -38,16 +40,34 @@ pub fn print_map<F: Files, S: Sink>(
     ensures unput { IfErr result (λ failure. (failure ≡ Failure.Unwritten) ⊎ (failure ≡ Failure.Memory)
         ⊎ (out.new ≡ out.old)) }
 {
-    let bytes = files.fetch(alloc, name, PAGE_BYTES)?;
-    let text = page_text(alloc, &bytes)?;
+    let text = file_text(alloc, name, files)?;
     Ok(out.put(&text)?)
+}
+
+/// The text of the map of the zero page in the file of that name.
+fn file_text<F: Files>(alloc: Global, name: &str, files: &mut F) -> Result<Vec<u8>, Failure>
+    ensures text { IfOk result (λ text. IfSome (F.holds files.old) (λ held.
+        IfSome (held name.now) (λ bytes. page_text bytes ≡ Ok text.items))) }
+    ensures no_page { IsErrOf result Failure.NoZeroPage
+        → IfSome (F.holds files.old) (λ held. IfSome (held name.now) (IsRefusedAs Failure.NoZeroPage)) }
+    ensures full { IsErrOf result Failure.MapFull
+        → IfSome (F.holds files.old) (λ held. IfSome (held name.now) (IsRefusedAs Failure.MapFull)) }
+    ensures asked { ¬ IsErrOf result Failure.Usage }
+    ensures unwritten { ¬ IsErrOf result Failure.Unwritten }
+    ensures unread { IsErrOf result Failure.Unread
+        → Rose (F.faults files.old name.now) (F.faults files.new name.now) }
+{
+    let bytes = files.fetch(alloc, name, PAGE_BYTES)?;
+    page_text(alloc, &bytes)
 }
 
 /// The text of the map of a zero page, a line for each run.
 pub fn page_text(alloc: Global, bytes: &[u8]) -> Result<Vec<u8>, Failure>
     ensures answers { Answers Failure.Memory (λ text. text.items) result (page_text bytes.now) }
     ensures full { IsErrOf result Failure.MapFull → IsRefusedAs Failure.MapFull bytes.now }
-    ensures asked { ¬ IsErrOf result Failure.Usage }
+    ensures no_page { IsErrOf result Failure.NoZeroPage → IsRefusedAs Failure.NoZeroPage bytes.now }
+    ensures only { IfErr result (λ failure. (failure ≡ Failure.NoZeroPage) ⊎ (failure ≡ Failure.MapFull)
+        ⊎ (failure ≡ Failure.Memory)) }
 {
     let page = read_zero_page(bytes)?;
     let runs = page_map(alloc, &page.entries)?;
