@@ -1,4 +1,4 @@
-//! Worked cases of what memblock stands on: items and owners, the journal, bytes at addresses, the search.
+//! Worked cases of memblock and of what it stands on: items and owners, the journal, bytes at addresses, the tables, the search.
 //!
 //! Each module has the cases of the crate that it is named for, called as any other crate calls it: by its public names, and by
 //! what its contracts say alone. The tests of a crate are proved with the crate, so those that need no more than that stand here, and
@@ -12,6 +12,10 @@ mod of_boot_journal;
 #[cfg(test)]
 mod of_memblock_find;
 #[cfg(test)]
+mod of_memblock_grow;
+#[cfg(test)]
 mod of_memblock_model;
+#[cfg(test)]
+mod of_memblock_ranges;
 #[cfg(test)]
 mod of_phys_store;

@@ -35,9 +35,6 @@ use phys_store::Store;
 use std::alloc::Global;
 use std::marker::Model;
 
-#[cfg(test)]
-mod tests;
-
 /// The memory of a machine at boot: what happened to it, and the two tables that tell what of it is memory and what is
 /// claimed, in the bytes of that memory (`struct memblock`).
 #[derive(Debug, Drop)]

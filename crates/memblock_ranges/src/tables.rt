@@ -22,9 +22,6 @@ use phys_store::Store;
 use std::alloc::Global;
 use std::marker::Model;
 
-#[cfg(test)]
-mod tests;
-
 /// The records that a table has room for at first (`INIT_MEMBLOCK_REGIONS`).
 const FIRST_ROOM: u64 = 128;
 

@@ -1,20 +1,12 @@
 //! The tables as a machine's boot leaves them, list by list and byte by byte.
-ghost use Rattle.std.specs.Prelude.{◌≡◌, ◌+◌, ◌^◌, ◌<◌, ◌≤◌};
 
-use super::Tables;
-use crate::{Head, Heads, Region, region_at};
+use crate::common::bytes;
 use bm_base::{Memory, Range};
 use memblock_model::Which;
+use memblock_ranges::{Head, Heads, Region, Tables, region_at};
 use phys_store::Store;
 use std::process::Abort;
 use std::test::Fail;
-
-fn bytes(base: u64, size: u64) -> Range
-    requires { base + size < 2 ^ 64 }
-    ensures { result ≡ record { base = base; size = size } }
-{
-    Range { base, size }
-}
 
 // An edit, its addresses and the node.
 #[derive(Clone, Copy)]
@@ -277,7 +269,8 @@ fn a_table_moves_and_leaves_zeros(rt: HostRuntime) -> Result<(), Fail> {
     act_all(&rt, &mut tables, &steps);
     move_reserved(&rt, &mut tables)?;
     read_across(&rt, &mut tables)?;
-    compare_fields(&rt, tables);
+    let (store, heads) = tables.into_parts();
+    compare_records(&rt, &store, &heads);
     Ok(())
 }
 
@@ -317,15 +310,7 @@ const MOVED: Head = Head {
     count: 1,
 };
 
-// The two fields are all that there is.
-fn compare_fields(rt: &impl Abort, tables: Tables) {
-    let Tables { store, heads } = tables;
-    let store: Store = store;
-    let heads: Heads = heads;
-    compare_records(rt, &store, &heads);
-}
-
-// Each record is read from the bytes.
+// Whoever has the bytes and the heads has the tables: each record is read from the bytes.
 fn compare_records(rt: &impl Abort, store: &Store, heads: &Heads) {
     let first = Region {
         base: 0x1000000,

@@ -2,8 +2,10 @@
 //! table grow. The items and the heads are those of an implementation of the same rules in another language.
 ghost use Rattle.std.specs.Prelude.{◌+◌, ◌^◌, ◌<◌};
 
-use super::{Memblock, Refusal, Step, act, bytes, started};
+use super::{Step, act, started};
+use crate::common::bytes;
 use boot_journal::{Item, Owner, Which};
+use memblock_grow::{Memblock, Refusal};
 use memblock_ranges::Head;
 use std::alloc::Global;
 use std::test::Fail;

@@ -1,26 +1,18 @@
 //! A memblock through the first minutes of a boot: what stands in the journal, where the tables go, what is read back. The values are
 //! those of an implementation of the same rules in another language.
-ghost use Rattle.std.specs.Prelude.{◌≡◌, ◌+◌, ◌%◌, ◌^◌, ◌<◌, ◌≤◌, IfOk, IsTrue};
-ghost use Rattle.bm_base.specs.Extent.{end_of};
+ghost use Rattle.std.specs.Prelude.{◌≡◌, ◌^◌, ◌<◌, ◌≤◌, IsTrue};
 ghost use Rattle.growth_model.specs.Sound.{IsImage, HasBegun};
 
-use super::Memblock;
-use crate::{Refusal, Request};
+use crate::common::bytes;
 use bm_base::Range;
 use boot_journal::{Journal, Owner, Which};
 use memblock_find::Query;
-use memblock_ranges::{Head, Tables};
+use memblock_grow::{Memblock, Refusal, Request};
+use memblock_ranges::Head;
 use std::alloc::Global;
 use std::test::Fail;
 
 mod nested;
-
-fn bytes(base: u64, size: u64) -> Range
-    requires { base + size < 2 ^ 64 }
-    ensures { result ≡ record { base = base; size = size } }
-{
-    Range { base, size }
-}
 
 // The machine's image is claimed.
 fn started(alloc: Global, kernel: Range) -> Result<Memblock, Refusal>
@@ -184,24 +176,6 @@ fn has_counts(memblock: &Memblock, items: usize, claims: u64) -> bool {
         && memblock.tables().head(Which::Reserved).count == claims
 }
 
-// These fields are all that there is: beside the items there is no list but those in the tables' bytes.
-fn has_fields(memblock: &Memblock, image: Range, items: usize, end: u64) -> bool {
-    let Memblock {
-        kernel,
-        journal,
-        tables,
-        limit,
-    } = memblock;
-    let kernel: &Range = kernel;
-    let journal: &Journal = journal;
-    let tables: &Tables = tables;
-    let limit: &u64 = limit;
-    *kernel == image
-        && journal.items().len() == items
-        && tables.head(Which::Reserved).count == 5
-        && *limit == end
-}
-
 // A virtual machine of 128 MiB, as far as its nodes; the kernel's image is 0x1000000..0x2ffffff.
 fn machine(alloc: Global) -> Result<Memblock, Refusal> {
     let mut memblock = started(alloc, bytes(0x1000000, 0x2000000))?;
@@ -248,7 +222,7 @@ fn allocations_come_from_the_top(rt: HostRuntime) -> Result<(), Fail> {
     }
     assert!(rt; act(&mut memblock, Step::Free(0x7FB5000, 0x1000))?);
     assert!(rt; !act(&mut memblock, Step::Free(0x2FFE000, 1))?);
-    assert!(rt; has_fields(&memblock, bytes(0x1000000, 0x2000000), 11, 0x7FE0000));
+    assert!(rt; has_counts(&memblock, 11, 5));
     Ok(())
 }
 
