@@ -32,39 +32,3 @@ fn put_some<S: Sink>(out: &mut S, piece: &[u8]) -> Result<(), Put>
     }
     out.put(piece)
 }
-
-#[cfg(test)]
-mod tests {
-    use super::*;
-    use crate::MemSink;
-    use std::alloc::Global;
-    use std::process::Abort;
-    use std::test::Fail;
-
-    /// Puts five pieces, and compares the answer and what was written.
-    fn compare(rt: &impl Abort, sink: &mut MemSink, want: Result<(), Put>, written: &str) {
-        let answer = put_all(sink, &["", "entry ", "12", "", " too far\n"]);
-        assert_eq!(rt; answer, want, "for {written}");
-        assert_eq!(rt; sink.written(), written.as_bytes());
-    }
-
-    /// An output in memory whose call of that number fails.
-    fn failing_at(alloc: Global, number: u64) -> Result<MemSink, Fail> {
-        Ok(MemSink::new(vec![in alloc; number]?))
-    }
-
-    #[test]
-    fn text_in_pieces(rt: HostRuntime) -> Result<(), Fail> {
-        let cases = [
-            (0, Ok(()), "entry 12 too far\n"),
-            (1, Err(Put::Failed), "ent"),
-            (2, Err(Put::Failed), "entry 1"),
-            (3, Err(Put::Failed), "entry 12 too"),
-        ];
-        for (failing, want, written) in &cases {
-            let mut sink = failing_at(rt.alloc(), *failing)?;
-            compare(&rt, &mut sink, *want, written);
-        }
-        Ok(())
-    }
-}

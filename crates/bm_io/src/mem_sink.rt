@@ -109,30 +109,3 @@ impl Sink for MemSink {
         Ok(())
     }
 }
-
-#[cfg(test)]
-mod tests {
-    use super::*;
-    use std::process::Abort;
-    use std::test::Fail;
-
-    fn put_three(rt: &impl Abort, sink: &mut MemSink) {
-        let rows = [
-            (b"abc".as_slice(), Ok(())),
-            (b"12345".as_slice(), Err(Put::Failed)),
-            (b".".as_slice(), Ok(())),
-        ];
-        for (bytes, want) in &rows {
-            assert_eq!(rt; sink.put(bytes), *want);
-        }
-        assert_eq!(rt; sink.written(), b"abc12.".as_slice());
-        assert_eq!(rt; (sink.calls, sink.faults, sink.wants), (3, 1, 0));
-    }
-
-    #[test]
-    fn output_in_memory(rt: HostRuntime) -> Result<(), Fail> {
-        let mut sink = MemSink::new(vec![in rt.alloc(); 2]?);
-        put_three(&rt, &mut sink);
-        Ok(())
-    }
-}

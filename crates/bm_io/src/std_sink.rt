@@ -83,39 +83,3 @@ impl<W: RawWriter + Drop> Sink for StdSink<W> {
         Ok(())
     }
 }
-
-#[cfg(test)]
-mod tests {
-    use super::*;
-    use std::process::Abort;
-    use std::test::Fail;
-    use std::{fs, process};
-
-    fn put_two(rt: &impl Abort, sink: &mut impl Sink) {
-        for bytes in [b"one ".as_slice(), b"".as_slice(), b"two".as_slice()] {
-            assert_eq!(rt; sink.put(bytes), Ok(()));
-        }
-    }
-
-    #[test]
-    fn a_file_of_the_system(rt: HostRuntime) -> Result<(), Fail> {
-        let path = format!(in rt.alloc(); "/tmp/bm_io-sink-{}", process::id(rt.process()))?;
-        let mut sink = StdSink::new(fs::create(&rt, path.as_str())?);
-        put_two(&rt, &mut sink);
-        assert_eq!(rt; sink.faults, 0);
-        let written = fs::read(&rt, path.as_str())?;
-        assert_eq!(rt; written.as_slice(), b"one two".as_slice());
-        fs::remove_file(&rt, path.as_str())?;
-        Ok(())
-    }
-
-    #[test]
-    fn streams_of_the_system(rt: HostRuntime) -> Result<(), Fail> {
-        let mut full = StdSink::new(fs::create(&rt, "/dev/full")?);
-        assert_eq!(rt; full.put(b"x"), Err(Put::Failed), "a device with no room");
-        assert_eq!(rt; full.faults, 1);
-        let mut output = StdSink::new(rt.stdout());
-        assert_eq!(rt; output.put(b"to the standard output"), Ok(()));
-        Ok(())
-    }
-}

@@ -1,4 +1,4 @@
-//! Worked cases of bytes and texts that come in, and of what is below them.
+//! Worked cases of bytes and texts that come in, of the files that they come from, and of what is below them.
 //!
 //! Each module has the cases of the crate that it is named for, called as any other crate calls it: by its public names, and by
 //! what its contracts say alone. The tests of a crate are proved with the crate, so those that need no more than that stand here, and
@@ -7,6 +7,8 @@
 
 #[cfg(test)]
 mod of_bm_base;
+#[cfg(test)]
+mod of_bm_io;
 #[cfg(test)]
 mod of_boot_inputs;
 #[cfg(test)]

@@ -1,0 +1,150 @@
+//! Files and outputs, in memory and of the system, and a text that is put in pieces. Calls are told to fail by their numbers, so
+//! each failing one shows that those before it were counted.
+
+use bm_io::{Fetch, Files, MemFile, MemFiles, MemSink, Put, RealFiles, Sink, StdSink, put_all};
+use std::alloc::Global;
+use std::process::Abort;
+use std::test::Fail;
+use std::{fs, process};
+
+mod slow_files;
+
+/// How many bytes a fetch gives.
+fn fetched(files: &mut impl Files, alloc: Global, name: &str, limit: u64) -> Result<usize, Fetch> {
+    let bytes = files.fetch(alloc, name, limit)?;
+    Ok(bytes.len())
+}
+
+/// Each row is a name, a limit, and how many bytes are given.
+fn compare_files(
+    rt: &impl Abort,
+    alloc: Global,
+    files: &mut impl Files,
+    rows: &[(&str, u64, Result<usize, Fetch>)],
+) {
+    for (name, limit, want) in rows {
+        let answer = fetched(files, alloc, name, *limit);
+        assert_eq!(rt; answer, *want, "{name} up to {limit}");
+    }
+}
+
+/// One file of three bytes; the second and the sixth call fail.
+fn files_of_three_bytes(alloc: Global) -> Result<MemFiles, Fail> {
+    let file = MemFile {
+        name: String::from_str(alloc, "zp")?,
+        bytes: vec![in alloc; 1, 2, 3]?,
+    };
+    Ok(MemFiles::new(vec![in alloc; file]?, vec![in alloc; 2, 6]?))
+}
+
+#[test]
+fn files_in_memory(rt: HostRuntime) -> Result<(), Fail> {
+    let alloc = rt.alloc();
+    let mut files = files_of_three_bytes(alloc)?;
+    let rows = [
+        ("zp", 3, Ok(3)),
+        ("zp", 3, Err(Fetch::Failed)),
+        ("zp", 2, Err(Fetch::TooLong)),
+        ("other", 3, Err(Fetch::Failed)),
+        ("zp", 3, Ok(3)),
+        ("zp", 3, Err(Fetch::Failed)),
+    ];
+    compare_files(&rt, alloc, &mut files, &rows);
+    let bytes = files.fetch(alloc, "zp", 3).expect(&rt, "the file");
+    assert_eq!(rt; bytes.as_slice(), b"\x01\x02\x03".as_slice());
+    Ok(())
+}
+
+#[test]
+fn files_of_the_system(rt: HostRuntime) -> Result<(), Fail> {
+    let alloc = rt.alloc();
+    let there = format!(in alloc; "/tmp/bm_io-files-{}", process::id(rt.process()))?;
+    fs::write(&rt, there.as_str(), &[7u8; 10_000])?;
+    let mut files = RealFiles::new(&rt);
+    let rows = [
+        (there.as_str(), 10_000, Ok(10_000)),
+        (there.as_str(), 9_999, Err(Fetch::TooLong)),
+        ("/tmp/bm_io-no-such-file", 10_000, Err(Fetch::Failed)),
+        ("/tmp", 10_000, Err(Fetch::Failed)),
+    ];
+    compare_files(&rt, alloc, &mut files, &rows);
+    let bytes = files
+        .fetch(alloc, there.as_str(), 10_000)
+        .expect(&rt, "the file");
+    assert_eq!(rt; bytes.as_slice(), [7u8; 10_000].as_slice());
+    fs::remove_file(&rt, there.as_str())?;
+    Ok(())
+}
+
+/// Each row is a piece, and what its put answers.
+fn compare_puts(rt: &impl Abort, sink: &mut impl Sink, rows: &[(&[u8], Result<(), Put>)]) {
+    for (piece, want) in rows {
+        assert_eq!(rt; sink.put(piece), *want);
+    }
+}
+
+#[test]
+fn output_in_memory(rt: HostRuntime) -> Result<(), Fail> {
+    let mut sink = MemSink::new(vec![in rt.alloc(); 2, 4]?);
+    let rows = [
+        (b"abc".as_slice(), Ok(())),
+        (b"12345".as_slice(), Err(Put::Failed)),
+        (b".".as_slice(), Ok(())),
+        (b"6".as_slice(), Err(Put::Failed)),
+    ];
+    compare_puts(&rt, &mut sink, &rows);
+    assert_eq!(rt; sink.written(), b"abc12.".as_slice());
+    Ok(())
+}
+
+#[test]
+fn a_file_that_is_written(rt: HostRuntime) -> Result<(), Fail> {
+    let path = format!(in rt.alloc(); "/tmp/bm_io-sink-{}", process::id(rt.process()))?;
+    let mut sink = StdSink::new(fs::create(&rt, path.as_str())?);
+    let rows = [
+        (b"one ".as_slice(), Ok(())),
+        (b"".as_slice(), Ok(())),
+        (b"two".as_slice(), Ok(())),
+    ];
+    compare_puts(&rt, &mut sink, &rows);
+    let written = fs::read(&rt, path.as_str())?;
+    assert_eq!(rt; written.as_slice(), b"one two".as_slice());
+    fs::remove_file(&rt, path.as_str())?;
+    Ok(())
+}
+
+#[test]
+fn streams_of_the_system(rt: HostRuntime) -> Result<(), Fail> {
+    let mut full = StdSink::new(fs::create(&rt, "/dev/full")?);
+    assert_eq!(rt; full.put(b"x"), Err(Put::Failed), "a device with no room");
+    let mut output = StdSink::new(rt.stdout());
+    assert_eq!(rt; output.put(b"to the standard output"), Ok(()));
+    Ok(())
+}
+
+/// Puts five pieces, and compares the answer and what was written.
+fn compare_pieces(rt: &impl Abort, sink: &mut MemSink, want: Result<(), Put>, written: &str) {
+    let answer = put_all(sink, &["", "entry ", "12", "", " too far\n"]);
+    assert_eq!(rt; answer, want, "for {written}");
+    assert_eq!(rt; sink.written(), written.as_bytes());
+}
+
+/// An output in memory whose call of that number fails.
+fn failing_at(alloc: Global, number: u64) -> Result<MemSink, Fail> {
+    Ok(MemSink::new(vec![in alloc; number]?))
+}
+
+#[test]
+fn text_in_pieces(rt: HostRuntime) -> Result<(), Fail> {
+    let cases = [
+        (0, Ok(()), "entry 12 too far\n"),
+        (1, Err(Put::Failed), "ent"),
+        (2, Err(Put::Failed), "entry 1"),
+        (3, Err(Put::Failed), "entry 12 too"),
+    ];
+    for (failing, want, written) in &cases {
+        let mut sink = failing_at(rt.alloc(), *failing)?;
+        compare_pieces(&rt, &mut sink, *want, written);
+    }
+    Ok(())
+}
