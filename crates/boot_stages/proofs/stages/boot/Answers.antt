@@ -5,14 +5,17 @@ use Rattle.conservation.proofs.HeadlineLaws.{all_touched_or_in_one, blocks_maxim
 use Rattle.boot_stages.proofs.MapLaws.{told_ok}
 use Rattle.boot_stages.proofs.stages.boot.Goals as goal
 
+pub returns-clause-boots : goal.returns-clause-boots
+returns-clause-boots c = c.in_ok-map.ensures.boots
+
 pub returns-clause-each : goal.returns-clause-each
-returns-clause-each c = all_touched_or_in_one (inputs_view c.args.inputs) _ (told_ok stop_of _ _ c.in_ok-map.ensures.boots)
+returns-clause-each c = all_touched_or_in_one (inputs_view c.args.inputs) _ (told_ok stop_of _ _ (returns-clause-boots c))
 
 pub returns-clause-others : goal.returns-clause-others
-returns-clause-others c = no_other_in_a_block (inputs_view c.args.inputs) _ (told_ok stop_of _ _ c.in_ok-map.ensures.boots)
+returns-clause-others c = no_other_in_a_block (inputs_view c.args.inputs) _ (told_ok stop_of _ _ (returns-clause-boots c))
 
 pub returns-clause-whole : goal.returns-clause-whole
-returns-clause-whole c = blocks_whole (inputs_view c.args.inputs) _ (told_ok stop_of _ _ c.in_ok-map.ensures.boots)
+returns-clause-whole c = blocks_whole (inputs_view c.args.inputs) _ (told_ok stop_of _ _ (returns-clause-boots c))
 
 pub returns-clause-maximal : goal.returns-clause-maximal
-returns-clause-maximal c = blocks_maximal (inputs_view c.args.inputs) _ (told_ok stop_of _ _ c.in_ok-map.ensures.boots)
+returns-clause-maximal c = blocks_maximal (inputs_view c.args.inputs) _ (told_ok stop_of _ _ (returns-clause-boots c))
