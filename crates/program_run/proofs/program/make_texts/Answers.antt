@@ -1,5 +1,5 @@
 -- Inputs that are refused are the reason for no report.
-use Rattle.std.proofs.Common.{ap}
+use Rattle.std.proofs.Common.{ap, rules}
 use Rattle.std.proofs.lemmas.Result.{err_from_is_err_and}
 use Rattle.std.specs.Option.{option_map}
 use Rattle.program_words.specs.View.{wanted_view}
@@ -11,3 +11,6 @@ returns-in_err-inputs-clause-makes g c =
     let p = err_from_is_err_and c.from_residual.result c.from_residual.ensures.1 in
     makes_none _ c.from_residual.result p.0 (g.F.Files.holds c.args.files.now) _ (wanted_view c.in-Some.wanted) c.in_err-inputs.field-0.0
     p.1 p.2 (ap (option_map wanted_view) c.in-Some.is) c.in_err-inputs.ensures.gives
+
+pub returns-in_default-clause-unfetched : goal.returns-in_default-clause-unfetched
+returns-in_default-clause-unfetched g c = search rules

@@ -1,5 +1,5 @@
 -- An ID less; and a line that only answers frees nothing.
-use Rattle.std.proofs.Common.{sym, subst}
+use Rattle.std.proofs.Common.{sym, subst, rules}
 use Rattle.early_script.specs.Ids.{Ids, HaveBytes}
 use Rattle.early_script.specs.Acted.{free_whole, free_deed}
 use Rattle.early_script.specs.Found.{state_of}
@@ -16,3 +16,9 @@ pub returns-in-Err-free-clause-answered : goal.returns-in-Err-free-clause-answer
 returns-in-Err-free-clause-answered c = λ only.
     let old = state_of c.args.self.now c.args.mb.now in
     absurd (free-frees old c.args.id c.in-Ok.range (free_deed old c.args.id) (c.in-Ok.ensures.range (free_whole old c.args.id)) only)
+
+pub returns-in-Ok-free-clause-acts : goal.returns-in-Ok-free-clause-acts
+returns-in-Ok-free-clause-acts c = search rules
+
+pub returns-in-Err-free-clause-acts : goal.returns-in-Err-free-clause-acts
+returns-in-Err-free-clause-acts c = search rules
