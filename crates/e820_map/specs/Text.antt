@@ -1,5 +1,5 @@
 -- What the program writes: the map of a zero page where neither an extension nor a command line changes it.
-use Rattle.std.specs.Prelude.{◌≡◌, ℕ, List, Option, Some, None, Result, Ok, Err}
+use Rattle.std.specs.Prelude.{◌≡◌, ℕ, List, Option, Some, None, Result, Ok, Err, codes}
 use Rattle.std.specs.Io.KnownBytes.{Appends}
 use Rattle.address_runs.specs.Runs.{RunOf}
 use Rattle.bm_io.specs.declared.reading.Fetch.{Fetch}
@@ -66,3 +66,12 @@ status_of failures.Unwritten = 4
 status_of failures.NoZeroPage = 5
 status_of failures.MapFull = 6
 status_of failures.Memory = 7
+
+-- the line of each on the error output
+abbrev pub line_of : Failure → List ℕ
+line_of failures.Usage = codes "e820_map: usage: e820_map ZEROPAGE\n"
+line_of failures.Unread = codes "e820_map: cannot read the zero page\n"
+line_of failures.Unwritten = codes "e820_map: cannot write\n"
+line_of failures.NoZeroPage = codes "e820_map: the file is no zero page\n"
+line_of failures.MapFull = codes "e820_map: the map has too many ranges\n"
+line_of failures.Memory = codes "e820_map: out of memory\n"

@@ -2,7 +2,7 @@
 //! can have.
 
 ghost use Rattle.std.specs.Prelude.{◌≡◌};
-ghost use Rattle.e820_map.specs.Text.{status_of};
+ghost use Rattle.e820_map.specs.Text.{line_of, status_of};
 
 use bm_base::Memory;
 use bm_io::{Fetch, Put};
@@ -42,7 +42,9 @@ impl Failure {
     }
 
     /// The line of the error output.
-    pub fn line(self) -> &'static str {
+    pub fn line(self) -> &'static str
+        ensures { result.now ≡ line_of self }
+    {
         match self {
             Failure::Usage => "e820_map: usage: e820_map ZEROPAGE\n",
             Failure::Unread => "e820_map: cannot read the zero page\n",
