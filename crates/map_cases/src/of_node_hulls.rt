@@ -82,11 +82,17 @@ fn two_nodes_and_a_hole(rt: HostRuntime) -> Result<(), Fail> {
     ];
     assert_eq!(rt; found.joined.as_slice(), joined.as_slice());
     assert!(rt; found.rest.is_empty());
-    assert_eq!(rt;
-        judge(rt.alloc(), &memory, Some(&srat), true)?.why,
-        Why::Off
-    );
-    assert_eq!(rt; judge(rt.alloc(), &memory, None, false)?.why, Why::Absent);
+    Ok(())
+}
+
+#[test]
+fn no_table_and_one_that_is_turned_off(rt: HostRuntime) -> Result<(), Fail> {
+    let memory = [part(0x1000, 0x9f000)];
+    let srat = table(rt.alloc(), &[5], &[])?;
+    let off = judge(rt.alloc(), &memory, Some(&srat), true)?;
+    assert_eq!(rt; off.why, Why::Off);
+    let absent = judge(rt.alloc(), &memory, None, false)?;
+    assert_eq!(rt; absent.why, Why::Absent);
     Ok(())
 }
 

@@ -149,21 +149,10 @@ fn words_and_what_fails(rt: HostRuntime) -> Result<(), Fail> {
     compare(&rt, rt.alloc(), b"", &rows)
 }
 
-// The name at any place, the end of the options, and a made input, for which no file is fetched.
+// A made input, for which no file is fetched.
 #[test]
-fn other_orders_and_made_inputs(rt: HostRuntime) -> Result<(), Fail> {
-    let rows: [Row<'_>; 4] = [
-        (&["zp", "--report", "map"], NONE, 0, MAP, ""),
-        (&["--report=map", "--", "zp"], NONE, 0, MAP, ""),
-        (&["--make", "2", "--report=summary"], NONE, 0, SUMMARY, ""),
-        (
-            &["--make=2", "--report=summary", "zp"],
-            NONE,
-            2,
-            "",
-            "bootmem: usage\n",
-        ),
-    ];
+fn made_inputs(rt: HostRuntime) -> Result<(), Fail> {
+    let rows: [Row<'_>; 1] = [(&["--make", "2", "--report=summary"], NONE, 0, SUMMARY, "")];
     compare(&rt, rt.alloc(), b"", &rows)
 }
 

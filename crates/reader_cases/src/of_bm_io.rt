@@ -7,8 +7,6 @@ use std::process::Abort;
 use std::test::Fail;
 use std::{fs, process};
 
-mod slow_files;
-
 /// How many bytes a fetch gives.
 fn fetched(files: &mut impl Files, alloc: Global, name: &str, limit: u64) -> Result<usize, Fetch> {
     let bytes = files.fetch(alloc, name, limit)?;

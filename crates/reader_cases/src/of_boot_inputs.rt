@@ -101,13 +101,11 @@ fn expect(
 }
 
 /// An SRAT of no entries, of revision 1.
-fn smallest_srat() -> [u8; 48] {
-    let mut table = [0; 48];
-    for (byte, given) in table.iter_mut().zip(b"SRAT\x30\0\0\0\x01\x95") {
-        *byte = *given;
-    }
-    table
-}
+const SMALLEST_SRAT: [u8; 48] = [
+    b'S', b'R', b'A', b'T', 48, 0, 0, 0, 1, 0x95, // signature, length, revision, checksum
+    0, 0, 0, 0, 0, 0, 0, 0, 0, 0, 0, 0, 0, 0, 0, 0, 0, 0, 0, 0, 0, 0, 0, 0, 0, 0, 0, 0, 0, 0, 0, 0,
+    0, 0, 0, 0, 0, 0,
+];
 
 /// Each file missing, faulty and too long in turn. So many files are fetched and no more: where the last of
 /// these fetches fails its file is unread, and where the next one would, nothing changes.
@@ -118,12 +116,11 @@ fn files_in_their_order(rt: HostRuntime) -> Result<(), Fail> {
     zp[0x1e8] = 2;
     let long = vec![in alloc; 0; 61_457]?;
     let long = long.as_slice();
-    let table = smallest_srat();
     let good = Held {
         zp: &zp,
         ext: &[0, 0, 0, 0, 0, 0, 0, 0, 1, 0, 0, 0, 0, 0, 0, 0],
         cmd: b"quiet",
-        srat: &table,
+        srat: &SMALLEST_SRAT,
         script: b"free 1",
     };
     let all = Five {

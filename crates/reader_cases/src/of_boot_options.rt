@@ -1,5 +1,5 @@
-//! Lines as files hold them, read with ample memory: worked examples as tables. What one map option
-//! says, and the edges of sizes and types, are examples of the definitions, in proofs/Examples.antt.
+//! Lines as files hold them, read with ample memory: worked examples as tables. What one map option or one value of
+//! `crashkernel=` says, and the edges of sizes and types, are among the proved examples of `boot_options`.
 
 use bm_base::Range;
 use boot_options::{CrashRange, OptionFault, Options, read_options};
@@ -49,8 +49,8 @@ fn lines_of_words(rt: HostRuntime) {
             Ok((2, false)),
         ),
     ];
-    for (line, want) in cases {
-        assert_eq!(rt; read_count(rt.alloc(), line), want, "at {line:?}");
+    for (line, want) in &cases {
+        assert_eq!(rt; read_count(rt.alloc(), line), *want, "at {line:?}");
     }
 }
 
@@ -58,7 +58,6 @@ fn lines_of_words(rt: HostRuntime) {
 fn faults_of_lines(rt: HostRuntime) {
     let cases = [
         (b"mem=0 \"\"\"".as_slice(), OptionFault::OpenQuote),
-        (b" mem".as_slice(), OptionFault::BadMem { word: 1 }),
         (
             b"mem=1M --x mem=0".as_slice(),
             OptionFault::BadMem { word: 3 },
@@ -75,23 +74,6 @@ fn faults_of_lines(rt: HostRuntime) {
             b"quiet memmap=1M@2M, mem=0".as_slice(),
             OptionFault::BadMemmap { word: 2 },
         ),
-        (b"crashkernel".as_slice(), OptionFault::BadCrash { word: 1 }),
-        (
-            b"quiet crashkernel=64M-32M:8M mem=0".as_slice(),
-            OptionFault::BadCrash { word: 2 },
-        ),
-        (
-            b"memmap=exactmap crashkernel=0-:64M,".as_slice(),
-            OptionFault::BadCrash { word: 2 },
-        ),
-        (
-            b"crashkernel=64M crashkernel=64M,high,low".as_slice(),
-            OptionFault::BadCrash { word: 2 },
-        ),
-        (
-            b"numa=off numa=x mem=0".as_slice(),
-            OptionFault::BadNuma { word: 2 },
-        ),
         (
             b"memmap=exactmap numa=x".as_slice(),
             OptionFault::BadNuma { word: 2 },
@@ -105,8 +87,8 @@ fn faults_of_lines(rt: HostRuntime) {
             OptionFault::UserMapInvalid { word: 1 },
         ),
     ];
-    for (line, want) in cases {
-        assert_eq!(rt; read_count(rt.alloc(), line), Err(want), "at {line:?}");
+    for (line, want) in &cases {
+        assert_eq!(rt; read_count(rt.alloc(), line), Err(*want), "at {line:?}");
     }
     assert_eq!(rt;
         read_count(rt.alloc(), &[b'a'; 2048]),
@@ -184,32 +166,8 @@ fn crash_areas(rt: HostRuntime) -> Result<(), Fail> {
     let cases = [
         (b"quiet".as_slice(), (None, None, None)),
         (
-            b"crashkernel=64M".as_slice(),
-            (Some((1, whole(64 * MIB), 0)), None, None),
-        ),
-        (
             b"crashkernel=64M crashkernel=0".as_slice(),
             (Some((1, whole(0), 0)), None, None),
-        ),
-        (
-            b"crashkernel=16M@0x3080000".as_slice(),
-            (Some((1, whole(16 * MIB), 0x308_0000)), None, None),
-        ),
-        (
-            b"crashkernel=0-64M:8M,64M-:16M".as_slice(),
-            (
-                Some((
-                    2,
-                    CrashRange {
-                        start: 64 * MIB,
-                        end: None,
-                        size: 16 * MIB,
-                    },
-                    0,
-                )),
-                None,
-                None,
-            ),
         ),
         (
             b"crashkernel=8-:1,1-0x10:010@1G".as_slice(),
@@ -228,20 +186,12 @@ fn crash_areas(rt: HostRuntime) -> Result<(), Fail> {
             ),
         ),
         (
-            b"crashkernel=0-:0@0".as_slice(),
-            (Some((1, whole(0), 0)), None, None),
-        ),
-        (
-            b"crashkernel=512M,high".as_slice(),
-            (None, Some(512 * MIB), None),
-        ),
-        (
             b"crashkernel=0,low crashkernel=1M crashkernel=1,high crashkernel=2,high -- crashkernel=3,low".as_slice(),
             (Some((1, whole(MIB), 0)), Some(2), Some(0)),
         ),
     ];
-    for (line, want) in cases {
-        assert_eq!(rt; read_area(rt.alloc(), line)?, want, "at {line:?}");
+    for (line, want) in &cases {
+        assert_eq!(rt; read_area(rt.alloc(), line)?, *want, "at {line:?}");
     }
     Ok(())
 }

@@ -1,5 +1,5 @@
-//! Zero pages and extensions with one fault each, and with several, where the first of them is answered; initrds;
-//! made inputs, whose entries come from an independent program.
+//! A zero page, an extension and initrds, and faults beside those of the proved examples of `e820_table`; made inputs, whose entries
+//! come from an independent program.
 
 ghost use Rattle.std.specs.Prelude.{ℕ, ◌+◌, ◌≤◌, length};
 
@@ -54,21 +54,10 @@ const FAR: Entry = Entry {
 fn zero_pages(rt: HostRuntime) -> Result<(), Fail> {
     let read = read_zero_page(&page(2, RAM, LAST))?;
     assert_eq!(rt; read.entries.as_slice(), [RAM, LAST].as_slice());
-    let cases = [
-        (4095, page(2, RAM, LAST), ZeroFault::WrongLength),
-        (0, page(0, RAM, LAST), ZeroFault::WrongLength),
-        (4096, page(0, RAM, LAST), ZeroFault::TooFew),
-        (4096, page(1, FAR, FAR), ZeroFault::TooFew),
-        (4096, page(129, FAR, FAR), ZeroFault::TooMany),
-        (4096, page(2, RAM, FAR), ZeroFault::EntryTooFar { index: 1 }),
-        (4096, page(2, FAR, FAR), ZeroFault::EntryTooFar { index: 0 }),
-    ];
-    for (length, bytes, want) in &cases {
-        assert_eq!(rt; read_zero_page(&bytes[..*length]).err(), Some(*want));
-    }
-    let mut longer = Vec::from_slice(rt.alloc(), &page(0, RAM, LAST))?;
-    longer.push(0)?;
-    assert_eq!(rt; read_zero_page(&longer).err(), Some(ZeroFault::WrongLength));
+    let fault = read_zero_page(&page(2, FAR, FAR)).err();
+    assert_eq!(rt; fault, Some(ZeroFault::EntryTooFar { index: 0 }));
+    let fault = read_zero_page(&page(0, RAM, LAST)).err();
+    assert_eq!(rt; fault, Some(ZeroFault::TooFew));
     Ok(())
 }
 
@@ -89,36 +78,25 @@ fn initrds(rt: HostRuntime) -> Result<(), Fail> {
     let top = [0xffff_ffff, 0xffff_e000];
     let cases = [
         (
-            0xb0,
-            [0, 0x7d0_0000],
-            [0, 0x12_3457],
-            Some((0x7d0_0000, 0x12_4000)),
-        ),
-        (
             1,
             [1, 0x801],
             [1, 0x7ff],
             Some((0x1_0000_0801, 0x1_0000_07ff)),
         ),
         (1, top, [0, 0x1000], Some((0xffff_ffff_ffff_e000, 0x1000))),
-        (0, [0, 0x7d0_0000], [0, 0x12_3457], None),
-        (0xb0, [0, 0], [0, 0x12_3457], None),
-        (0xb0, [0, 0x7d0_0000], [0, 0], None),
-        (0, top, [0, 0x1001], None),
     ];
-    for (loader, address, size, want) in cases {
-        let read = read_zero_page(&page_with_initrd(LAST, loader, address, size))?;
+    for (loader, address, size, want) in &cases {
+        let read = read_zero_page(&page_with_initrd(LAST, *loader, *address, *size))?;
         let initrd = read.initrd.map(|range| (range.base, range.size));
-        assert_eq!(rt; initrd, want);
+        assert_eq!(rt; initrd, *want);
     }
     let far = [
-        (LAST, [0, 0x1001], ZeroFault::InitrdTooFar),
         (LAST, [0xffff_ffff, 0xffff_ffff], ZeroFault::InitrdTooFar),
         (FAR, [0, 0x1001], ZeroFault::EntryTooFar { index: 1 }),
     ];
-    for (second, size, want) in far {
-        let bytes = page_with_initrd(second, 1, top, size);
-        assert_eq!(rt; read_zero_page(&bytes).err(), Some(want));
+    for (second, size, want) in &far {
+        let bytes = page_with_initrd(*second, 1, top, *size);
+        assert_eq!(rt; read_zero_page(&bytes).err(), Some(*want));
     }
     Ok(())
 }
@@ -126,32 +104,16 @@ fn initrds(rt: HostRuntime) -> Result<(), Fail> {
 #[test]
 fn extensions(rt: HostRuntime) -> Result<(), Fail> {
     let mut bytes = [0; 56];
-    put_entry(&mut bytes, 16, FAR);
-    put_entry(&mut bytes, 36, FAR);
-    let cases = [
-        (0, 1, 0, Some(ExtFault::ExtHeader)),
-        (15, 1, 0, Some(ExtFault::ExtHeader)),
-        (56, 2, 39, Some(ExtFault::ExtHeader)),
-        (16, 1, 0, None),
-        (16, 1, 20, Some(ExtFault::ExtLength)),
-        (55, 1, 39, Some(ExtFault::ExtLength)),
-        (56, 1, 39, Some(ExtFault::ExtLength)),
-        (56, 1, 40, Some(ExtFault::EntryTooFar { index: 0 })),
-    ];
-    for (length, kind, stated, want) in cases {
-        LittleEndian::write_u32(&mut bytes[8..], kind);
-        LittleEndian::write_u32(&mut bytes[12..], stated);
-        assert_eq!(rt; read_ext(rt.alloc(), &bytes[..length]).err(), want);
-    }
+    bytes[8] = 1;
+    bytes[12] = 40;
     put_entry(&mut bytes, 16, RAM);
+    put_entry(&mut bytes, 36, LAST);
+    let read = read_ext(rt.alloc(), &bytes)?;
+    assert_eq!(rt; read.as_slice(), [RAM, LAST].as_slice());
+    bytes[12] = 39;
     assert_eq!(rt;
         read_ext(rt.alloc(), &bytes).err(),
-        Some(ExtFault::EntryTooFar { index: 1 })
-    );
-    put_entry(&mut bytes, 36, LAST);
-    assert_eq!(rt;
-        read_ext(rt.alloc(), &bytes)?.as_slice(),
-        [RAM, LAST].as_slice()
+        Some(ExtFault::ExtLength)
     );
     Ok(())
 }
@@ -160,9 +122,7 @@ fn extensions(rt: HostRuntime) -> Result<(), Fail> {
 fn made_inputs(rt: HostRuntime) -> Result<(), Fail> {
     // of so many entries: the last one of the page, those behind it, and the last one of these
     let cases = [
-        (2, (0x10_0000, 0x800_0000, 1), 0, None),
         (3, (135_266_304, 16_384, 2), 0, None),
-        (5, (135_372_800, 36_864, 2), 0, None),
         (128, (139_169_792, 4096, 1), 0, None),
         (
             129,
@@ -183,16 +143,15 @@ fn made_inputs(rt: HostRuntime) -> Result<(), Fail> {
             Some((239_824_896, 32_768, 1)),
         ),
     ];
-    for (n, page, behind, last) in cases {
-        let input = made(rt.alloc(), n)?;
+    for (n, page, behind, last) in &cases {
+        let input = made(rt.alloc(), *n)?;
         let seen = |entry: &Entry| (entry.addr, entry.size, entry.kind);
-        assert_eq!(rt;
+        let told = (
             input.zero.entries.as_slice().last().map(seen),
-            Some(page),
-            "{n}"
+            input.ext.len(),
+            input.ext.as_slice().last().map(seen),
         );
-        assert_eq!(rt; input.ext.len(), behind, "{n}");
-        assert_eq!(rt; input.ext.as_slice().last().map(seen), last, "{n}");
+        assert_eq!(rt; told, (Some(*page), *behind, *last), "{n}");
     }
     Ok(())
 }

@@ -1,8 +1,8 @@
 //! Words that the command takes and refuses, each form of an option in turn. The expected answers are worked out
-//! from the port's definition, word by word.
+//! from the port's definition, word by word. What the proved examples of `program_words` say isn't repeated.
 
 use boot_inputs::{Input, Names};
-use program_words::{WordError, read_words};
+use program_words::{Wanted, WordError, read_words};
 use std::alloc::Global;
 use std::process::Abort;
 use std::test::Fail;
@@ -14,11 +14,14 @@ fn told(alloc: Global, words: &[&str]) -> Result<String, Fail> {
     for word in words {
         owned.push(String::from_str(alloc, word)?)?;
     }
-    let wanted = match read_words(alloc, &owned) {
-        Ok(wanted) => wanted,
-        Err(WordError::Usage) => return Ok(String::from_str(alloc, "refused")?),
-        Err(WordError::Memory) => return Ok(String::from_str(alloc, "out of memory")?),
-    };
+    match read_words(alloc, &owned) {
+        Ok(wanted) => told_of(alloc, &wanted),
+        Err(WordError::Usage) => Ok(String::from_str(alloc, "refused")?),
+        Err(WordError::Memory) => Ok(String::from_str(alloc, "out of memory")?),
+    }
+}
+
+fn told_of(alloc: Global, wanted: &Wanted<'_>) -> Result<String, Fail> {
     let zero_page = wanted.of(Input::ZeroPage).unwrap_or(".");
     let extension = wanted.of(Input::Extension).unwrap_or(".");
     let command_line = wanted.of(Input::CommandLine).unwrap_or(".");
@@ -42,13 +45,9 @@ fn compare(rt: &impl Abort, alloc: Global, rows: &[(&[&str], &str)]) -> Result<(
 }
 
 #[test]
-fn forms_of_an_option(rt: HostRuntime) -> Result<(), Fail> {
-    let rows: [(&[&str], &str); 24] = [
-        // with its value in the next word or behind `=`, in front of the name and behind it
-        (&["--report", "map", "zp"], "zp . . . . map 16 0"),
-        (&["--report=map", "zp"], "zp . . . . map 16 0"),
-        (&["zp", "--report", "map"], "zp . . . . map 16 0"),
-        (&["zp", "--report=map"], "zp . . . . map 16 0"),
+fn options_and_what_follows_them(rt: HostRuntime) -> Result<(), Fail> {
+    let rows: [(&[&str], &str); 12] = [
+        // all files, in front of the name and behind it
         (
             &[
                 "--report=map",
@@ -62,17 +61,9 @@ fn forms_of_an_option(rt: HostRuntime) -> Result<(), Fail> {
             ],
             "zp e c t s map 16 0",
         ),
-        // without a value
-        (&["zp", "--report"], "refused"),
+        // another option in place of a value
         (&["--report", "--cmdline", "c", "zp"], "refused"),
         (&["--cmdline", "--report=map", "zp"], "refused"),
-        // an empty value
-        (&["--report=map", "--cmdline=", "zp"], "zp .  . . map 16 0"),
-        (
-            &["--report=map", "--cmdline", "", "zp"],
-            "zp .  . . map 16 0",
-        ),
-        (&["--report=", "zp"], "refused"),
         // a value that begins with a hyphen, or has an `=`
         (
             &["--report=map", "--cmdline=-c", "zp"],
@@ -87,16 +78,8 @@ fn forms_of_an_option(rt: HostRuntime) -> Result<(), Fail> {
             &["--report=map", "--cmdline=a=b", "zp"],
             "zp . a=b . . map 16 0",
         ),
-        // twice
-        (&["--report=map", "--report=map", "zp"], "refused"),
-        (
-            &["--report", "map", "--cmdline", "c", "zp", "--cmdline", "c"],
-            "refused",
-        ),
-        // abbreviated, in another case, with one hyphen or three, or without a name
-        (&["--rep", "map", "zp"], "refused"),
+        // in another case, one letter, with three hyphens, or without a name
         (&["--Report", "map", "zp"], "refused"),
-        (&["-report", "map", "zp"], "refused"),
         (&["-r", "map", "zp"], "refused"),
         (&["---report", "map", "zp"], "refused"),
         (&["--=map", "zp"], "refused"),
@@ -117,26 +100,51 @@ fn compare_forms(
 ) -> Result<(), Fail> {
     let [long, value, joined, without, cut, single] = words;
     let [taken, empty, named] = answers;
-    let rows: [(&[&str], &str); 14] = [
-        // in front of the name and behind it
-        (&[long, value, "zp"], taken),
-        (&["zp", long, value], taken),
-        (&[joined, "zp"], taken),
-        (&["zp", joined], taken),
-        // without a value, and with an empty one
-        (&[long, "zp"], "refused"),
-        (&["zp", long], "refused"),
-        (&[without, "zp"], empty),
-        (&["zp", long, ""], empty),
-        // twice
-        (&[joined, joined, "zp"], "refused"),
-        (&[long, value, "zp", joined], "refused"),
+    compare_places(rt, alloc, [long, value, joined], taken)?;
+    compare_values(rt, alloc, [long, without], empty)?;
+    let rows: [(&[&str], &str); 4] = [
         // behind the end of options
         (&["--", joined], named),
         (&["--", joined, "zp"], "refused"),
         // cut short, and with one hyphen
         (&[cut, value, "zp"], "refused"),
         (&[single, value, "zp"], "refused"),
+    ];
+    compare(rt, alloc, &rows)
+}
+
+/// The option in front of the name and behind it, and twice.
+fn compare_places(
+    rt: &impl Abort,
+    alloc: Global,
+    words: [&str; 3],
+    taken: &str,
+) -> Result<(), Fail> {
+    let [long, value, joined] = words;
+    let rows: [(&[&str], &str); 6] = [
+        (&[long, value, "zp"], taken),
+        (&["zp", long, value], taken),
+        (&[joined, "zp"], taken),
+        (&["zp", joined], taken),
+        (&[joined, joined, "zp"], "refused"),
+        (&[long, value, "zp", joined], "refused"),
+    ];
+    compare(rt, alloc, &rows)
+}
+
+/// The option without a value, and with an empty one.
+fn compare_values(
+    rt: &impl Abort,
+    alloc: Global,
+    words: [&str; 2],
+    empty: &str,
+) -> Result<(), Fail> {
+    let [long, without] = words;
+    let rows: [(&[&str], &str); 4] = [
+        (&[long, "zp"], "refused"),
+        (&["zp", long], "refused"),
+        (&[without, "zp"], empty),
+        (&["zp", long, ""], empty),
     ];
     compare(rt, alloc, &rows)
 }
@@ -232,29 +240,22 @@ fn each_form_of_a_value(rt: HostRuntime) -> Result<(), Fail> {
 
 #[test]
 fn names_and_the_end_of_options(rt: HostRuntime) -> Result<(), Fail> {
-    let rows: [(&[&str], &str); 21] = [
-        (&[], "refused"),
-        (&["zp"], "zp . . . . buddyinfo 16 0"),
+    let rows: [(&[&str], &str); 14] = [
         (&["--report=map"], "refused"),
         (&["--report=map", ""], " . . . . map 16 0"),
         (&["--report=map", "-"], "- . . . . map 16 0"),
         (&["--report=map", "help"], "help . . . . map 16 0"),
-        (&["--report=map", "zp", "zp"], "refused"),
         (&["--report=map", "-zp"], "refused"),
         // behind `--` each word is a name
-        (&["--report=map", "--", "zp"], "zp . . . . map 16 0"),
         (&["--report=map", "zp", "--"], "zp . . . . map 16 0"),
-        (&["--report=map", "--", "-zp"], "-zp . . . . map 16 0"),
         (&["--report=map", "--", "--"], "-- . . . . map 16 0"),
         (
             &["--report=map", "--", "--cmdline"],
             "--cmdline . . . . map 16 0",
         ),
         (&["--", "--report", "map", "zp"], "refused"),
-        (&["--report=map", "--", "--cmdline=c", "zp"], "refused"),
         (&["--report=map", "--cmdline", "--", "zp"], "refused"),
         // no flags of `clap` itself
-        (&["--help"], "refused"),
         (&["-h", "zp"], "refused"),
         (&["--version"], "refused"),
         (&["-V", "zp"], "refused"),
@@ -265,46 +266,18 @@ fn names_and_the_end_of_options(rt: HostRuntime) -> Result<(), Fail> {
 
 #[test]
 fn values(rt: HostRuntime) -> Result<(), Fail> {
-    let rows: [(&[&str], &str); 34] = [
+    let rows: [(&[&str], &str); 13] = [
         // reports
-        (
-            &["--report=map,options,map", "zp"],
-            "zp . . . . map,options,map 16 0",
-        ),
         (&["--report=map,", "zp"], "refused"),
         (&["--report=,map", "zp"], "refused"),
-        (&["--report=MAP", "zp"], "refused"),
         (&["--report", "map, options", "zp"], "refused"),
         // the kernel
-        (
-            &["--report=map", "--kernel", "1M,8K", "zp"],
-            "zp . . . . map 1 0",
-        ),
         (
             &["--report=map", "--kernel=0x2000000,0x2000000", "zp"],
             "zp . . . . map 32 0",
         ),
-        (
-            &["--report=map", "--kernel=0x3FFFFFFFE000,8K", "zp"],
-            "zp . . . . map 67108863 0",
-        ),
-        (
-            &["--report=map", "--kernel=0x3FFFFFFFF000,8K", "zp"],
-            "refused",
-        ),
-        (&["--report=map", "--kernel=1M", "zp"], "refused"),
-        (&["--report=map", "--kernel=1M,", "zp"], "refused"),
-        (&["--report=map", "--kernel=1M,8K,", "zp"], "refused"),
         (&["--report=map", "--kernel=1020K,8K", "zp"], "refused"),
-        (&["--report=map", "--kernel=1M,4K", "zp"], "refused"),
-        (&["--report=map", "--kernel=16E,8K", "zp"], "refused"),
         // made entries
-        (&["--report=map", "--make", "2"], ". . . . . map 16 2"),
-        (&["--report=map", "--make", "3000"], ". . . . . map 16 3000"),
-        (
-            &["--report=map", "--make=0000000000003000"],
-            ". . . . . map 16 3000",
-        ),
         (
             &[
                 "--report=map",
@@ -316,17 +289,9 @@ fn values(rt: HostRuntime) -> Result<(), Fail> {
             ],
             ". . c . s map 16 5",
         ),
-        (&["--report=map", "--make", "1"], "refused"),
-        (&["--report=map", "--make", "3001"], "refused"),
-        (&["--report=map", "--make", "4294967298"], "refused"),
-        (&["--report=map", "--make", "+5"], "refused"),
         (&["--report=map", "--make=-5"], "refused"),
-        (&["--report=map", "--make", "0x10"], "refused"),
-        (&["--report=map", "--make", "5 "], "refused"),
         (&["--report=map", "--make="], "refused"),
         (&["--report=map", "--make"], "refused"),
-        (&["--report=map", "--make=5", "zp"], "refused"),
-        (&["--report=map", "--make=5", "--e820ext=e"], "refused"),
         (&["--report=map", "--make=5", "--make=5"], "refused"),
         (&["--report=map", "--mak", "5"], "refused"),
         (&["--report=map", "-m", "5"], "refused"),

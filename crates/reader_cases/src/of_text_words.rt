@@ -1,9 +1,10 @@
-//! Words and parts, one behind the other.
+//! Words and parts, one behind the other, and the two halves, the front and the inside of a text. What the proved examples of
+//! `text_words` say isn't repeated.
 
 use text_words::{Separators, before, cut, next_part, next_word, unquoted};
 
 #[test]
-fn words_and_parts(rt: HostRuntime) {
+fn words_of_a_line(rt: HostRuntime) {
     let mut line = b"\n a\t\"b  c\" d=\"e f\"g\"\" h\xA0i\x0B\x0C\rj ".as_slice();
     let words = [
         b"a".as_slice(),
@@ -12,43 +13,39 @@ fn words_and_parts(rt: HostRuntime) {
         b"h\xA0i".as_slice(),
         b"j".as_slice(),
     ];
-    for want in words {
+    for want in &words {
         let (word, rest) = next_word(line, Separators::CommandLine).expect(&rt, "a word");
-        assert_eq!(rt; word, want);
+        assert_eq!(rt; word, *want);
         line = rest;
     }
     assert!(rt; next_word(line, Separators::CommandLine).is_none());
+}
 
-    let (word, rest) = next_word(b"\t\"x y\r\x0Bz".as_slice(), Separators::Script).expect(
-        &rt, "a word",
-    );
-    assert_eq!(rt; word, b"\"x".as_slice());
-    let (word, _) = next_word(rest, Separators::Script).expect(&rt, "a word");
-    assert_eq!(rt; word, b"y".as_slice());
-
-    let (part, rest) = next_part(b"1,\"2,".as_slice(), Separators::Byte(b','));
-    assert_eq!(rt; part, b"1".as_slice());
-    let (part, rest) = next_part(rest.expect(&rt, "a rest"), Separators::Byte(b','));
-    assert_eq!(rt; part, b"\"2".as_slice());
-    let (part, rest) = next_part(rest.expect(&rt, "a rest"), Separators::Byte(b','));
-    assert!(rt; part.is_empty() && rest.is_none());
-
-    let (name, value) = cut(b"mem=1=2".as_slice(), b'=').expect(&rt, "a value");
-    assert_eq!(rt; name, b"mem".as_slice());
-    assert_eq!(rt; value, b"1=2".as_slice());
-    assert!(rt; cut(b"mem".as_slice(), b'=').is_none());
-    assert_eq!(rt; before(b"a\0b\0".as_slice(), 0), b"a".as_slice());
-
-    for (text, want) in [
-        ("", ""),
-        ("a", "a"),
-        ("a\"", "a\""),
-        ("\"", ""),
-        ("\"\"", ""),
-        ("\"a", "a"),
-        ("\"a\"", "a"),
-        ("\"\"a\"\"", "\"a\""),
-    ] {
-        assert_eq!(rt; unquoted(text.as_bytes()), want.as_bytes(), "at {text}");
+// A mark quotes nothing between commas, and behind the last comma there is a part, too.
+#[test]
+fn parts_between_commas(rt: HostRuntime) {
+    let rows = [
+        (
+            b"1,\"2,".as_slice(),
+            b"1".as_slice(),
+            Some(b"\"2,".as_slice()),
+        ),
+        (b"\"2,".as_slice(), b"\"2".as_slice(), Some(b"".as_slice())),
+        (b"".as_slice(), b"".as_slice(), None),
+    ];
+    for (text, part, rest) in &rows {
+        assert_eq!(rt; next_part(text, Separators::Byte(b',')), (*part, *rest));
     }
+}
+
+#[test]
+fn halves_of_a_word(rt: HostRuntime) {
+    let (name, value) = cut(b"mem=1=2".as_slice(), b'=').expect(&rt, "a value");
+    assert_eq!(rt; (name, value), (b"mem".as_slice(), b"1=2".as_slice()));
+}
+
+#[test]
+fn a_front_and_an_inside(rt: HostRuntime) {
+    assert_eq!(rt; before(b"a\0b\0".as_slice(), 0), b"a".as_slice());
+    assert_eq!(rt; unquoted(b"\"\"a\"\"".as_slice()), b"\"a\"".as_slice());
 }
