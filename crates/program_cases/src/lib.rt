@@ -1,4 +1,4 @@
-//! Worked cases of the program over files in memory.
+//! Worked cases of what comes in, bytes, texts, files and words, and of the program over all of it.
 //!
 //! Each module has the cases of the crate that it is named for, called as any other crate calls it: by its public names, and by
 //! what its contracts say alone. The tests of a crate are proved with the crate, so those that need no more than that stand here, and
@@ -6,4 +6,24 @@
 #![tactic(auto)]
 
 #[cfg(test)]
+mod common;
+#[cfg(test)]
+mod of_bm_base;
+#[cfg(test)]
+mod of_bm_io;
+#[cfg(test)]
+mod of_boot_inputs;
+#[cfg(test)]
+mod of_boot_options;
+#[cfg(test)]
+mod of_e820_table;
+#[cfg(test)]
 mod of_program_run;
+#[cfg(test)]
+mod of_program_words;
+#[cfg(test)]
+mod of_script_reader;
+#[cfg(test)]
+mod of_srat_reader;
+#[cfg(test)]
+mod of_text_words;

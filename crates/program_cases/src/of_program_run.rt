@@ -1,22 +1,16 @@
 //! The program over files in memory: its reports with memory to spare, and what each object of the outside
 //! does to it. What each input comes to is proved, on examples too (`proofs/`), and not repeated here.
 
-ghost use Rattle.std.specs.Prelude.{◌+◌, ◌≤◌, length, IfOk};
+ghost use Rattle.std.specs.Prelude.{IfOk};
 ghost use Rattle.bm_io.specs.HeldFiles.{held_files, HaveOwnNames};
 
+use crate::common::{RAM, file, page};
 use bm_io::{MemFile, MemFiles, MemSink};
-use byteorder::{ByteOrder, LittleEndian};
 use e820_model::Entry;
 use program_run::run_by_clauses;
 use std::alloc::Global;
 use std::process::Abort;
 use std::test::Fail;
-
-const RAM: Entry = Entry {
-    addr: 0x100000,
-    size: 0x7f00000,
-    kind: 1,
-};
 
 const RESERVED: Entry = Entry {
     addr: 0x7fe0000,
@@ -36,24 +30,6 @@ const EXTENSION: [u8; 36] = [
     0, 0, 0, 0, 0, 0, 0, 0, 1, 0, 0, 0, 20, 0, 0, 0, // next, type, length
     0, 0, 0xFE, 7, 0, 0, 0, 0, 0, 0x10, 2, 0, 0, 0, 0, 0, 1, 0, 0, 0, // address, size, type
 ];
-
-/// Writes an entry at the offset.
-fn put_entry(bytes: &mut [u8], offset: usize, entry: Entry)
-    requires { offset + 20 ≤ length bytes.old }
-{
-    LittleEndian::write_u64(&mut bytes[offset..], entry.addr);
-    LittleEndian::write_u64(&mut bytes[offset + 8..], entry.size);
-    LittleEndian::write_u32(&mut bytes[offset + 16..], entry.kind);
-}
-
-/// A zero page of these two entries.
-fn page(first: Entry, second: Entry) -> [u8; 4096] {
-    let mut bytes = [0; 4096];
-    bytes[0x1e8] = 2;
-    put_entry(&mut bytes, 0x2d0, first);
-    put_entry(&mut bytes, 0x2e4, second);
-    bytes
-}
 
 /// What became of a run: the status, the output and the error output.
 #[derive(Drop)]
@@ -76,18 +52,9 @@ impl Ended {
 fn files_of(alloc: Global, line: &[u8]) -> Result<Vec<MemFile>, Fail>
     ensures { IfOk result (λ files. HaveOwnNames (held_files files.items)) }
 {
-    let zp = MemFile {
-        name: String::from_str(alloc, "zp")?,
-        bytes: Vec::from_slice(alloc, &page(RAM, RESERVED))?,
-    };
-    let ext = MemFile {
-        name: String::from_str(alloc, "ext")?,
-        bytes: Vec::from_slice(alloc, &EXTENSION)?,
-    };
-    let cmd = MemFile {
-        name: String::from_str(alloc, "cmd")?,
-        bytes: Vec::from_slice(alloc, line)?,
-    };
+    let zp = file(alloc, "zp", &page(2, RAM, RESERVED))?;
+    let ext = file(alloc, "ext", &EXTENSION)?;
+    let cmd = file(alloc, "cmd", line)?;
     Ok(vec![in alloc; zp, ext, cmd]?)
 }
 

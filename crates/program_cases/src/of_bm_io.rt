@@ -1,7 +1,8 @@
 //! Files and outputs, in memory and of the system, and a text that is put in pieces. Calls are told to fail by their numbers, so
 //! each failing one shows that those before it were counted.
 
-use bm_io::{Fetch, Files, MemFile, MemFiles, MemSink, Put, RealFiles, Sink, StdSink, put_all};
+use crate::common::file;
+use bm_io::{Fetch, Files, MemFiles, MemSink, Put, RealFiles, Sink, StdSink, put_all};
 use std::alloc::Global;
 use std::process::Abort;
 use std::test::Fail;
@@ -28,10 +29,7 @@ fn compare_files(
 
 /// One file of three bytes; the second and the sixth call fail.
 fn files_of_three_bytes(alloc: Global) -> Result<MemFiles, Fail> {
-    let file = MemFile {
-        name: String::from_str(alloc, "zp")?,
-        bytes: vec![in alloc; 1, 2, 3]?,
-    };
+    let file = file(alloc, "zp", &[1, 2, 3])?;
     Ok(MemFiles::new(vec![in alloc; file]?, vec![in alloc; 2, 6]?))
 }
 

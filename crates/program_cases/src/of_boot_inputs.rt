@@ -4,6 +4,7 @@
 ghost use Rattle.std.specs.Prelude.{IfOk};
 ghost use Rattle.bm_io.specs.HeldFiles.{held_files, HaveOwnNames};
 
+use crate::common::file;
 use bm_base::Range;
 use bm_io::{MemFile, MemFiles};
 use boot_inputs::{Fault, Input, InputError, Names, Refusal, read_inputs};
@@ -57,26 +58,11 @@ struct Held<'a> {
 fn files_of(alloc: Global, held: &Held<'_>) -> Result<Vec<MemFile>, Fail>
     ensures { IfOk result (λ files. HaveOwnNames (held_files files.items)) }
 {
-    let zp = MemFile {
-        name: String::from_str(alloc, "zp")?,
-        bytes: Vec::from_slice(alloc, held.zp)?,
-    };
-    let ext = MemFile {
-        name: String::from_str(alloc, "ext")?,
-        bytes: Vec::from_slice(alloc, held.ext)?,
-    };
-    let cmd = MemFile {
-        name: String::from_str(alloc, "cmd")?,
-        bytes: Vec::from_slice(alloc, held.cmd)?,
-    };
-    let srat = MemFile {
-        name: String::from_str(alloc, "srat")?,
-        bytes: Vec::from_slice(alloc, held.srat)?,
-    };
-    let script = MemFile {
-        name: String::from_str(alloc, "script")?,
-        bytes: Vec::from_slice(alloc, held.script)?,
-    };
+    let zp = file(alloc, "zp", held.zp)?;
+    let ext = file(alloc, "ext", held.ext)?;
+    let cmd = file(alloc, "cmd", held.cmd)?;
+    let srat = file(alloc, "srat", held.srat)?;
+    let script = file(alloc, "script", held.script)?;
     Ok(vec![in alloc; zp, ext, cmd, srat, script]?)
 }
 

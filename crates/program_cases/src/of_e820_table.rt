@@ -3,18 +3,10 @@
 
 ghost use Rattle.std.specs.Prelude.{ℕ, ◌+◌, ◌≤◌, length};
 
+use crate::common::{RAM, page, put_entry};
 use byteorder::{ByteOrder, LittleEndian};
 use e820_table::{Entry, ExtFault, ZeroFault, made, read_ext, read_zero_page};
 use std::test::Fail;
-
-/// Writes an entry at the offset.
-fn put_entry(bytes: &mut [u8], offset: usize, entry: Entry)
-    requires { offset + 20 ≤ length bytes.old }
-{
-    LittleEndian::write_u64(&mut bytes[offset..], entry.addr);
-    LittleEndian::write_u64(&mut bytes[offset + 8..], entry.size);
-    LittleEndian::write_u32(&mut bytes[offset + 16..], entry.kind);
-}
 
 /// Writes a number of 4 bytes at the offset.
 fn put_number(bytes: &mut [u8], offset: usize, number: u32)
@@ -22,21 +14,6 @@ fn put_number(bytes: &mut [u8], offset: usize, number: u32)
 {
     LittleEndian::write_u32(&mut bytes[offset..], number);
 }
-
-/// A zero page that states `count` entries, of which the first two are given.
-fn page(count: u8, first: Entry, second: Entry) -> [u8; 4096] {
-    let mut bytes = [0; 4096];
-    bytes[0x1e8] = count;
-    put_entry(&mut bytes, 0x2d0, first);
-    put_entry(&mut bytes, 0x2e4, second);
-    bytes
-}
-
-const RAM: Entry = Entry {
-    addr: 0x100000,
-    size: 0x7f00000,
-    kind: 1,
-};
 
 const LAST: Entry = Entry {
     addr: 0x1000,
