@@ -1,4 +1,5 @@
-//! Worked cases of memblock and of what it stands on: items and owners, the journal, bytes at addresses, the tables, the search.
+//! Worked cases of memblock, of what it stands on and of what stands on it: the journal, bytes at addresses, the tables, the search;
+//! the stages, free frames, and the texts of all of these.
 //!
 //! Each module has the cases of the crate that it is named for, called as any other crate calls it: by its public names, and by
 //! what its contracts say alone. The tests of a crate are proved with the crate, so those that need no more than that stand here, and
@@ -6,9 +7,17 @@
 #![tactic(auto)]
 
 #[cfg(test)]
-mod common;
+mod domains;
+#[cfg(test)]
+mod machines;
 #[cfg(test)]
 mod of_boot_journal;
+#[cfg(test)]
+mod of_buddy_handover;
+#[cfg(test)]
+mod of_crash_kernel;
+#[cfg(test)]
+mod of_early_script;
 #[cfg(test)]
 mod of_memblock_find;
 #[cfg(test)]
@@ -18,4 +27,24 @@ mod of_memblock_model;
 #[cfg(test)]
 mod of_memblock_ranges;
 #[cfg(test)]
+mod of_node_hulls;
+#[cfg(test)]
+mod of_numa_nodes;
+#[cfg(test)]
 mod of_phys_store;
+#[cfg(test)]
+mod of_report_texts;
+#[cfg(test)]
+mod of_section_maps;
+#[cfg(test)]
+mod of_sparse_sections;
+#[cfg(test)]
+mod of_stage_texts;
+#[cfg(test)]
+mod of_table_frames;
+#[cfg(test)]
+mod of_zone_spans;
+#[cfg(test)]
+mod ranges;
+#[cfg(test)]
+mod tables;

@@ -1,6 +1,6 @@
 //! A journal in use: tags around a trim, claims over one another, runs of owners, by values worked out by hand.
 
-use crate::common::bytes;
+use crate::ranges::bytes;
 use bm_base::{Memory, Range};
 use boot_journal::{Item, Journal, Owner, OwnerRun, Tag, Which};
 use std::alloc::Global;

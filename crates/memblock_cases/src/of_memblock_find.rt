@@ -1,51 +1,12 @@
 //! The search and the runs of unclaimed memory in the tables that a virtual machine's boot leaves.
 
-use crate::common::bytes;
-use bm_base::{Memory, Range};
+use crate::ranges::MACHINE;
+use crate::tables::{cover, tables_of};
 use memblock_find::{FreeRange, FreeRuns, Query, find, next_free, prev_free};
 use memblock_model::Which;
 use memblock_ranges::Tables;
-use std::alloc::Global;
 use std::process::Abort;
 use std::test::Fail;
-
-// Covers the range, where it isn't empty and there is room.
-fn cover(tables: &mut Tables, which: Which, base: u64, size: u64, node: u32) -> bool {
-    let Some(range) = Range::new(base, size) else {
-        return false;
-    };
-    let head = tables.head(which);
-    let pieces = tables.pieces(which, range);
-    let allowed = match which {
-        Which::Memory => node <= 1024,
-        Which::Reserved => node == 1024,
-    };
-    if size == 0 || !allowed || pieces > head.room - head.count {
-        return false;
-    }
-    tables.insert(which, range, node);
-    true
-}
-
-// Tables with these records: base, size, and the node of memory.
-fn tables_of(
-    alloc: Global,
-    memory: &[(u64, u64, u32)],
-    reserved: &[(u64, u64)],
-) -> Result<Option<Tables>, Memory> {
-    let mut tables = Tables::new(alloc, bytes(0x1000000, 0x2000000))?;
-    for &(base, size, node) in memory {
-        if !cover(&mut tables, Which::Memory, base, size, node) {
-            return Ok(None);
-        }
-    }
-    for &(base, size) in reserved {
-        if !cover(&mut tables, Which::Reserved, base, size, 1024) {
-            return Ok(None);
-        }
-    }
-    Ok(Some(tables))
-}
 
 // What a search says: its answer, or that it isn't a search.
 #[derive(Clone, Copy, Debug, PartialEq, Eq)]
@@ -120,9 +81,8 @@ fn compare_pass(rt: &impl Abort, tables: &Tables, from: u64, rows: &[(u64, u64, 
 // and the memory map lie, each the best place once those before it are claimed.
 #[test]
 fn a_virtual_machine_of_128_mib(rt: HostRuntime) -> Result<(), Fail> {
-    let memory = [(0x1000, 0x9E000, 0), (0x100000, 0x7EE0000, 0)];
-    let reserved = [(0, 0x100000), (0x1000000, 0x2000000)];
-    let mut tables = tables_of(rt.alloc(), &memory, &reserved)?.ok_or("no room")?;
+    let reserved = [(0, 0x100000), (0x1000000, 0x3000000)];
+    let mut tables = tables_of(rt.alloc(), &MACHINE, &reserved)?;
     let places = [
         (0x2B000, 6, 0x7FB5000),
         (0x4000, 6, 0x7FB1000),
@@ -171,9 +131,12 @@ fn compare(rt: &impl Abort, tables: &Tables, rows: &[Row]) {
 // An exact fit, and one byte more, from 0x3000000 on.
 #[test]
 fn an_exact_fit(rt: HostRuntime) -> Result<(), Fail> {
-    let memory = [(0x1000, 0x9E000, 0), (0x100000, 0x7EE0000, 0)];
-    let reserved = [(0, 0x100000), (0x1000000, 0x2000000), (0x7FB5000, 0x2B000)];
-    let tables = tables_of(rt.alloc(), &memory, &reserved)?.ok_or("no room")?;
+    let reserved = [
+        (0, 0x100000),
+        (0x1000000, 0x3000000),
+        (0x7FB5000, 0x7FE0000),
+    ];
+    let tables = tables_of(rt.alloc(), &MACHINE, &reserved)?;
     let end = 0x7FE0000;
     let rows = [
         (0x3000000, end, 0x4FB5001, 12, None, Answer::Nothing),
@@ -190,18 +153,18 @@ fn an_exact_fit(rt: HostRuntime) -> Result<(), Fail> {
 #[test]
 fn a_node_border(rt: HostRuntime) -> Result<(), Fail> {
     let memory = [
-        (0x1000, 0x9E000, 0),
-        (0x100000, 0x3F00000, 0),
-        (0x4000000, 0x2000000, 1),
-        (0x6000000, 0x1FE0000, 0),
+        (0x1000, 0x9F000, 0),
+        (0x100000, 0x4000000, 0),
+        (0x4000000, 0x6000000, 1),
+        (0x6000000, 0x7FE0000, 0),
     ];
     let reserved = [
         (0, 0x100000),
-        (0x1000000, 0x2000000),
-        (0x5FD5000, 0x2B000),
-        (0x7FB5000, 0x2B000),
+        (0x1000000, 0x3000000),
+        (0x5FD5000, 0x6000000),
+        (0x7FB5000, 0x7FE0000),
     ];
-    let tables = tables_of(rt.alloc(), &memory, &reserved)?.ok_or("no room")?;
+    let tables = tables_of(rt.alloc(), &memory, &reserved)?;
     let end = 0x7FE0000;
     let rows = [
         (0, end, 0x2000000, 12, None, Answer::Nothing),
@@ -228,21 +191,21 @@ fn a_node_border(rt: HostRuntime) -> Result<(), Fail> {
 #[test]
 fn nodes_in_turn(rt: HostRuntime) -> Result<(), Fail> {
     let memory = [
-        (0x100000, 0x100000, 0),
-        (0x200000, 0x100000, 1),
-        (0x400000, 0x100000, 0),
-        (0x500000, 0x100000, 1),
-        (0x600000, 0x100000, 2),
-        (0x700000, 0x100000, 1024),
-        (0x800000, 0x100000, 1),
+        (0x100000, 0x200000, 0),
+        (0x200000, 0x300000, 1),
+        (0x400000, 0x500000, 0),
+        (0x500000, 0x600000, 1),
+        (0x600000, 0x700000, 2),
+        (0x700000, 0x800000, 1024),
+        (0x800000, 0x900000, 1),
     ];
     let reserved = [
-        (0x4F0000, 0x8000),
-        (0x580000, 0x1000),
-        (0x6FF000, 0x2000),
-        (0x800000, 0x2000),
+        (0x4F0000, 0x4F8000),
+        (0x580000, 0x581000),
+        (0x6FF000, 0x701000),
+        (0x800000, 0x802000),
     ];
-    let tables = tables_of(rt.alloc(), &memory, &reserved)?.ok_or("no room")?;
+    let tables = tables_of(rt.alloc(), &memory, &reserved)?;
     let end = u64::MAX;
     let rows = [
         (0, end, 0x1000, 12, Some(0), Answer::At(0x4FF000)),
@@ -263,8 +226,11 @@ fn nodes_in_turn(rt: HostRuntime) -> Result<(), Fail> {
 // The first frame is never answered, and a window may end at the last address.
 #[test]
 fn the_first_frame(rt: HostRuntime) -> Result<(), Fail> {
-    let memory = [(0, 0x3000, 1024), (0xFFFFFFFFFFFFE000, 0x1000, 1024)];
-    let tables = tables_of(rt.alloc(), &memory, &[])?.ok_or("no room")?;
+    let memory = [
+        (0, 0x3000, 1024),
+        (0xFFFFFFFFFFFFE000, 0xFFFFFFFFFFFFF000, 1024),
+    ];
+    let tables = tables_of(rt.alloc(), &memory, &[])?;
     let last = 0xFFFFFFFFFFFFE000;
     let rows = [
         (0, u64::MAX, 0x1000, 12, None, Answer::At(last)),

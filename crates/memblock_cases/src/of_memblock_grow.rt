@@ -1,9 +1,11 @@
 //! A memblock through the first minutes of a boot: what stands in the journal, where the tables go, what is read back. The values are
 //! those of an implementation of the same rules in another language.
 ghost use Rattle.std.specs.Prelude.{◌≡◌, ◌^◌, ◌<◌, ◌≤◌, IsTrue};
-ghost use Rattle.growth_model.specs.Sound.{IsImage, HasBegun};
+ghost use Rattle.growth_model.specs.Sound.{HasBegun};
 
-use crate::common::bytes;
+use crate::machines::{has_begun, started};
+use crate::ranges::KERNEL;
+use crate::tables::FIRST_RECORD;
 use bm_base::Range;
 use boot_journal::{Journal, Owner, Which};
 use memblock_find::Query;
@@ -13,22 +15,6 @@ use std::alloc::Global;
 use std::test::Fail;
 
 mod nested;
-
-// The machine's image is claimed.
-fn started(alloc: Global, kernel: Range) -> Result<Memblock, Refusal>
-    requires image { IsImage kernel }
-    requires some { 0 < kernel.size }
-{
-    let mut memblock = Memblock::new(alloc, kernel)?;
-    memblock.claim(kernel, Owner::Kernel)?;
-    Ok(memblock)
-}
-
-fn has_begun(memblock: &Memblock) -> bool
-    ensures { IsTrue result → HasBegun memblock.now.journal.items }
-{
-    memblock.journal().items().len() > 0
-}
 
 // A call, its addresses and the node.
 #[derive(Clone, Copy)]
@@ -60,6 +46,36 @@ fn act(memblock: &mut Memblock, step: Step) -> Result<bool, Refusal> {
             Ok(true)
         }
     }
+}
+
+// Carries out each step in turn; `NoGap` where a call's conditions don't hold.
+fn carry_out(memblock: &mut Memblock, steps: &[Step]) -> Result<(), Refusal> {
+    for step in steps {
+        if !act(memblock, *step)? {
+            return Err(Refusal::NoGap);
+        }
+    }
+    Ok(())
+}
+
+// Claims so many frames from an address on, each beside a gap: as many records.
+fn claim_apart(memblock: &mut Memblock, first: u64, count: u32) -> Result<(), Refusal>
+    requires { first < 2 ^ 63 }
+{
+    for i in 0..u64::from(count) {
+        carry_out(memblock, &[Step::Claim(first + 0x2000 * i, 0x1000)])?;
+    }
+    Ok(())
+}
+
+// Adds so many frames of memory from an address on, each beside a gap: as many records.
+fn add_apart(memblock: &mut Memblock, first: u64, count: u32) -> Result<(), Refusal>
+    requires { first < 2 ^ 63 }
+{
+    for i in 0..u64::from(count) {
+        carry_out(memblock, &[Step::Add(first + 0x2000 * i, 0x1000)])?;
+    }
+    Ok(())
 }
 
 fn add(memblock: &mut Memblock, base: u64, size: u64) -> Result<bool, Refusal>
@@ -178,19 +194,16 @@ fn has_counts(memblock: &Memblock, items: usize, claims: u64) -> bool {
 
 // A virtual machine of 128 MiB, as far as its nodes; the kernel's image is 0x1000000..0x2ffffff.
 fn machine(alloc: Global) -> Result<Memblock, Refusal> {
-    let mut memblock = started(alloc, bytes(0x1000000, 0x2000000))?;
-    for step in [
+    let mut memblock = started(alloc, KERNEL)?;
+    let steps = [
         Step::Claim(0, 0x10000),
         Step::Add(0x1000, 0x9EC00),
         Step::Add(0x100000, 0x7EE0000),
         Step::Trim,
         Step::Limit(0x7FE0000),
         Step::Node(0, 0x7FE0000, 0),
-    ] {
-        if !act(&mut memblock, step)? {
-            return Err(Refusal::NoGap);
-        }
-    }
+    ];
+    carry_out(&mut memblock, &steps)?;
     Ok(memblock)
 }
 
@@ -221,29 +234,8 @@ fn allocations_come_from_the_top(rt: HostRuntime) -> Result<(), Fail> {
         );
     }
     assert!(rt; act(&mut memblock, Step::Free(0x7FB5000, 0x1000))?);
-    assert!(rt; !act(&mut memblock, Step::Free(0x2FFE000, 1))?);
     assert!(rt; has_counts(&memblock, 11, 5));
     Ok(())
-}
-
-// Claims 300 frames, each beside a gap.
-fn claim_apart(memblock: &mut Memblock) -> Result<bool, Refusal> {
-    for i in 0..300 {
-        if !act(memblock, Step::Claim(0x200000 + 0x2000 * i, 0x1000))? {
-            return Ok(false);
-        }
-    }
-    Ok(true)
-}
-
-// Adds 200 frames of memory, each beside a gap.
-fn add_apart(memblock: &mut Memblock) -> Result<bool, Refusal> {
-    for i in 0..200 {
-        if !act(memblock, Step::Add(0x100000000 + 0x2000 * i, 0x1000))? {
-            return Ok(false);
-        }
-    }
-    Ok(true)
 }
 
 // Whether these bytes, at most 24, are read from the address on.
@@ -265,25 +257,20 @@ fn owns_places(journal: &Journal) -> bool {
         && journal.owner_at(0x7FDE000) == Some(Owner::Table(Which::Memory))
 }
 
-// The first record of memory.
-const FIRST: [u8; 24] = [
-    0, 0x10, 0, 0, 0, 0, 0, 0, 0, 0xE0, 9, 0, 0, 0, 0, 0, 0, 0, 0, 0, 0, 0, 0, 0,
-];
-
 // Both tables move, the reserved one twice. The place that the memory table moves to was filled before, and so was a place where no memory is.
 #[test]
 fn tables_move(rt: HostRuntime) -> Result<(), Fail> {
     let mut memblock = machine(rt.alloc())?;
     assert!(rt; fill(&mut memblock, 0x7FDE000, 0x2000, 0xA5)?);
     assert!(rt; fill(&mut memblock, 0x200000000, 2, 0xA5)?);
-    assert!(rt; claim_apart(&mut memblock)?);
-    assert!(rt; add_apart(&mut memblock)?);
+    claim_apart(&mut memblock, 0x200000, 300)?;
+    add_apart(&mut memblock, 0x100000000, 200)?;
     assert!(rt; has_counts(&memblock, 514, 303));
     assert!(rt; owns_places(memblock.journal()));
     let cases = [
         // the first place of the memory table is zeros; at its new one stand the first record and, behind the last one, zeros
         (0x2FFE000, [0; 24].as_slice()),
-        (0x7FDE000, FIRST.as_slice()),
+        (0x7FDE000, FIRST_RECORD.as_slice()),
         (0x7FDE000 + 24 * 202, [0; 24].as_slice()),
         // across the end of its bytes what was filled before is there
         (0x7FDF7FE, [0, 0, 0xA5, 0xA5].as_slice()),

@@ -3,7 +3,7 @@
 ghost use Rattle.std.specs.Prelude.{◌≡◌};
 ghost use Rattle.memblock_model.specs.declared.owner.Owner.{Owner as AnyOwner};
 
-use crate::common::bytes;
+use crate::ranges::bytes;
 use bm_base::Range;
 use memblock_model::{Item, Label, Owner, OwnerRun, Query, Tag, Which};
 use std::process::Abort;
@@ -98,15 +98,11 @@ fn queries_and_labels(rt: HostRuntime) {
         node: None,
     };
     let of_node_0 = Query {
-        lo: 0x1000,
-        hi: 0x9000,
-        size: 0x800,
-        align: 0x1000,
         node: Some(0),
+        ..query
     };
     assert!(rt; query == query && query != of_node_0);
     assert!(rt; Tag::NoNode != Tag::Node(0));
-    assert!(rt; Label::plain() != Label::plain().with_node(0));
     assert!(rt; Label::plain().with_node(1023).node() == Some(1023));
 }
 

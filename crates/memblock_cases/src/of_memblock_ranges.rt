@@ -1,6 +1,7 @@
 //! The tables as a machine's boot leaves them, list by list and byte by byte.
 
-use crate::common::bytes;
+use crate::ranges::{KERNEL, bytes};
+use crate::tables::{FIRST_RECORD, cover};
 use bm_base::{Memory, Range};
 use memblock_model::Which;
 use memblock_ranges::{Head, Heads, Region, Tables, region_at};
@@ -21,8 +22,8 @@ enum Step {
 // Whether the edit's conditions hold; then it is carried out.
 fn act(tables: &mut Tables, step: Step) -> bool {
     match step {
-        Step::Add(base, size, node) => cover_memory(tables, base, size, node),
-        Step::Reserve(base, size) => reserve(tables, base, size),
+        Step::Add(base, size, node) => cover(tables, Which::Memory, base, size, node),
+        Step::Reserve(base, size) => cover(tables, Which::Reserved, base, size, 1024),
         Step::Free(base, size) => free(tables, base, size),
         Step::Node(base, size, node) => set_node(tables, base, size, node),
         Step::Trim => {
@@ -30,32 +31,6 @@ fn act(tables: &mut Tables, step: Step) -> bool {
             true
         }
     }
-}
-
-fn cover_memory(tables: &mut Tables, base: u64, size: u64, node: u32) -> bool {
-    let Some(range) = Range::new(base, size) else {
-        return false;
-    };
-    let head = tables.head(Which::Memory);
-    let pieces = tables.pieces(Which::Memory, range);
-    if size == 0 || node > 1024 || pieces > head.room - head.count {
-        return false;
-    }
-    tables.insert(Which::Memory, range, node);
-    true
-}
-
-fn reserve(tables: &mut Tables, base: u64, size: u64) -> bool {
-    let Some(range) = Range::new(base, size) else {
-        return false;
-    };
-    let head = tables.head(Which::Reserved);
-    let pieces = tables.pieces(Which::Reserved, range);
-    if size == 0 || pieces > head.room - head.count {
-        return false;
-    }
-    tables.insert(Which::Reserved, range, 1024);
-    true
 }
 
 fn free(tables: &mut Tables, base: u64, size: u64) -> bool {
@@ -121,7 +96,7 @@ fn compare_bytes(rt: &impl Abort, tables: &Tables, rows: &[(u64, [u8; 24])]) {
 // A virtual machine of 128 MiB, through the node data; the kernel's image is 0x1000000..0x2ffffff.
 #[test]
 fn a_virtual_machine_of_128_mib(rt: HostRuntime) -> Result<(), Fail> {
-    let mut tables = Tables::new(rt.alloc(), bytes(0x1000000, 0x2000000))?;
+    let mut tables = Tables::new(rt.alloc(), KERNEL)?;
     let steps = [
         Step::Reserve(0x1000000, 0x2000000),
         Step::Reserve(0, 0x10000),
@@ -150,14 +125,11 @@ fn a_virtual_machine_of_128_mib(rt: HostRuntime) -> Result<(), Fail> {
 
     // The memory table lies two frames before the image's end: its first record, and zeros behind its two. The end of
     // the reserved table's last record, and zeros behind it.
-    let first = [
-        0, 0x10, 0, 0, 0, 0, 0, 0, 0, 0xE0, 9, 0, 0, 0, 0, 0, 0, 0, 0, 0, 0, 0, 0, 0,
-    ];
     let across = [
         0, 0, 0, 0, 0, 0, 3, 0, 0, 0, 0, 0, 0, 0, 0, 0, 0, 4, 0, 0, 0, 0, 0, 0,
     ];
     let rows = [
-        (0x2FFE000, first),
+        (0x2FFE000, FIRST_RECORD),
         (0x2FFE030, [0; 24]),
         (0x2FFF064, across),
     ];
@@ -172,7 +144,7 @@ fn a_virtual_machine_of_128_mib(rt: HostRuntime) -> Result<(), Fail> {
 //     |0000000000|1111111111|.....................|          |..........|
 #[test]
 fn nodes_gaps_and_the_last_address(rt: HostRuntime) -> Result<(), Fail> {
-    let mut tables = Tables::new(rt.alloc(), bytes(0x1000000, 0x2000000))?;
+    let mut tables = Tables::new(rt.alloc(), KERNEL)?;
     nodes_that_touch(&rt, &mut tables);
     a_frame_of_two_nodes(&rt, &mut tables);
     claims_and_gaps(&rt, &mut tables);
@@ -261,7 +233,7 @@ fn moved(tables: &mut Tables, which: Which, place: u64) -> Result<bool, Memory> 
 
 #[test]
 fn a_table_moves_and_leaves_zeros(rt: HostRuntime) -> Result<(), Fail> {
-    let mut tables = Tables::new(rt.alloc(), bytes(0x1000000, 0x2000000))?;
+    let mut tables = Tables::new(rt.alloc(), KERNEL)?;
     let steps = [
         Step::Reserve(0x1000000, 0x2000000),
         Step::Add(0x1000, 0x9E000, 0),

@@ -1,6 +1,6 @@
 //! The calls of a store on small ranges, in memory that is ample.
 
-use crate::common::bytes;
+use crate::ranges::bytes;
 use bm_base::{Memory, Range};
 use phys_store::Store;
 use std::process::Abort;

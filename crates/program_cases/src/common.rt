@@ -1,10 +1,12 @@
-//! A zero page and a file in memory, of the bytes that a case gives.
+//! Entries and runs of the map, a zero page, and a file in memory, each of what a case gives.
 
-ghost use Rattle.std.specs.Prelude.{◌≡◌, ◌+◌, ◌≤◌, length, IfOk, string_bytes};
+ghost use Rattle.std.specs.Prelude.{◌≡◌, ◌+◌, ◌^◌, ◌<◌, ◌≤◌, length, IfOk, string_bytes};
+ghost use Rattle.e820_model.specs.Claims.{EndInSpace};
 
+use bm_base::Range;
 use bm_io::MemFile;
 use byteorder::{ByteOrder, LittleEndian};
-use e820_model::Entry;
+use e820_model::{Entry, Run};
 use std::alloc::Global;
 use std::test::Fail;
 
@@ -13,6 +15,53 @@ pub const RAM: Entry = Entry {
     size: 0x7f00000,
     kind: 1,
 };
+
+/// The kernel's image, 32 MiB from 16 MiB on.
+pub const KERNEL: Range = Range {
+    base: 0x100_0000,
+    size: 0x200_0000,
+};
+
+/// The first page, once it is the BIOS's.
+pub const FIRST_PAGE: Run = Run {
+    range: Range {
+        base: 0,
+        size: 0x1000,
+    },
+    kind: 2,
+};
+
+/// The RAM of the first 640 KiB behind the first page.
+pub const FIRST_640K: Run = Run {
+    range: Range {
+        base: 0x1000,
+        size: 0x9_F000,
+    },
+    kind: 1,
+};
+
+pub fn entry(addr: u64, size: u64, kind: u32) -> Entry
+    ensures { result ≡ record { addr = addr; size = size; kind = kind } }
+{
+    Entry { addr, size, kind }
+}
+
+/// RAM with a reserved range inside.
+pub fn nested() -> [Entry; 2]
+    ensures { EndInSpace result }
+{
+    [entry(0, 0x800_0000, 1), entry(0x20_0000, 0x10_0000, 2)]
+}
+
+pub fn run(base: u64, size: u64, kind: u32) -> Run
+    requires { base + size < 2 ^ 64 }
+    ensures { result ≡ record { base = base; size = size; value = kind } }
+{
+    Run {
+        range: Range { base, size },
+        kind,
+    }
+}
 
 /// Writes an entry at the offset.
 pub fn put_entry(bytes: &mut [u8], offset: usize, entry: Entry)

@@ -1,4 +1,5 @@
-//! Worked cases of what comes in, bytes, texts, files and words, and of the program over all of it.
+//! Worked cases of what comes in, bytes, texts, files and words, of the map that it makes, of the boot and of the program over all of
+//! it.
 //!
 //! Each module has the cases of the crate that it is named for, called as any other crate calls it: by its public names, and by
 //! what its contracts say alone. The tests of a crate are proved with the crate, so those that need no more than that stand here, and
@@ -8,6 +9,8 @@
 #[cfg(test)]
 mod common;
 #[cfg(test)]
+mod of_address_runs;
+#[cfg(test)]
 mod of_bm_base;
 #[cfg(test)]
 mod of_bm_io;
@@ -16,11 +19,21 @@ mod of_boot_inputs;
 #[cfg(test)]
 mod of_boot_options;
 #[cfg(test)]
+mod of_boot_stages;
+#[cfg(test)]
+mod of_e820_model;
+#[cfg(test)]
+mod of_e820_sanitise;
+#[cfg(test)]
 mod of_e820_table;
+#[cfg(test)]
+mod of_e820_usable;
 #[cfg(test)]
 mod of_program_run;
 #[cfg(test)]
 mod of_program_words;
+#[cfg(test)]
+mod of_run_edits;
 #[cfg(test)]
 mod of_script_reader;
 #[cfg(test)]

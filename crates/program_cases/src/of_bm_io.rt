@@ -1,4 +1,4 @@
-//! Files and outputs, in memory and of the system, and a text that is put in pieces. Calls are told to fail by their numbers, so
+//! Files and outputs, in memory and of the system, and a text that is put in chunks. Calls are told to fail by their numbers, so
 //! each failing one shows that those before it were counted.
 
 use crate::common::file;
@@ -72,10 +72,10 @@ fn files_of_the_system(rt: HostRuntime) -> Result<(), Fail> {
     Ok(())
 }
 
-/// Each row is a piece, and what its put answers.
+/// Each row is a chunk, and what its put answers.
 fn compare_puts(rt: &impl Abort, sink: &mut impl Sink, rows: &[(&[u8], Result<(), Put>)]) {
-    for (piece, want) in rows {
-        assert_eq!(rt; sink.put(piece), *want);
+    for (chunk, want) in rows {
+        assert_eq!(rt; sink.put(chunk), *want);
     }
 }
 
@@ -118,8 +118,8 @@ fn streams_of_the_system(rt: HostRuntime) -> Result<(), Fail> {
     Ok(())
 }
 
-/// Puts five pieces, and compares the answer and what was written.
-fn compare_pieces(rt: &impl Abort, sink: &mut MemSink, want: Result<(), Put>, written: &str) {
+/// Puts five chunks, and compares the answer and what was written.
+fn compare_chunks(rt: &impl Abort, sink: &mut MemSink, want: Result<(), Put>, written: &str) {
     let answer = put_all(sink, &["", "entry ", "12", "", " too far\n"]);
     assert_eq!(rt; answer, want, "for {written}");
     assert_eq!(rt; sink.written(), written.as_bytes());
@@ -131,7 +131,7 @@ fn failing_at(alloc: Global, number: u64) -> Result<MemSink, Fail> {
 }
 
 #[test]
-fn text_in_pieces(rt: HostRuntime) -> Result<(), Fail> {
+fn text_in_chunks(rt: HostRuntime) -> Result<(), Fail> {
     let cases = [
         (0, Ok(()), "entry 12 too far\n"),
         (1, Err(Put::Failed), "ent"),
@@ -140,7 +140,7 @@ fn text_in_pieces(rt: HostRuntime) -> Result<(), Fail> {
     ];
     for (failing, want, written) in &cases {
         let mut sink = failing_at(rt.alloc(), *failing)?;
-        compare_pieces(&rt, &mut sink, *want, written);
+        compare_chunks(&rt, &mut sink, *want, written);
     }
     Ok(())
 }

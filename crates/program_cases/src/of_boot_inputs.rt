@@ -4,8 +4,7 @@
 ghost use Rattle.std.specs.Prelude.{IfOk};
 ghost use Rattle.bm_io.specs.HeldFiles.{held_files, HaveOwnNames};
 
-use crate::common::file;
-use bm_base::Range;
+use crate::common::{KERNEL, file};
 use bm_io::{MemFile, MemFiles};
 use boot_inputs::{Fault, Input, InputError, Names, Refusal, read_inputs};
 use std::alloc::Global;
@@ -77,11 +76,7 @@ fn expect(
 ) -> Result<(), Fail> {
     let failing = vec![in alloc; failing]?;
     let mut files = MemFiles::new(files_of(alloc, held)?, failing);
-    let kernel = Range {
-        base: 0x100_0000,
-        size: 0x200_0000,
-    };
-    let answer = read_inputs(alloc, &mut files, names, kernel);
+    let answer = read_inputs(alloc, &mut files, names, KERNEL);
     assert_eq!(rt; answer.err(), want.map(InputError::Refused));
     Ok(())
 }

@@ -100,7 +100,7 @@ fn words_and_what_fails(rt: HostRuntime) -> Result<(), Fail> {
         (map, [&[1], &[], &[]], 3, "", "bootmem: cannot read zp\n"),
         (map, [&[2], &[], &[]], 0, MAP, ""),
         (map, [&[], &[1], &[]], 4, half, "bootmem: cannot write\n"),
-        // the report is put in one piece
+        // the report is put in one chunk
         (map, [&[], &[2], &[]], 0, MAP, ""),
         (map, [&[], &[1], &[1]], 4, half, "bootmem: ca"),
         (other, [&[], &[], &[1]], 3, "", "bootmem: c"),

@@ -61,11 +61,7 @@ fn each_form(rt: HostRuntime) -> Result<(), Fail> {
 #[test]
 fn faults_of_one_line(rt: HostRuntime) {
     let cases = [
-        ("free", ScriptFault::BadLine { line: 1 }),
-        ("free 1 2", ScriptFault::BadLine { line: 1 }),
-        ("alloc 1 2 4 exact", ScriptFault::BadLine { line: 1 }),
         ("alloc 4294967296 1 1", ScriptFault::BadNumber { line: 1 }),
-        ("alloc 1 0 0", ScriptFault::BadAlign { line: 1 }),
         ("peek 0 0", ScriptFault::ZeroSize { line: 1 }),
     ];
     for (text, want) in &cases {

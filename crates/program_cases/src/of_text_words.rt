@@ -1,7 +1,6 @@
-//! Words and parts, one behind the other, and the two halves, the front and the inside of a text. What the proved examples of
-//! `text_words` say isn't repeated.
+//! Words and parts, one behind the other, and the inside of a text, beside the proved examples of `text_words`.
 
-use text_words::{Separators, before, cut, next_part, next_word, unquoted};
+use text_words::{Separators, next_part, next_word, unquoted};
 
 #[test]
 fn words_of_a_line(rt: HostRuntime) {
@@ -31,7 +30,6 @@ fn parts_between_commas(rt: HostRuntime) {
             Some(b"\"2,".as_slice()),
         ),
         (b"\"2,".as_slice(), b"\"2".as_slice(), Some(b"".as_slice())),
-        (b"".as_slice(), b"".as_slice(), None),
     ];
     for (text, part, rest) in &rows {
         assert_eq!(rt; next_part(text, Separators::Byte(b',')), (*part, *rest));
@@ -39,13 +37,6 @@ fn parts_between_commas(rt: HostRuntime) {
 }
 
 #[test]
-fn halves_of_a_word(rt: HostRuntime) {
-    let (name, value) = cut(b"mem=1=2".as_slice(), b'=').expect(&rt, "a value");
-    assert_eq!(rt; (name, value), (b"mem".as_slice(), b"1=2".as_slice()));
-}
-
-#[test]
-fn a_front_and_an_inside(rt: HostRuntime) {
-    assert_eq!(rt; before(b"a\0b\0".as_slice(), 0), b"a".as_slice());
+fn only_the_outer_marks_go(rt: HostRuntime) {
     assert_eq!(rt; unquoted(b"\"\"a\"\"".as_slice()), b"\"a\"".as_slice());
 }

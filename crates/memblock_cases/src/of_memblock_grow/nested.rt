@@ -2,46 +2,21 @@
 //! table grow. The items and the heads are those of an implementation of the same rules in another language.
 ghost use Rattle.std.specs.Prelude.{◌+◌, ◌^◌, ◌<◌};
 
-use super::{Step, act, started};
-use crate::common::bytes;
+use super::{Step, add_apart, carry_out, claim_apart};
+use crate::machines::started;
+use crate::ranges::{KERNEL, bytes};
 use boot_journal::{Item, Owner, Which};
 use memblock_grow::{Memblock, Refusal};
 use memblock_ranges::Head;
 use std::alloc::Global;
 use std::test::Fail;
 
-// Carries out each step in turn; `NoGap` where a call's conditions don't hold.
-fn carry_out(memblock: &mut Memblock, steps: &[Step]) -> Result<(), Refusal> {
-    for step in steps {
-        if !act(memblock, *step)? {
-            return Err(Refusal::NoGap);
-        }
-    }
-    Ok(())
-}
-
-// Claims so many pages far above, with a page between them: as many records.
-fn claim_pages(memblock: &mut Memblock, count: u32) -> Result<(), Refusal> {
-    for i in 1..=u64::from(count) {
-        carry_out(memblock, &[Step::Claim(0x8000000 + 0x2000 * i, 0x1000)])?;
-    }
-    Ok(())
-}
-
-// Adds the pages of these numbers farther above, with a page between them: as many records.
-fn add_pages(memblock: &mut Memblock, first: u32, last: u32) -> Result<(), Refusal> {
-    for i in u64::from(first)..=u64::from(last) {
-        carry_out(memblock, &[Step::Add(0x10000000 + 0x2000 * i, 0x1000)])?;
-    }
-    Ok(())
-}
-
 // A machine in which allocations end at 1 MiB: below lies the memory of the step, less the first 64 KiB. There are two records of
-// memory and two of claims, beside those of so many pages.
-fn low_machine(alloc: Global, low: Step, pages: u32) -> Result<Memblock, Refusal> {
-    let mut memblock = started(alloc, bytes(0x1000000, 0x2000000))?;
+// memory and two of claims, beside those of so many frames.
+fn low_machine(alloc: Global, low: Step, frames: u32) -> Result<Memblock, Refusal> {
+    let mut memblock = started(alloc, KERNEL)?;
     carry_out(&mut memblock, &[Step::Claim(0, 0x10000)])?;
-    claim_pages(&mut memblock, pages)?;
+    claim_apart(&mut memblock, 0x8002000, frames)?;
     let memory = [Step::Limit(0x100000), low, Step::Add(0x100000, 0x7F00000)];
     carry_out(&mut memblock, &memory)?;
     Ok(memblock)
@@ -85,9 +60,9 @@ fn added(base: u64) -> Item
 #[test]
 fn a_claim_makes_the_other_table_grow(rt: HostRuntime) -> Result<(), Fail> {
     let mut memblock = low_machine(rt.alloc(), Step::Add(0, 0xA0000), 126)?;
-    add_pages(&mut memblock, 1, 126)?;
+    add_apart(&mut memblock, 0x10002000, 126)?;
     assert!(rt; has_written(&memblock, 257, &[]));
-    add_pages(&mut memblock, 127, 127)?;
+    add_apart(&mut memblock, 0x100FE000, 1)?;
     let last = [
         grown(Which::Reserved, 0x9C000, 256),
         claimed(0x9C000, 0x2000, Which::Reserved),
@@ -105,8 +80,8 @@ fn a_claim_makes_the_other_table_grow(rt: HostRuntime) -> Result<(), Fail> {
 #[test]
 fn a_claim_is_refused_for_the_other_table(rt: HostRuntime) -> Result<(), Fail> {
     let mut memblock = low_machine(rt.alloc(), Step::Add(0x11000, 0x2000), 126)?;
-    add_pages(&mut memblock, 1, 126)?;
-    let refused = add_pages(&mut memblock, 127, 127);
+    add_apart(&mut memblock, 0x10002000, 126)?;
+    let refused = add_apart(&mut memblock, 0x100FE000, 1);
     let refusal = Refusal::NoGapForTable {
         which: Which::Reserved,
         room: 128,
@@ -126,10 +101,10 @@ fn a_claim_is_refused_for_the_other_table(rt: HostRuntime) -> Result<(), Fail> {
 #[test]
 fn a_release_makes_the_other_table_grow(rt: HostRuntime) -> Result<(), Fail> {
     let mut memblock = low_machine(rt.alloc(), Step::Add(0, 0xA0000), 124)?;
-    add_pages(&mut memblock, 1, 254)?;
+    add_apart(&mut memblock, 0x10002000, 254)?;
     assert!(rt; lies_at(&memblock, Which::Memory, 0x9E000, 256, 256));
     assert!(rt; lies_at(&memblock, Which::Reserved, 0x2FFF000, 128, 127));
-    add_pages(&mut memblock, 255, 255)?;
+    add_apart(&mut memblock, 0x101FE000, 1)?;
     let last = [
         claimed(0x9B000, 0x3000, Which::Memory),
         grown(Which::Memory, 0x9B000, 512),
@@ -154,9 +129,9 @@ fn a_release_makes_the_other_table_grow(rt: HostRuntime) -> Result<(), Fail> {
 #[test]
 fn a_release_is_refused_for_the_other_table(rt: HostRuntime) -> Result<(), Fail> {
     let mut memblock = low_machine(rt.alloc(), Step::Add(0x11000, 0x5000), 124)?;
-    add_pages(&mut memblock, 1, 254)?;
+    add_apart(&mut memblock, 0x10002000, 254)?;
     assert!(rt; lies_at(&memblock, Which::Memory, 0x14000, 256, 256));
-    add_pages(&mut memblock, 255, 255)?;
+    add_apart(&mut memblock, 0x101FE000, 1)?;
     let last = [
         claimed(0x11000, 0x3000, Which::Memory),
         grown(Which::Memory, 0x11000, 512),

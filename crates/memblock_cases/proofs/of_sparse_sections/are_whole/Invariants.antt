@@ -3,7 +3,7 @@ use Rattle.std.proofs.Common.{ℕ, ◌<◌, get_or}
 use Rattle.address_runs.specs.Runs.{RunOf}
 use Rattle.memblock_model.specs.Labels.{Label}
 use Rattle.sparse_sections.specs.Present.{IsWholeNoded}
-use Rattle.stage_cases.proofs.of_sparse_sections.are_whole.Given as goal
+use Rattle.memblock_cases.proofs.of_sparse_sections.are_whole.Given as goal
 
 abbrev pub invariant-loop-i : goal.invariant-loop-i
 invariant-loop-i l = (k : ℕ) (d : RunOf Label) → k < l.i → IsWholeNoded (get_or l.tables.memory.records k d)

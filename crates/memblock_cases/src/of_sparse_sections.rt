@@ -3,8 +3,9 @@ ghost use Rattle.std.specs.Prelude.{◌≡◌, ◌+◌, ◌%◌, ◌^◌, ◌<�
 ghost use Rattle.std.specs.List.{All};
 ghost use Rattle.sparse_sections.specs.Present.{IsWholeNoded};
 
-use crate::common::{add, has_begun, started};
-use bm_base::{FRAME_SIZE, Range};
+use crate::machines::{has_begun, limit, machine};
+use crate::ranges::{KERNEL, Part};
+use bm_base::FRAME_SIZE;
 use memblock_grow::Memblock;
 use memblock_model::Which;
 use memblock_ranges::{Region, Tables};
@@ -15,20 +16,11 @@ use std::process::Abort;
 use std::test::Fail;
 
 // Sections 0 and 1, then section 2 and a frame of section 3, and section 256.
-const FIRST: Range = Range {
-    base: 0,
-    size: 0x1000_0000,
-};
-
-const SECOND: Range = Range {
-    base: 0x1000_0000,
-    size: 0x800_1000,
-};
-
-const FAR: Range = Range {
-    base: 0x8_0000_0000,
-    size: 0x800_0000,
-};
+const MEMORY: [Part; 3] = [
+    (0, 0x1000_0000, 0),
+    (0x1000_0000, 0x1800_1000, 1),
+    (0x8_0000_0000, 0x8_0800_0000, 1),
+];
 
 fn is_whole(region: &Region) -> bool
     ensures base { IsTrue result → region.now.base % 4096 ≡ 0 }
@@ -41,23 +33,6 @@ fn is_whole(region: &Region) -> bool
         && region.node < 1024
         && region.size <= 0x4000_0000_0000
         && region.base <= 0x4000_0000_0000 - region.size
-}
-
-// The machine, whose allocations end with its memory.
-fn machine(alloc: Global) -> Result<Memblock, Fail> {
-    let mut memblock = started(alloc)?;
-    add_all(&mut memblock)?;
-    Ok(memblock)
-}
-
-fn add_all(memblock: &mut Memblock) -> Result<(), Fail> {
-    add(memblock, FIRST, 0)?;
-    add(memblock, SECOND, 1)?;
-    add(memblock, FAR, 1)?;
-    if has_begun(memblock) {
-        memblock.set_limit(0x8_0800_0000)?;
-    }
-    Ok(())
 }
 
 // Whether each record is such that sections are found by it.
@@ -107,7 +82,8 @@ fn compare_roots(rt: &impl Abort, roots: &Roots, table: u64, places: &[RootPlace
 #[test]
 fn sections_and_roots(rt: HostRuntime) -> Result<(), Fail> {
     let alloc = rt.alloc();
-    let mut memblock = machine(alloc)?;
+    let mut memblock = machine(alloc, KERNEL, &MEMORY)?;
+    limit(&mut memblock, 0x8_0800_0000)?;
     let sections = sections_of(alloc, &memblock)?;
     compare_sections(&rt, &sections, &[(0, 0), (1, 0), (2, 1), (3, 1), (256, 1)]);
     let roots = roots_of(alloc, &mut memblock, &sections)?;

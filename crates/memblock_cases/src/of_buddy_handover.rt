@@ -2,9 +2,11 @@
 ghost use Rattle.std.specs.Prelude.{◌≡◌, ◌+◌, ◌^◌, ◌<◌, ◌≤◌, None, IsTrue};
 ghost use Rattle.buddy_handover.specs.Contents.{free};
 
-use crate::common::parts_of;
+use crate::ranges::{IN_TURN, MACHINE};
+use crate::tables::{cover, tables_of};
 use bm_base::{FRAME_SIZE, Memory, Zone};
 use buddy_handover::{Block, Buddy, MAX_FRAMES, hand_over};
+use memblock_model::Which;
 use memblock_ranges::Heads;
 use phys_store::Store;
 use std::alloc::Global;
@@ -86,18 +88,19 @@ fn compare_list(
     Ok(())
 }
 
+// What is reserved of a virtual machine of 128 MiB at the end of its boot.
+const RESERVED: [(u64, u64); 5] = [
+    (0, 0x100000),
+    (0x1000000, 0x3000000),
+    (0x7C00000, 0x7E00000),
+    (0x7FAFFC0, 0x7FAFFE8),
+    (0x7FB0000, 0x7FE0000),
+];
+
 // A virtual machine of 128 MiB, with the kernel at 16 MiB: `/proc/buddyinfo` of it, and blocks at both ends.
 #[test]
 fn a_virtual_machine_of_128_mib(rt: HostRuntime) -> Result<(), Fail> {
-    let memory = [(0x1000, 0x9F000, 0), (0x100000, 0x7FE0000, 0)];
-    let reserved = [
-        (0, 0x100000),
-        (0x1000000, 0x3000000),
-        (0x7C00000, 0x7E00000),
-        (0x7FAFFC0, 0x7FAFFE8),
-        (0x7FB0000, 0x7FE0000),
-    ];
-    let (store, heads) = parts_of(rt.alloc(), &memory, &reserved)?;
+    let (store, heads) = tables_of(rt.alloc(), &MACHINE, &RESERVED)?.into_parts();
     let buddy = handed(rt.alloc(), &store, &heads)?;
     let expected = [
         (0, Zone::Dma, [0, 0, 0, 0, 0, 0, 0, 0, 1, 1, 3]),
@@ -134,21 +137,9 @@ fn a_virtual_machine_of_128_mib(rt: HostRuntime) -> Result<(), Fail> {
 //     0x4000000 ..node 0.. 0x4100000 ..node 1.. 0x4400000
 #[test]
 fn a_node_border_inside_a_set(rt: HostRuntime) -> Result<(), Fail> {
-    let memory = [
-        (0x1000, 0x9F000, 0),
-        (0x100000, 0x4100000, 0),
-        (0x4100000, 0x6000000, 1),
-        (0x6000000, 0x7FE0000, 0),
-    ];
-    let reserved = [
-        (0, 0x100000),
-        (0x1000000, 0x3000000),
-        (0x5FD5000, 0x6000000),
-        (0x7C00000, 0x7E00000),
-        (0x7FAFFC0, 0x7FAFFE8),
-        (0x7FB0000, 0x7FE0000),
-    ];
-    let (store, heads) = parts_of(rt.alloc(), &memory, &reserved)?;
+    let mut tables = tables_of(rt.alloc(), &IN_TURN, &RESERVED)?;
+    assert!(rt; cover(&mut tables, Which::Reserved, 0x5FD5000, 0x2B000, 1024));
+    let (store, heads) = tables.into_parts();
     let buddy = handed(rt.alloc(), &store, &heads)?;
     let expected = [
         (0, Zone::Dma32, [1, 1, 1, 1, 0, 1, 0, 1, 2, 0, 11]),

@@ -1,22 +1,13 @@
 //! The texts of a small boot, put once each with memory to spare.
 
+use crate::ranges::{FIRST_MIB, KERNEL};
 use bm_base::Range;
 use boot_journal::{Item, Journal, Owner, Which};
 use boot_options::{CrashOption, CrashPlain, CrashRange, Edit, Options};
 use e820_model::Run;
-use memblock_ranges::Tables;
+use memblock_ranges::{Head, Heads, Tables};
 use report_texts::{put_journal, put_map, put_options, put_owners, put_records, put_tables};
 use std::test::Fail;
-
-const LOW: Range = Range {
-    base: 0,
-    size: 0x10_0000,
-};
-
-const KERNEL: Range = Range {
-    base: 0x100_0000,
-    size: 0x200_0000,
-};
 
 const RAM: Range = Range {
     base: 0x10_0000,
@@ -27,7 +18,7 @@ const RAM: Range = Range {
 fn map_and_options(rt: HostRuntime) -> Result<(), Fail> {
     let alloc = rt.alloc();
     let soft = Run {
-        range: LOW,
+        range: FIRST_MIB,
         kind: 0xEFFF_FFFF,
     };
     let mut text = Vec::new(alloc);
@@ -46,7 +37,7 @@ fn map_and_options(rt: HostRuntime) -> Result<(), Fail> {
     assert_eq!(rt; text.as_slice(), want.as_slice());
 
     let change = Edit::Change {
-        range: LOW,
+        range: FIRST_MIB,
         from: 2,
         to: 1,
     };
@@ -89,7 +80,7 @@ fn journal_and_owners(rt: HostRuntime) -> Result<(), Fail> {
     })?;
     journal.push(Item::Mem { range: RAM })?;
     journal.push(Item::Claim {
-        range: LOW,
+        range: FIRST_MIB,
         owner: Owner::NodeData(1),
     })?;
     let mut text = Vec::new(rt.alloc());
@@ -115,14 +106,25 @@ fn records_and_heads(rt: HostRuntime) -> Result<(), Fail> {
     let (store, heads) = tables.into_parts();
     let mut text = Vec::new(rt.alloc());
     put_records(&mut text, &store, &heads.memory)?;
-    put_records(&mut text, &store, &heads.reserved)?;
     let want = b"   0: 0x0000000000100000..0x0000000007fdffff\n";
     assert_eq!(rt; text.as_slice(), want.as_slice());
 
+    let heads = Heads {
+        memory: Head {
+            place: 0x7FD_E000,
+            room: 256,
+            count: 202,
+        },
+        reserved: Head {
+            place: 0x7FD_B000,
+            room: 512,
+            count: 303,
+        },
+    };
     let mut text = Vec::new(rt.alloc());
     put_tables(&mut text, &heads)?;
     let want =
-        b"memory place 0x0000000002ffe000 room 128 records 1\nreserved place 0x0000000002fff000 room 128 records 0\n";
+        b"memory place 0x0000000007fde000 room 256 records 202\nreserved place 0x0000000007fdb000 room 512 records 303\n";
     assert_eq!(rt; text.as_slice(), want.as_slice());
     Ok(())
 }

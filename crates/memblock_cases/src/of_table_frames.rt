@@ -1,11 +1,11 @@
 //! What small tables say of frames, from their bytes.
 
-use crate::common::parts_of;
+use crate::tables::tables_of;
 use memblock_ranges::{Head, Heads};
 use phys_store::Store;
 use std::process::Abort;
 use std::test::Fail;
-use table_frames::{Claim, RecordFrames, frames_at, has_records, has_whole_frames, next_claim};
+use table_frames::{Claim, RecordFrames, frames_at, has_records, next_claim};
 
 // The frames of a record, where the bytes are records.
 fn frames(store: &Store, head: &Head, i: u64) -> Option<RecordFrames> {
@@ -29,7 +29,7 @@ fn first_claim(store: &Store, head: &Head) -> Option<Claim> {
 #[test]
 fn records_by_frames(rt: HostRuntime) -> Result<(), Fail> {
     let memory = [(0x1000, 0x9F000, 3)];
-    let (store, heads) = parts_of(rt.alloc(), &memory, &[(0x4FC0, 0x4FE8)])?;
+    let (store, heads) = tables_of(rt.alloc(), &memory, &[(0x4FC0, 0x4FE8)])?.into_parts();
     compare(&rt, &store, &heads);
     Ok(())
 }
@@ -39,11 +39,6 @@ fn compare(rt: &impl Abort, store: &Store, heads: &Heads) {
     assert!(rt; !has_records(store, &heads.memory, 0x9EFFF));
     let memory = frames(store, &heads.memory, 0).map(|f| (f.first, f.end, f.node));
     assert!(rt; memory == Some((1, 0x9F, Some(3))));
-    let reserved = frames(store, &heads.reserved, 0).map(|f| (f.first, f.end, f.node));
-    assert!(rt; reserved == Some((4, 5, None)));
     let claim = first_claim(store, &heads.reserved).map(|c| (c.index, c.first, c.end));
     assert!(rt; claim == Some((0, 4, 5)));
-    if has_records(store, &heads.reserved, u64::MAX) {
-        assert!(rt; !has_whole_frames(store, &heads.reserved));
-    }
 }

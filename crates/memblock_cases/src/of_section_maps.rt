@@ -1,50 +1,23 @@
 //! The maps of two groups, the second of which has no piece for all of its maps. The places are the greatest addresses by hand.
 
-use crate::common::{add, has_begun, started};
-use bm_base::Range;
-use memblock_grow::Memblock;
+use crate::machines::{has_begun, limit, machine};
+use crate::ranges::{KERNEL, Part};
 use section_maps::{Placed, place_maps};
 use stage_model::Section;
-use std::alloc::Global;
 use std::test::Fail;
 
 // Sections 0 and 1; of sections 2 and 3 the first 3 MiB each.
-const FIRST: Range = Range {
-    base: 0,
-    size: 0x1000_0000,
-};
-
-const SECOND: Range = Range {
-    base: 0x1000_0000,
-    size: 0x30_0000,
-};
-
-const THIRD: Range = Range {
-    base: 0x1800_0000,
-    size: 0x30_0000,
-};
-
-// The machine, whose allocations end with its memory.
-fn machine(alloc: Global) -> Result<Memblock, Fail> {
-    let mut memblock = started(alloc)?;
-    add_all(&mut memblock)?;
-    Ok(memblock)
-}
-
-fn add_all(memblock: &mut Memblock) -> Result<(), Fail> {
-    add(memblock, FIRST, 0)?;
-    add(memblock, SECOND, 1)?;
-    add(memblock, THIRD, 1)?;
-    if has_begun(memblock) {
-        memblock.set_limit(0x1830_0000)?;
-    }
-    Ok(())
-}
+const MEMORY: [Part; 3] = [
+    (0, 0x1000_0000, 0),
+    (0x1000_0000, 0x1030_0000, 1),
+    (0x1800_0000, 0x1830_0000, 1),
+];
 
 #[test]
 fn one_piece_and_one_by_one(rt: HostRuntime) -> Result<(), Fail> {
     let alloc = rt.alloc();
-    let mut memblock = machine(alloc)?;
+    let mut memblock = machine(alloc, KERNEL, &MEMORY)?;
+    limit(&mut memblock, 0x1830_0000)?;
     let sections = [
         Section { number: 0, node: 0 },
         Section { number: 1, node: 0 },

@@ -1,17 +1,16 @@
 //! A machine of 128 MiB with its kernel at 16 MiB: its Node items and the places of node data, by hand.
-ghost use Rattle.std.specs.Prelude.{◌≡◌, ◌-◌, ◌^◌, ◌<◌, ◌≤◌, IfOk, IsTrue, length};
+ghost use Rattle.std.specs.Prelude.{◌^◌, ◌<◌, IsTrue, length};
 ghost use Rattle.memblock_model.specs.Items.{limit_of};
 
-use crate::common::{MEMORY, has_begun, machine};
-use bm_base::Range;
+use crate::domains::{block, table};
+use crate::machines::{MEMORY, bare, has_begun};
+use crate::ranges::between;
 use boot_journal::{Item, Owner};
 use memblock_grow::Memblock;
-use numa_nodes::{
-    Nodes, Why, assign, listed_nodes_have_memory, nodes_leave_memory, nodes_reach_memory,
-};
-use srat_reader::{Srat, SratBlock};
+use numa_nodes::{Nodes, Why, assign};
+use srat_reader::SratBlock;
 use stage_model::{StageStop, What};
-use std::alloc::{AllocError, Global};
+use std::alloc::Global;
 use std::process::Abort;
 use std::test::Fail;
 
@@ -22,36 +21,6 @@ fn has_limit(memblock: &Memblock) -> bool
     ensures { IsTrue result → 0 < limit_of memblock.now.journal.items }
 {
     matches!(memblock.journal().items(), [.., Item::Limit { at }] if *at > 0)
-}
-
-// The addresses from one up to another.
-fn part(from: u64, until: u64) -> Range
-    requires { from ≤ until }
-    ensures { result ≡ record { base = from; size = until - from } }
-{
-    Range {
-        base: from,
-        size: until - from,
-    }
-}
-
-fn block(domain: u32, from: u64, until: u64) -> SratBlock
-    requires { from ≤ until }
-{
-    SratBlock {
-        domain,
-        range: part(from, until),
-    }
-}
-
-// A table of these blocks.
-fn table(alloc: Global, blocks: &[SratBlock]) -> Result<Srat, AllocError>
-    ensures { IfOk result (λ srat. length srat.blocks.items ≡ length blocks.now) }
-{
-    Ok(Srat {
-        cpus: Vec::new(alloc),
-        blocks: Vec::from_slice(alloc, blocks)?,
-    })
 }
 
 // The items behind those of the machine.
@@ -70,7 +39,7 @@ fn nodes_by(
 ) -> Result<Option<Nodes>, Fail>
     requires { length blocks.now < 2 ^ 32 }
 {
-    let srat = table(alloc, blocks)?;
+    let srat = table(alloc, &[], blocks)?;
     if !has_begun(memblock) || !has_limit(memblock) {
         return Ok(None);
     }
@@ -93,7 +62,7 @@ fn compare_items(rt: &impl Abort, memblock: &Memblock, items: &[Item]) {
 #[test]
 fn two_nodes_and_a_rest(rt: HostRuntime) -> Result<(), Fail> {
     let alloc = rt.alloc();
-    let mut memblock = machine(alloc, 0x800_0000)?;
+    let mut memblock = bare(alloc, 0x800_0000)?;
     let blocks = [
         block(7, 0, 0x400_0000),
         block(3, 0x400_0000, 0x500_0000),
@@ -104,23 +73,23 @@ fn two_nodes_and_a_rest(rt: HostRuntime) -> Result<(), Fail> {
     assert!(rt; nodes.uncovered == 16);
     let want = [
         Item::Node {
-            range: part(0, 0x400_0000),
+            range: between(0, 0x400_0000),
             node: 0,
         },
         Item::Node {
-            range: part(0x400_0000, 0x7FF_0000),
+            range: between(0x400_0000, 0x7FF_0000),
             node: 1,
         },
         Item::Node {
-            range: part(0x7FF_0000, 0x800_0000),
+            range: between(0x7FF_0000, 0x800_0000),
             node: 0,
         },
         Item::Claim {
-            range: part(0x3FD_5000, 0x400_0000),
+            range: between(0x3FD_5000, 0x400_0000),
             owner: Owner::NodeData(0),
         },
         Item::Claim {
-            range: part(0x7FC_5000, 0x7FF_0000),
+            range: between(0x7FC_5000, 0x7FF_0000),
             owner: Owner::NodeData(1),
         },
     ];
@@ -132,7 +101,7 @@ fn two_nodes_and_a_rest(rt: HostRuntime) -> Result<(), Fail> {
 #[test]
 fn no_table(rt: HostRuntime) -> Result<(), Fail> {
     let alloc = rt.alloc();
-    let mut memblock = machine(alloc, 0x800_0000)?;
+    let mut memblock = bare(alloc, 0x800_0000)?;
     if has_begun(&memblock) && has_limit(&memblock) {
         let nodes = assign(alloc, &mut memblock, None, false)?;
         compare(&rt, &nodes, Why::Absent, &[], &[0]);
@@ -143,7 +112,7 @@ fn no_table(rt: HostRuntime) -> Result<(), Fail> {
             node: 0,
         },
         Item::Claim {
-            range: part(0x800_0000 - DATA, 0x800_0000),
+            range: between(0x800_0000 - DATA, 0x800_0000),
             owner: Owner::NodeData(0),
         },
     ];
@@ -155,7 +124,7 @@ fn no_table(rt: HostRuntime) -> Result<(), Fail> {
 #[test]
 fn no_place_for_node_data(rt: HostRuntime) -> Result<(), Fail> {
     let alloc = rt.alloc();
-    let mut memblock = machine(alloc, DATA - 1)?;
+    let mut memblock = bare(alloc, DATA - 1)?;
     if has_begun(&memblock) && has_limit(&memblock) {
         let stop = assign(alloc, &mut memblock, None, true).err();
         assert_eq!(rt;
@@ -166,11 +135,4 @@ fn no_place_for_node_data(rt: HostRuntime) -> Result<(), Fail> {
         );
     }
     Ok(())
-}
-
-#[test]
-fn laws_are_called() {
-    nodes_leave_memory();
-    nodes_reach_memory();
-    listed_nodes_have_memory();
 }

@@ -2,7 +2,7 @@
 ghost use Rattle.std.specs.Prelude.{◌≡◌, ◌+◌, ◌^◌, ◌<◌, ◌≤◌, length, IsTrue};
 ghost use Rattle.early_script.specs.Acted.{IsRun};
 
-use crate::common::{has_begun, machine};
+use crate::machines::{bare, has_begun};
 use arrayvec::ArrayVec;
 use early_script::{Answer, Live, Outcome};
 use memblock_grow::Memblock;
@@ -37,7 +37,7 @@ fn run(alloc: Global, memblock: &mut Memblock, text: &str) -> Result<Vec<Outcome
 }
 
 // What a peek that sees these bytes tells.
-fn bytes_told(bytes: &[u8]) -> Option<ArrayVec<u8, 64>> {
+pub fn bytes_told(bytes: &[u8]) -> Option<ArrayVec<u8, 64>> {
     let mut told = ArrayVec::new();
     for byte in bytes {
         told.try_push(*byte).ok()?;
@@ -48,11 +48,11 @@ fn bytes_told(bytes: &[u8]) -> Option<ArrayVec<u8, 64>> {
 #[test]
 fn each_outcome(rt: HostRuntime) -> Result<(), Fail> {
     let alloc = rt.alloc();
-    let mut memblock = machine(alloc, 0x800_0000)?;
+    let mut memblock = bare(alloc, 0x800_0000)?;
     let outcomes = run(
         alloc,
         &mut memblock,
-        "alloc 1 64K 4096\nalloc 1 1 1\nreserve 2 0x3000000 8K\nreserve 3 0x1ffdfff 2\nreserve 4 0x3001000 4K\nfree 2\nfree 9\ntrim 1 64K\ntrim 1 4K\nalloc 5 4K 4096\nalloc 6 4K 4096 max 8K\nalloc 7 4K 4096 max 8191\nfill 4 0xab\npeek 0x3000fff 3\nreserve 8 0x4000000 65537\nfill 8 1\nfree 4\nfill 4 1",
+        "alloc 1 64K 4096\nalloc 1 1 1\nreserve 2 0x3000000 8K\nreserve 3 0x2ffdfff 2\nreserve 4 0x3001000 4K\nfree 2\nfree 9\ntrim 1 64K\ntrim 1 4K\nalloc 5 4K 4096\nalloc 6 4K 4096 max 8K\nalloc 7 4K 4096 max 8191\nfill 4 0xab\npeek 0x3000fff 3\nreserve 8 0x4000000 65537\nfill 8 1\nfree 4\nfill 4 1",
     )?;
     let told = bytes_told(&[0, 0xAB, 0xAB]).ok_or("no room")?;
     let want = [
@@ -83,7 +83,7 @@ fn each_outcome(rt: HostRuntime) -> Result<(), Fail> {
 fn claims(alloc: Global, many: u32) -> Result<String, Fail> {
     let mut text = String::new(alloc);
     for id in 0..many {
-        let line = format!(in alloc; "reserve {id} {} 4K\n", 0x300_0000 + u64::from(id) * 8192)?;
+        let line = format!(in alloc; "reserve {id} {} 4K\n", 0x400_0000 + u64::from(id) * 8192)?;
         text.push_str(line.as_str())?;
     }
     Ok(text)
@@ -93,7 +93,7 @@ fn claims(alloc: Global, many: u32) -> Result<String, Fail> {
 #[test]
 fn no_place_for_a_table(rt: HostRuntime) -> Result<(), Fail> {
     let alloc = rt.alloc();
-    let mut memblock = machine(alloc, 0)?;
+    let mut memblock = bare(alloc, 0)?;
     let text = claims(alloc, 128)?;
     if text.len() < 65_536 {
         let outcomes = run(alloc, &mut memblock, text.as_str())?;

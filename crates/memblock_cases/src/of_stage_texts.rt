@@ -1,6 +1,7 @@
 //! The texts of small stages, put once each with memory to spare.
 
-use arrayvec::ArrayVec;
+use crate::of_early_script::bytes_told;
+use crate::ranges::FIRST_MIB;
 use bm_base::{Range, Zone};
 use boot_journal::{Item, Journal};
 use buddy_handover::Buddy;
@@ -11,7 +12,7 @@ use numa_nodes::{Nodes, Why};
 use section_maps::Placed;
 use sparse_sections::{RootPlace, Roots};
 use stage_texts::{
-    Draft, Fullness, Piece, Summary, put_blocks, put_buddyinfo, put_crash, put_nodes, put_script,
+    Chunk, Draft, Fullness, Summary, put_blocks, put_buddyinfo, put_crash, put_nodes, put_script,
     put_sections, put_summary, put_zones,
 };
 use std::test::Fail;
@@ -19,9 +20,7 @@ use zone_spans::Span;
 
 #[test]
 fn script(rt: HostRuntime) -> Result<(), Fail> {
-    let mut told = ArrayVec::new();
-    told.try_push(0).ok().ok_or("no room")?;
-    told.try_push(0xAB).ok().ok_or("no room")?;
+    let told = bytes_told(&[0, 0xAB]).ok_or("no room")?;
     let no_gap = Outcome::NoGapForTable {
         which: Which::Memory,
         room: 256,
@@ -54,18 +53,14 @@ fn script(rt: HostRuntime) -> Result<(), Fail> {
 
 #[test]
 fn nodes(rt: HostRuntime) -> Result<(), Fail> {
-    let low = Range {
-        base: 0,
-        size: 0x10_0000,
-    };
     let mut journal = Journal::new(rt.alloc());
-    journal.push(Item::Mem { range: low })?;
+    journal.push(Item::Mem { range: FIRST_MIB })?;
     journal.push(Item::Node {
-        range: low,
+        range: FIRST_MIB,
         node: 1,
     })?;
     let nodes = Nodes {
-        why: Why::Used,
+        why: Why::NotCovered { frames: 256 },
         domains: vec![in rt.alloc(); 4, 2]?,
         uncovered: 3,
         with_memory: vec![in rt.alloc(); 1]?,
@@ -73,20 +68,21 @@ fn nodes(rt: HostRuntime) -> Result<(), Fail> {
     let mut text = Vec::new(rt.alloc());
     put_nodes(&mut text, &nodes, &journal)?;
     let want =
-        b"numa used\ndomain 4 node 0\ndomain 2 node 1\nuncovered 3\nnode 1 0x0000000000000000..0x00000000000fffff\n";
+        b"numa not covered 256\ndomain 4 node 0\ndomain 2 node 1\nuncovered 3\nnode 1 0x0000000000000000..0x00000000000fffff\n";
     assert_eq!(rt; text.as_slice(), want.as_slice());
     Ok(())
 }
 
+// A machine of 8 GiB: 512 MiB above 4 GiB, and 64 MiB below.
 #[test]
 fn crash(rt: HostRuntime) -> Result<(), Fail> {
     let main = Range {
-        base: 0x1_0000_0000,
+        base: 0x2_5F00_0000,
         size: 0x2000_0000,
     };
     let low = Range {
-        base: 0x6F00_0000,
-        size: 0x1000_0000,
+        base: 0x7B00_0000,
+        size: 0x400_0000,
     };
     let crash = Crash::At {
         main,
@@ -94,33 +90,43 @@ fn crash(rt: HostRuntime) -> Result<(), Fail> {
     };
     let mut text = Vec::new(rt.alloc());
     put_crash(&mut text, &crash)?;
-    put_crash(&mut text, &Crash::InUse)?;
     let want =
-        b"crash at 0x0000000100000000..0x000000011fffffff\ncrash low 0x000000006f000000..0x000000007effffff\ncrash in use\n";
+        b"crash at 0x000000025f000000..0x000000027effffff\ncrash low 0x000000007b000000..0x000000007effffff\n";
     assert_eq!(rt; text.as_slice(), want.as_slice());
     Ok(())
 }
 
+// Two sections, of which the second has another root.
 #[test]
 fn sections(rt: HostRuntime) -> Result<(), Fail> {
-    let root = RootPlace {
+    let low = RootPlace {
         number: 0,
-        place: 0x7FD_B000,
+        place: 0xFFF_F000,
+    };
+    let high = RootPlace {
+        number: 1,
+        place: 0x8_07FF_B000,
     };
     let roots = Roots {
-        table: 0x7FD_C000,
-        roots: vec![in rt.alloc(); root]?,
+        table: 0x8_07FF_C000,
+        roots: vec![in rt.alloc(); low, high]?,
     };
-    let placed = Placed {
+    let first = Placed {
         section: 3,
         node: 1,
-        map: 0x7A0_0000,
-        usage: 0x7FD_AFC0,
+        map: 0xFC0_0000,
+        usage: 0xFFF_EFC0,
+    };
+    let second = Placed {
+        section: 256,
+        node: 1,
+        map: 0x8_07C0_0000,
+        usage: 0x8_07FF_AFC0,
     };
     let mut text = Vec::new(rt.alloc());
-    put_sections(&mut text, &roots, &[placed])?;
+    put_sections(&mut text, &roots, &[first, second])?;
     let want =
-        b"roots 0x0000000007fdc000\nroot 0 0x0000000007fdb000\nsection 3 node 1 map 0x0000000007a00000 usage 0x0000000007fdafc0\n";
+        b"roots 0x0000000807ffc000\nroot 0 0x000000000ffff000\nroot 1 0x0000000807ffb000\nsection 3 node 1 map 0x000000000fc00000 usage 0x000000000fffefc0\nsection 256 node 1 map 0x0000000807c00000 usage 0x0000000807ffafc0\n";
     assert_eq!(rt; text.as_slice(), want.as_slice());
     Ok(())
 }
@@ -163,7 +169,7 @@ fn zones_and_blocks(rt: HostRuntime) -> Result<(), Fail> {
     let want =
         b"node 1 zone DMA order 0 0x0000000000ffd000\nnode 1 zone DMA order 1 0x0000000000ffe000\nnode 1 zone DMA32 order 2 0x0000000001000000\n";
     assert_eq!(rt; draft.text.as_slice(), want.as_slice());
-    assert_eq!(rt; draft.into_pieces()?.len(), 1);
+    assert_eq!(rt; draft.into_chunks()?.len(), 1);
     Ok(())
 }
 
@@ -174,10 +180,10 @@ fn sheets(rt: HostRuntime) -> Result<(), Fail> {
     buddy.free_frames(0x1F_FC00, 2050 << 10, 0)?;
     let mut draft = Draft::new(rt.alloc());
     put_blocks(&mut draft, &buddy)?;
-    let mut pieces = draft.into_pieces()?;
-    let (Some(Piece::Text(behind)), Some(Piece::Sheets(sheets)), Some(Piece::Text(before)), None) =
-        (pieces.pop(), pieces.pop(), pieces.pop(), pieces.pop()) else {
-        return Err("other pieces".into());
+    let mut chunks = draft.into_chunks()?;
+    let (Some(Chunk::Text(behind)), Some(Chunk::Sheets(sheets)), Some(Chunk::Text(before)), None) =
+        (chunks.pop(), chunks.pop(), chunks.pop(), chunks.pop()) else {
+        return Err("other chunks".into());
     };
     let mut sheets = sheets;
     let want = b"node 0 zone Normal order 10 0x00000001ffc00000\n";
@@ -208,26 +214,27 @@ fn sheets(rt: HostRuntime) -> Result<(), Fail> {
     Ok(())
 }
 
+// All of 16 TiB is usable and free, but for one set of frames.
 #[test]
 fn summary(rt: HostRuntime) -> Result<(), Fail> {
     let summary = Summary {
-        runs: 3,
-        usable: 32_639,
-        free: 30_000,
+        runs: 1,
+        usable: 4_294_967_296,
+        free: 4_294_966_272,
         memory: Fullness {
-            records: 2,
+            records: 1,
             room: 128,
         },
         reserved: Fullness {
-            records: 129,
-            room: 256,
+            records: 257,
+            room: 512,
         },
-        blocks: 41,
+        blocks: 4_194_303,
     };
     let mut text = Vec::new(rt.alloc());
     put_summary(&mut text, &summary)?;
     let want =
-        b"runs 3\nusable 32639\nfree 30000\nmemory records 2 room 128\nreserved records 129 room 256\nblocks 41\n";
+        b"runs 1\nusable 4294967296\nfree 4294966272\nmemory records 1 room 128\nreserved records 257 room 512\nblocks 4194303\n";
     assert_eq!(rt; text.as_slice(), want.as_slice());
     Ok(())
 }

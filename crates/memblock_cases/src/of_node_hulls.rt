@@ -1,51 +1,20 @@
 //! Small machines: what the table of domains gives on them, and why it isn't used.
-ghost use Rattle.std.specs.Prelude.{◌≡◌, ℕ, ◌-◌, ◌^◌, ◌<◌, ◌≤◌, IfOk, length};
+ghost use Rattle.std.specs.Prelude.{◌^◌, ◌<◌, length};
 
+use crate::domains::{block, table};
+use crate::ranges::{MACHINE, between};
 use address_runs::RunOf;
-use bm_base::Range;
 use node_hulls::{Judged, NodeRange, Why, judge};
-use srat_reader::{Srat, SratBlock};
-use std::alloc::{AllocError, Global};
+use srat_reader::SratBlock;
+use std::alloc::Global;
 use std::test::Fail;
-
-/// The addresses from one up to another.
-fn part(from: u64, until: u64) -> Range
-    requires { from < until }
-    ensures { result ≡ record { base = from; size = until - from } }
-{
-    Range {
-        base: from,
-        size: until - from,
-    }
-}
-
-/// The addresses from one up to another, in the domain.
-fn block(domain: u32, from: u64, until: u64) -> SratBlock
-    requires { from ≤ until }
-{
-    let range = Range {
-        base: from,
-        size: until - from,
-    };
-    SratBlock { domain, range }
-}
 
 /// The addresses from one up to another, in the node.
 fn in_node(node: u32, from: u64, until: u64) -> NodeRange
     requires { from < until }
 {
-    let range = part(from, until);
+    let range = between(from, until);
     RunOf { range, value: node }
-}
-
-/// A table of these entries.
-fn table(alloc: Global, processors: &[u32], blocks: &[SratBlock]) -> Result<Srat, AllocError>
-    ensures { IfOk result (λ srat. length srat.blocks.items ≡ length blocks.now) }
-{
-    Ok(Srat {
-        cpus: Vec::from_slice(alloc, processors)?,
-        blocks: Vec::from_slice(alloc, blocks)?,
-    })
 }
 
 /// What is made of a table of these blocks on a machine of 128 MiB, of which the last 32 frames are the firmware's.
@@ -53,7 +22,8 @@ fn judged(alloc: Global, blocks: &[SratBlock]) -> Result<Judged, Fail>
     requires { length blocks.now < 2 ^ 32 }
 {
     let srat = table(alloc, &[], blocks)?;
-    let memory = [part(0x1000, 0x9f000), part(0x10_0000, 0x7fe_0000)];
+    let [(low, low_end, _), (high, high_end, _)] = MACHINE;
+    let memory = [between(low, low_end), between(high, high_end)];
     Ok(judge(alloc, &memory, Some(&srat), false)?)
 }
 
@@ -61,9 +31,9 @@ fn judged(alloc: Global, blocks: &[SratBlock]) -> Result<Judged, Fail>
 #[test]
 fn two_nodes_and_a_hole(rt: HostRuntime) -> Result<(), Fail> {
     let memory = [
-        part(0x1000, 0x9f000),
-        part(0x10_0000, 0xc000_0000),
-        part(0x1_0000_0000, 0x2_4000_0000),
+        between(0x1000, 0x9f000),
+        between(0x10_0000, 0xc000_0000),
+        between(0x1_0000_0000, 0x2_4000_0000),
     ];
     let blocks = [
         block(2, 0x1_4000_0000, 0x2_4000_0000),
@@ -82,17 +52,6 @@ fn two_nodes_and_a_hole(rt: HostRuntime) -> Result<(), Fail> {
     ];
     assert_eq!(rt; found.joined.as_slice(), joined.as_slice());
     assert!(rt; found.rest.is_empty());
-    Ok(())
-}
-
-#[test]
-fn no_table_and_one_that_is_turned_off(rt: HostRuntime) -> Result<(), Fail> {
-    let memory = [part(0x1000, 0x9f000)];
-    let srat = table(rt.alloc(), &[5], &[])?;
-    let off = judge(rt.alloc(), &memory, Some(&srat), true)?;
-    assert_eq!(rt; off.why, Why::Off);
-    let absent = judge(rt.alloc(), &memory, None, false)?;
-    assert_eq!(rt; absent.why, Why::Absent);
     Ok(())
 }
 

@@ -1,22 +1,16 @@
 //! Crash areas of two machines, line by line. The values are those of an implementation of the same rules in another
 //! language.
 
-ghost use Rattle.std.specs.Prelude.{◌≡◌, ◌+◌, ◌^◌, ◌<◌, IsTrue};
-ghost use Rattle.growth_model.specs.Sound.{IsImage};
+ghost use Rattle.std.specs.Prelude.{◌+◌, ◌^◌, ◌<◌};
 
-use crate::common::has_begun;
-use bm_base::Range;
+use crate::machines::{has_begun, machine};
+use crate::ranges::{Part, bytes};
 use boot_options::read_options;
 use crash_kernel::{Crash, reserve};
-use growth_model::Refusal;
-use memblock_grow::Memblock;
 use memblock_model::{Item, Owner};
 use std::alloc::Global;
 use std::process::Abort;
 use std::test::Fail;
-
-/// From one address up to another, and the node of what lies between.
-type Part = (u64, u64, u32);
 
 /// 512 MiB, less what firmware keeps.
 const SMALL: [Part; 2] = [(0x1000, 0x9F000, 0), (0x100000, 0x1FFE_0000, 0)];
@@ -28,13 +22,6 @@ const LARGE: [Part; 4] = [
     (0x1_0000_0000, 0x1_8000_0000, 0),
     (0x1_8000_0000, 0x2_8000_0000, 1),
 ];
-
-fn bytes(base: u64, size: u64) -> Range
-    requires { base + size < 2 ^ 64 }
-    ensures { result ≡ record { base = base; size = size } }
-{
-    Range { base, size }
-}
 
 fn at(base: u64, size: u64) -> Crash
     requires { base + size < 2 ^ 64 }
@@ -55,48 +42,10 @@ fn at_both(base: u64, size: u64, low: u64, low_size: u64) -> Crash
     }
 }
 
-// The machine's image is claimed.
-fn started(alloc: Global, kernel: Range) -> Result<Memblock, Refusal>
-    requires image { IsImage kernel }
-    requires some { 0 < kernel.size }
-{
-    let mut memblock = Memblock::new(alloc, kernel)?;
-    memblock.claim(kernel, Owner::Kernel)?;
-    Ok(memblock)
-}
-
-// Whether the part can be added and get its node; then it is.
-fn add(memblock: &mut Memblock, part: Part) -> Result<bool, Refusal> {
-    let (from, until, node) = part;
-    let Some(range) = Range::between(from, until) else {
-        return Ok(false);
-    };
-    if !has_begun(memblock) {
-        return Ok(false);
-    }
-    memblock.add_memory(range)?;
-    if node >= 1024 || !has_begun(memblock) {
-        return Ok(false);
-    }
-    memblock.set_node(range, node)?;
-    Ok(true)
-}
-
-// The machine with this memory, whose kernel lies at 16 MiB.
-fn machine(alloc: Global, memory: &[Part]) -> Result<Memblock, Fail> {
-    let mut memblock = started(alloc, bytes(0x100_0000, 0x240_0000))?;
-    for part in memory {
-        if !add(&mut memblock, *part)? {
-            return Err("memory".into());
-        }
-    }
-    Ok(memblock)
-}
-
 // What comes of the line, and the last thing that happened.
 fn reserved(alloc: Global, memory: &[Part], line: &[u8]) -> Result<(Crash, Option<Item>), Fail> {
     let options = read_options(alloc, line)?;
-    let mut memblock = machine(alloc, memory)?;
+    let mut memblock = machine(alloc, bytes(0x100_0000, 0x240_0000), memory)?;
     if !has_begun(&memblock) {
         return Err("items".into());
     }

@@ -1,6 +1,7 @@
 //! The spans of whole machines, by values from outside.
 
-use crate::common::parts_of;
+use crate::ranges::IN_TURN;
+use crate::tables::tables_of;
 use bm_base::{FRAME_SIZE, Zone};
 use frame_blocks::MAX_FRAMES;
 use memblock_ranges::Heads;
@@ -8,7 +9,7 @@ use phys_store::Store;
 use std::alloc::Global;
 use std::test::Fail;
 use table_frames::{has_records, has_whole_frames};
-use zone_spans::{Span, spans, spans_are_of_frames};
+use zone_spans::{Span, spans};
 
 // The spans, where the bytes are records.
 fn spans_of(alloc: Global, store: &Store, heads: &Heads) -> Result<Vec<Span>, Fail> {
@@ -24,13 +25,7 @@ fn spans_of(alloc: Global, store: &Store, heads: &Heads) -> Result<Vec<Span>, Fa
 // A virtual machine of 128 MiB whose nodes take turns.
 #[test]
 fn nodes_that_take_turns(rt: HostRuntime) -> Result<(), Fail> {
-    let memory = [
-        (0x1000, 0x9F000, 0),
-        (0x100000, 0x4100000, 0),
-        (0x4100000, 0x6000000, 1),
-        (0x6000000, 0x7FE0000, 0),
-    ];
-    let (store, heads) = parts_of(rt.alloc(), &memory, &[])?;
+    let (store, heads) = tables_of(rt.alloc(), &IN_TURN, &[])?.into_parts();
     let spans = spans_of(rt.alloc(), &store, &heads)?;
     let expected = [
         Span {
@@ -57,9 +52,4 @@ fn nodes_that_take_turns(rt: HostRuntime) -> Result<(), Fail> {
     ];
     assert!(rt; spans.as_slice() == expected.as_slice(), "{spans:?}");
     Ok(())
-}
-
-#[test]
-fn laws_are_called() {
-    spans_are_of_frames();
 }

@@ -1,0 +1,82 @@
+//! Machines on which something has happened: the kernel's image is claimed, and there is memory.
+ghost use Rattle.std.specs.Prelude.{◌<◌, IsTrue};
+ghost use Rattle.growth_model.specs.Sound.{HasBegun, IsImage};
+
+use crate::ranges::{KERNEL, Part};
+use bm_base::Range;
+use memblock_grow::{Memblock, Refusal};
+use memblock_model::Owner;
+use std::alloc::Global;
+use std::test::Fail;
+
+/// 128 MiB.
+pub const MEMORY: Range = Range {
+    base: 0,
+    size: 0x800_0000,
+};
+
+pub fn has_begun(memblock: &Memblock) -> bool
+    ensures { IsTrue result → HasBegun memblock.now.journal.items }
+{
+    memblock.journal().items().len() > 0
+}
+
+/// The machine of which no more is known than where its kernel lies.
+pub fn started(alloc: Global, kernel: Range) -> Result<Memblock, Refusal>
+    requires image { IsImage kernel }
+    requires some { 0 < kernel.size }
+{
+    let mut memblock = Memblock::new(alloc, kernel)?;
+    memblock.claim(kernel, Owner::Kernel)?;
+    Ok(memblock)
+}
+
+// Whether the part can be added and get its node; then it is.
+fn add(memblock: &mut Memblock, part: Part) -> Result<bool, Refusal> {
+    let (from, until, node) = part;
+    let Some(range) = Range::between(from, until) else {
+        return Ok(false);
+    };
+    if !has_begun(memblock) {
+        return Ok(false);
+    }
+    memblock.add_memory(range)?;
+    if node >= 1024 || !has_begun(memblock) {
+        return Ok(false);
+    }
+    memblock.set_node(range, node)?;
+    Ok(true)
+}
+
+/// The machine whose kernel lies there, with this memory.
+pub fn machine(alloc: Global, kernel: Range, memory: &[Part]) -> Result<Memblock, Fail>
+    requires image { IsImage kernel }
+    requires some { 0 < kernel.size }
+{
+    let mut memblock = started(alloc, kernel)?;
+    for part in memory {
+        if !add(&mut memblock, *part)? {
+            return Err("memory".into());
+        }
+    }
+    Ok(memblock)
+}
+
+/// Lets allocations end at the address.
+pub fn limit(memblock: &mut Memblock, at: u64) -> Result<(), Fail> {
+    if !has_begun(memblock) {
+        return Err("nothing has happened".into());
+    }
+    memblock.set_limit(at)?;
+    Ok(())
+}
+
+/// The machine with 128 MiB of no node, whose allocations end at the address.
+pub fn bare(alloc: Global, at: u64) -> Result<Memblock, Fail> {
+    let mut memblock = started(alloc, KERNEL)?;
+    if has_begun(&memblock) {
+        memblock.add_memory(MEMORY)?;
+    }
+    limit(&mut memblock, at)?;
+    Ok(memblock)
+}

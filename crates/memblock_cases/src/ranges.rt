@@ -1,0 +1,47 @@
+//! Ranges, spelled shortly, and the memory of machines.
+ghost use Rattle.std.specs.Prelude.{◌≡◌, ◌+◌, ◌-◌, ◌^◌, ◌<◌, ◌≤◌};
+
+use bm_base::Range;
+
+/// From one address up to another, and the node of what lies between; 1024 where it has none.
+pub type Part = (u64, u64, u32);
+
+/// The kernel's image, 32 MiB from 16 MiB on.
+pub const KERNEL: Range = Range {
+    base: 0x100_0000,
+    size: 0x200_0000,
+};
+
+pub const FIRST_MIB: Range = Range {
+    base: 0,
+    size: 0x10_0000,
+};
+
+/// A virtual machine of 128 MiB, without what its firmware keeps.
+pub const MACHINE: [Part; 2] = [(0x1000, 0x9F000, 0), (0x10_0000, 0x7FE_0000, 0)];
+
+/// The same machine, of two nodes that take turns.
+pub const IN_TURN: [Part; 4] = [
+    (0x1000, 0x9F000, 0),
+    (0x10_0000, 0x410_0000, 0),
+    (0x410_0000, 0x600_0000, 1),
+    (0x600_0000, 0x7FE_0000, 0),
+];
+
+pub fn bytes(base: u64, size: u64) -> Range
+    requires { base + size < 2 ^ 64 }
+    ensures { result ≡ record { base = base; size = size } }
+{
+    Range { base, size }
+}
+
+/// The addresses from one up to another.
+pub fn between(from: u64, until: u64) -> Range
+    requires { from ≤ until }
+    ensures { result ≡ record { base = from; size = until - from } }
+{
+    Range {
+        base: from,
+        size: until - from,
+    }
+}

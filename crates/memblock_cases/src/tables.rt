@@ -1,0 +1,53 @@
+//! The two tables of a machine, as ranges are covered one by one.
+
+use crate::ranges::{KERNEL, Part};
+use bm_base::Range;
+use memblock_model::Which;
+use memblock_ranges::Tables;
+use std::alloc::Global;
+use std::test::Fail;
+
+/// The bytes of the record of the first memory of a machine, 0x1000..0x9efff of node 0.
+pub const FIRST_RECORD: [u8; 24] = [
+    0, 0x10, 0, 0, 0, 0, 0, 0, 0, 0xE0, 9, 0, 0, 0, 0, 0, 0, 0, 0, 0, 0, 0, 0, 0,
+];
+
+/// Whether the range can be covered with the node; then it is.
+pub fn cover(tables: &mut Tables, which: Which, base: u64, size: u64, node: u32) -> bool {
+    let Some(range) = Range::new(base, size) else {
+        return false;
+    };
+    let head = tables.head(which);
+    let pieces = tables.pieces(which, range);
+    let allowed = match which {
+        Which::Memory => node <= 1024,
+        Which::Reserved => node == 1024,
+    };
+    if size == 0 || !allowed || pieces > head.room - head.count {
+        return false;
+    }
+    tables.insert(which, range, node);
+    true
+}
+
+// Whether the addresses from one up to another can be covered with the node; then they are.
+fn cover_part(tables: &mut Tables, which: Which, part: Part) -> bool {
+    let (from, until, node) = part;
+    from < until && cover(tables, which, from, until - from, node)
+}
+
+/// Tables with this memory, and what is reserved of it, each from one address up to another.
+pub fn tables_of(alloc: Global, memory: &[Part], reserved: &[(u64, u64)]) -> Result<Tables, Fail> {
+    let mut tables = Tables::new(alloc, KERNEL)?;
+    for part in memory {
+        if !cover_part(&mut tables, Which::Memory, *part) {
+            return Err("memory".into());
+        }
+    }
+    for (from, until) in reserved {
+        if !cover_part(&mut tables, Which::Reserved, (*from, *until, 1024)) {
+            return Err("reserved".into());
+        }
+    }
+    Ok(tables)
+}

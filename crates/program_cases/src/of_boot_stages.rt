@@ -1,0 +1,142 @@
+//! The boot on maps that overlap, are edited and stop it, by runs from outside, and what it does to memory.
+
+ghost use Rattle.e820_model.specs.Claims.{EndInSpace};
+
+use crate::common::{FIRST_640K, FIRST_PAGE, KERNEL, entry, nested, run};
+use arrayvec::ArrayVec;
+use boot_model::{Booted, Inputs, Stop};
+use boot_options::read_options;
+use boot_stages::boot;
+use e820_model::Run;
+use e820_table::{Entry, ZeroPage};
+use report_texts::put_journal;
+use std::alloc::Global;
+use std::process::Abort;
+use std::test::Fail;
+
+// A virtual machine of 128 MiB.
+fn machine() -> [Entry; 6]
+    ensures { EndInSpace result }
+{
+    [
+        entry(0, 0x9_FC00, 1),
+        entry(0x9_FC00, 0x400, 2),
+        entry(0xF_0000, 0x1_0000, 2),
+        entry(0x10_0000, 0x7EE_0000, 1),
+        entry(0x7FE_0000, 0x2_0000, 2),
+        entry(0xFFFC_0000, 0x4_0000, 2),
+    ]
+}
+
+// The boot of these entries, which come as an extension, and of this line.
+fn booted(alloc: Global, entries: &[Entry], line: &[u8]) -> Result<Result<Booted, Stop>, Fail>
+    requires { EndInSpace entries.now }
+{
+    let inputs = Inputs {
+        zero: ZeroPage {
+            entries: ArrayVec::new(),
+            initrd: None,
+        },
+        ext: Vec::from_slice(alloc, entries)?,
+        options: read_options(alloc, line)?,
+        srat: None,
+        kernel: KERNEL,
+        lines: Vec::new(alloc),
+    };
+    Ok(boot(alloc, inputs))
+}
+
+fn expect(
+    rt: &impl Abort,
+    alloc: Global,
+    entries: &[Entry],
+    line: &[u8],
+    want: Result<&[Run], Stop>,
+) -> Result<(), Fail>
+    requires { EndInSpace entries.now }
+{
+    match booted(alloc, entries, line)? {
+        Ok(booted) => assert!(rt; want == Ok(booted.map.as_slice())),
+        Err(stop) => assert!(rt; want == Err(stop)),
+    }
+    Ok(())
+}
+
+#[test]
+fn maps_and_stops(rt: HostRuntime) -> Result<(), Fail> {
+    let alloc = rt.alloc();
+    // edits act on a settled table: no RAM comes out from under the reserved range
+    expect(
+        &rt,
+        alloc,
+        &nested(),
+        b"memmap=1M%0x200000-2",
+        Ok(&[
+            FIRST_PAGE,
+            FIRST_640K,
+            run(0x10_0000, 0x10_0000, 1),
+            run(0x30_0000, 0x7D0_0000, 1),
+        ]),
+    )?;
+    let whole = [FIRST_PAGE, FIRST_640K, run(0x10_0000, 0x7F0_0000, 1)];
+    expect(&rt, alloc, &nested(), b"memmap=1M%0x200000-2+1", Ok(&whole))?;
+    // the virtual machine: its own map, RAM up to 64 MiB, and a map of the user's own
+    let own = [
+        FIRST_PAGE,
+        run(0x1000, 0x9_EC00, 1),
+        run(0x9_FC00, 0x400, 2),
+        run(0xF_0000, 0x1_0000, 2),
+        run(0x10_0000, 0x7EE_0000, 1),
+        run(0x7FE_0000, 0x2_0000, 2),
+        run(0xFFFC_0000, 0x4_0000, 2),
+    ];
+    expect(&rt, alloc, &machine(), b"", Ok(&own))?;
+    let cut = [
+        own[0],
+        own[1],
+        own[2],
+        own[3],
+        run(0x10_0000, 0x3F0_0000, 1),
+        own[5],
+        own[6],
+    ];
+    expect(&rt, alloc, &machine(), b"mem=0x4000000 -- mem=0", Ok(&cut))?;
+    let exact = b"memmap=exactmap memmap=640K@0 memmap=127M@1M";
+    expect(&rt, alloc, &machine(), exact, Ok(&whole))?;
+    // the stops
+    let reserved = [entry(0, 0x1000, 2), entry(0x10_0000, 0x1000, 2)];
+    expect(&rt, alloc, &reserved, b"", Err(Stop::NoRam))?;
+    let vast = [entry(0, 0xA_0000, 1), entry(0x10_0000, 0x1000_0000_0000, 1)];
+    let too_much = Stop::TooMuchRam {
+        frames: 4_294_967_455,
+    };
+    expect(&rt, alloc, &vast, b"", Err(too_much))
+}
+
+// The items of that machine: the first claims, two runs of RAM, of which the first ends within a frame, the limit at the end
+// of the second; then node 0 for all of it, and the places of its data and of one section.
+const JOURNAL: &str = "1: claim kernel 0x0000000001000000..0x0000000002ffffff\n\
+                       2: claim low-64k 0x0000000000000000..0x000000000000ffff\n\
+                       3: limit 0x0000000000100000\n\
+                       4: mem 0x0000000000001000..0x000000000009fbff\n\
+                       5: mem 0x0000000000100000..0x0000000007fdffff\n\
+                       6: trim\n\
+                       7: limit 0x0000000007fe0000\n\
+                       8: claim low-1m 0x0000000000000000..0x00000000000fffff\n\
+                       9: node 0 0x0000000000000000..0x0000000007fdffff\n\
+                       10: claim node-data 0 0x0000000007fb5000..0x0000000007fdffff\n\
+                       11: claim roots 0x0000000007fb1000..0x0000000007fb4fff\n\
+                       12: claim root 0 0x0000000007fb0000..0x0000000007fb0fff\n\
+                       13: claim usage 0 0x0000000007faffc0..0x0000000007faffe7\n\
+                       14: claim map 0 0x0000000007c00000..0x0000000007dfffff\n";
+
+#[test]
+fn journal_of_a_virtual_machine(rt: HostRuntime) -> Result<(), Fail> {
+    let Ok(booted) = booted(rt.alloc(), &machine(), b"")? else {
+        return Err("the boot stops".into());
+    };
+    let mut text = Vec::new(rt.alloc());
+    put_journal(&mut text, &booted.journal)?;
+    assert!(rt; text.as_slice() == JOURNAL.as_bytes());
+    Ok(())
+}
