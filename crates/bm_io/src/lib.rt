@@ -1,7 +1,7 @@
 //! The outside of the program: where its inputs come from and where its output goes.
 //!
 //! A boot reads a few whole files and writes reports. [`Files`] is what it reads from, by name and
-//! up to a limit in bytes; [`Sink`] is what it writes to, in pieces. Both may fail at any call, and
+//! up to a limit in bytes; [`Sink`] is what it writes to, in chunks. Both may fail at any call, and
 //! the contracts of the layers above are about every implementation of them.
 //!
 //! What an implementation means is said by members that only contracts see: the bytes that a name

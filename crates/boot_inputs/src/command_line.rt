@@ -1,4 +1,5 @@
-//! The command line of the kernel as an input.
+//! The command line of the kernel as an input. Nothing of the line goes on but its options, so a boot without a
+//! line is that of a line without words.
 
 ghost use Rattle.std.specs.Prelude.{◌≡◌, IfOk, IsErrOf, IsOkAnd};
 ghost use Rattle.bm_base.specs.Answers.{Answers};

@@ -1,4 +1,5 @@
-//! The E820 extension as an input.
+//! The E820 extension as an input. The boot loader hands it over apart from the zero page, whose entries it goes
+//! on with (`setup_data`); so it is a file of its own, with its own limit and its own faults.
 
 ghost use Rattle.std.specs.Prelude.{◌≡◌, ◌<◌, List, [], length, IfOk, IsErrOf, IsOkAnd};
 ghost use Rattle.bm_base.specs.Answers.{Answers};

@@ -1,4 +1,5 @@
-//! All files, in the order of work.
+//! All files, in the order of work. Each is one call of the step for every reader (`fetching.rt`), so what stands
+//! here is the order: the first file that is refused is the answer, and none behind it is fetched.
 
 ghost use Rattle.std.specs.Prelude.{◌≡◌, ℕ, ◌^◌, ◌<◌, List, length, IfOk, IfSome, IsErrOf, IsNone, IsOk, IsSome, OnOk, ◌⊎◌};
 ghost use Rattle.std.specs.List.{All};

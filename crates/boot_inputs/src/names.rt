@@ -1,4 +1,5 @@
-//! Names of files, by the input that they are of.
+//! Names of files, by the input that they are of. It is a trait, since the words in which the names stand are
+//! read above (`program_words`), by a crate that stands on this one.
 
 ghost use Rattle.std.specs.Prelude.{◌≡◌, ℕ, List, Option};
 ghost use Rattle.std.specs.Option.{option_copied};

@@ -1,4 +1,5 @@
-//! The script of early allocations as an input.
+//! The script of early allocations as an input. The boot asks that the sections are placed once at most, which
+//! the reader doesn't promise: a law of `early_script` is called here that tells it.
 
 ghost use Rattle.std.specs.Prelude.{◌≡◌, ◌<◌, ◌≤◌, List, [], length, IfOk, IsErrOf, IsOkAnd};
 ghost use Rattle.std.specs.List.{All};

@@ -1,4 +1,5 @@
-//! The firmware's table of domains as an input.
+//! The firmware's table of domains as an input. Without a file there is no table, and not one without entries:
+//! the boot tells the two apart, as `absent` and `no blocks`.
 
 ghost use Rattle.std.specs.Prelude.{◌≡◌, ◌^◌, ◌<◌, Option, None, length, IfOk, IfSome, IsErrOf, IsOkAnd};
 ghost use Rattle.std.specs.Option.{option_map};

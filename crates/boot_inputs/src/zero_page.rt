@@ -1,4 +1,5 @@
-//! The zero page as an input.
+//! The zero page as an input. Its entries stand in an array that has room for all of them, so it is the one input
+//! whose reading never wants memory.
 
 ghost use Rattle.std.specs.Prelude.{◌≡◌, List, [], IfOk, IfSome, IsErrOf, IsOkAnd};
 ghost use Rattle.bm_base.specs.Answers.{Answers};

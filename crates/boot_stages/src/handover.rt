@@ -1,4 +1,5 @@
-//! The end of the early boot: memblock's bytes are handed over, with what they say is free.
+//! The end of the early boot: memblock's bytes are handed over, with what they say is free. The value of memblock
+//! ends here, so whatever comes behind reads the bytes at the two heads and has nothing else to ask.
 
 ghost use Rattle.std.specs.Prelude.{◌≡◌, ◌^◌, IfOk};
 ghost use Rattle.address_runs.specs.Edits.{NothingFrom};

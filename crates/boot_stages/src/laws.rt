@@ -1,4 +1,5 @@
-//! What the boot's contract says once the table has answered.
+//! What the boot's contract says once the table has answered. By the contract alone want of memory may come in
+//! place of any stop; that a stop at the map is decided by then, with no more memory, stands here beside it.
 
 ghost use Rattle.e820_model.specs.Map.{map_of};
 ghost use Rattle.bm_base.specs.Answers.{Answers};

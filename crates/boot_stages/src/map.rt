@@ -1,4 +1,5 @@
-//! The first stages: the claims of the finished map, the map, and whether a boot goes on with it.
+//! The first stages: the claims of the finished map, the map, and whether a boot goes on with it. They need no
+//! memblock: of the table of claims (`e820_sanitise`) the stages behind them get the runs of the map alone.
 
 ghost use Rattle.std.specs.Prelude.{◌≡◌, ◌↔◌, IfOk, IsErrOf, OnOk};
 ghost use Rattle.address_runs.specs.Runs.{AreRuns, value_at};

@@ -1,4 +1,6 @@
-//! The boot, whole: the stages in their order.
+//! The boot, whole: the stages in their order. What each of them does stands elsewhere; here it is argued that
+//! one behind the other they come to what the definition says, and that the headline holds of the answer
+//! (`conservation`).
 
 ghost use Rattle.std.specs.Prelude.{◌≡◌, ◌^◌, ◌<◌, ℕ, Ok, IfOk, IfSome, length};
 ghost use Rattle.std.specs.List.{All};

@@ -1,4 +1,5 @@
-//! The free frames, and what the page allocator's lists hold of them.
+//! The free frames, and what the page allocator's lists hold of them. Beside the runs it keeps for how many more
+//! entries there is memory, so that it is known before a call whether that can want any.
 
 ghost use Rattle.std.specs.Prelude.{◌≡◌, ℕ, ◌+◌, ◌-◌, ◌^◌, ◌<◌, ◌≤◌, max, None, [], IsOk, OnOk, OnErr, IfOk, vec_len, vec_capacity};
 ghost use Rattle.address_runs.specs.Runs.{IsRunsOf};

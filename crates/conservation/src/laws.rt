@@ -1,4 +1,5 @@
-//! The four facts of each boot that isn't stopped, and what the map that it tells has to do with them.
+//! The four facts of each boot that isn't stopped, and what the map that it tells has to do with them. They are
+//! proved of the definition, and no stage is called: so they hold of any boot that answers it.
 
 ghost use Rattle.std.specs.Prelude.{◌≡◌, ◌↔◌, ℕ, Ok};
 ghost use Rattle.boot_model.specs.Boot.{Given, Told, told_boot};

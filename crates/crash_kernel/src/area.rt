@@ -1,4 +1,5 @@
-//! How much is asked for, and in which form, by the total memory.
+//! How much is asked for, and in which form, by the total memory. It is told by the line and by one number, so it
+//! stands apart from the searches: nothing here sees memblock.
 
 ghost use Rattle.std.specs.Prelude.{◌≡◌, ◌<◌, IfSome};
 ghost use Rattle.std.specs.Option.{option_map};

@@ -1,4 +1,5 @@
-//! What came of the crash area.
+//! What came of the crash area. All of these are answers, since a boot goes on without the area: an error is only
+//! that a table had to grow and found no place, or want of memory.
 
 use bm_base::Range;
 

@@ -1,4 +1,5 @@
-//! The laws of the crash area, as functions that do nothing: what the stages behind it may rest on.
+//! The laws of the crash area, as functions that do nothing: what the stages behind it may rest on. An answer
+//! tells where an area lies and no more; that it was free memory, of one node, is said here for who reads it.
 
 ghost use Rattle.std.specs.Prelude.{◌≡◌, Option, List, Ok};
 ghost use Rattle.bm_base.specs.Extent.{Extent};

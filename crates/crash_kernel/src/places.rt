@@ -1,4 +1,5 @@
-//! Where the area and its low part may lie: searches of unclaimed memory, on any node.
+//! Where the area and its low part may lie: searches of unclaimed memory, on any node. Memblock is only looked at
+//! here, so that an area has no place is known before anything is claimed, and wants no memory.
 
 ghost use Rattle.std.specs.Prelude.{◌≡◌, ℕ, ◌+◌, ◌^◌, ◌<◌, ◌≤◌, IfSome};
 ghost use Rattle.bm_base.specs.Extent.{Extent};

@@ -1,4 +1,5 @@
-//! The types of memory (`enum e820_type`).
+//! The types of memory (`enum e820_type`). They are numbers and no enumeration, since firmware and options may
+//! give any other number above 0, and the map keeps that as it is.
 
 /// Memory that may be used.
 pub const E820_TYPE_RAM: u32 = 1;

@@ -1,4 +1,5 @@
-//! What the layer above may rest on beside the calls.
+//! What the layer above may rest on beside the calls. The reader refuses a second `sections`; that all lines
+//! behind the first can then be run is a law here, where running is known.
 ghost use Rattle.std.specs.Prelude.{◌≡◌, ℕ, List, Result, Ok};
 ghost use Rattle.bm_base.specs.declared.memory.Memory.{Memory};
 ghost use Rattle.memblock_model.specs.Items.{memory_of, limit_of};

@@ -1,4 +1,5 @@
-//! The live IDs, and the lines that are run on them.
+//! The live IDs, and the lines that are run on them. Of an ID its range alone is kept here: whether all of it is
+//! still the ID's is asked of the journal, since another line may have claimed over it.
 
 ghost use Rattle.std.specs.Prelude.{◌≡◌, ℕ, ◌+◌, ◌-◌, ◌^◌, ◌<◌, ◌≤◌, List, [], OnOk, OnErr, IfOk, IfErr, IsOk};
 ghost use Rattle.bm_base.specs.Extent.{Extent};

@@ -1,4 +1,5 @@
-//! What comes of a line.
+//! What comes of a line. A refusal of memblock is an outcome like any other, and want of the program's own memory
+//! is none: behind the one the next line follows, and the other ends the boot.
 
 use arrayvec::ArrayVec;
 use memblock_model::Which;

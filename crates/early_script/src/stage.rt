@@ -1,4 +1,6 @@
-//! The lines of a script one behind another, each with its answer.
+//! The lines of a script one behind another, each with its answer. Where the sections are placed is one of the
+//! lines, but the crates that place them stand beside this one: so lines are split at it, and the boot runs both
+//! parts.
 ghost use Rattle.std.specs.Prelude.{◌≡◌, ℕ, List, OnOk, OnErr};
 ghost use Rattle.std.specs.List.{All};
 ghost use Rattle.script_reader.specs.Forms.{HasBounds};

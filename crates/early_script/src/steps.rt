@@ -1,4 +1,5 @@
-//! The steps of a line that need no live ID.
+//! The steps of a line that need no live ID. They stand apart from `Live`, so that their contracts speak of
+//! memblock or of numbers alone.
 
 ghost use Rattle.std.specs.Prelude.{◌≡◌, ℕ, ◌+◌, ◌-◌, ◌^◌, ◌<◌, ◌≤◌, false, length, MatchOption};
 ghost use Rattle.phys_store.specs.Bytes.{bytes_at};

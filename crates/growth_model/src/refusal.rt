@@ -1,4 +1,5 @@
-//! Why a call that changes memory was refused.
+//! Why a call that changes memory was refused. It stands below the calls, since how one may end is defined with
+//! it (`specs/Ends.antt`); of it the stages above make stops, and the early script makes answers.
 
 use bm_base::Memory;
 use memblock_model::Which;

@@ -1,4 +1,5 @@
-//! What an allocation asks for (`memblock_alloc_range_nid`).
+//! What an allocation asks for (`memblock_alloc_range_nid`). It stands below memblock, since what an allocation
+//! tries is defined over it (`specs/Request.antt`), and so are the allocations of each stage.
 
 /// What an allocation asks for. Addresses and sizes are in bytes.
 #[derive(Clone, Copy, Debug, PartialEq, Eq)]

@@ -1,3 +1,5 @@
+//! What a search is asked: here, below the crate that searches, since definitions of growth and of placed crash areas ask the same.
+
 /// What a search looks for (`memblock_find_in_range_node`). Addresses and sizes are in bytes.
 #[derive(Clone, Copy, Debug, PartialEq, Eq)]
 pub struct Query {

@@ -1,3 +1,5 @@
+//! What is told of one byte as memory: an answer in the words of the records, without the label that contracts speak of.
+
 /// What a byte is to the memory table.
 #[derive(Clone, Copy, Debug, PartialEq, Eq)]
 pub enum Tag {

@@ -1,3 +1,5 @@
+//! The names of the two tables: what holds of both is said once, over the name.
+
 /// One of memblock's two tables.
 #[derive(Clone, Copy, Debug, PartialEq, Eq)]
 pub enum Which {

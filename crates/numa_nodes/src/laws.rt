@@ -1,4 +1,6 @@
-//! What the steps come to, as functions that do nothing: what the boot may rest on.
+//! What the steps come to, as functions that do nothing: what the boot may rest on. The steps go by ranges; that
+//! each byte of memory has a node then, the same for all of a frame, is what the stages behind them ask, and is
+//! said here.
 ghost use Rattle.std.specs.Prelude.{◌≡◌, ◌↔◌, ℕ, ◌^◌, ◌<◌, ◌≤◌, Bool, true, is_some, Option, List, length, get_or, Ok};
 ghost use Rattle.std.specs.List.{Contains};
 ghost use Rattle.address_runs.specs.Edits.{NothingFrom};

@@ -1,4 +1,5 @@
-//! What a boot says of its nodes.
+//! What a boot says of its nodes. Which byte has which node isn't kept in it: that stands in the memory table, and
+//! in the journal's items, by which the report tells it.
 
 use node_hulls::Why;
 

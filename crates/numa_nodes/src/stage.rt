@@ -1,4 +1,5 @@
-//! Nodes for memory, and data for nodes: the Node items and the allocations, in their order.
+//! Nodes for memory, and data for nodes: the Node items and the allocations, in their order. They are one stage,
+//! since the data of a node should lie on it: it is asked for once memory has its nodes, for those with memory.
 ghost use Rattle.std.specs.Prelude.{◌≡◌, ◌^◌, ◌<◌, length, IfOk};
 ghost use Rattle.std.specs.Option.{ForSome, option_map, option_copied};
 ghost use Rattle.memblock_model.specs.Items.{limit_of};

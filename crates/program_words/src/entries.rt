@@ -1,4 +1,5 @@
-//! How many entries a made table has, by the value of `--make`.
+//! How many entries a made table has, by the value of `--make`. The bounds are part of what is accepted here, so
+//! that `made` of `e820_table`, which asks for them, needs no test of its own.
 
 ghost use Rattle.std.specs.Prelude.{◌≡◌, IfSome, IsTrue};
 ghost use Rattle.std.specs.Option.{option_copied};

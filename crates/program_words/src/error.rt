@@ -1,4 +1,5 @@
-//! Why words give nothing to do.
+//! Why words give nothing to do. Want of memory is apart from refused words, since `clap` takes memory for what it
+//! finds: it may come whatever the words are.
 
 ghost use Rattle.std.specs.Prelude.{◌≡◌};
 

@@ -1,4 +1,5 @@
-//! Where the kernel's image lies, by the value of `--kernel`.
+//! Where the kernel's image lies, by the value of `--kernel`. A range where no image may lie is refused here, with
+//! the words, so that no stage of the boot has to stop for it.
 
 ghost use Rattle.std.specs.Prelude.{◌≡◌, IfSome};
 ghost use Rattle.std.specs.Option.{option_copied};

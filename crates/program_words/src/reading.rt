@@ -1,4 +1,5 @@
-//! From words to what they ask for.
+//! From words to what they ask for. The command knows the options and not what they mean: what the values say, and
+//! that the first entries have one source, is judged here, behind it.
 
 ghost use Rattle.std.specs.Prelude.{◌≡◌, IfSome};
 ghost use Rattle.std.specs.Option.{option_copied, option_map};

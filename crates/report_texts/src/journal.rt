@@ -1,4 +1,5 @@
-//! The text of the journal: what happened to memory, item by item.
+//! The text of the journal: what happened to memory, item by item. What an item is stands apart from its number
+//! (`put_item`), since the report of nodes has the same words of some items without it.
 
 ghost use Rattle.std.specs.Prelude.{◌≡◌, ◌+◌, ◌^◌, ◌<◌, ◌++◌, OnOk};
 ghost use Rattle.report_texts.specs.JournalText.{item_line, item_text, journal_text};

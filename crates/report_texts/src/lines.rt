@@ -1,4 +1,5 @@
-//! Lines, one for each element of a list.
+//! Lines, one for each element of a list. The call takes the function that puts one line, so the loop over a list
+//! is proved here, once for all reports; and memory for the lines is taken before the first of them.
 
 ghost use Rattle.std.specs.Prelude.{◌≡◌, ℕ, ◌<◌, ◌++◌, List, OnOk, length};
 ghost use Rattle.report_texts.specs.Lines.{lines_from};

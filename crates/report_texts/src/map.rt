@@ -1,4 +1,5 @@
-//! The report of the map: a line for each run.
+//! The report of the map: a line for each run. The names of types stand here and not beside their numbers
+//! (`e820_model`), since a report alone has them.
 
 ghost use Rattle.std.specs.Prelude.{◌≡◌, ◌++◌, OnOk};
 ghost use Rattle.report_texts.specs.MapText.{kind_name, map_line, map_text};

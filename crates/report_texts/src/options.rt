@@ -1,4 +1,5 @@
-//! The text of the options: what the command line asks of the memory set-up.
+//! The text of the options: what the command line asks of the memory set-up. They are told as they were read,
+//! before anything comes of them; that the reports of the map, the nodes and the crash area tell.
 
 ghost use Rattle.std.specs.Prelude.{◌≡◌, ◌++◌, OnOk, codes};
 ghost use Rattle.std.specs.Option.{option_map};

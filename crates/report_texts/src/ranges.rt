@@ -1,4 +1,5 @@
-//! Ranges and indices in lines, the same in every report.
+//! Ranges and indices in lines, the same in every report. A range is kept by its base and its size, and told by
+//! its first and its last byte: that step stands here, for the lines of other crates too.
 
 ghost use Rattle.std.specs.Prelude.{◌≡◌, ◌++◌, OnOk};
 ghost use Rattle.report_texts.specs.Lines.{index_text, range_text};

@@ -1,4 +1,5 @@
-//! The text of a table's records, as the bytes at its place have them.
+//! The text of a table's records, as the bytes at its place have them. There is no list of records to hand to
+//! `put_lines`: each is read from the store when its line is put, so what is told is what stands in memory.
 
 ghost use Rattle.std.specs.Prelude.{◌≡◌, ◌+◌, ◌^◌, ◌<◌, ◌≤◌, ◌++◌, OnOk};
 ghost use Rattle.memblock_ranges.specs.Tables.{Table};

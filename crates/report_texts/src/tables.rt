@@ -1,4 +1,5 @@
-//! The text of the two heads: where each table lies, and how full it is.
+//! The text of the two heads: where each table lies, and how full it is. A table that grows moves and doubles,
+//! which its records don't tell: so the heads are a report beside them.
 
 ghost use Rattle.std.specs.Prelude.{◌≡◌, ◌++◌, OnOk};
 ghost use Rattle.report_texts.specs.TablesText.{table_line, tables_text};

@@ -1,4 +1,5 @@
-//! Why a script isn't read: what is wrong with a line, and that with the line's number.
+//! Why a script isn't read: what is wrong with a line, and that with the line's number. They are two types, since
+//! the steps of a line know what is wrong with it, and the walk over the lines alone knows which one it is.
 
 use bm_base::Memory;
 

@@ -1,3 +1,5 @@
+//! What a line of the script asks for, in its own numbers. The reader stands below memblock, so it has a request of its own.
+
 /// What an allocation asks for (`memblock_alloc_range_nid`). Addresses and sizes are in bytes.
 #[derive(Clone, Copy, Debug, PartialEq, Eq)]
 pub struct Request {

@@ -1,4 +1,5 @@
-//! The maps of sections one by one.
+//! The maps of sections one by one. So they are placed where no buffer is free for those of their group: each has
+//! an owner of its own then, and may lie on another node.
 
 ghost use Rattle.std.specs.Prelude.{◌≡◌, ◌+◌, ◌*◌, ◌^◌, ◌<◌, false, length};
 ghost use Rattle.memblock_model.specs.declared.owner.Owner.TheVariants as owner;

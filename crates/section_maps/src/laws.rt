@@ -1,4 +1,5 @@
-//! The laws of maps, as functions that do nothing: what a boot may rest on.
+//! The laws of maps, as functions that do nothing: what a boot may rest on. The handover asks that each byte of
+//! memory has a node: where that was so before the maps, it is so behind them.
 
 ghost use Rattle.std.specs.Prelude.{◌≡◌, List};
 ghost use Rattle.memblock_model.specs.declared.item.Item.{Item as AnyItem};

@@ -1,7 +1,7 @@
 //! Where the page structures and the usage data of each section lie (`sparse_init_nid`).
 //!
 //! Sections that follow each other among those with memory and have one node are a group. A group gets its usage data in one
-//! piece and the maps of its sections in one piece of the node itself (`sparse_buffer_init`); where no such piece is free each section's
+//! buffer and the maps of its sections in one buffer of the node itself (`sparse_buffer_init`); where no such buffer is free each section's
 //! map is placed alone. `specs/Maps.antt` says it as steps, and [`place_maps`] carries them out.
 #![tactic(auto)]
 

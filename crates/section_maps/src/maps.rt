@@ -1,4 +1,5 @@
-//! The groups one after another.
+//! The groups of sections, one after another. Each is cut off the front of the list when its turn comes, as the
+//! kernel does (`sparse_init`), so no list of groups is made that could want memory.
 
 ghost use Rattle.std.specs.Prelude.{◌≡◌, ◌^◌, ◌≤◌, length};
 ghost use Rattle.growth_model.specs.Sound.{HasBegun};

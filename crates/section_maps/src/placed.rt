@@ -1,4 +1,5 @@
-//! Where a section's map and usage data lie.
+//! Where a section's map and usage data lie. It is a record a section, whether its map lies in the buffer of a
+//! group or alone: so who reads it has to know nothing of groups.
 
 ghost use Rattle.std.specs.Prelude.{◌≡◌, ◌+◌, ◌*◌, ◌^◌, ◌<◌, [], ◌∷◌, ◌++◌, length, OnOk};
 ghost use Rattle.section_maps.specs.Maps.{spread};

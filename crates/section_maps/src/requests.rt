@@ -1,4 +1,5 @@
-//! What is asked for a group of sections and for one.
+//! What is asked for a group of sections and for one. The maps of a group and the map of one section differ in
+//! their number and in whether another node will do: so size, alignment and lowest address stand once.
 
 ghost use Rattle.std.specs.Prelude.{◌≡◌, ◌+◌, ◌*◌, ◌^◌, ◌≤◌};
 ghost use Rattle.section_maps.specs.Maps.{usage_request, map_request};

@@ -1,4 +1,6 @@
-//! The laws of sections, as functions that do nothing: what a boot may rest on.
+//! The laws of sections, as functions that do nothing: what a boot may rest on. Sections are found in records of
+//! whole frames with a node; that the stage of nodes leaves such is said here, since that stage knows nothing of
+//! sections.
 
 ghost use Rattle.std.specs.Prelude.{◌≡◌, ℕ, ◌/◌, ◌^◌, ◌<◌, ◌≤◌, Some, List};
 ghost use Rattle.std.specs.List.{All};

@@ -1,4 +1,5 @@
-//! Where the table of roots and the roots lie.
+//! Where the table of roots and the roots lie. A root has its number with it, since one of whose sections none has
+//! memory gets no place, and doesn't stand in the list.
 
 /// A root: a page of entries for 256 sections.
 #[derive(Clone, Copy, Debug, PartialEq, Eq)]

@@ -1,4 +1,6 @@
-//! The laws of rows of allocations, as functions that do nothing: what the stages may rest on.
+//! The laws of rows of allocations, as functions that do nothing: what the stages may rest on. That a call of
+//! memblock ends as a step stands here, below all of them, so that a stage is argued by its steps and not by the
+//! growth in them.
 
 ghost use Rattle.std.specs.Prelude.{◌≡◌, ℕ, List, Result};
 ghost use Rattle.memblock_model.specs.declared.owner.Owner.{Owner};

@@ -1,4 +1,5 @@
-//! What the stages of a boot place, and why a stage stops it.
+//! What the stages of a boot place, and why a stage stops it. Nodes, roots and maps have one list of things and
+//! one stop between them, so the boot makes its own stop of it in one place.
 
 use bm_base::Memory;
 use memblock_model::Which;

@@ -1,4 +1,5 @@
-//! The text of the crash area: where it lies, or why it doesn't.
+//! The text of the crash area: where it lies, or why it doesn't. A boot goes on without the area, so no stop tells
+//! that reason: this text alone does.
 
 ghost use Rattle.std.specs.Prelude.{◌≡◌, ◌++◌, OnOk};
 ghost use Rattle.stage_texts.specs.CrashText.{crash_text, low_line};

@@ -1,4 +1,5 @@
-//! The text of the nodes: why the table of domains is or isn't used, and which memory is of which node.
+//! The text of the nodes: why the table of domains is or isn't used, and which memory is of which node. The ranges
+//! are the Node items of the journal, in its own words (`put_item`), since what the stage answers has none.
 
 ghost use Rattle.std.specs.Prelude.{◌≡◌, ◌++◌, OnOk};
 ghost use Rattle.numa_nodes.specs.Assigned.{nodes_view};

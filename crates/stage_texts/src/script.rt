@@ -1,4 +1,5 @@
-//! The text of the early script: what came of each of its lines.
+//! The text of the early script: what came of each of its lines. A refused line stops no boot, so its refusal is
+//! told here, by the number that the line has in the script.
 
 ghost use Rattle.std.specs.Prelude.{◌≡◌, ◌≤◌, ◌++◌, OnOk, length};
 ghost use Rattle.hex.specs.Hex.{encode_lower};

@@ -1,4 +1,5 @@
-//! The text of the sections: where the table of roots, the roots, and what belongs to each section lie.
+//! The text of the sections: where the table of roots, the roots, and what belongs to each section lie. The roots
+//! are those of `sparse_sections`, the rest is of `section_maps`: here both come into one report.
 
 ghost use Rattle.std.specs.Prelude.{◌≡◌, ◌++◌, OnOk};
 ghost use Rattle.stage_texts.specs.SectionsText.{root_line, roots_text, section_line, sections_text};

@@ -1,4 +1,5 @@
-//! The text of the summary: how much there is of everything at the end of a boot.
+//! The text of the summary: how much there is of everything at the end of a boot. The numbers are counted above,
+//! where a whole boot is known (`debugfs_reports`); their record stands here, since the lines are defined over it.
 
 ghost use Rattle.std.specs.Prelude.{◌≡◌, ◌++◌, OnOk};
 ghost use Rattle.stage_texts.specs.SummaryText.{fullness_line, number_line, summary_text};

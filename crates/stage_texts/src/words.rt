@@ -1,4 +1,5 @@
-//! A word and what stands behind it, the same in every text.
+//! A word and what stands behind it, the same in every text. Most lines of this crate are a few such pairs, so a
+//! line is put by a call for each, in the order of its definition.
 
 ghost use Rattle.std.specs.Prelude.{◌≡◌, ◌++◌, OnOk, decimal};
 ghost use Rattle.bm_base.specs.Text.{hex_text};

@@ -1,4 +1,5 @@
-//! The texts of the zones: what the memory of each node spans, and how many free blocks there are.
+//! The texts of the zones: what the memory of each node spans, and how many free blocks there are. Both have a
+//! line for each span, and count where the free frames are (`Buddy::count`), without a list of blocks.
 
 ghost use Rattle.std.specs.Prelude.{◌≡◌, ◌++◌, OnOk, codes, decimal};
 ghost use Rattle.frame_blocks.specs.Listed.{blocks_of};

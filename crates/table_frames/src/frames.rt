@@ -1,4 +1,5 @@
-//! The frames of one record.
+//! The frames of one record. A reserved record may begin and end inside a frame, which then counts as whole;
+//! records of memory are whole frames: so one count serves both tables.
 
 ghost use Rattle.std.specs.Prelude.{◌≡◌, ◌^◌, ◌<◌, get_or};
 ghost use Rattle.address_runs.specs.Runs.{RunOf};
