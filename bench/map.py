@@ -58,12 +58,12 @@ def joined(count, chance):
 
 
 def adds(count):
-    """The command line of `count` pieces that reserve 64 KiB each."""
+    """The command line of `count` map options that reserve 64 KiB each."""
     return b"memmap=" + b",".join(b"64K$0x%x" % (0x200000 + i * 0x100000) for i in range(count))
 
 
 def removes(count):
-    """The command line of `count` pieces that take RAM away from 64 KiB each."""
+    """The command line of `count` map options that take RAM away from 64 KiB each."""
     return b"memmap=" + b",".join(b"64K%%0x%x-1" % (0x200000 + i * 0x100000) for i in range(count))
 
 

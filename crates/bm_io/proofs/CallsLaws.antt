@@ -5,18 +5,18 @@ use Rattle.bm_io.specs.Calls.{HasTaken, nothing_taken, took, HasGiven, gave}
 use Rattle.bm_io.proofs.StreamLaws.{left_of, gone_more}
 
 -- before the first write nothing was taken
-pub taken_none : {W : Type 0} (writes : W → List ℕ → Option ℕ → W → Type 0) (piece : List ℕ) (before : W)
-    → HasTaken writes piece before (length piece - length piece) before
-taken_none writes piece before = let zero : length piece - length piece ≡ 0 = omega arith in rw zero nothing_taken
+pub taken_none : {W : Type 0} (writes : W → List ℕ → Option ℕ → W → Type 0) (chunk : List ℕ) (before : W)
+    → HasTaken writes chunk before (length chunk - length chunk) before
+taken_none writes chunk before = let zero : length chunk - length chunk ≡ 0 = omega arith in rw zero nothing_taken
 
 -- one more write took n bytes of what was left
-pub taken_more : {W : Type 0} (writes : W → List ℕ → Option ℕ → W → Type 0) (piece rest : List ℕ) (before mid after : W) (n : ℕ)
-    → HasTaken writes piece before (length piece - length rest) mid → rest ≡ drop (length piece - length rest) piece
+pub taken_more : {W : Type 0} (writes : W → List ℕ → Option ℕ → W → Type 0) (chunk rest : List ℕ) (before mid after : W) (n : ℕ)
+    → HasTaken writes chunk before (length chunk - length rest) mid → rest ≡ drop (length chunk - length rest) chunk
     → n ≤ length rest → 0 < n → writes mid rest (Some n) after
-    → HasTaken writes piece before (length piece - length (left_of rest n)) after
-taken_more writes piece rest before mid after n so_far left small some call =
-    let offered : writes mid (drop (length piece - length rest) piece) (Some n) after = rw (← left) call in
-    rw (gone_more piece rest n left small) (took so_far offered some)
+    → HasTaken writes chunk before (length chunk - length (left_of rest n)) after
+taken_more writes chunk rest before mid after n so_far left small some call =
+    let offered : writes mid (drop (length chunk - length rest) chunk) (Some n) after = rw (← left) call in
+    rw (gone_more chunk rest n left small) (took so_far offered some)
 
 -- one more read gave some bytes
 pub given_more : {F : Type 0} (reads : F → Option (List ℕ) → F → Type 0) (before mid after : F) (so_far buffer now : List ℕ) (n : ℕ)

@@ -110,15 +110,15 @@ failed_puts = (refl, refl, refl)
 wanted_memory : (wants_of_memory (Ok tt) ≡ 0) × (wants_of_memory (Err put.Failed) ≡ 0) × (wants_of_memory (Err put.Memory) ≡ 1)
 wanted_memory = (refl, refl, refl)
 
--- an output whose second call failed, before that call and behind it: half of the piece went out
+-- an output whose second call failed, before that call and behind it: half of the chunk went out
 abbrev before_failure : HeldOutput
 before_failure = record { written = codes "ab"; failing = 2 ∷ []; calls = 1; faults = 0; wants = 0 }
 
 abbrev behind_failure : HeldOutput
 behind_failure = record { written = codes "abc"; failing = 2 ∷ []; calls = 2; faults = 1; wants = 0 }
 
-half_of_a_piece : AppendsFront (Some before_failure.written) (Some behind_failure.written) (codes "cd")
-half_of_a_piece = (1, omega arith, refl)
+half_of_a_chunk : AppendsFront (Some before_failure.written) (Some behind_failure.written) (codes "cd")
+half_of_a_chunk = (1, omega arith, refl)
 
 counted_failure : (behind_failure.faults ≡ counted before_failure.faults (put_failures (Err put.Failed)))
     × Rose before_failure.faults behind_failure.faults
@@ -132,7 +132,7 @@ held_sink = record { written = λ s. Some s.written; faults = λ s. s.faults; wa
 failed_put : Puts held_sink before_failure behind_failure (Err put.Failed) (codes "cd")
 failed_put = record {
   whole = tt;
-  front = half_of_a_piece;
+  front = half_of_a_chunk;
   failed = λ is. omega arith;
   wanting = λ is. cc;
   uncounted = tt;
@@ -199,6 +199,17 @@ one_too_many = (
   omega arith,
   (refl, λ none. refl),
   omega arith,
+  refl,
+)
+
+-- a read that fails behind two bytes: they were taken, and nothing is answered of them
+failed_behind_two : IsReadBy known_reads (codes "abc") 9 (Err fetch.Failed) 2 (codes "c")
+failed_behind_two = (
+  codes "ab",
+  codes "c",
+  gave {given = []} {bytes = codes "ab"} {mid = codes "abc"} nothing_given (refl, λ none. cc) (omega arith),
+  omega arith,
+  refl,
   refl,
 )
 

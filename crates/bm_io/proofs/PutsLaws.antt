@@ -1,4 +1,4 @@
--- Bytes that go out one piece after another.
+-- Bytes that go out one chunk after another.
 use Rattle.std.proofs.Common.{◌≡◌, ℕ, ◌+◌, ◌<◌, List, [], ◌∷◌, ◌++◌, length, take, drop, get_or, Option, Result, Err, refl, sym, ◌∙◌, ap, arith, append-nil, length-append, take-append-drop, drop-cons, add-one}
 use Rattle.std.proofs.lemmas.List.{take-append-le, take_more}
 use Rattle.std.proofs.lemmas.Grind.{flat_map-append}
@@ -11,20 +11,20 @@ use Rattle.bm_io.specs.declared.writing.Put.{Put}
 use Rattle.bm_io.specs.declared.writing.Sink.{Ghosts as SinkOf}
 use Rattle.bm_io.proofs.StreamLaws.{appends_twice}
 
--- the bytes of one more piece stand behind those of the pieces before it
-pub joined_more : {P : Type 0} (bytes : P → List ℕ) (pieces : List P) (i : ℕ) (d : P) → i < length pieces
-    → flat_map bytes (take (i + 1) pieces) ≡ flat_map bytes (take i pieces) ++ bytes (get_or pieces i d)
-joined_more bytes pieces i d inside =
-    ap (λ t. flat_map bytes t) (take_more pieces i d inside) ∙ flat_map-append bytes (take i pieces) (get_or pieces i d ∷ [])
-    ∙ ap (λ (t : List ℕ). flat_map bytes (take i pieces) ++ t) (append-nil (bytes (get_or pieces i d)))
+-- the bytes of one more chunk stand behind those of the chunks before it
+pub joined_more : {P : Type 0} (bytes : P → List ℕ) (chunks : List P) (i : ℕ) (d : P) → i < length chunks
+    → flat_map bytes (take (i + 1) chunks) ≡ flat_map bytes (take i chunks) ++ bytes (get_or chunks i d)
+joined_more bytes chunks i d inside =
+    ap (λ t. flat_map bytes t) (take_more chunks i d inside) ∙ flat_map-append bytes (take i chunks) (get_or chunks i d ∷ [])
+    ∙ ap (λ (t : List ℕ). flat_map bytes (take i chunks) ++ t) (append-nil (bytes (get_or chunks i d)))
 
--- the bytes of the pieces before one, of that piece, and of those behind it
-pub joined_at : {P : Type 0} (bytes : P → List ℕ) (pieces : List P) (i : ℕ) (d : P) → i < length pieces
-    → flat_map bytes (take i pieces) ++ (bytes (get_or pieces i d) ++ flat_map bytes (drop (i + 1) pieces)) ≡ flat_map bytes pieces
-joined_at bytes pieces i d inside =
-    let rest : drop i pieces ≡ get_or pieces i d ∷ drop (i + 1) pieces = rw (add-one i) (drop-cons pieces i d inside) in
-    ap (λ t. flat_map bytes (take i pieces) ++ flat_map bytes t) (sym rest)
-    ∙ sym (flat_map-append bytes (take i pieces) (drop i pieces)) ∙ ap (λ t. flat_map bytes t) (take-append-drop i pieces)
+-- the bytes of the chunks before one, of that chunk, and of those behind it
+pub joined_at : {P : Type 0} (bytes : P → List ℕ) (chunks : List P) (i : ℕ) (d : P) → i < length chunks
+    → flat_map bytes (take i chunks) ++ (bytes (get_or chunks i d) ++ flat_map bytes (drop (i + 1) chunks)) ≡ flat_map bytes chunks
+joined_at bytes chunks i d inside =
+    let rest : drop i chunks ≡ get_or chunks i d ∷ drop (i + 1) chunks = rw (add-one i) (drop-cons chunks i d inside) in
+    ap (λ t. flat_map bytes (take i chunks) ++ flat_map bytes t) (sym rest)
+    ∙ sym (flat_map-append bytes (take i chunks) (drop i chunks)) ∙ ap (λ t. flat_map bytes t) (take-append-drop i chunks)
 
 -- where bytes that were joined are none, neither part has any
 pub none_first : (xs ys : List ℕ) → xs ++ ys ≡ [] → xs ≡ []

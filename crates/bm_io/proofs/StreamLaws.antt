@@ -1,4 +1,4 @@
--- Known bytes that grow piece by piece.
+-- Known bytes that grow chunk by chunk.
 use Rattle.std.proofs.Common.{◌≡◌, ℕ, ◌+◌, ◌-◌, ◌/◌, ◌≤◌, List, ◌++◌, length, take, drop, Option, Some, None, refl, sym, ◌∙◌, ap, arith, length-drop, append_assoc, append-nil, take_all, take-add, drop-drop, Result, Ok, Err}
 use Rattle.std.specs.Prelude.{OnErr, IsErrOf}
 use Rattle.std.specs.Io.KnownBytes.{Appends, Consumes}
@@ -6,7 +6,7 @@ use Rattle.bm_io.specs.Told.{AppendsFront}
 use Rattle.bm_io.specs.declared.writing.Put.{Put}
 use Rattle.bm_io.specs.declared.writing.Put.TheVariants as put
 
--- two pieces that follow one another
+-- two chunks that follow one another
 pub appends_twice : (old mid new : Option (List ℕ)) (first second : List ℕ)
     → Appends old mid first → Appends mid new second → Appends old new (first ++ second)
 appends_twice None mid new first second a b = tt
@@ -31,39 +31,39 @@ left_of rest k = take (length rest - k) (drop k rest)
 left_is : (rest : List ℕ) (k : ℕ) → left_of rest k ≡ drop k rest
 left_is rest k = take_all (length rest - k) (drop k rest) (rw (length-drop k rest) (omega arith))
 
--- how much of the piece is gone
-pub gone_more : (piece rest : List ℕ) (k : ℕ) → rest ≡ drop (length piece - length rest) piece → k ≤ length rest
-    → length piece - length (left_of rest k) ≡ (length piece - length rest) + k
-gone_more piece rest k left small =
-    let all : length rest ≡ length piece - (length piece - length rest) =
-    ap (λ (t : List ℕ). length t) left ∙ length-drop (length piece - length rest) piece in
+-- how much of the chunk is gone
+pub gone_more : (chunk rest : List ℕ) (k : ℕ) → rest ≡ drop (length chunk - length rest) chunk → k ≤ length rest
+    → length chunk - length (left_of rest k) ≡ (length chunk - length rest) + k
+gone_more chunk rest k left small =
+    let all : length rest ≡ length chunk - (length chunk - length rest) =
+    ap (λ (t : List ℕ). length t) left ∙ length-drop (length chunk - length rest) chunk in
     rw (left_is rest k, length-drop k rest) (omega arith)
 
--- the rest after k more bytes is the rest of the piece
-pub left_more : (piece rest : List ℕ) (k : ℕ) → rest ≡ drop (length piece - length rest) piece → k ≤ length rest
-    → left_of rest k ≡ drop (length piece - length (left_of rest k)) piece
-left_more piece rest k left small =
+-- the rest after k more bytes is the rest of the chunk
+pub left_more : (chunk rest : List ℕ) (k : ℕ) → rest ≡ drop (length chunk - length rest) chunk → k ≤ length rest
+    → left_of rest k ≡ drop (length chunk - length (left_of rest k)) chunk
+left_more chunk rest k left small =
     left_is rest k ∙ ap (λ (t : List ℕ). drop k t) left
-    ∙ drop-drop k (length piece - length rest) piece
-    ∙ sym (ap (λ (n : ℕ). drop n piece) (gone_more piece rest k left small))
+    ∙ drop-drop k (length chunk - length rest) chunk
+    ∙ sym (ap (λ (n : ℕ). drop n chunk) (gone_more chunk rest k left small))
 
--- the bytes so far and k more of the rest are the front of the piece
-pub front_more : (old mid new : Option (List ℕ)) (piece rest : List ℕ) (k : ℕ)
-    → Appends old mid (take (length piece - length rest) piece) → rest ≡ drop (length piece - length rest) piece
+-- the bytes so far and k more of the rest are the front of the chunk
+pub front_more : (old mid new : Option (List ℕ)) (chunk rest : List ℕ) (k : ℕ)
+    → Appends old mid (take (length chunk - length rest) chunk) → rest ≡ drop (length chunk - length rest) chunk
     → k ≤ length rest → Appends mid new (take k rest)
-    → Appends old new (take (length piece - length (left_of rest k)) piece)
-front_more old mid new piece rest k before left small more =
-    let n : ℕ = length piece - length rest in
-    let whole : take n piece ++ take k rest ≡ take (length piece - length (left_of rest k)) piece =
-    ap (λ (t : List ℕ). take n piece ++ take k t) left ∙ sym (take-add n k piece)
-    ∙ sym (ap (λ (m : ℕ). take m piece) (gone_more piece rest k left small)) in
-    rw (← whole) (appends_twice old mid new (take n piece) (take k rest) before more)
+    → Appends old new (take (length chunk - length (left_of rest k)) chunk)
+front_more old mid new chunk rest k before left small more =
+    let n : ℕ = length chunk - length rest in
+    let whole : take n chunk ++ take k rest ≡ take (length chunk - length (left_of rest k)) chunk =
+    ap (λ (t : List ℕ). take n chunk ++ take k t) left ∙ sym (take-add n k chunk)
+    ∙ sym (ap (λ (m : ℕ). take m chunk) (gone_more chunk rest k left small)) in
+    rw (← whole) (appends_twice old mid new (take n chunk) (take k rest) before more)
 
--- a put that failed appended the half, and one with no memory nothing: either is a front of the piece
-pub front_of_failure : (answer : Result (Unit {0}) Put) (old new piece : List ℕ)
-    → (IsErrOf answer put.Failed → new ≡ old ++ take (length piece / 2) piece)
+-- a put that failed appended the half, and one with no memory nothing: either is a front of the chunk
+pub front_of_failure : (answer : Result (Unit {0}) Put) (old new chunk : List ℕ)
+    → (IsErrOf answer put.Failed → new ≡ old ++ take (length chunk / 2) chunk)
     → (IsErrOf answer put.Memory → new ≡ old)
-    → OnErr answer (AppendsFront (Some old) (Some new) piece)
-front_of_failure (Ok done) old new piece half none = tt
-front_of_failure (Err put.Failed) old new piece half none = (length piece / 2, omega arith, half refl)
-front_of_failure (Err put.Memory) old new piece half none = (0, omega arith, none refl ∙ sym (append-nil old))
+    → OnErr answer (AppendsFront (Some old) (Some new) chunk)
+front_of_failure (Ok done) old new chunk half none = tt
+front_of_failure (Err put.Failed) old new chunk half none = (length chunk / 2, omega arith, half refl)
+front_of_failure (Err put.Memory) old new chunk half none = (0, omega arith, none refl ∙ sym (append-nil old))

@@ -11,6 +11,6 @@ abbrev pub IsToldLonger : Option (List ℕ → Option (List ℕ)) → List ℕ �
 IsToldLonger holds name limit =
     IfSome holds (λ held. (bytes : List ℕ) × (held name ≡ Some bytes) × (limit < length bytes))
 
--- where the output tells what was written: it grew by a prefix of the piece
+-- where the output tells what was written: it grew by a prefix of the chunk
 abbrev pub AppendsFront : Option (List ℕ) → Option (List ℕ) → List ℕ → Type 0
-AppendsFront old new piece = (n : ℕ) × (n ≤ length piece) × Appends old new (take n piece)
+AppendsFront old new chunk = (n : ℕ) × (n ≤ length chunk) × Appends old new (take n chunk)

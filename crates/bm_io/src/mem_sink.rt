@@ -72,11 +72,11 @@ impl Sink for MemSink {
     ghost wants = { λ s. s.wants };
 
     /// `Failed` comes where the number of the call is one that is to fail, and then the first half
-    /// of the piece, rounded down, was appended. After `Memory` nothing was.
-    fn put(&mut self, piece: &[u8]) -> Result<(), Put>
-        ensures whole { OnOk result (self.new.written ≡ self.old.written ++ piece.now) }
+    /// of the chunk, rounded down, was appended. After `Memory` nothing was.
+    fn put(&mut self, chunk: &[u8]) -> Result<(), Put>
+        ensures whole { OnOk result (self.new.written ≡ self.old.written ++ chunk.now) }
         ensures half { IsErrOf result Put.Failed
-            → self.new.written ≡ self.old.written ++ take (length piece.now / 2) piece.now }
+            → self.new.written ≡ self.old.written ++ take (length chunk.now / 2) chunk.now }
         ensures none { IsErrOf result Put.Memory → self.new.written ≡ self.old.written }
 
         ensures passed { OnOk result (¬ Contains self.old.failing self.new.calls) }
@@ -94,9 +94,9 @@ impl Sink for MemSink {
         self.calls = self.calls.saturating_add(1);
         let fails = self.failing.contains(&self.calls);
         let part = if fails {
-            &piece[..piece.len() / 2]
+            &chunk[..chunk.len() / 2]
         } else {
-            piece
+            chunk
         };
         if self.written.extend_from_slice(part).is_err() {
             self.wants = self.wants.saturating_add(1);

@@ -55,14 +55,14 @@ impl<W: RawWriter + Drop> Sink for StdSink<W> {
 
     ghost wants = { λ s. 0 };
 
-    /// Writes what is left of the piece until nothing is. `Failed` comes exactly where a write failed or took
+    /// Writes what is left of the chunk until nothing is. `Failed` comes exactly where a write failed or took
     /// nothing; that is one fault, and none else is counted. Want of memory never comes.
-    fn put(&mut self, piece: &[u8]) -> Result<(), Put>
-        ensures calls { IsPutBy W.writes self.old.stream piece.now result self.new.stream }
+    fn put(&mut self, chunk: &[u8]) -> Result<(), Put>
+        ensures calls { IsPutBy W.writes self.old.stream chunk.now result self.new.stream }
         ensures whole { OnOk result
-            (Appends (W.contents self.old.stream) (W.contents self.new.stream) piece.now) }
+            (Appends (W.contents self.old.stream) (W.contents self.new.stream) chunk.now) }
         ensures front { OnErr result
-            (AppendsFront (W.contents self.old.stream) (W.contents self.new.stream) piece.now) }
+            (AppendsFront (W.contents self.old.stream) (W.contents self.new.stream) chunk.now) }
         ensures faults { self.new.faults ≡ counted self.old.faults (failures result) }
         ensures failed { IsErrOf result Put.Failed → Rose self.old.faults self.new.faults }
         ensures never { ¬ IsErrOf result Put.Memory }
@@ -70,7 +70,7 @@ impl<W: RawWriter + Drop> Sink for StdSink<W> {
         ensures faults_stay { self.old.faults ≤ self.new.faults }
         ensures faults_fit { self.new.faults < 2 ^ 64 }
     {
-        let mut rest = piece;
+        let mut rest = chunk;
         while !rest.is_empty() {
             match self.stream.write(rest) {
                 Some(count) if count > 0 => rest = &rest[count..],

@@ -1,4 +1,4 @@
-//! What the program writes: an output that takes bytes in pieces.
+//! What the program writes: an output that takes bytes in chunks.
 //!
 //! One trait serves the report and the error line alike. It is apart from what implements it for
 //! the same reason as `Files`: the layers above know this contract alone.
@@ -7,7 +7,7 @@ ghost use Rattle.std.specs.Io.KnownBytes.{Appends};
 ghost use Rattle.bm_io.specs.Counts.{Rose};
 ghost use Rattle.bm_io.specs.Told.{AppendsFront};
 
-/// Why a piece wasn't written whole.
+/// Why a chunk wasn't written whole.
 #[derive(Clone, Copy, Debug, PartialEq, Eq)]
 pub enum Put {
     /// The output refused it.
@@ -16,7 +16,7 @@ pub enum Put {
     Memory,
 }
 
-/// An output that takes bytes in pieces.
+/// An output that takes bytes in chunks.
 pub trait Sink {
     // The bytes so far, where the object tells them.
     ghost written: { Self → Option (List ℕ) };
@@ -27,10 +27,10 @@ pub trait Sink {
     // How many puts answered that memory is wanting.
     ghost wants: { Self → ℕ };
 
-    /// Appends the piece. After an `Err` the front of it stands there, however long.
-    fn put(&mut self, piece: &[u8]) -> Result<(), Put>
-        ensures whole { OnOk result (Appends (written self.old) (written self.new) piece.now) }
-        ensures front { OnErr result (AppendsFront (written self.old) (written self.new) piece.now) }
+    /// Appends the chunk. After an `Err` the front of it stands there, however long.
+    fn put(&mut self, chunk: &[u8]) -> Result<(), Put>
+        ensures whole { OnOk result (Appends (written self.old) (written self.new) chunk.now) }
+        ensures front { OnErr result (AppendsFront (written self.old) (written self.new) chunk.now) }
 
         // When each refusal comes.
         ensures failed { IsErrOf result Put.Failed → Rose (faults self.old) (faults self.new) }

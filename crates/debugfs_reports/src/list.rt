@@ -6,12 +6,12 @@ ghost use Rattle.address_runs.specs.Runs.{AreRuns};
 ghost use Rattle.boot_model.specs.View.{booted_view};
 ghost use Rattle.debugfs_reports.specs.Stand.{TablesStand};
 ghost use Rattle.debugfs_reports.specs.ReportList.{are_reports, part, reports_in, text_of, title};
-ghost use Rattle.stage_texts.specs.Pieces.{text_of_pieces};
+ghost use Rattle.stage_texts.specs.Chunks.{text_of_chunks};
 
 use crate::report::{Report, put_report, report_named};
 use bm_base::{Memory, put_text};
 use boot_model::Booted;
-use stage_texts::{Draft, Piece};
+use stage_texts::{Chunk, Draft};
 use std::alloc::Global;
 use text_words::{Separators, next_part};
 
@@ -46,18 +46,18 @@ pub fn reports_in(alloc: Global, list: &[u8]) -> Result<Vec<Report>, Memory>
     Ok(reports)
 }
 
-/// The texts of all reports of a list in pieces, each with the line that says whose it is where there are two or
+/// The texts of all reports of a list in chunks, each with the line that says whose it is where there are two or
 /// more. Together they are the whole text.
 pub fn render_all(
     alloc: Global,
     reports: &[Report],
     booted: &Booted,
-) -> Result<Vec<Vec<Piece>>, Memory>
+) -> Result<Vec<Vec<Chunk>>, Memory>
     requires tables { TablesStand booted.now }
     requires runs { AreRuns booted.now.map.items }
-    ensures each { IfOk result (λ texts. map (λ pieces. text_of_pieces pieces.items) texts.items
+    ensures each { IfOk result (λ texts. map (λ chunks. text_of_chunks chunks.items) texts.items
         ≡ map (part (nat_lt 1 (length reports.now)) (booted_view booted.now)) reports.now) }
-    ensures whole { IfOk result (λ texts. flat_map (λ pieces. text_of_pieces pieces.items) texts.items
+    ensures whole { IfOk result (λ texts. flat_map (λ chunks. text_of_chunks chunks.items) texts.items
         ≡ text_of reports.now (booted_view booted.now)) }
 {
     let several = reports.len() > 1;
@@ -74,15 +74,15 @@ fn render_part(
     report: Report,
     several: bool,
     booted: &Booted,
-) -> Result<Vec<Piece>, Memory>
+) -> Result<Vec<Chunk>, Memory>
     requires tables { TablesStand booted.now }
     requires runs { AreRuns booted.now.map.items }
-    ensures { IfOk result (λ pieces. text_of_pieces pieces.items ≡ part several (booted_view booted.now) report) }
+    ensures { IfOk result (λ chunks. text_of_chunks chunks.items ≡ part several (booted_view booted.now) report) }
 {
     let mut draft = Draft::new(alloc);
     put_title(&mut draft.text, several, report)?;
     put_report(&mut draft, report, booted)?;
-    draft.into_pieces()
+    draft.into_chunks()
 }
 
 /// Appends the line that says whose the text behind it is, where there are several.

@@ -1,4 +1,5 @@
-//! The reports that there are, their names and their texts.
+//! The reports that there are, their names and their texts. The three stand together, since a name is judged
+//! before the boot and its text is made behind it: what is accepted there must have a text here.
 
 ghost use Rattle.std.specs.Prelude.{◌≡◌, ◌++◌, IfOk, OnOk};
 ghost use Rattle.std.specs.Str.{bytes_eq};
@@ -6,14 +7,14 @@ ghost use Rattle.address_runs.specs.Runs.{AreRuns};
 ghost use Rattle.boot_model.specs.View.{booted_view};
 ghost use Rattle.debugfs_reports.specs.Report.{name_of, report_named, report_text};
 ghost use Rattle.debugfs_reports.specs.Stand.{TablesStand};
-ghost use Rattle.stage_texts.specs.Pieces.{draft_text, text_of_pieces};
+ghost use Rattle.stage_texts.specs.Chunks.{draft_text, text_of_chunks};
 
 use crate::summary::summary_of;
 use bm_base::Memory;
 use boot_model::Booted;
 use report_texts::{put_journal, put_map, put_options, put_owners, put_records, put_tables};
 use stage_texts::{
-    Draft, Piece, put_blocks, put_buddyinfo, put_crash, put_nodes, put_script, put_sections,
+    Chunk, Draft, put_blocks, put_buddyinfo, put_crash, put_nodes, put_script, put_sections,
     put_summary, put_zones,
 };
 use std::alloc::Global;
@@ -118,16 +119,16 @@ pub fn report_named(name: &[u8]) -> Option<Report>
     None
 }
 
-/// The text of a report, in pieces. The records of both tables stand in the boot's bytes, where its heads tell, and
+/// The text of a report, in chunks. The records of both tables stand in the boot's bytes, where its heads tell, and
 /// the runs of its map ascend, as [`summary_of`] asks.
-pub fn render(alloc: Global, report: Report, booted: &Booted) -> Result<Vec<Piece>, Memory>
+pub fn render(alloc: Global, report: Report, booted: &Booted) -> Result<Vec<Chunk>, Memory>
     requires tables { TablesStand booted.now }
     requires runs { AreRuns booted.now.map.items }
-    ensures { IfOk result (λ pieces. text_of_pieces pieces.items ≡ report_text report (booted_view booted.now)) }
+    ensures { IfOk result (λ chunks. text_of_chunks chunks.items ≡ report_text report (booted_view booted.now)) }
 {
     let mut draft = Draft::new(alloc);
     put_report(&mut draft, report, booted)?;
-    draft.into_pieces()
+    draft.into_chunks()
 }
 
 /// Appends the text of a report.

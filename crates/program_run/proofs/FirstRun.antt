@@ -26,7 +26,7 @@ use Rattle.bm_base.specs.ResultSteps.{◌>>=◌}
 use Rattle.boot_model.specs.Boot.{Given, Made, begin_with, boot, claims, has_memory, map_judged}
 use Rattle.boot_model.proofs.BootLaws.{goes_on}
 use Rattle.program_words.specs.Kernel.{default_kernel}
-use Rattle.program_words.specs.Spelling.{ArePieces, Piece, apart, given_by, named}
+use Rattle.program_words.specs.Spelling.{AreSpellings, Spelling, apart, given_by, named}
 use Rattle.program_words.specs.Words.{Wanted, accepted, name_in}
 use Rattle.program_words.proofs.MatchedLaws.{accepted_as_given}
 use Rattle.boot_inputs.specs.Inputs.{Held}
@@ -150,17 +150,17 @@ memory_is_made : (map_judged given >>= has_memory given) ≡ Ok (record (begin_w
 memory_is_made = rw (map_is, frames_are, wanted_is_made) refl
 
 -- the words ask for the map of that page
-abbrev pieces : List Piece
-pieces = apart (codes "report") (codes "map") ∷ named (codes "zp") ∷ []
+abbrev spellings : List Spelling
+spellings = apart (codes "report") (codes "map") ∷ named (codes "zp") ∷ []
 
-are_pieces : ArePieces pieces
-are_pieces = ((refl, refl), refl, (refl, refl, tt))
+are_spellings : AreSpellings spellings
+are_spellings = ((refl, refl), refl, (refl, refl, tt))
 
 abbrev asked : Wanted
-asked = record { named = name_in (given_by pieces); kernel = default_kernel; reports = reports.Map ∷ []; made = None }
+asked = record { named = name_in (given_by spellings); kernel = default_kernel; reports = reports.Map ∷ []; made = None }
 
 words_ask : accepted (codes "--report" ∷ codes "map" ∷ codes "zp" ∷ []) ≡ Some asked
-words_ask = accepted_as_given pieces are_pieces
+words_ask = accepted_as_given spellings are_spellings
 
 -- and where each later stage finds its places, this is what is written
 first_run : (made : Made) → boot given ≡ Ok made → outcome (accepted (codes "--report" ∷ codes "map" ∷ codes "zp" ∷ [])) held

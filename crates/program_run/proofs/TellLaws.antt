@@ -1,4 +1,4 @@
--- What became of the pieces of a line, by the answer to them.
+-- What became of the chunks of a line, by the answer to them.
 use Rattle.std.proofs.Common.{ℕ, List, length, Result, Ok, Err, refl, inl, inr, arith, take_all}
 use Rattle.bm_io.specs.declared.writing.Put.{Put}
 use Rattle.bm_io.specs.declared.writing.Put.TheVariants as put

@@ -11,10 +11,10 @@
 //! The program on the system's files and streams is `bootmem_cli`.
 #![tactic(auto)]
 
+mod chunks;
 mod clauses;
 mod failure;
 mod given;
-mod pieces;
 mod program;
 mod tell;
 

@@ -1,4 +1,5 @@
-//! The whole program over any files and outputs.
+//! The whole program over any files and outputs. It is generic over them, so one contract speaks of those in
+//! memory, with which tests run it, and of the system's, which `main` hands in (`bootmem_cli`).
 
 ghost use Rattle.std.specs.Prelude.{◌≡◌, ℕ, ◌^◌, ◌<◌, List, length, IfSome, IfErr, IsNone, IsSome, IsErrOf, OnOk, OnErr, IfOk, ◌⊎◌, flat_map};
 ghost use Rattle.std.specs.Option.{option_map};
@@ -12,7 +13,7 @@ ghost use Rattle.bm_io.specs.Counts.{Rose};
 ghost use Rattle.bm_io.specs.Told.{AppendsFront};
 ghost use Rattle.boot_model.specs.View.{inputs_view};
 ghost use Rattle.debugfs_reports.specs.ReportList.{reports_in};
-ghost use Rattle.stage_texts.specs.Pieces.{text_of_pieces};
+ghost use Rattle.stage_texts.specs.Chunks.{text_of_chunks};
 ghost use Rattle.program_words.specs.View.{wanted_view};
 ghost use Rattle.program_words.specs.Words.{accepted, texts};
 ghost use Rattle.program_run.specs.Answers.{FailureHasCause, IsOfBoot, Makes, ReportHasCause, Writes, WritingHasCause};
@@ -20,9 +21,9 @@ ghost use Rattle.program_run.specs.Outcome.{outcome, reported};
 ghost use Rattle.program_run.specs.Run.{RanTo};
 ghost use Rattle.program_run.specs.Status.{End, status_of_end};
 
+use crate::chunks::put_reports;
 use crate::failure::{Failure, Reason};
 use crate::given::read_given;
-use crate::pieces::put_reports;
 use crate::tell::tell;
 use bm_base::Memory;
 use bm_io::{Files, Put, Sink};
@@ -30,7 +31,7 @@ use boot_model::Inputs;
 use boot_stages::boot;
 use debugfs_reports::{render_all, reports_in};
 use program_words::{Wanted, WordError, read_words};
-use stage_texts::Piece;
+use stage_texts::Chunk;
 use std::alloc::Global;
 
 /// The whole program: reads the files that the words name, boots with them, and writes the reports.
@@ -97,12 +98,12 @@ fn write_reports<F: Files, S: Sink>(
     put_texts(out, texts)
 }
 
-/// Puts the texts of reports, each of their pieces that isn't empty by one put, or one a sheet.
-fn put_texts<S: Sink>(out: &mut S, texts: Vec<Vec<Piece>>) -> Result<(), Failure>
+/// Puts the texts of reports, each of their chunks that isn't empty by one put, or one a sheet.
+fn put_texts<S: Sink>(out: &mut S, texts: Vec<Vec<Chunk>>) -> Result<(), Failure>
     ensures whole { OnOk result (Appends (S.written out.old) (S.written out.new)
-        (flat_map (λ pieces. text_of_pieces pieces.items) texts.items)) }
+        (flat_map (λ chunks. text_of_chunks chunks.items) texts.items)) }
     ensures front { OnErr result (AppendsFront (S.written out.old) (S.written out.new)
-        (flat_map (λ pieces. text_of_pieces pieces.items) texts.items)) }
+        (flat_map (λ chunks. text_of_chunks chunks.items) texts.items)) }
     ensures only { IfErr result (λ failure. (failure ≡ Failure.Unwritten)
         ⊎ (failure ≡ Failure.Memory)) }
     ensures failed { IsErrOf result Failure.Unwritten → Rose (S.faults out.old) (S.faults out.new) }
@@ -121,9 +122,9 @@ fn make_texts<F: Files>(
     alloc: Global,
     wanted: &Option<Wanted<'_>>,
     files: &mut F,
-) -> Result<Vec<Vec<Piece>>, Failure>
+) -> Result<Vec<Vec<Chunk>>, Failure>
     ensures makes { IfSome (F.holds files.old) (λ held.
-        Makes (λ texts. flat_map (λ pieces. text_of_pieces pieces.items) texts.items) result
+        Makes (λ texts. flat_map (λ chunks. text_of_chunks chunks.items) texts.items) result
         (outcome (option_map wanted_view wanted.now) held)) }
     ensures cause { ReportHasCause (F.faults files.old) (F.faults files.new)
         (option_map wanted_view wanted.now) result }
@@ -140,7 +141,7 @@ fn make_texts<F: Files>(
 }
 
 /// The texts of a list of reports, of what the boot makes of the inputs.
-fn boot_texts(alloc: Global, inputs: Inputs, list: &str) -> Result<Vec<Vec<Piece>>, Failure>
+fn boot_texts(alloc: Global, inputs: Inputs, list: &str) -> Result<Vec<Vec<Chunk>>, Failure>
     requires entries_end { EndInSpace inputs.zero.entries.items }
     requires extension_ends { EndInSpace inputs.ext.items }
     requires types { HaveTypes inputs.options.edits.items }
@@ -148,7 +149,7 @@ fn boot_texts(alloc: Global, inputs: Inputs, list: &str) -> Result<Vec<Vec<Piece
     requires domains { IfSome inputs.srat (λ srat. length srat.blocks.items < 2 ^ 32) }
     requires bounds { All (λ l. HasBounds l.act) inputs.lines.items }
     requires once { PlaceOnce inputs.lines.items }
-    ensures makes { Makes (λ texts. flat_map (λ pieces. text_of_pieces pieces.items) texts.items) result
+    ensures makes { Makes (λ texts. flat_map (λ chunks. text_of_chunks chunks.items) texts.items) result
         (reported (reports_in list.now) (inputs_view inputs)) }
     ensures cause { IsOfBoot result }
 {

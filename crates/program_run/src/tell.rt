@@ -1,4 +1,4 @@
-//! The line of a failure, piece by piece: it takes no memory, and no kind of failure that comes here can be
+//! The line of a failure, chunk by chunk: it takes no memory, and no kind of failure that comes here can be
 //! want of memory under another name.
 
 ghost use Rattle.std.specs.Prelude.{◌≡◌, flat_map};
@@ -16,7 +16,7 @@ use program_words::Wanted;
 use stage_model::What;
 
 /// Puts the line of a failure on the error output. What the output answers changes nothing: the line goes out
-/// piece by piece, up to the first that is refused.
+/// chunk by chunk, up to the first that is refused.
 pub fn tell<E: Sink>(err: &mut E, wanted: &Option<Wanted<'_>>, failure: Failure)
     ensures { Tells E.Sink err.old err.new (failure_line (option_map wanted_view wanted.now) failure) }
 {
@@ -212,9 +212,9 @@ fn tell_table<'a, E: Sink>(err: &mut E, name: &'a str, room: u64)
     )
 }
 
-/// Puts the pieces of a line, up to the first that is refused.
-fn put_line<E: Sink>(err: &mut E, pieces: &[&str])
-    ensures { Tells E.Sink err.old err.new (flat_map (λ piece. piece.now) pieces.now) }
+/// Puts the chunks of a line, up to the first that is refused.
+fn put_line<E: Sink>(err: &mut E, chunks: &[&str])
+    ensures { Tells E.Sink err.old err.new (flat_map (λ chunk. chunk.now) chunks.now) }
 {
-    let _put = put_all(err, pieces);
+    let _put = put_all(err, chunks);
 }

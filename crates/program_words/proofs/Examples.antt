@@ -8,9 +8,9 @@ use Rattle.boot_inputs.specs.declared.input.Input.TheVariants as inputs
 use Rattle.debugfs_reports.specs.declared.report.Report.{Report}
 use Rattle.debugfs_reports.specs.declared.report.Report.TheVariants as reports
 use Rattle.program_words.specs.Entries.{are_digits, are_entries, entries_in, entries_of}
-use Rattle.program_words.specs.Grammar.{is_taken, program}
+use Rattle.program_words.specs.Grammar.{is_faultless, program}
 use Rattle.program_words.specs.Kernel.{default_kernel, if_kernel, kernel_in, kernel_of}
-use Rattle.program_words.specs.Spelling.{Piece, apart, argument_in, dashed, given_by, is_option, is_plain, joined, named, spelled, text_in, words_of}
+use Rattle.program_words.specs.Spelling.{Spelling, apart, argument_in, dashed, given_by, is_option, is_plain, joined, named, spelled, text_in, words_of}
 use Rattle.program_words.specs.Words.{Values, Wanted, accepted, argument_of, asked_by, has_source, list_asked, list_in, name_in, provided, value_in}
 
 -- what words ask for, apart from the names of files by input
@@ -97,18 +97,18 @@ name_behind_the_end = refl
 
 -- refused by the command: an option twice, an option without a value, a value with a hyphen in a word of its own, two names, an option
 -- that there isn't, one in short
-refused_by_the_command : (is_taken (codes "--report=map" ∷ codes "--report=map" ∷ codes "zp" ∷ []) ≡ false)
-    × (is_taken (codes "zp" ∷ codes "--report" ∷ []) ≡ false)
-    × (is_taken (codes "--cmdline" ∷ codes "-c" ∷ codes "zp" ∷ []) ≡ false)
-    × (is_taken (codes "zp" ∷ codes "zp" ∷ []) ≡ false)
-    × (is_taken (codes "--help" ∷ []) ≡ false)
-    × (is_taken (codes "--rep" ∷ codes "map" ∷ codes "zp" ∷ []) ≡ false)
+refused_by_the_command : (is_faultless (codes "--report=map" ∷ codes "--report=map" ∷ codes "zp" ∷ []) ≡ false)
+    × (is_faultless (codes "zp" ∷ codes "--report" ∷ []) ≡ false)
+    × (is_faultless (codes "--cmdline" ∷ codes "-c" ∷ codes "zp" ∷ []) ≡ false)
+    × (is_faultless (codes "zp" ∷ codes "zp" ∷ []) ≡ false)
+    × (is_faultless (codes "--help" ∷ []) ≡ false)
+    × (is_faultless (codes "--rep" ∷ codes "map" ∷ codes "zp" ∷ []) ≡ false)
 unfolding program clap_on_literals
 refused_by_the_command = (refl, refl, refl, refl, refl, refl)
 
 -- the command takes these, and what they ask for is refused: neither a zero page nor a number, both, an extension beside a number, an
 -- empty list, a kernel below the first MiB
-refused_for_what_they_ask : (is_taken [] ≡ true) × (accepted [] ≡ None)
+refused_for_what_they_ask : (is_faultless [] ≡ true) × (accepted [] ≡ None)
     × (accepted (codes "--make=5" ∷ codes "--report=map" ∷ codes "zp" ∷ []) ≡ None)
     × (accepted (codes "--make=5" ∷ codes "--report=map" ∷ codes "--e820ext=e" ∷ []) ≡ None)
     × (accepted (codes "--report=" ∷ codes "zp" ∷ []) ≡ None)
@@ -118,9 +118,9 @@ refused_for_what_they_ask = (refl, refl, refl, refl, refl, refl)
 
 -- ---- the parts
 
-taken_examples : (is_taken (codes "--script" ∷ codes "" ∷ []) ≡ true) × (is_taken (codes "--script" ∷ []) ≡ false)
+faultless_examples : (is_faultless (codes "--script" ∷ codes "" ∷ []) ≡ true) × (is_faultless (codes "--script" ∷ []) ≡ false)
 unfolding program clap_on_literals
-taken_examples = (refl, refl)
+faultless_examples = (refl, refl)
 
 argument_examples : (argument_of inputs.ZeroPage ≡ codes "ZEROPAGE") × (argument_of inputs.Extension ≡ codes "e820ext")
 argument_examples = (refl, refl)
@@ -187,21 +187,21 @@ kernel_examples : (kernel_of None ≡ Some default_kernel) × (kernel_of (Some (
 kernel_examples = (refl, refl, refl)
 
 -- spelling
-abbrev three_pieces : List Piece
-three_pieces = apart (codes "report") (codes "map") ∷ named (codes "zp") ∷ joined (codes "script") (codes "-s") ∷ []
+abbrev three_spellings : List Spelling
+three_spellings = apart (codes "report") (codes "map") ∷ named (codes "zp") ∷ joined (codes "script") (codes "-s") ∷ []
 
 spelled_examples : (dashed (codes "make") ≡ codes "--make") × (words_of (joined (codes "make") []) ≡ codes "--make=" ∷ [])
-    × (spelled three_pieces ≡ codes "--report" ∷ codes "map" ∷ codes "zp" ∷ codes "--script=-s" ∷ [])
+    × (spelled three_spellings ≡ codes "--report" ∷ codes "map" ∷ codes "zp" ∷ codes "--script=-s" ∷ [])
 spelled_examples = (refl, refl, refl)
 
 word_examples : (is_plain (codes "z-p") ≡ true) × (is_plain [] ≡ true) × (is_plain (codes "-") ≡ false)
     × (is_option (codes "kernel") ≡ true) × (is_option (codes "ZEROPAGE") ≡ false)
 word_examples = (refl, refl, refl, refl, refl)
 
-piece_examples : (argument_in (named (codes "zp")) ≡ codes "ZEROPAGE") × (argument_in (apart (codes "make") (codes "5")) ≡ codes "make")
+spelling_examples : (argument_in (named (codes "zp")) ≡ codes "ZEROPAGE") × (argument_in (apart (codes "make") (codes "5")) ≡ codes "make")
     × (text_in (named (codes "zp")) ≡ codes "zp") × (text_in (joined (codes "make") (codes "5")) ≡ codes "5")
-piece_examples = (refl, refl, refl, refl)
+spelling_examples = (refl, refl, refl, refl)
 
-value_examples : (given_by three_pieces (codes "script") ≡ Some (codes "-s")) × (given_by three_pieces (codes "kernel") ≡ None)
-    × (given_by three_pieces (codes "ZEROPAGE") ≡ Some (codes "zp"))
+value_examples : (given_by three_spellings (codes "script") ≡ Some (codes "-s")) × (given_by three_spellings (codes "kernel") ≡ None)
+    × (given_by three_spellings (codes "ZEROPAGE") ≡ Some (codes "zp"))
 value_examples = (refl, refl, refl)

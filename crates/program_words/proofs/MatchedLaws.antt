@@ -1,4 +1,4 @@
--- What the command makes of words that are spelled: it takes them, and finds the value of each piece.
+-- What the command makes of words that are spelled: it takes them, and finds the value of each spelling.
 use Rattle.std.proofs.Common.{◌≡◌, ℕ, ◌||◌, Bool, true, false, List, [], ◌∷◌, length, refl, inl, ap, ◌∙◌, map, arith, if◌then◌else◌}
 use Rattle.std.specs.Prelude.{fold}
 use Rattle.std.specs.List.{list_all}
@@ -8,9 +8,9 @@ use Rattle.clap.specs.Simple.{argument_words, built, matches_of}
 use Rattle.clap.specs.Walk.{Row, Rule, has_row, is_empty, nothing_held, with_default}
 use Rattle.clap.proofs.FaultLemmas.{leaf_fault}
 use Rattle.clap.proofs.WalkLemmas.{both}
-use Rattle.program_words.specs.Grammar.{is_taken, program}
+use Rattle.program_words.specs.Grammar.{is_faultless, program}
 use Rattle.program_words.specs.Words.{accepted, asked_by, value_in}
-use Rattle.program_words.specs.Spelling.{ArePieces, Piece, argument_in, given_by, spelled}
+use Rattle.program_words.specs.Spelling.{AreSpellings, Spelling, argument_in, given_by, spelled}
 use Rattle.program_words.proofs.KnownLaws.{all_words, no_names, no_subs, once, rules, shape}
 use Rattle.program_words.proofs.SpellingLaws.{Past, Stands, Walks, row_of, walks}
 
@@ -58,35 +58,35 @@ check_passes rows = refl
 start : Stands [] 1 nothing_held
 start = record { rows = refl; settles = refl; first = λ fresh. refl }
 
-nothing_past : (pieces : List Piece) → Past [] pieces
-nothing_past pieces argument = inl refl
+nothing_past : (ss : List Spelling) → Past [] ss
+nothing_past ss argument = inl refl
 
-found : (pieces : List Piece) (argument : List ℕ) → value_in (map row_of pieces) argument ≡ given_by pieces argument
+found : (ss : List Spelling) (argument : List ℕ) → value_in (map row_of ss) argument ≡ given_by ss argument
 found [] argument = refl
-found (piece ∷ pieces) argument = by_test (bytes_eq (argument_in piece) argument) refl (found pieces argument)
+found (s ∷ ss) argument = by_test (bytes_eq (argument_in s) argument) refl (found ss argument)
   where
-    by_test : (same : Bool) → bytes_eq (argument_in piece) argument ≡ same
-        → value_in (map row_of pieces) argument ≡ given_by pieces argument
-        → value_in (row_of piece ∷ map row_of pieces) argument ≡ given_by (piece ∷ pieces) argument
+    by_test : (same : Bool) → bytes_eq (argument_in s) argument ≡ same
+        → value_in (map row_of ss) argument ≡ given_by ss argument
+        → value_in (row_of s ∷ map row_of ss) argument ≡ given_by (s ∷ ss) argument
     by_test true is behind = rw is refl
     by_test false is behind = rw is behind
 
-same_values : (pieces : List Piece) → value_in (map row_of pieces) ≡ given_by pieces
-same_values pieces = λ i. λ argument. found pieces argument i
+same_values : (ss : List Spelling) → value_in (map row_of ss) ≡ given_by ss
+same_values ss = λ i. λ argument. found ss argument i
 
-module _ (pieces : List Piece) (are : ArePieces pieces) where
-  end : Walks [] pieces 1 nothing_held
-  end = walks [] pieces 1 nothing_held start (nothing_past pieces) are
+module _ (ss : List Spelling) (are : AreSpellings ss) where
+  end : Walks [] ss 1 nothing_held
+  end = walks [] ss 1 nothing_held start (nothing_past ss) are
 
-  rows_found : matches_of program (spelled pieces) ≡ map row_of pieces
-  rows_found = rw (no_names, all_words (spelled pieces), end.walk) (defaults_leave rules _ no_defaults ∙ end.stands.rows)
+  rows_found : matches_of program (spelled ss) ≡ map row_of ss
+  rows_found = rw (no_names, all_words (spelled ss), end.walk) (defaults_leave rules _ no_defaults ∙ end.stands.rows)
 
-  taken : is_taken (spelled pieces) ≡ true
-  taken =
-      let whole = leaf_fault (built program) nothing_held (argument_words program (spelled pieces)) no_subs in
+  faultless : is_faultless (spelled ss) ≡ true
+  faultless =
+      let whole = leaf_fault (built program) nothing_held (argument_words program (spelled ss)) no_subs in
       rw (
         whole,
-        all_words (spelled pieces),
+        all_words (spelled ss),
         end.fault,
         once,
         end.walk,
@@ -95,5 +95,5 @@ module _ (pieces : List Piece) (are : ArePieces pieces) where
         check_passes _,
       ) refl
 
-  pub accepted_as_given : accepted (spelled pieces) ≡ asked_by (given_by pieces)
-  accepted_as_given = rw (taken, rows_found) (ap asked_by (same_values pieces))
+  pub accepted_as_given : accepted (spelled ss) ≡ asked_by (given_by ss)
+  accepted_as_given = rw (faultless, rows_found) (ap asked_by (same_values ss))

@@ -1,5 +1,5 @@
--- The walk over words that are spelled as pieces: it stands between two pieces with one value waiting at most, settles it at the next
--- word, and ends with a row for each piece.
+-- The walk over words that are spelled as spellings: it stands between two spellings with one value waiting at most, settles it at the next
+-- word, and ends with a row for each spelling.
 use Rattle.std.proofs.Common.{◌≡◌, ℕ, Bool, true, false, ◌&&◌, ◌||◌, List, [], ◌∷◌, ◌++◌, Some, None, refl, inl, inr, sym, ap, map, ◌∙◌, if◌then◌else◌}
 use Rattle.std.specs.Prelude.{◌⊎◌, fold}
 use Rattle.std.specs.Str.{bytes_eq}
@@ -8,12 +8,12 @@ use Rattle.std.proofs.lemmas.Slice.Eq.{bytes_eq-Decides}
 use Rattle.clap.specs.Faults.{settle_fault, turn_fault, walk_fault}
 use Rattle.clap.specs.Walk.{Held, Row, Walk, has_row, idle, is_pending, option, reading_by, settled, settled_rows, used, walked, with_values, without}
 use Rattle.clap.specs.declared.parser.matches.ValueSource.TheVariants.{CommandLine}
-use Rattle.program_words.specs.Spelling.{ArePieces, IsPiece, Piece, apart, argument_in, dashed, given_by, joined, named, spelled, text_in, words_of}
+use Rattle.program_words.specs.Spelling.{AreSpellings, IsSpelling, Spelling, apart, argument_in, dashed, given_by, joined, named, spelled, text_in, words_of}
 use Rattle.program_words.proofs.KnownLaws.{Known, Plain, joined_word, known, name_by_id, name_by_index, name_rule, once, option_of, plain, rules, shape, zero_page}
 
 -- ---- one word
 
--- the walk between two pieces
+-- the walk between two spellings
 abbrev pub resting : ℕ → Held → Walk
 resting position h = record {
   held = h;
@@ -81,66 +81,66 @@ name_turn : (name : List ℕ) (h : Held) → Plain name → settle_fault rules f
 name_turn name h p settles =
     rw (p.not_end, p.no_long, p.no_short, name_by_index, once, settles, and_false (is_pending name_rule h.pending)) refl
 
--- ---- what stands between two pieces
+-- ---- what stands between two spellings
 
-abbrev pub row_of : Piece → Row
-row_of piece = record {
-  id = argument_in piece;
-  values = text_in piece ∷ [];
+abbrev pub row_of : Spelling → Row
+row_of s = record {
+  id = argument_in s;
+  values = text_in s ∷ [];
   count = None;
   source = Some CommandLine;
   reading = reading_by name_rule;
 }
 
--- no piece is of the argument
-abbrev pub IsNew : List ℕ → List Piece → Type 0
-IsNew argument pieces = given_by pieces argument ≡ None
+-- no spelling is of the argument
+abbrev pub IsNew : List ℕ → List Spelling → Type 0
+IsNew argument ss = given_by ss argument ≡ None
 
--- what waits may be settled, and then each piece so far has its row; before a name the walk is at the first place of names
-pub record Stands (earlier : List Piece) (position : ℕ) (h : Held) : Type 0 where
+-- what waits may be settled, and then each spelling so far has its row; before a name the walk is at the first place of names
+pub record Stands (earlier : List Spelling) (position : ℕ) (h : Held) : Type 0 where
   pub rows : settled_rows rules h.pending h.rows ≡ map row_of earlier
   pub settles : settle_fault rules false h ≡ []
   pub first : IsNew zero_page earlier → position ≡ 1
 
-no_row : (argument : List ℕ) (earlier : List Piece) → IsNew argument earlier → has_row argument (map row_of earlier) ≡ false
+no_row : (argument : List ℕ) (earlier : List Spelling) → IsNew argument earlier → has_row argument (map row_of earlier) ≡ false
 no_row argument [] new = refl
-no_row argument (piece ∷ pieces) new = by_test (bytes_eq (argument_in piece) argument) new (no_row argument pieces)
+no_row argument (s ∷ ss) new = by_test (bytes_eq (argument_in s) argument) new (no_row argument ss)
   where
-    by_test : (same : Bool) → (if same then Some (text_in piece) else given_by pieces argument) ≡ None
-        → (given_by pieces argument ≡ None → has_row argument (map row_of pieces) ≡ false)
-        → (same || has_row argument (map row_of pieces)) ≡ false
+    by_test : (same : Bool) → (if same then Some (text_in s) else given_by ss argument) ≡ None
+        → (given_by ss argument ≡ None → has_row argument (map row_of ss) ≡ false)
+        → (same || has_row argument (map row_of ss)) ≡ false
     by_test true new behind = cc
     by_test false new behind = behind new
 
--- a piece at the end
-new_before : (argument : List ℕ) (pieces : List Piece) (piece : Piece) → IsNew argument (pieces ++ piece ∷ []) → IsNew argument pieces
-new_before argument [] piece none = refl
-new_before argument (first ∷ pieces) piece none = by_test (bytes_eq (argument_in first) argument) none (new_before argument pieces piece)
+-- a spelling at the end
+new_before : (argument : List ℕ) (ss : List Spelling) (s : Spelling) → IsNew argument (ss ++ s ∷ []) → IsNew argument ss
+new_before argument [] s none = refl
+new_before argument (first ∷ ss) s none = by_test (bytes_eq (argument_in first) argument) none (new_before argument ss s)
   where
-    by_test : (same : Bool) → (if same then Some (text_in first) else given_by (pieces ++ piece ∷ []) argument) ≡ None
-        → (IsNew argument (pieces ++ piece ∷ []) → IsNew argument pieces)
-        → (if same then Some (text_in first) else given_by pieces argument) ≡ None
+    by_test : (same : Bool) → (if same then Some (text_in first) else given_by (ss ++ s ∷ []) argument) ≡ None
+        → (IsNew argument (ss ++ s ∷ []) → IsNew argument ss)
+        → (if same then Some (text_in first) else given_by ss argument) ≡ None
     by_test true none behind = cc
     by_test false none behind = behind none
 
-new_end : (argument : List ℕ) (pieces : List Piece) (piece : Piece) → bytes_eq (argument_in piece) argument ≡ false → IsNew argument pieces
-    → IsNew argument (pieces ++ piece ∷ [])
-new_end argument [] piece other none = rw other refl
-new_end argument (first ∷ pieces) piece other none =
-    by_test (bytes_eq (argument_in first) argument) none (new_end argument pieces piece other)
+new_end : (argument : List ℕ) (ss : List Spelling) (s : Spelling) → bytes_eq (argument_in s) argument ≡ false → IsNew argument ss
+    → IsNew argument (ss ++ s ∷ [])
+new_end argument [] s other none = rw other refl
+new_end argument (first ∷ ss) s other none =
+    by_test (bytes_eq (argument_in first) argument) none (new_end argument ss s other)
   where
-    by_test : (same : Bool) → (if same then Some (text_in first) else given_by pieces argument) ≡ None
-        → (IsNew argument pieces → IsNew argument (pieces ++ piece ∷ []))
-        → (if same then Some (text_in first) else given_by (pieces ++ piece ∷ []) argument) ≡ None
+    by_test : (same : Bool) → (if same then Some (text_in first) else given_by ss argument) ≡ None
+        → (IsNew argument ss → IsNew argument (ss ++ s ∷ []))
+        → (if same then Some (text_in first) else given_by (ss ++ s ∷ []) argument) ≡ None
     by_test true none behind = cc
     by_test false none behind = behind none
 
-not_new : (pieces : List Piece) (name : List ℕ) → IsNew zero_page (pieces ++ named name ∷ []) → ⊥
+not_new : (ss : List Spelling) (name : List ℕ) → IsNew zero_page (ss ++ named name ∷ []) → ⊥
 not_new [] name none = cc
-not_new (first ∷ pieces) name none = by_test (bytes_eq (argument_in first) zero_page) none (not_new pieces name)
+not_new (first ∷ ss) name none = by_test (bytes_eq (argument_in first) zero_page) none (not_new ss name)
   where
-    by_test : (same : Bool) → (if same then Some (text_in first) else given_by (pieces ++ named name ∷ []) zero_page) ≡ None
-        → (IsNew zero_page (pieces ++ named name ∷ []) → ⊥) → ⊥
+    by_test : (same : Bool) → (if same then Some (text_in first) else given_by (ss ++ named name ∷ []) zero_page) ≡ None
+        → (IsNew zero_page (ss ++ named name ∷ []) → ⊥) → ⊥
     by_test true none behind = cc
     by_test false none behind = behind none
 
@@ -165,23 +165,23 @@ row_added argument value (first ∷ rows) row is none = by_test (bytes_eq first.
     by_test true is none behind = cc
     by_test false is none behind = rw (is, is, behind none) refl
 
-map_end : (pieces : List Piece) (piece : Piece) → map row_of (pieces ++ piece ∷ []) ≡ map row_of pieces ++ row_of piece ∷ []
-map_end [] piece = refl
-map_end (first ∷ pieces) piece = ap (λ rows. row_of first ∷ rows) (map_end pieces piece)
+map_end : (ss : List Spelling) (s : Spelling) → map row_of (ss ++ s ∷ []) ≡ map row_of ss ++ row_of s ∷ []
+map_end [] s = refl
+map_end (first ∷ ss) s = ap (λ rows. row_of first ∷ rows) (map_end ss s)
 
--- ---- one piece on
+-- ---- one spelling on
 
-pub record Goes (earlier : List Piece) (piece : Piece) (position : ℕ) (h : Held) : Type 0 where
+pub record Goes (earlier : List Spelling) (s : Spelling) (position : ℕ) (h : Held) : Type 0 where
   pub now : Held
   pub place : ℕ
-  pub stands : Stands (earlier ++ piece ∷ []) place now
+  pub stands : Stands (earlier ++ s ∷ []) place now
   pub walk : (rest : List (List ℕ))
-      → fold (walked rules []) (resting position h) (words_of piece ++ rest) ≡ fold (walked rules []) (resting place now) rest
+      → fold (walked rules []) (resting position h) (words_of s ++ rest) ≡ fold (walked rules []) (resting place now) rest
   pub fault : (rest : List (List ℕ))
-      → walk_fault shape [] (resting position h) (words_of piece ++ rest) ≡ walk_fault shape [] (resting place now) rest
+      → walk_fault shape [] (resting position h) (words_of s ++ rest) ≡ walk_fault shape [] (resting place now) rest
 
-goes : (earlier : List Piece) (piece : Piece) (position : ℕ) (h : Held) → IsPiece piece → IsNew (argument_in piece) earlier
-    → Stands earlier position h → Goes earlier piece position h
+goes : (earlier : List Spelling) (s : Spelling) (position : ℕ) (h : Held) → IsSpelling s → IsNew (argument_in s) earlier
+    → Stands earlier position h → Goes earlier s position h
 unfolding walk_fault
 goes earlier (apart name value) position h is new stands =
     let k = known name is.0 in
@@ -235,41 +235,41 @@ goes earlier (named name) position h is new stands =
       fault = λ rest. rw (at_first, name_turn name h p stands.settles, to_rest) refl;
     }
 
--- ---- over all pieces
+-- ---- over all spellings
 
--- no argument has a piece on both sides
-abbrev pub Past : List Piece → List Piece → Type 0
+-- no argument has a spelling on both sides
+abbrev pub Past : List Spelling → List Spelling → Type 0
 Past earlier later = (argument : List ℕ) → IsNew argument earlier ⊎ IsNew argument later
 
 same_bytes : (bytes : List ℕ) → bytes_eq bytes bytes ≡ true
 same_bytes bytes = (bytes_eq-Decides bytes bytes).1 refl
 
-first_new : (earlier : List Piece) (piece : Piece) (pieces : List Piece) → Past earlier (piece ∷ pieces)
-    → IsNew (argument_in piece) earlier
-first_new earlier piece pieces past = elim (past (argument_in piece)) [
+first_new : (earlier : List Spelling) (s : Spelling) (ss : List Spelling) → Past earlier (s ∷ ss)
+    → IsNew (argument_in s) earlier
+first_new earlier s ss past = elim (past (argument_in s)) [
   | inl new ↦ new
-  | inr never ↦ let same : Some (text_in piece) ≡ None = rw (same_bytes (argument_in piece)) at never in cc
+  | inr never ↦ let same : Some (text_in s) ≡ None = rw (same_bytes (argument_in s)) at never in cc
 ]
 
-past_more : (earlier : List Piece) (piece : Piece) (pieces : List Piece) → IsNew (argument_in piece) pieces → Past earlier (piece ∷ pieces)
-    → Past (earlier ++ piece ∷ []) pieces
-past_more earlier piece pieces new past argument = by_test (bytes_eq (argument_in piece) argument) refl (past argument)
+past_more : (earlier : List Spelling) (s : Spelling) (ss : List Spelling) → IsNew (argument_in s) ss → Past earlier (s ∷ ss)
+    → Past (earlier ++ s ∷ []) ss
+past_more earlier s ss new past argument = by_test (bytes_eq (argument_in s) argument) refl (past argument)
   where
-    by_test : (same : Bool) → bytes_eq (argument_in piece) argument ≡ same → IsNew argument earlier ⊎ IsNew argument (piece ∷ pieces)
-        → IsNew argument (earlier ++ piece ∷ []) ⊎ IsNew argument pieces
-    by_test true is either = inr (ap (given_by pieces) (sym ((bytes_eq-Decides (argument_in piece) argument).0 is)) ∙ new)
-    by_test false is (inl none) = inl (new_end argument earlier piece is none)
+    by_test : (same : Bool) → bytes_eq (argument_in s) argument ≡ same → IsNew argument earlier ⊎ IsNew argument (s ∷ ss)
+        → IsNew argument (earlier ++ s ∷ []) ⊎ IsNew argument ss
+    by_test true is either = inr (ap (given_by ss) (sym ((bytes_eq-Decides (argument_in s) argument).0 is)) ∙ new)
+    by_test false is (inl none) = inl (new_end argument earlier s is none)
     by_test false is (inr none) = inr (rw is at none)
 
-pub record Walks (earlier pieces : List Piece) (position : ℕ) (h : Held) : Type 0 where
+pub record Walks (earlier ss : List Spelling) (position : ℕ) (h : Held) : Type 0 where
   pub now : Held
   pub place : ℕ
-  pub stands : Stands (earlier ++ pieces) place now
-  pub walk : fold (walked rules []) (resting position h) (spelled pieces) ≡ resting place now
-  pub fault : walk_fault shape [] (resting position h) (spelled pieces) ≡ []
+  pub stands : Stands (earlier ++ ss) place now
+  pub walk : fold (walked rules []) (resting position h) (spelled ss) ≡ resting place now
+  pub fault : walk_fault shape [] (resting position h) (spelled ss) ≡ []
 
-pub walks : (earlier pieces : List Piece) (position : ℕ) (h : Held) → Stands earlier position h → Past earlier pieces → ArePieces pieces
-    → Walks earlier pieces position h
+pub walks : (earlier ss : List Spelling) (position : ℕ) (h : Held) → Stands earlier position h → Past earlier ss → AreSpellings ss
+    → Walks earlier ss position h
 unfolding walk_fault
 walks earlier [] position h stands past are = record {
   now = h;
@@ -278,13 +278,13 @@ walks earlier [] position h stands past are = record {
   walk = refl;
   fault = refl;
 }
-walks earlier (piece ∷ pieces) position h stands past are =
-    let step = goes earlier piece position h are.0 (first_new earlier piece pieces past) stands in
-    let more = walks (earlier ++ piece ∷ []) pieces step.place step.now step.stands (past_more earlier piece pieces are.1 past) are.2 in
+walks earlier (s ∷ ss) position h stands past are =
+    let step = goes earlier s position h are.0 (first_new earlier s ss past) stands in
+    let more = walks (earlier ++ s ∷ []) ss step.place step.now step.stands (past_more earlier s ss are.1 past) are.2 in
     record {
       now = more.now;
       place = more.place;
-      stands = rw (← append_assoc earlier (piece ∷ []) pieces) more.stands;
-      walk = step.walk (spelled pieces) ∙ more.walk;
-      fault = step.fault (spelled pieces) ∙ more.fault;
+      stands = rw (← append_assoc earlier (s ∷ []) ss) more.stands;
+      walk = step.walk (spelled ss) ∙ more.walk;
+      fault = step.fault (spelled ss) ∙ more.fault;
     }

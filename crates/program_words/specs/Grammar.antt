@@ -32,6 +32,6 @@ bare = record (new_app (codes "bootmem")) {
 unfoldable pub program : App
 program = with_positional (fold with_option bare option_names) (codes "ZEROPAGE")
 
--- the command takes the words
-abbrev pub is_taken : List (List ℕ) → Bool
-is_taken words = length (fault_of program words) == 0
+-- the command finds no fault in the words
+abbrev pub is_faultless : List (List ℕ) → Bool
+is_faultless words = length (fault_of program words) == 0

@@ -6,38 +6,38 @@ use Rattle.program_words.specs.Grammar.{option_names}
 use Rattle.program_words.specs.Words.{Values}
 
 -- an option and its value, in the next word or behind `=`; or the name of the zero page
-pub data Piece : Type 0 where
-  apart : List ℕ → List ℕ → Piece
-  joined : List ℕ → List ℕ → Piece
-  named : List ℕ → Piece
+pub data Spelling : Type 0 where
+  apart : List ℕ → List ℕ → Spelling
+  joined : List ℕ → List ℕ → Spelling
+  named : List ℕ → Spelling
 
 -- the word that names an option
 abbrev pub dashed : List ℕ → List ℕ
 dashed name = codes "--" ++ name
 
-abbrev pub words_of : Piece → List (List ℕ)
+abbrev pub words_of : Spelling → List (List ℕ)
 words_of (apart name value) = dashed name ∷ value ∷ []
 words_of (joined name value) = (dashed name ++ (codes "=" ++ value)) ∷ []
 words_of (named name) = name ∷ []
 
-abbrev pub spelled : List Piece → List (List ℕ)
-spelled pieces = flat_map words_of pieces
+abbrev pub spelled : List Spelling → List (List ℕ)
+spelled ss = flat_map words_of ss
 
--- the argument of a piece, and its value
-abbrev pub argument_in : Piece → List ℕ
+-- the argument of a spelling, and its value
+abbrev pub argument_in : Spelling → List ℕ
 argument_in (apart name value) = name
 argument_in (joined name value) = name
 argument_in (named name) = codes "ZEROPAGE"
 
-abbrev pub text_in : Piece → List ℕ
+abbrev pub text_in : Spelling → List ℕ
 text_in (apart name value) = value
 text_in (joined name value) = value
 text_in (named name) = name
 
--- the value that the pieces give each argument
-abbrev pub given_by : List Piece → Values
+-- the value that the spellings give each argument
+abbrev pub given_by : List Spelling → Values
 given_by [] argument = None
-given_by (piece ∷ pieces) argument = if bytes_eq (argument_in piece) argument then Some (text_in piece) else given_by pieces argument
+given_by (s ∷ ss) argument = if bytes_eq (argument_in s) argument then Some (text_in s) else given_by ss argument
 
 abbrev pub is_option : List ℕ → Bool
 is_option name = list_any (λ option. bytes_eq option name) option_names
@@ -48,12 +48,12 @@ is_plain [] = true
 is_plain (b ∷ bs) = not (b == 45)
 
 -- a value that is a word of its own is plain, and so is a name; behind `=` any value stands
-abbrev pub IsPiece : Piece → Type 0
-IsPiece (apart name value) = (is_option name ≡ true) × (is_plain value ≡ true)
-IsPiece (joined name value) = is_option name ≡ true
-IsPiece (named name) = is_plain name ≡ true
+abbrev pub IsSpelling : Spelling → Type 0
+IsSpelling (apart name value) = (is_option name ≡ true) × (is_plain value ≡ true)
+IsSpelling (joined name value) = is_option name ≡ true
+IsSpelling (named name) = is_plain name ≡ true
 
--- each is a piece, and no argument has two
-abbrev pub ArePieces : List Piece → Type 0
-ArePieces [] = Unit {0}
-ArePieces (piece ∷ pieces) = IsPiece piece × (given_by pieces (argument_in piece) ≡ None) × ArePieces pieces
+-- each is a spelling, and no argument has two
+abbrev pub AreSpellings : List Spelling → Type 0
+AreSpellings [] = Unit {0}
+AreSpellings (s ∷ ss) = IsSpelling s × (given_by ss (argument_in s) ≡ None) × AreSpellings ss

@@ -10,7 +10,7 @@ use Rattle.boot_inputs.specs.Inputs.{Named}
 use Rattle.debugfs_reports.specs.declared.report.Report.{Report}
 use Rattle.debugfs_reports.specs.ReportList.{are_reports, reports_in}
 use Rattle.program_words.specs.Entries.{entries_of}
-use Rattle.program_words.specs.Grammar.{is_taken, program}
+use Rattle.program_words.specs.Grammar.{is_faultless, program}
 use Rattle.program_words.specs.Kernel.{kernel_of}
 
 -- the name of each input's file, where it has one; where the kernel lies; the reports; and how many entries a made table has, where
@@ -75,6 +75,6 @@ asked_by value = do
   list ← list_in value
   Some (record { named = name_in value; kernel = kernel; reports = reports_in list; made = made })
 
--- what the words ask for: the command takes them, and nothing that they ask for is refused
+-- what the words ask for: the command finds no fault in them, and nothing that they ask for is refused
 abbrev pub accepted : List (List ℕ) → Option Wanted
-accepted words = if is_taken words then asked_by (value_in (matches_of program words)) else None
+accepted words = if is_faultless words then asked_by (value_in (matches_of program words)) else None

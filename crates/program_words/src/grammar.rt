@@ -1,9 +1,10 @@
-//! The program as a command of `clap`, and what that command makes of words.
+//! The program as a command of `clap`, and what that command makes of words. Every call of `clap` is made here:
+//! what the other files see of its matches is the value of an argument by its name.
 
 ghost use Rattle.std.specs.Prelude.{◌≡◌, ◌≢◌, IfOk, OnOk, IsErrOf, [], fold};
 ghost use Rattle.std.specs.Option.{option_copied};
 ghost use Rattle.clap.specs.Words.{app_of, fault_of, first_of, found_of, matches_of, rows_of};
-ghost use Rattle.clap.specs.declared.error.kind.ErrorKind.TheVariants as kinds;
+ghost use Rattle.clap.specs.declared.error.kind.ErrorKind.TheVariants as error_kinds;
 ghost use Rattle.program_words.specs.Grammar.{bare, program, with_option, with_positional};
 ghost use Rattle.program_words.specs.Words.{texts};
 ghost use Rattle.program_words.specs.declared.error.WordError.TheVariants as errors;
@@ -23,7 +24,7 @@ const OPTIONS: [&str; 7] = [
 pub fn match_words<'w>(alloc: Global, words: &'w [String]) -> Result<ArgMatches<'w>, WordError>
     ensures matches { IfOk result (λ matches.
         rows_of (found_of matches) ≡ matches_of program (texts words.entry.now)) }
-    ensures taken { OnOk result (fault_of program (texts words.entry.now) ≡ []) }
+    ensures faultless { OnOk result (fault_of program (texts words.entry.now) ≡ []) }
     ensures refused { IsErrOf result WordError.Usage → fault_of program (texts words.entry.now) ≢ [] }
 {
     let command = program(alloc)?;
@@ -35,7 +36,7 @@ pub fn match_words<'w>(alloc: Global, words: &'w [String]) -> Result<ArgMatches<
 
 /// The error of words that `clap` refuses, or of its want of memory.
 fn error_of(kind: ErrorKind) -> WordError
-    ensures { result ≡ errors.Usage → kind ≢ kinds.OutOfMemory }
+    ensures { result ≡ errors.Usage → kind ≢ error_kinds.OutOfMemory }
 {
     match kind {
         ErrorKind::OutOfMemory => WordError::Memory,

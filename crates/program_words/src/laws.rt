@@ -2,12 +2,12 @@
 //! those of `clap`'s walk over them. A law takes nothing and does nothing; its clause is what it says.
 
 ghost use Rattle.std.specs.Prelude.{◌≡◌, List};
-ghost use Rattle.program_words.specs.Spelling.{ArePieces, Piece, given_by, spelled};
+ghost use Rattle.program_words.specs.Spelling.{AreSpellings, Spelling, given_by, spelled};
 ghost use Rattle.program_words.specs.Words.{accepted, asked_by};
 
 /// A law: options with their values, each in the next word or behind `=`, and the name of the zero page, in
-/// any order and no argument twice, are taken by the command, and ask for what these values ask for.
+/// any order and no argument twice, are accepted by the command, and ask for what these values ask for.
 /// A name, and a value that is a word of its own, begins with no hyphen.
 pub fn words_of_spelling()
-    ensures { (pieces : List Piece) → ArePieces pieces → accepted (spelled pieces) ≡ asked_by (given_by pieces) }
+    ensures { (spellings : List Spelling) → AreSpellings spellings → accepted (spelled spellings) ≡ asked_by (given_by spellings) }
 {}

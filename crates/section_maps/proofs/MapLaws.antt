@@ -120,7 +120,7 @@ module _ (entry : List Item) (usage : ℕ) (first : List Placed) (sections : Lis
       subst (Goes entry usage first sections now at before) (drop_all i sections all) goes in
       here.ends (Ok before) now (ends-returns before stop.Memory now)
 
--- the maps of a group in one piece, or one by one
+-- the maps of a group in one buffer, or one by one
 module _ (usage : ℕ) (before : List Placed) (first : Section) (sections : List Section) (q : Request) (old : List Item)
     (asked : q ≡ map_request (length sections) first.node true) where
   alloc-ends : (r : Result ℕ Refusal) (new : List Item) → Allocates r old new (place_for q old) q.size (owner.Map first.number)
@@ -129,56 +129,56 @@ module _ (usage : ℕ) (before : List Placed) (first : Section) (sections : List
       subst (λ (p : Request). EndsAs refusal.Memory r old new (allocated p (owner.Map first.number) old)) asked
       (ends-allocation r old new q (owner.Map first.number) h)
 
-  piece-fails : (e : Refusal) (new : List Item) → Allocates (Err e) old new (place_for q old) q.size (owner.Map first.number)
+  buffer-fails : (e : Refusal) (new : List Item) → Allocates (Err e) old new (place_for q old) q.size (owner.Map first.number)
       → EndsAs {A = List Placed} refusal.Memory (Err e) old new (map_all usage before first sections old)
-  piece-fails e new h =
+  buffer-fails e new h =
       ends-first e refusal.Memory old new (allocated (map_request (length sections) first.node true) (owner.Map first.number))
       (λ map. returns (before ++ spread usage map sections)) (alloc-ends (Err e) new h)
 
-  pub piece-placed : (map : ℕ) (now : List Placed) (new : List Item) → now ≡ before ++ spread usage map sections
+  pub buffer-placed : (map : ℕ) (now : List Placed) (new : List Item) → now ≡ before ++ spread usage map sections
       → Allocates (Ok map) old new (place_for q old) q.size (owner.Map first.number)
       → EndsAs stop.Memory (Ok now) old new (or_else (what.Map first.number) (map_all usage before first sections)
       (map_each usage before sections) old)
-  piece-placed map now new is h =
+  buffer-placed map now new is h =
       else-first now (what.Map first.number) old new (map_all usage before first sections) (map_each usage before sections)
       (ends-second map (Ok now) refusal.Memory old new new
       (allocated (map_request (length sections) first.node true) (owner.Map first.number))
       (λ map. returns (before ++ spread usage map sections)) (alloc-ends (Ok map) new h) (ap (λ (ps : List Placed). Ok ps) (sym is), refl))
 
-  pub piece-lost : (map : ℕ) (new : List Item) → Allocates (Ok map) old new (place_for q old) q.size (owner.Map first.number)
+  pub buffer-lost : (map : ℕ) (new : List Item) → Allocates (Ok map) old new (place_for q old) q.size (owner.Map first.number)
       → EndsAs stop.Memory (Err stop.Memory) old new (or_else (what.Map first.number) (map_all usage before first sections)
       (map_each usage before sections) old)
-  piece-lost map new h =
+  buffer-lost map new h =
       else-wanting (what.Map first.number) old new (map_all usage before first sections) (map_each usage before sections)
       (ends-second map (Err refusal.Memory) refusal.Memory old new new
       (allocated (map_request (length sections) first.node true) (owner.Map first.number))
       (λ map. returns (before ++ spread usage map sections)) (alloc-ends (Ok map) new h)
       (ends-wanting refusal.Memory new (returns (before ++ spread usage map sections) new)))
 
-  pub piece-table : (w : Which) (room : ℕ) (new : List Item)
+  pub buffer-table : (w : Which) (room : ℕ) (new : List Item)
       → Allocates (Err (refusal.NoGapForTable w room)) old new (place_for q old) q.size (owner.Map first.number)
       → EndsAs stop.Memory (Err (stop.NoTablePlace w room)) old new (or_else (what.Map first.number) (map_all usage before first sections)
       (map_each usage before sections) old)
-  piece-table w room new h =
+  buffer-table w room new h =
       else-table w room (what.Map first.number) old new (map_all usage before first sections) (map_each usage before sections)
-      (piece-fails (refusal.NoGapForTable w room) new h)
+      (buffer-fails (refusal.NoGapForTable w room) new h)
 
-  pub piece-wanting : (new : List Item)
+  pub buffer-wanting : (new : List Item)
       → Allocates (Err refusal.Memory) old new (place_for q old) q.size (owner.Map first.number)
       → EndsAs stop.Memory (Err stop.Memory) old new (or_else (what.Map first.number) (map_all usage before first sections)
       (map_each usage before sections) old)
-  piece-wanting new h =
+  buffer-wanting new h =
       else-wanting (what.Map first.number) old new (map_all usage before first sections) (map_each usage before sections)
-      (piece-fails refusal.Memory new h)
+      (buffer-fails refusal.Memory new h)
 
-  pub piece-each : (r : Result (List Placed) StageStop) (mid new : List Item)
+  pub buffer-each : (r : Result (List Placed) StageStop) (mid new : List Item)
       → Allocates (Err refusal.NoGap) old mid (place_for q old) q.size (owner.Map first.number)
       → EndsAs stop.Memory r mid new (map_each usage before sections mid)
       → EndsAs stop.Memory r old new (or_else (what.Map first.number) (map_all usage before first sections)
       (map_each usage before sections) old)
-  piece-each r mid new h rest =
+  buffer-each r mid new h rest =
       else-second r (what.Map first.number) old mid new (map_all usage before first sections) (map_each usage before sections)
-      (piece-fails refusal.NoGap mid h) rest
+      (buffer-fails refusal.NoGap mid h) rest
 
 -- a group: its usage data, and longer its maps
 module _ (before : List Placed) (first : Section) (sections : List Section) (q : Request) (old : List Item)

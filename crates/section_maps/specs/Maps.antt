@@ -55,13 +55,13 @@ map_each usage before (s ∷ ss) =
     placed (what.Map s.number) (map_request 1 s.node false) (owner.Map s.number)
     >>= λ map. map_each (usage + 40) (before ++ record { section = s.number; node = s.node; map = map; usage = usage } ∷ []) ss
 
--- all maps of a group in one piece
+-- all maps of a group in one buffer
 abbrev pub map_all : ℕ → List Placed → Section → List Section → Doing Refusal (List Placed)
 map_all usage before first sections =
     allocated (map_request (length sections) first.node true) (owner.Map first.number)
     >>= λ map. returns (before ++ spread usage map sections)
 
--- a group: its usage data, and then its maps in one piece, or one by one where no piece is free
+-- a group: its usage data, and then its maps in one buffer, or one by one where no buffer is free
 abbrev pub group_placed : List Placed → Section → List Section → Doing StageStop (List Placed)
 group_placed before first sections =
     placed (what.Usage first.number) (usage_request (length sections) first.node) (owner.Usage first.number)

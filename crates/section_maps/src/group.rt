@@ -1,4 +1,4 @@
-//! One group: its usage data, and its maps in one piece or one by one.
+//! One group: its usage data, and its maps in one buffer or one by one.
 
 ghost use Rattle.std.specs.Prelude.{◌≡◌, ℕ, ◌+◌, ◌*◌, ◌^◌, ◌<◌, ◌≤◌, ◌==◌, length};
 ghost use Rattle.std.specs.List.{prefix_len};
@@ -26,7 +26,7 @@ pub fn count_same(sections: &[Section], node: u32) -> usize
     sections.iter().take_while(|s| s.node == node).count()
 }
 
-/// Finds places for the maps of a group, whose first section is told: in one piece of the node itself, or, where none is free, one
+/// Finds places for the maps of a group, whose first section is told: in one buffer of the node itself, or, where none is free, one
 /// by one. The usage data lie one behind the other from the address on.
 fn map_group(
     memblock: &mut Memblock,

@@ -1,6 +1,6 @@
 mod Examples
 pub mod BlockLaws
-pub mod PieceLaws
+pub mod ChunkLaws
 pub mod RowLaws
 pub mod SheetLaws
 pub mod ZoneLaws

@@ -1,7 +1,7 @@
 pub mod BlocksText
 pub mod CrashText
 pub mod NodesText
-pub mod Pieces
+pub mod Chunks
 pub mod ScriptText
 pub mod SectionsText
 pub mod Sheets

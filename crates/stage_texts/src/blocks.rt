@@ -9,10 +9,10 @@ ghost use Rattle.frame_blocks.specs.Rows.{blocks_of_row, blocks_of_rows};
 ghost use Rattle.buddy_handover.specs.Contents.{free};
 ghost use Rattle.report_texts.specs.Lines.{lines_from};
 ghost use Rattle.stage_texts.specs.BlocksText.{block_line, blocks_text, row_text};
-ghost use Rattle.stage_texts.specs.Pieces.{draft_text};
+ghost use Rattle.stage_texts.specs.Chunks.{draft_text};
 ghost use Rattle.stage_texts.specs.Sheets.{ArePlaced, FillSheets};
 
-use crate::pieces::{Draft, Piece};
+use crate::chunks::{Chunk, Draft};
 use crate::sheets::{SHEET_BLOCKS, SHEET_FRAMES, Sheets};
 use crate::words::{put_word_dec, put_word_hex};
 use crate::zones::zone_name;
@@ -20,7 +20,7 @@ use bm_base::{FRAME_SIZE, Memory, put_text};
 use buddy_handover::{Block, BlockRow, Buddy, MAX_ORDER};
 use std::mem;
 
-/// Appends the text of the free blocks: a line for each, ascending. Those of great rows are pieces that take the memory
+/// Appends the text of the free blocks: a line for each, ascending. Those of great rows are chunks that take the memory
 /// of one sheet each.
 pub fn put_blocks(draft: &mut Draft, buddy: &Buddy) -> Result<(), Memory>
     ensures { OnOk result (draft_text draft.new ≡ draft_text draft.old ++ blocks_text (free buddy.now)) }
@@ -78,7 +78,7 @@ fn part_of(row: &BlockRow, skipped: u64, count: u64) -> BlockRow
     }
 }
 
-/// Appends the lines of a row that fills sheets, as a piece of its own.
+/// Appends the lines of a row that fills sheets, as a chunk of its own.
 fn put_sheets(draft: &mut Draft, row: &BlockRow) -> Result<(), Memory>
     requires fill { FillSheets row.now }
     requires some { 0 < row.now.count }
@@ -87,8 +87,8 @@ fn put_sheets(draft: &mut Draft, row: &BlockRow) -> Result<(), Memory>
     let alloc = *draft.text.allocator();
     let sheets = Sheets::new(alloc, row)?;
     let text = mem::replace(&mut draft.text, Vec::new(alloc));
-    draft.pieces.push(Piece::Text(text))?;
-    draft.pieces.push(Piece::Sheets(sheets))?;
+    draft.chunks.push(Chunk::Text(text))?;
+    draft.chunks.push(Chunk::Sheets(sheets))?;
     Ok(())
 }
 

@@ -12,16 +12,16 @@
 //! the zones and the free blocks at the handover, [`put_summary`] of how much there is of everything.
 //!
 //! A text stands in a `Vec<u8>`, but that of the blocks, which may have millions of lines: it goes to a [`Draft`], whose
-//! pieces are texts and [`Sheets`], the lines of great rows, of which no more than some thousand are ever in memory.
+//! chunks are texts and [`Sheets`], the lines of great rows, of which no more than some thousand are ever in memory.
 //!
 //! Nothing but the text grows, and nothing but want of memory comes in its place; the text is then of no
 //! use, and whoever asked for it drops it.
 #![tactic(auto)]
 
 mod blocks;
+mod chunks;
 mod crash;
 mod nodes;
-mod pieces;
 mod script;
 mod sections;
 mod sheets;
@@ -30,9 +30,9 @@ mod words;
 mod zones;
 
 pub use blocks::put_blocks;
+pub use chunks::{Chunk, Draft};
 pub use crash::put_crash;
 pub use nodes::put_nodes;
-pub use pieces::{Draft, Piece};
 pub use script::put_script;
 pub use sections::put_sections;
 pub use sheets::Sheets;

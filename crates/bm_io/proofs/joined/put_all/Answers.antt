@@ -1,4 +1,4 @@
--- One more piece went out, or was refused: what went out is then a front of all.
+-- One more chunk went out, or was refused: what went out is then a front of all.
 use Rattle.std.proofs.Common.{◌≡◌, ◌∙◌, Err, ap, get_or, sym}
 use Rattle.std.proofs.lemmas.Result.{err_from_is_err_and}
 use Rattle.bm_io.specs.declared.writing.Put.{Put}
@@ -8,33 +8,33 @@ use Rattle.bm_io.proofs.joined.put_all.Goals as goal
 
 pub returns-in_err-put_some-clause-puts : goal.returns-in_err-put_some-clause-puts
 returns-in_err-put_some-clause-puts g c =
-    let l = c.loop-piece in
+    let l = c.loop-chunk in
     let p = err_from_is_err_and c.from_residual.result c.from_residual.ensures.1 in
-    let item = c.piece-item in
-    let bytes : c.as_slice.result.now ≡ g.P.AsSlice.items (get_or c.args.pieces.now l.piece-index item.result) =
+    let item = c.chunk-item in
+    let bytes : c.as_slice.result.now ≡ g.P.AsSlice.items (get_or c.args.chunks.now l.chunk-index item.result) =
     c.as_slice.ensures ∙ ap g.P.AsSlice.items item.is in
     puts_refused g.S.Sink _ l.out c.put_some.new.out _ c.in_err-put_some.field-0.0 _
-    (g.P.AsSlice.items (get_or c.args.pieces.now l.piece-index item.result)) _ _ (p.1 ∙ ap (λ (e : Put). Err e) p.2)
-    (joined_at g.P.AsSlice.items c.args.pieces.now l.piece-index item.result c.loop-piece-test.true)
+    (g.P.AsSlice.items (get_or c.args.chunks.now l.chunk-index item.result)) _ _ (p.1 ∙ ap (λ (e : Put). Err e) p.2)
+    (joined_at g.P.AsSlice.items c.args.chunks.now l.chunk-index item.result c.loop-chunk-test.true)
     l.invariant.written l.invariant.faults l.invariant.wants (rw (← bytes) c.in_err-put_some.ensures.puts)
 
 pub returns-in_err-put_some-clause-untouched : goal.returns-in_err-put_some-clause-untouched
 returns-in_err-put_some-clause-untouched g c = λ none.
-    let l = c.loop-piece in
-    let item = c.piece-item in
-    let bytes : c.as_slice.result.now ≡ g.P.AsSlice.items (get_or c.args.pieces.now l.piece-index item.result) =
+    let l = c.loop-chunk in
+    let item = c.chunk-item in
+    let bytes : c.as_slice.result.now ≡ g.P.AsSlice.items (get_or c.args.chunks.now l.chunk-index item.result) =
     c.as_slice.ensures ∙ ap g.P.AsSlice.items item.is in
-    let parts = joined_at g.P.AsSlice.items c.args.pieces.now l.piece-index item.result c.loop-piece-test.true ∙ none in
+    let parts = joined_at g.P.AsSlice.items c.args.chunks.now l.chunk-index item.result c.loop-chunk-test.true ∙ none in
     c.put_some.ensures.untouched (bytes ∙ none_first _ _ (none_behind _ _ parts)) ∙ l.invariant.untouched (none_first _ _ parts)
 
-pub loop-piece-preserved : goal.loop-piece-preserved
-loop-piece-preserved g c =
-    let l = c.loop-piece in
-    let item = c.piece-item in
+pub loop-chunk-preserved : goal.loop-chunk-preserved
+loop-chunk-preserved g c =
+    let l = c.loop-chunk in
+    let item = c.chunk-item in
     let puts = c.in_ok-put_some.ensures.puts in
-    let bytes : c.as_slice.result.now ≡ g.P.AsSlice.items (get_or c.args.pieces.now l.piece-index item.result) =
+    let bytes : c.as_slice.result.now ≡ g.P.AsSlice.items (get_or c.args.chunks.now l.chunk-index item.result) =
     c.as_slice.ensures ∙ ap g.P.AsSlice.items item.is in
-    let more = joined_more g.P.AsSlice.items c.args.pieces.now l.piece-index item.result c.loop-piece-test.true in
+    let more = joined_more g.P.AsSlice.items c.args.chunks.now l.chunk-index item.result c.loop-chunk-test.true in
     record {
       written = rw (more, ← bytes) (appends_twice _ _ _ _ _ l.invariant.written puts.whole);
       faults = puts.uncounted.0 ∙ l.invariant.faults;

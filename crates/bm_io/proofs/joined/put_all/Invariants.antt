@@ -1,13 +1,13 @@
--- The pieces so far stand in the output, no count moved, and nothing was touched where they had no byte.
+-- The chunks so far stand in the output, no count moved, and nothing was touched where they had no byte.
 use Rattle.std.proofs.Common.{◌≡◌, [], take}
 use Rattle.std.specs.List.{flat_map}
 use Rattle.std.specs.Io.KnownBytes.{Appends}
 use Rattle.bm_io.proofs.joined.put_all.Given as goal
 
-abbrev pub invariant-loop-piece : goal.invariant-loop-piece
-invariant-loop-piece g l = record {
-  written : Appends (g.S.Sink.written l.fn.out) (g.S.Sink.written l.out) (flat_map g.P.AsSlice.items (take l.piece-index l.pieces));
+abbrev pub invariant-loop-chunk : goal.invariant-loop-chunk
+invariant-loop-chunk g l = record {
+  written : Appends (g.S.Sink.written l.fn.out) (g.S.Sink.written l.out) (flat_map g.P.AsSlice.items (take l.chunk-index l.chunks));
   faults : g.S.Sink.faults l.out ≡ g.S.Sink.faults l.fn.out;
   wants : g.S.Sink.wants l.out ≡ g.S.Sink.wants l.fn.out;
-  untouched : flat_map g.P.AsSlice.items (take l.piece-index l.pieces) ≡ [] → l.out ≡ l.fn.out;
+  untouched : flat_map g.P.AsSlice.items (take l.chunk-index l.chunks) ≡ [] → l.out ≡ l.fn.out;
 }

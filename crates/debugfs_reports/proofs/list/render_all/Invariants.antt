@@ -2,14 +2,14 @@
 use Rattle.std.proofs.Common.{◌≡◌, map, take}
 use Rattle.std.specs.List.{flat_map}
 use Rattle.boot_model.specs.View.{booted_view}
-use Rattle.stage_texts.specs.Pieces.{text_of_pieces}
+use Rattle.stage_texts.specs.Chunks.{text_of_chunks}
 use Rattle.debugfs_reports.specs.ReportList.{part}
 use Rattle.debugfs_reports.proofs.list.render_all.Given as goal
 
 abbrev pub invariant-loop-report : goal.invariant-loop-report
 invariant-loop-report l = record {
-  each : map (λ pieces. text_of_pieces pieces.items) l.texts.items
+  each : map (λ chunks. text_of_chunks chunks.items) l.texts.items
       ≡ map (part l.several (booted_view l.booted)) (take l.report-index l.reports);
-  whole : flat_map (λ pieces. text_of_pieces pieces.items) l.texts.items
+  whole : flat_map (λ chunks. text_of_chunks chunks.items) l.texts.items
       ≡ flat_map (part l.several (booted_view l.booted)) (take l.report-index l.reports);
 }

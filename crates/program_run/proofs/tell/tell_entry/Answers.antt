@@ -1,4 +1,4 @@
--- The pieces of the line are the line.
+-- The chunks of the line are the line.
 use Rattle.program_run.proofs.tell.tell_entry.Goals as goal
 
 pub returns : goal.returns

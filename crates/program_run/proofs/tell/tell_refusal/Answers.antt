@@ -1,4 +1,4 @@
--- The pieces of the line are the line; the word for an input is its name there.
+-- The chunks of the line are the line; the word for an input is its name there.
 use Rattle.program_run.proofs.tell.tell_refusal.Goals as goal
 
 pub returns-in-Unread : goal.returns-in-Unread

@@ -12,8 +12,8 @@ returns-in-Ok-clause-matches c =
     let made = c.in_ok-command.ensures in
     (c.in-Ok.ensures.matches (ap is_simple made ∙ simple)).0 ∙ ap (λ app. matches_of app (texts c.args.words.now)) made
 
-pub returns-in-Ok-clause-taken : goal.returns-in-Ok-clause-taken
-returns-in-Ok-clause-taken c =
+pub returns-in-Ok-clause-faultless : goal.returns-in-Ok-clause-faultless
+returns-in-Ok-clause-faultless c =
     let made = c.in_ok-command.ensures in
     ap (λ app. fault_of app (texts c.args.words.now)) (sym made) ∙ c.in-Ok.ensures.kinds (ap is_simple_and_free made ∙ simple_and_free)
 

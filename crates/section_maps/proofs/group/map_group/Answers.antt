@@ -1,9 +1,9 @@
--- The maps in one piece, or one by one.
+-- The maps in one buffer, or one by one.
 use Rattle.std.proofs.Common.{ap}
 use Rattle.growth_model.specs.declared.request.Request.{Request}
 use Rattle.stage_model.specs.Doing.{ok_as}
 use Rattle.stage_calls.proofs.LentLaws.{goes-then}
-use Rattle.section_maps.proofs.MapLaws.{piece-placed, piece-lost, piece-table, piece-wanting, piece-each}
+use Rattle.section_maps.proofs.MapLaws.{buffer-placed, buffer-lost, buffer-table, buffer-wanting, buffer-each}
 use Rattle.section_maps.proofs.group.map_group.Goals as goal
 
 pub alloc-requires-clause-aligned : goal.alloc-requires-clause-aligned
@@ -11,18 +11,18 @@ alloc-requires-clause-aligned c = (21, ap (λ (q : Request). q.align) c.map_requ
 
 pub returns-in-Ok-put_spread-clause-ends : goal.returns-in-Ok-put_spread-clause-ends
 returns-in-Ok-put_spread-clause-ends c =
-    piece-placed c.args.usage c.args.placed.now.items c.args.first.now c.args.sections.now c.map_request-request.result
+    buffer-placed c.args.usage c.args.placed.now.items c.args.first.now c.args.sections.now c.map_request-request.result
     c.args.memblock.now.journal.items c.map_request-request.ensures c.in-Ok.map c.put_spread.new.placed.items
     c.alloc.new.self.journal.items c.in-Ok-put_spread.ensures c.in-Ok.ensures.ends
 
 pub returns-in-Err-clause-ends : goal.returns-in-Err-clause-ends
 returns-in-Err-clause-ends c =
-    piece-lost c.args.usage c.args.placed.now.items c.args.first.now c.args.sections.now c.map_request-request.result
+    buffer-lost c.args.usage c.args.placed.now.items c.args.first.now c.args.sections.now c.map_request-request.result
     c.args.memblock.now.journal.items c.map_request-request.ensures c.in-Ok.map c.alloc.new.self.journal.items c.in-Ok.ensures.ends
 
 pub returns-in-Err-NoGap-clause-ends : goal.returns-in-Err-NoGap-clause-ends
 returns-in-Err-NoGap-clause-ends c =
-    piece-each c.args.usage c.args.placed.now.items c.args.first.now c.args.sections.now c.map_request-request.result
+    buffer-each c.args.usage c.args.placed.now.items c.args.first.now c.args.sections.now c.map_request-request.result
     c.args.memblock.now.journal.items c.map_request-request.ensures (ok_as (λ done. c.place_each.new.placed.items) c.place_each.result)
     c.alloc.new.self.journal.items c.place_each.new.memblock.journal.items
     (rw c.in-Err-NoGap.field-0-is at c.in-Err-NoGap.ensures.ends) c.place_each.ensures.ends
@@ -35,12 +35,12 @@ returns-in-Err-NoGap-clause-lent c =
 
 pub returns-in-Err-NoGapForTable-clause-ends : goal.returns-in-Err-NoGapForTable-clause-ends
 returns-in-Err-NoGapForTable-clause-ends c =
-    piece-table c.args.usage c.args.placed.now.items c.args.first.now c.args.sections.now c.map_request-request.result
+    buffer-table c.args.usage c.args.placed.now.items c.args.first.now c.args.sections.now c.map_request-request.result
     c.args.memblock.now.journal.items c.map_request-request.ensures c.in-Err-NoGapForTable.which c.in-Err-NoGapForTable.room
     c.alloc.new.self.journal.items (rw c.in-Err-NoGapForTable.field-0-is at c.in-Err-NoGapForTable.ensures.ends)
 
 pub returns-in-Err-Memory-clause-ends : goal.returns-in-Err-Memory-clause-ends
 returns-in-Err-Memory-clause-ends c =
-    piece-wanting c.args.usage c.args.placed.now.items c.args.first.now c.args.sections.now c.map_request-request.result
+    buffer-wanting c.args.usage c.args.placed.now.items c.args.first.now c.args.sections.now c.map_request-request.result
     c.args.memblock.now.journal.items c.map_request-request.ensures c.alloc.new.self.journal.items
     (rw c.in-Err-Memory.field-0-is at c.in-Err-Memory.ensures.ends)

@@ -3,10 +3,10 @@ use Rattle.std.proofs.Common.{◌∙◌, ◌++◌, ap, arith, subst, sym}
 use Rattle.frame_blocks.specs.declared.block.BlockRow.{BlockRow}
 use Rattle.frame_blocks.specs.Rows.{blocks_of_row}
 use Rattle.stage_texts.specs.BlocksText.{row_text}
-use Rattle.stage_texts.specs.declared.pieces.Draft.{Draft}
-use Rattle.stage_texts.specs.Pieces.{draft_text}
+use Rattle.stage_texts.specs.declared.chunks.Draft.{Draft}
+use Rattle.stage_texts.specs.Chunks.{draft_text}
 use Rattle.stage_texts.specs.Sheets.{ArePlaced, FillSheets}
-use Rattle.stage_texts.proofs.PieceLaws.{great_parts, on_ok, parts_put, text_more}
+use Rattle.stage_texts.proofs.ChunkLaws.{great_parts, on_ok, parts_put, text_more}
 use Rattle.stage_texts.proofs.blocks.put_great_row.Goals as goal
 
 pub part_of-requires : goal.part_of-requires
@@ -43,13 +43,13 @@ pub returns : goal.returns
 returns c =
     let row = c.args.row.now in
     let parts = great_parts row c.requires.great c.requires.many c.requires.placed in
-    let pieces = c.put_sheets.new.draft.pieces.items in
-    let first : Draft = record { pieces = c.args.draft.now.pieces; text = c.put_each.new.text } in
+    let chunks = c.put_sheets.new.draft.chunks.items in
+    let first : Draft = record { chunks = c.args.draft.now.chunks; text = c.put_each.new.text } in
     on_ok c.put_each-2.result
     (λ third. parts_put row _ _ _ _ _ _ parts
-    (text_more c.args.draft.now.pieces.items _ _ _ c.in_ok-put_each.ensures
+    (text_more c.args.draft.now.chunks.items _ _ _ c.in_ok-put_each.ensures
     ∙ ap (λ (r : BlockRow). draft_text c.args.draft.now ++ row_text r) c.part_of.ensures)
     (c.in_ok-put_sheets.ensures
     ∙ ap (λ (r : BlockRow). draft_text first ++ row_text r) c.part_of-2.ensures)
-    (text_more pieces _ _ _ third ∙ ap (λ (r : BlockRow). draft_text c.put_sheets.new.draft ++ row_text r) c.part_of-3.ensures))
+    (text_more chunks _ _ _ third ∙ ap (λ (r : BlockRow). draft_text c.put_sheets.new.draft ++ row_text r) c.part_of-3.ensures))
     c.put_each-2.ensures

@@ -1,7 +1,7 @@
 -- The text so far and the lines of the rows that are left are those of all rows.
 use Rattle.std.proofs.Common.{◌≡◌, ◌++◌, drop}
 use Rattle.frame_blocks.specs.Rows.{blocks_of_rows}
-use Rattle.stage_texts.specs.Pieces.{draft_text}
+use Rattle.stage_texts.specs.Chunks.{draft_text}
 use Rattle.stage_texts.proofs.RowLaws.{lines}
 use Rattle.stage_texts.proofs.blocks.put_rows.Given as goal
 

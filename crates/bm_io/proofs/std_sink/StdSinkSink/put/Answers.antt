@@ -5,7 +5,7 @@ use Rattle.bm_io.proofs.CallsLaws.{taken_none, taken_more}
 use Rattle.bm_io.proofs.std_sink.StdSinkSink.put.Goals as goal
 
 pub loop-rest-init : goal.loop-rest-init
-loop-rest-init g c = let none = taken_none g.W.RawWriter.writes c.args.piece.now c.self.inside.stream in search rules
+loop-rest-init g c = let none = taken_none g.W.RawWriter.writes c.args.chunk.now c.self.inside.stream in search rules
 
 pub loop-rest-preserved : goal.loop-rest-preserved
 loop-rest-preserved g c = let l = c.loop-rest in record {

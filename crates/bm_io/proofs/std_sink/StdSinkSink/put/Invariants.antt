@@ -1,4 +1,4 @@
--- The stream took the front of the piece, and `rest` is what is left of it.
+-- The stream took the front of the chunk, and `rest` is what is left of it.
 use Rattle.std.proofs.Common.{◌≡◌, ◌-◌, length, take, drop}
 use Rattle.std.specs.Io.KnownBytes.{Appends}
 use Rattle.bm_io.specs.Calls.{HasTaken}
@@ -6,10 +6,10 @@ use Rattle.bm_io.proofs.std_sink.StdSinkSink.put.Given as goal
 
 abbrev pub invariant-loop-rest : goal.invariant-loop-rest
 invariant-loop-rest g l = record {
-  taken : HasTaken g.W.RawWriter.writes l.piece l.fn.self.stream (length l.piece - length l.rest) l.self-inside.stream;
+  taken : HasTaken g.W.RawWriter.writes l.chunk l.fn.self.stream (length l.chunk - length l.rest) l.self-inside.stream;
   front : Appends (g.W.RawWriter.contents l.fn.self.stream) (g.W.RawWriter.contents l.self-inside.stream)
-      (take (length l.piece - length l.rest) l.piece);
-  left : l.rest ≡ drop (length l.piece - length l.rest) l.piece;
+      (take (length l.chunk - length l.rest) l.chunk);
+  left : l.rest ≡ drop (length l.chunk - length l.rest) l.chunk;
   faults : l.self-inside.faults ≡ l.fn.self.faults;
 }
 

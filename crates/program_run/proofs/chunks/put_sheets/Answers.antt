@@ -7,7 +7,7 @@ use Rattle.stage_texts.specs.BlocksText.{row_text}
 use Rattle.stage_texts.specs.Sheets.{first_sheet}
 use Rattle.stage_texts.proofs.RowLaws.{no_lines}
 use Rattle.program_run.proofs.PutLaws.{all_out, more_out, refused_out}
-use Rattle.program_run.proofs.pieces.put_sheets.Goals as goal
+use Rattle.program_run.proofs.chunks.put_sheets.Goals as goal
 
 pub returns-in_err-put_all : goal.returns-in_err-put_all
 returns-in_err-put_all g c =
