@@ -1,6 +1,7 @@
 -- What one byte carries, followed through items that don't trim.
 use Rattle.std.specs.Prelude.{◌≡◌, ◌≢◌, ◌<◌, ◌+◌, ℕ, [], ◌∷◌, Bool, true, false, Option, List, fold}
 use Rattle.bm_base.specs.Extent.{end_of}
+use Rattle.bm_base.specs.declared.frame.TheConstants.{FRAME_SIZE}
 use Rattle.memblock_model.specs.declared.item.Item.{Item}
 use Rattle.memblock_model.specs.declared.item.Item.TheVariants as item
 use Rattle.memblock_model.specs.Labels.{Label}
@@ -25,12 +26,12 @@ label_kept whole items x = trimmed (label_from whole items) x
 
 -- an address inside the frame that begins at `first` carries what its first byte carries
 abbrev pub Agrees : Option Label → List Item → ℕ → ℕ → Type 0
-Agrees whole items first e = first < e → e < first + 4096 → label_from whole items e ≡ label_from whole items first
+Agrees whole items first e = first < e → e < first + FRAME_SIZE → label_from whole items e ≡ label_from whole items first
 
 -- it carries something else
 pub record Differs (whole : Option Label) (items : List Item) (first e : ℕ) : Type 0 where
   pub behind : first < e
-  pub inside : e < first + 4096
+  pub inside : e < first + FRAME_SIZE
   pub other : label_from whole items e ≢ label_from whole items first
 
 -- so do both ends of the item's range

@@ -1,4 +1,5 @@
-//! What holds of a boot that isn't stopped, for whoever reads its map.
+//! What holds of a boot that isn't stopped, for whoever reads its map. The laws speak of the definition of the
+//! boot, so who has an answer of it may rest on them and needs to know none of its stages.
 
 ghost use Rattle.std.specs.Prelude.{◌≡◌, ℕ, ◌+◌, ◌*◌, ◌^◌, ◌/◌, ◌<◌, ◌≤◌, is_some, Ok, length};
 ghost use Rattle.address_runs.specs.Runs.{value_at};
@@ -26,7 +27,7 @@ pub fn map_gives_types()
 /// kernel's own memory, of the map of a boot; and there are 1 to 2^32 such frames.
 pub fn map_gives_frames()
     ensures each { (given : Given) (made : Made) (frame : ℕ) → boot given ≡ Ok made →
-        4096 * frame + 4096 ≤ MAX_PHYSMEM → is_usable (types_in_reach given) frame
+        FRAME_SIZE * frame + FRAME_SIZE ≤ MAX_PHYSMEM → is_usable (types_in_reach given) frame
         ≡ each_in (bytes_of_frame frame) (lies_in_memory made.map) }
     ensures some { (given : Given) (made : Made) → boot given ≡ Ok made →
         0 < usable_frames (types_in_reach given) }

@@ -12,7 +12,7 @@ ghost use Rattle.buddy_handover.specs.Contents.{free};
 ghost use Rattle.buddy_handover.specs.Handover.{freed};
 
 use crate::buddy::Buddy;
-use bm_base::Memory;
+use bm_base::{FRAME_SIZE, Memory};
 use frame_blocks::MAX_FRAMES;
 use memblock_ranges::{Head, Heads};
 use phys_store::Store;
@@ -23,7 +23,7 @@ use table_frames::{frames_at, next_claim};
 /// reserved, each of the node of its memory record. The memory records are whole frames below [`MAX_FRAMES`];
 /// what has no node isn't free.
 pub fn hand_over(alloc: Global, store: &Store, heads: &Heads) -> Result<Buddy, Memory>
-    requires memory { HasRecords store.now heads.now.memory (4096 * MAX_FRAMES) }
+    requires memory { HasRecords store.now heads.now.memory (FRAME_SIZE * MAX_FRAMES) }
     requires whole { AreWholeFrames (list_in store.now heads.now.memory) }
     requires reserved { HasRecords store.now heads.now.reserved (2 ^ 64) }
     ensures { IfOk result (λ buddy. (frame : ℕ) → free buddy frame ≡

@@ -2,6 +2,7 @@
 use Rattle.std.specs.Prelude.{◌≡◌, ℕ, ◌+◌, ◌*◌, ◌≤◌, true, List}
 use Rattle.bm_base.specs.Frames.{bytes_of_frame}
 use Rattle.bm_base.specs.Extent.{covers}
+use Rattle.bm_base.specs.declared.frame.TheConstants.{FRAME_SIZE}
 use Rattle.address_runs.specs.Runs.{RunOf}
 use Rattle.boot_model.specs.declared.limit.TheConstants.{MAX_PHYSMEM}
 use Rattle.boot_model.specs.Boot.{lies_in_memory}
@@ -9,5 +10,5 @@ use Rattle.boot_model.specs.Boot.{lies_in_memory}
 -- each byte of the frame lies below the limit of addresses, in a run of RAM or of memory of the kernel's own
 abbrev pub IsUsableBy : List (RunOf ℕ) → ℕ → Type 0
 IsUsableBy map frame =
-    (4096 * frame + 4096 ≤ MAX_PHYSMEM)
+    (FRAME_SIZE * frame + FRAME_SIZE ≤ MAX_PHYSMEM)
     × ((x : ℕ) → covers (bytes_of_frame frame) x ≡ true → lies_in_memory map x ≡ true)

@@ -1,6 +1,7 @@
 -- What the firmware's entries, the extension and the options claim of one address: a set of types.
 use Rattle.std.specs.Prelude.{ℕ, zero, suc, ◌+◌, ◌^◌, ◌==◌, Bool, false, ◌&&◌, ◌||◌, ◌<◌, not, nat_lt, if◌then◌else◌, List, [], ◌∷◌}
 use Rattle.bm_base.specs.Extent.{Extent, covers}
+use Rattle.bm_base.specs.declared.frame.TheConstants.{FRAME_SIZE}
 use Rattle.e820_model.specs.declared.types.TheConstants.{E820_TYPE_RAM, E820_TYPE_RESERVED}
 use Rattle.e820_model.specs.declared.entry.Entry.{Entry}
 use Rattle.e820_model.specs.declared.edit.Edit.{Edit}
@@ -82,7 +83,7 @@ after_edits (e ∷ es) c = after_edits es (edited e c)
 -- the first page is the BIOS's even where firmware calls it RAM, and from 640 KiB to 1 MiB there
 -- is none (`trim_bios_range`)
 abbrev pub first_page : Extent
-first_page = record { base = 0; size = 0x1000 }
+first_page = record { base = 0; size = FRAME_SIZE }
 
 abbrev pub bios_area : Extent
 bios_area = record { base = 0xA0000; size = 0x60000 }

@@ -13,7 +13,7 @@ ghost use Rattle.e820_model.specs.declared.edit.Edit.TheVariants as edits;
 ghost use Rattle.e820_model.specs.Map.{AreClaims, claims_of};
 ghost use Rattle.e820_sanitise.specs.Cuts.{between, between_if, claim_of, cut_out, left_inside, parts};
 
-use bm_base::{Memory, Range};
+use bm_base::{FRAME_SIZE, Memory, Range};
 use e820_model::{E820_TYPE_RAM, E820_TYPE_RESERVED, Edit, Entry, Run};
 use std::alloc::Global;
 
@@ -176,7 +176,7 @@ pub fn bios_trimmed(alloc: Global, claims: &[Run]) -> Result<Vec<Run>, Memory>
 {
     let first_page = Range {
         base: 0,
-        size: 0x1000,
+        size: FRAME_SIZE,
     };
     let bios_area = Range {
         base: 0xA0000,

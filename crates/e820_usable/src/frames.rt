@@ -19,7 +19,7 @@ pub fn is_memory(kind: u32) -> bool
 // The number of frames that begin at `from` or behind it and end by `until`.
 fn whole_frames(from: u64, until: u64) -> u64
     ensures value { result ≡ whole_frames from until }
-    ensures few { 4096 * result ≤ until - from }
+    ensures few { FRAME_SIZE * result ≤ until - from }
 {
     let first = from.div_ceil(FRAME_SIZE);
     let behind = until / FRAME_SIZE;

@@ -10,7 +10,7 @@ use crate::frames::usable_frames;
 use e820_model::Run;
 
 /// The most usable frames that a boot goes on with.
-const MAX_FRAMES: u64 = 1 << 32;
+const MOST_RAM_FRAMES: u64 = 1 << 32;
 
 /// Why a boot stops at its map.
 #[derive(Clone, Copy, Debug, PartialEq, Eq)]
@@ -31,7 +31,7 @@ pub fn judge(runs: &[Run], limit: u64) -> Option<MapStop>
     if frames == 0 {
         return Some(MapStop::NoRam);
     }
-    if frames > MAX_FRAMES {
+    if frames > MOST_RAM_FRAMES {
         return Some(MapStop::TooMuchRam { frames });
     }
     None

@@ -1,8 +1,9 @@
 -- The growth of the two tables (`memblock_double_array`), and the changes that may need it. A table that grows claims its new place before
 -- it frees its old one, and the bytes that it leaves become 0: that order is this project's own.
-use Rattle.std.specs.Prelude.{ℕ, ◌+◌, ◌*◌, ◌/◌, Bool, nat_lt, min, Option, Some, None, List, [], ◌∷◌, length}
+use Rattle.std.specs.Prelude.{ℕ, ◌+◌, ◌-◌, ◌*◌, ◌/◌, Bool, nat_lt, min, Option, Some, None, List, [], ◌∷◌, length}
 use Rattle.std.specs.Option.{option_map, option_or}
 use Rattle.bm_base.specs.Extent.{Extent, end_of}
+use Rattle.bm_base.specs.declared.frame.TheConstants.{FRAME_SIZE}
 use Rattle.memblock_model.specs.declared.which.Which.{Which}
 use Rattle.memblock_model.specs.declared.which.Which.TheVariants as which
 use Rattle.memblock_model.specs.declared.owner.Owner.{Owner}
@@ -17,7 +18,7 @@ use Rattle.growth_model.specs.Outcome.{Change, ◌>>◌, nothing, step, write, r
 
 -- that many bytes, rounded up to frames
 abbrev pub frames_of : ℕ → ℕ
-frames_of n = (n + 4095) / 4096 * 4096
+frames_of n = (n + (FRAME_SIZE - 1)) / FRAME_SIZE * FRAME_SIZE
 
 -- the frames from the address on that hold so many bytes
 abbrev pub frames_at : ℕ → ℕ → Extent
@@ -29,7 +30,7 @@ count w items = length (records_of w items)
 
 -- what a table with that room looks for: the frames of twice as many records of 24 bytes, in the window, of any node
 abbrev pub table_query : ℕ → ℕ → ℕ → Query
-table_query room lo hi = record { lo = lo; hi = hi; size = frames_of (48 * room); align = 4096; node = None }
+table_query room lo hi = record { lo = lo; hi = hi; size = frames_of (48 * room); align = FRAME_SIZE; node = None }
 
 -- the new place of the reserved table: the best one above the range that is being claimed or freed, else the best one below it; and
 -- below the limit both times

@@ -1,7 +1,8 @@
 -- What holds of the items of a boot after each call: both tables lie in frames that are claimed and that nobody else may have, and each
 -- has room for its records.
-use Rattle.std.specs.Prelude.{◌≡◌, ◌≢◌, ◌⊎◌, ℕ, ◌/◌, ◌%◌, ◌≤◌, Bool, true, false, Option, Some, None, List, [], ◌∷◌}
+use Rattle.std.specs.Prelude.{◌≡◌, ◌≢◌, ◌⊎◌, ℕ, ◌*◌, ◌/◌, ◌%◌, ◌≤◌, Bool, true, false, Option, Some, None, List, [], ◌∷◌}
 use Rattle.bm_base.specs.Extent.{Extent, end_of, covers}
+use Rattle.bm_base.specs.declared.frame.TheConstants.{FRAME_SIZE}
 use Rattle.memblock_model.specs.declared.which.Which.{Which}
 use Rattle.memblock_model.specs.declared.which.Which.TheVariants as which
 use Rattle.memblock_model.specs.declared.owner.Owner.{Owner}
@@ -20,12 +21,12 @@ keeps (Some o) = true
 
 -- a place of a table: it begins with a frame, and each of its bytes has such an owner
 pub record Spot (own : Owners) (a : Extent) : Type 0 where
-  pub aligned : a.base % 4096 ≡ 0
+  pub aligned : a.base % FRAME_SIZE ≡ 0
   pub kept : (x : ℕ) → covers a x ≡ true → keeps (own x) ≡ true
 
 -- no frame has bytes of both ranges
 abbrev pub Apart : Extent → Extent → Type 0
-Apart a b = (x y : ℕ) → covers a x ≡ true → covers b y ≡ true → x / 4096 ≢ y / 4096
+Apart a b = (x y : ℕ) → covers a x ≡ true → covers b y ≡ true → x / FRAME_SIZE ≢ y / FRAME_SIZE
 
 -- no byte lies in both ranges
 abbrev pub Clear : Extent → Extent → Type 0
@@ -58,8 +59,8 @@ pub record Sound (kernel : Extent) (items : List Item) : Type 0 where
 
 -- the image holds both built-in places: it ends with a frame, and has two frames at least
 pub record IsImage (kernel : Extent) : Type 0 where
-  pub whole : end_of kernel % 4096 ≡ 0
-  pub large : 8192 ≤ kernel.size
+  pub whole : end_of kernel % FRAME_SIZE ≡ 0
+  pub large : 2 * FRAME_SIZE ≤ kernel.size
 
 -- something happened already: the kernel's image was claimed
 abbrev pub HasBegun : List Item → Type 0

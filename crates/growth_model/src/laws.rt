@@ -5,6 +5,7 @@
 
 ghost use Rattle.std.specs.Prelude.{◌≡◌, ◌⊎◌, ℕ, ◌+◌, ◌*◌, ◌%◌, ◌^◌, ◌≤◌, Option, Some, List, [], ◌∷◌, ◌++◌, Result, Ok, Err};
 ghost use Rattle.bm_base.specs.Extent.{Extent, end_of};
+ghost use Rattle.bm_base.specs.declared.frame.TheConstants.{FRAME_SIZE};
 ghost use Rattle.memblock_model.specs.declared.which.Which.TheVariants as which;
 ghost use Rattle.memblock_model.specs.declared.owner.Owner.{Owner};
 ghost use Rattle.memblock_model.specs.declared.owner.Owner.TheVariants as owner;
@@ -77,7 +78,7 @@ pub fn found_places_are_free()
     ensures within { (items : List Item) (request : Request) (place : ℕ) → place_for request items ≡ Some place →
         place + request.size ≤ limit_of items }
     ensures aligned { (avoid : Extent) (room : ℕ) (items : List Item) (place : ℕ) → place_beside avoid room items ≡ Some place →
-        place % 4096 ≡ 0 }
+        place % FRAME_SIZE ≡ 0 }
     ensures beside { (avoid : Extent) (room : ℕ) (items : List Item) (place : ℕ) → place_beside avoid room items ≡ Some place →
         Clear avoid (frames_at place (48 * room)) }
     ensures below { (avoid : Extent) (room : ℕ) (items : List Item) (place : ℕ) → place_beside avoid room items ≡ Some place →

@@ -2,6 +2,7 @@
 use Rattle.std.specs.Prelude.{ℕ, zero, suc, ◌+◌, ◌%◌, ◌^◌, ◌==◌, Bool, true, false, ◌&&◌, nat_le, is_some, is_none, if◌then◌else◌, Option, Some, None, List}
 use Rattle.address_runs.specs.Edits.{agree}
 use Rattle.bm_base.specs.Each.{each_in}
+use Rattle.bm_base.specs.declared.frame.TheConstants.{FRAME_SIZE}
 use Rattle.memblock_model.specs.Labels.{Label, Labels}
 use Rattle.memblock_model.specs.Same.{same_node, same_label}
 use Rattle.memblock_model.specs.Tables.{table_of}
@@ -24,7 +25,7 @@ allows (Some node) (Some label) = same_node label.node (Some node)
 -- is allowed, and unclaimed
 unfoldable pub fits_in : Labels → Labels → Query → ℕ → Bool
 fits_in memory reserved q a =
-    (a % q.align == 0) && nat_le q.lo a && nat_le 4096 a && nat_le (a + q.size) q.hi
+    (a % q.align == 0) && nat_le q.lo a && nat_le FRAME_SIZE a && nat_le (a + q.size) q.hi
     && is_some (memory a) && allows q.node (memory a)
     && each_in (record { base = a; size = q.size }) (λ x. agree same_label (memory x) (memory a) && is_none (reserved x))
 

@@ -1,6 +1,7 @@
 -- The two tables that a list of items stands for (`struct memblock_type`): their records, their room and their places.
 use Rattle.std.specs.Prelude.{ℕ, ◌-◌, ◌*◌, if◌then◌else◌, Option, Some, None, List, fold, length, unwrap_or}
 use Rattle.bm_base.specs.Extent.{Extent, end_of}
+use Rattle.bm_base.specs.declared.frame.TheConstants.{FRAME_SIZE}
 use Rattle.address_runs.specs.Runs.{RunOf, runs_of}
 use Rattle.address_runs.specs.Edits.{covered, uncovered, bare}
 use Rattle.memblock_model.specs.Labels.{Label, Labels, plain_label}
@@ -67,8 +68,8 @@ moved_to w items = fold (moved_after w) None items
 -- where the table lies at first: in the last two frames of the kernel's image. There the kernel has its arrays too
 -- (`memblock_memory_init_regions`, `memblock_reserved_init_regions`); the places are this project's own
 abbrev pub built_in : Which → Extent → ℕ
-built_in which.Memory kernel = end_of kernel - 8192
-built_in which.Reserved kernel = end_of kernel - 4096
+built_in which.Memory kernel = end_of kernel - 2 * FRAME_SIZE
+built_in which.Reserved kernel = end_of kernel - FRAME_SIZE
 
 -- where the table lies
 abbrev pub place_of : Which → Extent → List Item → ℕ

@@ -4,7 +4,7 @@ use Rattle.std.specs.Prelude.{◌≡◌, ℕ, zero, suc, ◌+◌, ◌-◌, ◌*�
 use Rattle.byteorder.specs.Endian.{little_number, little_bytes}
 use Rattle.phys_store.specs.Bytes.{bytes_at}
 use Rattle.address_runs.specs.Runs.{RunOf, run_end}
-use Rattle.memblock_model.specs.Labels.{Label, plain_label}
+use Rattle.memblock_model.specs.Labels.{Label, plain_label, with_node}
 use Rattle.memblock_ranges.specs.declared.region.Region.{Region}
 
 -- the numbers at the offsets of a record
@@ -30,7 +30,7 @@ fields_of base size node = little_bytes 8 base ++ (little_bytes 8 size ++ (littl
 
 -- the label that a node field stands for, and the node field of a label
 abbrev pub label_of : ℕ → Label
-label_of node = if node == 1024 then plain_label else record { node = Some node }
+label_of node = if node == 1024 then plain_label else with_node (Some node) plain_label
 
 abbrev pub node_field : Label → ℕ
 node_field label = unwrap_or label.node 1024

@@ -1,5 +1,5 @@
 -- A table in the bytes that it describes, and both of them.
-use Rattle.std.specs.Prelude.{◌≡◌, ℕ, ◌+◌, ◌*◌, ◌^◌, ◌<◌, ◌≤◌, Bool, true, false, ◌&&◌, nat_le, nat_lt, if◌then◌else◌, Some, List, length, get_or, IsTrue}
+use Rattle.std.specs.Prelude.{◌≡◌, ℕ, ◌+◌, ◌*◌, ◌^◌, ◌<◌, ◌≤◌, Bool, true, false, if◌then◌else◌, Some, List, length, get_or, IsTrue}
 use Rattle.bm_base.specs.Extent.{Extent, covers, Meet}
 use Rattle.phys_store.specs.Bytes.{Stored, byte_of, is_ready, AreReady, bytes_at}
 use Rattle.address_runs.specs.Runs.{RunOf, AreRuns, value_at}
@@ -21,7 +21,7 @@ pub record IsTable (f : ℕ → ℕ) (ready : ℕ → Bool) (place room count : 
 
 -- the bytes beside the table, and 0 in it
 abbrev pub outside : (ℕ → ℕ) → ℕ → ℕ → ℕ → ℕ
-outside f place room x = if nat_le place x && nat_lt x (place + 24 * room) then 0 else f x
+outside f place room x = if covers (record { base = place; size = 24 * room }) x then 0 else f x
 
 -- what an edit of a table's records leaves as it is: where it lies and its room, the bytes beside it, and what is prepared
 pub record Kept : Type 0 where

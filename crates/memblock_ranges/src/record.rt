@@ -23,7 +23,7 @@ pub fn label_of(node: u32) -> Label
     if node == NO_NODE {
         Label::plain()
     } else {
-        Label { node: Some(node) }
+        Label::plain().with_node(node)
     }
 }
 

@@ -266,7 +266,7 @@ impl Tables {
 fn built_in(kernel: Range, frames: u64) -> Head
     requires size { 8192 ≤ kernel.size }
     requires frames { frames ≤ 2 }
-    ensures head { result ≡ record { place = end_of kernel - 4096 * frames; room = 128; count = 0 } }
+    ensures head { result ≡ record { place = end_of kernel - FRAME_SIZE * frames; room = 128; count = 0 } }
     ensures small { end_of kernel < 2 ^ 64 }
 {
     Head {

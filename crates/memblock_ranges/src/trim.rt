@@ -14,10 +14,10 @@ use run_edits::{Slots, emit};
 
 /// Where the whole frames of the range begin and end; nothing lies between where there are none.
 fn frames(range: &Range) -> (u64, u64)
-    ensures start { result.0 < result.1 → result.0 ≡ range.now.base + (4096 - range.now.base % 4096) % 4096 }
-    ensures until { result.1 ≡ end_of range.now - end_of range.now % 4096 }
+    ensures start { result.0 < result.1 → result.0 ≡ range.now.base + (FRAME_SIZE - range.now.base % FRAME_SIZE) % FRAME_SIZE }
+    ensures until { result.1 ≡ end_of range.now - end_of range.now % FRAME_SIZE }
     ensures none { result.1 ≤ result.0 →
-        end_of range.now - end_of range.now % 4096 ≤ range.now.base + (4096 - range.now.base % 4096) % 4096 }
+        end_of range.now - end_of range.now % FRAME_SIZE ≤ range.now.base + (FRAME_SIZE - range.now.base % FRAME_SIZE) % FRAME_SIZE }
 {
     let end = range.end();
     let until = end - end % FRAME_SIZE;

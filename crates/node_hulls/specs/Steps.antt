@@ -2,6 +2,7 @@
 use Rattle.std.specs.Prelude.{ℕ, ◌+◌, ◌/◌, ◌-◌, ◌^◌, ◌<◌, ◌==◌, Bool, true, false, nat_le, is_some, if◌then◌else◌, List, [], ◌∷◌, length}
 use Rattle.address_runs.specs.Runs.{RunOf, run_end, value_at}
 use Rattle.bm_base.specs.Extent.{Extent}
+use Rattle.bm_base.specs.declared.frame.TheConstants.{FRAME_SIZE}
 use Rattle.srat_reader.specs.declared.table.SratBlock.{SratBlock}
 use Rattle.node_hulls.specs.Domains.{with_name}
 use Rattle.node_hulls.specs.Hulls.{Block}
@@ -50,4 +51,4 @@ EndInSpace (r ∷ rs) = (run_end r < 2 ^ 64) × EndInSpace rs
 
 -- how many frames begin below an address
 abbrev pub begun_before : ℕ → ℕ
-begun_before x = (x + 4095) / 4096
+begun_before x = (x + (FRAME_SIZE - 1)) / FRAME_SIZE

@@ -1,6 +1,7 @@
 -- Bytes at addresses, as contracts see them: what each address holds, and which ones may be written without wanting memory.
 -- Physical memory itself has neither gaps nor want of memory; a program that stands for it has both.
-use Rattle.std.specs.Prelude.{◌≡◌, ℕ, zero, suc, ◌+◌, ◌-◌, ◌<◌, ◌≤◌, Bool, false, ◌&&◌, ◌||◌, nat_le, nat_lt, if◌then◌else◌, List, [], ◌∷◌, length, slice_index, IsTrue}
+use Rattle.std.specs.Prelude.{◌≡◌, ℕ, zero, suc, ◌+◌, ◌-◌, ◌<◌, ◌≤◌, Bool, false, ◌||◌, nat_le, nat_lt, if◌then◌else◌, List, [], ◌∷◌, length, slice_index, IsTrue}
+use Rattle.bm_base.specs.Extent.{covers}
 
 -- some consecutive bytes: the address of the first, and what they are
 pub record Stored : Type 0 where
@@ -13,7 +14,7 @@ past p = p.base + length p.bytes
 
 -- whether the address lies in the extent
 abbrev pub inside : Stored → ℕ → Bool
-inside p x = nat_le p.base x && nat_lt x (past p)
+inside p x = covers (record { base = p.base; size = length p.bytes }) x
 
 -- the byte at an address: that of the first extent that it lies in, and 0 where it lies in none
 abbrev pub byte_of : List Stored → ℕ → ℕ

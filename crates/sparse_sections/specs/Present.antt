@@ -2,6 +2,7 @@
 use Rattle.std.specs.Prelude.{◌≡◌, ℕ, zero, suc, ◌+◌, ◌*◌, ◌/◌, ◌%◌, ◌^◌, ◌<◌, ◌≤◌, Option, Some, None, List, [], ◌∷◌, ◌++◌, length, get_or}
 use Rattle.std.specs.List.{All}
 use Rattle.std.specs.Option.{option_or}
+use Rattle.bm_base.specs.declared.frame.TheConstants.{FRAME_SIZE}
 use Rattle.address_runs.specs.Runs.{RunOf, run_end}
 use Rattle.memblock_model.specs.Labels.{Label, Labels}
 use Rattle.stage_model.specs.declared.section.Section.{Section}
@@ -9,7 +10,7 @@ use Rattle.stage_model.specs.declared.section.Section.{Section}
 -- what the first of the n frames from the one on carries that is memory
 unfoldable pub first_label : Labels → ℕ → ℕ → Option Label
 first_label f frame zero = None
-first_label f frame (suc n) = option_or (f (4096 * frame)) (first_label f (frame + 1) n)
+first_label f frame (suc n) = option_or (f (FRAME_SIZE * frame)) (first_label f (frame + 1) n)
 
 -- and of the 32,768 frames of a section
 abbrev pub section_label : Labels → ℕ → Option Label
@@ -42,8 +43,8 @@ sections_from first (suc n) node = sections_from first n node ++ record { number
 pub record IsWholeNoded (r : RunOf Label) : Type 0 where
   pub node : ℕ
   pub has : r.value.node ≡ Some node
-  pub base : r.base % 4096 ≡ 0
-  pub end : run_end r % 4096 ≡ 0
+  pub base : r.base % FRAME_SIZE ≡ 0
+  pub end : run_end r % FRAME_SIZE ≡ 0
   pub reach : run_end r ≤ 2 ^ 46
 
 -- the section has memory, and its node is that of the lowest byte

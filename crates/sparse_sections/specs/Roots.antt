@@ -1,5 +1,6 @@
 -- The places of the table of roots and of the roots (`memory_present`, `sparse_index_alloc`).
 use Rattle.std.specs.Prelude.{ℕ, ◌/◌, ◌==◌, Bool, false, if◌then◌else◌, Option, Some, None, List, [], ◌∷◌, ◌++◌}
+use Rattle.bm_base.specs.declared.frame.TheConstants.{FRAME_SIZE}
 use Rattle.memblock_model.specs.declared.owner.Owner.TheVariants as owner
 use Rattle.growth_model.specs.declared.request.Request.{Request}
 use Rattle.stage_model.specs.declared.section.Section.{Section}
@@ -30,7 +31,7 @@ small_request size node = record { size = size; align = 64; min = 0; max = None;
 -- a root is a page, on the node of its first section
 abbrev pub root_placed : List RootPlace → Section → Doing StageStop (List RootPlace)
 root_placed before s =
-    placed (what.Root (root_of s)) (small_request 4096 (Some s.node)) (owner.Root (root_of s))
+    placed (what.Root (root_of s)) (small_request FRAME_SIZE (Some s.node)) (owner.Root (root_of s))
     >>= λ place. returns (before ++ record { number = root_of s; place = place } ∷ [])
 
 -- what contracts see of the roots

@@ -1,4 +1,5 @@
-//! The allocations of the table of roots and of each root.
+//! The allocations of the table of roots and of each root. The kernel makes them as it meets the sections; here
+//! these are a list by then, and since they ascend it is enough to know which root was placed last.
 
 ghost use Rattle.std.specs.Prelude.{◌≡◌, ℕ, None, [], List};
 ghost use Rattle.growth_model.specs.Sound.{HasBegun};
@@ -8,6 +9,7 @@ ghost use Rattle.stage_calls.specs.Lent.{GoesOn};
 ghost use Rattle.sparse_sections.specs.Roots.{root_of, is_root, firsts_behind, small_request, root_placed, roots, roots_view};
 
 use crate::roots::{RootPlace, Roots};
+use bm_base::FRAME_SIZE;
 use boot_journal::Owner;
 use growth_model::Request;
 use memblock_grow::Memblock;
@@ -19,7 +21,7 @@ use std::alloc::Global;
 const ROOT_TABLE_SIZE: u64 = 16384;
 
 /// The bytes of a root: a page.
-const ROOT_SIZE: u64 = 4096;
+const ROOT_SIZE: u64 = FRAME_SIZE;
 
 /// The sections of which a root has entries (`SECTIONS_PER_ROOT`).
 const SECTIONS_PER_ROOT: u32 = 256;

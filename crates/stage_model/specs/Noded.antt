@@ -1,11 +1,12 @@
 -- What holds of memory behind the stage that gives it its nodes (`numa_init`).
 use Rattle.std.specs.Prelude.{◌≡◌, ℕ, ◌*◌, ◌/◌, ◌<◌, Some}
+use Rattle.bm_base.specs.declared.frame.TheConstants.{FRAME_SIZE}
 use Rattle.address_runs.specs.Edits.{NothingFrom}
 use Rattle.memblock_model.specs.Labels.{Label, Labels}
 
 -- the bytes of a frame carry the same
 abbrev pub AreOfFrames : {T : Type 0} → (ℕ → T) → Type 0
-AreOfFrames f = (x : ℕ) → f x ≡ f (4096 * (x / 4096))
+AreOfFrames f = (x : ℕ) → f x ≡ f (FRAME_SIZE * (x / FRAME_SIZE))
 
 -- memory is whole frames below the limit of addresses, and each has a node, which is below 1,024 (`MAX_NUMNODES`)
 pub record IsNoded (limit : ℕ) (f : Labels) : Type 0 where

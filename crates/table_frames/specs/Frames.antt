@@ -2,6 +2,7 @@
 use Rattle.std.specs.Prelude.{◌≡◌, ℕ, ◌+◌, ◌-◌, ◌*◌, ◌/◌, ◌≤◌, Bool, ◌&&◌, nat_lt, is_some, is_none, if◌then◌else◌, Option, Some, None, List, drop}
 use Rattle.bm_base.specs.Each.{each_in}
 use Rattle.bm_base.specs.Frames.{bytes_of_frame}
+use Rattle.bm_base.specs.declared.frame.TheConstants.{FRAME_SIZE}
 use Rattle.address_runs.specs.Runs.{RunOf, value_at}
 use Rattle.memblock_model.specs.Labels.{Label, Labels}
 use Rattle.table_frames.specs.declared.frames.RecordFrames.{RecordFrames}
@@ -19,11 +20,11 @@ node_told (Some label) = node_below label.node
 
 -- the frames of which a record has a byte, and their node
 abbrev pub frames_of : RunOf Label → RecordFrames
-frames_of r = record { first = r.base / 4096; end = (r.base + (r.size - 1)) / 4096 + 1; node = node_below r.value.node }
+frames_of r = record { first = r.base / FRAME_SIZE; end = (r.base + (r.size - 1)) / FRAME_SIZE + 1; node = node_below r.value.node }
 
 -- the node of a frame: that of its first byte
 abbrev pub node_of_frame : Labels → ℕ → Option ℕ
-node_of_frame memory frame = node_told (memory (4096 * frame))
+node_of_frame memory frame = node_told (memory (FRAME_SIZE * frame))
 
 -- whether the table has no byte of the frame
 unfoldable pub is_unclaimed : Labels → ℕ → Bool
@@ -36,4 +37,4 @@ free_in memory reserved frame =
 
 -- the records before the index have no byte of the frame, and none behind it
 abbrev pub IsPassed : List (RunOf Label) → ℕ → ℕ → Type 0
-IsPassed rs i frame = (x : ℕ) → 4096 * frame ≤ x → value_at (drop i rs) x ≡ value_at rs x
+IsPassed rs i frame = (x : ℕ) → FRAME_SIZE * frame ≤ x → value_at (drop i rs) x ≡ value_at rs x

@@ -1,5 +1,6 @@
 -- When the bytes at a head are an ascending list of records.
 use Rattle.std.specs.Prelude.{◌≡◌, ℕ, ◌+◌, ◌*◌, ◌%◌, ◌^◌, ◌<◌, ◌≤◌, List, [], ◌∷◌}
+use Rattle.bm_base.specs.declared.frame.TheConstants.{FRAME_SIZE}
 use Rattle.address_runs.specs.Runs.{RunOf, run_end}
 use Rattle.address_runs.specs.Sweep.{StartFrom}
 use Rattle.phys_store.specs.Bytes.{Stored}
@@ -21,4 +22,4 @@ pub record HasRecords (store : List Stored) (head : Head) (bound : ℕ) : Type 0
 -- the records begin and end where frames do
 abbrev pub AreWholeFrames : List (RunOf Label) → Type 0
 AreWholeFrames [] = Unit {0}
-AreWholeFrames (r ∷ rs) = (r.base % 4096 ≡ 0) × (r.size % 4096 ≡ 0) × AreWholeFrames rs
+AreWholeFrames (r ∷ rs) = (r.base % FRAME_SIZE ≡ 0) × (r.size % FRAME_SIZE ≡ 0) × AreWholeFrames rs

@@ -34,7 +34,7 @@ fn is_in_place(region: &Region, from: u64, bound: u64) -> bool
 
 /// Whether the record begins and ends where a frame does.
 fn is_whole(region: &Region) -> bool
-    ensures { IsTrue result ↔ (region.now.base % 4096 ≡ 0) × (region.now.size % 4096 ≡ 0) }
+    ensures { IsTrue result ↔ (region.now.base % FRAME_SIZE ≡ 0) × (region.now.size % FRAME_SIZE ≡ 0) }
 {
     region.base % FRAME_SIZE == 0 && region.size % FRAME_SIZE == 0
 }

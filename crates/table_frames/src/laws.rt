@@ -1,6 +1,8 @@
-//! What the bytes say is what the tables say that stand in them.
+//! What the bytes say is what the tables say that stand in them. The calls of this crate know bytes and heads
+//! alone; by this law a boot, which has the tables of its items, may make these calls and rest on the answers.
 
 ghost use Rattle.std.specs.Prelude.{◌≡◌, ℕ, ◌*◌, ◌/◌, ◌^◌, List};
+ghost use Rattle.bm_base.specs.declared.frame.TheConstants.{FRAME_SIZE};
 ghost use Rattle.address_runs.specs.Runs.{value_at};
 ghost use Rattle.address_runs.specs.Edits.{NothingFrom};
 ghost use Rattle.phys_store.specs.Bytes.{Stored};
@@ -16,7 +18,7 @@ pub fn standing_tables_are_told()
     ensures below { (t : Table) (store : List Stored) (bound : ℕ) → StandsIn t store → NothingFrom bound (value_at t.records) →
         HasRecords store (head_of t) bound }
     ensures whole { (t : Table) (store : List Stored) → StandsIn t store →
-        ((x : ℕ) → value_at t.records x ≡ value_at t.records (4096 * (x / 4096))) →
+        ((x : ℕ) → value_at t.records x ≡ value_at t.records (FRAME_SIZE * (x / FRAME_SIZE))) →
         AreWholeFrames (list_in store (head_of t)) }
     ensures node { (t : Table) (store : List Stored) (frame : ℕ) → StandsIn t store →
         node_of_frame (value_at (list_in store (head_of t))) frame ≡ node_of_frame (value_at t.records) frame }
