@@ -3,12 +3,14 @@
 # the texts that the kernel's own log confirms: map.txt, memory.txt, nodes.txt, zones.txt, crash.txt, and replay/script.txt, the
 # boot's early allocations, each address of which is the kernel's own.
 # Prints a line for each difference, how many texts of each report agree, how many answers and addresses the replays that
-# agree have, and 'N passed, M failed' at its end.
+# agree have, which files no report reads, and 'N passed, M failed' at its end. A text that is missing is a failure, too.
 set -u
 unset CDPATH
 top=$(cd "$(dirname "$0")/.." && pwd)
 program=$(cd "$(dirname "${1:-$top/bootmem}")" && pwd)/$(basename "${1:-$top/bootmem}")
 reports="map memory nodes zones crash script"
+# so many texts there are
+all=184
 passed=0
 failed=0
 answers=0
@@ -75,6 +77,12 @@ for report in $reports; do
 	done <"$work/list"
 	texts="$texts${texts:+, }$agree of $report"
 done
+if [ $((passed + failed)) -ne "$all" ]; then
+	differs examples texts "there are $((passed + failed)), and not $all"
+fi
+unread=$(cd "$top/examples" && find . -mindepth 2 -type f ! -name '*.txt' ! -name words ! -name cmdline \
+	! -name zp.bin ! -name e820ext.bin ! -name srat.bin ! -name script | sort | sed 's/^\.\///' | tr '\n' ' ')
+echo "no report reads: ${unread:-nothing}"
 echo "texts that agree: $texts; the replays have $answers answers, $addresses of them addresses"
 echo "$passed passed, $failed failed"
 [ "$failed" -eq 0 ] && [ "$passed" -gt 0 ]

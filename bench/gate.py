@@ -1,0 +1,94 @@
+#!/usr/bin/env python3
+"""gate.py [COMMAND..]: what the gate costs, crate by crate.
+
+Runs the command, .ci/run if none is given, with what it prints on standard error, and sums the processor time of the prover's
+processes meanwhile, as /proc tells it four times a second (Linux alone). What a process uses behind the last look at it is lost,
+so the sums are a little low; the last line has the whole as the system counts it, and the clock. Prints a table in minutes of
+a processor: of each crate its proof, its tests, and how many wrong bodies it has and what these cost, with the proof over which
+they are tried. It ends with the command's status.
+
+Where something else runs on the machine, or a crate was kept by an earlier run, the figures say little.
+"""
+
+import glob
+import os
+import re
+import resource
+import subprocess
+import sys
+import time
+
+TICK = os.sysconf("SC_CLK_TCK")
+CRATE = re.compile(r"--crate-name[ =](\S+)")
+KINDS = ("its proof", "its tests", "their cost")
+TOP = os.path.join(os.path.dirname(os.path.abspath(__file__)), "..")
+
+
+def kind_of(words):
+    """What a process of the prover is for, by its words."""
+    if "/rt-edits-" in words:
+        return "their cost"
+    return "its tests" if " --test" in words else "its proof"
+
+
+def look(used):
+    """Notes the processor time, in seconds, of each process of the prover that there is, by its number and its start."""
+    for number in filter(str.isdigit, os.listdir("/proc")):
+        try:
+            with open(f"/proc/{number}/cmdline", "rb") as file:
+                words = file.read().replace(b"\0", b" ").decode(errors="replace")
+            crate = CRATE.search(words)
+            if crate is None:
+                continue
+            with open(f"/proc/{number}/stat", encoding="ascii", errors="replace") as file:
+                fields = file.read().rsplit(")", 1)[1].split()
+        except OSError:
+            continue
+        spent = (int(fields[11]) + int(fields[12])) / TICK
+        used[number, fields[19]] = (crate.group(1), kind_of(words), spent)
+
+
+def bodies(crate):
+    """How many wrong bodies the crate has."""
+    return len(glob.glob(os.path.join(TOP, "crates", crate, "must-fail", "*.edit")))
+
+
+def line(name, sums, many, places):
+    proof, tests, cost = (f"{sums[kind]:.{places}f}" if sums[kind] >= 0.05 else "" for kind in KINDS)
+    return f"| {name} | {proof} | {tests} | {many or ''} | {cost} |"
+
+
+def table(used):
+    """The lines of the table, the costliest crate first."""
+    sums = {}
+    for crate, kind, spent in used.values():
+        sums.setdefault(crate, dict.fromkeys(KINDS, 0.0))[kind] += spent / 60
+    yield "| crate | its proof | its tests | wrong bodies | their cost |"
+    yield "|---|---|---|---|---|"
+    for crate in sorted(sums, key=lambda name: -sum(sums[name].values())):
+        yield line(f"`{crate}`", sums[crate], bodies(crate), 1)
+    whole = {kind: sum(each[kind] for each in sums.values()) for kind in KINDS}
+    yield line("all", whole, sum(map(bodies, sums)), 0)
+
+
+def main():
+    command = sys.argv[1:] or [os.path.join(TOP, ".ci", "run")]
+    if command[0] in ("-h", "--help"):
+        print(__doc__.strip())
+        return 0
+    used = {}
+    began = time.monotonic()
+    with subprocess.Popen(command, stdout=sys.stderr) as run:
+        while run.poll() is None:
+            look(used)
+            time.sleep(0.25)
+    clock = (time.monotonic() - began) / 60
+    whole = resource.getrusage(resource.RUSAGE_CHILDREN)
+    for line in table(used):
+        print(line)
+    print(f"all of the command: {(whole.ru_utime + whole.ru_stime) / 60:.1f} of a processor, {clock:.1f} on the clock")
+    return run.returncode
+
+
+if __name__ == "__main__":
+    sys.exit(main())
