@@ -11,40 +11,23 @@ ghost use Rattle.memblock_model.specs.Items.{tag_of};
 ghost use Rattle.boot_journal.specs.Bytes.{is_trim, label_after, label_from, label_kept, Agrees, Differs, EdgesAgree, AllAgree};
 
 use bm_base::{FRAME_SIZE, Range};
-use memblock_model::{Item, Tag};
-use std::marker::Model;
-
-/// What a byte of memory carries: a label whose node may be any number.
-#[derive(Clone, Copy, PartialEq, Eq)]
-struct Carried {
-    node: Option<u32>,
-}
-
-impl Model for Carried {
-    ghost use Rattle.memblock_model.specs.Labels.{Label};
-
-    ghost Value = { Label };
-
-    ghost view = { λ c. record { node = c.node } };
-
-    ghost inverse = { λ l. record { node = l.node } };
-}
+use memblock_model::{Item, Marks, Tag};
 
 /// What the byte at `x` carries after the item, if that isn't a trim.
-fn after(carried: Option<Carried>, item: &Item, x: u64) -> Option<Carried>
+fn after(carried: Option<Marks>, item: &Item, x: u64) -> Option<Marks>
     ensures { result ≡ label_after x carried item.now }
 {
     match item {
-        Item::Mem { range } if range.contains(x) => carried.or(Some(Carried { node: None })),
-        Item::Node { range, node } if range.contains(x) => carried.map(|_| Carried {
-            node: Some(*node),
-        }),
+        Item::Mem { range } if range.contains(x) => carried.or(Some(Marks::plain())),
+        Item::Node { range, node } if range.contains(x) => {
+            carried.map(|marks| marks.with_node(*node))
+        }
         _ => carried,
     }
 }
 
 /// What the byte at `x` carries after the items, of which none trims.
-fn after_all(whole: &Option<Carried>, items: &[Item], x: u64) -> Option<Carried>
+fn after_all(whole: &Option<Marks>, items: &[Item], x: u64) -> Option<Marks>
     ensures { result ≡ label_from whole.now items.now x }
 {
     items
@@ -61,7 +44,7 @@ fn first_trim(items: &[Item]) -> Option<usize>
 
 /// Whether the byte at the edge carries what the frame's first byte carries, if the edge lies behind
 /// that and inside the frame.
-fn edge_agrees(whole: &Option<Carried>, items: &[Item], first: u64, edge: u64) -> bool
+fn edge_agrees(whole: &Option<Marks>, items: &[Item], first: u64, edge: u64) -> bool
     ensures agrees { IsTrue result → Agrees whole.now items.now first edge }
     ensures differs { result ≡ false → Differs whole.now items.now first edge }
 {
@@ -72,7 +55,7 @@ fn edge_agrees(whole: &Option<Carried>, items: &[Item], first: u64, edge: u64) -
 }
 
 /// The same of both ends of the item's range.
-fn item_agrees(whole: &Option<Carried>, items: &[Item], first: u64, item: &Item) -> bool
+fn item_agrees(whole: &Option<Marks>, items: &[Item], first: u64, item: &Item) -> bool
     ensures agrees { IsTrue result → EdgesAgree whole.now items.now first item.now }
     ensures differs { result ≡ false → (e : ℕ) × Differs whole.now items.now first e }
 {
@@ -82,7 +65,7 @@ fn item_agrees(whole: &Option<Carried>, items: &[Item], first: u64, item: &Item)
     }
 }
 
-fn range_agrees(whole: &Option<Carried>, items: &[Item], first: u64, range: &Range) -> bool
+fn range_agrees(whole: &Option<Marks>, items: &[Item], first: u64, range: &Range) -> bool
     ensures agrees { IsTrue result →
         Agrees whole.now items.now first range.now.base × Agrees whole.now items.now first (end_of range.now) }
     ensures differs { result ≡ false → (e : ℕ) × Differs whole.now items.now first e }
@@ -93,7 +76,7 @@ fn range_agrees(whole: &Option<Carried>, items: &[Item], first: u64, range: &Ran
 /// Whether all bytes of the frame that begins at `first` carry the same after the items, of which
 /// none trims, if they all did before. Between two ends of ranges that can't change, so the ends that
 /// lie inside the frame are looked at alone.
-fn frame_agrees(whole: &Option<Carried>, items: &[Item], first: u64) -> bool
+fn frame_agrees(whole: &Option<Marks>, items: &[Item], first: u64) -> bool
     ensures agrees { IsTrue result → AllAgree whole.now items.now first items.now }
     ensures differs { result ≡ false → (e : ℕ) × Differs whole.now items.now first e }
 {
@@ -107,7 +90,7 @@ fn frame_agrees(whole: &Option<Carried>, items: &[Item], first: u64) -> bool
 
 /// What the byte at `x` carries after the items, of which none trims, and a trim, if all bytes of its
 /// frame carried the same before.
-fn kept(whole: &Option<Carried>, items: &[Item], x: u64) -> Option<Carried>
+fn kept(whole: &Option<Marks>, items: &[Item], x: u64) -> Option<Marks>
     ensures { result ≡ label_kept whole.now items.now x }
 {
     let first = x - x % FRAME_SIZE;
@@ -118,13 +101,12 @@ fn kept(whole: &Option<Carried>, items: &[Item], x: u64) -> Option<Carried>
 }
 
 /// The tag of a byte that carries this.
-fn tag(carried: Option<Carried>) -> Tag
+fn tag(carried: Option<Marks>) -> Tag
     ensures { result ≡ tag_for carried }
 {
     match carried {
         None => Tag::Absent,
-        Some(Carried { node: None }) => Tag::NoNode,
-        Some(Carried { node: Some(node) }) => Tag::Node(node),
+        Some(marks) => marks.tag(),
     }
 }
 

@@ -2,6 +2,7 @@
 //!
 //! It is a record, so that a further mark of memory is a further field here, in its test and in the item that sets it.
 
+use crate::tag::Tag;
 use address_runs::Told;
 use std::marker::Model;
 
@@ -57,5 +58,50 @@ impl Label {
         ensures { result ≡ self.node }
     {
         self.node
+    }
+}
+
+/// What the items say of a byte of memory: the fields of a label, but that a node may be any number, as a journal takes it.
+#[derive(Clone, Copy, PartialEq, Eq)]
+pub struct Marks {
+    node: Option<u32>,
+}
+
+impl Model for Marks {
+    ghost use Rattle.memblock_model.specs.Labels.{Label as AnyLabel};
+
+    ghost Value = { AnyLabel };
+
+    ghost view = { λ m. record { node = m.node } };
+
+    ghost inverse = { λ l. record { node = l.node } };
+}
+
+impl Marks {
+    ghost use Rattle.std.specs.Prelude.{◌≡◌, Some};
+    ghost use Rattle.memblock_model.specs.Labels.{plain_label, tag_for, with_node};
+
+    /// Those of new memory.
+    pub fn plain() -> Marks
+        ensures { result ≡ plain_label }
+    {
+        Marks { node: None }
+    }
+
+    /// The same with the node.
+    pub fn with_node(self, node: u32) -> Marks
+        ensures { result ≡ with_node (Some node) self }
+    {
+        Marks { node: Some(node) }
+    }
+
+    /// The tag of a byte that carries these.
+    pub fn tag(self) -> Tag
+        ensures { result ≡ tag_for (Some self) }
+    {
+        match self.node {
+            None => Tag::NoNode,
+            Some(node) => Tag::Node(node),
+        }
     }
 }

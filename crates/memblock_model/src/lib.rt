@@ -10,7 +10,7 @@
 //! (`specs/Labels.antt`): one more part of it is one more field there, in its test of sameness
 //! (`specs/Same.antt`), and in the item that sets it; every law here stays.
 //!
-//! [`Item`], [`Owner`], [`Label`], [`Tag`], [`Which`], [`OwnerRun`] and [`Query`] are plain data. They stand
+//! [`Item`], [`Owner`], [`Label`], [`Marks`], [`Tag`], [`Which`], [`OwnerRun`] and [`Query`] are plain data. They stand
 //! here, below the crates that keep and answer them, because the definitions speak of them.
 //!
 //! The functions are laws over the definitions: they do nothing, and their contracts are proved.
@@ -26,7 +26,7 @@ mod tag;
 mod which;
 
 pub use item::Item;
-pub use label::Label;
+pub use label::{Label, Marks};
 pub use laws::{
     best_is_greatest, item_at_the_end, lists_are_runs, tables_go_by_themselves, tests_tell,
     trimmed_frame_is_whole,
