@@ -26,7 +26,7 @@ TOP = os.path.join(os.path.dirname(os.path.abspath(__file__)), "..")
 
 def kind_of(words):
     """What a process of the prover is for, by its words."""
-    if "/rt-edits-" in words:
+    if "/rt-edit" in words:
         return "their cost"
     return "its tests" if " --test" in words else "its proof"
 
@@ -84,8 +84,7 @@ def main():
             time.sleep(0.25)
     clock = (time.monotonic() - began) / 60
     whole = resource.getrusage(resource.RUSAGE_CHILDREN)
-    for line in table(used):
-        print(line)
+    print(*table(used), sep="\n")
     print(f"all of the command: {(whole.ru_utime + whole.ru_stime) / 60:.1f} of a processor, {clock:.1f} on the clock")
     return run.returncode
 

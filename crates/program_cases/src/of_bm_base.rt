@@ -1,7 +1,8 @@
 //! Numbers in reports and ranges at the end of numbers, multiples, and numbers that are read, by values from outside.
 
 use bm_base::{
-    NumFault, Range, put_dec, put_hex, put_text, read_number, read_size, round_down, round_up,
+    NumFault, Range, Zone, put_dec, put_hex, put_text, read_number, read_size, round_down,
+    round_up, zone_of,
 };
 use std::test::Fail;
 
@@ -53,7 +54,7 @@ fn an_empty_range_overlaps_none(rt: HostRuntime) {
 }
 
 #[test]
-fn multiples(rt: HostRuntime) {
+fn multiples_and_a_zone(rt: HostRuntime) {
     let cases = [
         (0, Some(0)),
         (1, Some(4096)),
@@ -64,6 +65,7 @@ fn multiples(rt: HostRuntime) {
         assert_eq!(rt; round_up(*value, 4096), *want, "{value:#x}");
     }
     assert_eq!(rt; round_down(8191, 4096), 4096);
+    assert!(rt; zone_of(u64::MAX) == Zone::Normal);
 }
 
 #[test]
