@@ -1,12 +1,12 @@
 -- Where the work goes beyond a file: those before it and the file itself have their values, and whatever the later files come to,
--- a refusal is one of theirs. Of the SRAT it is seen without a law.
-use Rattle.std.proofs.Common.{◌≡◌, ℕ, ◌<◌, List, [], length, Option, Some, None, Ok, Err, refl, sym, subst, arith}
+-- a refusal is one of theirs.
+use Rattle.std.proofs.Common.{◌≡◌, ℕ, ◌<◌, List, [], length, Option, Some, None, Ok, Err, refl, sym, subst, arith, rules}
 use Rattle.std.specs.Prelude.{Result, IfSome, IsOkAnd, IsSome}
 use Rattle.bm_base.specs.Extent.{Extent}
 use Rattle.bm_base.specs.ResultSteps.{◌>>=◌}
 use Rattle.e820_model.specs.declared.entry.Entry.{Entry}
 use Rattle.e820_table.specs.ZeroPage.{Page}
-use Rattle.boot_options.specs.Options.{Chosen}
+use Rattle.boot_options.specs.Options.{Chosen, WantsMemory}
 use Rattle.srat_reader.specs.Table.{Affinity}
 use Rattle.script_reader.specs.declared.act.Line.{Line}
 use Rattle.boot_inputs.specs.declared.fault.Fault.{Fault}
@@ -16,7 +16,7 @@ use Rattle.boot_inputs.specs.declared.refusal.Refusal.{Refusal}
 use Rattle.boot_inputs.specs.Answers.{Passes}
 use Rattle.boot_inputs.specs.Input.{limit_of, place}
 use Rattle.boot_inputs.specs.Inputs.{Held, Named, inputs_of, or_faulty, or_unread, step_if, within}
-use Rattle.boot_inputs.specs.Said.{zero_page_said, extension_said, command_line_said, srat_said, script_said, no_options, no_page}
+use Rattle.boot_inputs.specs.Said.{zero_page_said, extension_said, command_line_said, srat_said, script_said, no_options, no_page, TakesMemory}
 
 -- a fault of a later file
 faulty_passes : {A : Type 0} → (input other : Input) → (answer : Result A Fault) → place input < place other
@@ -81,6 +81,21 @@ passes_options T held named kernel page extension page_is extension_is has =
     (λ domains. then_passes inputs.CommandLine _ _
     (step_passes inputs.CommandLine inputs.Script held [] script_said (named inputs.Script) (omega arith)) (λ lines. tt)))))
 
+pub passes_srat : (T : Option Affinity → Type 0) → (held : Held) → (named : Named) → (kernel : Extent) → (page : Page)
+    → (extension : List Entry) → (options : Chosen)
+    → step_if held inputs.ZeroPage no_page zero_page_said (named inputs.ZeroPage) ≡ Ok page
+    → step_if held inputs.Extension [] extension_said (named inputs.Extension) ≡ Ok extension
+    → step_if held inputs.CommandLine no_options command_line_said (named inputs.CommandLine) ≡ Ok options
+    → IsOkAnd (step_if held inputs.Srat None srat_said (named inputs.Srat)) T
+    → Passes inputs.Srat (inputs_of held named kernel)
+passes_srat T held named kernel page extension options page_is extension_is options_are has =
+    known_passes inputs.Srat _ _ page page_is
+    (known_passes inputs.Srat _ _ extension extension_is
+    (known_passes inputs.Srat _ _ options options_are
+    (value_passes T inputs.Srat _ _ has
+    (λ domains. then_passes inputs.Srat _ _
+    (step_passes inputs.Srat inputs.Script held [] script_said (named inputs.Script) (omega arith)) (λ lines. tt)))))
+
 pub passes_script : (held : Held) → (named : Named) → (kernel : Extent) → (page : Page)
     → (extension : List Entry) → (options : Chosen) → (domains : Option Affinity)
     → step_if held inputs.ZeroPage no_page zero_page_said (named inputs.ZeroPage) ≡ Ok page
@@ -114,6 +129,34 @@ told_extension (Some held) named kernel page page_is has = (
   omega arith,
   named_behind _ held inputs.Extension [] extension_said (named inputs.Extension) (λ never. omega (arith, never)) has,
   passes_extension held named kernel page page_is has,
+)
+
+pub told_options : (holds : Option Held) → (named : Named) → (kernel : Extent) → (page : Page) → (extension : List Entry)
+    → IfSome holds (λ held. step_if held inputs.ZeroPage no_page zero_page_said (named inputs.ZeroPage) ≡ Ok page)
+    → IfSome holds (λ held. step_if held inputs.Extension [] extension_said (named inputs.Extension) ≡ Ok extension)
+    → IfSome holds (λ held. IsOkAnd (step_if held inputs.CommandLine no_options command_line_said (named inputs.CommandLine)) WantsMemory)
+    → IfSome holds (λ held. (input : Input) × (0 < place input) × IsSome (named input) × Passes input (inputs_of held named kernel))
+told_options None named kernel page extension page_is extension_is has = tt
+told_options (Some held) named kernel page extension page_is extension_is has = (
+  inputs.CommandLine,
+  omega arith,
+  named_behind _ held inputs.CommandLine no_options command_line_said (named inputs.CommandLine) (λ never. search rules) has,
+  passes_options WantsMemory held named kernel page extension page_is extension_is has,
+)
+
+pub told_srat : (holds : Option Held) → (named : Named) → (kernel : Extent) → (page : Page) → (extension : List Entry)
+    → (options : Chosen)
+    → IfSome holds (λ held. step_if held inputs.ZeroPage no_page zero_page_said (named inputs.ZeroPage) ≡ Ok page)
+    → IfSome holds (λ held. step_if held inputs.Extension [] extension_said (named inputs.Extension) ≡ Ok extension)
+    → IfSome holds (λ held. step_if held inputs.CommandLine no_options command_line_said (named inputs.CommandLine) ≡ Ok options)
+    → IfSome holds (λ held. IsOkAnd (step_if held inputs.Srat None srat_said (named inputs.Srat)) TakesMemory)
+    → IfSome holds (λ held. (input : Input) × (0 < place input) × IsSome (named input) × Passes input (inputs_of held named kernel))
+told_srat None named kernel page extension options page_is extension_is options_are has = tt
+told_srat (Some held) named kernel page extension options page_is extension_is options_are has = (
+  inputs.Srat,
+  omega arith,
+  named_behind _ held inputs.Srat None srat_said (named inputs.Srat) (λ never. search rules) has,
+  passes_srat TakesMemory held named kernel page extension options page_is extension_is options_are has,
 )
 
 pub told_script : (holds : Option Held) → (named : Named) → (kernel : Extent) → (page : Page) → (extension : List Entry)

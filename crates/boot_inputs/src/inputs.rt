@@ -31,7 +31,6 @@ use std::alloc::Global;
 /// Fetches each file that is named, in the order of work, and judges it before the next; the first
 /// refusal is the answer. Where none is named there is no refusal. The kernel lies where it is said. Memory is wanting only
 /// where a fetch says so, or for what a file without a fault gives, behind files without a fault; a zero page takes none.
-#[tactic(auto, using(crate::proofs::PassLaws::passes_options))]
 pub fn read_inputs<F: Files, N: Names>(
     alloc: Global,
     files: &mut F,

@@ -88,159 +88,55 @@ const SMALLEST_SRAT: [u8; 48] = [
     0, 0, 0, 0, 0, 0,
 ];
 
-/// Each file missing, faulty and too long in turn. So many files are fetched and no more: where the last of
-/// these fetches fails its file is unread, and where the next one would, nothing changes.
+const ALL: Five<'static> = Five {
+    zp: "zp",
+    ext: "ext",
+    cmd: "cmd",
+    srat: "srat",
+    script: "script",
+};
+
+/// The zero page, the extension, the line, the table and the script, each fetched once: where that fetch fails its file
+/// is unread, and a sixth would change nothing.
 #[test]
 fn files_in_their_order(rt: HostRuntime) -> Result<(), Fail> {
-    let alloc = rt.alloc();
     let mut zp = [0; 4096];
     zp[0x1e8] = 2;
-    let long = vec![in alloc; 0; 61_457]?;
-    let long = long.as_slice();
-    let good = Held {
+    let held = Held {
         zp: &zp,
         ext: &[0, 0, 0, 0, 0, 0, 0, 0, 1, 0, 0, 0, 0, 0, 0, 0],
         cmd: b"quiet",
         srat: &SMALLEST_SRAT,
         script: b"free 1",
     };
-    let all = Five {
-        zp: "zp",
-        ext: "ext",
-        cmd: "cmd",
-        srat: "srat",
-        script: "script",
-    };
-    let faulty = |input, fault| Some(Refusal::Faulty(input, fault));
-    let page = Input::ZeroPage;
-    let ext = Input::Extension;
-    let line = Input::CommandLine;
-    let srat = Input::Srat;
-    let script = Input::Script;
-    let cases: [(Five, Held, u64, Input, Option<Refusal>); 14] = [
-        (all, good, 5, script, None),
-        (
-            Five { zp: "none", ..all },
-            good,
-            1,
-            page,
-            Some(Refusal::Unread(page)),
-        ),
-        (
-            all,
-            Held {
-                zp: &zp[..4095],
-                ..good
-            },
-            1,
-            page,
-            faulty(page, Fault::WrongLength),
-        ),
-        (
-            all,
-            Held { zp: long, ..good },
-            1,
-            page,
-            faulty(page, Fault::TooLong),
-        ),
-        (
-            Five { ext: "none", ..all },
-            good,
-            2,
-            ext,
-            Some(Refusal::Unread(ext)),
-        ),
-        (
-            all,
-            Held { ext: &zp, ..good },
-            2,
-            ext,
-            faulty(ext, Fault::Header),
-        ),
-        (
-            all,
-            Held { ext: long, ..good },
-            2,
-            ext,
-            faulty(ext, Fault::TooLong),
-        ),
-        (
-            Five { cmd: "none", ..all },
-            good,
-            3,
-            line,
-            Some(Refusal::Unread(line)),
-        ),
-        (
-            all,
-            Held {
-                cmd: b"numa=on",
-                ..good
-            },
-            3,
-            line,
-            faulty(line, Fault::BadNuma { word: 1 }),
-        ),
-        (
-            all,
-            Held { cmd: long, ..good },
-            3,
-            line,
-            faulty(line, Fault::TooLong),
-        ),
-        (
-            Five {
-                srat: "none",
-                ..all
-            },
-            good,
-            4,
-            srat,
-            Some(Refusal::Unread(srat)),
-        ),
-        (
-            all,
-            Held {
-                srat: &zp[..48],
-                ..good
-            },
-            4,
-            srat,
-            faulty(srat, Fault::Signature),
-        ),
-        (
-            Five {
-                script: "none",
-                ..all
-            },
-            good,
-            5,
-            script,
-            Some(Refusal::Unread(script)),
-        ),
-        (
-            all,
-            Held {
-                script: b"free 1\ntrim 1 0",
-                ..good
-            },
-            5,
-            script,
-            faulty(script, Fault::ZeroSize { line: 2 }),
-        ),
+    let rows = [
+        (1, Some(Refusal::Unread(Input::ZeroPage))),
+        (2, Some(Refusal::Unread(Input::Extension))),
+        (3, Some(Refusal::Unread(Input::CommandLine))),
+        (4, Some(Refusal::Unread(Input::Srat))),
+        (5, Some(Refusal::Unread(Input::Script))),
+        (6, None),
     ];
-    for (names, held, fetches, last, want) in &cases {
-        expect(
-            &rt,
-            alloc,
-            names,
-            held,
-            *fetches,
-            Some(Refusal::Unread(*last)),
-        )?;
-        expect(&rt, alloc, names, held, fetches.saturating_add(1), *want)?;
+    for (failing, want) in &rows {
+        expect(&rt, rt.alloc(), &ALL, &held, *failing, *want)?;
     }
     Ok(())
+}
+
+/// Behind a file that is refused none is fetched.
+#[test]
+fn refused_file_is_the_last(rt: HostRuntime) -> Result<(), Fail> {
+    let mut zp = [0; 4096];
+    zp[0x1e8] = 2;
+    let held = Held {
+        zp: &zp,
+        ext: &[0, 0, 0, 0, 0, 0, 0, 0, 1, 0, 0, 0, 0, 0, 0, 0],
+        cmd: b"numa=on",
+        srat: &SMALLEST_SRAT,
+        script: b"free 1",
+    };
+    let want = Refusal::Faulty(Input::CommandLine, Fault::BadNuma { word: 1 });
+    expect(&rt, rt.alloc(), &ALL, &held, 4, Some(want))
 }
 
 /// A zero page whose initrd has one byte more than ends with the last frame below 2^64.
@@ -255,13 +151,6 @@ fn initrd_too_far(rt: HostRuntime) -> Result<(), Fail> {
     zp[0x219] = 0xe0;
     zp[0x21c] = 1;
     zp[0x21d] = 0x10;
-    let names = Five {
-        zp: "zp",
-        ext: "ext",
-        cmd: "cmd",
-        srat: "srat",
-        script: "script",
-    };
     let held = Held {
         zp: &zp,
         ext: b"",
@@ -270,5 +159,5 @@ fn initrd_too_far(rt: HostRuntime) -> Result<(), Fail> {
         script: b"",
     };
     let want = Refusal::Faulty(Input::ZeroPage, Fault::InitrdTooFar);
-    expect(&rt, rt.alloc(), &names, &held, 2, Some(want))
+    expect(&rt, rt.alloc(), &ALL, &held, 2, Some(want))
 }

@@ -216,40 +216,19 @@ fn lists_of_reports(rt: HostRuntime) -> Result<(), Fail> {
     compare(&rt, rt.alloc(), b"", &empty)
 }
 
-/// Where the lines of the blocks from 4 GiB on begin.
-fn great_at(text: &[u8]) -> Option<usize> {
-    let first = b"node 0 zone Normal order 10 0x0000000100000000\n";
-    text.windows(47).position(|part| part == first.as_slice())
-}
-
-/// The numbered line of 47 bytes from there on.
-fn line_at(text: &[u8], at: usize, index: usize) -> Option<&[u8]> {
-    text.get(at..)?.chunks(47).nth(index)
-}
+/// How many bytes stand before the lines of the blocks from 4 GiB on, by an independent model.
+const LOW_LINES: usize = 1317;
 
 // Of 16 GiB above 4 GiB the lines of the blocks are put by sheets of 1,024, behind one put of what stands before them.
 #[test]
 fn sheets_of_blocks(rt: HostRuntime) -> Result<(), Fail> {
     let words = ["--cmdline", "cmd", "--report", "blocks", "zp"];
     let line = b"memmap=16G@4G";
-    let whole = run_on(rt.alloc(), &words, line, NONE)?;
-    assert_eq!(rt; whole.status, 0);
-    let text = whole.out.written();
-    let at = great_at(text).ok_or("no great block")?;
-    let cases = [
-        (1023, "node 0 zone Normal order 10 0x00000001ffc00000\n"),
-        (1024, "node 0 zone Normal order 10 0x0000000200000000\n"),
-        (2047, "node 0 zone Normal order 10 0x00000002ffc00000\n"),
-        (3071, "node 0 zone Normal order 10 0x00000003ffc00000\n"),
-        (3072, "node 0 zone Normal order 10 0x0000000400000000\n"),
-    ];
-    for (index, want) in cases {
-        assert_eq!(rt; line_at(text, at, index), Some(want.as_bytes()), "{index}");
-    }
-    // the half of the first sheet
-    let part = run_on(rt.alloc(), &words, line, [&[], &[2], &[]])?;
-    assert_eq!(rt; part.status, 4);
-    assert_eq!(rt; part.out.written().len().checked_sub(at), Some(512 * 47));
-    assert!(rt; text.starts_with(part.out.written()));
+    let ended = run_on(rt.alloc(), &words, line, [&[], &[3], &[]])?;
+    assert_eq!(rt; ended.status, 4);
+    // a sheet, and the half of the next one
+    let text = ended.out.written();
+    assert_eq!(rt; text.len(), LOW_LINES + 1536 * 47);
+    assert!(rt; text.ends_with(b"node 0 zone Normal order 10 0x000000027fc00000\n"));
     Ok(())
 }

@@ -22,17 +22,22 @@ fn told(alloc: Global, words: &[&str]) -> Result<String, Fail> {
 }
 
 fn told_of(alloc: Global, wanted: &Wanted<'_>) -> Result<String, Fail> {
-    let zero_page = wanted.of(Input::ZeroPage).unwrap_or(".");
-    let extension = wanted.of(Input::Extension).unwrap_or(".");
-    let command_line = wanted.of(Input::CommandLine).unwrap_or(".");
-    let srat = wanted.of(Input::Srat).unwrap_or(".");
-    let script = wanted.of(Input::Script).unwrap_or(".");
-    let list = wanted.list;
+    let files = [
+        Input::ZeroPage,
+        Input::Extension,
+        Input::CommandLine,
+        Input::Srat,
+        Input::Script,
+    ];
+    let mut line = String::new(alloc);
+    for file in files {
+        line.push_str(wanted.of(file).unwrap_or("."))?;
+        line.push_str(" ")?;
+    }
+    line.push_str(wanted.list)?;
     let kernel = wanted.kernel.base / 0x10_0000;
     let made = wanted.made.unwrap_or(0);
-    Ok(format!(in alloc;
-        "{zero_page} {extension} {command_line} {srat} {script} {list} {kernel} {made}"
-    )?)
+    Ok(format!(in alloc; "{line} {kernel} {made}")?)
 }
 
 /// Each row is a list of words and what they come to.
@@ -89,153 +94,24 @@ fn options_and_what_follows_them(rt: HostRuntime) -> Result<(), Fail> {
     compare(&rt, rt.alloc(), &rows)
 }
 
-/// Compares an option that stands beside a name in each form. The words are the option, a value that it takes,
-/// both as one word, an empty value, the option cut short and with one hyphen; the answers what comes of the
-/// value, of an empty one, and of the one word as a name.
-fn compare_forms(
-    rt: &impl Abort,
-    alloc: Global,
-    words: [&str; 6],
-    answers: [&str; 3],
-) -> Result<(), Fail> {
-    let [long, value, joined, without, cut, single] = words;
-    let [taken, empty, named] = answers;
-    compare_places(rt, alloc, [long, value, joined], taken)?;
-    compare_values(rt, alloc, [long, without], empty)?;
-    let rows: [(&[&str], &str); 4] = [
-        // behind the end of options
-        (&["--", joined], named),
-        (&["--", joined, "zp"], "refused"),
+#[test]
+fn forms_of_an_option(rt: HostRuntime) -> Result<(), Fail> {
+    let rows: [(&[&str], &str); 10] = [
+        (&["--cmdline", "f", "zp"], "zp . f . . buddyinfo 16 0"),
+        (&["zp", "--cmdline", "f"], "zp . f . . buddyinfo 16 0"),
+        (&["zp", "--cmdline=f"], "zp . f . . buddyinfo 16 0"),
+        // twice, and without a value
+        (&["--cmdline=f", "--cmdline=f", "zp"], "refused"),
+        (&["zp", "--cmdline"], "refused"),
+        // an empty value names a file, and is no range and no report
+        (&["--cmdline=", "zp"], "zp .  . . buddyinfo 16 0"),
+        (&["--kernel=", "zp"], "refused"),
+        (&["zp", "--report", ""], "refused"),
         // cut short, and with one hyphen
-        (&[cut, value, "zp"], "refused"),
-        (&[single, value, "zp"], "refused"),
+        (&["--cmd", "f", "zp"], "refused"),
+        (&["-srat", "f", "zp"], "refused"),
     ];
-    compare(rt, alloc, &rows)
-}
-
-/// The option in front of the name and behind it, and twice.
-fn compare_places(
-    rt: &impl Abort,
-    alloc: Global,
-    words: [&str; 3],
-    taken: &str,
-) -> Result<(), Fail> {
-    let [long, value, joined] = words;
-    let rows: [(&[&str], &str); 6] = [
-        (&[long, value, "zp"], taken),
-        (&["zp", long, value], taken),
-        (&[joined, "zp"], taken),
-        (&["zp", joined], taken),
-        (&[joined, joined, "zp"], "refused"),
-        (&[long, value, "zp", joined], "refused"),
-    ];
-    compare(rt, alloc, &rows)
-}
-
-/// The option without a value, and with an empty one.
-fn compare_values(
-    rt: &impl Abort,
-    alloc: Global,
-    words: [&str; 2],
-    empty: &str,
-) -> Result<(), Fail> {
-    let [long, without] = words;
-    let rows: [(&[&str], &str); 4] = [
-        (&[long, "zp"], "refused"),
-        (&["zp", long], "refused"),
-        (&[without, "zp"], empty),
-        (&["zp", long, ""], empty),
-    ];
-    compare(rt, alloc, &rows)
-}
-
-#[test]
-fn each_form_of_a_file(rt: HostRuntime) -> Result<(), Fail> {
-    compare_forms(
-        &rt,
-        rt.alloc(),
-        ["--cmdline", "f", "--cmdline=f", "--cmdline=", "--cmd", "-c"],
-        [
-            "zp . f . . buddyinfo 16 0",
-            "zp .  . . buddyinfo 16 0",
-            "--cmdline=f . . . . buddyinfo 16 0",
-        ],
-    )?;
-    compare_forms(
-        &rt,
-        rt.alloc(),
-        [
-            "--e820ext",
-            "f",
-            "--e820ext=f",
-            "--e820ext=",
-            "--e820",
-            "-e",
-        ],
-        [
-            "zp f . . . buddyinfo 16 0",
-            "zp  . . . buddyinfo 16 0",
-            "--e820ext=f . . . . buddyinfo 16 0",
-        ],
-    )?;
-    compare_forms(
-        &rt,
-        rt.alloc(),
-        ["--srat", "f", "--srat=f", "--srat=", "--sra", "-srat"],
-        [
-            "zp . . f . buddyinfo 16 0",
-            "zp . .  . buddyinfo 16 0",
-            "--srat=f . . . . buddyinfo 16 0",
-        ],
-    )?;
-    compare_forms(
-        &rt,
-        rt.alloc(),
-        ["--script", "f", "--script=f", "--script=", "--scr", "-s"],
-        [
-            "zp . . . f buddyinfo 16 0",
-            "zp . . .  buddyinfo 16 0",
-            "--script=f . . . . buddyinfo 16 0",
-        ],
-    )
-}
-
-#[test]
-fn each_form_of_a_value(rt: HostRuntime) -> Result<(), Fail> {
-    compare_forms(
-        &rt,
-        rt.alloc(),
-        [
-            "--kernel",
-            "1M,8K",
-            "--kernel=1M,8K",
-            "--kernel=",
-            "--kern",
-            "-k",
-        ],
-        [
-            "zp . . . . buddyinfo 1 0",
-            "refused",
-            "--kernel=1M,8K . . . . buddyinfo 16 0",
-        ],
-    )?;
-    compare_forms(
-        &rt,
-        rt.alloc(),
-        [
-            "--report",
-            "map",
-            "--report=map",
-            "--report=",
-            "--rep",
-            "-report",
-        ],
-        [
-            "zp . . . . map 16 0",
-            "refused",
-            "--report=map . . . . buddyinfo 16 0",
-        ],
-    )
+    compare(&rt, rt.alloc(), &rows)
 }
 
 #[test]
