@@ -69,14 +69,13 @@ fn files_of(alloc: Global, held: &Held<'_>) -> Result<Vec<MemFile>, Fail>
 fn expect(
     rt: &impl Abort,
     alloc: Global,
-    names: &Five<'_>,
     held: &Held<'_>,
     failing: u64,
     want: Option<Refusal>,
 ) -> Result<(), Fail> {
     let failing = vec![in alloc; failing]?;
     let mut files = MemFiles::new(files_of(alloc, held)?, failing);
-    let answer = read_inputs(alloc, &mut files, names, KERNEL);
+    let answer = read_inputs(alloc, &mut files, &ALL, KERNEL);
     assert_eq!(rt; answer.err(), want.map(InputError::Refused));
     Ok(())
 }
@@ -87,6 +86,15 @@ const SMALLEST_SRAT: [u8; 48] = [
     0, 0, 0, 0, 0, 0, 0, 0, 0, 0, 0, 0, 0, 0, 0, 0, 0, 0, 0, 0, 0, 0, 0, 0, 0, 0, 0, 0, 0, 0, 0, 0,
     0, 0, 0, 0, 0, 0,
 ];
+
+/// Files without a fault, but for the zero page.
+const HELD: Held<'static> = Held {
+    zp: b"",
+    ext: &[0, 0, 0, 0, 0, 0, 0, 0, 1, 0, 0, 0, 0, 0, 0, 0],
+    cmd: b"quiet",
+    srat: &SMALLEST_SRAT,
+    script: b"free 1",
+};
 
 const ALL: Five<'static> = Five {
     zp: "zp",
@@ -102,13 +110,7 @@ const ALL: Five<'static> = Five {
 fn files_in_their_order(rt: HostRuntime) -> Result<(), Fail> {
     let mut zp = [0; 4096];
     zp[0x1e8] = 2;
-    let held = Held {
-        zp: &zp,
-        ext: &[0, 0, 0, 0, 0, 0, 0, 0, 1, 0, 0, 0, 0, 0, 0, 0],
-        cmd: b"quiet",
-        srat: &SMALLEST_SRAT,
-        script: b"free 1",
-    };
+    let held = Held { zp: &zp, ..HELD };
     let rows = [
         (1, Some(Refusal::Unread(Input::ZeroPage))),
         (2, Some(Refusal::Unread(Input::Extension))),
@@ -118,25 +120,41 @@ fn files_in_their_order(rt: HostRuntime) -> Result<(), Fail> {
         (6, None),
     ];
     for (failing, want) in &rows {
-        expect(&rt, rt.alloc(), &ALL, &held, *failing, *want)?;
+        expect(&rt, rt.alloc(), &held, *failing, *want)?;
     }
     Ok(())
 }
 
-/// Behind a file that is refused none is fetched.
+/// Behind a file that is refused none is fetched: where that fetch would fail nothing changes.
 #[test]
 fn refused_file_is_the_last(rt: HostRuntime) -> Result<(), Fail> {
     let mut zp = [0; 4096];
     zp[0x1e8] = 2;
-    let held = Held {
-        zp: &zp,
-        ext: &[0, 0, 0, 0, 0, 0, 0, 0, 1, 0, 0, 0, 0, 0, 0, 0],
-        cmd: b"numa=on",
-        srat: &SMALLEST_SRAT,
-        script: b"free 1",
-    };
-    let want = Refusal::Faulty(Input::CommandLine, Fault::BadNuma { word: 1 });
-    expect(&rt, rt.alloc(), &ALL, &held, 4, Some(want))
+    let good = Held { zp: &zp, ..HELD };
+    let rows = [
+        (HELD, Input::ZeroPage, Fault::WrongLength, 2),
+        (
+            Held { ext: b"", ..good },
+            Input::Extension,
+            Fault::Header,
+            3,
+        ),
+        (
+            Held {
+                cmd: b"numa=on",
+                ..good
+            },
+            Input::CommandLine,
+            Fault::BadNuma { word: 1 },
+            4,
+        ),
+        (Held { srat: b"", ..good }, Input::Srat, Fault::Short, 5),
+    ];
+    for (held, input, fault, behind) in &rows {
+        let want = Refusal::Faulty(*input, *fault);
+        expect(&rt, rt.alloc(), held, *behind, Some(want))?;
+    }
+    Ok(())
 }
 
 /// A zero page whose initrd has one byte more than ends with the last frame below 2^64.
@@ -151,13 +169,7 @@ fn initrd_too_far(rt: HostRuntime) -> Result<(), Fail> {
     zp[0x219] = 0xe0;
     zp[0x21c] = 1;
     zp[0x21d] = 0x10;
-    let held = Held {
-        zp: &zp,
-        ext: b"",
-        cmd: b"",
-        srat: b"",
-        script: b"",
-    };
+    let held = Held { zp: &zp, ..HELD };
     let want = Refusal::Faulty(Input::ZeroPage, Fault::InitrdTooFar);
-    expect(&rt, rt.alloc(), &ALL, &held, 2, Some(want))
+    expect(&rt, rt.alloc(), &held, 2, Some(want))
 }
