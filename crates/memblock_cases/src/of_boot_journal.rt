@@ -32,7 +32,7 @@ fn add_more(journal: &mut Journal) -> Result<(), Memory> {
 
 fn compare_tags(rt: &impl Abort, journal: &Journal, rows: &[(u64, Tag)]) {
     for (x, tag) in rows {
-        assert_eq!(rt; journal.tag_at(*x), *tag, "at {x:#x}");
+        assert!(rt; journal.tag_at(*x) == *tag, "at {x:#x}");
     }
 }
 
@@ -111,7 +111,7 @@ fn claim_beside(journal: &mut Journal) -> Result<(), Memory> {
 
 fn compare_owners(rt: &impl Abort, journal: &Journal, rows: &[(u64, Option<Owner>)]) {
     for (x, owner) in rows {
-        assert_eq!(rt; journal.owner_at(*x), *owner, "at {x:#x}");
+        assert!(rt; journal.owner_at(*x) == *owner, "at {x:#x}");
     }
 }
 
@@ -137,9 +137,8 @@ fn compare_list(rt: &impl Abort, runs: &[OwnerRun], rows: &[(u64, u64, Owner)]) 
 
 fn compare_owned(rt: &impl Abort, journal: &Journal, rows: &[(Range, Owner, bool)]) {
     for (range, owner, is_owned) in rows {
-        assert_eq!(rt;
-            journal.owns(range, *owner),
-            *is_owned,
+        assert!(rt;
+            journal.owns(range, *owner) == *is_owned,
             "{range:?} for {owner:?}"
         );
     }
@@ -206,7 +205,7 @@ fn limit_and_growth(journal: &mut Journal) -> Result<(), Memory> {
 
 fn compare_text(rt: &impl Abort, alloc: Global, journal: &Journal, want: &str) -> Result<(), Fail> {
     let text = format!(in alloc; "{journal:?}")?;
-    assert_eq!(rt; text.as_str(), want);
+    assert!(rt; text.as_str() == want);
     Ok(())
 }
 

@@ -218,7 +218,7 @@ fn allocations_come_from_the_top(rt: HostRuntime) -> Result<(), Fail> {
         align: 0x1000,
         node: None,
     };
-    assert_eq!(rt; best(&memblock, &query), Some(0x7FDE000));
+    assert!(rt; best(&memblock, &query) == Some(0x7FDE000));
     memblock.ready(8)?;
     let cases = [
         (0x2B000, (0, None), None, Ok(0x7FB5000)),
@@ -227,9 +227,8 @@ fn allocations_come_from_the_top(rt: HostRuntime) -> Result<(), Fail> {
         (0x1000, (0x100000, Some(0x200000)), Some(1), Ok(0x1FF000)),
     ];
     for (size, window, node, want) in cases {
-        assert_eq!(rt;
-            alloc(&mut memblock, size, window, node),
-            Some(want),
+        assert!(rt;
+            alloc(&mut memblock, size, window, node) == Some(want),
             "{size}"
         );
     }

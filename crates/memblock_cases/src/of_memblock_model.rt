@@ -129,9 +129,8 @@ fn values_print_their_parts(rt: HostRuntime) -> Result<(), Fail> {
         owner: Owner::Table(Which::Memory),
     };
     let text = format!(in rt.alloc(); "{item:?}")?;
-    assert_eq!(rt;
-        text.as_str(),
-        "Claim { range: Range { base: 1, size: 2 }, owner: Table(Memory) }"
+    assert!(rt;
+        text.as_str() == "Claim { range: Range { base: 1, size: 2 }, owner: Table(Memory) }"
     );
     let query = Query {
         lo: 1,
@@ -141,9 +140,8 @@ fn values_print_their_parts(rt: HostRuntime) -> Result<(), Fail> {
         node: Some(3),
     };
     let text = format!(in rt.alloc(); "{query:?} {:?}", Tag::Node(3))?;
-    assert_eq!(rt;
-        text.as_str(),
-        "Query { lo: 1, hi: 9, size: 2, align: 1, node: Some(3) } Node(3)"
+    assert!(rt;
+        text.as_str() == "Query { lo: 1, hi: 9, size: 2, align: 1, node: Some(3) } Node(3)"
     );
     Ok(())
 }

@@ -89,7 +89,7 @@ fn compare_bytes(rt: &impl Abort, tables: &Tables, rows: &[(u64, [u8; 24])]) {
         assert!(rt; *at <= u64::MAX - 24);
         let mut bytes = [9; 24];
         tables.read(*at, &mut bytes);
-        assert_eq!(rt; bytes, *expected, "at {at:#x}");
+        assert!(rt; bytes == *expected, "at {at:#x}");
     }
 }
 
@@ -166,9 +166,9 @@ fn nodes_that_touch(rt: &impl Abort, tables: &mut Tables) {
         (0x9000, 0x1000, 1024),
     ];
     assert!(rt; has(tables, Which::Memory, &records));
-    assert_eq!(rt; tables.pieces(Which::Memory, bytes(0, 0xB000)), 3);
-    assert_eq!(rt; tables.pieces(Which::Memory, bytes(0x1000, 0x4000)), 0);
-    assert_eq!(rt; tables.pieces(Which::Reserved, bytes(0x1000, 0x4000)), 1);
+    assert!(rt; tables.pieces(Which::Memory, bytes(0, 0xB000)) == 3);
+    assert!(rt; tables.pieces(Which::Memory, bytes(0x1000, 0x4000)) == 0);
+    assert!(rt; tables.pieces(Which::Reserved, bytes(0x1000, 0x4000)) == 1);
 }
 
 fn a_frame_of_two_nodes(rt: &impl Abort, tables: &mut Tables) {
@@ -251,7 +251,7 @@ fn move_reserved(rt: &impl Abort, tables: &mut Tables) -> Result<(), Memory> {
     assert!(rt; !tables.overlaps_table(bytes(0x2FFFC00, 0x400)));
     assert!(rt; !moved(tables, Which::Reserved, 0x2FFEBFF)?);
     assert!(rt; moved(tables, Which::Reserved, 0x100000)?);
-    assert_eq!(rt; tables.head(Which::Reserved), MOVED);
+    assert!(rt; tables.head(Which::Reserved) == MOVED);
     let reserved = [(0x1000000, 0x2000000, 1024)];
     assert!(rt; has(tables, Which::Reserved, &reserved));
     assert!(rt; has(tables, Which::Memory, &[(0x1000, 0x9E000, 0)]));
@@ -271,7 +271,7 @@ fn read_across(rt: &impl Abort, tables: &mut Tables) -> Result<(), Memory> {
     }
     let mut across = [9; 12];
     tables.read(0x2FFEBFC, &mut across);
-    assert_eq!(rt; across, [0, 0, 0, 0, 7, 7, 7, 7, 7, 7, 7, 7]);
+    assert!(rt; across == [0, 0, 0, 0, 7, 7, 7, 7, 7, 7, 7, 7]);
     Ok(())
 }
 
@@ -295,9 +295,9 @@ fn compare_records(rt: &impl Abort, store: &Store, heads: &Heads) {
         room: 128,
         count: 1,
     };
-    assert_eq!(rt; heads.memory, built_in);
-    assert_eq!(rt; heads.reserved, MOVED);
-    assert_eq!(rt; region_at(store, &heads.reserved, 0), first);
-    assert_eq!(rt; region_at(store, &heads.memory, 0).size, 0x9E000);
-    assert_eq!(rt; region_at(store, &heads.memory, 1).size, 0);
+    assert!(rt; heads.memory == built_in);
+    assert!(rt; heads.reserved == MOVED);
+    assert!(rt; region_at(store, &heads.reserved, 0) == first);
+    assert!(rt; region_at(store, &heads.memory, 0).size == 0x9E000);
+    assert!(rt; region_at(store, &heads.memory, 1).size == 0);
 }

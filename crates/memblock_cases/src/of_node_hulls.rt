@@ -44,13 +44,13 @@ fn two_nodes_and_a_hole(rt: HostRuntime) -> Result<(), Fail> {
     ];
     let srat = table(rt.alloc(), &[5, 5], &blocks)?;
     let found = judge(rt.alloc(), &memory, Some(&srat), false)?;
-    assert_eq!(rt; found.why, Why::Used);
-    assert_eq!(rt; found.domains.as_slice(), [5, 2, 9].as_slice());
+    assert!(rt; found.why == Why::Used);
+    assert!(rt; found.domains.as_slice() == [5, 2, 9].as_slice());
     let joined = [
         in_node(0, 0, 0x1_4000_0000),
         in_node(1, 0x1_4000_0000, 0x2_4000_0000),
     ];
-    assert_eq!(rt; found.joined.as_slice(), joined.as_slice());
+    assert!(rt; found.joined.as_slice() == joined.as_slice());
     assert!(rt; found.rest.is_empty());
     Ok(())
 }
@@ -64,7 +64,7 @@ fn another_node_in_between(rt: HostRuntime) -> Result<(), Fail> {
         block(0, 0x320_0000, 0x800_0000),
     ];
     let found = judged(rt.alloc(), &blocks)?;
-    assert_eq!(rt; found.why, Why::NotCovered { frames: 256 });
+    assert!(rt; found.why == Why::NotCovered { frames: 256 });
     assert!(rt; found.joined.is_empty());
     let covered = [
         block(0, 0, 0x300_0000),
@@ -72,12 +72,9 @@ fn another_node_in_between(rt: HostRuntime) -> Result<(), Fail> {
         block(0, 0x320_0000, 0x800_0000),
     ];
     let found = judged(rt.alloc(), &covered)?;
-    assert_eq!(rt; found.why, Why::Used);
-    assert_eq!(rt;
-        found.rest.as_slice(),
-        [in_node(0, 0x300_0000, 0x300_1000)].as_slice()
-    );
-    assert_eq!(rt; found.uncovered, 1);
+    assert!(rt; found.why == Why::Used);
+    assert!(rt; found.rest.as_slice() == [in_node(0, 0x300_0000, 0x300_1000)].as_slice());
+    assert!(rt; found.uncovered == 1);
     Ok(())
 }
 
@@ -120,8 +117,8 @@ fn reasons(rt: HostRuntime) -> Result<(), Fail> {
     ];
     for (blocks, why, uncovered) in &cases {
         let found = judged(rt.alloc(), blocks)?;
-        assert_eq!(rt; found.why, *why);
-        assert_eq!(rt; found.uncovered, *uncovered);
+        assert!(rt; found.why == *why);
+        assert!(rt; found.uncovered == *uncovered);
     }
     Ok(())
 }

@@ -127,9 +127,8 @@ fn no_place_for_node_data(rt: HostRuntime) -> Result<(), Fail> {
     let mut memblock = bare(alloc, DATA - 1)?;
     if has_begun(&memblock) && has_limit(&memblock) {
         let stop = assign(alloc, &mut memblock, None, true).err();
-        assert_eq!(rt;
-            stop,
-            Some(StageStop::NoPlace {
+        assert!(rt;
+            stop == Some(StageStop::NoPlace {
                 what: What::NodeData(0)
             })
         );

@@ -34,7 +34,7 @@ fn map_and_options(rt: HostRuntime) -> Result<(), Fail> {
     )?;
     let want =
         b"0x0000000000000000..0x00000000000fffff 4026531839 soft reserved\n0x0000000000100000..0x0000000007fdffff 1 usable\n";
-    assert_eq!(rt; text.as_slice(), want.as_slice());
+    assert!(rt; text.as_slice() == want.as_slice());
 
     let change = Edit::Change {
         range: FIRST_MIB,
@@ -67,7 +67,7 @@ fn map_and_options(rt: HostRuntime) -> Result<(), Fail> {
     put_options(&mut text, &options)?;
     let want =
         b"clear\nchange 2 1 0x0000000000000000..0x00000000000fffff\ncrash range 0x0000000000000000 0x0000000004000000 0x0000000000800000 base 0x0000000001000000\ncrash range 0x0000000004000000 - 0x0000000001000000 base 0x0000000001000000\ncrash high 0x0000000020000000\nnuma off\n";
-    assert_eq!(rt; text.as_slice(), want.as_slice());
+    assert!(rt; text.as_slice() == want.as_slice());
     Ok(())
 }
 
@@ -87,13 +87,13 @@ fn journal_and_owners(rt: HostRuntime) -> Result<(), Fail> {
     put_journal(&mut text, &journal)?;
     let want =
         b"1: claim kernel 0x0000000001000000..0x0000000002ffffff\n2: mem 0x0000000000100000..0x0000000007fdffff\n3: claim node-data 1 0x0000000000000000..0x00000000000fffff\n";
-    assert_eq!(rt; text.as_slice(), want.as_slice());
+    assert!(rt; text.as_slice() == want.as_slice());
 
     let mut text = Vec::new(rt.alloc());
     put_owners(&mut text, &journal)?;
     let want =
         b"   0: 0x0000000000000000..0x00000000000fffff node-data 1\n   1: 0x0000000001000000..0x0000000002ffffff kernel\n";
-    assert_eq!(rt; text.as_slice(), want.as_slice());
+    assert!(rt; text.as_slice() == want.as_slice());
     Ok(())
 }
 
@@ -107,7 +107,7 @@ fn records_and_heads(rt: HostRuntime) -> Result<(), Fail> {
     let mut text = Vec::new(rt.alloc());
     put_records(&mut text, &store, &heads.memory)?;
     let want = b"   0: 0x0000000000100000..0x0000000007fdffff\n";
-    assert_eq!(rt; text.as_slice(), want.as_slice());
+    assert!(rt; text.as_slice() == want.as_slice());
 
     let heads = Heads {
         memory: Head {
@@ -125,6 +125,6 @@ fn records_and_heads(rt: HostRuntime) -> Result<(), Fail> {
     put_tables(&mut text, &heads)?;
     let want =
         b"memory place 0x0000000007fde000 room 256 records 202\nreserved place 0x0000000007fdb000 room 512 records 303\n";
-    assert_eq!(rt; text.as_slice(), want.as_slice());
+    assert!(rt; text.as_slice() == want.as_slice());
     Ok(())
 }

@@ -47,7 +47,7 @@ fn script(rt: HostRuntime) -> Result<(), Fail> {
     put_script(&mut text, &answers)?;
     let want =
         b"1: at 0x0000000007ff0000\n3: bytes 00ab\n12: no gap for table memory room 256\n13: not whole\n";
-    assert_eq!(rt; text.as_slice(), want.as_slice());
+    assert!(rt; text.as_slice() == want.as_slice());
     Ok(())
 }
 
@@ -69,7 +69,7 @@ fn nodes(rt: HostRuntime) -> Result<(), Fail> {
     put_nodes(&mut text, &nodes, &journal)?;
     let want =
         b"numa not covered 256\ndomain 4 node 0\ndomain 2 node 1\nuncovered 3\nnode 1 0x0000000000000000..0x00000000000fffff\n";
-    assert_eq!(rt; text.as_slice(), want.as_slice());
+    assert!(rt; text.as_slice() == want.as_slice());
     Ok(())
 }
 
@@ -92,7 +92,7 @@ fn crash(rt: HostRuntime) -> Result<(), Fail> {
     put_crash(&mut text, &crash)?;
     let want =
         b"crash at 0x000000025f000000..0x000000027effffff\ncrash low 0x000000007b000000..0x000000007effffff\n";
-    assert_eq!(rt; text.as_slice(), want.as_slice());
+    assert!(rt; text.as_slice() == want.as_slice());
     Ok(())
 }
 
@@ -127,7 +127,7 @@ fn sections(rt: HostRuntime) -> Result<(), Fail> {
     put_sections(&mut text, &roots, &[first, second])?;
     let want =
         b"roots 0x0000000807ffc000\nroot 0 0x000000000ffff000\nroot 1 0x0000000807ffb000\nsection 3 node 1 map 0x000000000fc00000 usage 0x000000000fffefc0\nsection 256 node 1 map 0x0000000807c00000 usage 0x0000000807ffafc0\n";
-    assert_eq!(rt; text.as_slice(), want.as_slice());
+    assert!(rt; text.as_slice() == want.as_slice());
     Ok(())
 }
 
@@ -156,20 +156,20 @@ fn zones_and_blocks(rt: HostRuntime) -> Result<(), Fail> {
     put_zones(&mut text, &spans, &buddy)?;
     let want =
         b"Node 1, zone DMA start 16 end 4096 present 4000 free 3\nNode 1, zone DMA32 start 4096 end 32768 present 28672 free 4\n";
-    assert_eq!(rt; text.as_slice(), want.as_slice());
+    assert!(rt; text.as_slice() == want.as_slice());
 
     let mut text = Vec::new(rt.alloc());
     put_buddyinfo(&mut text, &spans, &buddy)?;
     let want =
         b"Node 1, zone      DMA      1      1      0      0      0      0      0      0      0      0      0 \nNode 1, zone    DMA32      0      0      1      0      0      0      0      0      0      0      0 \n";
-    assert_eq!(rt; text.as_slice(), want.as_slice());
+    assert!(rt; text.as_slice() == want.as_slice());
 
     let mut draft = Draft::new(rt.alloc());
     put_blocks(&mut draft, &buddy)?;
     let want =
         b"node 1 zone DMA order 0 0x0000000000ffd000\nnode 1 zone DMA order 1 0x0000000000ffe000\nnode 1 zone DMA32 order 2 0x0000000001000000\n";
-    assert_eq!(rt; draft.text.as_slice(), want.as_slice());
-    assert_eq!(rt; draft.into_chunks()?.len(), 1);
+    assert!(rt; draft.text.as_slice() == want.as_slice());
+    assert!(rt; draft.into_chunks()?.len() == 1);
     Ok(())
 }
 
@@ -187,7 +187,7 @@ fn sheets(rt: HostRuntime) -> Result<(), Fail> {
     };
     let mut sheets = sheets;
     let want = b"node 0 zone Normal order 10 0x00000001ffc00000\n";
-    assert_eq!(rt; before.as_slice(), want.as_slice());
+    assert!(rt; before.as_slice() == want.as_slice());
     assert!(rt; !sheets.is_empty());
     let want =
         b"node 0 zone Normal order 10 0x0000000200000000\nnode 0 zone Normal order 10 0x0000000200400000\n";
@@ -210,7 +210,7 @@ fn sheets(rt: HostRuntime) -> Result<(), Fail> {
     sheets.turn();
     assert!(rt; sheets.is_empty());
     let want = b"node 0 zone Normal order 10 0x0000000400000000\n";
-    assert_eq!(rt; behind.as_slice(), want.as_slice());
+    assert!(rt; behind.as_slice() == want.as_slice());
     Ok(())
 }
 
@@ -235,6 +235,6 @@ fn summary(rt: HostRuntime) -> Result<(), Fail> {
     put_summary(&mut text, &summary)?;
     let want =
         b"runs 1\nusable 4294967296\nfree 4294966272\nmemory records 1 room 128\nreserved records 257 room 512\nblocks 4194303\n";
-    assert_eq!(rt; text.as_slice(), want.as_slice());
+    assert!(rt; text.as_slice() == want.as_slice());
     Ok(())
 }

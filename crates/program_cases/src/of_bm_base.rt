@@ -16,15 +16,15 @@ fn numbers_as_the_log_prints_them(rt: HostRuntime) -> Result<(), Fail> {
         put_text(&mut out, b"\n")?;
     }
     let want = b"0xffffffffffffffff\n0\n18446744073709551615\n";
-    assert_eq!(rt; out.as_slice(), want.as_slice());
+    assert!(rt; out.as_slice() == want.as_slice());
     Ok(())
 }
 
 #[test]
 fn ranges_end_below_two_to_64(rt: HostRuntime) {
-    assert_eq!(rt; Range::new(1, u64::MAX), None);
-    assert_eq!(rt; Range::between(5, 5), None);
-    assert_eq!(rt; Range::between(1, u64::MAX), Range::new(1, u64::MAX - 1));
+    assert!(rt; Range::new(1, u64::MAX).is_none());
+    assert!(rt; Range::between(5, 5).is_none());
+    assert!(rt; Range::between(1, u64::MAX) == Range::new(1, u64::MAX - 1));
 }
 
 /// All addresses but the first and the last.
@@ -35,7 +35,7 @@ const WIDE: Range = Range {
 
 #[test]
 fn ends_of_the_widest_range(rt: HostRuntime) {
-    assert_eq!(rt; WIDE.end(), u64::MAX);
+    assert!(rt; WIDE.end() == u64::MAX);
     let addresses = [
         (0, false),
         (1, true),
@@ -43,7 +43,7 @@ fn ends_of_the_widest_range(rt: HostRuntime) {
         (u64::MAX, false),
     ];
     for (address, want) in &addresses {
-        assert_eq!(rt; WIDE.contains(*address), *want, "{address:#x}");
+        assert!(rt; WIDE.contains(*address) == *want, "{address:#x}");
     }
 }
 
@@ -62,9 +62,9 @@ fn multiples_and_a_zone(rt: HostRuntime) {
         (u64::MAX - 4094, None),
     ];
     for (value, want) in &cases {
-        assert_eq!(rt; round_up(*value, 4096), *want, "{value:#x}");
+        assert!(rt; round_up(*value, 4096) == *want, "{value:#x}");
     }
-    assert_eq!(rt; round_down(8191, 4096), 4096);
+    assert!(rt; round_down(8191, 4096) == 4096);
     assert!(rt; zone_of(u64::MAX) == Zone::Normal);
 }
 
@@ -93,11 +93,11 @@ fn sizes_and_their_bytes(rt: HostRuntime) {
         ("01777777777777777777777", Ok((u64::MAX, 23))),
     ];
     for (text, want) in &cases {
-        assert_eq!(rt; read_size(text.as_bytes()), *want, "at {text}");
+        assert!(rt; read_size(text.as_bytes()) == *want, "at {text}");
     }
 }
 
 #[test]
 fn a_number_and_its_bytes(rt: HostRuntime) {
-    assert_eq!(rt; read_number(b"0778".as_slice()), Ok((63, 3)));
+    assert!(rt; read_number(b"0778".as_slice()) == Ok((63, 3)));
 }

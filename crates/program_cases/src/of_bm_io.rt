@@ -8,22 +8,30 @@ use std::process::Abort;
 use std::test::Fail;
 use std::{fs, process};
 
-/// How many bytes a fetch gives.
-fn fetched(files: &mut impl Files, alloc: Global, name: &str, limit: u64) -> Result<usize, Fetch> {
-    let bytes = files.fetch(alloc, name, limit)?;
-    Ok(bytes.len())
+/// Whether a fetch answers so.
+fn answers(
+    files: &mut impl Files,
+    alloc: Global,
+    name: &str,
+    limit: u64,
+    want: Result<&[u8], Fetch>,
+) -> bool {
+    match files.fetch(alloc, name, limit) {
+        Ok(bytes) => want == Ok(bytes.as_slice()),
+        Err(fault) => want == Err(fault),
+    }
 }
 
-/// Each row is a name, a limit, and how many bytes are given.
+/// Each row is a name, a limit, and the bytes that are given.
 fn compare_files(
     rt: &impl Abort,
     alloc: Global,
     files: &mut impl Files,
-    rows: &[(&str, u64, Result<usize, Fetch>)],
+    rows: &[(&str, u64, Result<&[u8], Fetch>)],
 ) {
     for (name, limit, want) in rows {
-        let answer = fetched(files, alloc, name, *limit);
-        assert_eq!(rt; answer, *want, "{name} up to {limit}");
+        let is_so = answers(files, alloc, name, *limit, *want);
+        assert!(rt; is_so, "{name} up to {limit}");
     }
 }
 
@@ -37,17 +45,17 @@ fn files_of_three_bytes(alloc: Global) -> Result<MemFiles, Fail> {
 fn files_in_memory(rt: HostRuntime) -> Result<(), Fail> {
     let alloc = rt.alloc();
     let mut files = files_of_three_bytes(alloc)?;
+    let whole = b"\x01\x02\x03".as_slice();
     let rows = [
-        ("zp", 3, Ok(3)),
+        ("zp", 3, Ok(whole)),
         ("zp", 3, Err(Fetch::Failed)),
         ("zp", 2, Err(Fetch::TooLong)),
         ("other", 3, Err(Fetch::Failed)),
-        ("zp", 3, Ok(3)),
+        ("zp", 3, Ok(whole)),
         ("zp", 3, Err(Fetch::Failed)),
+        ("zp", 3, Ok(whole)),
     ];
     compare_files(&rt, alloc, &mut files, &rows);
-    let bytes = files.fetch(alloc, "zp", 3).expect(&rt, "the file");
-    assert_eq!(rt; bytes.as_slice(), b"\x01\x02\x03".as_slice());
     Ok(())
 }
 
@@ -55,19 +63,16 @@ fn files_in_memory(rt: HostRuntime) -> Result<(), Fail> {
 fn files_of_the_system(rt: HostRuntime) -> Result<(), Fail> {
     let alloc = rt.alloc();
     let there = format!(in alloc; "/tmp/bm_io-files-{}", process::id(rt.process()))?;
-    fs::write(&rt, there.as_str(), &[7u8; 10_000])?;
+    let whole = [7u8; 10_000];
+    fs::write(&rt, there.as_str(), &whole)?;
     let mut files = RealFiles::new(&rt);
     let rows = [
-        (there.as_str(), 10_000, Ok(10_000)),
+        (there.as_str(), 10_000, Ok(whole.as_slice())),
         (there.as_str(), 9_999, Err(Fetch::TooLong)),
         ("/tmp/bm_io-no-such-file", 10_000, Err(Fetch::Failed)),
         ("/tmp", 10_000, Err(Fetch::Failed)),
     ];
     compare_files(&rt, alloc, &mut files, &rows);
-    let bytes = files
-        .fetch(alloc, there.as_str(), 10_000)
-        .expect(&rt, "the file");
-    assert_eq!(rt; bytes.as_slice(), [7u8; 10_000].as_slice());
     fs::remove_file(&rt, there.as_str())?;
     Ok(())
 }
@@ -75,7 +80,7 @@ fn files_of_the_system(rt: HostRuntime) -> Result<(), Fail> {
 /// Each row is a chunk, and what its put answers.
 fn compare_puts(rt: &impl Abort, sink: &mut impl Sink, rows: &[(&[u8], Result<(), Put>)]) {
     for (chunk, want) in rows {
-        assert_eq!(rt; sink.put(chunk), *want);
+        assert!(rt; sink.put(chunk) == *want);
     }
 }
 
@@ -89,7 +94,7 @@ fn output_in_memory(rt: HostRuntime) -> Result<(), Fail> {
         (b"6".as_slice(), Err(Put::Failed)),
     ];
     compare_puts(&rt, &mut sink, &rows);
-    assert_eq!(rt; sink.written(), b"abc12.".as_slice());
+    assert!(rt; sink.written() == b"abc12.".as_slice());
     Ok(())
 }
 
@@ -104,7 +109,7 @@ fn a_file_that_is_written(rt: HostRuntime) -> Result<(), Fail> {
     ];
     compare_puts(&rt, &mut sink, &rows);
     let written = fs::read(&rt, path.as_str())?;
-    assert_eq!(rt; written.as_slice(), b"one two".as_slice());
+    assert!(rt; written.as_slice() == b"one two".as_slice());
     fs::remove_file(&rt, path.as_str())?;
     Ok(())
 }
@@ -112,17 +117,17 @@ fn a_file_that_is_written(rt: HostRuntime) -> Result<(), Fail> {
 #[test]
 fn streams_of_the_system(rt: HostRuntime) -> Result<(), Fail> {
     let mut full = StdSink::new(fs::create(&rt, "/dev/full")?);
-    assert_eq!(rt; full.put(b"x"), Err(Put::Failed), "a device with no room");
+    assert!(rt; full.put(b"x") == Err(Put::Failed), "a device with no room");
     let mut output = StdSink::new(rt.stdout());
-    assert_eq!(rt; output.put(b"to the standard output"), Ok(()));
+    assert!(rt; output.put(b"to the standard output") == Ok(()));
     Ok(())
 }
 
 /// Puts five chunks, and compares the answer and what was written.
 fn compare_chunks(rt: &impl Abort, sink: &mut MemSink, want: Result<(), Put>, written: &str) {
     let answer = put_all(sink, &["", "entry ", "12", "", " too far\n"]);
-    assert_eq!(rt; answer, want, "for {written}");
-    assert_eq!(rt; sink.written(), written.as_bytes());
+    assert!(rt; answer == want, "for {written}");
+    assert!(rt; sink.written() == written.as_bytes());
 }
 
 /// An output in memory whose call of that number fails.

@@ -73,10 +73,13 @@ fn expect(
     failing: u64,
     want: Option<Refusal>,
 ) -> Result<(), Fail> {
-    let failing = vec![in alloc; failing]?;
-    let mut files = MemFiles::new(files_of(alloc, held)?, failing);
+    let calls = vec![in alloc; failing]?;
+    let mut files = MemFiles::new(files_of(alloc, held)?, calls);
     let answer = read_inputs(alloc, &mut files, &ALL, KERNEL);
-    assert_eq!(rt; answer.err(), want.map(InputError::Refused));
+    assert!(rt;
+        answer.err() == want.map(InputError::Refused),
+        "fetch {failing}"
+    );
     Ok(())
 }
 

@@ -50,7 +50,7 @@ fn lines_of_words(rt: HostRuntime) {
         ),
     ];
     for (line, want) in &cases {
-        assert_eq!(rt; read_count(rt.alloc(), line), *want, "at {line:?}");
+        assert!(rt; read_count(rt.alloc(), line) == *want, "at {line:?}");
     }
 }
 
@@ -88,12 +88,9 @@ fn faults_of_lines(rt: HostRuntime) {
         ),
     ];
     for (line, want) in &cases {
-        assert_eq!(rt; read_count(rt.alloc(), line), Err(*want), "at {line:?}");
+        assert!(rt; read_count(rt.alloc(), line) == Err(*want), "at {line:?}");
     }
-    assert_eq!(rt;
-        read_count(rt.alloc(), &[b'a'; 2048]),
-        Err(OptionFault::TooLong)
-    );
+    assert!(rt; read_count(rt.alloc(), &[b'a'; 2048]) == Err(OptionFault::TooLong));
 }
 
 #[test]
@@ -135,7 +132,7 @@ fn edits_in_the_order_of_the_line(rt: HostRuntime) -> Result<(), Fail> {
             kind: 2,
         },
     ];
-    assert_eq!(rt; edits.as_slice(), want.as_slice());
+    assert!(rt; edits.as_slice() == want.as_slice());
     assert!(rt; numa_off);
     Ok(())
 }
@@ -191,7 +188,7 @@ fn crash_areas(rt: HostRuntime) -> Result<(), Fail> {
         ),
     ];
     for (line, want) in &cases {
-        assert_eq!(rt; read_area(rt.alloc(), line)?, *want, "at {line:?}");
+        assert!(rt; read_area(rt.alloc(), line)? == *want, "at {line:?}");
     }
     Ok(())
 }

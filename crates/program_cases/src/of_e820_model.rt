@@ -18,6 +18,6 @@ fn the_greater_type_holds(rt: HostRuntime) -> Result<(), Fail> {
         run(0x4000, 0x5000, 1),
     ];
     let runs = overlay_all(rt.alloc(), told.as_slice())?;
-    assert_eq!(rt; runs.as_slice(), want.as_slice());
+    assert!(rt; runs.as_slice() == want.as_slice());
     Ok(())
 }

@@ -13,8 +13,8 @@ fn settled(rt: &impl Abort, alloc: Global, entries: &[Entry]) -> Table
     requires { EndInSpace entries.now }
 {
     let mut table = Table::new(alloc);
-    assert_eq!(rt; table.append(entries), Ok(()));
-    assert_eq!(rt; table.settle(), Ok(()));
+    assert!(rt; table.append(entries) == Ok(()));
+    assert!(rt; table.settle() == Ok(()));
     table
 }
 
@@ -22,16 +22,18 @@ fn settled(rt: &impl Abort, alloc: Global, entries: &[Entry]) -> Table
 fn expect_after(rt: &impl Abort, table: &mut Table, edit: &Edit, runs: &[Run])
     requires { HasTypes edit.now }
 {
-    assert_eq!(rt; table.edit(edit), Ok(()));
+    assert!(rt; table.edit(edit) == Ok(()));
     expect(rt, table, runs);
 }
 
 fn expect(rt: &impl Abort, table: &Table, runs: &[Run]) {
     let found = table.runs().expect(rt, "a map");
-    assert_eq!(rt; found.as_slice(), runs);
+    assert!(rt; found.as_slice() == runs);
     for run in runs {
-        assert_eq!(rt; table.type_at(run.range.base), run.kind);
-        assert_eq!(rt; table.type_at(run.range.end()) == run.kind, false);
+        let base = run.range.base;
+        assert!(rt; table.type_at(base) == run.kind, "{base:#x}");
+        let end = run.range.end();
+        assert!(rt; table.type_at(end) != run.kind, "{end:#x}");
     }
 }
 
@@ -103,7 +105,7 @@ fn bios_areas_are_trimmed(rt: HostRuntime) {
         rt.alloc(),
         &[entry(0, 0x20_0000, 1), entry(0xF_0000, 0x1_0000, 2)],
     );
-    assert_eq!(rt; table.trim_bios(), Ok(()));
+    assert!(rt; table.trim_bios() == Ok(()));
     let runs = [
         FIRST_PAGE,
         FIRST_640K,
@@ -119,7 +121,7 @@ fn nested_entries_are_too_many_runs(rt: HostRuntime) {
     for depth in 0..3200u32 {
         let addr = u64::from(depth) * 0x1000;
         let nested = entry(addr, 0x200_0000 - 2 * addr, depth + 1);
-        assert_eq!(rt; table.append(&[nested]), Ok(()));
+        assert!(rt; table.append(&[nested]) == Ok(()));
     }
-    assert_eq!(rt; table.runs(), Err(MapFault::MapFull { runs: 6399 }));
+    assert!(rt; table.runs() == Err(MapFault::MapFull { runs: 6399 }));
 }

@@ -30,11 +30,11 @@ const FAR: Entry = Entry {
 #[test]
 fn zero_pages(rt: HostRuntime) -> Result<(), Fail> {
     let read = read_zero_page(&page(2, RAM, LAST))?;
-    assert_eq!(rt; read.entries.as_slice(), [RAM, LAST].as_slice());
+    assert!(rt; read.entries.as_slice() == [RAM, LAST].as_slice());
     let fault = read_zero_page(&page(2, FAR, FAR)).err();
-    assert_eq!(rt; fault, Some(ZeroFault::EntryTooFar { index: 0 }));
+    assert!(rt; fault == Some(ZeroFault::EntryTooFar { index: 0 }));
     let fault = read_zero_page(&page(0, RAM, LAST)).err();
-    assert_eq!(rt; fault, Some(ZeroFault::TooFew));
+    assert!(rt; fault == Some(ZeroFault::TooFew));
     Ok(())
 }
 
@@ -65,7 +65,7 @@ fn initrds(rt: HostRuntime) -> Result<(), Fail> {
     for (loader, address, size, want) in &cases {
         let read = read_zero_page(&page_with_initrd(LAST, *loader, *address, *size))?;
         let initrd = read.initrd.map(|range| (range.base, range.size));
-        assert_eq!(rt; initrd, *want);
+        assert!(rt; initrd == *want);
     }
     let far = [
         (LAST, [0xffff_ffff, 0xffff_ffff], ZeroFault::InitrdTooFar),
@@ -73,7 +73,7 @@ fn initrds(rt: HostRuntime) -> Result<(), Fail> {
     ];
     for (second, size, want) in &far {
         let bytes = page_with_initrd(*second, 1, top, *size);
-        assert_eq!(rt; read_zero_page(&bytes).err(), Some(*want));
+        assert!(rt; read_zero_page(&bytes).err() == Some(*want));
     }
     Ok(())
 }
@@ -86,12 +86,9 @@ fn extensions(rt: HostRuntime) -> Result<(), Fail> {
     put_entry(&mut bytes, 16, RAM);
     put_entry(&mut bytes, 36, LAST);
     let read = read_ext(rt.alloc(), &bytes)?;
-    assert_eq!(rt; read.as_slice(), [RAM, LAST].as_slice());
+    assert!(rt; read.as_slice() == [RAM, LAST].as_slice());
     bytes[12] = 39;
-    assert_eq!(rt;
-        read_ext(rt.alloc(), &bytes).err(),
-        Some(ExtFault::ExtLength)
-    );
+    assert!(rt; read_ext(rt.alloc(), &bytes).err() == Some(ExtFault::ExtLength));
     Ok(())
 }
 
@@ -128,7 +125,7 @@ fn made_inputs(rt: HostRuntime) -> Result<(), Fail> {
             input.ext.len(),
             input.ext.as_slice().last().map(seen),
         );
-        assert_eq!(rt; told, (Some(*page), *behind, *last), "{n}");
+        assert!(rt; told == (Some(*page), *behind, *last), "{n}");
     }
     Ok(())
 }

@@ -225,10 +225,10 @@ fn sheets_of_blocks(rt: HostRuntime) -> Result<(), Fail> {
     let words = ["--cmdline", "cmd", "--report", "blocks", "zp"];
     let line = b"memmap=16G@4G";
     let ended = run_on(rt.alloc(), &words, line, [&[], &[3], &[]])?;
-    assert_eq!(rt; ended.status, 4);
+    assert!(rt; ended.status == 4);
     // a sheet, and the half of the next one
     let text = ended.out.written();
-    assert_eq!(rt; text.len(), LOW_LINES + 1536 * 47);
+    assert!(rt; text.len() == LOW_LINES + 1536 * 47);
     assert!(rt; text.ends_with(b"node 0 zone Normal order 10 0x000000027fc00000\n"));
     Ok(())
 }

@@ -44,7 +44,7 @@ fn told_of(alloc: Global, wanted: &Wanted<'_>) -> Result<String, Fail> {
 fn compare(rt: &impl Abort, alloc: Global, rows: &[(&[&str], &str)]) -> Result<(), Fail> {
     for (words, expected) in rows {
         let line = told(alloc, words)?;
-        assert_eq!(rt; line.as_str(), *expected, "{words:?}");
+        assert!(rt; line.as_str() == *expected, "{words:?}");
     }
     Ok(())
 }

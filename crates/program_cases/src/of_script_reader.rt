@@ -51,9 +51,9 @@ fn each_form(rt: HostRuntime) -> Result<(), Fail> {
         (10, Act::Peek { at: 0, len: 64 }),
     ];
     let lines = read_script(rt.alloc(), text.as_bytes()).expect(&rt, "the lines");
-    assert_eq!(rt; lines.len(), want.len());
+    assert!(rt; lines.len() == want.len());
     for (line, (number, act)) in lines.iter().zip(want) {
-        assert_eq!(rt; *line, Line { number, act }, "line {number}");
+        assert!(rt; *line == Line { number, act }, "line {number}");
     }
     Ok(())
 }
@@ -66,6 +66,6 @@ fn faults_of_one_line(rt: HostRuntime) {
     ];
     for (text, want) in &cases {
         let answer = read_script(rt.alloc(), text.as_bytes());
-        assert_eq!(rt; answer.err(), Some(*want), "{text}");
+        assert!(rt; answer.err() == Some(*want), "{text}");
     }
 }

@@ -93,7 +93,10 @@ fn entries_of_every_kind(rt: HostRuntime) -> Result<(), Fail> {
     for (revision, processor, memory) in cases {
         seal(&mut bytes, revision);
         let srat = read_srat(rt.alloc(), &bytes)?;
-        assert_eq!(rt; srat.cpus.as_slice(), [0x0c0d, processor].as_slice());
+        assert!(rt;
+            srat.cpus.as_slice() == [0x0c0d, processor].as_slice(),
+            "revision {revision}"
+        );
         let want = [
             SratBlock {
                 domain: memory,
@@ -104,7 +107,10 @@ fn entries_of_every_kind(rt: HostRuntime) -> Result<(), Fail> {
                 range: empty,
             },
         ];
-        assert_eq!(rt; srat.blocks.as_slice(), want.as_slice());
+        assert!(rt;
+            srat.blocks.as_slice() == want.as_slice(),
+            "revision {revision}"
+        );
     }
     Ok(())
 }
@@ -139,6 +145,9 @@ fn faults_of_entries(rt: HostRuntime) {
         bytes[49] = *length;
         bytes[89] = *second;
         seal(&mut bytes, 3);
-        assert_eq!(rt; read_srat(rt.alloc(), &bytes).err(), *want);
+        assert!(rt;
+            read_srat(rt.alloc(), &bytes).err() == *want,
+            "kind {kind}, length {length}"
+        );
     }
 }
