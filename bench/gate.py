@@ -2,12 +2,12 @@
 """gate.py [COMMAND..]: what the gate costs, crate by crate.
 
 Runs the command, .ci/run if none is given, with what it prints on standard error, and sums the processor time of the prover's
-processes meanwhile, as /proc tells it four times a second (Linux alone). What a process uses behind the last look at it is lost,
-so the sums are a little low; the last line has the whole as the system counts it, and the clock. Prints a table in minutes of
-a processor: of each crate its proof, its tests, and how many wrong bodies it has and what these cost, with the proof over which
-they are tried. It ends with the command's status.
+processes that it starts, as /proc tells it four times a second (Linux alone). What a process uses behind the last look at it is
+lost, so the sums are a little low; the last line has the whole as the system counts it, and the clock. Prints a table in minutes
+of a processor: of each crate its proof, its tests, and how many wrong bodies it has and what these cost, with the proof over
+which they are tried. It ends with the command's status.
 
-Where something else runs on the machine, or a crate was kept by an earlier run, the figures say little.
+What runs beside it isn't counted, and makes it dearer. Where a crate was kept by an earlier run, the figures say little.
 """
 
 import glob
@@ -31,21 +31,35 @@ def kind_of(words):
     return "its tests" if " --test" in words else "its proof"
 
 
-def look(used):
-    """Notes the processor time, in seconds, of each process of the prover that there is, by its number and its start."""
+def processes():
+    """The words and the fields of /proc/NUMBER/stat behind the name of each process that there is, by its number."""
+    found = {}
     for number in filter(str.isdigit, os.listdir("/proc")):
         try:
             with open(f"/proc/{number}/cmdline", "rb") as file:
                 words = file.read().replace(b"\0", b" ").decode(errors="replace")
-            crate = CRATE.search(words)
-            if crate is None:
-                continue
             with open(f"/proc/{number}/stat", encoding="ascii", errors="replace") as file:
-                fields = file.read().rsplit(")", 1)[1].split()
+                found[number] = words, file.read().rsplit(")", 1)[1].split()
         except OSError:
-            continue
-        spent = (int(fields[11]) + int(fields[12])) / TICK
-        used[number, fields[19]] = (crate.group(1), kind_of(words), spent)
+            pass
+    return found
+
+
+def is_below(number, top, found):
+    """Whether the process was started by the one whose number is top, or by one that was."""
+    while number in found and number != top:
+        number = found[number][1][1]
+    return number == top
+
+
+def look(used, top):
+    """Notes the processor time, in seconds, of each process of the prover below top, by its number and its start."""
+    found = processes()
+    for number, (words, fields) in found.items():
+        crate = CRATE.search(words)
+        if crate and is_below(number, top, found):
+            spent = (int(fields[11]) + int(fields[12])) / TICK
+            used[number, fields[19]] = (crate.group(1), kind_of(words), spent)
 
 
 def bodies(crate):
@@ -80,7 +94,7 @@ def main():
     began = time.monotonic()
     with subprocess.Popen(command, stdout=sys.stderr) as run:
         while run.poll() is None:
-            look(used)
+            look(used, str(run.pid))
             time.sleep(0.25)
     clock = (time.monotonic() - began) / 60
     whole = resource.getrusage(resource.RUSAGE_CHILDREN)
