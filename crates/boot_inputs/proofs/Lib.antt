@@ -1,2 +1,4 @@
 mod Examples
+pub mod FileLaws
 pub mod PassLaws
+pub mod RefusedLaws

@@ -6,6 +6,7 @@ use Rattle.bm_base.specs.Extent.{Extent}
 use Rattle.bm_base.specs.ResultSteps.{◌>>=◌}
 use Rattle.e820_model.specs.declared.entry.Entry.{Entry}
 use Rattle.e820_table.specs.ZeroPage.{Page}
+use Rattle.boot_model.specs.Boot.{Given}
 use Rattle.boot_options.specs.Options.{Chosen, WantsMemory}
 use Rattle.srat_reader.specs.Table.{Affinity}
 use Rattle.script_reader.specs.declared.act.Line.{Line}
@@ -52,6 +53,58 @@ known_passes : {A B : Type 0} → (input : Input) → (x : Result A Refusal) →
     → Passes input (f a) → Passes input (x >>= f)
 known_passes input x f a is rest = subst (λ y. Passes input (y >>= f)) (sym is) rest
 
+-- the work behind a file, and that it goes beyond each file that comes before all of it
+abbrev from_script : Held → Named → Extent → Page → List Entry → Chosen → Option Affinity → Result Given Refusal
+from_script held named kernel page extension options domains =
+    step_if held inputs.Script [] script_said (named inputs.Script) >>= (λ lines. Ok (record {
+      entries = page.entries;
+      initrd = page.initrd;
+      extension = extension;
+      options = options;
+      domains = domains;
+      kernel = kernel;
+      lines = lines;
+    }))
+
+abbrev from_srat : Held → Named → Extent → Page → List Entry → Chosen → Result Given Refusal
+from_srat held named kernel page extension options =
+    step_if held inputs.Srat None srat_said (named inputs.Srat) >>= from_script held named kernel page extension options
+
+abbrev from_options : Held → Named → Extent → Page → List Entry → Result Given Refusal
+from_options held named kernel page extension =
+    step_if held inputs.CommandLine no_options command_line_said (named inputs.CommandLine)
+    >>= from_srat held named kernel page extension
+
+abbrev from_extension : Held → Named → Extent → Page → Result Given Refusal
+from_extension held named kernel page =
+    step_if held inputs.Extension [] extension_said (named inputs.Extension) >>= from_options held named kernel page
+
+pub script_passes : (input : Input) → (held : Held) → (named : Named) → (kernel : Extent) → (page : Page)
+    → (extension : List Entry) → (options : Chosen) → (domains : Option Affinity) → place input < place inputs.Script
+    → Passes input (from_script held named kernel page extension options domains)
+script_passes input held named kernel page extension options domains below =
+    then_passes input _ _ (step_passes input inputs.Script held [] script_said (named inputs.Script) below) (λ lines. tt)
+
+pub srat_passes : (input : Input) → (held : Held) → (named : Named) → (kernel : Extent) → (page : Page)
+    → (extension : List Entry) → (options : Chosen) → place input < place inputs.Srat
+    → Passes input (from_srat held named kernel page extension options)
+srat_passes input held named kernel page extension options below =
+    then_passes input _ _ (step_passes input inputs.Srat held None srat_said (named inputs.Srat) below)
+    (λ domains. script_passes input held named kernel page extension options domains (omega (arith, below)))
+
+pub options_passes : (input : Input) → (held : Held) → (named : Named) → (kernel : Extent) → (page : Page)
+    → (extension : List Entry) → place input < place inputs.CommandLine
+    → Passes input (from_options held named kernel page extension)
+options_passes input held named kernel page extension below =
+    then_passes input _ _ (step_passes input inputs.CommandLine held no_options command_line_said (named inputs.CommandLine) below)
+    (λ options. srat_passes input held named kernel page extension options (omega (arith, below)))
+
+pub extension_passes : (input : Input) → (held : Held) → (named : Named) → (kernel : Extent) → (page : Page)
+    → place input < place inputs.Extension → Passes input (from_extension held named kernel page)
+extension_passes input held named kernel page below =
+    then_passes input _ _ (step_passes input inputs.Extension held [] extension_said (named inputs.Extension) below)
+    (λ extension. options_passes input held named kernel page extension (omega (arith, below)))
+
 pub passes_extension : (held : Held) → (named : Named) → (kernel : Extent) → (page : Page)
     → step_if held inputs.ZeroPage no_page zero_page_said (named inputs.ZeroPage) ≡ Ok page
     → IsOkAnd (step_if held inputs.Extension [] extension_said (named inputs.Extension)) (λ entries. 0 < length entries)
@@ -59,12 +112,7 @@ pub passes_extension : (held : Held) → (named : Named) → (kernel : Extent) �
 passes_extension held named kernel page page_is has =
     known_passes inputs.Extension _ _ page page_is
     (value_passes (λ entries. 0 < length entries) inputs.Extension _ _ has
-    (λ extension. then_passes inputs.Extension _ _
-    (step_passes inputs.Extension inputs.CommandLine held no_options command_line_said (named inputs.CommandLine) (omega arith))
-    (λ options. then_passes inputs.Extension _ _
-    (step_passes inputs.Extension inputs.Srat held None srat_said (named inputs.Srat) (omega arith))
-    (λ domains. then_passes inputs.Extension _ _
-    (step_passes inputs.Extension inputs.Script held [] script_said (named inputs.Script) (omega arith)) (λ lines. tt)))))
+    (λ extension. options_passes inputs.Extension held named kernel page extension (omega arith)))
 
 pub passes_options : (T : Chosen → Type 0) → (held : Held) → (named : Named) → (kernel : Extent) → (page : Page)
     → (extension : List Entry)
@@ -76,10 +124,7 @@ passes_options T held named kernel page extension page_is extension_is has =
     known_passes inputs.CommandLine _ _ page page_is
     (known_passes inputs.CommandLine _ _ extension extension_is
     (value_passes T inputs.CommandLine _ _ has
-    (λ options. then_passes inputs.CommandLine _ _
-    (step_passes inputs.CommandLine inputs.Srat held None srat_said (named inputs.Srat) (omega arith))
-    (λ domains. then_passes inputs.CommandLine _ _
-    (step_passes inputs.CommandLine inputs.Script held [] script_said (named inputs.Script) (omega arith)) (λ lines. tt)))))
+    (λ options. srat_passes inputs.CommandLine held named kernel page extension options (omega arith))))
 
 pub passes_srat : (T : Option Affinity → Type 0) → (held : Held) → (named : Named) → (kernel : Extent) → (page : Page)
     → (extension : List Entry) → (options : Chosen)
@@ -93,8 +138,7 @@ passes_srat T held named kernel page extension options page_is extension_is opti
     (known_passes inputs.Srat _ _ extension extension_is
     (known_passes inputs.Srat _ _ options options_are
     (value_passes T inputs.Srat _ _ has
-    (λ domains. then_passes inputs.Srat _ _
-    (step_passes inputs.Srat inputs.Script held [] script_said (named inputs.Script) (omega arith)) (λ lines. tt)))))
+    (λ domains. script_passes inputs.Srat held named kernel page extension options domains (omega arith)))))
 
 pub passes_script : (held : Held) → (named : Named) → (kernel : Extent) → (page : Page)
     → (extension : List Entry) → (options : Chosen) → (domains : Option Affinity)

@@ -1,27 +1,48 @@
--- Bytes that were fetched are never unread.
-use Rattle.std.proofs.Common.{rules}
+-- Bytes that were fetched are read, and no fault was counted for them; a failed fetch was counted.
+use Rattle.std.proofs.Common.{◌≡◌, ◌≤◌, ◌∙◌, Err, ap, inl, inr, length, rules}
+use Rattle.bm_io.specs.declared.reading.Fetch.{Fetch}
+use Rattle.boot_inputs.specs.Input.{limit_of}
+use Rattle.boot_inputs.proofs.FileLaws.{comes_to_own, on_ok, read_given, read_wanting}
 use Rattle.boot_inputs.proofs.fetching.fetch.Goals as goal
 
 pub returns-in-Ok-clause-cause : goal.returns-in-Ok-clause-cause
 returns-in-Ok-clause-cause g c = c.read.ensures.cause _ _
 
 pub returns-in-Err-Failed-clause-cause : goal.returns-in-Err-Failed-clause-cause
-returns-in-Err-Failed-clause-cause g c = search rules
+returns-in-Err-Failed-clause-cause g c = c.in-Err-Failed.ensures.failed (ap (λ (e : Fetch). Err e) c.in-Err-Failed.field-0-is)
+
+pub returns-in-Err-Failed-clause-gives : goal.returns-in-Err-Failed-clause-gives
+returns-in-Err-Failed-clause-gives g c =
+    comes_to_own (g.F.Files.holds c.args.files.now) g.R.Reader.input _ g.R.Reader.said c.args.name.now c.input-in-Err-Failed.ensures
+
+pub returns-in-Err-Failed-clause-uncounted : goal.returns-in-Err-Failed-clause-uncounted
+returns-in-Err-Failed-clause-uncounted g c = tt
 
 pub returns-in-Err-TooLong-clause-gives : goal.returns-in-Err-TooLong-clause-gives
 returns-in-Err-TooLong-clause-gives g c = search rules
 
 pub returns-in-Ok-clause-gives : goal.returns-in-Ok-clause-gives
-returns-in-Ok-clause-gives g c = search rules
+returns-in-Ok-clause-gives g c =
+    let limit : c.limit.result ≡ limit_of g.R.Reader.input = c.limit.ensures ∙ ap limit_of c.input.ensures in
+    let fits : length c.in-Ok.bytes.items ≤ limit_of g.R.Reader.input = rw limit at c.in-Ok.ensures.bounded in
+    read_given g.R.Reader.seen _ g.R.Reader.input g.R.Reader.said c.args.name.now c.in-Ok.bytes.items _
+    c.in-Ok.ensures.told fits (rw c.deref.ensures.value at c.read.ensures.gives)
 
 pub returns-in-Ok-clause-unfailed : goal.returns-in-Ok-clause-unfailed
-returns-in-Ok-clause-unfailed g c = search rules
+returns-in-Ok-clause-unfailed g c = λ wanting. c.in-Ok.ensures.uncounted
 
 pub returns-in-Ok-clause-uncounted : goal.returns-in-Ok-clause-uncounted
-returns-in-Ok-clause-uncounted g c = search rules
+returns-in-Ok-clause-uncounted g c = on_ok c.read.result _ c.in-Ok.ensures.uncounted
 
 pub returns-in-Ok-clause-unwanted : goal.returns-in-Ok-clause-unwanted
-returns-in-Ok-clause-unwanted g c = search rules
+returns-in-Ok-clause-unwanted g c = elim c.in-Ok.ensures.no_want [
+  | inl wanting ↦ cc
+  | inr same ↦ on_ok c.read.result _ same
+]
 
 pub returns-in-Ok-clause-memory : goal.returns-in-Ok-clause-memory
-returns-in-Ok-clause-memory g c = search rules
+returns-in-Ok-clause-memory g c = λ wanting.
+    let limit : c.limit.result ≡ limit_of g.R.Reader.input = c.limit.ensures ∙ ap limit_of c.input.ensures in
+    let fits : length c.in-Ok.bytes.items ≤ limit_of g.R.Reader.input = rw limit at c.in-Ok.ensures.bounded in
+    inr (read_wanting g.R.Reader.takes_memory _ g.R.Reader.input g.R.Reader.said c.args.name.now c.in-Ok.bytes.items
+    c.in-Ok.ensures.told fits (rw c.deref.ensures.value at (c.read.ensures.memory wanting)))
