@@ -26,3 +26,9 @@ loop-entry-preserved c =
       space = (rw here at l.invariant.space).1;
       claims = c.in_ok-push_entry.ensures.claims l.invariant.claims;
     }
+
+pub push_entry-requires : goal.push_entry-requires
+push_entry-requires c =
+    let l = c.loop-entry in
+    let entries = c.args.entries.now in
+    (rw (drop_more entries l.entry-index (record { addr = 0; size = 0; kind = 0 }) c.loop-entry-test.true) at l.invariant.space).0
