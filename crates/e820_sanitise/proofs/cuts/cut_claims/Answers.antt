@@ -1,4 +1,5 @@
-use Rattle.std.proofs.Common.{◌≡◌, ◌+◌, List, ◌++◌, drop, sym, ap, ◌∙◌, append_assoc, rules}
+use Rattle.std.proofs.Common.{◌≡◌, ◌+◌, List, ◌++◌, drop, sym, ap, ◌∙◌, append_assoc, arith, rules}
+use Rattle.std.proofs.lemmas.List.{append-nil, drop_all}
 use Rattle.address_runs.specs.Runs.{RunOf}
 use Rattle.e820_sanitise.specs.Cuts.{parts, left_inside, cut_out}
 use Rattle.e820_sanitise.proofs.CutLaws.{cut_more}
@@ -16,3 +17,12 @@ loop-claim-preserved c =
     ∙ ap (λ (rs : List (RunOf _)). l.left.items ++ rs)
     (sym (cut_more a.range.now a.meant a.instead a.claims.now l.claim-index r c.loop-claim-test.true c.claim-item.is))
     ∙ l.invariant)
+
+pub returns : goal.returns
+returns c =
+    let l = c.loop-claim in
+    let a = c.args in
+    sym (append-nil l.left.items)
+    ∙ ap (λ (rs : List (RunOf _)). l.left.items ++ cut_out a.range.now a.meant a.instead rs)
+    (sym (drop_all l.claim-index a.claims.now (omega arith)))
+    ∙ l.invariant
