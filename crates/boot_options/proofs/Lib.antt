@@ -1,4 +1,5 @@
 pub mod ReadingLaws
+pub mod SaidLaws
 pub mod UserMapLaws
 pub mod MapOptionBounds
 pub mod CrashBounds
