@@ -1,4 +1,4 @@
-use Rattle.std.proofs.Common.{◌≡◌, ap, arith}
+use Rattle.std.proofs.Common.{ap, arith}
 use Rattle.boot_journal.specs.Contents.{Contents}
 use Rattle.boot_journal.proofs.journal.Journal.ready.Goals as goal
 
