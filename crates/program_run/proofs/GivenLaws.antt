@@ -1,7 +1,10 @@
--- A made table behind the files: what was refused stays so.
-use Rattle.std.proofs.Common.{◌≡◌, Option, Some, None, Result, Ok, Err, refl}
+-- A made table behind the files: what was refused stays so, and its entries stand for those of the files.
+use Rattle.std.proofs.Common.{◌≡◌, ℕ, List, drop, take, Option, Some, None, Result, Ok, Err, refl}
 use Rattle.std.specs.Prelude.{IfSome}
+use Rattle.bm_base.specs.Extent.{Extent}
 use Rattle.bm_base.specs.ResultSteps.{◌>>=◌}
+use Rattle.e820_model.specs.declared.entry.Entry.{Entry}
+use Rattle.e820_table.specs.Made.{made_entries}
 use Rattle.boot_inputs.specs.declared.input.Input.{Input}
 use Rattle.boot_inputs.specs.declared.refusal.InputError.{InputError}
 use Rattle.boot_inputs.specs.declared.refusal.InputError.TheVariants as errors
@@ -30,3 +33,8 @@ pub given_none : {X : Type 0} (view : X → Given) (r : Result X InputError) (ot
 given_none view r other error None wanted is same fits = tt
 given_none view r other error (Some held) wanted is same fits =
     rw (is, same) (fits_behind error (inputs_of held wanted.named wanted.kernel) (with_made wanted.made) fits)
+
+pub made_given : (given : Given) (entries : Option ℕ) (count : ℕ) (page extension : List Entry) (initrd : Option Extent)
+    → entries ≡ Some count → page ≡ take 128 (made_entries count) → initrd ≡ None → extension ≡ drop 128 (made_entries count)
+    → ◌≡◌ {A = Given} (record given { entries = page; initrd = initrd; extension = extension }) (with_made entries given)
+made_given given entries count page extension initrd some first none rest = rw (some, first, none, rest) refl

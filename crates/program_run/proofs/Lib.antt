@@ -1,3 +1,4 @@
+pub mod BootedLaws
 mod FirstRun
 pub mod GivenLaws
 pub mod HeadlineLaws
@@ -6,3 +7,4 @@ pub mod OutcomeExamples
 pub mod PutLaws
 pub mod RunLaws
 pub mod TellLaws
+pub mod WriteLaws

@@ -1,6 +1,8 @@
 pub mod EntryLaws
 mod Examples
 pub mod GrammarLaws
+pub mod KernelLaws
 pub mod KnownLaws
 pub mod MatchedLaws
 pub mod SpellingLaws
+pub mod ValueLaws

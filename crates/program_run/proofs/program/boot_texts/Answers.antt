@@ -1,0 +1,20 @@
+-- A stop is the boot's, and the texts are those of what the boot made.
+use Rattle.std.proofs.Common.{◌∙◌, ap}
+use Rattle.std.proofs.lemmas.Result.{err_from_is_err_and}
+use Rattle.boot_model.specs.View.{booted_view, inputs_view}
+use Rattle.debugfs_reports.specs.ReportList.{reports_in}
+use Rattle.program_run.proofs.BootedLaws.{boot_stopped, boot_told}
+use Rattle.program_run.proofs.program.boot_texts.Goals as goal
+
+pub returns-in_err-booted-clause-makes : goal.returns-in_err-booted-clause-makes
+returns-in_err-booted-clause-makes c =
+    let p = err_from_is_err_and c.from_residual.result c.from_residual.ensures.1 in
+    boot_stopped _ c.from_residual.result p.0 c.in_err-booted.field-0.0 (inputs_view c.args.inputs) (reports_in c.args.list.now) p.1 p.2
+    c.in_err-booted.ensures.boots
+
+pub returns-clause-makes : goal.returns-clause-makes
+returns-clause-makes c =
+    boot_told (inputs_view c.args.inputs) (booted_view c.in_ok-booted.booted) c.deref.result.now (reports_in c.args.list.now) _
+    c.in_ok-booted.ensures.boots
+    (c.deref.ensures.value ∙ c.in_ok-reports.ensures ∙ ap reports_in c.as_bytes.ensures.value)
+    c.in_ok-render_all.ensures.whole

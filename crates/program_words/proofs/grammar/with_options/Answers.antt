@@ -1,0 +1,27 @@
+-- The command with the first of the options that are left goes on with the others.
+use Rattle.std.proofs.Common.{◌≡◌, ◌∙◌, ℕ, ◌-◌, ◌<◌, ◌≤◌, List, [], ◌∷◌, Bor, fold, get_or, length, take, drop, refl, ap, arith}
+use Rattle.std.proofs.lemmas.List.{take_all}
+use Rattle.clap.specs.Words.{App, app_of}
+use Rattle.program_words.specs.Grammar.{with_option}
+use Rattle.program_words.proofs.grammar.with_options.Goals as goal
+
+fold_first : {A B : Type 0} (f : B → A → B) (b : B) (xs : List A) (d : A) → 1 ≤ length xs
+    → fold f (f b (get_or xs 0 d)) (take (length xs - 1) (drop 1 xs)) ≡ fold f b xs
+fold_first f b [] d some = absurd (omega (arith, some))
+fold_first f b (x ∷ xs) d some = ap (λ ys. fold f (f b x) ys) (take_all (length (x ∷ xs) - 1) xs (omega arith))
+
+fold_none : {A B : Type 0} (f : B → A → B) (b : B) (xs : List A) → length xs < 1 → b ≡ fold f b xs
+fold_none f b [] none = refl
+fold_none f b (x ∷ xs) none = absurd (omega (arith, none))
+
+abbrev adds : App → Bor (List ℕ) → App
+adds app name = with_option app name.now
+
+pub loop-rest-preserved : goal.loop-rest-preserved
+loop-rest-preserved c =
+    let rest = c.loop-rest.rest.now in
+    ap (λ (app : App). fold adds app (take (length rest - 1) (drop 1 rest))) c.in_ok-made.ensures
+    ∙ fold_first adds (app_of c.loop-rest.made) rest _ c.in-len1-up.len_at_least ∙ c.loop-rest.invariant
+
+pub returns : goal.returns
+returns c = fold_none adds (app_of c.loop-rest.made) c.loop-rest.rest.now c.in_default.len_below ∙ c.loop-rest.invariant
