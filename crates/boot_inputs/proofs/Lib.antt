@@ -1,4 +1,4 @@
 mod Examples
-pub mod FileLaws
-pub mod PassLaws
-pub mod RefusedLaws
+mod FileLaws
+mod PassLaws
+mod RefusedLaws

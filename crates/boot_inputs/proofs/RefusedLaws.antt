@@ -1,6 +1,7 @@
--- What the whole comes to at the first file that is refused, where those before it have their values: its refusal, and its cause.
-use Rattle.std.proofs.Common.{◌≡◌, ℕ, List, [], Option, Some, None, Ok, Err, ◌∙◌, ap, sym, subst, arith}
-use Rattle.std.specs.Prelude.{Result, IfSome, IsErrOf}
+-- What the whole comes to, file by file: where each file before one has its value it has come to that one's step, and a refusal
+-- there is its own.
+use Rattle.std.proofs.Common.{◌≡◌, ℕ, ◌<◌, List, Option, Some, None, Ok, Err, ◌∙◌, refl, ap, sym, subst, arith}
+use Rattle.std.specs.Prelude.{Result, IfSome, IsErrOf, IsErrAnd, IsOkAnd, IsSome}
 use Rattle.bm_base.specs.Extent.{Extent}
 use Rattle.bm_base.specs.ResultSteps.{◌>>=◌}
 use Rattle.e820_model.specs.declared.entry.Entry.{Entry}
@@ -8,18 +9,77 @@ use Rattle.e820_table.specs.ZeroPage.{Page}
 use Rattle.boot_options.specs.Options.{Chosen}
 use Rattle.srat_reader.specs.Table.{Affinity}
 use Rattle.script_reader.specs.declared.act.Line.{Line}
+use Rattle.boot_model.specs.Boot.{Given}
 use Rattle.boot_model.specs.View.{inputs_view}
 use Rattle.boot_model.specs.declared.inputs.Inputs.{Inputs}
+use Rattle.boot_inputs.specs.declared.fault.Fault.{Fault}
 use Rattle.boot_inputs.specs.declared.input.Input.{Input}
-use Rattle.boot_inputs.specs.declared.input.Input.TheVariants as inputs
 use Rattle.boot_inputs.specs.declared.refusal.Refusal.{Refusal}
 use Rattle.boot_inputs.specs.declared.refusal.Refusal.TheVariants as refusals
 use Rattle.boot_inputs.specs.declared.refusal.InputError.{InputError}
 use Rattle.boot_inputs.specs.declared.refusal.InputError.TheVariants as errors
 use Rattle.boot_inputs.specs.Answers.{ComesTo, Fits, Gives, HasCause, IsOf, Passes, RoseAt}
+use Rattle.boot_inputs.specs.Input.{place}
 use Rattle.boot_inputs.specs.Inputs.{Held, Named, inputs_of, step_if}
-use Rattle.boot_inputs.specs.Said.{zero_page_said, extension_said, command_line_said, srat_said, script_said, no_options, no_page}
-use Rattle.boot_inputs.proofs.PassLaws.{script_passes, srat_passes, extension_passes}
+use Rattle.boot_inputs.proofs.PassLaws.{zero_step, extension_step, options_step, srat_step, script_step, behind_zero, behind_extension, behind_options, behind_srat, behind_script, value_passes}
+
+-- the whole has come to this work: where the files tell what they hold the two are one
+abbrev Come : Option Held → (Held → Result Given Refusal) → (Held → Result Given Refusal) → Type 0
+Come holds whole rest = IfSome holds (λ held. whole held ≡ rest held)
+
+past : {A : Type 0} → (holds : Option Held) → (whole : Held → Result Given Refusal) → (x : Held → Result A Refusal)
+    → (f : Held → A → Result Given Refusal) → (a : A) → Come holds whole (λ held. x held >>= f held)
+    → IfSome holds (λ held. x held ≡ Ok a) → Come holds whole (λ held. f held a)
+past None whole x f a come is = tt
+past {A} (Some held) whole x f a come is = come ∙ ap (λ (y : Result A Refusal). y >>= f held) is
+
+-- the whole
+abbrev pub all_of : Named → Extent → Held → Result Given Refusal
+all_of named kernel held = inputs_of held named kernel
+
+pub at_zero : (holds : Option Held) → (named : Named) → (kernel : Extent)
+    → Come holds (all_of named kernel) (λ held. zero_step named held >>= behind_zero named kernel held)
+at_zero None named kernel = tt
+at_zero (Some held) named kernel = refl
+
+pub at_extension : (holds : Option Held) → (named : Named) → (kernel : Extent) → (page : Page)
+    → IfSome holds (λ held. zero_step named held ≡ Ok page)
+    → Come holds (all_of named kernel) (λ held. extension_step named held >>= behind_extension named kernel page held)
+at_extension holds named kernel page page_is =
+    past holds (all_of named kernel) (zero_step named) (behind_zero named kernel) page (at_zero holds named kernel) page_is
+
+pub at_options : (holds : Option Held) → (named : Named) → (kernel : Extent) → (page : Page) → (extension : List Entry)
+    → IfSome holds (λ held. zero_step named held ≡ Ok page) → IfSome holds (λ held. extension_step named held ≡ Ok extension)
+    → Come holds (all_of named kernel) (λ held. options_step named held >>= behind_options named kernel page extension held)
+at_options holds named kernel page extension page_is extension_is =
+    past holds (all_of named kernel) (extension_step named) (behind_extension named kernel page) extension
+    (at_extension holds named kernel page page_is) extension_is
+
+pub at_srat : (holds : Option Held) → (named : Named) → (kernel : Extent) → (page : Page) → (extension : List Entry)
+    → (options : Chosen) → IfSome holds (λ held. zero_step named held ≡ Ok page)
+    → IfSome holds (λ held. extension_step named held ≡ Ok extension) → IfSome holds (λ held. options_step named held ≡ Ok options)
+    → Come holds (all_of named kernel) (λ held. srat_step named held >>= behind_srat named kernel page extension options held)
+at_srat holds named kernel page extension options page_is extension_is options_are =
+    past holds (all_of named kernel) (options_step named) (behind_options named kernel page extension) options
+    (at_options holds named kernel page extension page_is extension_is) options_are
+
+pub at_script : (holds : Option Held) → (named : Named) → (kernel : Extent) → (page : Page) → (extension : List Entry)
+    → (options : Chosen) → (domains : Option Affinity) → IfSome holds (λ held. zero_step named held ≡ Ok page)
+    → IfSome holds (λ held. extension_step named held ≡ Ok extension) → IfSome holds (λ held. options_step named held ≡ Ok options)
+    → IfSome holds (λ held. srat_step named held ≡ Ok domains)
+    → Come holds (all_of named kernel) (λ held. script_step named held >>= behind_script named kernel page extension options domains held)
+at_script holds named kernel page extension options domains page_is extension_is options_are domains_are =
+    past holds (all_of named kernel) (srat_step named) (behind_srat named kernel page extension options) domains
+    (at_srat holds named kernel page extension options page_is extension_is options_are) domains_are
+
+pub at_end : (holds : Option Held) → (named : Named) → (kernel : Extent) → (page : Page) → (extension : List Entry)
+    → (options : Chosen) → (domains : Option Affinity) → (lines : List Line) → IfSome holds (λ held. zero_step named held ≡ Ok page)
+    → IfSome holds (λ held. extension_step named held ≡ Ok extension) → IfSome holds (λ held. options_step named held ≡ Ok options)
+    → IfSome holds (λ held. srat_step named held ≡ Ok domains) → IfSome holds (λ held. script_step named held ≡ Ok lines)
+    → Come holds (all_of named kernel) (λ held. behind_script named kernel page extension options domains held lines)
+at_end holds named kernel page extension options domains lines page_is extension_is options_are domains_are lines_are =
+    past holds (all_of named kernel) (script_step named) (behind_script named kernel page extension options domains) lines
+    (at_script holds named kernel page extension options domains page_is extension_is options_are domains_are) lines_are
 
 -- the work that goes beyond a file comes to it
 passes_comes : {B : Type 0} → (input : Input) → (y : Result B Refusal) → Passes input y → ComesTo input y
@@ -39,94 +99,48 @@ first_fits (errors.Refused (refusals.Unread other)) input x f own fits rest =
     comes_behind other x f fits (λ a. subst (λ i. Passes i (f a)) (sym own) (rest a))
 first_fits (errors.Refused (refusals.Faulty other fault)) input x f own fits rest = ap (λ y. y >>= f) fits
 
--- a step of which the value is known
-known_fits : {A B : Type 0} → (error : InputError) → (x : Result A Refusal) → (f : A → Result B Refusal) → (a : A) → x ≡ Ok a
-    → Fits error (f a) → Fits error (x >>= f)
-known_fits error x f a is rest = subst (λ y. Fits error (y >>= f)) (sym is) rest
+-- the refusal of the file to which the whole has come is that of the whole
+pub refused : {A : Type 0} → (input : Input) → (holds : Option Held) → (whole : Held → Result Given Refusal)
+    → (x : Held → Result A Refusal) → (f : Held → A → Result Given Refusal) → (answer : Result Inputs InputError)
+    → (error : InputError) → answer ≡ Err error → IsOf {X = Unit {0}} input (Err error)
+    → Come holds whole (λ held. x held >>= f held) → IfSome holds (λ held. Fits error (x held))
+    → ((held : Held) → (a : A) → Passes input (f held a)) → IfSome holds (λ held. Gives inputs_view answer (whole held))
+refused input None whole x f answer error is own come fits passes = tt
+refused input (Some held) whole x f answer error is own come fits passes =
+    rw (is, come) (first_fits error input (x held) (f held) own fits (passes held))
 
-known_is : {A B : Type 0} → (x : Result A Refusal) → (f : A → Result B Refusal) → (a : A) → x ≡ Ok a → (x >>= f) ≡ f a
-known_is x f a is = ap (λ y. y >>= f) is
+-- a file that is named, since it gives something that there isn't without one
+named_behind : {A : Type 0} → (T : A → Type 0) → (held : Held) → (input : Input) → (without : A)
+    → (said : List ℕ → Result A Fault) → (name : Option (List ℕ)) → (T without → ⊥)
+    → IsOkAnd (step_if held input without said name) T → IsSome name
+named_behind T held input without said None never has = absurd (never has)
+named_behind T held input without said (Some name) never has = refl
+
+-- where the file to which the whole has come gives something that isn't there without one it is named, and the whole goes beyond it
+pub wanting : {A : Type 0} → (T : A → Type 0) → (input : Input) → (holds : Option Held) → (named : Named)
+    → (whole : Held → Result Given Refusal) → (without : A) → (said : List ℕ → Result A Fault)
+    → (f : Held → A → Result Given Refusal) → 0 < place input → (T without → ⊥)
+    → Come holds whole (λ held. step_if held input without said (named input) >>= f held)
+    → IfSome holds (λ held. IsOkAnd (step_if held input without said (named input)) T)
+    → ((held : Held) → (a : A) → Passes input (f held a))
+    → IfSome holds (λ held. (i : Input) × (0 < place i) × IsSome (named i) × Passes i (whole held))
+wanting T input None named whole without said f behind never come has passes = tt
+wanting T input (Some held) named whole without said f behind never come has passes = (
+  input,
+  behind,
+  named_behind T held input without said (named input) never has,
+  rw come (value_passes T input (step_if held input without said (named input)) (f held) has (passes held)),
+)
+
+-- what a `?` returns is its error
+pub error_is : {T E : Type 0} → (answer : Result T E) → (error : E) → IsErrAnd answer (λ e. e ≡ error) → answer ≡ Err error
+error_is (Ok value) error told = absurd told
+error_is {E = E} (Err first) error told = ap (λ (e : E). Err e) told
 
 -- two names of one error
 pub same_error : {T U : Type 0} → (answer : Result T InputError) → (first second : InputError)
     → answer ≡ Err first → answer ≡ Err second → IsErrOf {T = U} (Err first) second
 same_error answer first second is wanting = let same : first ≡ second = cc in ap (λ (e : InputError). Err e) same
-
--- what later files tell, these told
-pub told_at : (P : Held → Type 0) → (later holds : Option Held) → later ≡ holds → IfSome later P → IfSome holds P
-told_at P later holds kept told = subst (λ h. IfSome h P) kept told
-
-pub zero_refused : (holds : Option Held) → (named : Named) → (kernel : Extent) → (answer : Result Inputs InputError)
-    → (error : InputError) → answer ≡ Err error → IsOf {X = Unit {0}} inputs.ZeroPage (Err error)
-    → IfSome holds (λ held. Fits error (step_if held inputs.ZeroPage no_page zero_page_said (named inputs.ZeroPage)))
-    → IfSome holds (λ held. Gives inputs_view answer (inputs_of held named kernel))
-zero_refused None named kernel answer error is own fits = tt
-zero_refused (Some held) named kernel answer error is own fits = rw is (first_fits error inputs.ZeroPage _ _ own fits
-    (λ page. extension_passes inputs.ZeroPage held named kernel page (omega arith)))
-
-pub options_refused : (holds : Option Held) → (named : Named) → (kernel : Extent) → (answer : Result Inputs InputError)
-    → (error : InputError) → (page : Page) → (extension : List Entry) → answer ≡ Err error
-    → IsOf {X = Unit {0}} inputs.CommandLine (Err error)
-    → IfSome holds (λ held. step_if held inputs.ZeroPage no_page zero_page_said (named inputs.ZeroPage) ≡ Ok page)
-    → IfSome holds (λ held. step_if held inputs.Extension [] extension_said (named inputs.Extension) ≡ Ok extension)
-    → IfSome holds (λ held. Fits error (step_if held inputs.CommandLine no_options command_line_said (named inputs.CommandLine)))
-    → IfSome holds (λ held. Gives inputs_view answer (inputs_of held named kernel))
-options_refused None named kernel answer error page extension is own page_is extension_is fits = tt
-options_refused (Some held) named kernel answer error page extension is own page_is extension_is fits =
-    rw is (known_fits error _ _ page page_is (known_fits error _ _ extension extension_is
-    (first_fits error inputs.CommandLine _ _ own fits
-    (λ options. srat_passes inputs.CommandLine held named kernel page extension options (omega arith)))))
-
-pub srat_refused : (holds : Option Held) → (named : Named) → (kernel : Extent) → (answer : Result Inputs InputError)
-    → (error : InputError) → (page : Page) → (extension : List Entry) → (options : Chosen) → answer ≡ Err error
-    → IsOf {X = Unit {0}} inputs.Srat (Err error)
-    → IfSome holds (λ held. step_if held inputs.ZeroPage no_page zero_page_said (named inputs.ZeroPage) ≡ Ok page)
-    → IfSome holds (λ held. step_if held inputs.Extension [] extension_said (named inputs.Extension) ≡ Ok extension)
-    → IfSome holds (λ held. step_if held inputs.CommandLine no_options command_line_said (named inputs.CommandLine) ≡ Ok options)
-    → IfSome holds (λ held. Fits error (step_if held inputs.Srat None srat_said (named inputs.Srat)))
-    → IfSome holds (λ held. Gives inputs_view answer (inputs_of held named kernel))
-srat_refused None named kernel answer error page extension options is own page_is extension_is options_are fits = tt
-srat_refused (Some held) named kernel answer error page extension options is own page_is extension_is options_are fits =
-    rw is (known_fits error _ _ page page_is (known_fits error _ _ extension extension_is (known_fits error _ _ options options_are
-    (first_fits error inputs.Srat _ _ own fits
-    (λ domains. script_passes inputs.Srat held named kernel page extension options domains (omega arith))))))
-
-pub script_refused : (holds : Option Held) → (named : Named) → (kernel : Extent) → (answer : Result Inputs InputError)
-    → (error : InputError) → (page : Page) → (extension : List Entry) → (options : Chosen) → (domains : Option Affinity)
-    → answer ≡ Err error → IsOf {X = Unit {0}} inputs.Script (Err error)
-    → IfSome holds (λ held. step_if held inputs.ZeroPage no_page zero_page_said (named inputs.ZeroPage) ≡ Ok page)
-    → IfSome holds (λ held. step_if held inputs.Extension [] extension_said (named inputs.Extension) ≡ Ok extension)
-    → IfSome holds (λ held. step_if held inputs.CommandLine no_options command_line_said (named inputs.CommandLine) ≡ Ok options)
-    → IfSome holds (λ held. step_if held inputs.Srat None srat_said (named inputs.Srat) ≡ Ok domains)
-    → IfSome holds (λ held. Fits error (step_if held inputs.Script [] script_said (named inputs.Script)))
-    → IfSome holds (λ held. Gives inputs_view answer (inputs_of held named kernel))
-script_refused None named kernel answer error page extension options domains is own page_is extension_is options_are domains_are fits = tt
-script_refused (Some held) named kernel answer error page extension options domains is own page_is extension_is options_are domains_are
-    fits =
-    rw is (known_fits error _ _ page page_is (known_fits error _ _ extension extension_is (known_fits error _ _ options options_are
-    (known_fits error _ _ domains domains_are (first_fits error inputs.Script _ _ own fits (λ lines. tt))))))
-
--- where each file has its value
-pub all_given : (holds : Option Held) → (named : Named) → (kernel : Extent) → (page : Page) → (extension : List Entry)
-    → (options : Chosen) → (domains : Option Affinity) → (lines : List Line)
-    → IfSome holds (λ held. step_if held inputs.ZeroPage no_page zero_page_said (named inputs.ZeroPage) ≡ Ok page)
-    → IfSome holds (λ held. step_if held inputs.Extension [] extension_said (named inputs.Extension) ≡ Ok extension)
-    → IfSome holds (λ held. step_if held inputs.CommandLine no_options command_line_said (named inputs.CommandLine) ≡ Ok options)
-    → IfSome holds (λ held. step_if held inputs.Srat None srat_said (named inputs.Srat) ≡ Ok domains)
-    → IfSome holds (λ held. step_if held inputs.Script [] script_said (named inputs.Script) ≡ Ok lines)
-    → IfSome holds (λ held. inputs_of held named kernel ≡ Ok (record {
-      entries = page.entries;
-      initrd = page.initrd;
-      extension = extension;
-      options = options;
-      domains = domains;
-      kernel = kernel;
-      lines = lines;
-    }))
-all_given None named kernel page extension options domains lines page_is extension_is options_are domains_are lines_are = tt
-all_given (Some held) named kernel page extension options domains lines page_is extension_is options_are domains_are lines_are =
-    known_is _ _ page page_is ∙ known_is _ _ extension extension_is ∙ known_is _ _ options options_are
-    ∙ known_is _ _ domains domains_are ∙ known_is _ _ lines lines_are
 
 -- a file is unread only where the faults of its name rose, before which none was counted
 rose_behind : (before mid now : List ℕ → ℕ) → (name : Option (List ℕ)) → ((any : List ℕ) → mid any ≡ before any)

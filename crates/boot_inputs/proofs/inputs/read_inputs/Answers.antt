@@ -1,14 +1,14 @@
 -- No fetch of these counted a fault. Where one is refused, those before it have their values, and the refusal is the answer; where
 -- memory is wanting behind files that were read, the work goes beyond the file that wants it.
-use Rattle.std.proofs.Common.{◌∙◌, Err, ap, inl, inr, refl, rules}
+use Rattle.std.proofs.Common.{◌<◌, ◌∙◌, [], None, arith, inl, inr, length, refl, rules}
 use Rattle.std.specs.Option.{option_map}
-use Rattle.std.proofs.lemmas.Result.{err_from_is_err_and}
 use Rattle.e820_table.specs.ZeroPage.{page_view}
-use Rattle.boot_options.specs.Options.{chosen}
+use Rattle.boot_options.specs.Options.{WantsMemory, chosen}
 use Rattle.srat_reader.specs.Table.{affinity}
-use Rattle.boot_inputs.specs.declared.refusal.InputError.{InputError}
-use Rattle.boot_inputs.proofs.PassLaws.{told_extension, told_options, told_script, told_srat}
-use Rattle.boot_inputs.proofs.RefusedLaws.{all_given, cause_behind, options_refused, same_error, script_refused, srat_refused, told_at, zero_refused}
+use Rattle.boot_inputs.specs.declared.input.Input.TheVariants as inputs
+use Rattle.boot_inputs.specs.Said.{TakesMemory, command_line_said, extension_said, no_options, script_said, srat_said}
+use Rattle.boot_inputs.proofs.PassLaws.{behind_extension, behind_options, behind_script, behind_srat, behind_zero, extension_passed, extension_step, options_passed, options_step, script_step, srat_passed, srat_step, zero_passed, zero_step}
+use Rattle.boot_inputs.proofs.RefusedLaws.{all_of, at_end, at_extension, at_options, at_script, at_srat, at_zero, cause_behind, error_is, refused, same_error, wanting}
 use Rattle.boot_inputs.proofs.inputs.read_inputs.Goals as goal
 
 pub returns-clause-uncounted : goal.returns-clause-uncounted
@@ -18,215 +18,269 @@ returns-clause-uncounted g c =
 
 pub returns-in_err-zero-clause-gives : goal.returns-in_err-zero-clause-gives
 returns-in_err-zero-clause-gives g c =
-    let p = err_from_is_err_and c.from_residual.result c.from_residual.ensures.1 in
-    let is = p.1 ∙ ap (λ (e : InputError). Err e) p.2 in
-    zero_refused _ (g.N.Names.named c.args.names.now) c.args.kernel _ c.in_err-zero.field-0.0 is
-    c.in_err-zero.ensures.own c.in_err-zero.ensures.gives
+    let is = error_is _ _ c.from_residual.ensures.1 in
+    let named = g.N.Names.named c.args.names.now in
+    let kernel = c.args.kernel in
+    let here = at_zero _ named kernel in
+    let rest = behind_zero named kernel in
+    refused inputs.ZeroPage _ (all_of named kernel) (zero_step named) rest _ c.in_err-zero.field-0.0 is
+    c.in_err-zero.ensures.own here c.in_err-zero.ensures.gives
+    (zero_passed inputs.ZeroPage named kernel (omega arith))
 
 pub returns-in_err-zero-clause-cause : goal.returns-in_err-zero-clause-cause
 returns-in_err-zero-clause-cause g c =
-    let p = err_from_is_err_and c.from_residual.result c.from_residual.ensures.1 in
-    let is = p.1 ∙ ap (λ (e : InputError). Err e) p.2 in
-    cause_behind _ _ _ _ _ c.in_err-zero.field-0.0 is
-    (λ any. refl) c.in_err-zero.ensures.cause
+    let is = error_is _ _ c.from_residual.ensures.1 in
+    cause_behind _ _ _ _ _ c.in_err-zero.field-0.0 is (λ any. refl) c.in_err-zero.ensures.cause
 
 pub returns-in_err-zero-clause-unfailed : goal.returns-in_err-zero-clause-unfailed
 returns-in_err-zero-clause-unfailed g c =
-    let p = err_from_is_err_and c.from_residual.result c.from_residual.ensures.1 in
-    let is = p.1 ∙ ap (λ (e : InputError). Err e) p.2 in
-    λ wanting any. c.in_err-zero.ensures.unfailed (same_error _ _ _ is wanting) any
+    let is = error_is _ _ c.from_residual.ensures.1 in
+    λ wants any. c.in_err-zero.ensures.unfailed (same_error _ _ _ is wants) any
 
 pub returns-in_err-ext-clause-gives : goal.returns-in_err-ext-clause-gives
-returns-in_err-ext-clause-gives g c = search rules
+returns-in_err-ext-clause-gives g c =
+    let is = error_is _ _ c.from_residual-in_err-ext.ensures.1 in
+    let named = g.N.Names.named c.args.names.now in
+    let kernel = c.args.kernel in
+    let page = page_view c.in_ok-zero.zero in
+    let page_is = c.in_ok-zero.ensures.gives in
+    let kept_page = c.in_ok-zero.ensures.kept in
+    let here = at_extension _ named kernel page page_is in
+    let rest = behind_extension named kernel page in
+    refused inputs.Extension _ (all_of named kernel) (extension_step named) rest _ c.in_err-ext.field-0.0 is
+    c.in_err-ext.ensures.own here (rw kept_page at c.in_err-ext.ensures.gives)
+    (extension_passed inputs.Extension named kernel page (omega arith))
 
 pub returns-in_err-ext-clause-cause : goal.returns-in_err-ext-clause-cause
 returns-in_err-ext-clause-cause g c =
-    let p = err_from_is_err_and c.from_residual-in_err-ext.result c.from_residual-in_err-ext.ensures.1 in
-    let is = p.1 ∙ ap (λ (e : InputError). Err e) p.2 in
-    cause_behind _ _ _ _ _ c.in_err-ext.field-0.0 is
-    (λ any. c.in_ok-zero.ensures.uncounted any) c.in_err-ext.ensures.cause
+    let is = error_is _ _ c.from_residual-in_err-ext.ensures.1 in
+    cause_behind _ _ _ _ _ c.in_err-ext.field-0.0 is (λ any. c.in_ok-zero.ensures.uncounted any) c.in_err-ext.ensures.cause
 
 pub returns-in_err-ext-clause-unfailed : goal.returns-in_err-ext-clause-unfailed
 returns-in_err-ext-clause-unfailed g c =
-    let p = err_from_is_err_and c.from_residual-in_err-ext.result c.from_residual-in_err-ext.ensures.1 in
-    let is = p.1 ∙ ap (λ (e : InputError). Err e) p.2 in
-    λ wanting any. c.in_err-ext.ensures.unfailed (same_error _ _ _ is wanting) any
+    let is = error_is _ _ c.from_residual-in_err-ext.ensures.1 in
+    λ wants any. c.in_err-ext.ensures.unfailed (same_error _ _ _ is wants) any
     ∙ c.in_ok-zero.ensures.uncounted any
 
 pub returns-in_err-ext-clause-memory : goal.returns-in_err-ext-clause-memory
 returns-in_err-ext-clause-memory g c =
-    let p = err_from_is_err_and c.from_residual-in_err-ext.result c.from_residual-in_err-ext.ensures.1 in
-    let is = p.1 ∙ ap (λ (e : InputError). Err e) p.2 in
+    let is = error_is _ _ c.from_residual-in_err-ext.ensures.1 in
+    let named = g.N.Names.named c.args.names.now in
+    let kernel = c.args.kernel in
+    let page = page_view c.in_ok-zero.zero in
     let page_is = c.in_ok-zero.ensures.gives in
     let kept_page = c.in_ok-zero.ensures.kept in
-    λ wanting. elim (c.in_err-ext.ensures.memory (same_error _ _ _ is wanting)) [
+    let here = at_extension _ named kernel page page_is in
+    let rest = behind_extension named kernel page in
+    λ wants. elim (c.in_err-ext.ensures.memory (same_error _ _ _ is wants)) [
       | inl rose ↦ inl (rw c.in_ok-zero.ensures.unwanted at rose)
-      | inr told ↦ inr (told_extension _ _ _ (page_view c.in_ok-zero.zero)
-          page_is (told_at _ _ _ kept_page told))
+      | inr told ↦ inr (wanting (λ entries. 0 < length entries) inputs.Extension _ named (all_of named kernel) [] extension_said rest
+          (omega arith) (λ never. omega (arith, never)) here (rw kept_page at told)
+          (extension_passed inputs.Extension named kernel page (omega arith)))
     ]
 
 pub returns-in_err-options-clause-gives : goal.returns-in_err-options-clause-gives
 returns-in_err-options-clause-gives g c =
-    let p = err_from_is_err_and c.from_residual-in_err-options.result c.from_residual-in_err-options.ensures.1 in
-    let is = p.1 ∙ ap (λ (e : InputError). Err e) p.2 in
+    let is = error_is _ _ c.from_residual-in_err-options.ensures.1 in
+    let named = g.N.Names.named c.args.names.now in
+    let kernel = c.args.kernel in
+    let page = page_view c.in_ok-zero.zero in
     let page_is = c.in_ok-zero.ensures.gives in
     let kept_page = c.in_ok-zero.ensures.kept in
-    let extension_is = told_at _ _ _ kept_page c.in_ok-ext.ensures.gives in
+    let extension = c.in_ok-ext.ext.items in
+    let extension_is = rw kept_page at c.in_ok-ext.ensures.gives in
     let kept_extension = c.in_ok-ext.ensures.kept ∙ kept_page in
-    options_refused _ (g.N.Names.named c.args.names.now) c.args.kernel _ c.in_err-options.field-0.0
-    (page_view c.in_ok-zero.zero) c.in_ok-ext.ext.items is c.in_err-options.ensures.own
-    page_is extension_is (told_at _ _ _ kept_extension c.in_err-options.ensures.gives)
+    let here = at_options _ named kernel page extension page_is extension_is in
+    let rest = behind_options named kernel page extension in
+    refused inputs.CommandLine _ (all_of named kernel) (options_step named) rest _ c.in_err-options.field-0.0 is
+    c.in_err-options.ensures.own here (rw kept_extension at c.in_err-options.ensures.gives)
+    (options_passed inputs.CommandLine named kernel page extension (omega arith))
 
 pub returns-in_err-options-clause-cause : goal.returns-in_err-options-clause-cause
 returns-in_err-options-clause-cause g c =
-    let p = err_from_is_err_and c.from_residual-in_err-options.result c.from_residual-in_err-options.ensures.1 in
-    let is = p.1 ∙ ap (λ (e : InputError). Err e) p.2 in
+    let is = error_is _ _ c.from_residual-in_err-options.ensures.1 in
     cause_behind _ _ _ _ _ c.in_err-options.field-0.0 is
-    (λ any. c.in_ok-ext.ensures.uncounted any ∙ c.in_ok-zero.ensures.uncounted any) c.in_err-options.ensures.cause
+    (λ any. c.in_ok-ext.ensures.uncounted any ∙ c.in_ok-zero.ensures.uncounted any)
+    c.in_err-options.ensures.cause
 
 pub returns-in_err-options-clause-unfailed : goal.returns-in_err-options-clause-unfailed
 returns-in_err-options-clause-unfailed g c =
-    let p = err_from_is_err_and c.from_residual-in_err-options.result c.from_residual-in_err-options.ensures.1 in
-    let is = p.1 ∙ ap (λ (e : InputError). Err e) p.2 in
-    λ wanting any. c.in_err-options.ensures.unfailed (same_error _ _ _ is wanting) any
+    let is = error_is _ _ c.from_residual-in_err-options.ensures.1 in
+    λ wants any. c.in_err-options.ensures.unfailed (same_error _ _ _ is wants) any
     ∙ c.in_ok-ext.ensures.uncounted any ∙ c.in_ok-zero.ensures.uncounted any
 
 pub returns-in_err-options-clause-memory : goal.returns-in_err-options-clause-memory
 returns-in_err-options-clause-memory g c =
-    let p = err_from_is_err_and c.from_residual-in_err-options.result c.from_residual-in_err-options.ensures.1 in
-    let is = p.1 ∙ ap (λ (e : InputError). Err e) p.2 in
+    let is = error_is _ _ c.from_residual-in_err-options.ensures.1 in
+    let named = g.N.Names.named c.args.names.now in
+    let kernel = c.args.kernel in
+    let page = page_view c.in_ok-zero.zero in
     let page_is = c.in_ok-zero.ensures.gives in
     let kept_page = c.in_ok-zero.ensures.kept in
-    let extension_is = told_at _ _ _ kept_page c.in_ok-ext.ensures.gives in
+    let extension = c.in_ok-ext.ext.items in
+    let extension_is = rw kept_page at c.in_ok-ext.ensures.gives in
     let kept_extension = c.in_ok-ext.ensures.kept ∙ kept_page in
-    λ wanting. elim (c.in_err-options.ensures.memory (same_error _ _ _ is wanting)) [
+    let here = at_options _ named kernel page extension page_is extension_is in
+    let rest = behind_options named kernel page extension in
+    λ wants. elim (c.in_err-options.ensures.memory (same_error _ _ _ is wants)) [
       | inl rose ↦ inl (rw (c.in_ok-ext.ensures.unwanted, c.in_ok-zero.ensures.unwanted) at rose)
-      | inr told ↦ inr (told_options _ _ _ (page_view c.in_ok-zero.zero) c.in_ok-ext.ext.items
-          page_is extension_is (told_at _ _ _ kept_extension told))
+      | inr told ↦ inr (wanting WantsMemory inputs.CommandLine _ named (all_of named kernel) no_options command_line_said rest
+          (omega arith) (λ never. search rules) here (rw kept_extension at told)
+          (options_passed inputs.CommandLine named kernel page extension (omega arith)))
     ]
 
 pub returns-in_err-srat-clause-gives : goal.returns-in_err-srat-clause-gives
 returns-in_err-srat-clause-gives g c =
-    let p = err_from_is_err_and c.from_residual-in_err-srat.result c.from_residual-in_err-srat.ensures.1 in
-    let is = p.1 ∙ ap (λ (e : InputError). Err e) p.2 in
+    let is = error_is _ _ c.from_residual-in_err-srat.ensures.1 in
+    let named = g.N.Names.named c.args.names.now in
+    let kernel = c.args.kernel in
+    let page = page_view c.in_ok-zero.zero in
     let page_is = c.in_ok-zero.ensures.gives in
     let kept_page = c.in_ok-zero.ensures.kept in
-    let extension_is = told_at _ _ _ kept_page c.in_ok-ext.ensures.gives in
+    let extension = c.in_ok-ext.ext.items in
+    let extension_is = rw kept_page at c.in_ok-ext.ensures.gives in
     let kept_extension = c.in_ok-ext.ensures.kept ∙ kept_page in
-    let options_are = told_at _ _ _ kept_extension c.in_ok-options.ensures.gives in
+    let options = chosen c.in_ok-options.options in
+    let options_are = rw kept_extension at c.in_ok-options.ensures.gives in
     let kept_options = c.in_ok-options.ensures.kept ∙ kept_extension in
-    srat_refused _ (g.N.Names.named c.args.names.now) c.args.kernel _ c.in_err-srat.field-0.0
-    (page_view c.in_ok-zero.zero) c.in_ok-ext.ext.items (chosen c.in_ok-options.options) is c.in_err-srat.ensures.own
-    page_is extension_is options_are (told_at _ _ _ kept_options c.in_err-srat.ensures.gives)
+    let here = at_srat _ named kernel page extension options page_is extension_is options_are in
+    let rest = behind_srat named kernel page extension options in
+    refused inputs.Srat _ (all_of named kernel) (srat_step named) rest _ c.in_err-srat.field-0.0 is
+    c.in_err-srat.ensures.own here (rw kept_options at c.in_err-srat.ensures.gives)
+    (srat_passed inputs.Srat named kernel page extension options (omega arith))
 
 pub returns-in_err-srat-clause-cause : goal.returns-in_err-srat-clause-cause
 returns-in_err-srat-clause-cause g c =
-    let p = err_from_is_err_and c.from_residual-in_err-srat.result c.from_residual-in_err-srat.ensures.1 in
-    let is = p.1 ∙ ap (λ (e : InputError). Err e) p.2 in
+    let is = error_is _ _ c.from_residual-in_err-srat.ensures.1 in
     cause_behind _ _ _ _ _ c.in_err-srat.field-0.0 is
     (λ any. c.in_ok-options.ensures.uncounted any ∙ c.in_ok-ext.ensures.uncounted any
-    ∙ c.in_ok-zero.ensures.uncounted any) c.in_err-srat.ensures.cause
+    ∙ c.in_ok-zero.ensures.uncounted any)
+    c.in_err-srat.ensures.cause
 
 pub returns-in_err-srat-clause-unfailed : goal.returns-in_err-srat-clause-unfailed
 returns-in_err-srat-clause-unfailed g c =
-    let p = err_from_is_err_and c.from_residual-in_err-srat.result c.from_residual-in_err-srat.ensures.1 in
-    let is = p.1 ∙ ap (λ (e : InputError). Err e) p.2 in
-    λ wanting any. c.in_err-srat.ensures.unfailed (same_error _ _ _ is wanting) any
+    let is = error_is _ _ c.from_residual-in_err-srat.ensures.1 in
+    λ wants any. c.in_err-srat.ensures.unfailed (same_error _ _ _ is wants) any
     ∙ c.in_ok-options.ensures.uncounted any ∙ c.in_ok-ext.ensures.uncounted any
     ∙ c.in_ok-zero.ensures.uncounted any
 
 pub returns-in_err-srat-clause-memory : goal.returns-in_err-srat-clause-memory
 returns-in_err-srat-clause-memory g c =
-    let p = err_from_is_err_and c.from_residual-in_err-srat.result c.from_residual-in_err-srat.ensures.1 in
-    let is = p.1 ∙ ap (λ (e : InputError). Err e) p.2 in
+    let is = error_is _ _ c.from_residual-in_err-srat.ensures.1 in
+    let named = g.N.Names.named c.args.names.now in
+    let kernel = c.args.kernel in
+    let page = page_view c.in_ok-zero.zero in
     let page_is = c.in_ok-zero.ensures.gives in
     let kept_page = c.in_ok-zero.ensures.kept in
-    let extension_is = told_at _ _ _ kept_page c.in_ok-ext.ensures.gives in
+    let extension = c.in_ok-ext.ext.items in
+    let extension_is = rw kept_page at c.in_ok-ext.ensures.gives in
     let kept_extension = c.in_ok-ext.ensures.kept ∙ kept_page in
-    let options_are = told_at _ _ _ kept_extension c.in_ok-options.ensures.gives in
+    let options = chosen c.in_ok-options.options in
+    let options_are = rw kept_extension at c.in_ok-options.ensures.gives in
     let kept_options = c.in_ok-options.ensures.kept ∙ kept_extension in
-    λ wanting. elim (c.in_err-srat.ensures.memory (same_error _ _ _ is wanting)) [
+    let here = at_srat _ named kernel page extension options page_is extension_is options_are in
+    let rest = behind_srat named kernel page extension options in
+    λ wants. elim (c.in_err-srat.ensures.memory (same_error _ _ _ is wants)) [
       | inl rose ↦ inl (rw (c.in_ok-options.ensures.unwanted, c.in_ok-ext.ensures.unwanted, c.in_ok-zero.ensures.unwanted) at rose)
-      | inr told ↦ inr (told_srat _ _ _ (page_view c.in_ok-zero.zero) c.in_ok-ext.ext.items (chosen c.in_ok-options.options)
-          page_is extension_is options_are (told_at _ _ _ kept_options told))
+      | inr told ↦ inr (wanting TakesMemory inputs.Srat _ named (all_of named kernel) None srat_said rest
+          (omega arith) (λ never. search rules) here (rw kept_options at told)
+          (srat_passed inputs.Srat named kernel page extension options (omega arith)))
     ]
 
 pub returns-in_err-lines-clause-gives : goal.returns-in_err-lines-clause-gives
 returns-in_err-lines-clause-gives g c =
-    let p = err_from_is_err_and c.from_residual-in_err-lines.result c.from_residual-in_err-lines.ensures.1 in
-    let is = p.1 ∙ ap (λ (e : InputError). Err e) p.2 in
+    let is = error_is _ _ c.from_residual-in_err-lines.ensures.1 in
+    let named = g.N.Names.named c.args.names.now in
+    let kernel = c.args.kernel in
+    let page = page_view c.in_ok-zero.zero in
     let page_is = c.in_ok-zero.ensures.gives in
     let kept_page = c.in_ok-zero.ensures.kept in
-    let extension_is = told_at _ _ _ kept_page c.in_ok-ext.ensures.gives in
+    let extension = c.in_ok-ext.ext.items in
+    let extension_is = rw kept_page at c.in_ok-ext.ensures.gives in
     let kept_extension = c.in_ok-ext.ensures.kept ∙ kept_page in
-    let options_are = told_at _ _ _ kept_extension c.in_ok-options.ensures.gives in
+    let options = chosen c.in_ok-options.options in
+    let options_are = rw kept_extension at c.in_ok-options.ensures.gives in
     let kept_options = c.in_ok-options.ensures.kept ∙ kept_extension in
-    let domains_are = told_at _ _ _ kept_options c.in_ok-srat.ensures.gives in
+    let domains = option_map affinity c.in_ok-srat.srat in
+    let domains_are = rw kept_options at c.in_ok-srat.ensures.gives in
     let kept_domains = c.in_ok-srat.ensures.kept ∙ kept_options in
-    script_refused _ (g.N.Names.named c.args.names.now) c.args.kernel _ c.in_err-lines.field-0.0
-    (page_view c.in_ok-zero.zero) c.in_ok-ext.ext.items (chosen c.in_ok-options.options)
-    (option_map affinity c.in_ok-srat.srat) is c.in_err-lines.ensures.own
-    page_is extension_is options_are domains_are (told_at _ _ _ kept_domains c.in_err-lines.ensures.gives)
+    let here = at_script _ named kernel page extension options domains page_is extension_is options_are domains_are in
+    let rest = behind_script named kernel page extension options domains in
+    refused inputs.Script _ (all_of named kernel) (script_step named) rest _ c.in_err-lines.field-0.0 is
+    c.in_err-lines.ensures.own here (rw kept_domains at c.in_err-lines.ensures.gives)
+    (λ held lines. tt)
 
 pub returns-in_err-lines-clause-cause : goal.returns-in_err-lines-clause-cause
 returns-in_err-lines-clause-cause g c =
-    let p = err_from_is_err_and c.from_residual-in_err-lines.result c.from_residual-in_err-lines.ensures.1 in
-    let is = p.1 ∙ ap (λ (e : InputError). Err e) p.2 in
+    let is = error_is _ _ c.from_residual-in_err-lines.ensures.1 in
     cause_behind _ _ _ _ _ c.in_err-lines.field-0.0 is
     (λ any. c.in_ok-srat.ensures.uncounted any ∙ c.in_ok-options.ensures.uncounted any
-    ∙ c.in_ok-ext.ensures.uncounted any ∙ c.in_ok-zero.ensures.uncounted any) c.in_err-lines.ensures.cause
+    ∙ c.in_ok-ext.ensures.uncounted any ∙ c.in_ok-zero.ensures.uncounted any)
+    c.in_err-lines.ensures.cause
 
 pub returns-in_err-lines-clause-unfailed : goal.returns-in_err-lines-clause-unfailed
 returns-in_err-lines-clause-unfailed g c =
-    let p = err_from_is_err_and c.from_residual-in_err-lines.result c.from_residual-in_err-lines.ensures.1 in
-    let is = p.1 ∙ ap (λ (e : InputError). Err e) p.2 in
-    λ wanting any. c.in_err-lines.ensures.unfailed (same_error _ _ _ is wanting) any
+    let is = error_is _ _ c.from_residual-in_err-lines.ensures.1 in
+    λ wants any. c.in_err-lines.ensures.unfailed (same_error _ _ _ is wants) any
     ∙ c.in_ok-srat.ensures.uncounted any ∙ c.in_ok-options.ensures.uncounted any
     ∙ c.in_ok-ext.ensures.uncounted any ∙ c.in_ok-zero.ensures.uncounted any
 
 pub returns-in_err-lines-clause-memory : goal.returns-in_err-lines-clause-memory
 returns-in_err-lines-clause-memory g c =
-    let p = err_from_is_err_and c.from_residual-in_err-lines.result c.from_residual-in_err-lines.ensures.1 in
-    let is = p.1 ∙ ap (λ (e : InputError). Err e) p.2 in
+    let is = error_is _ _ c.from_residual-in_err-lines.ensures.1 in
+    let named = g.N.Names.named c.args.names.now in
+    let kernel = c.args.kernel in
+    let page = page_view c.in_ok-zero.zero in
     let page_is = c.in_ok-zero.ensures.gives in
     let kept_page = c.in_ok-zero.ensures.kept in
-    let extension_is = told_at _ _ _ kept_page c.in_ok-ext.ensures.gives in
+    let extension = c.in_ok-ext.ext.items in
+    let extension_is = rw kept_page at c.in_ok-ext.ensures.gives in
     let kept_extension = c.in_ok-ext.ensures.kept ∙ kept_page in
-    let options_are = told_at _ _ _ kept_extension c.in_ok-options.ensures.gives in
+    let options = chosen c.in_ok-options.options in
+    let options_are = rw kept_extension at c.in_ok-options.ensures.gives in
     let kept_options = c.in_ok-options.ensures.kept ∙ kept_extension in
-    let domains_are = told_at _ _ _ kept_options c.in_ok-srat.ensures.gives in
+    let domains = option_map affinity c.in_ok-srat.srat in
+    let domains_are = rw kept_options at c.in_ok-srat.ensures.gives in
     let kept_domains = c.in_ok-srat.ensures.kept ∙ kept_options in
-    λ wanting. elim (c.in_err-lines.ensures.memory (same_error _ _ _ is wanting)) [
+    let here = at_script _ named kernel page extension options domains page_is extension_is options_are domains_are in
+    let rest = behind_script named kernel page extension options domains in
+    λ wants. elim (c.in_err-lines.ensures.memory (same_error _ _ _ is wants)) [
       | inl rose ↦ inl (rw (
         c.in_ok-srat.ensures.unwanted,
         c.in_ok-options.ensures.unwanted,
         c.in_ok-ext.ensures.unwanted,
         c.in_ok-zero.ensures.unwanted,
       ) at rose)
-      | inr told ↦ inr (told_script _ _ _ (page_view c.in_ok-zero.zero) c.in_ok-ext.ext.items (chosen c.in_ok-options.options)
-          (option_map affinity c.in_ok-srat.srat) page_is extension_is options_are domains_are (told_at _ _ _ kept_domains told))
+      | inr told ↦ inr (wanting (λ lines. 0 < length lines) inputs.Script _ named (all_of named kernel) [] script_said rest
+          (omega arith) (λ never. omega (arith, never)) here (rw kept_domains at told)
+          (λ held lines. tt))
     ]
 
 pub returns-clause-gives : goal.returns-clause-gives
 returns-clause-gives g c =
+    let named = g.N.Names.named c.args.names.now in
+    let kernel = c.args.kernel in
+    let page = page_view c.in_ok-zero.zero in
     let page_is = c.in_ok-zero.ensures.gives in
     let kept_page = c.in_ok-zero.ensures.kept in
-    let extension_is = told_at _ _ _ kept_page c.in_ok-ext.ensures.gives in
+    let extension = c.in_ok-ext.ext.items in
+    let extension_is = rw kept_page at c.in_ok-ext.ensures.gives in
     let kept_extension = c.in_ok-ext.ensures.kept ∙ kept_page in
-    let options_are = told_at _ _ _ kept_extension c.in_ok-options.ensures.gives in
+    let options = chosen c.in_ok-options.options in
+    let options_are = rw kept_extension at c.in_ok-options.ensures.gives in
     let kept_options = c.in_ok-options.ensures.kept ∙ kept_extension in
-    let domains_are = told_at _ _ _ kept_options c.in_ok-srat.ensures.gives in
+    let domains = option_map affinity c.in_ok-srat.srat in
+    let domains_are = rw kept_options at c.in_ok-srat.ensures.gives in
     let kept_domains = c.in_ok-srat.ensures.kept ∙ kept_options in
-    let lines_are = told_at _ _ _ kept_domains c.in_ok-lines.ensures.gives in
-    all_given _ (g.N.Names.named c.args.names.now) c.args.kernel (page_view c.in_ok-zero.zero) c.in_ok-ext.ext.items
-    (chosen c.in_ok-options.options) (option_map affinity c.in_ok-srat.srat) c.in_ok-lines.lines.items
-    page_is extension_is options_are domains_are lines_are
+    let lines = c.in_ok-lines.lines.items in
+    let lines_are = rw kept_domains at c.in_ok-lines.ensures.gives in
+    at_end _ named kernel page extension options domains lines page_is extension_is options_are domains_are lines_are
 
 pub returns-clause-cause : goal.returns-clause-cause
 returns-clause-cause g c = tt
 
 pub returns-clause-unfailed : goal.returns-clause-unfailed
-returns-clause-unfailed g c = λ wanting. cc
+returns-clause-unfailed g c = λ wants. cc
 
 pub returns-clause-unnamed : goal.returns-clause-unnamed
 returns-clause-unnamed g c = λ none. refl
