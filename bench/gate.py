@@ -24,22 +24,22 @@ KINDS = ("its proof", "its tests", "their cost")
 TOP = os.path.join(os.path.dirname(os.path.abspath(__file__)), "..")
 
 
-def kind_of(words):
-    """What a process of the prover is for, by its words."""
-    if "/rt-edit" in words:
+def kind_of(words, folder):
+    """What a process of the prover is for, by its words and the folder that it works in."""
+    if "/rt-edit" in words or "/rt-edit" in folder:
         return "their cost"
     return "its tests" if " --test" in words else "its proof"
 
 
 def processes():
-    """The words and the fields of /proc/NUMBER/stat behind the name of each process that there is, by its number."""
+    """The words, the folder and the fields of /proc/NUMBER/stat behind the name of each process that there is, by its number."""
     found = {}
     for number in filter(str.isdigit, os.listdir("/proc")):
         try:
             with open(f"/proc/{number}/cmdline", "rb") as file:
                 words = file.read().replace(b"\0", b" ").decode(errors="replace")
             with open(f"/proc/{number}/stat", encoding="ascii", errors="replace") as file:
-                found[number] = words, file.read().rsplit(")", 1)[1].split()
+                found[number] = words, os.readlink(f"/proc/{number}/cwd"), file.read().rsplit(")", 1)[1].split()
         except OSError:
             pass
     return found
@@ -48,18 +48,18 @@ def processes():
 def is_below(number, top, found):
     """Whether the process was started by the one whose number is top, or by one that was."""
     while number in found and number != top:
-        number = found[number][1][1]
+        number = found[number][2][1]
     return number == top
 
 
 def look(used, top):
     """Notes the processor time, in seconds, of each process of the prover below top, by its number and its start."""
     found = processes()
-    for number, (words, fields) in found.items():
+    for number, (words, folder, fields) in found.items():
         crate = CRATE.search(words)
         if crate and is_below(number, top, found):
             spent = (int(fields[11]) + int(fields[12])) / TICK
-            used[number, fields[19]] = (crate.group(1), kind_of(words), spent)
+            used[number, fields[19]] = (crate.group(1), kind_of(words, folder), spent)
 
 
 def bodies(crate):
