@@ -23,9 +23,8 @@ returns-in_err-zero-clause-gives g c =
     let kernel = c.args.kernel in
     let here = at_zero _ named kernel in
     let rest = behind_zero named kernel in
-    refused inputs.ZeroPage _ (all_of named kernel) (zero_step named) rest _ c.in_err-zero.field-0.0 is
-    c.in_err-zero.ensures.own here c.in_err-zero.ensures.gives
-    (zero_passed inputs.ZeroPage named kernel (omega arith))
+    refused inputs.ZeroPage _ _ (all_of named kernel) (zero_step named) rest _ c.in_err-zero.field-0.0 is
+    c.in_err-zero.ensures.own here c.in_err-zero.ensures.gives (zero_passed inputs.ZeroPage named kernel (omega arith))
 
 pub returns-in_err-zero-clause-cause : goal.returns-in_err-zero-clause-cause
 returns-in_err-zero-clause-cause g c =
@@ -43,13 +42,11 @@ returns-in_err-ext-clause-gives g c =
     let named = g.N.Names.named c.args.names.now in
     let kernel = c.args.kernel in
     let page = page_view c.in_ok-zero.zero in
-    let page_is = c.in_ok-zero.ensures.gives in
-    let kept_page = c.in_ok-zero.ensures.kept in
-    let here = at_extension _ named kernel page page_is in
+    let here = at_extension _ _ named kernel page
+    c.in_ok-zero.ensures.gives c.in_ok-zero.ensures.kept in
     let rest = behind_extension named kernel page in
-    refused inputs.Extension _ (all_of named kernel) (extension_step named) rest _ c.in_err-ext.field-0.0 is
-    c.in_err-ext.ensures.own here (rw kept_page at c.in_err-ext.ensures.gives)
-    (extension_passed inputs.Extension named kernel page (omega arith))
+    refused inputs.Extension _ _ (all_of named kernel) (extension_step named) rest _ c.in_err-ext.field-0.0 is
+    c.in_err-ext.ensures.own here c.in_err-ext.ensures.gives (extension_passed inputs.Extension named kernel page (omega arith))
 
 pub returns-in_err-ext-clause-cause : goal.returns-in_err-ext-clause-cause
 returns-in_err-ext-clause-cause g c =
@@ -68,15 +65,13 @@ returns-in_err-ext-clause-memory g c =
     let named = g.N.Names.named c.args.names.now in
     let kernel = c.args.kernel in
     let page = page_view c.in_ok-zero.zero in
-    let page_is = c.in_ok-zero.ensures.gives in
-    let kept_page = c.in_ok-zero.ensures.kept in
-    let here = at_extension _ named kernel page page_is in
+    let here = at_extension _ _ named kernel page
+    c.in_ok-zero.ensures.gives c.in_ok-zero.ensures.kept in
     let rest = behind_extension named kernel page in
     λ wants. elim (c.in_err-ext.ensures.memory (same_error _ _ _ is wants)) [
       | inl rose ↦ inl (rw c.in_ok-zero.ensures.unwanted at rose)
-      | inr told ↦ inr (wanting (λ entries. 0 < length entries) inputs.Extension _ named (all_of named kernel) [] extension_said rest
-          (omega arith) (λ never. omega (arith, never)) here (rw kept_page at told)
-          (extension_passed inputs.Extension named kernel page (omega arith)))
+      | inr told ↦ inr (wanting (λ entries. 0 < length entries) inputs.Extension _ _ named (all_of named kernel) [] extension_said rest
+          (omega arith) (λ never. omega (arith, never)) here told (extension_passed inputs.Extension named kernel page (omega arith)))
     ]
 
 pub returns-in_err-options-clause-gives : goal.returns-in_err-options-clause-gives
@@ -85,15 +80,12 @@ returns-in_err-options-clause-gives g c =
     let named = g.N.Names.named c.args.names.now in
     let kernel = c.args.kernel in
     let page = page_view c.in_ok-zero.zero in
-    let page_is = c.in_ok-zero.ensures.gives in
-    let kept_page = c.in_ok-zero.ensures.kept in
     let extension = c.in_ok-ext.ext.items in
-    let extension_is = rw kept_page at c.in_ok-ext.ensures.gives in
-    let kept_extension = c.in_ok-ext.ensures.kept ∙ kept_page in
-    let here = at_options _ named kernel page extension page_is extension_is in
+    let here = at_options _ _ _ named kernel page extension
+    c.in_ok-zero.ensures.gives c.in_ok-zero.ensures.kept c.in_ok-ext.ensures.gives c.in_ok-ext.ensures.kept in
     let rest = behind_options named kernel page extension in
-    refused inputs.CommandLine _ (all_of named kernel) (options_step named) rest _ c.in_err-options.field-0.0 is
-    c.in_err-options.ensures.own here (rw kept_extension at c.in_err-options.ensures.gives)
+    refused inputs.CommandLine _ _ (all_of named kernel) (options_step named) rest _ c.in_err-options.field-0.0 is
+    c.in_err-options.ensures.own here c.in_err-options.ensures.gives
     (options_passed inputs.CommandLine named kernel page extension (omega arith))
 
 pub returns-in_err-options-clause-cause : goal.returns-in_err-options-clause-cause
@@ -115,18 +107,14 @@ returns-in_err-options-clause-memory g c =
     let named = g.N.Names.named c.args.names.now in
     let kernel = c.args.kernel in
     let page = page_view c.in_ok-zero.zero in
-    let page_is = c.in_ok-zero.ensures.gives in
-    let kept_page = c.in_ok-zero.ensures.kept in
     let extension = c.in_ok-ext.ext.items in
-    let extension_is = rw kept_page at c.in_ok-ext.ensures.gives in
-    let kept_extension = c.in_ok-ext.ensures.kept ∙ kept_page in
-    let here = at_options _ named kernel page extension page_is extension_is in
+    let here = at_options _ _ _ named kernel page extension
+    c.in_ok-zero.ensures.gives c.in_ok-zero.ensures.kept c.in_ok-ext.ensures.gives c.in_ok-ext.ensures.kept in
     let rest = behind_options named kernel page extension in
     λ wants. elim (c.in_err-options.ensures.memory (same_error _ _ _ is wants)) [
       | inl rose ↦ inl (rw (c.in_ok-ext.ensures.unwanted, c.in_ok-zero.ensures.unwanted) at rose)
-      | inr told ↦ inr (wanting WantsMemory inputs.CommandLine _ named (all_of named kernel) no_options command_line_said rest
-          (omega arith) (λ never. search rules) here (rw kept_extension at told)
-          (options_passed inputs.CommandLine named kernel page extension (omega arith)))
+      | inr told ↦ inr (wanting WantsMemory inputs.CommandLine _ _ named (all_of named kernel) no_options command_line_said rest
+          (omega arith) (λ never. search rules) here told (options_passed inputs.CommandLine named kernel page extension (omega arith)))
     ]
 
 pub returns-in_err-srat-clause-gives : goal.returns-in_err-srat-clause-gives
@@ -135,19 +123,14 @@ returns-in_err-srat-clause-gives g c =
     let named = g.N.Names.named c.args.names.now in
     let kernel = c.args.kernel in
     let page = page_view c.in_ok-zero.zero in
-    let page_is = c.in_ok-zero.ensures.gives in
-    let kept_page = c.in_ok-zero.ensures.kept in
     let extension = c.in_ok-ext.ext.items in
-    let extension_is = rw kept_page at c.in_ok-ext.ensures.gives in
-    let kept_extension = c.in_ok-ext.ensures.kept ∙ kept_page in
     let options = chosen c.in_ok-options.options in
-    let options_are = rw kept_extension at c.in_ok-options.ensures.gives in
-    let kept_options = c.in_ok-options.ensures.kept ∙ kept_extension in
-    let here = at_srat _ named kernel page extension options page_is extension_is options_are in
+    let here = at_srat _ _ _ _ named kernel page extension options
+    c.in_ok-zero.ensures.gives c.in_ok-zero.ensures.kept c.in_ok-ext.ensures.gives c.in_ok-ext.ensures.kept
+    c.in_ok-options.ensures.gives c.in_ok-options.ensures.kept in
     let rest = behind_srat named kernel page extension options in
-    refused inputs.Srat _ (all_of named kernel) (srat_step named) rest _ c.in_err-srat.field-0.0 is
-    c.in_err-srat.ensures.own here (rw kept_options at c.in_err-srat.ensures.gives)
-    (srat_passed inputs.Srat named kernel page extension options (omega arith))
+    refused inputs.Srat _ _ (all_of named kernel) (srat_step named) rest _ c.in_err-srat.field-0.0 is
+    c.in_err-srat.ensures.own here c.in_err-srat.ensures.gives (srat_passed inputs.Srat named kernel page extension options (omega arith))
 
 pub returns-in_err-srat-clause-cause : goal.returns-in_err-srat-clause-cause
 returns-in_err-srat-clause-cause g c =
@@ -170,21 +153,16 @@ returns-in_err-srat-clause-memory g c =
     let named = g.N.Names.named c.args.names.now in
     let kernel = c.args.kernel in
     let page = page_view c.in_ok-zero.zero in
-    let page_is = c.in_ok-zero.ensures.gives in
-    let kept_page = c.in_ok-zero.ensures.kept in
     let extension = c.in_ok-ext.ext.items in
-    let extension_is = rw kept_page at c.in_ok-ext.ensures.gives in
-    let kept_extension = c.in_ok-ext.ensures.kept ∙ kept_page in
     let options = chosen c.in_ok-options.options in
-    let options_are = rw kept_extension at c.in_ok-options.ensures.gives in
-    let kept_options = c.in_ok-options.ensures.kept ∙ kept_extension in
-    let here = at_srat _ named kernel page extension options page_is extension_is options_are in
+    let here = at_srat _ _ _ _ named kernel page extension options
+    c.in_ok-zero.ensures.gives c.in_ok-zero.ensures.kept c.in_ok-ext.ensures.gives c.in_ok-ext.ensures.kept
+    c.in_ok-options.ensures.gives c.in_ok-options.ensures.kept in
     let rest = behind_srat named kernel page extension options in
     λ wants. elim (c.in_err-srat.ensures.memory (same_error _ _ _ is wants)) [
       | inl rose ↦ inl (rw (c.in_ok-options.ensures.unwanted, c.in_ok-ext.ensures.unwanted, c.in_ok-zero.ensures.unwanted) at rose)
-      | inr told ↦ inr (wanting TakesMemory inputs.Srat _ named (all_of named kernel) None srat_said rest
-          (omega arith) (λ never. search rules) here (rw kept_options at told)
-          (srat_passed inputs.Srat named kernel page extension options (omega arith)))
+      | inr told ↦ inr (wanting TakesMemory inputs.Srat _ _ named (all_of named kernel) None srat_said rest
+          (omega arith) (λ never. search rules) here told (srat_passed inputs.Srat named kernel page extension options (omega arith)))
     ]
 
 pub returns-in_err-lines-clause-gives : goal.returns-in_err-lines-clause-gives
@@ -193,22 +171,15 @@ returns-in_err-lines-clause-gives g c =
     let named = g.N.Names.named c.args.names.now in
     let kernel = c.args.kernel in
     let page = page_view c.in_ok-zero.zero in
-    let page_is = c.in_ok-zero.ensures.gives in
-    let kept_page = c.in_ok-zero.ensures.kept in
     let extension = c.in_ok-ext.ext.items in
-    let extension_is = rw kept_page at c.in_ok-ext.ensures.gives in
-    let kept_extension = c.in_ok-ext.ensures.kept ∙ kept_page in
     let options = chosen c.in_ok-options.options in
-    let options_are = rw kept_extension at c.in_ok-options.ensures.gives in
-    let kept_options = c.in_ok-options.ensures.kept ∙ kept_extension in
     let domains = option_map affinity c.in_ok-srat.srat in
-    let domains_are = rw kept_options at c.in_ok-srat.ensures.gives in
-    let kept_domains = c.in_ok-srat.ensures.kept ∙ kept_options in
-    let here = at_script _ named kernel page extension options domains page_is extension_is options_are domains_are in
+    let here = at_script _ _ _ _ _ named kernel page extension options domains
+    c.in_ok-zero.ensures.gives c.in_ok-zero.ensures.kept c.in_ok-ext.ensures.gives c.in_ok-ext.ensures.kept
+    c.in_ok-options.ensures.gives c.in_ok-options.ensures.kept c.in_ok-srat.ensures.gives c.in_ok-srat.ensures.kept in
     let rest = behind_script named kernel page extension options domains in
-    refused inputs.Script _ (all_of named kernel) (script_step named) rest _ c.in_err-lines.field-0.0 is
-    c.in_err-lines.ensures.own here (rw kept_domains at c.in_err-lines.ensures.gives)
-    (λ held lines. tt)
+    refused inputs.Script _ _ (all_of named kernel) (script_step named) rest _ c.in_err-lines.field-0.0 is
+    c.in_err-lines.ensures.own here c.in_err-lines.ensures.gives (λ held lines. tt)
 
 pub returns-in_err-lines-clause-cause : goal.returns-in_err-lines-clause-cause
 returns-in_err-lines-clause-cause g c =
@@ -231,18 +202,12 @@ returns-in_err-lines-clause-memory g c =
     let named = g.N.Names.named c.args.names.now in
     let kernel = c.args.kernel in
     let page = page_view c.in_ok-zero.zero in
-    let page_is = c.in_ok-zero.ensures.gives in
-    let kept_page = c.in_ok-zero.ensures.kept in
     let extension = c.in_ok-ext.ext.items in
-    let extension_is = rw kept_page at c.in_ok-ext.ensures.gives in
-    let kept_extension = c.in_ok-ext.ensures.kept ∙ kept_page in
     let options = chosen c.in_ok-options.options in
-    let options_are = rw kept_extension at c.in_ok-options.ensures.gives in
-    let kept_options = c.in_ok-options.ensures.kept ∙ kept_extension in
     let domains = option_map affinity c.in_ok-srat.srat in
-    let domains_are = rw kept_options at c.in_ok-srat.ensures.gives in
-    let kept_domains = c.in_ok-srat.ensures.kept ∙ kept_options in
-    let here = at_script _ named kernel page extension options domains page_is extension_is options_are domains_are in
+    let here = at_script _ _ _ _ _ named kernel page extension options domains
+    c.in_ok-zero.ensures.gives c.in_ok-zero.ensures.kept c.in_ok-ext.ensures.gives c.in_ok-ext.ensures.kept
+    c.in_ok-options.ensures.gives c.in_ok-options.ensures.kept c.in_ok-srat.ensures.gives c.in_ok-srat.ensures.kept in
     let rest = behind_script named kernel page extension options domains in
     λ wants. elim (c.in_err-lines.ensures.memory (same_error _ _ _ is wants)) [
       | inl rose ↦ inl (rw (
@@ -251,9 +216,8 @@ returns-in_err-lines-clause-memory g c =
         c.in_ok-ext.ensures.unwanted,
         c.in_ok-zero.ensures.unwanted,
       ) at rose)
-      | inr told ↦ inr (wanting (λ lines. 0 < length lines) inputs.Script _ named (all_of named kernel) [] script_said rest
-          (omega arith) (λ never. omega (arith, never)) here (rw kept_domains at told)
-          (λ held lines. tt))
+      | inr told ↦ inr (wanting (λ lines. 0 < length lines) inputs.Script _ _ named (all_of named kernel) [] script_said rest
+          (omega arith) (λ never. omega (arith, never)) here told (λ held lines. tt))
     ]
 
 pub returns-clause-gives : goal.returns-clause-gives
@@ -261,20 +225,14 @@ returns-clause-gives g c =
     let named = g.N.Names.named c.args.names.now in
     let kernel = c.args.kernel in
     let page = page_view c.in_ok-zero.zero in
-    let page_is = c.in_ok-zero.ensures.gives in
-    let kept_page = c.in_ok-zero.ensures.kept in
     let extension = c.in_ok-ext.ext.items in
-    let extension_is = rw kept_page at c.in_ok-ext.ensures.gives in
-    let kept_extension = c.in_ok-ext.ensures.kept ∙ kept_page in
     let options = chosen c.in_ok-options.options in
-    let options_are = rw kept_extension at c.in_ok-options.ensures.gives in
-    let kept_options = c.in_ok-options.ensures.kept ∙ kept_extension in
     let domains = option_map affinity c.in_ok-srat.srat in
-    let domains_are = rw kept_options at c.in_ok-srat.ensures.gives in
-    let kept_domains = c.in_ok-srat.ensures.kept ∙ kept_options in
     let lines = c.in_ok-lines.lines.items in
-    let lines_are = rw kept_domains at c.in_ok-lines.ensures.gives in
-    at_end _ named kernel page extension options domains lines page_is extension_is options_are domains_are lines_are
+    (at_end _ _ _ _ _ _ named kernel page extension options domains lines
+    c.in_ok-zero.ensures.gives c.in_ok-zero.ensures.kept c.in_ok-ext.ensures.gives c.in_ok-ext.ensures.kept
+    c.in_ok-options.ensures.gives c.in_ok-options.ensures.kept c.in_ok-srat.ensures.gives c.in_ok-srat.ensures.kept
+    c.in_ok-lines.ensures.gives c.in_ok-lines.ensures.kept).is
 
 pub returns-clause-cause : goal.returns-clause-cause
 returns-clause-cause g c = tt
