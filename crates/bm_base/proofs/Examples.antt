@@ -1,5 +1,5 @@
 -- Small ranges, numbers and texts, computed.
-use Rattle.std.proofs.Common.{◌≡◌, ℕ, ◌^◌, ◌*◌, ◌+◌, ◌-◌, true, false, ◌&&◌, nat_lt, ◌==◌, not, [], codes, Some, None, Ok, Err, refl, arith}
+use Rattle.std.proofs.Common.{◌≡◌, ℕ, ◌^◌, ◌*◌, ◌/◌, ◌+◌, ◌-◌, true, false, ◌&&◌, nat_lt, ◌==◌, not, [], codes, Some, None, Ok, Err, refl, arith}
 use Rattle.std.proofs.lemmas.Bool.Decides.{nat_tests}
 use Rattle.std.specs.Fmt.{digits}
 use Rattle.bm_base.specs.Answers.{Answers}
@@ -12,6 +12,8 @@ use Rattle.bm_base.specs.ResultSteps.{◌>>=◌, with_error}
 use Rattle.bm_base.specs.Text.{hexadecimal, hex_text, padded_decimal}
 use Rattle.bm_base.specs.Size.{front_digits, value_of, is_hexadecimal, begins_with_zero, begins_with_digit, prefix_of, radix_of, number_value, number_end, suffix_at, suffix_of, fitting, with_suffix, number_of, size_of, IsSize, IsNumber}
 use Rattle.bm_base.specs.declared.size.NumFault.TheVariants.{NoDigits, TooLarge}
+use Rattle.bm_base.specs.Width.{reach_of, root_table_of}
+use Rattle.bm_base.specs.declared.width.Width.TheVariants.{Bits46, Bits52}
 use Rattle.bm_base.specs.Zones.{zone_of}
 use Rattle.bm_base.specs.declared.zone.Zone.TheVariants.{Dma, Dma32, Normal}
 
@@ -137,3 +139,8 @@ error_answers = ((λ other. refl), (λ said. grind (arith, said (λ same. omega 
 -- the last frame of each zone and the first of the next
 zone_examples : (zone_of 0 ≡ Dma) × (zone_of 4095 ≡ Dma) × (zone_of 4096 ≡ Dma32) × (zone_of 1048575 ≡ Dma32) × (zone_of 1048576 ≡ Normal)
 zone_examples = (refl, refl, refl, refl, refl)
+
+-- 64 TiB and 4 PiB: 2^19 and 2^25 sections of 128 MiB, 256 of them a root, 8 bytes a root
+width_examples : (reach_of Bits46 ≡ 70368744177664) × (reach_of Bits52 ≡ 4503599627370496)
+    × (root_table_of Bits46 ≡ 2 ^ 19 / 256 * 8) × (root_table_of Bits52 ≡ 2 ^ 25 / 256 * 8)
+width_examples = (refl, refl, refl, refl)

@@ -6,4 +6,5 @@ pub mod OptionSteps
 pub mod ResultSteps
 pub mod Size
 pub mod Text
+pub mod Width
 pub mod Zones

@@ -20,7 +20,7 @@
 //! don't wrap, and what passes 2^64 - 1 is a [`NumFault`].
 //!
 //! A frame is [`FRAME_SIZE`] bytes and lies in one [`Zone`]; [`round_up`] and [`round_down`] go to multiples, as
-//! those of frames and of an alignment.
+//! those of frames and of an alignment. How far physical addresses go is a [`Width`].
 #![tactic(auto)]
 
 mod frame;
@@ -29,6 +29,7 @@ mod range;
 mod rounding;
 mod size;
 mod text;
+mod width;
 mod zone;
 
 pub use frame::FRAME_SIZE;
@@ -37,4 +38,5 @@ pub use range::Range;
 pub use rounding::{round_down, round_up};
 pub use size::{NumFault, read_number, read_size, sizes_of_spelling};
 pub use text::{put_dec, put_hex, put_text};
+pub use width::Width;
 pub use zone::{MAX_DMA_FRAME, MAX_DMA32_FRAME, Zone, zone_of};
