@@ -15,6 +15,8 @@ use Rattle.bm_base.specs.declared.size.NumFault.TheVariants.{NoDigits, TooLarge}
 use Rattle.bm_base.specs.Width.{reach_of, root_table_of}
 use Rattle.bm_base.specs.declared.width.Width.TheVariants.{Bits46, Bits52}
 use Rattle.bm_base.specs.Zones.{zone_of}
+use Rattle.bm_base.specs.declared.frame.TheConstants.{FRAME_SIZE}
+use Rattle.bm_base.specs.declared.zone.TheConstants.{MAX_DMA_FRAME, MAX_DMA32_FRAME}
 use Rattle.bm_base.specs.declared.zone.Zone.TheVariants.{Dma, Dma32, Normal}
 
 -- the second page of memory, and the page behind it
@@ -144,3 +146,7 @@ zone_examples = (refl, refl, refl, refl, refl)
 width_examples : (reach_of Bits46 ≡ 70368744177664) × (reach_of Bits52 ≡ 4503599627370496)
     × (root_table_of Bits46 ≡ 2 ^ 19 / 256 * 8) × (root_table_of Bits52 ≡ 2 ^ 25 / 256 * 8)
 width_examples = (refl, refl, refl, refl)
+
+-- a frame is 4,096 bytes (`PAGE_SHIFT` 12); the zones end at 16 MiB and at 4 GiB (`MAX_DMA_PFN`, `MAX_DMA32_PFN`)
+frame_numbers : (FRAME_SIZE ≡ 2 ^ 12) × (MAX_DMA_FRAME * FRAME_SIZE ≡ 16 * 1048576) × (MAX_DMA32_FRAME * FRAME_SIZE ≡ 2 ^ 32)
+frame_numbers = (refl, refl, refl)

@@ -1,11 +1,12 @@
-pub mod ReadingLaws
-pub mod SaidLaws
-pub mod UserMapLaws
-pub mod MapOptionBounds
 pub mod CrashBounds
+mod CrashExamples
 pub mod CrashLaws
 pub mod CrashSpellingLaws
-pub mod LineBounds
-pub mod SpellingLaws
-mod CrashExamples
 mod Examples
+pub mod LineBounds
+pub mod MapOptionBounds
+mod NumberExamples
+pub mod ReadingLaws
+pub mod SaidLaws
+pub mod SpellingLaws
+pub mod UserMapLaws

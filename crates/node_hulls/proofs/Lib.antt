@@ -5,7 +5,8 @@ pub mod GivenLaws
 pub mod InListLaws
 pub mod JudgedLaws
 pub mod KeptLaws
-pub mod MemoryLaws
 pub mod MeaningLaws
+pub mod MemoryLaws
 pub mod NodesLaws
+mod NumberExamples
 pub mod RestLaws

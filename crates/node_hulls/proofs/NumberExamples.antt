@@ -1,0 +1,7 @@
+-- The numbers of the kernel that definitions cite by their names, and what they decide from both sides.
+use Rattle.std.proofs.Common.{◌≡◌, ℕ, ◌*◌, ◌^◌, List, [], None, refl}
+use Rattle.node_hulls.specs.declared.reasons.TheConstants.{MAX_NODES, MAX_BLOCKS, UNCOVERED_FRAMES}
+
+-- `MAX_NUMNODES` by `NODES_SHIFT` 10; `NR_NODE_MEMBLKS`, two for each node; the frames of 1 MiB (`numa_meminfo_cover_memory`)
+numbers : (MAX_NODES ≡ 2 ^ 10) × (MAX_BLOCKS ≡ 2 * 1024) × (UNCOVERED_FRAMES * 4096 ≡ 1048576)
+numbers = (refl, refl, refl)
