@@ -5,7 +5,7 @@ use Rattle.std.specs.Fmt.{digits}
 use Rattle.bm_base.specs.Answers.{Answers}
 use Rattle.bm_base.specs.Each.{each_from, each_in}
 use Rattle.bm_base.specs.Extent.{Extent, end_of, covers, Meet}
-use Rattle.bm_base.specs.Frames.{bytes_of_frame, frame_around}
+use Rattle.bm_base.specs.Frames.{bytes_of_frame, frame_around, stretch_of, frames_within}
 use Rattle.std.specs.Prelude.{Result}
 use Rattle.bm_base.specs.OptionSteps as option
 use Rattle.bm_base.specs.ResultSteps.{◌>>=◌, with_error}
@@ -150,3 +150,9 @@ width_examples = (refl, refl, refl, refl)
 -- a frame is 4,096 bytes (`PAGE_SHIFT` 12); the zones end at 16 MiB and at 4 GiB (`MAX_DMA_PFN`, `MAX_DMA32_PFN`)
 frame_numbers : (FRAME_SIZE ≡ 2 ^ 12) × (MAX_DMA_FRAME * FRAME_SIZE ≡ 16 * 1048576) × (MAX_DMA32_FRAME * FRAME_SIZE ≡ 2 ^ 32)
 frame_numbers = (refl, refl, refl)
+
+-- of a range from the middle of a frame to the middle of another the frames between; of one frame all, and less than a frame has none
+whole_frames_examples : (frames_within (record { base = 0x0FFF; size = 0x2002 }) ≡ Some (record { base = 0x1000; size = 0x2000 }))
+    × (frames_within second_page ≡ Some second_page) × (frames_within (record { base = 0x1001; size = 0x1FFE }) ≡ None)
+    × (stretch_of 5 5 ≡ None)
+whole_frames_examples = (refl, refl, refl, refl)

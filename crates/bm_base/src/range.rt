@@ -3,7 +3,10 @@
 
 ghost use Rattle.std.specs.Prelude.{◌≡◌, ℕ, ◌+◌, ◌-◌, ◌^◌, ◌<◌, ◌↔◌, SomeIff, IsTrue};
 ghost use Rattle.bm_base.specs.Extent.{covers, end_of, Meet};
+ghost use Rattle.bm_base.specs.Frames.{frames_within};
 
+use crate::frame::FRAME_SIZE;
+use crate::rounding::{round_down, round_up};
 use std::marker::Model;
 
 /// The addresses from `base` on, `size` bytes of them. The sum of both is at most 2^64 - 1, so the
@@ -64,6 +67,15 @@ impl Range {
         ensures { result ≡ covers self.now address }
     {
         self.base <= address && address < self.end()
+    }
+
+    /// The whole frames of the range: its start is rounded up to a frame and its end down (`PFN_UP`, `PFN_DOWN`). `None` exactly
+    /// where it has none.
+    pub fn whole_frames(&self) -> Option<Range>
+        ensures { result ≡ frames_within self.now }
+    {
+        let from = round_up(self.base, FRAME_SIZE)?;
+        Range::between(from, round_down(self.end(), FRAME_SIZE))
     }
 
     /// Whether some address lies in both ranges.

@@ -29,6 +29,8 @@ mod of_e820_table;
 #[cfg(test)]
 mod of_e820_usable;
 #[cfg(test)]
+mod of_efi_map;
+#[cfg(test)]
 mod of_program_run;
 #[cfg(test)]
 mod of_program_words;

@@ -1,0 +1,95 @@
+-- Laws of descriptors that follow one another.
+use Rattle.std.proofs.Common.{◌≡◌, ℕ, zero, suc, ◌+◌, ◌-◌, ◌*◌, ◌^◌, ◌<◌, ◌≤◌, true, false, Option, Some, None, List, [], ◌∷◌, ◌++◌, map, length, take, drop, length-drop, append_assoc, refl, sym, ◌∙◌, ap, inl, inr, arith}
+use Rattle.std.proofs.lemmas.Bool.Decides.{nat_tests}
+use Rattle.std.proofs.lemmas.Bool.{cases_Bool}
+use Rattle.std.proofs.lemmas.List.{take_all}
+use Rattle.bm_base.specs.Extent.{Extent}
+use Rattle.e820_model.specs.declared.entry.Entry.{Entry}
+use Rattle.e820_model.specs.Claims.{EndInSpace}
+use Rattle.efi_map.specs.Descriptors.{Descriptor, is_far, entry_of, mirror_of}
+use Rattle.efi_map.specs.Map.{nth_descriptor, descriptors_from, far_among, mirror_in_front, mirrors_of}
+
+-- all bytes from the offset on
+pub from_offset : (bytes : List ℕ) (offset : ℕ) → take (length bytes - offset) (drop offset bytes) ≡ drop offset bytes
+from_offset bytes offset = take_all (length bytes - offset) (drop offset bytes) (omega (arith, length-drop offset bytes))
+
+-- the first of those that are left, and the others
+pub one_more : (stride i n : ℕ) (bytes : List ℕ) → i < n
+    → descriptors_from stride i (n - i) bytes ≡ nth_descriptor stride i bytes ∷ descriptors_from stride (i + 1) (n - (i + 1)) bytes
+unfolding descriptors_from
+one_more stride i n bytes below = let left : n - i ≡ suc (n - (i + 1)) = omega arith in rw left refl
+
+pub none_more : (stride i n : ℕ) (bytes : List ℕ) → n ≤ i → descriptors_from stride i (n - i) bytes ≡ []
+unfolding descriptors_from
+none_more stride i n bytes le = let left : n - i ≡ 0 = omega arith in rw left refl
+
+-- the first of several is too far, or the search goes on behind it
+pub far_here : (i : ℕ) (d : Descriptor) (ds : List Descriptor) → is_far d ≡ true → far_among i (d ∷ ds) ≡ Some i
+unfolding far_among
+far_here i d ds far = rw far refl
+
+pub far_later : (i : ℕ) (d : Descriptor) (ds : List Descriptor) → is_far d ≡ false → far_among i (d ∷ ds) ≡ far_among (i + 1) ds
+unfolding far_among
+far_later i d ds near = rw near refl
+
+-- where none is too far, the first isn't, and no other is
+pub first_near : (i : ℕ) (d : Descriptor) (ds : List Descriptor) → far_among i (d ∷ ds) ≡ None → is_far d ≡ false
+first_near i d ds none = elim (cases_Bool (is_far d)) as (λ _. is_far d ≡ false) [
+  | inl far ↦ let found : far_among i (d ∷ ds) ≡ Some i = far_here i d ds far in cc
+  | inr near ↦ near
+]
+
+-- then all entries end in the address space
+pub space_of_near : (i : ℕ) (ds : List Descriptor) → far_among i ds ≡ None → EndInSpace (map entry_of ds)
+space_of_near i [] none = tt
+space_of_near i (d ∷ ds) none =
+    let near = first_near i d ds none in
+    (grind (arith, nat_tests, near), space_of_near (i + 1) ds (sym (far_later i d ds near) ∙ none))
+
+-- one step of the search over those that are left
+pub far_hit : (stride i n : ℕ) (bytes : List ℕ) → i < n → is_far (nth_descriptor stride i bytes) ≡ true
+    → far_among i (descriptors_from stride i (n - i) bytes) ≡ Some i
+far_hit stride i n bytes below far = rw (one_more stride i n bytes below) (far_here i _ _ far)
+
+pub far_miss : (stride i n : ℕ) (bytes : List ℕ) → i < n → is_far (nth_descriptor stride i bytes) ≡ false
+    → far_among i (descriptors_from stride i (n - i) bytes) ≡ far_among (i + 1) (descriptors_from stride (i + 1) (n - (i + 1)) bytes)
+far_miss stride i n bytes below near = rw (one_more stride i n bytes below) (far_later i _ _ near)
+
+pub far_end : (stride i n : ℕ) (bytes : List ℕ) → n ≤ i → far_among i (descriptors_from stride i (n - i) bytes) ≡ None
+unfolding far_among
+far_end stride i n bytes le = rw (none_more stride i n bytes le) refl
+
+-- where none of those that are left is too far, the first isn't
+pub near_now : (stride i n : ℕ) (bytes : List ℕ) → i < n → far_among i (descriptors_from stride i (n - i) bytes) ≡ None
+    → is_far (nth_descriptor stride i bytes) ≡ false
+near_now stride i n bytes below none = first_near i _ (descriptors_from stride (i + 1) (n - (i + 1)) bytes) (rw (one_more stride i n bytes below) at none)
+
+pub fits : (d : Descriptor) → is_far d ≡ false → d.base + 4096 * d.pages < 2 ^ 64
+fits d near = grind (arith, nat_tests, near)
+
+-- what one more descriptor adds to what was read
+pub entries_on : (es : List Entry) (stride i n : ℕ) (bytes : List ℕ) → i < n
+    → (es ++ entry_of (nth_descriptor stride i bytes) ∷ []) ++ map entry_of (descriptors_from stride (i + 1) (n - (i + 1)) bytes)
+    ≡ es ++ map entry_of (descriptors_from stride i (n - i) bytes)
+entries_on es stride i n bytes below = rw (one_more stride i n bytes below) (append_assoc es _ _)
+
+abbrev pub with_mirror : List Extent → Option Extent → List Extent
+with_mirror ms None = ms
+with_mirror ms (Some range) = ms ++ range ∷ []
+
+mirror_on : (ms : List Extent) (o : Option Extent) (others : List Extent) → with_mirror ms o ++ others ≡ ms ++ mirror_in_front o others
+mirror_on ms None others = refl
+mirror_on ms (Some range) others = append_assoc ms (range ∷ []) others
+
+pub mirrors_on : (ms : List Extent) (o : Option Extent) (stride i n : ℕ) (bytes : List ℕ) → i < n
+    → o ≡ mirror_of (nth_descriptor stride i bytes)
+    → with_mirror ms o ++ mirrors_of (descriptors_from stride (i + 1) (n - (i + 1)) bytes)
+    ≡ ms ++ mirrors_of (descriptors_from stride i (n - i) bytes)
+unfolding mirrors_of
+mirrors_on ms o stride i n bytes below same = rw (one_more stride i n bytes below, ← same) (mirror_on ms o _)
+
+-- as many as were counted
+pub counted : (stride i n : ℕ) (bytes : List ℕ) → length (descriptors_from stride i n bytes) ≡ n
+unfolding descriptors_from
+counted stride i zero bytes = refl
+counted stride i (suc n) bytes = ap suc (counted stride (i + 1) n bytes)

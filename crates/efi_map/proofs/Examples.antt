@@ -1,0 +1,115 @@
+-- Small maps of EFI firmware, computed: each type of a descriptor with each attribute that counts, and each fault.
+use Rattle.std.proofs.Common.{◌≡◌, ℕ, ◌^◌, true, false, Some, None, Ok, Err, List, [], ◌∷◌, ◌++◌, replicate, refl}
+use Rattle.efi_map.specs.Descriptors.{Descriptor, descriptor_at, bytes_of_descriptor, is_far, has_attribute, is_free_kind, type_of_free, type_of_kind, e820_type, entry_of, mirror_of}
+use Rattle.efi_map.specs.Map.{stride_of, has_header, has_length, count_of, nth_descriptor, descriptors_from, descriptors_of, far_among, mirror_in_front, mirrors_of, unless_far, efi_of}
+use Rattle.efi_map.specs.declared.efi.EfiFault.TheVariants as faults
+
+abbrev page : ℕ → ℕ → Descriptor
+page kind attributes = record { kind = kind; base = 0x300000; pages = 1; attributes = attributes }
+
+-- EfiLoaderCode to EfiBootServicesData and EfiConventionalMemory: with EFI_MEMORY_SP soft reserved, with EFI_MEMORY_WB RAM, else reserved
+free_kinds : (is_free_kind 0 ≡ false) × (is_free_kind 1 ≡ true) × (is_free_kind 2 ≡ true) × (is_free_kind 3 ≡ true) × (is_free_kind 4 ≡ true)
+    × (is_free_kind 5 ≡ false) × (is_free_kind 6 ≡ false) × (is_free_kind 7 ≡ true) × (is_free_kind 8 ≡ false)
+free_kinds = (refl, refl, refl, refl, refl, refl, refl, refl, refl)
+
+free_types : (type_of_free (page 7 0) ≡ 2) × (type_of_free (page 7 0x8) ≡ 1) × (type_of_free (page 7 0x40000) ≡ 0xEFFFFFFF)
+    × (type_of_free (page 7 0x40008) ≡ 0xEFFFFFFF)
+free_types = (refl, refl, refl, refl)
+
+-- the types of UEFI's list in their order, write-back: EfiReservedMemoryType to EfiUnacceptedMemoryType, and one of a firmware's own
+types : (e820_type (page 0 8) ≡ 2) × (e820_type (page 1 8) ≡ 1) × (e820_type (page 2 8) ≡ 1) × (e820_type (page 3 8) ≡ 1) × (e820_type (page 4 8) ≡ 1)
+    × (e820_type (page 5 8) ≡ 2) × (e820_type (page 6 8) ≡ 2) × (e820_type (page 7 8) ≡ 1) × (e820_type (page 8 8) ≡ 5) × (e820_type (page 9 8) ≡ 3)
+types = (refl, refl, refl, refl, refl, refl, refl, refl, refl, refl)
+
+later_types : (e820_type (page 10 8) ≡ 4) × (e820_type (page 11 8) ≡ 2) × (e820_type (page 12 8) ≡ 2) × (e820_type (page 13 8) ≡ 2)
+    × (e820_type (page 14 8) ≡ 7) × (e820_type (page 15 8) ≡ 2) × (e820_type (page 0xFFFFFFFF 8) ≡ 2) × (type_of_kind 16 ≡ 2)
+later_types = (refl, refl, refl, refl, refl, refl, refl, refl)
+
+-- the attributes of other types don't count
+purpose_of_acpi : (e820_type (page 9 0x40008) ≡ 3) × (e820_type (page 14 0) ≡ 7)
+purpose_of_acpi = (refl, refl)
+
+attributes : (has_attribute 0x8 (page 7 0xF) ≡ true) × (has_attribute 0x8 (page 7 0x7) ≡ false) × (has_attribute 0x10000 (page 7 0x10000) ≡ true)
+attributes = (refl, refl, refl)
+
+an_entry : entry_of (page 9 8) ≡ record { addr = 0x300000; size = 0x1000; kind = 3 }
+an_entry = refl
+
+some_bytes : bytes_of_descriptor (record { kind = 7; base = 0x1000; pages = 3; attributes = 0 }) ≡ record { base = 0x1000; size = 0x3000 }
+some_bytes = refl
+
+-- memory that the machine keeps twice: its whole frames, and none where it has none; other memory isn't mirrored
+a_mirror : mirror_of (page 7 0x10008) ≡ Some (record { base = 0x300000; size = 0x1000 })
+a_mirror = refl
+
+part_of_a_mirror : mirror_of (record { kind = 7; base = 0x300800; pages = 2; attributes = 0x10000 }) ≡ Some (record { base = 0x301000; size = 0x1000 })
+part_of_a_mirror = refl
+
+no_whole_frame : mirror_of (record { kind = 7; base = 0x300800; pages = 1; attributes = 0x10000 }) ≡ None
+no_whole_frame = refl
+
+no_mirror : mirror_of (page 7 0x8) ≡ None
+no_mirror = refl
+
+mirrors : mirrors_of (page 7 0x8 ∷ (page 7 0x10008 ∷ (page 4 0x10000 ∷ []))) ≡ record { base = 0x300000; size = 0x1000 } ∷ (record { base = 0x300000; size = 0x1000 } ∷ [])
+unfolding mirrors_of
+mirrors = refl
+
+in_front : mirror_in_front None [] ≡ []
+in_front = refl
+
+-- the last byte of the address space, and one page more
+ends : (is_far (record { kind = 7; base = 0xFFFFFFFFFFFFE000; pages = 1; attributes = 0 }) ≡ false)
+    × (is_far (record { kind = 7; base = 0xFFFFFFFFFFFFE000; pages = 2; attributes = 0 }) ≡ true)
+ends = (refl, refl)
+
+far : Descriptor
+far = record { kind = 7; base = 0; pages = 2 ^ 52; attributes = 0 }
+
+-- the least one that goes too far
+least_far : (far_among 0 (page 7 0 ∷ (far ∷ (far ∷ []))) ≡ Some 1) × (far_among 0 (page 7 0 ∷ []) ≡ None)
+unfolding far_among far
+least_far = (refl, refl)
+
+far_is_told : (unless_far (far ∷ []) (Some 0) ≡ Err (faults.TooFar 0)) × (unless_far [] None ≡ Ok (record { entries = []; mirrors = [] }))
+unfolding mirrors_of
+far_is_told = (refl, refl)
+
+-- a header: the bytes of a descriptor, and the version
+abbrev header : ℕ → ℕ → List ℕ
+header stride version = stride ∷ 0 ∷ 0 ∷ 0 ∷ version ∷ 0 ∷ 0 ∷ 0 ∷ []
+
+header_examples : (has_header (header 40 1) ≡ true) × (has_header (header 48 1) ≡ true) × (has_header (header 32 1) ≡ false) × (has_header (header 44 1) ≡ false)
+    × (has_header (header 40 2) ≡ false) × (has_header (40 ∷ 0 ∷ 0 ∷ 0 ∷ 1 ∷ 0 ∷ 0 ∷ []) ≡ false)
+header_examples = (refl, refl, refl, refl, refl, refl)
+
+-- a descriptor of 40 bytes: type 9, 16 pages from 2 MiB on, write-back
+abbrev acpi : List ℕ
+acpi = 9 ∷ 0 ∷ 0 ∷ 0 ∷ 0 ∷ 0 ∷ 0 ∷ 0 ∷ 0 ∷ 0 ∷ 0x20 ∷ 0 ∷ 0 ∷ 0 ∷ 0 ∷ 0 ∷ 0 ∷ 0 ∷ 0 ∷ 0 ∷ 0 ∷ 0 ∷ 0 ∷ 0
+    ∷ 16 ∷ 0 ∷ 0 ∷ 0 ∷ 0 ∷ 0 ∷ 0 ∷ 0 ∷ 8 ∷ 0 ∷ 0 ∷ 0 ∷ 0 ∷ 0 ∷ 0 ∷ 0 ∷ []
+
+a_descriptor : nth_descriptor 40 0 (header 40 1 ++ acpi) ≡ record { kind = 9; base = 0x200000; pages = 16; attributes = 8 }
+unfolding descriptor_at
+a_descriptor = refl
+
+second_of_48 : nth_descriptor 48 1 (header 48 1 ++ acpi ++ replicate 8 255 ++ acpi) ≡ record { kind = 9; base = 0x200000; pages = 16; attributes = 8 }
+unfolding descriptor_at
+second_of_48 = refl
+
+length_examples : (has_length (header 40 1) ≡ true) × (has_length (header 40 1 ++ acpi) ≡ true) × (has_length (header 48 1 ++ acpi) ≡ false)
+    × (count_of (header 40 1 ++ acpi ++ acpi) ≡ 2) × (stride_of (header 48 1) ≡ 48)
+length_examples = (refl, refl, refl, refl, refl)
+
+all_of_two : descriptors_of (header 40 1 ++ acpi ++ acpi) ≡ nth_descriptor 40 0 (header 40 1 ++ acpi) ∷ (nth_descriptor 40 0 (header 40 1 ++ acpi) ∷ [])
+unfolding descriptors_from descriptor_at
+all_of_two = refl
+
+-- the header goes before the length, and no descriptor is a map, too
+faults_in_order : (efi_of [] ≡ Err faults.Header) × (efi_of (header 44 1 ++ acpi) ≡ Err faults.Header) × (efi_of (header 48 1 ++ acpi) ≡ Err faults.Length)
+    × (efi_of (header 40 1) ≡ Ok (record { entries = []; mirrors = [] }))
+unfolding descriptors_from far_among mirrors_of
+faults_in_order = (refl, refl, refl, refl)
+
+one_entry : efi_of (header 40 1 ++ acpi) ≡ Ok (record { entries = record { addr = 0x200000; size = 0x10000; kind = 3 } ∷ []; mirrors = [] })
+unfolding descriptors_from descriptor_at far_among mirrors_of
+one_entry = refl

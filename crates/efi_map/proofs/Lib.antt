@@ -1,0 +1,2 @@
+pub mod DescriptorLaws
+mod Examples

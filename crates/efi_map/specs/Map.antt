@@ -1,0 +1,69 @@
+-- The bytes of a saved EFI memory map: a u32 with the bytes of a descriptor, a u32 with the version of descriptors, and the
+-- descriptors. The header is this project's own; `GetMemoryMap` answers both numbers beside the map.
+use Rattle.std.specs.Prelude.{ℕ, zero, suc, ◌+◌, ◌-◌, ◌*◌, ◌/◌, ◌%◌, ◌==◌, Bool, ◌&&◌, not, nat_le, if◌then◌else◌, List, [], ◌∷◌, map, length, drop, Option, Some, None, Result, Ok, Err}
+use Rattle.byteorder.specs.Endian.{little_number}
+use Rattle.bm_base.specs.Extent.{Extent}
+use Rattle.e820_model.specs.declared.entry.Entry.{Entry}
+use Rattle.efi_map.specs.Descriptors.{Descriptor, descriptor_at, is_far, entry_of, mirror_of}
+use Rattle.efi_map.specs.declared.efi.EfiFault.{EfiFault}
+use Rattle.efi_map.specs.declared.efi.EfiFault.TheVariants as faults
+
+-- the bytes of a descriptor, as the header says
+abbrev pub stride_of : List ℕ → ℕ
+stride_of bytes = little_number 4 bytes
+
+-- there is a whole header: descriptors have at least the 40 bytes that are read, in whole 8 bytes, and are of version 1
+abbrev pub has_header : List ℕ → Bool
+has_header bytes =
+    nat_le 8 (length bytes) && (nat_le 40 (stride_of bytes) && (stride_of bytes % 8 == 0 && little_number 4 (drop 4 bytes) == 1))
+
+-- what follows the header are whole descriptors
+abbrev pub has_length : List ℕ → Bool
+has_length bytes = (length bytes - 8) % stride_of bytes == 0
+
+-- how many there are
+abbrev pub count_of : List ℕ → ℕ
+count_of bytes = (length bytes - 8) / stride_of bytes
+
+-- the descriptor of that index, from 0, of descriptors of that many bytes
+abbrev pub nth_descriptor : ℕ → ℕ → List ℕ → Descriptor
+nth_descriptor stride i bytes = descriptor_at (8 + stride * i) bytes
+
+-- n descriptors from the index i on
+unfoldable pub descriptors_from : ℕ → ℕ → ℕ → List ℕ → List Descriptor
+descriptors_from stride i zero bytes = []
+descriptors_from stride i (suc n) bytes = nth_descriptor stride i bytes ∷ descriptors_from stride (i + 1) n bytes
+
+-- all of them
+abbrev pub descriptors_of : List ℕ → List Descriptor
+descriptors_of bytes = descriptors_from (stride_of bytes) 0 (count_of bytes) bytes
+
+-- the least index, from i on, of a descriptor that goes too far
+unfoldable pub far_among : ℕ → List Descriptor → Option ℕ
+far_among i [] = None
+far_among i (d ∷ ds) = if is_far d then Some i else far_among (i + 1) ds
+
+-- the mirrors of descriptors, in their order
+abbrev pub mirror_in_front : Option Extent → List Extent → List Extent
+mirror_in_front None others = others
+mirror_in_front (Some range) others = range ∷ others
+
+unfoldable pub mirrors_of : List Descriptor → List Extent
+mirrors_of [] = []
+mirrors_of (d ∷ ds) = mirror_in_front (mirror_of d) (mirrors_of ds)
+
+-- what the map says: an entry for each descriptor, and the mirrored ranges, each list in the order of the descriptors
+pub record Efi : Type 0 where
+  pub entries : List Entry
+  pub mirrors : List Extent
+
+abbrev pub unless_far : List Descriptor → Option ℕ → Result Efi EfiFault
+unless_far ds (Some index) = Err (faults.TooFar index)
+unless_far ds None = Ok (record { entries = map entry_of ds; mirrors = mirrors_of ds })
+
+-- the value of the bytes, or their first fault, in this order: the header, the length, the least descriptor that goes too far
+abbrev pub efi_of : List ℕ → Result Efi EfiFault
+efi_of bytes =
+    if not (has_header bytes) then Err faults.Header
+    else (if not (has_length bytes) then Err faults.Length
+    else unless_far (descriptors_of bytes) (far_among 0 (descriptors_of bytes)))

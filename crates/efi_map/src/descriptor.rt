@@ -1,0 +1,157 @@
+//! A descriptor in bytes, and what the kernel makes of it.
+
+ghost use Rattle.std.specs.Prelude.{◌≡◌, ◌+◌, ◌*◌, ◌^◌, ◌<◌, ◌≤◌, length};
+ghost use Rattle.efi_map.specs.Descriptors.{bytes_of_descriptor, descriptor_at, e820_type, entry_of, has_attribute, is_free_kind, mirror_of, type_of_free};
+
+use bm_base::{FRAME_SIZE, Range};
+use byteorder::{ByteOrder, LittleEndian};
+use e820_model::{
+    E820_TYPE_ACPI, E820_TYPE_NVS, E820_TYPE_PMEM, E820_TYPE_RAM, E820_TYPE_RESERVED,
+    E820_TYPE_SOFT_RESERVED, E820_TYPE_UNUSABLE, Entry,
+};
+use std::marker::Model;
+
+/// Memory of the boot loader's code (`EfiLoaderCode`).
+const EFI_LOADER_CODE: u32 = 1;
+/// Memory of the boot loader's data (`EfiLoaderData`).
+const EFI_LOADER_DATA: u32 = 2;
+/// Memory of the firmware's code until its boot services end (`EfiBootServicesCode`).
+const EFI_BOOT_SERVICES_CODE: u32 = 3;
+/// Memory of the firmware's data until then (`EfiBootServicesData`).
+const EFI_BOOT_SERVICES_DATA: u32 = 4;
+/// Free memory (`EfiConventionalMemory`).
+const EFI_CONVENTIONAL_MEMORY: u32 = 7;
+/// Memory with errors (`EfiUnusableMemory`).
+const EFI_UNUSABLE_MEMORY: u32 = 8;
+/// ACPI's tables (`EfiACPIReclaimMemory`).
+const EFI_ACPI_RECLAIM_MEMORY: u32 = 9;
+/// Memory that ACPI's firmware keeps (`EfiACPIMemoryNVS`).
+const EFI_ACPI_MEMORY_NVS: u32 = 10;
+/// Memory that keeps its bytes without power (`EfiPersistentMemory`).
+const EFI_PERSISTENT_MEMORY: u32 = 14;
+
+/// It can be cached for reads and writes (`EFI_MEMORY_WB`).
+const EFI_MEMORY_WB: u64 = 0x8;
+/// The machine keeps it twice (`EFI_MEMORY_MORE_RELIABLE`).
+const EFI_MEMORY_MORE_RELIABLE: u64 = 0x1_0000;
+/// It is meant for a purpose of its own (`EFI_MEMORY_SP`).
+const EFI_MEMORY_SP: u64 = 0x4_0000;
+
+/// A descriptor of memory (`EFI_MEMORY_DESCRIPTOR`; UEFI, section 7.2.3).
+#[derive(Clone, Copy)]
+pub struct Descriptor {
+    /// Its type (`EFI_MEMORY_TYPE`).
+    pub kind: u32,
+    /// Its first address, in bytes.
+    pub base: u64,
+    /// Its number of pages of 4,096 bytes.
+    pub pages: u64,
+    /// Its attributes, a bit each.
+    pub attributes: u64,
+}
+
+impl Model for Descriptor {
+    ghost use Rattle.efi_map.specs.Descriptors.{Descriptor as AnyDescriptor};
+
+    ghost Value = { AnyDescriptor };
+
+    ghost view = { λ d. record { kind = d.kind; base = d.base; pages = d.pages; attributes = d.attributes } };
+
+    ghost inverse = { λ d. record { kind = d.kind; base = d.base; pages = d.pages; attributes = d.attributes } };
+}
+
+/// Whether memory of that type is free once the firmware's boot services have ended.
+fn is_free(kind: u32) -> bool
+    ensures { result ≡ is_free_kind kind }
+{
+    matches!(
+        kind,
+        EFI_LOADER_CODE
+            | EFI_LOADER_DATA
+            | EFI_BOOT_SERVICES_CODE
+            | EFI_BOOT_SERVICES_DATA
+            | EFI_CONVENTIONAL_MEMORY
+    )
+}
+
+/// The descriptor at the offset, in bytes.
+#[tactic(auto, unfolding(crate::specs::Descriptors::descriptor_at))]
+pub fn read_descriptor(bytes: &[u8], offset: usize) -> Descriptor
+    requires { offset + 40 ≤ length bytes.now }
+    ensures { result ≡ descriptor_at offset bytes.now }
+{
+    Descriptor {
+        kind: LittleEndian::read_u32(&bytes[offset..]),
+        base: LittleEndian::read_u64(&bytes[offset + 8..]),
+        pages: LittleEndian::read_u64(&bytes[offset + 24..]),
+        attributes: LittleEndian::read_u64(&bytes[offset + 32..]),
+    }
+}
+
+impl Descriptor {
+    ghost use Rattle.std.specs.Prelude.{SomeIff};
+
+    /// Its addresses; `None` exactly where their end exceeds 2^64 - 1.
+    pub fn range(self) -> Option<Range>
+        ensures { SomeIff result (self.base + 4096 * self.pages < 2 ^ 64) (bytes_of_descriptor self) }
+    {
+        Range::new(self.base, self.pages.checked_mul(FRAME_SIZE)?)
+    }
+
+    /// Whether it has the attribute.
+    fn has(self, attribute: u64) -> bool
+        ensures { result ≡ has_attribute attribute self }
+    {
+        self.attributes & attribute != 0
+    }
+
+    /// The type of memory that the kernel gives it (`do_add_efi_memmap`).
+    pub fn e820_type(self) -> u32
+        ensures { result ≡ e820_type self }
+    {
+        match self.kind {
+            kind if is_free(kind) => self.type_of_free(),
+            EFI_UNUSABLE_MEMORY => E820_TYPE_UNUSABLE,
+            EFI_ACPI_RECLAIM_MEMORY => E820_TYPE_ACPI,
+            EFI_ACPI_MEMORY_NVS => E820_TYPE_NVS,
+            EFI_PERSISTENT_MEMORY => E820_TYPE_PMEM,
+            _ => E820_TYPE_RESERVED,
+        }
+    }
+
+    /// The type of memory that is free once boot services have ended.
+    fn type_of_free(self) -> u32
+        ensures { result ≡ type_of_free self }
+    {
+        if self.has(EFI_MEMORY_SP) {
+            E820_TYPE_SOFT_RESERVED
+        } else if self.has(EFI_MEMORY_WB) {
+            E820_TYPE_RAM
+        } else {
+            E820_TYPE_RESERVED
+        }
+    }
+
+    /// Its entry; it ends in the address space.
+    pub fn entry(self) -> Entry
+        requires { self.base + 4096 * self.pages < 2 ^ 64 }
+        ensures { result ≡ entry_of self }
+    {
+        Entry {
+            addr: self.base,
+            size: self.pages * FRAME_SIZE,
+            kind: self.e820_type(),
+        }
+    }
+
+    /// Its whole frames, where the machine keeps them twice (`efi_find_mirror`) and it has some.
+    pub fn mirror(self) -> Option<Range>
+        requires { self.base + 4096 * self.pages < 2 ^ 64 }
+        ensures { result ≡ mirror_of self }
+    {
+        if !self.has(EFI_MEMORY_MORE_RELIABLE) {
+            return None;
+        }
+        self.range()?.whole_frames()
+    }
+}

@@ -1,0 +1,145 @@
+//! A file of descriptors: its header, its length, and what all of them say.
+
+ghost use Rattle.std.specs.Prelude.{◌≡◌, ◌≢◌, ℕ, ◌+◌, ◌*◌, ◌<◌, ◌≤◌, ◌^◌, length, map, IfOk, IfSome, IsErr, IsErrOf, IsOk, IsTrue, IsNone, SomeIff, None};
+ghost use Rattle.bm_base.specs.Answers.{Answers};
+ghost use Rattle.e820_model.specs.Claims.{EndInSpace};
+ghost use Rattle.efi_map.specs.Descriptors.{entry_of};
+ghost use Rattle.efi_map.specs.Map.{count_of, descriptors_from, descriptors_of, efi_of, far_among, has_header, has_length, mirrors_of, nth_descriptor, stride_of};
+
+use crate::descriptor::{Descriptor, read_descriptor};
+use bm_base::{Memory, Range};
+use byteorder::{ByteOrder, LittleEndian};
+use e820_model::Entry;
+use std::alloc::Global;
+
+const HEADER_BYTES: usize = 8;
+
+/// The bytes of a descriptor that are read; it may have more.
+const LEAST_STRIDE: usize = 40;
+
+const VERSION: u32 = 1;
+
+/// Why bytes are no EFI memory map. The first that holds is answered, in the order of this list.
+#[derive(Clone, Copy, Debug, PartialEq, Eq)]
+pub enum EfiFault {
+    /// There are fewer than 8 bytes, or a descriptor has fewer than 40 bytes or no multiple of 8, or the version isn't 1.
+    Header,
+    /// What follows the header isn't a whole number of descriptors.
+    Length,
+    /// The descriptor's address plus its bytes exceeds 2^64 - 1; the least such index, from 0.
+    TooFar { index: u32 },
+    /// The program's own memory ran out; only where the bytes have none of the other faults, and there are descriptors.
+    Memory,
+}
+
+impl From<Memory> for EfiFault {
+    ghost use Rattle.efi_map.specs.declared.efi.EfiFault.TheVariants as faults;
+
+    ghost from_gives = { λ _ fault. fault ≡ faults.Memory };
+
+    fn from(_error: Memory) -> EfiFault {
+        EfiFault::Memory
+    }
+}
+
+/// What the firmware's map says, each list in the order of its descriptors.
+#[derive(Debug, Drop)]
+pub struct EfiMap {
+    /// An entry for each descriptor; each ends in the address space.
+    pub entries: Vec<Entry>,
+    /// The whole frames of each descriptor whose memory the machine keeps twice; none is empty.
+    pub mirrors: Vec<Range>,
+}
+
+/// Reads a file of descriptors, of fewer than 2^32 bytes: the bytes of a descriptor (u32) at offset 0, the version of
+/// descriptors (u32) at 4, and the descriptors from 8 on.
+pub fn read_efi(alloc: Global, bytes: &[u8]) -> Result<EfiMap, EfiFault>
+    requires { length bytes.now < 2 ^ 32 }
+    ensures answers { Answers EfiFault.Memory (λ efi. record { entries = efi.entries.items; mirrors = efi.mirrors.items }) result (efi_of bytes.now) }
+    ensures memory { IsErrOf result EfiFault.Memory → IsOk (efi_of bytes.now) }
+    ensures some { IsErrOf result EfiFault.Memory → 0 < length (descriptors_of bytes.now) }
+    ensures space { IfOk result (λ efi. EndInSpace efi.entries.items) }
+{
+    if !is_map(bytes) {
+        return Err(EfiFault::Header);
+    }
+    let stride = LittleEndian::read_u32(bytes);
+    let count = whole_descriptors(bytes, stride).ok_or(EfiFault::Length)?;
+    if let Some(index) = find_far(bytes, stride, count) {
+        return Err(EfiFault::TooFar { index });
+    }
+    Ok(read_descriptors(alloc, bytes, stride, count)?)
+}
+
+/// Whether there is a whole header, of descriptors that can be read.
+fn is_map(bytes: &[u8]) -> bool
+    ensures { result ≡ has_header bytes.now }
+{
+    if bytes.len() < HEADER_BYTES {
+        return false;
+    }
+    let stride = LittleEndian::read_u32(bytes);
+    stride as usize >= LEAST_STRIDE
+        && stride % 8 == 0
+        && LittleEndian::read_u32(&bytes[4..]) == VERSION
+}
+
+/// The number of descriptors of `stride` bytes behind the header, where these are all that is there.
+fn whole_descriptors(bytes: &[u8], stride: u32) -> Option<u32>
+    requires header { 8 ≤ length bytes.now }
+    requires few { length bytes.now < 2 ^ 32 }
+    requires stride { stride ≡ stride_of bytes.now }
+    requires some { 0 < stride }
+    ensures count { SomeIff result (IsTrue (has_length bytes.now)) (count_of bytes.now) }
+    ensures whole { IfSome result (λ count. 8 + stride * count ≤ length bytes.now) }
+{
+    let data = (bytes.len() - HEADER_BYTES) as u32;
+    if data % stride != 0 {
+        return None;
+    }
+    Some(data / stride)
+}
+
+/// The descriptor of that index, from 0.
+fn read_nth(bytes: &[u8], stride: u32, index: u32) -> Descriptor
+    requires stride { 40 ≤ stride }
+    requires whole { 8 + stride * index + stride ≤ length bytes.now }
+    ensures { result ≡ nth_descriptor stride index bytes.now }
+{
+    read_descriptor(bytes, HEADER_BYTES + stride as usize * index as usize)
+}
+
+/// The least index of a descriptor whose end exceeds 2^64 - 1.
+fn find_far(bytes: &[u8], stride: u32, count: u32) -> Option<u32>
+    requires stride { 40 ≤ stride }
+    requires whole { 8 + stride * count ≤ length bytes.now }
+    ensures { result ≡ far_among 0 (descriptors_from stride 0 count bytes.now) }
+{
+    for index in 0..count {
+        if read_nth(bytes, stride, index).range().is_none() {
+            return Some(index);
+        }
+    }
+    None
+}
+
+/// What all descriptors say; none goes too far.
+fn read_descriptors(alloc: Global, bytes: &[u8], stride: u32, count: u32) -> Result<EfiMap, Memory>
+    requires stride { 40 ≤ stride }
+    requires whole { 8 + stride * count ≤ length bytes.now }
+    requires near { far_among 0 (descriptors_from stride 0 count bytes.now) ≡ None }
+    ensures entries { IfOk result (λ efi. efi.entries.items ≡ map entry_of (descriptors_from stride 0 count bytes.now)) }
+    ensures mirrors { IfOk result (λ efi. efi.mirrors.items ≡ mirrors_of (descriptors_from stride 0 count bytes.now)) }
+    ensures some { IsErr result → 0 < count }
+{
+    let mut entries = Vec::new(alloc);
+    let mut mirrors = Vec::new(alloc);
+    for index in 0..count {
+        let descriptor = read_nth(bytes, stride, index);
+        entries.push(descriptor.entry())?;
+        if let Some(range) = descriptor.mirror() {
+            mirrors.push(range)?;
+        }
+    }
+    Ok(EfiMap { entries, mirrors })
+}
