@@ -1,5 +1,5 @@
 -- What small files come to, computed, and how answers stand to that.
-use Rattle.std.proofs.Common.{◌≡◌, ℕ, ◌-◌, true, if◌then◌else◌, List, [], ◌∷◌, ◌++◌, codes, Option, Some, None, Ok, Err, refl, arith}
+use Rattle.std.proofs.Common.{◌≡◌, ℕ, ◌+◌, ◌*◌, ◌-◌, true, false, if◌then◌else◌, List, [], ◌∷◌, ◌++◌, codes, Option, Some, None, Ok, Err, refl, inl, inr, arith}
 use Rattle.std.specs.Prelude.{Result, replicate}
 use Rattle.std.specs.Str.{bytes_eq}
 use Rattle.e820_model.specs.declared.entry.Entry.{Entry}
@@ -9,6 +9,7 @@ use Rattle.e820_table.specs.Entries.{entry_at}
 use Rattle.e820_table.specs.Initrd.{initrd_of, is_initrd_far}
 use Rattle.boot_options.specs.Crash.{no_crash}
 use Rattle.bm_base.specs.Extent.{Extent}
+use Rattle.boot_model.specs.Boot.{Given, begun, no_options}
 use Rattle.boot_options.specs.declared.fault.OptionFault.TheVariants as options
 use Rattle.srat_reader.specs.declared.table.SratFault.TheVariants as srat
 use Rattle.srat_reader.specs.Entries.{is_whole, said_at}
@@ -22,10 +23,16 @@ use Rattle.boot_inputs.specs.declared.refusal.Refusal.{Refusal}
 use Rattle.boot_inputs.specs.declared.refusal.Refusal.TheVariants as refusals
 use Rattle.boot_inputs.specs.declared.refusal.InputError.TheVariants as errors
 use Rattle.boot_inputs.specs.Answers.{ComesTo, Fits, FitsRefusal, Gives, HasCause, IsCaused, IsOf, Passes, RefusalHasCause, RoseAt, input_of}
-use Rattle.boot_inputs.specs.Faults.{fault_of_extension, fault_of_option, fault_of_script, fault_of_srat, fault_of_zero_page, misread_of}
-use Rattle.boot_inputs.specs.Input.{limit_of, place, word_for}
-use Rattle.boot_inputs.specs.Inputs.{Held, Named, file_step, inputs_of, or_faulty, or_unread, step_if, within}
-use Rattle.boot_inputs.specs.Said.{command_line_said, extension_said, fault_told, lines_told, no_options, no_page, script_said, srat_said, table_told, unless_fault, zero_page_said}
+use Rattle.boot_inputs.specs.CommandLine.{command_line, fault_of_option, options_said, options_take, options_told, put_options}
+use Rattle.boot_inputs.specs.Extension.{entries_said, extension_file, fault_of_extension, put_extension}
+use Rattle.boot_inputs.specs.Faults.{misread_of}
+use Rattle.boot_inputs.specs.File.{File, unless_fault, with_value}
+use Rattle.boot_inputs.specs.Input.{place, word_for}
+use Rattle.boot_inputs.specs.Inputs.{Held, Named, file_step, given_in, input_files, inputs_of, named_step, or_faulty, or_unread, step_if, takes_held, takes_memory, within}
+use Rattle.boot_inputs.specs.Reading.{IsIn, WantsMemory, are_behind, ascend}
+use Rattle.boot_inputs.specs.Script.{fault_of_script, lines_said, lines_take, lines_told, put_lines, script_file}
+use Rattle.boot_inputs.specs.Srat.{fault_of_srat, put_domains, srat_file, table_said, table_takes, table_told}
+use Rattle.boot_inputs.specs.ZeroPage.{page_said, put_page, zero_page}
 
 -- a zero page of so many entries, of which these 40 bytes are the first two
 abbrev page : ℕ → List ℕ → List ℕ
@@ -79,44 +86,36 @@ held name =
     else None)))))))))
 
 abbrev naming : List ℕ → Option (List ℕ) → Option (List ℕ) → Named
-naming zero_page ext command_line inputs.ZeroPage = Some zero_page
-naming zero_page ext command_line inputs.Extension = ext
-naming zero_page ext command_line inputs.CommandLine = command_line
-naming zero_page ext command_line inputs.Srat = None
-naming zero_page ext command_line inputs.Script = None
+naming page ext line inputs.ZeroPage = Some page
+naming page ext line inputs.Extension = ext
+naming page ext line inputs.CommandLine = line
+naming page ext line other = None
 
 -- what bytes say
-page_said : zero_page_said (page 2 ram_and_reserved) ≡ Ok (record { entries = ram ∷ reserved ∷ []; initrd = None })
+page_is_said : page_said (page 2 ram_and_reserved) ≡ Ok (record { entries = ram ∷ reserved ∷ []; initrd = None })
 unfolding entry_at initrd_of is_initrd_far
-page_said = refl
+page_is_said = refl
 
-no_page_said : (no_page.entries ≡ []) × (no_page.initrd ≡ None)
-no_page_said = (refl, refl)
-
-short_page_said : zero_page_said (replicate 4095 0) ≡ Err faults.WrongLength
+short_page_said : page_said (replicate 4095 0) ≡ Err (faults.ZeroPage zero.WrongLength)
 short_page_said = refl
 
-extension_is_said : extension_said one_entry ≡ Ok (acpi ∷ [])
+extension_is_said : entries_said one_entry ≡ Ok (acpi ∷ [])
 unfolding entry_at
 extension_is_said = refl
 
-bad_extension_said : extension_said (replicate 15 0) ≡ Err faults.Header
+bad_extension_said : entries_said (replicate 15 0) ≡ Err faults.Header
 bad_extension_said = refl
 
-line_said : (command_line_said (codes "quiet numa=off\n") ≡ Ok (record { edits = []; crash = no_crash; numa_off = true }))
-    × (command_line_said (codes "numa=on") ≡ Err (faults.BadNuma 1))
+line_said : (options_said (codes "quiet numa=off\n") ≡ Ok (record { edits = []; crash = no_crash; numa_off = true }))
+    × (options_said (codes "numa=on") ≡ Err (faults.BadNuma 1))
 line_said = (refl, refl)
 
 -- the parts of those definitions
-unless_examples : (unless_fault {A = ℕ} None 7 ≡ Ok 7) × (unless_fault {A = ℕ} (Some faults.TooFew) 7 ≡ Err faults.TooFew)
+unless_examples : (unless_fault {A = ℕ} None 7 ≡ Ok 7) × (unless_fault {A = ℕ} (Some faults.Header) 7 ≡ Err faults.Header)
 unless_examples = (refl, refl)
 
-told_examples : (fault_told (Ok no_options) ≡ Ok no_options) × (fault_told (Err options.OpenQuote) ≡ Err faults.OpenQuote)
+told_examples : (options_told (Ok no_options) ≡ Ok no_options) × (options_told (Err options.OpenQuote) ≡ Err faults.OpenQuote)
 told_examples = (refl, refl)
-
-zero_examples : (fault_of_zero_page zero.TooFew ≡ faults.TooFew) × (fault_of_zero_page (zero.EntryTooFar 3) ≡ faults.EntryTooFar 3)
-    × (fault_of_zero_page zero.InitrdTooFar ≡ faults.InitrdTooFar)
-zero_examples = (refl, refl, refl)
 
 ext_examples : (fault_of_extension extension.ExtHeader ≡ Some faults.Header) × (fault_of_extension extension.Memory ≡ None)
 ext_examples = (refl, refl)
@@ -133,11 +132,11 @@ table_examples : (table_told (Ok processor_alone) ≡ Ok (Some processor_alone))
     × (table_told (Err (srat.EntryLength 88)) ≡ Err (faults.EntryLength 88))
 table_examples = (refl, refl)
 
-table_said : (srat_said one_processor ≡ Ok (Some processor_alone)) × (srat_said [] ≡ Err faults.Short)
+table_is_said : (table_said one_processor ≡ Ok (Some processor_alone)) × (table_said [] ≡ Err faults.Short)
 unfolding offsets_from is_whole said_at
-table_said = (refl, refl)
+table_is_said = (refl, refl)
 
-lines_examples : (lines_told (Err (script.BadNumber 4)) ≡ Err (faults.BadNumber 4)) × (script_said [] ≡ Ok [])
+lines_examples : (lines_told (Err (script.BadNumber 4)) ≡ Err (faults.BadNumber 4)) × (lines_said [] ≡ Ok [])
 lines_examples = (refl, refl)
 
 option_examples : (fault_of_option (options.BadMem 2) ≡ Some (faults.BadMem 2)) × (fault_of_option options.Memory ≡ None)
@@ -150,8 +149,9 @@ misread_examples = (refl, refl)
 limit_examples : (within 3 (1 ∷ 2 ∷ 3 ∷ []) ≡ Ok (1 ∷ 2 ∷ 3 ∷ [])) × (within 2 (1 ∷ 2 ∷ 3 ∷ []) ≡ Err faults.TooLong)
 limit_examples = (refl, refl)
 
-limits : (limit_of inputs.ZeroPage ≡ 4096) × (limit_of inputs.Extension ≡ 61456) × (limit_of inputs.Srat ≡ 0x100000)
-limits = (refl, refl, refl)
+limits : (zero_page.limit ≡ 4096) × (extension_file.limit ≡ 16 + 20 * 3072) × (command_line.limit ≡ 4096) × (srat_file.limit ≡ 0x100000)
+    × (script_file.limit ≡ 0x100000)
+limits = (refl, refl, refl, refl, refl)
 
 faulty_examples : (or_faulty {A = ℕ} inputs.Extension (Ok 7) ≡ Ok 7)
     × (or_faulty {A = ℕ} inputs.Extension (Err faults.Length) ≡ Err (refusals.Faulty inputs.Extension faults.Length))
@@ -161,105 +161,140 @@ unread_examples : (or_unread {A = List ℕ} inputs.ZeroPage None (λ bytes. Ok b
     × (or_unread inputs.ZeroPage (Some (codes "a")) (λ bytes. Ok bytes) ≡ Ok (codes "a"))
 unread_examples = (refl, refl)
 
-file_examples : (file_step held inputs.CommandLine command_line_said (codes "cmd")
-    ≡ Ok (record { edits = []; crash = no_crash; numa_off = true }))
-    × (file_step held inputs.CommandLine command_line_said (codes "no") ≡ Err (refusals.Unread inputs.CommandLine))
-file_examples = (refl, refl)
-
-long_page : file_step held inputs.ZeroPage zero_page_said (codes "long") ≡ Err (refusals.Faulty inputs.ZeroPage faults.TooLong)
-long_page = refl
-
-if_examples : (step_if held inputs.Extension [] extension_said None ≡ Ok [])
-    × (step_if held inputs.Extension [] extension_said (Some (codes "bad")) ≡ Err (refusals.Faulty inputs.Extension faults.Header))
-if_examples = (refl, refl)
-
 -- where the kernel lies
 abbrev image : Extent
 image = record { base = 0x1000000; size = 0x2000000 }
 
+abbrev start : Given
+start = begun image
+
+-- what is said is put where it belongs, and nothing else changes; a fault is handed on
+put_examples : (with_value put_lines start (Ok []) ≡ Ok start) × (with_value put_extension start (Err faults.Header) ≡ Err faults.Header)
+    × ((put_extension (acpi ∷ []) start).extension ≡ acpi ∷ []) × ((put_page (record { entries = ram ∷ []; initrd = None }) start).extension
+    ≡ [])
+    × ((put_options no_options start).entries ≡ []) × ((put_domains (Some processor_alone) start).domains ≡ Some processor_alone)
+put_examples = (refl, refl, refl, refl, refl, refl)
+
+-- the step of one file: read, unread, too long, and not named
+step_examples : (named_step held command_line start (codes "cmd") ≡ Ok (record start { options = record no_options { numa_off = true } }))
+    × (named_step held command_line start (codes "no") ≡ Err (refusals.Unread inputs.CommandLine))
+    × (named_step held zero_page start (codes "long") ≡ Err (refusals.Faulty inputs.ZeroPage faults.TooLong))
+step_examples = (refl, refl, refl)
+
+if_examples : (step_if held extension_file start None ≡ Ok start)
+    × (step_if held extension_file start (Some (codes "bad")) ≡ Err (refusals.Faulty inputs.Extension faults.Header))
+if_examples = (refl, refl)
+
+named_examples : (file_step held (naming (codes "zp") None None) extension_file start ≡ Ok start)
+    × (file_step held (naming (codes "zp") (Some (codes "no")) None) extension_file start ≡ Err (refusals.Unread inputs.Extension))
+named_examples = (refl, refl)
+
+-- files one after another: none, and two of which the first is refused
+list_examples : (given_in held (naming (codes "zp") None None) [] start ≡ Ok start)
+    × (given_in held (naming (codes "zp") (Some (codes "no")) (Some (codes "on"))) (extension_file ∷ command_line ∷ []) start
+    ≡ Err (refusals.Unread inputs.Extension))
+list_examples = (refl, refl)
+
+-- a script beside the zero page alone
+abbrev with_script : List ℕ → Named
+with_script script inputs.ZeroPage = Some (codes "zp")
+with_script script inputs.Script = Some script
+with_script script other = None
+
+-- for which bytes memory is taken: never for a zero page; for an entry, an edit or a range, a processor, and a line that asks for something
+takes_examples : (zero_page.takes [] ≡ false) × (extension_file.takes one_entry ≡ true) × (command_line.takes (codes "quiet") ≡ false)
+    × (script_file.takes (codes "# no act") ≡ false) × (script_file.takes (codes "free 7") ≡ true)
+unfolding entry_at
+takes_examples = (refl, refl, refl, refl, refl)
+
+options_take_examples : (options_take (Ok no_options) ≡ false) × (options_take (Err options.OpenQuote) ≡ false)
+options_take_examples = (refl, refl)
+
+table_takes_examples : (table_takes (Ok processor_alone) ≡ true) × (table_takes (Ok (record { processors = []; blocks = [] })) ≡ false)
+table_takes_examples = (refl, refl)
+
+lines_take_examples : (lines_take (Ok []) ≡ false) × (lines_take (Err script.Memory) ≡ false)
+lines_take_examples = (refl, refl)
+
+-- and by a file that is named and held
+held_takes : (takes_held script_file (held (codes "free")) ≡ true) × (takes_held script_file None ≡ false)
+held_takes = (refl, refl)
+
+memory_takes : (takes_memory held (with_script (codes "free")) script_file ≡ true)
+    × (takes_memory held (with_script (codes "free")) extension_file ≡ false)
+memory_takes = (refl, refl)
+
+-- the files ascend, and each is one of them
+order_examples : (ascend input_files ≡ true) × (ascend (command_line ∷ extension_file ∷ []) ≡ false)
+    × (are_behind inputs.Srat (script_file ∷ []) ≡ true) × (are_behind inputs.Srat (srat_file ∷ []) ≡ false)
+order_examples = (refl, refl, refl, refl)
+
+in_examples : IsIn extension_file (zero_page ∷ extension_file ∷ []) × (IsIn extension_file [] → ⊥)
+in_examples = (inr (inl refl), λ none. none)
+
+-- the script wants memory where no file is refused; nothing does where the zero page is
+wants_examples : WantsMemory held (with_script (codes "free")) (script_file ∷ []) start
+    × (WantsMemory held (with_script (codes "free")) [] start → ⊥)
+wants_examples = ((script_file, inl refl, refl, tt), λ wants. wants.1)
+
 -- the inputs in their order: of several faults, the first input's
-all_inputs : inputs_of held (naming (codes "zp") (Some (codes "ext")) (Some (codes "cmd"))) image
-    ≡ Ok (record {
+all_inputs : inputs_of held (naming (codes "zp") (Some (codes "ext")) (Some (codes "cmd"))) start
+    ≡ Ok (record start {
       entries = ram ∷ reserved ∷ [];
-      initrd = None;
       extension = acpi ∷ [];
       options = record { edits = []; crash = no_crash; numa_off = true };
-      domains = None;
-      kernel = image;
-      lines = [];
     })
 unfolding entry_at initrd_of is_initrd_far
 all_inputs = refl
 
--- a script beside the zero page alone: its lines, its first fault, and one that isn't there
-abbrev with_script : List ℕ → Named
-with_script script inputs.ZeroPage = Some (codes "zp")
-with_script script inputs.Extension = None
-with_script script inputs.CommandLine = None
-with_script script inputs.Srat = None
-with_script script inputs.Script = Some script
-
-lines_are_given : inputs_of held (with_script (codes "free")) image
-    ≡ Ok (record {
-      entries = ram ∷ reserved ∷ [];
-      initrd = None;
-      extension = [];
-      options = no_options;
-      domains = None;
-      kernel = image;
-      lines = record { number = 2; act = acts.Free 7 } ∷ [];
-    })
+lines_are_given : inputs_of held (with_script (codes "free")) start
+    ≡ Ok (record start { entries = ram ∷ reserved ∷ []; lines = record { number = 2; act = acts.Free 7 } ∷ [] })
 unfolding entry_at initrd_of is_initrd_far
 lines_are_given = refl
 
-script_is_faulty : inputs_of held (with_script (codes "line")) image ≡ Err (refusals.Faulty inputs.Script (faults.BadLine 1))
+script_is_faulty : inputs_of held (with_script (codes "line")) start ≡ Err (refusals.Faulty inputs.Script (faults.BadLine 1))
 unfolding entry_at is_initrd_far
 script_is_faulty = refl
 
-script_goes_last : inputs_of held (with_script (codes "no")) image ≡ Err (refusals.Unread inputs.Script)
+script_goes_last : inputs_of held (with_script (codes "no")) start ≡ Err (refusals.Unread inputs.Script)
 unfolding entry_at is_initrd_far
 script_goes_last = refl
 
 -- a table of domains and a script beside the zero page: both are given, and the table goes first
 abbrev with_both : List ℕ → List ℕ → Named
 with_both srat script inputs.ZeroPage = Some (codes "zp")
-with_both srat script inputs.Extension = None
-with_both srat script inputs.CommandLine = None
 with_both srat script inputs.Srat = Some srat
 with_both srat script inputs.Script = Some script
+with_both srat script other = None
 
-both_are_given : inputs_of held (with_both (codes "srat") (codes "free")) image
-    ≡ Ok (record {
+both_are_given : inputs_of held (with_both (codes "srat") (codes "free")) start
+    ≡ Ok (record start {
       entries = ram ∷ reserved ∷ [];
-      initrd = None;
-      extension = [];
-      options = no_options;
       domains = Some processor_alone;
-      kernel = image;
       lines = record { number = 2; act = acts.Free 7 } ∷ [];
     })
 unfolding entry_at initrd_of is_initrd_far offsets_from is_whole said_at
 both_are_given = refl
 
-srat_goes_before_the_script : inputs_of held (with_both (codes "bad") (codes "no")) image
+srat_goes_before_the_script : inputs_of held (with_both (codes "bad") (codes "no")) start
     ≡ Err (refusals.Faulty inputs.Srat faults.Short)
 unfolding entry_at is_initrd_far
 srat_goes_before_the_script = refl
 
-page_goes_first : inputs_of held (naming (codes "short") (Some (codes "bad")) (Some (codes "on"))) image
-    ≡ Err (refusals.Faulty inputs.ZeroPage faults.WrongLength)
+page_goes_first : inputs_of held (naming (codes "short") (Some (codes "bad")) (Some (codes "on"))) start
+    ≡ Err (refusals.Faulty inputs.ZeroPage (faults.ZeroPage zero.WrongLength))
 page_goes_first = refl
 
-fault_goes_before_a_missing_file : inputs_of held (naming (codes "short") (Some (codes "no")) None) image
-    ≡ Err (refusals.Faulty inputs.ZeroPage faults.WrongLength)
+fault_goes_before_a_missing_file : inputs_of held (naming (codes "short") (Some (codes "no")) None) start
+    ≡ Err (refusals.Faulty inputs.ZeroPage (faults.ZeroPage zero.WrongLength))
 fault_goes_before_a_missing_file = refl
 
-extension_goes_second : inputs_of held (naming (codes "zp") (Some (codes "bad")) (Some (codes "no"))) image
+extension_goes_second : inputs_of held (naming (codes "zp") (Some (codes "bad")) (Some (codes "no"))) start
     ≡ Err (refusals.Faulty inputs.Extension faults.Header)
 unfolding entry_at is_initrd_far
 extension_goes_second = refl
 
-line_goes_last : inputs_of held (naming (codes "zp") (Some (codes "ext")) (Some (codes "no"))) image
+line_goes_last : inputs_of held (naming (codes "zp") (Some (codes "ext")) (Some (codes "no"))) start
     ≡ Err (refusals.Unread inputs.CommandLine)
 unfolding entry_at is_initrd_far
 line_goes_last = refl
@@ -280,7 +315,7 @@ comes_to_it : ComesTo {Y = List ℕ} inputs.Extension (Err (refusals.Unread inpu
     × ComesTo {Y = List ℕ} inputs.Extension (Ok [])
 comes_to_it = (omega arith, tt)
 
-never_comes_to_it : ComesTo {Y = List ℕ} inputs.Extension (Err (refusals.Faulty inputs.ZeroPage faults.TooFew)) → ⊥
+never_comes_to_it : ComesTo {Y = List ℕ} inputs.Extension (Err (refusals.Faulty inputs.ZeroPage (faults.ZeroPage zero.TooFew))) → ⊥
 never_comes_to_it comes = omega (arith, comes)
 
 -- the work goes beyond the extension's file where the command line is at fault; not where it is itself
@@ -293,12 +328,12 @@ never_goes_beyond_it passes = omega (arith, passes)
 
 -- how an answer fits what is said
 abbrev few : Result (List ℕ) Refusal
-few = Err (refusals.Faulty inputs.ZeroPage faults.TooFew)
+few = Err (refusals.Faulty inputs.ZeroPage (faults.ZeroPage zero.TooFew))
 
-refusal_fits : FitsRefusal (refusals.Faulty inputs.ZeroPage faults.TooFew) few × (FitsRefusal (refusals.Unread inputs.Extension) few → ⊥)
+refusal_fits : FitsRefusal (refusals.Faulty inputs.ZeroPage (faults.ZeroPage zero.TooFew)) few × (FitsRefusal (refusals.Unread inputs.Extension) few → ⊥)
 refusal_fits = (refl, λ comes. omega (arith, comes))
 
-error_fits : Fits errors.Memory few × (Fits (errors.Refused (refusals.Faulty inputs.ZeroPage faults.TooMany)) few → ⊥)
+error_fits : Fits errors.Memory few × (Fits (errors.Refused (refusals.Faulty inputs.ZeroPage (faults.ZeroPage zero.TooMany))) few → ⊥)
 error_fits = (tt, λ same. cc same)
 
 gives_examples : Gives {X = ℕ} (λ n. codes "ab") (Ok 7) (Ok (codes "ab")) × (Gives {X = ℕ} (λ n. codes "ab") (Ok 7) few → ⊥)

@@ -1,4 +1,3 @@
 mod Examples
 mod FileLaws
-mod PassLaws
-mod RefusedLaws
+mod ReadingLaws

@@ -1,16 +1,19 @@
 -- What the input files give, from their names and from what each name holds.
-use Rattle.std.specs.Prelude.{ℕ, List, [], length, Option, Some, None, Result, Ok, Err, nat_lt, if◌then◌else◌}
-use Rattle.bm_base.specs.Extent.{Extent}
+use Rattle.std.specs.Prelude.{ℕ, Bool, false, List, [], ◌∷◌, length, Option, Some, None, Result, Ok, Err, nat_lt, if◌then◌else◌}
+use Rattle.std.specs.Option.{option_and_then}
 use Rattle.bm_base.specs.ResultSteps.{◌>>=◌, with_error}
 use Rattle.boot_model.specs.Boot.{Given}
 use Rattle.boot_inputs.specs.declared.fault.Fault.{Fault}
 use Rattle.boot_inputs.specs.declared.fault.Fault.TheVariants as faults
 use Rattle.boot_inputs.specs.declared.input.Input.{Input}
-use Rattle.boot_inputs.specs.declared.input.Input.TheVariants as inputs
 use Rattle.boot_inputs.specs.declared.refusal.Refusal.{Refusal}
 use Rattle.boot_inputs.specs.declared.refusal.Refusal.TheVariants as refusals
-use Rattle.boot_inputs.specs.Input.{limit_of}
-use Rattle.boot_inputs.specs.Said.{zero_page_said, extension_said, command_line_said, srat_said, script_said, no_options, no_page}
+use Rattle.boot_inputs.specs.CommandLine.{command_line}
+use Rattle.boot_inputs.specs.Extension.{extension_file}
+use Rattle.boot_inputs.specs.File.{File}
+use Rattle.boot_inputs.specs.Script.{script_file}
+use Rattle.boot_inputs.specs.Srat.{srat_file}
+use Rattle.boot_inputs.specs.ZeroPage.{zero_page}
 
 -- what each name holds
 abbrev pub Held : Type 0
@@ -33,29 +36,36 @@ abbrev pub or_unread : {A : Type 0} → Input → Option (List ℕ) → (List �
 or_unread input None step = Err (refusals.Unread input)
 or_unread input (Some bytes) step = step bytes
 
--- what the file of that name gives, whose bytes say `said`
-abbrev pub file_step : {A : Type 0} → Held → Input → (List ℕ → Result A Fault) → List ℕ → Result A Refusal
-file_step held input said name = or_unread input (held name) (λ bytes. or_faulty input (within (limit_of input) bytes >>= said))
+-- what the file of that name makes of what is given before it
+abbrev pub named_step : Held → File → Given → List ℕ → Result Given Refusal
+named_step held file given name =
+    or_unread file.input (held name) (λ bytes. or_faulty file.input (within file.limit bytes >>= λ read. file.says read given))
 
--- the same where a file is named, and else what there is without one
-abbrev pub step_if : {A : Type 0} → Held → Input → A → (List ℕ → Result A Fault) → Option (List ℕ) → Result A Refusal
-step_if held input without said None = Ok without
-step_if held input without said (Some name) = file_step held input said name
+-- the same where a file is named; without one nothing is added
+abbrev pub step_if : Held → File → Given → Option (List ℕ) → Result Given Refusal
+step_if held file given None = Ok given
+step_if held file given (Some name) = named_step held file given name
 
--- the inputs in their order, of which the first refusal is the answer; where the kernel lies is said beside them
-abbrev pub inputs_of : Held → Named → Extent → Result Given Refusal
-inputs_of held named kernel = do
-  page ← step_if held inputs.ZeroPage no_page zero_page_said (named inputs.ZeroPage)
-  extension ← step_if held inputs.Extension [] extension_said (named inputs.Extension)
-  options ← step_if held inputs.CommandLine no_options command_line_said (named inputs.CommandLine)
-  domains ← step_if held inputs.Srat None srat_said (named inputs.Srat)
-  lines ← step_if held inputs.Script [] script_said (named inputs.Script)
-  Ok (record {
-    entries = page.entries;
-    initrd = page.initrd;
-    extension = extension;
-    options = options;
-    domains = domains;
-    kernel = kernel;
-    lines = lines;
-  })
+abbrev pub file_step : Held → Named → File → Given → Result Given Refusal
+file_step held named file given = step_if held file given (named file.input)
+
+-- files one after another, of which the first refusal is the answer
+abbrev pub given_in : Held → Named → List File → Given → Result Given Refusal
+given_in held named [] given = Ok given
+given_in held named (file ∷ files) given = file_step held named file given >>= given_in held named files
+
+-- whether memory is taken for what the file holds
+abbrev pub takes_held : File → Option (List ℕ) → Bool
+takes_held file None = false
+takes_held file (Some bytes) = file.takes bytes
+
+abbrev pub takes_memory : Held → Named → File → Bool
+takes_memory held named file = takes_held file (option_and_then held (named file.input))
+
+-- the input files in the order of work
+abbrev pub input_files : List File
+input_files = zero_page ∷ extension_file ∷ command_line ∷ srat_file ∷ script_file ∷ []
+
+-- what they make of what is given by no file
+abbrev pub inputs_of : Held → Named → Given → Result Given Refusal
+inputs_of held named begun = given_in held named input_files begun

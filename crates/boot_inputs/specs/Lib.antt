@@ -1,5 +1,11 @@
 pub mod Answers
+pub mod CommandLine
+pub mod Extension
 pub mod Faults
+pub mod File
 pub mod Input
 pub mod Inputs
-pub mod Said
+pub mod Reading
+pub mod Script
+pub mod Srat
+pub mod ZeroPage

@@ -1,60 +1,55 @@
-//! The command line of the kernel as an input. Nothing of the line goes on but its options, so a boot without a
-//! line is that of a line without words.
+//! The command line of the kernel as an input. Nothing of the line goes on but its options.
 
-ghost use Rattle.std.specs.Prelude.{◌≡◌, IfOk, IsErrOf, IsOkAnd};
+ghost use Rattle.std.specs.Prelude.{◌≡◌, ◌≤◌, length, IsErrOf, IsOk, IsTrue};
 ghost use Rattle.bm_base.specs.Answers.{Answers};
 ghost use Rattle.bm_base.specs.ResultSteps.{with_error};
-ghost use Rattle.e820_model.specs.Claims.{HaveTypes};
-ghost use Rattle.boot_options.specs.Options.{Chosen, WantsMemory, chosen};
-ghost use Rattle.boot_inputs.specs.Said.{command_line_said, no_options};
-ghost use Rattle.boot_inputs.specs.declared.input.Input.TheVariants as inputs;
+ghost use Rattle.boot_model.specs.View.{inputs_view};
+ghost use Rattle.boot_inputs.specs.CommandLine.{command_line, fault_of_option};
 
-use crate::fault::{Misread, fault_of_option};
+use crate::fault::{Fault, Misread};
 use crate::input::Input;
 use crate::reader::Reader;
-use boot_options::{CrashOption, Options, read_options};
+use boot_model::Inputs;
+use boot_options::{OptionFault, read_options};
 use std::alloc::Global;
 
-/// Reads a command line; where none is named it has no words.
+/// Reads a command line.
 pub struct CommandLines;
 
 impl Reader for CommandLines {
-    type Value = Options;
-
-    ghost Seen = { Chosen };
-
-    ghost seen = { chosen };
-
-    ghost said = { command_line_said };
-
-    ghost takes_memory = { WantsMemory };
-
-    ghost without = { no_options };
-
-    ghost input = { inputs.CommandLine };
-
-    ghost sound = { λ options. HaveTypes options.edits.items };
+    ghost file = { command_line };
 
     fn input() -> Input {
         Input::CommandLine
     }
 
-    fn read(alloc: Global, bytes: &[u8]) -> Result<Options, Misread> {
+    fn limit() -> u64 {
+        4096
+    }
+
+    fn read(alloc: Global, bytes: &[u8], inputs: &mut Inputs) -> Result<(), Misread> {
         match read_options(alloc, bytes) {
-            Ok(options) => Ok(options),
+            Ok(options) => {
+                inputs.options = options;
+                Ok(())
+            }
             Err(fault) => Err(Misread::of(fault_of_option(fault))),
         }
     }
+}
 
-    fn without(alloc: Global) -> Options {
-        Options {
-            edits: Vec::new(alloc),
-            crash: CrashOption {
-                plain: None,
-                high: None,
-                low: None,
-            },
-            numa_off: false,
-        }
+/// The fault of a command line; none for want of memory.
+fn fault_of_option(fault: OptionFault) -> Option<Fault>
+    ensures { result ≡ fault_of_option fault }
+{
+    match fault {
+        OptionFault::TooLong => Some(Fault::LineTooLong),
+        OptionFault::OpenQuote => Some(Fault::OpenQuote),
+        OptionFault::BadMem { word } => Some(Fault::BadMem { word }),
+        OptionFault::BadMemmap { word } => Some(Fault::BadMemmap { word }),
+        OptionFault::BadCrash { word } => Some(Fault::BadCrash { word }),
+        OptionFault::UserMapInvalid { word } => Some(Fault::UserMapInvalid { word }),
+        OptionFault::BadNuma { word } => Some(Fault::BadNuma { word }),
+        OptionFault::Memory => None,
     }
 }

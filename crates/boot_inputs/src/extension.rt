@@ -1,52 +1,54 @@
 //! The E820 extension as an input. The boot loader hands it over apart from the zero page, whose entries it goes
 //! on with (`setup_data`); so it is a file of its own, with its own limit and its own faults.
 
-ghost use Rattle.std.specs.Prelude.{◌≡◌, ◌<◌, List, [], length, IfOk, IsErrOf, IsOkAnd};
+ghost use Rattle.std.specs.Prelude.{◌≡◌, ◌≤◌, length, IsErrOf, IsOk, IsTrue};
 ghost use Rattle.bm_base.specs.Answers.{Answers};
 ghost use Rattle.bm_base.specs.ResultSteps.{with_error};
-ghost use Rattle.e820_model.specs.Claims.{EndInSpace};
-ghost use Rattle.e820_model.specs.declared.entry.Entry.{Entry as AnyEntry};
-ghost use Rattle.boot_inputs.specs.Said.{extension_said};
-ghost use Rattle.boot_inputs.specs.declared.input.Input.TheVariants as inputs;
+ghost use Rattle.boot_model.specs.View.{inputs_view};
+ghost use Rattle.boot_inputs.specs.Extension.{extension_file, fault_of_extension};
 
-use crate::fault::{Misread, fault_of_extension};
+use crate::fault::{Fault, Misread};
 use crate::input::Input;
 use crate::reader::Reader;
-use e820_table::{Entry, read_ext};
+use boot_model::Inputs;
+use e820_table::{ExtFault, read_ext};
 use std::alloc::Global;
 
-/// Reads an E820 extension; where none is named there are no entries.
+/// Reads an E820 extension.
 pub struct Extensions;
 
 impl Reader for Extensions {
-    type Value = Vec<Entry>;
-
-    ghost Seen = { List AnyEntry };
-
-    ghost seen = { λ entries. entries.items };
-
-    ghost said = { extension_said };
-
-    ghost takes_memory = { λ entries. 0 < length entries };
-
-    ghost without = { [] };
-
-    ghost input = { inputs.Extension };
-
-    ghost sound = { λ entries. EndInSpace entries.items };
+    ghost file = { extension_file };
 
     fn input() -> Input {
         Input::Extension
     }
 
-    fn read(alloc: Global, bytes: &[u8]) -> Result<Vec<Entry>, Misread> {
+    // The most entries are 3,072, which with the 128 of a zero page are as many as the kernel's table holds
+    // (`E820_MAX_ENTRIES`).
+    fn limit() -> u64 {
+        61_456
+    }
+
+    fn read(alloc: Global, bytes: &[u8], inputs: &mut Inputs) -> Result<(), Misread> {
         match read_ext(alloc, bytes) {
-            Ok(entries) => Ok(entries),
+            Ok(entries) => {
+                inputs.ext = entries;
+                Ok(())
+            }
             Err(fault) => Err(Misread::of(fault_of_extension(fault))),
         }
     }
+}
 
-    fn without(alloc: Global) -> Vec<Entry> {
-        Vec::new(alloc)
+/// The fault of an extension; none for want of memory.
+fn fault_of_extension(fault: ExtFault) -> Option<Fault>
+    ensures { result ≡ fault_of_extension fault }
+{
+    match fault {
+        ExtFault::EntryTooFar { index } => Some(Fault::EntryTooFar { index }),
+        ExtFault::ExtHeader => Some(Fault::Header),
+        ExtFault::ExtLength => Some(Fault::Length),
+        ExtFault::Memory => None,
     }
 }

@@ -1,72 +1,73 @@
 //! One step for every file: look up the name, fetch, read.
 
-ghost use Rattle.std.specs.Prelude.{◌≡◌, ℕ, ◌≤◌, List, Some, length, IfOk, IfSome, IsErrOf, IsNone, IsOk, IsOkAnd, OnOk, ◌⊎◌};
+ghost use Rattle.std.specs.Prelude.{◌≡◌, ℕ, ◌≤◌, List, length, IfSome, IsErrOf, IsNone, IsOk, IsTrue, OnOk, ◌⊎◌};
 ghost use Rattle.bm_io.specs.Counts.{Rose};
+ghost use Rattle.boot_model.specs.View.{inputs_view};
 ghost use Rattle.boot_inputs.specs.Answers.{Gives, HasCause, IsCaused, IsOf};
-ghost use Rattle.boot_inputs.specs.Input.{limit_of};
-ghost use Rattle.boot_inputs.specs.Inputs.{file_step, or_faulty, step_if};
+ghost use Rattle.boot_inputs.specs.Inputs.{file_step, named_step, or_faulty, takes_held, takes_memory};
 
 use crate::fault::{Fault, Misread};
 use crate::names::Names;
 use crate::reader::Reader;
 use crate::refusal::{InputError, Refusal};
 use bm_io::{Fetch, Files};
+use boot_model::Inputs;
 use std::alloc::Global;
 
-/// The value of an input: what its file gives, or where none is named what there is without it, which
-/// takes no memory. Its refusals are of this input alone. Memory is wanting only where the fetch says so, or where the
-/// file has no fault and gives something that takes some; so neither a failed fetch nor a fault is told as that.
-pub fn fetch_input<R: Reader, F: Files, N: Names>(
+/// Puts what the file gives into the inputs; where none is named nothing is added, which takes no memory.
+/// Its refusals are of this input alone. Memory is wanting only where the fetch says so, or where the
+/// file has no fault and its bytes take some; so neither a failed fetch nor a fault is told as that.
+pub fn add_file<R: Reader, F: Files, N: Names>(
     alloc: Global,
     files: &mut F,
     names: &N,
-) -> Result<R::Value, InputError>
-    ensures gives { IfSome (F.holds files.old) (λ held.
-        Gives R.seen result (step_if held R.input R.without R.said (N.named names.now R.input))) }
+    inputs: &mut Inputs,
+) -> Result<(), InputError>
+    ensures gives { IfSome (F.holds files.old) (λ held. Gives (λ done. inputs_view inputs.new) result
+        (file_step held (N.named names.now) R.file (inputs_view inputs.old))) }
     ensures cause { HasCause (F.faults files.old) (F.faults files.new) (N.named names.now) result }
     ensures memory { IsErrOf result InputError.Memory → Rose (F.wants files.old) (F.wants files.new)
-        ⊎ IfSome (F.holds files.old) (λ held. IsOkAnd
-        (step_if held R.input R.without R.said (N.named names.now R.input)) R.takes_memory) }
+        ⊎ IfSome (F.holds files.old) (λ held. IsTrue (takes_memory held (N.named names.now) R.file)
+        × IsOk (file_step held (N.named names.now) R.file (inputs_view inputs.old))) }
     ensures unfailed { IsErrOf result InputError.Memory
         → ((any : List ℕ) → F.faults files.new any ≡ F.faults files.old any) }
     ensures unwanted { OnOk result (F.wants files.new ≡ F.wants files.old) }
-    ensures own { IsOf R.input result }
-    ensures sound { IfOk result R.sound }
-    ensures unnamed { IsNone (N.named names.now R.input) → IsOk result }
-    ensures unfetched { IsNone (N.named names.now R.input) → files.new ≡ files.old }
+    ensures own { IsOf R.file.input result }
+    ensures unnamed { IsNone (N.named names.now R.file.input) → IsOk result }
+    ensures unfetched { IsNone (N.named names.now R.file.input) → files.new ≡ files.old }
     ensures kept { F.holds files.new ≡ F.holds files.old }
     ensures uncounted { OnOk result ((any : List ℕ) → F.faults files.new any ≡ F.faults files.old any) }
     ensures faults_stay { (any : List ℕ) → F.faults files.old any ≤ F.faults files.new any }
 {
     match names.of(R::input()) {
-        Some(name) => fetch::<R, F>(alloc, files, name),
-        None => Ok(R::without(alloc)),
+        Some(name) => fetch::<R, F>(alloc, files, name, inputs),
+        None => Ok(()),
     }
 }
 
-/// What the file of that name gives.
+/// Puts what the file of that name gives into the inputs.
 fn fetch<R: Reader, F: Files>(
     alloc: Global,
     files: &mut F,
     name: &str,
-) -> Result<R::Value, InputError>
-    ensures gives { IfSome (F.holds files.old) (λ held.
-        Gives R.seen result (file_step held R.input R.said name.now)) }
+    inputs: &mut Inputs,
+) -> Result<(), InputError>
+    ensures gives { IfSome (F.holds files.old) (λ held. Gives (λ done. inputs_view inputs.new) result
+        (named_step held R.file (inputs_view inputs.old) name.now)) }
     ensures cause { IsCaused (F.faults files.old name.now) (F.faults files.new name.now) result }
     ensures memory { IsErrOf result InputError.Memory → Rose (F.wants files.old) (F.wants files.new)
-        ⊎ IfSome (F.holds files.old) (λ held. IsOkAnd
-        (file_step held R.input R.said name.now) R.takes_memory) }
+        ⊎ IfSome (F.holds files.old) (λ held. IsTrue (takes_held R.file (held name.now))
+        × IsOk (named_step held R.file (inputs_view inputs.old) name.now)) }
     ensures unfailed { IsErrOf result InputError.Memory
         → ((any : List ℕ) → F.faults files.new any ≡ F.faults files.old any) }
     ensures unwanted { OnOk result (F.wants files.new ≡ F.wants files.old) }
-    ensures own { IsOf R.input result }
-    ensures sound { IfOk result R.sound }
+    ensures own { IsOf R.file.input result }
     ensures kept { F.holds files.new ≡ F.holds files.old }
     ensures uncounted { OnOk result ((any : List ℕ) → F.faults files.new any ≡ F.faults files.old any) }
     ensures faults_stay { (any : List ℕ) → F.faults files.old any ≤ F.faults files.new any }
 {
-    match files.fetch(alloc, name, R::input().limit()) {
-        Ok(bytes) => read::<R>(alloc, &bytes),
+    match files.fetch(alloc, name, R::limit()) {
+        Ok(bytes) => read::<R>(alloc, &bytes, inputs),
         Err(Fetch::Failed) => Err(InputError::Refused(Refusal::Unread(R::input()))),
         Err(Fetch::TooLong) => Err(InputError::Refused(Refusal::Faulty(
             R::input(),
@@ -76,17 +77,18 @@ fn fetch<R: Reader, F: Files>(
     }
 }
 
-/// What the bytes of a file give.
-fn read<R: Reader>(alloc: Global, bytes: &[u8]) -> Result<R::Value, InputError>
-    requires { length bytes.now ≤ limit_of R.input }
-    ensures gives { Gives R.seen result (or_faulty R.input (R.said bytes.now)) }
+/// Puts what the bytes of a file give into the inputs.
+fn read<R: Reader>(alloc: Global, bytes: &[u8], inputs: &mut Inputs) -> Result<(), InputError>
+    requires { length bytes.now ≤ R.file.limit }
+    ensures gives { Gives (λ done. inputs_view inputs.new) result
+        (or_faulty R.file.input (R.file.says bytes.now (inputs_view inputs.old))) }
     ensures cause { (before now : ℕ) → IsCaused before now result }
-    ensures memory { IsErrOf result InputError.Memory → IsOkAnd (R.said bytes.now) R.takes_memory }
-    ensures own { IsOf R.input result }
-    ensures sound { IfOk result R.sound }
+    ensures memory { IsErrOf result InputError.Memory →
+        IsTrue (R.file.takes bytes.now) × IsOk (R.file.says bytes.now (inputs_view inputs.old)) }
+    ensures own { IsOf R.file.input result }
 {
-    match R::read(alloc, bytes) {
-        Ok(value) => Ok(value),
+    match R::read(alloc, bytes, inputs) {
+        Ok(()) => Ok(()),
         Err(Misread::Fault(fault)) => {
             Err(InputError::Refused(Refusal::Faulty(R::input(), fault)))
         }

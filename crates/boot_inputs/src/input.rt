@@ -1,7 +1,7 @@
 //! Which files there are, in the order in which they are read.
 
 ghost use Rattle.std.specs.Prelude.{◌≡◌};
-ghost use Rattle.boot_inputs.specs.Input.{limit_of, word_for};
+ghost use Rattle.boot_inputs.specs.Input.{word_for};
 
 /// An input file, in the order in which they are read.
 #[derive(Clone, Copy, Debug, PartialEq, Eq)]
@@ -19,20 +19,6 @@ pub enum Input {
 }
 
 impl Input {
-    /// The most bytes of the file. Of an extension's these are 3,072 entries behind the header, which
-    /// with the 128 of a zero page are as many as the kernel's table holds (`E820_MAX_ENTRIES`).
-    pub fn limit(self) -> u64
-        ensures { result ≡ limit_of self }
-    {
-        match self {
-            Input::ZeroPage => 4096,
-            Input::Extension => 61_456,
-            Input::CommandLine => 4096,
-            Input::Srat => 1_048_576,
-            Input::Script => 1_048_576,
-        }
-    }
-
     /// The word for it in the line of its fault.
     pub fn word(self) -> &'static str
         ensures { result.now ≡ word_for self }

@@ -2,20 +2,21 @@
 //!
 //! A boot is given a zero page, and where they are named an E820 extension, a command line, the firmware's table of
 //! domains (SRAT) and a script. What the program does with a file is the same for all of them: look up its name, fetch
-//! it up to its limit, and read it. So an input file is one value, an implementation of [`Reader`]: which [`Input`] it is,
-//! how its bytes are read, and what there is without it. [`fetch_input`] is proved once for every
-//! reader and all files.
+//! it up to its limit, and read it into the inputs ([`add_file`]). So an input file is one value in one module, an
+//! implementation of [`Reader`]: which [`Input`] it is, the most bytes that it has, and how they are read. Its
+//! definition is one value too, a `File` of `specs/File.antt`.
 //!
-//! [`read_inputs`] does so in the order of work, zero page, extension, command line, SRAT, script, of which the first
-//! that can't be read ([`Refusal::Unread`]) or is malformed ([`Refusal::Faulty`]) is the answer. The
-//! definition is `inputs_of` of `specs/Inputs.antt`. A file that couldn't be read has its cause in the
-//! count of faults of its name; nothing else is free but want of memory, which [`InputError`] keeps
-//! apart from what is wrong with the files.
+//! The files in the order of work, zero page, extension, command line, SRAT, script, are a list in the code
+//! (`src/inputs.rt`) and one in the definition (`input_files` of `specs/Inputs.antt`). [`Readers`] walks any list, and what
+//! is said of it (`AreRead` of `specs/Reading.antt`) is proved once. [`read_inputs`] walks this one: the first file
+//! that can't be read ([`Refusal::Unread`]) or is malformed ([`Refusal::Faulty`]) is the answer. A file that couldn't be
+//! read has its cause in the count of faults of its name; nothing else is free but want of memory, which [`InputError`]
+//! keeps apart from what is wrong with the files.
 //!
 //! Where the names come from is another's business: [`Names`] is whatever knows the name of an input.
 //!
-//! The layer above may rest on this: what is answered is what `boot` requires, and an initrd is whole
-//! frames behind its first byte.
+//! The layer above may rest on this: what is answered is what the definition says of the files' bytes, put into what was
+//! begun with; and what a boot needs of it stands with the inputs (`boot_model`).
 #![tactic(auto)]
 
 mod command_line;
@@ -24,6 +25,7 @@ mod fault;
 mod fetching;
 mod input;
 mod inputs;
+mod list;
 mod names;
 mod reader;
 mod refusal;
@@ -32,9 +34,10 @@ mod srat;
 mod zero_page;
 
 pub use fault::{Fault, Misread};
-pub use fetching::fetch_input;
+pub use fetching::add_file;
 pub use input::Input;
 pub use inputs::read_inputs;
+pub use list::Readers;
 pub use names::Names;
 pub use reader::Reader;
 pub use refusal::{InputError, Refusal};

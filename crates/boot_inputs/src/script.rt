@@ -1,56 +1,57 @@
 //! The script of early allocations as an input. The boot asks that the sections are placed once at most, which
 //! the reader doesn't promise: a law of `early_script` is called here that tells it.
 
-ghost use Rattle.std.specs.Prelude.{◌≡◌, ◌<◌, ◌≤◌, List, [], length, IfOk, IsErrOf, IsOkAnd};
-ghost use Rattle.std.specs.List.{All};
+ghost use Rattle.std.specs.Prelude.{◌≡◌, ◌≤◌, length, IsErrOf, IsOk, IsTrue};
 ghost use Rattle.bm_base.specs.Answers.{Answers};
 ghost use Rattle.bm_base.specs.ResultSteps.{with_error};
-ghost use Rattle.script_reader.specs.Forms.{HasBounds};
-ghost use Rattle.script_reader.specs.declared.act.Line.{Line as AnyLine};
-ghost use Rattle.early_script.specs.Stage.{PlaceOnce};
-ghost use Rattle.boot_inputs.specs.Said.{script_said};
-ghost use Rattle.boot_inputs.specs.declared.input.Input.TheVariants as inputs;
+ghost use Rattle.boot_model.specs.View.{inputs_view};
+ghost use Rattle.boot_inputs.specs.Script.{fault_of_script, script_file};
 
-use crate::fault::{Misread, fault_of_script};
+use crate::fault::{Fault, Misread};
 use crate::input::Input;
 use crate::reader::Reader;
+use boot_model::Inputs;
 use early_script::scripts_place_once;
-use script_reader::{Line, read_script};
+use script_reader::{ScriptFault, read_script};
 use std::alloc::Global;
 
-/// Reads a script of early allocations; where none is named there are no lines.
+/// Reads a script of early allocations.
 pub struct Scripts;
 
 impl Reader for Scripts {
-    type Value = Vec<Line>;
-
-    ghost Seen = { List AnyLine };
-
-    ghost seen = { λ lines. lines.items };
-
-    ghost said = { script_said };
-
-    ghost takes_memory = { λ lines. 0 < length lines };
-
-    ghost without = { [] };
-
-    ghost input = { inputs.Script };
-
-    ghost sound = { λ lines. All (λ l. HasBounds l.act) lines.items × PlaceOnce lines.items };
+    ghost file = { script_file };
 
     fn input() -> Input {
         Input::Script
     }
 
-    fn read(alloc: Global, bytes: &[u8]) -> Result<Vec<Line>, Misread> {
+    fn limit() -> u64 {
+        1_048_576
+    }
+
+    fn read(alloc: Global, bytes: &[u8], inputs: &mut Inputs) -> Result<(), Misread> {
         scripts_place_once();
         match read_script(alloc, bytes) {
-            Ok(lines) => Ok(lines),
+            Ok(lines) => {
+                inputs.lines = lines;
+                Ok(())
+            }
             Err(fault) => Err(Misread::of(fault_of_script(fault))),
         }
     }
+}
 
-    fn without(alloc: Global) -> Vec<Line> {
-        Vec::new(alloc)
+/// The fault of a script; none for want of memory.
+fn fault_of_script(fault: ScriptFault) -> Option<Fault>
+    ensures { result ≡ fault_of_script fault }
+{
+    match fault {
+        ScriptFault::BadLine { line } => Some(Fault::BadLine { line }),
+        ScriptFault::BadNumber { line } => Some(Fault::BadNumber { line }),
+        ScriptFault::BadAlign { line } => Some(Fault::BadAlign { line }),
+        ScriptFault::ZeroSize { line } => Some(Fault::ZeroSize { line }),
+        ScriptFault::SecondSections { line } => Some(Fault::SecondSections { line }),
+        ScriptFault::TooFar { line } => Some(Fault::LineTooFar { line }),
+        ScriptFault::Memory => None,
     }
 }

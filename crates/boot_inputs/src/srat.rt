@@ -1,52 +1,55 @@
-//! The firmware's table of domains as an input. Without a file there is no table, and not one without entries:
-//! the boot tells the two apart, as `absent` and `no blocks`.
+//! The firmware's table of domains as an input. A boot tells a table without entries from none, as `no blocks` and
+//! `absent`.
 
-ghost use Rattle.std.specs.Prelude.{◌≡◌, ◌^◌, ◌<◌, Option, None, length, IfOk, IfSome, IsErrOf, IsOkAnd};
-ghost use Rattle.std.specs.Option.{option_map};
+ghost use Rattle.std.specs.Prelude.{◌≡◌, ◌≤◌, length, IsErrOf, IsOk, IsTrue};
 ghost use Rattle.bm_base.specs.Answers.{Answers};
 ghost use Rattle.bm_base.specs.ResultSteps.{with_error};
-ghost use Rattle.srat_reader.specs.Table.{Affinity, affinity};
-ghost use Rattle.boot_inputs.specs.Said.{TakesMemory, srat_said};
-ghost use Rattle.boot_inputs.specs.declared.input.Input.TheVariants as inputs;
+ghost use Rattle.boot_model.specs.View.{inputs_view};
+ghost use Rattle.boot_inputs.specs.Srat.{fault_of_srat, srat_file};
 
-use crate::fault::{Misread, fault_of_srat};
+use crate::fault::{Fault, Misread};
 use crate::input::Input;
 use crate::reader::Reader;
-use srat_reader::{Srat, read_srat};
+use boot_model::Inputs;
+use srat_reader::{SratFault, read_srat};
 use std::alloc::Global;
 
-/// Reads an SRAT; where none is named there is no table.
+/// Reads an SRAT.
 pub struct Srats;
 
 impl Reader for Srats {
-    type Value = Option<Srat>;
-
-    ghost Seen = { Option Affinity };
-
-    ghost seen = { λ table. option_map affinity table };
-
-    ghost said = { srat_said };
-
-    ghost takes_memory = { TakesMemory };
-
-    ghost without = { None };
-
-    ghost input = { inputs.Srat };
-
-    ghost sound = { λ table. IfSome table (λ srat. length srat.blocks.items < 2 ^ 32) };
+    ghost file = { srat_file };
 
     fn input() -> Input {
         Input::Srat
     }
 
-    fn read(alloc: Global, bytes: &[u8]) -> Result<Option<Srat>, Misread> {
+    fn limit() -> u64 {
+        1_048_576
+    }
+
+    fn read(alloc: Global, bytes: &[u8], inputs: &mut Inputs) -> Result<(), Misread> {
         match read_srat(alloc, bytes) {
-            Ok(srat) => Ok(Some(srat)),
+            Ok(srat) => {
+                inputs.srat = Some(srat);
+                Ok(())
+            }
             Err(fault) => Err(Misread::of(fault_of_srat(fault))),
         }
     }
+}
 
-    fn without(_alloc: Global) -> Option<Srat> {
-        None
+/// The fault of an SRAT; none for want of memory.
+fn fault_of_srat(fault: SratFault) -> Option<Fault>
+    ensures { result ≡ fault_of_srat fault }
+{
+    match fault {
+        SratFault::Short => Some(Fault::Short),
+        SratFault::Signature => Some(Fault::Signature),
+        SratFault::Length => Some(Fault::Length),
+        SratFault::Checksum => Some(Fault::Checksum),
+        SratFault::EntryLength { offset } => Some(Fault::EntryLength { offset }),
+        SratFault::BlockTooFar { offset } => Some(Fault::BlockTooFar { offset }),
+        SratFault::Memory => None,
     }
 }

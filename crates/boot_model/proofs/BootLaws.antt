@@ -13,7 +13,6 @@ use Rattle.e820_model.specs.declared.room.TheConstants.{E820_MAX_ENTRIES}
 use Rattle.bm_base.specs.Each.{each_in}
 use Rattle.bm_base.specs.Frames.{bytes_of_frame}
 use Rattle.bm_base.proofs.EachLaws.{each_in-same}
-use Rattle.boot_model.specs.declared.limit.TheConstants.{MAX_PHYSMEM}
 use Rattle.e820_model.proofs.ClaimLaws.{tells_kinds}
 use Rattle.memblock_model.specs.declared.item.Item.{Item}
 use Rattle.growth_model.specs.Outcome.{Refused}
@@ -23,11 +22,12 @@ use Rattle.e820_usable.specs.Judged.{judged}
 use Rattle.boot_model.specs.declared.stop.Cause.{Cause}
 use Rattle.script_reader.specs.declared.act.Line.{Line}
 use Rattle.early_script.specs.Stage.{after_lines, before_sections, behind_sections}
-use Rattle.boot_model.specs.Boot.{Given, Made, begin, behind_lines, boot, claims, has_frames, has_room, later_stages, lies_in_memory, map_judged, map_stages, put_crash, put_nodes, put_sections, runs_lines, script_at, types_in_reach, unless_stopped, with_items}
+use Rattle.boot_model.specs.Boot.{Given, Made, begin, behind_lines, boot, claims, has_frames, has_room, later_stages, lies_in_memory, map_judged, map_stages, reach, put_crash, put_nodes, put_sections, runs_lines, script_at, types_in_reach, unless_stopped, with_items}
 use Rattle.numa_nodes.specs.Assigned.{assigned}
 use Rattle.crash_kernel.specs.Reserved.{reserved}
 use Rattle.boot_model.specs.Sections.{places_of_sections}
 use Rattle.boot_model.specs.Stop.{cause_of_refusal, cause_of_stage}
+use Rattle.boot_model.proofs.ReachLaws.{reach-small}
 use Rattle.boot_model.proofs.StageLaws.{AllKeep, Keeps, chain_keeps, goes_by, passes, steps_keep}
 use Rattle.boot_model.specs.Stages.{in_order}
 
@@ -125,17 +125,18 @@ memory_lies (r ∷ rs) x runs =
     ]
 
 -- the runs tell which frames are usable
-pub usable_lies : (given : Given) (made : Made) (frame : ℕ) → boot given ≡ Ok made → 4096 * frame + 4096 ≤ MAX_PHYSMEM
+pub usable_lies : (given : Given) (made : Made) (frame : ℕ) → boot given ≡ Ok made → 4096 * frame + 4096 ≤ reach given
     → is_usable (types_in_reach given) frame ≡ each_in (bytes_of_frame frame) (lies_in_memory made.map)
 unfolding is_usable
 usable_lies given made frame ends low =
     let c : Claims = claims given in
     let between = map_between c in
     each_in-same (bytes_of_frame frame) _ _ (λ x from below. (
-    let reach : nat_lt x MAX_PHYSMEM ≡ true = grind (arith, nat_tests) in
-    let value : value_at (map_of c) x ≡ kinds c x = between.within x (omega arith) (omega arith) in
+    let low_x : nat_lt x (reach given) ≡ true = grind (arith, nat_tests) in
+    let far : reach given ≤ 2 ^ 52 = reach-small given in
+    let value : value_at (map_of c) x ≡ kinds c x = between.within x (omega arith) (omega (arith, far)) in
     let told : is_memory (kinds c x) ≡ lies_in_memory (map_of c) x = ap is_memory (sym value) ∙ memory_lies (map_of c) x between.runs in
-    rw (reach, (goes_on given made ends).map) told))
+    rw (low_x, (goes_on given made ends).map) told))
 
 -- each address below 2^64 has in the map the type that the claims give
 pub types_told : (given : Given) (made : Made) (x : ℕ) → boot given ≡ Ok made → x < 2 ^ 64 → value_at made.map x ≡ kinds (claims given) x

@@ -11,12 +11,10 @@ use Rattle.e820_model.specs.declared.entry.Entry.{Entry}
 use Rattle.e820_model.specs.Claims.{Claims, claims_of_entries, type_of, settled, with_claims, bios_trimmed}
 use Rattle.e820_model.specs.Map.{kinds, map_of}
 use Rattle.e820_model.specs.Usable.{is_memory, reachable, usable_frames}
-use Rattle.boot_model.specs.declared.limit.TheConstants.{MAX_PHYSMEM}
 use Rattle.e820_model.proofs.ClaimLaws.{greatest_is, map_runs}
 use Rattle.e820_model.proofs.UsableLaws.{count_none, usable_but}
 use Rattle.e820_usable.specs.declared.stop.MapStop.TheVariants as reasons
-use Rattle.boot_options.specs.Crash.{no_crash}
-use Rattle.boot_options.specs.Options.{Chosen, chosen}
+use Rattle.boot_options.specs.Options.{chosen}
 use Rattle.memblock_model.specs.declared.which.Which.TheVariants as which
 use Rattle.memblock_model.specs.declared.item.Item.TheVariants as item
 use Rattle.boot_model.specs.declared.booted.Booted.{Booted}
@@ -43,7 +41,7 @@ use Rattle.sparse_sections.specs.Roots.{roots_view}
 use Rattle.growth_model.specs.declared.refusal.Refusal.TheVariants as refusal
 use Rattle.stage_model.specs.declared.stop.StageStop.TheVariants as stage
 use Rattle.stage_model.specs.declared.stop.What.TheVariants as what
-use Rattle.boot_model.specs.Boot.{Given, Made, begin, begin_with, behind_lines, boot, claims, handed_over, has_room, lies_in_memory, no_nodes, put_crash, put_nodes, put_sections, runs_lines, script_at, told, told_boot, unless_stopped, with_items}
+use Rattle.boot_model.specs.Boot.{Given, Made, begin, begin_with, begun, behind_lines, boot, claims, handed_over, has_room, lies_in_memory, no_nodes, no_options, put_crash, put_nodes, put_sections, reach, reach_told, runs_lines, script_at, told, told_boot, unless_stopped, with_items}
 use Rattle.boot_model.specs.Kernel.{IsKernel, is_kernel}
 use Rattle.boot_model.specs.Sections.{SectionPlaces, no_sections}
 use Rattle.boot_model.specs.Stages.{in_order}
@@ -67,9 +65,6 @@ first_stop_is_the_answer = refl
 abbrev two_runs : List (RunOf ℕ)
 two_runs = record { base = 0x1000; size = 0x1000; value = 1 } ∷ record { base = 0x2000; size = 0x1000; value = 2 } ∷ []
 
-abbrev no_options : Chosen
-no_options = record { edits = []; crash = no_crash; numa_off = false }
-
 abbrev image : Extent
 image = record { base = 0x1000000; size = 0x2000000 }
 
@@ -84,6 +79,13 @@ carried_examples = (refl, refl)
 -- what is told of it: both tables are empty, in the image's last two frames
 told_example : ((told image made).heads.memory.place ≡ 0x2FFE000) × ((told image made).heads.reserved.place ≡ 0x2FFF000)
 told_example = (refl, refl)
+
+-- nothing is given but the kernel's place; and the tables reach 64 TiB
+begun_example : ((begun image).entries ≡ []) × ((begun image).kernel ≡ image) × ((begun image).options ≡ no_options)
+begun_example = (refl, refl, refl)
+
+reach_examples : (reach (begun image) ≡ 0x400000000000) × (reach_told (told image made) ≡ 0x400000000000)
+reach_examples = (refl, refl)
 
 -- at first nothing happened, no node has memory, no frame is uncovered, and nothing of sections is placed
 nothing_yet : (made.items ≡ []) × (made.crash ≡ crash.Nothing) × (made.ids ≡ []) × (made.fills ≡ []) × (made.answers ≡ [])
@@ -256,29 +258,21 @@ same_either : (within : Bool) → is_memory (if within then None else None) ≡ 
 same_either true = refl
 same_either false = refl
 
-no_type_in_reach : (c : Claims) → Nothing c → (x : ℕ) → is_memory (reachable MAX_PHYSMEM (kinds c) x) ≡ false
-no_type_in_reach c nothing x = rw (no_kind c nothing x) (same_either (nat_lt x MAX_PHYSMEM))
+no_type_in_reach : (limit : ℕ) (c : Claims) → Nothing c → (x : ℕ) → is_memory (reachable limit (kinds c) x) ≡ false
+no_type_in_reach limit c nothing x = rw (no_kind c nothing x) (same_either (nat_lt x limit))
 
-no_frame : (c : Claims) → Nothing c → usable_frames (reachable MAX_PHYSMEM (kinds c)) ≡ 0
+no_frame : (limit : ℕ) (c : Claims) → Nothing c → usable_frames (reachable limit (kinds c)) ≡ 0
 unfolding usable_frames
-no_frame c nothing =
+no_frame limit c nothing =
     count_none _ (2 ^ 52) (λ frame low.
-    usable_but (reachable MAX_PHYSMEM (kinds c)) frame (4096 * frame) (omega arith) (omega arith)
-    (no_type_in_reach c nothing (4096 * frame)))
+    usable_but (reachable limit (kinds c)) frame (4096 * frame) (omega arith) (omega arith)
+    (no_type_in_reach limit c nothing (4096 * frame)))
 
 abbrev empty : Entry
 empty = record { addr = 0; size = 0; kind = 0 }
 
 abbrev two_empty : Given
-two_empty = record {
-  entries = empty ∷ empty ∷ [];
-  initrd = None;
-  extension = [];
-  options = no_options;
-  domains = None;
-  kernel = image;
-  lines = [];
-}
+two_empty = record (begun image) { entries = empty ∷ empty ∷ [] }
 
 none_covers : Nothing (claims_of_entries (empty ∷ empty ∷ []))
 unfolding Nothing
@@ -297,7 +291,7 @@ begins_without_a_run = no_runs (claims two_empty) nothing_claimed
 
 no_ram : boot two_empty ≡ Err causes.NoRam
 unfolding boot
-no_ram = rw (no_runs (claims two_empty) nothing_claimed, no_frame (claims two_empty) nothing_claimed) refl
+no_ram = rw (no_runs (claims two_empty) nothing_claimed, no_frame (reach two_empty) (claims two_empty) nothing_claimed) refl
 
 -- what a boot made is told with the image that it was given, and its stop is its own
 boot_tells : (given : Given) (last : Made) → boot given ≡ Ok last → told_boot given ≡ Ok (told given.kernel last)

@@ -1,5 +1,5 @@
 -- Memory and the limit of a boot that isn't stopped: those of its map. Each stage behind the one that makes them leaves them as they are.
-use Rattle.std.proofs.Common.{◌≡◌, ℕ, ◌/◌, ◌<◌, ◌∙◌, sym, ap, refl, arith, inl, inr, Bool, true, false, nat_lt, if◌then◌else◌, is_some, Some, None, List, [], ◌∷◌, drop, Ok}
+use Rattle.std.proofs.Common.{◌≡◌, ℕ, ◌/◌, ◌^◌, ◌<◌, ◌≤◌, ◌∙◌, sym, ap, refl, arith, inl, inr, Bool, true, false, nat_lt, if◌then◌else◌, is_some, Some, None, List, [], ◌∷◌, drop, Ok}
 use Rattle.std.proofs.lemmas.Bool.{cases_Bool}
 use Rattle.std.proofs.lemmas.Bool.Decides.{nat_tests}
 use Rattle.bm_base.specs.Extent.{Extent}
@@ -19,8 +19,7 @@ use Rattle.script_reader.specs.declared.act.Line.{Line}
 use Rattle.early_script.specs.Acted.{answer_of, state_after}
 use Rattle.early_script.specs.Stage.{Stage as Script, after_line, after_lines, before_sections, behind_sections, deed_at}
 use Rattle.early_script.proofs.QuietLaws.{acts-limit, acts-memory, deed-quiet}
-use Rattle.boot_model.specs.declared.limit.TheConstants.{MAX_PHYSMEM}
-use Rattle.boot_model.specs.Boot.{Given, Made, Stage, begin, boot, claims, has_crash_area, has_memory, has_nodes, has_sections, later_stages, map_judged, map_stages, put_crash, put_nodes, put_sections, runs_lines, script_at, types_in_reach}
+use Rattle.boot_model.specs.Boot.{Given, Made, Stage, begin, boot, claims, has_crash_area, has_memory, has_nodes, has_sections, later_stages, map_judged, map_stages, put_crash, put_nodes, put_sections, reach, runs_lines, script_at, types_in_reach}
 use Rattle.boot_model.specs.Sections.{SectionPlaces, places_of_sections, sections_placed}
 use Rattle.boot_model.specs.Stop.{cause_of_refusal, cause_of_stage}
 use Rattle.numa_nodes.specs.Assigned.{assigned}
@@ -39,6 +38,7 @@ use Rattle.section_maps.specs.Maps.{maps}
 use Rattle.section_maps.proofs.QuietLaws.{quiet-maps}
 use Rattle.boot_model.specs.Stages.{in_order}
 use Rattle.boot_model.proofs.BootLaws.{frames_passed, items_passed, lines_passed, map_between, map_keep, room_passed}
+use Rattle.boot_model.proofs.ReachLaws.{reach-small}
 use Rattle.boot_model.proofs.StageLaws.{AllKeep, Keeps, chain_keeps, goes_by, passes, steps_keep}
 
 -- whether a byte is memory, by the items
@@ -173,7 +173,7 @@ labels_keep given = (
 -- what is known where memory was made
 pub record HasMemory (given : Given) (made : Made) : Type 0 where
   pub first : Made
-  pub carried : carried_out (first_items MAX_PHYSMEM given.kernel given.initrd (map_of (claims given))) [] ≡ Ok first.items
+  pub carried : carried_out (first_items (reach given) given.kernel given.initrd (map_of (claims given))) [] ≡ Ok first.items
   pub memory : held_by made ≡ held_by first
   pub limit : limit_of made.items ≡ limit_of first.items
 
@@ -186,7 +186,7 @@ memory_made given made ends =
     chain_keeps (λ (m : Made). m.items) (map_stages given) (items_keep given) (begin given) judged.middle judged.first in
     let map : judged.middle.map ≡ map_of (claims given) =
     chain_keeps (λ (m : Made). m.map) (map_stages given) (map_keep given) (begin given) judged.middle judged.first in
-    let passed = items_passed (carried_out (first_items MAX_PHYSMEM given.kernel given.initrd judged.middle.map)
+    let passed = items_passed (carried_out (first_items (reach given) given.kernel given.initrd judged.middle.map)
     judged.middle.items)
     judged.middle behind.middle behind.first in
     record {
@@ -197,18 +197,18 @@ memory_made given made ends =
     }
 
 -- the map gives the types within reach
-reached_same : (c : Claims) (x : ℕ) → reachable MAX_PHYSMEM (value_at (map_of c)) x ≡ reachable MAX_PHYSMEM (kinds c) x
-reached_same c x =
-    elim (cases_Bool (nat_lt x MAX_PHYSMEM)) as
-    (λ _. reachable MAX_PHYSMEM (value_at (map_of c)) x ≡ reachable MAX_PHYSMEM (kinds c) x) [
+reached_same : (limit : ℕ) (c : Claims) (x : ℕ) → limit ≤ 2 ^ 52 → reachable limit (value_at (map_of c)) x ≡ reachable limit (kinds c) x
+reached_same limit c x small =
+    elim (cases_Bool (nat_lt x limit)) as
+    (λ _. reachable limit (value_at (map_of c)) x ≡ reachable limit (kinds c) x) [
       | inl within ↦
-          (let low : x < MAX_PHYSMEM = grind (arith, nat_tests) in
-          rw within ((map_between c).within x (omega arith) (omega arith)))
+          (let low : x < limit = grind (arith, nat_tests) in
+          rw within ((map_between c).within x (omega arith) (omega (arith, low, small))))
       | inr past ↦ rw past refl
     ]
 
-pub types_same : (given : Given) → reachable MAX_PHYSMEM (value_at (map_of (claims given))) ≡ types_in_reach given
-types_same given = λ i x. reached_same (claims given) x i
+pub types_same : (given : Given) → reachable (reach given) (value_at (map_of (claims given))) ≡ types_in_reach given
+types_same given = λ i x. reached_same (reach given) (claims given) x (reach-small given) i
 
 some_is : (b : Bool) → is_some (if b then Some plain_label else None) ≡ b
 some_is true = refl
@@ -220,8 +220,8 @@ pub memory_told : (given : Given) (made : Made) (x : ℕ) → boot given ≡ Ok 
 memory_told given made x ends =
     let known : HasMemory given made = memory_made given made ends in
     let map : List (RunOf ℕ) = map_of (claims given) in
-    let reached : TypeAt = reachable MAX_PHYSMEM (value_at map) in
-    let first = first_memory MAX_PHYSMEM given.kernel given.initrd map known.first.items (map_between (claims given)).runs
+    let reached : TypeAt = reachable (reach given) (value_at map) in
+    let first = first_memory (reach given) given.kernel given.initrd map known.first.items (map_between (claims given)).runs
     known.carried x in
     ap (λ (h : ℕ → Bool). h x) known.memory ∙ ap is_some first
     ∙ some_is (is_usable reached (x / 4096))
@@ -229,8 +229,8 @@ memory_told given made x ends =
 
 -- and the limit is the end of the last usable frame
 pub limit_told : (given : Given) (made : Made) → boot given ≡ Ok made
-    → limit_of made.items ≡ memory_end MAX_PHYSMEM (kinds (claims given))
+    → limit_of made.items ≡ memory_end (reach given) (kinds (claims given))
 limit_told given made ends =
     let known : HasMemory given made = memory_made given made ends in
-    known.limit ∙ first_limit MAX_PHYSMEM given.kernel given.initrd (map_of (claims given)) known.first.items known.carried
-    ∙ memory_end-same MAX_PHYSMEM (value_at (map_of (claims given))) (kinds (claims given)) (types_same given)
+    known.limit ∙ first_limit (reach given) given.kernel given.initrd (map_of (claims given)) known.first.items known.carried
+    ∙ memory_end-same (reach given) (value_at (map_of (claims given))) (kinds (claims given)) (types_same given)

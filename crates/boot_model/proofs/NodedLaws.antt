@@ -18,13 +18,13 @@ use Rattle.early_stages.proofs.EndLaws.{end_reached, memory_below, memory_end-is
 use Rattle.stage_model.specs.Noded.{AreOfFrames, IsNoded}
 use Rattle.numa_nodes.specs.Assigned.{assigned}
 use Rattle.numa_nodes.proofs.NodedLaws.{answer-noded}
-use Rattle.boot_model.specs.declared.limit.TheConstants.{MAX_PHYSMEM}
-use Rattle.boot_model.specs.Boot.{Given, Made, begin, boot, claims, has_frames, has_memory, has_nodes, has_room, later_stages, map_judged, map_stages, put_nodes, types_in_reach}
+use Rattle.boot_model.specs.Boot.{Given, Made, begin, boot, claims, has_frames, has_memory, has_nodes, has_room, later_stages, map_judged, map_stages, put_nodes, reach, types_in_reach}
 use Rattle.boot_model.specs.First.{IsFirst}
 use Rattle.boot_model.specs.Stages.{in_order}
 use Rattle.boot_model.specs.Stop.{cause_of_stage}
 use Rattle.boot_model.proofs.BootLaws.{frames_passed, frames_within, items_passed, map_between, room_passed}
 use Rattle.boot_model.proofs.MemoryLaws.{labels_by, labels_keep, types_same}
+use Rattle.boot_model.proofs.ReachLaws.{reach-below}
 use Rattle.boot_model.proofs.StageLaws.{chain_keeps, goes_by, passes, steps_answered}
 
 -- nothing lies where each byte that has memory lies below
@@ -73,53 +73,53 @@ judged_first given made ends =
     (sym (room.1 ∙ frames.1 ∙ last), frames.0)
 
 pub first_known : (given : Given) (made : Made) (items : List Item) → map_judged given ≡ Ok made
-    → carried_out (first_items MAX_PHYSMEM given.kernel given.initrd made.map) made.items ≡ Ok items → IsFirst items
+    → carried_out (first_items (reach given) given.kernel given.initrd made.map) made.items ≡ Ok items → IsFirst (reach given) items
 first_known given made items ends carried =
     let known = judged_first given made ends in
     let map : List (RunOf ℕ) = map_of (claims given) in
-    let from : carried_out (first_items MAX_PHYSMEM given.kernel given.initrd map) [] ≡ Ok items =
-    ap (λ (m : Made). carried_out (first_items MAX_PHYSMEM given.kernel given.initrd m.map) m.items) (sym known.0) ∙ carried in
-    let memory : memory_of items ≡ usable_memory MAX_PHYSMEM (value_at map) = λ i x.
-    first_memory MAX_PHYSMEM given.kernel given.initrd map items (map_between (claims given)).runs from x i in
-    let limit : limit_of items ≡ memory_end MAX_PHYSMEM (value_at map) =
-    first_limit MAX_PHYSMEM given.kernel given.initrd map items from in
-    let below : memory_end MAX_PHYSMEM (value_at map) ≤ MAX_PHYSMEM =
-    (end_reached MAX_PHYSMEM (value_at map) _ (memory_end-is MAX_PHYSMEM (value_at map))).0 in
-    let some : 0 < usable_frames (reachable MAX_PHYSMEM (value_at map)) =
+    let from : carried_out (first_items (reach given) given.kernel given.initrd map) [] ≡ Ok items =
+    ap (λ (m : Made). carried_out (first_items (reach given) given.kernel given.initrd m.map) m.items) (sym known.0) ∙ carried in
+    let memory : memory_of items ≡ usable_memory (reach given) (value_at map) = λ i x.
+    first_memory (reach given) given.kernel given.initrd map items (map_between (claims given)).runs from x i in
+    let limit : limit_of items ≡ memory_end (reach given) (value_at map) =
+    first_limit (reach given) given.kernel given.initrd map items from in
+    let below : memory_end (reach given) (value_at map) ≤ reach given =
+    (end_reached (reach given) (value_at map) _ (memory_end-is (reach given) (value_at map))).0 in
+    let some : 0 < usable_frames (reachable (reach given) (value_at map)) =
     subst (λ (t : TypeAt). 0 < usable_frames t) (sym (types_same given)) (frames_within _ known.1).0 in
-    let FirstOf : Labels → ℕ → Type 0 = λ f at. (AreOfFrames (λ x. is_some (f x)) × NothingFrom MAX_PHYSMEM f × NothingFrom at f × (0 <
+    let FirstOf : Labels → ℕ → Type 0 = λ f at. (AreOfFrames (λ x. is_some (f x)) × NothingFrom (reach given) f × NothingFrom at f × (0 <
     at)) in
-    let whole : AreOfFrames (λ x. is_some (usable_memory MAX_PHYSMEM (value_at map) x)) = λ x.
+    let whole : AreOfFrames (λ x. is_some (usable_memory (reach given) (value_at map) x)) = λ x.
     (let same : (4096 * (x / 4096)) / 4096 ≡ x / 4096 = omega arith in
-    ap (λ (frame : ℕ). is_some (if is_usable (reachable MAX_PHYSMEM (value_at map)) frame then Some plain_label else None)) (sym same)) in
-    let all : FirstOf (usable_memory MAX_PHYSMEM (value_at map)) (memory_end MAX_PHYSMEM (value_at map)) = (
+    ap (λ (frame : ℕ). is_some (if is_usable (reachable (reach given) (value_at map)) frame then Some plain_label else None)) (sym same)) in
+    let all : FirstOf (usable_memory (reach given) (value_at map)) (memory_end (reach given) (value_at map)) = (
       whole,
-      past_end MAX_PHYSMEM (value_at map) MAX_PHYSMEM below,
-      past_end MAX_PHYSMEM (value_at map) (memory_end MAX_PHYSMEM (value_at map)) (omega arith),
-      end_some MAX_PHYSMEM (value_at map) some,
+      past_end (reach given) (value_at map) (reach given) below,
+      past_end (reach given) (value_at map) (memory_end (reach given) (value_at map)) (omega arith),
+      end_some (reach given) (value_at map) some,
     ) in
     let told : FirstOf (memory_of items) (limit_of items) = rw (memory, limit) all in
     record { frames = told.0; within = told.1; low = told.2; some = told.3 }
 
 -- behind its nodes
-pub nodes_known : (given : Given) (before last : Made) → IsFirst before.items → has_nodes given before ≡ Ok last
-    → IsNoded MAX_PHYSMEM (labels_by last)
+pub nodes_known : (given : Given) (before last : Made) → IsFirst (reach given) before.items → has_nodes given before ≡ Ok last
+    → IsNoded (reach given) (labels_by last)
 nodes_known given before last first ends =
     let told = steps_answered cause_of_stage put_nodes (assigned given.domains given.options.numa_off) before last ends in
-    subst (λ (m : Made). IsNoded MAX_PHYSMEM (labels_by m)) (sym told.same)
-    (answer-noded MAX_PHYSMEM given.domains given.options.numa_off before.items told.value told.answer (omega arith) first.frames
+    subst (λ (m : Made). IsNoded (reach given) (labels_by m)) (sym told.same)
+    (answer-noded (reach given) given.domains given.options.numa_off before.items told.value told.answer (reach-below given) first.frames
     first.within first.low)
 
 -- and at the end of the boot
-pub noded_told : (given : Given) (made : Made) → boot given ≡ Ok made → IsNoded MAX_PHYSMEM (memory_of made.items)
+pub noded_told : (given : Given) (made : Made) → boot given ≡ Ok made → IsNoded (reach given) (memory_of made.items)
 unfolding boot
 noded_told given made ends =
     let judged_map = goes_by (map_judged given) (λ m. in_order (later_stages given) m) made ends in
     let behind = passes (has_memory given) (drop 1 (later_stages given)) judged_map.middle made judged_map.rest in
-    let passed = items_passed (carried_out (first_items MAX_PHYSMEM given.kernel given.initrd judged_map.middle.map)
+    let passed = items_passed (carried_out (first_items (reach given) given.kernel given.initrd judged_map.middle.map)
     judged_map.middle.items) judged_map.middle behind.middle behind.first in
-    let first : IsFirst behind.middle.items = first_known given judged_map.middle behind.middle.items judged_map.first passed.0 in
+    let first : IsFirst (reach given) behind.middle.items = first_known given judged_map.middle behind.middle.items judged_map.first passed.0 in
     let nodes = passes (has_nodes given) (drop 2 (later_stages given)) behind.middle made behind.rest in
-    let noded : IsNoded MAX_PHYSMEM (labels_by nodes.middle) = nodes_known given behind.middle nodes.middle first nodes.first in
-    subst (λ (f : Labels). IsNoded MAX_PHYSMEM f)
+    let noded : IsNoded (reach given) (labels_by nodes.middle) = nodes_known given behind.middle nodes.middle first nodes.first in
+    subst (λ (f : Labels). IsNoded (reach given) f)
     (sym (chain_keeps labels_by (drop 2 (later_stages given)) (labels_keep given) nodes.middle made nodes.rest)) noded

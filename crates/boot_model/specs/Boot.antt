@@ -1,7 +1,9 @@
 -- The boot: what `setup_arch` makes of the firmware's map and of the command line, stage by stage.
-use Rattle.std.specs.Prelude.{ℕ, ◌==◌, Bool, ◌&&◌, ◌||◌, List, [], ◌∷◌, length, nat_lt, if◌then◌else◌, Option, Some, None, Result, Ok, Err}
+use Rattle.std.specs.Prelude.{ℕ, ◌==◌, Bool, false, ◌&&◌, ◌||◌, List, [], ◌∷◌, length, nat_lt, if◌then◌else◌, Option, Some, None, Result, Ok, Err}
 use Rattle.std.specs.List.{list_any}
 use Rattle.bm_base.specs.Extent.{Extent}
+use Rattle.bm_base.specs.Width.{reach_of}
+use Rattle.bm_base.specs.declared.width.Width.TheVariants.{Bits46}
 use Rattle.address_runs.specs.Runs.{RunOf, lies_in}
 use Rattle.e820_model.specs.declared.types.TheConstants.{E820_TYPE_RAM, E820_TYPE_RESERVED_KERN}
 use Rattle.e820_model.specs.declared.entry.Entry.{Entry}
@@ -11,6 +13,7 @@ use Rattle.e820_model.specs.Usable.{reachable}
 use Rattle.e820_model.specs.declared.room.TheConstants.{E820_MAX_ENTRIES}
 use Rattle.e820_usable.specs.declared.stop.MapStop.{MapStop}
 use Rattle.e820_usable.specs.Judged.{judged}
+use Rattle.boot_options.specs.Crash.{no_crash}
 use Rattle.boot_options.specs.Options.{Chosen}
 use Rattle.memblock_model.specs.declared.item.Item.{Item}
 use Rattle.memblock_model.specs.declared.which.Which.TheVariants as which
@@ -38,7 +41,6 @@ use Rattle.table_frames.specs.Frames.{free_in, node_of_frame}
 use Rattle.frame_blocks.specs.Frames.{Frames}
 use Rattle.zone_spans.specs.declared.span.Span.{Span}
 use Rattle.zone_spans.specs.Spans.{spans_of}
-use Rattle.boot_model.specs.declared.limit.TheConstants.{MAX_PHYSMEM}
 use Rattle.boot_model.specs.declared.stop.Cause.{Cause}
 use Rattle.boot_model.specs.declared.stop.Cause.TheVariants as causes
 use Rattle.boot_model.specs.Sections.{SectionPlaces, no_sections, places_of_sections}
@@ -55,6 +57,26 @@ pub record Given : Type 0 where
   pub domains : Option Affinity
   pub kernel : Extent
   pub lines : List Line
+
+-- a command line of no words
+abbrev pub no_options : Chosen
+no_options = record { edits = []; crash = no_crash; numa_off = false }
+
+-- what a boot is given by no file: where the kernel lies, and nothing else
+abbrev pub begun : Extent → Given
+begun kernel = record {
+  entries = [];
+  initrd = None;
+  extension = [];
+  options = no_options;
+  domains = None;
+  kernel = kernel;
+  lines = [];
+}
+
+-- the address behind the last one that the kernel's tables of memory reach, in bytes (`MAX_PHYSMEM_BITS`, with page tables of four levels)
+abbrev pub reach : Given → ℕ
+reach given = reach_of Bits46
 
 -- what a boot has made so far: the map, the options, what happened to memory, oldest first; the nodes, what came of the crash area, and
 -- the places of sections; and of the script the IDs that are live, the fills, and the answers
@@ -110,6 +132,10 @@ handed_over items = free_in (memory_of items) (reserved_of (owner_of items))
 abbrev pub spanned : List Item → List Span
 spanned items = spans_of (node_of_frame (memory_of items))
 
+-- how far the tables of memory reached
+abbrev pub reach_told : Told → ℕ
+reach_told told = reach_of Bits46
+
 abbrev pub told : Extent → Made → Told
 told kernel made = record {
   map = made.map;
@@ -144,7 +170,7 @@ begin given = begin_with (map_of (claims given)) given.options
 
 -- the types of addresses, as far as the kernel's tables of memory reach
 abbrev pub types_in_reach : Given → TypeAt
-types_in_reach given = reachable MAX_PHYSMEM (kinds (claims given))
+types_in_reach given = reachable (reach given) (kinds (claims given))
 
 -- the kernel's table has room for the runs of the map (`E820_MAX_ENTRIES`)
 abbrev pub has_room : Stage
@@ -173,7 +199,7 @@ with_items made (Err refused) = Err (cause_of_growth refused)
 -- the first claims are made, the map becomes memory, whole frames of it, and the first MiB is claimed (`early_reserve_memory`,
 -- `e820__memblock_setup`, `reserve_real_mode`)
 abbrev pub has_memory : Given → Stage
-has_memory given made = with_items made (carried_out (first_items MAX_PHYSMEM given.kernel given.initrd made.map) made.items)
+has_memory given made = with_items made (carried_out (first_items (reach given) given.kernel given.initrd made.map) made.items)
 
 -- where lines of the script begin, and what is made behind them
 abbrev pub script_at : Extent → Made → Script

@@ -4,11 +4,10 @@ use Rattle.address_runs.specs.Edits.{NothingFrom}
 use Rattle.memblock_model.specs.declared.item.Item.{Item}
 use Rattle.memblock_model.specs.Items.{limit_of, memory_of}
 use Rattle.stage_model.specs.Noded.{AreOfFrames}
-use Rattle.boot_model.specs.declared.limit.TheConstants.{MAX_PHYSMEM}
 
--- whole frames within reach, which end by the limit of allocations; and there are some
-pub record IsFirst (items : List Item) : Type 0 where
+-- whole frames within the reach of the kernel's tables of memory, which end by the limit of allocations; and there are some
+pub record IsFirst (reach : ℕ) (items : List Item) : Type 0 where
   pub frames : AreOfFrames (λ x. is_some (memory_of items x))
-  pub within : NothingFrom MAX_PHYSMEM (memory_of items)
+  pub within : NothingFrom reach (memory_of items)
   pub low : NothingFrom (limit_of items) (memory_of items)
   pub some : 0 < limit_of items

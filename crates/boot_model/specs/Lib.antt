@@ -1,4 +1,5 @@
 pub mod Boot
+pub mod Facts
 pub mod First
 pub mod Kernel
 pub mod Sections

@@ -1,5 +1,6 @@
 //! What a boot makes: one field a stage, and what reports need of the inputs.
 
+use bm_base::Width;
 use boot_journal::Journal;
 use boot_options::Options;
 use buddy_handover::Buddy;
@@ -40,4 +41,17 @@ pub struct Booted {
     pub spans: Vec<Span>,
     /// The frames that were handed over.
     pub buddy: Buddy,
+}
+
+impl Booted {
+    ghost use Rattle.std.specs.Prelude.{◌≡◌};
+    ghost use Rattle.boot_model.specs.Boot.{reach_told};
+    ghost use Rattle.boot_model.specs.View.{booted_view};
+
+    /// The address behind the last one that the kernel's tables of memory reached, in bytes.
+    pub fn reach(&self) -> u64
+        ensures { result ≡ reach_told (booted_view self.now) }
+    {
+        Width::Bits46.limit()
+    }
 }

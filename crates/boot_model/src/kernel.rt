@@ -4,8 +4,7 @@
 ghost use Rattle.std.specs.Prelude.{◌≡◌, IsTrue};
 ghost use Rattle.boot_model.specs.Kernel.{IsKernel, is_kernel};
 
-use crate::limit::MAX_PHYSMEM;
-use bm_base::{FRAME_SIZE, Range};
+use bm_base::{FRAME_SIZE, Range, Width};
 
 /// The lowest address of a kernel's image, in bytes: behind the first MiB (`LOAD_PHYSICAL_ADDR`).
 const LOWEST_KERNEL: u64 = 0x10_0000;
@@ -13,7 +12,8 @@ const LOWEST_KERNEL: u64 = 0x10_0000;
 /// The fewest bytes of a kernel's image: two frames, for memblock's two tables at its end.
 const SMALLEST_KERNEL: u64 = 2 * FRAME_SIZE;
 
-/// Whether a kernel's image may lie there: above the first MiB, below [`MAX_PHYSMEM`], in whole frames,
+/// Whether a kernel's image may lie there: above the first MiB, within the reach of the kernel's tables of memory
+/// (`MAX_PHYSMEM_BITS`, with page tables of four levels), in whole frames,
 /// of which there are two at least.
 pub fn is_kernel(range: &Range) -> bool
     ensures value { result ≡ is_kernel range.now }
@@ -23,5 +23,5 @@ pub fn is_kernel(range: &Range) -> bool
         && range.size >= SMALLEST_KERNEL
         && range.base % FRAME_SIZE == 0
         && range.size % FRAME_SIZE == 0
-        && range.end() <= MAX_PHYSMEM
+        && range.end() <= Width::Bits46.limit()
 }

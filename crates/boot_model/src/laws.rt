@@ -1,7 +1,7 @@
 //! What holds of a boot that isn't stopped, for whoever reads its map. The laws speak of the definition of the
 //! boot, so who has an answer of it may rest on them and needs to know none of its stages.
 
-ghost use Rattle.std.specs.Prelude.{◌≡◌, ℕ, ◌+◌, ◌*◌, ◌^◌, ◌/◌, ◌<◌, ◌≤◌, is_some, Ok, length};
+ghost use Rattle.std.specs.Prelude.{◌≡◌, ◌≢◌, ℕ, ◌+◌, ◌*◌, ◌^◌, ◌/◌, ◌<◌, ◌≤◌, Bool, Option, List, is_some, IfErr, Ok, Err, length};
 ghost use Rattle.address_runs.specs.Runs.{value_at};
 ghost use Rattle.e820_model.specs.Map.{kinds};
 ghost use Rattle.bm_base.specs.Each.{each_in};
@@ -10,9 +10,17 @@ ghost use Rattle.e820_model.specs.Usable.{is_usable, usable_frames};
 ghost use Rattle.e820_model.specs.declared.room.TheConstants.{E820_MAX_ENTRIES};
 ghost use Rattle.memblock_model.specs.Items.{limit_of, memory_of};
 ghost use Rattle.early_stages.specs.Memory.{memory_end};
-ghost use Rattle.boot_model.specs.Boot.{Given, Made, boot, claims, lies_in_memory, types_in_reach};
+ghost use Rattle.memblock_model.specs.declared.item.Item.{Item};
+ghost use Rattle.growth_model.specs.declared.refusal.Refusal.TheVariants as refusal;
+ghost use Rattle.stage_model.specs.declared.stop.StageStop.TheVariants as stage;
+ghost use Rattle.srat_reader.specs.Table.{Affinity};
+ghost use Rattle.numa_nodes.specs.Assigned.{assigned};
+ghost use Rattle.boot_options.specs.Crash.{Crash as Asked};
+ghost use Rattle.crash_kernel.specs.Reserved.{reserved};
+ghost use Rattle.boot_model.specs.declared.stop.Cause.TheVariants as causes;
+ghost use Rattle.boot_model.specs.Sections.{places_of_sections};
+ghost use Rattle.boot_model.specs.Boot.{Given, Made, boot, claims, lies_in_memory, reach, types_in_reach};
 
-use crate::limit::MAX_PHYSMEM;
 use bm_base::FRAME_SIZE;
 
 /// A law: the map of a boot gives each address below 2^64 the type of its greatest claim, and has at
@@ -23,11 +31,11 @@ pub fn map_gives_types()
     ensures room { (given : Given) (made : Made) → boot given ≡ Ok made → length made.map ≤ E820_MAX_ENTRIES }
 {}
 
-/// A law: a frame below [`MAX_PHYSMEM`] is usable exactly where each of its bytes lies in a run of RAM or of the
+/// A law: a frame in reach of the kernel's tables of memory is usable exactly where each of its bytes lies in a run of RAM or of the
 /// kernel's own memory, of the map of a boot; and there are 1 to 2^32 such frames.
 pub fn map_gives_frames()
     ensures each { (given : Given) (made : Made) (frame : ℕ) → boot given ≡ Ok made →
-        FRAME_SIZE * frame + FRAME_SIZE ≤ MAX_PHYSMEM → is_usable (types_in_reach given) frame
+        FRAME_SIZE * frame + FRAME_SIZE ≤ reach given → is_usable (types_in_reach given) frame
         ≡ each_in (bytes_of_frame frame) (lies_in_memory made.map) }
     ensures some { (given : Given) (made : Made) → boot given ≡ Ok made →
         0 < usable_frames (types_in_reach given) }
@@ -41,5 +49,17 @@ pub fn map_gives_memory()
     ensures memory { (given : Given) (made : Made) (x : ℕ) → boot given ≡ Ok made →
         is_some (memory_of made.items x) ≡ is_usable (types_in_reach given) (x / FRAME_SIZE) }
     ensures limit { (given : Given) (made : Made) → boot given ≡ Ok made →
-        limit_of made.items ≡ memory_end MAX_PHYSMEM (kinds (claims given)) }
+        limit_of made.items ≡ memory_end (reach given) (kinds (claims given)) }
+{}
+
+/// A law: no step of a stage answers that memory is wanting, and no step of the crash area that there is no gap, whatever is
+/// claimed by then. So what the definition of the boot says for these is of no account: it tells that no frame is usable
+/// only where none is.
+pub fn stages_want_no_memory()
+    ensures nodes { (table : Option Affinity) (off : Bool) (items : List Item) →
+        IfErr (assigned table off items).answer (λ stop. stop ≢ stage.Memory) }
+    ensures crash { (asked : Asked) (items : List Item) →
+        IfErr (reserved asked items).answer (λ why. (why ≢ refusal.NoGap) × (why ≢ refusal.Memory)) }
+    ensures sections { (items : List Item) → IfErr (places_of_sections items).answer (λ stop. stop ≢ stage.Memory) }
+    ensures ram { (given : Given) → boot given ≡ Err causes.NoRam → usable_frames (types_in_reach given) ≡ 0 }
 {}

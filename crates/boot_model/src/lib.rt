@@ -9,11 +9,12 @@
 //! one more link: what is proved of a link speaks of that link and of those before it, and asks of
 //! those behind it only that they leave its part as it is, which each of them has as a law of its own.
 //!
-//! Where the kernel's image lies is an input too; what a boot needs of that place stands with the
-//! [`Inputs`] that have it, and [`is_kernel`] is the test.
+//! Where the kernel's image lies is an input too. What a boot needs of that place, and of the value of
+//! each file, stands with the [`Inputs`] that have it, as a fact; of the kernel's place [`is_kernel`] is the test.
+//! [`Inputs::begun`] is what a boot is given by no file, to which each file adds.
 //!
-//! [`MAX_PHYSMEM`] is the limit of the addresses that the kernel's tables of memory reach. It stands
-//! here once; the boot hands it to what depends on it.
+//! How far the kernel's tables of memory reach is told by [`Inputs::reach`], and by nothing else: the boot hands that
+//! limit to what depends on it.
 //!
 //! The layers above may rest on the laws of this crate: the map of a boot that isn't stopped gives
 //! every address the type of its greatest claim, and tells which frames are usable; and a byte is memory in the end
@@ -24,12 +25,10 @@ mod booted;
 mod inputs;
 mod kernel;
 mod laws;
-mod limit;
 mod stop;
 
 pub use booted::Booted;
 pub use inputs::Inputs;
 pub use kernel::is_kernel;
-pub use laws::{map_gives_frames, map_gives_memory, map_gives_types};
-pub use limit::MAX_PHYSMEM;
+pub use laws::{map_gives_frames, map_gives_memory, map_gives_types, stages_want_no_memory};
 pub use stop::{Cause, Stop};

@@ -16,8 +16,8 @@ unless_examples = (refl, refl)
 fault_examples : (stop_of_map (faults.MapFull 3201) ≡ stops.MapFull 3201) × (stop_of_map faults.Memory ≡ stops.Memory)
 fault_examples = (refl, refl)
 
-judged_examples : (judged_answer (Err (faults.MapFull 3201)) ≡ Err (stops.MapFull 3201))
-    × (judged_answer (Err faults.Memory) ≡ Err stops.Memory)
+judged_examples : (judged_answer 0x1000 (Err (faults.MapFull 3201)) ≡ Err (stops.MapFull 3201))
+    × (judged_answer 0x1000 (Err faults.Memory) ≡ Err stops.Memory)
 judged_examples = (refl, refl)
 
 -- want of memory decides nothing

@@ -20,7 +20,6 @@ use Rattle.table_frames.specs.Frames.{free_in, node_of_frame}
 use Rattle.table_frames.specs.Tables.{AreWholeFrames, HasRecords}
 use Rattle.table_frames.proofs.StandLaws.{stands_ascending, stands_below, stands_free, stands_node, stands_whole}
 use Rattle.zone_spans.specs.Spans.{spans_of}
-use Rattle.boot_model.specs.declared.limit.TheConstants.{MAX_PHYSMEM}
 use Rattle.boot_model.specs.Boot.{handed_over, spanned}
 
 -- the tables that stand in the bytes, with the records of the items, where the heads tell
@@ -33,7 +32,7 @@ pub record Stand (items : List Item) (store : List Stored) (memory reserved : He
   pub second_head : reserved ≡ head_of second
   pub first_says : value_at first.records ≡ memory_of items
   pub second_says : value_at second.records ≡ reserved_of (owner_of items)
-  pub noded : IsNoded MAX_PHYSMEM (memory_of items)
+  pub noded : IsNoded (2 ^ 52) (memory_of items)
 
 module _ (items : List Item) (store : List Stored) (memory reserved : Head) (s : Stand items store memory reserved) where
   pub memory-records : HasRecords store memory 4503599627370496
@@ -74,7 +73,7 @@ pub stand-by : (kernel : Extent) (items : List Item) (store : List Stored) (tabl
     → heads ≡ record { memory = head_of found.memory; reserved = head_of found.reserved } → tables ≡ found
     → tables.memory ≡ table_for which.Memory kernel items → tables.reserved ≡ table_for which.Reserved kernel items
     → StandsIn (table_for which.Memory kernel items) store → StandsIn (table_for which.Reserved kernel items) store
-    → IsNoded MAX_PHYSMEM (memory_of items) → NothingFrom (2 ^ 64) (reserved_of (owner_of items))
+    → IsNoded (2 ^ 52) (memory_of items) → NothingFrom (2 ^ 64) (reserved_of (owner_of items))
     → Stand items store heads.memory heads.reserved
 unfolding records_of
 stand-by kernel items store tables found heads told same first second first_stands second_stands noded within = record {
@@ -84,7 +83,7 @@ stand-by kernel items store tables found heads told same first second first_stan
   second_stands = second_stands;
   first_head = ap (λ (h : Heads). h.memory) told ∙ ap (λ (t : Tables). head_of t.memory) (sym same) ∙ ap head_of first;
   second_head = ap (λ (h : Heads). h.reserved) told ∙ ap (λ (t : Tables). head_of t.reserved) (sym same) ∙ ap head_of second;
-  first_says = noded-told MAX_PHYSMEM items (omega arith) noded;
+  first_says = noded-told (2 ^ 52) items (omega arith) noded;
   second_says = value_at-records (reserved_of (owner_of items)) within;
   noded = noded;
 }

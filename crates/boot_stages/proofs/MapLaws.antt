@@ -14,11 +14,10 @@ use Rattle.e820_sanitise.specs.declared.fault.MapFault.TheVariants as faults
 use Rattle.e820_sanitise.specs.Room.{in_room}
 use Rattle.e820_usable.specs.declared.stop.MapStop.{MapStop}
 use Rattle.e820_usable.specs.Judged.{judged}
-use Rattle.boot_model.specs.declared.limit.TheConstants.{MAX_PHYSMEM}
 use Rattle.boot_model.specs.declared.stop.Cause.{Cause}
 use Rattle.boot_model.specs.declared.stop.Stop.{Stop}
 use Rattle.boot_model.specs.declared.stop.Stop.TheVariants as stops
-use Rattle.boot_model.specs.Boot.{Given, Made, begin, begin_with, boot, claims, has_frames, has_memory, later_stages, map_judged, Told, told, told_boot, types_in_reach, unless_stopped, with_items}
+use Rattle.boot_model.specs.Boot.{Given, Made, begin, begin_with, boot, claims, has_frames, has_memory, later_stages, map_judged, reach, Told, told, told_boot, types_in_reach, unless_stopped, with_items}
 use Rattle.memblock_model.specs.declared.item.Item.{Item}
 use Rattle.growth_model.specs.Outcome.{Refused}
 use Rattle.growth_model.specs.Carried.{carried_out}
@@ -78,17 +77,17 @@ judged_same given (Some reason) runs (Err stop) answers = λ other. (let is = an
 pub map_answers : (given : Given) (answer : MapAnswer) → Answers faults.Memory (λ runs. runs.items) answer
     (in_room (map_of (claims given)))
     → IfOk answer (λ runs. IsRunsOf (kinds (claims given)) runs.items) → (result : Result (Vec (RunOf ℕ) Global) Stop)
-    → Answers stops.Memory (λ map. map.items) result (judged_answer answer)
+    → Answers stops.Memory (λ map. map.items) result (judged_answer (reach given) answer)
     → Answers stops.Memory (made_of given) result (with_error stop_of (map_judged given))
 map_answers given (Ok runs) maps are result answers =
     let kinds_are : value_at runs.items ≡ kinds (claims given) = λ i x. are.each x i in
     let P : TypeAt → Type 0 = λ f. Answers stops.Memory (λ (map : Vec (RunOf ℕ) Global). map.items) result
-    (goes_on_with (judged (reachable MAX_PHYSMEM f)) runs.items) in
+    (goes_on_with (judged (reachable (reach given) f)) runs.items) in
     rw (decided given (Ok runs) maps) (judged_same given (judged (types_in_reach given)) runs result (subst P kinds_are answers))
 map_answers given (Err (faults.MapFull runs)) maps are (Ok map) answers = absurd (cc)
 map_answers given (Err (faults.MapFull runs)) maps are (Err stop) answers =
     λ other. (
-    let is : judged_answer (Err (faults.MapFull runs)) ≡ Err stop = answers other in
+    let is : judged_answer (reach given) (Err (faults.MapFull runs)) ≡ Err stop = answers other in
     let same : stops.MapFull runs ≡ stop = cc in
     rw (decided given (Err (faults.MapFull runs)) maps) (ap (λ (s : Stop). Err s) same))
 map_answers given (Err faults.Memory) maps are (Ok map) answers = absurd (cc)
@@ -141,7 +140,7 @@ items_stop made (Err refused) stop is =
 
 -- the items that the stage of memory wants
 abbrev pub memory_said : Given → Made → Result (List Item) Refused
-memory_said given made = carried_out (first_items MAX_PHYSMEM given.kernel given.initrd made.map) made.items
+memory_said given made = carried_out (first_items (reach given) given.kernel given.initrd made.map) made.items
 
 pub memory_stops : {X : Type 0} (view : X → Told) (given : Given) (made : Made) (answer : Result X Stop) (stop : Stop) → answer ≡ Err stop
     → with_error stop_of (map_judged given) ≡ Ok made → (stop ≢ stops.Memory → or_stop (memory_said given made) ≡ Err stop)
@@ -189,6 +188,6 @@ carried_ok (Err refused) items is = absurd (cc)
 
 -- memory as the map gives it
 pub first_made : (given : Given) (made : Made) (items : List Item) → with_error stop_of (map_judged given) ≡ Ok made
-    → or_stop (memory_said given made) ≡ Ok items → IsFirst items
+    → or_stop (memory_said given made) ≡ Ok items → IsFirst (reach given) items
 first_made given made items judged answers =
     first_known given made items (told_ok stop_of (map_judged given) made judged) (carried_ok (memory_said given made) items answers)

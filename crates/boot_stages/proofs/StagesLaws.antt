@@ -1,5 +1,5 @@
 -- What is known behind the lines before the sections, and behind all stages.
-use Rattle.std.proofs.Common.{◌≡◌, ◌∙◌, List, [], ◌∷◌, drop, Ok, ap, sym, subst}
+use Rattle.std.proofs.Common.{◌≡◌, ◌∙◌, ℕ, ◌^◌, ◌≤◌, List, [], ◌∷◌, drop, Ok, ap, sym, subst, arith}
 use Rattle.memblock_model.specs.Labels.{Labels}
 use Rattle.memblock_model.specs.Items.{memory_of}
 use Rattle.growth_model.specs.Bytes.{Filled, Holds}
@@ -13,8 +13,7 @@ use Rattle.early_script.specs.Ids.{Ids}
 use Rattle.early_script.specs.Stage.{Reaches, after_lines, before_sections, behind_sections, stage_of}
 use Rattle.numa_nodes.specs.Assigned.{Noded}
 use Rattle.crash_kernel.specs.declared.crash.Crash.{Crash}
-use Rattle.boot_model.specs.declared.limit.TheConstants.{MAX_PHYSMEM}
-use Rattle.boot_model.specs.Boot.{Given, Made, Stage, has_crash_area, has_nodes, has_sections, later_stages, put_crash, put_nodes, put_sections, runs_lines}
+use Rattle.boot_model.specs.Boot.{Given, Made, Stage, has_crash_area, has_nodes, has_sections, later_stages, put_crash, put_nodes, put_sections, reach, runs_lines}
 use Rattle.boot_model.specs.First.{IsFirst}
 use Rattle.boot_model.specs.Sections.{SectionPlaces}
 use Rattle.boot_model.specs.Stages.{in_order}
@@ -24,6 +23,14 @@ use Rattle.boot_stages.specs.Boots.{AreRun, Comes, HoldsWith, LaterMade, at_memb
 use Rattle.boot_stages.proofs.BytesLaws.{holds-on}
 use Rattle.boot_stages.proofs.LaterLaws.{link-on}
 use Rattle.boot_stages.proofs.ScriptLaws.{lines-run}
+
+-- what ends within a limit ends within a later one
+noded-within : (near far : ℕ) (f : Labels) → IsNoded near f → near ≤ far → IsNoded far f
+noded-within near far f noded low = record {
+  frames = noded.frames;
+  nodes = noded.nodes;
+  within = λ x past. noded.within x (omega (arith, past, low));
+}
 
 -- the bytes behind a call that was lent memblock
 pub lent-holds : (fills : List Filled) (old new : Contents) → GoesOn old new → HoldsWith fills old → HoldsWith fills new
@@ -43,12 +50,12 @@ pub record UpToLines (given : Given) (made : Made) (start mid second m : Content
   pub come : in_order (drop 1 (later_stages given)) (begun_with made start)
       ≡ in_order (has_sections ∷ runs_lines given.kernel (behind_sections given.lines) ∷ [])
       (made_by_lines (behind_crash made start mid second nodes area) m ids fills answers)
-  pub noded : IsNoded MAX_PHYSMEM (memory_of m.journal.items)
+  pub noded : IsNoded (2 ^ 46) (memory_of m.journal.items)
   pub kernel : m.kernel ≡ given.kernel
   pub holds : HoldsWith fills m
 
 pub up_to_lines : (given : Given) (made : Made) (start mid second m : Contents) (nodes : Noded) (area : Crash) (live ids : Ids)
-    (told answers : List Answer) (before : List Line) → start.kernel ≡ given.kernel → IsFirst start.journal.items → HoldsWith [] start
+    (told answers : List Answer) (before : List Line) → start.kernel ≡ given.kernel → IsFirst (reach given) start.journal.items → HoldsWith [] start
     → ((n : Made) → Comes (has_nodes given) put_nodes n start mid (Ok nodes)) → GoesOn start mid
     → ((n : Made) → Comes (has_crash_area given) put_crash n mid second (Ok area)) → GoesOn mid second
     → live ≡ [] → told ≡ [] → before ≡ before_sections given.lines
@@ -71,7 +78,8 @@ up_to_lines given made start mid second m nodes area live ids told answers befor
     ∙ ap (λ (l : Ids). runs_lines given.kernel before (begins l [])) (sym no_ids)
     ∙ ap (λ (t : List Answer). runs_lines given.kernel before (begins live t)) (sym none_told) ∙ lines_end.come in
     let behind : List Stage = has_sections ∷ runs_lines given.kernel (behind_sections given.lines) ∷ [] in
-    let noded_first : IsNoded MAX_PHYSMEM (memory_of mid.journal.items) = nodes_known given s0 s1 first (nodes_come s0) in
+    let noded_first : IsNoded (2 ^ 46) (memory_of mid.journal.items) =
+    noded-within (reach given) (2 ^ 46) (memory_of mid.journal.items) (nodes_known given s0 s1 first (nodes_come s0)) (omega arith) in
     let by_crash : memory_of second.journal.items ≡ memory_of mid.journal.items = crash_labels given s1 s2 (crash_come s1) in
     let by_lines : memory_of m.journal.items ≡ memory_of second.journal.items =
     lines_labels given.kernel (before_sections given.lines) s2 s3 comes in
@@ -80,7 +88,7 @@ up_to_lines given made start mid second m nodes area live ids told answers befor
       come = link-on (has_nodes given) (drop 2 (later_stages given)) s0 s1 (nodes_come s0)
           ∙ link-on (has_crash_area given) (drop 3 (later_stages given)) s1 s2 (crash_come s1)
           ∙ link-on (runs_lines given.kernel (before_sections given.lines)) behind s2 s3 comes;
-      noded = subst (λ (f : Labels). IsNoded MAX_PHYSMEM f) (sym (by_lines ∙ by_crash)) noded_first;
+      noded = subst (λ (f : Labels). IsNoded (2 ^ 46) f) (sym (by_lines ∙ by_crash)) noded_first;
       kernel = same ∙ second_kernel;
       holds = lines_end.holds;
     }
@@ -88,7 +96,7 @@ up_to_lines given made start mid second m nodes area live ids told answers befor
 -- and behind all
 pub record AllRun (given : Given) (made : Made) (start last : Contents) (later : LaterMade) : Type 0 where
   pub run : AreRun given (begun_with made start) last later
-  pub noded : IsNoded MAX_PHYSMEM (memory_of last.journal.items)
+  pub noded : IsNoded (2 ^ 52) (memory_of last.journal.items)
 
 pub all_run : (given : Given) (made : Made) (start mid second m next last : Contents) (nodes : Noded) (area : Crash) (places :
     SectionPlaces)
@@ -122,5 +130,6 @@ all_run given made start mid second m next last nodes area places ids final answ
             ∙ link-on (runs_lines given.kernel (behind_sections given.lines)) [] s4 s5 comes;
         holds = lines_end.holds;
       };
-      noded = subst (λ (f : Labels). IsNoded MAX_PHYSMEM f) (sym (by_lines ∙ by_sections)) up.noded;
+      noded = noded-within (2 ^ 46) (2 ^ 52) (memory_of last.journal.items)
+          (subst (λ (f : Labels). IsNoded (2 ^ 46) f) (sym (by_lines ∙ by_sections)) up.noded) (omega arith);
     }

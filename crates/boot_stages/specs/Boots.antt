@@ -17,7 +17,6 @@ use Rattle.memblock_ranges.specs.declared.region.Heads.{Heads}
 use Rattle.memblock_ranges.specs.Tables.{Table, StandsIn, head_of, list_in}
 use Rattle.table_frames.specs.Frames.{free_in}
 use Rattle.buddy_handover.specs.Contents.{Contents as Buddy, free}
-use Rattle.boot_model.specs.declared.limit.TheConstants.{MAX_PHYSMEM}
 use Rattle.boot_model.specs.declared.stop.Cause.TheVariants as causes
 use Rattle.boot_model.specs.declared.stop.Stop.{Stop}
 use Rattle.boot_model.specs.declared.stop.Stop.TheVariants as stops
@@ -50,10 +49,10 @@ abbrev pub goes_on_with : Option MapStop → List (RunOf ℕ) → Result (List (
 goes_on_with None map = Ok map
 goes_on_with (Some reason) map = Err (stop_of (cause_of_map reason))
 
--- what is made of that answer: the map's own frames are judged
-abbrev pub judged_answer : MapAnswer → Result (List (RunOf ℕ)) Stop
-judged_answer (Ok runs) = goes_on_with (judged (reachable MAX_PHYSMEM (value_at runs.items))) runs.items
-judged_answer (Err fault) = Err (stop_of_map fault)
+-- what is made of that answer: the map's own frames are judged, as far as the kernel's tables of memory reach
+abbrev pub judged_answer : ℕ → MapAnswer → Result (List (RunOf ℕ)) Stop
+judged_answer reach (Ok runs) = goes_on_with (judged (reachable reach (value_at runs.items))) runs.items
+judged_answer reach (Err fault) = Err (stop_of_map fault)
 
 -- by that answer the boot goes on to judge the frames, or stops; with no memory for it nothing is said
 abbrev pub IsDecided : Given → MapAnswer → Type 0

@@ -14,7 +14,6 @@ ghost use Rattle.boot_stages.specs.Boots.{IsSpelledFree, TableStands};
 
 use bm_base::Memory;
 use boot_journal::Journal;
-use boot_model::MAX_PHYSMEM;
 use buddy_handover::{Buddy, hand_over};
 use memblock_grow::Memblock;
 use memblock_ranges::Heads;
@@ -35,7 +34,7 @@ pub struct End {
 /// Takes memblock apart. What memory spans and which frames are free is read from the bytes at the two heads, and from
 /// nothing else (`free_area_init`, `memblock_free_all`).
 pub fn hand_over_memory(alloc: Global, memblock: Memblock) -> Result<End, Memory>
-    requires noded { IsNoded MAX_PHYSMEM (memory_of memblock.journal.items) }
+    requires noded { IsNoded (2 ^ 52) (memory_of memblock.journal.items) }
     requires within { NothingFrom (2 ^ 64) (reserved_of (owner_of memblock.journal.items)) }
     ensures store { IfOk result (λ end. end.store ≡ memblock.tables.store) }
     ensures journal { IfOk result (λ end. end.journal ≡ memblock.journal) }

@@ -13,14 +13,14 @@ ghost use Rattle.stage_calls.specs.Lent.{GoesOn};
 ghost use Rattle.script_reader.specs.Forms.{HasBounds};
 ghost use Rattle.early_script.specs.Stage.{PlaceOnce};
 ghost use Rattle.numa_nodes.specs.Assigned.{nodes_view};
-ghost use Rattle.boot_model.specs.Boot.{Made, has_crash_area, has_nodes, has_sections, put_crash, put_nodes, put_sections};
+ghost use Rattle.boot_model.specs.Boot.{Made, has_crash_area, has_nodes, has_sections, put_crash, put_nodes, put_sections, reach};
 ghost use Rattle.boot_model.specs.First.{IsFirst};
 ghost use Rattle.boot_model.specs.Sections.{places_of_sections};
 ghost use Rattle.boot_model.specs.View.{inputs_view};
 ghost use Rattle.boot_stages.specs.Boots.{AreRun, AreStopped, Comes, HoldsWith, begun_with, later_view, places_view, stop_of_stage};
 
 use crate::memory::stopped;
-use boot_model::{Inputs, MAX_PHYSMEM, Stop};
+use boot_model::{Inputs, Stop};
 use crash_kernel::{Crash, reserve};
 use early_script::{Answer, Live, run_lines, split_at_sections};
 use memblock_grow::Memblock;
@@ -64,7 +64,6 @@ fn stop_of_stage(stop: StageStop) -> Stop
 fn give_nodes(alloc: Global, memblock: &mut Memblock, inputs: &Inputs) -> Result<Nodes, Stop>
     requires begun { HasBegun memblock.old.journal.items }
     requires limit { 0 < limit_of memblock.old.journal.items }
-    requires few { IfSome inputs.now.srat (λ table. length table.blocks.items < 2 ^ 32) }
     ensures comes { (made : Made) → Comes (has_nodes (inputs_view inputs.now)) put_nodes made memblock.old memblock.new
         (ok_as nodes_view result) }
     ensures begun { HasBegun memblock.new.journal.items }
@@ -97,7 +96,7 @@ fn reserve_area(memblock: &mut Memblock, inputs: &Inputs) -> Result<Crash, Stop>
 /// The sections that have memory get their roots, and then their usage data and maps (`sparse_init`).
 fn place_sections(alloc: Global, memblock: &mut Memblock) -> Result<Sections, Stop>
     requires begun { HasBegun memblock.old.journal.items }
-    requires noded { IsNoded MAX_PHYSMEM (memory_of memblock.old.journal.items) }
+    requires noded { IsNoded (2 ^ 46) (memory_of memblock.old.journal.items) }
     ensures comes { (made : Made) → Comes has_sections put_sections made memblock.old memblock.new (ok_as places_view result) }
     ensures begun { HasBegun memblock.new.journal.items }
     ensures lent { GoesOn memblock.old memblock.new }
@@ -110,7 +109,7 @@ fn place_sections(alloc: Global, memblock: &mut Memblock) -> Result<Sections, St
 
 fn place_all(alloc: Global, memblock: &mut Memblock) -> Result<Sections, StageStop>
     requires begun { HasBegun memblock.old.journal.items }
-    requires noded { IsNoded MAX_PHYSMEM (memory_of memblock.old.journal.items) }
+    requires noded { IsNoded (2 ^ 46) (memory_of memblock.old.journal.items) }
     ensures ends { EndsAs stage.Memory (ok_as places_view result) memblock.old.journal.items memblock.new.journal.items
         (places_of_sections memblock.old.journal.items) }
     ensures lent { GoesOn memblock.old memblock.new }
@@ -125,17 +124,14 @@ fn place_all(alloc: Global, memblock: &mut Memblock) -> Result<Sections, StageSt
 /// The stages behind memory, in their order.
 pub fn run_stages(alloc: Global, memblock: &mut Memblock, inputs: &Inputs) -> Result<Later, Stop>
     requires begun { HasBegun memblock.old.journal.items }
-    requires first { IsFirst memblock.old.journal.items }
+    requires first { IsFirst (reach (inputs_view inputs.now)) memblock.old.journal.items }
     requires kernel { memblock.old.kernel ≡ inputs.now.kernel }
     requires bytes { HoldsWith [] memblock.old }
-    requires few { IfSome inputs.now.srat (λ table. length table.blocks.items < 2 ^ 32) }
-    requires bounds { All (λ l. HasBounds l.act) inputs.now.lines.items }
-    requires once { PlaceOnce inputs.now.lines.items }
     ensures run { IfOk result (λ later. (made : Made) →
         AreRun (inputs_view inputs.now) (begun_with made memblock.old) memblock.new (later_view later)) }
     ensures stopped { IfErr result (λ stop. (made : Made) →
         AreStopped (inputs_view inputs.now) (begun_with made memblock.old) stop) }
-    ensures noded { IfOk result (λ _. IsNoded MAX_PHYSMEM (memory_of memblock.new.journal.items)) }
+    ensures noded { IfOk result (λ _. IsNoded (2 ^ 52) (memory_of memblock.new.journal.items)) }
     ensures still_ready { StayReady memblock.old.tables.store memblock.new.tables.store }
 {
     let nodes = give_nodes(alloc, memblock, inputs)?;

@@ -11,7 +11,7 @@ ghost use Rattle.e820_usable.specs.Judged.{judged};
 ghost use Rattle.boot_stages.specs.Boots.{judged_answer, goes_on_with};
 
 use bm_base::Memory;
-use boot_model::{Cause, MAX_PHYSMEM, Stop};
+use boot_model::{Cause, Stop};
 use boot_options::Edit;
 use e820_sanitise::{MapFault, Run, Table};
 use e820_table::Entry;
@@ -59,29 +59,30 @@ fn edit_settled(table: &mut Table, edits: &[Edit]) -> Result<(), Memory>
 }
 
 /// The map that the table answers, where a boot goes on with it: it has usable frames within reach, and
-/// not too many. Takes no memory: `Memory` is answered exactly where that was the table's own answer.
-pub fn judged_map(answer: Result<Vec<Run>, MapFault>) -> Result<Vec<Run>, Stop>
+/// not too many. `reach` is the address behind the last one in reach. Takes no memory: `Memory` is answered exactly
+/// where that was the table's own answer.
+pub fn judged_map(answer: Result<Vec<Run>, MapFault>, reach: u64) -> Result<Vec<Run>, Stop>
     requires { IfOk answer (λ runs. AreRuns runs.items) }
-    ensures answers { Answers Stop.Memory (λ runs. runs.items) result (judged_answer answer) }
+    ensures answers { Answers Stop.Memory (λ runs. runs.items) result (judged_answer reach answer) }
     ensures wanting { IsErrOf result Stop.Memory ↔ IsErrOf answer MapFault.Memory }
     ensures runs { IfOk result (λ runs. AreRuns runs.items) }
 {
     match answer {
-        Ok(map) => go_on(map),
+        Ok(map) => go_on(map, reach),
         Err(MapFault::MapFull { runs }) => Err(Stop::MapFull { runs }),
         Err(MapFault::Memory) => Err(Stop::Memory),
     }
 }
 
 /// The map, unless the boot stops at it. Takes no memory.
-fn go_on(map: Vec<Run>) -> Result<Vec<Run>, Stop>
+fn go_on(map: Vec<Run>, reach: u64) -> Result<Vec<Run>, Stop>
     requires { AreRuns map.items }
     ensures answers { Answers Stop.Memory (λ runs. runs.items) result
-        (goes_on_with (judged (reachable MAX_PHYSMEM (value_at map.items))) map.items) }
+        (goes_on_with (judged (reachable reach (value_at map.items))) map.items) }
     ensures always { ¬ IsErrOf result Stop.Memory }
     ensures runs { IfOk result (λ runs. AreRuns runs.items) }
 {
-    match judge(&map, MAX_PHYSMEM) {
+    match judge(&map, reach) {
         Some(reason) => Err(Stop::from(Cause::from(reason))),
         None => Ok(map),
     }

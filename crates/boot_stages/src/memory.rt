@@ -16,7 +16,7 @@ ghost use Rattle.boot_stages.specs.Carries.{Carries, or_stop, stop_for};
 
 use bm_base::Range;
 use boot_journal::Owner;
-use boot_model::{MAX_PHYSMEM, Stop};
+use boot_model::Stop;
 use e820_model::E820_TYPE_SOFT_RESERVED;
 use e820_sanitise::Run;
 use e820_usable::is_memory;
@@ -54,12 +54,12 @@ fn claim_early(memblock: &mut Memblock, kernel: Range, initrd: Option<Range>) ->
     }
 }
 
-/// What firmware keeps for a driver is claimed, and memory is added as far as the kernel's tables reach; of any other
-/// run nothing is wanted (`e820__memblock_setup`).
-fn add_run(memblock: &mut Memblock, run: &Run) -> Result<(), Refusal>
+/// What firmware keeps for a driver is claimed, and memory is added below `reach`, as far as the kernel's tables go; of any
+/// other run nothing is wanted (`e820__memblock_setup`).
+fn add_run(memblock: &mut Memblock, run: &Run, reach: u64) -> Result<(), Refusal>
     requires some { 0 < run.now.size }
     requires begun { HasBegun memblock.old.journal.items }
-    ensures carries { Carries result (items_of_run MAX_PHYSMEM run.now) memblock.old.journal.items memblock.new.journal.items }
+    ensures carries { Carries result (items_of_run reach run.now) memblock.old.journal.items memblock.new.journal.items }
     ensures begun { HasBegun memblock.new.journal.items }
     ensures lent { GoesOn memblock.old memblock.new }
 {
@@ -68,38 +68,38 @@ fn add_run(memblock: &mut Memblock, run: &Run) -> Result<(), Refusal>
     if run.kind == E820_TYPE_SOFT_RESERVED {
         return memblock.claim(range, Owner::Soft);
     }
-    if !is_memory(run.kind) || range.base >= MAX_PHYSMEM {
+    if !is_memory(run.kind) || range.base >= reach {
         return Ok(());
     }
-    memblock.add_memory(below_limit(range))
+    memblock.add_memory(below_limit(range, reach))
 }
 
-/// The part of the range, which begins below the limit of addresses, that lies below it.
-fn below_limit(range: Range) -> Range
-    requires { range.base < MAX_PHYSMEM }
-    ensures { result ≡ record { base = range.base; size = min (range.base + range.size) MAX_PHYSMEM - range.base } }
+/// The part of the range, which begins below `reach`, that lies below it.
+fn below_limit(range: Range, reach: u64) -> Range
+    requires { range.base < reach }
+    ensures { result ≡ record { base = range.base; size = min (range.base + range.size) reach - range.base } }
 {
-    if range.end() < MAX_PHYSMEM {
+    if range.end() < reach {
         range
     } else {
         Range {
             base: range.base,
-            size: MAX_PHYSMEM - range.base,
+            size: reach - range.base,
         }
     }
 }
 
 /// The runs of the map, one after another.
-fn add_map(memblock: &mut Memblock, map: &[Run]) -> Result<(), Refusal>
+fn add_map(memblock: &mut Memblock, map: &[Run], reach: u64) -> Result<(), Refusal>
     requires runs { AreRuns map.now }
     requires begun { HasBegun memblock.old.journal.items }
-    ensures carries { Carries result (items_of_map MAX_PHYSMEM map.now) memblock.old.journal.items memblock.new.journal.items }
+    ensures carries { Carries result (items_of_map reach map.now) memblock.old.journal.items memblock.new.journal.items }
     ensures begun { HasBegun memblock.new.journal.items }
     ensures lent { GoesOn memblock.old memblock.new }
 {
     stand_still(memblock);
     for run in map {
-        add_run(memblock, run)?;
+        add_run(memblock, run, reach)?;
     }
     Ok(())
 }
@@ -122,6 +122,7 @@ fn map_memory(
     kernel: Range,
     initrd: Option<Range>,
     map: &[Run],
+    reach: u64,
 ) -> Result<(), Refusal>
     requires first { memblock.old.journal.items ≡ [] }
     requires kernel { kernel ≡ memblock.old.kernel }
@@ -129,14 +130,14 @@ fn map_memory(
     requires initrd { IfSome initrd (λ range. 0 < range.size) }
     requires runs { AreRuns map.now }
     ensures carries { Carries result
-        (early_claims kernel initrd ++ (item.Limit ISA_END_ADDRESS ∷ (items_of_map MAX_PHYSMEM map.now ++ item.Trim ∷ [])))
+        (early_claims kernel initrd ++ (item.Limit ISA_END_ADDRESS ∷ (items_of_map reach map.now ++ item.Trim ∷ [])))
         memblock.old.journal.items memblock.new.journal.items }
     ensures begun { OnOk result (HasBegun memblock.new.journal.items) }
     ensures lent { GoesOn memblock.old memblock.new }
 {
     claim_early(memblock, kernel, initrd)?;
     memblock.set_limit(ISA_END_ADDRESS)?;
-    add_map(memblock, map)?;
+    add_map(memblock, map, reach)?;
     memblock.trim()?;
     Ok(())
 }
@@ -160,18 +161,19 @@ fn set_up(
     kernel: Range,
     initrd: Option<Range>,
     map: &[Run],
+    reach: u64,
 ) -> Result<(), Refusal>
     requires first { memblock.old.journal.items ≡ [] }
     requires kernel { kernel ≡ memblock.old.kernel }
     requires image { 0 < kernel.size }
     requires initrd { IfSome initrd (λ range. 0 < range.size) }
     requires runs { AreRuns map.now }
-    ensures carries { Carries result (first_items MAX_PHYSMEM kernel initrd map.now)
+    ensures carries { Carries result (first_items reach kernel initrd map.now)
         memblock.old.journal.items memblock.new.journal.items }
     ensures begun { OnOk result (HasBegun memblock.new.journal.items) }
     ensures lent { GoesOn memblock.old memblock.new }
 {
-    map_memory(memblock, kernel, initrd, map)?;
+    map_memory(memblock, kernel, initrd, map, reach)?;
     let end = end_of_memory(memblock.tables());
     limit_memory(memblock, end)
 }
@@ -188,24 +190,25 @@ pub fn stopped(refusal: Refusal) -> Stop
     }
 }
 
-/// Memory as the map says it, with what is claimed before nodes are known.
+/// Memory as the map says it below `reach`, with what is claimed before nodes are known.
 pub fn make_memory(
     alloc: Global,
     kernel: Range,
     initrd: Option<Range>,
     map: &[Run],
+    reach: u64,
 ) -> Result<Memblock, Stop>
     requires image { IsImage kernel }
     requires initrd { IfSome initrd (λ range. 0 < range.size) }
     requires runs { AreRuns map.now }
     ensures answers { Answers Stop.Memory (λ memblock. memblock.journal.items) result
-        (or_stop (carried_out (first_items MAX_PHYSMEM kernel initrd map.now) [])) }
+        (or_stop (carried_out (first_items reach kernel initrd map.now) [])) }
     ensures kernel { IfOk result (λ memblock. memblock.kernel ≡ kernel) }
     ensures begun { IfOk result (λ memblock. HasBegun memblock.journal.items) }
     ensures bytes { IfOk result (λ memblock. HoldsWith [] memblock) }
 {
     let mut memblock = Memblock::new(alloc, kernel)?;
-    match set_up(&mut memblock, kernel, initrd, map) {
+    match set_up(&mut memblock, kernel, initrd, map, reach) {
         Ok(()) => Ok(memblock),
         Err(refusal) => Err(stopped(refusal)),
     }

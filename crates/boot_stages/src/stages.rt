@@ -3,12 +3,9 @@
 //! (`conservation`).
 
 ghost use Rattle.std.specs.Prelude.{◌≡◌, ◌^◌, ◌<◌, ℕ, Ok, IfOk, IfSome, length};
-ghost use Rattle.std.specs.List.{All};
-ghost use Rattle.e820_table.specs.Initrd.{IsInitrd};
 ghost use Rattle.address_runs.specs.Runs.{AreRuns};
-ghost use Rattle.e820_model.specs.Claims.{EndInSpace, HaveTypes};
 ghost use Rattle.e820_model.specs.Map.{claims_of};
-ghost use Rattle.boot_model.specs.Boot.{Given, Made, begin_with, boot, claims, map_judged, told_boot};
+ghost use Rattle.boot_model.specs.Boot.{Given, Made, begin_with, boot, claims, map_judged, reach, told_boot};
 ghost use Rattle.boot_model.specs.View.{booted_view, inputs_view};
 ghost use Rattle.conservation.specs.Headline.{AllTouchedOrInOne, BlocksAreMaximal, BlocksAreWhole, NoOtherInABlock};
 ghost use Rattle.bm_base.specs.Answers.{Answers};
@@ -18,8 +15,6 @@ ghost use Rattle.memblock_model.specs.declared.which.Which.TheVariants as which;
 ghost use Rattle.phys_store.specs.Bytes.{byte_of};
 ghost use Rattle.growth_model.specs.Sound.{HasBegun};
 ghost use Rattle.growth_model.specs.Bytes.{byte};
-ghost use Rattle.script_reader.specs.Forms.{HasBounds};
-ghost use Rattle.early_script.specs.Stage.{PlaceOnce};
 ghost use Rattle.boot_options.specs.Options.{chosen};
 ghost use Rattle.boot_stages.specs.Boots.{IsSpelledFree, TableStands};
 ghost use Rattle.boot_stages.specs.Ended.{ended_view};
@@ -38,19 +33,11 @@ use std::alloc::Global;
 /// (`reserve_crashkernel`), the lines of the early script are carried out around the places of the sections (`sparse_init`),
 /// and the frames of which nobody has a byte are free (`memblock_free_all`).
 ///
-/// Each entry's address plus size is at most 2^64 - 1, and no type of an edit is 0. The map is
-/// refused exactly where the definition stops: first where it has more than 3,200 runs, then where no
+/// The map is refused exactly where the definition stops: first where it has more than 3,200 runs, then where no
 /// frame of it is usable, then where more than 2^32 are. Behind it the boot stops exactly where a table had to grow
 /// and found no place, or a thing that it can't do without found none; a line of the script that is refused is answered,
 /// and the boot goes on.
 pub fn boot(alloc: Global, inputs: Inputs) -> Result<Booted, Stop>
-    requires entries_end { EndInSpace inputs.zero.entries.items }
-    requires extension_ends { EndInSpace inputs.ext.items }
-    requires types { HaveTypes inputs.options.edits.items }
-    requires initrd { IfSome inputs.zero.initrd IsInitrd }
-    requires bounds { All (λ l. HasBounds l.act) inputs.lines.items }
-    requires once { PlaceOnce inputs.lines.items }
-    requires few { IfSome inputs.srat (λ table. length table.blocks.items < 2 ^ 32) }
     ensures boots { Answers Stop.Memory booted_view result
         (with_error stop_of (told_boot (inputs_view inputs))) }
     ensures bytes { IfOk result (λ booted. (made : Made) → boot (inputs_view inputs) ≡ Ok made →
@@ -105,13 +92,6 @@ struct Ended {
 
 /// The stages in their order. The inputs are lent, since the options stand in what the boot makes.
 fn boot_by(alloc: Global, inputs: &Inputs) -> Result<Ended, Stop>
-    requires entries_end { EndInSpace inputs.now.zero.entries.items }
-    requires extension_ends { EndInSpace inputs.now.ext.items }
-    requires types { HaveTypes inputs.now.options.edits.items }
-    requires initrd { IfSome inputs.now.zero.initrd IsInitrd }
-    requires bounds { All (λ l. HasBounds l.act) inputs.now.lines.items }
-    requires once { PlaceOnce inputs.now.lines.items }
-    requires few { IfSome inputs.now.srat (λ table. length table.blocks.items < 2 ^ 32) }
     ensures boots { Answers Stop.Memory (ended_view (chosen inputs.now.options)) result
         (with_error stop_of (told_boot (inputs_view inputs.now))) }
     ensures bytes { IfOk result (λ ended. (made : Made) → boot (inputs_view inputs.now) ≡ Ok made →
@@ -129,19 +109,20 @@ fn boot_by(alloc: Global, inputs: &Inputs) -> Result<Ended, Stop>
         &inputs.ext,
         &inputs.options.edits,
     )?;
-    let map = settled_map(&table)?;
-    let mut memblock = make_memory(alloc, inputs.kernel, inputs.zero.initrd, &map)?;
+    let reach = inputs.reach();
+    let map = settled_map(&table, reach)?;
+    let mut memblock = make_memory(alloc, inputs.kernel, inputs.zero.initrd, &map, reach)?;
     let later = run_stages(alloc, &mut memblock, inputs)?;
     let end = hand_over_memory(alloc, memblock)?;
     Ok(Ended { map, later, end })
 }
 
 /// The map of the table's claims, where the boot goes on with it.
-fn settled_map(table: &Table) -> Result<Vec<Run>, Stop>
-    ensures answers { (given : Given) → claims given ≡ claims_of table.now →
+fn settled_map(table: &Table, limit: u64) -> Result<Vec<Run>, Stop>
+    ensures answers { (given : Given) → claims given ≡ claims_of table.now → reach given ≡ limit →
         Answers Stop.Memory (λ map. begin_with map.items given.options) result
         (with_error stop_of (map_judged given)) }
     ensures runs { IfOk result (λ map. AreRuns map.items) }
 {
-    judged_map(table.runs())
+    judged_map(table.runs(), limit)
 }

@@ -1,5 +1,5 @@
 -- Small journals, blocks and boots: what the definitions say of them, and which boots they refuse.
-use Rattle.std.proofs.Common.{◌≡◌, ℕ, ◌<◌, ◌≤◌, ◌==◌, true, false, if◌then◌else◌, Some, None, List, [], ◌∷◌, refl, inl, inr, ⊎_elim, arith}
+use Rattle.std.proofs.Common.{◌≡◌, ℕ, ◌^◌, ◌<◌, ◌≤◌, ◌==◌, true, false, if◌then◌else◌, Some, None, List, [], ◌∷◌, refl, inl, inr, ⊎_elim, arith}
 use Rattle.std.proofs.lemmas.Bool.Decides.{nat_tests}
 use Rattle.std.proofs.lemmas.Bool.{cases_Bool}
 use Rattle.bm_base.specs.Extent.{Extent, covers}
@@ -96,13 +96,13 @@ touched_buddy_example given less all = five_not_untouched (all 5 refl).untouched
 abbrev two_runs : List (RunOf ℕ)
 two_runs = record { base = 0x1000; size = 0x1000; value = 1 } ∷ (record { base = 0x2000; size = 0x1000; value = 2 } ∷ [])
 
-usable_by_runs : IsUsableBy two_runs 1
+usable_by_runs : IsUsableBy (2 ^ 46) two_runs 1
 usable_by_runs = (omega arith, λ x inside. grind (arith, nat_tests))
 
-reserved_by_runs : IsUsableBy two_runs 2 → ⊥
+reserved_by_runs : IsUsableBy (2 ^ 46) two_runs 2 → ⊥
 reserved_by_runs usable = let wrong : false ≡ true = usable.1 0x2000 refl in cc wrong
 
-out_of_reach : (map : List (RunOf ℕ)) → IsUsableBy map 17179869184 → ⊥
+out_of_reach : (map : List (RunOf ℕ)) → IsUsableBy (2 ^ 46) map 17179869184 → ⊥
 out_of_reach map usable = let low = usable.0 in absurd (omega (arith, low))
 
 -- a boot that tells these items and these free frames, whatever else it tells

@@ -18,8 +18,8 @@ use Rattle.stage_model.specs.Noded.{IsNoded}
 use Rattle.table_frames.specs.Frames.{free_in, node_below, node_of_frame, node_told}
 use Rattle.table_frames.specs.declared.frames.TheConstants.{MAX_NODES}
 use Rattle.frame_blocks.specs.declared.run.TheConstants.{MAX_FRAMES}
-use Rattle.boot_model.specs.declared.limit.TheConstants.{MAX_PHYSMEM}
-use Rattle.boot_model.specs.Boot.{Given, handed_over, types_in_reach}
+use Rattle.boot_model.specs.Boot.{Given, handed_over, reach, types_in_reach}
+use Rattle.boot_model.proofs.ReachLaws.{reach-small}
 use Rattle.conservation.specs.Claimed.{IsUntouched}
 use Rattle.conservation.specs.Headline.{IsUsable}
 use Rattle.conservation.proofs.ClaimedLaws.{covers_frame, frame_covers}
@@ -27,7 +27,7 @@ use Rattle.conservation.proofs.ClaimedLaws.{covers_frame, frame_covers}
 -- what is known of memory at the end of a boot: its bytes are those of the usable frames, and each of them has a node
 pub record HasNodes (given : Given) (items : List Item) : Type 0 where
   pub memory : (x : ℕ) → is_some (memory_of items x) ≡ is_usable (types_in_reach given) (x / 4096)
-  pub noded : IsNoded MAX_PHYSMEM (memory_of items)
+  pub noded : IsNoded (reach given) (memory_of items)
 
 -- a free frame, of the node
 pub record IsFree (given : Given) (items : List Item) (frame node : ℕ) : Type 0 where
@@ -148,6 +148,7 @@ module _ (given : Given) (items : List Item) (known : HasNodes given items) wher
   pub handed_below : NothingFrom MAX_FRAMES (handed_over items)
   unfolding free_in
   handed_below frame far =
-      let none : memory_of items (4096 * frame) ≡ None = known.noded.within (4096 * frame) (omega (arith, far)) in
+      let small = reach-small given in
+      let none : memory_of items (4096 * frame) ≡ None = known.noded.within (4096 * frame) (omega (arith, far, small)) in
       if_none (each_in (bytes_of_frame frame) (λ x. is_some (memory_of items x) && is_none (reserved_of (owner_of items) x)))
       (node_of_frame (memory_of items) frame) (ap node_told none)

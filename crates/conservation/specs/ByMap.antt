@@ -4,11 +4,10 @@ use Rattle.bm_base.specs.Frames.{bytes_of_frame}
 use Rattle.bm_base.specs.Extent.{covers}
 use Rattle.bm_base.specs.declared.frame.TheConstants.{FRAME_SIZE}
 use Rattle.address_runs.specs.Runs.{RunOf}
-use Rattle.boot_model.specs.declared.limit.TheConstants.{MAX_PHYSMEM}
 use Rattle.boot_model.specs.Boot.{lies_in_memory}
 
--- each byte of the frame lies below the limit of addresses, in a run of RAM or of memory of the kernel's own
-abbrev pub IsUsableBy : List (RunOf ℕ) → ℕ → Type 0
-IsUsableBy map frame =
-    (FRAME_SIZE * frame + FRAME_SIZE ≤ MAX_PHYSMEM)
+-- each byte of the frame lies in reach of the kernel's tables of memory, in a run of RAM or of memory of the kernel's own
+abbrev pub IsUsableBy : ℕ → List (RunOf ℕ) → ℕ → Type 0
+IsUsableBy reach map frame =
+    (FRAME_SIZE * frame + FRAME_SIZE ≤ reach)
     × ((x : ℕ) → covers (bytes_of_frame frame) x ≡ true → lies_in_memory map x ≡ true)

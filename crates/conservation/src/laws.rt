@@ -2,7 +2,7 @@
 //! proved of the definition, and no stage is called: so they hold of any boot that answers it.
 
 ghost use Rattle.std.specs.Prelude.{◌≡◌, ◌↔◌, ℕ, Ok};
-ghost use Rattle.boot_model.specs.Boot.{Given, Told, told_boot};
+ghost use Rattle.boot_model.specs.Boot.{Given, Told, reach_told, told_boot};
 ghost use Rattle.conservation.specs.Headline.{AllTouchedOrInOne, BlocksAreMaximal, BlocksAreWhole, IsUsable, NoOtherInABlock};
 ghost use Rattle.conservation.specs.ByMap.{IsUsableBy};
 
@@ -31,5 +31,5 @@ pub fn blocks_are_maximal()
 /// A law: which frames are usable is told by the map that a boot tells.
 pub fn map_tells_usable_frames()
     ensures { (given : Given) (told : Told) (frame : ℕ) → told_boot given ≡ Ok told →
-        (IsUsable given frame ↔ IsUsableBy told.map frame) }
+        (IsUsable given frame ↔ IsUsableBy (reach_told told) told.map frame) }
 {}

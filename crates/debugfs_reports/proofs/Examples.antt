@@ -18,7 +18,6 @@ use Rattle.frame_blocks.specs.declared.block.Block.{Block}
 use Rattle.frame_blocks.specs.Frames.{Frames}
 use Rattle.frame_blocks.specs.Listed.{are_free, blocks_from, blocks_of, order_up_to}
 use Rattle.frame_blocks.proofs.ListLaws.{from-append, from-block, from-none, not_first-bare}
-use Rattle.boot_model.specs.declared.limit.TheConstants.{MAX_PHYSMEM}
 use Rattle.boot_model.specs.Boot.{Told, no_nodes}
 use Rattle.boot_model.specs.Sections.{no_sections}
 use Rattle.stage_texts.specs.SummaryText.{summary_text}
@@ -187,13 +186,13 @@ small = record {
 }
 
 -- the second run of that map isn't memory
-small_memory : (x : ℕ) → is_memory (reachable MAX_PHYSMEM (value_at (six_frames ∷ reserved ∷ [])) x) ≡ (nat_le 0 x && nat_lt x 0x6000)
+small_memory : (x : ℕ) → is_memory (reachable (2 ^ 46) (value_at (six_frames ∷ reserved ∷ [])) x) ≡ (nat_le 0 x && nat_lt x 0x6000)
 unfolding six_frames reserved
-small_memory x = memory_reached MAX_PHYSMEM (value_at (six_frames ∷ reserved ∷ [])) x ∙ grind (arith, nat_tests)
+small_memory x = memory_reached (2 ^ 46) (value_at (six_frames ∷ reserved ∷ [])) x ∙ grind (arith, nat_tests)
 
-small_usable : usable_frames (reachable MAX_PHYSMEM (value_at (six_frames ∷ reserved ∷ []))) ≡ 6
+small_usable : usable_frames (reachable (2 ^ 46) (value_at (six_frames ∷ reserved ∷ []))) ≡ 6
 small_usable =
-    usable_count (reachable MAX_PHYSMEM (value_at (six_frames ∷ reserved ∷ [])))
+    usable_count (reachable (2 ^ 46) (value_at (six_frames ∷ reserved ∷ [])))
     ∙ count_same _ _ (2 ^ 52) (λ frame low. each_in-same (bytes_of_frame frame) _ _ (λ x from below. small_memory x))
     ∙ count_frames_between 0 0x6000 (2 ^ 52)
 

@@ -7,8 +7,7 @@ use Rattle.std.proofs.lemmas.List.{drop_all}
 use Rattle.std.proofs.lemmas.List.Sums.{sum_by-append, sum_by-cons}
 use Rattle.address_runs.specs.Runs.{RunOf, value_at}
 use Rattle.bm_base.specs.declared.zone.Zone.{Zone}
-use Rattle.boot_model.specs.declared.limit.TheConstants.{MAX_PHYSMEM}
-use Rattle.boot_model.specs.Boot.{Told}
+use Rattle.boot_model.specs.Boot.{Told, reach_told}
 use Rattle.e820_model.specs.Usable.{reachable, usable_frames}
 use Rattle.frame_blocks.specs.declared.block.Block.{Block}
 use Rattle.frame_blocks.specs.declared.block.BlockRow.{BlockRow}
@@ -103,7 +102,7 @@ counted_all rs i free blocks f end is so_far =
 
 -- the summary, number by number
 pub summary_is : (told : Told) (rs : List (RunOf ℕ)) (limit runs usable free blocks : ℕ) (memory reserved : Fullness)
-    → runs ≡ length told.map → usable ≡ usable_frames (reachable limit (value_at rs)) → rs ≡ told.map → limit ≡ MAX_PHYSMEM
+    → runs ≡ length told.map → usable ≡ usable_frames (reachable limit (value_at rs)) → rs ≡ told.map → limit ≡ reach_told told
     → free ≡ frames_in (blocks_of told.free) → memory ≡ fullness_of told.heads.memory → reserved ≡ fullness_of told.heads.reserved
     → blocks ≡ length (blocks_of told.free)
     → ◌≡◌ {A = Summary} (record { runs = runs; usable = usable; free = free; memory = memory; reserved = reserved; blocks = blocks })

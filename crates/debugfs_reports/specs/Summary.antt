@@ -8,8 +8,7 @@ use Rattle.frame_blocks.specs.Listed.{blocks_of}
 use Rattle.memblock_ranges.specs.declared.region.Head.{Head}
 use Rattle.stage_texts.specs.declared.summary.Fullness.{Fullness}
 use Rattle.stage_texts.specs.declared.summary.Summary.{Summary}
-use Rattle.boot_model.specs.declared.limit.TheConstants.{MAX_PHYSMEM}
-use Rattle.boot_model.specs.Boot.{Told}
+use Rattle.boot_model.specs.Boot.{Told, reach_told}
 
 -- how many frames these blocks have: one of an order has 2^order
 abbrev pub frames_in : List Block → ℕ
@@ -24,7 +23,7 @@ fullness_of head = record { records = head.count; room = head.room }
 abbrev pub summary_of : Told → Summary
 summary_of told = record {
   runs = length told.map;
-  usable = usable_frames (reachable MAX_PHYSMEM (value_at told.map));
+  usable = usable_frames (reachable (reach_told told) (value_at told.map));
   free = frames_in (blocks_of told.free);
   memory = fullness_of told.heads.memory;
   reserved = fullness_of told.heads.reserved;

@@ -9,7 +9,7 @@ ghost use Rattle.boot_model.specs.View.{booted_view};
 ghost use Rattle.debugfs_reports.specs.Summary.{fullness_of, summary_of};
 
 use bm_base::Memory;
-use boot_model::{Booted, MAX_PHYSMEM};
+use boot_model::Booted;
 use buddy_handover::BlockRow;
 use e820_usable::usable_frames;
 use memblock_ranges::Head;
@@ -30,7 +30,7 @@ pub fn summary_of(booted: &Booted) -> Result<Summary, Memory>
     }
     Ok(Summary {
         runs: booted.map.len() as u64,
-        usable: usable_frames(&booted.map, MAX_PHYSMEM),
+        usable: usable_frames(&booted.map, booted.reach()),
         free,
         memory: fullness_of(&booted.heads.memory),
         reserved: fullness_of(&booted.heads.reserved),

@@ -7,6 +7,8 @@ ghost use Rattle.bm_io.specs.HeldFiles.{held_files, HaveOwnNames};
 use crate::common::{KERNEL, file};
 use bm_io::{MemFile, MemFiles};
 use boot_inputs::{Fault, Input, InputError, Names, Refusal, read_inputs};
+use boot_model::Inputs;
+use e820_table::ZeroFault;
 use std::alloc::Global;
 use std::process::Abort;
 use std::test::Fail;
@@ -75,7 +77,7 @@ fn expect(
 ) -> Result<(), Fail> {
     let calls = vec![in alloc; failing]?;
     let mut files = MemFiles::new(files_of(alloc, held)?, calls);
-    let answer = read_inputs(alloc, &mut files, &ALL, KERNEL);
+    let answer = read_inputs(alloc, &mut files, &ALL, Inputs::begun(alloc, KERNEL));
     assert!(rt;
         answer.err() == want.map(InputError::Refused),
         "fetch {failing}"
@@ -135,7 +137,12 @@ fn refused_file_is_the_last(rt: HostRuntime) -> Result<(), Fail> {
     zp[0x1e8] = 2;
     let good = Held { zp: &zp, ..HELD };
     let rows = [
-        (HELD, Input::ZeroPage, Fault::WrongLength, 2),
+        (
+            HELD,
+            Input::ZeroPage,
+            Fault::ZeroPage(ZeroFault::WrongLength),
+            2,
+        ),
         (
             Held { ext: b"", ..good },
             Input::Extension,
@@ -173,6 +180,6 @@ fn initrd_too_far(rt: HostRuntime) -> Result<(), Fail> {
     zp[0x21c] = 1;
     zp[0x21d] = 0x10;
     let held = Held { zp: &zp, ..HELD };
-    let want = Refusal::Faulty(Input::ZeroPage, Fault::InitrdTooFar);
+    let want = Refusal::Faulty(Input::ZeroPage, Fault::ZeroPage(ZeroFault::InitrdTooFar));
     expect(&rt, rt.alloc(), &held, 2, Some(want))
 }

@@ -3,12 +3,11 @@
 ghost use Rattle.e820_model.specs.Claims.{EndInSpace};
 
 use crate::common::{FIRST_640K, FIRST_PAGE, KERNEL, entry, nested, run};
-use arrayvec::ArrayVec;
 use boot_model::{Booted, Inputs, Stop};
 use boot_options::read_options;
 use boot_stages::boot;
 use e820_model::Run;
-use e820_table::{Entry, ZeroPage};
+use e820_table::Entry;
 use report_texts::put_journal;
 use std::alloc::Global;
 use std::process::Abort;
@@ -32,17 +31,9 @@ fn machine() -> [Entry; 6]
 fn booted(alloc: Global, entries: &[Entry], line: &[u8]) -> Result<Result<Booted, Stop>, Fail>
     requires { EndInSpace entries.now }
 {
-    let inputs = Inputs {
-        zero: ZeroPage {
-            entries: ArrayVec::new(),
-            initrd: None,
-        },
-        ext: Vec::from_slice(alloc, entries)?,
-        options: read_options(alloc, line)?,
-        srat: None,
-        kernel: KERNEL,
-        lines: Vec::new(alloc),
-    };
+    let mut inputs = Inputs::begun(alloc, KERNEL);
+    inputs.ext = Vec::from_slice(alloc, entries)?;
+    inputs.options = read_options(alloc, line)?;
     Ok(boot(alloc, inputs))
 }
 

@@ -15,7 +15,6 @@ use Rattle.e820_model.proofs.ClaimLaws.{greatest_is, map_runs}
 use Rattle.e820_model.proofs.UsableLaws.{count_same, count_frames_between, memory_reached, usable_count}
 use Rattle.bm_base.specs.Frames.{bytes_of_frame}
 use Rattle.bm_base.proofs.EachLaws.{each_in-same}
-use Rattle.boot_model.specs.declared.limit.TheConstants.{MAX_PHYSMEM}
 use Rattle.e820_table.specs.Entries.{entry_at}
 use Rattle.e820_table.specs.Initrd.{initrd_of, is_initrd_far}
 use Rattle.memblock_model.specs.declared.item.Item.{Item}
@@ -23,7 +22,7 @@ use Rattle.growth_model.specs.Carried.{carried_out}
 use Rattle.early_stages.specs.Wanted.{first_items}
 use Rattle.early_stages.proofs.FewLaws.{NeedNone, few_from_nothing}
 use Rattle.bm_base.specs.ResultSteps.{◌>>=◌}
-use Rattle.boot_model.specs.Boot.{Given, Made, begin_with, boot, claims, has_memory, map_judged}
+use Rattle.boot_model.specs.Boot.{Given, Made, begin_with, begun, boot, claims, has_memory, map_judged, no_options, reach}
 use Rattle.boot_model.proofs.BootLaws.{goes_on}
 use Rattle.program_words.specs.Kernel.{default_kernel}
 use Rattle.program_words.specs.Spelling.{AreSpellings, Spelling, apart, given_by, named}
@@ -31,7 +30,6 @@ use Rattle.program_words.specs.Words.{Wanted, accepted, name_in}
 use Rattle.program_words.proofs.MatchedLaws.{accepted_as_given}
 use Rattle.boot_inputs.specs.Inputs.{Held}
 use Rattle.debugfs_reports.specs.declared.report.Report.TheVariants as reports
-use Rattle.boot_inputs.specs.Said.{no_options}
 use Rattle.program_run.specs.Outcome.{outcome}
 
 -- RAM from 1 MiB up to 128 MiB
@@ -52,15 +50,7 @@ abbrev held : Held
 held name = if bytes_eq name (codes "zp") then Some page else None
 
 abbrev given : Given
-given = record {
-  entries = ram ∷ reserved ∷ [];
-  initrd = None;
-  extension = [];
-  options = no_options;
-  domains = None;
-  kernel = record { base = 0x1000000; size = 0x2000000 };
-  lines = [];
-}
+given = record (begun (record { base = 0x1000000; size = 0x2000000 })) { entries = ram ∷ reserved ∷ [] }
 
 -- the type of each address: where both entries claim it, the greater one
 kind_at : ℕ → ℕ
@@ -126,18 +116,18 @@ map_is =
     (record { runs = are_runs; each = λ x. sym (kinds_are x) })
 
 -- RAM makes 32,480 whole frames, all of them within reach
-memory_is : (x : ℕ) → is_memory (reachable MAX_PHYSMEM (kinds (claims given)) x) ≡ (nat_le 0x100000 x && nat_lt x 0x7FE0000)
-memory_is x = memory_reached MAX_PHYSMEM (kinds (claims given)) x ∙ rw (kinds_are x) (grind (arith, nat_tests))
+memory_is : (x : ℕ) → is_memory (reachable (reach given) (kinds (claims given)) x) ≡ (nat_le 0x100000 x && nat_lt x 0x7FE0000)
+memory_is x = memory_reached (reach given) (kinds (claims given)) x ∙ rw (kinds_are x) (grind (arith, nat_tests))
 
-frames_are : usable_frames (reachable MAX_PHYSMEM (kinds (claims given))) ≡ 32480
+frames_are : usable_frames (reachable (reach given) (kinds (claims given))) ≡ 32480
 frames_are =
-    usable_count (reachable MAX_PHYSMEM (kinds (claims given)))
+    usable_count (reachable (reach given) (kinds (claims given)))
     ∙ count_same _ _ (2 ^ 52) (λ frame low. each_in-same (bytes_of_frame frame) _ _ (λ x from below. memory_is x))
     ∙ count_frames_between 0x100000 0x7FE0000 (2 ^ 52)
 
 -- what a boot wants of them, so few items that no table grows
 abbrev wanted : List Item
-wanted = first_items MAX_PHYSMEM given.kernel given.initrd runs
+wanted = first_items (reach given) given.kernel given.initrd runs
 
 few_wanted : NeedNone 0 0 wanted
 few_wanted = (omega arith, omega arith, (omega arith, omega arith, (omega arith, omega arith, (omega arith, omega arith, tt))))

@@ -1,6 +1,7 @@
 -- The ways in which the program ends, and the line of each, computed.
 use Rattle.std.proofs.Common.{◌≡◌, codes, [], Some, None, Ok, Err, refl}
 use Rattle.std.specs.Fmt.{digits}
+use Rattle.e820_table.specs.declared.zero_page.ZeroFault.TheVariants as zero
 use Rattle.boot_inputs.specs.declared.fault.Fault.TheVariants as faults
 use Rattle.boot_inputs.specs.declared.input.Input.TheVariants as inputs
 use Rattle.boot_inputs.specs.declared.refusal.InputError.TheVariants as errors
@@ -44,9 +45,9 @@ input_error_examples : (failure_of_input (errors.Refused (refusals.Unread inputs
 input_error_examples = (refl, refl)
 
 -- the line of each way to end
-entry_lines : (fault_line (codes "zeropage") (faults.EntryTooFar 3) ≡ codes "bootmem: zeropage: entry 3 too far\n")
+entry_lines : (fault_line (codes "zeropage") (faults.ZeroPage (zero.EntryTooFar 3)) ≡ codes "bootmem: zeropage: entry 3 too far\n")
     × (entry_line (codes "e820ext") 3071 ≡ codes "bootmem: e820ext: entry 3071 too far\n")
-    × (fault_line (codes "zeropage") faults.InitrdTooFar ≡ codes "bootmem: zeropage: initrd too far\n")
+    × (fault_line (codes "zeropage") (faults.ZeroPage zero.InitrdTooFar) ≡ codes "bootmem: zeropage: initrd too far\n")
 unfolding digits
 entry_lines = (refl, refl, refl)
 
@@ -72,7 +73,7 @@ long_lines : (refusal_line None (refusals.Faulty inputs.CommandLine faults.TooLo
     × (refusal_line None (refusals.Faulty inputs.CommandLine faults.LineTooLong) ≡ codes "bootmem: cmdline: line too long\n")
 long_lines = (refl, refl)
 
-plain_lines : (refusal_line None (refusals.Faulty inputs.ZeroPage faults.TooFew) ≡ codes "bootmem: zeropage: too few entries\n")
+plain_lines : (refusal_line None (refusals.Faulty inputs.ZeroPage (faults.ZeroPage zero.TooFew)) ≡ codes "bootmem: zeropage: too few entries\n")
     × (whole_line (codes "e820ext") (codes "header") ≡ codes "bootmem: e820ext: header\n")
 plain_lines = (refl, refl)
 

@@ -3,14 +3,15 @@ use Rattle.std.proofs.Common.{◌≡◌, ℕ, if◌then◌else◌, List, [], ◌
 use Rattle.std.specs.Prelude.{Result, replicate}
 use Rattle.std.specs.Str.{bytes_eq}
 use Rattle.bm_io.specs.declared.writing.Sink.{Ghosts as SinkOf}
+use Rattle.e820_table.specs.declared.zero_page.ZeroFault.TheVariants as zero
 use Rattle.boot_inputs.specs.declared.fault.Fault.TheVariants as faults
+use Rattle.boot_inputs.specs.declared.input.Input.{Input}
 use Rattle.boot_inputs.specs.declared.input.Input.TheVariants as inputs
 use Rattle.boot_inputs.specs.declared.refusal.Refusal.TheVariants as refusals
 use Rattle.boot_inputs.specs.Inputs.{Held}
-use Rattle.boot_inputs.specs.Said.{no_options}
 use Rattle.e820_table.specs.Made.{entries_behind, high_ram, low_ram}
 use Rattle.boot_model.specs.declared.stop.Cause.TheVariants as causes
-use Rattle.boot_model.specs.Boot.{Given, boot}
+use Rattle.boot_model.specs.Boot.{Given, begun, boot}
 use Rattle.debugfs_reports.specs.declared.report.Report.TheVariants as reports
 use Rattle.program_run.specs.declared.failure.Reason.{Reason}
 use Rattle.program_run.specs.declared.failure.Reason.TheVariants as reasons
@@ -20,15 +21,14 @@ use Rattle.program_run.specs.Outcome.{given_by, or_refused, or_stopped, or_usage
 use Rattle.program_run.specs.Run.{IsTold}
 use Rattle.program_words.specs.Words.{Wanted}
 
+abbrev pub naming : List ℕ → Input → Option (List ℕ)
+naming zero_page inputs.ZeroPage = Some zero_page
+naming zero_page inputs.Extension = Some (codes "ext")
+naming zero_page other = None
+
 abbrev pub wanting : List ℕ → Wanted
 wanting zero_page = record {
-  named = λ input. (elim input [
-    | inputs.ZeroPage ↦ Some zero_page
-    | inputs.Extension ↦ Some (codes "ext")
-    | inputs.CommandLine ↦ None
-    | inputs.Srat ↦ None
-    | inputs.Script ↦ None
-  ]);
+  named = naming zero_page;
   kernel = record { base = 0x1000000; size = 0x2000000 };
   reports = reports.Map ∷ [];
   made = None;
@@ -46,19 +46,15 @@ without_a_page : outcome (Some (wanting (codes "no"))) held ≡ Err (reasons.Ref
 without_a_page = refl
 
 with_a_short_page : outcome (Some (wanting (codes "short"))) held
-    ≡ Err (reasons.Refused (refusals.Faulty inputs.ZeroPage faults.WrongLength))
+    ≡ Err (reasons.Refused (refusals.Faulty inputs.ZeroPage (faults.ZeroPage zero.WrongLength)))
 with_a_short_page = refl
 
 -- a made table in place of the files' entries
 abbrev of_files : Given
-of_files = record {
+of_files = record (begun (record { base = 0x1000000; size = 0x2000000 })) {
   entries = low_ram ∷ low_ram ∷ low_ram ∷ [];
   initrd = Some (record { base = 0x7D00000; size = 0x1000 });
   extension = low_ram ∷ [];
-  options = no_options;
-  domains = None;
-  kernel = record { base = 0x1000000; size = 0x2000000 };
-  lines = [];
 }
 
 -- two entries are the first two, and nothing is left for the extension; without a number the files' entries stay
@@ -94,14 +90,14 @@ abbrev text : Result (List ℕ) Reason
 text = Ok (codes "ab")
 
 abbrev too_few : Result (List ℕ) Reason
-too_few = Err (reasons.Refused (refusals.Faulty inputs.ZeroPage faults.TooFew))
+too_few = Err (reasons.Refused (refusals.Faulty inputs.ZeroPage (faults.ZeroPage zero.TooFew)))
 
 -- the work comes to the extension's file where nothing is at fault; not where the zero page is, or the words are
 reaches_examples : ReachesFile inputs.Extension text × (ReachesFile inputs.Extension too_few → ⊥)
     × (ReachesFile {Y = ℕ} inputs.Extension (Err reasons.Usage) → ⊥)
 reaches_examples = (tt, (λ comes. omega (arith, comes)), λ comes. comes)
 
-file_fits : FitsFile (refusals.Faulty inputs.ZeroPage faults.TooFew) too_few × FitsFile (refusals.Unread inputs.CommandLine) text
+file_fits : FitsFile (refusals.Faulty inputs.ZeroPage (faults.ZeroPage zero.TooFew)) too_few × FitsFile (refusals.Unread inputs.CommandLine) text
 file_fits = (refl, tt)
 
 reason_fits : FitsReason {Y = ℕ} (reasons.Stopped causes.NoRam) (Err (reasons.Stopped causes.NoRam)) × (FitsReason reasons.Usage text → ⊥)
@@ -127,7 +123,7 @@ rose_examples : RoseFor before (λ name. 1) wanted inputs.Extension × (RoseFor 
 rose_examples = (omega arith, (λ rose. rose), λ rose. omega (arith, rose))
 
 file_causes : FileHasCause before (λ name. 1) wanted (refusals.Unread inputs.Extension)
-    × (FileHasCause before before None (refusals.Faulty inputs.ZeroPage faults.TooFew) → ⊥)
+    × (FileHasCause before before None (refusals.Faulty inputs.ZeroPage (faults.ZeroPage zero.TooFew)) → ⊥)
 file_causes = (omega arith, λ some. cc some)
 
 -- refused words are the cause of status 2 alone
@@ -156,7 +152,7 @@ text_examples : IsText text (λ t. t ≡ codes "ab") × (IsText too_few (λ t. t
 text_examples = (refl, λ is. is)
 
 faulty_examples : IsFaulty too_few × (IsFaulty text → ⊥)
-faulty_examples = ((inputs.ZeroPage, (faults.TooFew, refl)), λ is. cc is.1.1)
+faulty_examples = ((inputs.ZeroPage, (faults.ZeroPage zero.TooFew, refl)), λ is. cc is.1.1)
 
 stop_examples : IsStopped (Err (reasons.Stopped causes.NoRam)) × (IsStopped too_few → ⊥)
 stop_examples = ((causes.NoRam, refl), λ is. cc is.1)

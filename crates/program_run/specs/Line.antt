@@ -4,6 +4,8 @@ use Rattle.std.specs.Io.KnownBytes.{Appends}
 use Rattle.bm_io.specs.Counts.{Rose}
 use Rattle.bm_io.specs.Told.{AppendsFront}
 use Rattle.bm_io.specs.declared.writing.Sink.{Ghosts as SinkOf}
+use Rattle.e820_table.specs.declared.zero_page.ZeroFault.{ZeroFault}
+use Rattle.e820_table.specs.declared.zero_page.ZeroFault.TheVariants as zero
 use Rattle.boot_inputs.specs.declared.fault.Fault.{Fault}
 use Rattle.boot_inputs.specs.declared.fault.Fault.TheVariants as faults
 use Rattle.boot_inputs.specs.declared.input.Input.{Input}
@@ -39,13 +41,17 @@ numbered_line name line what = codes "bootmem: " ++ (name ++ (codes ": line " ++
 abbrev pub offset_line : List ℕ → List ℕ → ℕ → List ℕ
 offset_line name what offset = codes "bootmem: " ++ (name ++ (codes ": " ++ (what ++ (codes " at " ++ (decimal offset ++ codes "\n")))))
 
+abbrev pub zero_line : List ℕ → ZeroFault → List ℕ
+zero_line name zero.WrongLength = whole_line name (codes "wrong length")
+zero_line name zero.TooFew = whole_line name (codes "too few entries")
+zero_line name zero.TooMany = whole_line name (codes "too many entries")
+zero_line name (zero.EntryTooFar index) = entry_line name index
+zero_line name zero.InitrdTooFar = whole_line name (codes "initrd too far")
+
 abbrev pub fault_line : List ℕ → Fault → List ℕ
 fault_line name faults.TooLong = whole_line name (codes "too long")
-fault_line name faults.WrongLength = whole_line name (codes "wrong length")
-fault_line name faults.TooFew = whole_line name (codes "too few entries")
-fault_line name faults.TooMany = whole_line name (codes "too many entries")
+fault_line name (faults.ZeroPage fault) = zero_line name fault
 fault_line name (faults.EntryTooFar index) = entry_line name index
-fault_line name faults.InitrdTooFar = whole_line name (codes "initrd too far")
 fault_line name faults.Header = whole_line name (codes "header")
 fault_line name faults.Length = whole_line name (codes "length")
 fault_line name faults.LineTooLong = whole_line name (codes "line too long")

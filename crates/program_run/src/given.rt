@@ -1,12 +1,7 @@
 //! What the boot is given: what the named files say, and where the words ask for a made table, that in place of the zero
 //! page's and the extension's.
 
-ghost use Rattle.std.specs.Prelude.{◌≡◌, ℕ, ◌^◌, ◌<◌, List, length, IfOk, IfSome, IsErr, IsErrOf, IsSomeAnd, OnOk};
-ghost use Rattle.std.specs.List.{All};
-ghost use Rattle.e820_model.specs.Claims.{EndInSpace, HaveTypes};
-ghost use Rattle.e820_table.specs.Initrd.{IsInitrd};
-ghost use Rattle.script_reader.specs.Forms.{HasBounds};
-ghost use Rattle.early_script.specs.Stage.{PlaceOnce};
+ghost use Rattle.std.specs.Prelude.{◌≡◌, ℕ, ◌<◌, List, IfSome, IsErr, IsErrOf, IsSomeAnd, OnOk};
 ghost use Rattle.boot_model.specs.View.{inputs_view};
 ghost use Rattle.boot_inputs.specs.Answers.{Gives, HasCause};
 ghost use Rattle.program_words.specs.Entries.{AreEntries};
@@ -33,15 +28,9 @@ pub fn read_given<F: Files>(
     ensures unfailed { IsErrOf result InputError.Memory
         → ((any : List ℕ) → F.faults files.new any ≡ F.faults files.old any) }
     ensures uncounted { OnOk result ((any : List ℕ) → F.faults files.new any ≡ F.faults files.old any) }
-    ensures entries_end { IfOk result (λ inputs. EndInSpace inputs.zero.entries.items) }
-    ensures initrd { IfOk result (λ inputs. IfSome inputs.zero.initrd IsInitrd) }
-    ensures extension_ends { IfOk result (λ inputs. EndInSpace inputs.ext.items) }
-    ensures types { IfOk result (λ inputs. HaveTypes inputs.options.edits.items) }
-    ensures domains { IfOk result (λ inputs. IfSome inputs.srat (λ srat. length srat.blocks.items < 2 ^ 32)) }
-    ensures bounds { IfOk result (λ inputs. All (λ l. HasBounds l.act) inputs.lines.items) }
-    ensures once { IfOk result (λ inputs. PlaceOnce inputs.lines.items) }
 {
-    let mut inputs = read_inputs::<F, Wanted<'_>>(alloc, files, wanted, wanted.kernel)?;
+    let begun = Inputs::begun(alloc, wanted.kernel);
+    let mut inputs = read_inputs::<F, Wanted<'_>>(alloc, files, wanted, begun)?;
     match put_made(alloc, &mut inputs, wanted.made) {
         Ok(()) => Ok(inputs),
         Err(_) => Err(InputError::Memory),
@@ -53,14 +42,6 @@ fn put_made(alloc: Global, inputs: &mut Inputs, entries: Option<u32>) -> Result<
     requires few { IfSome entries AreEntries }
     ensures put { OnOk result (inputs_view inputs.new ≡ with_made entries (inputs_view inputs.old)) }
     ensures many { IsErr result → IsSomeAnd entries (λ n. 128 < n) }
-    ensures entries_end { OnOk result (EndInSpace inputs.old.zero.entries.items
-        → EndInSpace inputs.new.zero.entries.items) }
-    ensures initrd { OnOk result (IfSome inputs.old.zero.initrd IsInitrd
-        → IfSome inputs.new.zero.initrd IsInitrd) }
-    ensures extension_ends { OnOk result (EndInSpace inputs.old.ext.items → EndInSpace inputs.new.ext.items) }
-    ensures options_stay { OnOk result (inputs.new.options ≡ inputs.old.options) }
-    ensures srat_stays { OnOk result (inputs.new.srat ≡ inputs.old.srat) }
-    ensures lines_stay { OnOk result (inputs.new.lines ≡ inputs.old.lines) }
 {
     if let Some(count) = entries {
         let made = made(alloc, count)?;

@@ -1,14 +1,9 @@
 //! The whole program over any files and outputs. It is generic over them, so one contract speaks of those in
 //! memory, with which tests run it, and of the system's, which `main` hands in (`bootmem_cli`).
 
-ghost use Rattle.std.specs.Prelude.{◌≡◌, ℕ, ◌^◌, ◌<◌, List, length, IfSome, IfErr, IsNone, IsSome, IsErrOf, OnOk, OnErr, IfOk, ◌⊎◌, flat_map};
+ghost use Rattle.std.specs.Prelude.{◌≡◌, ℕ, List, IfSome, IfErr, IsNone, IsSome, IsErrOf, OnOk, OnErr, IfOk, ◌⊎◌, flat_map};
 ghost use Rattle.std.specs.Option.{option_map};
 ghost use Rattle.std.specs.Io.KnownBytes.{Appends};
-ghost use Rattle.std.specs.List.{All};
-ghost use Rattle.e820_table.specs.Initrd.{IsInitrd};
-ghost use Rattle.e820_model.specs.Claims.{EndInSpace, HaveTypes};
-ghost use Rattle.script_reader.specs.Forms.{HasBounds};
-ghost use Rattle.early_script.specs.Stage.{PlaceOnce};
 ghost use Rattle.bm_io.specs.Counts.{Rose};
 ghost use Rattle.bm_io.specs.Told.{AppendsFront};
 ghost use Rattle.boot_model.specs.View.{inputs_view};
@@ -142,13 +137,6 @@ fn make_texts<F: Files>(
 
 /// The texts of a list of reports, of what the boot makes of the inputs.
 fn boot_texts(alloc: Global, inputs: Inputs, list: &str) -> Result<Vec<Vec<Chunk>>, Failure>
-    requires entries_end { EndInSpace inputs.zero.entries.items }
-    requires extension_ends { EndInSpace inputs.ext.items }
-    requires types { HaveTypes inputs.options.edits.items }
-    requires initrd { IfSome inputs.zero.initrd IsInitrd }
-    requires domains { IfSome inputs.srat (λ srat. length srat.blocks.items < 2 ^ 32) }
-    requires bounds { All (λ l. HasBounds l.act) inputs.lines.items }
-    requires once { PlaceOnce inputs.lines.items }
     ensures makes { Makes (λ texts. flat_map (λ chunks. text_of_chunks chunks.items) texts.items) result
         (reported (reports_in list.now) (inputs_view inputs)) }
     ensures cause { IsOfBoot result }

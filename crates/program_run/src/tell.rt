@@ -3,13 +3,14 @@
 
 ghost use Rattle.std.specs.Prelude.{◌≡◌, flat_map};
 ghost use Rattle.std.specs.Option.{option_map};
-ghost use Rattle.program_run.specs.Line.{Tells, cause_line, entry_line, failure_line, fault_line, name_text, numbered_line, offset_line, place_line, reason_line, refusal_line, table_line, table_name, thing_line, whole_line, word_line};
+ghost use Rattle.program_run.specs.Line.{Tells, cause_line, entry_line, failure_line, fault_line, name_text, numbered_line, offset_line, place_line, reason_line, refusal_line, table_line, table_name, thing_line, whole_line, word_line, zero_line};
 ghost use Rattle.program_words.specs.View.{wanted_view};
 
 use crate::failure::{Failure, Reason};
 use bm_io::{Sink, put_all};
 use boot_inputs::{Fault, Input, Names, Refusal};
 use boot_model::Cause;
+use e820_table::ZeroFault;
 use itoa::Buffer;
 use memblock_model::Which;
 use program_words::Wanted;
@@ -68,11 +69,8 @@ fn tell_fault<E: Sink>(err: &mut E, name: &str, fault: Fault)
 {
     match fault {
         Fault::TooLong => tell_whole(err, name, "too long"),
-        Fault::WrongLength => tell_whole(err, name, "wrong length"),
-        Fault::TooFew => tell_whole(err, name, "too few entries"),
-        Fault::TooMany => tell_whole(err, name, "too many entries"),
+        Fault::ZeroPage(fault) => tell_zero(err, name, fault),
         Fault::EntryTooFar { index } => tell_entry(err, name, index),
-        Fault::InitrdTooFar => tell_whole(err, name, "initrd too far"),
         Fault::Header => tell_whole(err, name, "header"),
         Fault::Length => tell_whole(err, name, "length"),
         Fault::LineTooLong => tell_whole(err, name, "line too long"),
@@ -93,6 +91,19 @@ fn tell_fault<E: Sink>(err: &mut E, name: &str, fault: Fault)
         Fault::ZeroSize { line } => tell_line(err, name, line, "zero size"),
         Fault::SecondSections { line } => tell_line(err, name, line, "second sections"),
         Fault::LineTooFar { line } => tell_line(err, name, line, "too far"),
+    }
+}
+
+/// The line of a fault of the zero page.
+fn tell_zero<E: Sink>(err: &mut E, name: &str, fault: ZeroFault)
+    ensures { Tells E.Sink err.old err.new (zero_line name.now fault) }
+{
+    match fault {
+        ZeroFault::WrongLength => tell_whole(err, name, "wrong length"),
+        ZeroFault::TooFew => tell_whole(err, name, "too few entries"),
+        ZeroFault::TooMany => tell_whole(err, name, "too many entries"),
+        ZeroFault::EntryTooFar { index } => tell_entry(err, name, index),
+        ZeroFault::InitrdTooFar => tell_whole(err, name, "initrd too far"),
     }
 }
 

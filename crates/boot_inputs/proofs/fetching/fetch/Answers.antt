@@ -1,7 +1,7 @@
 -- Bytes that were fetched are read, and no fault was counted for them; a failed fetch was counted.
-use Rattle.std.proofs.Common.{◌≡◌, ◌≤◌, ◌∙◌, Err, ap, inl, inr, length, rules}
+use Rattle.std.proofs.Common.{◌≡◌, ◌≤◌, Err, ap, inl, inr, length, rules}
 use Rattle.bm_io.specs.declared.reading.Fetch.{Fetch}
-use Rattle.boot_inputs.specs.Input.{limit_of}
+use Rattle.boot_model.specs.View.{inputs_view}
 use Rattle.boot_inputs.proofs.FileLaws.{comes_to_own, on_ok, read_given, read_wanting}
 use Rattle.boot_inputs.proofs.fetching.fetch.Goals as goal
 
@@ -13,7 +13,8 @@ returns-in-Err-Failed-clause-cause g c = c.in-Err-Failed.ensures.failed (ap (λ 
 
 pub returns-in-Err-Failed-clause-gives : goal.returns-in-Err-Failed-clause-gives
 returns-in-Err-Failed-clause-gives g c =
-    comes_to_own (g.F.Files.holds c.args.files.now) g.R.Reader.input _ g.R.Reader.said c.args.name.now c.input-in-Err-Failed.ensures
+    comes_to_own (g.F.Files.holds c.args.files.now) _ g.R.Reader.file (inputs_view c.args.inputs.now) c.args.name.now
+    c.input.ensures
 
 pub returns-in-Err-Failed-clause-uncounted : goal.returns-in-Err-Failed-clause-uncounted
 returns-in-Err-Failed-clause-uncounted g c = tt
@@ -23,9 +24,8 @@ returns-in-Err-TooLong-clause-gives g c = search rules
 
 pub returns-in-Ok-clause-gives : goal.returns-in-Ok-clause-gives
 returns-in-Ok-clause-gives g c =
-    let limit : c.limit.result ≡ limit_of g.R.Reader.input = c.limit.ensures ∙ ap limit_of c.input.ensures in
-    let fits : length c.in-Ok.bytes.items ≤ limit_of g.R.Reader.input = rw limit at c.in-Ok.ensures.bounded in
-    read_given g.R.Reader.seen _ g.R.Reader.input g.R.Reader.said c.args.name.now c.in-Ok.bytes.items _
+    let fits : length c.in-Ok.bytes.items ≤ g.R.Reader.file.limit = rw c.limit.ensures at c.in-Ok.ensures.bounded in
+    read_given _ g.R.Reader.file (inputs_view c.args.inputs.now) _ c.args.name.now c.in-Ok.bytes.items _
     c.in-Ok.ensures.told fits (rw c.deref.ensures.value at c.read.ensures.gives)
 
 pub returns-in-Ok-clause-unfailed : goal.returns-in-Ok-clause-unfailed
@@ -42,7 +42,6 @@ returns-in-Ok-clause-unwanted g c = elim c.in-Ok.ensures.no_want [
 
 pub returns-in-Ok-clause-memory : goal.returns-in-Ok-clause-memory
 returns-in-Ok-clause-memory g c = λ wanting.
-    let limit : c.limit.result ≡ limit_of g.R.Reader.input = c.limit.ensures ∙ ap limit_of c.input.ensures in
-    let fits : length c.in-Ok.bytes.items ≤ limit_of g.R.Reader.input = rw limit at c.in-Ok.ensures.bounded in
-    inr (read_wanting g.R.Reader.takes_memory _ g.R.Reader.input g.R.Reader.said c.args.name.now c.in-Ok.bytes.items
-    c.in-Ok.ensures.told fits (rw c.deref.ensures.value at (c.read.ensures.memory wanting)))
+    let fits : length c.in-Ok.bytes.items ≤ g.R.Reader.file.limit = rw c.limit.ensures at c.in-Ok.ensures.bounded in
+    inr (read_wanting _ g.R.Reader.file (inputs_view c.args.inputs.now) c.args.name.now c.in-Ok.bytes.items c.in-Ok.ensures.told fits
+    (rw c.deref.ensures.value at (c.read.ensures.memory wanting)))

@@ -1,5 +1,5 @@
 -- The roots are placed, and behind them the maps.
-use Rattle.std.proofs.Common.{◌≡◌, ◌∙◌, List, ap, sym, subst, arith}
+use Rattle.std.proofs.Common.{◌≡◌, ◌∙◌, ◌^◌, List, ap, sym, subst, arith}
 use Rattle.std.proofs.lemmas.Result.{err_from_is_err_and}
 use Rattle.std.specs.List.{All}
 use Rattle.address_runs.specs.Runs.{RunOf, value_at}
@@ -15,7 +15,6 @@ use Rattle.sparse_sections.specs.Present.{IsWholeNoded, present}
 use Rattle.sparse_sections.proofs.AscendLaws.{present-ascends}
 use Rattle.sparse_sections.proofs.NodedLaws.{noded-records, noded-runs, noded-told}
 use Rattle.sparse_sections.specs.Roots.{roots_view}
-use Rattle.boot_model.specs.declared.limit.TheConstants.{MAX_PHYSMEM}
 use Rattle.boot_stages.proofs.PlaceLaws.{places-all, places-first, places-second}
 use Rattle.boot_stages.proofs.later.place_all.Goals as goal
 
@@ -23,7 +22,7 @@ pub present-requires : goal.present-requires
 present-requires c =
     let items : List Item = c.args.memblock.now.journal.items in
     let told : All IsWholeNoded (records_of which.Memory items) =
-    noded-records (memory_of items) (records_of which.Memory items) (noded-runs MAX_PHYSMEM items (omega arith) c.requires.noded)
+    noded-records (memory_of items) (records_of which.Memory items) (noded-runs (2 ^ 46) items (omega arith) c.requires.noded)
     c.requires.noded in
     subst (λ (rs : List (RunOf Label)). All IsWholeNoded rs) (sym (ap (λ (t : Table). t.records) c.tables.ensures.memory)) told
 
@@ -34,7 +33,7 @@ returns-in_err-roots-clause-ends c =
     let is : sections ≡ present (memory_of items) =
     c.deref.ensures.value ∙ c.in_ok-sections.ensures
     ∙ ap (λ (t : Table). present (value_at t.records)) c.tables.ensures.memory
-    ∙ ap present (noded-told MAX_PHYSMEM items (omega arith) c.requires.noded) in
+    ∙ ap present (noded-told (2 ^ 46) items (omega arith) c.requires.noded) in
     let p = err_from_is_err_and c.from_residual-in_err-roots.result c.from_residual-in_err-roots.ensures.1 in
     places-first c.in_err-roots.field-0.0 c.from_residual-in_err-roots.result p.0 items c.place_roots.new.memblock.journal.items
     sections p.1 p.2 is
@@ -54,7 +53,7 @@ returns-in_err-placed-clause-ends c =
     let is : sections ≡ present (memory_of items) =
     c.deref.ensures.value ∙ c.in_ok-sections.ensures
     ∙ ap (λ (t : Table). present (value_at t.records)) c.tables.ensures.memory
-    ∙ ap present (noded-told MAX_PHYSMEM items (omega arith) c.requires.noded) in
+    ∙ ap present (noded-told (2 ^ 46) items (omega arith) c.requires.noded) in
     let same : c.deref-2.result.now ≡ sections = c.deref-2.ensures.value ∙ sym c.deref.ensures.value in
     let p = err_from_is_err_and c.from_residual-in_err-placed.result c.from_residual-in_err-placed.ensures.1 in
     places-second c.in_err-placed.field-0.0 c.from_residual-in_err-placed.result p.0 items c.place_roots.new.memblock.journal.items
@@ -73,7 +72,7 @@ returns-clause-ends c =
     let is : sections ≡ present (memory_of items) =
     c.deref.ensures.value ∙ c.in_ok-sections.ensures
     ∙ ap (λ (t : Table). present (value_at t.records)) c.tables.ensures.memory
-    ∙ ap present (noded-told MAX_PHYSMEM items (omega arith) c.requires.noded) in
+    ∙ ap present (noded-told (2 ^ 46) items (omega arith) c.requires.noded) in
     let same : c.deref-2.result.now ≡ sections = c.deref-2.ensures.value ∙ sym c.deref.ensures.value in
     places-all items c.place_roots.new.memblock.journal.items c.place_maps.new.memblock.journal.items sections
     (roots_view c.in_ok-roots.roots) c.in_ok-placed.placed.items is c.in_ok-roots.ensures.ends (rw (← same) c.in_ok-placed.ensures.ends)

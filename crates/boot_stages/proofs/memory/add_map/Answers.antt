@@ -7,7 +7,6 @@ use Rattle.memblock_model.specs.declared.item.Item.{Item}
 use Rattle.growth_model.specs.Carried.{carried_out}
 use Rattle.stage_calls.proofs.LentLaws.{goes-then}
 use Rattle.early_stages.specs.Wanted.{items_of_map, items_of_run}
-use Rattle.boot_model.specs.declared.limit.TheConstants.{MAX_PHYSMEM}
 use Rattle.boot_stages.proofs.CarriesLaws.{carried-on, carries-exit, carries-left, carries-nothing}
 use Rattle.boot_stages.proofs.MemoryLaws.{map_next, runs_next}
 use Rattle.boot_stages.proofs.memory.add_map.Goals as goal
@@ -16,26 +15,26 @@ pub returns-in_err-add_run-clause-carries : goal.returns-in_err-add_run-clause-c
 returns-in_err-add_run-clause-carries c =
     let r = c.from_residual.result in
     let p = err_from_is_err_and r c.from_residual.ensures.1 in
-    let rest : List Item = items_of_map MAX_PHYSMEM (drop (c.loop-run.run-index + 1) c.args.map.now) in
+    let rest : List Item = items_of_map c.args.reach (drop (c.loop-run.run-index + 1) c.args.map.now) in
     let here = c.loop-run.memblock.journal.items in
     let new = c.add_run.new.memblock.journal.items in
-    let next = map_next MAX_PHYSMEM c.args.map.now c.loop-run.run-index c.run-item.result (omega (arith, c.loop-run-test.true))
+    let next = map_next c.args.reach c.args.map.now c.loop-run.run-index c.run-item.result (omega (arith, c.loop-run-test.true))
     c.run-item.is in
-    carries-left r (items_of_map MAX_PHYSMEM c.args.map.now) (items_of_run MAX_PHYSMEM c.run-item.result ++ rest)
+    carries-left r (items_of_map c.args.reach c.args.map.now) (items_of_run c.args.reach c.run-item.result ++ rest)
     c.args.memblock.now.journal.items here new
     (ap (λ (is : List Item). carried_out is here) (sym next) ∙ c.loop-run.invariant.left)
-    (carries-exit c.in_err-add_run.field-0.0 r (items_of_run MAX_PHYSMEM c.run-item.result) rest here new p.0 p.1 p.2
+    (carries-exit c.in_err-add_run.field-0.0 r (items_of_run c.args.reach c.run-item.result) rest here new p.0 p.1 p.2
     c.in_err-add_run.ensures.carries)
 
 pub loop-run-preserved : goal.loop-run-preserved
 loop-run-preserved c =
-    let rest : List Item = items_of_map MAX_PHYSMEM (drop (c.loop-run.run-index + 1) c.args.map.now) in
+    let rest : List Item = items_of_map c.args.reach (drop (c.loop-run.run-index + 1) c.args.map.now) in
     let here = c.loop-run.memblock.journal.items in
     let new = c.add_run.new.memblock.journal.items in
-    let next = map_next MAX_PHYSMEM c.args.map.now c.loop-run.run-index c.run-item.result (omega (arith, c.loop-run-test.true))
+    let next = map_next c.args.reach c.args.map.now c.loop-run.run-index c.run-item.result (omega (arith, c.loop-run-test.true))
     c.run-item.is in
     record {
-      left = sym (carried-on (items_of_run MAX_PHYSMEM c.run-item.result) rest here new c.in_ok-add_run.ensures.carries)
+      left = sym (carried-on (items_of_run c.args.reach c.run-item.result) rest here new c.in_ok-add_run.ensures.carries)
           ∙ ap (λ (is : List Item). carried_out is here) (sym next) ∙ c.loop-run.invariant.left;
       runs = runs_next c.args.map.now c.loop-run.run-index c.run-item.result (omega (arith, c.loop-run-test.true))
           c.loop-run.invariant.runs;
@@ -46,9 +45,9 @@ loop-run-preserved c =
 
 pub returns-clause-carries : goal.returns-clause-carries
 returns-clause-carries c =
-    let left : carried_out (items_of_map MAX_PHYSMEM (drop c.loop-run.run-index c.args.map.now)) c.loop-run.memblock.journal.items
-    ≡ carried_out (items_of_map MAX_PHYSMEM c.args.map.now) c.args.memblock.now.journal.items = c.loop-run.invariant.left in
-    let rest = at_drop_all (λ (rs : List (RunOf ℕ)). carried_out (items_of_map MAX_PHYSMEM rs) c.loop-run.memblock.journal.items)
+    let left : carried_out (items_of_map c.args.reach (drop c.loop-run.run-index c.args.map.now)) c.loop-run.memblock.journal.items
+    ≡ carried_out (items_of_map c.args.reach c.args.map.now) c.args.memblock.now.journal.items = c.loop-run.invariant.left in
+    let rest = at_drop_all (λ (rs : List (RunOf ℕ)). carried_out (items_of_map c.args.reach rs) c.loop-run.memblock.journal.items)
     c.args.map.now c.loop-run.run-index (omega (arith, c.loop-run-test.false)) in
     sym left ∙ rest ∙ carries-nothing c.loop-run.memblock.journal.items
 

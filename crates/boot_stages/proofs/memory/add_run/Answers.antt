@@ -7,7 +7,6 @@ use Rattle.memblock_model.specs.declared.owner.Owner.TheVariants as owner
 use Rattle.memblock_model.specs.declared.item.Item.TheVariants as item
 use Rattle.growth_model.specs.Carried.{carried_out}
 use Rattle.early_stages.specs.Wanted.{items_of_run}
-use Rattle.boot_model.specs.declared.limit.TheConstants.{MAX_PHYSMEM}
 use Rattle.boot_stages.specs.Carries.{Carries}
 use Rattle.boot_stages.proofs.BytesLaws.{goes-once}
 use Rattle.boot_stages.proofs.CarriesLaws.{carries-change, carries-nothing}
@@ -20,20 +19,20 @@ returns-then-run-clause-carries c =
     let old = c.args.memblock.now.journal.items in
     let new = c.claim.new.self.journal.items in
     let run : RunOf ℕ = record { base = c.run.inside.range.base; size = c.run.inside.range.size; value = c.run.inside.kind } in
-    let Ends : RunOf ℕ → Type 0 = λ x. Carries r (items_of_run MAX_PHYSMEM x) old new in
+    let Ends : RunOf ℕ → Type 0 = λ x. Carries r (items_of_run c.args.reach x) old new in
     subst Ends c.run.view_is
-    (rw (soft_run MAX_PHYSMEM run c.if-run.true) (carries-change r (item.Claim c.run.inside.range owner.Soft) old new c.claim.ensures.ends))
+    (rw (soft_run c.args.reach run c.if-run.true) (carries-change r (item.Claim c.run.inside.range owner.Soft) old new c.claim.ensures.ends))
 
 pub returns-then-not-is_memory-clause-carries : goal.returns-then-not-is_memory-clause-carries
 returns-then-not-is_memory-clause-carries c =
     let old = c.args.memblock.now.journal.items in
     let run : RunOf ℕ = record { base = c.run.inside.range.base; size = c.run.inside.range.size; value = c.run.inside.kind } in
-    let Ends : RunOf ℕ → Type 0 = λ x. carried_out (items_of_run MAX_PHYSMEM x) old ≡ Ok old in
+    let Ends : RunOf ℕ → Type 0 = λ x. carried_out (items_of_run c.args.reach x) old ≡ Ok old in
     subst Ends c.run.view_is (elim c.then-not-is_memory.either as (λ _. Ends run) [
-      | inl other ↦ rw (other_run MAX_PHYSMEM run c.if-run.false (sym c.is_memory.ensures ∙ other)) (carries-nothing old)
+      | inl other ↦ rw (other_run c.args.reach run c.if-run.false (sym c.is_memory.ensures ∙ other)) (carries-nothing old)
       | inr high ↦
           let same : c.range.inside.base ≡ run.base = ap (λ (e : Extent). e.base) c.range.view_is in
-          rw (high_run MAX_PHYSMEM run c.if-run.false (omega (arith, same, high.1))) (carries-nothing old)
+          rw (high_run c.args.reach run c.if-run.false (omega (arith, same, high.1))) (carries-nothing old)
     ])
 
 pub returns-clause-carries : goal.returns-clause-carries
@@ -42,12 +41,12 @@ returns-clause-carries c =
     let old = c.args.memblock.now.journal.items in
     let new = c.add_memory.new.self.journal.items in
     let run : RunOf ℕ = record { base = c.run.inside.range.base; size = c.run.inside.range.size; value = c.run.inside.kind } in
-    let Ends : RunOf ℕ → Type 0 = λ x. Carries r (items_of_run MAX_PHYSMEM x) old new in
+    let Ends : RunOf ℕ → Type 0 = λ x. Carries r (items_of_run c.args.reach x) old new in
     let Adds : Extent → Type 0 = λ part. Carries r (item.Mem part ∷ []) old new in
     let same : c.range.inside.base ≡ run.base = ap (λ (e : Extent). e.base) c.range.view_is in
-    let low : run.base < MAX_PHYSMEM = omega (arith, same, c.if-range-ge-MAX_PHYSMEM.false) in
+    let low : run.base < c.args.reach = omega (arith, same, c.if-range-reach.false) in
     let memory : is_memory (Some run.value) ≡ true = sym c.is_memory.ensures ∙ c.if-not-is_memory.false in
-    subst Ends c.run.view_is (rw (memory_run MAX_PHYSMEM run c.if-run.false memory low)
+    subst Ends c.run.view_is (rw (memory_run c.args.reach run c.if-run.false memory low)
     (subst Adds c.below_limit.ensures (carries-change r (item.Mem c.below_limit.result) old new c.add_memory.ensures.ends)))
 
 pub returns-then-run-clause-lent : goal.returns-then-run-clause-lent

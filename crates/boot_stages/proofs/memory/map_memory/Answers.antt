@@ -5,7 +5,6 @@ use Rattle.memblock_model.specs.declared.item.Item.TheVariants as item
 use Rattle.early_stages.specs.declared.low.TheConstants.{ISA_END_ADDRESS}
 use Rattle.stage_calls.proofs.LentLaws.{goes-then}
 use Rattle.early_stages.specs.Wanted.{early_claims, items_of_map}
-use Rattle.boot_model.specs.declared.limit.TheConstants.{MAX_PHYSMEM}
 use Rattle.boot_stages.proofs.BytesLaws.{goes-once}
 use Rattle.boot_stages.proofs.CarriesLaws.{carries-exit, carries-limit, carries-second, carries-trim, carries-wanting, written-begun}
 use Rattle.boot_stages.proofs.MemoryLaws.{opening}
@@ -20,7 +19,7 @@ returns-in_err-claim_early-clause-carries c =
 pub returns-in_err-set_limit-clause-carries : goal.returns-in_err-set_limit-clause-carries
 returns-in_err-set_limit-clause-carries c =
     let p = err_from_is_err_and c.from_residual-in_err-set_limit.result c.from_residual-in_err-set_limit.ensures.1 in
-    carries-wanting c.from_residual-in_err-set_limit.result (opening MAX_PHYSMEM c.args.kernel c.args.initrd c.args.map.now)
+    carries-wanting c.from_residual-in_err-set_limit.result (opening c.args.reach c.args.kernel c.args.initrd c.args.map.now)
     c.args.memblock.now.journal.items c.set_limit.new.self.journal.items p.0 p.1 p.2
 
 pub add_map-requires-clause-begun : goal.add_map-requires-clause-begun
@@ -35,17 +34,17 @@ returns-in_err-add_map-clause-carries c =
     let claimed = c.claim_early.new.memblock.journal.items in
     let limited = c.set_limit.new.self.journal.items in
     let new = c.add_map.new.memblock.journal.items in
-    let added = carries-exit c.in_err-add_map.field-0.0 r (items_of_map MAX_PHYSMEM c.args.map.now) (item.Trim ∷ []) limited new p.0 p.1 p.2
+    let added = carries-exit c.in_err-add_map.field-0.0 r (items_of_map c.args.reach c.args.map.now) (item.Trim ∷ []) limited new p.0 p.1 p.2
     c.in_err-add_map.ensures.carries in
-    carries-second r (early_claims c.args.kernel c.args.initrd) (item.Limit ISA_END_ADDRESS ∷ (items_of_map MAX_PHYSMEM c.args.map.now
+    carries-second r (early_claims c.args.kernel c.args.initrd) (item.Limit ISA_END_ADDRESS ∷ (items_of_map c.args.reach c.args.map.now
     ++ item.Trim ∷ [])) c.args.memblock.now.journal.items claimed new c.in_ok-claim_early.ensures.carries
-    (carries-second r (item.Limit ISA_END_ADDRESS ∷ []) (items_of_map MAX_PHYSMEM c.args.map.now ++ item.Trim ∷ []) claimed limited new
+    (carries-second r (item.Limit ISA_END_ADDRESS ∷ []) (items_of_map c.args.reach c.args.map.now ++ item.Trim ∷ []) claimed limited new
     (carries-limit ISA_END_ADDRESS claimed limited c.in_ok-set_limit.ensures.ok) added)
 
 pub returns-in_err-trim-clause-carries : goal.returns-in_err-trim-clause-carries
 returns-in_err-trim-clause-carries c =
     let p = err_from_is_err_and c.from_residual-in_err-trim.result c.from_residual-in_err-trim.ensures.1 in
-    carries-wanting c.from_residual-in_err-trim.result (opening MAX_PHYSMEM c.args.kernel c.args.initrd c.args.map.now)
+    carries-wanting c.from_residual-in_err-trim.result (opening c.args.reach c.args.kernel c.args.initrd c.args.map.now)
     c.args.memblock.now.journal.items c.trim.new.self.journal.items p.0 p.1 p.2
 
 pub returns-clause-carries : goal.returns-clause-carries
@@ -54,11 +53,11 @@ returns-clause-carries c =
     let limited = c.set_limit.new.self.journal.items in
     let added = c.add_map.new.memblock.journal.items in
     let new = c.trim.new.self.journal.items in
-    let all = carries-second (Ok tt) (items_of_map MAX_PHYSMEM c.args.map.now) (item.Trim ∷ []) limited added new
+    let all = carries-second (Ok tt) (items_of_map c.args.reach c.args.map.now) (item.Trim ∷ []) limited added new
     c.in_ok-add_map.ensures.carries (carries-trim added new c.in_ok-trim.ensures.ok) in
-    carries-second (Ok tt) (early_claims c.args.kernel c.args.initrd) (item.Limit ISA_END_ADDRESS ∷ (items_of_map MAX_PHYSMEM c.args.map.now
+    carries-second (Ok tt) (early_claims c.args.kernel c.args.initrd) (item.Limit ISA_END_ADDRESS ∷ (items_of_map c.args.reach c.args.map.now
     ++ item.Trim ∷ [])) c.args.memblock.now.journal.items claimed new c.in_ok-claim_early.ensures.carries
-    (carries-second (Ok tt) (item.Limit ISA_END_ADDRESS ∷ []) (items_of_map MAX_PHYSMEM c.args.map.now ++ item.Trim ∷ []) claimed
+    (carries-second (Ok tt) (item.Limit ISA_END_ADDRESS ∷ []) (items_of_map c.args.reach c.args.map.now ++ item.Trim ∷ []) claimed
     limited new
     (carries-limit ISA_END_ADDRESS claimed limited c.in_ok-set_limit.ensures.ok) all)
 

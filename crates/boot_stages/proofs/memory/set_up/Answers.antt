@@ -7,7 +7,6 @@ use Rattle.memblock_ranges.specs.Tables.{Table}
 use Rattle.growth_model.specs.Carried.{carried_out}
 use Rattle.stage_calls.proofs.LentLaws.{goes-then}
 use Rattle.early_stages.specs.Memory.{end_of_runs, memory_end}
-use Rattle.boot_model.specs.declared.limit.TheConstants.{MAX_PHYSMEM}
 use Rattle.boot_stages.specs.Carries.{Carries}
 use Rattle.boot_stages.proofs.CarriesLaws.{carries-exit, carries-second}
 use Rattle.boot_stages.proofs.MemoryLaws.{ending, in_two, opening, table_end}
@@ -21,9 +20,9 @@ returns-in_err-map_memory-clause-carries c =
     let new = c.map_memory.new.memblock.journal.items in
     let map = c.args.map.now in
     let Ends : List Item → Type 0 = λ wanted. Carries r wanted old new in
-    subst Ends (in_two MAX_PHYSMEM c.args.kernel c.args.initrd map)
-    (carries-exit c.in_err-map_memory.field-0.0 r (opening MAX_PHYSMEM c.args.kernel c.args.initrd map)
-    (ending (memory_end MAX_PHYSMEM (value_at map))) old new p.0 p.1 p.2 c.in_err-map_memory.ensures.carries)
+    subst Ends (in_two c.args.reach c.args.kernel c.args.initrd map)
+    (carries-exit c.in_err-map_memory.field-0.0 r (opening c.args.reach c.args.kernel c.args.initrd map)
+    (ending (memory_end c.args.reach (value_at map))) old new p.0 p.1 p.2 c.in_err-map_memory.ensures.carries)
 
 pub returns-clause-carries : goal.returns-clause-carries
 returns-clause-carries c =
@@ -32,16 +31,16 @@ returns-clause-carries c =
     let mid = c.map_memory.new.memblock.journal.items in
     let new = c.limit_memory.new.memblock.journal.items in
     let map = c.args.map.now in
-    let first : List Item = opening MAX_PHYSMEM c.args.kernel c.args.initrd map in
+    let first : List Item = opening c.args.reach c.args.kernel c.args.initrd map in
     let carried : carried_out first old ≡ Ok mid = c.in_ok-map_memory.ensures.carries in
     let begun : carried_out first [] ≡ Ok mid = ap (carried_out first) (sym c.requires.first) ∙ carried in
-    let end : c.end_of_memory-end.result ≡ memory_end MAX_PHYSMEM (value_at map) =
+    let end : c.end_of_memory-end.result ≡ memory_end c.args.reach (value_at map) =
     c.end_of_memory-end.ensures ∙ ap (λ (t : Table). end_of_runs t.records) c.tables.ensures.memory
-    ∙ table_end MAX_PHYSMEM c.args.kernel c.args.initrd map mid c.requires.runs begun c.tables.ensures.within in
+    ∙ table_end c.args.reach c.args.kernel c.args.initrd map mid c.requires.runs begun c.tables.ensures.within in
     let Ends : List Item → Type 0 = λ wanted. Carries r wanted old new in
     let Rest : ℕ → Type 0 = λ at. Carries r (ending at) mid new in
-    subst Ends (in_two MAX_PHYSMEM c.args.kernel c.args.initrd map)
-    (carries-second r first (ending (memory_end MAX_PHYSMEM (value_at map))) old mid new carried
+    subst Ends (in_two c.args.reach c.args.kernel c.args.initrd map)
+    (carries-second r first (ending (memory_end c.args.reach (value_at map))) old mid new carried
     (subst Rest end c.limit_memory.ensures.carries))
 
 pub returns-clause-lent : goal.returns-clause-lent

@@ -19,3 +19,7 @@ returns-clause-whole c = blocks_whole (inputs_view c.args.inputs) _ (told_ok sto
 
 pub returns-clause-maximal : goal.returns-clause-maximal
 returns-clause-maximal c = blocks_maximal (inputs_view c.args.inputs) _ (told_ok stop_of _ _ (returns-clause-boots c))
+
+-- of the inputs' facts one is named, and the others are found
+pub invariant_of-inputs-2-clause-entries_end : goal.invariant_of-inputs-2-clause-entries_end
+invariant_of-inputs-2-clause-entries_end c = c.args.inputs.entries_end

@@ -6,7 +6,6 @@ use Rattle.e820_model.specs.Map.{claims_of}
 use Rattle.growth_model.specs.Carried.{carried_out}
 use Rattle.early_stages.specs.Wanted.{first_items}
 use Rattle.boot_journal.specs.Contents.{Contents}
-use Rattle.boot_model.specs.declared.limit.TheConstants.{MAX_PHYSMEM}
 use Rattle.boot_model.specs.declared.stop.Stop.{Stop}
 use Rattle.boot_model.specs.declared.stop.Stop.TheVariants as stops
 use Rattle.bm_base.specs.Extent.{Extent}
@@ -18,7 +17,7 @@ use Rattle.growth_model.specs.Bytes.{byte}
 use Rattle.phys_store.specs.Bytes.{Stored, byte_of}
 use Rattle.memblock_grow.specs.Contents.{Contents as Memblock}
 use Rattle.bm_base.specs.ResultSteps.{with_error}
-use Rattle.boot_model.specs.Boot.{Given, Made, Told, boot, claims, handed_over, heads_of, later_stages, map_judged, spanned}
+use Rattle.boot_model.specs.Boot.{Given, Made, Told, boot, claims, handed_over, heads_of, later_stages, map_judged, reach, spanned}
 use Rattle.boot_model.specs.Stages.{in_order}
 use Rattle.boot_model.specs.Stop.{stop_of}
 use Rattle.boot_model.specs.View.{inputs_view}
@@ -43,7 +42,7 @@ returns-in_err-map-clause-boots c =
     let same : claims (inputs_view c.args.inputs.now) ≡ claims_of c.in_ok-table.table = search rules in
     let p = err_from_is_err_and c.from_residual-in_err-map.result c.from_residual-in_err-map.ensures.1 in
     boot_stops _ (inputs_view c.args.inputs.now) _ c.in_err-map.field-0.0 (p.1 ∙ ap (λ (s : Stop). Err s) p.2)
-    (c.in_err-map.ensures.answers (inputs_view c.args.inputs.now) same)
+    (c.in_err-map.ensures.answers (inputs_view c.args.inputs.now) same (sym c.reach-reach.ensures))
 
 pub returns-in_err-memblock-clause-boots : goal.returns-in_err-memblock-clause-boots
 returns-in_err-memblock-clause-boots c =
@@ -51,45 +50,38 @@ returns-in_err-memblock-clause-boots c =
     let r = c.from_residual-in_err-memblock.result in
     let p = err_from_is_err_and r c.from_residual-in_err-memblock.ensures.1 in
     let stop : Stop = c.in_err-memblock.field-0.0 in
-    let Stops : List (RunOf ℕ) → Type 0 = λ map. stop ≢ stops.Memory
-    → or_stop (carried_out (first_items MAX_PHYSMEM c.args.inputs.now.kernel c.args.inputs.now.zero.initrd map) []) ≡ Err stop in
+    let far = c.reach-reach.result in
+    let Stops : ℕ → List (RunOf ℕ) → Type 0 = λ limit map. stop ≢ stops.Memory
+    → or_stop (carried_out (first_items limit c.args.inputs.now.kernel c.args.inputs.now.zero.initrd map) []) ≡ Err stop in
     memory_stops _ (inputs_view c.args.inputs.now) (made_of (inputs_view c.args.inputs.now) c.in_ok-map.map) r stop
-    (p.1 ∙ ap (λ (s : Stop). Err s) p.2) (c.in_ok-map.ensures.answers (inputs_view c.args.inputs.now) same)
-    (subst Stops c.deref-4.ensures.value c.in_err-memblock.ensures.answers)
-
--- a boot whose map is judged and whose memory is made goes on with the stages behind it
-goes_on : (given : Given) (map : Vec (RunOf ℕ) Global) (runs : List (RunOf ℕ)) (m : Memblock) → runs ≡ map.items
-    → with_error stop_of (map_judged given) ≡ Ok (made_of given map)
-    → or_stop (carried_out (first_items MAX_PHYSMEM given.kernel given.initrd runs) []) ≡ Ok m.journal.items
-    → boot given ≡ in_order (drop 1 (later_stages given)) (begun_with (made_of given map) m)
-goes_on given map runs m same judged carried =
-    let Goes : List (RunOf ℕ) → Type 0 =
-    λ rs. or_stop (carried_out (first_items MAX_PHYSMEM given.kernel given.initrd rs) []) ≡ Ok m.journal.items in
-    memory_goes_on given (made_of given map) m.journal.items judged (subst Goes same carried)
+    (p.1 ∙ ap (λ (s : Stop). Err s) p.2) (c.in_ok-map.ensures.answers (inputs_view c.args.inputs.now) same (sym c.reach-reach.ensures))
+    (subst (λ limit. Stops limit c.in_ok-map.map.items) c.reach-reach.ensures
+    (subst (Stops far) c.deref-4.ensures.value c.in_err-memblock.ensures.answers))
 
 -- what is known where memory was made
 record MemoryIsMade (given : Given) (map : Vec (RunOf ℕ) Global) (m : Memblock) : Type 0 where
   comes : boot given ≡ in_order (drop 1 (later_stages given)) (begun_with (made_of given map) m)
-  first : IsFirst m.journal.items
+  first : IsFirst (reach given) m.journal.items
 
-memory_is_made : (given : Given) (map : Vec (RunOf ℕ) Global) (runs : List (RunOf ℕ)) (m : Memblock) → runs ≡ map.items
-    → with_error stop_of (map_judged given) ≡ Ok (made_of given map)
-    → or_stop (carried_out (first_items MAX_PHYSMEM given.kernel given.initrd runs) []) ≡ Ok m.journal.items
+memory_is_made : (given : Given) (limit : ℕ) (map : Vec (RunOf ℕ) Global) (runs : List (RunOf ℕ)) (m : Memblock) → limit ≡ reach given
+    → runs ≡ map.items → with_error stop_of (map_judged given) ≡ Ok (made_of given map)
+    → or_stop (carried_out (first_items limit given.kernel given.initrd runs) []) ≡ Ok m.journal.items
     → MemoryIsMade given map m
-memory_is_made given map runs m same judged carried =
-    let Goes : List (RunOf ℕ) → Type 0 =
-    λ rs. or_stop (carried_out (first_items MAX_PHYSMEM given.kernel given.initrd rs) []) ≡ Ok m.journal.items in
+memory_is_made given limit map runs m far same judged carried =
+    let Goes : ℕ → List (RunOf ℕ) → Type 0 =
+    λ l rs. or_stop (carried_out (first_items l given.kernel given.initrd rs) []) ≡ Ok m.journal.items in
+    let told : Goes (reach given) map.items = subst (λ l. Goes l map.items) far (subst (Goes limit) same carried) in
     record {
-      comes = memory_goes_on given (made_of given map) m.journal.items judged (subst Goes same carried);
-      first = first_made given (made_of given map) m.journal.items judged (subst Goes same carried);
+      comes = memory_goes_on given (made_of given map) m.journal.items judged told;
+      first = first_made given (made_of given map) m.journal.items judged told;
     }
 
 pub run_stages-requires-clause-first : goal.run_stages-requires-clause-first
 run_stages-requires-clause-first c =
     let given : Given = inputs_view c.args.inputs.now in
     let same = claims-told given _ _ _ _ c.in_ok-table.ensures c.deref.ensures.0 c.deref-2.ensures.value c.deref-3.ensures.value in
-    (memory_is_made given c.in_ok-map.map c.deref-4.result.now c.in_ok-memblock.memblock c.deref-4.ensures.value
-    (c.in_ok-map.ensures.answers given same) c.in_ok-memblock.ensures.answers).first
+    (memory_is_made given c.reach-reach.result c.in_ok-map.map c.deref-4.result.now c.in_ok-memblock.memblock c.reach-reach.ensures
+    c.deref-4.ensures.value (c.in_ok-map.ensures.answers given same (sym c.reach-reach.ensures)) c.in_ok-memblock.ensures.answers).first
 
 pub returns-in_err-later-clause-boots : goal.returns-in_err-later-clause-boots
 returns-in_err-later-clause-boots c =
@@ -99,7 +91,8 @@ returns-in_err-later-clause-boots c =
     let m : Memblock = c.in_ok-memblock.memblock in
     let p = err_from_is_err_and c.from_residual-in_err-later.result c.from_residual-in_err-later.ensures.1 in
     stages_stop _ given (begun_with made m) _ c.in_err-later.field-0.0 (p.1 ∙ ap (λ (s : Stop). Err s) p.2)
-    (memory_is_made given c.in_ok-map.map c.deref-4.result.now m c.deref-4.ensures.value (c.in_ok-map.ensures.answers given same)
+    (memory_is_made given c.reach-reach.result c.in_ok-map.map c.deref-4.result.now m c.reach-reach.ensures c.deref-4.ensures.value
+    (c.in_ok-map.ensures.answers given same (sym c.reach-reach.ensures))
     c.in_ok-memblock.ensures.answers).comes
     (c.in_err-later.ensures.stopped made)
 
@@ -134,8 +127,8 @@ returns-clause-boots c =
     let last : Memblock = c.run_stages.new.memblock in
     let later : LaterMade = later_view c.in_ok-later.later in
     let run = c.in_ok-later.ensures.run made in
-    let comes = (memory_is_made given c.in_ok-map.map c.deref-4.result.now m c.deref-4.ensures.value
-    (c.in_ok-map.ensures.answers given same) c.in_ok-memblock.ensures.answers).comes ∙ run.come in
+    let comes = (memory_is_made given c.reach-reach.result c.in_ok-map.map c.deref-4.result.now m c.reach-reach.ensures c.deref-4.ensures.value
+    (c.in_ok-map.ensures.answers given same (sym c.reach-reach.ensures)) c.in_ok-memblock.ensures.answers).comes ∙ run.come in
     let end = c.in_ok-end.end in
     let heads : heads_of given.kernel last.journal.items ≡ end.heads =
     sym (c.in_ok-end.ensures.heads ∙ ap (λ (k : Extent). heads_of k last.journal.items) run.kernel) in
@@ -156,8 +149,8 @@ returns-clause-bytes c = λ final ends x. (
     let m : Memblock = c.in_ok-memblock.memblock in
     let last : Memblock = c.run_stages.new.memblock in
     let run = c.in_ok-later.ensures.run made in
-    let comes = (memory_is_made given c.in_ok-map.map c.deref-4.result.now m c.deref-4.ensures.value
-    (c.in_ok-map.ensures.answers given same) c.in_ok-memblock.ensures.answers).comes ∙ run.come in
+    let comes = (memory_is_made given c.reach-reach.result c.in_ok-map.map c.deref-4.result.now m c.reach-reach.ensures c.deref-4.ensures.value
+    (c.in_ok-map.ensures.answers given same (sym c.reach-reach.ensures)) c.in_ok-memblock.ensures.answers).comes ∙ run.come in
     let behind : Made = made_behind (begun_with made m) last (later_view c.in_ok-later.later) run.ids run.fills in
     let told : Ok behind ≡ Ok final = sym comes ∙ ends in
     let is : behind ≡ final = cc in

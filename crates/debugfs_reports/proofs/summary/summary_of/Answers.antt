@@ -57,5 +57,5 @@ returns c =
     ap (λ (rs : List BlockRow). blocks_of_rows rs) c.deref-row-items.ensures.value ∙ c.in_ok-rows.ensures.blocks in
     let all = counted_all rows l.row-index l.free l.blocks (free c.args.booted.now.buddy) (omega arith) is l.invariant in
     let runs : c.len.result ≡ length c.args.booted.now.map.items = omega arith in
-    summary_is (booted_view c.args.booted.now) _ _ _ _ _ _ _ _ runs c.usable_frames.ensures c.deref.ensures.value refl all.0
+    summary_is (booted_view c.args.booted.now) _ _ _ _ _ _ _ _ runs c.usable_frames.ensures c.deref.ensures.value c.reach.ensures all.0
     c.fullness_of.ensures c.fullness_of-2.ensures all.1

@@ -7,3 +7,7 @@ pub returns-in_ok-made-clause-put : goal.returns-in_ok-made-clause-put
 returns-in_ok-made-clause-put c =
     made_given (inputs_view c.args.inputs.now) _ _ _ _ _ c.in-Some.is c.in_ok-made.ensures.page c.in_ok-made.ensures.initrd
     c.in_ok-made.ensures.extension
+
+-- of the inputs' facts one is named, and the others are found
+pub invariant_of-inputs-clause-entries_end : goal.invariant_of-inputs-clause-entries_end
+invariant_of-inputs-clause-entries_end c = c.in_ok-made.ensures.page_space

@@ -9,4 +9,4 @@ pub returns-in_err-inputs-clause-gives : goal.returns-in_err-inputs-clause-gives
 returns-in_err-inputs-clause-gives g c =
     let p = err_from_is_err_and c.from_residual.result c.from_residual.ensures.1 in
     given_none inputs_view c.from_residual.result p.0 c.in_err-inputs.field-0.0 (g.F.Files.holds c.args.files.now)
-    (wanted_view c.args.wanted.now) p.1 p.2 c.in_err-inputs.ensures.gives
+    (wanted_view c.args.wanted.now) p.1 p.2 (rw c.begun-begun.ensures at c.in_err-inputs.ensures.gives)

@@ -1,0 +1,23 @@
+-- An input file as one value.
+use Rattle.std.specs.Prelude.{ℕ, Bool, List, Option, Some, None, Result, Ok, Err}
+use Rattle.boot_model.specs.Boot.{Given}
+use Rattle.boot_inputs.specs.declared.fault.Fault.{Fault}
+use Rattle.boot_inputs.specs.declared.input.Input.{Input}
+
+-- which file it is, the most bytes that it has, for which bytes memory is taken, and what bytes make of what is given before the file, or
+-- their first fault
+pub record File : Type 0 where
+  pub input : Input
+  pub limit : ℕ
+  pub takes : List ℕ → Bool
+  pub says : List ℕ → Given → Result Given Fault
+
+-- what bytes say, put into what is given
+abbrev pub with_value : {A : Type 0} → (A → Given → Given) → Given → Result A Fault → Result Given Fault
+with_value put given (Ok value) = Ok (put value given)
+with_value put given (Err fault) = Err fault
+
+-- the value, unless there is a fault
+abbrev pub unless_fault : {A : Type 0} → Option Fault → A → Result A Fault
+unless_fault None value = Ok value
+unless_fault (Some fault) value = Err fault

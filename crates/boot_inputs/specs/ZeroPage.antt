@@ -1,0 +1,25 @@
+-- The zero page (`struct boot_params`).
+use Rattle.std.specs.Prelude.{ℕ, false, List, Result}
+use Rattle.std.specs.Option.{option_map}
+use Rattle.e820_table.specs.ZeroPage.{Page, page_of, zero_fault}
+use Rattle.boot_model.specs.Boot.{Given}
+use Rattle.boot_inputs.specs.declared.fault.Fault.{Fault}
+use Rattle.boot_inputs.specs.declared.fault.Fault.TheVariants as faults
+use Rattle.boot_inputs.specs.declared.input.Input.TheVariants as inputs
+use Rattle.boot_inputs.specs.File.{File, unless_fault, with_value}
+
+abbrev pub page_said : List ℕ → Result Page Fault
+page_said bytes = unless_fault (option_map faults.ZeroPage (zero_fault bytes)) (page_of bytes)
+
+-- its entries, and its initrd
+abbrev pub put_page : Page → Given → Given
+put_page page given = record given { entries = page.entries; initrd = page.initrd }
+
+-- a page, whose entries stand in an array that has room for all of them
+abbrev pub zero_page : File
+zero_page = record {
+  input = inputs.ZeroPage;
+  limit = 4096;
+  takes = λ bytes. false;
+  says = λ bytes given. with_value put_page given (page_said bytes);
+}

@@ -1,0 +1,58 @@
+//! A list of input files, as a type: a file and the list behind it. What is said of files that are read one after another is
+//! proved here once, for any list.
+
+ghost use Rattle.std.specs.Prelude.{◌≡◌, IsTrue, List, [], ◌∷◌};
+ghost use Rattle.boot_model.specs.View.{inputs_view};
+ghost use Rattle.boot_inputs.specs.File.{File};
+ghost use Rattle.boot_inputs.specs.Reading.{AreRead, ascend};
+
+use crate::fetching::add_file;
+use crate::names::Names;
+use crate::reader::Reader;
+use crate::refusal::InputError;
+use bm_io::Files;
+use boot_model::Inputs;
+use std::alloc::Global;
+
+/// Input files that are read one after another.
+pub trait Readers {
+    // The files in their order.
+    ghost list: { List File };
+
+    /// Fetches each file that is named, in their order, and judges it before the next; the first refusal is the answer.
+    fn add_files<F: Files, N: Names>(
+        alloc: Global,
+        files: &mut F,
+        names: &N,
+        inputs: &mut Inputs,
+    ) -> Result<(), InputError>
+        requires { IsTrue (ascend list) }
+        ensures { AreRead F.Files (N.named names.now) list files.old files.new (inputs_view inputs.old) (inputs_view inputs.new) result };
+}
+
+impl Readers for () {
+    ghost list = { [] };
+
+    fn add_files<F: Files, N: Names>(
+        _alloc: Global,
+        _files: &mut F,
+        _names: &N,
+        _inputs: &mut Inputs,
+    ) -> Result<(), InputError> {
+        Ok(())
+    }
+}
+
+impl<R: Reader, L: Readers> Readers for (R, L) {
+    ghost list = { R.file ∷ L.list };
+
+    fn add_files<F: Files, N: Names>(
+        alloc: Global,
+        files: &mut F,
+        names: &N,
+        inputs: &mut Inputs,
+    ) -> Result<(), InputError> {
+        add_file::<R, F, N>(alloc, files, names, inputs)?;
+        L::add_files::<F, N>(alloc, files, names, inputs)
+    }
+}

@@ -1,0 +1,23 @@
+-- How far the tables of memory reach at most, and that this is whole frames.
+use Rattle.std.proofs.Common.{◌≡◌, ◌%◌, ◌^◌, ◌<◌, ◌≤◌, refl, arith}
+use Rattle.bm_base.specs.Width.{reach_of}
+use Rattle.bm_base.specs.declared.width.Width.{Width}
+use Rattle.bm_base.specs.declared.width.Width.TheVariants.{Bits46, Bits52}
+use Rattle.boot_model.specs.Boot.{Given, reach}
+
+width-small : (width : Width) → reach_of width ≤ 2 ^ 52
+width-small Bits46 = omega arith
+width-small Bits52 = omega arith
+
+width-whole : (width : Width) → reach_of width % 4096 ≡ 0
+width-whole Bits46 = refl
+width-whole Bits52 = refl
+
+pub reach-small : (given : Given) → reach given ≤ 2 ^ 52
+reach-small given = width-small Bits46
+
+pub reach-below : (given : Given) → reach given ≤ 2 ^ 64
+reach-below given = let small : reach given ≤ 2 ^ 52 = reach-small given in omega (arith, small)
+
+pub reach-whole : (given : Given) → reach given % 4096 ≡ 0
+reach-whole given = width-whole Bits46

@@ -1,0 +1,58 @@
+-- The facts that stand with the inputs of a boot: of each there is one proof at most.
+use Rattle.std.specs.Prelude.{List, [], ◌∷◌}
+use Rattle.std.specs.List.{All}
+use Rattle.std.specs.Coded.{×_prop, Unit-prop, le_prop}
+use Rattle.std.proofs.Math.Bool.{Bool-set}
+use Rattle.e820_model.specs.declared.entry.Entry.{Entry}
+use Rattle.e820_model.specs.declared.edit.Edit.{Edit}
+use Rattle.e820_model.specs.declared.edit.Edit.TheVariants as edit
+use Rattle.e820_model.specs.Claims.{EndInSpace, HaveTypes, HasTypes}
+use Rattle.script_reader.specs.declared.act.Act.{Act}
+use Rattle.script_reader.specs.declared.act.Act.TheVariants as acts
+use Rattle.script_reader.specs.declared.act.Line.{Line}
+use Rattle.script_reader.specs.Forms.{HasBounds}
+use Rattle.early_script.specs.Acted.{IsRun}
+use Rattle.early_script.specs.Stage.{PlaceOnce}
+
+pub EndInSpace-prop : (entries : List Entry) → IsProp (EndInSpace entries)
+EndInSpace-prop [] = Unit-prop
+EndInSpace-prop (e ∷ es) = ×_prop le_prop (EndInSpace-prop es)
+
+HasTypes-prop : (e : Edit) → IsProp (HasTypes e)
+HasTypes-prop (edit.Add range kind) = le_prop
+HasTypes-prop (edit.Remove range kind) = le_prop
+HasTypes-prop (edit.RemoveAll range) = Unit-prop
+HasTypes-prop (edit.Change range from to) = ×_prop le_prop le_prop
+HasTypes-prop edit.Clear = Unit-prop
+
+pub HaveTypes-prop : (edits : List Edit) → IsProp (HaveTypes edits)
+HaveTypes-prop [] = Unit-prop
+HaveTypes-prop (e ∷ es) = ×_prop (HasTypes-prop e) (HaveTypes-prop es)
+
+-- the bounds that running a script's lines asks for
+abbrev pub HaveBounds : List Line → Type 0
+HaveBounds lines = All (λ line. HasBounds line.act) lines
+
+HasBounds-prop : (act : Act) → IsProp (HasBounds act)
+HasBounds-prop (acts.Alloc id request) = ×_prop le_prop (Bool-set _ _)
+HasBounds-prop (acts.Reserve id range) = le_prop
+HasBounds-prop (acts.Free id) = Unit-prop
+HasBounds-prop (acts.Trim id keep) = le_prop
+HasBounds-prop (acts.Fill id byte) = Unit-prop
+HasBounds-prop (acts.Peek at len) = Prim.hlevel le_prop
+HasBounds-prop acts.Sections = Unit-prop
+
+pub HaveBounds-prop : (lines : List Line) → IsProp (HaveBounds lines)
+HaveBounds-prop lines = Prim.hlevel HasBounds-prop
+
+IsRun-prop : (act : Act) → IsProp (IsRun act)
+IsRun-prop (acts.Alloc id request) = Unit-prop
+IsRun-prop (acts.Reserve id range) = Unit-prop
+IsRun-prop (acts.Free id) = Unit-prop
+IsRun-prop (acts.Trim id keep) = Unit-prop
+IsRun-prop (acts.Fill id byte) = Unit-prop
+IsRun-prop (acts.Peek at len) = Unit-prop
+IsRun-prop acts.Sections = Prim.hlevel Unit-prop
+
+pub PlaceOnce-prop : (lines : List Line) → IsProp (PlaceOnce lines)
+PlaceOnce-prop lines = Prim.hlevel IsRun-prop
