@@ -2,15 +2,16 @@
 use Rattle.std.proofs.Common.{◌≡◌, ℕ, true, false, List, [], ◌∷◌, codes, Option, Some, None, refl}
 use Rattle.std.specs.Option.{option_map}
 use Rattle.clap.specs.Words.{matches_of}
+use Rattle.clap.specs.declared.builder.action.ArgAction.TheVariants.{Set, SetFalse, SetTrue}
 use Rattle.clap.proofs.OnLiterals.{clap_on_literals}
 use Rattle.bm_base.specs.Extent.{Extent}
 use Rattle.boot_inputs.specs.declared.input.Input.TheVariants as inputs
 use Rattle.debugfs_reports.specs.declared.report.Report.{Report}
 use Rattle.debugfs_reports.specs.declared.report.Report.TheVariants as reports
 use Rattle.program_words.specs.Entries.{are_digits, are_entries, entries_in, entries_of}
-use Rattle.program_words.specs.Grammar.{is_faultless, program}
+use Rattle.program_words.specs.Grammar.{has_value, is_faultless, is_switch, program}
 use Rattle.program_words.specs.Kernel.{default_kernel, if_kernel, kernel_in, kernel_of}
-use Rattle.program_words.specs.Spelling.{Spelling, apart, argument_in, dashed, given_by, is_option, is_plain, joined, named, spelled, text_in, words_of}
+use Rattle.program_words.specs.Spelling.{Spelling, apart, argument_in, dashed, flag, given_by, is_flag, is_option, is_plain, joined, named, spelled, spelled_for, text_in, unspelled, words_of}
 use Rattle.program_words.specs.Words.{Values, Wanted, accepted, argument_of, asked_by, has_source, list_asked, list_in, name_in, provided, value_in}
 
 -- what words ask for, apart from the names of files by input
@@ -193,6 +194,16 @@ three_spellings = apart (codes "report") (codes "map") ∷ named (codes "zp") �
 spelled_examples : (dashed (codes "make") ≡ codes "--make") × (words_of (joined (codes "make") []) ≡ codes "--make=" ∷ [])
     × (spelled three_spellings ≡ codes "--report" ∷ codes "map" ∷ codes "zp" ∷ codes "--script=-s" ∷ [])
 spelled_examples = (refl, refl, refl)
+
+-- a value goes with each option, and none is a flag; what no spelling has isn't there
+kind_examples : (has_value Set ≡ true) × (has_value SetTrue ≡ false) × (is_switch SetTrue ≡ true) × (is_switch SetFalse ≡ false)
+kind_examples = (refl, refl, refl, refl)
+
+flag_examples : (is_flag (codes "kernel") ≡ false) × (is_flag (codes "ZEROPAGE") ≡ false) × (unspelled (codes "kernel") ≡ None)
+    × (spelled_for three_spellings (codes "report") ≡ Some (codes "map")) × (spelled_for three_spellings (codes "kernel") ≡ None)
+    × (words_of (flag (codes "on")) ≡ codes "--on" ∷ [])
+    × (text_in (flag (codes "on")) ≡ codes "true")
+flag_examples = (refl, refl, refl, refl, refl, refl, refl)
 
 word_examples : (is_plain (codes "z-p") ≡ true) × (is_plain [] ≡ true) × (is_plain (codes "-") ≡ false)
     × (is_option (codes "kernel") ≡ true) × (is_option (codes "ZEROPAGE") ≡ false)

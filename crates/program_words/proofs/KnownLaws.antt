@@ -1,14 +1,16 @@
 -- What the command knows of its arguments, and what is known of plain words: the facts by which words that are spelled are walked
--- over, without the command itself being opened again.
-use Rattle.std.proofs.Common.{◌≡◌, ℕ, ◌==◌, Bool, true, false, not, ◌||◌, List, [], ◌∷◌, ◌++◌, codes, Option, Some, None, refl, ap, subst}
+-- over, without the command itself being opened again. Each is computed once for the whole table of options.
+use Rattle.std.proofs.Common.{◌≡◌, ℕ, ◌==◌, Bool, true, false, not, ◌&&◌, ◌||◌, List, [], ◌∷◌, ◌++◌, codes, Option, Some, None, map, refl, ap, subst}
 use Rattle.std.specs.List.{list_any}
 use Rattle.std.specs.Str.{bytes_eq}
 use Rattle.std.proofs.lemmas.Slice.Eq.{bytes_eq-Decides}
 use Rattle.clap.specs.Lexer.{long_of, short_of}
 use Rattle.clap.specs.Simple.{Shape, argument_words, built, filled, names_of, with_index}
 use Rattle.clap.specs.Walk.{Rule, arg_by_id, arg_by_index, arg_by_long}
-use Rattle.program_words.specs.Grammar.{option_names, option_rule, positional_rule, program}
-use Rattle.program_words.specs.Spelling.{dashed, is_option, is_plain}
+use Rattle.clap.specs.declared.builder.action.ArgAction.{ArgAction}
+use Rattle.clap.specs.declared.builder.action.ArgAction.TheVariants.{Set, SetTrue}
+use Rattle.program_words.specs.Grammar.{Listed, has_value, is_switch, option_rule, options, positional_rule, program}
+use Rattle.program_words.specs.Spelling.{dashed, is_flag, is_option, is_plain}
 
 abbrev pub shape : Shape
 shape = (built program).top
@@ -19,8 +21,8 @@ rules = shape.rules
 abbrev pub zero_page : List ℕ
 zero_page = codes "ZEROPAGE"
 
-abbrev pub option_of : List ℕ → Rule
-option_of name = filled (option_rule name)
+abbrev pub option_of : Listed → Rule
+option_of option = filled (option_rule option)
 
 abbrev pub name_rule : Rule
 name_rule = with_index 1 (filled (positional_rule zero_page))
@@ -29,15 +31,15 @@ abbrev pub joined_word : List ℕ → List ℕ → List ℕ
 joined_word name value = dashed name ++ (codes "=" ++ value)
 
 -- an option: how its word is read, and where it is found
-pub record Known (name : List ℕ) : Type 0 where
-  pub not_end : bytes_eq (dashed name) (codes "--") ≡ false
-  pub long_word : long_of (dashed name) ≡ Some (name, None)
-  pub joined_not_end : (value : List ℕ) → bytes_eq (joined_word name value) (codes "--") ≡ false
-  pub joined_long : (value : List ℕ) → long_of (joined_word name value) ≡ Some (name, Some value)
-  pub by_long : arg_by_long rules name ≡ Some (option_of name)
-  pub by_id : arg_by_id rules name ≡ Some (option_of name)
-  pub itself : bytes_eq name name ≡ true
-  pub no_name : bytes_eq name zero_page ≡ false
+pub record Known (option : Listed) : Type 0 where
+  pub not_end : bytes_eq (dashed option.0) (codes "--") ≡ false
+  pub long_word : long_of (dashed option.0) ≡ Some (option.0, None)
+  pub joined_not_end : (value : List ℕ) → bytes_eq (joined_word option.0 value) (codes "--") ≡ false
+  pub joined_long : (value : List ℕ) → long_of (joined_word option.0 value) ≡ Some (option.0, Some value)
+  pub by_long : arg_by_long rules option.0 ≡ Some (option_of option)
+  pub by_id : arg_by_id rules option.0 ≡ Some (option_of option)
+  pub itself : bytes_eq option.0 option.0 ≡ true
+  pub no_name : bytes_eq option.0 zero_page ≡ false
 
 -- the same at once, so that it is computed at once
 abbrev Looked : Type 0
@@ -45,32 +47,32 @@ Looked =
     Bool × Option (List ℕ × Option (List ℕ)) × (List ℕ → Bool) × (List ℕ → Option (List ℕ × Option (List ℕ))) × Option Rule × Option Rule
     × Bool × Bool
 
-abbrev looked : List ℕ → Looked
-looked name = (
-  bytes_eq (dashed name) (codes "--"),
-  long_of (dashed name),
-  λ value. bytes_eq (joined_word name value) (codes "--"),
-  λ value. long_of (joined_word name value),
-  arg_by_long rules name,
-  arg_by_id rules name,
-  bytes_eq name name,
-  bytes_eq name zero_page,
+abbrev looked : Listed → Looked
+looked option = (
+  bytes_eq (dashed option.0) (codes "--"),
+  long_of (dashed option.0),
+  λ value. bytes_eq (joined_word option.0 value) (codes "--"),
+  λ value. long_of (joined_word option.0 value),
+  arg_by_long rules option.0,
+  arg_by_id rules option.0,
+  bytes_eq option.0 option.0,
+  bytes_eq option.0 zero_page,
 )
 
-abbrev hoped : List ℕ → Looked
-hoped name = (
+abbrev hoped : Listed → Looked
+hoped option = (
   false,
-  Some (name, None),
+  Some (option.0, None),
   λ value. false,
-  λ value. Some (name, Some value),
-  Some (option_of name),
-  Some (option_of name),
+  λ value. Some (option.0, Some value),
+  Some (option_of option),
+  Some (option_of option),
   true,
   false,
 )
 
-known_by : (name : List ℕ) → looked name ≡ hoped name → Known name
-known_by name is = record {
+known_by : (option : Listed) → looked option ≡ hoped option → Known option
+known_by option is = record {
   not_end = ap (λ (l : Looked). l.0) is;
   long_word = ap (λ (l : Looked). l.1) is;
   joined_not_end = λ value. ap (λ (l : Looked). l.2 value) is;
@@ -81,27 +83,49 @@ known_by name is = record {
   no_name = ap (λ (l : Looked). l.7) is;
 }
 
-AllKnown : List (List ℕ) → Type 0
-AllKnown [] = Unit {0}
-AllKnown (name ∷ names) = (looked name ≡ hoped name) × AllKnown names
+all_looked : map looked options ≡ map hoped options
+unfolding program
+all_looked = refl
 
-all_known : AllKnown option_names
-unfolding program AllKnown
-all_known = (refl, (refl, (refl, (refl, (refl, (refl, (refl, tt)))))))
+-- the first of a list, and the others
+abbrev pub first_or : {X : Type 0} → X → List X → X
+first_or other [] = other
+first_or other (x ∷ xs) = x
 
-known_in : (names : List (List ℕ)) (name : List ℕ) → AllKnown names → list_any (λ option. bytes_eq option name) names ≡ true → Known name
-unfolding AllKnown
-known_in [] name known is = cc
-known_in (first ∷ names) name known is =
-    by_test (bytes_eq first name) ((bytes_eq-Decides first name).0) is (known_in names name known.1)
+abbrev pub behind_first : {X : Type 0} → List X → List X
+behind_first [] = []
+behind_first (x ∷ xs) = xs
+
+-- an option of the table with this name and an action of this kind is known
+known_in : (test : ArgAction → Bool) (action : ArgAction) → ((some : ArgAction) → test some ≡ true → some ≡ action)
+    → (some : List Listed) (name : List ℕ) → map looked some ≡ map hoped some
+    → list_any (λ option. test option.1 && bytes_eq option.0 name) some ≡ true → Known (name, action)
+known_in test action only [] name are is = cc
+known_in test action only (first ∷ some) name are is =
+    by_test (test first.1) (bytes_eq first.0 name) refl refl (known_in test action only some name (ap behind_first are)) is
   where
-    by_test : (same : Bool) → (same ≡ true → first ≡ name) → (same || list_any (λ option. bytes_eq option name) names) ≡ true
-        → (list_any (λ option. bytes_eq option name) names ≡ true → Known name) → Known name
-    by_test true equal some behind = subst Known (equal refl) (known_by first known.0)
-    by_test false equal some behind = behind some
+    by_test : (fits same : Bool) → test first.1 ≡ fits → bytes_eq first.0 name ≡ same
+        → (list_any (λ option. test option.1 && bytes_eq option.0 name) some ≡ true → Known (name, action))
+        → ((fits && same) || list_any (λ option. test option.1 && bytes_eq option.0 name) some) ≡ true → Known (name, action)
+    by_test true true fits same behind found =
+        let equal : first ≡ (name, action) = rw (← (bytes_eq-Decides first.0 name).0 same, ← only first.1 fits) refl in
+        subst Known equal (known_by first (ap (first_or (hoped first)) are))
+    by_test true false fits same behind found = behind found
+    by_test false same fits is_same behind found = behind found
 
-pub known : (name : List ℕ) → is_option name ≡ true → Known name
-known name is = known_in option_names name all_known is
+only_set : (some : ArgAction) → has_value some ≡ true → some ≡ Set
+only_set Set is = refl
+only_set _ is = cc
+
+only_set_true : (some : ArgAction) → is_switch some ≡ true → some ≡ SetTrue
+only_set_true SetTrue is = refl
+only_set_true _ is = cc
+
+pub known : (name : List ℕ) → is_option name ≡ true → Known (name, Set)
+known name is = known_in has_value Set only_set options name all_looked is
+
+pub flag_known : (name : List ℕ) → is_flag name ≡ true → Known (name, SetTrue)
+flag_known name is = known_in is_switch SetTrue only_set_true options name all_looked is
 
 -- the name of the zero page, and the command as a whole
 pub name_by_index : arg_by_index rules 1 ≡ Some name_rule

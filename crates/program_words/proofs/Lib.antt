@@ -1,3 +1,4 @@
+pub mod DefaultLaws
 pub mod EntryLaws
 mod Examples
 pub mod GrammarLaws

@@ -1,15 +1,16 @@
 -- The walk over words that are spelled as spellings: it stands between two spellings with one value waiting at most, settles it at the next
 -- word, and ends with a row for each spelling.
-use Rattle.std.proofs.Common.{◌≡◌, ℕ, Bool, true, false, ◌&&◌, ◌||◌, List, [], ◌∷◌, ◌++◌, Some, None, refl, inl, inr, sym, ap, map, ◌∙◌, if◌then◌else◌}
+use Rattle.std.proofs.Common.{◌≡◌, ℕ, Bool, true, false, ◌&&◌, ◌||◌, List, [], ◌∷◌, ◌++◌, codes, Some, None, refl, inl, inr, sym, ap, map, ◌∙◌, if◌then◌else◌}
 use Rattle.std.specs.Prelude.{◌⊎◌, fold}
 use Rattle.std.specs.Str.{bytes_eq}
 use Rattle.std.proofs.lemmas.List.{append-nil, append_assoc}
 use Rattle.std.proofs.lemmas.Slice.Eq.{bytes_eq-Decides}
 use Rattle.clap.specs.Faults.{settle_fault, turn_fault, walk_fault}
-use Rattle.clap.specs.Walk.{Held, Row, Walk, has_row, idle, is_pending, option, reading_by, settled, settled_rows, used, walked, with_values, without}
+use Rattle.clap.specs.Walk.{Held, Row, Walk, at_row, has_row, idle, is_pending, more_values, option, reading_by, settled, settled_rows, used, walked, with_values, without}
+use Rattle.clap.specs.declared.builder.action.ArgAction.TheVariants.{Set, SetTrue}
 use Rattle.clap.specs.declared.parser.matches.ValueSource.TheVariants.{CommandLine}
-use Rattle.program_words.specs.Spelling.{AreSpellings, IsSpelling, Spelling, apart, argument_in, dashed, given_by, joined, named, spelled, text_in, words_of}
-use Rattle.program_words.proofs.KnownLaws.{Known, Plain, joined_word, known, name_by_id, name_by_index, name_rule, once, option_of, plain, rules, shape, zero_page}
+use Rattle.program_words.specs.Spelling.{AreSpellings, IsSpelling, Spelling, apart, argument_in, dashed, flag, joined, named, spelled_for, spelled, text_in, words_of}
+use Rattle.program_words.proofs.KnownLaws.{Known, Plain, flag_known, joined_word, known, name_by_id, name_by_index, name_rule, once, option_of, plain, rules, shape, zero_page}
 
 -- ---- one word
 
@@ -37,41 +38,54 @@ waiting_for position name h = record {
 abbrev with_value : List ℕ → List ℕ → Held → Held
 with_value argument value h = record (settled rules h) { pending = Some (argument, value ∷ []) }
 
+-- a flag, too, waits for nothing
+abbrev pub with_flag : List ℕ → Held → Held
+with_flag name h = record h { rows = used (option_of (name, SetTrue)) [] (settled rules h).rows; pending = None }
+
 -- a value behind `=` waits for nothing
 abbrev with_joined : List ℕ → List ℕ → Held → Held
-with_joined name value h = record h { rows = used (option_of name) (value ∷ []) (settled rules h).rows; pending = None }
+with_joined name value h = record h { rows = used (option_of (name, Set)) (value ∷ []) (settled rules h).rows; pending = None }
 
 and_false : (b : Bool) → (b && false) ≡ false
 and_false true = refl
 and_false false = refl
 
 module _ (position : ℕ) (h : Held) where
-  option_walks : (name : List ℕ) → Known name → walked rules [] (resting position h) (dashed name) ≡ waiting_for position name h
+  option_walks : (name : List ℕ) → Known (name, Set) → walked rules [] (resting position h) (dashed name) ≡ waiting_for position name h
   unfolding walked
   option_walks name k = rw (k.not_end, k.long_word, k.by_long) refl
 
-  value_walks : (name value : List ℕ) → Known name → Plain value
+  value_walks : (name value : List ℕ) → Known (name, Set) → Plain value
       → walked rules [] (waiting_for position name h) value ≡ resting position (with_value name value h)
   unfolding walked
   value_walks name value k p = rw (p.not_end, p.no_long, p.no_short, k.by_id, k.itself) refl
 
-  joined_walks : (name value : List ℕ) → Known name
+  joined_walks : (name value : List ℕ) → Known (name, Set)
       → walked rules [] (resting position h) (joined_word name value) ≡ resting position (with_joined name value h)
   unfolding walked
   joined_walks name value k = rw (k.joined_not_end value, k.joined_long value, k.by_long) refl
 
+  flag_walks : (name : List ℕ) → Known (name, SetTrue)
+      → walked rules [] (resting position h) (dashed name) ≡ resting position (with_flag name h)
+  unfolding walked
+  flag_walks name k = rw (k.not_end, k.long_word, k.by_long) refl
+
   -- the faults of each turn
-  option_turn : (name : List ℕ) → Known name → settle_fault rules false h ≡ []
+  option_turn : (name : List ℕ) → Known (name, Set) → settle_fault rules false h ≡ []
       → turn_fault shape [] (resting position h) (dashed name) ≡ []
   option_turn name k settles = rw (k.not_end, k.long_word, k.by_long, once, settles) refl
 
   value_turn : (name value : List ℕ) → Plain value → turn_fault shape [] (waiting_for position name h) value ≡ []
   value_turn name value p = rw (p.not_end, p.no_long, p.no_short) refl
 
-  joined_turn : (name value : List ℕ) → Known name → settle_fault rules false h ≡ []
+  joined_turn : (name value : List ℕ) → Known (name, Set) → settle_fault rules false h ≡ []
       → has_row name (settled_rows rules h.pending h.rows) ≡ false
       → turn_fault shape [] (resting position h) (joined_word name value) ≡ []
   joined_turn name value k settles none = rw (k.joined_not_end value, k.joined_long value, k.by_long, once, settles, none) refl
+
+  flag_turn : (name : List ℕ) → Known (name, SetTrue) → settle_fault rules false h ≡ []
+      → has_row name (settled_rows rules h.pending h.rows) ≡ false → turn_fault shape [] (resting position h) (dashed name) ≡ []
+  flag_turn name k settles none = rw (k.not_end, k.long_word, k.by_long, once, settles, none) refl
 
 name_walks : (name : List ℕ) (h : Held) → Plain name → walked rules [] (resting 1 h) name ≡ resting 2 (with_value zero_page name h)
 unfolding walked
@@ -94,7 +108,7 @@ row_of s = record {
 
 -- no spelling is of the argument
 abbrev pub IsNew : List ℕ → List Spelling → Type 0
-IsNew argument ss = given_by ss argument ≡ None
+IsNew argument ss = spelled_for ss argument ≡ None
 
 -- what waits may be settled, and then each spelling so far has its row; before a name the walk is at the first place of names
 pub record Stands (earlier : List Spelling) (position : ℕ) (h : Held) : Type 0 where
@@ -106,8 +120,8 @@ no_row : (argument : List ℕ) (earlier : List Spelling) → IsNew argument earl
 no_row argument [] new = refl
 no_row argument (s ∷ ss) new = by_test (bytes_eq (argument_in s) argument) new (no_row argument ss)
   where
-    by_test : (same : Bool) → (if same then Some (text_in s) else given_by ss argument) ≡ None
-        → (given_by ss argument ≡ None → has_row argument (map row_of ss) ≡ false)
+    by_test : (same : Bool) → (if same then Some (text_in s) else spelled_for ss argument) ≡ None
+        → (spelled_for ss argument ≡ None → has_row argument (map row_of ss) ≡ false)
         → (same || has_row argument (map row_of ss)) ≡ false
     by_test true new behind = cc
     by_test false new behind = behind new
@@ -117,9 +131,9 @@ new_before : (argument : List ℕ) (ss : List Spelling) (s : Spelling) → IsNew
 new_before argument [] s none = refl
 new_before argument (first ∷ ss) s none = by_test (bytes_eq (argument_in first) argument) none (new_before argument ss s)
   where
-    by_test : (same : Bool) → (if same then Some (text_in first) else given_by (ss ++ s ∷ []) argument) ≡ None
+    by_test : (same : Bool) → (if same then Some (text_in first) else spelled_for (ss ++ s ∷ []) argument) ≡ None
         → (IsNew argument (ss ++ s ∷ []) → IsNew argument ss)
-        → (if same then Some (text_in first) else given_by ss argument) ≡ None
+        → (if same then Some (text_in first) else spelled_for ss argument) ≡ None
     by_test true none behind = cc
     by_test false none behind = behind none
 
@@ -129,9 +143,9 @@ new_end argument [] s other none = rw other refl
 new_end argument (first ∷ ss) s other none =
     by_test (bytes_eq (argument_in first) argument) none (new_end argument ss s other)
   where
-    by_test : (same : Bool) → (if same then Some (text_in first) else given_by ss argument) ≡ None
+    by_test : (same : Bool) → (if same then Some (text_in first) else spelled_for ss argument) ≡ None
         → (IsNew argument ss → IsNew argument (ss ++ s ∷ []))
-        → (if same then Some (text_in first) else given_by (ss ++ s ∷ []) argument) ≡ None
+        → (if same then Some (text_in first) else spelled_for (ss ++ s ∷ []) argument) ≡ None
     by_test true none behind = cc
     by_test false none behind = behind none
 
@@ -139,31 +153,35 @@ not_new : (ss : List Spelling) (name : List ℕ) → IsNew zero_page (ss ++ name
 not_new [] name none = cc
 not_new (first ∷ ss) name none = by_test (bytes_eq (argument_in first) zero_page) none (not_new ss name)
   where
-    by_test : (same : Bool) → (if same then Some (text_in first) else given_by (ss ++ named name ∷ []) zero_page) ≡ None
+    by_test : (same : Bool) → (if same then Some (text_in first) else spelled_for (ss ++ named name ∷ []) zero_page) ≡ None
         → (IsNew zero_page (ss ++ named name ∷ []) → ⊥) → ⊥
     by_test true none behind = cc
     by_test false none behind = behind none
 
--- a first value of an argument is one more row
-row_added : (argument value : List ℕ) (rows : List Row) (row : Row)
-    → row ≡ record {
+-- what has no row gets one at the end
+pub no_row_changed : (id : List ℕ) (change : Row → List Row) (missing rows : List Row) → has_row id rows ≡ false
+    → at_row id change missing rows ≡ rows ++ missing
+no_row_changed id change missing [] none = refl
+no_row_changed id change missing (first ∷ rows) none =
+    by_test (bytes_eq first.id id) none (no_row_changed id change missing rows)
+  where
+    by_test : (same : Bool) → (same || has_row id rows) ≡ false
+        → (has_row id rows ≡ false → at_row id change missing rows ≡ rows ++ missing)
+        → (if same then change first ++ rows else first ∷ at_row id change missing rows) ≡ first ∷ (rows ++ missing)
+    by_test true none behind = cc
+    by_test false none behind = ap (λ rest. first ∷ rest) (behind none)
+
+row_added : (argument value : List ℕ) (rows : List Row) → has_row argument rows ≡ false
+    → with_values argument (reading_by name_rule) CommandLine (value ∷ []) (without argument rows) ≡ rows ++ record {
       id = argument;
       values = value ∷ [];
       count = None;
       source = Some CommandLine;
       reading = reading_by name_rule;
-    } → has_row argument rows ≡ false
-    → with_values argument (reading_by name_rule) CommandLine (value ∷ []) (without argument rows) ≡ rows ++ row ∷ []
-row_added argument value [] row is none = rw is refl
-row_added argument value (first ∷ rows) row is none = by_test (bytes_eq first.id argument) refl none (row_added argument value rows row is)
-  where
-    by_test : (same : Bool) → bytes_eq first.id argument ≡ same → (same || has_row argument rows) ≡ false
-        → (has_row argument rows ≡ false
-        → with_values argument (reading_by name_rule) CommandLine (value ∷ []) (without argument rows) ≡ rows ++ row ∷ [])
-        → with_values argument (reading_by name_rule) CommandLine (value ∷ []) (without argument (first ∷ rows))
-        ≡ (first ∷ rows) ++ row ∷ []
-    by_test true is none behind = cc
-    by_test false is none behind = rw (is, is, behind none) refl
+    } ∷ []
+row_added argument value rows none =
+    let left : without argument rows ≡ rows = no_row_changed argument (λ _. []) [] rows none ∙ append-nil rows in
+    rw left (no_row_changed argument (more_values CommandLine (value ∷ [])) _ rows none)
 
 map_end : (ss : List Spelling) (s : Spelling) → map row_of (ss ++ s ∷ []) ≡ map row_of ss ++ row_of s ∷ []
 map_end [] s = refl
@@ -193,7 +211,7 @@ goes earlier (apart name value) position h is new stands =
       now = with_value name value h;
       place = position;
       stands = record {
-        rows = rw (k.by_id, stands.rows, row_added name value (map row_of earlier) (row_of (apart name value)) refl none)
+        rows = rw (k.by_id, stands.rows, row_added name value (map row_of earlier) none)
             (sym (map_end earlier (apart name value)));
         settles = rw (k.by_id, stands.rows, none) refl;
         first = λ fresh. stands.first (new_before zero_page earlier (apart name value) fresh);
@@ -209,13 +227,29 @@ goes earlier (joined name value) position h is new stands =
       now = with_joined name value h;
       place = position;
       stands = record {
-        rows = rw (stands.rows, row_added name value (map row_of earlier) (row_of (joined name value)) refl none)
+        rows = rw (stands.rows, row_added name value (map row_of earlier) none)
             (sym (map_end earlier (joined name value)));
         settles = refl;
         first = λ fresh. stands.first (new_before zero_page earlier (joined name value) fresh);
       };
       walk = λ rest. ap (λ w. fold (walked rules []) w rest) to_rest;
       fault = λ rest. rw (joined_turn position h name value k stands.settles (rw stands.rows none), to_rest) refl;
+    }
+goes earlier (flag name) position h is new stands =
+    let k = flag_known name is in
+    let none = no_row name earlier new in
+    let to_rest = flag_walks position h name k in
+    record {
+      now = with_flag name h;
+      place = position;
+      stands = record {
+        rows = rw (stands.rows, row_added name (codes "true") (map row_of earlier) none)
+            (sym (map_end earlier (flag name)));
+        settles = refl;
+        first = λ fresh. stands.first (new_before zero_page earlier (flag name) fresh);
+      };
+      walk = λ rest. ap (λ w. fold (walked rules []) w rest) to_rest;
+      fault = λ rest. rw (flag_turn position h name k stands.settles (rw stands.rows none), to_rest) refl;
     }
 goes earlier (named name) position h is new stands =
     let p = plain name is in
@@ -226,7 +260,7 @@ goes earlier (named name) position h is new stands =
       now = with_value zero_page name h;
       place = 2;
       stands = record {
-        rows = rw (name_by_id, stands.rows, row_added zero_page name (map row_of earlier) (row_of (named name)) refl none)
+        rows = rw (name_by_id, stands.rows, row_added zero_page name (map row_of earlier) none)
             (sym (map_end earlier (named name)));
         settles = rw (name_by_id, stands.rows, none) refl;
         first = λ fresh. absurd (not_new earlier name fresh);
@@ -257,7 +291,7 @@ past_more earlier s ss new past argument = by_test (bytes_eq (argument_in s) arg
   where
     by_test : (same : Bool) → bytes_eq (argument_in s) argument ≡ same → IsNew argument earlier ⊎ IsNew argument (s ∷ ss)
         → IsNew argument (earlier ++ s ∷ []) ⊎ IsNew argument ss
-    by_test true is either = inr (ap (given_by ss) (sym ((bytes_eq-Decides (argument_in s) argument).0 is)) ∙ new)
+    by_test true is either = inr (ap (spelled_for ss) (sym ((bytes_eq-Decides (argument_in s) argument).0 is)) ∙ new)
     by_test false is (inl none) = inl (new_end argument earlier s is none)
     by_test false is (inr none) = inr (rw is at none)
 

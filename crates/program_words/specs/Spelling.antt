@@ -1,14 +1,16 @@
 -- How words are spelled: options with their values and the name of the zero page, in any order.
-use Rattle.std.specs.Prelude.{◌≡◌, ℕ, ◌==◌, Bool, true, not, if◌then◌else◌, List, [], ◌∷◌, ◌++◌, codes, Some, None}
+use Rattle.std.specs.Prelude.{◌≡◌, ℕ, ◌==◌, Bool, true, not, ◌&&◌, if◌then◌else◌, List, [], ◌∷◌, ◌++◌, codes, Some, None}
 use Rattle.std.specs.List.{flat_map, list_any}
+use Rattle.std.specs.Option.{option_or}
 use Rattle.std.specs.Str.{bytes_eq}
-use Rattle.program_words.specs.Grammar.{option_names}
+use Rattle.program_words.specs.Grammar.{has_value, is_switch, options}
 use Rattle.program_words.specs.Words.{Values}
 
--- an option and its value, in the next word or behind `=`; or the name of the zero page
+-- an option and its value, in the next word or behind `=`; a flag; or the name of the zero page
 pub data Spelling : Type 0 where
   apart : List ℕ → List ℕ → Spelling
   joined : List ℕ → List ℕ → Spelling
+  flag : List ℕ → Spelling
   named : List ℕ → Spelling
 
 -- the word that names an option
@@ -18,6 +20,7 @@ dashed name = codes "--" ++ name
 abbrev pub words_of : Spelling → List (List ℕ)
 words_of (apart name value) = dashed name ∷ value ∷ []
 words_of (joined name value) = (dashed name ++ (codes "=" ++ value)) ∷ []
+words_of (flag name) = dashed name ∷ []
 words_of (named name) = name ∷ []
 
 abbrev pub spelled : List Spelling → List (List ℕ)
@@ -27,20 +30,33 @@ spelled ss = flat_map words_of ss
 abbrev pub argument_in : Spelling → List ℕ
 argument_in (apart name value) = name
 argument_in (joined name value) = name
+argument_in (flag name) = name
 argument_in (named name) = codes "ZEROPAGE"
 
 abbrev pub text_in : Spelling → List ℕ
 text_in (apart name value) = value
 text_in (joined name value) = value
+text_in (flag name) = codes "true"
 text_in (named name) = name
+
+-- the value that some spelling has for each argument
+abbrev pub spelled_for : List Spelling → Values
+spelled_for [] argument = None
+spelled_for (s ∷ ss) argument = if bytes_eq (argument_in s) argument then Some (text_in s) else spelled_for ss argument
+
+abbrev pub is_option : List ℕ → Bool
+is_option name = list_any (λ option. has_value option.1 && bytes_eq option.0 name) options
+
+abbrev pub is_flag : List ℕ → Bool
+is_flag name = list_any (λ option. is_switch option.1 && bytes_eq option.0 name) options
+
+-- the value of an argument that no spelling has: a flag is off
+abbrev pub unspelled : Values
+unspelled argument = if is_flag argument then Some (codes "false") else None
 
 -- the value that the spellings give each argument
 abbrev pub given_by : List Spelling → Values
-given_by [] argument = None
-given_by (s ∷ ss) argument = if bytes_eq (argument_in s) argument then Some (text_in s) else given_by ss argument
-
-abbrev pub is_option : List ℕ → Bool
-is_option name = list_any (λ option. bytes_eq option name) option_names
+given_by ss argument = option_or (spelled_for ss argument) (unspelled argument)
 
 -- the word doesn't begin with a hyphen
 abbrev pub is_plain : List ℕ → Bool
@@ -51,9 +67,10 @@ is_plain (b ∷ bs) = not (b == 45)
 abbrev pub IsSpelling : Spelling → Type 0
 IsSpelling (apart name value) = (is_option name ≡ true) × (is_plain value ≡ true)
 IsSpelling (joined name value) = is_option name ≡ true
+IsSpelling (flag name) = is_flag name ≡ true
 IsSpelling (named name) = is_plain name ≡ true
 
 -- each is a spelling, and no argument has two
 abbrev pub AreSpellings : List Spelling → Type 0
 AreSpellings [] = Unit {0}
-AreSpellings (s ∷ ss) = IsSpelling s × (given_by ss (argument_in s) ≡ None) × AreSpellings ss
+AreSpellings (s ∷ ss) = IsSpelling s × (spelled_for ss (argument_in s) ≡ None) × AreSpellings ss

@@ -15,9 +15,16 @@ use clap::error::ErrorKind;
 use clap::{Arg, ArgAction, ArgMatches, Command};
 use std::alloc::Global;
 
-/// The names of the options.
-const OPTIONS: [&str; 7] = [
-    "cmdline", "e820ext", "srat", "script", "kernel", "report", "make",
+/// The options by name, and what the word of each does: with [`ArgAction::Set`] a value goes with it, and a flag would
+/// have [`ArgAction::SetTrue`].
+const OPTIONS: [(&str, ArgAction); 7] = [
+    ("cmdline", ArgAction::Set),
+    ("e820ext", ArgAction::Set),
+    ("srat", ArgAction::Set),
+    ("script", ArgAction::Set),
+    ("kernel", ArgAction::Set),
+    ("report", ArgAction::Set),
+    ("make", ArgAction::Set),
 ];
 
 /// What the command finds for each argument in the words.
@@ -74,29 +81,30 @@ fn bare<'w>(alloc: Global) -> Command<'w>
 fn with_options<'w>(
     alloc: Global,
     command: Command<'w>,
-    names: &[&'w str],
+    options: &[(&'w str, ArgAction)],
 ) -> Result<Command<'w>, Memory>
     ensures { IfOk result (λ made.
-        app_of made ≡ fold (λ app name. with_option app name.now) (app_of command.entry) names.now) }
+        app_of made ≡ fold (λ app option. with_option app (option.0.now, option.1)) (app_of command.entry) options.now) }
 {
     let mut made = command;
-    let mut rest = names;
-    while let [name, others @ ..] = rest {
-        made = with_option(alloc, made, name)?;
+    let mut rest = options;
+    while let [(name, action), others @ ..] = rest {
+        made = with_option(alloc, made, name, *action)?;
         rest = others;
     }
     Ok(made)
 }
 
-/// The command with one more option, which has one value.
+/// The command with one more option: its word begins with two hyphens.
 fn with_option<'w>(
     alloc: Global,
     command: Command<'w>,
     name: &'w str,
+    action: ArgAction,
 ) -> Result<Command<'w>, Memory>
-    ensures { IfOk result (λ made. app_of made ≡ with_option (app_of command.entry) name.entry.now) }
+    ensures { IfOk result (λ made. app_of made ≡ with_option (app_of command.entry) (name.entry.now, action)) }
 {
-    let option = Arg::new(alloc, name).long(name).action(ArgAction::Set);
+    let option = Arg::new(alloc, name).long(name).action(action);
     Ok(command.arg(option)?)
 }
 

@@ -2,6 +2,7 @@
 use Rattle.std.proofs.Common.{◌≡◌, ◌∙◌, ℕ, ◌-◌, ◌<◌, ◌≤◌, List, [], ◌∷◌, Bor, fold, get_or, length, take, drop, refl, ap, arith}
 use Rattle.std.proofs.lemmas.List.{take_all}
 use Rattle.clap.specs.Words.{App, app_of}
+use Rattle.clap.specs.declared.builder.action.ArgAction.{ArgAction}
 use Rattle.program_words.specs.Grammar.{with_option}
 use Rattle.program_words.proofs.grammar.with_options.Goals as goal
 
@@ -14,8 +15,8 @@ fold_none : {A B : Type 0} (f : B → A → B) (b : B) (xs : List A) → length 
 fold_none f b [] none = refl
 fold_none f b (x ∷ xs) none = absurd (omega (arith, none))
 
-abbrev adds : App → Bor (List ℕ) → App
-adds app name = with_option app name.now
+abbrev adds : App → Bor (List ℕ) × ArgAction → App
+adds app option = with_option app (option.0.now, option.1)
 
 pub loop-rest-preserved : goal.loop-rest-preserved
 loop-rest-preserved c =

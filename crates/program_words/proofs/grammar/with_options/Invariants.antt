@@ -6,8 +6,8 @@ use Rattle.program_words.proofs.grammar.with_options.Given as goal
 
 abbrev pub invariant-loop-rest : goal.invariant-loop-rest
 invariant-loop-rest l =
-    fold (λ app name. with_option app name.now) (app_of l.made) l.rest
-    ≡ fold (λ app name. with_option app name.now) (app_of l.fn.command) l.names
+    fold (λ app option. with_option app (option.0.now, option.1)) (app_of l.made) l.rest
+    ≡ fold (λ app option. with_option app (option.0.now, option.1)) (app_of l.fn.command) l.options
 
 abbrev pub decreases-loop-rest : goal.decreases-loop-rest
 decreases-loop-rest l = length l.rest
