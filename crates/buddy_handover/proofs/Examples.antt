@@ -1,5 +1,5 @@
 -- Free frames, and the handover on its way, computed.
-use Rattle.std.proofs.Common.{◌≡◌, ℕ, true, false, Option, Some, None, [], ◌∷◌, refl}
+use Rattle.std.proofs.Common.{◌≡◌, Some, None, [], ◌∷◌, refl}
 use Rattle.memblock_model.specs.Labels.{Labels}
 use Rattle.frame_blocks.specs.Frames.{Frames}
 use Rattle.table_frames.proofs.ClaimLaws.{unclaimed_bare}

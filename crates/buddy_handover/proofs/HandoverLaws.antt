@@ -1,20 +1,18 @@
 -- The steps of the handover: one stretch of unclaimed frames, and one record of memory.
-use Rattle.std.proofs.Common.{◌≡◌, ℕ, suc, ◌+◌, ◌-◌, ◌*◌, ◌/◌, ◌^◌, ◌<◌, ◌≤◌, nat_le, nat_lt, Bool, true, false, ◌&&◌, min, Option, Some, None, List, [], ◌∷◌, ◌++◌, length, get_or, take, if◌then◌else◌, refl, sym, ◌∙◌, ap, subst, inl, inr, arith}
+use Rattle.std.proofs.Common.{◌≡◌, ℕ, ◌+◌, ◌-◌, ◌*◌, ◌<◌, ◌≤◌, nat_le, nat_lt, Bool, true, false, ◌&&◌, min, Option, Some, None, List, length, get_or, take, if◌then◌else◌, refl, sym, ◌∙◌, ap, inl, inr, arith}
 use Rattle.std.proofs.lemmas.Bool.Decides.{nat_tests}
 use Rattle.std.proofs.lemmas.Bool.{cases_lt, cases_Bool}
-use Rattle.std.proofs.Math.Seq.{take-suc, take-length}
+use Rattle.std.proofs.Math.Seq.{take-length}
 use Rattle.bm_base.specs.Extent.{Extent, covers}
-use Rattle.address_runs.specs.Runs.{RunOf, run_end, lies_in, value_at, IsRunsOf}
+use Rattle.address_runs.specs.Runs.{RunOf, value_at}
 use Rattle.address_runs.specs.Edits.{replaced}
-use Rattle.address_runs.proofs.RunsLaws.{inside, below, behind}
-use Rattle.address_runs.proofs.SweepLaws.{value_append_none, value_append_left}
 use Rattle.memblock_model.specs.Labels.{Label, Labels}
 use Rattle.frame_blocks.specs.Frames.{Frames}
 use Rattle.table_frames.specs.declared.frames.RecordFrames.{RecordFrames}
-use Rattle.table_frames.specs.Frames.{node_below, node_told, node_of_frame, is_unclaimed, free_in, frames_of}
+use Rattle.table_frames.specs.Frames.{node_told, node_of_frame, is_unclaimed, free_in, frames_of}
 use Rattle.table_frames.specs.Tables.{AscendBelow, AreWholeFrames}
-use Rattle.table_frames.proofs.RecordLaws.{ascend_at, taken_none, in_order, frames_order}
-use Rattle.table_frames.proofs.WholeLaws.{whole_at, first_byte, other_byte, free_by_first}
+use Rattle.table_frames.proofs.RecordLaws.{ascend_at, taken_none}
+use Rattle.table_frames.proofs.WholeLaws.{whole_at, first_byte, free_by_first}
 use Rattle.table_frames.proofs.TakeLaws.{tests_both, node_more}
 use Rattle.buddy_handover.specs.Handover.{freed, unclaimed}
 

@@ -1,5 +1,5 @@
 -- The test of nodes tells.
-use Rattle.std.proofs.Common.{◌≡◌, ℕ, Bool, ◌==◌}
+use Rattle.std.proofs.Common.{ℕ, Bool, ◌==◌}
 use Rattle.std.proofs.lemmas.Bool.{eqb-true, eq-eqb}
 use Rattle.address_runs.specs.Runs.{Tells}
 

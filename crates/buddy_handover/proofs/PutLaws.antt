@@ -1,9 +1,10 @@
 -- Runs of free frames after some more became free.
-use Rattle.std.proofs.Common.{◌≡◌, ℕ, ◌+◌, ◌-◌, ◌^◌, ◌<◌, ◌≤◌, false, Option, Some, None, List, if◌then◌else◌, refl, sym, ◌∙◌, ap, arith}
+use Rattle.std.proofs.Common.{◌≡◌, ℕ, ◌+◌, ◌^◌, ◌≤◌, false, None, List, refl, inl, inr, ◌∙◌, arith}
 use Rattle.std.proofs.lemmas.Bool.Decides.{nat_tests}
 use Rattle.bm_base.specs.Extent.{Extent, covers}
 use Rattle.address_runs.specs.Runs.{RunOf, AreRuns, IsRunsOf, value_at}
-use Rattle.address_runs.specs.Edits.{replaced, NothingFrom}
+use Rattle.address_runs.specs.Edits.{replaced, uncovered, NothingFrom}
+use Rattle.std.proofs.lemmas.Bool.{cases_Bool}
 use Rattle.address_runs.proofs.EditLaws.{nothing-replaced}
 use Rattle.frame_blocks.specs.declared.run.TheConstants.{MAX_FRAMES}
 
@@ -24,3 +25,10 @@ low_put r node rs new low none known x high = known.each x ∙ nothing-replaced 
 
 pub in_space : (rs : List (RunOf ℕ)) → NothingFrom MAX_FRAMES (value_at rs) → NothingFrom (2 ^ 64) (value_at rs)
 in_space rs none x high = none x (omega arith)
+
+pub low_cut : (r : Extent) (rs new : List (RunOf ℕ)) → NothingFrom MAX_FRAMES (value_at rs) → IsRunsOf (uncovered r (value_at rs)) new
+    → NothingFrom MAX_FRAMES (value_at new)
+low_cut r rs new none known x high = known.each x ∙ elim (cases_Bool (covers r x)) as (λ _. uncovered r (value_at rs) x ≡ None) [
+  | inl on ↦ rw on refl
+  | inr off ↦ rw off (none x high)
+]

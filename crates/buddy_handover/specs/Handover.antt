@@ -1,5 +1,5 @@
 -- The handover on its way: what is free while it goes over the records of memory.
-use Rattle.std.specs.Prelude.{ℕ, ◌&&◌, nat_le, nat_lt, if◌then◌else◌, Option, Some, None}
+use Rattle.std.specs.Prelude.{ℕ, ◌&&◌, nat_le, nat_lt, if◌then◌else◌, Some, None}
 use Rattle.memblock_model.specs.Labels.{Labels}
 use Rattle.frame_blocks.specs.Frames.{Frames}
 use Rattle.table_frames.specs.Frames.{node_of_frame, is_unclaimed}

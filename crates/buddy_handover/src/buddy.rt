@@ -1,16 +1,26 @@
 //! The free frames, and what the page allocator's lists hold of them. Beside the runs it keeps for how many more
 //! entries there is memory, so that it is known before a call whether that can want any.
+//!
+//! The index of the blocks (`free_areas`) is a cache, which contracts don't see: the first `take` makes it, `take` and `put_back`
+//! keep it up, and frames that become free otherwise drop it, as does want of memory for it. Nothing that is answered depends on it.
 
-ghost use Rattle.std.specs.Prelude.{◌≡◌, ℕ, ◌+◌, ◌-◌, ◌^◌, ◌<◌, ◌≤◌, max, None, [], IsOk, OnOk, OnErr, IfOk, vec_len, vec_capacity};
+ghost use Rattle.std.specs.Prelude.{◌≡◌, ℕ, ◌+◌, ◌-◌, ◌%◌, ◌^◌, ◌<◌, ◌≤◌, max, Some, None, [], IsOk, OnOk, OnErr, IfOk, IfErr, vec_len, vec_capacity};
 ghost use Rattle.address_runs.specs.Runs.{IsRunsOf};
 ghost use Rattle.address_runs.specs.Edits.{replaced, NothingFrom};
 ghost use Rattle.frame_blocks.specs.Listed.{block_of, blocks_of, count_of};
 ghost use Rattle.frame_blocks.specs.Rows.{blocks_of_rows, AreRows};
+ghost use Rattle.frame_blocks.specs.Frames.{IsInSet};
+ghost use Rattle.frame_blocks.specs.Picked.{first_picked};
+ghost use Rattle.frame_blocks.specs.Buddies.{without_set, with_set};
+ghost use Rattle.free_areas.specs.Areas.{AreAreas};
 ghost use Rattle.buddy_handover.specs.Contents.{free};
 
-use crate::runs::put;
+use crate::cache::{join, split};
+use crate::runs::{cut, put, set_around};
+use crate::taking::Take;
 use bm_base::{Memory, Range, Zone};
 use frame_blocks::{Block, BlockRow, FrameRun, MAX_FRAMES};
+use free_areas::Areas;
 use std::alloc::Global;
 use std::marker::Model;
 
@@ -23,13 +33,15 @@ const ENTRIES: u64 = 2;
 pub struct Buddy {
     runs: Vec<FrameRun>,
     spare: u64,
+    areas: Option<Areas>,
 }
 
 impl Model for Buddy {
-    ghost use Rattle.std.specs.Prelude.{◌+◌, ◌≤◌, vec_len, vec_capacity};
+    ghost use Rattle.std.specs.Prelude.{◌+◌, ◌≤◌, vec_len, vec_capacity, IfSome};
     ghost use Rattle.address_runs.specs.Runs.{AreRuns, value_at};
     ghost use Rattle.address_runs.specs.Edits.{NothingFrom};
     ghost use Rattle.frame_blocks.specs.declared.run.TheConstants.{MAX_FRAMES};
+    ghost use Rattle.free_areas.specs.Areas.{AreAreas};
     ghost use Rattle.buddy_handover.specs.Contents.{Contents};
 
     ghost Value = { Contents };
@@ -37,7 +49,8 @@ impl Model for Buddy {
     ghost view = { λ b. record { runs = b.runs.items; spare = b.spare } };
 
     ghost invariant = { λ b.
-        (vec_len b.runs + b.spare ≤ vec_capacity b.runs) × AreRuns b.runs.items × NothingFrom MAX_FRAMES (value_at b.runs.items) };
+        (vec_len b.runs + b.spare ≤ vec_capacity b.runs) × AreRuns b.runs.items × NothingFrom MAX_FRAMES (value_at b.runs.items)
+        × IfSome b.areas (λ areas. AreAreas (value_at b.runs.items) areas) };
 }
 
 impl Buddy {
@@ -48,7 +61,26 @@ impl Buddy {
         Buddy {
             runs: Vec::new(alloc),
             spare: 0,
+            areas: None,
         }
+    }
+
+    /// The same frames and nodes.
+    pub fn copy(&self) -> Result<Buddy, Memory>
+        ensures { IfOk result (λ buddy. buddy.runs ≡ self.now.runs) }
+    {
+        Ok(Buddy {
+            runs: self.runs.clone()?,
+            spare: 0,
+            areas: None,
+        })
+    }
+
+    /// A law: no frame is free from [`MAX_FRAMES`] on.
+    pub fn lies_low(&self)
+        ensures { NothingFrom MAX_FRAMES (free self.now) }
+    {
+        let _runs = &self.runs;
     }
 
     /// Takes the memory for `n` more entries. `Memory` comes only where there was less, and nothing has
@@ -96,9 +128,65 @@ impl Buddy {
             base: first,
             size: count,
         };
+        self.areas = None;
         put(&mut self.runs, &frames, node);
         self.spare -= ENTRIES;
         Ok(())
+    }
+
+    /// `2^order` frames of the node and in the zone leave, and the number of the first one is answered (`__rmqueue_smallest`):
+    /// they are the first ones of the block that is picked, of the least order that is enough and of those blocks the lowest one.
+    /// `NoBlock` comes exactly where there is none, and nothing has changed then, nor after `Memory`.
+    pub fn take(&mut self, node: u32, zone: Zone, order: u32) -> Result<u64, Take>
+        requires { order ≤ 10 }
+        ensures first { IfOk result (λ first. first_picked (free self.old) node zone order ≡ Some first) }
+        ensures runs { IfOk result (λ first. IsRunsOf (without_set order first (free self.old)) self.new.runs) }
+        ensures none { IfErr result (λ refusal. refusal ≡ Take.NoBlock → first_picked (free self.old) node zone order ≡ None) }
+        ensures err { OnErr result (self.new ≡ self.old) }
+    {
+        let areas = self.sorted()?;
+        let Some(block) = areas.least(node, zone, order) else {
+            self.areas = Some(areas);
+            return Err(Take::NoBlock);
+        };
+        self.ready(ENTRIES)?;
+        let behind = self.block_of(set_around(block.order, block.first).end());
+        let rest = split(areas, &block, behind, order);
+        cut(&mut self.runs, &set_around(order, block.first));
+        self.spare -= ENTRIES;
+        self.areas = rest;
+        Ok(block.first)
+    }
+
+    /// `2^order` frames from `first` on come back, and are of the node (`__free_one_page`): they are joined with what is free
+    /// beside them, as far as blocks go. `first` is a multiple of their number, each lies below [`MAX_FRAMES`], and none is free. Nothing
+    /// has changed after `Memory`.
+    pub fn put_back(&mut self, first: u64, order: u32, node: u32) -> Result<(), Memory>
+        requires small { order ≤ 10 }
+        requires aligned { first % 2 ^ order ≡ 0 }
+        requires low { first + 2 ^ order ≤ MAX_FRAMES }
+        requires held { (x : ℕ) → IsInSet order first x → free self.old x ≡ None }
+        ensures runs { OnOk result (IsRunsOf (with_set order first node (free self.old)) self.new.runs) }
+        ensures err { OnErr result (self.new ≡ self.old) }
+    {
+        self.ready(ENTRIES)?;
+        let areas = self.areas.take();
+        put(&mut self.runs, &set_around(order, first), node);
+        self.spare -= ENTRIES;
+        let block = frame_blocks::block_of(&self.runs, first);
+        self.areas = join(areas, block, order, first);
+        Ok(())
+    }
+
+    /// The index, which is made where there is none. It is out of the cache then.
+    fn sorted(&mut self) -> Result<Areas, Memory>
+        ensures areas { IfOk result (λ areas. AreAreas (free self.old) areas) }
+        ensures stays { self.new ≡ self.old }
+    {
+        match self.areas.take() {
+            Some(areas) => Ok(areas),
+            None => Areas::of(*self.runs.allocator(), &self.runs),
+        }
     }
 
     /// All blocks of the free frames, ascending by their first frames. No frame is free from

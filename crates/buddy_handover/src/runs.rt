@@ -3,13 +3,14 @@
 //! A run of frames is put into a list of runs that stays sorted, by one edit (`run_edits`); what touches and
 //! is of one node becomes one run. It stands apart from `Buddy` so that the edit is said over any such list.
 
-ghost use Rattle.std.specs.Prelude.{◌+◌, ◌^◌, ◌<◌, ◌≤◌, vec_len, vec_capacity};
+ghost use Rattle.std.specs.Prelude.{◌≡◌, ◌+◌, ◌^◌, ◌<◌, ◌≤◌, vec_len, vec_capacity};
 ghost use Rattle.address_runs.specs.Runs.{AreRuns, IsRunsOf, value_at};
-ghost use Rattle.address_runs.specs.Edits.{replaced, NothingFrom};
+ghost use Rattle.address_runs.specs.Edits.{replaced, uncovered, NothingFrom};
+ghost use Rattle.frame_blocks.specs.Listed.{set_around};
 
 use bm_base::Range;
 use frame_blocks::{FrameRun, MAX_FRAMES};
-use run_edits::{Replace, amend};
+use run_edits::{Replace, Uncover, amend};
 
 /// The frames of the range are free and of the node, whatever they were. Takes no memory, and looks at the
 /// runs alone that meet the range or touch it.
@@ -27,4 +28,32 @@ pub fn put(runs: &mut Vec<FrameRun>, frames: &Range, node: u32)
         return;
     }
     amend(runs, frames, Replace(node));
+}
+
+/// The frames of the range are free no more. Takes no memory, and looks at the runs alone that meet the range or touch it.
+pub fn cut(runs: &mut Vec<FrameRun>, frames: &Range)
+    requires some { 0 < frames.now.size }
+    requires runs { AreRuns runs.old.items }
+    requires within { NothingFrom MAX_FRAMES (value_at runs.old.items) }
+    requires room { vec_len runs.old + 2 ≤ vec_capacity runs.old }
+    ensures runs { IsRunsOf (uncovered frames.now (value_at runs.old.items)) runs.new.items }
+    ensures within { NothingFrom MAX_FRAMES (value_at runs.new.items) }
+    ensures len { vec_len runs.new ≤ vec_len runs.old + 2 }
+    ensures capacity { vec_capacity runs.old ≤ vec_capacity runs.new }
+{
+    amend(runs, frames, Uncover);
+}
+
+/// The `2^order` frames among which the frame is, aligned to their number.
+pub fn set_around(order: u32, frame: u64) -> Range
+    requires small { order ≤ 10 }
+    requires low { frame < MAX_FRAMES }
+    ensures frames { result ≡ set_around order frame }
+    ensures some { 0 < result.size }
+{
+    let size = 1 << order;
+    Range {
+        base: frame - frame % size,
+        size,
+    }
 }

@@ -1,17 +1,15 @@
 -- The functions that list blocks give the sets of frames that are blocks.
-use Rattle.std.proofs.Common.{◌≡◌, ◌⊎◌, ℕ, zero, suc, ◌+◌, ◌-◌, ◌*◌, ◌/◌, ◌%◌, ◌^◌, ◌<◌, ◌≤◌, ◌==◌, Bool, true, false, Option, Some, None, List, [], ◌∷◌, if◌then◌else◌, refl, sym, ◌∙◌, ap, subst, inl, inr, ⊎_elim, arith}
-use Rattle.std.proofs.lemmas.Bool.Decides.{nat_tests}
+use Rattle.std.proofs.Common.{◌≡◌, ◌⊎◌, ℕ, zero, suc, ◌+◌, ◌-◌, ◌*◌, ◌/◌, ◌%◌, ◌^◌, ◌<◌, ◌≤◌, ◌==◌, true, Option, Some, None, List, [], ◌∷◌, refl, sym, ◌∙◌, ap, subst, inl, inr, ⊎_elim, arith}
 use Rattle.std.proofs.lemmas.Bool.{cases_lt, cases_Bool, eqb-true, eq-eqb}
 use Rattle.std.proofs.lemmas.Nat.{pow_pos}
-use Rattle.bm_base.specs.declared.zone.Zone.{Zone}
 use Rattle.bm_base.specs.Zones.{zone_of}
 use Rattle.address_runs.specs.Edits.{NothingFrom}
 use Rattle.frame_blocks.specs.declared.block.Block.{Block}
 use Rattle.frame_blocks.specs.declared.run.TheConstants.{MAX_FRAMES}
-use Rattle.frame_blocks.specs.Frames.{Frames, IsInSet, AreFree, IsGood, IsBlock, IsInBlock}
+use Rattle.frame_blocks.specs.Frames.{Frames, AreFree, IsGood, IsBlock, IsInBlock}
 use Rattle.frame_blocks.specs.Listed.{order_up_to, block_around, block_for, block_of, led_by_block, blocks_from, blocks_of, Lists, AscendFrom}
 use Rattle.frame_blocks.proofs.SetLaws.{base_is, base_whole, in_set, wider, one_zone}
-use Rattle.frame_blocks.proofs.GoodLaws.{free-around, up_small, up_free, up_most, up_is}
+use Rattle.frame_blocks.proofs.GoodLaws.{up_small, up_free, up_most, up_is}
 
 -- the first frame of a set is in it
 at_base : (o x : ℕ) → (x - x % 2 ^ o) / 2 ^ o ≡ x / 2 ^ o

@@ -1,16 +1,25 @@
 -- Small sets of free frames, computed.
-use Rattle.std.proofs.Common.{◌≡◌, ◌≢◌, ℕ, suc, ◌+◌, ◌-◌, ◌%◌, ◌/◌, ◌^◌, ◌<◌, ◌≤◌, nat_le, nat_lt, Bool, true, false, ◌&&◌, Option, Some, None, List, [], ◌∷◌, if◌then◌else◌, refl, sym, ◌∙◌, ap, inl, inr, arith}
+use Rattle.std.proofs.Common.{◌≡◌, ℕ, ◌/◌, nat_le, nat_lt, true, false, ◌&&◌, Some, None, [], ◌∷◌, if◌then◌else◌, refl, sym, ◌∙◌, ap, subst, inl, inr, arith}
 use Rattle.std.proofs.lemmas.Bool.Decides.{nat_tests}
 use Rattle.std.proofs.Math.Nat.{div-one}
+use Rattle.std.proofs.lemmas.Bool.{cases_Bool}
+use Rattle.std.specs.List.{find}
+use Rattle.std.specs.Option.{option_map, option_or}
+use Rattle.address_runs.specs.Edits.{NothingFrom}
 use Rattle.bm_base.specs.Each.{each_from, each_in}
 use Rattle.bm_base.specs.declared.zone.Zone.TheVariants as zone
 use Rattle.bm_base.specs.Zones.{zone_of}
 use Rattle.frame_blocks.specs.declared.block.Block.{Block}
 use Rattle.frame_blocks.specs.declared.block.BlockRow.{BlockRow}
 use Rattle.frame_blocks.specs.Frames.{Frames, IsInSet, AreFree, IsGood, IsBlock, IsInBlock}
-use Rattle.frame_blocks.specs.Listed.{is_node, set_around, are_free, order_up_to, block_around, block_for, block_of, led_by_block, blocks_from, same_zone, is_of, Lists, AscendFrom}
+use Rattle.frame_blocks.specs.Listed.{is_node, set_around, are_free, order_up_to, block_around, block_for, block_of, led_by_block, blocks_from, blocks_of, same_zone, is_of, Lists, AscendFrom}
 use Rattle.frame_blocks.specs.Rows.{row_end, CouldBeOne, AreRows}
 use Rattle.frame_blocks.specs.Sets.{IsRun, Fits, IsStart, OfLast, EndsFree}
+use Rattle.frame_blocks.specs.declared.run.TheConstants.{MAX_FRAMES}
+use Rattle.frame_blocks.specs.Buddies.{without_set, with_set, IsWithout, other_half, buddy_first, buddy_in, IsBuddy}
+use Rattle.frame_blocks.specs.Picked.{Serves, IsPicked, NoneServes, picked_up, picked, first_picked}
+use Rattle.frame_blocks.proofs.BuddyLaws.{one_at, without_is}
+use Rattle.frame_blocks.proofs.PickLaws.{picked_is, picked_none}
 use Rattle.frame_blocks.proofs.RunLaws.{start_first}
 
 -- frames 4 and 5 are free, of node 7; or frame 5 alone
@@ -141,3 +150,71 @@ row_examples = (
 last_examples : OfLast (EndsFree pair) (great_row 0 1 0 ∷ (record { order = 1; first = 4; count = 1; node = 7; zone = zone.Dma } ∷ []))
     × (OfLast (EndsFree pair) (great_row 0 1 0 ∷ []) → ⊥)
 last_examples = ((omega arith, refl), λ ends. let none : None ≡ Some 0 = ends.1 in cc none)
+
+-- the lone frame is what is picked for one frame; for two frames, or in another zone, there is none
+lone_at : (x n : ℕ) → lone x ≡ Some n → x ≡ 5
+lone_at x n is =
+    elim (cases_Bool (nat_le 5 x && nat_lt x 6)) as (λ _. x ≡ 5) [
+      | inl on ↦ grind (arith, nat_tests)
+      | inr off ↦ let none : None ≡ Some n = sym (rw off refl) ∙ is in cc
+    ]
+
+serve_examples : Serves 7 zone.Dma 0 one_block × (Serves 7 zone.Dma 1 one_block → ⊥)
+unfolding one_block
+serve_examples = (record { node = refl; zone = refl; enough = omega arith }, λ serves. let h = serves.enough in absurd (omega (arith, h)))
+
+lone_alone : (c : Block) → IsBlock lone c → one_block ≡ c
+lone_alone c block =
+    let here : c.first ≡ 5 = lone_at c.first c.node (block.good c.first refl).0 in
+    let first_is : one_block.first ≡ 5 = unfold one_block in refl in
+    one_at lone one_block c lone_is_block block (first_is ∙ sym here)
+
+lone_is_picked : IsPicked lone 7 zone.Dma 0 one_block
+lone_is_picked = record {
+  block = lone_is_block;
+  serves = serve_examples.0;
+  least = λ c block serves.
+      let same = lone_alone c block in
+      inr (ap (λ (b : Block). b.order) same, let first = ap (λ (b : Block). b.first) same in omega (arith, first));
+}
+
+lone_low : NothingFrom MAX_FRAMES lone
+lone_low x high = let off : (nat_le 5 x && nat_lt x 6) ≡ false = grind (arith, nat_tests) in rw off refl
+
+none_of_two : NoneServes lone 7 zone.Dma 1
+none_of_two b block serves = serve_examples.1 (subst (λ (c : Block). Serves 7 zone.Dma 1 c) (sym (lone_alone b block)) serves)
+
+pick_examples : (picked lone 7 zone.Dma 0 ≡ Some one_block) × (picked lone 7 zone.Dma 1 ≡ None)
+    × (first_picked lone 7 zone.Dma 0 ≡ Some 5) × (first_picked lone 7 zone.Dma 1 ≡ None)
+unfolding one_block
+pick_examples =
+    let some = picked_is lone 7 zone.Dma 0 one_block lone_low lone_is_picked in
+    let none = picked_none lone 7 zone.Dma 1 lone_low none_of_two in
+    (some, none, ap (option_map (λ (b : Block). b.first)) some, ap (option_map (λ (b : Block). b.first)) none)
+
+up_examples : (picked_up pair 7 zone.Dma 3 0 ≡ None)
+    × (picked_up lone 7 zone.Dma 3 1 ≡ option_or (find (is_of 7 zone.Dma 3) (blocks_of lone)) None)
+up_examples = (refl, refl)
+
+-- frame 4 leaves the pair: frame 5 is left, and is the buddy; it comes back
+leave_examples : (without_set 0 4 pair 4 ≡ None) × (without_set 0 4 pair 5 ≡ Some 7) × (without_set 1 4 pair 5 ≡ None)
+leave_examples = (refl, refl, refl)
+
+back_examples : (with_set 0 4 7 lone 4 ≡ Some 7) × (with_set 0 4 7 lone 5 ≡ Some 7) × (with_set 0 4 7 lone 6 ≡ None)
+back_examples = (refl, refl, refl)
+
+without_examples : IsWithout pair (without_set 0 4 pair) 0 4 × (IsWithout pair pair 0 4 → ⊥)
+without_examples = (without_is 0 4 pair, λ without. let none : Some 7 ≡ None = without.gone 4 refl in cc none)
+
+half_examples : (other_half 2 ≡ 3) × (other_half 3 ≡ 2)
+half_examples = (refl, refl)
+
+buddy_examples : (buddy_first 0 4 ≡ 5) × (buddy_first 1 5 ≡ 6) × (buddy_first 10 1024 ≡ 0)
+    × (buddy_in (block_around 1 5 7) 0 4 ≡ block_around 0 5 7)
+buddy_examples = (refl, refl, refl, refl)
+
+left_examples : IsBuddy (block_around 1 5 7) 0 1 4 (block_around 0 5 7) × (IsBuddy (block_around 1 5 7) 1 1 4 (block_around 0 5 7) → ⊥)
+left_examples = (
+  record { order = 0; from = omega arith; below = omega arith; is = refl },
+  λ it. let from = it.from in let below = it.below in absurd (omega (arith, from, below)),
+)

@@ -1,3 +1,5 @@
+pub mod PickLaws
+pub mod BuddyLaws
 mod Examples
 pub mod SetLaws
 pub mod GoodLaws

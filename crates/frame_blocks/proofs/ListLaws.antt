@@ -1,15 +1,14 @@
 -- The list of the blocks that begin in a stretch of frames.
-use Rattle.std.proofs.Common.{◌≡◌, ◌≢◌, ℕ, zero, suc, ◌+◌, ◌-◌, ◌*◌, ◌/◌, ◌%◌, ◌^◌, ◌<◌, ◌≤◌, ◌==◌, Bool, true, false, Option, Some, None, List, [], ◌∷◌, ◌++◌, length, if◌then◌else◌, refl, sym, ◌∙◌, ap, subst, inl, inr, arith}
+use Rattle.std.proofs.Common.{◌≡◌, ℕ, zero, suc, ◌+◌, ◌-◌, ◌%◌, ◌^◌, ◌<◌, ◌≤◌, ◌==◌, true, false, Option, Some, None, List, [], ◌∷◌, ◌++◌, length, refl, ◌∙◌, ap, subst, inl, inr, arith}
 use Rattle.std.proofs.lemmas.Bool.Decides.{nat_tests}
-use Rattle.std.proofs.lemmas.Bool.{cases_lt, cases_Bool, eq-eqb}
+use Rattle.std.proofs.lemmas.Bool.{cases_Bool, eq-eqb}
 use Rattle.std.proofs.lemmas.Nat.{pow_pos}
-use Rattle.std.proofs.Math.Nat.{mod-eq_of_lt}
 use Rattle.bm_base.specs.Zones.{zone_of}
 use Rattle.frame_blocks.specs.declared.block.Block.{Block}
 use Rattle.frame_blocks.specs.Frames.{Frames, IsInSet, AreFree}
 use Rattle.frame_blocks.specs.Listed.{block_around, block_for, block_of, led_by_block, blocks_from, order_up_to}
-use Rattle.frame_blocks.proofs.SetLaws.{base_is, base_whole, in_set, set_from, set_until, multiple, apart, wider}
-use Rattle.frame_blocks.proofs.GoodLaws.{free-narrow, free-around, up_free, up_most}
+use Rattle.frame_blocks.proofs.SetLaws.{base_whole, in_set, multiple, apart}
+use Rattle.frame_blocks.proofs.GoodLaws.{free-around, up_free, up_most}
 
 led_append : (x : ℕ) (o : Option Block) (bs cs : List Block) → led_by_block x o (bs ++ cs) ≡ led_by_block x o bs ++ cs
 led_append x None bs cs = refl

@@ -1,6 +1,6 @@
 -- Free frames, and the blocks that they are: sets of frames, each judged by itself. No range is cut and no block joined with another
 -- one, so what the blocks are doesn't depend on the order in which the frames became free (`memblock_free_all`, `__free_one_page`).
-use Rattle.std.specs.Prelude.{◌≡◌, ℕ, ◌+◌, ◌/◌, ◌%◌, ◌^◌, ◌<◌, ◌≤◌, Option, Some, None}
+use Rattle.std.specs.Prelude.{◌≡◌, ℕ, ◌+◌, ◌/◌, ◌%◌, ◌^◌, ◌<◌, ◌≤◌, Option, Some}
 use Rattle.bm_base.specs.declared.zone.Zone.{Zone}
 use Rattle.bm_base.specs.Zones.{zone_of}
 use Rattle.frame_blocks.specs.declared.block.Block.{Block}

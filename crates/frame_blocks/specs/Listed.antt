@@ -1,5 +1,5 @@
 -- The blocks of free frames as functions: the block of a frame, and all blocks, ascending.
-use Rattle.std.specs.Prelude.{◌≡◌, ◌⊎◌, ℕ, zero, suc, ◌+◌, ◌-◌, ◌%◌, ◌^◌, ◌<◌, ◌≤◌, ◌==◌, Bool, true, false, ◌&&◌, if◌then◌else◌, Option, Some, None, List, [], ◌∷◌, count_by}
+use Rattle.std.specs.Prelude.{◌≡◌, ◌⊎◌, ℕ, zero, suc, ◌+◌, ◌-◌, ◌%◌, ◌^◌, ◌≤◌, ◌==◌, Bool, true, false, ◌&&◌, if◌then◌else◌, Option, Some, None, List, [], ◌∷◌, count_by}
 use Rattle.bm_base.specs.Extent.{Extent}
 use Rattle.bm_base.specs.Each.{each_in}
 use Rattle.bm_base.specs.declared.zone.Zone.{Zone}
@@ -7,7 +7,7 @@ use Rattle.bm_base.specs.declared.zone.Zone.TheVariants as zone
 use Rattle.bm_base.specs.Zones.{zone_of}
 use Rattle.frame_blocks.specs.declared.block.Block.{Block}
 use Rattle.frame_blocks.specs.declared.run.TheConstants.{MAX_FRAMES}
-use Rattle.frame_blocks.specs.Frames.{Frames, IsBlock, IsInBlock}
+use Rattle.frame_blocks.specs.Frames.{Frames}
 
 -- whether this is the node
 abbrev pub is_node : Option ℕ → ℕ → Bool

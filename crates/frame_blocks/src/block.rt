@@ -6,15 +6,16 @@ use bm_base::Zone;
 pub const MAX_ORDER: u32 = 10;
 
 /// A block of free frames: `2^order` of them, all of one node and in one zone. The first one's number is a
-/// multiple of their number.
-#[derive(Clone, Copy, Debug, PartialEq, Eq)]
+/// multiple of their number. Blocks are ordered by node, zone, order and first frame, as the lists of the page
+/// allocator stand in one another (`struct pglist_data`, `struct zone`, `struct free_area`).
+#[derive(Clone, Copy, Debug, PartialEq, Eq, PartialOrd, Ord)]
 pub struct Block {
+    pub node: u32,
+    pub zone: Zone,
     /// From 0 to [`MAX_ORDER`].
     pub order: u32,
     /// The number of its first frame.
     pub first: u64,
-    pub node: u32,
-    pub zone: Zone,
 }
 
 /// Blocks of one kind, one behind another: all of one order and one node and in one zone. Memory that is free

@@ -13,6 +13,10 @@
 //! million: [`blocks`] lists them, [`rows`] lists them row by row, [`block_of`] finds the one that has a frame, [`count_blocks`] counts those of a
 //! node, a zone and an order in a few steps a run. `specs/Listed.antt` says what each gives, frame by frame;
 //! [`listed_blocks_are_blocks`] and [`sets_lie_in_one_zone`] are the laws that tie that to sets of frames.
+//!
+//! What the page allocator does with blocks is said here too, for the crates above: which one serves a request
+//! (`specs/Picked.antt`, [`picked_block_is_least`]), and what becomes of the blocks where frames leave and come back
+//! (`specs/Buddies.antt`, [`left_blocks_are_buddies`]).
 #![tactic(auto)]
 
 mod block;
@@ -25,7 +29,9 @@ mod zones;
 
 pub use block::{Block, BlockRow, MAX_ORDER};
 pub use count::count_blocks;
-pub use laws::{listed_blocks_are_blocks, sets_lie_in_one_zone};
+pub use laws::{
+    left_blocks_are_buddies, listed_blocks_are_blocks, picked_block_is_least, sets_lie_in_one_zone,
+};
 pub use list::{block_of, blocks, rows};
 pub use run::{FrameRun, MAX_FRAMES};
 pub use zones::zone_until;

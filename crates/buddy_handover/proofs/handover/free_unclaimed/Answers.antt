@@ -1,10 +1,8 @@
-use Rattle.std.proofs.Common.{◌≡◌, ◌≤◌, ℕ, arith}
+use Rattle.std.proofs.Common.{ℕ, arith}
 use Rattle.address_runs.specs.Runs.{value_at}
 use Rattle.memblock_ranges.specs.Tables.{list_in}
-use Rattle.table_frames.specs.Frames.{is_unclaimed}
 use Rattle.table_frames.proofs.ClaimLaws.{passed_later}
 use Rattle.buddy_handover.specs.Contents.{free}
-use Rattle.buddy_handover.specs.Handover.{freed}
 use Rattle.buddy_handover.proofs.HandoverLaws.{freed_none, freed_more}
 use Rattle.buddy_handover.proofs.handover.free_unclaimed.Goals as goal
 

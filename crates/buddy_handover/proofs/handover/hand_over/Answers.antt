@@ -1,4 +1,4 @@
-use Rattle.std.proofs.Common.{◌≡◌, ◌+◌, ◌*◌, ◌<◌, ◌≤◌, ℕ, List, length, get_or, Option, Some, sym, ◌∙◌, ap, subst, arith}
+use Rattle.std.proofs.Common.{◌≡◌, ◌<◌, ◌≤◌, ℕ, length, get_or, sym, ◌∙◌, ap, subst, arith}
 use Rattle.address_runs.specs.Runs.{RunOf, value_at}
 use Rattle.memblock_model.specs.Labels.{Label, plain_label}
 use Rattle.memblock_ranges.specs.Tables.{list_in}
@@ -8,7 +8,7 @@ use Rattle.table_frames.proofs.RecordLaws.{length_by_head, records_higher}
 use Rattle.table_frames.proofs.ClaimLaws.{passed_later}
 use Rattle.table_frames.proofs.TakeLaws.{frames_below, frames_in_order, frames_some}
 use Rattle.buddy_handover.specs.Contents.{Contents, free}
-use Rattle.buddy_handover.specs.Handover.{freed, unclaimed}
+use Rattle.buddy_handover.specs.Handover.{freed}
 use Rattle.buddy_handover.proofs.HandoverLaws.{record_freed, record_left, all_handed}
 use Rattle.buddy_handover.proofs.handover.hand_over.Goals as goal
 use Rattle.buddy_handover.proofs.handover.hand_over.Goals.{in-Some+in_ok-next, in_default}

@@ -1,9 +1,8 @@
-use Rattle.std.proofs.Common.{◌≡◌, ◌+◌, ◌-◌, ◌%◌, ◌^◌, ℕ, Some, refl, sym, ◌∙◌, ap, subst, arith}
+use Rattle.std.proofs.Common.{◌-◌, ◌%◌, ℕ, Some, ◌∙◌, ap, arith}
 use Rattle.std.proofs.lemmas.List.{map-id}
-use Rattle.address_runs.specs.Runs.{RunOf, value_at}
-use Rattle.address_runs.specs.Sweep.{IsRestFrom}
+use Rattle.address_runs.specs.Runs.{RunOf}
 use Rattle.frame_blocks.specs.declared.block.Block.{Block}
-use Rattle.frame_blocks.proofs.LookLaws.{ends_behind_at, nothing_left, begins_later_at, found_at}
+use Rattle.frame_blocks.proofs.LookLaws.{begins_later_at, found_at}
 use Rattle.frame_blocks.proofs.list.block_of.Goals as goal
 
 pub returns-then-frame-run : goal.returns-then-frame-run

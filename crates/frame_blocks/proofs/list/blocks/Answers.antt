@@ -1,6 +1,6 @@
-use Rattle.std.proofs.Common.{◌≡◌, ◌++◌, ◌+◌, ◌-◌, ℕ, List, drop, refl, sym, ◌∙◌, ap, arith}
+use Rattle.std.proofs.Common.{◌++◌, ◌+◌, ℕ, List, drop, sym, ◌∙◌, ap}
 use Rattle.std.proofs.lemmas.List.{append-nil}
-use Rattle.address_runs.specs.Runs.{RunOf, run_end, value_at}
+use Rattle.address_runs.specs.Runs.{RunOf, value_at}
 use Rattle.frame_blocks.specs.declared.block.Block.{Block}
 use Rattle.frame_blocks.proofs.LookLaws.{listed, listed_all, listed_none, listed_more_at, run_at}
 use Rattle.frame_blocks.proofs.list.blocks.Goals as goal

@@ -1,4 +1,4 @@
-use Rattle.std.proofs.Common.{◌≡◌, ◌≤◌, ◌^◌, ℕ}
+use Rattle.std.proofs.Common.{◌≡◌, ◌≤◌, ◌^◌}
 use Rattle.frame_blocks.specs.Sets.{IsGreatest}
 use Rattle.frame_blocks.proofs.set.set_within.Given as goal
 

@@ -1,0 +1,56 @@
+use Rattle.std.proofs.Common.{◌≡◌, ℕ, ◌+◌, ◌^◌, List, ◌∙◌, ap, subst, arith}
+use Rattle.bm_base.specs.Extent.{Extent}
+use Rattle.address_runs.specs.Runs.{RunOf, value_at, IsRunsOf}
+use Rattle.address_runs.specs.Edits.{uncovered, NothingFrom}
+use Rattle.frame_blocks.specs.declared.run.TheConstants.{MAX_FRAMES}
+use Rattle.frame_blocks.specs.Listed.{block_of}
+use Rattle.frame_blocks.specs.Buddies.{without_set}
+use Rattle.buddy_handover.specs.Contents.{Contents, free}
+use Rattle.buddy_handover.proofs.TakeLaws.{first_is, first_none, runs_without, rest_areas}
+use Rattle.buddy_handover.proofs.buddy.Buddy.take.Goals as goal
+
+pub returns-in_default-clause-none : goal.returns-in_default-clause-none
+returns-in_default-clause-none c =
+    let low = subst (λ (b : Contents). NothingFrom MAX_FRAMES (free b)) (c.self.view_is ∙ c.in_ok-areas.ensures.stays) c.self.invariant.2 in
+    λ same. first_none (free c.args.self.now) c.args.node c.args.zone c.args.order low
+    (c.in_default.ensures (free c.args.self.now) c.in_ok-areas.ensures.areas)
+
+pub invariant_of-self-2 : goal.invariant_of-self-2
+invariant_of-self-2 c =
+    let o = c.args.order in
+    let b = c.in-Some.block in
+    let rs = c.self-2.inside.runs.items in
+    let new = c.cut.new.runs.items in
+    let f = free c.args.self.now in
+    let view = ap (λ (d : Contents). d.runs) c.self-2.view_is in
+    let ready = c.in_ok-ready.ensures.runs in
+    let stays = ap (λ (d : Contents). d.runs) c.in_ok-areas.ensures.stays in
+    let same : rs ≡ c.args.self.now.runs = view ∙ ready ∙ stays in
+    let spare = ap (λ (d : Contents). d.spare) c.self-2.view_is in
+    let enough = c.in_ok-ready.ensures.enough in
+    let room = c.self-2.invariant.0 in
+    let len = c.cut.ensures.len in
+    let capacity = c.cut.ensures.capacity in
+    let runs : IsRunsOf (without_set o b.first f) new =
+    subst (λ (qs : List (RunOf ℕ)). IsRunsOf (without_set o b.first (value_at qs)) new) same
+    (subst (λ (r : Extent). IsRunsOf (uncovered r (value_at rs)) new) c.set_around-2.ensures.frames c.cut.ensures.runs) in
+    let is = c.in-Some.ensures f c.in_ok-areas.ensures.areas in
+    let aligned = is.block.aligned in
+    let base = ap (λ (r : Extent). r.base) c.set_around.ensures.frames in
+    let size = ap (λ (r : Extent). r.size) c.set_around.ensures.frames in
+    let value = c.end.ensures.value in
+    let end : c.end.result ≡ b.first + 2 ^ b.order = omega (arith, value, base, size, aligned) in
+    let behind : c.block_of-behind.result ≡ block_of f (b.first + 2 ^ b.order) =
+    c.block_of-behind.ensures ∙ ap (λ (qs : List (RunOf ℕ)). block_of (value_at qs) c.end.result) (ready ∙ stays) ∙ ap (block_of f) end in (
+      omega (arith, spare, enough, room, len, capacity),
+      runs.runs,
+      c.cut.ensures.within,
+      rest_areas f (value_at new) b c.block_of-behind.result o c.in_ok-areas.areas c.split-rest.result c.in_ok-areas.ensures.areas
+          (runs_without f new o b.first runs) is.block is.serves.enough behind c.split-rest.ensures,
+    )
+
+pub returns-clause-first : goal.returns-clause-first
+returns-clause-first c =
+    let low = subst (λ (b : Contents). NothingFrom MAX_FRAMES (free b)) (c.self.view_is ∙ c.in_ok-areas.ensures.stays) c.self.invariant.2 in
+    first_is (free c.args.self.now) c.args.node c.args.zone c.args.order c.in-Some.block low
+    (c.in-Some.ensures (free c.args.self.now) c.in_ok-areas.ensures.areas)

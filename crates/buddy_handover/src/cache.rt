@@ -1,0 +1,40 @@
+//! The index of blocks, kept up as long as there is memory for it.
+
+ghost use Rattle.std.specs.Prelude.{◌≡◌, ℕ, ◌+◌, ◌^◌, ◌<◌, ◌≤◌, Some, IfSome};
+ghost use Rattle.frame_blocks.specs.Frames.{Frames, IsBlock, IsInBlock};
+ghost use Rattle.frame_blocks.specs.Listed.{block_of};
+ghost use Rattle.frame_blocks.specs.Buddies.{IsWithout};
+ghost use Rattle.free_areas.specs.Areas.{AreAreas};
+
+use frame_blocks::{Block, MAX_FRAMES};
+use free_areas::Areas;
+
+/// The index after `2^order` frames at the beginning of the block have left it; none where memory for it is wanting.
+pub fn split(areas: Areas, block: &Block, behind: Option<Block>, order: u32) -> Option<Areas>
+    requires small { block.now.order ≤ 10 }
+    requires low { block.now.first < MAX_FRAMES }
+    ensures { IfSome result (λ rest. (f g : Frames) → AreAreas f areas → IsWithout f g order block.now.first → IsBlock f block.now →
+        order ≤ block.now.order → behind ≡ block_of f (block.now.first + 2 ^ block.now.order) → AreAreas g rest) }
+{
+    let mut areas = areas;
+    match areas.split(block, behind, order, block.first) {
+        Ok(()) => Some(areas),
+        Err(_) => None,
+    }
+}
+
+/// The index after `2^order` frames have come back, of which `frame` is the first, into the block; none where there was none, or memory
+/// for it is wanting.
+pub fn join(areas: Option<Areas>, block: Option<Block>, order: u32, frame: u64) -> Option<Areas>
+    requires small { IfSome block (λ block. block.order ≤ 10) }
+    requires low { frame < MAX_FRAMES }
+    ensures { IfSome result (λ all. (f g : Frames) → IfSome areas (λ areas. AreAreas g areas) → IsWithout f g order frame →
+        IfSome block (λ block. IsBlock f block × IsInBlock block frame × (order ≤ block.order)) → AreAreas f all) }
+{
+    let mut areas = areas?;
+    let block = block?;
+    match areas.join(&block, order, frame) {
+        Ok(()) => Some(areas),
+        Err(_) => None,
+    }
+}

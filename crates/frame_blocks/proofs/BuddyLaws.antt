@@ -1,0 +1,242 @@
+-- The blocks of frames from which a set has left one block: that block's buddies take its place, and the others stay.
+use Rattle.std.proofs.Common.{◌≡◌, ◌≢◌, ◌⊎◌, ◌↔◌, ℕ, zero, suc, ◌+◌, ◌-◌, ◌/◌, ◌%◌, ◌^◌, ◌<◌, ◌≤◌, ◌==◌, true, false, Option, Some, None, refl, sym, ◌∙◌, ap, subst, inl, inr, ⊎_elim, arith}
+use Rattle.std.proofs.lemmas.Bool.Decides.{nat_tests}
+use Rattle.std.proofs.lemmas.Bool.{cases_lt, cases_Bool, eqb-true, eq-eqb}
+use Rattle.std.proofs.lemmas.Nat.{pow_pos}
+use Rattle.std.proofs.Math.Nat.{mul-mod_left, div-div-eq-div-mul, pow-suc, mul-div_left}
+use Rattle.bm_base.specs.Extent.{covers}
+use Rattle.frame_blocks.specs.declared.block.Block.{Block}
+use Rattle.frame_blocks.specs.Frames.{Frames, IsInSet, IsBlock, IsInBlock}
+use Rattle.frame_blocks.specs.Listed.{set_around, block_of}
+use Rattle.frame_blocks.specs.Buddies.{without_set, with_set, IsWithout, other_half, buddy_first, buddy_in, IsBuddy}
+use Rattle.frame_blocks.proofs.SetLaws.{in_set, set_from, set_until, wider}
+use Rattle.frame_blocks.proofs.BlockLaws.{found_block, block_found, none_found}
+
+-- the frames of a set are those that its range covers
+pub set_covers : (o x y : ℕ) → IsInSet o x y → covers (set_around o x) y ≡ true
+set_covers o x y same =
+    let low = set_from (2 ^ o) x y same in
+    let high = set_until (2 ^ o) x y (pow_pos o) same in
+    grind (arith, nat_tests)
+
+pub covers_set : (o x y : ℕ) → (IsInSet o x y → ⊥) → covers (set_around o x) y ≡ false
+covers_set o x y other =
+    elim (cases_Bool (covers (set_around o x) y)) as (λ _. covers (set_around o x) y ≡ false) [
+      | inr off ↦ off
+      | inl on ↦ elim (cases_lt y (x - x % 2 ^ o)) as (λ _. covers (set_around o x) y ≡ false) [
+        | inl lt ↦ grind (arith, nat_tests)
+        | inr low ↦ elim (cases_lt y (x - x % 2 ^ o + 2 ^ o)) as (λ _. covers (set_around o x) y ≡ false) [
+          | inl high ↦ absurd (other (in_set (2 ^ o) x y low high))
+          | inr ge ↦ grind (arith, nat_tests)
+        ]
+      ]
+    ]
+
+pub in_set_or_not : (o x y : ℕ) → IsInSet o x y ⊎ (IsInSet o x y → ⊥)
+in_set_or_not o x y =
+    elim (cases_Bool (y / 2 ^ o == x / 2 ^ o)) as (λ _. IsInSet o x y ⊎ (IsInSet o x y → ⊥)) [
+      | inl same ↦ inl (eqb-true (y / 2 ^ o) (x / 2 ^ o) same)
+      | inr other ↦ inr (λ same. cc (sym (eq-eqb (y / 2 ^ o) (x / 2 ^ o) same) ∙ other))
+    ]
+
+-- a set that has left, and one that has come back
+pub without_is : (order x : ℕ) (f : Frames) → IsWithout f (without_set order x f) order x
+without_is order x f = record {
+  gone = λ y same. rw (set_covers order x y same) refl;
+  kept = λ y other. rw (covers_set order x y other) refl;
+}
+
+pub with_is : (order x node : ℕ) (g : Frames) → ((y : ℕ) → IsInSet order x y → g y ≡ None) → IsWithout (with_set order x node g) g order x
+with_is order x node g held = record {
+  gone = held;
+  kept = λ y other. sym (rw (covers_set order x y other) refl);
+}
+
+-- what is left was there
+pub was_there : (f g : Frames) (order x y n : ℕ) → IsWithout f g order x → g y ≡ Some n → f y ≡ Some n
+was_there f g order x y n without is =
+    elim (in_set_or_not order x y) as (λ _. f y ≡ Some n) [
+      | inl in_it ↦ absurd (cc (sym (without.gone y in_it) ∙ is))
+      | inr other ↦ sym (without.kept y other) ∙ is
+    ]
+
+not_in_block : (f : Frames) (b c : Block) (y : ℕ) → IsBlock f b → IsBlock f c → c ≢ b → IsInBlock c y → IsInBlock b y → ⊥
+not_in_block f b c y one two other inner outer =
+    let here = found_block f y b one outer in
+    let there = found_block f y c two inner in
+    let both : Some c ≡ Some b = sym there ∙ here in
+    other (let same : c ≡ b = cc in same)
+
+-- the other blocks stay
+pub others_stay : (f g : Frames) (low x : ℕ) (b c : Block) → IsWithout f g low x → IsBlock f b → IsInBlock b x → low ≤ b.order
+    → IsBlock f c → c ≢ b → IsBlock g c
+others_stay f g low x b c without block inner order was other = record {
+  small = was.small;
+  aligned = was.aligned;
+  good = λ y same. (
+    without.kept y (λ in_it. not_in_block f b c y block was other same (wider low b.order y x order in_it ∙ inner)) ∙ (was.good y same).0,
+    (was.good y same).1,
+  );
+  whole = λ less good. was.whole less (λ y same. (was_there f g low x y c.node without (good y same).0, (good y same).1));
+}
+
+found_or_none : (o : Option Block) → (o ≡ None) ⊎ ((b : Block) × (o ≡ Some b))
+found_or_none None = inl refl
+found_or_none (Some b) = inr (b, refl)
+
+pub block_or_none : (f : Frames) (x : ℕ) → (f x ≡ None) ⊎ ((d : Block) × IsBlock f d × IsInBlock d x)
+block_or_none f x = elim (found_or_none (block_of f x)) as (λ _. (f x ≡ None) ⊎ ((d : Block) × IsBlock f d × IsInBlock d x)) [
+  | inl none ↦ inl (none_found f x none)
+  | inr some ↦ let it = block_found f x some.0 some.1 in inr (some.0, it.0, it.1)
+]
+
+-- the blocks that begin elsewhere were there
+pub others_were : (f g : Frames) (low x : ℕ) (b c : Block) → IsWithout f g low x → IsBlock f b → IsInBlock b x → low ≤ b.order
+    → IsBlock g c → (IsInBlock b c.first → ⊥) → IsBlock f c
+others_were f g low x b c without block inner order is outside =
+    let here : f c.first ≡ Some c.node = was_there f g low x c.first c.node without (is.good c.first refl).0 in
+    elim (block_or_none f c.first) as (λ _. IsBlock f c) [
+      | inl none ↦ absurd (cc (sym here ∙ none))
+      | inr some ↦
+          let d : Block = some.0 in
+          let other : d ≢ b = λ same. outside (subst (λ (e : Block). IsInBlock e c.first) same some.2) in
+          let stays = others_stay f g low x b d without block inner order some.1 other in
+          let one = found_block g c.first d stays some.2 in
+          let two = found_block g c.first c is refl in
+          let same : d ≡ c = let both : Some d ≡ Some c = sym one ∙ two in cc in
+          subst (λ (e : Block). IsBlock f e) same some.1
+    ]
+
+-- the two halves of a pair
+half_of_other : (q : ℕ) → other_half q / 2 ≡ q / 2
+half_of_other q = grind (arith, nat_tests)
+
+other_differs : (q : ℕ) → other_half q ≢ q
+other_differs q same = grind (arith, nat_tests)
+
+other_is : (p q : ℕ) → p / 2 ≡ q / 2 → p ≢ q → p ≡ other_half q
+other_is p q same other = grind (arith, nat_tests)
+
+-- a set of the next order has two of this one
+pub next_set : (o y : ℕ) → y / 2 ^ (o + 1) ≡ y / 2 ^ o / 2
+next_set o y =
+    let next : o + 1 ≡ suc o = omega arith in
+    ap (λ p. y / 2 ^ p) next ∙ ap (λ s. y / s) (pow-suc 2 o) ∙ sym (div-div-eq-div-mul y (2 ^ o) 2)
+
+-- where the buddy lies: beside the set of x, in its next greater one
+pub buddy_is : (o x : ℕ) → buddy_first o x / 2 ^ o ≡ other_half (x / 2 ^ o)
+buddy_is o x = mul-div_left (other_half (x / 2 ^ o)) (pow_pos o)
+
+pub buddy_beside : (o x y : ℕ) → IsInSet o (buddy_first o x) y → IsInSet (o + 1) x y × (IsInSet o x y → ⊥)
+buddy_beside o x y same =
+    let at : y / 2 ^ o ≡ other_half (x / 2 ^ o) = same ∙ buddy_is o x in (
+      next_set o y ∙ ap (λ q. q / 2) at ∙ half_of_other (x / 2 ^ o) ∙ sym (next_set o x),
+      λ here. other_differs (x / 2 ^ o) (sym at ∙ here),
+    )
+
+pub beside_buddy : (o x y : ℕ) → IsInSet (o + 1) x y → (IsInSet o x y → ⊥) → IsInSet o (buddy_first o x) y
+beside_buddy o x y wide other =
+    other_is (y / 2 ^ o) (x / 2 ^ o) (sym (next_set o y) ∙ wide ∙ next_set o x) other ∙ sym (buddy_is o x)
+
+-- each buddy between the set and the block lies in the block
+pub buddy_in_block : (b : Block) (o x y : ℕ) → o < b.order → IsInBlock b x → IsInSet o (buddy_first o x) y → IsInBlock b y
+buddy_in_block b o x y below inner same = wider (o + 1) b.order y x (omega (arith, below)) (buddy_beside o x y same).0 ∙ inner
+
+-- and is a block of what is left
+pub left_is_block : (f g : Frames) (low o x : ℕ) (b : Block) → IsWithout f g low x → IsBlock f b → IsInBlock b x → low ≤ o → o < b.order
+    → IsBlock g (buddy_in b o x)
+left_is_block f g low o x b without block inner from below =
+    let small = block.small in
+    record {
+      small = omega (arith, small, below);
+      aligned = mul-mod_left (other_half (x / 2 ^ o)) (2 ^ o);
+      good = λ y same.
+          let beside = buddy_beside o x y same in
+          let in_b = buddy_in_block b o x y below inner same in (
+            without.kept y (λ in_it. beside.1 (wider low o y x from in_it)) ∙ (block.good y in_b).0,
+            (block.good y in_b).1,
+          );
+      whole = λ less good.
+          let wide : IsInSet (o + 1) (buddy_first o x) x = sym (buddy_beside o x (buddy_first o x) refl).0 in
+          let still = (good x wide).0 in
+          let none = without.gone x refl in
+          cc (sym still ∙ none);
+    }
+
+-- where the sets around x and y part
+record Parts (low until x y : ℕ) : Type 0 where
+  pub order : ℕ
+  pub from : low ≤ order
+  pub below : order < until
+  pub apart : IsInSet order x y → ⊥
+  pub together : IsInSet (order + 1) x y
+
+parting : (d low x y : ℕ) → IsInSet (low + d) x y → (IsInSet low x y → ⊥) → Parts low (low + d) x y
+parting zero low x y same other = absurd (other (let none : low + 0 ≡ low = omega arith in subst (λ (p : ℕ). IsInSet p x y) none same))
+parting (suc d) low x y same other =
+    elim (in_set_or_not (low + 1) x y) as (λ _. Parts low (low + suc d) x y) [
+      | inl here ↦ record { order = low; from = omega arith; below = omega arith; apart = other; together = here }
+      | inr not_yet ↦
+          let sum : low + suc d ≡ low + 1 + d = omega arith in
+          let rest : Parts (low + 1) (low + 1 + d) x y =
+          parting d (low + 1) x y (subst (λ (p : ℕ). IsInSet p x y) sum same) not_yet in
+          let from = rest.from in
+          let below = rest.below in
+          record {
+            order = rest.order;
+            from = omega (arith, from);
+            below = omega (arith, below, sum);
+            apart = rest.apart;
+            together = rest.together;
+          }
+    ]
+
+-- and there are no others in the block
+pub rest_is_left : (f g : Frames) (low x : ℕ) (b c : Block) → IsWithout f g low x → IsBlock f b → IsInBlock b x → low ≤ b.order
+    → IsBlock g c → IsInBlock b c.first → IsBuddy b low b.order x c
+rest_is_left f g low x b c without block inner order is within =
+    let free : g c.first ≡ Some c.node = (is.good c.first refl).0 in
+    let other : IsInSet low x c.first → ⊥ = λ in_it. cc (sym (without.gone c.first in_it) ∙ free) in
+    let sum : low + (b.order - low) ≡ b.order = omega (arith, order) in
+    let together : IsInSet (low + (b.order - low)) x c.first =
+    subst (λ (p : ℕ). IsInSet p x c.first) (sym sum) (within ∙ sym inner) in
+    let parts = parting (b.order - low) low x c.first together other in
+    let o : ℕ = parts.order in
+    let until = parts.below in
+    let below : o < b.order = omega (arith, until, sum) in
+    let buddy = left_is_block f g low o x b without block inner parts.from below in
+    let one = found_block g c.first (buddy_in b o x) buddy (beside_buddy o x c.first parts.together parts.apart) in
+    let two = found_block g c.first c is refl in
+    let both : Some c ≡ Some (buddy_in b o x) = sym two ∙ one in
+    record { order = o; from = parts.from; below = below; is = cc }
+
+-- a buddy begins in the block, and isn't the block
+pub buddy_inside : (b : Block) (low until x : ℕ) (c : Block) → until ≤ b.order → IsInBlock b x → IsBuddy b low until x c → IsInBlock b c.first
+buddy_inside b low until x c most inner it =
+    let below = it.below in
+    let here = buddy_in_block b it.order x (buddy_first it.order x) (omega (arith, below, most)) inner refl in
+    subst (λ (d : Block). IsInBlock b d.first) (sym it.is) here
+
+-- two blocks that begin at one frame are one
+pub one_at : (f : Frames) (b c : Block) → IsBlock f b → IsBlock f c → b.first ≡ c.first → b ≡ c
+one_at f b c one two same =
+    let here = found_block f b.first b one refl in
+    let there = found_block f b.first c two (ap (λ x. x / 2 ^ c.order) same) in
+    let both : Some b ≡ Some c = sym here ∙ there in cc
+
+-- the blocks of what is left, both ways
+pub blocks_left : (f g : Frames) (low x : ℕ) (b c : Block) → IsWithout f g low x → IsBlock f b → IsInBlock b x → low ≤ b.order
+    → IsBlock g c ↔ ((IsBlock f c × (IsInBlock b c.first → ⊥)) ⊎ IsBuddy b low b.order x c)
+blocks_left f g low x b c without block inner order = (
+  λ is. elim (in_set_or_not b.order b.first c.first) as (λ _. (IsBlock f c × (IsInBlock b c.first → ⊥)) ⊎ IsBuddy b low b.order x c) [
+    | inl within ↦ inr (rest_is_left f g low x b c without block inner order is within)
+    | inr outside ↦ inl (others_were f g low x b c without block inner order is outside, outside)
+  ],
+  λ both. ⊎_elim
+      (λ (was : IsBlock f c × (IsInBlock b c.first → ⊥)).
+      others_stay f g low x b c without block inner order was.0
+      (λ same. was.1 (subst (λ (d : Block). IsInBlock b d.first) (sym same) refl)))
+      (λ (it : IsBuddy b low b.order x c).
+      subst (λ (d : Block). IsBlock g d) (sym it.is) (left_is_block f g low it.order x b without block inner it.from it.below))
+      both,
+)

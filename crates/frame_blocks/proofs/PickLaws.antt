@@ -1,0 +1,221 @@
+-- The function that picks a block gives the block that is picked by the sentence, and none where none serves.
+use Rattle.std.proofs.Common.{◌≡◌, ◌⊎◌, ℕ, zero, suc, ◌+◌, ◌-◌, ◌<◌, ◌≤◌, ◌==◌, Bool, true, false, ◌&&◌, Option, Some, None, List, [], ◌∷◌, refl, sym, ◌∙◌, ap, inl, inr, ⊎_elim, arith}
+use Rattle.std.proofs.lemmas.Bool.{cases_lt, cases_Bool, eqb-true, eq-eqb}
+use Rattle.std.specs.List.{find}
+use Rattle.bm_base.specs.declared.zone.Zone.{Zone}
+use Rattle.bm_base.specs.declared.zone.Zone.TheVariants as zone
+use Rattle.address_runs.specs.Edits.{NothingFrom}
+use Rattle.frame_blocks.specs.declared.block.Block.{Block}
+use Rattle.frame_blocks.specs.declared.run.TheConstants.{MAX_FRAMES}
+use Rattle.frame_blocks.specs.Frames.{Frames}
+use Rattle.frame_blocks.specs.Listed.{blocks_of, same_zone, is_of, Lists, AscendFrom}
+use Rattle.frame_blocks.specs.Picked.{Serves, IsPicked, NoneServes, picked_up, picked}
+use Rattle.frame_blocks.proofs.BlockLaws.{listed_sound, listed_complete, listed_ascends}
+use Rattle.frame_blocks.proofs.BuddyLaws.{one_at}
+
+-- the test of a zone tells
+zone_same : (a b : Zone) → same_zone a b ≡ true → a ≡ b
+zone_same zone.Dma zone.Dma h = refl
+zone_same zone.Dma zone.Dma32 h = cc
+zone_same zone.Dma zone.Normal h = cc
+zone_same zone.Dma32 zone.Dma h = cc
+zone_same zone.Dma32 zone.Dma32 h = refl
+zone_same zone.Dma32 zone.Normal h = cc
+zone_same zone.Normal zone.Dma h = cc
+zone_same zone.Normal zone.Dma32 h = cc
+zone_same zone.Normal zone.Normal h = refl
+
+zone_self : (a : Zone) → same_zone a a ≡ true
+zone_self zone.Dma = refl
+zone_self zone.Dma32 = refl
+zone_self zone.Normal = refl
+
+both_true : (p q : Bool) → (p && q) ≡ true → (p ≡ true) × (q ≡ true)
+both_true true q h = (refl, h)
+both_true false q h = cc
+
+-- the test of a block tells
+pub is_of_tells : (n : ℕ) (z : Zone) (order : ℕ) (b : Block) → is_of n z order b ≡ true → (b.node ≡ n) × (b.order ≡ order) × (b.zone ≡ z)
+is_of_tells n z order b h =
+    let one = both_true (b.node == n) ((b.order == order) && same_zone b.zone z) h in
+    let two = both_true (b.order == order) (same_zone b.zone z) one.1 in
+    (eqb-true b.node n one.0, eqb-true b.order order two.0, zone_same b.zone z two.1)
+
+pub is_of_told : (n : ℕ) (z : Zone) (order : ℕ) (b : Block) → b.node ≡ n → b.order ≡ order → b.zone ≡ z → is_of n z order b ≡ true
+is_of_told n z order b node_is order_is zone_is =
+    let one : (b.node == n) ≡ true = eq-eqb b.node n node_is in
+    let two : (b.order == order) ≡ true = eq-eqb b.order order order_is in
+    let three : same_zone b.zone z ≡ true = ap (λ a. same_zone a z) zone_is ∙ zone_self z in
+    rw (one, two, three) refl
+
+-- what a search finds in a list that ascends
+record IsFound (p : Block → Bool) (bs : List Block) (b : Block) : Type 0 where
+  pub has : Lists bs b
+  pub passes : p b ≡ true
+  pub first : (c : Block) → Lists bs c → p c ≡ true → b.first ≤ c.first
+
+ascend_behind : (x : ℕ) (bs : List Block) (c : Block) → AscendFrom x bs → Lists bs c → x ≤ c.first
+ascend_behind x [] c ascend has = absurd has
+ascend_behind x (b ∷ bs) c ascend has =
+    ⊎_elim (λ (same : b ≡ c). let at = ap (λ (d : Block). d.first) same in let low = ascend.0 in omega (arith, at, low))
+    (λ (rest : Lists bs c). let later = ascend_behind (b.first + 1) bs c ascend.1 rest in let low = ascend.0 in omega (arith, later, low))
+    has
+
+found_in : (p : Block → Bool) (x : ℕ) (bs : List Block) (b : Block) → AscendFrom x bs → find p bs ≡ Some b → IsFound p bs b
+found_in p x [] b ascend is = cc
+found_in p x (c ∷ cs) b ascend is =
+    elim (cases_Bool (p c)) as (λ _. IsFound p (c ∷ cs) b) [
+      | inl on ↦
+          let here : c ≡ b = let found : Some c ≡ Some b = rw on at is in cc in
+          record {
+            has = inl here;
+            passes = ap p (sym here) ∙ on;
+            first = λ d has passes. ⊎_elim
+                (λ (same : c ≡ d). let at = ap (λ (e : Block). e.first) (sym here ∙ same) in omega (arith, at))
+                (λ (rest : Lists cs d).
+                let later = ascend_behind (c.first + 1) cs d ascend.1 rest in let at = ap (λ (e : Block). e.first) here in
+                omega (arith, later, at))
+                has;
+          }
+      | inr off ↦
+          let rest : IsFound p cs b = found_in p (c.first + 1) cs b ascend.1 (rw off at is) in
+          record {
+            has = inr rest.has;
+            passes = rest.passes;
+            first = λ d has passes. ⊎_elim
+                (λ (same : c ≡ d). absurd (cc (sym (ap p same ∙ passes) ∙ off)))
+                (λ (inner : Lists cs d). rest.first d inner passes)
+                has;
+          }
+    ]
+
+none_in : (p : Block → Bool) (bs : List Block) (c : Block) → find p bs ≡ None → Lists bs c → p c ≡ true → ⊥
+none_in p [] c is has passes = has
+none_in p (b ∷ bs) c is has passes =
+    elim (cases_Bool (p b)) as (λ _. ⊥) [
+      | inl on ↦ let found : Some b ≡ None = rw on at is in cc
+      | inr off ↦ ⊎_elim
+          (λ (same : b ≡ c). cc (sym (ap p same ∙ passes) ∙ off))
+          (λ (inner : Lists bs c). none_in p bs c (rw off at is) inner passes)
+          has
+    ]
+
+-- a search finds something, or nothing
+found_or_none : (o : Option Block) → (o ≡ None) ⊎ ((b : Block) × (o ≡ Some b))
+found_or_none None = inl refl
+found_or_none (Some b) = inr (b, refl)
+
+-- of several orders none has a block that serves
+none_up : (f : Frames) (n : ℕ) (z : Zone) (order k : ℕ) (c : Block) → picked_up f n z order k ≡ None → Lists (blocks_of f) c
+    → c.node ≡ n → c.zone ≡ z → order ≤ c.order → c.order < order + k → ⊥
+none_up f n z order zero c is has node_is zone_is from until = absurd (omega arith)
+none_up f n z order (suc k) c is has node_is zone_is from until =
+    elim (found_or_none (find (is_of n z order) (blocks_of f))) as (λ _. ⊥) [
+      | inr found ↦ let some : Some found.0 ≡ None = rw found.1 at is in cc
+      | inl none ↦
+          let rest : picked_up f n z (order + 1) k ≡ None = rw none at is in
+          elim (cases_lt order c.order) as (λ _. ⊥) [
+            | inl lt ↦ none_up f n z (order + 1) k c rest has node_is zone_is (omega arith) (omega arith)
+            | inr le ↦
+                none_in (is_of n z order) (blocks_of f) c none has (is_of_told n z order c node_is (omega (arith, from, le)) zone_is)
+          ]
+    ]
+
+-- what is found by going up: a block of the least of the orders that has one
+record IsFoundUp (f : Frames) (n : ℕ) (z : Zone) (order k : ℕ) (b : Block) : Type 0 where
+  pub has : Lists (blocks_of f) b
+  pub serves : Serves n z order b
+  pub below : b.order < order + k
+  pub least : (c : Block) → Lists (blocks_of f) c → Serves n z order c → (b.order < c.order) ⊎ ((b.order ≡ c.order) × (b.first ≤ c.first))
+
+found_up : (f : Frames) (n : ℕ) (z : Zone) (order k : ℕ) (b : Block) → picked_up f n z order k ≡ Some b → IsFoundUp f n z order k b
+found_up f n z order zero b is = cc
+found_up f n z order (suc k) b is =
+    elim (found_or_none (find (is_of n z order) (blocks_of f))) as (λ _. IsFoundUp f n z order (suc k) b) [
+      | inr found ↦
+          let same : found.0 ≡ b = let some : Some found.0 ≡ Some b = rw found.1 at is in cc in
+          let here : find (is_of n z order) (blocks_of f) ≡ Some b = found.1 ∙ ap (λ (d : Block). Some d) same in
+          let it = found_in (is_of n z order) 0 (blocks_of f) b (listed_ascends f) here in
+          let told = is_of_tells n z order b it.passes in
+          let order_is = told.1 in
+          record {
+            has = it.has;
+            serves = record { node = told.0; zone = told.2; enough = omega (arith, order_is) };
+            below = omega (arith, order_is);
+            least = λ c has serves. elim (cases_lt order c.order) as (λ _. (b.order < c.order) ⊎ ((b.order ≡ c.order) × (b.first ≤ c.first))) [
+              | inl lt ↦ inl (omega (arith, lt, order_is))
+              | inr le ↦
+                  let enough = serves.enough in
+                  let at : c.order ≡ order = omega (arith, le, enough) in
+                  inr (order_is ∙ sym at, it.first c has (is_of_told n z order c serves.node at serves.zone))
+            ];
+          }
+      | inl none ↦
+          let rest : IsFoundUp f n z (order + 1) k b = found_up f n z (order + 1) k b (rw none at is) in
+          let more = rest.serves.enough in
+          let below = rest.below in
+          record {
+            has = rest.has;
+            serves = record { node = rest.serves.node; zone = rest.serves.zone; enough = omega (arith, more) };
+            below = omega (arith, below);
+            least = λ c has serves. elim (cases_lt order c.order) as (λ _. (b.order < c.order) ⊎ ((b.order ≡ c.order) × (b.first ≤ c.first))) [
+              | inl lt ↦ rest.least c has (record { node = serves.node; zone = serves.zone; enough = omega (arith, lt) })
+              | inr le ↦
+                  let enough = serves.enough in
+                  absurd (none_in (is_of n z order) (blocks_of f) c none has
+                  (is_of_told n z order c serves.node (omega (arith, le, enough)) serves.zone))
+            ];
+          }
+    ]
+
+-- the function tells by the sentence
+pub picked_tells : (f : Frames) (n : ℕ) (z : Zone) (order : ℕ) (b : Block) → NothingFrom MAX_FRAMES f → picked f n z order ≡ Some b
+    → IsPicked f n z order b
+unfolding picked
+picked_tells f n z order b low is =
+    let it = found_up f n z order (11 - order) b is in
+    record {
+      block = listed_sound f b it.has;
+      serves = it.serves;
+      least = λ c block serves. it.least c (listed_complete f c low block) serves;
+    }
+
+pub none_tells : (f : Frames) (n : ℕ) (z : Zone) (order : ℕ) → NothingFrom MAX_FRAMES f → picked f n z order ≡ None
+    → NoneServes f n z order
+unfolding picked
+none_tells f n z order low is b block serves =
+    let small = block.small in
+    let enough = serves.enough in
+    none_up f n z order (11 - order) b is (listed_complete f b low block) serves.node serves.zone enough (omega (arith, small, enough))
+
+-- and the other way round: there is one such block at most
+pub picked_is : (f : Frames) (n : ℕ) (z : Zone) (order : ℕ) (b : Block) → NothingFrom MAX_FRAMES f → IsPicked f n z order b
+    → picked f n z order ≡ Some b
+picked_is f n z order b low is =
+    elim (found_or_none (picked f n z order)) as (λ _. picked f n z order ≡ Some b) [
+      | inl none ↦ absurd (none_tells f n z order low none b is.block is.serves)
+      | inr some ↦
+          let it = picked_tells f n z order some.0 low some.1 in
+          let same_first : some.0.first ≡ b.first =
+          ⊎_elim
+          (λ (less : some.0.order < b.order). ⊎_elim
+          (λ (other : b.order < some.0.order). absurd (omega (arith, less, other)))
+          (λ (other : (b.order ≡ some.0.order) × (b.first ≤ some.0.first)).
+          let same = other.0 in absurd (omega (arith, less, same)))
+          (is.least some.0 it.block it.serves))
+          (λ (same : (some.0.order ≡ b.order) × (some.0.first ≤ b.first)). ⊎_elim
+          (λ (other : b.order < some.0.order). let order_is = same.0 in absurd (omega (arith, other, order_is)))
+          (λ (other : (b.order ≡ some.0.order) × (b.first ≤ some.0.first)).
+          let one = same.1 in let two = other.1 in omega (arith, one, two))
+          (is.least some.0 it.block it.serves))
+          (it.least b is.block is.serves) in
+          some.1 ∙ ap (λ (d : Block). Some d) (one_at f some.0 b it.block is.block same_first)
+    ]
+
+pub picked_none : (f : Frames) (n : ℕ) (z : Zone) (order : ℕ) → NothingFrom MAX_FRAMES f → NoneServes f n z order
+    → picked f n z order ≡ None
+picked_none f n z order low none =
+    elim (found_or_none (picked f n z order)) as (λ _. picked f n z order ≡ None) [
+      | inl is ↦ is
+      | inr some ↦ let it = picked_tells f n z order some.0 low some.1 in absurd (none some.0 it.block it.serves)
+    ]

@@ -1,0 +1,416 @@
+-- An index of blocks where a set leaves a block, where it comes back, and where it is made from rows.
+use Rattle.std.proofs.Common.{◌≡◌, ◌≢◌, ◌⊎◌, ◌↔◌, ℕ, zero, suc, ◌+◌, ◌-◌, ◌/◌, ◌^◌, ◌<◌, ◌≤◌, ◌==◌, Option, Some, List, [], ◌∷◌, ◌++◌, length, get_or, drop, drop-cons, refl, sym, ◌∙◌, ap, subst, inl, inr, ⊎_elim, arith}
+use Rattle.std.proofs.lemmas.Bool.{cases_lt, cases_Bool, eqb-true, eq-eqb}
+use Rattle.std.proofs.lemmas.List.{at_drop_all}
+use Rattle.std.proofs.lemmas.Nat.{pow_pos}
+use Rattle.bm_base.specs.declared.zone.Zone.{Zone}
+use Rattle.address_runs.specs.Edits.{NothingFrom}
+use Rattle.frame_blocks.specs.declared.block.Block.{Block}
+use Rattle.frame_blocks.specs.declared.block.BlockRow.{BlockRow}
+use Rattle.frame_blocks.specs.declared.run.TheConstants.{MAX_FRAMES}
+use Rattle.frame_blocks.specs.Frames.{Frames, IsBlock, IsInBlock}
+use Rattle.frame_blocks.specs.Listed.{block_of, blocks_of, Lists}
+use Rattle.frame_blocks.specs.Rows.{row_from, blocks_of_row, blocks_of_rows, AreRows}
+use Rattle.frame_blocks.specs.Buddies.{IsWithout, buddy_in, IsBuddy}
+use Rattle.frame_blocks.proofs.SetLaws.{set_until}
+use Rattle.frame_blocks.proofs.BlockLaws.{found_block, block_found, listed_sound, listed_complete}
+use Rattle.frame_blocks.proofs.BuddyLaws.{in_set_or_not, others_stay, others_were, left_is_block, rest_is_left, buddy_inside, one_at}
+use Rattle.free_areas.specs.Areas.{Follows, AreAreas, lead, IsLike, HasBuddies, LacksBuddies}
+
+-- one order more
+buddy_more : (b c : Block) (low at x : ℕ) → low ≤ at → IsBuddy b low (at + 1) x c → (c ≡ buddy_in b at x) ⊎ IsBuddy b low at x c
+buddy_more b c low at x from it = elim (cases_lt it.order at) as (λ _. (c ≡ buddy_in b at x) ⊎ IsBuddy b low at x c) [
+  | inl lt ↦ inr (record { order = it.order; from = it.from; below = lt; is = it.is })
+  | inr ge ↦
+      let below = it.below in
+      let last : it.order ≡ at = omega (arith, ge, below) in
+      inl (it.is ∙ ap (λ o. buddy_in b o x) last)
+]
+
+more_buddy : (b c : Block) (low at x : ℕ) → low ≤ at → (c ≡ buddy_in b at x) ⊎ IsBuddy b low at x c → IsBuddy b low (at + 1) x c
+more_buddy b c low at x from (inl is) = record { order = at; from = from; below = omega arith; is = is }
+more_buddy b c low at x from (inr it) =
+    let below = it.below in record { order = it.order; from = it.from; below = omega (arith, below); is = it.is }
+
+no_buddy : (b c : Block) (low x : ℕ) → IsBuddy b low low x c → ⊥
+no_buddy b c low x it = let from = it.from in let below = it.below in absurd (omega (arith, from, below))
+
+pub has_none : (b : Block) (low x : ℕ) (bs : List Block) → HasBuddies b low low x bs bs
+has_none b low x bs c = (λ has. inr has, λ either. ⊎_elim (λ (it : IsBuddy b low low x c). absurd (no_buddy b c low x it)) (λ (has : Lists bs c). has) either)
+
+pub has_more : (b k : Block) (low at x : ℕ) (old now next : List Block) → low ≤ at → k ≡ buddy_in b at x → HasBuddies b low at x old now
+    → ((c : Block) → Lists next c ↔ ((c ≡ k) ⊎ Lists now c)) → HasBuddies b low (at + 1) x old next
+has_more b k low at x old now next from key done put c = (
+  λ has. ⊎_elim
+      (λ (is : c ≡ k). inl (more_buddy b c low at x from (inl (is ∙ key))))
+      (λ (was : Lists now c). ⊎_elim
+      (λ (it : IsBuddy b low at x c). inl (more_buddy b c low at x from (inr it)))
+      (λ (had : Lists old c). inr had)
+      ((done c).0 was))
+      ((put c).0 has),
+  λ either. (put c).1 (⊎_elim
+      (λ (it : IsBuddy b low (at + 1) x c). ⊎_elim
+      (λ (is : c ≡ buddy_in b at x). inl (is ∙ sym key))
+      (λ (less : IsBuddy b low at x c). inr ((done c).1 (inl less)))
+      (buddy_more b c low at x from it))
+      (λ (had : Lists old c). inr ((done c).1 (inr had)))
+      either),
+)
+
+pub lacks_none : (b : Block) (low x : ℕ) (bs : List Block) → LacksBuddies b low low x bs bs
+lacks_none b low x bs c = (λ has. (λ it. no_buddy b c low x it, has), λ both. both.1)
+
+pub lacks_more : (b k : Block) (low at x : ℕ) (old now next : List Block) → low ≤ at → k ≡ buddy_in b at x → LacksBuddies b low at x old now
+    → ((c : Block) → Lists next c ↔ ((c ≢ k) × Lists now c)) → LacksBuddies b low (at + 1) x old next
+lacks_more b k low at x old now next from key done put c = (
+  λ has.
+      let both = (put c).0 has in
+      let was = (done c).0 both.1 in (
+        λ it. ⊎_elim (λ (is : c ≡ buddy_in b at x). both.0 (is ∙ sym key)) (λ (less : IsBuddy b low at x c). was.0 less)
+            (buddy_more b c low at x from it),
+        was.1,
+      ),
+  λ both. (put c).1 (
+    λ is. both.0 (more_buddy b c low at x from (inl (is ∙ key))),
+    (done c).1 (λ it. both.0 (more_buddy b c low at x from (inr it)), both.1),
+  ),
+)
+
+-- where the loop over the orders has ended
+pub has_all : (b : Block) (low at x : ℕ) (old new : List Block) → (at ≤ b.order) ⊎ (at ≡ low) → b.order ≤ at → HasBuddies b low at x old new
+    → HasBuddies b low b.order x old new
+has_all b low at x old new (inl most) end done =
+    let here : at ≡ b.order = omega (arith, most, end) in
+    subst (λ (p : ℕ). HasBuddies b low p x old new) here done
+has_all b low at x old new (inr none) end done = λ c. (
+  λ has. ⊎_elim
+      (λ (it : IsBuddy b low at x c). let below = it.below in let from = it.from in absurd (omega (arith, below, from, none)))
+      (λ (had : Lists old c). inr had)
+      ((done c).0 has),
+  λ either. (done c).1 (⊎_elim
+      (λ (it : IsBuddy b low b.order x c). let below = it.below in let from = it.from in absurd (omega (arith, below, from, none, end)))
+      (λ (had : Lists old c). inr had)
+      either),
+)
+
+pub lacks_all : (b : Block) (low at x : ℕ) (old new : List Block) → (at ≤ b.order) ⊎ (at ≡ low) → b.order ≤ at
+    → LacksBuddies b low at x old new → LacksBuddies b low b.order x old new
+lacks_all b low at x old new (inl most) end done =
+    let here : at ≡ b.order = omega (arith, most, end) in
+    subst (λ (p : ℕ). LacksBuddies b low p x old new) here done
+lacks_all b low at x old new (inr none) end done = λ c. (
+  λ has. (
+    λ it. let below = it.below in let from = it.from in absurd (omega (arith, below, from, none, end)),
+    ((done c).0 has).1,
+  ),
+  λ both. (done c).1
+      (λ it. let below = it.below in let from = it.from in absurd (omega (arith, below, from, none)), both.1),
+)
+
+-- the block itself isn't outside of itself
+away : (b c : Block) → (IsInBlock b c.first → ⊥) → c ≢ b
+away b c outside same = outside (subst (λ (d : Block). IsInBlock b d.first) (sym same) refl)
+
+-- the block in front of one that follows
+abbrev front : Block → Block
+front c = record c { first = c.first - 1024 }
+
+same_first : (b c : Block) → (b.first ≡ c.first) ⊎ (b.first ≢ c.first)
+same_first b c = elim (cases_Bool (b.first == c.first)) as (λ _. (b.first ≡ c.first) ⊎ (b.first ≢ c.first)) [
+  | inl same ↦ inl (eqb-true b.first c.first same)
+  | inr other ↦ inr (λ same. cc (sym (eq-eqb b.first c.first same) ∙ other))
+]
+
+-- the frame behind a block of the greatest order isn't in it
+behind_differs : (f : Frames) (b c : Block) → IsBlock f b → IsLike b c → IsInBlock c (b.first + 2 ^ b.order) → c ≡ b → ⊥
+behind_differs f b c block like inner same =
+    let there : (b.first + 2 ^ b.order) / 2 ^ b.order ≡ b.first / 2 ^ b.order =
+    subst (λ (d : Block). IsInBlock d (b.first + 2 ^ b.order)) same inner in
+    let high = set_until (2 ^ b.order) b.first (b.first + 2 ^ b.order) (pow_pos b.order) there in
+    let aligned = block.aligned in
+    absurd (omega (arith, high, aligned))
+
+-- a set leaves the block b
+pub split_areas : (f g : Frames) (low x : ℕ) (b : Block) (behind : Option Block) (bs ms cs : List Block) → AreAreas f bs
+    → IsWithout f g low x → IsBlock f b → IsInBlock b x → low ≤ b.order → behind ≡ block_of f (b.first + 2 ^ b.order)
+    → ((c : Block) → Lists ms c → ((c ≢ b) × Lists bs c) ⊎ ((behind ≡ Some c) × IsLike b c))
+    → ((c : Block) → c ≢ b → Lists bs c → Lists ms c)
+    → ((c : Block) → behind ≡ Some c → IsLike b c → Lists ms c)
+    → HasBuddies b low b.order x ms cs → AreAreas g cs
+split_areas f g low x b behind bs ms cs areas without block inner order next sound kept back buddies = record {
+  sound = λ c has. ⊎_elim
+      (λ (it : IsBuddy b low b.order x c).
+      subst (λ (d : Block). IsBlock g d) (sym it.is) (left_is_block f g low it.order x b without block inner it.from it.below))
+      (λ (was : Lists ms c). ⊎_elim
+      (λ (had : (c ≢ b) × Lists bs c). others_stay f g low x b c without block inner order (areas.sound c had.1) had.0)
+      (λ (goes : (behind ≡ Some c) × IsLike b c).
+      let found = block_found f (b.first + 2 ^ b.order) c (sym next ∙ goes.0) in
+      let other : c ≢ b = λ same. behind_differs f b c block goes.1 found.1 same in
+      others_stay f g low x b c without block inner order found.0 other)
+      (sound c was))
+      ((buddies c).0 has);
+  complete = λ c is. elim (in_set_or_not b.order b.first c.first) as (λ _. Lists cs c ⊎ Follows g c) [
+    | inl within ↦ inl ((buddies c).1 (inl (rest_is_left f g low x b c without block inner order is within)))
+    | inr outside ↦
+        let was = others_were f g low x b c without block inner order is outside in ⊎_elim
+        (λ (has : Lists bs c). inl ((buddies c).1 (inr (kept c (away b c outside) has))))
+        (λ (follows : Follows f c). elim (same_first (front c) b) as (λ _. Lists cs c ⊎ Follows g c) [
+          | inl same ↦
+              let one = one_at f (front c) b follows.before block same in
+              let order_is : b.order ≡ 10 = sym (ap (λ (d : Block). d.order) one) ∙ follows.great in
+              let room = follows.room in
+              let size : b.first + 2 ^ b.order ≡ c.first =
+              let there : b.first + 2 ^ b.order ≡ b.first + 1024 = ap (λ o. b.first + 2 ^ o) order_is in
+              omega (arith, there, same, room) in
+              let found : behind ≡ Some c = next ∙ ap (block_of f) size ∙ found_block f c.first c was refl in
+              inl ((buddies c).1 (inr (back c found (record {
+                great = order_is;
+                order = follows.great;
+                node = ap (λ (d : Block). d.node) one;
+                zone = ap (λ (d : Block). d.zone) one;
+              }))))
+          | inr other ↦
+              let differs : front c ≢ b = λ is_b. other (ap (λ (d : Block). d.first) is_b) in
+              inr (record {
+                great = follows.great;
+                room = follows.room;
+                before = others_stay f g low x b (front c) without block inner order follows.before differs;
+              })
+        ])
+        (areas.complete c was)
+  ];
+}
+
+-- a set comes back, and b is the block in which it is then
+pub join_areas : (f g : Frames) (low x : ℕ) (b : Block) (bs ms cs : List Block) → AreAreas g bs
+    → IsWithout f g low x → IsBlock f b → IsInBlock b x → low ≤ b.order → LacksBuddies b low b.order x bs ms
+    → ((c : Block) → Lists cs c ↔ ((c ≡ b) ⊎ Lists ms c)) → AreAreas f cs
+join_areas f g low x b bs ms cs areas without block inner order lacks put = record {
+  sound = λ c has. ⊎_elim
+      (λ (is : c ≡ b). subst (λ (d : Block). IsBlock f d) (sym is) block)
+      (λ (was : Lists ms c).
+      let both = (lacks c).0 was in
+      let in_g = areas.sound c both.1 in
+      others_were f g low x b c without block inner order in_g
+      (λ within. both.0 (rest_is_left f g low x b c without block inner order in_g within)))
+      ((put c).0 has);
+  complete = λ c is. elim (in_set_or_not b.order b.first c.first) as (λ _. Lists cs c ⊎ Follows f c) [
+    | inl within ↦
+        let here = found_block f c.first b block within in
+        let there = found_block f c.first c is refl in
+        let same : c ≡ b = let both : Some c ≡ Some b = sym there ∙ here in cc in
+        inl ((put c).1 (inl same))
+    | inr outside ↦
+        let stays = others_stay f g low x b c without block inner order is (away b c outside) in ⊎_elim
+        (λ (has : Lists bs c).
+        inl ((put c).1 (inr ((lacks c).1
+        (λ it. outside (buddy_inside b low b.order x c (omega arith) inner it), has)))))
+        (λ (follows : Follows g c). elim (in_set_or_not b.order b.first (front c).first) as (λ _. Lists cs c ⊎ Follows f c) [
+          | inl within ↦
+              let it = rest_is_left f g low x b (front c) without block inner order follows.before within in
+              let below = it.below in
+              let small = block.small in
+              let great = follows.great in
+              let order_is : c.order ≡ it.order = ap (λ (d : Block). d.order) it.is in
+              absurd (omega (arith, below, small, great, order_is))
+          | inr outer ↦ inr (record {
+            great = follows.great;
+            room = follows.room;
+            before = others_were f g low x b (front c) without block inner order follows.before outer;
+          })
+        ])
+        (areas.complete c stays)
+  ];
+}
+
+-- from each block one goes back to a block of its order, node and zone that the list has
+pub record IsLed (bs : List Block) (c : Block) : Type 0 where
+  pub leader : Block
+  pub has : Lists bs leader
+  pub node : leader.node ≡ c.node
+  pub zone : leader.zone ≡ c.zone
+  pub order : leader.order ≡ c.order
+  pub first : leader.first ≤ c.first
+
+led_by : (k : ℕ) (f : Frames) (bs : List Block) (c : Block) → AreAreas f bs → IsBlock f c → c.first ≤ k → IsLed bs c
+led_by zero f bs c areas is low = ⊎_elim
+    (λ (has : Lists bs c). let led : IsLed bs c = record { leader = c; has = has; node = refl; zone = refl; order = refl; first = omega arith } in led)
+    (λ (follows : Follows f c). let room = follows.room in absurd (omega (arith, room, low)))
+    (areas.complete c is)
+led_by (suc k) f bs c areas is low = ⊎_elim
+    (λ (has : Lists bs c). let led : IsLed bs c = record { leader = c; has = has; node = refl; zone = refl; order = refl; first = omega arith } in led)
+    (λ (follows : Follows f c).
+    let room = follows.room in
+    let less : (front c).first ≤ k = omega (arith, room, low) in
+    let rest = led_by k f bs (front c) areas follows.before less in
+    let first = rest.first in
+    let led : IsLed bs c = record {
+      leader = rest.leader;
+      has = rest.has;
+      node = rest.node;
+      zone = rest.zone;
+      order = rest.order;
+      first = omega (arith, first);
+    } in led)
+    (areas.complete c is)
+
+pub led : (f : Frames) (bs : List Block) (c : Block) → AreAreas f bs → IsBlock f c → IsLed bs c
+led f bs c areas is = led_by c.first f bs c areas is (omega arith)
+
+-- the leads of rows
+pub leads : List BlockRow → List Block
+leads [] = []
+leads (r ∷ rs) = lead r ∷ leads rs
+
+lists_append : (bs cs : List Block) (b : Block) → Lists (bs ++ cs) b → Lists bs b ⊎ Lists cs b
+lists_append [] cs b has = inr has
+lists_append (d ∷ bs) cs b has = ⊎_elim
+    (λ (is : d ≡ b). inl (inl is))
+    (λ (rest : Lists (bs ++ cs) b). ⊎_elim (λ (one : Lists bs b). inl (inr one)) (λ (two : Lists cs b). inr two) (lists_append bs cs b rest))
+    has
+
+lists_left : (bs cs : List Block) (b : Block) → Lists bs b → Lists (bs ++ cs) b
+lists_left [] cs b has = absurd has
+lists_left (d ∷ bs) cs b has = ⊎_elim (λ (is : d ≡ b). inl is) (λ (rest : Lists bs b). inr (lists_left bs cs b rest)) has
+
+lists_right : (bs cs : List Block) (b : Block) → Lists cs b → Lists (bs ++ cs) b
+lists_right [] cs b has = has
+lists_right (d ∷ bs) cs b has = inr (lists_right bs cs b has)
+
+-- a block of a row is its first one, or lies right behind another one
+in_row : (k o x n : ℕ) (z : Zone) (b : Block) → Lists (row_from o x n z k) b
+    → ((record { order = o; first = x; node = n; zone = z } ≡ b) ⊎ ((2 ^ o ≤ b.first) × (b.order ≡ o)
+    × Lists (row_from o x n z k) (record b { first = b.first - 2 ^ o })))
+unfolding row_from
+in_row zero o x n z b has = absurd has
+in_row (suc k) o x n z b has = ⊎_elim
+    (λ (is : record { order = o; first = x; node = n; zone = z } ≡ b). inl is)
+    (λ (rest : Lists (row_from o (x + 2 ^ o) n z k) b). inr (⊎_elim
+    (λ (is : record { order = o; first = x + 2 ^ o; node = n; zone = z } ≡ b).
+    let first = ap (λ (d : Block). d.first) is in
+    let order = ap (λ (d : Block). d.order) is in
+    let before : x ≡ b.first - 2 ^ o = omega (arith, first) in
+    let here : record { order = o; first = x; node = n; zone = z } ≡ record b { first = b.first - 2 ^ o } =
+    ap (λ y. let d : Block = record { order = o; first = y; node = n; zone = z } in d) before
+    ∙ ap (λ (e : Block). let d : Block = record e { first = b.first - 2 ^ o } in d) is in
+    (omega (arith, first), sym order, inl here))
+    (λ (inner : (2 ^ o ≤ b.first) × (b.order ≡ o) × Lists (row_from o (x + 2 ^ o) n z k) (record b { first = b.first - 2 ^ o })).
+    (inner.0, inner.1, inr inner.2))
+    (in_row k o (x + 2 ^ o) n z b rest)))
+    has
+
+lead_in_row : (r : BlockRow) → 0 < r.count → Lists (blocks_of_row r) (lead r)
+lead_in_row r some =
+    let more : r.count ≡ suc (r.count - 1) = omega arith in
+    let here : Lists (row_from r.order r.first r.node r.zone (suc (r.count - 1))) (lead r) = unfold row_from in inl refl in
+    subst (λ (k : ℕ). Lists (row_from r.order r.first r.node r.zone k) (lead r)) (sym more) here
+
+lead_listed : (rs : List BlockRow) (b : Block) → AreRows rs → Lists (leads rs) b → Lists (blocks_of_rows rs) b
+unfolding leads
+lead_listed [] b rows has = absurd has
+lead_listed (r ∷ rs) b rows has = ⊎_elim
+    (λ (is : lead r ≡ b). subst (λ (d : Block). Lists (blocks_of_rows (r ∷ rs)) d) is
+    (lists_left (blocks_of_row r) (blocks_of_rows rs) (lead r) (lead_in_row r rows.0)))
+    (λ (rest : Lists (leads rs) b). lists_right (blocks_of_row r) (blocks_of_rows rs) b (lead_listed rs b rows.3 rest))
+    has
+
+only_lead : (r : BlockRow) (b : Block) (rs : List BlockRow) → Lists (row_from r.order r.first r.node r.zone 1) b → Lists (leads (r ∷ rs)) b
+unfolding leads
+only_lead r b rs only =
+    let one : Lists (lead r ∷ row_from r.order (r.first + 2 ^ r.order) r.node r.zone 0) b = unfold row_from in only in
+    ⊎_elim (λ (is : lead r ≡ b). inl is)
+    (λ (none : Lists (row_from r.order (r.first + 2 ^ r.order) r.node r.zone 0) b). absurd (let no_more : ⊥ = unfold row_from in none in no_more)) one
+
+-- a block of rows is the lead of one, or lies right behind another one of the greatest order
+in_rows : (rs : List BlockRow) (b : Block) → AreRows rs → Lists (blocks_of_rows rs) b
+    → Lists (leads rs) b ⊎ ((b.order ≡ 10) × (1024 ≤ b.first) × Lists (blocks_of_rows rs) (record b { first = b.first - 1024 }))
+unfolding leads
+in_rows [] b rows has = absurd has
+in_rows (r ∷ rs) b rows has = ⊎_elim
+    (λ (one : Lists (blocks_of_row r) b). ⊎_elim
+    (λ (is : lead r ≡ b). inl (inl is))
+    (λ (behind : (2 ^ r.order ≤ b.first) × (b.order ≡ r.order) × Lists (blocks_of_row r) (record b { first = b.first - 2 ^ r.order })).
+    ⊎_elim
+    (λ (ten : r.order ≡ 10).
+    let size : 2 ^ r.order ≡ 1024 = ap (λ o. 2 ^ o) ten in
+    let before : Lists (blocks_of_row r) (record b { first = b.first - 1024 }) =
+    subst (λ (s : ℕ). Lists (blocks_of_row r) (record b { first = b.first - s })) size behind.2 in
+    let room = behind.0 in
+    inr (behind.1 ∙ ten, omega (arith, room, size), lists_left (blocks_of_row r) (blocks_of_rows rs) _ before))
+    (λ (single : r.count ≡ 1).
+    let only : Lists (row_from r.order r.first r.node r.zone 1) b = subst (λ (k : ℕ). Lists (row_from r.order r.first r.node r.zone k) b) single one in
+    inl (only_lead r b rs only))
+    rows.1)
+    (in_row r.count r.order r.first r.node r.zone b one))
+    (λ (two : Lists (blocks_of_rows rs) b). ⊎_elim
+    (λ (leading : Lists (leads rs) b). inl (inr leading))
+    (λ (behind : (b.order ≡ 10) × (1024 ≤ b.first) × Lists (blocks_of_rows rs) (record b { first = b.first - 1024 })).
+    inr (behind.0, behind.1, lists_right (blocks_of_row r) (blocks_of_rows rs) _ behind.2))
+    (in_rows rs b rows.3 two))
+    (lists_append (blocks_of_row r) (blocks_of_rows rs) b has)
+
+-- so the leads of the rows of all blocks are an index
+pub leads_done : (f : Frames) (rs : List BlockRow) (bs : List Block) → NothingFrom MAX_FRAMES f → AreRows rs → blocks_of_rows rs ≡ blocks_of f
+    → ((b : Block) → Lists bs b → Lists (leads rs) b) → ((b : Block) → Lists (leads rs) b → Lists bs b) → AreAreas f bs
+leads_done f rs bs low rows all sound complete = record {
+  sound = λ b has. listed_sound f b (subst (λ (cs : List Block). Lists cs b) all (lead_listed rs b rows (sound b has)));
+  complete = λ b is.
+      let listed : Lists (blocks_of_rows rs) b = subst (λ (cs : List Block). Lists cs b) (sym all) (listed_complete f b low is) in ⊎_elim
+      (λ (leading : Lists (leads rs) b). inl (complete b leading))
+      (λ (behind : (b.order ≡ 10) × (1024 ≤ b.first) × Lists (blocks_of_rows rs) (record b { first = b.first - 1024 })).
+      let before = listed_sound f (front b) (subst (λ (cs : List Block). Lists cs (front b)) all behind.2) in
+      inr (record { great = behind.0; room = behind.1; before = before }))
+      (in_rows rs b rows listed);
+}
+
+pub lead_at : (rs : List BlockRow) (i : ℕ) (d : BlockRow) → i < length rs → Lists (leads rs) (lead (get_or rs i d))
+unfolding leads
+lead_at [] i d few = absurd (omega arith)
+lead_at (r ∷ rs) zero d few = inl refl
+lead_at (r ∷ rs) (suc i) d few = inr (lead_at rs i d (omega arith))
+
+pub lead_dropped : (rs : List BlockRow) (i : ℕ) (d : BlockRow) (b : Block) → i < length rs → Lists (leads (drop i rs)) b
+    → (lead (get_or rs i d) ≡ b) ⊎ Lists (leads (drop (i + 1) rs)) b
+unfolding leads
+lead_dropped rs i d b few has =
+    let next : i + 1 ≡ suc i = omega arith in
+    let here : Lists (leads (get_or rs i d ∷ drop (suc i) rs)) b = subst (λ (qs : List BlockRow). Lists (leads qs) b) (drop-cons rs i d few) has in
+    ⊎_elim (λ (is : lead (get_or rs i d) ≡ b). inl is)
+    (λ (rest : Lists (leads (drop (suc i) rs)) b). inr (subst (λ (j : ℕ). Lists (leads (drop j rs)) b) (sym next) rest)) here
+
+pub lead_none : (rs : List BlockRow) (i : ℕ) (b : Block) → length rs ≤ i → Lists (leads (drop i rs)) b → ⊥
+unfolding leads
+lead_none rs i b all has =
+    let none : drop i rs ≡ [] = at_drop_all (λ (qs : List BlockRow). qs) rs i all in
+    subst (λ (qs : List BlockRow). Lists (leads qs) b) none has
+
+-- the rows so far have their leads in the list
+pub record HasLeads (rs : List BlockRow) (i : ℕ) (bs : List Block) : Type 0 where
+  pub sound : (b : Block) → Lists bs b → Lists (leads rs) b
+  pub complete : (b : Block) → Lists (leads rs) b → Lists bs b ⊎ Lists (leads (drop i rs)) b
+
+pub leads_none : (rs : List BlockRow) → HasLeads rs 0 []
+leads_none rs = record { sound = λ b has. absurd has; complete = λ b has. inr has }
+
+pub leads_more : (rs : List BlockRow) (i : ℕ) (d : BlockRow) (k : Block) (now next : List Block) → i < length rs
+    → k ≡ lead (get_or rs i d) → HasLeads rs i now → ((b : Block) → Lists next b ↔ ((b ≡ k) ⊎ Lists now b)) → HasLeads rs (i + 1) next
+leads_more rs i d k now next few key_is has put =
+    record {
+      sound = λ b in_next. ⊎_elim
+          (λ (here : b ≡ k). subst (λ (e : Block). Lists (leads rs) e) (sym (here ∙ key_is)) (lead_at rs i d few))
+          (λ (was : Lists now b). has.sound b was)
+          ((put b).0 in_next);
+      complete = λ b leading. ⊎_elim
+          (λ (was : Lists now b). inl ((put b).1 (inr was)))
+          (λ (left : Lists (leads (drop i rs)) b). ⊎_elim
+          (λ (here : lead (get_or rs i d) ≡ b). inl ((put b).1 (inl (sym here ∙ sym key_is))))
+          (λ (rest : Lists (leads (drop (i + 1) rs)) b). inr rest)
+          (lead_dropped rs i d b few left))
+          (has.complete b leading);
+    }
+
+pub leads_all : (f : Frames) (rs : List BlockRow) (i : ℕ) (bs : List Block) → NothingFrom MAX_FRAMES f → AreRows rs
+    → blocks_of_rows rs ≡ blocks_of f → length rs ≤ i → HasLeads rs i bs → AreAreas f bs
+leads_all f rs i bs low rows all end has =
+    leads_done f rs bs low rows all has.sound
+    (λ b leading. ⊎_elim (λ (was : Lists bs b). was) (λ (left : Lists (leads (drop i rs)) b). absurd (lead_none rs i b end left)) (has.complete b leading))

@@ -1,0 +1,84 @@
+-- A lone frame and its index, computed.
+use Rattle.std.proofs.Common.{◌≡◌, ℕ, ◌/◌, nat_le, nat_lt, ◌&&◌, Some, None, [], ◌∷◌, if◌then◌else◌, refl, sym, ◌∙◌, ap, subst, inl, inr, ⊎_elim, arith}
+use Rattle.std.proofs.lemmas.Bool.Decides.{nat_tests}
+use Rattle.std.proofs.lemmas.Bool.{cases_Bool}
+use Rattle.std.proofs.Math.Nat.{div-one}
+use Rattle.bm_base.specs.declared.zone.Zone.TheVariants as zone
+use Rattle.bm_base.specs.Zones.{zone_of}
+use Rattle.frame_blocks.specs.declared.block.Block.{Block}
+use Rattle.frame_blocks.specs.Frames.{Frames, IsBlock}
+use Rattle.frame_blocks.proofs.BuddyLaws.{one_at}
+use Rattle.free_areas.specs.Areas.{Follows, AreAreas, lead, IsLike, HasBuddies, LacksBuddies}
+use Rattle.free_areas.proofs.AreaLaws.{has_none, lacks_none}
+
+-- frame 5 alone is free, of node 7
+abbrev lone : Frames
+lone x = if nat_le 5 x && nat_lt x 6 then Some 7 else None
+
+abbrev lone_block : Block
+lone_block = record { order = 0; first = 5; node = 7; zone = zone.Dma }
+
+abbrev great : ℕ → Block
+great first = record { order = 10; first = first; node = 7; zone = zone.Dma }
+
+lone_at : (x n : ℕ) → lone x ≡ Some n → x ≡ 5
+lone_at x n is = elim (cases_Bool (nat_le 5 x && nat_lt x 6)) as (λ _. x ≡ 5) [
+  | inl on ↦ grind (arith, nat_tests)
+  | inr off ↦ let none : None ≡ Some n = sym (rw off refl) ∙ is in cc
+]
+
+lone_is : (x : ℕ) → x / 1 ≡ 5 → x ≡ 5
+lone_is x same = sym (div-one x) ∙ same
+
+lone_is_block : IsBlock lone lone_block
+lone_is_block = record {
+  small = omega arith;
+  aligned = refl;
+  good = λ x same. (ap lone (lone_is x same), ap zone_of (lone_is x same));
+  whole = λ less good. let none : None ≡ Some 7 = (good 4 refl).0 in cc none;
+}
+
+lone_alone : (c : Block) → IsBlock lone c → lone_block ≡ c
+lone_alone c block =
+    let here : c.first ≡ 5 = lone_at c.first c.node (block.good c.first refl).0 in
+    one_at lone lone_block c lone_is_block block (sym here)
+
+-- its block is its index; without it there is none
+area_examples : AreAreas lone (lone_block ∷ []) × (AreAreas lone [] → ⊥)
+area_examples = (
+  record {
+    sound = λ b has. ⊎_elim (λ (is : lone_block ≡ b). subst (λ (c : Block). IsBlock lone c) is lone_is_block) (λ (none : ⊥). absurd none) has;
+    complete = λ b is. inl (inl (lone_alone b is));
+  },
+  λ areas. ⊎_elim (λ (none : ⊥). none) (λ (follows : Follows lone lone_block). let ten = follows.great in absurd (omega (arith, ten)))
+      (areas.complete lone_block lone_is_block),
+)
+
+-- a block of the lowest frames follows none, and no lone frame does
+follow_examples : (Follows lone (great 0) → ⊥) × (Follows lone (record { order = 0; first = 1029; node = 7; zone = zone.Dma }) → ⊥)
+follow_examples = (
+  λ follows. let room = follows.room in absurd (omega (arith, room)),
+  λ follows. let ten = follows.great in absurd (omega (arith, ten)),
+)
+
+lead_examples : (lead (record { order = 10; first = 0; count = 3; node = 7; zone = zone.Dma }) ≡ great 0)
+    × (lead (record { order = 10; first = 1024; count = 1; node = 7; zone = zone.Dma }) ≡ great 1024)
+lead_examples = (refl, refl)
+
+like_examples : IsLike (great 0) (great 1024) × (IsLike (great 0) (record { order = 10; first = 1024; node = 8; zone = zone.Dma }) → ⊥)
+    × (IsLike (great 0) lone_block → ⊥)
+like_examples = (
+  record { great = refl; order = refl; node = refl; zone = refl },
+  λ like. let node = like.node in absurd (omega (arith, node)),
+  λ like. let order = like.order in absurd (omega (arith, order)),
+)
+
+-- of no order there is no buddy
+buddies_examples : HasBuddies (great 0) 3 3 5 (lone_block ∷ []) (lone_block ∷ []) × LacksBuddies (great 0) 3 3 5 [] []
+    × (HasBuddies (great 0) 3 3 5 (lone_block ∷ []) [] → ⊥) × (LacksBuddies (great 0) 3 3 5 [] (lone_block ∷ []) → ⊥)
+buddies_examples = (
+  has_none (great 0) 3 5 (lone_block ∷ []),
+  lacks_none (great 0) 3 5 [],
+  λ has. (has lone_block).1 (inr (inl refl)),
+  λ lacks. ((lacks lone_block).0 (inl refl)).1,
+)

@@ -1,0 +1,4 @@
+mod Examples
+pub mod OrderLaws
+pub mod AreaLaws
+pub mod LeastLaws

@@ -1,0 +1,101 @@
+//! The index as its users see it.
+
+ghost use Rattle.std.specs.Prelude.{◌≡◌, ℕ, ◌+◌, ◌^◌, ◌<◌, ◌≤◌, OnOk, IfOk, MatchOption};
+ghost use Rattle.address_runs.specs.Runs.{AreRuns, value_at};
+ghost use Rattle.address_runs.specs.Edits.{NothingFrom};
+ghost use Rattle.frame_blocks.specs.Frames.{Frames, IsBlock, IsInBlock};
+ghost use Rattle.frame_blocks.specs.Listed.{block_of};
+ghost use Rattle.frame_blocks.specs.Picked.{IsPicked, NoneServes};
+ghost use Rattle.frame_blocks.specs.Buddies.{IsWithout};
+ghost use Rattle.free_areas.specs.Areas.{AreAreas};
+
+use crate::index::{lead, put, put_buddies, put_out_buddies, uncover};
+use bm_base::{Memory, Zone};
+use frame_blocks::{Block, FrameRun, MAX_FRAMES, MAX_ORDER, rows};
+use std::alloc::Global;
+use std::collections::BTreeSet;
+use std::marker::Model;
+
+/// The blocks of free frames, in the order of the page allocator's lists. Contracts see them as a list.
+#[derive(Debug, Drop)]
+pub struct Areas {
+    blocks: BTreeSet<Block>,
+}
+
+impl Model for Areas {
+    ghost use Rattle.std.specs.Prelude.{List};
+    ghost use Rattle.frame_blocks.specs.declared.block.Block.{Block as AnyBlock};
+
+    ghost Value = { List AnyBlock };
+
+    ghost view = { λ a. a.blocks.keys };
+}
+
+impl Areas {
+    /// The index of the free frames. It has some twenty keys for each run of them.
+    pub fn of(alloc: Global, runs: &[FrameRun]) -> Result<Areas, Memory>
+        requires runs { AreRuns runs.now }
+        requires low { NothingFrom MAX_FRAMES (value_at runs.now) }
+        ensures { IfOk result (λ areas. AreAreas (value_at runs.now) areas) }
+    {
+        let rows = rows(alloc, runs)?;
+        let mut blocks = BTreeSet::new(alloc);
+        for row in &rows {
+            put(&mut blocks, lead(row))?;
+        }
+        Ok(Areas { blocks })
+    }
+
+    /// The block that serves a request for `2^order` frames of the node and the zone, if any does: of the least order that is
+    /// enough, and of those blocks the lowest one (`__rmqueue_smallest`). One look-up.
+    pub fn least(&self, node: u32, zone: Zone, order: u32) -> Option<Block>
+        requires { order ≤ 10 }
+        ensures { (f : Frames) → AreAreas f self.now →
+            MatchOption result (NoneServes f node zone order) (λ block. IsPicked f node zone order block) }
+    {
+        let from = Block {
+            node,
+            zone,
+            order,
+            first: 0,
+        };
+        let until = Block {
+            node,
+            zone,
+            order: MAX_ORDER + 1,
+            first: 0,
+        };
+        self.blocks.range(from..until).next().copied()
+    }
+
+    /// The `2^order` frames around the frame leave the block (`expand`): a buddy of each order up to the block's takes its
+    /// place. `behind` is the block behind it, if there is one. After `Memory` it is no index any more.
+    pub fn split(
+        &mut self,
+        block: &Block,
+        behind: Option<Block>,
+        order: u32,
+        frame: u64,
+    ) -> Result<(), Memory>
+        requires small { block.now.order ≤ 10 }
+        requires low { frame < MAX_FRAMES }
+        ensures { OnOk result ((f g : Frames) → AreAreas f self.old → IsWithout f g order frame → IsBlock f block.now →
+            IsInBlock block.now frame → order ≤ block.now.order → behind ≡ block_of f (block.now.first + 2 ^ block.now.order) →
+            AreAreas g self.new) }
+    {
+        uncover(&mut self.blocks, block, behind)?;
+        put_buddies(&mut self.blocks, block, order, frame)
+    }
+
+    /// The `2^order` frames around the frame have come back, and the block is the one in which they are now
+    /// (`__free_one_page`): it takes the place of the buddies from which it is joined. After `Memory` it is no index any more.
+    pub fn join(&mut self, block: &Block, order: u32, frame: u64) -> Result<(), Memory>
+        requires small { block.now.order ≤ 10 }
+        requires low { frame < MAX_FRAMES }
+        ensures { OnOk result ((f g : Frames) → AreAreas g self.old → IsWithout f g order frame → IsBlock f block.now →
+            IsInBlock block.now frame → order ≤ block.now.order → AreAreas f self.new) }
+    {
+        put_out_buddies(&mut self.blocks, block, order, frame);
+        put(&mut self.blocks, *block)
+    }
+}

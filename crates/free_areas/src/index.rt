@@ -1,0 +1,124 @@
+//! The keys of the index, and its changes one key at a time.
+
+ghost use Rattle.std.specs.Prelude.{◌≡◌, ◌≢◌, ◌⊎◌, ◌↔◌, ℕ, ◌+◌, ◌*◌, ◌/◌, ◌^◌, ◌<◌, ◌≤◌, Some, None, OnOk, IfSome, IfNone};
+ghost use Rattle.frame_blocks.specs.declared.block.Block.{Block as AnyBlock};
+ghost use Rattle.frame_blocks.specs.Listed.{Lists};
+ghost use Rattle.frame_blocks.specs.Buddies.{other_half, buddy_first, buddy_in};
+ghost use Rattle.free_areas.specs.Areas.{lead, IsLike, HasBuddies, LacksBuddies};
+
+use bm_base::Memory;
+use frame_blocks::{Block, BlockRow, MAX_FRAMES, MAX_ORDER};
+use std::collections::BTreeSet;
+
+/// The first block of a row.
+pub fn lead(row: &BlockRow) -> Block
+    ensures { result ≡ lead row.now }
+{
+    Block {
+        node: row.node,
+        zone: row.zone,
+        order: row.order,
+        first: row.first,
+    }
+}
+
+/// The key stands in the set.
+pub fn put(blocks: &mut BTreeSet<Block>, block: Block) -> Result<(), Memory>
+    ensures { OnOk result ((b : AnyBlock) → Lists blocks.new.keys b ↔ ((b ≡ block) ⊎ Lists blocks.old.keys b)) }
+{
+    blocks.insert(block)?;
+    Ok(())
+}
+
+/// The key doesn't.
+fn put_out(blocks: &mut BTreeSet<Block>, block: &Block)
+    ensures { (b : AnyBlock) → Lists blocks.new.keys b ↔ ((b ≢ block.now) × Lists blocks.old.keys b) }
+{
+    let _ = blocks.remove(block);
+}
+
+/// The block leaves the set, and the one behind it stands there, where it goes on with the block.
+pub fn uncover(
+    blocks: &mut BTreeSet<Block>,
+    block: &Block,
+    behind: Option<Block>,
+) -> Result<(), Memory>
+    ensures sound { OnOk result ((b : AnyBlock) → Lists blocks.new.keys b →
+        ((b ≢ block.now) × Lists blocks.old.keys b) ⊎ ((behind ≡ Some b) × IsLike block.now b)) }
+    ensures kept { OnOk result ((b : AnyBlock) → b ≢ block.now → Lists blocks.old.keys b → Lists blocks.new.keys b) }
+    ensures behind { OnOk result ((b : AnyBlock) → behind ≡ Some b → IsLike block.now b → Lists blocks.new.keys b) }
+{
+    put_out(blocks, block);
+    match like(block, behind) {
+        Some(next) => put(blocks, next),
+        None => Ok(()),
+    }
+}
+
+/// The buddies of the frame's sets of the orders from `order` up to below the block's stand in the set.
+pub fn put_buddies(
+    blocks: &mut BTreeSet<Block>,
+    block: &Block,
+    order: u32,
+    frame: u64,
+) -> Result<(), Memory>
+    requires small { block.now.order ≤ 10 }
+    requires low { frame < MAX_FRAMES }
+    ensures { OnOk result (HasBuddies block.now order block.now.order frame blocks.old.keys blocks.new.keys) }
+{
+    for at in order..block.order {
+        put(blocks, buddy_of(block, at, frame))?;
+    }
+    Ok(())
+}
+
+/// And they don't.
+pub fn put_out_buddies(blocks: &mut BTreeSet<Block>, block: &Block, order: u32, frame: u64)
+    requires small { block.now.order ≤ 10 }
+    requires low { frame < MAX_FRAMES }
+    ensures { LacksBuddies block.now order block.now.order frame blocks.old.keys blocks.new.keys }
+{
+    for at in order..block.order {
+        put_out(blocks, &buddy_of(block, at, frame));
+    }
+}
+
+/// The block behind one of the greatest order, where it goes on with it: of that order too, and of its node and zone. The
+/// index may lack it as long as the first one stands there.
+fn like(block: &Block, behind: Option<Block>) -> Option<Block>
+    ensures some { IfSome result (λ next. (behind ≡ Some next) × IsLike block.now next) }
+    ensures none { IfNone result ((next : AnyBlock) → behind ≡ Some next → IsLike block.now next → ⊥) }
+{
+    behind.filter(|next| {
+        block.order == MAX_ORDER
+            && next.order == MAX_ORDER
+            && next.node == block.node
+            && next.zone == block.zone
+    })
+}
+
+/// The buddy of the frame's set of that order, as a block of the greater block's node and zone (`__find_buddy_pfn`).
+fn buddy_of(block: &Block, order: u32, frame: u64) -> Block
+    requires small { order < 10 }
+    requires low { frame < MAX_FRAMES }
+    ensures { result ≡ buddy_in block.now order frame }
+{
+    let size = size_of(order);
+    let half = frame / size;
+    let other = if half % 2 == 0 { half + 1 } else { half - 1 };
+    Block {
+        order,
+        first: other * size,
+        ..*block
+    }
+}
+
+/// How many frames a block of the order has.
+fn size_of(order: u32) -> u64
+    requires { order ≤ 10 }
+    ensures value { result ≡ 2 ^ order }
+    ensures some { 0 < result }
+    ensures few { result ≤ 1024 }
+{
+    1 << order
+}
