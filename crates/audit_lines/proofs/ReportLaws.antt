@@ -1,12 +1,12 @@
 -- The lines of a report, read one after another.
-use Rattle.std.proofs.Common.{◌≡◌, ℕ, ◌+◌, ◌<◌, ◌≤◌, Bool, true, false, nat_lt, if◌then◌else◌, List, [], ◌∷◌, ◌++◌, length, map, Option, Some, None, Result, Ok, Err, refl, sym, ap, ◌∙◌, inl, inr, arith, append_assoc, append-nil}
+use Rattle.std.proofs.Common.{◌≡◌, ℕ, ◌+◌, ◌<◌, ◌≤◌, nat_lt, List, [], ◌∷◌, ◌++◌, length, map, Option, Some, None, Result, Ok, Err, refl, sym, ap, ◌∙◌, inl, inr, arith, append_assoc, append-nil}
 use Rattle.std.proofs.lemmas.Bool.{cases_Bool}
 use Rattle.std.proofs.lemmas.Bool.Decides.{nat_tests}
 use Rattle.bm_base.specs.Extent.{Extent, end_of}
 use Rattle.bm_base.specs.ResultSteps.{◌>>=◌}
 use Rattle.audit_lines.specs.Lines.{StartFrom, Ascend}
 use Rattle.audit_lines.specs.declared.report.LineFault.{LineFault}
-use Rattle.audit_lines.specs.Reports.{Split, line_at, line_in, in_order, none_left, report_from, report_of, split_lines}
+use Rattle.audit_lines.specs.Reports.{Split, line_at, line_in, in_order, none_left, report_from}
 
 -- lines before those of an answer
 abbrev pub in_front : {L : Type 0} → List L → Result (List L) LineFault → Result (List L) LineFault

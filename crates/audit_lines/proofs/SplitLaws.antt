@@ -1,5 +1,5 @@
 -- Lines of a text, byte by byte.
-use Rattle.std.proofs.Common.{◌≡◌, ◌≢◌, ℕ, ◌+◌, ◌<◌, ◌==◌, Bool, true, false, if◌then◌else◌, List, [], ◌∷◌, ◌++◌, length, take, drop, get_or, refl, sym, ap, ◌∙◌, add-one, drop-cons, eq-eqb, suc}
+use Rattle.std.proofs.Common.{◌≡◌, ◌≢◌, ℕ, ◌+◌, ◌<◌, ◌==◌, false, List, [], ◌∷◌, ◌++◌, length, take, drop, get_or, refl, ap, add-one, drop-cons, eq-eqb, suc}
 use Rattle.std.proofs.lemmas.Bool.{ne_eqb}
 use Rattle.std.proofs.lemmas.List.{take_more}
 use Rattle.audit_lines.specs.Reports.{Split, split_lines, with_byte, with_newline}
@@ -35,5 +35,10 @@ pub byte_passed : (text : List ℕ) (i : ℕ) → i < length text → get_or tex
 unfolding split_lines
 byte_passed text i inside other =
     let not_ten : get_or text i 0 == 10 ≡ false = ne_eqb (get_or text i 0) 10 other in
-    rw (take_more text i 0 inside, glued_more (take i text) (get_or text i 0) (split_lines (drop (i + 1) text)), add-one,
-    drop-cons text i 0 inside, not_ten) refl
+    rw (
+      take_more text i 0 inside,
+      glued_more (take i text) (get_or text i 0) (split_lines (drop (i + 1) text)),
+      add-one,
+      drop-cons text i 0 inside,
+      not_ten,
+    ) refl

@@ -1,5 +1,5 @@
 -- Free blocks of the page allocator, as a line of the report `blocks` tells them.
-use Rattle.std.specs.Prelude.{ℕ, ◌+◌, ◌*◌, ◌^◌, ◌≤◌}
+use Rattle.std.specs.Prelude.{ℕ, ◌*◌, ◌^◌, ◌≤◌}
 use Rattle.bm_base.specs.declared.zone.Zone.{Zone}
 use Rattle.bm_base.specs.Extent.{Extent, end_of}
 use Rattle.bm_base.specs.declared.frame.TheConstants.{FRAME_SIZE}

@@ -163,5 +163,10 @@ fn bounded(node: u32, zone: Zone, order: u32, at: u64) -> Option<BlockLine>
     if at > (1 << 52) - size {
         return None;
     }
-    Some(BlockLine { node, zone, order, at })
+    Some(BlockLine {
+        node,
+        zone,
+        order,
+        at,
+    })
 }

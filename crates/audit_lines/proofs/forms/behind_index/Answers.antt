@@ -1,9 +1,8 @@
-use Rattle.std.proofs.Common.{◌≡◌, ◌-◌, rules, arith, length, take, drop, length-drop, sym, ◌∙◌, ap}
+use Rattle.std.proofs.Common.{◌≡◌, ◌-◌, rules, arith, length, take, drop, length-drop}
 use Rattle.std.proofs.lemmas.List.{take_all}
 use Rattle.std.proofs.lemmas.Fmt.{length-decimal-le}
 use Rattle.bm_base.specs.Text.{padded_decimal}
 use Rattle.bm_base.proofs.TextLaws.{right_aligned}
-use Rattle.audit_lines.specs.Fields.{behind}
 use Rattle.audit_lines.proofs.forms.behind_index.Goals as goal
 
 pub write_digits-start-requires : goal.write_digits-start-requires

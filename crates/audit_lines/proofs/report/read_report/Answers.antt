@@ -1,4 +1,4 @@
-use Rattle.std.proofs.Common.{◌≡◌, ℕ, ◌==◌, true, Bool, Ok, List, [], ◌∷◌, length, refl, sym, arith}
+use Rattle.std.proofs.Common.{◌≡◌, ℕ, ◌==◌, true, Ok, List, [], ◌∷◌, length, sym, arith}
 use Rattle.std.proofs.lemmas.Bool.Decides.{nat_tests}
 use Rattle.audit_lines.specs.Reports.{report_of, split_lines}
 use Rattle.audit_lines.proofs.ReportLaws.{lines_end, report_ascends}
