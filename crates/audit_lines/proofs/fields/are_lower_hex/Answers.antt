@@ -1,0 +1,10 @@
+use Rattle.std.proofs.Common.{rules, tests}
+use Rattle.std.proofs.lemmas.Iterator.{YieldsList-from_slice}
+use Rattle.std.proofs.lemmas.Iterator.Search.{all_from_yields_List}
+use Rattle.audit_lines.specs.Fields.{is_lower_hex}
+use Rattle.audit_lines.proofs.fields.are_lower_hex.Goals as goal
+
+pub returns : goal.returns
+returns c =
+    all_from_yields_List is_lower_hex _ _ _ c.all.ensures.ran (YieldsList-from_slice c.args.bytes.now cc)
+    (λ x b q k. search (rules, tests))

@@ -1,0 +1,5 @@
+pub mod Blocks
+pub mod Fields
+pub mod Forms
+pub mod Lines
+pub mod Reports

@@ -1,0 +1,104 @@
+//! The fields of a line, each of which takes its bytes from the front of a text and leaves the rest.
+
+ghost use Rattle.std.specs.Prelude.{◌≡◌, ◌≤◌, length, take, drop, IsTrue};
+ghost use Rattle.std.specs.List.{list_all};
+ghost use Rattle.std.specs.Option.{option_map};
+ghost use Rattle.audit_lines.specs.Fields.{address_in, behind, is_address, is_lower_hex, number_in, range_in};
+ghost use Rattle.bm_base.specs.Size.{begins_with_zero};
+
+use bm_base::{Range, read_number};
+
+/// What is left of the text behind `front`; `None` exactly where it doesn't begin with that.
+pub fn behind<'t>(text: &'t [u8], front: &[u8]) -> Option<&'t [u8]>
+    ensures { option_map (λ rest. rest.now) result ≡ behind front.now text.now }
+{
+    text.strip_prefix(front)
+}
+
+/// The decimal number of at most `most` at the front, without leading zeros, and what is left.
+#[tactic(auto, unfolding(crate::specs::Fields::number_in))]
+pub fn number_in(text: &[u8], most: u32) -> Option<(u32, &[u8])>
+    ensures { option_map (λ found. (found.0, found.1.now)) result ≡ number_in most text.now }
+{
+    if begins_with_zero(text) {
+        return Some((0, text.split_at(1).1));
+    }
+    let Ok((value, taken)) = read_number(text) else {
+        return None;
+    };
+    if value > u64::from(most) {
+        return None;
+    }
+    Some((value as u32, text.split_at(taken).1))
+}
+
+fn begins_with_zero(text: &[u8]) -> bool
+    ensures value { result ≡ begins_with_zero text.now }
+    ensures some { IsTrue result → 1 ≤ length text.now }
+{
+    match text.first() {
+        Some(byte) => *byte == b'0',
+        None => false,
+    }
+}
+
+/// The address at the front, `0x` and sixteen lower-case digits, and what is left.
+#[tactic(auto, unfolding(crate::specs::Fields::address_in))]
+pub fn address_in(text: &[u8]) -> Option<(u64, &[u8])>
+    ensures { option_map (λ found. (found.0, found.1.now)) result ≡ address_in text.now }
+{
+    let (front, rest) = cut_at(text, 18);
+    if !is_address(front) {
+        return None;
+    }
+    let Ok((value, _)) = read_number(front) else {
+        return None;
+    };
+    Some((value, rest))
+}
+
+/// The first bytes, so many or all that there are, and the others.
+fn cut_at(text: &[u8], count: usize) -> (&[u8], &[u8])
+    ensures front { result.0.now ≡ take count text.now }
+    ensures back { result.1.now ≡ drop count text.now }
+{
+    if text.len() < count {
+        return (text, &[]);
+    }
+    text.split_at(count)
+}
+
+/// Whether the text is `0x` and sixteen lower-case digits.
+fn is_address(text: &[u8]) -> bool
+    ensures { result ≡ is_address text.now }
+{
+    match behind(text, b"0x") {
+        Some(digits) => digits.len() == 16 && are_lower_hex(digits),
+        None => false,
+    }
+}
+
+fn are_lower_hex(bytes: &[u8]) -> bool
+    ensures { result ≡ list_all is_lower_hex bytes.now }
+{
+    bytes.iter().all(|byte| is_lower_hex(*byte))
+}
+
+fn is_lower_hex(byte: u8) -> bool
+    ensures { result ≡ is_lower_hex byte }
+{
+    byte.is_ascii_digit() || (b'a'..=b'f').contains(&byte)
+}
+
+/// The range at the front, told by the addresses of its first and its last byte, and what is left. Its last byte is
+/// below 2^64 - 1.
+#[tactic(auto, unfolding(crate::specs::Fields::range_in))]
+pub fn range_in(text: &[u8]) -> Option<(Range, &[u8])>
+    ensures { option_map (λ found. (found.0, found.1.now)) result ≡ range_in text.now }
+{
+    let (first, rest) = address_in(text)?;
+    let rest = behind(rest, b"..")?;
+    let (last, rest) = address_in(rest)?;
+    let range = Range::between(first, last.checked_add(1)?)?;
+    Some((range, rest))
+}

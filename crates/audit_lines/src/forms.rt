@@ -1,0 +1,172 @@
+//! The lines of the three reports. Each reader takes a line's text without its newline.
+
+ghost use Rattle.std.specs.Prelude.{◌≡◌, ◌-◌, ◌^◌};
+ghost use Rattle.std.specs.Option.{option_map};
+ghost use Rattle.audit_lines.specs.Fields.{behind, ends};
+ghost use Rattle.audit_lines.specs.Forms.{block_in, bounded, kind_name, map_in, owner_in, zone_in};
+ghost use Rattle.bm_base.specs.Text.{padded_decimal};
+
+use crate::fields::{address_in, behind, number_in, range_in};
+use crate::lines::{BlockLine, MapLine};
+use crate::names::is_owner;
+use crate::report::ReportLine;
+use bm_base::{FRAME_SIZE, Range, Zone};
+
+impl ReportLine for MapLine {
+    ghost use Rattle.audit_lines.specs.Forms.{map_in};
+
+    ghost form = { map_in };
+
+    ghost extent = { λ l. l.range };
+
+    /// `A..A T NAME`.
+    #[tactic(auto, unfolding(crate::specs::Forms::map_in))]
+    fn read(_index: u64, text: &[u8]) -> Option<MapLine> {
+        let Some((range, rest)) = range_in(text) else {
+            return None;
+        };
+        let (kind, rest) = number_in(behind(rest, b" ")?, u32::MAX)?;
+        if kind == 0 {
+            return None;
+        }
+        let rest = behind(behind(rest, b" ")?, kind_name(kind))?;
+        ends(rest)?;
+        Some(MapLine { range, kind })
+    }
+
+    fn base(&self) -> u64 {
+        self.range.base
+    }
+
+    fn end(&self) -> u64 {
+        self.range.end()
+    }
+}
+
+impl ReportLine for Range {
+    ghost use Rattle.audit_lines.specs.Forms.{owner_in};
+
+    ghost form = { owner_in };
+
+    ghost extent = { λ r. r };
+
+    /// `INDEX: A..A OWNER`.
+    #[tactic(auto, unfolding(crate::specs::Forms::owner_in))]
+    fn read(index: u64, text: &[u8]) -> Option<Range> {
+        let rest = behind(behind_index(text, index)?, b": ")?;
+        let Some((range, rest)) = range_in(rest) else {
+            return None;
+        };
+        let name = behind(rest, b" ")?;
+        if !is_owner(name) {
+            return None;
+        }
+        Some(range)
+    }
+
+    fn base(&self) -> u64 {
+        self.base
+    }
+
+    fn end(&self) -> u64 {
+        Range::end(self)
+    }
+}
+
+impl ReportLine for BlockLine {
+    ghost use Rattle.audit_lines.specs.Blocks.{bytes_of_block};
+    ghost use Rattle.audit_lines.specs.Forms.{block_in};
+
+    ghost form = { block_in };
+
+    ghost extent = { bytes_of_block };
+
+    /// `node N zone Z order O A`.
+    #[tactic(auto, unfolding(crate::specs::Forms::block_in))]
+    fn read(_index: u64, text: &[u8]) -> Option<BlockLine> {
+        let (node, rest) = number_in(behind(text, b"node ")?, u32::MAX)?;
+        let (zone, rest) = zone_in(behind(rest, b" zone ")?)?;
+        let (order, rest) = number_in(behind(rest, b" order ")?, 10)?;
+        let (at, rest) = address_in(behind(rest, b" ")?)?;
+        ends(rest)?;
+        bounded(node, zone, order, at)
+    }
+
+    fn base(&self) -> u64 {
+        self.at
+    }
+
+    fn end(&self) -> u64 {
+        BlockLine::end(self)
+    }
+}
+
+/// Nothing is left.
+fn ends(text: &[u8]) -> Option<()>
+    ensures { result ≡ ends text.now }
+{
+    if text.is_empty() { Some(()) } else { None }
+}
+
+/// What is left behind an index, right-aligned in four places.
+fn behind_index(text: &[u8], index: u64) -> Option<&[u8]>
+    ensures { option_map (λ rest. rest.now) result ≡ behind (padded_decimal 4 index) text.now }
+{
+    let mut digits = [b' '; 20];
+    let start = itoa::write_digits(index, &mut digits, 20);
+    let from = start.min(16);
+    behind(text, &digits[from..])
+}
+
+/// The name of a type of memory.
+#[tactic(auto, unfolding(crate::specs::Forms::kind_name))]
+fn kind_name(kind: u32) -> &'static [u8]
+    ensures { result.now ≡ kind_name kind }
+{
+    match kind {
+        1 => b"usable",
+        2 => b"reserved",
+        3 => b"ACPI data",
+        4 => b"ACPI NVS",
+        5 => b"unusable",
+        7 => b"persistent",
+        12 => b"persistent legacy",
+        128 => b"usable kernel",
+        0xEFFF_FFFF => b"soft reserved",
+        _ => b"other",
+    }
+}
+
+/// The zone at the front, and what is left.
+#[tactic(auto, unfolding(crate::specs::Forms::zone_in))]
+fn zone_in(text: &[u8]) -> Option<(Zone, &[u8])>
+    ensures { option_map (λ found. (found.0, found.1.now)) result ≡ zone_in text.now }
+{
+    if let Some(rest) = behind(text, b"DMA32") {
+        return Some((Zone::Dma32, rest));
+    }
+    if let Some(rest) = behind(text, b"DMA") {
+        return Some((Zone::Dma, rest));
+    }
+    let rest = behind(text, b"Normal")?;
+    Some((Zone::Normal, rest))
+}
+
+/// The block, where it ends at 2^52 or below.
+fn bounded(node: u32, zone: Zone, order: u32, at: u64) -> Option<BlockLine>
+    ensures { result ≡ bounded (record { node = node; zone = zone; order = order; at = at }) }
+{
+    if order > 10 {
+        return None;
+    }
+    let size = FRAME_SIZE << order;
+    if at > (1 << 52) - size {
+        return None;
+    }
+    Some(BlockLine {
+        node,
+        zone,
+        order,
+        at,
+    })
+}

@@ -1,0 +1,70 @@
+//! The names of the owners of reserved memory, as the report `owners` prints them.
+
+ghost use Rattle.std.specs.Prelude.{◌≡◌};
+ghost use Rattle.audit_lines.specs.Forms.{is_first_owner, is_just, is_later_owner, is_numbered, is_numbered_owner, is_owner};
+
+use crate::fields::{behind, number_in};
+
+/// Whether the text is the name of an owner.
+#[tactic(auto, unfolding(crate::specs::Forms::is_owner))]
+pub fn is_owner(text: &[u8]) -> bool
+    ensures { result ≡ is_owner text.now }
+{
+    is_first_owner(text) || is_later_owner(text) || is_numbered_owner(text)
+}
+
+/// Whether it is one of the claims before the allocator's first growth.
+fn is_first_owner(text: &[u8]) -> bool
+    ensures { result ≡ is_first_owner text.now }
+{
+    is_just(text, b"kernel")
+        || is_just(text, b"low-64k")
+        || is_just(text, b"initrd")
+        || is_just(text, b"low-1m")
+        || is_just(text, b"soft-reserved")
+}
+
+/// Whether it is one of the tables and places of later stages.
+fn is_later_owner(text: &[u8]) -> bool
+    ensures { result ≡ is_later_owner text.now }
+{
+    is_just(text, b"table-memory")
+        || is_just(text, b"table-reserved")
+        || is_just(text, b"crash")
+        || is_just(text, b"crash-low")
+        || is_just(text, b"roots")
+}
+
+/// Whether it is one of those that have a number.
+fn is_numbered_owner(text: &[u8]) -> bool
+    ensures { result ≡ is_numbered_owner text.now }
+{
+    is_numbered(text, b"node-data ")
+        || is_numbered(text, b"root ")
+        || is_numbered(text, b"usage ")
+        || is_numbered(text, b"map ")
+        || is_numbered(text, b"script ")
+}
+
+#[tactic(auto, unfolding(crate::specs::Forms::is_just))]
+fn is_just(text: &[u8], word: &[u8]) -> bool
+    ensures { result ≡ is_just word.now text.now }
+{
+    match behind(text, word) {
+        Some(rest) => rest.is_empty(),
+        None => false,
+    }
+}
+
+#[tactic(auto, unfolding(crate::specs::Forms::is_numbered))]
+fn is_numbered(text: &[u8], front: &[u8]) -> bool
+    ensures { result ≡ is_numbered front.now text.now }
+{
+    let Some(digits) = behind(text, front) else {
+        return false;
+    };
+    match number_in(digits, u32::MAX) {
+        Some((_, rest)) => rest.is_empty(),
+        None => false,
+    }
+}

@@ -1,0 +1,102 @@
+//! A report: lines of one form that follow one another without meeting.
+
+ghost use Rattle.std.specs.Prelude.{◌≡◌, ◌+◌, ◌<◌, ◌≤◌, ◌^◌, ℕ, List, Option, length, map, IfOk};
+ghost use Rattle.audit_lines.specs.Lines.{Ascend};
+ghost use Rattle.audit_lines.specs.Reports.{line_at, report_of};
+ghost use Rattle.bm_base.specs.Answers.{Answers};
+ghost use Rattle.bm_base.specs.Extent.{Extent, end_of};
+ghost use Rattle.bm_base.specs.ResultSteps.{with_error};
+
+use crate::split::cut_line;
+use std::alloc::Global;
+
+/// What is wrong with a line of a report. Lines are numbered from 1.
+#[derive(Clone, Copy, Debug, PartialEq, Eq)]
+pub enum LineFault {
+    /// It isn't a line of this report, or it lacks its newline.
+    Form { line: u64 },
+    /// Its range begins at the last byte of the line before or below it.
+    Order { line: u64 },
+}
+
+/// Why the lines of a report aren't answered.
+#[derive(Clone, Copy, Debug, PartialEq, Eq)]
+pub enum ReadError {
+    /// The lowest line that has a fault, and that fault.
+    Fault(LineFault),
+    /// The program's own memory ran out.
+    Memory,
+}
+
+impl From<LineFault> for ReadError {
+    ghost use Rattle.std.specs.Prelude.{◌≡◌};
+    ghost use Rattle.audit_lines.specs.declared.report.ReadError.TheVariants as errors;
+
+    ghost from_gives = { λ fault error. error ≡ errors.Fault fault };
+
+    fn from(fault: LineFault) -> ReadError {
+        ReadError::Fault(fault)
+    }
+}
+
+/// A line of a report.
+pub trait ReportLine: Copy + Drop {
+    // the line of a text that stands at an index, from 0
+    ghost form: { ℕ → List ℕ → Option Self };
+
+    // its addresses
+    ghost extent: { Self → Extent };
+
+    /// The line of the text, which has no newline and stands at that index, from 0.
+    fn read(index: u64, text: &[u8]) -> Option<Self>
+        ensures { result ≡ form index text.now };
+
+    /// The address of its first byte.
+    fn base(&self) -> u64
+        ensures { result ≡ (extent self.now).base };
+
+    /// The address behind its last byte.
+    fn end(&self) -> u64
+        ensures { result ≡ end_of (extent self.now) };
+}
+
+/// The lines of a report, or the fault of its lowest line that has one. They are ascending and disjoint, and no more
+/// than the report has bytes.
+pub fn read_report<L: ReportLine>(alloc: Global, bytes: &[u8]) -> Result<Vec<L>, ReadError>
+    ensures answers { Answers ReadError.Memory (λ lines. lines.items) result
+        (with_error ReadError.Fault (report_of L.form L.extent bytes.now)) }
+    ensures order { IfOk result (λ lines. Ascend (map L.extent lines.items)) }
+    ensures few { IfOk result (λ lines. length lines.items ≤ length bytes.now) }
+{
+    let mut lines = Vec::new(alloc);
+    let mut rest = bytes;
+    let mut index = 0;
+    let mut at = 0;
+    while let Some((text, others)) = cut_line(rest) {
+        let line: L = line_at(index, at, text)?;
+        at = line.end();
+        if lines.push(line).is_err() {
+            return Err(ReadError::Memory);
+        }
+        index += 1;
+        rest = others;
+    }
+    if rest.is_empty() {
+        return Ok(lines);
+    }
+    Err(ReadError::Fault(LineFault::Form { line: index + 1 }))
+}
+
+/// The line of the text, where it begins at `at` or behind it.
+fn line_at<L: ReportLine>(index: u64, at: u64, text: &[u8]) -> Result<L, LineFault>
+    requires { index + 1 < 2 ^ 64 }
+    ensures { result ≡ line_at L.form L.extent index at text.now }
+{
+    let Some(line) = L::read(index, text) else {
+        return Err(LineFault::Form { line: index + 1 });
+    };
+    if line.base() < at {
+        return Err(LineFault::Order { line: index + 1 });
+    }
+    Ok(line)
+}

@@ -1,0 +1,67 @@
+-- What ascending lines say of a byte below, in and behind the first of them.
+use Rattle.std.proofs.Common.{◌≡◌, ℕ, ◌<◌, ◌≤◌, ◌&&◌, ◌||◌, Bool, true, false, List, [], ◌∷◌, map, refl, sym, ap, ◌∙◌, arith}
+use Rattle.std.proofs.lemmas.Bool.Decides.{nat_tests}
+use Rattle.bm_base.specs.Extent.{Extent, covers, end_of}
+use Rattle.audit_lines.specs.Lines.{StartFrom, Ascend}
+use Rattle.boot_audit.specs.Sweep.{says}
+
+pub covers_below : (r : Extent) (x : ℕ) → x < r.base → covers r x ≡ false
+covers_below r x below = grind (arith, nat_tests)
+
+pub covers_past : (r : Extent) (x : ℕ) → end_of r ≤ x → covers r x ≡ false
+covers_past r x past = grind (arith, nat_tests)
+
+pub covers_in : (r : Extent) (x : ℕ) → r.base ≤ x → x < end_of r → covers r x ≡ true
+covers_in r x above below = grind (arith, nat_tests)
+
+abbrev pub either : Bool → Bool → Bool → Bool
+either c in_first others = (c && in_first) || others
+
+first_true : (c others : Bool) → others ≡ false → either c true others ≡ c
+first_true true others none = refl
+first_true false others none = none
+
+first_false : (c others : Bool) → either c false others ≡ others
+first_false true others = refl
+first_false false others = refl
+
+module _ {L : Type 0} (counts : L → Bool) (extent : L → Extent) where
+  pub says_below : (at x : ℕ) (lines : List L) → StartFrom at (map extent lines) → Ascend (map extent lines) → x < at
+      → says counts extent lines x ≡ false
+  says_below at x [] start order below = refl
+  says_below at x (l ∷ ls) start order below =
+      let out : covers (extent l) x ≡ false = covers_below (extent l) x (omega arith) in
+      let others : says counts extent ls x ≡ false = says_below (end_of (extent l)) x ls order.0 order.1 (omega arith) in
+      ap (λ (c : Bool). either (counts l) c (says counts extent ls x)) out ∙ first_false (counts l) (says counts extent ls x) ∙ others
+
+  pub says_before : (l : L) (ls : List L) (x : ℕ) → Ascend (map extent (l ∷ ls)) → x < (extent l).base
+      → says counts extent (l ∷ ls) x ≡ false
+  says_before l ls x order before = says_below (extent l).base x (l ∷ ls) (omega arith) order before
+
+  pub says_first : (l : L) (ls : List L) (x : ℕ) → Ascend (map extent (l ∷ ls)) → (extent l).base ≤ x → x < end_of (extent l)
+      → says counts extent (l ∷ ls) x ≡ counts l
+  says_first l ls x order above below =
+      let in_it : covers (extent l) x ≡ true = covers_in (extent l) x above below in
+      let others : says counts extent ls x ≡ false = says_below (end_of (extent l)) x ls order.0 order.1 below in
+      ap (λ (c : Bool). either (counts l) c (says counts extent ls x)) in_it ∙ first_true (counts l) (says counts extent ls x) others
+
+  pub says_past : (l : L) (ls : List L) (x : ℕ) → end_of (extent l) ≤ x
+      → says counts extent (l ∷ ls) x ≡ says counts extent ls x
+  says_past l ls x past =
+      let out : covers (extent l) x ≡ false = covers_past (extent l) x past in
+      ap (λ (c : Bool). either (counts l) c (says counts extent ls x)) out ∙ first_false (counts l) (says counts extent ls x)
+
+  -- the same of a list that is known to begin with a line
+  pub seen_before : (lines : List L) (l : L) (ls : List L) → lines ≡ l ∷ ls → Ascend (map extent lines)
+      → (x : ℕ) → x < (extent l).base → says counts extent lines x ≡ false
+  seen_before lines l ls is order x before =
+      let ordered : Ascend (map extent (l ∷ ls)) = rw is at order in rw is (says_before l ls x ordered before)
+
+  pub seen_first : (lines : List L) (l : L) (ls : List L) → lines ≡ l ∷ ls → Ascend (map extent lines)
+      → (x : ℕ) → (extent l).base ≤ x → x < end_of (extent l) → says counts extent lines x ≡ counts l
+  seen_first lines l ls is order x above below =
+      let ordered : Ascend (map extent (l ∷ ls)) = rw is at order in rw is (says_first l ls x ordered above below)
+
+  pub seen_past : (lines : List L) (l : L) (ls : List L) → lines ≡ l ∷ ls → (x : ℕ) → end_of (extent l) ≤ x
+      → says counts extent ls x ≡ says counts extent lines x
+  seen_past lines l ls is x past = rw is (sym (says_past l ls x past))

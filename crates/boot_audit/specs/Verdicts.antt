@@ -1,0 +1,68 @@
+-- The verdict on saved reports: the first of five faults that there is.
+use Rattle.std.specs.Prelude.{ℕ, zero, suc, ◌+◌, ◌^◌, ◌<◌, ◌&&◌, Bool, not, if◌then◌else◌, List, [], ◌∷◌, Option, Some, None}
+use Rattle.bm_base.specs.Extent.{Extent}
+use Rattle.bm_base.specs.Width.{reach_of}
+use Rattle.bm_base.specs.declared.width.Width.{Width}
+use Rattle.audit_lines.specs.Blocks.{Block}
+use Rattle.audit_lines.specs.declared.lines.MapLine.{MapLine}
+use Rattle.boot_audit.specs.declared.saved.Saved.{Saved}
+use Rattle.boot_audit.specs.declared.verdict.Verdict.{Verdict}
+use Rattle.boot_audit.specs.declared.verdict.Verdict.TheVariants as verdicts
+use Rattle.boot_audit.specs.Frames.{could_join, in_a_block, is_aligned, is_in_zone, is_untouched, is_usable}
+
+-- the number of the first line that passes the test, where the first line has the number n
+abbrev pub first_line : (Block → Bool) → ℕ → List Block → Option ℕ
+first_line p n [] = None
+first_line p n (b ∷ bs) = if p b then Some n else first_line p (n + 1) bs
+
+-- the first number that there is
+abbrev pub or_this : ℕ → Bool → Option ℕ → Option ℕ
+or_this n passes (Some m) = Some m
+or_this n passes None = if passes then Some n else None
+
+-- the least number below n that passes the test
+unfoldable pub least_below : (ℕ → Bool) → ℕ → Option ℕ
+least_below p zero = None
+least_below p (suc n) = or_this n (p n) (least_below p n)
+
+-- the least frame that passes the test; addresses end at 2^52
+abbrev pub least_frame : (ℕ → Bool) → Option ℕ
+least_frame p = least_below p (2 ^ 40)
+
+-- a frame that is usable and untouched
+abbrev pub is_free : ℕ → List MapLine → List Extent → ℕ → Bool
+is_free limit map owners frame = is_usable limit map frame && is_untouched owners frame
+
+-- a frame that is in a block, and isn't free; and the other way round
+abbrev pub is_not_free : ℕ → List MapLine → List Extent → List Block → ℕ → Bool
+is_not_free limit map owners blocks frame = in_a_block blocks frame && not (is_free limit map owners frame)
+
+abbrev pub is_lost : ℕ → List MapLine → List Extent → List Block → ℕ → Bool
+is_lost limit map owners blocks frame = is_free limit map owners frame && not (in_a_block blocks frame)
+
+-- the first fault that there is
+abbrev pub first_fault : Option ℕ → Option ℕ → Option ℕ → Option ℕ → Option ℕ → Verdict
+first_fault (Some line) zone free lost maximal = verdicts.Misaligned line
+first_fault None (Some line) free lost maximal = verdicts.WrongZone line
+first_fault None None (Some frame) lost maximal = verdicts.NotFree frame
+first_fault None None None (Some frame) maximal = verdicts.Lost frame
+first_fault None None None None (Some line) = verdicts.NotMaximal line
+first_fault None None None None None = verdicts.Sound
+
+abbrev pub verdict_on : ℕ → List MapLine → List Extent → List Block → Verdict
+verdict_on limit map owners blocks =
+    first_fault
+    (first_line (λ b. not (is_aligned b)) 1 blocks)
+    (first_line (λ b. not (is_in_zone b)) 1 blocks)
+    (least_frame (is_not_free limit map owners blocks))
+    (least_frame (is_lost limit map owners blocks))
+    (first_line (could_join blocks) 1 blocks)
+
+abbrev pub verdict_of : Saved → Width → Verdict
+verdict_of saved width = verdict_on (reach_of width) saved.map.items saved.owners.items saved.blocks.items
+
+-- the frame that a verdict names is one below 2^40
+abbrev pub IsNear : Verdict → Type 0
+IsNear (verdicts.NotFree frame) = frame < 2 ^ 40
+IsNear (verdicts.Lost frame) = frame < 2 ^ 40
+IsNear verdict = Unit {0}

@@ -1,0 +1,79 @@
+//! What each block is by itself: at a multiple of its size, and in its zone.
+
+ghost use Rattle.std.specs.Prelude.{◌≡◌, ◌^◌, ◌<◌, length, not};
+ghost use Rattle.audit_lines.specs.Blocks.{IsBlock};
+ghost use Rattle.boot_audit.specs.Frames.{frames_of_block, is_aligned, is_in_zone, parent_of, same_zone};
+ghost use Rattle.boot_audit.specs.Verdicts.{first_line};
+ghost use Rattle.bm_base.specs.Extent.{end_of};
+
+use audit_lines::BlockLine;
+use bm_base::{FRAME_SIZE, Zone, zone_of};
+
+/// The line of the first block that isn't at a multiple of its size.
+pub fn first_misaligned(blocks: &[BlockLine]) -> Option<u32>
+    requires { length blocks.now < 2 ^ 32 }
+    ensures { result ≡ first_line (λ b. not (is_aligned b)) 1 blocks.now }
+{
+    for (index, block) in blocks.iter().enumerate() {
+        if !is_aligned(block) {
+            return Some(index as u32 + 1);
+        }
+    }
+    None
+}
+
+/// The line of the first block that isn't in its zone as a whole.
+pub fn first_in_wrong_zone(blocks: &[BlockLine]) -> Option<u32>
+    requires { length blocks.now < 2 ^ 32 }
+    ensures { result ≡ first_line (λ b. not (is_in_zone b)) 1 blocks.now }
+{
+    for (index, block) in blocks.iter().enumerate() {
+        if !is_in_zone(block) {
+            return Some(index as u32 + 1);
+        }
+    }
+    None
+}
+
+fn is_aligned(block: &BlockLine) -> bool
+    ensures { result ≡ is_aligned block.now }
+{
+    block.at % (FRAME_SIZE << block.order) == 0
+}
+
+/// Whether each frame of the block is in its zone. Zones are intervals, so the first and the last frame tell.
+fn is_in_zone(block: &BlockLine) -> bool
+    ensures { result ≡ is_in_zone block.now }
+{
+    let first = first_frame(block);
+    let last = end_frame(block) - 1;
+    same_zone(zone_of(first), block.zone) && same_zone(zone_of(last), block.zone)
+}
+
+/// Whether the zones are the same.
+pub fn same_zone(first: Zone, second: Zone) -> bool
+    ensures { result ≡ same_zone first second }
+{
+    match first {
+        Zone::Dma => second == Zone::Dma,
+        Zone::Dma32 => second == Zone::Dma32,
+        Zone::Normal => second == Zone::Normal,
+    }
+}
+
+/// The number of the block's first frame.
+pub fn first_frame(block: &BlockLine) -> u64
+    ensures value { result ≡ (frames_of_block block.now).base }
+    ensures small { result < 2 ^ 52 }
+{
+    block.at / FRAME_SIZE
+}
+
+/// The number of the frame behind its last one.
+pub fn end_frame(block: &BlockLine) -> u64
+    ensures value { result ≡ end_of (frames_of_block block.now) }
+    ensures behind { (frames_of_block block.now).base < result }
+    ensures small { result < 2 ^ 53 }
+{
+    block.at / FRAME_SIZE + (1 << block.order)
+}

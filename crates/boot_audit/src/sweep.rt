@@ -1,0 +1,313 @@
+//! The first byte that is in a block and isn't free, and the first frame that is lost, by one sweep over the three lists.
+//!
+//! At each address the first line of each list tells what all bytes are up to where a line begins or ends. So no list of
+//! free memory is made, and no frame is looked at by itself.
+
+ghost use Rattle.std.specs.Prelude.{◌≡◌, ◌^◌, ◌<◌, ◌≤◌, ◌&&◌, Bool, true, not, nat_lt, ℕ, map, None, IsNone};
+ghost use Rattle.audit_lines.specs.Blocks.{bytes_of_block};
+ghost use Rattle.audit_lines.specs.Lines.{Ascend};
+ghost use Rattle.bm_base.specs.Extent.{Extent, end_of};
+ghost use Rattle.boot_audit.specs.Frames.{is_aligned};
+ghost use Rattle.boot_audit.specs.Sweep.{EndsBehind, carried, first_whole, says, state_at, state_by};
+ghost use Rattle.boot_audit.specs.Verdicts.{first_line, is_lost, is_not_free, least_frame};
+
+use crate::saved::Saved;
+use audit_lines::{BlockLine, MapLine};
+use bm_base::{FRAME_SIZE, Range};
+
+/// The address behind the last one that a block can have.
+const END: u64 = 1 << 52;
+
+/// What a byte is.
+#[derive(Clone, Copy, Debug, PartialEq, Eq)]
+pub enum State {
+    /// In a block and free, or neither.
+    Sound,
+    /// In a block, and not free.
+    NotFree,
+    /// Free, and in no block.
+    Lost,
+}
+
+/// What the sweep found: frames.
+#[derive(Clone, Copy)]
+pub struct Swept {
+    /// The least frame in a block that isn't free.
+    pub not_free: Option<u64>,
+    /// The least frame that is free and in no block.
+    pub lost: Option<u64>,
+}
+
+/// A line that tells something of its bytes.
+pub trait Line: Copy {
+    // its addresses
+    ghost extent: { Self → Extent };
+
+    // whether it counts
+    ghost counted: { Self → Bool };
+
+    /// The address of its first byte.
+    fn base(&self) -> u64
+        ensures { result ≡ (extent self.now).base };
+
+    /// The address behind its last byte.
+    fn end(&self) -> u64
+        ensures { result ≡ end_of (extent self.now) };
+
+    /// Whether it counts.
+    fn counts(&self) -> bool
+        ensures { result ≡ counted self.now };
+}
+
+impl Line for MapLine {
+    ghost use Rattle.boot_audit.specs.Frames.{is_memory};
+
+    ghost extent = { λ l. l.range };
+
+    ghost counted = { λ l. is_memory l.kind };
+
+    fn base(&self) -> u64 {
+        self.range.base
+    }
+
+    fn end(&self) -> u64 {
+        self.range.end()
+    }
+
+    fn counts(&self) -> bool {
+        self.kind == 1 || self.kind == 128
+    }
+}
+
+impl Line for Range {
+    ghost use Rattle.std.specs.Prelude.{true};
+
+    ghost extent = { λ r. r };
+
+    ghost counted = { λ r. true };
+
+    fn base(&self) -> u64 {
+        self.base
+    }
+
+    fn end(&self) -> u64 {
+        Range::end(self)
+    }
+
+    fn counts(&self) -> bool {
+        true
+    }
+}
+
+impl Line for BlockLine {
+    ghost use Rattle.audit_lines.specs.Blocks.{bytes_of_block};
+    ghost use Rattle.std.specs.Prelude.{true};
+
+    ghost extent = { bytes_of_block };
+
+    ghost counted = { λ b. true };
+
+    fn base(&self) -> u64 {
+        self.at
+    }
+
+    fn end(&self) -> u64 {
+        BlockLine::end(self)
+    }
+
+    fn counts(&self) -> bool {
+        true
+    }
+}
+
+/// What the lines say of the bytes from an address on, and how far.
+#[derive(Clone, Copy)]
+struct Sight {
+    inside: bool,
+    until: u64,
+}
+
+fn look<L: Line>(lines: &[L], at: u64) -> Sight
+    requires order { Ascend (map L.extent lines.now) }
+    requires behind { EndsBehind at (map L.extent lines.now) }
+    requires near { at < 2 ^ 52 }
+    ensures forward { at < result.until }
+    ensures says { (x : ℕ) → at ≤ x → x < result.until → says L.counted L.extent lines.now x ≡ result.inside }
+{
+    let Some((line, _)) = lines.split_first() else {
+        return Sight {
+            inside: false,
+            until: END,
+        };
+    };
+    let base = line.base();
+    if at < base {
+        return Sight {
+            inside: false,
+            until: base,
+        };
+    }
+    Sight {
+        inside: line.counts(),
+        until: line.end(),
+    }
+}
+
+/// The lines that end behind the address.
+fn passed<L: Line>(lines: &[L], at: u64) -> &[L]
+    requires { Ascend (map L.extent lines.now) }
+    ensures order { Ascend (map L.extent result.now) }
+    ensures behind { EndsBehind at (map L.extent result.now) }
+    ensures says { (x : ℕ) → at ≤ x → says L.counted L.extent result.now x ≡ says L.counted L.extent lines.now x }
+{
+    let mut rest = lines;
+    while let Some((line, others)) = rest.split_first() {
+        if at < line.end() {
+            return rest;
+        }
+        rest = others;
+    }
+    rest
+}
+
+/// What all bytes from an address on are, and how far.
+#[derive(Clone, Copy)]
+struct Piece {
+    state: State,
+    until: u64,
+}
+
+/// Whether the bytes from the address on lie below the limit, and how far.
+fn look_at_limit(limit: u64, at: u64) -> Sight
+    requires { at < 2 ^ 52 }
+    ensures forward { at < result.until }
+    ensures near { result.until ≤ 2 ^ 52 }
+    ensures says { (x : ℕ) → at ≤ x → x < result.until → nat_lt x limit ≡ result.inside }
+{
+    if at < limit {
+        return Sight {
+            inside: true,
+            until: limit.min(END),
+        };
+    }
+    Sight {
+        inside: false,
+        until: END,
+    }
+}
+
+fn is_free(below: bool, in_memory: bool, owned: bool) -> bool
+    ensures { result ≡ ((below && in_memory) && not owned) }
+{
+    below && in_memory && !owned
+}
+
+fn state_by(free: bool, in_block: bool) -> State
+    ensures { result ≡ state_by free in_block }
+{
+    if free == in_block {
+        return State::Sound;
+    }
+    if in_block {
+        State::NotFree
+    } else {
+        State::Lost
+    }
+}
+
+/// What the bytes from the address on are, by the lines that end behind it.
+fn look_around(
+    limit: u64,
+    runs: &[MapLine],
+    owners: &[Range],
+    blocks: &[BlockLine],
+    at: u64,
+) -> Piece
+    requires map_order { Ascend (map (λ l. l.range) runs.now) }
+    requires map_behind { EndsBehind at (map (λ l. l.range) runs.now) }
+    requires owner_order { Ascend (map (λ r. r) owners.now) }
+    requires owner_behind { EndsBehind at (map (λ r. r) owners.now) }
+    requires block_order { Ascend (map bytes_of_block blocks.now) }
+    requires block_behind { EndsBehind at (map bytes_of_block blocks.now) }
+    requires near { at < 2 ^ 52 }
+    ensures forward { at < result.until }
+    ensures near { result.until ≤ 2 ^ 52 }
+    ensures state { (x : ℕ) → at ≤ x → x < result.until → state_at limit runs.now owners.now blocks.now x ≡ result.state }
+{
+    let below = look_at_limit(limit, at);
+    let memory = look(runs, at);
+    let owned = look(owners, at);
+    let held = look(blocks, at);
+    let free = is_free(below.inside, memory.inside, owned.inside);
+    Piece {
+        state: state_by(free, held.inside),
+        until: below
+            .until
+            .min(memory.until)
+            .min(owned.until)
+            .min(held.until),
+    }
+}
+
+/// The first whole frame of the bytes from `from` up to `until`.
+fn first_whole(from: u64, until: u64) -> Option<u64>
+    requires { from ≤ 2 ^ 52 }
+    ensures { result ≡ first_whole from until }
+{
+    let frame = (from + FRAME_SIZE - 1) / FRAME_SIZE;
+    if until < frame * FRAME_SIZE + FRAME_SIZE {
+        return None;
+    }
+    Some(frame)
+}
+
+/// The first lost frame, where the bytes from `from` on are lost, and from where they are once the piece is known.
+fn carried(lost: Option<u64>, from: u64, piece: Piece) -> (Option<u64>, u64)
+    requires { from ≤ 2 ^ 52 }
+    ensures { result ≡ carried lost from piece.until piece.state }
+{
+    if let State::Lost = piece.state {
+        let found = first_whole(from, piece.until);
+        return (if lost.is_some() { lost } else { found }, from);
+    }
+    (lost, piece.until)
+}
+
+/// Both least frames. The blocks are aligned.
+pub fn sweep(saved: &Saved, limit: u64) -> Swept
+    requires map_order { Ascend (map (λ l. l.range) saved.now.map.items) }
+    requires owner_order { Ascend (map (λ r. r) saved.now.owners.items) }
+    requires block_order { Ascend (map bytes_of_block saved.now.blocks.items) }
+    requires aligned { first_line (λ b. not (is_aligned b)) 1 saved.now.blocks.items ≡ None }
+    ensures not_free { result.not_free ≡ least_frame (is_not_free limit saved.now.map.items saved.now.owners.items
+        saved.now.blocks.items) }
+    ensures lost { IsNone result.not_free → result.lost ≡ least_frame (is_lost limit saved.now.map.items
+        saved.now.owners.items saved.now.blocks.items) }
+{
+    let mut runs = passed(&saved.map, 0);
+    let mut owners = passed(&saved.owners, 0);
+    let mut held = passed(&saved.blocks, 0);
+    let mut at = 0;
+    let mut from = 0;
+    let mut lost = None;
+    while at < END {
+        let piece = look_around(limit, runs, owners, held, at);
+        if let State::NotFree = piece.state {
+            return Swept {
+                not_free: Some(at / FRAME_SIZE),
+                lost: None,
+            };
+        }
+        let next = carried(lost, from, piece);
+        lost = next.0;
+        from = next.1;
+        at = piece.until;
+        runs = passed(runs, at);
+        owners = passed(owners, at);
+        held = passed(held, at);
+    }
+    Swept {
+        not_free: None,
+        lost,
+    }
+}
