@@ -39,6 +39,11 @@ FORMS = {
                + r"|\d+: (trim|limit .+|grown .+)",
     "sections": r"section (?P<section>\d+) node (?P<node>\d+) map (?P<map>" + _PLACE + r") usage (?P<usage>" + _PLACE
                 + r")|roots .+|root \d+ .+",
+    "options": r"(add|remove|change|remove-all) .+|clear|crash (range|high|low) 0x[0-9a-f]{16}(| .+)|numa off",
+    "crash": r"crash (none|no area|in use|low failed|(at|low) .+)",
+    "script": r"\d+: (at|done|bytes|no gap|taken|unknown|not whole|table in use|keep too large|fill too large).*",
+    "buddyinfo": r"Node \d+, zone +\S+(?: +\d+){11} ",
+    "summary": r"(runs|usable|free|blocks) \d+|(memory|reserved) records \d+ room \d+",
     "tables": r"(?P<table>memory|reserved) place (?P<place>" + _PLACE + r") room (?P<room>\d+) records (?P<records>\d+)",
 }
 

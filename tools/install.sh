@@ -15,6 +15,7 @@ bin=$2$3/bin
 share=$2$3/share
 man=$2$4
 tools="bootmem-draw bootmem-where bootmem-diff bootmem-live zp-from-log"
+tools="$tools bootmem-fleet bootmem-json claims-from-log"
 
 uninstall() {
 	for tool in bootmem bootmem-collect $tools; do
@@ -26,7 +27,7 @@ uninstall() {
 
 # examples FOLDER: the files of the machines of examples/, and nothing else that lies there
 examples() {
-	(cd examples && find . -type f \( -name '*.bin' -o -name '*.txt' -o -name cmdline -o -name words -o -name script \
+	(cd examples && find . -type f \( -name '*.bin' -o -name '*.txt' -o -name cmdline -o -name words -o -name script -o -name log \
 		-o -name README.md \) -print | tar -c -f - -T -) | (cd "$1" && tar -x --no-same-owner -f -)
 	chmod -R u=rwX,go=rX "$1"
 }
@@ -47,7 +48,7 @@ install_all() {
 	fi
 	install -m 644 bootmem.1 "$man/man1/bootmem.1"
 	install -m 644 bootmem.5 "$man/man5/bootmem.5"
-	for document in CHANGELOG.md CONTRIBUTING.md docs/*.md docs/*.svg; do
+	for document in CHANGELOG.md CONTRIBUTING.md docs/*.md docs/*.svg docs/*.json; do
 		[ ! -f "$document" ] || install -m 644 "$document" "$share/doc/bootmem/$(basename "$document")"
 	done
 	# the documents lie beside the README there
