@@ -29,6 +29,8 @@ failed=0
 without=0
 # a make that runs the test isn't the one that a command calls
 unset MAKEFLAGS MFLAGS MAKELEVEL
+# nor is its terminal as wide as a document
+unset COLUMNS
 
 # script FILE LINE..: the lines as a script that can be run
 script() {

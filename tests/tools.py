@@ -170,7 +170,8 @@ def test_where(work):
     for bad in ("0xg", "12Q", "-5", "0x10000000000000000", "16777216T"):
         check(f"where {bad}", tool("bootmem-where", bad, "map.txt", folder=folder)[:2], (2, ""))
     check("where, --report", tool("bootmem-where", "0", "--", "--report", "map", "zp.bin", folder=folder)[:2], (2, ""))
-    check("where, no reports", tool("bootmem-where", "0", "zp.bin", folder=folder)[:2], (1, ""))
+    status, out, err = tool("bootmem-where", "0", "zp.bin", folder=folder)
+    check("where, no reports", (status, out, err.endswith("words behind --\n")), (1, "", True))
     status, out, err = tool("bootmem-where", "0", "--", "cmdline", folder=folder)
     check("where, refused", (status, out), (1, ""))
     has("where, refused", err, "bootmem: zeropage: wrong length")
@@ -204,6 +205,8 @@ def test_diff(_):
     has("diff, two runs", out, "0x000000006f000000-0x000000007effffff none -> crash\n")
     check("diff, the same run", tool("bootmem-diff", "--a", "zp.bin", "--b", "'zp.bin'", folder=folder), (0, "", ""))
     check("diff, other reports", tool("bootmem-diff", "map.txt", "memory.txt", folder=folder)[:2], (2, ""))
+    status, _, err = tool("bootmem-diff", "cmdline", "map.txt", folder=folder)
+    check("diff, no reports", (status, err), (2, "bootmem-diff: cmdline: no report of bootmem in it\n"))
     check("diff, no file", tool("bootmem-diff", "map.txt", "nothing.txt", folder=folder)[:2], (2, ""))
     check("diff, one side", tool("bootmem-diff", "--a", "zp.bin", folder=folder)[:2], (2, ""))
     check("diff, a refused run", tool("bootmem-diff", "--a", "zp.bin", "--b", "cmdline", folder=folder)[:2], (2, ""))
@@ -254,6 +257,17 @@ def test_draw(_):
     """Tables for a terminal, and pictures: their rows have room for their text, and none lies over another."""
     check("draw --text", tool("bootmem-draw", "--text", example("first", "map.txt")), (0, FIRST, ""))
     check("draw --text, overlapping zones", tool("bootmem-draw", "--text", given=OVER), (0, OVER_TABLE, ""))
+    for name in ("q35-20g-numa4", "srat-hull3", "zp-random2"):
+        texts = {}
+        for width in (None, 30, 80, 400):
+            variables = {"COLUMNS": "" if width is None else str(width)}
+            status, texts[width], err = tool("bootmem-draw", "--text", "--title", "a machine " * 9, "--", *words_of(name), folder=example(name),
+                                             variables=variables)
+            check(f"draw --text {name}: {width} columns", (status, err, [line for line in texts[width].splitlines() if len(line) > (width or 80)]),
+                  (0, "", []))
+        check(f"draw --text {name}: tables", (texts[400].count("address"), texts[80].count("address") > 1), (1, True))
+        check(f"draw --text {name}: 80 columns are taken where nothing tells", texts[None], texts[80])
+        has(f"draw --text {name}: the map of a section", texts[400], "page structures ")
     for name in ("q35-8g-numa2", "ovmf-4g-numa2", "srat-hull3"):
         status, picture, err = tool("bootmem-draw", "--title", "<&>", "--", *words_of(name), folder=example(name))
         check(f"draw {name}", (status, err), (0, ""))

@@ -19,6 +19,7 @@ FRAME = 4096
 SECTION = 128 << 20
 TOP = (1 << 64) - 1
 
+BEHIND = ", or put the program's own words behind --"
 UNPROVED = "This tool isn't proved: it only reads what the proved program prints, or writes what it reads."
 FINDING = "The program is --program, else $BOOTMEM, else bootmem beside this tool, else bootmem on the PATH."
 
@@ -153,11 +154,11 @@ def run_program(program, names, words, folder=None):
     return split_reports(text) if len(names) > 1 else {names[0]: text.splitlines()}
 
 
-def read_text(name):
-    """The text of a file, or of standard input where the name is `-`."""
+def read_text(name, behind=False):
+    """The text of a file, or of standard input where the name is `-`; `behind` says that the program's words may stand behind `--`."""
     if name == "-":
         if sys.stdin.isatty():
-            raise Trouble("nothing to read: name a file, or put the program's words behind --", 2)
+            raise Trouble(f"nothing to read: name a file{BEHIND if behind else ''}", 2)
         data = sys.stdin.buffer.read()
     else:
         with open(name, "rb") as file:
@@ -165,12 +166,11 @@ def read_text(name):
     return data.decode("utf-8", "replace")
 
 
-def read_reports(name):
-    """The reports of a file or of standard input (`-`), as a mapping from name to lines."""
-    reports = split_reports(read_text(name))
+def read_reports(name, behind=False):
+    """The reports of a file or of standard input (`-`), as a mapping from name to lines; `behind` as for `read_text`."""
+    reports = split_reports(read_text(name, behind))
     if not reports:
-        raise Trouble(f"{'standard input' if name == '-' else name}: no report of bootmem in it; "
-                      "the program's own words stand behind --")
+        raise Trouble(f"{'standard input' if name == '-' else name}: no report of bootmem in it{BEHIND if behind else ''}")
     return reports
 
 
