@@ -122,8 +122,11 @@ ok "make install with newer sources" installed /opt/it
 is "what it says of them" "$(cat "$work/out" "$work/err")" \
 	"bootmem: some sources are newer than ./bootmem, which is installed as it is; 'make bootmem' builds it anew"
 rm "$work/tree/bootmem"
-installed /opt/it >"$work/out" 2>"$work/err"
-is "make install without a program or a toolchain" "$([ $? -ne 0 ] && grep -c "there is no command" "$work/err")" 1
+installed /opt/none >"$work/out" 2>"$work/err"
+is "make install without a program" "$([ $? -ne 0 ] && grep -c "there is no ./bootmem to install" "$work/err")" 1
+is "what it installs" "$(find "$work/root/opt/none" 2>/dev/null)" ""
+installed /opt/none PROVE=1 >"$work/out" 2>"$work/err"
+is "make install PROVE=1 without a program or a toolchain" "$([ $? -ne 0 ] && grep -c "there is no command" "$work/err")" 1
 
 echo "$passed passed, $failed failed"
 [ "$failed" -eq 0 ]
