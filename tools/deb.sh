@@ -21,7 +21,7 @@ doc=$root/usr/share/doc/bootmem
 	printf 'bootmem (%s) unstable; urgency=medium\n\n  * See CHANGELOG.md.\n\n' "$version"
 	printf ' -- %s  %s\n' "$maintainer" "$(date -R -u -d "$(sed -n "s/^## $version, //p" CHANGELOG.md)")"
 } >"$doc/changelog"
-gzip -9n "$doc/changelog" "$root/usr/share/man/man1/bootmem.1" "$root/usr/share/man/man5/bootmem.5"
+gzip -9n "$doc/changelog" "$root"/usr/share/man/man[15]/*
 echo "Licence: not chosen yet by the owner." >"$doc/copyright"
 
 # the packages that the program's libraries come from, the C library of the version that it asks for at least, and what the tools need
