@@ -532,6 +532,11 @@ def test_early(work):
     trims = [line for line in freed if line.startswith("trim")]
     check("early: the rest of the per-CPU area", [line.split()[2] for line in trims], [str(0x3E000)])
     check("early: nothing is reserved to be freed", [line for line in freed if line.startswith("reserve")], [])
+    newer = re.sub(r"(memblock_reserve: \[.*?\]) ", r"\1 nid=1024 flags=20 ", log)
+    for what, text in (("a newer kernel", newer), ("the free of older ones", log.replace("phys_free", "free")),
+                       ("two boots", text_of(example("q35-8g-numa2", "log")) + log)):
+        status, _, err = tool("claims-from-log", "--e820ext", files[0] + "2", "--script", files[1] + "2", given=text)
+        check(f"early, {what}", (status, err.count("\n"), bytes_of(files[1] + "2") == bytes_of(files[1])), (0, int(what == "two boots"), True))
     for what, text in (("no dump", re.sub("MEMBLOCK", "memory", log)), ("nothing", "")):
         status, out, err = tool("claims-from-log", "--e820ext", files[0], given=text)
         check(f"early, {what}", (status, out, err.count("\n")), (1, "", 1))
