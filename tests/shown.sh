@@ -4,11 +4,12 @@
 #
 # A command stands behind '$ ' in an indented block of a .md file, or between .nf and .fi of a manual page; what follows
 # it, up to the next one, is its output and its standard error as they come. A here-document belongs to its command, and so
-# does the line behind one that ends with a backslash. Each block begins at the top of a copy of the repository's examples and
+# does the line behind one that ends with a backslash or a bar. Each block begins at the top of a copy of the repository's examples and
 # tools, with the program as ./bootmem and on the PATH; files that an earlier block of the same document made are still there.
 # A block whose first line has no '$ ' shows no command and isn't run: `plain` names each that may be so, another one fails.
 #
 # What a command needs of the machine is stood in for by `stand_in`, and none of it is read from the machine that runs the test.
+# An example of a manual page has room within 78 columns, behind the 11 by which a page shifts it.
 # Folders of the test's own are told as a user would see them: the copy as /home/me/bootmem, the stand-ins without their front.
 # Prints a line for each difference, and 'N passed, M failed; K blocks show no command' at its end.
 set -u
@@ -29,6 +30,8 @@ failed=0
 without=0
 # a make that runs the test isn't the one that a command calls
 unset MAKEFLAGS MFLAGS MAKELEVEL
+# nor is its terminal as wide as a document
+unset COLUMNS
 
 # script FILE LINE..: the lines as a script that can be run
 script() {
@@ -109,13 +112,13 @@ split() {
 		function begin() { command++; want = folder "/" block "-" command ".want"; printf "" >want
 			print "{" >script; print substr($0, 3) >script; print substr($0, 3) >(folder "/" block "-" command ".command")
 			behind = ""; if (match($0, /<<\047?[A-Z]+/)) { behind = substr($0, RSTART + 2, RLENGTH - 2); sub(/\047/, "", behind) }
-			more = $0 ~ /\\$/; if (behind == "" && !more) end() }
+			more = $0 ~ /[\\|]$/; if (behind == "" && !more) end() }
 		function end() { print "} >\"$shown/" block "-" command ".got\" 2>&1 </dev/null" >script; behind = ""; more = 0 }
 		$0 == "\001" { first = 1; on = 0; next }
 		first { first = 0; on = /^\$ /; if (on) { block++; command = 0; script = folder "/" block ".sh" } else print >(folder "/plain") }
 		!on { next }
 		behind != "" { print >script; if ($0 == behind) end(); next }
-		more { print >script; if ($0 !~ /\\$/) end(); next }
+		more { print >script; if ($0 !~ /[\\|]$/) end(); next }
 		/^\$ / { begin(); next }
 		{ print >want }'
 }
@@ -163,6 +166,15 @@ for document; do
 		compare "$shown" "$block"
 		block=$((block + 1))
 	done
+	case $document in
+	*.[0-9])
+		blocks "$document" | awk 'length > 78 - 11' >"$shown/wide"
+		while IFS= read -r line; do
+			failed=$((failed + 1))
+			echo "$name: wider than 78 columns: $line"
+		done <"$shown/wide"
+		;;
+	esac
 	while IFS= read -r line; do
 		if plain "$line"; then
 			without=$((without + 1))
