@@ -2,11 +2,11 @@
 #
 #   make run                  prints the map of the example zero page: by ./bootmem where it is up to date, else by an
 #                             unproved build of e820_map, a program for the map alone, within half a minute
-#   make bootmem              proves and builds ./bootmem
+#   make bootmem              proves and builds ./bootmem: some 35 minutes of a processor, 10 of the clock at least
 #   make try ARGS="..."       runs the program on these words without proof, within a minute
 #   make test                 the whole gate: every proof, every test, the real machines
-#   make install PREFIX=DIR   installs program, tools, manual pages, documents and examples; where there is a ./bootmem
-#                             it is installed as it is, and nothing is proved (DESTDIR and MANDIR are honoured)
+#   make install PREFIX=DIR   installs ./bootmem as it is, tools, manual pages, documents and examples, and proves nothing:
+#                             without a ./bootmem it stops, unless PROVE=1 (DESTDIR and MANDIR are honoured)
 #   make uninstall PREFIX=DIR removes what 'make install' put there
 #   make deb                  makes a Debian package of what 'make install' installs (needs dpkg-deb)
 #   make clean                removes what was built
@@ -21,6 +21,7 @@ PREFIX ?= /usr/local
 MANDIR ?= $(PREFIX)/share/man
 DESTDIR ?=
 ARGS ?=
+PROVE ?=
 
 # the words of the first run
 FIRST := --report map examples/first/zp.bin
@@ -46,9 +47,12 @@ try:
 test:
 	@PATH="$(if $(findstring /,$(RT)),$(abspath $(dir $(RT))):)$$PATH" .ci/run
 
-# a program that is there is installed as it is: an installation proves nothing
+# a program that is there is installed as it is: an installation proves nothing, but where PROVE=1 asks for it
 install:
-	@if [ ! -f bootmem ]; then $(MAKE) --no-print-directory bootmem; \
+	@if [ ! -f bootmem ] && [ "$(PROVE)" = 1 ]; then $(MAKE) --no-print-directory bootmem; \
+	elif [ ! -f bootmem ]; then \
+		echo "bootmem: there is no ./bootmem to install: 'make bootmem' proves and builds it, which takes some 35 minutes of a processor;" \
+			"'make install PROVE=1' does both" >&2; exit 1; \
 	elif ! $(MAKE) -q --no-print-directory bootmem >/dev/null 2>&1; then \
 		echo "bootmem: some sources are newer than ./bootmem, which is installed as it is; 'make bootmem' builds it anew" >&2; fi
 	@tools/install.sh install "$(DESTDIR)" "$(PREFIX)" "$(MANDIR)"

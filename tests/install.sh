@@ -97,6 +97,19 @@ for tool in "$root"/bin/*; do
 done
 is "bootmem-collect without a folder" "$("$root/bin/bootmem-collect" 2>&1 | grep -c '^usage: ')" 1
 
+# the tools' pages: one each, of the tool's own words, without complaint, and narrow enough behind their 7 columns
+for tool in "$root"/bin/bootmem-* "$root"/bin/*-from-log; do
+	page=$share/man/man1/$(basename "$tool").1
+	"$tool" --help >"$work/help" 2>/dev/null || continue
+	there "the pages of tools" "$page"
+	for option in $(grep -o '^  --[a-z0-9-]*' "$work/help"); do
+		ok "$(basename "$page") tells of $option" grep -q "^.fB$(echo "$option" | sed 's/-/\\\\-/g')[\\ ]" "$page"
+	done
+	is "$(basename "$page"): wider than 78 columns" "$(awk '/^\.nf/ { on = 1 } /^\.fi/ { on = 0 }
+		on { gsub(/\\-/, "-"); gsub(/\\\((aq|ga)/, "x"); if (length > 71) print }' "$page")" ""
+	! command -v groff >/dev/null 2>&1 || is "groff of $(basename "$page")" "$(groff -man -ww -z "$page" 2>&1)" ""
+done
+
 # one version everywhere
 version=$(sed -n 's/^VERSION := //p' Makefile)
 is "the version of CHANGELOG.md" "$(sed -n 's/^## \([0-9.]*\), [0-9-]*$/\1/p' CHANGELOG.md | head -n 1)" "$version"
@@ -122,8 +135,11 @@ ok "make install with newer sources" installed /opt/it
 is "what it says of them" "$(cat "$work/out" "$work/err")" \
 	"bootmem: some sources are newer than ./bootmem, which is installed as it is; 'make bootmem' builds it anew"
 rm "$work/tree/bootmem"
-installed /opt/it >"$work/out" 2>"$work/err"
-is "make install without a program or a toolchain" "$([ $? -ne 0 ] && grep -c "there is no command" "$work/err")" 1
+installed /opt/none >"$work/out" 2>"$work/err"
+is "make install without a program" "$([ $? -ne 0 ] && grep -c "there is no ./bootmem to install" "$work/err")" 1
+is "what it installs" "$(find "$work/root/opt/none" 2>/dev/null)" ""
+installed /opt/none PROVE=1 >"$work/out" 2>"$work/err"
+is "make install PROVE=1 without a program or a toolchain" "$([ $? -ne 0 ] && grep -c "there is no command" "$work/err")" 1
 
 echo "$passed passed, $failed failed"
 [ "$failed" -eq 0 ]

@@ -4,11 +4,12 @@
 #
 # A command stands behind '$ ' in an indented block of a .md file, or between .nf and .fi of a manual page; what follows
 # it, up to the next one, is its output and its standard error as they come. A here-document belongs to its command, and so
-# does the line behind one that ends with a backslash. Each block begins at the top of a copy of the repository's examples and
+# does the line behind one that ends with a backslash or a bar. Each block begins at the top of a copy of the repository's examples and
 # tools, with the program as ./bootmem and on the PATH; files that an earlier block of the same document made are still there.
 # A block whose first line has no '$ ' shows no command and isn't run: `plain` names each that may be so, another one fails.
 #
 # What a command needs of the machine is stood in for by `stand_in`, and none of it is read from the machine that runs the test.
+# An example of a manual page has room within 78 columns, behind the 11 by which a page shifts it.
 # Folders of the test's own are told as a user would see them: the copy as /home/me/bootmem, the stand-ins without their front.
 # Prints a line for each difference, and 'N passed, M failed; K blocks show no command' at its end.
 set -u
@@ -29,6 +30,8 @@ failed=0
 without=0
 # a make that runs the test isn't the one that a command calls
 unset MAKEFLAGS MFLAGS MAKELEVEL
+# nor is its terminal as wide as a document
+unset COLUMNS
 
 # script FILE LINE..: the lines as a script that can be run
 script() {
@@ -37,19 +40,40 @@ script() {
 	printf '%s\n' '#!/bin/sh' "$@" >"$file" && chmod 755 "$file"
 }
 
+# shows EXAMPLE FOLDER: what its kernel shows of its memory, in the folder: its resources, zones and free blocks. The zones are those
+# that its log tells; the free blocks are the program's.
+shows() {
+	{
+		sed -n 's/^0x0*\([0-9a-f]*\)\.\.0x0*\([0-9a-f]*\) 1 .*/\1-\2 : System RAM/p' "$1/map.txt"
+		printf '  %s\n' '1000000-22090c7 : Kernel code' '3b34000-43fffff : Kernel bss'
+		sed -n 's/^crash [a-z]* 0x0*\([0-9a-f]*\)\.\.0x0*\([0-9a-f]*\)$/  \1-\2 : Crash kernel/p' "$1/crash.txt"
+	} >"$2/iomem"
+	while read -r node zone start spanned present; do
+		printf 'Node %s, zone %8s\n        spanned  %s\n        present  %s\n  start_pfn:           %s\n' \
+			"$node" "$zone" "$spanned" "$present" "$start"
+	done >"$2/zoneinfo" <<-'END'
+		0 DMA 1 4095 3998
+		0 DMA32 4096 1044480 520159
+		0 Normal 1048576 524288 524288
+		1 Normal 1572864 1048576 1048576
+	END
+	# shellcheck disable=SC2046 # the words are separated by blanks
+	(cd "$1" && "$program" $(cat words)) >"$2/buddyinfo"
+}
+
 # stand_in COPY: a machine, that of examples/q35-8g-numa2, for the commands that look at the one they run on. The tool that
-# gathers reads /sys and /proc/cmdline of it, under both of its names; dmesg and uname -r answer for it; and an image of its
+# gathers reads /sys and /proc of it, under both of its names; dmesg and uname -r answer for it; and an image of its
 # memory, with the place of the zero page in a System.map, lies in the copy.
 stand_in() {
 	given=$top/examples/q35-8g-numa2
 	mkdir -p "$machine/sys/kernel/boot_params" "$machine/sys/firmware/acpi/tables" "$machine/proc" "$machine/bin" "$machine/tools" &&
 		cp "$given/zp.bin" "$machine/sys/kernel/boot_params/data" &&
 		cp "$given/srat.bin" "$machine/sys/firmware/acpi/tables/SRAT" &&
-		cp "$given/cmdline" "$machine/proc/cmdline" || return 1
+		cp "$given/cmdline" "$machine/proc/cmdline" && shows "$given" "$machine/proc" || return 1
 	for tool in "$1/tools/collect.sh" "$machine/bin/bootmem-collect"; do
 		real=$machine/tools/$(basename "$tool")
 		cp "$top/tools/collect.sh" "$real" &&
-			script "$tool" "exec '$real' --sys '$machine/sys' --cmdline '$machine/proc/cmdline' \"\$@\"" || return 1
+			script "$tool" "exec '$real' --sys '$machine/sys' --proc '$machine/proc' \"\$@\"" || return 1
 	done
 	# the kernel's lines for the map and the initrd, whose address and size are the u32 at 0x218 and 0x21C
 	sed 's/^\(0x[0-9a-f]*\)\.\.\(0x[0-9a-f]*\) [0-9]* \(.*\)/BIOS-e820: [mem \1-\2] \3/' "$given/map.txt" >"$machine/log" &&
@@ -88,13 +112,13 @@ split() {
 		function begin() { command++; want = folder "/" block "-" command ".want"; printf "" >want
 			print "{" >script; print substr($0, 3) >script; print substr($0, 3) >(folder "/" block "-" command ".command")
 			behind = ""; if (match($0, /<<\047?[A-Z]+/)) { behind = substr($0, RSTART + 2, RLENGTH - 2); sub(/\047/, "", behind) }
-			more = $0 ~ /\\$/; if (behind == "" && !more) end() }
+			more = $0 ~ /[\\|]$/; if (behind == "" && !more) end() }
 		function end() { print "} >\"$shown/" block "-" command ".got\" 2>&1 </dev/null" >script; behind = ""; more = 0 }
 		$0 == "\001" { first = 1; on = 0; next }
 		first { first = 0; on = /^\$ /; if (on) { block++; command = 0; script = folder "/" block ".sh" } else print >(folder "/plain") }
 		!on { next }
 		behind != "" { print >script; if ($0 == behind) end(); next }
-		more { print >script; if ($0 !~ /\\$/) end(); next }
+		more { print >script; if ($0 !~ /[\\|]$/) end(); next }
 		/^\$ / { begin(); next }
 		{ print >want }'
 }
@@ -142,6 +166,15 @@ for document; do
 		compare "$shown" "$block"
 		block=$((block + 1))
 	done
+	case $document in
+	*.[0-9])
+		blocks "$document" | awk 'length > 78 - 11' >"$shown/wide"
+		while IFS= read -r line; do
+			failed=$((failed + 1))
+			echo "$name: wider than 78 columns: $line"
+		done <"$shown/wide"
+		;;
+	esac
 	while IFS= read -r line; do
 		if plain "$line"; then
 			without=$((without + 1))

@@ -5,8 +5,10 @@ Expected values are those of the kernel's own logs (map.txt, memory.txt, zones.t
 Prints a line for each difference, and 'N passed, M failed' at its end. It needs no root and no network.
 """
 
+import json
 import os
 import re
+import resource
 import shutil
 import struct
 import subprocess
@@ -77,7 +79,8 @@ def words_of(name):
 
 def test_help(_):
     """Each tool tells how it is used and that it isn't proved; words that it doesn't know are refused."""
-    for name in ("bootmem-draw", "bootmem-where", "bootmem-diff", "bootmem-live", "zp-from-log", "collect.sh"):
+    for name in ("bootmem-draw", "bootmem-where", "bootmem-diff", "bootmem-live", "zp-from-log", "collect.sh", "bootmem-json",
+                 "bootmem-fleet", "claims-from-log", "bootmem-line", "bootmem-crash"):
         status, out, err = tool(name, "--help")
         check(f"{name} --help", (status, err), (0, ""))
         has(f"{name} --help", out, "isn't proved")
@@ -97,10 +100,10 @@ def test_examples(work):
     commands = os.path.join(work, "bin")
     os.makedirs(commands)
     os.symlink(PROGRAM, os.path.join(commands, "bootmem"))
-    write(os.path.join(work, "log"), log_of("q35-8g-numa2").encode())
+    shutil.copy(example("q35-8g-numa2", "log"), work)
     write(os.path.join(commands, "dmesg"), f"#!/bin/sh\ncat '{work}/log'\n".encode())
     os.chmod(os.path.join(commands, "dmesg"), 0o755)
-    names = ("bootmem-draw", "bootmem-where", "bootmem-diff", "zp-from-log")
+    names = ("bootmem-draw", "bootmem-where", "bootmem-diff", "zp-from-log", "bootmem-json", "bootmem-fleet", "claims-from-log")
     for name in names:
         os.symlink(os.path.join(TOP, "tools", name), os.path.join(commands, name))
     ran = 0
@@ -112,15 +115,16 @@ def test_examples(work):
             shutil.copy(source, os.path.join(folder, file))
         write(os.path.join(folder, "reports.txt"),
               program(folder, "--report", "map,memory,owners,journal,tables,nodes,zones,sections,blocks", "zp.bin").encode())
+        shutil.copytree(example("pc-128m"), os.path.join(folder, "host1"))
         for command in shown_examples(name):
             ran += 1
             done = subprocess.run(["sh", "-c", command], stdin=subprocess.DEVNULL, stdout=subprocess.PIPE, stderr=subprocess.PIPE,
                                   cwd=folder, env={**os.environ, "BOOTMEM": "", "PATH": commands + os.pathsep + os.environ["PATH"]},
                                   check=False)
             wanted = 1 if name == "bootmem-diff" else 0
-            check(f"example: {command}", (done.returncode, done.stderr.decode()), (wanted, ""))
+            check(f"example: {command}", (done.returncode, without_line(done.stderr.decode())), (wanted, ""))
             check(f"example: {command}: it prints or writes", bool(done.stdout) != ("--output" in command), True)
-    check("examples of --help", ran, 9)
+    check("examples of --help", ran, 16)
 
 
 WHERE = """address  0x000000017be00040 (5.9 GiB), frame 1555968
@@ -166,7 +170,8 @@ def test_where(work):
     for bad in ("0xg", "12Q", "-5", "0x10000000000000000", "16777216T"):
         check(f"where {bad}", tool("bootmem-where", bad, "map.txt", folder=folder)[:2], (2, ""))
     check("where, --report", tool("bootmem-where", "0", "--", "--report", "map", "zp.bin", folder=folder)[:2], (2, ""))
-    check("where, no reports", tool("bootmem-where", "0", "zp.bin", folder=folder)[:2], (1, ""))
+    status, out, err = tool("bootmem-where", "0", "zp.bin", folder=folder)
+    check("where, no reports", (status, out, err.endswith("words behind --\n")), (1, "", True))
     status, out, err = tool("bootmem-where", "0", "--", "cmdline", folder=folder)
     check("where, refused", (status, out), (1, ""))
     has("where, refused", err, "bootmem: zeropage: wrong length")
@@ -200,6 +205,8 @@ def test_diff(_):
     has("diff, two runs", out, "0x000000006f000000-0x000000007effffff none -> crash\n")
     check("diff, the same run", tool("bootmem-diff", "--a", "zp.bin", "--b", "'zp.bin'", folder=folder), (0, "", ""))
     check("diff, other reports", tool("bootmem-diff", "map.txt", "memory.txt", folder=folder)[:2], (2, ""))
+    status, _, err = tool("bootmem-diff", "cmdline", "map.txt", folder=folder)
+    check("diff, no reports", (status, err), (2, "bootmem-diff: cmdline: no report of bootmem in it\n"))
     check("diff, no file", tool("bootmem-diff", "map.txt", "nothing.txt", folder=folder)[:2], (2, ""))
     check("diff, one side", tool("bootmem-diff", "--a", "zp.bin", folder=folder)[:2], (2, ""))
     check("diff, a refused run", tool("bootmem-diff", "--a", "zp.bin", "--b", "cmdline", folder=folder)[:2], (2, ""))
@@ -250,6 +257,17 @@ def test_draw(_):
     """Tables for a terminal, and pictures: their rows have room for their text, and none lies over another."""
     check("draw --text", tool("bootmem-draw", "--text", example("first", "map.txt")), (0, FIRST, ""))
     check("draw --text, overlapping zones", tool("bootmem-draw", "--text", given=OVER), (0, OVER_TABLE, ""))
+    for name in ("q35-20g-numa4", "srat-hull3", "zp-random2"):
+        texts = {}
+        for width in (None, 30, 80, 400):
+            variables = {"COLUMNS": "" if width is None else str(width)}
+            status, texts[width], err = tool("bootmem-draw", "--text", "--title", "a machine " * 9, "--", *words_of(name), folder=example(name),
+                                             variables=variables)
+            check(f"draw --text {name}: {width} columns", (status, err, [line for line in texts[width].splitlines() if len(line) > (width or 80)]),
+                  (0, "", []))
+        check(f"draw --text {name}: tables", (texts[400].count("address"), texts[80].count("address") > 1), (1, True))
+        check(f"draw --text {name}: 80 columns are taken where nothing tells", texts[None], texts[80])
+        has(f"draw --text {name}: the map of a section", texts[400], "page structures ")
     for name in ("q35-8g-numa2", "ovmf-4g-numa2", "srat-hull3"):
         status, picture, err = tool("bootmem-draw", "--title", "<&>", "--", *words_of(name), folder=example(name))
         check(f"draw {name}", (status, err), (0, ""))
@@ -379,8 +397,324 @@ def test_refused(work):
     check("zp-from-log, a bad initrd", tool("zp-from-log", "--output", "zp", "--initrd", "1M", given=plain, folder=work)[0], 2)
 
 
+def replay_lines(name, file):
+    """The lines of a file of a machine's replay."""
+    return text_of(example(name, os.path.join("replay", file))).splitlines()
+
+
+def replay_memory(name):
+    """Memory and soft reserved ranges of a replay, each a base, a size and a type, and how many nodes it has.
+
+    The last entries, one for each node, stand for node data and are no memory of the machine."""
+    page = bytes_of(example(name, "replay/zp.bin"))
+    entries = entries_of(page, page[0x1E8], 0x2D0)
+    if os.path.exists(example(name, "replay/e820ext.bin")):
+        data = bytes_of(example(name, "replay/e820ext.bin"))
+        entries += entries_of(data, (len(data) - 16) // 20, 16)
+    nodes = sum(1 for base, size, _ in entries if size == 0x2B000 and base % (1 << 30) == 0)
+    return entries[:-nodes], nodes
+
+
+def noded_memory(name, nodes):
+    """The ranges of memory of a replay's SRAT, each a base, a size and a node."""
+    data = bytes_of(example(name, "replay/srat.bin"))
+    place, found = 48, []
+    while place < len(data):
+        if data[place] == 1:
+            found.append(struct.unpack_from("<QQ", data, place + 8) + struct.unpack_from("<I", data, place + 2))
+        place += data[place + 1]
+    return found[:-nodes]
+
+
+def call_line(what, base, size, caller):
+    """The kernel's line for a call of memblock that names a range."""
+    return f"[    0.000000] {what}: [{base:#018x}-{base + size - 1:#018x}] {caller}+0x65/0x7d\n"
+
+
+def dump_lines(table, ranges):
+    """The kernel's lines for a table of memblock: ranges of a base, a size, and a node where there is one."""
+    lines = [f"[    0.000000]  {table}.cnt  = {len(ranges):#x}\n"]
+    for number, (base, size, *node) in enumerate(ranges):
+        on_node = f" on node {node[0]}" if node else ""
+        lines.append(f"[    0.000000]  {table}[{number:#x}]\t[{base:#018x}-{base + size - 1:#018x}], {size:#018x} bytes{on_node} flags: 0x0\n")
+    return lines
+
+
+def asked_lines(words, place):
+    """The kernel's lines for an allocation of a script, which got this place."""
+    size, align = int(words[2]), int(words[3])
+    rest = dict(zip(words[4::2], words[5::2]))
+    answer = call_line("memblock_reserve", place, size, "memblock_alloc_range_nid")
+    if (size, align, list(rest)) == (0x2B000, 64, ["node"]):
+        return [answer, f"[    0.000000] NODE_DATA({rest['node']}) allocated [mem {place:#x}-{place + size - 1:#x}]\n"]
+    window = f"from={int(rest.get('min', '0'), 16):#018x} max_addr={int(rest.get('max', '0'), 16):#018x} some_function+0x1/0x2"
+    what = "memblock_alloc_exact_nid_raw" if words[-1] == "exact" else "memblock_alloc_try_nid"
+    node = f" nid={rest.get('node', '-1')}" if "node" in rest or "max" not in rest else ""
+    what = what if node else "memblock_phys_alloc_range"
+    return [f"[    0.000000] {what}: {size} bytes align={align:#x}{node} {window}\n", answer]
+
+
+def claims_log_of(name):
+    """What a kernel with memblock=debug logs of the claims of a machine's replay."""
+    memory, nodes = replay_memory(name)
+    script = [line.split() for line in replay_lines(name, "script")]
+    answers = dict(line.split(": ", 1) for line in replay_lines(name, "script.txt"))
+    first = next(number for number, words in enumerate(script) if words[0] != "reserve")
+    made = [call_line(*{1: ("memblock_add", base, size)}.get(kind, ("memblock_reserve", base, size)), "e820__memblock_setup")
+            for base, size, kind in memory]
+    lines = made + ["[    0.000000] MEMBLOCK configuration:\n"] + dump_lines("memory", [one[:2] for one in memory if one[2] == 1])
+    lines += dump_lines("reserved", [(int(words[2], 16), int(words[3], 16)) for words in script[:first]])
+    for number, words in enumerate(script[first:], first + 1):
+        if words[0] == "alloc":
+            lines += asked_lines(words, int(answers[str(number)][3:], 16))
+        elif words[0] == "reserve":
+            freed = script[number:number + 1] == [["free", words[1]]]
+            lines.append(call_line("memblock_phys_free" if freed else "memblock_reserve", int(words[2], 16), int(words[3], 16), "some_function"))
+    if os.path.exists(example(name, "replay/srat.bin")):
+        lines += ["[    0.000000] MEMBLOCK configuration:\n"] + dump_lines("memory", noded_memory(name, nodes))
+    return "".join(lines)
+
+
+def same_replay(what, name, made, words=True):
+    """The folder has the replay of the machine, byte for byte, and the kernel's own places."""
+    for file in ["zp.bin", "script", "srat.bin", "e820ext.bin"] + ["words"] * words:
+        paths = [os.path.join(made, file), example(name, os.path.join("replay", file))]
+        check(f"{what}: {file}", *(bytes_of(path) if os.path.exists(path) else None for path in paths))
+    check(f"{what}: places", text_of(os.path.join(made, "places")).splitlines(),
+          [line for line in replay_lines(name, "script.txt") if ": at " in line or ": no gap" in line])
+
+
+def test_claims(work):
+    """Each replay is made again from its log: from the kernel's own where one is kept, else from the lines of its claims."""
+    made = real = 0
+    for name in sorted(os.listdir(EXAMPLES)):
+        folder = os.path.join(work, name)
+        if os.path.exists(example(name, "replay/script")):
+            made += 1
+            kernel = replay_lines(name, "words")[0].split()[1]
+            status, out, err = tool("claims-from-log", "--replay", folder, "--kernel", kernel, given=claims_log_of(name))
+            check(f"claims {name}", (status, out, err), (0, text_of(example(name, "replay/words")), ""))
+            same_replay(f"claims {name}", name, folder)
+        if os.path.exists(example(name, "log")):
+            real += 1
+            check(f"claims {name}, its log", tool("claims-from-log", "--replay", folder, example(name, "log"))[::2], (0, ""))
+            same_replay(f"claims {name}, its log", name, folder, not name.startswith("ovmf"))
+    check("claims: replays, and logs of their kernels", (made, real), (37, 3))
+
+
+def test_early(work):
+    """With a kernel's claims the crash area is where its log has it, and every later claim finds the memory that it had."""
+    for name in ("pc-1g-crashfixed", "q35-8g-numa2", "ovmf-4g-numa2"):
+        log = text_of(example(name, "log"))
+        size, base = (int(part) << 20 for part in re.search(r"Reserving (\d+)MB of memory at (\d+)MB for crashkernel", log).groups())
+        files = [os.path.join(work, file) for file in ("early", "later")]
+        srat = ["--srat", "srat.bin"] if os.path.exists(example(name, "srat.bin")) else []
+        for places in ([], ["--places"]):
+            status, out, err = tool("claims-from-log", "--e820ext", files[0], "--script", files[1], *places, given=log)
+            check(f"early {name}", (status, err), (0, ""))
+            text = program(example(name), "--report", "crash,script", *out.split(), "--cmdline", "cmdline", *srat, "zp.bin")
+            check(f"early {name}: crash", text.splitlines()[1:2], [f"crash at {base:#018x}..{base + size - 1:#018x}"])
+            check(f"early {name}: script", re.findall(r"^\d+: (?!at |done).*", text, re.MULTILINE), [])
+            check(f"early {name}: sections first", text_of(files[1])[:9], "sections\n")
+    # what the kernel claimed before lay on the area's place by the program alone
+    check("early: without them", program(example("ovmf-4g-numa2"), "--report", "crash", *words_of("ovmf-4g-numa2")).split()[2:],
+          ["0x0000000075000000..0x000000007cffffff"])
+    old = struct.pack("<QIIQQI", 0, 1, 20, 1 << 40, 4096, 2)
+    write(files[1], old)
+    tool("claims-from-log", "--e820ext", files[0], "--over", files[1], given=log)
+    check("early --over", (bytes_of(files[0])[16:36], len(bytes_of(files[0])) > 36), (old[16:], True))
+    log = text_of(example("pc-1g-crashfixed", "log"))
+    status, out, err = tool("claims-from-log", "--e820ext", files[0], given=re.sub(r".*setup_arch\+0x797.*\n", "", log))
+    check("early: no place of the image", (status, err.count("\n"), out.split()[1]), (0, 1, "0x1000000,0x2000000"))
+    # a trimmed allocation, and one that is given back whole
+    freed = re.sub(r"^#.*\n", "", tool("claims-from-log", "--e820ext", files[0], "--script", files[1], given=log)[1] and text_of(files[1]),
+                   flags=re.MULTILINE).splitlines()
+    trims = [line for line in freed if line.startswith("trim")]
+    check("early: the rest of the per-CPU area", [line.split()[2] for line in trims], [str(0x3E000)])
+    check("early: nothing is reserved to be freed", [line for line in freed if line.startswith("reserve")], [])
+    newer = re.sub(r"(memblock_reserve: \[.*?\]) ", r"\1 nid=1024 flags=20 ", log)
+    for what, text in (("a newer kernel", newer), ("the free of older ones", log.replace("phys_free", "free")),
+                       ("two boots", text_of(example("q35-8g-numa2", "log")) + log)):
+        status, _, err = tool("claims-from-log", "--e820ext", files[0] + "2", "--script", files[1] + "2", given=text)
+        check(f"early, {what}", (status, err.count("\n"), bytes_of(files[1] + "2") == bytes_of(files[1])), (0, int(what == "two boots"), True))
+    for what, text in (("no dump", re.sub("MEMBLOCK", "memory", log)), ("nothing", "")):
+        status, out, err = tool("claims-from-log", "--e820ext", files[0], given=text)
+        check(f"early, {what}", (status, out, err.count("\n")), (1, "", 1))
+    for bad in ([], ["--replay", work, "--e820ext", "x"], ["--e820ext", "x", "--places"], ["--e820ext", "x", "--kernel", "1M"]):
+        check(f"early {bad}", tool("claims-from-log", *bad, given=log)[:2], (2, ""))
+
+
+SCHEMA = json.loads(text_of(os.path.join(TOP, "docs", "reports.schema.json")))
+KINDS = {"object": dict, "array": list, "string": str, "integer": int, "boolean": bool, "null": type(None)}
+
+
+def fits(value, schema, place="$"):
+    """Why a value doesn't fit a schema, or None: of JSON Schema what docs/reports.schema.json uses."""
+    if "$ref" in schema:
+        return fits(value, SCHEMA["$defs"][schema["$ref"].rpartition("/")[2]], place)
+    if "anyOf" in schema:
+        whys = [fits(value, one, place) for one in schema["anyOf"]]
+        return None if None in whys else whys[0]
+    if "type" in schema and (not isinstance(value, KINDS[schema["type"]]) or isinstance(value, bool) and schema["type"] == "integer"):
+        return f"{place}: {value!r} is no {schema['type']}"
+    if value not in schema.get("enum", [value]) or value != schema.get("const", value) or (
+            "pattern" in schema and not re.search(schema["pattern"], value)) or "minimum" in schema and value < schema["minimum"]:
+        return f"{place}: {value!r}"
+    if isinstance(value, list) and not schema.get("minItems", 0) <= len(value) <= schema.get("maxItems", len(value)):
+        return f"{place}: {len(value)} items"
+    if isinstance(value, dict):
+        known = schema["properties"]
+        if set(value) - set(known) or set(schema.get("required", [])) - set(value):
+            return f"{place}: the members {', '.join(value)}"
+    parts = [(one, schema["items"]) for one in value] if isinstance(value, list) else (
+        [(one, schema["properties"][name]) for name, one in value.items()] if isinstance(value, dict) else [])
+    return next((why for number, (one, own) in enumerate(parts) for why in [fits(one, own, f"{place}.{number}")] if why), None)
+
+
+def count_lines(found):
+    """How many lines of reports an object tells of, but for those of fixed number."""
+    lists = [name for name in ("map", "memory", "reserved", "owners", "journal", "zones", "script", "buddyinfo", "blocks") if name in found]
+    return sum(len(found[name]) for name in lists)
+
+
+def test_json(work):
+    """Every report of every machine has the form of the schema, and so has what is made by hand of the rarer lines."""
+    names = ["map", "memory", "reserved", "owners", "journal", "zones", "script", "buddyinfo", "blocks"]
+    more = ["options", "nodes", "crash", "sections", "tables", "summary"]
+    for name in sorted(os.listdir(EXAMPLES)):
+        if not os.path.isdir(example(name)):
+            continue
+        words = words_of(name) if os.path.exists(example(name, "words")) else ["zp.bin"]
+        script = ["--script", "replay/script"] if os.path.exists(example(name, "replay/script")) else []
+        text = program(example(name), "--report", ",".join(names + more), *script, *words)
+        status, out, err = tool("bootmem-json", "--compact", "-", given=text)
+        check(f"json {name}", (status, err, out.count("\n")), (0, "", 1))
+        found = json.loads(out)
+        check(f"json {name}: its form", fits(found, SCHEMA), None)
+        check(f"json {name}: its reports", list(found), names + more)
+        check(f"json {name}: its lines", count_lines(found),
+              len(text.split("== options\n")[0].splitlines()) - len(names))
+    write(os.path.join(work, "rare"), RARE.encode())
+    found = json.loads(tool("bootmem-json", os.path.join(work, "rare"))[1])
+    check("json: rare lines", (fits(found, SCHEMA), found), (None, RARE_OBJECT))
+    folder = example("q35-8g-crashhighlow")
+    status, out, err = tool("bootmem-json", "--report", "crash,summary", "--", *words_of("q35-8g-crashhighlow"), folder=folder)
+    check("json: a run", (status, err, json.loads(out)["crash"]), (0, "", {
+        "outcome": "at", "first": "0x000000025f000000", "last": "0x000000027effffff",
+        "low": {"first": "0x000000007b000000", "last": "0x000000007effffff"}}))
+    # one report without its line is known by its first line, or told by its name
+    for name in more + names:
+        alone = program(folder, "--report", name, "--script", "replay/script", *words_of("q35-8g-crashhighlow"))
+        check(f"json: {name} alone", list(json.loads(tool("bootmem-json", given=alone)[1])), [name if name != "reserved" else "memory"])
+        check(f"json: {name} by its name", list(json.loads(tool("bootmem-json", "--report", name, given=alone)[1])), [name])
+    check("json: no line at all", tool("bootmem-json", "--compact", "--report", "options")[1],
+          '{"options":{"edits":[],"crash":{"ranges":[],"high":null,"low":null},"numa_off":false}}\n')
+    for what, text in (("nothing", ""), ("another text", "hello\n"), ("a broken line", "== map\n0x1..0x2\n"), ("another report", "== maps\n")):
+        status, out, err = tool("bootmem-json", given=text)
+        check(f"json, {what}", (status, out, err.count("\n")), (1, "", 1))
+    check("json, no report's name", tool("bootmem-json", "--report", "maps", given="")[:2], (2, ""))
+    check("json, a name and heads", tool("bootmem-json", "--report", "map", given="== map\n")[:2], (2, ""))
+    check("json, a refused run", tool("bootmem-json", "--", "cmdline", folder=folder)[:2], (1, ""))
+
+
+RARE = """== options
+add 12 0x0000000020000000..0x0000000023ffffff
+remove 1 0x0000000030000000..0xfffffffffffffffe
+remove-all 0x0000000000000000..0x0000000000000fff
+change 1 4026531839 0x0000000000001000..0x0000000000001fff
+clear
+crash range 0x0000000000000000 0x0000000020000000 0x0000000002000000 base 0x0000000000000000
+crash range 0x0000000020000000 - 0x0000000004000000 base 0x0000000010000000
+crash high 0x0000000020000000
+crash low 0x0000000004000000
+numa off
+== nodes
+numa not covered 256
+uncovered 0
+== crash
+crash low failed
+== journal
+1: trim
+2: limit 0x0000000000100000
+3: grown memory 0x000000000009a000 room 256
+4: claim table-memory 0x000000000009a000..0x000000000009cfff
+5: claim script 7 0x0000000000100000..0x0000000000100fff
+== script
+3: no gap
+4: no gap for table memory room 128
+5: bytes 00ff
+"""
+A_MIB, A_TABLE = "0x0000000000100000", "0x000000000009a000"
+RARE_OBJECT = {
+    "options": {"edits": [
+        {"edit": "add", "type": 12, "first": "0x0000000020000000", "last": "0x0000000023ffffff"},
+        {"edit": "remove", "type": 1, "first": "0x0000000030000000", "last": "0xfffffffffffffffe"},
+        {"edit": "remove-all", "first": "0x0000000000000000", "last": "0x0000000000000fff"},
+        {"edit": "change", "from": 1, "to": 4026531839, "first": "0x0000000000001000", "last": "0x0000000000001fff"},
+        {"edit": "clear"}], "crash": {"ranges": [
+            {"start": "0x0000000000000000", "end": "0x0000000020000000", "size": "0x0000000002000000", "base": "0x0000000000000000"},
+            {"start": "0x0000000020000000", "end": None, "size": "0x0000000004000000", "base": "0x0000000010000000"}],
+            "high": "0x0000000020000000", "low": "0x0000000004000000"}, "numa_off": True},
+    "nodes": {"numa": "not covered", "frames": 256, "domains": [], "uncovered": 0, "ranges": []},
+    "crash": {"outcome": "low failed", "low": None},
+    "journal": [{"item": 1, "deed": "trim"}, {"item": 2, "deed": "limit", "limit": A_MIB},
+                {"item": 3, "deed": "grown", "table": "memory", "place": A_TABLE, "room": 256},
+                {"item": 4, "deed": "claim", "owner": "table-memory", "first": A_TABLE, "last": "0x000000000009cfff"},
+                {"item": 5, "deed": "claim", "owner": "script", "number": 7, "first": A_MIB, "last": "0x0000000000100fff"}],
+    "script": [{"line": 3, "outcome": "no gap"}, {"line": 4, "outcome": "no gap for table", "table": "memory", "room": 128},
+               {"line": 5, "outcome": "bytes", "bytes": "00ff"}],
+}
+FLEET = """q35-1g\t0\t-\t10\t262013\t244146\tnone\t-\tabsent\t1
+q35-8g-crashhighlow\t0\t-\t11\t2097021\t1903026\t0x000000025f000000..0x000000027effffff\t0x000000007b000000..0x000000007effffff\tabsent\t1
+srat-overlap\t0\t-\t6\t1048222\t1018067\tnone\t-\toverlap 0 1\t1
+"""
+FOLDERS = 1000
+
+
+def without_line(said):
+    """What a tool said, but that there is no bootmem-line."""
+    return said.replace("bootmem-fleet: there is no bootmem-line beside this tool: the lines are handed on as they are\n", "")
+
+
+def test_fleet(work):
+    """Lines and objects of machines, folders with what is wrong, changed lines, and how long a thousand folders take."""
+    names = [line.split("\t")[0] for line in FLEET.splitlines()]
+    check("fleet", tool("bootmem-fleet", *names, folder=EXAMPLES), (0, FLEET, ""))
+    status, out, err = tool("bootmem-fleet", "--json", "--jobs", "2", *sorted(os.listdir(EXAMPLES)), folder=EXAMPLES)
+    rows = [json.loads(line) for line in out.splitlines()]
+    check("fleet --json", (status, [fits(row, SCHEMA["$defs"]["machine"]) for row in rows]), (1, [None] * len(rows)))
+    check("fleet --json: a file is no folder", [row["line"] for row in rows if row["status"]], ["no folder"])
+    check("fleet: no place of an image", (err.count("\n"), "of 1 of" in err), (1, True))
+    os.makedirs(os.path.join(work, "empty"))
+    shutil.copytree(example("q35-1g"), os.path.join(work, "bad"))
+    write(os.path.join(work, "bad", "cmdline"), b"quiet mem=4GB\n")
+    write(os.path.join(work, "bad", "kernel"), b"0x1000000,0x3400000\n")
+    status, out, err = tool("bootmem-fleet", "--kernel", "16M,32M", "empty", "bad", "none", folder=work)
+    check("fleet: trouble", (status, err, [line.split("\t")[1:4] for line in out.splitlines()]),
+          (1, "", [["3", "bootmem: cannot read zp.bin", "-"], ["5", "bootmem: cmdline: word 2: mem", "-"], ["2", "no folder", "-"]]))
+    for words, wanted in ((("--cmdline-drop", "mem"), "none"), (("--cmdline-drop", "mem", "--cmdline-add", "crashkernel=512M,high"),
+                                                               "0x000000001f000000..0x000000003effffff"),
+                          (("--cmdline-drop", "mem", "--cmdline-add", "crashkernel=2G,high"), "no area")):
+        status, out, err = tool("bootmem-fleet", *words, "bad", folder=work)
+        check(f"fleet {words}", (status, out.split("\t")[6], without_line(err)), (0, wanted, ""))
+    check("fleet, no folder", tool("bootmem-fleet")[:2], (2, ""))
+    check("fleet, no program", tool("bootmem-fleet", "--program", "/nowhere", "bad", folder=work)[:2], (2, ""))
+    if b"__asan_init" in bytes_of(PROGRAM):
+        return  # a sanitizer's program takes its own time
+    for number in range(FOLDERS):
+        os.symlink(example("q35-8g-numa2"), os.path.join(work, f"host{number}"))
+    before = resource.getrusage(resource.RUSAGE_CHILDREN)
+    status, out, _ = tool("bootmem-fleet", *(f"host{number}" for number in range(FOLDERS)), folder=work)
+    after = resource.getrusage(resource.RUSAGE_CHILDREN)
+    seconds = after.ru_utime + after.ru_stime - before.ru_utime - before.ru_stime
+    check("fleet: a thousand folders", (status, out.count("\n")), (0, FOLDERS))
+    # 3 s on four processors
+    check(f"fleet: {seconds:.1f} s of processors, at most 12", seconds <= 12, True)
+
+
 RESOURCES = {"usable": "System RAM", "reserved": "Reserved", "ACPI data": "ACPI Tables", "ACPI NVS": "ACPI Non-volatile Storage",
-             "unusable": "Unusable memory", "persistent legacy": "Persistent Memory (legacy)", "soft reserved": "Soft Reserved"}
+             "unusable": "Unusable memory", "persistent legacy": "Persistent Memory (legacy)", "soft reserved": "Soft Reserved",
+             "persistent": "Persistent Memory", "other": "Unknown E820 type"}
 
 
 def stand_in(work, name):
@@ -405,7 +739,7 @@ def stand_in(work, name):
         if first <= 0x1000000 <= last:
             lines += ["  01000000-022090c7 : Kernel code\n", "  03b34000-043fffff : Kernel bss\n"]
     lines.append("fed00000-fed003ff : HPET 0\n  fed00000-fed003ff : PNP0103:00\n")
-    write(os.path.join(work, name, "proc/iomem"), "".join(lines).encode())
+    write(os.path.join(work, name, "proc/iomem"), ("".join(lines) + crash_lines(name)).encode())
     zones = []
     for line in text_of(example(name, "zones.txt")).splitlines():
         node, zone, start, end, present = re.match(r"Node (\d+), zone (\w+) start (\d+) end (\d+) present (\d+)", line).groups()
@@ -421,6 +755,14 @@ def write(path, data):
     """Writes the bytes to the file."""
     with open(path, "wb") as file:
         file.write(data)
+
+
+def crash_lines(name):
+    """The lines of iomem for the crash area that the kernel of a machine took, where its log tells it."""
+    if not os.path.exists(example(name, "crash.txt")):
+        return ""
+    found = re.findall(r"0x0*([0-9a-f]+)\.\.0x0*([0-9a-f]+)", text_of(example(name, "crash.txt")))
+    return "".join(f"  {first}-{last} : Crash kernel\n" for first, last in found)
 
 
 def live(place, *words):
@@ -445,9 +787,9 @@ def test_live(work):
         status, out, err = live(stand_in(work, name))
         kinds = [line.split()[0] for line in out.splitlines()[1:-1]]
         zones = text_of(example(name, "zones.txt")).count("\n")
-        check(f"live {name}", (status, err, kinds), (0, "", ["agrees"] * (1 + zones)))
+        check(f"live {name}", (status, err, kinds), (0, "", ["noted"] + ["agrees"] * (2 + zones)))
         check(f"live {name}: end", last_line(out),
-              f"{1 + zones} agree, 0 differ as docs/KERNEL.md says, 0 differ, 0 can't be compared")
+              f"{2 + zones} agree, 0 differ as docs/KERNEL.md says, 0 differ, 0 can't be compared")
     place = os.path.join(work, "q35-1g")
     has("live: the image by iomem", live(place)[1], "bootmem --cmdline cmdline --kernel 0x1000000,0x3400000 zp.bin\n")
     has("live --kernel", live(place, "--kernel", "0x2000000,0x3400000")[1], "--kernel 0x2000000,0x3400000 zp.bin\n")
@@ -477,7 +819,8 @@ def test_hidden(work):
     write(os.path.join(place, "proc/iomem"), re.sub(r"[0-9a-f]+-[0-9a-f]+ :", "00000000-00000000 :",
                                                     text_of(os.path.join(place, "proc/iomem"))).encode())
     status, out, _ = live(place)
-    check("live: hidden addresses", (status, "passed   iomem: its addresses are hidden; root sees them" in out), (0, True))
+    check("live: hidden addresses", (status, "passed   iomem: it isn't there, or its addresses are hidden; root sees" in out), (0, True))
+    has("live: hidden addresses", out, "passed   kernel: the kernel's place isn't known, so 16 MiB to 48 MiB is assumed")
     os.remove(os.path.join(place, "proc/zoneinfo"))
     check("live: nothing to compare", live(place)[0], 2)
     os.remove(os.path.join(place, "sys/kernel/boot_params/data"))
@@ -504,7 +847,7 @@ Node 1, zone   Normal
 
 
 def test_hull(work):
-    """A zone that reaches to its border in the kernel, since its node goes on behind a hole, differs in a known way."""
+    """A zone that reaches to its border in the kernel, since its node goes on behind a hole, is the one that bootmem tells."""
     name = "q35-8g-numa2"
     for part in ("sys/kernel/boot_params", "sys/firmware/acpi/tables", "proc"):
         os.makedirs(os.path.join(work, name, part))
@@ -514,7 +857,7 @@ def test_hull(work):
     write(os.path.join(work, name, "proc/zoneinfo"), HULL)
     status, out, _ = live(os.path.join(work, name))
     check("live: a node's hull", (status, last_line(out)),
-          (0, "3 agree, 1 differ as docs/KERNEL.md says, 0 differ, 1 can't be compared"))
+          (0, "4 agree, 0 differ as docs/KERNEL.md says, 0 differ, 2 can't be compared"))
 
 
 def test_installed(work):
@@ -524,7 +867,8 @@ def test_installed(work):
     for name in ("bootmem-draw", "bootmem-where", "bootmem-diff", "bootmem-live", "zp-from-log"):
         shutil.copy(os.path.join(TOP, "tools", name), os.path.join(work, "bin"))
     shutil.copy(os.path.join(TOP, "tools", "collect.sh"), os.path.join(work, "bin", "bootmem-collect"))
-    shutil.copy(os.path.join(TOP, "tools", "bootmem_reports.py"), os.path.join(work, "share/bootmem"))
+    for name in ("bootmem_reports.py", "bootmem_cmdline.py", "bootmem_machine.py"):
+        shutil.copy(os.path.join(TOP, "tools", name), os.path.join(work, "share/bootmem"))
     os.symlink(PROGRAM, os.path.join(work, "bin", "bootmem"))
     path = {"BOOTMEM": "", "PATH": os.path.join(work, "bin") + os.pathsep + os.environ["PATH"]}
     status, out, err = tool(os.path.join(work, "bin", "bootmem-where"), "0x17be00040", "--", *words_of("q35-8g-numa2"),
@@ -538,11 +882,11 @@ def test_installed(work):
     place = stand_in(work, "pc-128m")
     status, out, err = tool(os.path.join(work, "bin", "bootmem-live"), "--sys", os.path.join(place, "sys"), "--proc",
                             os.path.join(place, "proc"), variables={"BOOTMEM": ""})
-    check("installed: bootmem-collect", (status, err, last_line(out)[:8]), (0, "", "3 agree,"))
+    check("installed: bootmem-collect", (status, err, last_line(out)[:8]), (0, "", "4 agree,"))
 
 
 TESTS = {"help": test_help, "examples": test_examples, "where": test_where, "diff": test_diff, "draw": test_draw,
-         "trips": test_round_trips, "logs": test_logs, "refused": test_refused, "live": test_live, "hidden": test_hidden,
+         "trips": test_round_trips, "claims": test_claims, "early": test_early, "json": test_json, "fleet": test_fleet, "logs": test_logs, "refused": test_refused, "live": test_live, "hidden": test_hidden,
          "hull": test_hull, "installed": test_installed}
 
 
@@ -558,4 +902,5 @@ def main():
     return 1 if COUNTS[False] else 0
 
 
-sys.exit(main())
+if __name__ == "__main__":
+    sys.exit(main())

@@ -19,6 +19,7 @@ FRAME = 4096
 SECTION = 128 << 20
 TOP = (1 << 64) - 1
 
+BEHIND = ", or put the program's own words behind --"
 UNPROVED = "This tool isn't proved: it only reads what the proved program prints, or writes what it reads."
 FINDING = "The program is --program, else $BOOTMEM, else bootmem beside this tool, else bootmem on the PATH."
 
@@ -39,6 +40,11 @@ FORMS = {
                + r"|\d+: (trim|limit .+|grown .+)",
     "sections": r"section (?P<section>\d+) node (?P<node>\d+) map (?P<map>" + _PLACE + r") usage (?P<usage>" + _PLACE
                 + r")|roots .+|root \d+ .+",
+    "options": r"(add|remove|change|remove-all) .+|clear|crash (range|high|low) 0x[0-9a-f]{16}(| .+)|numa off",
+    "crash": r"crash (none|no area|in use|low failed|(at|low) .+)",
+    "script": r"\d+: (at|done|bytes|no gap|taken|unknown|not whole|table in use|keep too large|fill too large).*",
+    "buddyinfo": r"Node \d+, zone +\S+(?: +\d+){11} ",
+    "summary": r"(runs|usable|free|blocks) \d+|(memory|reserved) records \d+ room \d+",
     "tables": r"(?P<table>memory|reserved) place (?P<place>" + _PLACE + r") room (?P<room>\d+) records (?P<records>\d+)",
 }
 
@@ -148,11 +154,11 @@ def run_program(program, names, words, folder=None):
     return split_reports(text) if len(names) > 1 else {names[0]: text.splitlines()}
 
 
-def read_text(name):
-    """The text of a file, or of standard input where the name is `-`."""
+def read_text(name, behind=False):
+    """The text of a file, or of standard input where the name is `-`; `behind` says that the program's words may stand behind `--`."""
     if name == "-":
         if sys.stdin.isatty():
-            raise Trouble("nothing to read: name a file, or put the program's words behind --", 2)
+            raise Trouble(f"nothing to read: name a file{BEHIND if behind else ''}", 2)
         data = sys.stdin.buffer.read()
     else:
         with open(name, "rb") as file:
@@ -160,12 +166,11 @@ def read_text(name):
     return data.decode("utf-8", "replace")
 
 
-def read_reports(name):
-    """The reports of a file or of standard input (`-`), as a mapping from name to lines."""
-    reports = split_reports(read_text(name))
+def read_reports(name, behind=False):
+    """The reports of a file or of standard input (`-`), as a mapping from name to lines; `behind` as for `read_text`."""
+    reports = split_reports(read_text(name, behind))
     if not reports:
-        raise Trouble(f"{'standard input' if name == '-' else name}: no report of bootmem in it; "
-                      "the program's own words stand behind --")
+        raise Trouble(f"{'standard input' if name == '-' else name}: no report of bootmem in it{BEHIND if behind else ''}")
     return reports
 
 

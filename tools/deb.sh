@@ -21,15 +21,16 @@ doc=$root/usr/share/doc/bootmem
 	printf 'bootmem (%s) unstable; urgency=medium\n\n  * See CHANGELOG.md.\n\n' "$version"
 	printf ' -- %s  %s\n' "$maintainer" "$(date -R -u -d "$(sed -n "s/^## $version, //p" CHANGELOG.md)")"
 } >"$doc/changelog"
-gzip -9n "$doc/changelog" "$root/usr/share/man/man1/bootmem.1" "$root/usr/share/man/man5/bootmem.5"
+gzip -9n "$doc/changelog" "$root"/usr/share/man/man[15]/*
 echo "Licence: not chosen yet by the owner." >"$doc/copyright"
 
-# the packages that the program's libraries come from, and what the tools need
+# the packages that the program's libraries come from, the C library of the version that it asks for at least, and what the tools need
+library=$(objdump -T "$root/usr/bin/bootmem" | grep -o 'GLIBC_[0-9.]*' | sed 's/GLIBC_//' | sort -V | tail -n 1)
 depends=$(
 	ldd "$root/usr/bin/bootmem" | sed -n 's/.*=> \(\/[^ ]*\) .*/\1/p' |
 		while read -r library; do
 			dpkg -S "$library" 2>/dev/null || dpkg -S "$(readlink -f "$library")" 2>/dev/null || dpkg -S "/usr$library" 2>/dev/null || :
-		done | sed 's/:.*//' | sort -u
+		done | sed -e 's/:.*//' -e "s/^libc6\$/libc6 (>= $library)/" | sort -u
 	! grep -q '^#!.*python3' "$root"/usr/bin/* || echo python3
 )
 install -d "$root/DEBIAN"
@@ -41,7 +42,7 @@ Architecture: $architecture
 Maintainer: $maintainer
 Section: admin
 Priority: optional
-Depends: $(printf '%s\n' "${depends:-libc6}" | paste -s -d , - | sed 's/,/, /g')
+Depends: $(printf '%s\n' "${depends:-libc6 (>= $library)}" | paste -s -d , - | sed 's/,/, /g')
 Installed-Size: $(du -k -s "$root/usr" | cut -f1)
 Description: boot-time memory set-up of x86-64 Linux 6.1, proved
  Carries out the memory set-up of a 64-bit x86 Linux 6.1 kernel on described

@@ -3,7 +3,7 @@
 # examples under DESTDIR, or removes what it put there. 'make install' and 'make uninstall' call it.
 #
 #   PREFIX/bin                bootmem, the tools that are there, and tools/collect.sh as bootmem-collect
-#   MANDIR/man1, MANDIR/man5  the manual pages
+#   MANDIR/man1, MANDIR/man5  the manual pages; those of the tools are made of their --help, where they run
 #   PREFIX/share/doc/bootmem  the documents
 #   PREFIX/share/bootmem      the machines of examples/, and what the tools share
 #   PREFIX/share/bash-completion/completions/bootmem
@@ -15,10 +15,15 @@ bin=$2$3/bin
 share=$2$3/share
 man=$2$4
 tools="bootmem-draw bootmem-where bootmem-diff bootmem-live zp-from-log"
+tools="$tools bootmem-line bootmem-crash"
+tools="$tools bootmem-fleet bootmem-json claims-from-log"
 
 uninstall() {
 	for tool in bootmem bootmem-collect $tools; do
 		rm -f "$bin/$tool"
+	done
+	for tool in bootmem-collect $tools; do
+		rm -f "$man/man1/$tool.1"
 	done
 	rm -f "$man/man1/bootmem.1" "$man/man5/bootmem.5" "$share/bash-completion/completions/bootmem"
 	rm -rf "$share/doc/bootmem" "$share/bootmem"
@@ -26,7 +31,7 @@ uninstall() {
 
 # examples FOLDER: the files of the machines of examples/, and nothing else that lies there
 examples() {
-	(cd examples && find . -type f \( -name '*.bin' -o -name '*.txt' -o -name cmdline -o -name words -o -name script \
+	(cd examples && find . -type f \( -name '*.bin' -o -name '*.txt' -o -name cmdline -o -name words -o -name script -o -name log \
 		-o -name README.md \) -print | tar -c -f - -T -) | (cd "$1" && tar -x --no-same-owner -f -)
 	chmod -R u=rwX,go=rX "$1"
 }
@@ -47,7 +52,13 @@ install_all() {
 	fi
 	install -m 644 bootmem.1 "$man/man1/bootmem.1"
 	install -m 644 bootmem.5 "$man/man5/bootmem.5"
-	for document in CHANGELOG.md CONTRIBUTING.md docs/*.md docs/*.svg; do
+	for tool in bootmem-collect $tools; do
+		if "$bin/$tool" --help >/dev/null 2>&1; then
+			tools/manual.sh "$bin/$tool" >"$man/man1/$tool.1"
+			chmod 644 "$man/man1/$tool.1"
+		fi
+	done
+	for document in CHANGELOG.md CONTRIBUTING.md docs/*.md docs/*.svg docs/*.json; do
 		[ ! -f "$document" ] || install -m 644 "$document" "$share/doc/bootmem/$(basename "$document")"
 	done
 	# the documents lie beside the README there
