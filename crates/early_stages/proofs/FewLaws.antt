@@ -154,7 +154,9 @@ few_carried (item.Trim ∷ is) items n m few need =
 few_carried (item.Limit at ∷ is) items n m few need =
     goes (item.Limit at) is items refl (few_carried is (items ++ item.Limit at ∷ []) n m (limit_few at items n m few) need)
 few_carried (item.Node range node ∷ is) items n m few need = absurd need
+few_carried (item.Mirror range ∷ is) items n m few need = absurd need
 few_carried (item.Free range ∷ is) items n m few need = absurd need
+few_carried (item.Upward on ∷ is) items n m few need = absurd need
 few_carried (item.Grown w place room ∷ is) items n m few need = absurd need
 
 -- from nothing
