@@ -19,6 +19,7 @@ use Rattle.boot_journal.specs.Bytes.{is_trim, label_after, label_from, label_kep
 abbrev edge_at : Item → ℕ → Bool
 edge_at (item.Mem range) e = (range.base == e) || (end_of range == e)
 edge_at (item.Node range node) e = (range.base == e) || (end_of range == e)
+edge_at (item.Mirror range) e = (range.base == e) || (end_of range == e)
 edge_at i e = false
 
 abbrev edge_in : List Item → ℕ → Bool
@@ -39,6 +40,7 @@ either_true false b h = inr h
 label_after-step : (i : Item) (t : Option Label) (y : ℕ) → edge_at i (y + 1) ≡ false → label_after (y + 1) t i ≡ label_after y t i
 label_after-step (item.Mem range) t y h = rw (covers-step range y h) refl
 label_after-step (item.Node range node) t y h = rw (covers-step range y h) refl
+label_after-step (item.Mirror range) t y h = rw (covers-step range y h) refl
 label_after-step i t y h = refl
 
 label_from-step : (items : List Item) (t : Option Label) (y : ℕ) → edge_in items (y + 1) ≡ false → label_from t items (y + 1)
@@ -62,6 +64,7 @@ edges_agree-at : (whole : Option Label) (items : List Item) (first : ℕ) (i : I
     ≡ true → Agrees whole items first e
 edges_agree-at whole items first (item.Mem range) e agree h = range_agrees-at whole items first range e agree.0 agree.1 h
 edges_agree-at whole items first (item.Node range node) e agree h = range_agrees-at whole items first range e agree.0 agree.1 h
+edges_agree-at whole items first (item.Mirror range) e agree h = range_agrees-at whole items first range e agree.0 agree.1 h
 edges_agree-at whole items first i e agree h = absurd (true≢false (sym h))
 
 all_agree-at : (whole : Option Label) (items : List Item) (first : ℕ) (is : List Item) (e : ℕ) → AllAgree whole items first is

@@ -1,13 +1,15 @@
 -- Small journals, computed: what the definitions say that the bodies' contracts cite.
-use Rattle.std.proofs.Common.{◌≡◌, ℕ, true, false, Option, Some, None, List, [], ◌∷◌, refl, ap, arith}
+use Rattle.std.proofs.Common.{◌≡◌, ℕ, true, false, Option, Some, None, List, [], ◌∷◌, refl, sym, ap, arith}
+use Rattle.std.proofs.lemmas.Bool.{true≢false}
 use Rattle.std.specs.Option.{option_map_or}
 use Rattle.bm_base.specs.Extent.{Extent}
 use Rattle.memblock_model.specs.declared.item.Item.{Item}
 use Rattle.memblock_model.specs.declared.item.Item.TheVariants as item
 use Rattle.bm_base.specs.Each.{each_from, each_in}
-use Rattle.memblock_model.specs.Labels.{Label, plain_label, with_node}
+use Rattle.memblock_model.specs.Labels.{Label, plain_label, with_node, with_mirror}
 use Rattle.memblock_model.specs.Items.{trimmed}
 use Rattle.boot_journal.specs.Contents.{Contents}
+use Rattle.boot_journal.specs.Mirrors.{mirrors_after, mirrors_in}
 use Rattle.boot_journal.specs.Bytes.{is_trim, label_after, label_from, label_kept, Agrees, Differs, EdgesAgree, AllAgree}
 
 abbrev bytes : ℕ → ℕ → Extent
@@ -25,7 +27,10 @@ after_examples : (label_after 5 None (item.Mem (bytes 4 2)) ≡ Some plain_label
     × (label_after 5 (Some (of_node 1)) (item.Mem (bytes 4 2)) ≡ Some (of_node 1)) × (label_after 6 None (item.Mem (bytes 4 2)) ≡ None)
     × (label_after 5 (Some plain_label) (item.Node (bytes 4 2) 3) ≡ Some (of_node 3))
     × (label_after 5 None (item.Node (bytes 4 2) 3) ≡ None) × (label_after 5 (Some plain_label) item.Trim ≡ Some plain_label)
-after_examples = (refl, refl, refl, refl, refl, refl)
+    × (label_after 5 (Some (of_node 1)) (item.Mirror (bytes 4 2)) ≡ Some (with_mirror (of_node 1)))
+    × (label_after 5 None (item.Mirror (bytes 4 2)) ≡ None)
+    × (label_after 5 (Some (with_mirror plain_label)) (item.Node (bytes 4 2) 3) ≡ Some (with_mirror (of_node 3)))
+after_examples = (refl, refl, refl, refl, refl, refl, refl, refl, refl)
 
 -- frame 1 becomes memory, and half of it gets node 3
 abbrev half : List Item
@@ -66,6 +71,18 @@ edges_examples = (
 
 middle_is_an_edge : EdgesAgree None half 4096 (item.Node (bytes 4096 2048) 3) → ⊥
 middle_is_an_edge agree = plain_is_another (agree.1 (omega arith) (omega arith))
+
+-- half a frame that becomes mirrored differs from the other half, too
+mirror_is_another : Some plain_label ≡ Some (with_mirror plain_label) → ⊥
+mirror_is_another same = true≢false (sym (ap (λ (l : Option Label). option_map_or (λ (m : Label). m.mirror) l false) same))
+
+mirror_is_an_edge : EdgesAgree None (item.Mem (bytes 4096 4096) ∷ (item.Mirror (bytes 6144 2048) ∷ [])) 4096 (item.Mirror (bytes 6144 2048)) → ⊥
+mirror_is_an_edge agree = mirror_is_another (sym (agree.0 (omega arith) (omega arith)))
+
+-- one range that becomes mirrored, also where it holds no memory, and none
+mirrors_examples : (mirrors_in half ≡ false) × (mirrors_in (item.Mirror (bytes 4096 4096) ∷ (item.Trim ∷ [])) ≡ true)
+    × (mirrors_after false (item.Mirror (bytes 4096 4096)) ≡ true) × (mirrors_after true item.Trim ≡ true)
+mirrors_examples = (refl, refl, refl, refl)
 
 -- what contracts see of a journal: its items beside its spare room
 contents : Contents

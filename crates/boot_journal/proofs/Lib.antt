@@ -1,3 +1,4 @@
 pub mod ByteLaws
 mod Examples
+pub mod MirrorLaws
 pub mod OwnerLaws

@@ -38,6 +38,7 @@ pub record Differs (whole : Option Label) (items : List Item) (first e : ℕ) : 
 abbrev pub EdgesAgree : Option Label → List Item → ℕ → Item → Type 0
 EdgesAgree whole items first (item.Mem range) = Agrees whole items first range.base × Agrees whole items first (end_of range)
 EdgesAgree whole items first (item.Node range node) = Agrees whole items first range.base × Agrees whole items first (end_of range)
+EdgesAgree whole items first (item.Mirror range) = Agrees whole items first range.base × Agrees whole items first (end_of range)
 EdgesAgree whole items first i = Unit {0}
 
 -- and all ends of ranges

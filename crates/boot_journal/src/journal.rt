@@ -8,6 +8,7 @@ ghost use Rattle.std.specs.Prelude.{◌≡◌, ◌++◌, ◌∷◌, ◌+◌, ◌
 ghost use Rattle.bm_base.specs.Extent.{end_of};
 ghost use Rattle.address_runs.specs.Runs.{IsRunsOf};
 ghost use Rattle.memblock_model.specs.Items.{IsItem, AreItems, owner_of, tag_of, owner_runs_of};
+ghost use Rattle.boot_journal.specs.Mirrors.{mirrors_after, mirrors_in};
 
 use crate::{owners, tags};
 use bm_base::{Memory, Range};
@@ -20,20 +21,22 @@ use std::marker::Model;
 /// items that can be appended without wanting memory.
 ///
 /// Beside the items stand the runs of bytes of one owner that they give, ascending, so that who owns a
-/// byte is found by a look-up.
+/// byte is found by a look-up; and whether any item makes memory mirrored.
 #[derive(Debug, Drop)]
 pub struct Journal {
     items: Vec<Item>,
     owners: Vec<OwnerRun>,
+    mirrors: bool,
     spare: u64,
 }
 
 impl Model for Journal {
-    ghost use Rattle.std.specs.Prelude.{◌+◌, ◌*◌, ◌^◌, ◌≤◌, vec_len, vec_capacity};
+    ghost use Rattle.std.specs.Prelude.{◌≡◌, ◌+◌, ◌*◌, ◌^◌, ◌≤◌, vec_len, vec_capacity};
     ghost use Rattle.address_runs.specs.Runs.{IsRunsOf};
     ghost use Rattle.address_runs.specs.Edits.{NothingFrom};
     ghost use Rattle.memblock_model.specs.Items.{AreItems, owner_of};
     ghost use Rattle.boot_journal.specs.Contents.{Contents};
+    ghost use Rattle.boot_journal.specs.Mirrors.{mirrors_in};
 
     ghost Value = { Contents };
 
@@ -43,7 +46,8 @@ impl Model for Journal {
     ghost invariant = { λ j.
         (vec_len j.items + j.spare ≤ vec_capacity j.items) × AreItems j.items.items ×
         (vec_len j.owners + 2 * j.spare ≤ vec_capacity j.owners) ×
-        IsRunsOf (owner_of j.items.items) j.owners.items × NothingFrom (2 ^ 64) (owner_of j.items.items) };
+        IsRunsOf (owner_of j.items.items) j.owners.items × NothingFrom (2 ^ 64) (owner_of j.items.items) ×
+        (j.mirrors ≡ mirrors_in j.items.items) };
 }
 
 impl Journal {
@@ -54,6 +58,7 @@ impl Journal {
         Journal {
             items: Vec::new(alloc),
             owners: Vec::new(alloc),
+            mirrors: false,
             spare: 0,
         }
     }
@@ -104,6 +109,7 @@ impl Journal {
         ensures { self.new ≡ record { items = self.old.items ++ item ∷ []; spare = self.old.spare - 1 } }
     {
         owners::note(&mut self.owners, &item);
+        self.mirrors = mirrors_after(self.mirrors, &item);
         push_within_capacity(&mut self.items, item);
         self.spare -= 1;
     }
@@ -132,8 +138,15 @@ impl Journal {
         holds(&self.owners, range, owner)
     }
 
-    /// Whether the byte at `x` is memory, and of which node. Takes no memory. The time is that of a
-    /// few looks at all items, two more for each end of a range inside the frame of `x`.
+    /// Whether an item makes memory mirrored. Takes no memory, and looks at no item.
+    pub fn has_mirrors(&self) -> bool
+        ensures { result ≡ mirrors_in self.now.items }
+    {
+        self.mirrors
+    }
+
+    /// Whether the byte at `x` is memory, of which node, and whether it is mirrored. Takes no memory. The time
+    /// is that of a few looks at all items, two more for each end of a range inside the frame of `x`.
     pub fn tag_at(&self, x: u64) -> Tag
         ensures { result ≡ tag_of self.now.items x }
     {
@@ -156,6 +169,13 @@ impl Journal {
         let runs = Vec::from_slice(*self.items.allocator(), self.owners())?;
         Ok(runs)
     }
+}
+
+/// Whether an item makes memory mirrored: this one, or one before it.
+fn mirrors_after(before: bool, item: &Item) -> bool
+    ensures { result ≡ mirrors_after before item.now }
+{
+    before || matches!(item, Item::Mirror { .. })
 }
 
 /// Appends the item to a list that has memory for it.

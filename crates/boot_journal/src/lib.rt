@@ -3,7 +3,7 @@
 //! Every call of memblock that changes memory (`memblock_add`, `memblock_reserve`,
 //! `memblock_phys_free`, `memblock_set_node`, `memblock_trim_memory`, ..) leaves one [`Item`]. The
 //! kernel keeps merged records alone, and forgets for whom it reserved; the journal tells for each
-//! byte who owns it and whether it is memory of which node.
+//! byte who owns it, and whether it is memory, of which node, and mirrored.
 //!
 //! [`Journal::tag_at`] asks the items what a byte is to memory. Who owns a byte is asked more often, of
 //! many bytes, so the journal keeps the runs of bytes of one owner sorted beside its items, and each

@@ -22,6 +22,7 @@ fn after(carried: Option<Marks>, item: &Item, x: u64) -> Option<Marks>
         Item::Node { range, node } if range.contains(x) => {
             carried.map(|marks| marks.with_node(*node))
         }
+        Item::Mirror { range } if range.contains(x) => carried.map(|marks| marks.with_mirror()),
         _ => carried,
     }
 }
@@ -60,7 +61,9 @@ fn item_agrees(whole: &Option<Marks>, items: &[Item], first: u64, item: &Item) -
     ensures differs { result ≡ false → (e : ℕ) × Differs whole.now items.now first e }
 {
     match item {
-        Item::Mem { range } | Item::Node { range, .. } => range_agrees(whole, items, first, range),
+        Item::Mem { range } | Item::Node { range, .. } | Item::Mirror { range } => {
+            range_agrees(whole, items, first, range)
+        }
         _ => true,
     }
 }

@@ -5,9 +5,10 @@ use Rattle.bm_base.specs.Extent.{Extent}
 use Rattle.memblock_model.specs.declared.which.Which.TheVariants as which
 use Rattle.memblock_model.specs.declared.query.Query.{Query}
 use Rattle.memblock_model.specs.declared.item.Item.{Item}
+use Rattle.memblock_model.specs.Items.{upward_of}
 use Rattle.memblock_model.specs.Tables.{table_of}
 use Rattle.memblock_model.specs.Search.{best, fits}
-use Rattle.memblock_model.proofs.SearchLaws.{best_in-is, best_in-none}
+use Rattle.memblock_model.proofs.SearchLaws.{best_in-fits, best_in-none}
 use Rattle.growth_model.specs.Sound.{Placed, IsAway}
 use Rattle.growth_model.proofs.FoundLaws.{found-fits, found-away}
 use Rattle.crash_kernel.specs.Places.{area_query, fixed_range}
@@ -15,13 +16,13 @@ use Rattle.crash_kernel.specs.Places.{area_query, fixed_range}
 pub best-within : (items : List Item) (q : Query) (place : ℕ) → best items q ≡ Some place → place + q.size ≤ q.hi
 best-within items q place found = (found-fits items q place found).high
 
-best_fits : (items : List Item) (q : Query) (place : ℕ) → best items q ≡ Some place → fits items q place ≡ true
+best_fits : (items : List Item) (q : Query) (place : ℕ) → best items q ≡ Some place → fits items q false place ≡ true
 unfolding best fits
-best_fits items q place found = (best_in-is (table_of which.Memory items) (table_of which.Reserved items) q place found).passes
+best_fits items q place found = best_in-fits (upward_of items) (table_of which.Memory items) (table_of which.Reserved items) q place found
 
-best_none : (items : List Item) (q : Query) → best items q ≡ None → (place : ℕ) → place < 2 ^ 64 → fits items q place ≡ false
+best_none : (items : List Item) (q : Query) → best items q ≡ None → (place : ℕ) → place < 2 ^ 64 → fits items q false place ≡ false
 unfolding best fits
-best_none items q none place lt = best_in-none (table_of which.Memory items) (table_of which.Reserved items) q none place lt
+best_none items q none place lt = best_in-none (upward_of items) (table_of which.Memory items) (table_of which.Reserved items) q none place lt
 
 -- a search of exactly a range finds its base, or the range doesn't fit
 exact_base : (items : List Item) (size base place : ℕ) → best items (area_query size 1 base (base + size)) ≡ Some place → place ≡ base
@@ -32,9 +33,9 @@ exact_base items size base place found =
     omega arith
 
 pub exact-fits : (items : List Item) (size base place : ℕ) → best items (area_query size 1 base (base + size)) ≡ Some place
-    → fits items (area_query size 1 base (base + size)) base ≡ true
+    → fits items (area_query size 1 base (base + size)) false base ≡ true
 exact-fits items size base place found =
-    subst (λ (p : ℕ). fits items (area_query size 1 base (base + size)) p ≡ true) (exact_base items size base place found)
+    subst (λ (p : ℕ). fits items (area_query size 1 base (base + size)) false p ≡ true) (exact_base items size base place found)
     (best_fits items (area_query size 1 base (base + size)) place found)
 
 pub exact-away : (kernel : Extent) (items : List Item) (size base place : ℕ) → Placed kernel items
@@ -44,7 +45,7 @@ exact-away kernel items size base place placed found =
     (found-away kernel items (area_query size 1 base (base + size)) place placed found)
 
 pub exact-fails : (items : List Item) (size base : ℕ) → base + size < 2 ^ 64 → best items (area_query size 1 base (base + size)) ≡ None
-    → fits items (area_query size 1 base (base + size)) base ≡ false
+    → fits items (area_query size 1 base (base + size)) false base ≡ false
 exact-fails items size base small none = best_none items (area_query size 1 base (base + size)) none base (omega arith)
 
 -- what comes of a place that is asked for, by that search

@@ -45,7 +45,7 @@ free_by : (items : List Item) (r : Extent) (o : Option Label) → is_some o ≡ 
 free_by items r None held each free = absurd (true≢false (sym held))
 free_by items r (Some label) held each free = record { label = label; memory = each; free = free }
 
-place_free : (items : List Item) (q : Query) (place : ℕ) → IsPlace (table_of which.Memory items) (table_of which.Reserved items) q place
+place_free : (items : List Item) (q : Query) (place : ℕ) → IsPlace false (table_of which.Memory items) (table_of which.Reserved items) q place
     → IsFree items (record { base = place; size = q.size })
 place_free items q place known =
     let r : Extent = record { base = place; size = q.size } in
@@ -80,12 +80,12 @@ best_found : (items : List Item) (size lo hi : ℕ) (r : Extent) → best_range 
 best_found items size lo hi r is = best_by items size lo hi (best items (area_query size 0x1000000 lo hi)) r refl is
 
 -- the place that was asked for
-fits_free : (items : List Item) (size base : ℕ) → fits items (area_query size 1 base (base + size)) base ≡ true
+fits_free : (items : List Item) (size base : ℕ) → fits items (area_query size 1 base (base + size)) false base ≡ true
     → IsFree items (record { base = base; size = size })
 unfolding fits
 fits_free items size base h =
     place_free items (area_query size 1 base (base + size)) base
-    (fits_in-parts (table_of which.Memory items) (table_of which.Reserved items) (area_query size 1 base (base + size)) base h)
+    (fits_in-parts false (table_of which.Memory items) (table_of which.Reserved items) (area_query size 1 base (base + size)) base h)
 
 -- a main part that was found
 record IsMain (items : List Item) (size : ℕ) (r : Extent) : Type 0 where
@@ -94,7 +94,7 @@ record IsMain (items : List Item) (size : ℕ) (r : Extent) : Type 0 where
   aligned : r.base % 0x100000 ≡ 0
 
 fixed_by : (items : List Item) (size base : ℕ) (multiple small fit : Bool) (r : Extent) → (base % 0x100000 == 0) ≡ multiple
-    → fits items (area_query size 1 base (base + size)) base ≡ fit
+    → fits items (area_query size 1 base (base + size)) false base ≡ fit
     → (if multiple && small && fit then Some (let e : Extent = record { base = base; size = size } in e) else None) ≡ Some r
     → IsMain items size r
 fixed_by items size base true true true r multiple fit is =
@@ -122,7 +122,7 @@ main_found : (items : List Item) (size : ℕ) (where_to : Spot) (r : Extent) →
 unfolding main_range
 main_found items size (spot.Fixed base) r is =
     fixed_by items size base (base % 0x100000 == 0) (nat_lt (base + size) (2 ^ 64))
-    (fits items (area_query size 1 base (base + size)) base) r refl refl is
+    (fits items (area_query size 1 base (base + size)) false base) r refl refl is
 main_found items size spot.Automatic r is =
     elim (or_cases (best_range size 0x1000000 (2 ^ 32) items) (high_range size items) r is) as (λ _. IsMain items size r) [
       | inl low ↦ best_main items size 0x1000000 (2 ^ 32) r low

@@ -1,5 +1,5 @@
 -- Where the crash area and its low part may lie (`reserve_crashkernel`, `reserve_crashkernel_low`).
-use Rattle.std.specs.Prelude.{ℕ, ◌+◌, ◌%◌, ◌^◌, ◌==◌, Bool, ◌&&◌, nat_le, nat_lt, if◌then◌else◌, Option, Some, None, List, unwrap_or}
+use Rattle.std.specs.Prelude.{ℕ, ◌+◌, ◌%◌, ◌^◌, ◌==◌, Bool, false, ◌&&◌, nat_le, nat_lt, if◌then◌else◌, Option, Some, None, List, unwrap_or}
 use Rattle.std.specs.Option.{option_map, option_or}
 use Rattle.bm_base.specs.Extent.{Extent}
 use Rattle.memblock_model.specs.declared.query.Query.{Query}
@@ -22,7 +22,7 @@ best_range size lo hi items = option_map (λ base. record { base = base; size = 
 -- the place from the base on: at a multiple of 1 MiB, within the address space, and free
 abbrev pub fixed_range : ℕ → ℕ → List Item → Option Extent
 fixed_range base size items =
-    if (base % 0x100000 == 0) && nat_lt (base + size) (2 ^ 64) && fits items (area_query size 1 base (base + size)) base
+    if (base % 0x100000 == 0) && nat_lt (base + size) (2 ^ 64) && fits items (area_query size 1 base (base + size)) false base
     then Some (record { base = base; size = size }) else None
 
 -- above 16 MiB, up to 64 TiB (`CRASH_ADDR_HIGH_MAX`)

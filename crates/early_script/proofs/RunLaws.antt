@@ -12,7 +12,7 @@ use Rattle.growth_model.specs.Outcome as growth
 use Rattle.growth_model.specs.Outcome.{joined}
 use Rattle.growth_model.specs.Growth.{claimed}
 use Rattle.growth_model.specs.Request.{place_for}
-use Rattle.growth_model.specs.Ends.{IsCut, EndsBy, Ends}
+use Rattle.growth_model.specs.Ends.{IsCut, EndsBy, Ends, Allocates}
 use Rattle.growth_model.specs.Bytes.{byte_after, Filled, Follows}
 use Rattle.early_script.specs.declared.outcome.Outcome.{Outcome}
 use Rattle.early_script.specs.declared.outcome.Outcome.TheVariants as outcomes
@@ -33,6 +33,23 @@ pub acts-wanting : (T : Type 0) (x : T) (r : Result Outcome Memory) (old new : S
     EndsBy {T = T} (Ok x) old.items new.items (d.change old.items) → new.kernel ≡ old.kernel → new.ids ≡ old.ids → Acts r old new d
 acts-wanting T x (Ok answer) old new d wants ends kernel ids = absurd (true≢false (sym wants))
 acts-wanting T x (Err memory) old new d wants ends kernel ids = (cut-whole T x old.items new.items (d.change old.items) ends, kernel, ids)
+
+alloc_wanting : (r : Result Outcome Memory) (old new : State) (id : ℕ) (q : Request) (base : ℕ) (place : Option ℕ) → IsErr r →
+    is_live old.ids id ≡ false → place_for q old.items ≡ place →
+    Allocates (Ok base) old.items new.items place q.size (owner.Script id) → new.kernel ≡ old.kernel → new.ids ≡ old.ids →
+    Acts r old new (alloc_deed old id q)
+alloc_wanting r old new id q base None wants free found allocates kernel ids = let clash = allocates.0 in cc
+alloc_wanting r old new id q base (Some place) wants free found allocates kernel ids =
+    let here : Acts r old new (alloc_at old id q.size (Some place)) =
+    acts-wanting ℕ base r old new (alloc_at old id q.size (Some place)) wants allocates.1 kernel ids in
+    subst (λ (t : Bool). Acts r old new (if t then answers old outcomes.Taken else alloc_at old id q.size (place_for q old.items))) (sym free)
+    (subst (λ (o : Option ℕ). Acts r old new (alloc_at old id q.size o)) (sym found) here)
+
+pub alloc-wanting : (r : Result Outcome Memory) (old new : State) (id : ℕ) (q : Request) (base : ℕ) → IsErr r →
+    is_live old.ids id ≡ false → Allocates (Ok base) old.items new.items (place_for q old.items) q.size (owner.Script id) →
+    new.kernel ≡ old.kernel → new.ids ≡ old.ids → Acts r old new (alloc_deed old id q)
+alloc-wanting r old new id q base wants free allocates kernel ids =
+    alloc_wanting r old new id q base (place_for q old.items) wants free refl allocates kernel ids
 
 pub reserve-wanting : (r : Result Outcome Memory) (old new : State) (id : ℕ) (range : Extent) (u : Unit {0}) → IsErr r →
     is_live old.ids id ≡ false → touches old.kernel old.items range ≡ false →

@@ -1,5 +1,5 @@
 -- A few items need no growth: carried out, they are written as they are.
-use Rattle.std.proofs.Common.{◌≡◌, ℕ, ◌+◌, ◌*◌, ◌^◌, ◌<◌, ◌≤◌, Bool, false, None, List, [], ◌∷◌, ◌++◌, length, Result, Ok, refl, sym, ap, ◌∙◌, subst, arith}
+use Rattle.std.proofs.Common.{◌≡◌, ℕ, ◌+◌, ◌*◌, ◌^◌, ◌≤◌, false, List, [], ◌∷◌, ◌++◌, length, Result, Ok, refl, sym, ap, ◌∙◌, subst, arith}
 use Rattle.std.proofs.lemmas.Bool.Decides.{nat_tests}
 use Rattle.std.proofs.lemmas.List.{append-nil, append_assoc}
 use Rattle.bm_base.specs.Extent.{Extent, end_of}
@@ -14,12 +14,11 @@ use Rattle.memblock_model.specs.Labels.{Labels, plain_label}
 use Rattle.memblock_model.specs.Items.{trimmed}
 use Rattle.memblock_model.specs.Tables.{pieces, records_for, records_of, room_of, table_after, table_of}
 use Rattle.memblock_model.proofs.ItemLaws.{room_of-push, table_of-push}
-use Rattle.memblock_ranges.specs.Steps.{EndsInSpace}
 use Rattle.memblock_ranges.proofs.CountLaws.{few-pieces, length-covered, length-trimmed}
 use Rattle.memblock_ranges.proofs.StepLaws.{items-within}
-use Rattle.growth_model.specs.Outcome.{Refused, Outcome, after, write}
-use Rattle.growth_model.specs.Growth.{added, claimed, count, is_full, new_in}
-use Rattle.growth_model.specs.Carried.{carried_out, change, ended, unless_refused}
+use Rattle.growth_model.specs.Outcome.{Refused, write}
+use Rattle.growth_model.specs.Growth.{added, claimed, is_full, new_in}
+use Rattle.growth_model.specs.Carried.{carried_out, change, ended}
 use Rattle.growth_model.proofs.FirstLaws.{no_records}
 use Rattle.growth_model.proofs.IdleLaws.{added-idle, claimed-idle}
 
@@ -154,7 +153,9 @@ few_carried (item.Trim ∷ is) items n m few need =
 few_carried (item.Limit at ∷ is) items n m few need =
     goes (item.Limit at) is items refl (few_carried is (items ++ item.Limit at ∷ []) n m (limit_few at items n m few) need)
 few_carried (item.Node range node ∷ is) items n m few need = absurd need
+few_carried (item.Mirror range ∷ is) items n m few need = absurd need
 few_carried (item.Free range ∷ is) items n m few need = absurd need
+few_carried (item.Upward on ∷ is) items n m few need = absurd need
 few_carried (item.Grown w place room ∷ is) items n m few need = absurd need
 
 -- from nothing

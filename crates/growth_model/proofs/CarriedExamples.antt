@@ -6,7 +6,7 @@ use Rattle.memblock_model.specs.declared.owner.Owner.TheVariants as owner
 use Rattle.memblock_model.specs.declared.item.Item.{Item}
 use Rattle.memblock_model.specs.declared.item.Item.TheVariants as item
 use Rattle.growth_model.specs.Outcome.{Refused}
-use Rattle.growth_model.specs.Growth.{claimed, freed, added, noded}
+use Rattle.growth_model.specs.Growth.{claimed, freed, added, noded, mirrored}
 use Rattle.growth_model.specs.Carried.{AreQuiet, carried_out, change, ended, is_of_memory, memory_items, unless_refused}
 
 abbrev page : Extent
@@ -19,11 +19,12 @@ full = record { which = which.Reserved; room = 128 }
 changes : (items : List Item) → (change (item.Mem page) items ≡ added page items) × ((change item.Trim items).steps ≡ (item.Trim ∷ []) ∷ [])
 changes items = (refl, refl)
 
--- and so does a node, a claim and a free
+-- and so does a node, a mirror, a claim and a free
 grow_first : (items : List Item) → (change (item.Node page 3) items ≡ noded page 3 items)
+    × (change (item.Mirror page) items ≡ mirrored page items)
     × (change (item.Claim page owner.Soft) items ≡ claimed page owner.Soft items)
     × (change (item.Free page) items ≡ freed page items)
-grow_first items = (refl, refl, refl)
+grow_first items = (refl, refl, refl, refl)
 
 -- what a change comes to, with and without a refusal
 ends_well : ended (item.Trim ∷ []) (record { steps = (item.Free page ∷ []) ∷ []; refused = None }) ≡ Ok (item.Trim ∷ item.Free page ∷ [])
@@ -45,9 +46,10 @@ carries_two : carried_out (item.Trim ∷ item.Limit 0x2000 ∷ []) (item.Free pa
 unfolding carried_out
 carries_two = refl
 
--- a claim says nothing of memory, a trim does
+-- a claim says nothing of memory, nor where a search begins; a trim and a mirror do
 kinds_of_items : (is_of_memory (item.Claim page owner.Kernel) ≡ false) × (is_of_memory item.Trim ≡ true)
-kinds_of_items = (refl, refl)
+    × (is_of_memory (item.Upward true) ≡ false) × (is_of_memory (item.Mirror page) ≡ true)
+kinds_of_items = (refl, refl, refl, refl)
 
 some_of_memory : memory_items (item.Mem page ∷ item.Claim page owner.Kernel ∷ item.Limit 0x2000 ∷ item.Free page ∷ [])
     ≡ item.Mem page ∷ item.Limit 0x2000 ∷ []

@@ -6,7 +6,7 @@ use Rattle.memblock_model.specs.declared.which.Which.TheVariants as which
 use Rattle.memblock_model.specs.declared.item.Item.{Item}
 use Rattle.memblock_model.specs.declared.item.Item.TheVariants as item
 use Rattle.growth_model.specs.Outcome.{Refused, Outcome, Change, ◌>>◌, followed_by, after, joined, write}
-use Rattle.growth_model.specs.Growth.{added, claimed, freed, noded, new_in, two}
+use Rattle.growth_model.specs.Growth.{added, claimed, freed, mirrored, noded, new_in, two}
 use Rattle.growth_model.specs.Carried.{AreQuiet, carried_out, change, ended, memory_items, unless_refused}
 use Rattle.growth_model.proofs.MemoryItemLaws.{memory_items-append, quiet-joined}
 use Rattle.growth_model.proofs.QuietLaws.{IsQuiet, quiet-grown, reserved_growth-quiet, memory_growth-quiet}
@@ -64,11 +64,13 @@ plainly_behind i items next ends =
 -- one item that is carried out
 pub change-memory : (i : Item) (items next : List Item) → ended items (change i items) ≡ Ok next
     → memory_items next ≡ memory_items items ++ memory_items (i ∷ [])
-unfolding added noded claimed freed
+unfolding added noded mirrored claimed freed
 change-memory (item.Mem range) items next ends =
     grown_behind _ (item.Mem range) items next (quiet-grown which.Memory (new_in which.Memory range) _ memory_growth-quiet) ends
 change-memory (item.Node range node) items next ends =
     grown_behind _ (item.Node range node) items next (quiet-grown which.Memory two _ memory_growth-quiet) ends
+change-memory (item.Mirror range) items next ends =
+    grown_behind _ (item.Mirror range) items next (quiet-grown which.Memory two _ memory_growth-quiet) ends
 change-memory (item.Claim range who) items next ends =
     grown_behind _ (item.Claim range who) items next
     (quiet-grown which.Reserved (new_in which.Reserved range) _ (reserved_growth-quiet range)) ends
@@ -76,6 +78,7 @@ change-memory (item.Free range) items next ends =
     grown_behind _ (item.Free range) items next (quiet-grown which.Reserved two _ (reserved_growth-quiet range)) ends
 change-memory item.Trim items next ends = plainly_behind item.Trim items next ends
 change-memory (item.Limit at) items next ends = plainly_behind (item.Limit at) items next ends
+change-memory (item.Upward on) items next ends = plainly_behind (item.Upward on) items next ends
 change-memory (item.Grown w place room) items next ends = plainly_behind (item.Grown w place room) items next ends
 
 -- and all of them: growth appears in no law of memory

@@ -10,35 +10,47 @@ use Rattle.memblock_model.specs.declared.query.Query.{Query}
 use Rattle.memblock_model.specs.declared.item.Item.{Item}
 use Rattle.memblock_model.specs.Items.{owner_of, limit_of}
 use Rattle.memblock_model.specs.Tables.{without_owner, table_of, live}
-use Rattle.memblock_model.specs.Search.{best}
-use Rattle.memblock_model.proofs.SearchLaws.{IsPlace, best_in-is, fits_in-parts}
+use Rattle.memblock_model.specs.Items.{upward_of}
+use Rattle.memblock_model.specs.Search.{top, best}
+use Rattle.memblock_model.proofs.SearchLaws.{IsPlace, top_in-fits, best_in-fits, fits_in-parts}
 use Rattle.memblock_ranges.specs.Tables.{Contents, bytes_of, bytes_in, Overlaps}
 use Rattle.growth_model.specs.Growth.{frames_of, frames_at, table_query, place_beside}
 use Rattle.growth_model.specs.declared.request.Request.{Request}
-use Rattle.growth_model.specs.Request.{attempt, anywhere, round, attempts, first_best, place_for}
+use Rattle.growth_model.specs.Request.{Attempt, attempt, anywhere, nodes, round, attempts, first_top, place_for}
 use Rattle.growth_model.specs.Sound.{Clear, Unclaimed, Placed, IsAway}
 use Rattle.growth_model.specs.Bytes.{table_for}
 use Rattle.growth_model.proofs.SpotLaws.{covers-from, frames-more, unclaimed-clear}
 
--- a best place fits
+-- a best place fits, and so does a top one
 pub found-fits : (items : List Item) (q : Query) (place : ℕ) → best items q ≡ Some place
-    → IsPlace (table_of which.Memory items) (table_of which.Reserved items) q place
+    → IsPlace false (table_of which.Memory items) (table_of which.Reserved items) q place
 unfolding best
 found-fits items q place found =
-    fits_in-parts (table_of which.Memory items) (table_of which.Reserved items) q place
-    (best_in-is (table_of which.Memory items) (table_of which.Reserved items) q place found).passes
+    fits_in-parts false (table_of which.Memory items) (table_of which.Reserved items) q place
+    (best_in-fits (upward_of items) (table_of which.Memory items) (table_of which.Reserved items) q place found)
+
+pub top-fits : (items : List Item) (q : Query) (mirror : Bool) (place : ℕ) → top items q mirror ≡ Some place
+    → IsPlace mirror (table_of which.Memory items) (table_of which.Reserved items) q place
+unfolding top
+top-fits items q mirror place found =
+    fits_in-parts mirror (table_of which.Memory items) (table_of which.Reserved items) q place
+    (top_in-fits (record { mirror = mirror; up = upward_of items }) (table_of which.Memory items) (table_of which.Reserved items) q place found)
 
 no_owner : (o : Option Owner) → without_owner o ≡ None → o ≡ None
 no_owner None e = refl
 no_owner (Some o) e = cc
 
--- nobody has a byte of it
-pub found-unclaimed : (items : List Item) (q : Query) (place : ℕ) → best items q ≡ Some place
+-- nobody has a byte of what fits
+fits-unclaimed : (items : List Item) (q : Query) (mirror : Bool) (place : ℕ)
+    → IsPlace mirror (table_of which.Memory items) (table_of which.Reserved items) q place
     → Unclaimed (owner_of items) (record { base = place; size = q.size })
-found-unclaimed items q place found x at =
-    let known = found-fits items q place found in
+fits-unclaimed items q mirror place known x at =
     let inside = covers-from (record { base = place; size = q.size }) x at in
     no_owner (owner_of items x) (known.free x inside.0 inside.1)
+
+pub found-unclaimed : (items : List Item) (q : Query) (place : ℕ) → best items q ≡ Some place
+    → Unclaimed (owner_of items) (record { base = place; size = q.size })
+found-unclaimed items q place found = fits-unclaimed items q false place (found-fits items q place found)
 
 or_cases : (a b : Option ℕ) (place : ℕ) → option_or a b ≡ Some place → (a ≡ Some place) ⊎ (b ≡ Some place)
 or_cases None b place h = inr h
@@ -89,29 +101,33 @@ pub record IsTried (r : Request) (limit : ℕ) (q : Query) : Type 0 where
   pub aligned : q.align ≡ r.align
   pub high : q.hi ≤ limit
 
-abbrev AreTried : Request → ℕ → List Query → Type 0
+abbrev AreTried : Request → ℕ → List Attempt → Type 0
 AreTried r limit [] = Unit {0}
-AreTried r limit (q ∷ qs) = IsTried r limit q × AreTried r limit qs
+AreTried r limit (a ∷ rest) = IsTried r limit a.query × AreTried r limit rest
 
-tried_append : (r : Request) (limit : ℕ) (ps qs : List Query) → AreTried r limit ps → AreTried r limit qs → AreTried r limit (ps ++ qs)
+tried_append : (r : Request) (limit : ℕ) (ps qs : List Attempt) → AreTried r limit ps → AreTried r limit qs → AreTried r limit (ps ++ qs)
 tried_append r limit [] qs h k = k
 tried_append r limit (p ∷ ps) qs h k = (h.0, tried_append r limit ps qs h.1 k)
 
-tried_if : (r : Request) (limit : ℕ) (b : Bool) (ps qs : List Query) → AreTried r limit ps → AreTried r limit qs
+tried_if : (r : Request) (limit : ℕ) (b : Bool) (ps qs : List Attempt) → AreTried r limit ps → AreTried r limit qs
     → AreTried r limit (if b then ps else qs)
 tried_if r limit true ps qs h k = h
 tried_if r limit false ps qs h k = k
 
-tried_attempt : (r : Request) (limit lo : ℕ) (wanted : Option ℕ) → IsTried r limit (attempt r limit lo wanted)
-tried_attempt r limit lo wanted = record { sized = refl; aligned = refl; high = omega arith }
+tried_attempt : (r : Request) (limit lo : ℕ) (mirror : Bool) (wanted : Option ℕ) → IsTried r limit (attempt r limit lo mirror wanted).query
+tried_attempt r limit lo mirror wanted = record { sized = refl; aligned = refl; high = omega arith }
 
-tried_anywhere : (r : Request) (limit lo : ℕ) (wanted : Option ℕ) → AreTried r limit (anywhere r limit lo wanted)
-tried_anywhere r limit lo None = tt
-tried_anywhere r limit lo (Some node) =
-    tried_if r limit r.exact [] (attempt r limit lo None ∷ []) tt (tried_attempt r limit lo None, tt)
+tried_anywhere : (r : Request) (limit lo : ℕ) (mirror : Bool) (wanted : Option ℕ) → AreTried r limit (anywhere r limit lo mirror wanted)
+tried_anywhere r limit lo mirror None = tt
+tried_anywhere r limit lo mirror (Some node) =
+    tried_if r limit r.exact [] (attempt r limit lo mirror None ∷ []) tt (tried_attempt r limit lo mirror None, tt)
+
+tried_nodes : (r : Request) (limit lo : ℕ) (mirror : Bool) → AreTried r limit (nodes r limit lo mirror)
+tried_nodes r limit lo mirror = (tried_attempt r limit lo mirror r.node, tried_anywhere r limit lo mirror r.node)
 
 tried_round : (r : Request) (limit lo : ℕ) → AreTried r limit (round r limit lo)
-tried_round r limit lo = (tried_attempt r limit lo r.node, tried_anywhere r limit lo r.node)
+tried_round r limit lo =
+    tried_append r limit (nodes r limit lo true) (nodes r limit lo false) (tried_nodes r limit lo true) (tried_nodes r limit lo false)
 
 tried_all : (r : Request) (limit : ℕ) → AreTried r limit (attempts r limit)
 tried_all r limit = tried_append r limit (round r limit r.min) (if r.min == 0 then [] else round r limit 0)
@@ -119,17 +135,17 @@ tried_all r limit = tried_append r limit (round r limit r.min) (if r.min == 0 th
 
 -- a search of it found the place
 pub record IsFound (r : Request) (items : List Item) (limit place : ℕ) : Type 0 where
-  pub query : Query
-  pub tried : IsTried r limit query
-  pub found : best items query ≡ Some place
+  pub attempt : Attempt
+  pub tried : IsTried r limit attempt.query
+  pub found : top items attempt.query attempt.mirror ≡ Some place
 
-first_found : (r : Request) (items : List Item) (limit place : ℕ) (qs : List Query) → AreTried r limit qs
-    → first_best items qs ≡ Some place → IsFound r items limit place
+first_found : (r : Request) (items : List Item) (limit place : ℕ) (all : List Attempt) → AreTried r limit all
+    → first_top items all ≡ Some place → IsFound r items limit place
 first_found r items limit place [] tried h = cc
-first_found r items limit place (q ∷ qs) tried h =
-    elim (or_cases (best items q) (first_best items qs) place h) as (λ _. IsFound r items limit place) [
-      | inl here ↦ record { query = q; tried = tried.0; found = here }
-      | inr later ↦ first_found r items limit place qs tried.1 later
+first_found r items limit place (a ∷ rest) tried h =
+    elim (or_cases (top items a.query a.mirror) (first_top items rest) place h) as (λ _. IsFound r items limit place) [
+      | inl here ↦ record { attempt = a; tried = tried.0; found = here }
+      | inr later ↦ first_found r items limit place rest tried.1 later
     ]
 
 pub place-found : (r : Request) (items : List Item) (place : ℕ) → place_for r items ≡ Some place
@@ -142,12 +158,13 @@ pub place-unclaimed : (r : Request) (items : List Item) (place : ℕ) → place_
 place-unclaimed r items place h =
     let was = place-found r items place h in
     subst (λ (n : ℕ). Unclaimed (owner_of items) (record { base = place; size = n })) was.tried.sized
-    (found-unclaimed items was.query place was.found)
+    (fits-unclaimed items was.attempt.query was.attempt.mirror place
+    (top-fits items was.attempt.query was.attempt.mirror place was.found))
 
 pub place-within : (r : Request) (items : List Item) (place : ℕ) → place_for r items ≡ Some place → place + r.size ≤ limit_of items
 place-within r items place h =
     let was = place-found r items place h in
-    let known = found-fits items was.query place was.found in
+    let known = top-fits items was.attempt.query was.attempt.mirror place was.found in
     let high = known.high in
     let tried = was.tried in
     omega arith

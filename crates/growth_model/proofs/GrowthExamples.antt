@@ -1,9 +1,9 @@
 -- Small changes, computed: what is written step by step, which growth is refused, what an allocation tries, and how calls end.
-use Rattle.std.proofs.Common.{◌≡◌, ℕ, zero, suc, ◌+◌, ◌*◌, ◌%◌, ◌^◌, ◌<◌, ◌≤◌, true, false, nat_lt, Option, Some, None, List, [], ◌∷◌, ◌++◌, length, take, Ok, Err, refl, sym, ◌∙◌, ap, subst, inl, inr, arith}
+use Rattle.std.proofs.Common.{◌≡◌, ℕ, zero, suc, ◌+◌, ◌*◌, ◌%◌, ◌^◌, ◌<◌, ◌≤◌, Bool, true, false, if◌then◌else◌, nat_lt, Option, Some, None, List, [], ◌∷◌, ◌++◌, length, take, Ok, Err, refl, sym, ◌∙◌, ap, subst, inl, inr, arith}
 use Rattle.std.specs.Option.{option_or}
 use Rattle.std.proofs.lemmas.Bool.{cases_Bool}
 use Rattle.std.proofs.lemmas.Bool.Decides.{nat_tests}
-use Rattle.bm_base.specs.Extent.{Extent, end_of}
+use Rattle.bm_base.specs.Extent.{Extent, end_of, covers}
 use Rattle.address_runs.specs.Runs.{RunOf, value_at}
 use Rattle.address_runs.specs.Edits.{NothingFrom}
 use Rattle.memblock_model.specs.declared.which.Which.{Which}
@@ -13,19 +13,20 @@ use Rattle.memblock_model.specs.declared.item.Item.{Item}
 use Rattle.memblock_model.specs.declared.item.Item.TheVariants as item
 use Rattle.memblock_model.specs.Labels.{Label, plain_label}
 use Rattle.memblock_model.specs.Tables.{table_of, records_of, room_of}
-use Rattle.memblock_model.specs.Search.{fits_in, best}
-use Rattle.memblock_model.proofs.SearchLaws.{fits_in-parts, fits_in-whole, best_in-last, best_in-fails}
+use Rattle.memblock_model.specs.declared.query.Query.{Query}
+use Rattle.memblock_model.specs.Search.{suits, fits_in, top, best}
+use Rattle.memblock_model.proofs.SearchLaws.{IsLastBelow, fits_in-parts, fits_in-whole, top_in-last, top_in-fails, top_in-mirrorless, best_in-last, best_in-fails}
 use Rattle.memblock_model.proofs.TableLaws.{records_for-is}
 use Rattle.memblock_ranges.proofs.CountLaws.{few-pieces}
 use Rattle.growth_model.specs.declared.refusal.Refusal.TheVariants as refusal
 use Rattle.growth_model.specs.declared.request.Request.{Request}
 use Rattle.growth_model.specs.Outcome.{Outcome, Change, joined, after, nothing, step, write, refuse, followed_by, ◌>>◌, if_due, whatever_refused}
-use Rattle.growth_model.specs.Growth.{frames_of, frames_at, count, table_query, place_beside, left, reserved_items, reserved_growth_at, reserved_growth, is_full, new_in, two, grown, claimed, freed, old_frames, leave, memory_growth_at, memory_growth, added, noded}
-use Rattle.growth_model.specs.Request.{attempt, anywhere, round, attempts, first_best, place_for}
+use Rattle.growth_model.specs.Growth.{frames_of, frames_at, count, table_query, place_beside, left, reserved_items, reserved_growth_at, reserved_growth, is_full, new_in, two, grown, claimed, freed, old_frames, leave, memory_growth_at, memory_growth, added, noded, mirrored}
+use Rattle.growth_model.specs.Request.{Attempt, attempt, anywhere, nodes, round, attempts, first_top, place_for}
 use Rattle.growth_model.specs.Ends.{IsCut, IsCutShort, EndsBy, Ends, Allocates}
 use Rattle.growth_model.proofs.EndLaws.{cut-short}
 use Rattle.growth_model.proofs.FirstLaws.{no_records, first-full_by_two, first-claimed}
-use Rattle.growth_model.proofs.IdleLaws.{claimed-idle, freed-idle, added-idle, noded-idle}
+use Rattle.growth_model.proofs.IdleLaws.{claimed-idle, freed-idle, added-idle, noded-idle, mirrored-idle}
 
 -- 256 KiB of memory, in which the kernel's image has four frames from 64 KiB on
 abbrev pub image : Extent
@@ -133,36 +134,62 @@ first_query = refl
 second_query : table_query 256 4096 8192 ≡ record { lo = 4096; hi = 8192; size = 12288; align = 4096; node = None }
 second_query = refl
 
--- the best place in a window of the small memory
+-- none of the small memory is mirrored
+plain_or_none : (b : Bool) → suits true (if b then Some plain_label else None) ≡ false
+plain_or_none true = refl
+plain_or_none false = refl
+
+small_is_plain : (x : ℕ) → suits true (table_of which.Memory small x) ≡ false
+small_is_plain x = plain_or_none (covers (record { base = 0; size = 262144 }) x)
+
+-- the last place in a window of it
+window_last : (lo hi a : ℕ) → a + 8192 ≡ hi → hi ≤ 262144 → a % 4096 ≡ 0 → 81920 ≤ a → lo ≤ a
+    → IsLastBelow (fits_in false (table_of which.Memory small) (table_of which.Reserved small) (table_query 128 lo hi)) (2 ^ 64) a
+window_last lo hi a ends within aligned above low = record {
+  below = omega arith;
+  passes = fits_in-whole false (table_of which.Memory small) (table_of which.Reserved small) (table_query 128 lo hi) a (record {
+    aligned = aligned;
+    low = low;
+    first = omega arith;
+    high = omega arith;
+    held = grind (arith, nat_tests);
+    allowed = refl;
+    suited = refl;
+    label = λ x from under. grind (arith, nat_tests);
+    free = λ x from under. grind (arith, nat_tests);
+  });
+  last = λ b lt h.
+      let known = fits_in-parts false (table_of which.Memory small) (table_of which.Reserved small) (table_query 128 lo hi) b h in
+      let high = known.high in
+      omega arith;
+}
+
+-- it is the best one, and the one that a search of any memory finds; a search of mirrored memory finds none
 window_place : (lo hi a : ℕ) → a + 8192 ≡ hi → hi ≤ 262144 → a % 4096 ≡ 0 → 81920 ≤ a → lo ≤ a → best small (table_query 128 lo hi) ≡ Some a
 unfolding best
 window_place lo hi a ends within aligned above low =
-    best_in-last (table_of which.Memory small) (table_of which.Reserved small) (table_query 128 lo hi) a (record {
-      below = omega arith;
-      passes = fits_in-whole (table_of which.Memory small) (table_of which.Reserved small) (table_query 128 lo hi) a (record {
-        aligned = aligned;
-        low = low;
-        first = omega arith;
-        high = omega arith;
-        held = grind (arith, nat_tests);
-        allowed = refl;
-        label = λ x from under. grind (arith, nat_tests);
-        free = λ x from under. grind (arith, nat_tests);
-      });
-      last = λ b lt h.
-          let known = fits_in-parts (table_of which.Memory small) (table_of which.Reserved small) (table_query 128 lo hi) b h in
-          let high = known.high in
-          omega arith;
-    })
+    best_in-last (table_of which.Memory small) (table_of which.Reserved small) (table_query 128 lo hi) a small_is_plain
+    (window_last lo hi a ends within aligned above low)
+
+window_top : (lo hi a : ℕ) → a + 8192 ≡ hi → hi ≤ 262144 → a % 4096 ≡ 0 → 81920 ≤ a → lo ≤ a
+    → top small (table_query 128 lo hi) false ≡ Some a
+unfolding top
+window_top lo hi a ends within aligned above low =
+    top_in-last false (table_of which.Memory small) (table_of which.Reserved small) (table_query 128 lo hi) a
+    (window_last lo hi a ends within aligned above low)
+
+nothing_mirrored : (q : Query) → top small q true ≡ None
+unfolding top
+nothing_mirrored q = top_in-mirrorless false (table_of which.Memory small) (table_of which.Reserved small) q small_is_plain
 
 no_window : (lo hi : ℕ) → hi ≤ lo → best small (table_query 128 lo hi) ≡ None
 unfolding best
 no_window lo hi none =
-    best_in-fails (table_of which.Memory small) (table_of which.Reserved small) (table_query 128 lo hi) (λ b lt.
-    elim (cases_Bool (fits_in (table_of which.Memory small) (table_of which.Reserved small) (table_query 128 lo hi) b))
-    as (λ _. fits_in (table_of which.Memory small) (table_of which.Reserved small) (table_query 128 lo hi) b ≡ false) [
+    best_in-fails false (table_of which.Memory small) (table_of which.Reserved small) (table_query 128 lo hi) (λ b lt.
+    elim (cases_Bool (fits_in false (table_of which.Memory small) (table_of which.Reserved small) (table_query 128 lo hi) b))
+    as (λ _. fits_in false (table_of which.Memory small) (table_of which.Reserved small) (table_query 128 lo hi) b ≡ false) [
       | inl passes ↦
-          let known = fits_in-parts (table_of which.Memory small) (table_of which.Reserved small) (table_query 128 lo hi) b passes in
+          let known = fits_in-parts false (table_of which.Memory small) (table_of which.Reserved small) (table_query 128 lo hi) b passes in
           let low = known.low in
           let high = known.high in
           absurd (omega arith)
@@ -296,6 +323,9 @@ an_added_frame = added-idle small (frame 64) add_has_room
 a_node : noded (frame 1) 3 small ≡ write (item.Node (frame 1) 3) small
 a_node = noded-idle small (frame 1) 3 memory_has_room_for_two
 
+a_mirror : mirrored (frame 1) small ≡ write (item.Mirror (frame 1)) small
+a_mirror = mirrored-idle small (frame 1) memory_has_room_for_two
+
 -- a table that is full grows until it isn't, twice at most
 abbrev moves : Change
 moves = write (item.Grown which.Memory 4096 256)
@@ -409,11 +439,11 @@ grows_below_the_limit = refl
 without_memory : memory_growth [] ≡ refuse which.Memory 128 []
 unfolding memory_growth memory_growth_at best
 without_memory = ap (λ (o : Option ℕ). memory_growth_at 128 None o [])
-    (best_in-fails (table_of which.Memory []) (table_of which.Reserved []) (table_query 128 0 0) (λ b lt.
-    elim (cases_Bool (fits_in (table_of which.Memory []) (table_of which.Reserved []) (table_query 128 0 0) b))
-    as (λ _. fits_in (table_of which.Memory []) (table_of which.Reserved []) (table_query 128 0 0) b ≡ false) [
+    (best_in-fails false (table_of which.Memory []) (table_of which.Reserved []) (table_query 128 0 0) (λ b lt.
+    elim (cases_Bool (fits_in false (table_of which.Memory []) (table_of which.Reserved []) (table_query 128 0 0) b))
+    as (λ _. fits_in false (table_of which.Memory []) (table_of which.Reserved []) (table_query 128 0 0) b ≡ false) [
       | inl passes ↦
-          let known = fits_in-parts (table_of which.Memory []) (table_of which.Reserved []) (table_query 128 0 0) b passes in
+          let known = fits_in-parts false (table_of which.Memory []) (table_of which.Reserved []) (table_query 128 0 0) b passes in
           let high = known.high in
           absurd (omega arith)
       | inr fails ↦ fails
@@ -429,58 +459,92 @@ from_the_middle = record { size = 4096; align = 8192; min = 131072; max = Some 1
 abbrev of_node_one : Request
 of_node_one = record from_the_middle { exact = true }
 
-the_limit_ends_it : attempt a_frame 262144 0 None ≡ record { lo = 0; hi = 262144; size = 4096; align = 4096; node = None }
+the_limit_ends_it : (attempt a_frame 262144 0 false None).query ≡ record { lo = 0; hi = 262144; size = 4096; align = 4096; node = None }
 the_limit_ends_it = refl
 
-the_maximum_ends_it : attempt from_the_middle 262144 131072 (Some 1)
+the_maximum_ends_it : (attempt from_the_middle 262144 131072 true (Some 1)).query
     ≡ record { lo = 131072; hi = 196608; size = 4096; align = 8192; node = Some 1 }
 the_maximum_ends_it = refl
 
-any_node_behind_it : anywhere from_the_middle 262144 0 (Some 1) ≡ attempt from_the_middle 262144 0 None ∷ []
+the_mirror_is_asked_for : (attempt a_frame 262144 0 true None).mirror ≡ true
+the_mirror_is_asked_for = refl
+
+any_memory_will_do : (attempt a_frame 262144 0 false None).mirror ≡ false
+any_memory_will_do = refl
+
+any_node_behind_it : anywhere from_the_middle 262144 0 true (Some 1) ≡ attempt from_the_middle 262144 0 true None ∷ []
 any_node_behind_it = refl
 
-no_other_node : anywhere of_node_one 262144 0 (Some 1) ≡ []
+no_other_node : anywhere of_node_one 262144 0 false (Some 1) ≡ []
 no_other_node = refl
 
-no_node_to_leave : anywhere a_frame 262144 0 None ≡ []
+no_node_to_leave : anywhere a_frame 262144 0 false None ≡ []
 no_node_to_leave = refl
 
-a_round_of_two : round from_the_middle 262144 131072
-    ≡ attempt from_the_middle 262144 131072 (Some 1) ∷ (attempt from_the_middle 262144 131072 None ∷ [])
+both_nodes : nodes from_the_middle 262144 131072 false
+    ≡ attempt from_the_middle 262144 131072 false (Some 1) ∷ (attempt from_the_middle 262144 131072 false None ∷ [])
+both_nodes = refl
+
+one_node : nodes of_node_one 262144 131072 true ≡ attempt of_node_one 262144 131072 true (Some 1) ∷ []
+one_node = refl
+
+-- mirrored memory of any node goes before other memory of the node
+a_round_of_four : round from_the_middle 262144 131072
+    ≡ attempt from_the_middle 262144 131072 true (Some 1) ∷ (attempt from_the_middle 262144 131072 true None
+    ∷ (attempt from_the_middle 262144 131072 false (Some 1) ∷ (attempt from_the_middle 262144 131072 false None ∷ [])))
+a_round_of_four = refl
+
+a_round_of_two : round of_node_one 262144 131072
+    ≡ attempt of_node_one 262144 131072 true (Some 1) ∷ (attempt of_node_one 262144 131072 false (Some 1) ∷ [])
 a_round_of_two = refl
 
-a_round_of_one : round of_node_one 262144 131072 ≡ attempt of_node_one 262144 131072 (Some 1) ∷ []
-a_round_of_one = refl
+two_rounds : attempts of_node_one 262144 ≡ attempt of_node_one 262144 131072 true (Some 1)
+    ∷ (attempt of_node_one 262144 131072 false (Some 1) ∷ (attempt of_node_one 262144 0 true (Some 1)
+    ∷ (attempt of_node_one 262144 0 false (Some 1) ∷ [])))
+two_rounds = refl
 
-four_attempts : attempts from_the_middle 262144 ≡ attempt from_the_middle 262144 131072 (Some 1)
-    ∷ (attempt from_the_middle 262144 131072 None ∷ (attempt from_the_middle 262144 0 (Some 1)
-    ∷ (attempt from_the_middle 262144 0 None ∷ [])))
-four_attempts = refl
+one_round : attempts a_frame 262144 ≡ attempt a_frame 262144 0 true None ∷ (attempt a_frame 262144 0 false None ∷ [])
+one_round = refl
 
-one_attempt : attempts a_frame 262144 ≡ attempt a_frame 262144 0 None ∷ []
-one_attempt = refl
+abbrev any_memory : Query → Attempt
+any_memory q = record { query = q; mirror = false }
 
-no_search : first_best small [] ≡ None
+abbrev mirrored_memory : Query → Attempt
+mirrored_memory q = record { query = q; mirror = true }
+
+no_search : first_top small [] ≡ None
 no_search = refl
 
-second_search : first_best small (table_query 128 5 5 ∷ (table_query 128 0 262144 ∷ [])) ≡ Some 253952
-second_search = ap (λ (o : Option ℕ). option_or o (first_best small (table_query 128 0 262144 ∷ []))) (no_window 5 5 (omega arith))
-    ∙ ap (λ (o : Option ℕ). option_or o None) (window_place 0 262144 253952 refl (omega arith) refl (omega arith) (omega arith))
+-- nothing is mirrored, so the search of any memory is answered
+second_search : first_top small (mirrored_memory (table_query 128 0 262144) ∷ (any_memory (table_query 128 0 262144) ∷ [])) ≡ Some 253952
+second_search =
+    rw (nothing_mirrored (table_query 128 0 262144), window_top 0 262144 253952 refl (omega arith) refl (omega arith) (omega arith)) refl
 
-first_search : first_best small (table_query 128 0 131072 ∷ (table_query 128 0 262144 ∷ [])) ≡ Some 122880
-first_search = ap (λ (o : Option ℕ). option_or o (first_best small (table_query 128 0 262144 ∷ [])))
-    (window_place 0 131072 122880 refl (omega arith) refl (omega arith) (omega arith))
+first_search : first_top small (any_memory (table_query 128 0 131072) ∷ (any_memory (table_query 128 0 262144) ∷ [])) ≡ Some 122880
+first_search = rw (window_top 0 131072 122880 refl (omega arith) refl (omega arith) (omega arith)) refl
 
 -- eight KiB go to the top of memory; half a MiB doesn't fit
 abbrev two_frames_please : Request
 two_frames_please = record a_frame { size = 8192 }
 
 place_at_the_top : place_for two_frames_please small ≡ Some 253952
-place_at_the_top =
-    ap (λ (o : Option ℕ). option_or o None) (window_place 0 262144 253952 refl (omega arith) refl (omega arith) (omega arith))
+place_at_the_top = second_search
+
+no_top : (q : Query) (mirror : Bool) → q.hi ≡ 0 → top small q mirror ≡ None
+unfolding top
+no_top q mirror none = top_in-fails (record { mirror = mirror; up = false }) (table_of which.Memory small) (table_of which.Reserved small) q (λ b lt.
+    elim (cases_Bool (fits_in mirror (table_of which.Memory small) (table_of which.Reserved small) q b))
+    as (λ _. fits_in mirror (table_of which.Memory small) (table_of which.Reserved small) q b ≡ false) [
+      | inl passes ↦
+          let known = fits_in-parts mirror (table_of which.Memory small) (table_of which.Reserved small) q b passes in
+          let high = known.high in
+          let first = known.first in
+          absurd (omega arith)
+      | inr fails ↦ fails
+    ])
 
 no_place_so_low : place_for (record two_frames_please { max = Some 0 }) small ≡ None
-no_place_so_low = ap (λ (o : Option ℕ). option_or o None) (no_window 0 0 (omega arith))
+no_place_so_low = rw (nothing_mirrored (table_query 128 0 0), no_top (table_query 128 0 0) false refl) refl
 
 -- how calls end: all of it, one step of two, nothing at all
 all_of_two : IsCut [] (joined two_steps.steps) two_steps

@@ -7,7 +7,7 @@ use Rattle.memblock_model.specs.declared.owner.Owner.{Owner}
 use Rattle.memblock_model.specs.declared.item.Item.{Item}
 use Rattle.memblock_model.specs.declared.item.Item.TheVariants as item
 use Rattle.growth_model.specs.Outcome.{Change, nothing, write, if_due}
-use Rattle.growth_model.specs.Growth.{is_full, new_in, two, grown, reserved_growth, memory_growth, claimed, freed, added, noded}
+use Rattle.growth_model.specs.Growth.{is_full, new_in, two, grown, reserved_growth, memory_growth, claimed, freed, added, noded, mirrored}
 use Rattle.growth_model.proofs.EndLaws.{skips}
 
 pub grown-idle : (w : Which) (more : List Item → ℕ) (growth : Change) (items : List Item) → is_full w more items ≡ false
@@ -40,4 +40,10 @@ pub noded-idle : (items : List Item) (range : Extent) (node : ℕ) → is_full w
     → noded range node items ≡ write (item.Node range node) items
 unfolding noded
 noded-idle items range node room = skips (grown which.Memory two memory_growth) (write (item.Node range node)) items
+    (grown-idle which.Memory two memory_growth items room)
+
+pub mirrored-idle : (items : List Item) (range : Extent) → is_full which.Memory two items ≡ false
+    → mirrored range items ≡ write (item.Mirror range) items
+unfolding mirrored
+mirrored-idle items range room = skips (grown which.Memory two memory_growth) (write (item.Mirror range)) items
     (grown-idle which.Memory two memory_growth items room)

@@ -1,5 +1,5 @@
 -- The tables keep good places throughout growths of the reserved table, claims and frees.
-use Rattle.std.proofs.Common.{◌≡◌, ◌⊎◌, ℕ, ◌*◌, ◌%◌, true, Option, Some, None, List, [], ◌∷◌, ◌++◌, refl, sym, ◌∙◌, ap, subst, inl, inr, arith}
+use Rattle.std.proofs.Common.{◌≡◌, ◌⊎◌, ℕ, ◌*◌, ◌%◌, Bool, true, Option, Some, None, List, [], ◌∷◌, ◌++◌, refl, sym, ◌∙◌, ap, subst, inl, inr, arith}
 use Rattle.std.specs.Prelude.{unwrap_or}
 use Rattle.std.specs.List.{fold}
 use Rattle.std.proofs.lemmas.List.Sums.{fold-append}
@@ -105,11 +105,17 @@ pub node-placed : (kernel : Extent) (items : List Item) (r : Extent) (node : ℕ
     → Placed kernel (items ++ item.Node r node ∷ [])
 node-placed kernel items r node placed = still-placed kernel items (item.Node r node) (λ w. refl) (λ w. refl) placed placed.spots
 
+pub mirror-placed : (kernel : Extent) (items : List Item) (r : Extent) → Placed kernel items → Placed kernel (items ++ item.Mirror r ∷ [])
+mirror-placed kernel items r placed = still-placed kernel items (item.Mirror r) (λ w. refl) (λ w. refl) placed placed.spots
+
 pub trim-placed : (kernel : Extent) (items : List Item) → Placed kernel items → Placed kernel (items ++ item.Trim ∷ [])
 trim-placed kernel items placed = still-placed kernel items item.Trim (λ w. refl) (λ w. refl) placed placed.spots
 
 pub limit-placed : (kernel : Extent) (items : List Item) (at : ℕ) → Placed kernel items → Placed kernel (items ++ item.Limit at ∷ [])
 limit-placed kernel items at placed = still-placed kernel items (item.Limit at) (λ w. refl) (λ w. refl) placed placed.spots
+
+pub upward-placed : (kernel : Extent) (items : List Item) (on : Bool) → Placed kernel items → Placed kernel (items ++ item.Upward on ∷ [])
+upward-placed kernel items on placed = still-placed kernel items (item.Upward on) (λ w. refl) (λ w. refl) placed placed.spots
 
 -- from the items on the reserved table grew beside the range: the memory table and the limit are as they were, and what the range was
 -- clear of it still is

@@ -11,14 +11,14 @@ use Rattle.memblock_model.specs.Tables.{room_of, moved_to, live}
 use Rattle.memblock_model.specs.Search.{best}
 use Rattle.growth_model.specs.declared.request.Request.{Request}
 use Rattle.growth_model.specs.Outcome.{after, write, ◌>>◌}
-use Rattle.growth_model.specs.Growth.{frames_at, table_query, new_in, two, grown, claimed, old_frames, leave, memory_growth_at, memory_growth, added, noded}
+use Rattle.growth_model.specs.Growth.{frames_at, table_query, new_in, two, grown, claimed, old_frames, leave, memory_growth_at, memory_growth, added, noded, mirrored}
 use Rattle.growth_model.specs.Request.{place_for}
 use Rattle.growth_model.specs.Ends.{Ends}
 use Rattle.growth_model.specs.Sound.{Clear, Unclaimed, Spots, Placed, IsAway}
 use Rattle.growth_model.proofs.CutLaws.{EachCut, cuts-last, cuts-then, cuts-grown}
 use Rattle.growth_model.proofs.SpotLaws.{frames, apart-clear, old-clear, Spots-swap}
 use Rattle.growth_model.proofs.FoundLaws.{found-fits, found-unclaimed, place-unclaimed, unclaimed-away}
-use Rattle.growth_model.proofs.PlacedLaws.{live_by, live-is, live-same, placed-more, owners-of, moves-of, rooms-of, claim-placed, mem-placed, node-placed, for_table, move-spots}
+use Rattle.growth_model.proofs.PlacedLaws.{live_by, live-is, live-same, placed-more, owners-of, moves-of, rooms-of, claim-placed, mem-placed, node-placed, mirror-placed, for_table, move-spots}
 use Rattle.growth_model.proofs.PlacedReservedLaws.{roomy, room-going, claimed-cuts, freed-cuts, claimed-after, place-inside}
 
 -- a place for the memory table, whose room is that at the items: aligned, and nobody's
@@ -233,14 +233,24 @@ added-cuts kernel items r placed =
     (cuts-grown (Placed kernel) which.Memory more memory_growth items (λ t was. memory-cuts kernel t was) placed)
     (λ _. (here, mem-placed kernel (after items (grown which.Memory more memory_growth items)) r here))
 
+-- so does each item that is written behind room for two records, and keeps the places
+marked-cuts : (kernel : Extent) (items : List Item) (i : Item) → ((t : List Item) → Placed kernel t → Placed kernel (t ++ i ∷ []))
+    → Placed kernel items → EachCut (Placed kernel) items ((grown which.Memory two memory_growth >> write i) items).steps
+marked-cuts kernel items i keeps placed =
+    let here = grown-placed kernel items two placed in
+    cuts-then (Placed kernel) items (grown which.Memory two memory_growth) (write i)
+    (cuts-grown (Placed kernel) which.Memory two memory_growth items (λ t was. memory-cuts kernel t was) placed)
+    (λ _. (here, keeps (after items (grown which.Memory two memory_growth items)) here))
+
 pub noded-cuts : (kernel : Extent) (items : List Item) (r : Extent) (node : ℕ) → Placed kernel items
     → EachCut (Placed kernel) items (noded r node items).steps
 unfolding noded
-noded-cuts kernel items r node placed =
-    let here = grown-placed kernel items two placed in
-    cuts-then (Placed kernel) items (grown which.Memory two memory_growth) (write (item.Node r node))
-    (cuts-grown (Placed kernel) which.Memory two memory_growth items (λ t was. memory-cuts kernel t was) placed)
-    (λ _. (here, node-placed kernel (after items (grown which.Memory two memory_growth items)) r node here))
+noded-cuts kernel items r node placed = marked-cuts kernel items (item.Node r node) (λ t here. node-placed kernel t r node here) placed
+
+pub mirrored-cuts : (kernel : Extent) (items : List Item) (r : Extent) → Placed kernel items
+    → EachCut (Placed kernel) items (mirrored r items).steps
+unfolding mirrored
+mirrored-cuts kernel items r placed = marked-cuts kernel items (item.Mirror r) (λ t here. mirror-placed kernel t r here) placed
 
 -- throughout the claim of a place that an allocation found, whoever it is for
 pub allocated-cuts : (kernel : Extent) (items : List Item) (r : Request) (place : ℕ) (o : Owner) → place_for r items ≡ Some place

@@ -10,14 +10,14 @@ use Rattle.growth_model.specs.declared.refusal.Refusal.{Refusal}
 use Rattle.growth_model.specs.declared.refusal.Refusal.TheVariants as refusal
 use Rattle.growth_model.specs.declared.request.Request.{Request}
 use Rattle.growth_model.specs.Outcome.{Outcome, Change, joined, nothing, if_due}
-use Rattle.growth_model.specs.Growth.{is_full, new_in, two, grown, claimed, freed, reserved_growth, memory_growth, added, noded}
+use Rattle.growth_model.specs.Growth.{is_full, new_in, two, grown, claimed, freed, reserved_growth, memory_growth, added, noded, mirrored}
 use Rattle.growth_model.specs.Request.{place_for}
 use Rattle.growth_model.specs.Ends.{EndsBy, Ends, Allocates}
 use Rattle.growth_model.specs.Sound.{keeps, Placed, IsImage, HasBegun, IsAway, MayClaim}
 use Rattle.growth_model.proofs.CutLaws.{EachCut, cuts-ends, cuts-map, cuts-due, cuts-grown}
-use Rattle.growth_model.proofs.PlacedLaws.{aside-same, Going, trim-placed, limit-placed}
+use Rattle.growth_model.proofs.PlacedLaws.{aside-same, Going, trim-placed, limit-placed, upward-placed}
 use Rattle.growth_model.proofs.PlacedReservedLaws.{reserved-cuts, room-cuts, claimed-cuts, freed-cuts}
-use Rattle.growth_model.proofs.PlacedMemoryLaws.{memory-cuts, added-cuts, noded-cuts, allocated-cuts}
+use Rattle.growth_model.proofs.PlacedMemoryLaws.{memory-cuts, added-cuts, noded-cuts, mirrored-cuts, allocated-cuts}
 use Rattle.growth_model.proofs.FirstLaws.{first-full, first-full_by_two, first-claimed, first-placed}
 
 -- from the first claim on
@@ -65,6 +65,11 @@ pub node-stands : {T : Type 0} (kernel : Extent) (r : Result T Refusal) (old new
 node-stands kernel r old new range node stands begun ends =
     stands-by kernel r old new (noded range node old) (λ placed. noded-cuts kernel old range node placed) stands begun ends
 
+pub mirror-stands : {T : Type 0} (kernel : Extent) (r : Result T Refusal) (old new : List Item) (range : Extent)
+    → Stands kernel old → HasBegun old → Ends r old new (mirrored range) → Stands kernel new
+mirror-stands kernel r old new range stands begun ends =
+    stands-by kernel r old new (mirrored range old) (λ placed. mirrored-cuts kernel old range placed) stands begun ends
+
 -- the two growths by themselves, and a claim by an owner that isn't the script: also between the calls
 pub reserved-stands : {T : Type 0} (kernel : Extent) (r : Result T Refusal) (old new : List Item) (range : Extent)
     → Stands kernel old → HasBegun old → Ends r old new (reserved_growth range) → Stands kernel new
@@ -100,6 +105,10 @@ trim-stands kernel old new stands begun is = λ _. subst (Placed kernel) (sym is
 pub limit-stands : (kernel : Extent) (old new : List Item) (at : ℕ) → Stands kernel old → HasBegun old
     → new ≡ old ++ item.Limit at ∷ [] → Stands kernel new
 limit-stands kernel old new at stands begun is = λ _. subst (Placed kernel) (sym is) (limit-placed kernel old at (stands begun))
+
+pub upward-stands : (kernel : Extent) (old new : List Item) (on : Bool) → Stands kernel old → HasBegun old
+    → new ≡ old ++ item.Upward on ∷ [] → Stands kernel new
+upward-stands kernel old new on stands begun is = λ _. subst (Placed kernel) (sym is) (upward-placed kernel old on (stands begun))
 
 pub same-stands : (kernel : Extent) (old new : List Item) → Stands kernel old → new ≡ old → Stands kernel new
 same-stands kernel old new stands is = subst (Stands kernel) (sym is) stands

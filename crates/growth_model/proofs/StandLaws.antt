@@ -12,7 +12,7 @@ use Rattle.memblock_model.specs.declared.which.Which.{Which}
 use Rattle.memblock_model.specs.declared.which.Which.TheVariants as which
 use Rattle.memblock_model.specs.declared.item.Item.{Item}
 use Rattle.memblock_model.specs.Tables.{records_of, room_of, place_of, live}
-use Rattle.memblock_ranges.specs.Spelling.{spelled_table, spelling_of, node_field}
+use Rattle.memblock_ranges.specs.Spelling.{spelled_table, spelling_of, flags_field, node_field}
 use Rattle.memblock_ranges.specs.Tables.{bytes_of}
 use Rattle.memblock_ranges.proofs.SpellLaws.{length-fields_of}
 use Rattle.growth_model.specs.Sound.{Placed, Fits, Clear}
@@ -80,7 +80,7 @@ length-spelled_table (r ∷ rs) zero few = absurd (omega arith)
 length-spelled_table (r ∷ rs) (suc n) few =
     let left : suc n - 1 ≡ n = omega arith in
     let rest = length-spelled_table rs n (omega arith) in
-    let first = length-fields_of r.base r.size (node_field r.value) in
+    let first = length-fields_of r.base r.size (flags_field r.value) (node_field r.value) in
     ap (λ (k : ℕ). length (spelling_of r ++ spelled_table rs k)) left ∙ length-append (spelling_of r) (spelled_table rs n)
     ∙ omega (arith, first, rest)
 

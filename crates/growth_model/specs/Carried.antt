@@ -4,13 +4,14 @@ use Rattle.bm_base.specs.ResultSteps.{◌>>=◌}
 use Rattle.memblock_model.specs.declared.item.Item.{Item}
 use Rattle.memblock_model.specs.declared.item.Item.TheVariants as item
 use Rattle.growth_model.specs.Outcome.{Refused, Outcome, Change, after, write}
-use Rattle.growth_model.specs.Growth.{claimed, freed, added, noded}
+use Rattle.growth_model.specs.Growth.{claimed, freed, added, noded, mirrored}
 
--- the change that ends with the item: a range is added, gets its node, is claimed or freed behind the growth that this needs; the other
--- items are written as they are
+-- the change that ends with the item: a range is added, gets its node, becomes mirrored, is claimed or freed behind the growth that this
+-- needs; the other items are written as they are
 abbrev pub change : Item → Change
 change (item.Mem range) = added range
 change (item.Node range node) = noded range node
+change (item.Mirror range) = mirrored range
 change (item.Claim range who) = claimed range who
 change (item.Free range) = freed range
 change i = write i
@@ -29,11 +30,13 @@ unfoldable pub carried_out : List Item → List Item → Result (List Item) Refu
 carried_out [] items = Ok items
 carried_out (i ∷ is) items = ended items (change i items) >>= λ next. carried_out is next
 
--- whether the item changes memory, what memory carries, or the limit; the others change who has it, and where the tables lie
+-- whether the item changes memory, what memory carries, or the limit; the others change who has it, where the tables lie, and from which
+-- end a search begins
 abbrev pub is_of_memory : Item → Bool
 is_of_memory (item.Mem range) = true
 is_of_memory item.Trim = true
 is_of_memory (item.Node range node) = true
+is_of_memory (item.Mirror range) = true
 is_of_memory (item.Limit at) = true
 is_of_memory i = false
 

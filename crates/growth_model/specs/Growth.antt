@@ -115,3 +115,7 @@ added range = grown which.Memory (new_in which.Memory range) memory_growth >> wr
 -- the memory of a range gets the node (`memblock_set_node`)
 unfoldable pub noded : Extent → ℕ → Change
 noded range node = grown which.Memory two memory_growth >> write (item.Node range node)
+
+-- the memory of a range becomes mirrored (`memblock_mark_mirror`)
+unfoldable pub mirrored : Extent → Change
+mirrored range = grown which.Memory two memory_growth >> write (item.Mirror range)

@@ -1,33 +1,44 @@
 -- What an allocation tries (`memblock_alloc_range_nid`, `memblock_alloc_internal`).
-use Rattle.std.specs.Prelude.{ℕ, ◌==◌, min, if◌then◌else◌, Option, Some, None, List, [], ◌∷◌, ◌++◌, unwrap_or}
+use Rattle.std.specs.Prelude.{ℕ, ◌==◌, Bool, true, false, min, if◌then◌else◌, Option, Some, None, List, [], ◌∷◌, ◌++◌, unwrap_or}
 use Rattle.std.specs.Option.{option_or}
 use Rattle.memblock_model.specs.declared.query.Query.{Query}
 use Rattle.memblock_model.specs.declared.item.Item.{Item}
 use Rattle.memblock_model.specs.Items.{limit_of}
-use Rattle.memblock_model.specs.Search.{best}
+use Rattle.memblock_model.specs.Search.{top}
 use Rattle.growth_model.specs.declared.request.Request.{Request}
 
--- one search: from `lo` on, below the smaller of the request's maximum and the limit, of the node or of any
-abbrev pub attempt : Request → ℕ → ℕ → Option ℕ → Query
-attempt r limit lo wanted = record { lo = lo; hi = min (unwrap_or r.max limit) limit; size = r.size; align = r.align; node = wanted }
+-- one search: what it asks for, and whether mirrored memory alone will do
+pub record Attempt : Type 0 where
+  pub query : Query
+  pub mirror : Bool
+
+-- from `lo` on, below the smaller of the request's maximum and the limit, of the node or of any
+abbrev pub attempt : Request → ℕ → ℕ → Bool → Option ℕ → Attempt
+attempt r limit lo mirror wanted =
+    let asked : Query = record { lo = lo; hi = min (unwrap_or r.max limit) limit; size = r.size; align = r.align; node = wanted } in
+    record { query = asked; mirror = mirror }
 
 -- where a node is only preferred, any node is tried behind it
-abbrev pub anywhere : Request → ℕ → ℕ → Option ℕ → List Query
-anywhere r limit lo None = []
-anywhere r limit lo (Some node) = if r.exact then [] else attempt r limit lo None ∷ []
+abbrev pub anywhere : Request → ℕ → ℕ → Bool → Option ℕ → List Attempt
+anywhere r limit lo mirror None = []
+anywhere r limit lo mirror (Some node) = if r.exact then [] else attempt r limit lo mirror None ∷ []
 
--- the searches from `lo` on
-abbrev pub round : Request → ℕ → ℕ → List Query
-round r limit lo = attempt r limit lo r.node ∷ anywhere r limit lo r.node
+-- the searches of the node, and then of any
+abbrev pub nodes : Request → ℕ → ℕ → Bool → List Attempt
+nodes r limit lo mirror = attempt r limit lo mirror r.node ∷ anywhere r limit lo mirror r.node
+
+-- the searches from `lo` on: those of mirrored memory first, which find nothing where none is mirrored (`choose_memblock_flags`)
+abbrev pub round : Request → ℕ → ℕ → List Attempt
+round r limit lo = nodes r limit lo true ++ nodes r limit lo false
 
 -- all searches in their order: those from the minimum on, and then, where there is a minimum, those without it
-abbrev pub attempts : Request → ℕ → List Query
+abbrev pub attempts : Request → ℕ → List Attempt
 attempts r limit = round r limit r.min ++ (if r.min == 0 then [] else round r limit 0)
 
--- the best place of the first search that has one
-abbrev pub first_best : List Item → List Query → Option ℕ
-first_best items [] = None
-first_best items (q ∷ qs) = option_or (best items q) (first_best items qs)
+-- the place of the first search that has one
+abbrev pub first_top : List Item → List Attempt → Option ℕ
+first_top items [] = None
+first_top items (a ∷ rest) = option_or (top items a.query a.mirror) (first_top items rest)
 
 abbrev pub place_for : Request → List Item → Option ℕ
-place_for r items = first_best items (attempts r (limit_of items))
+place_for r items = first_top items (attempts r (limit_of items))

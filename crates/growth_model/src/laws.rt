@@ -3,7 +3,7 @@
 //! Each change keeps both tables in good places wherever a call of it ends: at its end, at a refusal, and before a step
 //! for which memory ran out. Nothing is asked of the tables' bytes or records for that, nor of the addresses.
 
-ghost use Rattle.std.specs.Prelude.{◌≡◌, ◌⊎◌, ℕ, ◌+◌, ◌*◌, ◌%◌, ◌^◌, ◌≤◌, Option, Some, List, [], ◌∷◌, ◌++◌, Result, Ok, Err};
+ghost use Rattle.std.specs.Prelude.{◌≡◌, ◌⊎◌, ℕ, ◌+◌, ◌*◌, ◌%◌, ◌^◌, ◌≤◌, Bool, Option, Some, List, [], ◌∷◌, ◌++◌, Result, Ok, Err};
 ghost use Rattle.bm_base.specs.Extent.{Extent, end_of};
 ghost use Rattle.bm_base.specs.declared.frame.TheConstants.{FRAME_SIZE};
 ghost use Rattle.memblock_model.specs.declared.which.Which.TheVariants as which;
@@ -18,7 +18,7 @@ ghost use Rattle.memblock_model.specs.Search.{best};
 ghost use Rattle.growth_model.specs.declared.refusal.Refusal.{Refusal};
 ghost use Rattle.growth_model.specs.declared.request.Request.{Request};
 ghost use Rattle.growth_model.specs.Outcome.{Change, ◌>>◌ as in_turn, write};
-ghost use Rattle.growth_model.specs.Growth.{frames_of, frames_at, place_beside, claimed, freed, memory_growth, added, noded};
+ghost use Rattle.growth_model.specs.Growth.{frames_of, frames_at, place_beside, claimed, freed, memory_growth, added, noded, mirrored};
 ghost use Rattle.growth_model.specs.Request.{place_for};
 ghost use Rattle.growth_model.specs.Ends.{Ends, Allocates};
 ghost use Rattle.growth_model.specs.Sound.{Clear, Unclaimed, Placed, IsImage, HasBegun, IsAway, MayClaim};
@@ -49,14 +49,18 @@ pub fn claims_keep_places()
         Placed kernel old → IsAway kernel range old → Ends result old new (freed range) → Placed kernel new }
 {}
 
-/// A law: so they do however memory is added to or given a node, and behind a trim and a new limit.
+/// A law: so they do however memory is added to, given a node or mirrored, and behind a trim, a new limit and a new direction.
 pub fn memory_keeps_places()
     ensures added { (kernel : Extent) (result : Result (Unit {0}) Refusal) (old new : List Item) (range : Extent) →
         Placed kernel old → Ends result old new (added range) → Placed kernel new }
     ensures noded { (kernel : Extent) (result : Result (Unit {0}) Refusal) (old new : List Item) (range : Extent) (node : ℕ) →
         Placed kernel old → Ends result old new (noded range node) → Placed kernel new }
+    ensures mirrored { (kernel : Extent) (result : Result (Unit {0}) Refusal) (old new : List Item) (range : Extent) →
+        Placed kernel old → Ends result old new (mirrored range) → Placed kernel new }
     ensures trim { (kernel : Extent) (items : List Item) → Placed kernel items → Placed kernel (items ++ item.Trim ∷ []) }
     ensures limit { (kernel : Extent) (items : List Item) (at : ℕ) → Placed kernel items → Placed kernel (items ++ item.Limit at ∷ []) }
+    ensures upward { (kernel : Extent) (items : List Item) (on : Bool) → Placed kernel items →
+        Placed kernel (items ++ item.Upward on ∷ []) }
 {}
 
 /// A law: so they do however an allocation ends, whoever it is for.

@@ -6,8 +6,8 @@
 //! of the other table, and a place may be wanting. Here each change is a function of the items so far
 //! (`specs/Outcome.antt`): the items that it writes, step by step, and the growth that was refused, if one was.
 //!
-//! - `specs/Growth.antt`: the growths of both tables, and the four changes that may need them: a claim, a free,
-//!   an added range, a range that gets a node.
+//! - `specs/Growth.antt`: the growths of both tables, and the five changes that may need them: a claim, a free,
+//!   an added range, a range that gets a node, a range that becomes mirrored.
 //! - `specs/Request.antt`: what an allocation tries, in its order.
 //! - `specs/Ends.antt`: how a call may end that carries a change out: as the definition says, or, for want of the
 //!   program's own memory, before one of its steps.

@@ -1,5 +1,5 @@
 //! What growth leaves alone. A boot is told by the items that it wants; between them stand those of growth, which
-//! depend on all that happened before. These laws say that of memory, its nodes and the limit the wanted items
+//! depend on all that happened before. These laws say that of memory, its labels and the limit the wanted items
 //! decide alone: so whatever is said of memory is said without growth.
 
 ghost use Rattle.std.specs.Prelude.{◌≡◌, ℕ, List, ◌++◌, take, Ok};

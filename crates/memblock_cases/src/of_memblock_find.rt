@@ -1,8 +1,8 @@
 //! The search and the runs of unclaimed memory in the tables that a virtual machine's boot leaves.
 
 use crate::ranges::MACHINE;
-use crate::tables::{cover, tables_of};
-use memblock_find::{FreeRange, FreeRuns, Query, find, next_free, prev_free};
+use crate::tables::{cover, mirror, tables_of};
+use memblock_find::{FreeRange, FreeRuns, Mode, Query, find, next_free, prev_free};
 use memblock_model::Which;
 use memblock_ranges::Tables;
 use std::process::Abort;
@@ -16,8 +16,23 @@ enum Answer {
     NoSearch,
 }
 
-// The search for so many bytes in the window, aligned to that power of two.
-fn search(tables: &Tables, lo: u64, hi: u64, size: u64, power: u32, node: Option<u32>) -> Answer {
+// From the top, in any memory.
+const DOWN: Mode = Mode {
+    mirror: false,
+    up: false,
+};
+
+// From below, in any memory.
+const UP: Mode = Mode {
+    mirror: false,
+    up: true,
+};
+
+// A search: its window, its size, its alignment's power of two, and its node.
+type Search = (u64, u64, u64, u32, Option<u32>);
+
+fn search(tables: &Tables, mode: Mode, wanted: Search) -> Answer {
+    let (lo, hi, size, power, node) = wanted;
     if size == 0 || power >= 64 {
         return Answer::NoSearch;
     }
@@ -28,16 +43,18 @@ fn search(tables: &Tables, lo: u64, hi: u64, size: u64, power: u32, node: Option
         align: 1 << power,
         node,
     };
-    match find(tables, &query) {
+    match find(tables, &query, mode) {
         Some(at) => Answer::At(at),
         None => Answer::Nothing,
     }
 }
 
-// Whether this run is answered; a size of 0 is none.
+// Whether this run is answered, and isn't mirrored; a size of 0 is none.
 fn is_told(run: Option<FreeRange>, base: u64, size: u64, node: u32) -> bool {
     match run {
-        Some(run) => run.range.base == base && run.range.size == size && run.node == node,
+        Some(run) => {
+            run.range.base == base && run.range.size == size && run.node == node && !run.mirror
+        }
         None => size == 0,
     }
 }
@@ -45,7 +62,7 @@ fn is_told(run: Option<FreeRange>, base: u64, size: u64, node: u32) -> bool {
 // Each row is a size, its alignment's power of two, and the best place of node 0, which is claimed then.
 fn claim_each(rt: &impl Abort, tables: &mut Tables, rows: &[(u64, u32, u64)]) {
     for (size, power, at) in rows {
-        let answer = search(tables, 0, 0x7FE0000, *size, *power, Some(0));
+        let answer = search(tables, DOWN, (0, 0x7FE0000, *size, *power, Some(0)));
         assert!(rt; answer == Answer::At(*at));
         assert!(rt; cover(tables, Which::Reserved, *at, *size, 1024));
     }
@@ -119,12 +136,12 @@ fn a_virtual_machine_of_128_mib(rt: HostRuntime) -> Result<(), Fail> {
     Ok(())
 }
 
-// A search: its window, its size, its alignment's power of two, its node, and what is answered.
+// A search, and what is answered.
 type Row = (u64, u64, u64, u32, Option<u32>, Answer);
 
-fn compare(rt: &impl Abort, tables: &Tables, rows: &[Row]) {
+fn compare(rt: &impl Abort, tables: &Tables, mode: Mode, rows: &[Row]) {
     for (lo, hi, size, power, node, answer) in rows {
-        assert!(rt; search(tables, *lo, *hi, *size, *power, *node) == *answer);
+        assert!(rt; search(tables, mode, (*lo, *hi, *size, *power, *node)) == *answer);
     }
 }
 
@@ -144,7 +161,7 @@ fn an_exact_fit(rt: HostRuntime) -> Result<(), Fail> {
         (0x100001, end, 0x1, 27, None, Answer::Nothing),
         (0, end, 0, 12, None, Answer::NoSearch),
     ];
-    compare(&rt, &tables, &rows);
+    compare(&rt, &tables, DOWN, &rows);
     Ok(())
 }
 
@@ -174,7 +191,7 @@ fn a_node_border(rt: HostRuntime) -> Result<(), Fail> {
         (0, end, 0x1000, 12, Some(2), Answer::Nothing),
         (0, end, 0x1000, 12, Some(1024), Answer::Nothing),
     ];
-    compare(&rt, &tables, &rows);
+    compare(&rt, &tables, DOWN, &rows);
     let from_below = [
         (0x3FFFFFF, 0x3FFFFFF, 1, 0),
         (0x4000000, 0x4000000, 0x1FD5000, 1),
@@ -219,7 +236,7 @@ fn nodes_in_turn(rt: HostRuntime) -> Result<(), Fail> {
         (0, end, 0x1000, 12, Some(3), Answer::Nothing),
         (0, end, 0xFF000, 12, None, Answer::At(0x701000)),
     ];
-    compare(&rt, &tables, &rows);
+    compare(&rt, &tables, DOWN, &rows);
     Ok(())
 }
 
@@ -239,9 +256,71 @@ fn the_first_frame(rt: HostRuntime) -> Result<(), Fail> {
         (0, last, 0x2001, 0, None, Answer::Nothing),
         (0, 0x1000, 1, 0, None, Answer::Nothing),
     ];
-    compare(&rt, &tables, &rows);
+    compare(&rt, &tables, DOWN, &rows);
     compare_prev(&rt, &tables, &[(last, 0, 0x3000, 1024)]);
     let from_below = [(0x3000, last, 0x1000, 1024), (u64::MAX, 0, 0, 0)];
     compare_next(&rt, &tables, &from_below);
+    Ok(())
+}
+
+// The same machine, of which 0x4000000 .. 0x5000000 is mirrored.
+#[test]
+fn mirrored_memory_and_from_below(rt: HostRuntime) -> Result<(), Fail> {
+    let reserved = [(0, 0x100000), (0x1000000, 0x3000000)];
+    let mut tables = tables_of(rt.alloc(), &MACHINE, &reserved)?;
+    assert!(rt; mirror(&mut tables, 0x4000000, 0x1000000));
+    let end = 0x7FE0000;
+    let down = [
+        (0, end, 0x2B000, 6, Some(0), Answer::At(0x4FD5000)),
+        (0, 0x4800000, 0x200000, 21, None, Answer::At(0x4600000)),
+        (0, end, 0x1000001, 0, None, Answer::Nothing),
+        (0, end, 0x1000, 12, Some(1), Answer::Nothing),
+        (0x5000000, end, 1, 0, None, Answer::Nothing),
+    ];
+    let mirrored = Mode {
+        mirror: true,
+        up: false,
+    };
+    compare(&rt, &tables, mirrored, &down);
+    let up = [
+        (0, end, 0x2B000, 6, Some(0), Answer::At(0x100000)),
+        (0, end, 0x1000000, 21, None, Answer::At(0x3000000)),
+        (0, end, 0x1000001, 21, None, Answer::At(0x5000000)),
+        (0x3F00001, end, 0x100000, 20, None, Answer::At(0x4000000)),
+        (0x7FDFFFF, u64::MAX, 1, 0, None, Answer::At(0x7FDFFFF)),
+        (0x7FDFFFF, u64::MAX, 2, 0, None, Answer::Nothing),
+        (0, 0x100FFF, 0x1000, 12, None, Answer::Nothing),
+        (0, end, 0x1000, 63, None, Answer::Nothing),
+    ];
+    compare(&rt, &tables, UP, &up);
+    let mirrored_up = [
+        (0, end, 0x1000, 12, None, Answer::At(0x4000000)),
+        (0x4000001, end, 0x200000, 21, None, Answer::At(0x4200000)),
+        (0, end, 0x1000001, 0, None, Answer::Nothing),
+    ];
+    let mode = Mode { mirror: true, ..UP };
+    compare(&rt, &tables, mode, &mirrored_up);
+    let run = next_free(&tables, 0x3FFFFFF);
+    assert!(rt; is_told(run, 0x3FFFFFF, 1, 0));
+    let told = match next_free(&tables, 0x4000000) {
+        Some(run) => run.mirror && run.range.size == 0x1000000,
+        None => false,
+    };
+    assert!(rt; told);
+    Ok(())
+}
+
+// No search from below answers the first frame.
+#[test]
+fn from_below_over_the_first_frame(rt: HostRuntime) -> Result<(), Fail> {
+    let tables = tables_of(rt.alloc(), &[(0, 0x3000, 1024)], &[(0x2000, 0x2800)])?;
+    let rows = [
+        (0, 0x3000, 1, 0, None, Answer::At(0x1000)),
+        (0, 0x3000, 0x1000, 12, None, Answer::At(0x1000)),
+        (0x1001, 0x3000, 0x800, 11, None, Answer::At(0x1800)),
+        (0x1801, 0x3000, 0x800, 11, None, Answer::At(0x2800)),
+        (0x1801, 0x2FFF, 0x800, 11, None, Answer::Nothing),
+    ];
+    compare(&rt, &tables, UP, &rows);
     Ok(())
 }

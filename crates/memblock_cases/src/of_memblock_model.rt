@@ -5,7 +5,7 @@ ghost use Rattle.memblock_model.specs.declared.owner.Owner.{Owner as AnyOwner};
 
 use crate::ranges::bytes;
 use bm_base::Range;
-use memblock_model::{Item, Label, Owner, OwnerRun, Query, Tag, Which};
+use memblock_model::{Item, Label, MIRROR_FLAG, Owner, OwnerRun, Query, Tag, Which};
 use std::process::Abort;
 use std::test::Fail;
 
@@ -102,8 +102,18 @@ fn queries_and_labels(rt: HostRuntime) {
         ..query
     };
     assert!(rt; query == query && query != of_node_0);
-    assert!(rt; Tag::NoNode != Tag::Node(0));
-    assert!(rt; Label::plain().with_node(1023).node() == Some(1023));
+    let bare = Tag::Memory {
+        node: None,
+        mirror: false,
+    };
+    let mirrored = Tag::Memory {
+        node: None,
+        mirror: true,
+    };
+    assert!(rt; bare != mirrored && bare != Tag::Absent);
+    let label = Label::plain().with_node(1023).with_mirror();
+    assert!(rt; label.node() == Some(1023) && label.mirror() && label.flags() == MIRROR_FLAG);
+    assert!(rt; Label::of(Some(1023), MIRROR_FLAG) == label && label != Label::of(Some(1023), 1));
 }
 
 // The run ends where addresses end.
@@ -139,9 +149,14 @@ fn values_print_their_parts(rt: HostRuntime) -> Result<(), Fail> {
         align: 1,
         node: Some(3),
     };
-    let text = format!(in rt.alloc(); "{query:?} {:?}", Tag::Node(3))?;
+    let tag = Tag::Memory {
+        node: Some(3),
+        mirror: true,
+    };
+    let text = format!(in rt.alloc(); "{query:?} {tag:?}")?;
     assert!(rt;
-        text.as_str() == "Query { lo: 1, hi: 9, size: 2, align: 1, node: Some(3) } Node(3)"
+        text.as_str()
+            == "Query { lo: 1, hi: 9, size: 2, align: 1, node: Some(3) } Memory { node: Some(3), mirror: true }"
     );
     Ok(())
 }

@@ -1,10 +1,10 @@
 //! The tables as a machine's boot leaves them, list by list and byte by byte.
 
 use crate::ranges::{KERNEL, bytes};
-use crate::tables::{FIRST_RECORD, cover};
+use crate::tables::{FIRST_RECORD, cover, mirror};
 use bm_base::{Memory, Range};
 use memblock_model::Which;
-use memblock_ranges::{Head, Heads, Region, Tables, region_at};
+use memblock_ranges::{Head, Heads, Region, Tables, node_of_field, region_at};
 use phys_store::Store;
 use std::process::Abort;
 use std::test::Fail;
@@ -16,6 +16,7 @@ enum Step {
     Reserve(u64, u64),
     Free(u64, u64),
     Node(u64, u64, u32),
+    Mirror(u64, u64),
     Trim,
 }
 
@@ -26,6 +27,7 @@ fn act(tables: &mut Tables, step: Step) -> bool {
         Step::Reserve(base, size) => cover(tables, Which::Reserved, base, size, 1024),
         Step::Free(base, size) => free(tables, base, size),
         Step::Node(base, size, node) => set_node(tables, base, size, node),
+        Step::Mirror(base, size) => mirror(tables, base, size),
         Step::Trim => {
             tables.trim();
             true
@@ -57,7 +59,7 @@ fn set_node(tables: &mut Tables, base: u64, size: u64, node: u32) -> bool {
     true
 }
 
-// Whether the table's records are these: base, size, node.
+// Whether the table's records, of which none is mirrored, are these: base, size, node.
 fn has(tables: &Tables, which: Which, records: &[(u64, u64, u32)]) -> bool {
     if tables.head(which).count != records.len() as u64 {
         return false;
@@ -71,6 +73,31 @@ fn has(tables: &Tables, which: Which, records: &[(u64, u64, u32)]) -> bool {
             node,
         };
         if tables.region(which, i) != expected || tables.records(which).get(i) != expected {
+            return false;
+        }
+    }
+    true
+}
+
+// Whether the memory table's records are these: base, size, flags, node.
+fn has_marked(tables: &Tables, records: &[(u64, u64, u32, u32)]) -> bool {
+    let list = tables.records(Which::Memory);
+    if list.count() != records.len() as u64 {
+        return false;
+    }
+    for i in 0..list.count() {
+        let (base, size, flags, node) = records[i as usize];
+        let expected = Region {
+            base,
+            size,
+            flags,
+            node,
+        };
+        let label = list.label(i);
+        if list.get(i) != expected
+            || label.node() != node_of_field(node)
+            || label.flags() != flags
+        {
             return false;
         }
     }
@@ -212,6 +239,47 @@ fn claims_and_gaps(rt: &impl Abort, tables: &mut Tables) {
     ];
     assert!(rt; has(tables, Which::Reserved, &reserved));
     assert!(rt; has(tables, Which::Memory, &[(0x2000, 0x3000, 1)]));
+}
+
+// Mirrored memory from the middle of node 0 to the middle of node 1; then all of it is node 2's, and what is added behind isn't
+// mirrored.
+//
+//     0x1000     0x1800     0x2000     0x2800     0x4000     0x5000
+//     |0000000000|0 mirrored|1 mirrored|1111111111|..........|
+#[test]
+fn mirrored_memory(rt: HostRuntime) -> Result<(), Fail> {
+    let mut tables = Tables::new(rt.alloc(), KERNEL)?;
+    let steps = [
+        Step::Add(0x1000, 0x1000, 0),
+        Step::Add(0x2000, 0x2000, 1),
+        Step::Mirror(0x1800, 0x1000),
+        Step::Mirror(0x1C00, 0),
+    ];
+    act_all(&rt, &mut tables, &steps);
+    let halves = [
+        (0x1000, 0x800, 0, 0),
+        (0x1800, 0x800, 2, 0),
+        (0x2000, 0x800, 2, 1),
+        (0x2800, 0x1800, 0, 1),
+    ];
+    assert!(rt; has_marked(&tables, &halves));
+    let second = [
+        0, 0x18, 0, 0, 0, 0, 0, 0, 0, 8, 0, 0, 0, 0, 0, 0, 2, 0, 0, 0, 0, 0, 0, 0,
+    ];
+    compare_bytes(&rt, &tables, &[(0x2FFE018, second)]);
+
+    let later = [Step::Node(0x1000, 0x3000, 2), Step::Add(0, 0x5000, 2)];
+    act_all(&rt, &mut tables, &later);
+    let joined = [
+        (0, 0x1800, 0, 2),
+        (0x1800, 0x1000, 2, 2),
+        (0x2800, 0x2800, 0, 2),
+    ];
+    assert!(rt; has_marked(&tables, &joined));
+    act_all(&rt, &mut tables, &[Step::Trim]);
+    let whole = [(0, 0x1000, 0, 2), (0x3000, 0x2000, 0, 2)];
+    assert!(rt; has_marked(&tables, &whole));
+    Ok(())
 }
 
 // Whether the place is free of tables; then the table moves there.

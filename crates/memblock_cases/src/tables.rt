@@ -30,6 +30,19 @@ pub fn cover(tables: &mut Tables, which: Which, base: u64, size: u64, node: u32)
     true
 }
 
+/// Whether the memory bytes of the range can become mirrored; then they are.
+pub fn mirror(tables: &mut Tables, base: u64, size: u64) -> bool {
+    let Some(range) = Range::new(base, size) else {
+        return false;
+    };
+    let head = tables.head(Which::Memory);
+    if head.room - head.count < 2 {
+        return false;
+    }
+    tables.set_mirror(range);
+    true
+}
+
 // Whether the addresses from one up to another can be covered with the node; then they are.
 fn cover_part(tables: &mut Tables, which: Which, part: Part) -> bool {
     let (from, until, node) = part;

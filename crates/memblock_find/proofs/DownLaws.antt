@@ -88,7 +88,7 @@ look_lower rs from at look known above under other = record {
 }
 
 -- what is unclaimed follows from what both tables say
-unclaimed_is : (memory reserved : Labels) (x : ℕ) (a b : Option Label) → memory x ≡ a → reserved x ≡ b
+pub unclaimed_is : (memory reserved : Labels) (x : ℕ) (a b : Option Label) → memory x ≡ a → reserved x ≡ b
     → unclaimed memory reserved x ≡ (if is_none b then a else None)
 unclaimed_is memory reserved x a b m r =
     ap (λ (o : Option Label). if is_none o then memory x else None) r ∙ ap (λ (o : Option Label). if is_none b then o else None) m
@@ -101,7 +101,7 @@ stretch_stays ms rs c from label known from_is label_is x above under =
     (known.memory.down.stays x (omega arith) under) (known.reserved.down.stays x (omega arith) under) ∙ sym label_is
 
 -- where memory or the claims change, something else is unclaimed
-unclaimed_changes : (carried claimed label : Option Label) → (carried ≢ label) ⊎ (claimed ≢ None) → label ≢ None
+pub unclaimed_changes : (carried claimed label : Option Label) → (carried ≢ label) ⊎ (claimed ≢ None) → label ≢ None
     → (if is_none claimed then carried else None) ≢ label
 unclaimed_changes carried None label (inl other) some = other
 unclaimed_changes carried None label (inr other) some = absurd (other refl)

@@ -3,23 +3,23 @@ use Rattle.std.proofs.Common.{◌≡◌, ℕ, zero, suc, ◌+◌, ◌-◌, ◌^�
 use Rattle.std.proofs.lemmas.Bool.{cases_lt, true≢false}
 use Rattle.std.proofs.lemmas.Bool.Decides.{nat_tests}
 use Rattle.address_runs.specs.Runs.{RunOf, value_at, AreRuns}
-use Rattle.memblock_model.specs.Labels.{Label, Labels, plain_label}
+use Rattle.memblock_model.specs.Labels.{Label, Labels, plain_label, with_node, with_mirror}
 use Rattle.memblock_model.specs.declared.query.Query.{Query}
-use Rattle.memblock_model.specs.Search.{allows, fits_in}
+use Rattle.memblock_model.specs.Search.{fits_in}
 use Rattle.memblock_model.proofs.SearchLaws.{fits_in-parts, fits_in-whole}
 use Rattle.memblock_ranges.specs.Tables.{Contents}
 use Rattle.memblock_find.specs.declared.cursor.Look.{Look}
 use Rattle.memblock_find.specs.declared.cursor.Cursor.{Cursor}
 use Rattle.memblock_find.specs.Free.{unclaimed, free_in, Pass, free_of, IsDownTo, IsUpTo, IsRunBelow, IsRunFrom}
-use Rattle.memblock_find.specs.Places.{IsBetween, NoPlaceEnds, NoneAllowed, IsBestBy}
+use Rattle.memblock_find.specs.Places.{IsBetween, serves, NoPlaceEnds, NoPlaceBegins, NoneServes, IsBestBy, IsBestFrom}
 use Rattle.memblock_find.specs.Walk.{run_at, BegunAmong, BegunBelow, EndedBy, IsLookDown, IsLookUp, label_at, IsDownAt, IsUpAt}
 use Rattle.memblock_find.proofs.DownLaws.{look_gap, look_in, among_all, all_begun}
-use Rattle.memblock_find.proofs.NodeLaws.{not_of_node}
+use Rattle.memblock_find.proofs.NodeLaws.{not_serving}
 use Rattle.memblock_find.proofs.UpLaws.{look_top, look_over}
 
 -- 0x1000 to 0x1FFF of node 0 and 0x2000 to 0x2FFF of node 1, of which 0x1800 to 0x18FF are claimed
 abbrev of_node : ℕ → Label
-of_node node = record { node = Some node }
+of_node node = with_node (Some node) plain_label
 
 abbrev memory_runs : List (RunOf Label)
 memory_runs = record { base = 0x1000; size = 0x1000; value = of_node 0 } ∷ (record { base = 0x2000; size = 0x1000; value = of_node 1 } ∷ [])
@@ -133,27 +133,28 @@ between_no known = let ends = known.below in omega arith
 abbrev pages : Query
 pages = record { lo = 0; hi = 0x4000; size = 0x1000; align = 1; node = None }
 
-page_fits : fits_in (value_at memory_runs) (value_at claims) pages 0x2000 ≡ true
-page_fits = fits_in-whole (value_at memory_runs) (value_at claims) pages 0x2000 (record {
+page_fits : fits_in false (value_at memory_runs) (value_at claims) pages 0x2000 ≡ true
+page_fits = fits_in-whole false (value_at memory_runs) (value_at claims) pages 0x2000 (record {
   aligned = refl;
   low = omega arith;
   first = omega arith;
   high = omega arith;
   held = refl;
   allowed = refl;
+  suited = refl;
   label = λ x above under. grind (arith, nat_tests);
   free = λ x above under. grind (arith, nat_tests);
 })
 
-best_page : IsBestBy (value_at memory_runs) (value_at claims) pages 0x3000 0x2000
+best_page : IsBestBy false (value_at memory_runs) (value_at claims) pages 0x3000 0x2000
 best_page = record { fits = page_fits; last = λ b fits ends. omega arith }
 
-no_page_at_first : IsBestBy (value_at memory_runs) (value_at claims) pages 0x3000 0x1000 → ⊥
+no_page_at_first : IsBestBy false (value_at memory_runs) (value_at claims) pages 0x3000 0x1000 → ⊥
 no_page_at_first known = let order = known.last 0x2000 page_fits (omega arith) in omega arith
 
-no_page_above : NoPlaceEnds (value_at memory_runs) (value_at claims) pages 0x3000 0x3800
+no_page_above : NoPlaceEnds false (value_at memory_runs) (value_at claims) pages 0x3000 0x3800
 no_page_above b fits ends =
-    let place = fits_in-parts (value_at memory_runs) (value_at claims) pages b fits in
+    let place = fits_in-parts false (value_at memory_runs) (value_at claims) pages b fits in
     elim (cases_lt 0x3000 (b + 0x1000)) as (λ _. b + 0x1000 ≤ 0x3000) [
       | inl past ↦
           let last : ℕ = b + 0xFFF in
@@ -163,8 +164,35 @@ no_page_above b fits ends =
       | inr ge ↦ ge
     ]
 
-a_page_ends : NoPlaceEnds (value_at memory_runs) (value_at claims) pages 0x2FFF 0x3000 → ⊥
+a_page_ends : NoPlaceEnds false (value_at memory_runs) (value_at claims) pages 0x2FFF 0x3000 → ⊥
 a_page_ends none = let ends = none 0x2000 page_fits (omega arith) in omega arith
+
+-- and from below: that at 0x2000 is the lowest from there on, and behind it none begins before the window's end
+lowest_page : IsBestFrom false (value_at memory_runs) (value_at claims) pages 0x2000 0x2000
+lowest_page = record { fits = page_fits; first = λ b fits above. above }
+
+not_the_lowest_page : IsBestFrom false (value_at memory_runs) (value_at claims) pages 0x1000 0x2001 → ⊥
+not_the_lowest_page known = let order = known.first 0x2000 page_fits (omega arith) in omega arith
+
+no_page_behind : NoPlaceBegins false (value_at memory_runs) (value_at claims) pages 0x2001 0x4000
+no_page_behind b fits above =
+    let place = fits_in-parts false (value_at memory_runs) (value_at claims) pages b fits in
+    let high = place.high in
+    let last : ℕ = b + 0xFFF in
+    let bare : value_at memory_runs last ≡ None = grind (arith, nat_tests) in
+    let carries = place.label last (omega arith) (omega arith) in
+    absurd (true≢false (sym place.held ∙ ap is_some (sym carries ∙ bare)))
+
+a_page_begins : NoPlaceBegins false (value_at memory_runs) (value_at claims) pages 0x1000 0x2001 → ⊥
+a_page_begins none = let begins = none 0x2000 page_fits (omega arith) in omega arith
+
+-- memory of the node, where one is asked for, and mirrored, where that is; where neither is, anything serves
+serves_examples : (serves false (Some 1) (Some (of_node 1)) ≡ true) × (serves false (Some 0) (Some (of_node 1)) ≡ false)
+    × (serves true (Some 1) (Some (of_node 1)) ≡ false)
+    × (serves true None (Some (with_mirror (of_node 1))) ≡ true)
+    × (serves true None None ≡ false)
+    × (serves false None None ≡ true)
+serves_examples = (refl, refl, refl, refl, refl, refl)
 
 -- the second record, and behind the last one
 record_examples : (run_at memory_runs 1 ≡ record { base = 0x2000; size = 0x1000; value = of_node 1 })
@@ -235,18 +263,18 @@ not_ended known = let end = known.before 1 (omega arith) in omega arith
 
 -- from 0x2000 on there is no memory of node 0, but there is of node 1, and of any
 second_alone : (i x : ℕ) → i < 2 → 0x2000 ≤ x → x < (run_at memory_runs i).base + (run_at memory_runs i).size
-    → allows (Some 0) (Some (run_at memory_runs i).value) ≡ false
+    → serves false (Some 0) (Some (run_at memory_runs i).value) ≡ false
 second_alone zero x less above under = absurd (omega arith)
 second_alone (suc zero) x less above under = refl
 second_alone (suc (suc i)) x less above under = absurd (omega arith)
 
-none_of_node_0 : NoneAllowed (value_at memory_runs) (Some 0) 0x2000 0x4000
-none_of_node_0 x above under = not_of_node 0 x memory_runs (λ i less base ends. second_alone i x less above ends)
+none_of_node_0 : NoneServes false (value_at memory_runs) (Some 0) 0x2000 0x4000
+none_of_node_0 x above under = not_serving false (Some 0) x memory_runs refl (λ i less base ends. second_alone i x less above ends)
 
-some_of_node_1 : NoneAllowed (value_at memory_runs) (Some 1) 0x2000 0x4000 → ⊥
+some_of_node_1 : NoneServes false (value_at memory_runs) (Some 1) 0x2000 0x4000 → ⊥
 some_of_node_1 none = true≢false (none 0x2000 (omega arith) (omega arith))
 
-some_of_any : NoneAllowed (value_at memory_runs) None 0x3000 0x4000 → ⊥
+some_of_any : NoneServes false (value_at memory_runs) None 0x3000 0x4000 → ⊥
 some_of_any none = true≢false (none 0x3000 (omega arith) (omega arith))
 
 -- a walk down at 0x2800: memory of node 1 down to 0x2000, no claim down to 0x1900

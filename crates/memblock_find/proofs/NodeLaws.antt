@@ -1,15 +1,15 @@
--- Passing over records that aren't of the node asked.
-use Rattle.std.proofs.Common.{◌≡◌, ℕ, zero, suc, ◌+◌, ◌-◌, ◌<◌, ◌≤◌, false, Option, Some, List, [], ◌∷◌, length, refl, sym, ◌∙◌, ap, inl, inr, arith}
+-- Passing over records that don't serve.
+use Rattle.std.proofs.Common.{◌≡◌, ℕ, zero, suc, ◌+◌, ◌-◌, ◌<◌, ◌≤◌, Bool, false, Option, Some, None, List, [], ◌∷◌, length, sym, ◌∙◌, ap, inl, inr, arith}
 use Rattle.std.proofs.lemmas.Bool.{cases_lt, true≢false}
 use Rattle.address_runs.specs.Runs.{RunOf, run_end, value_at, AreRuns}
 use Rattle.address_runs.proofs.RunsLaws.{inside, below, behind}
 use Rattle.memblock_model.specs.Labels.{Label, Labels}
-use Rattle.memblock_model.specs.Search.{allows}
 use Rattle.memblock_model.specs.declared.query.Query.{Query}
 use Rattle.memblock_model.proofs.SearchLaws.{fits_in-parts}
 use Rattle.memblock_find.specs.declared.cursor.Look.{Look}
-use Rattle.memblock_find.specs.Places.{NoPlaceEnds, NoneAllowed}
+use Rattle.memblock_find.specs.Places.{serves, NoPlaceEnds, NoneServes}
 use Rattle.memblock_find.specs.Walk.{run_at, BegunBelow, IsLookDown}
+use Rattle.memblock_find.proofs.PlaceLaws.{place_serves}
 use Rattle.memblock_find.proofs.SlotLaws.{ends_before, ends_ascend, bases_ascend, size_at, value_in}
 
 -- the records that begin below a look's bound end by it
@@ -57,30 +57,30 @@ begun_at_end rs count at runs within none end =
           ];
     }
 
--- an address that lies in no record of the node isn't memory of the node
-pub not_of_node : (node x : ℕ) (rs : List (RunOf Label))
-    → ((i : ℕ) → i < length rs → (run_at rs i).base ≤ x → x < run_end (run_at rs i) → allows (Some node) (Some (run_at rs i).value) ≡ false)
-    → allows (Some node) (value_at rs x) ≡ false
-not_of_node node x [] other = refl
-not_of_node node x (r ∷ rs) other =
-    let rest : allows (Some node) (value_at rs x) ≡ false = not_of_node node x rs (λ i less. other (suc i) (omega arith)) in
-    elim (cases_lt x r.base) as (λ _. allows (Some node) (value_at (r ∷ rs) x) ≡ false) [
+-- an address that lies in no record that serves isn't memory that serves, where bytes without memory don't serve
+pub not_serving : (mirror : Bool) (node : Option ℕ) (x : ℕ) (rs : List (RunOf Label)) → serves mirror node None ≡ false
+    → ((i : ℕ) → i < length rs → (run_at rs i).base ≤ x → x < run_end (run_at rs i) → serves mirror node (Some (run_at rs i).value) ≡ false)
+    → serves mirror node (value_at rs x) ≡ false
+not_serving mirror node x [] narrow other = narrow
+not_serving mirror node x (r ∷ rs) narrow other =
+    let rest : serves mirror node (value_at rs x) ≡ false = not_serving mirror node x rs narrow (λ i less. other (suc i) (omega arith)) in
+    elim (cases_lt x r.base) as (λ _. serves mirror node (value_at (r ∷ rs) x) ≡ false) [
       | inl ahead ↦ rw (below r x ahead) rest
-      | inr from ↦ elim (cases_lt x (run_end r)) as (λ _. allows (Some node) (value_at (r ∷ rs) x) ≡ false) [
+      | inr from ↦ elim (cases_lt x (run_end r)) as (λ _. serves mirror node (value_at (r ∷ rs) x) ≡ false) [
         | inl under ↦ rw (inside r x from under) (other zero (omega arith) from under)
         | inr past ↦ rw (behind r x past) rest
       ]
     ]
 
 -- so none is, from the end of the last record before them up to the bound
-pub passed_over : (rs : List (RunOf Label)) (node from count at : ℕ) (look : Look) → IsLookDown rs from look
-    → count ≤ look.slot → (0 < count → at ≡ run_end (run_at rs (count - 1)))
-    → ((i : ℕ) → count ≤ i → i < look.slot → allows (Some node) (Some (run_at rs i).value) ≡ false)
-    → NoneAllowed (value_at rs) (Some node) at look.bound
-passed_over rs node from count at look known fewer end others x above under =
-    not_of_node node x rs (λ i less base ends.
-    elim (cases_lt i look.slot) as (λ _. allows (Some node) (Some (run_at rs i).value) ≡ false) [
-      | inl before ↦ elim (cases_lt i count) as (λ _. allows (Some node) (Some (run_at rs i).value) ≡ false) [
+pub passed_over : (rs : List (RunOf Label)) (mirror : Bool) (node : Option ℕ) (from count at : ℕ) (look : Look) → IsLookDown rs from look
+    → serves mirror node None ≡ false → count ≤ look.slot → (0 < count → at ≡ run_end (run_at rs (count - 1)))
+    → ((i : ℕ) → count ≤ i → i < look.slot → serves mirror node (Some (run_at rs i).value) ≡ false)
+    → NoneServes mirror (value_at rs) node at look.bound
+passed_over rs mirror node from count at look known narrow fewer end others x above under =
+    not_serving mirror node x rs narrow (λ i less base ends.
+    elim (cases_lt i look.slot) as (λ _. serves mirror node (Some (run_at rs i).value) ≡ false) [
+      | inl before ↦ elim (cases_lt i count) as (λ _. serves mirror node (Some (run_at rs i).value) ≡ false) [
         | inl left ↦
             let is = end (omega arith) in
             let within = known.next.within in
@@ -91,26 +91,29 @@ passed_over rs node from count at look known fewer end others x above under =
       | inr ge ↦ let order = known.next.behind i ge less in absurd (omega arith)
     ])
 
--- down from a look whose memory isn't allowed, and then over more of that kind, nothing is allowed
-pub none_allowed_down : (rs : List (RunOf Label)) (node : Option ℕ) (from at until : ℕ) (look : Look) → IsLookDown rs from look
-    → until ≤ from → allows node look.label ≡ false → NoneAllowed (value_at rs) node at look.bound → NoneAllowed (value_at rs) node at until
-none_allowed_down rs node from at until look known under refused passed x above less =
-    elim (cases_lt x look.bound) as (λ _. allows node (value_at rs x) ≡ false) [
+-- down from a look whose memory doesn't serve, and then over more of that kind, nothing serves
+pub none_serves_down : (rs : List (RunOf Label)) (mirror : Bool) (node : Option ℕ) (from at until : ℕ) (look : Look) → IsLookDown rs from look
+    → until ≤ from → serves mirror node look.label ≡ false → NoneServes mirror (value_at rs) node at look.bound
+    → NoneServes mirror (value_at rs) node at until
+none_serves_down rs mirror node from at until look known under refused passed x above less =
+    elim (cases_lt x look.bound) as (λ _. serves mirror node (value_at rs x) ≡ false) [
       | inl lt ↦ passed x above lt
-      | inr ge ↦ ap (λ (o : Option Label). allows node o) (known.down.stays x ge (omega arith)) ∙ refused
+      | inr ge ↦ ap (λ (o : Option Label). serves mirror node o) (known.down.stays x ge (omega arith)) ∙ refused
     ]
 
--- no place ends where nothing is allowed
-pub past_refused : (memory reserved : Labels) (q : Query) (at from : ℕ) → 1 ≤ q.size → NoneAllowed memory q.node at from
-    → NoPlaceEnds memory reserved q from q.hi → NoPlaceEnds memory reserved q at q.hi
-past_refused memory reserved q at from some barred past b fits ends =
+-- no place ends where nothing serves
+pub past_refused : (mirror : Bool) (memory reserved : Labels) (q : Query) (at from : ℕ) → 1 ≤ q.size
+    → NoneServes mirror memory q.node at from
+    → NoPlaceEnds mirror memory reserved q from q.hi → NoPlaceEnds mirror memory reserved q at q.hi
+past_refused mirror memory reserved q at from some barred past b fits ends =
     elim (cases_lt at (b + q.size)) as (λ _. b + q.size ≤ at) [
       | inl lt ↦
-          let place = fits_in-parts memory reserved q b fits in
+          let place = fits_in-parts mirror memory reserved q b fits in
           let last : ℕ = b + q.size - 1 in
           let order = past b fits ends in
           let refused = barred last (omega arith) (omega arith) in
           let label = place.label last (omega arith) (omega arith) in
-          absurd (true≢false (sym place.allowed ∙ ap (λ (o : Option Label). allows q.node o) (sym label) ∙ refused))
+          absurd (true≢false (sym (place_serves mirror memory reserved q b place)
+          ∙ ap (λ (o : Option Label). serves mirror q.node o) (sym label) ∙ refused))
       | inr ge ↦ ge
     ]

@@ -1,5 +1,5 @@
 -- The search over records is the search over items, and there is one run on each side of an address.
-use Rattle.std.proofs.Common.{◌≡◌, ℕ, ◌-◌, ◌^◌, ◌≤◌, Some, None, List, sym, ◌∙◌, ap, inl, inr, arith}
+use Rattle.std.proofs.Common.{◌≡◌, ℕ, ◌-◌, ◌^◌, ◌≤◌, Bool, Some, None, List, sym, ◌∙◌, ap, inl, inr, arith}
 use Rattle.std.proofs.lemmas.Bool.{cases_lt}
 use Rattle.std.proofs.lemmas.Option.{same_Some}
 use Rattle.address_runs.specs.Runs.{RunOf, run_end, value_at}
@@ -9,8 +9,9 @@ use Rattle.memblock_model.specs.declared.query.Query.{Query}
 use Rattle.memblock_model.specs.declared.which.Which.{Which}
 use Rattle.memblock_model.specs.declared.which.Which.TheVariants as which
 use Rattle.memblock_model.specs.Labels.{Label, Labels}
+use Rattle.memblock_model.specs.Items.{upward_of}
 use Rattle.memblock_model.specs.Tables.{table_of, records_of}
-use Rattle.memblock_model.specs.Search.{best_in, best}
+use Rattle.memblock_model.specs.Search.{top_in, top, best_in, best}
 use Rattle.memblock_model.proofs.TableLaws.{value_at-records}
 use Rattle.memblock_ranges.specs.Tables.{Contents}
 use Rattle.memblock_find.specs.Free.{unclaimed, free_in, IsRunBelow, IsRunFrom}
@@ -24,11 +25,24 @@ says w items rs ends is = ap (λ (ss : List (RunOf Label)). value_at ss) is ∙ 
 pub best_says : (items : List Item) (t : Contents) (q : Query)
     → NothingFrom (2 ^ 64) (table_of which.Memory items) → NothingFrom (2 ^ 64) (table_of which.Reserved items)
     → t.memory.records ≡ records_of which.Memory items → t.reserved.records ≡ records_of which.Reserved items
-    → best_in (value_at t.memory.records) (value_at t.reserved.records) q ≡ best items q
+    → best_in (upward_of items) (value_at t.memory.records) (value_at t.reserved.records) q ≡ best items q
 unfolding best
 best_says items t q memory_ends reserved_ends memory reserved =
-    ap (λ (f : Labels). best_in f (value_at t.reserved.records) q) (says which.Memory items t.memory.records memory_ends memory)
-    ∙ ap (λ (f : Labels). best_in (table_of which.Memory items) f q) (says which.Reserved items t.reserved.records reserved_ends reserved)
+    ap (λ (f : Labels). best_in (upward_of items) f (value_at t.reserved.records) q)
+    (says which.Memory items t.memory.records memory_ends memory)
+    ∙ ap (λ (f : Labels). best_in (upward_of items) (table_of which.Memory items) f q)
+    (says which.Reserved items t.reserved.records reserved_ends reserved)
+
+pub top_says : (items : List Item) (t : Contents) (q : Query) (mirror : Bool)
+    → NothingFrom (2 ^ 64) (table_of which.Memory items) → NothingFrom (2 ^ 64) (table_of which.Reserved items)
+    → t.memory.records ≡ records_of which.Memory items → t.reserved.records ≡ records_of which.Reserved items
+    → top_in (record { mirror = mirror; up = upward_of items }) (value_at t.memory.records) (value_at t.reserved.records) q ≡ top items q mirror
+unfolding top
+top_says items t q mirror memory_ends reserved_ends memory reserved =
+    ap (λ (f : Labels). top_in (record { mirror = mirror; up = upward_of items }) f (value_at t.reserved.records) q)
+    (says which.Memory items t.memory.records memory_ends memory)
+    ∙ ap (λ (f : Labels). top_in (record { mirror = mirror; up = upward_of items }) (table_of which.Memory items) f q)
+    (says which.Reserved items t.reserved.records reserved_ends reserved)
 
 pub free_says : (items : List Item) (t : Contents)
     → NothingFrom (2 ^ 64) (table_of which.Memory items) → NothingFrom (2 ^ 64) (table_of which.Reserved items)

@@ -1,16 +1,16 @@
--- Places in a stretch of addresses of one label, and the best of them.
-use Rattle.std.proofs.Common.{◌≡◌, ◌≢◌, ℕ, ◌+◌, ◌-◌, ◌*◌, ◌/◌, ◌%◌, ◌^◌, ◌<◌, ◌≤◌, true, false, is_some, is_none, if◌then◌else◌, Option, Some, None, max, MatchOption, refl, sym, ◌∙◌, ap, subst, inl, inr, arith}
+-- Places in a stretch of addresses of one label, and the top one of them.
+use Rattle.std.proofs.Common.{◌≡◌, ◌≢◌, ℕ, ◌+◌, ◌-◌, ◌*◌, ◌/◌, ◌%◌, ◌^◌, ◌<◌, ◌≤◌, Bool, true, false, is_some, is_none, if◌then◌else◌, Option, Some, None, max, MatchOption, refl, sym, ◌∙◌, ap, subst, inl, inr, arith}
 use Rattle.std.proofs.Math.Nat.{mul-le-mul_right, one-le-pow}
 use Rattle.std.specs.Int.Bits.{bit_and}
 use Rattle.std.proofs.lemmas.Nat.{le-div, div-add-mod', mod-mul-add, and_mask}
-use Rattle.std.proofs.lemmas.Bool.{cases_lt, cases_Bool, true≢false}
+use Rattle.std.proofs.lemmas.Bool.{cases_lt, cases_Bool, true≢false, and_from, and_parts}
 use Rattle.address_runs.specs.Sweep.{Stays}
 use Rattle.memblock_model.specs.Labels.{Label, Labels}
-use Rattle.memblock_model.specs.Search.{allows, fits_in, best_in}
+use Rattle.memblock_model.specs.Search.{allows, suits, fits_in, top_in}
 use Rattle.memblock_model.specs.declared.query.Query.{Query}
-use Rattle.memblock_model.proofs.SearchLaws.{IsPlace, fits_in-parts, fits_in-whole, best_in-last, best_in-fails}
+use Rattle.memblock_model.proofs.SearchLaws.{IsPlace, fits_in-parts, fits_in-whole, top_in-last, top_in-fails}
 use Rattle.memblock_find.specs.Free.{unclaimed, IsDownTo}
-use Rattle.memblock_find.specs.Places.{IsBetween, NoPlaceEnds, IsBestBy}
+use Rattle.memblock_find.specs.Places.{IsBetween, serves, NoPlaceEnds, IsBestBy}
 
 -- rounding down gives a multiple, and the last one
 pub rounded_aligned : (t n : ℕ) → 0 < n → (t - t % n) % n ≡ 0
@@ -29,14 +29,19 @@ rounded_last t n b some aligned under =
     omega arith
 
 -- each byte of a place is unclaimed memory of the place's label
-label_of_place : (memory reserved : Labels) (q : Query) (b x : ℕ) → IsPlace memory reserved q b → b ≤ x → x < b + q.size
+pub label_of_place : (mirror : Bool) (memory reserved : Labels) (q : Query) (b x : ℕ) → IsPlace mirror memory reserved q b → b ≤ x → x < b + q.size
     → unclaimed memory reserved x ≡ memory b
-label_of_place memory reserved q b x place above under =
+label_of_place mirror memory reserved q b x place above under =
     ap (λ (o : Option Label). if is_none o then memory x else None) (place.free x above under) ∙ place.label x above under
 
-held_somewhere : (o : Option Label) → is_some o ≡ true → o ≢ None
+pub held_somewhere : (o : Option Label) → is_some o ≡ true → o ≢ None
 held_somewhere None h = λ same. true≢false (sym h)
 held_somewhere (Some v) h = λ same. cc
+
+-- and its memory serves
+pub place_serves : (mirror : Bool) (memory reserved : Labels) (q : Query) (b : ℕ) → IsPlace mirror memory reserved q b
+    → serves mirror q.node (memory b) ≡ true
+place_serves mirror memory reserved q b place = and_from (allows q.node (memory b)) (suits mirror (memory b)) place.allowed place.suited
 
 -- a place that ends in a run lies in it
 pub record LiesIn (memory : Labels) (from : ℕ) (label : Option Label) (b : ℕ) : Type 0 where
@@ -44,14 +49,14 @@ pub record LiesIn (memory : Labels) (from : ℕ) (label : Option Label) (b : ℕ
   pub carries : memory b ≡ label
   pub held : label ≢ None
 
-pub in_run : (memory reserved : Labels) (q : Query) (from until b : ℕ) (label : Option Label) → 1 ≤ q.size
+pub in_run : (mirror : Bool) (memory reserved : Labels) (q : Query) (from until b : ℕ) (label : Option Label) → 1 ≤ q.size
     → Stays (unclaimed memory reserved) from until label
     → (label ≢ None → IsDownTo (unclaimed memory reserved) from until label)
-    → fits_in memory reserved q b ≡ true → b + q.size ≤ until → from < b + q.size → LiesIn memory from label b
-in_run memory reserved q from until b label some stays down fits ends past =
-    let place = fits_in-parts memory reserved q b fits in
+    → fits_in mirror memory reserved q b ≡ true → b + q.size ≤ until → from < b + q.size → LiesIn memory from label b
+in_run mirror memory reserved q from until b label some stays down fits ends past =
+    let place = fits_in-parts mirror memory reserved q b fits in
     let last : ℕ = b + q.size - 1 in
-    let carries : memory b ≡ label = sym (label_of_place memory reserved q b last place (omega arith) (omega arith))
+    let carries : memory b ≡ label = sym (label_of_place mirror memory reserved q b last place (omega arith) (omega arith))
     ∙ stays last (omega arith) (omega arith) in
     let held : label ≢ None = subst (λ (o : Option Label). o ≢ None) carries (held_somewhere (memory b) place.held) in
     record {
@@ -59,7 +64,7 @@ in_run memory reserved q from until b label some stays down fits ends past =
         | inl lt ↦
             let x : ℕ = from - 1 in
             let same : unclaimed memory reserved x ≡ label =
-            label_of_place memory reserved q b x place (omega arith) (omega arith) ∙ carries in
+            label_of_place mirror memory reserved q b x place (omega arith) (omega arith) ∙ carries in
             absurd ((down held).another x (omega arith) same)
         | inr ge ↦ ge
       ];
@@ -72,120 +77,122 @@ pub record IsStretch (memory reserved : Labels) (from until : ℕ) (label : Opti
   pub stays : Stays (unclaimed memory reserved) from until label
   pub down : label ≢ None → IsDownTo (unclaimed memory reserved) from until label
 
--- no place ends in a stretch that isn't unclaimed memory, or whose label the query doesn't allow
-pub none_bare : (memory reserved : Labels) (q : Query) (from until : ℕ) (label : Option Label) → 1 ≤ q.size
-    → IsStretch memory reserved from until label → label ≡ None → NoPlaceEnds memory reserved q from until
-none_bare memory reserved q from until label some known bare b fits ends =
+-- no place ends in a stretch that isn't unclaimed memory, or whose label doesn't serve
+pub none_bare : (mirror : Bool) (memory reserved : Labels) (q : Query) (from until : ℕ) (label : Option Label) → 1 ≤ q.size
+    → IsStretch memory reserved from until label → label ≡ None → NoPlaceEnds mirror memory reserved q from until
+none_bare mirror memory reserved q from until label some known bare b fits ends =
     elim (cases_lt from (b + q.size)) as (λ _. b + q.size ≤ from) [
-      | inl past ↦ absurd ((in_run memory reserved q from until b label some known.stays known.down fits ends past).held bare)
+      | inl past ↦ absurd ((in_run mirror memory reserved q from until b label some known.stays known.down fits ends past).held bare)
       | inr ge ↦ ge
     ]
 
-pub none_allowed : (memory reserved : Labels) (q : Query) (from until : ℕ) (label : Option Label) (found : Label) → 1 ≤ q.size
+pub none_served : (mirror : Bool) (memory reserved : Labels) (q : Query) (from until : ℕ) (label : Option Label) (found : Label) → 1 ≤ q.size
     → IsStretch memory reserved from until label → label ≡ Some found
-    → allows q.node (Some found) ≡ false → NoPlaceEnds memory reserved q from until
-none_allowed memory reserved q from until label found some known is refused b fits ends =
+    → serves mirror q.node (Some found) ≡ false → NoPlaceEnds mirror memory reserved q from until
+none_served mirror memory reserved q from until label found some known is refused b fits ends =
     elim (cases_lt from (b + q.size)) as (λ _. b + q.size ≤ from) [
       | inl past ↦
-          let lies = in_run memory reserved q from until b label some known.stays known.down fits ends past in
-          let place = fits_in-parts memory reserved q b fits in
-          absurd (true≢false (sym place.allowed ∙ ap (λ (o : Option Label). allows q.node o) (lies.carries ∙ is) ∙ refused))
+          let lies = in_run mirror memory reserved q from until b label some known.stays known.down fits ends past in
+          let place = fits_in-parts mirror memory reserved q b fits in
+          absurd (true≢false (sym (place_serves mirror memory reserved q b place)
+          ∙ ap (λ (o : Option Label). serves mirror q.node o) (lies.carries ∙ is) ∙ refused))
       | inr ge ↦ ge
     ]
 
 -- what is unclaimed memory is memory, and isn't claimed
-memory_there : (carried claimed : Option Label) (label : Label) → (if is_none claimed then carried else None) ≡ Some label
+pub memory_there : (carried claimed : Option Label) (label : Label) → (if is_none claimed then carried else None) ≡ Some label
     → (carried ≡ Some label) × (claimed ≡ None)
 memory_there carried None label same = (same, refl)
 memory_there carried (Some v) label same = cc
 
 -- the last place between the ends of a stretch, in the window, is the best there
-best_between : (memory reserved : Labels) (q : Query) (from until a : ℕ) (label : Option Label) (found : Label)
+best_between : (mirror : Bool) (memory reserved : Labels) (q : Query) (from until a : ℕ) (label : Option Label) (found : Label)
     → 1 ≤ q.size → until ≤ q.hi
-    → IsStretch memory reserved from until label → label ≡ Some found → allows q.node (Some found) ≡ true
+    → IsStretch memory reserved from until label → label ≡ Some found → serves mirror q.node (Some found) ≡ true
     → IsBetween (max (max from q.lo) 4096) until q.size q.align a
     → ((b : ℕ) → IsBetween (max (max from q.lo) 4096) until q.size q.align b → b ≤ a)
-    → IsBestBy memory reserved q until a
-best_between memory reserved q from until a label found some window known is allowed lies last =
+    → IsBestBy mirror memory reserved q until a
+best_between mirror memory reserved q from until a label found some window known is served lies last =
     let low_a : max (max from q.lo) 4096 ≤ a = lies.above in
     let end_a : a + q.size ≤ until = lies.below in
     let there : (x : ℕ) → a ≤ x → x < a + q.size → (memory x ≡ Some found) × (reserved x ≡ None) =
     λ x above under. memory_there (memory x) (reserved x) found (known.stays x (omega arith) (omega arith) ∙ is) in
     let first : memory a ≡ Some found = (there a (omega arith) (omega arith)).0 in
     record {
-      fits = fits_in-whole memory reserved q a (record {
+      fits = fits_in-whole mirror memory reserved q a (record {
         aligned = lies.aligned;
         low = omega arith;
         first = omega arith;
         high = omega arith;
         held = ap is_some first;
-        allowed = ap (λ (o : Option Label). allows q.node o) first ∙ allowed;
+        allowed = ap (λ (o : Option Label). allows q.node o) first ∙ (and_parts (allows q.node (Some found)) (suits mirror (Some found)) served).0;
+        suited = ap (λ (o : Option Label). suits mirror o) first ∙ (and_parts (allows q.node (Some found)) (suits mirror (Some found)) served).1;
         label = λ x above under. (there x above under).0 ∙ sym first;
         free = λ x above under. (there x above under).1;
       });
       last = λ b fits ends. elim (cases_lt from (b + q.size)) as (λ _. b ≤ a) [
         | inl past ↦
-            let inside = in_run memory reserved q from until b label some known.stays known.down fits ends past in
-            let place = fits_in-parts memory reserved q b fits in
+            let inside = in_run mirror memory reserved q from until b label some known.stays known.down fits ends past in
+            let place = fits_in-parts mirror memory reserved q b fits in
             last b (record { aligned = place.aligned; above = omega (arith, inside.above, place.low, place.first); below = ends })
         | inr ge ↦ omega arith
       ];
     }
 
--- so what is answered of a stretch of allowed memory is the best place in it, or there is none
-pub best_of_stretch : (memory reserved : Labels) (q : Query) (from until : ℕ) (label : Option Label) (found : Label) (answer : Option ℕ)
+-- so what is answered of a stretch of memory that serves is the best place in it, or there is none
+pub best_of_stretch : (mirror : Bool) (memory reserved : Labels) (q : Query) (from until : ℕ) (label : Option Label) (found : Label) (answer : Option ℕ)
     → 1 ≤ q.size → until ≤ q.hi
-    → IsStretch memory reserved from until label → label ≡ Some found → allows q.node (Some found) ≡ true
+    → IsStretch memory reserved from until label → label ≡ Some found → serves mirror q.node (Some found) ≡ true
     → MatchOption answer ((b : ℕ) → IsBetween (max (max from q.lo) 4096) until q.size q.align b → ⊥)
     (λ a. IsBetween (max (max from q.lo) 4096) until q.size q.align a
     × ((b : ℕ) → IsBetween (max (max from q.lo) 4096) until q.size q.align b → b ≤ a))
-    → MatchOption answer (NoPlaceEnds memory reserved q from until) (IsBestBy memory reserved q until)
-best_of_stretch memory reserved q from until label found None some window known is allowed none =
+    → MatchOption answer (NoPlaceEnds mirror memory reserved q from until) (IsBestBy mirror memory reserved q until)
+best_of_stretch mirror memory reserved q from until label found None some window known is served none =
     λ b fits ends. elim (cases_lt from (b + q.size)) as (λ _. b + q.size ≤ from) [
       | inl past ↦
-          let inside = in_run memory reserved q from until b label some known.stays known.down fits ends past in
-          let place = fits_in-parts memory reserved q b fits in
+          let inside = in_run mirror memory reserved q from until b label some known.stays known.down fits ends past in
+          let place = fits_in-parts mirror memory reserved q b fits in
           absurd (none b (record { aligned = place.aligned; above = omega (arith, inside.above, place.low, place.first); below = ends }))
       | inr ge ↦ ge
     ]
-best_of_stretch memory reserved q from until label found (Some a) some window known is allowed best =
-    best_between memory reserved q from until a label found some window known is allowed best.0 best.1
+best_of_stretch mirror memory reserved q from until label found (Some a) some window known is served best =
+    best_between mirror memory reserved q from until a label found some window known is served best.0 best.1
 
 -- the best place of the last stretch is the best, where all stretches above have none
-best_found : (memory reserved : Labels) (q : Query) (at a : ℕ) → NoPlaceEnds memory reserved q at q.hi
-    → IsBestBy memory reserved q at a → a < 2 ^ 64 → best_in memory reserved q ≡ Some a
-best_found memory reserved q at a past best small = best_in-last memory reserved q a (record {
+best_found : (mirror : Bool) (memory reserved : Labels) (q : Query) (at a : ℕ) → NoPlaceEnds mirror memory reserved q at q.hi
+    → IsBestBy mirror memory reserved q at a → a < 2 ^ 64 → top_in (record { mirror = mirror; up = false }) memory reserved q ≡ Some a
+best_found mirror memory reserved q at a past best small = top_in-last mirror memory reserved q a (record {
   below = small;
   passes = best.fits;
-  last = λ b less fits. best.last b fits (past b fits (fits_in-parts memory reserved q b fits).high);
+  last = λ b less fits. best.last b fits (past b fits (fits_in-parts mirror memory reserved q b fits).high);
 })
 
 -- and where the walk has come below the window there is none
-pub none_found : (memory reserved : Labels) (q : Query) (at : ℕ) → 1 ≤ q.size → NoPlaceEnds memory reserved q at q.hi
-    → at ≤ max q.lo 4096 → best_in memory reserved q ≡ None
-none_found memory reserved q at some past low = best_in-fails memory reserved q (λ b less.
-    elim (cases_Bool (fits_in memory reserved q b)) as (λ _. fits_in memory reserved q b ≡ false) [
+pub none_found : (mirror : Bool) (memory reserved : Labels) (q : Query) (at : ℕ) → 1 ≤ q.size → NoPlaceEnds mirror memory reserved q at q.hi
+    → at ≤ max q.lo 4096 → top_in (record { mirror = mirror; up = false }) memory reserved q ≡ None
+none_found mirror memory reserved q at some past low = top_in-fails (record { mirror = mirror; up = false }) memory reserved q (λ b less.
+    elim (cases_Bool (fits_in mirror memory reserved q b)) as (λ _. fits_in mirror memory reserved q b ≡ false) [
       | inl fits ↦
-          let place = fits_in-parts memory reserved q b fits in
+          let place = fits_in-parts mirror memory reserved q b fits in
           let ends = past b fits place.high in
           absurd (omega (arith, place.low, place.first))
       | inr fails ↦ fails
     ])
 
-pub best_answer : (memory reserved : Labels) (q : Query) (from at : ℕ) (answer : Option ℕ) → NoPlaceEnds memory reserved q at q.hi
-    → MatchOption answer (NoPlaceEnds memory reserved q from at) (IsBestBy memory reserved q at)
-    → is_some answer ≡ true → q.hi < 2 ^ 64 → answer ≡ best_in memory reserved q
-best_answer memory reserved q from at None past best some small = absurd (true≢false (sym some))
-best_answer memory reserved q from at (Some a) past best some small =
-    let high = (fits_in-parts memory reserved q a best.fits).high in
-    sym (best_found memory reserved q at a past best (omega arith))
+pub best_answer : (mirror : Bool) (memory reserved : Labels) (q : Query) (from at : ℕ) (answer : Option ℕ) → NoPlaceEnds mirror memory reserved q at q.hi
+    → MatchOption answer (NoPlaceEnds mirror memory reserved q from at) (IsBestBy mirror memory reserved q at)
+    → is_some answer ≡ true → q.hi < 2 ^ 64 → answer ≡ top_in (record { mirror = mirror; up = false }) memory reserved q
+best_answer mirror memory reserved q from at None past best some small = absurd (true≢false (sym some))
+best_answer mirror memory reserved q from at (Some a) past best some small =
+    let high = (fits_in-parts mirror memory reserved q a best.fits).high in
+    sym (best_found mirror memory reserved q at a past best (omega arith))
 
 -- with no place in a stretch none ends above it
-pub no_answer : (memory reserved : Labels) (q : Query) (from at : ℕ) (answer : Option ℕ) → NoPlaceEnds memory reserved q at q.hi
-    → MatchOption answer (NoPlaceEnds memory reserved q from at) (IsBestBy memory reserved q at)
-    → is_some answer ≡ false → NoPlaceEnds memory reserved q from q.hi
-no_answer memory reserved q from at None past none is = λ b fits ends. none b fits (past b fits ends)
-no_answer memory reserved q from at (Some a) past best is = absurd (true≢false is)
+pub no_answer : (mirror : Bool) (memory reserved : Labels) (q : Query) (from at : ℕ) (answer : Option ℕ) → NoPlaceEnds mirror memory reserved q at q.hi
+    → MatchOption answer (NoPlaceEnds mirror memory reserved q from at) (IsBestBy mirror memory reserved q at)
+    → is_some answer ≡ false → NoPlaceEnds mirror memory reserved q from q.hi
+no_answer mirror memory reserved q from at None past none is = λ b fits ends. none b fits (past b fits ends)
+no_answer mirror memory reserved q from at (Some a) past best is = absurd (true≢false is)
 
 -- the low bits that a mask leaves are the remainder
 pub mask_rest : (t n k : ℕ) → n ≡ 2 ^ k → bit_and t (n - 1) ≡ t % n

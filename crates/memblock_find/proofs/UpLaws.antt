@@ -1,11 +1,15 @@
 -- What a look up tells, and the stretch of addresses that two looks tell of.
-use Rattle.std.proofs.Common.{◌≡◌, ◌≢◌, ◌⊎◌, ℕ, ◌+◌, ◌-◌, ◌^◌, ◌<◌, ◌≤◌, Some, None, List, length, refl, sym, subst, inl, inr, arith}
+use Rattle.std.proofs.Common.{◌≡◌, ◌≢◌, ◌⊎◌, ℕ, ◌+◌, ◌-◌, ◌^◌, ◌<◌, ◌≤◌, is_none, if◌then◌else◌, Option, Some, None, List, length, min, refl, sym, ◌∙◌, ap, subst, inl, inr, arith}
 use Rattle.std.proofs.lemmas.Bool.{cases_lt}
 use Rattle.address_runs.specs.Runs.{RunOf, run_end, value_at, AreRuns}
 use Rattle.address_runs.specs.Edits.{NothingFrom}
+use Rattle.address_runs.specs.Sweep.{Stays}
 use Rattle.memblock_model.specs.Labels.{Label}
 use Rattle.memblock_find.specs.declared.cursor.Look.{Look}
-use Rattle.memblock_find.specs.Walk.{run_at, EndedBy, IsLookUp}
+use Rattle.memblock_find.specs.declared.cursor.Cursor.{Cursor}
+use Rattle.memblock_find.specs.Free.{unclaimed, IsUpTo}
+use Rattle.memblock_find.specs.Walk.{run_at, EndedBy, IsLookUp, IsUpAt, label_at}
+use Rattle.memblock_find.proofs.DownLaws.{unclaimed_is, unclaimed_changes}
 use Rattle.memblock_find.proofs.SlotLaws.{ends_before, ends_ascend, bases_ascend, size_at, value_in, none_beside, other_past}
 
 -- with every record behind it nothing is at the address or above
@@ -115,3 +119,45 @@ pub not_ended_from : (rs : List (RunOf Label)) (at middle : ℕ) → AreRuns rs 
     → (i : ℕ) → middle ≤ i → i < length rs → at < run_end (run_at rs i)
 not_ended_from rs at middle runs behind i from within =
     let ends = ends_ascend middle i rs runs from within in omega arith
+
+-- the addresses of a cursor's stretch upward carry its label
+pub stretch_rises : (ms rs : List (RunOf Label)) (c : Cursor) (until : ℕ) (label : Option Label) → IsUpAt ms rs c
+    → until ≡ min c.memory.bound c.reserved.bound → label ≡ label_at c → Stays (unclaimed (value_at ms) (value_at rs)) c.at until label
+stretch_rises ms rs c until label known until_is label_is x above under =
+    unclaimed_is (value_at ms) (value_at rs) x c.memory.label c.reserved.label
+    (known.memory.stays x above (omega arith)) (known.reserved.stays x above (omega arith)) ∙ sym label_is
+
+stretch_stops : (ms rs : List (RunOf Label)) (at : ℕ) (m r : Look) → IsLookUp ms at m → IsLookUp rs at r → r.label ≡ None → m.label ≢ None
+    → unclaimed (value_at ms) (value_at rs) (min m.bound r.bound) ≢ m.label
+stretch_stops ms rs at m r memory reserved bare some =
+    elim (cases_lt r.bound m.bound) as (λ _. unclaimed (value_at ms) (value_at rs) (min m.bound r.bound) ≢ m.label) [
+      | inl lt ↦
+          let small = memory.small in
+          let least : min m.bound r.bound ≡ r.bound = omega arith in
+          rw least (unclaimed_changes (value_at ms r.bound) (value_at rs r.bound) m.label
+          (inr (λ same. reserved.other (omega arith) (same ∙ sym bare))) some)
+      | inr ge ↦
+          let least : min m.bound r.bound ≡ m.bound = omega arith in
+          rw least (unclaimed_changes (value_at ms m.bound) (value_at rs m.bound) m.label (inl (memory.another some)) some)
+    ]
+
+-- of what both looks tell: memory's label, and no claim
+bare_claims : (carried claimed : Option Label) → (if is_none claimed then carried else None) ≢ None
+    → (claimed ≡ None) × ((if is_none claimed then carried else None) ≡ carried)
+bare_claims carried None some = (refl, refl)
+bare_claims carried (Some v) some = absurd (some refl)
+
+-- and where they are unclaimed memory, the address behind them carries something else
+pub stretch_up : (ms rs : List (RunOf Label)) (c : Cursor) (until : ℕ) (label : Option Label) → IsUpAt ms rs c
+    → until ≡ min c.memory.bound c.reserved.bound → label ≡ label_at c → label ≢ None
+    → IsUpTo (unclaimed (value_at ms) (value_at rs)) c.at until label
+stretch_up ms rs c until label known until_is label_is some =
+    let held : label_at c ≢ None = subst (λ (o : Option Label). o ≢ None) label_is some in
+    let parts = bare_claims c.memory.label c.reserved.label held in
+    let is : label ≡ c.memory.label = label_is ∙ parts.1 in
+    let told : c.memory.label ≢ None = subst (λ (o : Option Label). o ≢ None) is some in
+    record {
+      stays = stretch_rises ms rs c until label known until_is label_is;
+      another = λ same. stretch_stops ms rs c.at c.memory c.reserved known.memory known.reserved parts.0 told
+          (ap (unclaimed (value_at ms) (value_at rs)) (sym until_is) ∙ same ∙ is);
+    }

@@ -1,13 +1,13 @@
 //! The walk down: from an address to lower ones, as `__next_mem_range_rev` goes. Where it begins, a binary
 //! search finds the record of each table; from there on each record is looked at once in either table, but for
-//! those that a search for a node passes over (`node.rt`).
+//! those that a search for a node, or for mirrored memory, passes over (`node.rt`).
 ghost use Rattle.std.specs.Prelude.{◌≡◌, ◌≢◌, ◌<◌, ◌≤◌, max, None};
 ghost use Rattle.address_runs.specs.Sweep.{Stays};
 ghost use Rattle.memblock_find.specs.Free.{free_in, IsDownTo};
 ghost use Rattle.memblock_find.specs.Walk.{BegunAmong, BegunBelow, IsLookDown, IsDownAt};
 
 use crate::cursor::{Cursor, Lists, Look};
-use memblock_ranges::{Records, label_of};
+use memblock_ranges::Records;
 
 /// How many records begin below the address.
 fn begun_below(records: &Records<'_>, at: u64) -> u64
@@ -59,7 +59,7 @@ pub fn look_down(records: &Records<'_>, slot: u64, at: u64) -> Look
         }
     } else {
         Look {
-            label: Some(label_of(region.node)),
+            label: Some(records.label(slot - 1)),
             bound: region.base,
             slot: slot - 1,
         }

@@ -21,25 +21,27 @@ pub struct FreeRange {
     pub range: Range,
     /// The node; 1,024 means none (`MAX_NUMNODES`).
     pub node: u32,
+    /// Whether it is mirrored (`MEMBLOCK_MIRROR`).
+    pub mirror: bool,
 }
 
 impl Model for FreeRange {
     ghost use Rattle.std.specs.Prelude.{◌+◌, ◌^◌, ◌<◌, ◌≤◌};
     ghost use Rattle.address_runs.specs.Runs.{RunOf};
     ghost use Rattle.memblock_model.specs.Labels.{Label as AnyLabel};
-    ghost use Rattle.memblock_ranges.specs.Spelling.{label_of, node_field};
+    ghost use Rattle.memblock_ranges.specs.Spelling.{node_of_field, node_field};
 
     ghost Value = { RunOf AnyLabel };
 
-    ghost view = { λ r. record { base = r.range.base; size = r.range.size; value = label_of r.node } };
+    ghost view = { λ r. record { base = r.range.base; size = r.range.size; value = record { node = node_of_field r.node; mirror = r.mirror } } };
 
     ghost invariant = { λ r. (r.range.base + r.range.size < 2 ^ 64) × (r.node ≤ 1024) };
 
-    ghost inverse = { λ r. record { range = record { base = r.base; size = r.size }; node = node_field r.value } };
+    ghost inverse = { λ r. record { range = record { base = r.base; size = r.size }; node = node_field r.value; mirror = r.value.mirror } };
 }
 
 impl FreeRange {
-    /// The addresses from the one up to the other, with the label's node.
+    /// The addresses from the one up to the other, with what the label says.
     fn between(from: u64, until: u64, label: Label) -> FreeRange
         requires { from ≤ until }
         ensures { result ≡ record { base = from; size = until - from; value = label } }
@@ -50,6 +52,7 @@ impl FreeRange {
                 size: until - from,
             },
             node: node_field(label),
+            mirror: label.mirror(),
         }
     }
 }

@@ -1,14 +1,15 @@
 //! The laws of the search and of runs of unclaimed memory, as functions that do nothing: what the layers
 //! above may rest on.
-ghost use Rattle.std.specs.Prelude.{◌≡◌, ℕ, ◌^◌, List};
+ghost use Rattle.std.specs.Prelude.{◌≡◌, ℕ, ◌^◌, Bool, List};
 ghost use Rattle.address_runs.specs.Runs.{RunOf, value_at};
 ghost use Rattle.address_runs.specs.Edits.{NothingFrom};
 ghost use Rattle.memblock_model.specs.declared.item.Item.{Item};
 ghost use Rattle.memblock_model.specs.declared.query.Query.{Query as AnyQuery};
 ghost use Rattle.memblock_model.specs.declared.which.Which.TheVariants as which;
 ghost use Rattle.memblock_model.specs.Labels.{Label, Labels};
+ghost use Rattle.memblock_model.specs.Items.{upward_of};
 ghost use Rattle.memblock_model.specs.Tables.{table_of, records_of};
-ghost use Rattle.memblock_model.specs.Search.{best_in, best};
+ghost use Rattle.memblock_model.specs.Search.{top_in, top, best_in, best};
 ghost use Rattle.memblock_ranges.specs.Tables.{Contents};
 ghost use Rattle.memblock_find.specs.Free.{unclaimed, free_in, IsRunBelow, IsRunFrom};
 
@@ -18,7 +19,12 @@ pub fn searches_follow_the_items()
     ensures best { (items : List Item) (t : Contents) (q : AnyQuery) →
         NothingFrom (2 ^ 64) (table_of which.Memory items) → NothingFrom (2 ^ 64) (table_of which.Reserved items) →
         t.memory.records ≡ records_of which.Memory items → t.reserved.records ≡ records_of which.Reserved items →
-        best_in (value_at t.memory.records) (value_at t.reserved.records) q ≡ best items q }
+        best_in (upward_of items) (value_at t.memory.records) (value_at t.reserved.records) q ≡ best items q }
+    ensures top { (items : List Item) (t : Contents) (q : AnyQuery) (mirror : Bool) →
+        NothingFrom (2 ^ 64) (table_of which.Memory items) → NothingFrom (2 ^ 64) (table_of which.Reserved items) →
+        t.memory.records ≡ records_of which.Memory items → t.reserved.records ≡ records_of which.Reserved items →
+        top_in (record { mirror = mirror; up = upward_of items }) (value_at t.memory.records) (value_at t.reserved.records) q ≡
+        top items q mirror }
     ensures free { (items : List Item) (t : Contents) →
         NothingFrom (2 ^ 64) (table_of which.Memory items) → NothingFrom (2 ^ 64) (table_of which.Reserved items) →
         t.memory.records ≡ records_of which.Memory items → t.reserved.records ≡ records_of which.Reserved items →

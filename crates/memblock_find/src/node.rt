@@ -1,9 +1,9 @@
-//! Memory of the node that a query asks for. A search for a node passes over all other memory a record at a
-//! time, and reads nothing of it but whose it is; the claims are looked at again where it goes on.
-ghost use Rattle.std.specs.Prelude.{◌≡◌, ℕ, ◌-◌, ◌^◌, ◌<◌, ◌≤◌, false, max, Some, length};
+//! Memory of the node that a query asks for, and mirrored memory. A search for such memory passes over all other a record at
+//! a time, and reads nothing of it but its label; the claims are looked at again where it goes on.
+ghost use Rattle.std.specs.Prelude.{◌≡◌, ℕ, ◌-◌, ◌^◌, ◌<◌, ◌≤◌, false, max, Some, None, length};
 ghost use Rattle.address_runs.specs.Runs.{run_end, value_at};
-ghost use Rattle.memblock_model.specs.Search.{allows, best_in};
-ghost use Rattle.memblock_find.specs.Places.{NoneAllowed};
+ghost use Rattle.memblock_model.specs.Search.{top_in};
+ghost use Rattle.memblock_find.specs.Places.{serves, NoneServes};
 ghost use Rattle.memblock_find.specs.Walk.{run_at, IsDownAt};
 
 use crate::cursor::{Cursor, Lists, lists_of};
@@ -11,27 +11,28 @@ use crate::down::{cursor_below, look_down, look_past};
 use crate::search::place_in_run;
 use bm_base::FRAME_SIZE;
 use memblock_model::{Label, Query};
-use memblock_ranges::{Records, Tables, label_of};
+use memblock_ranges::{Records, Tables};
 
-/// Whether a query for the node, or for any, may be answered with memory of the label.
-pub fn is_allowed(node: Option<u32>, label: Label) -> bool
-    ensures { result ≡ allows node (Some label) }
+/// Whether a search for the node, or for any, in mirrored memory alone or in any, may be answered with memory of the label.
+pub fn serves(mirror: bool, node: Option<u32>, label: Label) -> bool
+    ensures { result ≡ serves mirror node (Some label) }
 {
-    match node {
+    let allowed = match node {
         None => true,
-        Some(_) => label.node == node,
-    }
+        Some(_) => label.node() == node,
+    };
+    allowed && (!mirror || label.mirror())
 }
 
-/// How many of the first `count` records are left, up to the last one of the node.
-fn up_to_node(records: &Records<'_>, count: u64, node: u32) -> u64
+/// How many of the first `count` records are left, up to the last one that serves.
+fn up_to_served(records: &Records<'_>, count: u64, mirror: bool, node: Option<u32>) -> u64
     requires { count ≤ length records.now }
     ensures within { result ≤ count }
-    ensures passed { (i : ℕ) → result ≤ i → i < count → allows (Some node) (Some (run_at records.now i).value) ≡ false }
+    ensures passed { (i : ℕ) → result ≤ i → i < count → serves mirror node (Some (run_at records.now i).value) ≡ false }
 {
     let mut left = count;
     while left > 0 {
-        if is_allowed(Some(node), label_of(records.get(left - 1).node)) {
+        if serves(mirror, node, records.label(left - 1)) {
             return left;
         }
         left -= 1;
@@ -53,27 +54,29 @@ fn end_of(records: &Records<'_>, count: u64) -> u64
 }
 
 impl Cursor {
-    /// Whether the memory that the cursor's look tells of is of the node.
-    fn is_of(&self, node: u32) -> bool
-        ensures { result ≡ allows (Some node) self.now.memory.label }
+    /// Whether the memory that the cursor's look tells of serves; no memory doesn't.
+    fn is_served(&self, mirror: bool, node: Option<u32>) -> bool
+        requires { serves mirror node None ≡ false }
+        ensures { result ≡ serves mirror node self.now.memory.label }
     {
         match self.memory.label {
-            Some(label) => is_allowed(Some(node), label),
+            Some(label) => serves(mirror, node, label),
             None => false,
         }
     }
 
-    /// The cursor at the end of the next memory of the node, below all that the cursor's look at memory
+    /// The cursor at the end of the next memory that serves, below all that the cursor's look at memory
     /// tells of, or at the lowest address where there is none.
     // A hint, as for `cursor_below`.
     #[inline]
-    fn down_to_node(&self, lists: &Lists<'_>, node: u32) -> Cursor
-        requires { IsDownAt lists.now.memory lists.now.reserved self.now }
+    fn down_to_served(&self, lists: &Lists<'_>, mirror: bool, node: Option<u32>) -> Cursor
+        requires narrow { serves mirror node None ≡ false }
+        requires down { IsDownAt lists.now.memory lists.now.reserved self.now }
         ensures order { result.at ≤ self.now.memory.bound }
-        ensures passed { NoneAllowed (value_at lists.now.memory) (Some node) result.at self.now.memory.bound }
+        ensures passed { NoneServes mirror (value_at lists.now.memory) node result.at self.now.memory.bound }
         ensures down { IsDownAt lists.now.memory lists.now.reserved result }
     {
-        let count = up_to_node(&lists.memory, self.memory.slot, node);
+        let count = up_to_served(&lists.memory, self.memory.slot, mirror, node);
         let at = end_of(&lists.memory, count);
         Cursor {
             at,
@@ -82,40 +85,42 @@ impl Cursor {
         }
     }
 
-    /// The cursor further down: at its bottom, or below that where no memory in between is of the node.
-    fn down_for(&self, lists: &Lists<'_>, node: u32) -> Cursor
-        requires { IsDownAt lists.now.memory lists.now.reserved self.now }
+    /// The cursor further down: at its bottom, or below that where no memory in between serves.
+    fn down_for(&self, lists: &Lists<'_>, mirror: bool, node: Option<u32>) -> Cursor
+        requires narrow { serves mirror node None ≡ false }
+        requires down { IsDownAt lists.now.memory lists.now.reserved self.now }
         ensures order { result.at ≤ max self.now.memory.bound self.now.reserved.bound }
-        ensures passed { NoneAllowed (value_at lists.now.memory) (Some node) result.at (max self.now.memory.bound self.now.reserved.bound) }
+        ensures passed { NoneServes mirror (value_at lists.now.memory) node result.at (max self.now.memory.bound self.now.reserved.bound) }
         ensures down { IsDownAt lists.now.memory lists.now.reserved result }
     {
-        if self.is_of(node) {
+        if self.is_served(mirror, node) {
             self.down(lists)
         } else {
-            self.down_to_node(lists, node)
+            self.down_to_served(lists, mirror, node)
         }
     }
 }
 
-/// The search for memory of the node, which is the query's.
+/// The search from the top down for memory of the query's node, or for mirrored memory, or for both; one of them is asked for.
 // A loop apart from `find_in`, and never compiled into `find`: together the two have too few registers, which tells in each
-// record of a search for any node.
+// record of a search for any memory.
 #[inline(never)]
-pub fn find_on_node(tables: &Tables, query: &Query, node: u32) -> Option<u64>
-    requires node { query.now.node ≡ Some node }
+pub fn find_served(tables: &Tables, query: &Query, mirror: bool) -> Option<u64>
+    requires narrow { serves mirror query.now.node None ≡ false }
     requires some { 1 ≤ query.now.size }
     requires aligned { (k : ℕ) × (query.now.align ≡ 2 ^ k) }
-    ensures { result ≡ best_in (value_at tables.now.memory.records) (value_at tables.now.reserved.records) query.now }
+    ensures { result ≡ top_in (record { mirror = mirror; up = false })
+        (value_at tables.now.memory.records) (value_at tables.now.reserved.records) query.now }
 {
     let lists = lists_of(tables);
     let low = query.lo.max(FRAME_SIZE);
     let mut cursor = cursor_below(&lists, query.hi);
     while cursor.at > low {
-        let place = place_in_run(query, cursor.label(), cursor.bottom(), cursor.at);
+        let place = place_in_run(query, mirror, cursor.label(), cursor.bottom(), cursor.at);
         if place.is_some() {
             return place;
         }
-        cursor = cursor.down_for(&lists, node);
+        cursor = cursor.down_for(&lists, mirror, query.node);
     }
     None
 }

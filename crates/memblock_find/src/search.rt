@@ -1,46 +1,53 @@
-//! The search from the top down (`memblock_find_in_range_node`, `__memblock_find_range_top_down`): unclaimed
+//! The search (`memblock_find_in_range_node`), from the top down (`__memblock_find_range_top_down`): unclaimed
 //! memory is walked from the window's end down, a stretch of one label at a time, and the first stretch in
-//! which a place lies has the greatest one. A search for a node passes over memory of other nodes (`node.rt`).
-ghost use Rattle.std.specs.Prelude.{◌≡◌, ◌≢◌, ℕ, ◌^◌, ◌≤◌, MatchOption, Option, Some, None};
+//! which a place lies has the greatest one. A search for a node, or for mirrored memory, passes over other
+//! memory (`node.rt`); one from below is the same turned round (`bottom.rt`).
+ghost use Rattle.std.specs.Prelude.{◌≡◌, ◌≢◌, ℕ, ◌^◌, ◌≤◌, false, MatchOption, Option, Some, None};
 ghost use Rattle.address_runs.specs.Runs.{value_at};
 ghost use Rattle.address_runs.specs.Sweep.{Stays};
 ghost use Rattle.memblock_model.specs.Labels.{Label as AnyLabel, Labels};
-ghost use Rattle.memblock_model.specs.Search.{best_in};
+ghost use Rattle.memblock_model.specs.Search.{top_in};
 ghost use Rattle.memblock_find.specs.Free.{unclaimed, IsDownTo};
 ghost use Rattle.memblock_find.specs.Places.{IsBetween, NoPlaceEnds, IsBestBy};
 
+use crate::bottom::find_upward;
 use crate::cursor::{Lists, lists_of};
 use crate::down::cursor_below;
-use crate::node::{find_on_node, is_allowed};
+use crate::node::{find_served, serves};
 use bm_base::FRAME_SIZE;
-use memblock_model::{Label, Query};
+use memblock_model::{Label, Mode, Query};
 use memblock_ranges::Tables;
 
-/// The greatest address of a place that fits: aligned, in the window, not in the first frame, all of it
-/// unclaimed memory of one label that the query allows. `None` exactly where no place fits.
+/// The greatest address of a place that fits, or the least where the search goes up: aligned, in the window,
+/// not in the first frame, all of it unclaimed memory of one label that the query allows, mirrored where the mode
+/// wants that. `None` exactly where no place fits.
 ///
 /// The size is at least 1 and the alignment a power of two.
-pub fn find(tables: &Tables, query: &Query) -> Option<u64>
+pub fn find(tables: &Tables, query: &Query, mode: Mode) -> Option<u64>
     requires some { 1 ≤ query.now.size }
     requires aligned { (k : ℕ) × (query.now.align ≡ 2 ^ k) }
-    ensures { result ≡ best_in (value_at tables.now.memory.records) (value_at tables.now.reserved.records) query.now }
+    ensures { result ≡ top_in mode (value_at tables.now.memory.records) (value_at tables.now.reserved.records) query.now }
 {
-    match query.node {
-        None => find_in(&lists_of(tables), query),
-        Some(node) => find_on_node(tables, query, node),
+    let Mode { mirror, up } = mode;
+    if up {
+        find_upward(tables, query, mirror)
+    } else if mirror || query.node.is_some() {
+        find_served(tables, query, mirror)
+    } else {
+        find_in(&lists_of(tables), query)
     }
 }
 
-/// The search over the records of both tables, a stretch at a time.
+/// The search from the top down for any memory, over the records of both tables, a stretch at a time.
 fn find_in(lists: &Lists<'_>, query: &Query) -> Option<u64>
     requires some { 1 ≤ query.now.size }
     requires aligned { (k : ℕ) × (query.now.align ≡ 2 ^ k) }
-    ensures { result ≡ best_in (value_at lists.now.memory) (value_at lists.now.reserved) query.now }
+    ensures { result ≡ top_in (record { mirror = false; up = false }) (value_at lists.now.memory) (value_at lists.now.reserved) query.now }
 {
     let low = query.lo.max(FRAME_SIZE);
     let mut cursor = cursor_below(lists, query.hi);
     while cursor.at > low {
-        let place = place_in_run(query, cursor.label(), cursor.bottom(), cursor.at);
+        let place = place_in_run(query, false, cursor.label(), cursor.bottom(), cursor.at);
         if place.is_some() {
             return place;
         }
@@ -51,18 +58,24 @@ fn find_in(lists: &Lists<'_>, query: &Query) -> Option<u64>
 
 /// The greatest place in the addresses from `from` up to `until`, where that is a stretch of unclaimed
 /// memory of one label, or of none, and unclaimed memory of that label doesn't go on below it.
-pub fn place_in_run(query: &Query, label: Option<Label>, from: u64, until: u64) -> Option<u64>
+pub fn place_in_run(
+    query: &Query,
+    mirror: bool,
+    label: Option<Label>,
+    from: u64,
+    until: u64,
+) -> Option<u64>
     requires some { 1 ≤ query.now.size }
     requires aligned { (k : ℕ) × (query.now.align ≡ 2 ^ k) }
     requires window { until ≤ query.now.hi }
     ensures { (memory reserved : Labels) → Stays (unclaimed memory reserved) from until label →
         (label ≢ None → IsDownTo (unclaimed memory reserved) from until label) →
-        MatchOption result (NoPlaceEnds memory reserved query.now from until) (IsBestBy memory reserved query.now until) }
+        MatchOption result (NoPlaceEnds mirror memory reserved query.now from until) (IsBestBy mirror memory reserved query.now until) }
 {
     let Some(found) = label else {
         return None;
     };
-    if !is_allowed(query.node, found) {
+    if !serves(mirror, query.node, found) {
         return None;
     }
     let low = from.max(query.lo).max(FRAME_SIZE);

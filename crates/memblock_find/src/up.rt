@@ -5,7 +5,7 @@ ghost use Rattle.std.specs.Prelude.{◌≡◌, ◌≤◌, min};
 ghost use Rattle.memblock_find.specs.Walk.{EndedBy, IsLookUp, IsUpAt};
 
 use crate::cursor::{Cursor, Lists, Look};
-use memblock_ranges::{Records, label_of};
+use memblock_ranges::Records;
 
 /// How many records end by the address.
 fn ended_by(records: &Records<'_>, at: u64) -> u64
@@ -47,7 +47,7 @@ fn look_up(records: &Records<'_>, slot: u64, at: u64) -> Look
         }
     } else {
         Look {
-            label: Some(label_of(region.node)),
+            label: Some(records.label(slot)),
             bound: end,
             slot: slot + 1,
         }

@@ -1,6 +1,6 @@
 -- Small tables, computed: what is kept, where a table may go, and whether it is full.
-use Rattle.std.proofs.Common.{◌≡◌, ℕ, ◌+◌, ◌*◌, ◌^◌, ◌<◌, ◌≤◌, ◌%◌, true, false, if◌then◌else◌, Option, Some, None, List, [], ◌∷◌, refl, sym, ◌∙◌, ap, inl, inr, arith}
-use Rattle.std.proofs.lemmas.Bool.{cases_Bool}
+use Rattle.std.proofs.Common.{◌≡◌, ℕ, ◌+◌, ◌*◌, ◌^◌, ◌<◌, ◌≤◌, ◌%◌, Bool, true, false, if◌then◌else◌, Option, Some, None, List, [], ◌∷◌, refl, sym, ◌∙◌, ap, inl, inr, arith}
+use Rattle.std.proofs.lemmas.Bool.{cases_Bool, true≢false}
 use Rattle.std.proofs.lemmas.Bool.Decides.{nat_tests}
 use Rattle.std.specs.Option.{option_map, option_or}
 use Rattle.bm_base.specs.Extent.{Extent, covers}
@@ -10,19 +10,23 @@ use Rattle.memblock_model.specs.declared.which.Which.{Which}
 use Rattle.memblock_model.specs.declared.which.Which.TheVariants as which
 use Rattle.memblock_model.specs.declared.owner.Owner.TheVariants as owner
 use Rattle.memblock_model.specs.declared.query.Query.{Query}
-use Rattle.memblock_model.specs.Labels.{plain_label}
+use Rattle.memblock_model.specs.declared.item.Item.{Item}
+use Rattle.memblock_model.specs.declared.item.Item.TheVariants as item
+use Rattle.memblock_model.specs.Labels.{plain_label, with_mirror}
 use Rattle.memblock_model.specs.Tables.{table_of}
-use Rattle.memblock_model.specs.Search.{fits_in}
-use Rattle.memblock_model.proofs.SearchLaws.{fits_in-parts, fits_in-whole, best_in-last, best_in-fails}
+use Rattle.memblock_model.specs.Search.{suits, fits_in}
+use Rattle.memblock_model.proofs.SearchLaws.{IsLastBelow, fits_in-parts, fits_in-whole, top_in-last, top_in-mirrorless, best_in-last, best_in-fails}
 use Rattle.memblock_ranges.specs.Tables.{Table, Contents}
 use Rattle.memblock_ranges.proofs.CountLaws.{one-piece}
 use Rattle.growth_model.specs.Growth.{table_query, frames_at}
+use Rattle.growth_model.specs.Request.{Attempt}
 use Rattle.growth_model.specs.Bytes.{table_for, spelled_at}
 use Rattle.growth_model.proofs.FirstLaws.{no_table_full}
+use Rattle.memblock_grow.specs.declared.aim.Aim.{Aim}
 use Rattle.memblock_grow.specs.Contents.{Contents as Whole}
 use Rattle.memblock_grow.specs.declared.more.More.TheVariants as more
-use Rattle.memblock_grow.specs.Kept.{AreKept, IsMemblock, IsKept, AllowsClaim, AllowsFree, Keeps, AreTold, StayReady}
-use Rattle.memblock_grow.specs.Places.{best_of, frames_between, frames_beside, left_frames, first_of}
+use Rattle.memblock_grow.specs.Kept.{AreKept, IsMemblock, IsKept, AllowsClaim, AllowsFree, Keeps, AreTold, StayReady, aimed}
+use Rattle.memblock_grow.specs.Places.{KnowsMirrors, top_of, mirrored_of, best_of, frames_between, frames_beside, left_frames, first_of}
 use Rattle.memblock_grow.specs.More.{more_by, more_in, HasRoom, Grew, EndsBefore}
 use Rattle.memblock_grow.proofs.PlaceLaws.{best_in-large}
 
@@ -41,42 +45,53 @@ no_bytes_yet : (w : Which) (x : ℕ) → table_of w [] x ≡ None
 no_bytes_yet which.Memory x = refl
 no_bytes_yet which.Reserved x = refl
 
-kept_at_first : AreKept image [] at_first 0
+kept_at_first : AreKept image [] at_first (aimed 0 false)
 kept_at_first = record {
   memory = refl;
   reserved = refl;
   limit = refl;
+  upward = refl;
   ends = λ w x le. no_bytes_yet w x;
   fits = λ w. no_table_full w;
   far = λ w place moved. cc;
 }
 
 -- the limit is that of the items
-other_limit : AreKept image [] at_first 1 → ⊥
+other_limit : AreKept image [] at_first (aimed 1 false) → ⊥
 other_limit kept = let limit = kept.limit in cc
 
+-- and so is the direction of searches
+other_direction : AreKept image [] at_first (aimed 0 true) → ⊥
+other_direction kept = let upward = kept.upward in cc
+
+its_parts : (aimed 5 true).limit ≡ 5
+its_parts = refl
+
+its_direction : (aimed 5 true).upward ≡ true
+its_direction = refl
+
 -- an image of one frame holds no two tables
-image_of_one_frame : (t : Contents) (at : ℕ) → IsMemblock (record { base = 65536; size = 4096 }) [] t at → ⊥
+image_of_one_frame : (t : Contents) (at : Aim) → IsMemblock (record { base = 65536; size = 4096 }) [] t at → ⊥
 image_of_one_frame t at whole = let large = whole.image.large in omega arith
 
-no_memblock_of_another_limit : IsMemblock image [] at_first 1 → ⊥
+no_memblock_of_another_limit : IsMemblock image [] at_first (aimed 1 false) → ⊥
 no_memblock_of_another_limit whole = other_limit whole.kept
 
-kept_by_it : IsMemblock image [] at_first 0 → IsKept [] at_first 0
+kept_by_it : IsMemblock image [] at_first (aimed 0 false) → IsKept [] at_first (aimed 0 false)
 kept_by_it whole = (image, whole)
 
-limit_of_nobody : IsKept [] at_first 1 → ⊥
+limit_of_nobody : IsKept [] at_first (aimed 1 false) → ⊥
 limit_of_nobody known = let limit = known.1.kept.limit in cc
 
 -- the first claim is that of the image, for the kernel
-first_claim : IsMemblock image [] at_first 0 → AllowsClaim [] at_first 0 image owner.Kernel
+first_claim : IsMemblock image [] at_first (aimed 0 false) → AllowsClaim [] at_first (aimed 0 false) image owner.Kernel
 first_claim whole = (image, whole, (refl, refl))
 
-no_first_claim_of_others : AllowsClaim [] at_first 0 image owner.Crash → ⊥
+no_first_claim_of_others : AllowsClaim [] at_first (aimed 0 false) image owner.Crash → ⊥
 no_first_claim_of_others allowed = let who = allowed.2.1 in cc
 
 -- what meets a table isn't freed
-away_from_both : (range : Extent) (whole : IsMemblock image [] at_first 0) → range.size ≡ 0 → AllowsFree [] at_first 0 range
+away_from_both : (range : Extent) (whole : IsMemblock image [] at_first (aimed 0 false)) → range.size ≡ 0 → AllowsFree [] at_first (aimed 0 false) range
 away_from_both range whole none = (
   image,
   whole,
@@ -86,13 +101,13 @@ away_from_both range whole none = (
   ),
 )
 
-nothing_done : Keeps [] at_first [] at_first 0
+nothing_done : Keeps [] at_first [] at_first (aimed 0 false)
 nothing_done = λ kernel kept. kept
 
 two_rooms : (n : ℕ) → n ≡ 256 → n ≡ 128 → ⊥
 two_rooms n more less = omega arith
 
-other_room : Keeps [] at_first [] (record at_first { memory = record { records = []; place = 73728; room = 256 } }) 0 → ⊥
+other_room : Keeps [] at_first [] (record at_first { memory = record { records = []; place = 73728; room = 256 } }) (aimed 0 false) → ⊥
 other_room keeps = two_rooms 256 refl (ap (λ (t : Table). t.room) (keeps image kept_at_first).memory)
 
 -- two tables of no bytes: every byte lies beside them
@@ -125,80 +140,127 @@ plain = record {
   store = [];
 }
 
--- the best place is the highest one that is aligned and in the window
+-- none of it is mirrored
+plain_or_none : (b : Bool) → suits true (if b then Some plain_label else None) ≡ false
+plain_or_none true = refl
+plain_or_none false = refl
+
+none_mirrored : (x : ℕ) → suits true (value_at plain.memory.records x) ≡ false
+none_mirrored x = plain_or_none (covers (record { base = 0; size = 65536 }) x)
+
+no_mirror_is_known : (items : List Item) → KnowsMirrors items plain
+no_mirror_is_known items none = none_mirrored
+
+-- a table with mirrored memory asks for an item that made it so
+abbrev mirrored : Contents
+mirrored = record plain { memory = record plain.memory { records = record { base = 0; size = 65536; value = with_mirror plain_label } ∷ [] } }
+
+mirror_without_an_item : KnowsMirrors [] mirrored → ⊥
+mirror_without_an_item knows = true≢false (knows refl 5)
+
+mirror_with_an_item : KnowsMirrors (item.Mirror (record { base = 0; size = 65536 }) ∷ []) mirrored
+mirror_with_an_item none = absurd (true≢false none)
+
+-- the best place is the highest one that is aligned and in the window, and so is the top one of any memory
+last_at : (q : Query) (a : ℕ) → a % q.align ≡ 0 → q.lo ≤ a → 4096 ≤ a → a + q.size ≤ q.hi → a + q.size ≤ 65536 → 0 < q.size
+    → q.node ≡ None → ((b : ℕ) → b % q.align ≡ 0 → b + q.size ≤ q.hi → b ≤ a)
+    → IsLastBelow (fits_in false (value_at plain.memory.records) (value_at plain.reserved.records) q) (2 ^ 64) a
+last_at q a aligned low first high within some node last = record {
+  below = omega arith;
+  passes = fits_in-whole false (value_at plain.memory.records) (value_at plain.reserved.records) q a (record {
+    aligned = aligned;
+    low = low;
+    first = first;
+    high = high;
+    held = grind (arith, nat_tests);
+    allowed = rw node refl;
+    suited = refl;
+    label = λ x from under. grind (arith, nat_tests);
+    free = λ x from under. refl;
+  });
+  last = λ b lt h. let known = fits_in-parts false (value_at plain.memory.records) (value_at plain.reserved.records) q b h in
+      last b known.aligned known.high;
+}
+
 best_at : (q : Query) (a : ℕ) → a % q.align ≡ 0 → q.lo ≤ a → 4096 ≤ a → a + q.size ≤ q.hi → a + q.size ≤ 65536 → 0 < q.size
-    → q.node ≡ None → ((b : ℕ) → b % q.align ≡ 0 → b + q.size ≤ q.hi → b ≤ a) → best_of plain q ≡ Some a
+    → q.node ≡ None → ((b : ℕ) → b % q.align ≡ 0 → b + q.size ≤ q.hi → b ≤ a) → best_of plain false q ≡ Some a
 best_at q a aligned low first high within some node last =
-    best_in-last (value_at plain.memory.records) (value_at plain.reserved.records) q a (record {
-      below = omega arith;
-      passes = fits_in-whole (value_at plain.memory.records) (value_at plain.reserved.records) q a (record {
-        aligned = aligned;
-        low = low;
-        first = first;
-        high = high;
-        held = grind (arith, nat_tests);
-        allowed = rw node refl;
-        label = λ x from under. grind (arith, nat_tests);
-        free = λ x from under. refl;
-      });
-      last = λ b lt h. let known = fits_in-parts (value_at plain.memory.records) (value_at plain.reserved.records) q b h in
-          last b known.aligned known.high;
-    })
+    best_in-last (value_at plain.memory.records) (value_at plain.reserved.records) q a none_mirrored
+    (last_at q a aligned low first high within some node last)
+
+abbrev any_memory : Query → Attempt
+any_memory q = record { query = q; mirror = false }
+
+top_at : (q : Query) (a : ℕ) → a % q.align ≡ 0 → q.lo ≤ a → 4096 ≤ a → a + q.size ≤ q.hi → a + q.size ≤ 65536 → 0 < q.size
+    → q.node ≡ None → ((b : ℕ) → b % q.align ≡ 0 → b + q.size ≤ q.hi → b ≤ a) → top_of plain false (any_memory q) ≡ Some a
+top_at q a aligned low first high within some node last =
+    top_in-last false (value_at plain.memory.records) (value_at plain.reserved.records) q a
+    (last_at q a aligned low first high within some node last)
 
 abbrev frame_below : ℕ → Query
 frame_below hi = record { lo = 0; hi = hi; size = 4096; align = 4096; node = None }
 
-best_frame : best_of plain (frame_below 16384) ≡ Some 12288
+best_frame : best_of plain false (frame_below 16384) ≡ Some 12288
 best_frame = best_at (frame_below 16384) 12288 refl (omega arith) (omega arith) (omega arith) (omega arith) (omega arith) refl
     (λ b aligned high. omega arith)
 
-no_frame : best_of plain (frame_below 4095) ≡ None
-no_frame = best_in-large (value_at plain.memory.records) (value_at plain.reserved.records) (frame_below 4095) (omega arith)
+no_frame : best_of plain false (frame_below 4095) ≡ None
+no_frame = best_in-large false (value_at plain.memory.records) (value_at plain.reserved.records) (frame_below 4095) (omega arith)
+
+no_mirrored_frame : mirrored_of plain false (frame_below 16384) ≡ None
+no_mirrored_frame =
+    top_in-mirrorless false (value_at plain.memory.records) (value_at plain.reserved.records) (frame_below 16384) none_mirrored
+
+top_frame : top_of plain false (any_memory (frame_below 16384)) ≡ Some 12288
+top_frame = top_at (frame_below 16384) 12288 refl (omega arith) (omega arith) (omega arith) (omega arith) (omega arith) refl
+    (λ b aligned high. omega arith)
 
 -- the first search that has a place decides
-second_search : first_of plain (frame_below 4095 ∷ (frame_below 16384 ∷ (frame_below 65536 ∷ []))) ≡ Some 12288
-second_search = ap (λ (o : Option ℕ). option_or o (first_of plain (frame_below 16384 ∷ (frame_below 65536 ∷ [])))) no_frame
-    ∙ ap (λ (o : Option ℕ). option_or o (first_of plain (frame_below 65536 ∷ []))) best_frame
+second_search : first_of plain false (record { query = frame_below 16384; mirror = true } ∷ (any_memory (frame_below 16384)
+    ∷ (any_memory (frame_below 65536) ∷ []))) ≡ Some 12288
+second_search = ap (λ (o : Option ℕ). option_or o (first_of plain false (any_memory (frame_below 16384) ∷ (any_memory (frame_below 65536) ∷ []))))
+    no_mirrored_frame
+    ∙ ap (λ (o : Option ℕ). option_or o (first_of plain false (any_memory (frame_below 65536) ∷ []))) top_frame
 
-no_search : first_of plain [] ≡ None
+no_search : first_of plain false [] ≡ None
 no_search = refl
 
 -- two frames for 256 records
-best_frames : best_of plain (table_query 128 0 61440) ≡ Some 53248
+best_frames : best_of plain false (table_query 128 0 61440) ≡ Some 53248
 best_frames = best_at (table_query 128 0 61440) 53248 refl (omega arith) (omega arith) (omega arith) (omega arith) (omega arith) refl
     (λ b aligned high. omega arith)
 
-frames_for_table : frames_between plain 128 0 61440 ≡ Some (record { base = 53248; size = 8192 })
+frames_for_table : frames_between plain false 128 0 61440 ≡ Some (record { base = 53248; size = 8192 })
 frames_for_table = ap (λ (o : Option ℕ). option_map (λ place. frames_at place (48 * 128)) o) best_frames
 
-no_frames_for_table : frames_between plain 128 0 8191 ≡ None
+no_frames_for_table : frames_between plain false 128 0 8191 ≡ None
 no_frames_for_table =
     ap (λ (o : Option ℕ). option_map (λ place. frames_at place (48 * 128)) o)
-    (best_in-large (value_at plain.memory.records) (value_at plain.reserved.records) (table_query 128 0 8191) (omega arith))
+    (best_in-large false (value_at plain.memory.records) (value_at plain.reserved.records) (table_query 128 0 8191) (omega arith))
 
 -- above the last frame of the memory there is none, so below it
-none_above : best_of plain (table_query 128 65536 65536) ≡ None
-none_above = best_in-fails (value_at plain.memory.records) (value_at plain.reserved.records) (table_query 128 65536 65536) (λ b lt.
-    elim (cases_Bool (fits_in (value_at plain.memory.records) (value_at plain.reserved.records) (table_query 128 65536 65536) b)) as
-    (λ _. fits_in (value_at plain.memory.records) (value_at plain.reserved.records) (table_query 128 65536 65536) b ≡ false) [
+none_above : best_of plain false (table_query 128 65536 65536) ≡ None
+none_above = best_in-fails false (value_at plain.memory.records) (value_at plain.reserved.records) (table_query 128 65536 65536) (λ b lt.
+    elim (cases_Bool (fits_in false (value_at plain.memory.records) (value_at plain.reserved.records) (table_query 128 65536 65536) b)) as
+    (λ _. fits_in false (value_at plain.memory.records) (value_at plain.reserved.records) (table_query 128 65536 65536) b ≡ false) [
       | inl fits ↦
-          let known = fits_in-parts (value_at plain.memory.records) (value_at plain.reserved.records) (table_query 128 65536 65536) b
+          let known = fits_in-parts false (value_at plain.memory.records) (value_at plain.reserved.records) (table_query 128 65536 65536) b
           fits in
           let low = known.low in let high = known.high in absurd (omega arith)
       | inr fails ↦ fails
     ])
 
-frames_beside_a_frame : frames_beside plain 128 65536 (record { base = 61440; size = 4096 }) ≡ Some (record { base = 53248; size = 8192 })
+frames_beside_a_frame : frames_beside plain (aimed 65536 false) 128 (record { base = 61440; size = 4096 }) ≡ Some (record { base = 53248; size = 8192 })
 frames_beside_a_frame =
-    ap (λ (o : Option ℕ). option_map (λ place. frames_at place (48 * 128)) (option_or o (best_of plain (table_query 128 0 61440))))
+    ap (λ (o : Option ℕ). option_map (λ place. frames_at place (48 * 128)) (option_or o (best_of plain false (table_query 128 0 61440))))
     none_above
     ∙ ap (λ (o : Option ℕ). option_map (λ place. frames_at place (48 * 128)) o) best_frames
 
 -- and below the limit
-frames_below_a_limit : frames_beside plain 128 8191 (record { base = 61440; size = 4096 }) ≡ None
+frames_below_a_limit : frames_beside plain (aimed 8191 false) 128 (record { base = 61440; size = 4096 }) ≡ None
 frames_below_a_limit =
-    ap (λ (o : Option ℕ). option_map (λ place. frames_at place (48 * 128)) (option_or o (best_of plain (table_query 128 0 8191))))
-    (best_in-large (value_at plain.memory.records) (value_at plain.reserved.records) (table_query 128 65536 8191) (omega arith))
+    ap (λ (o : Option ℕ). option_map (λ place. frames_at place (48 * 128)) (option_or o (best_of plain false (table_query 128 0 8191))))
+    (best_in-large false (value_at plain.memory.records) (value_at plain.reserved.records) (table_query 128 65536 8191) (omega arith))
     ∙ no_frames_for_table
 
 never_moved : left_frames 73728 128 ≡ None

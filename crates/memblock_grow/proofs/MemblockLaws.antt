@@ -20,11 +20,12 @@ use Rattle.growth_model.specs.Sound.{IsImage, HasBegun, IsAway, Clear}
 use Rattle.growth_model.specs.Bytes.{table_for, spelled_at, shown_by, AreSpelled, byte, Filled, put, Follows}
 use Rattle.growth_model.proofs.SpotLaws.{covers-from}
 use Rattle.growth_model.proofs.FirstLaws.{no_table_full}
-use Rattle.growth_model.proofs.SoundLaws.{trim-stands, limit-stands}
+use Rattle.growth_model.proofs.SoundLaws.{trim-stands, limit-stands, upward-stands}
 use Rattle.growth_model.proofs.FollowLaws.{follows-item, follows-still}
 use Rattle.growth_model.proofs.FillLaws.{fill-spelled}
-use Rattle.memblock_grow.specs.Kept.{AreKept, IsMemblock, AreTold}
-use Rattle.memblock_grow.proofs.KeptLaws.{kept-same, kept-trim, kept-limit}
+use Rattle.memblock_grow.specs.declared.aim.Aim.{Aim}
+use Rattle.memblock_grow.specs.Kept.{AreKept, IsMemblock, AreTold, aimed}
+use Rattle.memblock_grow.proofs.KeptLaws.{kept-same, kept-trim, kept-limit, kept-upward}
 use Rattle.memblock_grow.proofs.WholeLaws.{whole-on}
 
 -- a table without records is zeros
@@ -70,14 +71,15 @@ first-is w kernel = ap (λ (rs : List (RunOf Label)). let t : Table = record { r
 
 pub whole-new : (kernel : Extent) (items : List Item) (t : Contents) → IsImage kernel → items ≡ []
     → t.memory ≡ first_table which.Memory kernel → t.reserved ≡ first_table which.Reserved kernel
-    → ((x : ℕ) → byte_of t.store x ≡ 0) → IsMemblock kernel items t 0
+    → ((x : ℕ) → byte_of t.store x ≡ 0) → IsMemblock kernel items t (aimed 0 false)
 whole-new kernel items t image none first second zero =
-    let m : IsMemblock kernel [] t 0 = record {
+    let m : IsMemblock kernel [] t (aimed 0 false) = record {
       image = image;
       kept = record {
         memory = first ∙ first-is which.Memory kernel;
         reserved = second ∙ first-is which.Reserved kernel;
         limit = refl;
+        upward = refl;
         ends = λ w x le. nothing_at_first w x;
         fits = λ w. no_table_full w;
         far = λ w place moved. cc;
@@ -86,7 +88,7 @@ whole-new kernel items t image none first second zero =
       spelled = λ x. zero x ∙ sym (ap (λ (b : ℕ). shown_by t.memory t.reserved x b) (zero x)
           ∙ shown-empty t.memory t.reserved x (ap (λ (s : Table). s.records) first) (ap (λ (s : Table). s.records) second));
     } in
-    subst (λ (is : List Item). IsMemblock kernel is t 0) (sym none) m
+    subst (λ (is : List Item). IsMemblock kernel is t (aimed 0 false)) (sym none) m
 
 pub bytes-new : (kernel : Extent) (x : ℕ) → byte kernel [] [] x ≡ 0
 unfolding byte
@@ -94,14 +96,14 @@ bytes-new kernel x = shown-empty (table_for which.Memory kernel []) (table_for w
     (no_records_at_first which.Memory) (no_records_at_first which.Reserved)
 
 -- nothing happened
-pub follows-same : (kernel : Extent) (items longer : List Item) (t : Contents) (at : ℕ) → IsMemblock kernel items t at → longer ≡ items
+pub follows-same : (kernel : Extent) (items longer : List Item) (t : Contents) (at : Aim) → IsMemblock kernel items t at → longer ≡ items
     → Follows kernel items longer (byte_of t.store) (byte_of t.store)
 follows-same kernel items longer t at m same =
     subst (λ (is : List Item). Follows kernel items is (byte_of t.store) (byte_of t.store)) (sym same)
     (follows-still kernel items t.memory t.reserved (byte_of t.store) (byte_of t.store) m.kept.memory m.kept.reserved m.spelled (λ x. refl))
 
 -- behind a trim
-module _ (kernel : Extent) (items : List Item) (t u : Contents) (at : ℕ) where
+module _ (kernel : Extent) (items : List Item) (t u : Contents) (at : Aim) where
   abbrev IsTrimmed : Type 0
   IsTrimmed = u.memory ≡ record t.memory { records = records_for (trimmed (value_at t.memory.records)) }
 
@@ -111,14 +113,14 @@ module _ (kernel : Extent) (items : List Item) (t u : Contents) (at : ℕ) where
       let now = kept-trim kernel items t u at is same kept in
       follows-item kernel items item.Trim u.memory u.reserved (byte_of t.store) (byte_of u.store) (λ x. refl) now.memory now.reserved told
 
-pub follows-trim : (kernel : Extent) (items longer : List Item) (t u : Contents) (at : ℕ) → longer ≡ items ++ item.Trim ∷ []
+pub follows-trim : (kernel : Extent) (items longer : List Item) (t u : Contents) (at : Aim) → longer ≡ items ++ item.Trim ∷ []
     → u.memory ≡ record t.memory { records = records_for (trimmed (value_at t.memory.records)) } → u.reserved ≡ t.reserved
     → AreTold t u → IsMemblock kernel items t at → Follows kernel items longer (byte_of t.store) (byte_of u.store)
 follows-trim kernel items longer t u at more is same told m =
     subst (λ (l : List Item). Follows kernel items l (byte_of t.store) (byte_of u.store)) (sym more)
     (trim-follows_from kernel items t u at is same told m.kept)
 
-pub whole-trim : (kernel : Extent) (items longer : List Item) (t u : Contents) (at : ℕ) → longer ≡ items ++ item.Trim ∷ []
+pub whole-trim : (kernel : Extent) (items longer : List Item) (t u : Contents) (at : Aim) → longer ≡ items ++ item.Trim ∷ []
     → u.memory ≡ record t.memory { records = records_for (trimmed (value_at t.memory.records)) } → u.reserved ≡ t.reserved
     → AreTold t u → HasBegun items → IsMemblock kernel items t at → IsMemblock kernel longer u at
 whole-trim kernel items longer t u at more is same told begun m =
@@ -129,7 +131,7 @@ whole-trim kernel items longer t u at more is same told begun m =
     (trim-stands kernel items (items ++ item.Trim ∷ []) m.placed begun refl))
 
 -- behind a new limit
-pub follows-limit : (kernel : Extent) (items longer : List Item) (t : Contents) (at to : ℕ) → longer ≡ items ++ item.Limit to ∷ []
+pub follows-limit : (kernel : Extent) (items longer : List Item) (t : Contents) (at : Aim) (to : ℕ) → longer ≡ items ++ item.Limit to ∷ []
     → IsMemblock kernel items t at → Follows kernel items longer (byte_of t.store) (byte_of t.store)
 follows-limit kernel items longer t at to more m =
     let now = kept-limit kernel items t at to m.kept in
@@ -137,16 +139,36 @@ follows-limit kernel items longer t at to more m =
     (follows-item kernel items (item.Limit to) t.memory t.reserved (byte_of t.store) (byte_of t.store) (λ x. refl) now.memory
     now.reserved m.spelled)
 
-pub whole-limit : (kernel : Extent) (items longer : List Item) (t : Contents) (at to : ℕ) → longer ≡ items ++ item.Limit to ∷ []
-    → HasBegun items → IsMemblock kernel items t at → IsMemblock kernel longer t to
+pub whole-limit : (kernel : Extent) (items longer : List Item) (t : Contents) (at : Aim) (to : ℕ) → longer ≡ items ++ item.Limit to ∷ []
+    → HasBegun items → IsMemblock kernel items t at → IsMemblock kernel longer t (aimed to at.upward)
 whole-limit kernel items longer t at to more begun m =
-    let now : IsMemblock kernel (items ++ item.Limit to ∷ []) t to = record {
+    let now : IsMemblock kernel (items ++ item.Limit to ∷ []) t (aimed to at.upward) = record {
       image = m.image;
       kept = kept-limit kernel items t at to m.kept;
       placed = limit-stands kernel items (items ++ item.Limit to ∷ []) to m.placed begun refl;
       spelled = m.spelled;
     } in
-    subst (λ (l : List Item). IsMemblock kernel l t to) (sym more) now
+    subst (λ (l : List Item). IsMemblock kernel l t (aimed to at.upward)) (sym more) now
+
+-- behind a new direction
+pub follows-upward : (kernel : Extent) (items longer : List Item) (t : Contents) (at : Aim) (on : Bool) → longer ≡ items ++ item.Upward on ∷ []
+    → IsMemblock kernel items t at → Follows kernel items longer (byte_of t.store) (byte_of t.store)
+follows-upward kernel items longer t at on more m =
+    let now = kept-upward kernel items t at on m.kept in
+    subst (λ (l : List Item). Follows kernel items l (byte_of t.store) (byte_of t.store)) (sym more)
+    (follows-item kernel items (item.Upward on) t.memory t.reserved (byte_of t.store) (byte_of t.store) (λ x. refl) now.memory
+    now.reserved m.spelled)
+
+pub whole-upward : (kernel : Extent) (items longer : List Item) (t : Contents) (at : Aim) (on : Bool) → longer ≡ items ++ item.Upward on ∷ []
+    → HasBegun items → IsMemblock kernel items t at → IsMemblock kernel longer t (aimed at.limit on)
+whole-upward kernel items longer t at on more begun m =
+    let now : IsMemblock kernel (items ++ item.Upward on ∷ []) t (aimed at.limit on) = record {
+      image = m.image;
+      kept = kept-upward kernel items t at on m.kept;
+      placed = upward-stands kernel items (items ++ item.Upward on ∷ []) on m.placed begun refl;
+      spelled = m.spelled;
+    } in
+    subst (λ (l : List Item). IsMemblock kernel l t (aimed at.limit on)) (sym more) now
 
 -- a write of one byte to each address of a range
 pub wrote-put : (old new : List Stored) (fill : Filled) → Wrote old new fill.range.base fill.range.size (λ _. fill.byte)
@@ -162,7 +184,7 @@ wrote-put old new fill wrote x =
           rw out (wrote.outside x beside)
     ]
 
-pub whole-fill : (kernel : Extent) (items : List Item) (t u : Contents) (at : ℕ) (fill : Filled) → u.memory ≡ t.memory
+pub whole-fill : (kernel : Extent) (items : List Item) (t u : Contents) (at : Aim) (fill : Filled) → u.memory ≡ t.memory
     → u.reserved ≡ t.reserved → ((x : ℕ) → byte_of u.store x ≡ put fill x (byte_of t.store x)) → IsAway kernel fill.range items
     → IsMemblock kernel items t at → IsMemblock kernel items u at
 whole-fill kernel items t u at fill first second wrote away m =

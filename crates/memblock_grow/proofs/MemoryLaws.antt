@@ -24,6 +24,7 @@ use Rattle.growth_model.proofs.SpotLaws.{frames-more}
 use Rattle.growth_model.proofs.FoundLaws.{away-within, away-apart}
 use Rattle.growth_model.proofs.PlacedMemoryLaws.{IsTaken, claimed-taken}
 use Rattle.growth_model.proofs.FollowLaws.{follows-still, follows-grown, follows-then, follows-stands}
+use Rattle.memblock_grow.specs.declared.aim.Aim.{Aim}
 use Rattle.memblock_grow.specs.Kept.{AreKept, IsMemblock, AllowsFree, Keeps, KeepsBytes}
 use Rattle.memblock_grow.specs.Places.{frames_between}
 use Rattle.memblock_grow.proofs.KeptLaws.{room-is, kept-same, kept-grown}
@@ -35,24 +36,25 @@ pub record IsBest (items : List Item) (place : Extent) : Type 0 where
   pub found : best items (table_query (room_of which.Memory items) 0 (limit_of items)) ≡ Some place.base
   pub is : place ≡ frames_at place.base (48 * room_of which.Memory items)
 
-best-along : (kernel : Extent) (items : List Item) (t : Contents) (at n : ℕ) (o : Option Extent) → AreKept kernel items t at
-    → n ≡ room_in which.Memory t → o ≡ frames_between t n 0 at
+best-along : (kernel : Extent) (items : List Item) (t : Contents) (at : Aim) (n : ℕ) (o : Option Extent) → AreKept kernel items t at
+    → n ≡ room_in which.Memory t → o ≡ frames_between t at.upward n 0 at.limit
     → o ≡ option_map (λ place. frames_at place (48 * room_of which.Memory items))
     (best items (table_query (room_of which.Memory items) 0 (limit_of items)))
 best-along kernel items t at n o kept room is =
-    is ∙ ap (λ (m : ℕ). frames_between t m 0 at) room ∙ ap (λ (m : ℕ). frames_between t (room_in which.Memory t) 0 m) (sym kept.limit)
+    is ∙ ap (λ (m : ℕ). frames_between t at.upward m 0 at.limit) room
+    ∙ ap (λ (m : ℕ). frames_between t at.upward (room_in which.Memory t) 0 m) (sym kept.limit)
     ∙ between-is kernel items t at 0 (limit_of items) kept
 
-pub best-found : (kernel : Extent) (items : List Item) (t : Contents) (at n : ℕ) (o : Option Extent) (place : Extent)
-    → AreKept kernel items t at → n ≡ room_in which.Memory t → o ≡ frames_between t n 0 at → o ≡ Some place → IsBest items place
+pub best-found : (kernel : Extent) (items : List Item) (t : Contents) (at : Aim) (n : ℕ) (o : Option Extent) (place : Extent)
+    → AreKept kernel items t at → n ≡ room_in which.Memory t → o ≡ frames_between t at.upward n 0 at.limit → o ≡ Some place → IsBest items place
 best-found kernel items t at n o place kept room is some =
     let q = table_query (room_of which.Memory items) 0 (limit_of items) in
     let known : IsPlaceOf (best items q) (48 * room_of which.Memory items) place =
     mapped-some (best items q) (48 * room_of which.Memory items) place (sym (best-along kernel items t at n o kept room is) ∙ some) in
     record { found = known.found; is = known.is }
 
-pub memory-none : (kernel : Extent) (items : List Item) (t : Contents) (at n : ℕ) (o : Option Extent) → AreKept kernel items t at
-    → n ≡ room_in which.Memory t → o ≡ frames_between t n 0 at → o ≡ None
+pub memory-none : (kernel : Extent) (items : List Item) (t : Contents) (at : Aim) (n : ℕ) (o : Option Extent) → AreKept kernel items t at
+    → n ≡ room_in which.Memory t → o ≡ frames_between t at.upward n 0 at.limit → o ≡ None
     → Ends {T = Unit {0}} (Err (refusal.NoGapForTable which.Memory n)) items items memory_growth
 unfolding memory_growth memory_growth_at
 memory-none kernel items t at n o kept room is none =
@@ -149,12 +151,12 @@ pub record MovedMemory (items : List Item) (t k p r : Contents) (base : ℕ) (pl
   pub is : place ≡ frames_at place.base (48 * room_of which.Memory items)
   pub ends : end_of place < 2 ^ 64
 
-pub room-stays : (kernel : Extent) (items mid : List Item) (t k : Contents) (at : ℕ) → AreKept kernel items t at → AreKept kernel mid k at
+pub room-stays : (kernel : Extent) (items mid : List Item) (t k : Contents) (at : Aim) → AreKept kernel items t at → AreKept kernel mid k at
     → k.memory ≡ t.memory → room_of which.Memory mid ≡ room_of which.Memory items
 room-stays kernel items mid t k at kept after same =
     sym (room-is which.Memory kernel mid k at after) ∙ ap (λ (s : Table). s.room) same ∙ room-is which.Memory kernel items t at kept
 
-pub memory-apart : (kernel : Extent) (items mid : List Item) (t k : Contents) (at base : ℕ) (place : Extent) → AreKept kernel items t at
+pub memory-apart : (kernel : Extent) (items mid : List Item) (t k : Contents) (at : Aim) (base : ℕ) (place : Extent) → AreKept kernel items t at
     → AreKept kernel mid k at → k.memory ≡ t.memory → base ≡ place.base
     → IsTaken kernel mid (room_of which.Memory items) (moved_to which.Memory items) place.base
     → ¬ Overlaps k (record { base = base; size = 48 * room_in which.Memory k })
@@ -168,7 +170,7 @@ memory-apart kernel items mid t k at base place kept after same here taken =
     subst (λ (m : ℕ). ¬ Overlaps k (record { base = base; size = 48 * m })) (sym room)
     (subst (λ (b : ℕ). ¬ Overlaps k (record { base = b; size = 48 * n })) (sym here) apart)
 
-pub memory-kept : (kernel : Extent) (items mid : List Item) (t k p r : Contents) (at base room : ℕ) (place : Extent)
+pub memory-kept : (kernel : Extent) (items mid : List Item) (t k p r : Contents) (at : Aim) (base room : ℕ) (place : Extent)
     → AreKept kernel items t at → MovedMemory items t k p r base place → Keeps items t mid k at
     → AreKept kernel (mid ++ item.Grown which.Memory base room ∷ []) r at
 memory-kept kernel items mid t k p r at base room place kept m keeps =
@@ -182,7 +184,7 @@ memory-kept kernel items mid t k p r at base room place kept m keeps =
     (subst (λ (n : ℕ). base + frames_of (48 * n) < 2 ^ 64) (sym same) small) m.table m.other after
 
 -- bytes that are prepared behind the claim stay what they are
-pub prepared-bytes : (kernel : Extent) (items mid new : List Item) (t k p : Contents) (at : ℕ) → AreKept kernel items t at
+pub prepared-bytes : (kernel : Extent) (items mid new : List Item) (t k p : Contents) (at : Aim) → AreKept kernel items t at
     → AreSpelled t.memory t.reserved (byte_of t.store) → Keeps items t mid k at → KeepsBytes items t mid k at → new ≡ mid
     → ((x : ℕ) → byte_of p.store x ≡ byte_of k.store x) → Follows kernel items new (byte_of t.store) (byte_of p.store)
 prepared-bytes kernel items mid new t k p at kept spelled keeps bytes is same =
@@ -193,7 +195,7 @@ prepared-bytes kernel items mid new t k p at kept spelled keeps bytes is same =
     (follows-then kernel items mid mid (byte_of t.store) (byte_of k.store) (byte_of p.store) path
     (follows-still kernel mid k.memory k.reserved (byte_of k.store) (byte_of p.store) after.memory after.reserved stands same))
 
-pub memory-bytes : (kernel : Extent) (items mid : List Item) (t k p r : Contents) (at base room : ℕ) (place : Extent)
+pub memory-bytes : (kernel : Extent) (items mid : List Item) (t k p r : Contents) (at : Aim) (base room : ℕ) (place : Extent)
     → AreKept kernel items t at → AreSpelled t.memory t.reserved (byte_of t.store) → MovedMemory items t k p r base place
     → Keeps items t mid k at → KeepsBytes items t mid k at
     → Follows kernel items (mid ++ item.Grown which.Memory base room ∷ []) (byte_of t.store) (byte_of r.store)
@@ -207,7 +209,7 @@ memory-bytes kernel items mid t k p r at base room place kept spelled m keeps by
     moved.memory moved.reserved m.told)
 
 -- what stands before the old place is freed
-pub memory-stands : (kernel : Extent) (items mid : List Item) (t k p r : Contents) (at base room : ℕ) (place : Extent)
+pub memory-stands : (kernel : Extent) (items mid : List Item) (t k p r : Contents) (at : Aim) (base room : ℕ) (place : Extent)
     → IsMemblock kernel items t at → MovedMemory items t k p r base place → Keeps items t mid k at → KeepsBytes items t mid k at
     → room ≡ 2 * room_of which.Memory items → IsTaken kernel mid (room_of which.Memory items) (moved_to which.Memory items) place.base
     → IsMemblock kernel (mid ++ item.Grown which.Memory base room ∷ []) r at
@@ -230,13 +232,13 @@ away-by kernel is n None range away h = cc
 away-by kernel is n (Some q) range away h =
     let same : frames_at q (24 * n) ≡ range = cc in subst (λ (e : Extent). IsAway kernel e is) same (away q refl)
 
-free-by : (kernel : Extent) (is : List Item) (t : Contents) (at n : ℕ) (o : Option ℕ) (left : Option Extent)
+free-by : (kernel : Extent) (is : List Item) (t : Contents) (at : Aim) (n : ℕ) (o : Option ℕ) (left : Option Extent)
     → IsMemblock kernel is t at → ((q : ℕ) → o ≡ Some q → IsAway kernel (frames_at q (24 * n)) is) → left ≡ old_frames n o
     → IfSome left (λ range. AllowsFree is t at range)
 free-by kernel is t at n o None whole away h = tt
 free-by kernel is t at n o (Some range) whole away h = (kernel, whole, away-by kernel is n o range away (sym h))
 
-pub memory-free : (kernel : Extent) (items mid next : List Item) (t k p r : Contents) (at base room : ℕ) (place : Extent)
+pub memory-free : (kernel : Extent) (items mid next : List Item) (t k p r : Contents) (at : Aim) (base room : ℕ) (place : Extent)
     (left : Option Extent) → IsMemblock kernel items t at → MovedMemory items t k p r base place → Keeps items t mid k at
     → KeepsBytes items t mid k at → room ≡ 2 * room_of which.Memory items
     → IsTaken kernel mid (room_of which.Memory items) (moved_to which.Memory items) place.base

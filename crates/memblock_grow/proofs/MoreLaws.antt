@@ -14,19 +14,20 @@ use Rattle.memblock_ranges.specs.Tables.{Table, Contents, table_in, records_in, 
 use Rattle.memblock_ranges.proofs.CountLaws.{few-pieces}
 use Rattle.growth_model.specs.Growth.{is_full, count}
 use Rattle.growth_model.specs.Sound.{HasBegun}
+use Rattle.memblock_grow.specs.declared.aim.Aim.{Aim}
 use Rattle.memblock_grow.specs.declared.more.More.{More}
 use Rattle.memblock_grow.specs.declared.more.More.TheVariants as more
 use Rattle.memblock_grow.specs.Kept.{AreKept}
 use Rattle.memblock_grow.specs.More.{more_by, more_in, HasRoom, Grew, EndsBefore}
 use Rattle.memblock_grow.proofs.KeptLaws.{records-are, room-is, values-are, values-end, records-again}
 
-more-is : (w : Which) (m : More) (kernel : Extent) (items : List Item) (t : Contents) (at : ℕ) → AreKept kernel items t at
+more-is : (w : Which) (m : More) (kernel : Extent) (items : List Item) (t : Contents) (at : Aim) → AreKept kernel items t at
     → more_in m (table_in w t) ≡ more_by w m items
 more-is w (more.PiecesOf range) kernel items t at kept = ap (λ (f : Labels). pieces range f) (values-are w kernel items t at kept)
 more-is w more.Two kernel items t at kept = refl
 
 -- full by the tables is full by the items
-pub full-is : (w : Which) (m : More) (kernel : Extent) (items : List Item) (t : Contents) (at : ℕ) → AreKept kernel items t at
+pub full-is : (w : Which) (m : More) (kernel : Extent) (items : List Item) (t : Contents) (at : Aim) → AreKept kernel items t at
     → nat_lt (room_in w t) (length (records_in w t) + more_in m (table_in w t)) ≡ is_full w (more_by w m) items
 full-is w m kernel items t at kept =
     ap (λ (n : ℕ). nat_lt n (length (records_in w t) + more_in m (table_in w t))) (room-is w kernel items t at kept)
@@ -40,7 +41,7 @@ pub full-by : (m : More) (t : Table) → HasRoom m t → nat_lt t.room (length t
 full-by m t h = grind (arith, nat_tests, h)
 
 -- the table has room, as the items have it
-pub room-of : (w : Which) (m : More) (kernel : Extent) (items : List Item) (t : Contents) (at : ℕ) → AreKept kernel items t at
+pub room-of : (w : Which) (m : More) (kernel : Extent) (items : List Item) (t : Contents) (at : Aim) → AreKept kernel items t at
     → is_full w (more_by w m) items ≡ false → HasRoom m (table_in w t)
 room-of w m kernel items t at kept h = room-by m (table_in w t) (full-is w m kernel items t at kept ∙ h)
 
@@ -78,7 +79,7 @@ twice-by (more.PiecesOf range) new ends none again n least few room =
     omega (arith, parts, same, least, few, room)
 twice-by more.Two new ends none again n least few room = omega (arith, least, few, room)
 
-pub room-twice : (w : Which) (m : More) (kernel : Extent) (items : List Item) (t : Contents) (at : ℕ) (old mid : Table)
+pub room-twice : (w : Which) (m : More) (kernel : Extent) (items : List Item) (t : Contents) (at : Aim) (old mid : Table)
     → AreKept kernel items t at → EndsBefore m → 128 ≤ old.room → length old.records ≤ old.room
     → HasRoom m mid ⊎ Grew old mid → (HasRoom m mid → table_in w t ≡ mid) → HasRoom m (table_in w t) ⊎ Grew mid (table_in w t)
     → HasRoom m (table_in w t)

@@ -15,53 +15,81 @@ use Rattle.memblock_model.specs.Labels.{Labels}
 use Rattle.memblock_model.specs.Same.{same_which}
 use Rattle.memblock_model.specs.Items.{limit_of}
 use Rattle.memblock_model.specs.Tables.{table_of, room_of, room_after, moved_to, moved_after, place_of, built_in}
-use Rattle.memblock_model.specs.Search.{fits_in, best_in, best}
-use Rattle.memblock_model.proofs.SearchLaws.{best_in-is, best_in-fails, fits_in-parts}
+use Rattle.memblock_model.specs.Search.{suits, fits_in, top_in, best_in, top, best}
+use Rattle.memblock_model.proofs.SearchLaws.{top_in-mirrorless, best_in-fits, best_in-fails, fits_in-parts}
 use Rattle.memblock_ranges.specs.Tables.{Contents, room_in, place_in}
+use Rattle.boot_journal.specs.Mirrors.{mirrors_in}
+use Rattle.boot_journal.proofs.MirrorLaws.{unmirrored}
+use Rattle.growth_model.specs.Request.{Attempt}
 use Rattle.growth_model.specs.Growth.{frames_of, frames_at, table_query, place_beside, old_frames}
-use Rattle.memblock_grow.specs.Kept.{AreKept}
-use Rattle.memblock_grow.specs.Places.{best_of, frames_between, frames_beside, left_frames}
+use Rattle.memblock_grow.specs.declared.aim.Aim.{Aim}
+use Rattle.memblock_grow.specs.Kept.{AreKept, aimed}
+use Rattle.memblock_grow.specs.Places.{KnowsMirrors, top_of, mirrored_of, best_of, frames_between, frames_beside, left_frames}
 use Rattle.memblock_grow.proofs.KeptLaws.{values-are, room-is, place-is}
 
 -- a window that is too small has no place
-pub best_in-large : (memory reserved : Labels) (q : Query) → q.hi < q.size → best_in memory reserved q ≡ None
-best_in-large memory reserved q small =
-    best_in-fails memory reserved q (λ b lt.
-    elim (cases_Bool (fits_in memory reserved q b)) as (λ _. fits_in memory reserved q b ≡ false) [
-      | inl fits ↦ let high = (fits_in-parts memory reserved q b fits).high in absurd (omega arith)
+pub best_in-large : (up : Bool) (memory reserved : Labels) (q : Query) → q.hi < q.size → best_in up memory reserved q ≡ None
+best_in-large up memory reserved q small =
+    best_in-fails up memory reserved q (λ b lt.
+    elim (cases_Bool (fits_in false memory reserved q b)) as (λ _. fits_in false memory reserved q b ≡ false) [
+      | inl fits ↦ let high = (fits_in-parts false memory reserved q b fits).high in absurd (omega arith)
       | inr fails ↦ fails
     ])
 
 -- what is found ends in the window
-pub best_in-high : (memory reserved : Labels) (q : Query) (place : ℕ) → best_in memory reserved q ≡ Some place → place + q.size ≤ q.hi
-best_in-high memory reserved q place found =
-    (fits_in-parts memory reserved q place (best_in-is memory reserved q place found).passes).high
+pub best_in-high : (up : Bool) (memory reserved : Labels) (q : Query) (place : ℕ) → best_in up memory reserved q ≡ Some place
+    → place + q.size ≤ q.hi
+best_in-high up memory reserved q place found =
+    (fits_in-parts false memory reserved q place (best_in-fits up memory reserved q place found)).high
 
--- the best by the tables is the best by the items
-pub best-is : (kernel : Extent) (items : List Item) (t : Contents) (at : ℕ) (q : Query) → AreKept kernel items t at
-    → best_of t q ≡ best items q
+-- the tables know of each mirror
+pub knows-mirrors : (kernel : Extent) (items : List Item) (t : Contents) (at : Aim) → AreKept kernel items t at → KnowsMirrors items t
+knows-mirrors kernel items t at kept none x =
+    ap (λ (f : Labels). suits true (f x)) (values-are which.Memory kernel items t at kept) ∙ unmirrored items none x
+
+-- without one no search finds mirrored memory
+pub top-mirrorless : (items : List Item) (t : Contents) (up : Bool) (q : Query) → KnowsMirrors items t → mirrors_in items ≡ false
+    → mirrored_of t up q ≡ None
+top-mirrorless items t up q knows none =
+    top_in-mirrorless up (value_at t.memory.records) (value_at t.reserved.records) q (knows none)
+
+-- the top and the best place by the tables are those by the items
+pub top-is : (kernel : Extent) (items : List Item) (t : Contents) (at : Aim) (a : Attempt) → AreKept kernel items t at
+    → top_of t at.upward a ≡ top items a.query a.mirror
+unfolding top
+top-is kernel items t at a kept =
+    ap (λ (f : Labels). top_in (record { mirror = a.mirror; up = at.upward }) f (value_at t.reserved.records) a.query)
+    (values-are which.Memory kernel items t at kept)
+    ∙ ap (λ (f : Labels). top_in (record { mirror = a.mirror; up = at.upward }) (table_of which.Memory items) f a.query)
+    (values-are which.Reserved kernel items t at kept)
+    ∙ ap (λ (b : Bool). top_in (record { mirror = a.mirror; up = b }) (table_of which.Memory items) (table_of which.Reserved items) a.query)
+    (sym kept.upward)
+
+pub best-is : (kernel : Extent) (items : List Item) (t : Contents) (at : Aim) (q : Query) → AreKept kernel items t at
+    → best_of t at.upward q ≡ best items q
 unfolding best
 best-is kernel items t at q kept =
-    ap (λ (f : Labels). best_in f (value_at t.reserved.records) q) (values-are which.Memory kernel items t at kept)
-    ∙ ap (λ (f : Labels). best_in (table_of which.Memory items) f q) (values-are which.Reserved kernel items t at kept)
+    ap (λ (f : Labels). best_in at.upward f (value_at t.reserved.records) q) (values-are which.Memory kernel items t at kept)
+    ∙ ap (λ (f : Labels). best_in at.upward (table_of which.Memory items) f q) (values-are which.Reserved kernel items t at kept)
+    ∙ ap (λ (b : Bool). best_in b (table_of which.Memory items) (table_of which.Reserved items) q) (sym kept.upward)
 
-pub between-is : (kernel : Extent) (items : List Item) (t : Contents) (at lo hi : ℕ) → AreKept kernel items t at
-    → frames_between t (room_in which.Memory t) lo hi
+pub between-is : (kernel : Extent) (items : List Item) (t : Contents) (at : Aim) (lo hi : ℕ) → AreKept kernel items t at
+    → frames_between t at.upward (room_in which.Memory t) lo hi
     ≡ option_map (λ place. frames_at place (48 * room_of which.Memory items)) (best items (table_query (room_of which.Memory items) lo hi))
 between-is kernel items t at lo hi kept =
-    ap (λ (n : ℕ). frames_between t n lo hi) (room-is which.Memory kernel items t at kept)
+    ap (λ (n : ℕ). frames_between t at.upward n lo hi) (room-is which.Memory kernel items t at kept)
     ∙ ap (λ (o : Option ℕ). option_map (λ place. frames_at place (48 * room_of which.Memory items)) o)
     (best-is kernel items t at (table_query (room_of which.Memory items) lo hi) kept)
 
-pub beside-is : (kernel : Extent) (items : List Item) (t : Contents) (at : ℕ) (avoid : Extent) → AreKept kernel items t at
-    → frames_beside t (room_in which.Reserved t) at avoid
+pub beside-is : (kernel : Extent) (items : List Item) (t : Contents) (at : Aim) (avoid : Extent) → AreKept kernel items t at
+    → frames_beside t at (room_in which.Reserved t) avoid
     ≡ option_map (λ place. frames_at place (48 * room_of which.Reserved items)) (place_beside avoid (room_of which.Reserved items) items)
 beside-is kernel items t at avoid kept =
     let n = room_of which.Reserved items in
     let frames : Option ℕ → Option Extent = λ o. option_map (λ place. frames_at place (48 * n)) o in
-    ap (λ (m : ℕ). frames_beside t m at avoid) (room-is which.Reserved kernel items t at kept)
-    ∙ ap (λ (m : ℕ). frames_beside t n m avoid) (sym kept.limit)
-    ∙ ap (λ (o : Option ℕ). frames (option_or o (best_of t (table_query n 0 (min avoid.base (limit_of items))))))
+    ap (λ (m : ℕ). frames_beside t at m avoid) (room-is which.Reserved kernel items t at kept)
+    ∙ ap (λ (m : ℕ). frames_beside t (aimed m at.upward) n avoid) (sym kept.limit)
+    ∙ ap (λ (o : Option ℕ). frames (option_or o (best_of t at.upward (table_query n 0 (min avoid.base (limit_of items))))))
     (best-is kernel items t at (table_query n (end_of avoid) (limit_of items)) kept)
     ∙ ap (λ (o : Option ℕ). frames (option_or (best items (table_query n (end_of avoid) (limit_of items))) o))
     (best-is kernel items t at (table_query n 0 (min avoid.base (limit_of items))) kept)
@@ -115,7 +143,7 @@ left-by n built None h = let first : (n == 128) ≡ true = eq-eqb n 128 h in rw 
 left-by n built (Some p) h = let later : (n == 128) ≡ false = grind (arith, nat_tests) in rw later refl
 
 -- what a table leaves is what the items say of its old place
-pub left-is : (w : Which) (kernel : Extent) (items : List Item) (t : Contents) (at : ℕ) → AreKept kernel items t at
+pub left-is : (w : Which) (kernel : Extent) (items : List Item) (t : Contents) (at : Aim) → AreKept kernel items t at
     → left_frames (place_in w t) (room_in w t) ≡ old_frames (room_of w items) (moved_to w items)
 left-is w kernel items t at kept =
     ap (λ (n : ℕ). left_frames n (room_in w t)) (place-is w kernel items t at kept)
@@ -128,7 +156,7 @@ unfolding Moved
 far-by n built None h other far = absurd (other h)
 far-by n built (Some p) h other far = far p refl
 
-pub left-far : (w : Which) (kernel : Extent) (items : List Item) (t : Contents) (at : ℕ) → AreKept kernel items t at
+pub left-far : (w : Which) (kernel : Extent) (items : List Item) (t : Contents) (at : Aim) → AreKept kernel items t at
     → room_in w t ≢ 128 → place_in w t + frames_of (24 * room_in w t) < 2 ^ 64
 left-far w kernel items t at kept other =
     let n = room-is w kernel items t at kept in
@@ -137,11 +165,11 @@ left-far w kernel items t at kept other =
     (subst (λ (m : ℕ). place_of w kernel items + frames_of (24 * m) < 2 ^ 64) (sym n) here)
 
 -- the answers of the search among frames
-pub between-none : (t : Contents) (room lo hi : ℕ) → hi < 2 ^ 64 → ¬ (frames_of (48 * room) < 2 ^ 64) → None ≡ frames_between t room lo hi
-between-none t room lo hi small large =
+pub between-none : (t : Contents) (up : Bool) (room lo hi : ℕ) → hi < 2 ^ 64 → ¬ (frames_of (48 * room) < 2 ^ 64) → None ≡ frames_between t up room lo hi
+between-none t up room lo hi small large =
     let high : hi < frames_of (48 * room) = omega (arith, large) in
     sym (ap (λ (o : Option ℕ). option_map (λ place. frames_at place (48 * room)) o)
-    (best_in-large (value_at t.memory.records) (value_at t.reserved.records) (table_query room lo hi) high))
+    (best_in-large up (value_at t.memory.records) (value_at t.reserved.records) (table_query room lo hi) high))
 
 abbrev sized : ℕ → ℕ → ℕ → Query
 sized lo hi size = record { lo = lo; hi = hi; size = size; align = 4096; node = None }
@@ -151,18 +179,18 @@ new_some : (o : Option Extent) (base size : ℕ) → SomeIff o (base + size < 2 
 new_some None base size h small = absurd (h small)
 new_some (Some e) base size h small = ap (λ (x : Extent). Some x) h.1
 
-pub between-some : (t : Contents) (room lo hi size base : ℕ) (o : Option Extent) → size ≡ frames_of (48 * room)
-    → best_of t (sized lo hi size) ≡ Some base → SomeIff o (base + size < 2 ^ 64) (record { base = base; size = size }) → hi < 2 ^ 64
-    → o ≡ frames_between t room lo hi
-between-some t room lo hi size base o is found new small =
-    let high : base + size ≤ hi = best_in-high (value_at t.memory.records) (value_at t.reserved.records) (sized lo hi size) base found in
+pub between-some : (t : Contents) (up : Bool) (room lo hi size base : ℕ) (o : Option Extent) → size ≡ frames_of (48 * room)
+    → best_of t up (sized lo hi size) ≡ Some base → SomeIff o (base + size < 2 ^ 64) (record { base = base; size = size }) → hi < 2 ^ 64
+    → o ≡ frames_between t up room lo hi
+between-some t up room lo hi size base o is found new small =
+    let high : base + size ≤ hi = best_in-high up (value_at t.memory.records) (value_at t.reserved.records) (sized lo hi size) base found in
     new_some o base size new (omega arith)
     ∙ ap (λ (n : ℕ). Some (let e : Extent = record { base = base; size = n } in e)) is
     ∙ sym (ap (λ (o : Option ℕ). option_map (λ place. frames_at place (48 * room)) o)
-    (sym (ap (λ (n : ℕ). best_of t (sized lo hi n)) is) ∙ found))
+    (sym (ap (λ (n : ℕ). best_of t up (sized lo hi n)) is) ∙ found))
 
-pub between-nowhere : (t : Contents) (room lo hi size : ℕ) → size ≡ frames_of (48 * room) → best_of t (sized lo hi size) ≡ None
-    → None ≡ frames_between t room lo hi
-between-nowhere t room lo hi size is none =
+pub between-nowhere : (t : Contents) (up : Bool) (room lo hi size : ℕ) → size ≡ frames_of (48 * room) → best_of t up (sized lo hi size) ≡ None
+    → None ≡ frames_between t up room lo hi
+between-nowhere t up room lo hi size is none =
     sym (ap (λ (o : Option ℕ). option_map (λ place. frames_at place (48 * room)) o)
-    (sym (ap (λ (n : ℕ). best_of t (sized lo hi n)) is) ∙ none))
+    (sym (ap (λ (n : ℕ). best_of t up (sized lo hi n)) is) ∙ none))

@@ -1,49 +1,81 @@
 -- The place that an allocation finds by the tables is the one that the items say, and how the claim of it ends.
-use Rattle.std.proofs.Common.{◌≡◌, ℕ, ◌+◌, ◌^◌, ◌<◌, Option, Some, None, List, [], ◌∷◌, Result, Ok, Err, refl, sym, ◌∙◌, ap, subst, arith}
+use Rattle.std.proofs.lemmas.Bool.{cases_Bool}
+use Rattle.std.proofs.Common.{◌≡◌, ℕ, ◌+◌, ◌^◌, ◌<◌, Bool, true, false, inl, inr, Option, Some, None, List, [], ◌∷◌, ◌++◌, Result, Ok, Err, refl, sym, ◌∙◌, ap, subst, arith}
 use Rattle.std.specs.Option.{option_or}
 use Rattle.bm_base.specs.Extent.{Extent}
-use Rattle.memblock_model.specs.declared.query.Query.{Query}
 use Rattle.memblock_model.specs.declared.owner.Owner.{Owner}
 use Rattle.memblock_model.specs.declared.item.Item.{Item}
 use Rattle.memblock_model.specs.Items.{limit_of}
-use Rattle.memblock_model.specs.Search.{best}
+use Rattle.memblock_model.specs.Search.{top}
+use Rattle.boot_journal.specs.Mirrors.{mirrors_in}
 use Rattle.memblock_ranges.specs.Tables.{Contents}
 use Rattle.growth_model.specs.declared.refusal.Refusal.{Refusal}
 use Rattle.growth_model.specs.declared.refusal.Refusal.TheVariants as refusal
 use Rattle.growth_model.specs.declared.request.Request.{Request}
 use Rattle.growth_model.specs.Growth.{claimed}
-use Rattle.growth_model.specs.Request.{attempts, first_best, place_for}
+use Rattle.growth_model.specs.Request.{Attempt, attempt, anywhere, nodes, attempts, first_top, place_for}
 use Rattle.growth_model.specs.Ends.{Ends, Allocates}
 use Rattle.growth_model.specs.Sound.{HasBegun}
 use Rattle.growth_model.proofs.EndLaws.{Ends-error}
 use Rattle.growth_model.proofs.FoundLaws.{place-unclaimed, place-within, unclaimed-away}
 use Rattle.growth_model.proofs.SoundLaws.{may-away}
+use Rattle.memblock_grow.specs.declared.aim.Aim.{Aim}
 use Rattle.memblock_grow.specs.Kept.{AreKept, IsMemblock, AllowsClaim}
-use Rattle.memblock_grow.specs.Places.{first_of}
-use Rattle.memblock_grow.proofs.PlaceLaws.{best-is}
+use Rattle.memblock_grow.specs.Places.{KnowsMirrors, top_of, first_of}
+use Rattle.memblock_grow.proofs.PlaceLaws.{top-is, top-mirrorless}
 
-first-is : (kernel : Extent) (items : List Item) (t : Contents) (at : ℕ) (qs : List Query) → AreKept kernel items t at
-    → first_of t qs ≡ first_best items qs
+first-is : (kernel : Extent) (items : List Item) (t : Contents) (at : Aim) (all : List Attempt) → AreKept kernel items t at
+    → first_of t at.upward all ≡ first_top items all
 first-is kernel items t at [] kept = refl
-first-is kernel items t at (q ∷ qs) kept =
-    ap (λ (o : Option ℕ). option_or o (first_of t qs)) (best-is kernel items t at q kept)
-    ∙ ap (λ (o : Option ℕ). option_or (best items q) o) (first-is kernel items t at qs kept)
+first-is kernel items t at (a ∷ rest) kept =
+    ap (λ (o : Option ℕ). option_or o (first_of t at.upward rest)) (top-is kernel items t at a kept)
+    ∙ ap (λ (o : Option ℕ). option_or (top items a.query a.mirror) o) (first-is kernel items t at rest kept)
 
-pub place-is-for : (kernel : Extent) (items : List Item) (t : Contents) (at : ℕ) (r : Request) (o found : Option ℕ)
+-- some searches, and others behind them
+or_or : (a b c : Option ℕ) → option_or (option_or a b) c ≡ option_or a (option_or b c)
+or_or None b c = refl
+or_or (Some x) b c = refl
+
+pub first-append : (t : Contents) (up : Bool) (some rest : List Attempt)
+    → first_of t up (some ++ rest) ≡ option_or (first_of t up some) (first_of t up rest)
+first-append t up [] rest = refl
+first-append t up (a ∷ some) rest =
+    ap (λ (o : Option ℕ). option_or (top_of t up a) o) (first-append t up some rest)
+    ∙ sym (or_or (top_of t up a) (first_of t up some) (first_of t up rest))
+
+-- where nothing is mirrored no search of mirrored memory finds a place
+anywhere-mirrorless : (items : List Item) (t : Contents) (up : Bool) (r : Request) (limit lo : ℕ) (wanted : Option ℕ) → KnowsMirrors items t
+    → mirrors_in items ≡ false → first_of t up (anywhere r limit lo true wanted) ≡ None
+anywhere-mirrorless items t up r limit lo None knows none = refl
+anywhere-mirrorless items t up r limit lo (Some node) knows none =
+    elim (cases_Bool r.exact) as (λ _. first_of t up (anywhere r limit lo true (Some node)) ≡ None) [
+      | inl exact ↦ rw exact refl
+      | inr preferred ↦ rw preferred (ap (λ (o : Option ℕ). option_or o None)
+          (top-mirrorless items t up (attempt r limit lo true None).query knows none))
+    ]
+
+pub nodes-mirrorless : (items : List Item) (t : Contents) (up : Bool) (r : Request) (limit lo : ℕ) → KnowsMirrors items t
+    → mirrors_in items ≡ false → first_of t up (nodes r limit lo true) ≡ None
+nodes-mirrorless items t up r limit lo knows none =
+    ap (λ (o : Option ℕ). option_or o (first_of t up (anywhere r limit lo true r.node)))
+    (top-mirrorless items t up (attempt r limit lo true r.node).query knows none)
+    ∙ anywhere-mirrorless items t up r limit lo r.node knows none
+
+pub place-is-for : (kernel : Extent) (items : List Item) (t : Contents) (at : Aim) (r : Request) (o found : Option ℕ)
     → AreKept kernel items t at
-    → o ≡ first_of t (attempts r at) → o ≡ found → place_for r items ≡ found
+    → o ≡ first_of t at.upward (attempts r at.limit) → o ≡ found → place_for r items ≡ found
 place-is-for kernel items t at r o found kept is some =
-    sym (is ∙ ap (λ (n : ℕ). first_of t (attempts r n)) (sym kept.limit) ∙ first-is kernel items t at (attempts r (limit_of items)) kept)
+    sym (is ∙ ap (λ (n : ℕ). first_of t at.upward (attempts r n)) (sym kept.limit) ∙ first-is kernel items t at (attempts r (limit_of items)) kept)
     ∙ some
 
-pub place-small : (kernel : Extent) (items : List Item) (t : Contents) (at : ℕ) (r : Request) (place : ℕ) → AreKept kernel items t at
-    → place_for r items ≡ Some place → at < 2 ^ 64 → place + r.size < 2 ^ 64
+pub place-small : (kernel : Extent) (items : List Item) (t : Contents) (at : Aim) (r : Request) (place : ℕ) → AreKept kernel items t at
+    → place_for r items ≡ Some place → at.limit < 2 ^ 64 → place + r.size < 2 ^ 64
 place-small kernel items t at r place kept found small =
     let high = place-within r items place found in
     let limit = kept.limit in
     omega (arith, high, limit, small)
 
-pub place-allowed : (kernel : Extent) (items : List Item) (t : Contents) (at : ℕ) (r : Request) (place : ℕ) (who : Owner)
+pub place-allowed : (kernel : Extent) (items : List Item) (t : Contents) (at : Aim) (r : Request) (place : ℕ) (who : Owner)
     → IsMemblock kernel items t at → HasBegun items → place_for r items ≡ Some place
     → AllowsClaim items t at (record { base = place; size = r.size }) who
 place-allowed kernel items t at r place who whole begun found =

@@ -29,13 +29,14 @@ use Rattle.growth_model.proofs.EndLaws.{Ends-step, Ends-refused, Ends-along, End
 use Rattle.growth_model.proofs.SpotLaws.{covers-to}
 use Rattle.growth_model.proofs.FoundLaws.{beside-new, found-apart}
 use Rattle.growth_model.proofs.FollowLaws.{follows-still, follows-item, follows-grown, follows-then}
+use Rattle.memblock_grow.specs.declared.aim.Aim.{Aim}
 use Rattle.memblock_grow.specs.Kept.{AreKept, AreTold}
 use Rattle.memblock_grow.specs.Places.{frames_beside, left_frames}
 use Rattle.memblock_grow.specs.More.{Grew}
 use Rattle.memblock_grow.proofs.KeptLaws.{values-are, room-is, few-kept, few-covered, few-uncovered, kept-same, kept-claim, kept-free, kept-grown}
 use Rattle.memblock_grow.proofs.PlaceLaws.{IsPlaceOf, mapped-some, mapped-none, beside-is, left-is}
 
-pub room-least : (w : Which) (kernel : Extent) (items : List Item) (t : Contents) (at : ℕ) → AreKept kernel items t at → 128 ≤ room_in w t
+pub room-least : (w : Which) (kernel : Extent) (items : List Item) (t : Contents) (at : Aim) → AreKept kernel items t at → 128 ≤ room_in w t
 room-least w kernel items t at kept =
     let n = room-is w kernel items t at kept in let least = room_of-least w items in omega (arith, n, least)
 
@@ -47,7 +48,7 @@ frames-some w items place is =
     omega (arith, least, size)
 
 -- a place that nobody has is one piece
-pub place-one : (kernel : Extent) (items : List Item) (t : Contents) (at : ℕ) (place : Extent) → AreKept kernel items t at
+pub place-one : (kernel : Extent) (items : List Item) (t : Contents) (at : Aim) (place : Extent) → AreKept kernel items t at
     → Unclaimed (owner_of items) place → 0 < place.size → end_of place < 2 ^ 64 → pieces place (value_at t.reserved.records) ≡ 1
 place-one kernel items t at place kept free some ends =
     one-piece place (value_at t.reserved.records) (omega arith) some
@@ -59,15 +60,15 @@ pub record IsBeside (items : List Item) (avoid place : Extent) : Type 0 where
   pub found : place_beside avoid (room_of which.Reserved items) items ≡ Some place.base
   pub is : place ≡ frames_at place.base (48 * room_of which.Reserved items)
 
-beside-along : (kernel : Extent) (items : List Item) (t : Contents) (at n : ℕ) (avoid : Extent) (o : Option Extent)
-    → AreKept kernel items t at → n ≡ room_in which.Reserved t → o ≡ frames_beside t n at avoid
+beside-along : (kernel : Extent) (items : List Item) (t : Contents) (at : Aim) (n : ℕ) (avoid : Extent) (o : Option Extent)
+    → AreKept kernel items t at → n ≡ room_in which.Reserved t → o ≡ frames_beside t at n avoid
     → o ≡ option_map (λ place. frames_at place (48 * room_of which.Reserved items)) (place_beside avoid
     (room_of which.Reserved items) items)
 beside-along kernel items t at n avoid o kept room is =
-    is ∙ ap (λ (m : ℕ). frames_beside t m at avoid) room ∙ beside-is kernel items t at avoid kept
+    is ∙ ap (λ (m : ℕ). frames_beside t at m avoid) room ∙ beside-is kernel items t at avoid kept
 
-pub beside-found : (kernel : Extent) (items : List Item) (t : Contents) (at n : ℕ) (avoid : Extent) (o : Option Extent) (place : Extent)
-    → AreKept kernel items t at → n ≡ room_in which.Reserved t → o ≡ frames_beside t n at avoid → o ≡ Some place
+pub beside-found : (kernel : Extent) (items : List Item) (t : Contents) (at : Aim) (n : ℕ) (avoid : Extent) (o : Option Extent) (place : Extent)
+    → AreKept kernel items t at → n ≡ room_in which.Reserved t → o ≡ frames_beside t at n avoid → o ≡ Some place
     → IsBeside items avoid place
 beside-found kernel items t at n avoid o place kept room is some =
     let known : IsPlaceOf (place_beside avoid (room_of which.Reserved items) items) (48 * room_of which.Reserved items) place =
@@ -81,7 +82,7 @@ beside-free items avoid place known =
     (beside-new items avoid (room_of which.Reserved items) place.base known.found).free
 
 -- it may be moved to
-pub beside-apart : (kernel : Extent) (items : List Item) (t p : Contents) (at base : ℕ) (avoid place : Extent) → AreKept kernel items t at
+pub beside-apart : (kernel : Extent) (items : List Item) (t p : Contents) (at : Aim) (base : ℕ) (avoid place : Extent) → AreKept kernel items t at
     → Placed kernel items → IsBeside items avoid place → base ≡ place.base → p.memory ≡ t.memory → p.reserved ≡ t.reserved
     → ¬ Overlaps p (record { base = base; size = 48 * room_in which.Reserved p })
 beside-apart kernel items t p at base avoid place kept placed known here first second =
@@ -94,8 +95,8 @@ beside-apart kernel items t p at base avoid place kept placed known here first s
     (subst (λ (b : ℕ). ¬ Overlaps p (record { base = b; size = 48 * n })) (sym here) apart)
 
 -- where no place was found
-pub growth-none : (kernel : Extent) (items : List Item) (t : Contents) (at n : ℕ) (avoid : Extent) (o : Option Extent)
-    → AreKept kernel items t at → n ≡ room_in which.Reserved t → o ≡ frames_beside t n at avoid → o ≡ None
+pub growth-none : (kernel : Extent) (items : List Item) (t : Contents) (at : Aim) (n : ℕ) (avoid : Extent) (o : Option Extent)
+    → AreKept kernel items t at → n ≡ room_in which.Reserved t → o ≡ frames_beside t at n avoid → o ≡ None
     → Ends {T = Unit {0}} (Err (refusal.NoGapForTable which.Reserved n)) items items (reserved_growth avoid)
 unfolding reserved_growth reserved_growth_at
 growth-none kernel items t at n avoid o kept room is none =
@@ -209,18 +210,18 @@ pub left-size : (w : Which) (items : List Item) (range : Extent) → old_frames 
     → 0 < range.size
 left-size w items range h = old-size (room_of w items) (moved_to w items) range (room_of-least w items) h
 
-pub left-found : (w : Which) (kernel : Extent) (items : List Item) (t : Contents) (at : ℕ) (h : Head) (o : Option Extent)
+pub left-found : (w : Which) (kernel : Extent) (items : List Item) (t : Contents) (at : Aim) (h : Head) (o : Option Extent)
     → AreKept kernel items t at → h ≡ head_of (table_in w t) → o ≡ left_frames h.place h.room
     → o ≡ old_frames (room_of w items) (moved_to w items)
 left-found w kernel items t at h o kept head is =
     is ∙ ap (λ (g : Head). left_frames g.place g.room) head ∙ left-is w kernel items t at kept
 
-pub twice-is : (w : Which) (kernel : Extent) (items : List Item) (t : Contents) (at n : ℕ) → AreKept kernel items t at → n ≡ room_in w t
+pub twice-is : (w : Which) (kernel : Extent) (items : List Item) (t : Contents) (at : Aim) (n : ℕ) → AreKept kernel items t at → n ≡ room_in w t
     → 2 * n ≡ 2 * room_of w items
 twice-is w kernel items t at n kept room = ap (λ (m : ℕ). 2 * m) (room ∙ room-is w kernel items t at kept)
 
 -- the tables after the move, and after the claim of the new place
-pub record Moved (items : List Item) (t p r v : Contents) (at base : ℕ) (place : Extent) : Type 0 where
+pub record Moved (items : List Item) (t p r v : Contents) (at : Aim) (base : ℕ) (place : Extent) : Type 0 where
   pub first : p.memory ≡ t.memory
   pub second : p.reserved ≡ t.reserved
   pub bytes : (x : ℕ) → byte_of p.store x ≡ byte_of t.store x
@@ -238,7 +239,7 @@ same-records : (a b : Table) (place room : ℕ) → b ≡ record a { place = pla
 same-records a b place room is = ap (λ (t : Table). t.records) is
 
 -- there is room for the claim of a place that nobody has
-pub claim-room : (kernel : Extent) (items : List Item) (t p r : Contents) (at base : ℕ) (place : Extent) → AreKept kernel items t at
+pub claim-room : (kernel : Extent) (items : List Item) (t p r : Contents) (at : Aim) (base : ℕ) (place : Extent) → AreKept kernel items t at
     → p.reserved ≡ t.reserved → r.reserved ≡ record p.reserved { place = base; room = 2 * p.reserved.room }
     → Unclaimed (owner_of items) place → 0 < place.size → end_of place < 2 ^ 64
     → length r.reserved.records + pieces place (value_at r.reserved.records) ≤ r.reserved.room
@@ -253,7 +254,7 @@ claim-room kernel items t p r at base place kept second table free some ends =
     let same = ap length rs in
     omega (arith, n, m, one, few, least, same)
 
-pub moved-kept : (kernel : Extent) (items : List Item) (t p r v : Contents) (at base room : ℕ) (place : Extent) → AreKept kernel items t at
+pub moved-kept : (kernel : Extent) (items : List Item) (t p r v : Contents) (at : Aim) (base room : ℕ) (place : Extent) → AreKept kernel items t at
     → Moved items t p r v at base place → AreKept kernel (items ++ item.Grown which.Reserved base room ∷ []) r at
 moved-kept kernel items t p r v at base room place kept m =
     let size : place.size ≡ frames_of (48 * room_of which.Reserved items) = ap (λ (e : Extent). e.size) m.is in
@@ -262,7 +263,7 @@ moved-kept kernel items t p r v at base room place kept m =
     kept-grown which.Reserved kernel items base room p r at (omega (arith, size, ends, here)) m.table m.other
     (kept-same kernel items t p at m.first m.second kept)
 
-pub claimed-kept : (kernel : Extent) (items : List Item) (t p r v : Contents) (at base room : ℕ) (place : Extent)
+pub claimed-kept : (kernel : Extent) (items : List Item) (t p r v : Contents) (at : Aim) (base room : ℕ) (place : Extent)
     → AreKept kernel items t at
     → Moved items t p r v at base place
     → length r.reserved.records + pieces place (value_at r.reserved.records) ≤ r.reserved.room
@@ -271,7 +272,7 @@ claimed-kept kernel items t p r v at base room place kept m fits =
     kept-claim kernel (items ++ item.Grown which.Reserved base room ∷ []) r v at place (owner.Table which.Reserved) m.ends fits m.claimed
     m.still (moved-kept kernel items t p r v at base room place kept m)
 
-pub claimed-grew : (kernel : Extent) (items : List Item) (t p r v : Contents) (at base room : ℕ) (place : Extent)
+pub claimed-grew : (kernel : Extent) (items : List Item) (t p r v : Contents) (at : Aim) (base room : ℕ) (place : Extent)
     → AreKept kernel items t at
     → Moved items t p r v at base place → Unclaimed (owner_of items) place
     → (v.reserved.room ≡ 2 * t.reserved.room) × (length v.reserved.records ≤ length t.reserved.records + 1)
@@ -289,7 +290,7 @@ claimed-grew kernel items t p r v at base room place kept m free =
     let b = ap (λ (t : Table). length t.records) m.claimed in
     (a ∙ n ∙ ap (λ (x : ℕ). 2 * x) k, omega (arith, one, few, same, b))
 
-pub claimed-bytes : (kernel : Extent) (items : List Item) (t p r v : Contents) (at base room : ℕ) (place : Extent)
+pub claimed-bytes : (kernel : Extent) (items : List Item) (t p r v : Contents) (at : Aim) (base room : ℕ) (place : Extent)
     → AreKept kernel items t at
     → Moved items t p r v at base place
     → length r.reserved.records + pieces place (value_at r.reserved.records) ≤ r.reserved.room
@@ -313,12 +314,12 @@ pub record Freed (v u : Contents) (range : Extent) : Type 0 where
   pub told : AreTold v u
   pub ends : end_of range < 2 ^ 64
 
-pub freed-kept : (kernel : Extent) (items : List Item) (v u : Contents) (at : ℕ) (range : Extent) → AreKept kernel items v at
+pub freed-kept : (kernel : Extent) (items : List Item) (v u : Contents) (at : Aim) (range : Extent) → AreKept kernel items v at
     → Freed v u range
     → length v.reserved.records + 2 ≤ v.reserved.room → AreKept kernel (items ++ item.Free range ∷ []) u at
 freed-kept kernel items v u at range kept f room = kept-free kernel items v u at range f.ends room f.table f.other kept
 
-pub freed-bytes : (kernel : Extent) (items : List Item) (v u : Contents) (at : ℕ) (range : Extent) → AreKept kernel items v at
+pub freed-bytes : (kernel : Extent) (items : List Item) (v u : Contents) (at : Aim) (range : Extent) → AreKept kernel items v at
     → Freed v u range
     → length v.reserved.records + 2 ≤ v.reserved.room
     → Follows kernel items (items ++ item.Free range ∷ []) (byte_of v.store) (byte_of u.store)
@@ -336,7 +337,7 @@ pub claimed-grown : (t v : Contents)
     → Grew t.reserved v.reserved
 claimed-grown t v grew = let m = grew.1 in record { room = grew.0; few = omega (arith, m) }
 
-pub freed-grown : (kernel : Extent) (items : List Item) (t v u : Contents) (at : ℕ) (range : Extent) → AreKept kernel items v at
+pub freed-grown : (kernel : Extent) (items : List Item) (t v u : Contents) (at : Aim) (range : Extent) → AreKept kernel items v at
     → (v.reserved.room ≡ 2 * t.reserved.room) × (length v.reserved.records ≤ length t.reserved.records + 1) → Freed v u range
     → Grew t.reserved u.reserved
 freed-grown kernel items t v u at range kept grew f =
@@ -347,7 +348,7 @@ freed-grown kernel items t v u at range kept grew f =
     record { room = a ∙ grew.0; few = omega (arith, few, m, b) }
 
 -- where nothing was written
-pub still-bytes : (kernel : Extent) (items longer : List Item) (t p : Contents) (at : ℕ) → longer ≡ items
+pub still-bytes : (kernel : Extent) (items longer : List Item) (t p : Contents) (at : Aim) → longer ≡ items
     → ((x : ℕ) → byte_of p.store x ≡ byte_of t.store x) → AreKept kernel items t at → AreSpelled t.memory t.reserved (byte_of t.store)
     → Follows kernel items longer (byte_of t.store) (byte_of p.store)
 still-bytes kernel items longer t p at none same kept spelled =

@@ -1,5 +1,5 @@
 -- What holds between calls holds behind each.
-use Rattle.std.proofs.Common.{ℕ, List, Result, Ok, Err}
+use Rattle.std.proofs.Common.{List, Result, Ok, Err}
 use Rattle.std.specs.Result.{OnOk}
 use Rattle.bm_base.specs.Extent.{Extent}
 use Rattle.phys_store.specs.Bytes.{byte_of}
@@ -7,9 +7,10 @@ use Rattle.memblock_model.specs.declared.item.Item.{Item}
 use Rattle.memblock_ranges.specs.Tables.{Contents}
 use Rattle.growth_model.proofs.SoundLaws.{Stands}
 use Rattle.growth_model.proofs.FollowLaws.{follows-stands, follows-then}
+use Rattle.memblock_grow.specs.declared.aim.Aim.{Aim}
 use Rattle.memblock_grow.specs.Kept.{IsMemblock, Keeps, KeepsBytes}
 
-pub whole-on : (kernel : Extent) (items longer : List Item) (t u : Contents) (at : ℕ) → IsMemblock kernel items t at
+pub whole-on : (kernel : Extent) (items longer : List Item) (t u : Contents) (at : Aim) → IsMemblock kernel items t at
     → Keeps items t longer u at → KeepsBytes items t longer u at → Stands kernel longer → IsMemblock kernel longer u at
 whole-on kernel items longer t u at m keeps bytes stands =
     let kept = keeps kernel m.kept in
@@ -22,11 +23,11 @@ whole-on kernel items longer t u at m keeps bytes stands =
     }
 
 -- one call behind another
-pub keeps-then : (items mid last : List Item) (t u v : Contents) (at : ℕ) → Keeps items t mid u at → Keeps mid u last v at
+pub keeps-then : (items mid last : List Item) (t u v : Contents) (at : Aim) → Keeps items t mid u at → Keeps mid u last v at
     → Keeps items t last v at
 keeps-then items mid last t u v at first second = λ kernel kept. second kernel (first kernel kept)
 
-pub bytes-then : (items mid last : List Item) (t u v : Contents) (at : ℕ) → Keeps items t mid u at → KeepsBytes items t mid u at
+pub bytes-then : (items mid last : List Item) (t u v : Contents) (at : Aim) → Keeps items t mid u at → KeepsBytes items t mid u at
     → KeepsBytes mid u last v at → KeepsBytes items t last v at
 bytes-then items mid last t u v at keeps first second = λ kernel kept spelled.
     let there = keeps kernel kept in

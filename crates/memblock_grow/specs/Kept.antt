@@ -1,5 +1,5 @@
 -- The tables are those that the items stand for, and lie in memory soundly: what holds between calls, and what each call keeps.
-use Rattle.std.specs.Prelude.{◌≡◌, ℕ, ◌+◌, ◌*◌, ◌^◌, ◌<◌, Some, List, IsTrue}
+use Rattle.std.specs.Prelude.{◌≡◌, ℕ, ◌+◌, ◌*◌, ◌^◌, ◌<◌, Bool, Some, List, IsTrue}
 use Rattle.bm_base.specs.Extent.{Extent}
 use Rattle.address_runs.specs.Edits.{NothingFrom}
 use Rattle.phys_store.specs.Bytes.{Stored, byte_of, is_ready}
@@ -7,46 +7,52 @@ use Rattle.memblock_model.specs.declared.which.Which.{Which}
 use Rattle.memblock_model.specs.declared.which.Which.TheVariants as which
 use Rattle.memblock_model.specs.declared.owner.Owner.{Owner}
 use Rattle.memblock_model.specs.declared.item.Item.{Item}
-use Rattle.memblock_model.specs.Items.{limit_of}
+use Rattle.memblock_model.specs.Items.{limit_of, upward_of}
 use Rattle.memblock_model.specs.Tables.{table_of, room_of, moved_to}
 use Rattle.memblock_ranges.specs.Tables.{Contents}
 use Rattle.growth_model.specs.Growth.{frames_of}
 use Rattle.growth_model.specs.Sound.{Fits, Placed, IsImage, HasBegun, IsAway, MayClaim}
 use Rattle.growth_model.specs.Bytes.{table_for, shown_by, AreSpelled, Follows}
+use Rattle.memblock_grow.specs.declared.aim.Aim.{Aim}
 
--- the tables and the limit are those of the items, each table has room for its records, and the frames of a place that a table moved to
--- end in the address space
-pub record AreKept (kernel : Extent) (items : List Item) (t : Contents) (at : ℕ) : Type 0 where
+-- an aim of its two parts
+abbrev pub aimed : ℕ → Bool → Aim
+aimed limit upward = record { limit = limit; upward = upward }
+
+-- the tables, the limit and the direction of searches are those of the items, each table has room for its records, and the frames of a
+-- place that a table moved to end in the address space
+pub record AreKept (kernel : Extent) (items : List Item) (t : Contents) (at : Aim) : Type 0 where
   pub memory : t.memory ≡ table_for which.Memory kernel items
   pub reserved : t.reserved ≡ table_for which.Reserved kernel items
-  pub limit : limit_of items ≡ at
+  pub limit : limit_of items ≡ at.limit
+  pub upward : upward_of items ≡ at.upward
   pub ends : (w : Which) → NothingFrom (2 ^ 64) (table_of w items)
   pub fits : Fits items
   pub far : (w : Which) (place : ℕ) → moved_to w items ≡ Some place → place + frames_of (24 * room_of w items) < 2 ^ 64
 
 -- and they lie in the kernel's image or in places of their own, in the bytes that spell them
-pub record IsMemblock (kernel : Extent) (items : List Item) (t : Contents) (at : ℕ) : Type 0 where
+pub record IsMemblock (kernel : Extent) (items : List Item) (t : Contents) (at : Aim) : Type 0 where
   pub image : IsImage kernel
   pub kept : AreKept kernel items t at
   pub placed : HasBegun items → Placed kernel items
   pub spelled : AreSpelled t.memory t.reserved (byte_of t.store)
 
 -- this holds of some range as the kernel's image; of one by which the claim, or the freeing, is allowed
-abbrev pub IsKept : List Item → Contents → ℕ → Type 0
+abbrev pub IsKept : List Item → Contents → Aim → Type 0
 IsKept items t at = (kernel : Extent) × IsMemblock kernel items t at
 
-abbrev pub AllowsClaim : List Item → Contents → ℕ → Extent → Owner → Type 0
+abbrev pub AllowsClaim : List Item → Contents → Aim → Extent → Owner → Type 0
 AllowsClaim items t at range who = (kernel : Extent) × IsMemblock kernel items t at × MayClaim kernel items range who
 
-abbrev pub AllowsFree : List Item → Contents → ℕ → Extent → Type 0
+abbrev pub AllowsFree : List Item → Contents → Aim → Extent → Type 0
 AllowsFree items t at range = (kernel : Extent) × IsMemblock kernel items t at × IsAway kernel range items
 
 -- the tables stay those of the items, wherever the kernel's image lies
-abbrev pub Keeps : List Item → Contents → List Item → Contents → ℕ → Type 0
+abbrev pub Keeps : List Item → Contents → List Item → Contents → Aim → Type 0
 Keeps items t longer u at = (kernel : Extent) → AreKept kernel items t at → AreKept kernel longer u at
 
 -- each byte becomes what the further items make of it
-abbrev pub KeepsBytes : List Item → Contents → List Item → Contents → ℕ → Type 0
+abbrev pub KeepsBytes : List Item → Contents → List Item → Contents → Aim → Type 0
 KeepsBytes items t longer u at =
     (kernel : Extent) → AreKept kernel items t at → AreSpelled t.memory t.reserved (byte_of t.store)
     → Follows kernel items longer (byte_of t.store) (byte_of u.store)

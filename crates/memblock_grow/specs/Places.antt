@@ -1,32 +1,47 @@
--- The searches of a table that grows, said of the tables themselves.
-use Rattle.std.specs.Prelude.{ℕ, ◌*◌, ◌==◌, min, if◌then◌else◌, Option, Some, None, List, [], ◌∷◌}
+-- The searches of an allocation and of a table that grows, said of the tables themselves.
+use Rattle.std.specs.Prelude.{◌≡◌, ℕ, ◌*◌, ◌==◌, Bool, true, false, min, if◌then◌else◌, Option, Some, None, List, [], ◌∷◌}
 use Rattle.std.specs.Option.{option_map, option_or}
 use Rattle.bm_base.specs.Extent.{Extent, end_of}
 use Rattle.address_runs.specs.Runs.{value_at}
 use Rattle.memblock_model.specs.declared.query.Query.{Query}
-use Rattle.memblock_model.specs.Search.{best_in}
+use Rattle.memblock_model.specs.declared.item.Item.{Item}
+use Rattle.memblock_model.specs.Search.{suits, top_in, best_in}
+use Rattle.boot_journal.specs.Mirrors.{mirrors_in}
 use Rattle.memblock_ranges.specs.Tables.{Contents}
 use Rattle.growth_model.specs.Growth.{frames_at, table_query}
+use Rattle.growth_model.specs.Request.{Attempt}
+use Rattle.memblock_grow.specs.declared.aim.Aim.{Aim}
 
--- the best place by what both tables say
-abbrev pub best_of : Contents → Query → Option ℕ
-best_of t q = best_in (value_at t.memory.records) (value_at t.reserved.records) q
+-- the table has no mirrored memory where the items make none
+abbrev pub KnowsMirrors : List Item → Contents → Type 0
+KnowsMirrors items t = mirrors_in items ≡ false → (x : ℕ) → suits true (value_at t.memory.records x) ≡ false
+
+-- the top place by what both tables say, of one search, and of a query in mirrored memory
+abbrev pub top_of : Contents → Bool → Attempt → Option ℕ
+top_of t up a = top_in (record { mirror = a.mirror; up = up }) (value_at t.memory.records) (value_at t.reserved.records) a.query
+
+abbrev pub mirrored_of : Contents → Bool → Query → Option ℕ
+mirrored_of t up q = top_of t up (record { query = q; mirror = true })
+
+-- the best place
+abbrev pub best_of : Contents → Bool → Query → Option ℕ
+best_of t up q = best_in up (value_at t.memory.records) (value_at t.reserved.records) q
 
 -- the frames of twice as many records at the best place in a window
-abbrev pub frames_between : Contents → ℕ → ℕ → ℕ → Option Extent
-frames_between t room lo hi = option_map (λ place. frames_at place (48 * room)) (best_of t (table_query room lo hi))
+abbrev pub frames_between : Contents → Bool → ℕ → ℕ → ℕ → Option Extent
+frames_between t up room lo hi = option_map (λ place. frames_at place (48 * room)) (best_of t up (table_query room lo hi))
 
 -- above the range, else below it
-abbrev pub frames_beside : Contents → ℕ → ℕ → Extent → Option Extent
-frames_beside t room limit avoid = option_map (λ place. frames_at place (48 * room)) (option_or
-    (best_of t (table_query room (end_of avoid) limit))
-    (best_of t (table_query room 0 (min avoid.base limit))))
+abbrev pub frames_beside : Contents → Aim → ℕ → Extent → Option Extent
+frames_beside t aim room avoid = option_map (λ place. frames_at place (48 * room)) (option_or
+    (best_of t aim.upward (table_query room (end_of avoid) aim.limit))
+    (best_of t aim.upward (table_query room 0 (min avoid.base aim.limit))))
 
 -- the frames that a table leaves when it moves. A table with room for 128 records never moved
 abbrev pub left_frames : ℕ → ℕ → Option Extent
 left_frames place room = if room == 128 then None else Some (frames_at place (24 * room))
 
--- the best place of the first search that has one
-abbrev pub first_of : Contents → List Query → Option ℕ
-first_of t [] = None
-first_of t (q ∷ qs) = option_or (best_of t q) (first_of t qs)
+-- the place of the first search that has one
+abbrev pub first_of : Contents → Bool → List Attempt → Option ℕ
+first_of t up [] = None
+first_of t up (a ∷ rest) = option_or (top_of t up a) (first_of t up rest)

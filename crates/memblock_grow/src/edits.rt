@@ -3,7 +3,7 @@ ghost use Rattle.std.specs.Prelude.{◌≡◌, ℕ, ◌+◌, ◌*◌, ◌^◌, �
 ghost use Rattle.address_runs.specs.Runs.{value_at};
 ghost use Rattle.address_runs.specs.Edits.{covered, uncovered, relabelled};
 ghost use Rattle.phys_store.specs.Bytes.{byte_of, AreReady};
-ghost use Rattle.memblock_model.specs.Labels.{plain_label, with_node};
+ghost use Rattle.memblock_model.specs.Labels.{plain_label, with_node, with_mirror};
 ghost use Rattle.memblock_model.specs.Items.{trimmed};
 ghost use Rattle.memblock_model.specs.Tables.{records_for, pieces};
 ghost use Rattle.bm_base.specs.Extent.{end_of};
@@ -75,6 +75,22 @@ pub fn relabel(tables: &mut Tables, range: Range, node: u32)
 {
     let _end = range.end();
     tables.set_node(range, node);
+    look(tables);
+}
+
+/// The memory of the range becomes mirrored.
+pub fn mirror(tables: &mut Tables, range: Range)
+    requires { length tables.old.memory.records + 2 ≤ tables.old.memory.room }
+    ensures memory { tables.new.memory ≡ record tables.old.memory {
+      records = records_for (relabelled range with_mirror (value_at tables.old.memory.records));
+    } }
+    ensures reserved { tables.new.reserved ≡ tables.old.reserved }
+    ensures bytes { AreTold tables.old tables.new }
+    ensures still_ready { StayReady tables.old.store tables.new.store }
+    ensures within { end_of range < 2 ^ 64 }
+{
+    let _end = range.end();
+    tables.set_mirror(range);
     look(tables);
 }
 

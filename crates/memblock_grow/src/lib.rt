@@ -7,18 +7,19 @@
 //! carried out, or refused because a table found no place, or stopped between two steps where the program's own memory ran
 //! out. A growth of the reserved table is one step: all that can want memory comes before its first item.
 //!
-//! The functions go over the journal, the tables and the limit as three values, since inside a growth the tables are those
+//! The functions go over the journal, the tables and the aim of searches as three values, since inside a growth the tables are those
 //! of no list of items. What holds between calls is `IsMemblock` (`specs/Kept.antt`): the tables are those of the items, in
 //! the bytes that spell them, and, once something happened, each lies in claimed frames of its own. Each call keeps that, wherever
 //! the kernel's image lies (`kept`, `bytes`), and unprepares nothing (`still_ready`).
 //!
 //! - `src/reserved.rt`: growth of the reserved table, claims and freeings.
-//! - `src/memory.rt`: growth of the memory table, added ranges and nodes.
+//! - `src/memory.rt`: growth of the memory table, added ranges, nodes and mirrors.
 //! - `src/request.rt`: what an allocation tries.
-//! - `src/places.rt`: the searches of a table that grows, `src/more.rt`: whether it is full, `src/edits.rt`: the edits of the
+//! - `src/places.rt`: the best place, and the searches of a table that grows, `src/more.rt`: whether it is full, `src/edits.rt`: the edits of the
 //!   tables with what they make of each byte.
 #![tactic(auto)]
 
+mod aim;
 mod edits;
 mod memblock;
 mod memory;

@@ -1,4 +1,4 @@
-//! memblock as one value: the kernel's image, the journal, both tables, and the limit of allocations.
+//! memblock as one value: the kernel's image, the journal, both tables, the limit of allocations, and from which end a search begins.
 //!
 //! Each call that changes memory is one call of the function that does it over the parts. What is argued here is that the
 //! parts still belong together wherever that call ends: the tables are those of the items, they lie in the bytes that spell
@@ -17,7 +17,7 @@ ghost use Rattle.memblock_model.specs.Tables.{records_of, room_of, place_of};
 ghost use Rattle.memblock_model.specs.Search.{best};
 ghost use Rattle.memblock_ranges.specs.Spelling.{spelled_table};
 ghost use Rattle.memblock_ranges.specs.Tables.{head_of, StandsIn, HaveNoNode};
-ghost use Rattle.growth_model.specs.Growth.{claimed, freed, added, noded, new_in, two, is_full as is_full_by};
+ghost use Rattle.growth_model.specs.Growth.{claimed, freed, added, noded, mirrored, new_in, two, is_full as is_full_by};
 ghost use Rattle.growth_model.specs.Ends.{Ends, Allocates};
 ghost use Rattle.growth_model.specs.Request.{place_for};
 ghost use Rattle.growth_model.specs.Sound.{Sound, IsImage, HasBegun, IsAway, MayClaim};
@@ -25,7 +25,8 @@ ghost use Rattle.growth_model.specs.Bytes.{table_for, AreSpelled, byte as byte_b
 ghost use Rattle.memblock_grow.specs.Kept.{StayReady};
 ghost use Rattle.memblock_grow.specs.Touch.{TouchesTable};
 
-use crate::{edits, memory, request, reserved};
+use crate::aim::Aim;
+use crate::{edits, memory, places, request, reserved};
 use bm_base::{Memory, Range};
 use boot_journal::{Item, Journal, Owner, Which};
 use growth_model::{Refusal, Request};
@@ -43,22 +44,23 @@ pub struct Memblock {
     journal: Journal,
     tables: Tables,
     limit: u64,
+    upward: bool,
 }
 
 impl Model for Memblock {
     ghost use Rattle.memblock_grow.specs.Contents.{Contents};
-    ghost use Rattle.memblock_grow.specs.Kept.{IsMemblock};
+    ghost use Rattle.memblock_grow.specs.Kept.{IsMemblock, aimed};
 
     ghost Value = { Contents };
 
     ghost view = { λ m. record { kernel = m.kernel; journal = m.journal; tables = m.tables } };
 
-    ghost invariant = { λ m. IsMemblock m.kernel m.journal.items m.tables m.limit };
+    ghost invariant = { λ m. IsMemblock m.kernel m.journal.items m.tables (aimed m.limit m.upward) };
 }
 
 impl Memblock {
     /// A machine of which nothing is known yet but where the kernel's image lies: both tables are empty, in the image's last
-    /// two frames, and the limit is 0.
+    /// two frames, the limit is 0, and a search goes from the highest address down.
     pub fn new(alloc: Global, kernel: Range) -> Result<Memblock, Memory>
         requires { IsImage kernel }
         ensures kernel { IfOk result (λ m. m.kernel ≡ kernel) }
@@ -72,6 +74,7 @@ impl Memblock {
             journal,
             tables,
             limit: 0,
+            upward: false,
         })
     }
 
@@ -103,13 +106,11 @@ impl Memblock {
             IsOk result × (self.new.journal.spare ≡ self.old.journal.spare - 1) }
     {
         let _end = range.end();
-        reserved::claim(
-            &mut self.journal,
-            &mut self.tables,
-            self.limit,
-            range,
-            owner,
-        )
+        let aim = Aim {
+            limit: self.limit,
+            upward: self.upward,
+        };
+        reserved::claim(&mut self.journal, &mut self.tables, aim, range, owner)
     }
 
     /// Frees the range, which meets no table (`memblock_phys_free`). It may split a record in two, so the reserved table may have
@@ -126,7 +127,11 @@ impl Memblock {
         ensures ready { 0 < self.old.journal.spare → is_full_by tables_of.Reserved two self.old.journal.items ≡ false →
             IsOk result × (self.new.journal.spare ≡ self.old.journal.spare - 1) }
     {
-        reserved::free(&mut self.journal, &mut self.tables, self.limit, range)
+        let aim = Aim {
+            limit: self.limit,
+            upward: self.upward,
+        };
+        reserved::free(&mut self.journal, &mut self.tables, aim, range)
     }
 
     /// The range becomes memory; what of it is memory already keeps its node (`memblock_add`). The memory table may have to grow
@@ -143,7 +148,11 @@ impl Memblock {
             is_full_by tables_of.Memory (new_in tables_of.Memory range) self.old.journal.items ≡ false →
             IsOk result × (self.new.journal.spare ≡ self.old.journal.spare - 1) }
     {
-        memory::add(&mut self.journal, &mut self.tables, self.limit, range)
+        let aim = Aim {
+            limit: self.limit,
+            upward: self.upward,
+        };
+        memory::add(&mut self.journal, &mut self.tables, aim, range)
     }
 
     /// Gives the node to the memory of the range (`memblock_set_node`). It may split a record at both ends of the range, so the
@@ -160,7 +169,31 @@ impl Memblock {
         ensures ready { 0 < self.old.journal.spare → is_full_by tables_of.Memory two self.old.journal.items ≡ false →
             IsOk result × (self.new.journal.spare ≡ self.old.journal.spare - 1) }
     {
-        memory::set_node(&mut self.journal, &mut self.tables, self.limit, range, node)
+        let aim = Aim {
+            limit: self.limit,
+            upward: self.upward,
+        };
+        memory::set_node(&mut self.journal, &mut self.tables, aim, range, node)
+    }
+
+    /// Makes the memory of the range mirrored (`memblock_mark_mirror`); it keeps its nodes. It may split a record at both ends of the
+    /// range, so the memory table may have to grow.
+    pub fn set_mirror(&mut self, range: Range) -> Result<(), Refusal>
+        requires some { 0 < range.size }
+        requires begun { HasBegun self.old.journal.items }
+        ensures ends { Ends result self.old.journal.items self.new.journal.items (mirrored range) }
+        ensures kernel { self.new.kernel ≡ self.old.kernel }
+        ensures bytes { Follows self.old.kernel self.old.journal.items self.new.journal.items
+            (byte_of self.old.tables.store) (byte_of self.new.tables.store) }
+        ensures still_ready { StayReady self.old.tables.store self.new.tables.store }
+        ensures ready { 0 < self.old.journal.spare → is_full_by tables_of.Memory two self.old.journal.items ≡ false →
+            IsOk result × (self.new.journal.spare ≡ self.old.journal.spare - 1) }
+    {
+        let aim = Aim {
+            limit: self.limit,
+            upward: self.upward,
+        };
+        memory::set_mirror(&mut self.journal, &mut self.tables, aim, range)
     }
 
     /// Cuts memory to whole frames (`memblock_trim_memory`).
@@ -197,14 +230,32 @@ impl Memblock {
         Ok(())
     }
 
-    /// The greatest address of a place that fits: unclaimed memory of one label that the query allows, aligned and in the window.
-    /// `None` exactly where no place fits. The size is at least 1 and the alignment a power of two.
+    /// From now on a search begins at the lowest address, or again at the highest (`memblock_set_bottom_up`). At first it is the highest.
+    pub fn set_upward(&mut self, on: bool) -> Result<(), Memory>
+        requires { HasBegun self.old.journal.items }
+        ensures ok { OnOk result (self.new.journal.items ≡ self.old.journal.items ++ item.Upward on ∷ []) }
+        ensures spare { OnOk result (self.new.journal.spare ≡ self.old.journal.spare - 1) }
+        ensures err { OnErr result (self.new ≡ self.old) }
+        ensures memory { OnErr result (self.old.journal.spare ≡ 0) }
+        ensures kernel { self.new.kernel ≡ self.old.kernel }
+        ensures bytes { Follows self.old.kernel self.old.journal.items self.new.journal.items
+            (byte_of self.old.tables.store) (byte_of self.new.tables.store) }
+        ensures still_ready { StayReady self.old.tables.store self.new.tables.store }
+    {
+        self.journal.push(Item::Upward { on })?;
+        self.upward = on;
+        Ok(())
+    }
+
+    /// The greatest address of a place that fits: unclaimed memory of one label that the query allows, aligned and in the window; the least
+    /// one where searches go up ([`Memblock::set_upward`]). It lies in mirrored memory where a place fits there. `None` exactly where no
+    /// place fits. The size is at least 1 and the alignment a power of two.
     pub fn find(&self, query: &Query) -> Option<u64>
         requires some { 1 ≤ query.now.size }
         requires aligned { (k : ℕ) × (query.now.align ≡ 2 ^ k) }
         ensures { result ≡ best self.now.journal.items query.now }
     {
-        memblock_find::find(&self.tables, query)
+        places::best(&self.journal, &self.tables, self.upward, query)
     }
 
     /// Finds a place for the request and claims it for the owner; its address is the answer (`memblock_alloc_range_nid`). `NoGap` comes
@@ -225,13 +276,11 @@ impl Memblock {
             is_full_by tables_of.Reserved (new_in tables_of.Reserved (record { base = place; size = request.now.size }))
             self.old.journal.items ≡ false → IsOk result × (self.new.journal.spare ≡ self.old.journal.spare - 1) }
     {
-        request::allocate(
-            &mut self.journal,
-            &mut self.tables,
-            self.limit,
-            request,
-            owner,
-        )
+        let aim = Aim {
+            limit: self.limit,
+            upward: self.upward,
+        };
+        request::allocate(&mut self.journal, &mut self.tables, aim, request, owner)
     }
 
     /// Writes the byte to each address of the range, which meets no table. After `Memory` each byte is as before, and some
@@ -306,6 +355,7 @@ impl Memblock {
             journal,
             tables,
             limit: _,
+            upward: _,
         } = self;
         let (store, heads) = tables.into_parts();
         (store, heads, journal)

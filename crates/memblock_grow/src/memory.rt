@@ -1,17 +1,18 @@
-//! The memory table: its growth, added ranges and nodes.
+//! The memory table: its growth, added ranges, nodes and mirrors.
 //!
 //! Its new place is claimed as anything is, so the reserved table may grow first; and so it may when the old place is freed.
 //! Where that last growth is refused the old place stays claimed, and the call goes on (`memblock_double_array` ignores it).
 ghost use Rattle.std.specs.Prelude.{◌≡◌, ◌+◌, ◌-◌, ◌<◌, ◌≤◌, ◌⊎◌, false, OnOk, OnErr, IsOk, IfSome, length};
 ghost use Rattle.memblock_model.specs.declared.which.Which.TheVariants as tables_of;
 ghost use Rattle.growth_model.specs.Outcome.{if_due};
-ghost use Rattle.growth_model.specs.Growth.{memory_growth, grown, added, noded, new_in, two, leave as left_by, is_full as is_full_by};
+ghost use Rattle.growth_model.specs.Growth.{memory_growth, grown, added, noded, mirrored, new_in, two, leave as left_by, is_full as is_full_by};
 ghost use Rattle.growth_model.specs.Ends.{Ends};
 ghost use Rattle.growth_model.specs.Sound.{HasBegun};
 ghost use Rattle.memblock_grow.specs.Kept.{IsKept, AllowsFree, Keeps, KeepsBytes, StayReady};
 ghost use Rattle.memblock_grow.specs.More.{more_by, HasRoom, Grew, EndsBefore};
 
-use crate::edits::{cover, relabel, relocate};
+use crate::aim::Aim;
+use crate::edits::{cover, mirror, relabel, relocate};
 use crate::more::{More, is_full};
 use crate::places::{left_place, place_between};
 use crate::reserved::{claim, free};
@@ -24,44 +25,44 @@ use memblock_ranges::Tables;
 fn leave(
     journal: &mut Journal,
     tables: &mut Tables,
-    limit: u64,
+    aim: Aim,
     old: Option<Range>,
 ) -> Result<(), Refusal>
     requires begun { HasBegun journal.old.items }
     requires some { IfSome old (λ range. 0 < range.size) }
-    requires away { IfSome old (λ range. AllowsFree journal.old.items tables.old limit range) }
+    requires away { IfSome old (λ range. AllowsFree journal.old.items tables.old aim range) }
     ensures ends { Ends result journal.old.items journal.new.items (left_by old) }
-    ensures kept { Keeps journal.old.items tables.old journal.new.items tables.new limit }
-    ensures bytes { KeepsBytes journal.old.items tables.old journal.new.items tables.new limit }
+    ensures kept { Keeps journal.old.items tables.old journal.new.items tables.new aim }
+    ensures bytes { KeepsBytes journal.old.items tables.old journal.new.items tables.new aim }
     ensures still_ready { StayReady tables.old.store tables.new.store }
     ensures memory { tables.new.memory ≡ tables.old.memory }
 {
     let Some(range) = old else { return Ok(()) };
-    match free(journal, tables, limit, range) {
+    match free(journal, tables, aim, range) {
         Err(Refusal::Memory) => Err(Refusal::Memory),
         _ => Ok(()),
     }
 }
 
 /// The table doubles, at the best place below the limit (`memblock_double_array`).
-fn grow_memory(journal: &mut Journal, tables: &mut Tables, limit: u64) -> Result<(), Refusal>
-    requires kept { IsKept journal.old.items tables.old limit }
+fn grow_memory(journal: &mut Journal, tables: &mut Tables, aim: Aim) -> Result<(), Refusal>
+    requires kept { IsKept journal.old.items tables.old aim }
     requires begun { HasBegun journal.old.items }
     ensures ends { Ends result journal.old.items journal.new.items memory_growth }
-    ensures kept { Keeps journal.old.items tables.old journal.new.items tables.new limit }
-    ensures bytes { KeepsBytes journal.old.items tables.old journal.new.items tables.new limit }
+    ensures kept { Keeps journal.old.items tables.old journal.new.items tables.new aim }
+    ensures bytes { KeepsBytes journal.old.items tables.old journal.new.items tables.new aim }
     ensures still_ready { StayReady tables.old.store tables.new.store }
     ensures grew { OnOk result (Grew tables.old.memory tables.new.memory) }
 {
     let head = tables.head(Which::Memory);
-    let Some(place) = place_between(tables, head.room, 0, limit) else {
+    let Some(place) = place_between(journal, tables, aim.upward, head.room, 0, aim.limit) else {
         return Err(Refusal::NoGapForTable {
             which: Which::Memory,
             room: head.room,
         });
     };
     let old = left_place(head);
-    claim(journal, tables, limit, place, Owner::Table(Which::Memory))?;
+    claim(journal, tables, aim, place, Owner::Table(Which::Memory))?;
     // Behind the claim: where that is refused at once, no step is left that may want memory.
     tables.prepare(place)?;
     journal.ready(1)?;
@@ -71,22 +72,22 @@ fn grow_memory(journal: &mut Journal, tables: &mut Tables, limit: u64) -> Result
         place: place.base,
         room: 2 * head.room,
     });
-    leave(journal, tables, limit, old)
+    leave(journal, tables, aim, old)
 }
 
 /// The table doubles if it is full.
 fn grow_memory_once(
     journal: &mut Journal,
     tables: &mut Tables,
-    limit: u64,
+    aim: Aim,
     more: &More,
 ) -> Result<(), Refusal>
-    requires kept { IsKept journal.old.items tables.old limit }
+    requires kept { IsKept journal.old.items tables.old aim }
     requires begun { HasBegun journal.old.items }
     ensures ends { Ends result journal.old.items journal.new.items
         (if_due (is_full_by tables_of.Memory (more_by tables_of.Memory more.now)) memory_growth) }
-    ensures kept { Keeps journal.old.items tables.old journal.new.items tables.new limit }
-    ensures bytes { KeepsBytes journal.old.items tables.old journal.new.items tables.new limit }
+    ensures kept { Keeps journal.old.items tables.old journal.new.items tables.new aim }
+    ensures bytes { KeepsBytes journal.old.items tables.old journal.new.items tables.new aim }
     ensures still_ready { StayReady tables.old.store tables.new.store }
     ensures grew { OnOk result (HasRoom more.now tables.new.memory ⊎ Grew tables.old.memory tables.new.memory) }
     ensures within { EndsBefore more.now }
@@ -94,7 +95,7 @@ fn grow_memory_once(
         IsOk result × (journal.new ≡ journal.old) × (tables.new ≡ tables.old) }
 {
     if is_full(tables, Which::Memory, more) {
-        grow_memory(journal, tables, limit)
+        grow_memory(journal, tables, aim)
     } else {
         Ok(())
     }
@@ -104,22 +105,22 @@ fn grow_memory_once(
 fn make_memory_room(
     journal: &mut Journal,
     tables: &mut Tables,
-    limit: u64,
+    aim: Aim,
     more: &More,
 ) -> Result<(), Refusal>
-    requires kept { IsKept journal.old.items tables.old limit }
+    requires kept { IsKept journal.old.items tables.old aim }
     requires begun { HasBegun journal.old.items }
     ensures ends { Ends result journal.old.items journal.new.items
         (grown tables_of.Memory (more_by tables_of.Memory more.now) memory_growth) }
-    ensures kept { Keeps journal.old.items tables.old journal.new.items tables.new limit }
-    ensures bytes { KeepsBytes journal.old.items tables.old journal.new.items tables.new limit }
+    ensures kept { Keeps journal.old.items tables.old journal.new.items tables.new aim }
+    ensures bytes { KeepsBytes journal.old.items tables.old journal.new.items tables.new aim }
     ensures still_ready { StayReady tables.old.store tables.new.store }
     ensures room { OnOk result (HasRoom more.now tables.new.memory) }
     ensures idle { HasRoom more.now tables.old.memory →
         IsOk result × (journal.new ≡ journal.old) × (tables.new ≡ tables.old) }
 {
-    grow_memory_once(journal, tables, limit, more)?;
-    grow_memory_once(journal, tables, limit, more)
+    grow_memory_once(journal, tables, aim, more)?;
+    grow_memory_once(journal, tables, aim, more)
 }
 
 /// The range becomes memory without a node; what is memory already keeps its node (`memblock_add`). Where an item can be
@@ -127,20 +128,20 @@ fn make_memory_room(
 pub fn add(
     journal: &mut Journal,
     tables: &mut Tables,
-    limit: u64,
+    aim: Aim,
     range: Range,
 ) -> Result<(), Refusal>
     requires some { 0 < range.size }
-    requires kept { IsKept journal.old.items tables.old limit }
+    requires kept { IsKept journal.old.items tables.old aim }
     requires begun { HasBegun journal.old.items }
     ensures ends { Ends result journal.old.items journal.new.items (added range) }
-    ensures kept { Keeps journal.old.items tables.old journal.new.items tables.new limit }
-    ensures bytes { KeepsBytes journal.old.items tables.old journal.new.items tables.new limit }
+    ensures kept { Keeps journal.old.items tables.old journal.new.items tables.new aim }
+    ensures bytes { KeepsBytes journal.old.items tables.old journal.new.items tables.new aim }
     ensures still_ready { StayReady tables.old.store tables.new.store }
     ensures ready { 0 < journal.old.spare → is_full_by tables_of.Memory (new_in tables_of.Memory range) journal.old.items ≡ false →
         IsOk result × (journal.new.spare ≡ journal.old.spare - 1) }
 {
-    make_memory_room(journal, tables, limit, &More::PiecesOf(range))?;
+    make_memory_room(journal, tables, aim, &More::PiecesOf(range))?;
     journal.push(Item::Mem { range })?;
     cover(tables, Which::Memory, range);
     Ok(())
@@ -150,23 +151,46 @@ pub fn add(
 pub fn set_node(
     journal: &mut Journal,
     tables: &mut Tables,
-    limit: u64,
+    aim: Aim,
     range: Range,
     node: u32,
 ) -> Result<(), Refusal>
     requires some { 0 < range.size }
     requires node { node < 1024 }
-    requires kept { IsKept journal.old.items tables.old limit }
+    requires kept { IsKept journal.old.items tables.old aim }
     requires begun { HasBegun journal.old.items }
     ensures ends { Ends result journal.old.items journal.new.items (noded range node) }
-    ensures kept { Keeps journal.old.items tables.old journal.new.items tables.new limit }
-    ensures bytes { KeepsBytes journal.old.items tables.old journal.new.items tables.new limit }
+    ensures kept { Keeps journal.old.items tables.old journal.new.items tables.new aim }
+    ensures bytes { KeepsBytes journal.old.items tables.old journal.new.items tables.new aim }
     ensures still_ready { StayReady tables.old.store tables.new.store }
     ensures ready { 0 < journal.old.spare → is_full_by tables_of.Memory two journal.old.items ≡ false →
         IsOk result × (journal.new.spare ≡ journal.old.spare - 1) }
 {
-    make_memory_room(journal, tables, limit, &More::Two)?;
+    make_memory_room(journal, tables, aim, &More::Two)?;
     journal.push(Item::Node { range, node })?;
     relabel(tables, range, node);
+    Ok(())
+}
+
+/// The memory of the range becomes mirrored (`memblock_mark_mirror`). It takes no memory where [`add`] wouldn't.
+pub fn set_mirror(
+    journal: &mut Journal,
+    tables: &mut Tables,
+    aim: Aim,
+    range: Range,
+) -> Result<(), Refusal>
+    requires some { 0 < range.size }
+    requires kept { IsKept journal.old.items tables.old aim }
+    requires begun { HasBegun journal.old.items }
+    ensures ends { Ends result journal.old.items journal.new.items (mirrored range) }
+    ensures kept { Keeps journal.old.items tables.old journal.new.items tables.new aim }
+    ensures bytes { KeepsBytes journal.old.items tables.old journal.new.items tables.new aim }
+    ensures still_ready { StayReady tables.old.store tables.new.store }
+    ensures ready { 0 < journal.old.spare → is_full_by tables_of.Memory two journal.old.items ≡ false →
+        IsOk result × (journal.new.spare ≡ journal.old.spare - 1) }
+{
+    make_memory_room(journal, tables, aim, &More::Two)?;
+    journal.push(Item::Mirror { range })?;
+    mirror(tables, range);
     Ok(())
 }

@@ -1,10 +1,13 @@
-//! Where a table that grows may go to (`memblock_double_array`), and what it leaves.
-ghost use Rattle.std.specs.Prelude.{◌≡◌, ◌≢◌, ◌+◌, ◌*◌, ◌^◌, ◌<◌, SomeIff};
+//! The searches: in mirrored memory first (`choose_memblock_flags`); where a table that grows may go to (`memblock_double_array`), and what
+//! it leaves.
+ghost use Rattle.std.specs.Prelude.{◌≡◌, ◌≢◌, ℕ, ◌+◌, ◌*◌, ◌^◌, ◌<◌, ◌≤◌, SomeIff};
 ghost use Rattle.growth_model.specs.Growth.{frames_of};
-ghost use Rattle.memblock_grow.specs.Places.{frames_between, frames_beside, left_frames};
+ghost use Rattle.memblock_grow.specs.Places.{KnowsMirrors, best_of, mirrored_of, frames_between, frames_beside, left_frames};
 
+use crate::aim::Aim;
 use bm_base::{FRAME_SIZE, Range};
-use memblock_find::{Query, find};
+use boot_journal::Journal;
+use memblock_find::{Mode, Query, find};
 use memblock_ranges::{Head, Tables};
 
 /// The records that a table has room for as long as it never moved (`INIT_MEMBLOCK_REGIONS`).
@@ -18,10 +21,52 @@ fn frames(bytes: u64) -> Option<u64>
     Some(behind / FRAME_SIZE * FRAME_SIZE)
 }
 
+/// The top place in mirrored memory. Nothing is searched where the journal has no mirror.
+fn mirrored_place(journal: &Journal, tables: &Tables, upward: bool, query: &Query) -> Option<u64>
+    requires some { 1 ≤ query.now.size }
+    requires aligned { (k : ℕ) × (query.now.align ≡ 2 ^ k) }
+    requires mirrors { KnowsMirrors journal.now.items tables.now }
+    ensures { result ≡ mirrored_of tables.now upward query.now }
+{
+    if !journal.has_mirrors() {
+        return None;
+    }
+    let mode = Mode {
+        mirror: true,
+        up: upward,
+    };
+    find(tables, query, mode)
+}
+
+/// The best place: the top one in mirrored memory, or in any where none fits there.
+pub fn best(journal: &Journal, tables: &Tables, upward: bool, query: &Query) -> Option<u64>
+    requires some { 1 ≤ query.now.size }
+    requires aligned { (k : ℕ) × (query.now.align ≡ 2 ^ k) }
+    requires mirrors { KnowsMirrors journal.now.items tables.now }
+    ensures { result ≡ best_of tables.now upward query.now }
+{
+    if let Some(place) = mirrored_place(journal, tables, upward, query) {
+        return Some(place);
+    }
+    let mode = Mode {
+        mirror: false,
+        up: upward,
+    };
+    find(tables, query, mode)
+}
+
 /// The frames for twice the room, at the best place of the window. A size that is no `u64` has no place.
-pub fn place_between(tables: &Tables, room: u64, lo: u64, hi: u64) -> Option<Range>
-    requires { 0 < room }
-    ensures { result ≡ frames_between tables.now room lo hi }
+pub fn place_between(
+    journal: &Journal,
+    tables: &Tables,
+    upward: bool,
+    room: u64,
+    lo: u64,
+    hi: u64,
+) -> Option<Range>
+    requires some { 0 < room }
+    requires mirrors { KnowsMirrors journal.now.items tables.now }
+    ensures { result ≡ frames_between tables.now upward room lo hi }
 {
     let size = frames(room.checked_mul(48)?)?;
     let query = Query {
@@ -31,19 +76,27 @@ pub fn place_between(tables: &Tables, room: u64, lo: u64, hi: u64) -> Option<Ran
         align: FRAME_SIZE,
         node: None,
     };
-    let base = find(tables, &query)?;
+    let base = best(journal, tables, upward, &query)?;
     Range::new(base, size)
 }
 
 /// The same above the range that is avoided, else below it; below the limit both times.
-pub fn place_beside(tables: &Tables, room: u64, limit: u64, avoid: Range) -> Option<Range>
-    requires { 0 < room }
-    ensures { result ≡ frames_beside tables.now room limit avoid }
+pub fn place_beside(
+    journal: &Journal,
+    tables: &Tables,
+    aim: Aim,
+    room: u64,
+    avoid: Range,
+) -> Option<Range>
+    requires some { 0 < room }
+    requires mirrors { KnowsMirrors journal.now.items tables.now }
+    ensures { result ≡ frames_beside tables.now aim room avoid }
 {
-    if let Some(place) = place_between(tables, room, avoid.end(), limit) {
+    let Aim { limit, upward } = aim;
+    if let Some(place) = place_between(journal, tables, upward, room, avoid.end(), limit) {
         return Some(place);
     }
-    place_between(tables, room, 0, avoid.base.min(limit))
+    place_between(journal, tables, upward, room, 0, avoid.base.min(limit))
 }
 
 /// The frames that a table leaves when it moves; `None` as long as it lies where it did at first. They end in the

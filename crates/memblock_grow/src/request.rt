@@ -1,36 +1,39 @@
 //! What an allocation tries, and the claim of what it finds.
 //!
 //! The addresses from the request's minimum on, below its maximum and the limit, are searched for memory of the node that is wanted,
-//! then, unless no other node will do, of any; and behind that, where there is a minimum, the same without it
-//! (`memblock_alloc_range_nid`).
-ghost use Rattle.std.specs.Prelude.{◌≡◌, ℕ, ◌+◌, ◌-◌, ◌^◌, ◌<◌, ◌≤◌, false, Some, IsOk, IfOk};
+//! then, unless no other node will do, of any: first in mirrored memory, where some is, and then in any (`choose_memblock_flags`). Behind
+//! that comes, where there is a minimum, the same without it (`memblock_alloc_range_nid`).
+ghost use Rattle.std.specs.Prelude.{◌≡◌, ℕ, ◌+◌, ◌-◌, ◌^◌, ◌<◌, ◌≤◌, true, false, Some, IsOk, IfOk};
 ghost use Rattle.memblock_model.specs.declared.which.Which.TheVariants as tables_of;
 ghost use Rattle.growth_model.specs.Growth.{new_in, is_full as is_full_by};
-ghost use Rattle.growth_model.specs.Request.{attempt as attempt_by, round, attempts, place_for as place_by};
+ghost use Rattle.growth_model.specs.Request.{attempt as attempt_by, nodes, round, attempts, place_for as place_by};
 ghost use Rattle.growth_model.specs.Ends.{Allocates};
 ghost use Rattle.growth_model.specs.Sound.{HasBegun};
 ghost use Rattle.memblock_grow.specs.Kept.{IsKept, Keeps, KeepsBytes, StayReady};
-ghost use Rattle.memblock_grow.specs.Places.{best_of, first_of};
+ghost use Rattle.memblock_grow.specs.Places.{KnowsMirrors, top_of, first_of};
 
+use crate::aim::Aim;
 use crate::reserved::claim;
 use bm_base::Range;
 use boot_journal::{Journal, Owner};
 use growth_model::{Refusal, Request};
-use memblock_find::{Query, find};
+use memblock_find::{Mode, Query, find};
 use memblock_ranges::Tables;
 
-/// The best place from `lo` on, of the node or of any.
+/// The top place from `lo` on, of the node or of any, in mirrored memory or in any.
 fn attempt(
     tables: &Tables,
     request: &Request,
-    limit: u64,
+    aim: Aim,
     lo: u64,
+    mirror: bool,
     node: Option<u32>,
 ) -> Option<u64>
     requires some { 1 ≤ request.now.size }
     requires aligned { (k : ℕ) × (request.now.align ≡ 2 ^ k) }
-    ensures { result ≡ best_of tables.now (attempt_by request.now limit lo node) }
+    ensures { result ≡ top_of tables.now aim.upward (attempt_by request.now aim.limit lo mirror node) }
 {
+    let Aim { limit, upward } = aim;
     let query = Query {
         lo,
         hi: request.max.unwrap_or(limit).min(limit),
@@ -38,33 +41,73 @@ fn attempt(
         align: request.align,
         node,
     };
-    find(tables, &query)
+    let mode = Mode { mirror, up: upward };
+    find(tables, &query, mode)
 }
 
 /// The same of the node that is wanted, and then, unless no other will do, of any.
-fn first_place(tables: &Tables, request: &Request, limit: u64, lo: u64) -> Option<u64>
+fn place_in(tables: &Tables, request: &Request, aim: Aim, lo: u64, mirror: bool) -> Option<u64>
     requires some { 1 ≤ request.now.size }
     requires aligned { (k : ℕ) × (request.now.align ≡ 2 ^ k) }
-    ensures { result ≡ first_of tables.now (round request.now limit lo) }
+    ensures { result ≡ first_of tables.now aim.upward (nodes request.now aim.limit lo mirror) }
 {
-    let place = attempt(tables, request, limit, lo, request.node);
+    let place = attempt(tables, request, aim, lo, mirror, request.node);
     if place.is_some() || request.node.is_none() || request.exact {
         return place;
     }
-    attempt(tables, request, limit, lo, None)
+    attempt(tables, request, aim, lo, mirror, None)
+}
+
+/// The same in mirrored memory. Nothing is searched where the journal has no mirror.
+fn mirrored_place(
+    journal: &Journal,
+    tables: &Tables,
+    request: &Request,
+    aim: Aim,
+    lo: u64,
+) -> Option<u64>
+    requires some { 1 ≤ request.now.size }
+    requires aligned { (k : ℕ) × (request.now.align ≡ 2 ^ k) }
+    requires mirrors { KnowsMirrors journal.now.items tables.now }
+    ensures { result ≡ first_of tables.now aim.upward (nodes request.now aim.limit lo true) }
+{
+    if !journal.has_mirrors() {
+        return None;
+    }
+    place_in(tables, request, aim, lo, true)
+}
+
+/// The same, and then in any memory.
+fn first_place(
+    journal: &Journal,
+    tables: &Tables,
+    request: &Request,
+    aim: Aim,
+    lo: u64,
+) -> Option<u64>
+    requires some { 1 ≤ request.now.size }
+    requires aligned { (k : ℕ) × (request.now.align ≡ 2 ^ k) }
+    requires mirrors { KnowsMirrors journal.now.items tables.now }
+    ensures { result ≡ first_of tables.now aim.upward (round request.now aim.limit lo) }
+{
+    if let Some(place) = mirrored_place(journal, tables, request, aim, lo) {
+        return Some(place);
+    }
+    place_in(tables, request, aim, lo, false)
 }
 
 /// The same from the minimum on, and then without one.
-fn place_for(tables: &Tables, request: &Request, limit: u64) -> Option<u64>
+fn place_for(journal: &Journal, tables: &Tables, request: &Request, aim: Aim) -> Option<u64>
     requires some { 1 ≤ request.now.size }
     requires aligned { (k : ℕ) × (request.now.align ≡ 2 ^ k) }
-    ensures { result ≡ first_of tables.now (attempts request.now limit) }
+    requires mirrors { KnowsMirrors journal.now.items tables.now }
+    ensures { result ≡ first_of tables.now aim.upward (attempts request.now aim.limit) }
 {
-    let place = first_place(tables, request, limit, request.min);
+    let place = first_place(journal, tables, request, aim, request.min);
     if place.is_some() || request.min == 0 {
         return place;
     }
-    first_place(tables, request, limit, 0)
+    first_place(journal, tables, request, aim, 0)
 }
 
 /// The place that is found is claimed for the owner (`memblock_alloc_range_nid`); its address is the answer. It takes no memory
@@ -72,30 +115,30 @@ fn place_for(tables: &Tables, request: &Request, limit: u64) -> Option<u64>
 pub fn allocate(
     journal: &mut Journal,
     tables: &mut Tables,
-    limit: u64,
+    aim: Aim,
     request: &Request,
     owner: Owner,
 ) -> Result<u64, Refusal>
     requires some { 1 ≤ request.now.size }
     requires aligned { (k : ℕ) × (request.now.align ≡ 2 ^ k) }
-    requires kept { IsKept journal.old.items tables.old limit }
+    requires kept { IsKept journal.old.items tables.old aim }
     requires begun { HasBegun journal.old.items }
     ensures ends { Allocates result journal.old.items journal.new.items (place_by request.now journal.old.items) request.now.size owner }
     ensures inside { IfOk result (λ base. base + request.now.size < 2 ^ 64) }
-    ensures kept { Keeps journal.old.items tables.old journal.new.items tables.new limit }
-    ensures bytes { KeepsBytes journal.old.items tables.old journal.new.items tables.new limit }
+    ensures kept { Keeps journal.old.items tables.old journal.new.items tables.new aim }
+    ensures bytes { KeepsBytes journal.old.items tables.old journal.new.items tables.new aim }
     ensures still_ready { StayReady tables.old.store tables.new.store }
     ensures ready { (place : ℕ) → place_by request.now journal.old.items ≡ Some place → 0 < journal.old.spare →
         is_full_by tables_of.Reserved (new_in tables_of.Reserved (record { base = place; size = request.now.size })) journal.old.items ≡ false →
         IsOk result × (journal.new.spare ≡ journal.old.spare - 1) }
 {
-    let Some(base) = place_for(tables, request, limit) else {
+    let Some(base) = place_for(journal, tables, request, aim) else {
         return Err(Refusal::NoGap)
     };
     let range = Range {
         base,
         size: request.size,
     };
-    claim(journal, tables, limit, range, owner)?;
+    claim(journal, tables, aim, range, owner)?;
     Ok(base)
 }

@@ -11,6 +11,7 @@ ghost use Rattle.growth_model.specs.Sound.{HasBegun};
 ghost use Rattle.memblock_grow.specs.Kept.{IsKept, AllowsClaim, AllowsFree, Keeps, KeepsBytes, StayReady};
 ghost use Rattle.memblock_grow.specs.More.{more_by, HasRoom, Grew, EndsBefore};
 
+use crate::aim::Aim;
 use crate::edits::{cover, relocate, uncover};
 use crate::more::{More, is_full};
 use crate::places::{left_place, place_beside};
@@ -24,20 +25,20 @@ use memblock_ranges::Tables;
 fn grow_reserved(
     journal: &mut Journal,
     tables: &mut Tables,
-    limit: u64,
+    aim: Aim,
     avoid: Range,
 ) -> Result<(), Refusal>
-    requires kept { IsKept journal.old.items tables.old limit }
+    requires kept { IsKept journal.old.items tables.old aim }
     requires begun { HasBegun journal.old.items }
     ensures ends { Ends result journal.old.items journal.new.items (reserved_growth avoid) }
-    ensures kept { Keeps journal.old.items tables.old journal.new.items tables.new limit }
-    ensures bytes { KeepsBytes journal.old.items tables.old journal.new.items tables.new limit }
+    ensures kept { Keeps journal.old.items tables.old journal.new.items tables.new aim }
+    ensures bytes { KeepsBytes journal.old.items tables.old journal.new.items tables.new aim }
     ensures still_ready { StayReady tables.old.store tables.new.store }
     ensures memory { tables.new.memory ≡ tables.old.memory }
     ensures grew { OnOk result (Grew tables.old.reserved tables.new.reserved) }
 {
     let head = tables.head(Which::Reserved);
-    let Some(place) = place_beside(tables, head.room, limit, avoid) else {
+    let Some(place) = place_beside(journal, tables, aim, head.room, avoid) else {
         return Err(Refusal::NoGapForTable {
             which: Which::Reserved,
             room: head.room,
@@ -71,15 +72,15 @@ fn grow_reserved(
 fn grow_reserved_once(
     journal: &mut Journal,
     tables: &mut Tables,
-    limit: u64,
+    aim: Aim,
     avoid: Range,
     more: &More,
 ) -> Result<(), Refusal>
-    requires { IsKept journal.old.items tables.old limit }
+    requires { IsKept journal.old.items tables.old aim }
     ensures ends { Ends result journal.old.items journal.new.items
         (if_due (is_full_by tables_of.Reserved (more_by tables_of.Reserved more.now)) (reserved_growth avoid)) }
-    ensures kept { Keeps journal.old.items tables.old journal.new.items tables.new limit }
-    ensures bytes { KeepsBytes journal.old.items tables.old journal.new.items tables.new limit }
+    ensures kept { Keeps journal.old.items tables.old journal.new.items tables.new aim }
+    ensures bytes { KeepsBytes journal.old.items tables.old journal.new.items tables.new aim }
     ensures still_ready { StayReady tables.old.store tables.new.store }
     ensures memory { tables.new.memory ≡ tables.old.memory }
     ensures grew { OnOk result (HasRoom more.now tables.new.reserved ⊎ Grew tables.old.reserved tables.new.reserved) }
@@ -88,7 +89,7 @@ fn grow_reserved_once(
         IsOk result × (journal.new ≡ journal.old) × (tables.new ≡ tables.old) }
 {
     if is_full(tables, Which::Reserved, more) {
-        grow_reserved(journal, tables, limit, avoid)
+        grow_reserved(journal, tables, aim, avoid)
     } else {
         Ok(())
     }
@@ -98,23 +99,23 @@ fn grow_reserved_once(
 fn make_reserved_room(
     journal: &mut Journal,
     tables: &mut Tables,
-    limit: u64,
+    aim: Aim,
     avoid: Range,
     more: &More,
 ) -> Result<(), Refusal>
-    requires { IsKept journal.old.items tables.old limit }
+    requires { IsKept journal.old.items tables.old aim }
     ensures ends { Ends result journal.old.items journal.new.items
         (grown tables_of.Reserved (more_by tables_of.Reserved more.now) (reserved_growth avoid)) }
-    ensures kept { Keeps journal.old.items tables.old journal.new.items tables.new limit }
-    ensures bytes { KeepsBytes journal.old.items tables.old journal.new.items tables.new limit }
+    ensures kept { Keeps journal.old.items tables.old journal.new.items tables.new aim }
+    ensures bytes { KeepsBytes journal.old.items tables.old journal.new.items tables.new aim }
     ensures still_ready { StayReady tables.old.store tables.new.store }
     ensures memory { tables.new.memory ≡ tables.old.memory }
     ensures room { OnOk result (HasRoom more.now tables.new.reserved) }
     ensures idle { HasRoom more.now tables.old.reserved →
         IsOk result × (journal.new ≡ journal.old) × (tables.new ≡ tables.old) }
 {
-    grow_reserved_once(journal, tables, limit, avoid, more)?;
-    grow_reserved_once(journal, tables, limit, avoid, more)
+    grow_reserved_once(journal, tables, aim, avoid, more)?;
+    grow_reserved_once(journal, tables, aim, avoid, more)
 }
 
 /// The range is claimed for the owner (`memblock_reserve`). Where an item can be appended without wanting memory and the
@@ -122,21 +123,21 @@ fn make_reserved_room(
 pub fn claim(
     journal: &mut Journal,
     tables: &mut Tables,
-    limit: u64,
+    aim: Aim,
     range: Range,
     owner: Owner,
 ) -> Result<(), Refusal>
     requires some { 0 < range.size }
-    requires may { AllowsClaim journal.old.items tables.old limit range owner }
+    requires may { AllowsClaim journal.old.items tables.old aim range owner }
     ensures ends { Ends result journal.old.items journal.new.items (claimed range owner) }
-    ensures kept { Keeps journal.old.items tables.old journal.new.items tables.new limit }
-    ensures bytes { KeepsBytes journal.old.items tables.old journal.new.items tables.new limit }
+    ensures kept { Keeps journal.old.items tables.old journal.new.items tables.new aim }
+    ensures bytes { KeepsBytes journal.old.items tables.old journal.new.items tables.new aim }
     ensures still_ready { StayReady tables.old.store tables.new.store }
     ensures memory { tables.new.memory ≡ tables.old.memory }
     ensures ready { 0 < journal.old.spare → is_full_by tables_of.Reserved (new_in tables_of.Reserved range) journal.old.items ≡ false →
         IsOk result × (journal.new.spare ≡ journal.old.spare - 1) }
 {
-    make_reserved_room(journal, tables, limit, range, &More::PiecesOf(range))?;
+    make_reserved_room(journal, tables, aim, range, &More::PiecesOf(range))?;
     journal.push(Item::Claim { range, owner })?;
     cover(tables, Which::Reserved, range);
     Ok(())
@@ -146,21 +147,21 @@ pub fn claim(
 pub fn free(
     journal: &mut Journal,
     tables: &mut Tables,
-    limit: u64,
+    aim: Aim,
     range: Range,
 ) -> Result<(), Refusal>
     requires some { 0 < range.size }
     requires begun { HasBegun journal.old.items }
-    requires away { AllowsFree journal.old.items tables.old limit range }
+    requires away { AllowsFree journal.old.items tables.old aim range }
     ensures ends { Ends result journal.old.items journal.new.items (freed range) }
-    ensures kept { Keeps journal.old.items tables.old journal.new.items tables.new limit }
-    ensures bytes { KeepsBytes journal.old.items tables.old journal.new.items tables.new limit }
+    ensures kept { Keeps journal.old.items tables.old journal.new.items tables.new aim }
+    ensures bytes { KeepsBytes journal.old.items tables.old journal.new.items tables.new aim }
     ensures still_ready { StayReady tables.old.store tables.new.store }
     ensures memory { tables.new.memory ≡ tables.old.memory }
     ensures ready { 0 < journal.old.spare → is_full_by tables_of.Reserved two journal.old.items ≡ false →
         IsOk result × (journal.new.spare ≡ journal.old.spare - 1) }
 {
-    make_reserved_room(journal, tables, limit, range, &More::Two)?;
+    make_reserved_room(journal, tables, aim, range, &More::Two)?;
     journal.push(Item::Free { range })?;
     uncover(tables, range);
     Ok(())

@@ -1,5 +1,5 @@
 -- Small journals, computed: who owns a byte, what it is to memory, and the limit.
-use Rattle.std.proofs.Common.{◌≡◌, ℕ, ◌^◌, ◌==◌, nat_lt, if◌then◌else◌, Some, None, List, [], ◌∷◌, refl, sym, arith}
+use Rattle.std.proofs.Common.{◌≡◌, ℕ, ◌^◌, ◌==◌, true, false, nat_lt, if◌then◌else◌, Some, None, List, [], ◌∷◌, refl, sym, arith}
 use Rattle.std.proofs.lemmas.Bool.Decides.{nat_tests}
 use Rattle.address_runs.specs.Runs.{RunOf, value_at, AreRuns, runs_from}
 use Rattle.address_runs.specs.Edits.{NothingFrom}
@@ -11,9 +11,9 @@ use Rattle.memblock_model.specs.declared.tag.Tag.TheVariants as tag
 use Rattle.memblock_model.specs.declared.item.Item.{Item}
 use Rattle.memblock_model.specs.declared.item.Item.TheVariants as item
 use Rattle.bm_base.specs.Each.{each_from, each_in}
-use Rattle.memblock_model.specs.Labels.{Labels, plain_label, with_node}
+use Rattle.memblock_model.specs.Labels.{Labels, plain_label, with_node, with_mirror}
 use Rattle.memblock_model.specs.Same.{same_owner}
-use Rattle.memblock_model.specs.Items.{IsItem, AreItems, owners_after, no_owners, owner_of, memory_after, no_memory, trimmed, memory_of, tag_of, limit_after, limit_of, owner_runs_of}
+use Rattle.memblock_model.specs.Items.{IsItem, AreItems, owners_after, no_owners, owner_of, memory_after, no_memory, trimmed, memory_of, tag_of, limit_after, limit_of, upward_after, upward_of, owner_runs_of}
 use Rattle.memblock_model.proofs.SameLaws.{owner_tells}
 use Rattle.memblock_model.proofs.LabelExamples.{bytes}
 
@@ -80,7 +80,8 @@ claim_after_free = refl
 
 -- nothing else speaks of owners
 abbrev memory_alone : List Item
-memory_alone = item.Mem (bytes 0 8) ∷ (item.Node (bytes 0 8) 1 ∷ (item.Trim ∷ (item.Limit 4 ∷ (item.Grown which.Reserved 0 256 ∷ []))))
+memory_alone = item.Mem (bytes 0 8) ∷ (item.Node (bytes 0 8) 1 ∷ (item.Mirror (bytes 0 8) ∷ (item.Trim ∷ (item.Limit 4 ∷
+    (item.Upward true ∷ (item.Grown which.Reserved 0 256 ∷ []))))))
 
 owner_stays : owner_of (item.Claim (bytes 0 8) owner.Kernel ∷ memory_alone) 5 ≡ Some owner.Kernel
 owner_stays = refl
@@ -89,10 +90,10 @@ nobody_still : owner_of memory_alone 5 ≡ None
 nobody_still = refl
 
 -- memory that has a node keeps it when it is added again
-added_again : tag_of (item.Mem (bytes 0 8) ∷ (item.Node (bytes 0 4) 1 ∷ (item.Mem (bytes 0 16) ∷ []))) 3 ≡ tag.Node 1
+added_again : tag_of (item.Mem (bytes 0 8) ∷ (item.Node (bytes 0 4) 1 ∷ (item.Mem (bytes 0 16) ∷ []))) 3 ≡ tag.Memory (Some 1) false
 added_again = refl
 
-added_new : tag_of (item.Mem (bytes 0 8) ∷ (item.Node (bytes 0 4) 1 ∷ (item.Mem (bytes 0 16) ∷ []))) 9 ≡ tag.NoNode
+added_new : tag_of (item.Mem (bytes 0 8) ∷ (item.Node (bytes 0 4) 1 ∷ (item.Mem (bytes 0 16) ∷ []))) 9 ≡ tag.Memory None false
 added_new = refl
 
 -- a node for bytes that aren't memory is nothing, and a later node takes the place of an earlier one
@@ -107,18 +108,38 @@ earlier_node : memory_of (item.Mem (bytes 0 8) ∷ (item.Node (bytes 0 8) 1 ∷ 
     ≡ Some (with_node (Some 1) plain_label)
 earlier_node = refl
 
+-- a mirror marks memory of its range alone, whatever its node; it stays under a later node, and a node stays under it
+mirror_of_nothing : tag_of (item.Mirror (bytes 0 4) ∷ []) 3 ≡ tag.Absent
+mirror_of_nothing = refl
+
+mirrored_memory : tag_of (item.Mem (bytes 0 8) ∷ (item.Mirror (bytes 0 4) ∷ (item.Node (bytes 0 8) 1 ∷ []))) 3 ≡ tag.Memory (Some 1) true
+mirrored_memory = refl
+
+memory_beside_a_mirror : tag_of (item.Mem (bytes 0 8) ∷ (item.Mirror (bytes 0 4) ∷ (item.Node (bytes 0 8) 1 ∷ []))) 4 ≡ tag.Memory (Some 1) false
+memory_beside_a_mirror = refl
+
+mirrored_with_its_node : memory_of (item.Mem (bytes 0 8) ∷ (item.Node (bytes 0 8) 2 ∷ (item.Mirror (bytes 4 4) ∷ []))) 4
+    ≡ Some (with_mirror (with_node (Some 2) plain_label))
+mirrored_with_its_node = refl
+
+added_again_mirrored : tag_of (item.Mem (bytes 0 8) ∷ (item.Mirror (bytes 0 4) ∷ (item.Mem (bytes 0 16) ∷ []))) 3 ≡ tag.Memory None true
+added_again_mirrored = refl
+
+no_mirror_of_none : IsItem (item.Mirror (bytes 7 0)) → ⊥
+no_mirror_of_none some = omega arith
+
 -- nothing else speaks of memory
 abbrev owners_alone : List Item
-owners_alone = item.Claim (bytes 0 8) owner.Kernel ∷ (item.Free (bytes 0 4) ∷ (item.Limit 4 ∷ (item.Grown which.Memory 0 256 ∷ [])))
+owners_alone = item.Claim (bytes 0 8) owner.Kernel ∷ (item.Free (bytes 0 4) ∷ (item.Limit 4 ∷ (item.Upward true ∷ (item.Grown which.Memory 0 256 ∷ []))))
 
-memory_stays : tag_of (item.Mem (bytes 0 8) ∷ owners_alone) 3 ≡ tag.NoNode
+memory_stays : tag_of (item.Mem (bytes 0 8) ∷ owners_alone) 3 ≡ tag.Memory None false
 memory_stays = refl
 
 absent_still : tag_of owners_alone 5 ≡ tag.Absent
 absent_still = refl
 
 -- a frame that is memory whole stays
-whole_frame_stays : tag_of (item.Mem (bytes 0 4096) ∷ (item.Trim ∷ [])) 5 ≡ tag.NoNode
+whole_frame_stays : tag_of (item.Mem (bytes 0 4096) ∷ (item.Trim ∷ [])) 5 ≡ tag.Memory None false
 unfolding trimmed each_in each_from
 whole_frame_stays = refl
 
@@ -126,6 +147,11 @@ whole_frame_stays = refl
 partial_frame_goes : tag_of (item.Mem (bytes 0 4095) ∷ (item.Trim ∷ [])) 5 ≡ tag.Absent
 unfolding trimmed each_in each_from
 partial_frame_goes = refl
+
+-- mirrored in part
+partly_mirrored_frame_goes : tag_of (item.Mem (bytes 0 4096) ∷ (item.Mirror (bytes 0 100) ∷ (item.Trim ∷ []))) 5 ≡ tag.Absent
+unfolding trimmed each_in each_from
+partly_mirrored_frame_goes = refl
 
 -- two nodes in one frame
 mixed_frame_goes : tag_of (item.Mem (bytes 0 4096) ∷ (item.Node (bytes 0 100) 1 ∷ (item.Trim ∷ []))) 5 ≡ tag.Absent
@@ -173,6 +199,19 @@ limit_stays : limit_of (item.Limit 7 ∷ (item.Mem (bytes 0 8) ∷ (item.Node (b
     (item.Claim (bytes 0 8) owner.Kernel ∷ (item.Free (bytes 0 4)
     ∷ (item.Grown which.Memory 4 256 ∷ [])))))) ≡ 7
 limit_stays = refl
+
+-- the newest direction, whatever else happens; downward at first
+downward_at_first : upward_of (item.Trim ∷ []) ≡ false
+downward_at_first = refl
+
+upward_set : upward_of (item.Upward true ∷ (item.Limit 5 ∷ (item.Mirror (bytes 0 8) ∷ []))) ≡ true
+upward_set = refl
+
+downward_again : upward_of (item.Upward true ∷ (item.Upward false ∷ [])) ≡ false
+downward_again = refl
+
+direction_left : upward_after true (item.Free (bytes 0 4)) ≡ true
+direction_left = refl
 
 -- claims of one owner that touch are one run, of two owners two
 claims_of_one_owner : runs_from same_owner (owner_of (item.Claim (bytes 1 2) owner.Kernel ∷ (item.Claim (bytes 3 2) owner.Kernel ∷ []))) 0 8

@@ -11,8 +11,8 @@ use Rattle.memblock_model.specs.declared.which.Which.TheVariants as which
 use Rattle.memblock_model.specs.declared.item.Item.{Item}
 use Rattle.memblock_model.specs.declared.item.Item.TheVariants as item
 use Rattle.address_runs.specs.Edits.{covered, uncovered, relabelled, replaced}
-use Rattle.memblock_model.specs.Labels.{Label, Labels, plain_label, with_node}
-use Rattle.memblock_model.specs.Items.{IsItem, AreItems, Owners, owners_after, no_owners, owner_of, memory_after, no_memory, memory_of, limit_after, limit_of}
+use Rattle.memblock_model.specs.Labels.{Label, Labels, plain_label, with_node, with_mirror}
+use Rattle.memblock_model.specs.Items.{IsItem, AreItems, Owners, owners_after, no_owners, owner_of, memory_after, no_memory, memory_of, limit_after, limit_of, upward_after, upward_of}
 use Rattle.memblock_model.specs.Tables.{without_owner, reserved_of, reserved_after, table_of, table_after, room_after, room_of, moved_after, moved_to}
 use Rattle.memblock_model.proofs.LabelLaws.{IsInFrame, frame_join, frame_back, trimmed-local}
 
@@ -24,6 +24,9 @@ memory_of-push items i = fold-append memory_after no_memory items (i ∷ [])
 
 pub limit_of-push : (items : List Item) (i : Item) → limit_of (items ++ i ∷ []) ≡ limit_after (limit_of items) i
 limit_of-push items i = fold-append limit_after 0 items (i ∷ [])
+
+pub upward_of-push : (items : List Item) (i : Item) → upward_of (items ++ i ∷ []) ≡ upward_after (upward_of items) i
+upward_of-push items i = fold-append upward_after false items (i ∷ [])
 
 pub room_of-push : (w : Which) (items : List Item) (i : Item) → room_of w (items ++ i ∷ []) ≡ room_after w (room_of w items) i
 room_of-push w items i = fold-append (room_after w) 128 items (i ∷ [])
@@ -71,6 +74,7 @@ pub memory_after-local : (f g : Labels) (i : Item) (x : ℕ) → ((y : ℕ) → 
 memory_after-local f g (item.Mem range) x alike y at_y = covers_alike range plain_label f g y (alike y at_y)
 memory_after-local f g item.Trim x alike y at_y = trimmed-local f g y (λ z at_z. alike z (frame_join y x z (frame_back x y at_y) at_z))
 memory_after-local f g (item.Node range node) x alike y at_y = relabels_alike range (with_node (Some node)) f g y (alike y at_y)
+memory_after-local f g (item.Mirror range) x alike y at_y = relabels_alike range with_mirror f g y (alike y at_y)
 memory_after-local f g i x alike y at_y = alike y at_y
 
 pub memory_fold-local : (f g : Labels) (items : List Item) (x : ℕ) → ((y : ℕ) → IsInFrame x y → f y ≡ g y)

@@ -2,8 +2,8 @@
 use Rattle.std.proofs.Common.{◌≡◌, true, false, Some, None, refl}
 use Rattle.memblock_model.specs.declared.which.Which.TheVariants as which
 use Rattle.memblock_model.specs.declared.owner.Owner.TheVariants as owner
-use Rattle.memblock_model.specs.Labels.{plain_label, with_node}
-use Rattle.memblock_model.specs.Same.{same_which, same_node, same_label, variant_of, owner_number, same_owner}
+use Rattle.memblock_model.specs.Labels.{plain_label, with_node, with_mirror}
+use Rattle.memblock_model.specs.Same.{same_which, same_node, same_switch, same_label, variant_of, owner_number, same_owner}
 
 one_table : same_which which.Memory which.Memory ≡ true
 one_table = refl
@@ -33,12 +33,34 @@ node_and_none = refl
 none_and_node : same_node (Some 0) None ≡ false
 none_and_node = refl
 
--- labels are the same where their nodes are
+-- both on, both off, or one of each
+one_switch : same_switch true true ≡ true
+one_switch = refl
+
+switches_off : same_switch false false ≡ true
+switches_off = refl
+
+two_switches : same_switch true false ≡ false
+two_switches = refl
+
+switches_exchanged : same_switch false true ≡ false
+switches_exchanged = refl
+
+-- labels are the same where their nodes are and their mirrors
 one_label : same_label (with_node (Some 3) plain_label) (with_node (Some 3) (with_node (Some 4) plain_label)) ≡ true
 one_label = refl
 
 two_labels : same_label plain_label (with_node (Some 0) plain_label) ≡ false
 two_labels = refl
+
+mirrored_and_not : same_label (with_mirror plain_label) plain_label ≡ false
+mirrored_and_not = refl
+
+not_and_mirrored : same_label plain_label (with_mirror plain_label) ≡ false
+not_and_mirrored = refl
+
+both_mirrored : same_label (with_mirror (with_node (Some 3) plain_label)) (with_node (Some 3) (with_mirror plain_label)) ≡ true
+both_mirrored = refl
 
 first_variant : variant_of owner.Kernel ≡ 0
 first_variant = refl

@@ -1,13 +1,13 @@
 -- The tests of sameness tell.
-use Rattle.std.proofs.Common.{◌≡◌, ℕ, ◌==◌, true, ◌&&◌, if◌then◌else◌, Option, Some, None, refl, sym, ◌∙◌, ap, arith}
+use Rattle.std.proofs.Common.{◌≡◌, ℕ, ◌==◌, Bool, true, false, ◌&&◌, if◌then◌else◌, Option, Some, None, refl, sym, ◌∙◌, ap, arith}
 use Rattle.std.proofs.lemmas.Bool.Decides.{nat_tests}
-use Rattle.std.proofs.lemmas.Bool.{eqb-true, eq-eqb}
+use Rattle.std.proofs.lemmas.Bool.{eqb-true, eq-eqb, and_parts, and_from}
 use Rattle.address_runs.specs.Runs.{Tells}
 use Rattle.memblock_model.specs.declared.which.Which.TheVariants as which
 use Rattle.memblock_model.specs.declared.owner.Owner.{Owner}
 use Rattle.memblock_model.specs.declared.owner.Owner.TheVariants as owner
 use Rattle.memblock_model.specs.Labels.{Label}
-use Rattle.memblock_model.specs.Same.{same_node, same_label, variant_of, owner_number, same_owner}
+use Rattle.memblock_model.specs.Same.{same_node, same_switch, same_label, variant_of, owner_number, same_owner}
 
 node_yes : (a b : Option ℕ) → same_node a b ≡ true → a ≡ b
 node_yes None None h = refl
@@ -22,13 +22,25 @@ node_self (Some n) = eq-eqb n n refl
 pub node_tells : Tells same_node
 node_tells = record { true_is_equal = node_yes; equal_is_true = λ a b e. ap (λ (o : Option ℕ). same_node a o) (sym e) ∙ node_self a }
 
+switch_yes : (a b : Bool) → same_switch a b ≡ true → a ≡ b
+switch_yes true true h = refl
+switch_yes true false h = cc
+switch_yes false true h = cc
+switch_yes false false h = refl
+
+switch_self : (a : Bool) → same_switch a a ≡ true
+switch_self true = refl
+switch_self false = refl
+
 -- labels are the same where their parts are
 label_yes : (a b : Label) → same_label a b ≡ true → a ≡ b
-label_yes a b h = let nodes : a.node ≡ b.node = node_yes a.node b.node h in
-    ap (λ (n : Option ℕ). let label : Label = record { node = n } in label) nodes
+label_yes a b h =
+    let parts = and_parts (same_node a.node b.node) (same_switch a.mirror b.mirror) h in
+    ap (λ (n : Option ℕ). let label : Label = record { node = n; mirror = a.mirror } in label) (node_yes a.node b.node parts.0)
+    ∙ ap (λ (m : Bool). let label : Label = record { node = b.node; mirror = m } in label) (switch_yes a.mirror b.mirror parts.1)
 
 pub label_self : (a : Label) → same_label a a ≡ true
-label_self a = node_self a.node
+label_self a = and_from (same_node a.node a.node) (same_switch a.mirror a.mirror) (node_self a.node) (switch_self a.mirror)
 
 pub label_tells : Tells same_label
 label_tells = record { true_is_equal = label_yes; equal_is_true = λ a b e. ap (λ (l : Label). same_label a l) (sym e) ∙ label_self a }

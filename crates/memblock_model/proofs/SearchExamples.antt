@@ -1,5 +1,5 @@
 -- Small searches, computed: which addresses fit, and the best of them.
-use Rattle.std.proofs.Common.{◌≡◌, ℕ, ◌≤◌, ◌==◌, nat_lt, true, false, if◌then◌else◌, Some, None, List, [], ◌∷◌, refl, inl, inr, arith}
+use Rattle.std.proofs.Common.{◌≡◌, ℕ, ◌≤◌, ◌==◌, nat_lt, Bool, true, false, if◌then◌else◌, Some, None, List, [], ◌∷◌, refl, ◌∙◌, inl, inr, arith}
 use Rattle.std.proofs.lemmas.Bool.{cases_Bool}
 use Rattle.std.proofs.lemmas.Bool.Decides.{nat_tests}
 use Rattle.bm_base.specs.Extent.{covers}
@@ -9,11 +9,11 @@ use Rattle.memblock_model.specs.declared.query.Query.{Query}
 use Rattle.memblock_model.specs.declared.item.Item.{Item}
 use Rattle.memblock_model.specs.declared.item.Item.TheVariants as item
 use Rattle.bm_base.specs.Each.{each_from, each_in}
-use Rattle.memblock_model.specs.Labels.{Label, Labels, plain_label, with_node}
+use Rattle.memblock_model.specs.Labels.{Label, Labels, plain_label, with_node, with_mirror}
 use Rattle.memblock_model.specs.Items.{owner_of, no_memory}
 use Rattle.memblock_model.specs.Tables.{reserved_of, table_of}
-use Rattle.memblock_model.specs.Search.{last_below, allows, fits_in, best_in, fits, best}
-use Rattle.memblock_model.proofs.SearchLaws.{fits_in-parts, best_in-last, best_in-fails}
+use Rattle.memblock_model.specs.Search.{last_below, first_below, outermost, allows, suits, fits_in, top_in, best_in, fits, top, best}
+use Rattle.memblock_model.proofs.SearchLaws.{fits_in-parts, top_in-first, best_in-plain, best_in-last, best_in-fails}
 use Rattle.memblock_model.proofs.LabelExamples.{bytes}
 
 -- the last number that passes, and none
@@ -24,6 +24,36 @@ last_of_three = refl
 none_of_five : last_below (λ n. n == 5) 5 ≡ None
 unfolding last_below
 none_of_five = refl
+
+-- the first number that passes, and none
+first_of_three : first_below (λ n. nat_lt 2 n) 10 ≡ Some 3
+unfolding first_below
+first_of_three = refl
+
+first_of_none : first_below (λ n. n == 5) 5 ≡ None
+unfolding first_below
+first_of_none = refl
+
+lowest_of_all : outermost true (λ n. nat_lt 2 n) 10 ≡ Some 3
+unfolding first_below
+lowest_of_all = refl
+
+highest_of_all : outermost false (λ n. nat_lt 2 n) 10 ≡ Some 9
+unfolding last_below
+highest_of_all = refl
+
+-- any memory suits where no mirror is wanted, and mirrored memory alone where it is
+plain_memory_suits : suits false (Some plain_label) ≡ true
+plain_memory_suits = refl
+
+plain_memory_is_no_mirror : suits true (Some plain_label) ≡ false
+plain_memory_is_no_mirror = refl
+
+mirrored_memory_suits : suits true (Some (with_mirror plain_label)) ≡ true
+mirrored_memory_suits = refl
+
+nothing_is_no_mirror : suits true None ≡ false
+nothing_is_no_mirror = refl
 
 abbrev of_node : ℕ → Label
 of_node node = with_node (Some node) plain_label
@@ -58,60 +88,81 @@ pairs lo hi = record { lo = lo; hi = hi; size = 2; align = 2; node = Some 1 }
 abbrev any_pairs : Query
 any_pairs = record { lo = 0; hi = 4200; size = 2; align = 1; node = None }
 
-fits_above_claim : fits_in memory claimed (pairs 0 4200) 4102 ≡ true
+fits_above_claim : fits_in false memory claimed (pairs 0 4200) 4102 ≡ true
 unfolding fits_in each_in each_from
 fits_above_claim = refl
 
-claimed_does_not_fit : fits_in memory claimed (pairs 0 4200) 4100 ≡ false
+claimed_does_not_fit : fits_in false memory claimed (pairs 0 4200) 4100 ≡ false
 unfolding fits_in each_in each_from
 claimed_does_not_fit = refl
 
-other_node_does_not_fit : fits_in memory claimed (pairs 0 4200) 4104 ≡ false
+other_node_does_not_fit : fits_in false memory claimed (pairs 0 4200) 4104 ≡ false
 unfolding fits_in each_in each_from
 other_node_does_not_fit = refl
 
-first_frame_does_not_fit : fits_in memory claimed (pairs 0 4200) 4094 ≡ false
+first_frame_does_not_fit : fits_in false memory claimed (pairs 0 4200) 4094 ≡ false
 unfolding fits_in each_in each_from
 first_frame_does_not_fit = refl
 
-odd_does_not_fit : fits_in memory claimed (pairs 0 4200) 4097 ≡ false
+odd_does_not_fit : fits_in false memory claimed (pairs 0 4200) 4097 ≡ false
 unfolding fits_in each_in each_from
 odd_does_not_fit = refl
 
-odd_fits_at_any : fits_in memory claimed any_pairs 4097 ≡ true
+odd_fits_at_any : fits_in false memory claimed any_pairs 4097 ≡ true
 unfolding fits_in each_in each_from
 odd_fits_at_any = refl
 
 -- half in node 1 and half in node 2
-border_does_not_fit : fits_in memory claimed any_pairs 4103 ≡ false
+border_does_not_fit : fits_in false memory claimed any_pairs 4103 ≡ false
 unfolding fits_in each_in each_from
 border_does_not_fit = refl
 
-what_is_no_memory_does_not_fit : fits_in no_memory claimed any_pairs 4098 ≡ false
+what_is_no_memory_does_not_fit : fits_in false no_memory claimed any_pairs 4098 ≡ false
 unfolding fits_in each_in each_from
 what_is_no_memory_does_not_fit = refl
 
 -- the window from its first byte to its last
-fits_at_lo : fits_in memory claimed (pairs 4098 4200) 4098 ≡ true
+fits_at_lo : fits_in false memory claimed (pairs 4098 4200) 4098 ≡ true
 unfolding fits_in each_in each_from
 fits_at_lo = refl
 
-below_lo_does_not_fit : fits_in memory claimed (pairs 4098 4200) 4096 ≡ false
+below_lo_does_not_fit : fits_in false memory claimed (pairs 4098 4200) 4096 ≡ false
 unfolding fits_in each_in each_from
 below_lo_does_not_fit = refl
 
-fits_up_to_hi : fits_in memory claimed (pairs 0 4104) 4102 ≡ true
+fits_up_to_hi : fits_in false memory claimed (pairs 0 4104) 4102 ≡ true
 unfolding fits_in each_in each_from
 fits_up_to_hi = refl
 
-past_hi_does_not_fit : fits_in memory claimed (pairs 0 4103) 4102 ≡ false
+past_hi_does_not_fit : fits_in false memory claimed (pairs 0 4103) 4102 ≡ false
 unfolding fits_in each_in each_from
 past_hi_does_not_fit = refl
 
 -- the greatest of those that fit
-greatest_that_fits : last_below (fits_in memory claimed (pairs 0 4103)) 4110 ≡ Some 4098
+greatest_that_fits : last_below (fits_in false memory claimed (pairs 0 4103)) 4110 ≡ Some 4098
 unfolding last_below fits_in each_in each_from
 greatest_that_fits = refl
+
+-- the least of those that fit, and what isn't mirrored doesn't fit where a mirror is wanted
+least_that_fits : first_below (fits_in false memory claimed (pairs 0 4104)) 4110 ≡ Some 4096
+unfolding first_below fits_in each_in each_from
+least_that_fits = refl
+
+unmirrored_does_not_fit : fits_in true memory claimed (pairs 0 4104) 4096 ≡ false
+unfolding fits_in each_in each_from
+unmirrored_does_not_fit = refl
+
+-- bytes 4096 to 4103 mirrored, and no more
+abbrev half_mirrored : Labels
+half_mirrored x = if nat_lt x 4104 then Some (with_mirror (of_node 1)) else Some (of_node 1)
+
+mirrored_fits : fits_in true half_mirrored claimed (pairs 0 5000) 4098 ≡ true
+unfolding fits_in each_in each_from
+mirrored_fits = refl
+
+over_its_border_does_not_fit : fits_in false half_mirrored claimed (record { lo = 0; hi = 5000; size = 2; align = 1; node = None }) 4103 ≡ false
+unfolding fits_in each_in each_from
+over_its_border_does_not_fit = refl
 
 -- 64 KiB of memory: the best page below its end, and none where a claim leaves the first frame alone
 abbrev small : List Item
@@ -120,16 +171,23 @@ small = item.Mem (bytes 0 0x10000) ∷ []
 abbrev page : Query
 page = record { lo = 0; hi = 0x10000; size = 0x1000; align = 0x1000; node = None }
 
-page_fits : fits small page 0xF000 ≡ true
+page_fits : fits small page false 0xF000 ≡ true
 unfolding fits fits_in each_in each_from
 page_fits = refl
 
-page_ends : (b : ℕ) → fits_in (table_of which.Memory small) (table_of which.Reserved small) page b ≡ true → b ≤ 0xF000
-page_ends b h = let high = (fits_in-parts (table_of which.Memory small) (table_of which.Reserved small) page b h).high in omega arith
+page_ends : (b : ℕ) → fits_in false (table_of which.Memory small) (table_of which.Reserved small) page b ≡ true → b ≤ 0xF000
+page_ends b h = let high = (fits_in-parts false (table_of which.Memory small) (table_of which.Reserved small) page b h).high in omega arith
 
-best_in_page : best_in (table_of which.Memory small) (table_of which.Reserved small) page ≡ Some 0xF000
+plain_or_none : (b : Bool) → suits true (if b then Some plain_label else None) ≡ false
+plain_or_none true = refl
+plain_or_none false = refl
+
+small_is_plain : (x : ℕ) → suits true (table_of which.Memory small x) ≡ false
+small_is_plain x = plain_or_none (covers (bytes 0 0x10000) x)
+
+best_in_page : best_in false (table_of which.Memory small) (table_of which.Reserved small) page ≡ Some 0xF000
 unfolding fits
-best_in_page = best_in-last (table_of which.Memory small) (table_of which.Reserved small) page 0xF000
+best_in_page = best_in-last (table_of which.Memory small) (table_of which.Reserved small) page 0xF000 small_is_plain
     (record { below = omega arith; passes = page_fits; last = λ b lt h. page_ends b h })
 
 best_page : best small page ≡ Some 0xF000
@@ -139,13 +197,13 @@ best_page = best_in_page
 abbrev crowded : List Item
 crowded = item.Mem (bytes 0 0x10000) ∷ (item.Claim (bytes 0x1000 0xF000) owner.Kernel ∷ [])
 
-claimed_page_does_not_fit : fits crowded page 0xF000 ≡ false
+claimed_page_does_not_fit : fits crowded page false 0xF000 ≡ false
 unfolding fits fits_in each_in each_from
 claimed_page_does_not_fit = refl
 
-nothing_fits : (b : ℕ) → fits_in (table_of which.Memory crowded) (table_of which.Reserved crowded) page b ≡ true → ⊥
+nothing_fits : (b : ℕ) → fits_in false (table_of which.Memory crowded) (table_of which.Reserved crowded) page b ≡ true → ⊥
 nothing_fits b h =
-    let place = fits_in-parts (table_of which.Memory crowded) (table_of which.Reserved crowded) page b h in
+    let place = fits_in-parts false (table_of which.Memory crowded) (table_of which.Reserved crowded) page b h in
     let high = place.high in
     let first = place.first in
     let free : reserved_of (owner_of crowded) b ≡ None = place.free b (omega arith) (omega arith) in
@@ -153,12 +211,39 @@ nothing_fits b h =
     ≡ true = grind (arith, nat_tests) in rw inside refl) in
     cc (free, held)
 
-no_best_in : best_in (table_of which.Memory crowded) (table_of which.Reserved crowded) page ≡ None
-no_best_in = best_in-fails (table_of which.Memory crowded) (table_of which.Reserved crowded) page
-    (λ b lt. elim (cases_Bool (fits_in (table_of which.Memory crowded) (table_of which.Reserved crowded) page b))
-    as (λ _. fits_in (table_of which.Memory crowded) (table_of which.Reserved crowded) page b ≡ false)
-    [ inl fits ↦ absurd (nothing_fits b fits) | inr fails ↦ fails ])
+no_best_in : best_in false (table_of which.Memory crowded) (table_of which.Reserved crowded) page ≡ None
+no_best_in = best_in-fails false (table_of which.Memory crowded) (table_of which.Reserved crowded) page
+    (λ b lt. elim (cases_Bool (fits_in false (table_of which.Memory crowded) (table_of which.Reserved crowded) page b))
+    as (λ _. fits_in false (table_of which.Memory crowded) (table_of which.Reserved crowded) page b ≡ false)
+    [ inl found ↦ absurd (nothing_fits b found) | inr fails ↦ fails ])
 
 nothing_best : best crowded page ≡ None
 unfolding best
 nothing_best = no_best_in
+
+-- its lowest page, where the search goes up: never the first frame
+abbrev turned : List Item
+turned = item.Mem (bytes 0 0x10000) ∷ (item.Upward true ∷ [])
+
+page_fits_low : fits turned page false 0x1000 ≡ true
+unfolding fits fits_in each_in each_from
+page_fits_low = refl
+
+lowest_page : top_in (record { mirror = false; up = true }) (table_of which.Memory turned) (table_of which.Reserved turned) page ≡ Some 0x1000
+unfolding fits
+lowest_page = top_in-first false (table_of which.Memory turned) (table_of which.Reserved turned) page 0x1000 (record {
+  below = omega arith;
+  passes = page_fits_low;
+  first = λ b lt h. (fits_in-parts false (table_of which.Memory turned) (table_of which.Reserved turned) page b h).first;
+})
+
+top_page : top turned page false ≡ Some 0x1000
+unfolding top
+top_page = lowest_page
+
+turned_is_plain : (x : ℕ) → suits true (table_of which.Memory turned x) ≡ false
+turned_is_plain x = plain_or_none (covers (bytes 0 0x10000) x)
+
+best_page_upward : best turned page ≡ Some 0x1000
+unfolding best
+best_page_upward = best_in-plain true (table_of which.Memory turned) (table_of which.Reserved turned) page turned_is_plain ∙ lowest_page

@@ -1,8 +1,9 @@
--- The greatest number that passes a test, and the search by it.
-use Rattle.std.proofs.Common.{◌≡◌, ℕ, zero, suc, ◌+◌, ◌%◌, ◌^◌, ◌<◌, ◌≤◌, ◌==◌, Bool, true, false, ◌&&◌, nat_le, is_some, is_none, Option, Some, None, refl, sym, ◌∙◌, ap, subst, inl, inr, arith}
+-- The greatest and the least number that pass a test, and the searches by them.
+use Rattle.std.proofs.Common.{◌≡◌, ◌⊎◌, ℕ, zero, suc, ◌+◌, ◌%◌, ◌^◌, ◌<◌, ◌≤◌, ◌==◌, Bool, true, false, ◌&&◌, nat_le, is_some, is_none, if◌then◌else◌, Option, Some, None, refl, sym, ◌∙◌, ap, subst, inl, inr, arith}
 use Rattle.std.proofs.lemmas.Bool.Decides.{nat_tests}
 use Rattle.std.proofs.lemmas.Bool.{cases_Bool, cases_lt, true≢false, and_from, and_parts}
 use Rattle.std.proofs.lemmas.Option.{same_Some}
+use Rattle.std.specs.Option.{option_or}
 use Rattle.memblock_model.specs.declared.query.Query.{Query}
 use Rattle.bm_base.specs.Extent.{Extent}
 use Rattle.address_runs.specs.Edits.{agree}
@@ -10,7 +11,8 @@ use Rattle.address_runs.proofs.EditLaws.{agree-yes, agree-same}
 use Rattle.bm_base.specs.Each.{each_in}
 use Rattle.memblock_model.specs.Labels.{Label, Labels}
 use Rattle.memblock_model.specs.Same.{same_label}
-use Rattle.memblock_model.specs.Search.{last_below, allows, fits_in, best_in}
+use Rattle.memblock_model.specs.declared.mode.Mode.{Mode}
+use Rattle.memblock_model.specs.Search.{last_below, first_below, outermost, allows, suits, fits_in, top_in, best_in}
 use Rattle.memblock_model.proofs.SameLaws.{label_tells}
 use Rattle.bm_base.proofs.EachLaws.{each_in-all, each_in-each}
 
@@ -90,36 +92,15 @@ last_below-fails p zero none = refl
 last_below-fails p (suc n) none = let here : p n ≡ false = none n (omega arith) in
     rw here (last_below-fails p n (λ b lt. none b (omega arith)))
 
--- the best place
-pub best_in-is : (memory reserved : Labels) (q : Query) (a : ℕ) → best_in memory reserved q ≡ Some a
-    → IsLastBelow (fits_in memory reserved q) (2 ^ 64) a
-unfolding best_in
-best_in-is memory reserved q a h = last_below-is (fits_in memory reserved q) (2 ^ 64) a h
-
-pub best_in-none : (memory reserved : Labels) (q : Query) → best_in memory reserved q ≡ None → (b : ℕ) → b < 2 ^ 64
-    → fits_in memory reserved q b ≡ false
-unfolding best_in
-best_in-none memory reserved q h b lt = last_below-none (fits_in memory reserved q) (2 ^ 64) h b lt
-
--- and to prove that an address is it, or that there is none
-pub best_in-last : (memory reserved : Labels) (q : Query) (a : ℕ) → IsLastBelow (fits_in memory reserved q) (2 ^ 64) a
-    → best_in memory reserved q ≡ Some a
-unfolding best_in
-best_in-last memory reserved q a known = last_below-last (fits_in memory reserved q) (2 ^ 64) a known
-
-pub best_in-fails : (memory reserved : Labels) (q : Query) → ((b : ℕ) → b < 2 ^ 64 → fits_in memory reserved q b ≡ false)
-    → best_in memory reserved q ≡ None
-unfolding best_in
-best_in-fails memory reserved q none = last_below-fails (fits_in memory reserved q) (2 ^ 64) none
-
 -- what it is for an address to fit, part by part
-pub record IsPlace (memory reserved : Labels) (q : Query) (a : ℕ) : Type 0 where
+pub record IsPlace (mirror : Bool) (memory reserved : Labels) (q : Query) (a : ℕ) : Type 0 where
   pub aligned : a % q.align ≡ 0
   pub low : q.lo ≤ a
   pub first : 4096 ≤ a
   pub high : a + q.size ≤ q.hi
   pub held : is_some (memory a) ≡ true
   pub allowed : allows q.node (memory a) ≡ true
+  pub suited : suits mirror (memory a) ≡ true
   pub label : (x : ℕ) → a ≤ x → x < a + q.size → memory x ≡ memory a
   pub free : (x : ℕ) → a ≤ x → x < a + q.size → reserved x ≡ None
 
@@ -130,9 +111,10 @@ no_label (Some n) h = absurd (true≢false (sym h))
 none_is : (o : Option Label) → o ≡ None → is_none o ≡ true
 none_is o e = ap is_none e
 
-pub fits_in-parts : (memory reserved : Labels) (q : Query) (a : ℕ) → fits_in memory reserved q a ≡ true → IsPlace memory reserved q a
+pub fits_in-parts : (mirror : Bool) (memory reserved : Labels) (q : Query) (a : ℕ) → fits_in mirror memory reserved q a ≡ true
+    → IsPlace mirror memory reserved q a
 unfolding fits_in
-fits_in-parts memory reserved q a h =
+fits_in-parts mirror memory reserved q a h =
     let place : Extent = record { base = a; size = q.size } in
     let test : ℕ → Bool = λ x. agree same_label (memory x) (memory a) && is_none (reserved x) in
     let aligned : Bool = a % q.align == 0 in
@@ -141,7 +123,9 @@ fits_in-parts memory reserved q a h =
     let high : Bool = first && nat_le (a + q.size) q.hi in
     let held : Bool = high && is_some (memory a) in
     let allowed : Bool = held && allows q.node (memory a) in
-    let at_allowed : allowed ≡ true = (and_parts allowed (each_in place test) h).0 in
+    let suited : Bool = allowed && suits mirror (memory a) in
+    let at_suited : suited ≡ true = (and_parts suited (each_in place test) h).0 in
+    let at_allowed : allowed ≡ true = (and_parts allowed (suits mirror (memory a)) at_suited).0 in
     let at_held : held ≡ true = (and_parts held (allows q.node (memory a)) at_allowed).0 in
     let at_high : high ≡ true = (and_parts high (is_some (memory a)) at_held).0 in
     let at_first : first ≡ true = (and_parts first (nat_le (a + q.size) q.hi) at_high).0 in
@@ -150,7 +134,7 @@ fits_in-parts memory reserved q a h =
     let is_low : nat_le q.lo a ≡ true = (and_parts aligned (nat_le q.lo a) at_low).1 in
     let is_first : nat_le 4096 a ≡ true = (and_parts low (nat_le 4096 a) at_first).1 in
     let is_high : nat_le (a + q.size) q.hi ≡ true = (and_parts first (nat_le (a + q.size) q.hi) at_high).1 in
-    let each : (x : ℕ) → a ≤ x → x < a + q.size → test x ≡ true = each_in-each place test (and_parts allowed (each_in place test) h).1 in
+    let each : (x : ℕ) → a ≤ x → x < a + q.size → test x ≡ true = each_in-each place test (and_parts suited (each_in place test) h).1 in
     record {
       aligned = grind (arith, nat_tests, at_aligned);
       low = grind (arith, nat_tests, is_low);
@@ -158,15 +142,17 @@ fits_in-parts memory reserved q a h =
       high = grind (arith, nat_tests, is_high);
       held = (and_parts high (is_some (memory a)) at_held).1;
       allowed = (and_parts held (allows q.node (memory a)) at_allowed).1;
+      suited = (and_parts allowed (suits mirror (memory a)) at_suited).1;
       label = λ x above below. agree-yes same_label label_tells (memory x) (memory a)
           (and_parts (agree same_label (memory x) (memory a)) (is_none (reserved x)) (each x above below)).0;
       free = λ x above below. no_label (reserved x) (and_parts (agree same_label (memory x) (memory a)) (is_none (reserved x))
           (each x above below)).1;
     }
 
-pub fits_in-whole : (memory reserved : Labels) (q : Query) (a : ℕ) → IsPlace memory reserved q a → fits_in memory reserved q a ≡ true
+pub fits_in-whole : (mirror : Bool) (memory reserved : Labels) (q : Query) (a : ℕ) → IsPlace mirror memory reserved q a
+    → fits_in mirror memory reserved q a ≡ true
 unfolding fits_in
-fits_in-whole memory reserved q a known =
+fits_in-whole mirror memory reserved q a known =
     let place : Extent = record { base = a; size = q.size } in
     let test : ℕ → Bool = λ x. agree same_label (memory x) (memory a) && is_none (reserved x) in
     let aligned : Bool = a % q.align == 0 in
@@ -175,6 +161,7 @@ fits_in-whole memory reserved q a known =
     let high : Bool = first && nat_le (a + q.size) q.hi in
     let held : Bool = high && is_some (memory a) in
     let allowed : Bool = held && allows q.node (memory a) in
+    let suited : Bool = allowed && suits mirror (memory a) in
     let is_aligned = known.aligned in
     let is_low = known.low in
     let is_first = known.first in
@@ -185,8 +172,222 @@ fits_in-whole memory reserved q a known =
     let at_high : high ≡ true = and_from first (nat_le (a + q.size) q.hi) at_first (grind (arith, nat_tests, is_high)) in
     let at_held : held ≡ true = and_from high (is_some (memory a)) at_high known.held in
     let at_allowed : allowed ≡ true = and_from held (allows q.node (memory a)) at_held known.allowed in
+    let at_suited : suited ≡ true = and_from allowed (suits mirror (memory a)) at_allowed known.suited in
     let each : each_in place test ≡ true = each_in-all place test (λ x above below.
     and_from (agree same_label (memory x) (memory a)) (is_none (reserved x))
     (agree-same same_label label_tells (memory x) (memory a) (known.label x above below))
     (none_is (reserved x) (known.free x above below))) in
-    and_from allowed (each_in place test) at_allowed each
+    and_from suited (each_in place test) at_suited each
+
+-- what fits in mirrored memory fits in any
+fits_unmirrored : (mirror : Bool) (memory reserved : Labels) (q : Query) (a : ℕ) → fits_in mirror memory reserved q a ≡ true
+    → fits_in false memory reserved q a ≡ true
+fits_unmirrored mirror memory reserved q a h =
+    let known = fits_in-parts mirror memory reserved q a h in
+    fits_in-whole false memory reserved q a (record {
+      aligned = known.aligned;
+      low = known.low;
+      first = known.first;
+      high = known.high;
+      held = known.held;
+      allowed = known.allowed;
+      suited = refl;
+      label = known.label;
+      free = known.free;
+    })
+
+-- where it fits nowhere, or doesn't suit, it doesn't fit
+unfit : (mirror : Bool) (memory reserved : Labels) (q : Query) (a : ℕ) → fits_in false memory reserved q a ≡ false
+    → fits_in mirror memory reserved q a ≡ false
+unfit mirror memory reserved q a fails = elim (cases_Bool (fits_in mirror memory reserved q a)) as (λ _. fits_in mirror memory reserved q a ≡ false) [
+  | inl fits ↦ absurd (true≢false (sym (fits_unmirrored mirror memory reserved q a fits) ∙ fails))
+  | inr none ↦ none
+]
+
+unsuited : (mirror : Bool) (memory reserved : Labels) (q : Query) (a : ℕ) → suits mirror (memory a) ≡ false
+    → fits_in mirror memory reserved q a ≡ false
+unsuited mirror memory reserved q a fails = elim (cases_Bool (fits_in mirror memory reserved q a)) as (λ _. fits_in mirror memory reserved q a ≡ false) [
+  | inl fits ↦ absurd (true≢false (sym (fits_in-parts mirror memory reserved q a fits).suited ∙ fails))
+  | inr none ↦ none
+]
+
+-- of two answers there is none, or one
+or_none : (a b : Option ℕ) → option_or a b ≡ None → a ≡ None
+or_none None b h = refl
+or_none (Some n) b h = cc
+
+neither : (a b : Option ℕ) → option_or a b ≡ None → b ≡ None
+neither None b h = h
+neither (Some n) b h = cc
+
+either : (a b : Option ℕ) (n : ℕ) → option_or a b ≡ Some n → (a ≡ Some n) ⊎ (b ≡ Some n)
+either None b n h = inr h
+either (Some m) b n h = inl h
+
+last_fails : (b : Bool) (n : ℕ) → (if b then Some n else None) ≡ None → b ≡ false
+last_fails true n h = cc
+last_fails false n h = refl
+
+last_passes : (b : Bool) (n a : ℕ) → (if b then Some n else None) ≡ Some a → (b ≡ true) × (n ≡ a)
+last_passes true n a h = (refl, same_Some n a h)
+last_passes false n a h = cc
+
+-- the number passes, and none of the lower ones does
+pub record IsFirstBelow (p : ℕ → Bool) (n a : ℕ) : Type 0 where
+  pub below : a < n
+  pub passes : p a ≡ true
+  pub first : (b : ℕ) → b < n → p b ≡ true → a ≤ b
+
+-- with no answer none passes
+pub first_below-none : (p : ℕ → Bool) (n : ℕ) → first_below p n ≡ None → (b : ℕ) → b < n → p b ≡ false
+unfolding first_below
+first_below-none p zero h b lt = absurd (omega arith)
+first_below-none p (suc n) h b lt =
+    let before : first_below p n ≡ None = or_none (first_below p n) (if p n then Some n else None) h in
+    elim (cases_lt b n) as (λ _. p b ≡ false) [
+      | inl less ↦ first_below-none p n before b less
+      | inr ge ↦ let here : n ≡ b = omega arith in subst (λ (k : ℕ). p k ≡ false) here (last_fails (p n) n (rw before at h))
+    ]
+
+-- one step of it: what the lower ones answer, or the last one
+first_of : (p : ℕ → Bool) (n a : ℕ) (o : Option ℕ) → ((m : ℕ) → o ≡ Some m → IsFirstBelow p n m)
+    → (o ≡ None → (b : ℕ) → b < n → p b ≡ false) → option_or o (if p n then Some n else None) ≡ Some a
+    → IsFirstBelow p (suc n) a
+first_of p n a (Some m) is none h =
+    let here : m ≡ a = same_Some m a h in
+    let known = is m refl in
+    subst (λ (k : ℕ). IsFirstBelow p (suc n) k) here (record {
+      below = let lt = known.below in omega arith;
+      passes = known.passes;
+      first = λ b lt passes. elim (cases_lt b n) as (λ _. m ≤ b) [
+        | inl before ↦ known.first b before passes
+        | inr ge ↦ let less = known.below in omega arith
+      ];
+    })
+first_of p n a None is none h =
+    let at_n = last_passes (p n) n a h in
+    subst (λ (k : ℕ). IsFirstBelow p (suc n) k) at_n.1 (record {
+      below = omega arith;
+      passes = at_n.0;
+      first = λ b lt passes. elim (cases_lt b n) as (λ _. n ≤ b) [
+        | inl before ↦ absurd (true≢false (sym passes ∙ none refl b before))
+        | inr ge ↦ ge
+      ];
+    })
+
+-- the answer is the first one
+pub first_below-is : (p : ℕ → Bool) (n a : ℕ) → first_below p n ≡ Some a → IsFirstBelow p n a
+unfolding first_below
+first_below-is p zero a h = cc
+first_below-is p (suc n) a h = first_of p n a (first_below p n) (first_below-is p n) (first_below-none p n) h
+
+-- the first one is the answer
+first_answer : (p : ℕ → Bool) (n a : ℕ) → IsFirstBelow p n a → (o : Option ℕ) → first_below p n ≡ o → first_below p n ≡ Some a
+first_answer p n a known None is = absurd (true≢false (sym known.passes ∙ first_below-none p n is a known.below))
+first_answer p n a known (Some m) is =
+    let found = first_below-is p n m is in
+    let up = known.first m found.below found.passes in
+    let down = found.first a known.below known.passes in
+    let same : m ≡ a = omega arith in
+    is ∙ ap (λ (k : ℕ). Some k) same
+
+pub first_below-first : (p : ℕ → Bool) (n a : ℕ) → IsFirstBelow p n a → first_below p n ≡ Some a
+first_below-first p n a known = first_answer p n a known (first_below p n) refl
+
+-- where none passes there is no answer
+pub first_below-fails : (p : ℕ → Bool) (n : ℕ) → ((b : ℕ) → b < n → p b ≡ false) → first_below p n ≡ None
+unfolding first_below
+first_below-fails p zero none = refl
+first_below-fails p (suc n) none = let here : p n ≡ false = none n (omega arith) in
+    rw (first_below-fails p n (λ b lt. none b (omega arith)), here) refl
+
+-- the top place passes, and where there is none, none passes
+pub outermost-passes : (up : Bool) (p : ℕ → Bool) (n a : ℕ) → outermost up p n ≡ Some a → p a ≡ true
+outermost-passes true p n a h = (first_below-is p n a h).passes
+outermost-passes false p n a h = (last_below-is p n a h).passes
+
+pub outermost-none : (up : Bool) (p : ℕ → Bool) (n : ℕ) → outermost up p n ≡ None → (b : ℕ) → b < n → p b ≡ false
+outermost-none true p n h = first_below-none p n h
+outermost-none false p n h = last_below-none p n h
+
+pub outermost-fails : (up : Bool) (p : ℕ → Bool) (n : ℕ) → ((b : ℕ) → b < n → p b ≡ false) → outermost up p n ≡ None
+outermost-fails true p n none = first_below-fails p n none
+outermost-fails false p n none = last_below-fails p n none
+
+-- the top place
+pub top_in-fits : (mode : Mode) (memory reserved : Labels) (q : Query) (a : ℕ) → top_in mode memory reserved q ≡ Some a
+    → fits_in mode.mirror memory reserved q a ≡ true
+unfolding top_in
+top_in-fits mode memory reserved q a h = outermost-passes mode.up (fits_in mode.mirror memory reserved q) (2 ^ 64) a h
+
+pub top_in-none : (mode : Mode) (memory reserved : Labels) (q : Query) → top_in mode memory reserved q ≡ None → (b : ℕ) → b < 2 ^ 64
+    → fits_in mode.mirror memory reserved q b ≡ false
+unfolding top_in
+top_in-none mode memory reserved q h b lt = outermost-none mode.up (fits_in mode.mirror memory reserved q) (2 ^ 64) h b lt
+
+pub top_in-fails : (mode : Mode) (memory reserved : Labels) (q : Query)
+    → ((b : ℕ) → b < 2 ^ 64 → fits_in mode.mirror memory reserved q b ≡ false) → top_in mode memory reserved q ≡ None
+unfolding top_in
+top_in-fails mode memory reserved q none = outermost-fails mode.up (fits_in mode.mirror memory reserved q) (2 ^ 64) none
+
+-- and to prove that an address is it: the last one downward, the first one upward
+pub top_in-last : (mirror : Bool) (memory reserved : Labels) (q : Query) (a : ℕ) → IsLastBelow (fits_in mirror memory reserved q) (2 ^ 64) a
+    → top_in (record { mirror = mirror; up = false }) memory reserved q ≡ Some a
+unfolding top_in
+top_in-last mirror memory reserved q a known = last_below-last (fits_in mirror memory reserved q) (2 ^ 64) a known
+
+pub top_in-first : (mirror : Bool) (memory reserved : Labels) (q : Query) (a : ℕ) → IsFirstBelow (fits_in mirror memory reserved q) (2 ^ 64) a
+    → top_in (record { mirror = mirror; up = true }) memory reserved q ≡ Some a
+unfolding top_in
+top_in-first mirror memory reserved q a known = first_below-first (fits_in mirror memory reserved q) (2 ^ 64) a known
+
+-- the best place is the top one of mirrored memory, where there is one, and else that of any
+pub best_in-mirrored : (up : Bool) (memory reserved : Labels) (q : Query) (a : ℕ)
+    → top_in (record { mirror = true; up = up }) memory reserved q ≡ Some a → best_in up memory reserved q ≡ Some a
+unfolding best_in
+best_in-mirrored up memory reserved q a h = rw h refl
+
+pub best_in-other : (up : Bool) (memory reserved : Labels) (q : Query) → top_in (record { mirror = true; up = up }) memory reserved q ≡ None
+    → best_in up memory reserved q ≡ top_in (record { mirror = false; up = up }) memory reserved q
+unfolding best_in
+best_in-other up memory reserved q h = rw h refl
+
+-- it fits
+pub best_in-fits : (up : Bool) (memory reserved : Labels) (q : Query) (a : ℕ) → best_in up memory reserved q ≡ Some a
+    → fits_in false memory reserved q a ≡ true
+unfolding best_in
+best_in-fits up memory reserved q a h =
+    elim (either (top_in (record { mirror = true; up = up }) memory reserved q) (top_in (record { mirror = false; up = up }) memory reserved q) a h)
+    as (λ _. fits_in false memory reserved q a ≡ true) [
+      | inl mirrored ↦ fits_unmirrored true memory reserved q a (top_in-fits (record { mirror = true; up = up }) memory reserved q a mirrored)
+      | inr other ↦ top_in-fits (record { mirror = false; up = up }) memory reserved q a other
+    ]
+
+pub best_in-none : (up : Bool) (memory reserved : Labels) (q : Query) → best_in up memory reserved q ≡ None → (b : ℕ) → b < 2 ^ 64
+    → fits_in false memory reserved q b ≡ false
+unfolding best_in
+best_in-none up memory reserved q h b lt = top_in-none (record { mirror = false; up = up }) memory reserved q
+    (neither (top_in (record { mirror = true; up = up }) memory reserved q) (top_in (record { mirror = false; up = up }) memory reserved q) h) b lt
+
+pub best_in-fails : (up : Bool) (memory reserved : Labels) (q : Query) → ((b : ℕ) → b < 2 ^ 64 → fits_in false memory reserved q b ≡ false)
+    → best_in up memory reserved q ≡ None
+unfolding best_in
+best_in-fails up memory reserved q none =
+    let mirrored : top_in (record { mirror = true; up = up }) memory reserved q ≡ None = top_in-fails (record { mirror = true; up = up }) memory reserved q
+    (λ b lt. unfit true memory reserved q b (none b lt)) in
+    rw mirrored (top_in-fails (record { mirror = false; up = up }) memory reserved q none)
+
+-- where nothing is mirrored it is the top one of any memory
+pub top_in-mirrorless : (up : Bool) (memory reserved : Labels) (q : Query) → ((x : ℕ) → suits true (memory x) ≡ false)
+    → top_in (record { mirror = true; up = up }) memory reserved q ≡ None
+top_in-mirrorless up memory reserved q none = top_in-fails (record { mirror = true; up = up }) memory reserved q
+    (λ b lt. unsuited true memory reserved q b (none b))
+
+pub best_in-plain : (up : Bool) (memory reserved : Labels) (q : Query) → ((x : ℕ) → suits true (memory x) ≡ false)
+    → best_in up memory reserved q ≡ top_in (record { mirror = false; up = up }) memory reserved q
+best_in-plain up memory reserved q none = best_in-other up memory reserved q (top_in-mirrorless up memory reserved q none)
+
+-- and to prove that an address is the best one: where nothing is mirrored, the last one that fits
+pub best_in-last : (memory reserved : Labels) (q : Query) (a : ℕ) → ((x : ℕ) → suits true (memory x) ≡ false)
+    → IsLastBelow (fits_in false memory reserved q) (2 ^ 64) a → best_in false memory reserved q ≡ Some a
+best_in-last memory reserved q a none known = best_in-plain false memory reserved q none ∙ top_in-last false memory reserved q a known

@@ -1,10 +1,10 @@
 -- What a list of items, oldest first, says of one byte and of the whole. An item that a definition doesn't name changes nothing there.
-use Rattle.std.specs.Prelude.{ℕ, ◌<◌, if◌then◌else◌, Option, Some, None, List, [], ◌∷◌, fold}
+use Rattle.std.specs.Prelude.{ℕ, ◌<◌, Bool, false, if◌then◌else◌, Option, Some, None, List, [], ◌∷◌, fold}
 use Rattle.address_runs.specs.Runs.{RunOf, runs_of}
 use Rattle.address_runs.specs.Edits.{covered, uncovered, relabelled, replaced, agree}
 use Rattle.bm_base.specs.Frames.{frame_around}
 use Rattle.bm_base.specs.Each.{each_in}
-use Rattle.memblock_model.specs.Labels.{Labels, plain_label, with_node, tag_for}
+use Rattle.memblock_model.specs.Labels.{Labels, plain_label, with_node, with_mirror, tag_for}
 use Rattle.memblock_model.specs.Same.{same_label, same_owner}
 use Rattle.memblock_model.specs.declared.owner.Owner.{Owner}
 use Rattle.memblock_model.specs.declared.tag.Tag.{Tag}
@@ -15,6 +15,7 @@ use Rattle.memblock_model.specs.declared.item.Item.TheVariants as item
 abbrev pub IsItem : Item → Type 0
 IsItem (item.Mem range) = 0 < range.size
 IsItem (item.Node range node) = 0 < range.size
+IsItem (item.Mirror range) = 0 < range.size
 IsItem (item.Claim range owner) = 0 < range.size
 IsItem (item.Free range) = 0 < range.size
 IsItem i = Unit {0}
@@ -44,11 +45,13 @@ owner_of items = fold owners_after no_owners items
 unfoldable pub trimmed : Labels → Labels
 trimmed f x = if each_in (frame_around x) (λ y. agree same_label (f y) (f x)) then f x else None
 
--- what an item makes of memory and its labels (`memblock_add`, `memblock_trim_memory`, `memblock_set_node`)
+-- what an item makes of memory and its labels (`memblock_add`, `memblock_trim_memory`, `memblock_set_node`,
+-- `memblock_mark_mirror`)
 abbrev pub memory_after : Labels → Item → Labels
 memory_after f (item.Mem range) = covered range plain_label f
 memory_after f item.Trim = trimmed f
 memory_after f (item.Node range node) = relabelled range (with_node (Some node)) f
+memory_after f (item.Mirror range) = relabelled range with_mirror f
 memory_after f i = f
 
 abbrev pub no_memory : Labels
@@ -70,6 +73,14 @@ limit_after l i = l
 
 abbrev pub limit_of : List Item → ℕ
 limit_of items = fold limit_after 0 items
+
+-- whether a search goes from the lowest address up: off at first, then as the newest item says (`memblock_set_bottom_up`)
+abbrev pub upward_after : Bool → Item → Bool
+upward_after up (item.Upward on) = on
+upward_after up i = up
+
+abbrev pub upward_of : List Item → Bool
+upward_of items = fold upward_after false items
 
 -- the runs of bytes of one owner
 unfoldable pub owner_runs_of : List Item → List (RunOf Owner)

@@ -1,11 +1,12 @@
 -- What a byte of memory carries beside being memory: its label. And what a table says of each byte.
-use Rattle.std.specs.Prelude.{ℕ, Option, Some, None}
+use Rattle.std.specs.Prelude.{ℕ, Bool, true, false, Option, Some, None}
 use Rattle.memblock_model.specs.declared.tag.Tag.{Tag}
 use Rattle.memblock_model.specs.declared.tag.Tag.TheVariants as tag
 
--- the node, or none yet (`struct memblock_region`)
+-- the node, or none yet, and whether it is mirrored (`struct memblock_region`: `nid`, `MEMBLOCK_MIRROR` of `flags`)
 pub record Label : Type 0 where
   pub node : Option ℕ
+  pub mirror : Bool
 
 -- what a table says of each byte: not covered, or covered with a label
 abbrev pub Labels : Type 0
@@ -13,18 +14,22 @@ Labels = ℕ → Option Label
 
 -- the label of new memory, and of all that the reserved table covers (`memblock_add`, `memblock_reserve`)
 abbrev pub plain_label : Label
-plain_label = record { node = None }
+plain_label = record { node = None; mirror = false }
 
 -- the label with the node
 abbrev pub with_node : Option ℕ → Label → Label
 with_node node label = record label { node = node }
 
--- the tag of memory of the node
-abbrev pub node_tag : Option ℕ → Tag
-node_tag None = tag.NoNode
-node_tag (Some node) = tag.Node node
+-- the label of memory that is mirrored (`memblock_mark_mirror`)
+abbrev pub with_mirror : Label → Label
+with_mirror label = record label { mirror = true }
 
 -- the tag of a byte of which the memory table says this
 abbrev pub tag_for : Option Label → Tag
 tag_for None = tag.Absent
-tag_for (Some label) = node_tag label.node
+tag_for (Some label) = tag.Memory label.node label.mirror
+
+-- the node that a tag tells, where it tells one
+abbrev pub node_of_tag : Tag → Option ℕ
+node_of_tag tag.Absent = None
+node_of_tag (tag.Memory node mirror) = node

@@ -19,9 +19,15 @@ same_node None (Some n) = false
 same_node (Some m) None = false
 same_node (Some m) (Some n) = m == n
 
+-- both are on, or both off
+abbrev pub same_switch : Bool → Bool → Bool
+same_switch true b = b
+same_switch false true = false
+same_switch false false = true
+
 -- the parts of both labels are the same
 abbrev pub same_label : Label → Label → Bool
-same_label a b = same_node a.node b.node
+same_label a b = same_node a.node b.node && same_switch a.mirror b.mirror
 
 -- the place of the owner's variant in the list of them
 abbrev pub variant_of : Owner → ℕ

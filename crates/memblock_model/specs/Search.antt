@@ -1,12 +1,16 @@
--- Which addresses a search may answer, and the one that it answers (`memblock_find_in_range_node`, from the top down).
+-- Which addresses a search may answer, and the one that it answers (`memblock_find_in_range_node`): from the top down, or from
+-- below up (`__memblock_find_range_top_down`, `__memblock_find_range_bottom_up`); in mirrored memory first (`choose_memblock_flags`).
 use Rattle.std.specs.Prelude.{ℕ, zero, suc, ◌+◌, ◌%◌, ◌^◌, ◌==◌, Bool, true, false, ◌&&◌, nat_le, is_some, is_none, if◌then◌else◌, Option, Some, None, List}
+use Rattle.std.specs.Option.{option_or}
 use Rattle.address_runs.specs.Edits.{agree}
 use Rattle.bm_base.specs.Each.{each_in}
 use Rattle.bm_base.specs.declared.frame.TheConstants.{FRAME_SIZE}
 use Rattle.memblock_model.specs.Labels.{Label, Labels}
 use Rattle.memblock_model.specs.Same.{same_node, same_label}
+use Rattle.memblock_model.specs.Items.{upward_of}
 use Rattle.memblock_model.specs.Tables.{table_of}
 use Rattle.memblock_model.specs.declared.query.Query.{Query}
+use Rattle.memblock_model.specs.declared.mode.Mode.{Mode}
 use Rattle.memblock_model.specs.declared.which.Which.TheVariants as which
 use Rattle.memblock_model.specs.declared.item.Item.{Item}
 
@@ -15,27 +19,52 @@ unfoldable pub last_below : (ℕ → Bool) → ℕ → Option ℕ
 last_below p zero = None
 last_below p (suc n) = if p n then Some n else last_below p n
 
+-- the least number below n that passes the test
+unfoldable pub first_below : (ℕ → Bool) → ℕ → Option ℕ
+first_below p zero = None
+first_below p (suc n) = option_or (first_below p n) (if p n then Some n else None)
+
+-- the least of them, or the greatest
+abbrev pub outermost : Bool → (ℕ → Bool) → ℕ → Option ℕ
+outermost true p n = first_below p n
+outermost false p n = last_below p n
+
 -- whether a byte that carries this may be answered to a query for the node, or for any
 abbrev pub allows : Option ℕ → Option Label → Bool
 allows None carried = true
 allows (Some node) None = false
 allows (Some node) (Some label) = same_node label.node (Some node)
 
+-- whether a byte that carries this may be answered where mirrored memory alone is wanted, or any
+abbrev pub suits : Bool → Option Label → Bool
+suits false carried = true
+suits true None = false
+suits true (Some label) = label.mirror
+
 -- the address is aligned and in the window, not in the first frame, and all bytes of the place are memory of one label, whose node
--- is allowed, and unclaimed
-unfoldable pub fits_in : Labels → Labels → Query → ℕ → Bool
-fits_in memory reserved q a =
+-- is allowed and which is mirrored where that is wanted, and unclaimed
+unfoldable pub fits_in : Bool → Labels → Labels → Query → ℕ → Bool
+fits_in mirror memory reserved q a =
     (a % q.align == 0) && nat_le q.lo a && nat_le FRAME_SIZE a && nat_le (a + q.size) q.hi
-    && is_some (memory a) && allows q.node (memory a)
+    && is_some (memory a) && allows q.node (memory a) && suits mirror (memory a)
     && each_in (record { base = a; size = q.size }) (λ x. agree same_label (memory x) (memory a) && is_none (reserved x))
 
--- the greatest address that fits
-unfoldable pub best_in : Labels → Labels → Query → Option ℕ
-best_in memory reserved q = last_below (fits_in memory reserved q) (2 ^ 64)
+-- the greatest address that fits, or the least where the search goes up
+unfoldable pub top_in : Mode → Labels → Labels → Query → Option ℕ
+top_in mode memory reserved q = outermost mode.up (fits_in mode.mirror memory reserved q) (2 ^ 64)
 
--- the same of what the items say
-unfoldable pub fits : List Item → Query → ℕ → Bool
-fits items q a = fits_in (table_of which.Memory items) (table_of which.Reserved items) q a
+-- such an address in mirrored memory, or in any where none fits there. Where nothing is mirrored nothing fits there
+unfoldable pub best_in : Bool → Labels → Labels → Query → Option ℕ
+best_in up memory reserved q =
+    option_or (top_in (record { mirror = true; up = up }) memory reserved q) (top_in (record { mirror = false; up = up }) memory reserved q)
+
+-- the same of what the items say, in the direction that they set
+unfoldable pub fits : List Item → Query → Bool → ℕ → Bool
+fits items q mirror a = fits_in mirror (table_of which.Memory items) (table_of which.Reserved items) q a
+
+unfoldable pub top : List Item → Query → Bool → Option ℕ
+top items q mirror =
+    top_in (record { mirror = mirror; up = upward_of items }) (table_of which.Memory items) (table_of which.Reserved items) q
 
 unfoldable pub best : List Item → Query → Option ℕ
-best items q = best_in (table_of which.Memory items) (table_of which.Reserved items) q
+best items q = best_in (upward_of items) (table_of which.Memory items) (table_of which.Reserved items) q

@@ -6,26 +6,30 @@ use crate::tag::Tag;
 use address_runs::Told;
 use std::marker::Model;
 
-/// What a table says of the bytes that a record covers: the node, or none yet.
+/// The flags of mirrored memory in a record of a table (`MEMBLOCK_MIRROR`). Those of other memory are 0.
+pub const MIRROR_FLAG: u32 = 2;
+
+/// What a table says of the bytes that a record covers: the node, or none yet, and whether they are mirrored.
 ///
-/// A node's number is below 1,024 (`MAX_NUMNODES` of x86-64 at its greatest). That is held here, for
-/// every record of every table: contracts see no bound, and code can't make a label without it.
+/// A node's number is below 1,024 (`MAX_NUMNODES` of x86-64 at its greatest), and the flags are [`MIRROR_FLAG`] or 0. That is
+/// held here, for every record of every table: contracts see no bound, and code can't make a label without it.
 #[derive(Clone, Copy, Debug, PartialEq, Eq)]
 pub struct Label {
-    pub node: Option<u32>,
+    node: Option<u32>,
+    flags: u32,
 }
 
 impl Model for Label {
-    ghost use Rattle.std.specs.Prelude.{◌<◌, unwrap_or};
+    ghost use Rattle.std.specs.Prelude.{◌≡◌, ◌<◌, ◌==◌, if◌then◌else◌, unwrap_or};
     ghost use Rattle.memblock_model.specs.Labels.{Label as AnyLabel};
 
     ghost Value = { AnyLabel };
 
-    ghost view = { λ l. record { node = l.node } };
+    ghost view = { λ l. record { node = l.node; mirror = l.flags == 2 } };
 
-    ghost invariant = { λ l. unwrap_or l.node 0 < 1024 };
+    ghost invariant = { λ l. (unwrap_or l.node 0 < 1024) × (l.flags ≡ (if l.flags == 2 then 2 else 0)) };
 
-    ghost inverse = { λ l. record { node = l.node } };
+    ghost inverse = { λ l. record { node = l.node; flags = if l.mirror then 2 else 0 } };
 }
 
 impl Told for Label {
@@ -35,14 +39,27 @@ impl Told for Label {
 }
 
 impl Label {
-    ghost use Rattle.std.specs.Prelude.{◌≡◌, ◌<◌, Option, Some};
-    ghost use Rattle.memblock_model.specs.Labels.{plain_label, with_node};
+    ghost use Rattle.std.specs.Prelude.{◌≡◌, ◌<◌, ◌==◌, if◌then◌else◌, Option, Some, unwrap_or};
+    ghost use Rattle.memblock_model.specs.Labels.{plain_label, with_node, with_mirror};
 
-    /// The label of new memory: no node.
+    /// The label of new memory: no node, and not mirrored.
     pub fn plain() -> Label
         ensures { result ≡ plain_label }
     {
-        Label { node: None }
+        Label {
+            node: None,
+            flags: 0,
+        }
+    }
+
+    /// The label of memory of the node, which is below 1,024, or of none, that has the flags, mirrored where they are
+    /// [`MIRROR_FLAG`].
+    pub fn of(node: Option<u32>, flags: u32) -> Label
+        requires { unwrap_or node 0 < 1024 }
+        ensures { result ≡ record { node = node; mirror = flags == 2 } }
+    {
+        let flags = if flags == MIRROR_FLAG { MIRROR_FLAG } else { 0 };
+        Label { node, flags }
     }
 
     /// The same label with the node, which is below 1,024.
@@ -50,7 +67,20 @@ impl Label {
         requires { node < 1024 }
         ensures { result ≡ with_node (Some node) self }
     {
-        Label { node: Some(node) }
+        Label {
+            node: Some(node),
+            flags: self.flags,
+        }
+    }
+
+    /// The same label of mirrored memory.
+    pub fn with_mirror(self) -> Label
+        ensures { result ≡ with_mirror self }
+    {
+        Label {
+            node: self.node,
+            flags: MIRROR_FLAG,
+        }
     }
 
     /// The node, or none yet.
@@ -59,12 +89,27 @@ impl Label {
     {
         self.node
     }
+
+    /// Whether it is mirrored.
+    pub fn mirror(self) -> bool
+        ensures { result ≡ self.mirror }
+    {
+        self.flags == MIRROR_FLAG
+    }
+
+    /// Its flags: [`MIRROR_FLAG`] of mirrored memory, else 0.
+    pub fn flags(self) -> u32
+        ensures { result ≡ (if self.mirror then 2 else 0) }
+    {
+        self.flags
+    }
 }
 
 /// What the items say of a byte of memory: the fields of a label, but that a node may be any number, as a journal takes it.
 #[derive(Clone, Copy, PartialEq, Eq)]
 pub struct Marks {
     node: Option<u32>,
+    mirror: bool,
 }
 
 impl Model for Marks {
@@ -72,36 +117,52 @@ impl Model for Marks {
 
     ghost Value = { AnyLabel };
 
-    ghost view = { λ m. record { node = m.node } };
+    ghost view = { λ m. record { node = m.node; mirror = m.mirror } };
 
-    ghost inverse = { λ l. record { node = l.node } };
+    ghost inverse = { λ l. record { node = l.node; mirror = l.mirror } };
 }
 
 impl Marks {
     ghost use Rattle.std.specs.Prelude.{◌≡◌, Some};
-    ghost use Rattle.memblock_model.specs.Labels.{plain_label, tag_for, with_node};
+    ghost use Rattle.memblock_model.specs.Labels.{plain_label, tag_for, with_node, with_mirror};
 
     /// Those of new memory.
     pub fn plain() -> Marks
         ensures { result ≡ plain_label }
     {
-        Marks { node: None }
+        Marks {
+            node: None,
+            mirror: false,
+        }
     }
 
     /// The same with the node.
     pub fn with_node(self, node: u32) -> Marks
         ensures { result ≡ with_node (Some node) self }
     {
-        Marks { node: Some(node) }
+        Marks {
+            node: Some(node),
+            ..self
+        }
+    }
+
+    /// The same of mirrored memory.
+    pub fn with_mirror(self) -> Marks
+        ensures { result ≡ with_mirror self }
+    {
+        Marks {
+            mirror: true,
+            ..self
+        }
     }
 
     /// The tag of a byte that carries these.
     pub fn tag(self) -> Tag
         ensures { result ≡ tag_for (Some self) }
     {
-        match self.node {
-            None => Tag::NoNode,
-            Some(node) => Tag::Node(node),
+        Tag::Memory {
+            node: self.node,
+            mirror: self.mirror,
         }
     }
 }

@@ -10,7 +10,7 @@
 //! (`specs/Labels.antt`): one more part of it is one more field there, in its test of sameness
 //! (`specs/Same.antt`), and in the item that sets it; every law here stays.
 //!
-//! [`Item`], [`Owner`], [`Label`], [`Marks`], [`Tag`], [`Which`], [`OwnerRun`] and [`Query`] are plain data. They stand
+//! [`Item`], [`Owner`], [`Label`], [`Marks`], [`Tag`], [`Which`], [`OwnerRun`], [`Query`] and [`Mode`] are plain data. They stand
 //! here, below the crates that keep and answer them, because the definitions speak of them.
 //!
 //! The functions are laws over the definitions: they do nothing, and their contracts are proved.
@@ -19,6 +19,7 @@
 mod item;
 mod label;
 mod laws;
+mod mode;
 mod owner;
 mod query;
 mod run;
@@ -26,11 +27,12 @@ mod tag;
 mod which;
 
 pub use item::Item;
-pub use label::{Label, Marks};
+pub use label::{Label, MIRROR_FLAG, Marks};
 pub use laws::{
-    best_is_greatest, item_at_the_end, lists_are_runs, tables_go_by_themselves, tests_tell,
-    trimmed_frame_is_whole,
+    best_is_mirrored_first, item_at_the_end, lists_are_runs, tables_go_by_themselves, tests_tell,
+    top_is_outermost, trimmed_frame_is_whole,
 };
+pub use mode::Mode;
 pub use owner::Owner;
 pub use query::Query;
 pub use run::OwnerRun;

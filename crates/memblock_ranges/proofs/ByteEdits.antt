@@ -92,7 +92,7 @@ pub put_table : (s t : List Stored) (place room count i at n : ℕ) (r : RunOf L
 put_table s t place room count i at n r bs table less fits is w here size =
     let f = byte_of s in
     let g = byte_of t in
-    let long : length bs ≡ 24 = ap length is ∙ length-fields_of r.base r.size _ in
+    let long : length bs ≡ 24 = ap length is ∙ length-fields_of r.base r.size _ _ in
     let count_is : n ≡ 24 = size ∙ long in
     let off : (x : ℕ) → IsTrue (nat_lt x (place + 24 * i) || nat_le (place + 24 * i + 24) x) → g x ≡ f x =
     λ x beside. w.outside x (rw (here, count_is) beside) in
@@ -136,7 +136,7 @@ pub insert_table : (s t u : List Stored) (place room count i to rest at n : ℕ)
 insert_table s t u place room count i to rest at n r bs table less space fits is v w here there left size =
     let f = byte_of s in
     let g = byte_of u in
-    let long : length bs ≡ 24 = ap length is ∙ length-fields_of r.base r.size _ in
+    let long : length bs ≡ 24 = ap length is ∙ length-fields_of r.base r.size _ _ in
     let count_is : n ≡ 24 = size ∙ long in
     let few = table.few in
     let moved : (k : ℕ) → k < 24 * (count - i) → g (place + 24 * i + 24 + k) ≡ f (place + 24 * i + k) = λ k in_it.

@@ -1,16 +1,16 @@
 -- Small tables, computed or by the laws: what the definitions say of bytes, of one table and of both.
-use Rattle.std.proofs.Common.{◌≡◌, ℕ, ◌-◌, ◌^◌, ◌<◌, ◌≤◌, ◌&&◌, Some, None, List, [], ◌∷◌, ◌++◌, length, replicate, refl, sym, ◌∙◌, ap, arith, IsTrue}
+use Rattle.std.proofs.Common.{◌≡◌, ℕ, ◌-◌, ◌^◌, ◌<◌, ◌≤◌, ◌&&◌, true, false, Some, None, List, [], ◌∷◌, ◌++◌, length, replicate, refl, sym, ◌∙◌, ap, arith, IsTrue}
 use Rattle.bm_base.specs.Extent.{covers}
 use Rattle.address_runs.proofs.RunsLaws.{behind}
 use Rattle.std.proofs.lemmas.Bool.Decides.{nat_tests}
 use Rattle.phys_store.specs.Bytes.{Stored, byte_of, bytes_at}
-use Rattle.address_runs.specs.Runs.{RunOf}
-use Rattle.memblock_model.specs.Labels.{Label, plain_label}
+use Rattle.address_runs.specs.Runs.{RunOf, AreRuns}
+use Rattle.memblock_model.specs.Labels.{Label, plain_label, with_node, with_mirror}
 use Rattle.memblock_model.specs.declared.which.Which.TheVariants as which
 use Rattle.memblock_model.specs.declared.owner.Owner.TheVariants as owner
 use Rattle.memblock_model.specs.declared.item.Item.TheVariants as item
 use Rattle.memblock_ranges.specs.declared.region.Head.{Head}
-use Rattle.memblock_ranges.specs.Spelling.{base_in, size_in, flags_in, node_in, region_in, fields_of, label_of, node_field, run_in, region_of, spelling_of, records_at, spelled_table, FitsRecord, IsRecord}
+use Rattle.memblock_ranges.specs.Spelling.{base_in, size_in, flags_in, node_in, region_in, fields_of, node_of_field, label_of, flags_field, node_field, run_in, region_of, spelling_of, records_at, spelled_table, FitsRecord, IsRecord}
 use Rattle.memblock_ranges.specs.Tables.{outside, kept_of, list_in, HasTable, Edits, AreRecords, Table, Contents, table_in, other_in, records_in, place_in, room_in, bytes_of, bytes_in, Overlaps, head_of, StandsIn, IsNodeOf, HaveNoNode, table_by, bytes_by, AreTables, Moves}
 use Rattle.memblock_ranges.specs.Lent.{runs_in, AreLent}
 use Rattle.memblock_ranges.specs.Steps.{EndsInSpace}
@@ -23,10 +23,17 @@ abbrev first_record : List ℕ
 first_record = 0 ∷ 0x10 ∷ 0 ∷ 0 ∷ 0 ∷ 0 ∷ 0 ∷ 0 ∷ 0 ∷ 0xE0 ∷ 9 ∷ 0 ∷ 0 ∷ 0 ∷ 0 ∷ 0 ∷ 0 ∷ 0 ∷ 0 ∷ 0 ∷ 0 ∷ 0 ∷ 0 ∷ 0 ∷ []
 
 abbrev in_node_0 : Label
-in_node_0 = record { node = Some 0 }
+in_node_0 = with_node (Some 0) plain_label
 
 abbrev first_run : RunOf Label
 first_run = record { base = 0x1000; size = 0x9E000; value = in_node_0 }
+
+-- the same memory, mirrored: its flags, at 16, are 2
+abbrev mirrored_record : List ℕ
+mirrored_record = 0 ∷ 0x10 ∷ 0 ∷ 0 ∷ 0 ∷ 0 ∷ 0 ∷ 0 ∷ 0 ∷ 0xE0 ∷ 9 ∷ 0 ∷ 0 ∷ 0 ∷ 0 ∷ 0 ∷ 2 ∷ 0 ∷ 0 ∷ 0 ∷ 0 ∷ 0 ∷ 0 ∷ 0 ∷ []
+
+abbrev mirrored_run : RunOf Label
+mirrored_run = record { base = 0x1000; size = 0x9E000; value = with_mirror in_node_0 }
 
 -- a record of the reserved table
 abbrev kernel_run : RunOf Label
@@ -34,8 +41,9 @@ kernel_run = record { base = 0x1000000; size = 0x2000000; value = plain_label }
 
 number_examples : (base_in first_record ≡ 0x1000) × (size_in first_record ≡ 0x9E000) × (flags_in first_record ≡ 0)
     × (node_in first_record ≡ 0)
+    × (flags_in mirrored_record ≡ 2)
 unfolding base_in size_in flags_in node_in
-number_examples = (refl, refl, refl, refl)
+number_examples = (refl, refl, refl, refl, refl)
 
 reserved_numbers : (base_in (spelling_of kernel_run) ≡ 0x1000000) × (size_in (spelling_of kernel_run) ≡ 0x2000000)
     × (flags_in (spelling_of kernel_run) ≡ 0)
@@ -43,51 +51,65 @@ reserved_numbers : (base_in (spelling_of kernel_run) ≡ 0x1000000) × (size_in 
 unfolding base_in size_in flags_in node_in fields_of
 reserved_numbers = (refl, refl, refl, refl)
 
-region_examples : (region_in first_record ≡ region_of first_run)
+region_examples : (region_in first_record ≡ region_of first_run) × (region_in mirrored_record ≡ region_of mirrored_run)
     × (region_of kernel_run ≡ record { base = 0x1000000; size = 0x2000000; flags = 0; node = 1024 })
 unfolding base_in size_in flags_in node_in
-region_examples = (refl, refl)
+region_examples = (refl, refl, refl)
 
-spelling_examples : (spelling_of first_run ≡ first_record) × (fields_of 0x1000 0x9E000 0 ≡ first_record)
+spelling_examples : (spelling_of first_run ≡ first_record) × (spelling_of mirrored_run ≡ mirrored_record)
+    × (fields_of 0x1000 0x9E000 2 0 ≡ mirrored_record)
 unfolding fields_of
-spelling_examples = (refl, refl)
+spelling_examples = (refl, refl, refl)
 
-run_examples : (run_in first_record ≡ first_run) × (run_in (spelling_of kernel_run) ≡ kernel_run)
-unfolding base_in size_in node_in fields_of
-run_examples = (refl, refl)
+run_examples : (run_in first_record ≡ first_run) × (run_in mirrored_record ≡ mirrored_run) × (run_in (spelling_of kernel_run) ≡ kernel_run)
+unfolding base_in size_in flags_in node_in fields_of
+run_examples = (refl, refl, refl)
 
--- 1,024 means no node, in both directions
-label_examples : (label_of 0 ≡ in_node_0) × (label_of 1024 ≡ plain_label) × (node_field in_node_0 ≡ 0) × (node_field plain_label ≡ 1024)
+-- 1,024 means no node, and 2 mirrored, in both directions
+node_field_examples : (node_of_field 1023 ≡ Some 1023) × (node_of_field 1024 ≡ None) × (node_field in_node_0 ≡ 0)
+    × (node_field plain_label ≡ 1024)
+node_field_examples = (refl, refl, refl, refl)
+
+label_examples : (label_of 0 0 ≡ in_node_0) × (label_of 0 1024 ≡ plain_label) × (label_of 2 1024 ≡ with_mirror plain_label)
+    × (label_of 1 1024 ≡ plain_label)
 label_examples = (refl, refl, refl, refl)
 
-fits_examples : FitsRecord first_run × FitsRecord kernel_run
+flags_examples : (flags_field plain_label ≡ 0) × (flags_field (with_mirror in_node_0) ≡ 2)
+flags_examples = (refl, refl)
+
+fits_examples : FitsRecord first_run × FitsRecord mirrored_run × FitsRecord kernel_run
 fits_examples = (
+  record { small = omega arith; node = omega arith; back = refl },
   record { small = omega arith; node = omega arith; back = refl },
   record { small = omega arith; node = omega arith; back = refl },
 )
 
 -- a label of node 1,024 would be read back as one without a node, and an end of 2^64 has no record
-no_fit : ¬ FitsRecord (record { base = 0; size = 1; value = record { node = Some 1024 } })
+no_fit : ¬ FitsRecord (record { base = 0; size = 1; value = with_node (Some 1024) plain_label })
     × ¬ FitsRecord (record { base = 1; size = 2 ^ 64 - 1; value = plain_label })
 no_fit = (
   (λ fits. let clash : None ≡ Some 1024 = ap (λ (l : Label). l.node) fits.back in cc clash),
   λ fits. absurd (omega (arith, fits.small)),
 )
 
-record_examples : IsRecord (spelling_of first_run) × IsRecord (spelling_of kernel_run)
-record_examples = (is_record first_run fits_examples.0, is_record kernel_run fits_examples.1)
+record_examples : IsRecord (spelling_of first_run) × IsRecord (spelling_of mirrored_run) × IsRecord (spelling_of kernel_run)
+record_examples = (
+  is_record first_run fits_examples.0,
+  is_record mirrored_run fits_examples.1,
+  is_record kernel_run fits_examples.2,
+)
 
--- no bytes are no record
-no_record : ¬ IsRecord []
-unfolding fields_of
-no_record known = cc known.spells
+-- no bytes are no record, and other flags than 0 and 2 aren't those of one
+no_record : ¬ IsRecord [] × ¬ IsRecord (fields_of 0x1000 0x9E000 1 0)
+unfolding fields_of flags_in node_in
+no_record = ((λ known. cc known.spells), λ known. let clash : 1 ≡ 0 = known.flags in absurd (omega arith))
 
 -- two records side by side, and a table of no record
 abbrev two : List Stored
 two = record { base = 0; bytes = first_record ++ first_record } ∷ []
 
 two_records : (records_at (byte_of two) 0 2 ≡ first_run ∷ (first_run ∷ [])) × (records_at (byte_of two) 0 0 ≡ [])
-unfolding records_at bytes_at base_in size_in node_in
+unfolding records_at bytes_at base_in size_in flags_in node_in
 two_records = (refl, refl)
 
 table_examples : (spelled_table (first_run ∷ []) 2 ≡ first_record ++ replicate 24 0) × (spelled_table [] 1 ≡ replicate 24 0)
@@ -103,7 +125,7 @@ ordered = (
 
 -- the bytes of one record, and none, as they are lent
 lent_examples : (runs_in first_record 1 ≡ first_run ∷ []) × (runs_in [] 0 ≡ [])
-unfolding records_at bytes_at base_in size_in node_in
+unfolding records_at bytes_at base_in size_in flags_in node_in
 lent_examples = (refl, refl)
 
 nothing_lent : AreLent [] 0
@@ -151,7 +173,7 @@ kept_examples : ((kept_of two (nowhere 5)).room ≡ 0) × ((kept_of two (nowhere
 kept_examples = (refl, refl, refl)
 
 list_examples : (list_in two (record { place = 0; room = 2; count = 1 }) ≡ first_run ∷ []) × (list_in two (nowhere 5) ≡ [])
-unfolding records_at bytes_at base_in size_in node_in
+unfolding records_at bytes_at base_in size_in flags_in node_in
 list_examples = (refl, refl)
 
 -- to edit nothing is an edit
@@ -160,6 +182,14 @@ no_edit = record { list_is = refl; table = empty_table.0; place_is = refl; room_
 
 touching : ¬ AreRecords (first_run ∷ record { base = 0x9F000; size = 1; value = in_node_0 } ∷ [])
 touching known = known.runs.1.1 refl refl
+
+-- records that touch and differ in the mirror alone are in order
+parted : AreRuns (first_run ∷ record { base = 0x9F000; size = 1; value = with_mirror in_node_0 } ∷ [])
+parted = (
+  omega arith,
+  (omega arith, λ touch same. let clash : false ≡ true = ap (λ (l : Label). l.mirror) same in cc clash),
+  (omega arith, tt, tt),
+)
 
 -- both tables
 abbrev memory : Table
@@ -233,4 +263,5 @@ moving = record {
 
 space_examples : EndsInSpace (item.Claim (record { base = 0x1000; size = 0x1000 }) owner.Kernel) × EndsInSpace item.Trim
     × ¬ EndsInSpace (item.Free (record { base = 1; size = 2 ^ 64 }))
-space_examples = (omega arith, tt, λ ends. absurd (omega (arith, ends)))
+    × ¬ EndsInSpace (item.Mirror (record { base = 1; size = 2 ^ 64 }))
+space_examples = (omega arith, tt, (λ ends. absurd (omega (arith, ends))), λ ends. absurd (omega (arith, ends)))

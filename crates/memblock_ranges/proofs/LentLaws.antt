@@ -8,7 +8,7 @@ use Rattle.phys_store.proofs.ByteLists.{length-bytes_at, get-bytes_at, told_byte
 use Rattle.address_runs.specs.Runs.{RunOf}
 use Rattle.memblock_model.specs.Labels.{Label}
 use Rattle.memblock_ranges.specs.declared.region.Head.{Head}
-use Rattle.memblock_ranges.specs.Spelling.{node_in, label_of, region_in, region_of, run_in, records_at, FitsRecord, IsRecord}
+use Rattle.memblock_ranges.specs.Spelling.{flags_in, node_in, label_of, region_in, region_of, run_in, records_at, node_field, FitsRecord, IsRecord}
 use Rattle.memblock_ranges.specs.Tables.{HasTable, AreRecords, list_in}
 use Rattle.memblock_ranges.specs.Lent.{runs_in, AreLent}
 use Rattle.memblock_ranges.proofs.SpellLaws.{length-records_at, get-records_at}
@@ -67,8 +67,13 @@ record_is bs count i r lent less =
 
 run_fits : (bs : List ℕ) → IsRecord bs → FitsRecord (run_in bs)
 run_fits bs known =
-    let back = node_field-label_of (node_in bs) in
-    record { small = known.within; node = omega (arith, back, known.node); back = ap label_of back }
+    let back = node_field-label_of (flags_in bs) (node_in bs) in
+    record {
+      small = known.within;
+      node = omega (arith, back, known.node);
+      back = ap (λ (flags : ℕ). label_of flags (node_field (label_of (flags_in bs) (node_in bs)))) (sym known.flags)
+          ∙ ap (label_of (flags_in bs)) back;
+    }
 
 pub record_fits : (bs : List ℕ) (count i : ℕ) (r : RunOf Label) → AreLent bs count → i < count
     → FitsRecord (get_or (runs_in bs count) i r)

@@ -1,5 +1,6 @@
 -- Records as bytes: where they stand, and that what was written is read back.
-use Rattle.std.proofs.Common.{◌≡◌, ℕ, zero, suc, ◌+◌, ◌*◌, ◌^◌, ◌<◌, List, [], ◌∷◌, ◌++◌, length, get_or, drop, refl, sym, ◌∙◌, ap, arith, length-append, append_assoc}
+use Rattle.std.proofs.Common.{◌≡◌, ℕ, zero, suc, ◌+◌, ◌*◌, ◌^◌, ◌<◌, ◌≤◌, List, [], ◌∷◌, ◌++◌, length, get_or, drop, refl, sym, ◌∙◌, ap, subst, inl, inr, arith, length-append, append_assoc}
+use Rattle.std.proofs.lemmas.Bool.{cases_Bool}
 use Rattle.std.proofs.lemmas.List.{drop_at}
 use Rattle.byteorder.specs.Endian.{little_number, little_bytes}
 use Rattle.byteorder.specs.Numbers.{little_number-reads_back, length-bytes_low_first}
@@ -7,7 +8,8 @@ use Rattle.phys_store.specs.Bytes.{bytes_at}
 use Rattle.phys_store.proofs.ByteLists.{length-bytes_at, get-bytes_at, told_bytes}
 use Rattle.address_runs.specs.Runs.{RunOf}
 use Rattle.memblock_model.specs.Labels.{Label}
-use Rattle.memblock_ranges.specs.Spelling.{base_in, size_in, flags_in, node_in, fields_of, node_field, run_in, spelling_of, records_at, FitsRecord, IsRecord}
+use Rattle.memblock_ranges.specs.declared.region.Region.{Region}
+use Rattle.memblock_ranges.specs.Spelling.{base_in, size_in, flags_in, node_in, region_in, fields_of, label_of, flags_field, node_field, run_in, region_of, spelling_of, records_at, FitsRecord, IsRecord}
 
 -- the same bytes at two places
 pub same_bytes : (f g : ℕ → ℕ) (a b n : ℕ) → ((k : ℕ) → k < n → g (b + k) ≡ f (a + k)) → bytes_at g b n ≡ bytes_at f a n
@@ -54,19 +56,19 @@ long8 n = length-bytes_low_first 0 8 n
 long4 : (n : ℕ) → length (little_bytes 4 n) ≡ 4
 long4 n = length-bytes_low_first 0 4 n
 
-pub length-fields_of : (base size node : ℕ) → length (fields_of base size node) ≡ 24
+pub length-fields_of : (base size flags node : ℕ) → length (fields_of base size flags node) ≡ 24
 unfolding fields_of
-length-fields_of base size node =
-    let a = long8 base in let b = long8 size in let c = long4 0 in let d = long4 node in
+length-fields_of base size flags node =
+    let a = long8 base in let b = long8 size in let c = long4 flags in let d = long4 node in
     omega (
       arith,
       a,
       b,
       c,
       d,
-      length-append (little_bytes 8 base) (little_bytes 8 size ++ (little_bytes 4 0 ++ little_bytes 4 node)),
-      length-append (little_bytes 8 size) (little_bytes 4 0 ++ little_bytes 4 node),
-      length-append (little_bytes 4 0) (little_bytes 4 node),
+      length-append (little_bytes 8 base) (little_bytes 8 size ++ (little_bytes 4 flags ++ little_bytes 4 node)),
+      length-append (little_bytes 8 size) (little_bytes 4 flags ++ little_bytes 4 node),
+      length-append (little_bytes 4 flags) (little_bytes 4 node),
     )
 
 behind_two : (a b rest : List ℕ) → length a ≡ 8 → length b ≡ 8 → drop 16 (a ++ (b ++ rest)) ≡ rest
@@ -78,51 +80,71 @@ behind_three a b c rest first second third =
     ap (λ (l : List ℕ). drop 20 (a ++ l)) (sym (append_assoc b c rest)) ∙ ap (drop 20) (sym (append_assoc a (b ++ c) rest))
     ∙ drop_at (a ++ (b ++ c)) rest 20 (omega (arith, first, second, third, length-append a (b ++ c), length-append b c))
 
-behind_base : (base size node : ℕ) → drop 8 (fields_of base size node) ≡ little_bytes 8 size ++ (little_bytes 4 0 ++ little_bytes 4 node)
+behind_base : (base size flags node : ℕ) → drop 8 (fields_of base size flags node) ≡ little_bytes 8 size ++ (little_bytes 4 flags ++ little_bytes 4 node)
 unfolding fields_of
-behind_base base size node = drop_at (little_bytes 8 base) (little_bytes 8 size ++ (little_bytes 4 0 ++ little_bytes 4 node)) 8 (long8 base)
+behind_base base size flags node = drop_at (little_bytes 8 base) (little_bytes 8 size ++ (little_bytes 4 flags ++ little_bytes 4 node)) 8 (long8 base)
 
-behind_size : (base size node : ℕ) → drop 16 (fields_of base size node) ≡ little_bytes 4 0 ++ little_bytes 4 node
+behind_size : (base size flags node : ℕ) → drop 16 (fields_of base size flags node) ≡ little_bytes 4 flags ++ little_bytes 4 node
 unfolding fields_of
-behind_size base size node = behind_two (little_bytes 8 base) (little_bytes 8 size) (little_bytes 4 0 ++ little_bytes 4 node) (long8 base)
+behind_size base size flags node = behind_two (little_bytes 8 base) (little_bytes 8 size) (little_bytes 4 flags ++ little_bytes 4 node) (long8 base)
     (long8 size)
 
-behind_flags : (base size node : ℕ) → drop 20 (fields_of base size node) ≡ little_bytes 4 node
+behind_flags : (base size flags node : ℕ) → drop 20 (fields_of base size flags node) ≡ little_bytes 4 node
 unfolding fields_of
-behind_flags base size node =
-    behind_three (little_bytes 8 base) (little_bytes 8 size) (little_bytes 4 0) (little_bytes 4 node) (long8 base) (long8 size) (long4 0)
+behind_flags base size flags node =
+    behind_three (little_bytes 8 base) (little_bytes 8 size) (little_bytes 4 flags) (little_bytes 4 node) (long8 base) (long8 size) (long4 flags)
 
 -- what was written is read back
-pub base-fields_of : (base size node : ℕ) → base < 2 ^ 64 → base_in (fields_of base size node) ≡ base
+pub base-fields_of : (base size flags node : ℕ) → base < 2 ^ 64 → base_in (fields_of base size flags node) ≡ base
 unfolding base_in fields_of
-base-fields_of base size node small = little_number-reads_back 8 base
-    (little_bytes 8 size ++ (little_bytes 4 0 ++ little_bytes 4 node)) small
+base-fields_of base size flags node small = little_number-reads_back 8 base
+    (little_bytes 8 size ++ (little_bytes 4 flags ++ little_bytes 4 node)) small
 
-pub size-fields_of : (base size node : ℕ) → size < 2 ^ 64 → size_in (fields_of base size node) ≡ size
+pub size-fields_of : (base size flags node : ℕ) → size < 2 ^ 64 → size_in (fields_of base size flags node) ≡ size
 unfolding size_in
-size-fields_of base size node small =
-    ap (little_number 8) (behind_base base size node) ∙ little_number-reads_back 8 size (little_bytes 4 0 ++ little_bytes 4 node) small
+size-fields_of base size flags node small =
+    ap (little_number 8) (behind_base base size flags node) ∙ little_number-reads_back 8 size (little_bytes 4 flags ++ little_bytes 4 node) small
 
-pub flags-fields_of : (base size node : ℕ) → flags_in (fields_of base size node) ≡ 0
+pub flags-fields_of : (base size flags node : ℕ) → flags < 2 ^ 32 → flags_in (fields_of base size flags node) ≡ flags
 unfolding flags_in
-flags-fields_of base size node =
-    ap (little_number 4) (behind_size base size node) ∙ little_number-reads_back 4 0 (little_bytes 4 node) (omega arith)
+flags-fields_of base size flags node small =
+    ap (little_number 4) (behind_size base size flags node) ∙ little_number-reads_back 4 flags (little_bytes 4 node) small
 
-pub node-fields_of : (base size node : ℕ) → node < 2 ^ 32 → node_in (fields_of base size node) ≡ node
+pub node-fields_of : (base size flags node : ℕ) → node < 2 ^ 32 → node_in (fields_of base size flags node) ≡ node
 unfolding node_in
-node-fields_of base size node small =
-    ap (little_number 4) (behind_flags base size node) ∙ little_number-reads_back 4 node [] small
+node-fields_of base size flags node small =
+    ap (little_number 4) (behind_flags base size flags node) ∙ little_number-reads_back 4 node [] small
+
+-- the flags of a label are few
+few_flags : (label : Label) → flags_field label ≤ 2
+few_flags label = elim (cases_Bool label.mirror) as (λ _. flags_field label ≤ 2) [
+  | inl on ↦ rw on (omega arith)
+  | inr off ↦ rw off (omega arith)
+]
+
+-- all that a record's bytes say is read back
+read_back : (r : RunOf Label) → FitsRecord r → region_in (spelling_of r) ≡ region_of r
+read_back r fits =
+    let few = few_flags r.value in
+    let f = flags_field r.value in
+    let n = node_field r.value in
+    let base = base-fields_of r.base r.size f n (omega (arith, fits.small)) in
+    let size = size-fields_of r.base r.size f n (omega (arith, fits.small)) in
+    let flags = flags-fields_of r.base r.size f n (omega (arith, few)) in
+    let node = node-fields_of r.base r.size f n (omega (arith, fits.node)) in
+    λ j. record { base = base j; size = size j; flags = flags j; node = node j }
 
 pub run_back : (r : RunOf Label) → FitsRecord r → run_in (spelling_of r) ≡ r
 run_back r fits =
-    let base = base-fields_of r.base r.size (node_field r.value) (omega (arith, fits.small)) in
-    let size = size-fields_of r.base r.size (node_field r.value) (omega (arith, fits.small)) in
-    let node = node-fields_of r.base r.size (node_field r.value) (omega (arith, fits.node)) in
-    rw (base, size, node) (ap (λ (l : Label). record { base = r.base; size = r.size; value = l }) fits.back)
+    ap (λ (g : Region). record { base = g.base; size = g.size; value = label_of g.flags g.node }) (read_back r fits)
+    ∙ ap (λ (l : Label). record { base = r.base; size = r.size; value = l }) fits.back
 
 pub is_record : (r : RunOf Label) → FitsRecord r → IsRecord (spelling_of r)
 is_record r fits =
-    let base = base-fields_of r.base r.size (node_field r.value) (omega (arith, fits.small)) in
-    let size = size-fields_of r.base r.size (node_field r.value) (omega (arith, fits.small)) in
-    let node = node-fields_of r.base r.size (node_field r.value) (omega (arith, fits.node)) in
-    record { spells = rw (base, size, node) refl; within = omega (arith, base, size, fits.small); node = omega (arith, node, fits.node) }
+    let is = read_back r fits in
+    record {
+      spells = sym (ap (λ (g : Region). fields_of g.base g.size g.flags g.node) is);
+      within = subst (λ (g : Region). g.base + g.size < 2 ^ 64) (sym is) fits.small;
+      flags = ap (λ (g : Region). g.flags) is ∙ sym (ap (λ (l : Label). flags_field l) (ap (λ (g : Region). label_of g.flags g.node) is ∙ fits.back));
+      node = subst (λ (g : Region). g.node ≤ 1024) (sym is) fits.node;
+    }

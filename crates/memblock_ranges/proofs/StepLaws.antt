@@ -9,7 +9,7 @@ use Rattle.memblock_model.specs.declared.which.Which.{Which}
 use Rattle.memblock_model.specs.declared.which.Which.TheVariants as which
 use Rattle.memblock_model.specs.declared.item.Item.{Item}
 use Rattle.memblock_model.specs.declared.item.Item.TheVariants as item
-use Rattle.memblock_model.specs.Labels.{Label, Labels, plain_label, with_node}
+use Rattle.memblock_model.specs.Labels.{Label, Labels, plain_label, with_node, with_mirror}
 use Rattle.memblock_model.specs.Tables.{table_of, table_after, records_for, records_of}
 use Rattle.memblock_model.proofs.ItemLaws.{table_of-push}
 use Rattle.memblock_model.proofs.TableLaws.{records-edit, nothing-trimmed}
@@ -31,17 +31,21 @@ after_within which.Memory f (item.Mem range) ends none =
     amended_ends (λ carried. Some (unwrap_or carried plain_label)) range f (2 ^ 64) ends none
 after_within which.Memory f item.Trim ends none = nothing-trimmed (2 ^ 64) f none
 after_within which.Memory f (item.Node range node) ends none = amended_ends (option_map (with_node (Some node))) range f (2 ^ 64) ends none
+after_within which.Memory f (item.Mirror range) ends none = amended_ends (option_map with_mirror) range f (2 ^ 64) ends none
 after_within which.Memory f (item.Claim range owner) ends none = none
 after_within which.Memory f (item.Free range) ends none = none
 after_within which.Memory f (item.Limit at) ends none = none
+after_within which.Memory f (item.Upward on) ends none = none
 after_within which.Memory f (item.Grown v place room) ends none = none
 after_within which.Reserved f (item.Mem range) ends none = none
 after_within which.Reserved f item.Trim ends none = none
 after_within which.Reserved f (item.Node range node) ends none = none
+after_within which.Reserved f (item.Mirror range) ends none = none
 after_within which.Reserved f (item.Claim range owner) ends none =
     amended_ends (λ carried. Some (unwrap_or carried plain_label)) range f (2 ^ 64) ends none
 after_within which.Reserved f (item.Free range) ends none = amended_ends (λ (carried : Option Label). None) range f (2 ^ 64) ends none
 after_within which.Reserved f (item.Limit at) ends none = none
+after_within which.Reserved f (item.Upward on) ends none = none
 after_within which.Reserved f (item.Grown v place room) ends none = none
 
 pub items-within : (w : Which) (items : List Item) (i : Item) → EndsInSpace i → NothingFrom (2 ^ 64) (table_of w items) →

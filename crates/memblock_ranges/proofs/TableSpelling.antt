@@ -7,17 +7,19 @@ use Rattle.phys_store.proofs.ByteLists.{told_bytes}
 use Rattle.memblock_ranges.specs.declared.region.Head.{Head}
 use Rattle.memblock_ranges.specs.Spelling.{base_in, size_in, flags_in, node_in, region_in, region_of, fields_of, label_of, node_field, run_in, spelling_of, records_at, spelled_table, IsRecord}
 use Rattle.memblock_ranges.specs.Tables.{HasTable, AreRecords, list_in, table_by, head_of, StandsIn}
-use Rattle.memblock_ranges.proofs.SpellLaws.{length-records_at, get-records_at, flags-fields_of}
+use Rattle.memblock_ranges.proofs.SpellLaws.{length-records_at, get-records_at}
 
--- a label is read from the field that it is written to
-pub node_field-label_of : (n : ℕ) → node_field (label_of n) ≡ n
-node_field-label_of n = elim (cases_Bool (n == 1024)) as (λ _. node_field (label_of n) ≡ n) [
+-- a node is read from the field that it is written to
+pub node_field-label_of : (flags n : ℕ) → node_field (label_of flags n) ≡ n
+node_field-label_of flags n = elim (cases_Bool (n == 1024)) as (λ _. node_field (label_of flags n) ≡ n) [
   | inl none ↦ rw none (sym (eqb-true n 1024 none))
   | inr some ↦ rw some refl
 ]
 
 pub spell_back : (bs : List ℕ) → IsRecord bs → spelling_of (run_in bs) ≡ bs
-spell_back bs known = ap (fields_of (base_in bs) (size_in bs)) (node_field-label_of (node_in bs)) ∙ sym known.spells
+spell_back bs known =
+    ap (λ (flags : ℕ). fields_of (base_in bs) (size_in bs) flags (node_field (label_of (flags_in bs) (node_in bs)))) (sym known.flags)
+    ∙ ap (fields_of (base_in bs) (size_in bs) (flags_in bs)) (node_field-label_of (flags_in bs) (node_in bs)) ∙ sym known.spells
 
 pub split_bytes : (f : ℕ → ℕ) (a m n : ℕ) → bytes_at f a (m + n) ≡ bytes_at f a m ++ bytes_at f (a + m) n
 unfolding bytes_at
@@ -56,9 +58,8 @@ spelled_from f (suc count) (suc room) a few known zeros =
 -- the record that the bytes spell is the one of the list
 pub region_back : (bs : List ℕ) → IsRecord bs → region_in bs ≡ region_of (run_in bs)
 region_back bs known =
-    let flags : flags_in bs ≡ 0 = ap flags_in known.spells ∙ flags-fields_of (base_in bs) (size_in bs) (node_in bs) in
-    let node : node_in bs ≡ node_field (label_of (node_in bs)) = sym (node_field-label_of (node_in bs)) in
-    λ j. record { base = base_in bs; size = size_in bs; flags = flags j; node = node j }
+    let node : node_in bs ≡ node_field (label_of (flags_in bs) (node_in bs)) = sym (node_field-label_of (flags_in bs) (node_in bs)) in
+    λ j. record { base = base_in bs; size = size_in bs; flags = known.flags j; node = node j }
 
 pub stands : (s : List Stored) (h : Head) → HasTable s h → AreRecords (list_in s h) → StandsIn (table_by s h) s
 stands s h table known =

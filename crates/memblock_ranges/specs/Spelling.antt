@@ -1,10 +1,11 @@
 -- The record of a table as bytes (`struct memblock_region`), little-endian: base (u64 at 0), size (u64 at 8), flags (u32 at 16), node
--- (u32 at 20), 24 bytes without padding. The flags are 0; the node 1,024 means no node (`MAX_NUMNODES`).
-use Rattle.std.specs.Prelude.{◌≡◌, ℕ, zero, suc, ◌+◌, ◌-◌, ◌*◌, ◌^◌, ◌<◌, ◌≤◌, ◌==◌, if◌then◌else◌, Some, List, [], ◌∷◌, ◌++◌, drop, replicate, unwrap_or}
+-- (u32 at 20), 24 bytes without padding. The flags are 2 of mirrored memory (`MEMBLOCK_MIRROR`), else 0; the node 1,024 means no node
+-- (`MAX_NUMNODES`).
+use Rattle.std.specs.Prelude.{◌≡◌, ℕ, zero, suc, ◌+◌, ◌-◌, ◌*◌, ◌^◌, ◌<◌, ◌≤◌, ◌==◌, if◌then◌else◌, Option, Some, None, List, [], ◌∷◌, ◌++◌, drop, replicate, unwrap_or}
 use Rattle.byteorder.specs.Endian.{little_number, little_bytes}
 use Rattle.phys_store.specs.Bytes.{bytes_at}
 use Rattle.address_runs.specs.Runs.{RunOf, run_end}
-use Rattle.memblock_model.specs.Labels.{Label, plain_label, with_node}
+use Rattle.memblock_model.specs.Labels.{Label}
 use Rattle.memblock_ranges.specs.declared.region.Region.{Region}
 
 -- the numbers at the offsets of a record
@@ -24,26 +25,33 @@ node_in bs = little_number 4 (drop 20 bs)
 abbrev pub region_in : List ℕ → Region
 region_in bs = record { base = base_in bs; size = size_in bs; flags = flags_in bs; node = node_in bs }
 
--- the bytes of a base, a size and a node, with no flag
-unfoldable pub fields_of : ℕ → ℕ → ℕ → List ℕ
-fields_of base size node = little_bytes 8 base ++ (little_bytes 8 size ++ (little_bytes 4 0 ++ little_bytes 4 node))
+-- the bytes of the four numbers
+unfoldable pub fields_of : ℕ → ℕ → ℕ → ℕ → List ℕ
+fields_of base size flags node = little_bytes 8 base ++ (little_bytes 8 size ++ (little_bytes 4 flags ++ little_bytes 4 node))
 
--- the label that a node field stands for, and the node field of a label
-abbrev pub label_of : ℕ → Label
-label_of node = if node == 1024 then plain_label else with_node (Some node) plain_label
+-- the node that a node field stands for, and the label that flags and a node field stand for
+abbrev pub node_of_field : ℕ → Option ℕ
+node_of_field field = if field == 1024 then None else Some field
+
+abbrev pub label_of : ℕ → ℕ → Label
+label_of flags field = record { node = node_of_field field; mirror = flags == 2 }
+
+-- the flags and the node field of a label
+abbrev pub flags_field : Label → ℕ
+flags_field label = if label.mirror then 2 else 0
 
 abbrev pub node_field : Label → ℕ
 node_field label = unwrap_or label.node 1024
 
 -- the run that a record stands for, and the region and the bytes of a run
 abbrev pub run_in : List ℕ → RunOf Label
-run_in bs = record { base = base_in bs; size = size_in bs; value = label_of (node_in bs) }
+run_in bs = record { base = base_in bs; size = size_in bs; value = label_of (flags_in bs) (node_in bs) }
 
 abbrev pub region_of : RunOf Label → Region
-region_of r = record { base = r.base; size = r.size; flags = 0; node = node_field r.value }
+region_of r = record { base = r.base; size = r.size; flags = flags_field r.value; node = node_field r.value }
 
 abbrev pub spelling_of : RunOf Label → List ℕ
-spelling_of r = fields_of r.base r.size (node_field r.value)
+spelling_of r = fields_of r.base r.size (flags_field r.value) (node_field r.value)
 
 -- the runs of the n records from the address a on
 unfoldable pub records_at : (ℕ → ℕ) → ℕ → ℕ → List (RunOf Label)
@@ -59,10 +67,11 @@ spelled_table (r ∷ rs) n = spelling_of r ++ spelled_table rs (n - 1)
 pub record FitsRecord (r : RunOf Label) : Type 0 where
   pub small : run_end r < 2 ^ 64
   pub node : node_field r.value ≤ 1024
-  pub back : label_of (node_field r.value) ≡ r.value
+  pub back : label_of (flags_field r.value) (node_field r.value) ≡ r.value
 
--- the 24 bytes are those of a record: no flag, a node of at most 1,024, and an end in the address space
+-- the 24 bytes are those of a record: an end in the address space, the flags of its label, and a node of at most 1,024
 pub record IsRecord (bs : List ℕ) : Type 0 where
-  pub spells : bs ≡ fields_of (base_in bs) (size_in bs) (node_in bs)
+  pub spells : bs ≡ fields_of (base_in bs) (size_in bs) (flags_in bs) (node_in bs)
   pub within : base_in bs + size_in bs < 2 ^ 64
+  pub flags : flags_in bs ≡ flags_field (label_of (flags_in bs) (node_in bs))
   pub node : node_in bs ≤ 1024

@@ -8,6 +8,7 @@ use Rattle.memblock_model.specs.declared.item.Item.TheVariants as item
 abbrev pub EndsInSpace : Item → Type 0
 EndsInSpace (item.Mem range) = end_of range ≤ 2 ^ 64
 EndsInSpace (item.Node range node) = end_of range ≤ 2 ^ 64
+EndsInSpace (item.Mirror range) = end_of range ≤ 2 ^ 64
 EndsInSpace (item.Claim range owner) = end_of range ≤ 2 ^ 64
 EndsInSpace (item.Free range) = end_of range ≤ 2 ^ 64
 EndsInSpace i = Unit {0}

@@ -4,7 +4,7 @@ ghost use Rattle.std.specs.Prelude.{◌≡◌, ◌+◌, ◌<◌, ◌≤◌, Some
 ghost use Rattle.std.specs.Option.{option_map};
 ghost use Rattle.address_runs.specs.Runs.{value_at};
 ghost use Rattle.address_runs.specs.Edits.{covered, uncovered, relabelled};
-ghost use Rattle.memblock_model.specs.Labels.{with_node};
+ghost use Rattle.memblock_model.specs.Labels.{with_node, with_mirror};
 ghost use Rattle.memblock_model.specs.Tables.{records_for, pieces};
 ghost use Rattle.memblock_ranges.specs.Tables.{AreRecords};
 
@@ -28,6 +28,23 @@ impl Change<Label> for SetNode {
     {
         match carried {
             Some(label) => Some(label.with_node(self.node)),
+            None => None,
+        }
+    }
+}
+
+/// What carries a label gets that of mirrored memory; what carries nothing stays so (`memblock_mark_mirror`).
+#[derive(Clone, Copy)]
+struct SetMirror;
+
+impl Change<Label> for SetMirror {
+    ghost makes = { λ c carried. option_map with_mirror carried };
+
+    fn apply(self, carried: Option<Label>) -> Option<Label>
+        ensures { result ≡ option_map with_mirror carried }
+    {
+        match carried {
+            Some(label) => Some(label.with_mirror()),
             None => None,
         }
     }
@@ -73,4 +90,18 @@ pub fn set_node<T: Slots<Record>>(table: &mut T, range: &Range, node: u32)
         return;
     }
     amend(table, range, SetNode { node });
+}
+
+/// The covered bytes of the range become mirrored.
+pub fn set_mirror<T: Slots<Record>>(table: &mut T, range: &Range)
+    requires records { AreRecords (T.list table.old) }
+    requires room { length (T.list table.old) + 2 ≤ T.room table.old }
+    ensures list { T.list table.new ≡ records_for (relabelled range.now with_mirror (value_at (T.list table.old))) }
+    ensures records { AreRecords (T.list table.new) }
+    ensures keeps { T.keeps table.old table.new }
+{
+    if range.size == 0 {
+        return;
+    }
+    amend(table, range, SetMirror);
 }

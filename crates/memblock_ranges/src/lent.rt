@@ -5,7 +5,7 @@ ghost use Rattle.bm_base.specs.Extent.{Meet};
 ghost use Rattle.phys_store.specs.Bytes.{AreReady};
 ghost use Rattle.address_runs.specs.Runs.{RunOf, value_at};
 ghost use Rattle.address_runs.specs.Edits.{covered, uncovered, relabelled};
-ghost use Rattle.memblock_model.specs.Labels.{Label as AnyLabel, with_node};
+ghost use Rattle.memblock_model.specs.Labels.{Label as AnyLabel, with_node, with_mirror};
 ghost use Rattle.memblock_model.specs.Items.{trimmed};
 ghost use Rattle.memblock_model.specs.Tables.{records_for, pieces};
 ghost use Rattle.memblock_ranges.specs.Spelling.{region_of, FitsRecord};
@@ -61,6 +61,19 @@ pub fn set_node(store: &mut Store, head: &mut Head, range: &Range, node: u32)
 {
     let mut live = Live { store, head };
     edits::set_node(&mut live, range, node);
+}
+
+/// The bytes of the range that the head's table covers become mirrored.
+pub fn set_mirror(store: &mut Store, head: &mut Head, range: &Range)
+    requires table { HasTable store.old head.old }
+    requires records { AreRecords (list_in store.old head.old) }
+    requires room { length (list_in store.old head.old) + 2 ≤ head.old.room }
+    ensures records { AreRecords (list_in store.new head.new) }
+    ensures edits { Edits store.old store.new head.old head.new
+        (records_for (relabelled range.now with_mirror (value_at (list_in store.old head.old)))) }
+{
+    let mut live = Live { store, head };
+    edits::set_mirror(&mut live, range);
 }
 
 /// The head's table is cut to whole frames.

@@ -1,7 +1,7 @@
 //! A record as an edit sees it, a run of addresses that carry one label, and its bytes: here bytes become
 //! records and records bytes, and nowhere else.
 ghost use Rattle.std.specs.Prelude.{◌≡◌, ◌+◌, ◌^◌, ◌<◌, ◌≤◌, length};
-ghost use Rattle.memblock_ranges.specs.Spelling.{fields_of, label_of, node_field, run_in, spelling_of, region_of, FitsRecord, IsRecord};
+ghost use Rattle.memblock_ranges.specs.Spelling.{fields_of, node_of_field, label_of, flags_field, node_field, run_in, spelling_of, region_of, FitsRecord, IsRecord};
 
 use crate::region::{RECORD_SIZE, Region, read_region};
 use address_runs::RunOf;
@@ -15,25 +15,28 @@ pub const NO_NODE: u32 = 1024;
 /// A record as an edit sees it: a run of addresses that carry one label.
 pub type Record = RunOf<Label>;
 
-/// The label of that node; 1,024 means none.
-pub fn label_of(node: u32) -> Label
-    requires { node ≤ 1024 }
-    ensures { result ≡ label_of node }
+/// The node that a node field stands for: 1,024 means none.
+pub fn node_of_field(field: u32) -> Option<u32>
+    ensures { result ≡ node_of_field field }
 {
-    if node == NO_NODE {
-        Label::plain()
-    } else {
-        Label::plain().with_node(node)
-    }
+    if field == NO_NODE { None } else { Some(field) }
+}
+
+/// The label that flags and a node field stand for: mirrored where the flags are 2, and of the node, where 1,024 means none.
+pub fn label_of(flags: u32, node: u32) -> Label
+    requires { node ≤ 1024 }
+    ensures { result ≡ label_of flags node }
+{
+    Label::of(node_of_field(node), flags)
 }
 
 /// The node field of a label: the node, or 1,024 for none.
 pub fn node_field(label: Label) -> u32
     ensures value { result ≡ node_field label }
     ensures most { result ≤ 1024 }
-    ensures back { label_of result ≡ label }
+    ensures back { label_of (flags_field label) result ≡ label }
 {
-    match label.node {
+    match label.node() {
         Some(node) => node,
         None => NO_NODE,
     }
@@ -51,18 +54,19 @@ pub fn read_record(bytes: &[u8]) -> Record
             base: region.base,
             size: region.size,
         },
-        value: label_of(region.node),
+        value: label_of(region.flags, region.node),
     }
 }
 
-/// The bytes of a base, a size and a node.
+/// The bytes of the four numbers.
 #[tactic(auto, unfolding(crate::specs::Spelling::fields_of))]
-fn write_fields(base: u64, size: u64, node: u32) -> [u8; 24]
-    ensures { result ≡ fields_of base size node }
+fn write_fields(base: u64, size: u64, flags: u32, node: u32) -> [u8; 24]
+    ensures { result ≡ fields_of base size flags node }
 {
     let mut bytes = [0; RECORD_SIZE as usize];
     LittleEndian::write_u64(&mut bytes, base);
     LittleEndian::write_u64(&mut bytes[8..], size);
+    LittleEndian::write_u32(&mut bytes[16..], flags);
     LittleEndian::write_u32(&mut bytes[20..], node);
     bytes
 }
@@ -75,6 +79,7 @@ pub fn spell(record: &Record) -> [u8; 24]
     write_fields(
         record.range.base,
         record.range.size,
+        record.value.flags(),
         node_field(record.value),
     )
 }
@@ -87,7 +92,7 @@ pub fn region_of(record: &Record) -> Region
     Region {
         base: record.range.base,
         size: record.range.size,
-        flags: 0,
+        flags: record.value.flags(),
         node: node_field(record.value),
     }
 }

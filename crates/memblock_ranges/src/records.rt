@@ -6,7 +6,9 @@ ghost use Rattle.memblock_model.specs.Labels.{Label as AnyLabel};
 ghost use Rattle.memblock_ranges.specs.Spelling.{region_of, FitsRecord};
 ghost use Rattle.memblock_ranges.specs.Tables.{AreRecords};
 
+use crate::record::label_of;
 use crate::region::{RECORD_SIZE, Region, read_region};
+use memblock_model::Label;
 use std::marker::Model;
 
 /// A table's records, for as long as the tables are lent. Contracts see the list of them.
@@ -60,5 +62,14 @@ impl Records<'_> {
         let bytes = self.bytes;
         let from = (RECORD_SIZE * i) as usize;
         read_region(&bytes[from..from + RECORD_SIZE as usize])
+    }
+
+    /// What the record of that index says of its addresses.
+    pub fn label(&self, i: u64) -> Label
+        requires { i < length self.now }
+        ensures { (r : RunOf AnyLabel) → result ≡ (get_or self.now i r).value }
+    {
+        let region = self.get(i);
+        label_of(region.flags, region.node)
     }
 }

@@ -17,7 +17,7 @@ pub struct Region {
     pub base: u64,
     /// The number of bytes.
     pub size: u64,
-    /// 0: no flag is used (`MEMBLOCK_NONE`).
+    /// 2 of mirrored memory (`MEMBLOCK_MIRROR`), else 0 (`MEMBLOCK_NONE`).
     pub flags: u32,
     /// The node; 1,024 means none (`MAX_NUMNODES`).
     pub node: u32,

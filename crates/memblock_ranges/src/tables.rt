@@ -6,7 +6,7 @@ ghost use Rattle.address_runs.specs.Runs.{RunOf, value_at};
 ghost use Rattle.address_runs.specs.Edits.{covered, uncovered, relabelled};
 ghost use Rattle.memblock_model.specs.declared.which.Which.{Which as AnyWhich};
 ghost use Rattle.memblock_model.specs.declared.which.Which.TheVariants as which;
-ghost use Rattle.memblock_model.specs.Labels.{Label as AnyLabel, with_node};
+ghost use Rattle.memblock_model.specs.Labels.{Label as AnyLabel, with_node, with_mirror};
 ghost use Rattle.memblock_model.specs.Items.{trimmed};
 ghost use Rattle.memblock_model.specs.Tables.{records_for, pieces, built_in};
 ghost use Rattle.memblock_ranges.specs.Spelling.{label_of, region_of, FitsRecord};
@@ -23,7 +23,7 @@ use std::alloc::Global;
 use std::marker::Model;
 
 /// The records that a table has room for at first (`INIT_MEMBLOCK_REGIONS`).
-const FIRST_ROOM: u64 = 128;
+pub const FIRST_ROOM: u64 = 128;
 
 /// Both tables, in the bytes of the memory that they describe.
 #[derive(Debug, Drop)]
@@ -114,21 +114,21 @@ impl Tables {
         }
     }
 
-    /// The bytes of the range that the table doesn't cover get the node; 1,024 means none, and the
-    /// reserved table knows no other (`memblock_add_range`).
+    /// The bytes of the range that the table doesn't cover get the node, and no flag; 1,024 means no node, and
+    /// the reserved table knows no other (`memblock_add_range`).
     pub fn insert(&mut self, which: Which, range: Range, node: u32)
         requires some { 0 < range.size }
         requires node { IsNodeOf which node }
         requires room { length (records_in which self.old) + pieces range (value_at (records_in which self.old)) ≤ room_in which self.old }
         ensures table { table_in which self.new ≡ record (table_in which self.old) {
-          records = records_for (covered range (label_of node) (value_at (records_in which self.old)));
+          records = records_for (covered range (label_of 0 node) (value_at (records_in which self.old)));
         } }
         ensures other { other_in which self.new ≡ other_in which self.old }
         ensures elsewhere { (x : ℕ) → covers (bytes_in which self.old) x ≡ false → byte_of self.new.store x ≡ byte_of self.old.store x }
         ensures ready { (x : ℕ) → is_ready self.new.store x ≡ is_ready self.old.store x }
     {
         let _end = range.end();
-        let label = label_of(node);
+        let label = label_of(0, node);
         match which {
             Which::Memory => {
                 lent::cover(&mut self.store, &mut self.heads.memory, &range, label);
@@ -160,7 +160,7 @@ impl Tables {
         }
     }
 
-    /// The memory bytes of the range get the node (`memblock_set_node`).
+    /// The memory bytes of the range get the node, and keep their flags (`memblock_set_node`).
     pub fn set_node(&mut self, range: Range, node: u32)
         requires node { node < 1024 }
         requires room { length self.old.memory.records + 2 ≤ self.old.memory.room }
@@ -172,6 +172,19 @@ impl Tables {
         ensures ready { (x : ℕ) → is_ready self.new.store x ≡ is_ready self.old.store x }
     {
         lent::set_node(&mut self.store, &mut self.heads.memory, &range, node);
+    }
+
+    /// The memory bytes of the range become mirrored, and keep their node (`memblock_mark_mirror`).
+    pub fn set_mirror(&mut self, range: Range)
+        requires { length self.old.memory.records + 2 ≤ self.old.memory.room }
+        ensures memory { self.new.memory ≡ record self.old.memory {
+          records = records_for (relabelled range with_mirror (value_at self.old.memory.records));
+        } }
+        ensures reserved { self.new.reserved ≡ self.old.reserved }
+        ensures elsewhere { (x : ℕ) → covers (bytes_of self.old.memory) x ≡ false → byte_of self.new.store x ≡ byte_of self.old.store x }
+        ensures ready { (x : ℕ) → is_ready self.new.store x ≡ is_ready self.old.store x }
+    {
+        lent::set_mirror(&mut self.store, &mut self.heads.memory, &range);
     }
 
     /// Memory is cut to whole frames: a byte keeps its label where all bytes of its frame have it, and

@@ -3,7 +3,7 @@ use Rattle.std.proofs.Common.{◌≡◌, ℕ, true, false, Some, None, [], ◌�
 use Rattle.std.specs.List.{Contains}
 use Rattle.memblock_model.specs.declared.which.Which.TheVariants as which
 use Rattle.memblock_model.specs.declared.item.Item.TheVariants as item
-use Rattle.memblock_model.specs.Labels.{Labels, plain_label}
+use Rattle.memblock_model.specs.Labels.{Label, Labels, plain_label, with_node}
 use Rattle.memblock_model.specs.Items.{memory_of}
 use Rattle.node_hulls.specs.declared.reasons.Why.TheVariants as why
 use Rattle.node_hulls.specs.Hulls.{Block}
@@ -42,9 +42,12 @@ not_covered_too = refl
 abbrev memory_below : ℕ → Labels
 memory_below end x = memory_of (item.Mem (record { base = 0; size = end }) ∷ []) x
 
-byte_of_each : (noded_all (low ∷ (high ∷ (last ∷ []))) (memory_below 0x9000) 0x3FFF ≡ Some (record { node = Some 1 }))
-    × (noded_all (low ∷ (high ∷ (last ∷ []))) (memory_below 0x9000) 0x4000 ≡ Some (record { node = Some 0 }))
-    × (noded_all (low ∷ (high ∷ (last ∷ []))) (memory_below 0x9000) 0x8FFF ≡ Some (record { node = Some 0 }))
+abbrev of_node : ℕ → Label
+of_node node = with_node (Some node) plain_label
+
+byte_of_each : (noded_all (low ∷ (high ∷ (last ∷ []))) (memory_below 0x9000) 0x3FFF ≡ Some (of_node 1))
+    × (noded_all (low ∷ (high ∷ (last ∷ []))) (memory_below 0x9000) 0x4000 ≡ Some (of_node 0))
+    × (noded_all (low ∷ (high ∷ (last ∷ []))) (memory_below 0x9000) 0x8FFF ≡ Some (of_node 0))
 unfolding noded_all
 byte_of_each = (refl, refl, refl)
 
@@ -64,12 +67,12 @@ nothing_given : in_turn given tt [] (item.Trim ∷ []) ≡ record { steps = []; 
 nothing_given = refl
 
 -- memory of node 5, memory of no node yet, and no memory
-of_node_5 : (is_of_node 5 (Some (record { node = Some 5 })) ≡ true) × (is_of_node 4 (Some (record { node = Some 5 })) ≡ false)
+of_node_5 : (is_of_node 5 (Some (of_node 5)) ≡ true) × (is_of_node 4 (Some (of_node 5)) ≡ false)
     × (is_of_node 5 (Some plain_label) ≡ false) × (is_of_node 5 None ≡ false)
 of_node_5 = (refl, refl, refl, refl)
 
 -- one byte of it is enough
-one_byte : (f : Labels) → f 0x1234 ≡ Some (record { node = Some 5 }) → Contains (nodes_with_memory f) 5
+one_byte : (f : Labels) → f 0x1234 ≡ Some (of_node 5) → Contains (nodes_with_memory f) 5
 one_byte f at = nodes-lists f 5 0x1234 (omega arith) (omega arith) (ap (is_of_node 5) at)
 
 -- a node of number 1,024 is none

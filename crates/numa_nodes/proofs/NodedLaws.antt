@@ -58,9 +58,9 @@ all-some (r ∷ rs) f x =
     all-some rs (relabelled (extent_of r) (with_node (Some r.value)) f) x
     ∙ relabelled-some (extent_of r) (with_node (Some r.value)) f x
 
--- where one of two gives a node, the label is that node
+-- where one of two gives a node, the label has that node
 abbrev labelled : Option ℕ → Option Label → Option Label
-labelled node o = option_map (λ (l : Label). record { node = node }) o
+labelled node o = option_map (with_node node) o
 
 both-relabel : (a b : Option ℕ) (o : Option Label) → (is_some o ≡ true → (is_some a || is_some b) ≡ true)
     → relabel b (relabel a o) ≡ labelled (option_or b a) o
@@ -91,33 +91,28 @@ record IsGiven (limit : ℕ) (f g : Labels) (nodes : ℕ → Option ℕ) : Type 
   frames : (x : ℕ) → x < limit → nodes x ≡ nodes (4096 * (x / 4096))
   kept : (x : ℕ) → is_some (g x) ≡ is_some (f x)
 
-same-labelled : (m n : Option ℕ) (o p : Option Label) → m ≡ n → is_some o ≡ is_some p → labelled m o ≡ labelled n p
-same-labelled m n None None nodes somes = refl
-same-labelled m n None (Some l) nodes somes = absurd (true≢false (sym somes))
-same-labelled m n (Some k) None nodes somes = absurd (true≢false somes)
-same-labelled m n (Some k) (Some l) nodes somes = ap (λ (t : Option ℕ). Some (record { node = t })) nodes
-
 none-is : {X : Type 0} (o : Option X) → is_some o ≡ false → o ≡ None
 none-is None none = refl
 none-is (Some x) none = absurd (true≢false none)
 
 label-node : (n : Option ℕ) (o : Option Label) (label : Label) → labelled n o ≡ Some label → label.node ≡ n
 label-node n None label at = absurd (none-some label at)
-label-node n (Some l) label at = ap (λ (k : Label). k.node) (sym (same_Some (record { node = n }) label at))
+label-node n (Some l) label at = ap (λ (k : Label). k.node) (sym (same_Some (with_node n l) label at))
 
 -- so memory is noded
-is-noded : (limit : ℕ) (f g : Labels) (nodes : ℕ → Option ℕ) → IsGiven limit f g nodes → AreOfFrames (λ x. is_some (f x))
+is-noded : (limit : ℕ) (f g : Labels) (nodes : ℕ → Option ℕ) → IsGiven limit f g nodes → AreOfFrames f
     → NothingFrom limit f → IsNoded limit g
 is-noded limit f g nodes by frames within = record {
   frames = λ x. elim (cases_lt x limit) as (λ _. g x ≡ g (4096 * (x / 4096))) [
     | inl near ↦
         let below : 4096 * (x / 4096) < limit = omega (arith, near) in
-        by.given x near ∙ same-labelled (nodes x) (nodes (4096 * (x / 4096))) (f x) (f (4096 * (x / 4096))) (by.frames x near) (frames x)
+        by.given x near ∙ ap (λ (node : Option ℕ). labelled node (f x)) (by.frames x near)
+        ∙ ap (labelled (nodes (4096 * (x / 4096)))) (frames x)
         ∙ sym (by.given (4096 * (x / 4096)) below)
     | inr far ↦
         let none : is_some (f x) ≡ false = ap is_some (within x far) in
         none-is (g x) (by.kept x ∙ none)
-        ∙ sym (none-is (g (4096 * (x / 4096))) (by.kept (4096 * (x / 4096)) ∙ sym (frames x) ∙ none))
+        ∙ sym (none-is (g (4096 * (x / 4096))) (by.kept (4096 * (x / 4096)) ∙ sym (ap is_some (frames x)) ∙ none))
   ];
   nodes = λ x label at. elim (cases_lt x limit) as (λ _. (node : ℕ) × (label.node ≡ Some node) × (node < 1024)) [
     | inr far ↦ absurd (true≢false (sym (ap is_some at) ∙ by.kept x ∙ ap is_some (within x far)))
@@ -213,7 +208,7 @@ below-given reach limit f within = record {
 
 -- by any judgement
 given-noded : (reach limit : ℕ) (f : Labels) (off : Bool) (table : Option Affinity) (j : Judgement) → reach ≤ 2 ^ 64
-    → AreOfFrames (λ x. is_some (f x)) → NothingFrom reach f → NothingFrom limit f → j ≡ judged (λ x. is_some (f x)) off table
+    → AreOfFrames f → NothingFrom reach f → NothingFrom limit f → j ≡ judged (λ x. is_some (f x)) off table
     → (w : Why) → j.why ≡ w → IsNoded reach (noded_all (ranges_by w limit j) f)
 given-noded reach limit f off table j near frames within low is = by where
   below : IsNoded reach (noded_all (record { base = 0; size = limit; value = 0 } ∷ []) f)
@@ -223,7 +218,7 @@ given-noded reach limit f off table j near frames within low is = by where
   by : (w : Why) → j.why ≡ w → IsNoded reach (noded_all (ranges_by w limit j) f)
   by why.Used used =
       is-noded reach f (noded_all (j.joined ++ j.rest) f) (λ x. option_or (value_at j.rest x) (value_at j.joined x))
-      (used-given reach f off table j near frames is used) frames within
+      (used-given reach f off table j near (λ x. ap is_some (frames x)) is used) frames within
   by why.Off other = below
   by why.Absent other = below
   by why.NoBlocks other = below
@@ -233,7 +228,7 @@ given-noded reach limit f off table j near frames within low is = by where
   by (why.NotCovered count) other = below
 
 pub answer-noded : (reach : ℕ) (table : Option Affinity) (off : Bool) (items : List Item) (noded : Noded)
-    → (assigned table off items).answer ≡ Ok noded → reach ≤ 2 ^ 64 → AreOfFrames (λ x. is_some (memory_of items x))
+    → (assigned table off items).answer ≡ Ok noded → reach ≤ 2 ^ 64 → AreOfFrames (memory_of items)
     → NothingFrom reach (memory_of items) → NothingFrom (limit_of items) (memory_of items)
     → IsNoded reach (memory_of (after items (assigned table off items)))
 answer-noded reach table off items noded answered near frames within low =

@@ -21,10 +21,10 @@ pub fn nodes_leave_memory()
 {}
 
 /// A law: behind an answer each byte of memory has a node below 1,024, and the bytes of a frame have the same, where memory was
-/// whole frames and ended at the limit or below it; and the nodes that are answered are those that have memory then.
+/// whole frames, each of one label, and ended at the limit or below it; and the nodes that are answered are those that have memory then.
 pub fn nodes_reach_memory()
     ensures noded { (reach : ℕ) (table : Option Affinity) (off : Bool) (items : List AnyItem) (noded : Noded) →
-        (assigned table off items).answer ≡ Ok noded → reach ≤ 2 ^ 64 → AreOfFrames (λ x. is_some (memory_of items x)) →
+        (assigned table off items).answer ≡ Ok noded → reach ≤ 2 ^ 64 → AreOfFrames (memory_of items) →
         NothingFrom reach (memory_of items) → NothingFrom (limit_of items) (memory_of items) →
         IsNoded reach (memory_of (after items (assigned table off items))) }
     ensures nodes { (table : Option Affinity) (off : Bool) (items : List AnyItem) (noded : Noded) →

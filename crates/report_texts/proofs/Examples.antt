@@ -11,11 +11,11 @@ use Rattle.memblock_model.specs.declared.item.Item.TheVariants as item
 use Rattle.memblock_model.specs.declared.owner.Owner.{Owner}
 use Rattle.memblock_model.specs.declared.owner.Owner.TheVariants as owner
 use Rattle.memblock_model.specs.declared.which.Which.TheVariants as which
-use Rattle.memblock_model.specs.Labels.{Label}
+use Rattle.memblock_model.specs.Labels.{Label, plain_label, with_node}
 use Rattle.memblock_ranges.specs.declared.region.Head.{Head}
 use Rattle.memblock_ranges.specs.Tables.{Table, StandsIn, head_of}
 use Rattle.report_texts.specs.Lines.{index_text, lines_from, range_text}
-use Rattle.report_texts.specs.JournalText.{item_line, item_text, journal_text}
+use Rattle.report_texts.specs.JournalText.{switch_text, item_line, item_text, journal_text}
 use Rattle.report_texts.specs.MapText.{kind_name, map_line, map_text}
 use Rattle.report_texts.specs.OptionsText.{crash_lines, crash_range_line, crash_range_text, edit_line, edit_text, end_text, kind_text, numa_line, options_text, plain_lines, size_line}
 use Rattle.report_texts.specs.OwnersText.{owner_line, owner_text, owners_text, which_name}
@@ -168,12 +168,18 @@ no_owner = refl
 -- the journal
 item_examples : (item_text (item.Mem first_MiB) ≡ codes "mem 0x0000000000000000..0x00000000000fffff") × (item_text item.Trim ≡ codes "trim")
     × (item_text (item.Node first_MiB 3) ≡ codes "node 3 0x0000000000000000..0x00000000000fffff")
+    × (item_text (item.Mirror first_MiB) ≡ codes "mirror 0x0000000000000000..0x00000000000fffff")
     × (item_text (item.Claim first_MiB (owner.NodeData 0)) ≡ codes "claim node-data 0 0x0000000000000000..0x00000000000fffff")
     × (item_text (item.Free first_MiB) ≡ codes "free 0x0000000000000000..0x00000000000fffff")
     × (item_text (item.Limit 0x100000) ≡ codes "limit 0x0000000000100000")
+    × (item_text (item.Upward true) ≡ codes "upward on")
+    × (item_text (item.Upward false) ≡ codes "upward off")
     × (item_text (item.Grown which.Memory 0x9D000 256) ≡ codes "grown memory 0x000000000009d000 room 256")
 unfolding first_MiB digits
-item_examples = (refl, refl, refl, refl, refl, refl, refl)
+item_examples = (refl, refl, refl, refl, refl, refl, refl, refl, refl, refl)
+
+switch_examples : (switch_text true ≡ codes "on") × (switch_text false ≡ codes "off")
+switch_examples = (refl, refl)
 
 item_lines : (item_line 0 item.Trim ≡ codes "1: trim\n") × (item_line 9 (item.Limit 0) ≡ codes "10: limit 0x0000000000000000\n")
 unfolding digits
@@ -188,10 +194,10 @@ no_items = refl
 
 -- records, of which the node isn't told
 of_node_1 : RunOf Label
-of_node_1 = record { base = 0x1000; size = 0x9E000; value = record { node = Some 1 } }
+of_node_1 = record { base = 0x1000; size = 0x9E000; value = with_node (Some 1) plain_label }
 
 of_no_node : RunOf Label
-of_no_node = record { base = 0x100000; size = 0x7EE0000; value = record { node = None } }
+of_no_node = record { base = 0x100000; size = 0x7EE0000; value = plain_label }
 
 extent_lines : (extent_line 0 first_MiB ≡ codes "   0: 0x0000000000000000..0x00000000000fffff\n")
     × (extent_line 1023 first_MiB ≡ codes "1023: 0x0000000000000000..0x00000000000fffff\n")

@@ -1,20 +1,26 @@
 -- What happened to memory, as lines: each item by the word of its call of memblock. The forms are this project's own, since
 -- the kernel prints each call as it comes (`memblock=debug`).
-use Rattle.std.specs.Prelude.{ℕ, ◌+◌, List, ◌++◌, codes, decimal}
+use Rattle.std.specs.Prelude.{ℕ, ◌+◌, Bool, if◌then◌else◌, List, ◌++◌, codes, decimal}
 use Rattle.bm_base.specs.Text.{hex_text}
 use Rattle.memblock_model.specs.declared.item.Item.{Item}
 use Rattle.memblock_model.specs.declared.item.Item.TheVariants as item
 use Rattle.report_texts.specs.Lines.{lines_from, range_text}
 use Rattle.report_texts.specs.OwnersText.{owner_text, which_name}
 
+-- whether something is on
+abbrev pub switch_text : Bool → List ℕ
+switch_text on = if on then codes "on" else codes "off"
+
 -- what an item is, and its parts
 abbrev pub item_text : Item → List ℕ
 item_text (item.Mem range) = codes "mem " ++ range_text range
 item_text item.Trim = codes "trim"
 item_text (item.Node range node) = codes "node " ++ decimal node ++ codes " " ++ range_text range
+item_text (item.Mirror range) = codes "mirror " ++ range_text range
 item_text (item.Claim range owner) = codes "claim " ++ owner_text owner ++ codes " " ++ range_text range
 item_text (item.Free range) = codes "free " ++ range_text range
 item_text (item.Limit at) = codes "limit " ++ hex_text at
+item_text (item.Upward on) = codes "upward " ++ switch_text on
 item_text (item.Grown which place room) =
     codes "grown " ++ which_name which ++ codes " " ++ hex_text place ++ codes " room " ++ decimal room
 

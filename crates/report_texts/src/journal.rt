@@ -41,12 +41,14 @@ pub fn put_item(text: &mut Vec<u8>, item: &Item) -> Result<(), Memory>
             put_text(text, b" ")?;
             put_range(text, range)
         }
+        Item::Mirror { range } => put_word_range(text, b"mirror ", range),
         Item::Claim { range, owner } => put_claim(text, range, *owner),
         Item::Free { range } => put_word_range(text, b"free ", range),
         Item::Limit { at } => {
             put_text(text, b"limit ")?;
             put_hex(text, *at)
         }
+        Item::Upward { on } => put_upward(text, *on),
         Item::Grown { which, place, room } => put_grown(text, *which, *place, *room),
     }
 }
@@ -59,6 +61,18 @@ fn put_claim(text: &mut Vec<u8>, range: &Range, owner: Owner) -> Result<(), Memo
     put_owner(text, owner)?;
     put_text(text, b" ")?;
     put_range(text, range)
+}
+
+/// Appends whether searches go upward from now on.
+fn put_upward(text: &mut Vec<u8>, on: bool) -> Result<(), Memory>
+    ensures { OnOk result (text.new.items ≡ text.old.items ++ item_text (Item.Upward on)) }
+{
+    put_text(text, b"upward ")?;
+    if on {
+        put_text(text, b"on")
+    } else {
+        put_text(text, b"off")
+    }
 }
 
 /// Appends a growth: which table, where to, and its room there.

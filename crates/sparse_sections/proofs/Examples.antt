@@ -1,7 +1,7 @@
 -- Worked examples: frames of which some are memory, records that end within sections, sections and their roots.
 use Rattle.std.proofs.Common.{◌≡◌, ℕ, true, false, Some, None, List, [], ◌∷◌, ◌++◌, refl, sym, ◌∙◌, ap, subst, arith, lit<, lit≤}
 use Rattle.address_runs.specs.Runs.{RunOf, value_at, AreRuns}
-use Rattle.memblock_model.specs.Labels.{Label, Labels}
+use Rattle.memblock_model.specs.Labels.{Label, Labels, plain_label, with_node}
 use Rattle.stage_model.specs.declared.section.Section.{Section}
 use Rattle.sparse_sections.specs.Present.{first_label, section_for, present, sections_from, IsWholeNoded, IsLowest, IsAt, AreSections}
 use Rattle.sparse_sections.specs.Roots.{root_of, is_root, firsts_behind, small_request}
@@ -10,7 +10,7 @@ use Rattle.sparse_sections.proofs.AscendLaws.{present-ascends}
 use Rattle.address_runs.proofs.RunsLaws.{none_below}
 
 abbrev of_node : ℕ → Label
-of_node node = record { node = Some node }
+of_node node = with_node (Some node) plain_label
 
 abbrev record_at : ℕ → ℕ → ℕ → RunOf Label
 record_at base size node = record { base = base; size = size; value = of_node node }
@@ -33,7 +33,7 @@ first_of_frames = (refl, refl, refl, refl, refl)
 
 -- a section is there with its node, and isn't where nothing is memory, or where memory has no node
 of_labels : (section_for 7 None ≡ []) × (section_for 7 (Some (of_node 2)) ≡ section 7 2 ∷ [])
-    × (section_for 7 (Some (record { node = None })) ≡ [])
+    × (section_for 7 (Some plain_label) ≡ [])
 of_labels = (refl, refl, refl)
 
 one_node : (sections_from 4 0 1 ≡ []) × (sections_from 4 2 1 ≡ section 4 1 ∷ section 5 1 ∷ [])

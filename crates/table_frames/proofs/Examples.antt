@@ -1,14 +1,14 @@
 -- Small tables by frames.
 use Rattle.std.proofs.Common.{◌≡◌, ℕ, ◌+◌, ◌*◌, ◌<◌, ◌≤◌, true, false, Option, Some, None, List, [], ◌∷◌, if◌then◌else◌, refl, sym, ◌∙◌, arith}
 use Rattle.address_runs.specs.Runs.{RunOf, value_at}
-use Rattle.memblock_model.specs.Labels.{Label, Labels, plain_label}
+use Rattle.memblock_model.specs.Labels.{Label, Labels, plain_label, with_node}
 use Rattle.table_frames.specs.Frames.{node_below, node_told, frames_of, node_of_frame, is_unclaimed, free_in, IsPassed}
 use Rattle.table_frames.specs.Tables.{AscendBelow, AreWholeFrames}
 use Rattle.table_frames.proofs.ClaimLaws.{claimed_byte, unclaimed_bare, passed_none}
 use Rattle.table_frames.proofs.WholeLaws.{free_by_first}
 
 abbrev of_node : ℕ → Label
-of_node n = record { node = Some n }
+of_node n = with_node (Some n) plain_label
 
 -- 40 bytes in frame 4, and frames 1 and 2 of node 3
 abbrev forty : RunOf Label

@@ -9,7 +9,7 @@ use Rattle.address_runs.proofs.RunsLaws.{inside, below, behind}
 use Rattle.memblock_model.specs.Labels.{Label}
 use Rattle.memblock_ranges.specs.declared.region.Head.{Head}
 use Rattle.memblock_ranges.specs.declared.region.Region.{Region}
-use Rattle.memblock_ranges.specs.Spelling.{base_in, size_in, node_in, label_of, region_in, run_in, records_at}
+use Rattle.memblock_ranges.specs.Spelling.{base_in, size_in, node_in, node_of_field, region_in, run_in, records_at}
 use Rattle.memblock_ranges.specs.Tables.{list_in}
 use Rattle.memblock_ranges.proofs.SpellLaws.{get-records_at, length-records_at}
 use Rattle.table_frames.specs.declared.frames.RecordFrames.{RecordFrames}
@@ -25,8 +25,8 @@ pub length_by_head : (s : List Stored) (h : Head) → length (list_in s h) ≡ h
 length_by_head s h = length-records_at (byte_of s) h.place h.count
 
 -- the node of a field, where it is below 1,024
-pub node_of_field : (n : ℕ) → node_below (label_of n).node ≡ (if nat_lt n 1024 then Some n else None)
-node_of_field n = elim (cases_Bool (n == 1024)) as (λ _. node_below (label_of n).node ≡ (if nat_lt n 1024 then Some n else None)) [
+pub field_below : (n : ℕ) → node_below (node_of_field n) ≡ (if nat_lt n 1024 then Some n else None)
+field_below n = elim (cases_Bool (n == 1024)) as (λ _. node_below (node_of_field n) ≡ (if nat_lt n 1024 then Some n else None)) [
   | inl none ↦ let is : n ≡ 1024 = eqb-true n 1024 none in rw none (rw is refl)
   | inr some ↦ rw some refl
 ]
@@ -96,8 +96,8 @@ region_frames s h i g node d few is told =
     let base : g.base ≡ base_in bs = ap (λ (q : Region). q.base) is in
     let size : g.size ≡ size_in bs = ap (λ (q : Region). q.size) is in
     let field : g.node ≡ node_in bs = ap (λ (q : Region). q.node) is in
-    let nodes : node ≡ node_below (label_of (node_in bs)).node =
-    told ∙ ap (λ n. if nat_lt n 1024 then Some n else None) field ∙ sym (node_of_field (node_in bs)) in
+    let nodes : node ≡ node_below (node_of_field (node_in bs)) =
+    told ∙ ap (λ n. if nat_lt n 1024 then Some n else None) field ∙ sym (field_below (node_in bs)) in
     ap (λ b. Frames b g.size node) base ∙ ap (λ n. Frames (base_in bs) n node) size ∙ ap (λ v. Frames (base_in bs) (size_in bs) v) nodes
     ∙ sym (ap frames_of (record_by_bytes s h i d few))
 

@@ -13,11 +13,11 @@ use Rattle.address_runs.proofs.RunsLaws.{inside, behind, rest_from}
 use Rattle.memblock_model.specs.Labels.{Label}
 use Rattle.memblock_ranges.specs.declared.region.Head.{Head}
 use Rattle.memblock_ranges.specs.declared.region.Region.{Region}
-use Rattle.memblock_ranges.specs.Spelling.{base_in, size_in, node_in, label_of, node_field, region_in, region_of, run_in, records_at}
+use Rattle.memblock_ranges.specs.Spelling.{base_in, size_in, node_in, node_of_field, node_field, region_in, region_of, run_in, records_at}
 use Rattle.memblock_ranges.specs.Tables.{Table, StandsIn, head_of, list_in}
 use Rattle.table_frames.specs.Frames.{node_below, node_told, node_of_frame, free_in}
 use Rattle.table_frames.specs.Tables.{AscendBelow, HasRecords, AreWholeFrames}
-use Rattle.table_frames.proofs.RecordLaws.{node_of_field}
+use Rattle.table_frames.proofs.RecordLaws.{field_below}
 use Rattle.table_frames.proofs.WholeLaws.{whole_by_value}
 
 -- two lists whose records have the same addresses and the same nodes
@@ -27,9 +27,9 @@ Alike [] (s ∷ ss) = ⊥
 Alike (r ∷ rs) [] = ⊥
 Alike (r ∷ rs) (s ∷ ss) = (r.base ≡ s.base) × (r.size ≡ s.size) × (node_below r.value.node ≡ node_below s.value.node) × Alike rs ss
 
-field_for : (o : Option ℕ) → node_below (label_of (unwrap_or o 1024)).node ≡ node_below o
+field_for : (o : Option ℕ) → node_below (node_of_field (unwrap_or o 1024)) ≡ node_below o
 field_for None = refl
-field_for (Some n) = node_of_field n
+field_for (Some n) = field_below n
 
 alike_from : (f : ℕ → ℕ) (a : ℕ) (rs : List (RunOf Label))
     → ((i : ℕ) (r : RunOf Label) → i < length rs → region_in (bytes_at f (a + 24 * i) 24) ≡ region_of (get_or rs i r))
@@ -42,7 +42,7 @@ alike_from f a (r ∷ rs) regions =
     let node : node_in (bytes_at f a 24) ≡ node_field r.value = ap (λ (g : Region). g.node) first in (
       ap (λ (g : Region). g.base) first,
       ap (λ (g : Region). g.size) first,
-      ap (λ n. node_below (label_of n).node) node ∙ field_for r.value.node,
+      ap (λ n. node_below (node_of_field n)) node ∙ field_for r.value.node,
       alike_from f (a + 24) rs
           (λ i d few. ap (λ x. region_in (bytes_at f x 24)) (omega arith) ∙ regions (suc i) d (omega arith)),
     )

@@ -1,8 +1,8 @@
-use Rattle.std.proofs.Common.{◌≡◌, ℕ, ◌+◌, ◌-◌, Some, None, List, sym, ◌∙◌, ap, subst, arith}
+use Rattle.std.proofs.Common.{◌≡◌, ℕ, ◌+◌, ◌-◌, Some, None, List, sym, ap, subst, arith}
 use Rattle.address_runs.specs.Runs.{RunOf, run_end}
 use Rattle.memblock_model.specs.Labels.{Label}
 use Rattle.memblock_ranges.specs.declared.region.Region.{Region}
-use Rattle.memblock_ranges.specs.Spelling.{label_of, region_of}
+use Rattle.memblock_ranges.specs.Spelling.{region_of}
 use Rattle.memblock_find.specs.Walk.{run_at, BegunBelow, IsLookDown}
 use Rattle.memblock_find.proofs.DownLaws.{look_bottom, look_gap, look_in}
 use Rattle.memblock_find.proofs.down.look_down.Goals as goal
@@ -30,8 +30,7 @@ returns-else-end-at c =
     let is : c.get-region.result ≡ region_of r = c.get-region.ensures.region _ in
     let bases : c.get-region.result.base ≡ r.base = ap (λ (g : Region). g.base) is in
     let sizes : c.get-region.result.size ≡ r.size = ap (λ (g : Region). g.size) is in
-    let labels : c.label_of.result ≡ r.value = c.label_of.ensures ∙ ap (λ (g : Region). label_of g.node) is
-    ∙ (c.get-region.ensures.fits _).back in
-    subst (λ (n : ℕ). IsLookDown rs c.args.at (record { label = Some c.label_of.result; bound = n; slot = c.args.slot - 1 })) (sym bases)
+    let labels : c.label.result ≡ r.value = c.label.ensures _ in
+    subst (λ (n : ℕ). IsLookDown rs c.args.at (record { label = Some c.label.result; bound = n; slot = c.args.slot - 1 })) (sym bases)
     (subst (λ (v : Label). IsLookDown rs c.args.at (record { label = Some v; bound = r.base; slot = c.args.slot - 1 })) (sym labels)
     (look_in rs c.args.slot c.args.at (omega arith) c.requires (omega arith)))

@@ -1,4 +1,4 @@
-use Rattle.std.proofs.Common.{◌≡◌, ◌≤◌, max, sym, ◌∙◌, arith}
+use Rattle.std.proofs.Common.{◌≡◌, ◌≤◌, false, max, sym, ◌∙◌, arith}
 use Rattle.std.proofs.lemmas.Grind.{common_steps}
 use Rattle.address_runs.specs.Runs.{value_at}
 use Rattle.memblock_find.proofs.DownLaws.{stretch_stays, stretch_down}
@@ -9,7 +9,7 @@ pub returns-then-is_some : goal.returns-then-is_some
 returns-then-is_some c =
     let t = c.args.lists.now in
     let i = c.loop-cursor.invariant in
-    best_answer (value_at t.memory) (value_at t.reserved) c.args.query.now c.bottom.result c.loop-cursor.cursor.at
+    best_answer false (value_at t.memory) (value_at t.reserved) c.args.query.now c.bottom.result c.loop-cursor.cursor.at
     c.place_in_run-place.result i.past
     (c.place_in_run-place.ensures (value_at t.memory) (value_at t.reserved)
     (stretch_stays t.memory t.reserved c.loop-cursor.cursor c.bottom.result c.label.result i.walk c.bottom.ensures c.label.ensures)
@@ -27,7 +27,7 @@ loop-cursor-preserved c =
     record {
       walk = c.down-cursor.ensures.down;
       window = omega (arith, i.window);
-      past = rw (← bottom) (no_answer (value_at t.memory) (value_at t.reserved) c.args.query.now c.bottom.result
+      past = rw (← bottom) (no_answer false (value_at t.memory) (value_at t.reserved) c.args.query.now c.bottom.result
           c.loop-cursor.cursor.at c.place_in_run-place.result i.past
           (c.place_in_run-place.ensures (value_at t.memory) (value_at t.reserved)
           (stretch_stays t.memory t.reserved c.loop-cursor.cursor c.bottom.result c.label.result i.walk c.bottom.ensures c.label.ensures)
@@ -39,5 +39,5 @@ pub returns : goal.returns
 returns c =
     let t = c.args.lists.now in
     let low : c.loop-cursor.cursor.at ≤ max c.args.query.now.lo 4096 = grind (arith, common_steps) in
-    sym (none_found (value_at t.memory) (value_at t.reserved) c.args.query.now c.loop-cursor.cursor.at c.requires.some
+    sym (none_found false (value_at t.memory) (value_at t.reserved) c.args.query.now c.loop-cursor.cursor.at c.requires.some
     c.loop-cursor.invariant.past low)

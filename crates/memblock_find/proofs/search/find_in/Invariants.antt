@@ -1,4 +1,4 @@
-use Rattle.std.proofs.Common.{◌≤◌}
+use Rattle.std.proofs.Common.{◌≤◌, false}
 use Rattle.address_runs.specs.Runs.{value_at}
 use Rattle.memblock_find.specs.Places.{NoPlaceEnds}
 use Rattle.memblock_find.specs.Walk.{IsDownAt}
@@ -9,7 +9,7 @@ abbrev pub invariant-loop-cursor : goal.invariant-loop-cursor
 invariant-loop-cursor l = record {
   walk : IsDownAt l.lists.memory l.lists.reserved l.cursor;
   window : l.cursor.at ≤ l.query.hi;
-  past : NoPlaceEnds (value_at l.lists.memory) (value_at l.lists.reserved) l.query l.cursor.at l.query.hi;
+  past : NoPlaceEnds false (value_at l.lists.memory) (value_at l.lists.reserved) l.query l.cursor.at l.query.hi;
 }
 
 abbrev pub decreases-loop-cursor : goal.decreases-loop-cursor

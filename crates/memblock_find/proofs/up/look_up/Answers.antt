@@ -2,7 +2,7 @@ use Rattle.std.proofs.Common.{◌≡◌, ℕ, ◌+◌, ◌<◌, ◌^◌, Some, N
 use Rattle.address_runs.specs.Runs.{RunOf, run_end}
 use Rattle.memblock_model.specs.Labels.{Label}
 use Rattle.memblock_ranges.specs.declared.region.Region.{Region}
-use Rattle.memblock_ranges.specs.Spelling.{label_of, region_of}
+use Rattle.memblock_ranges.specs.Spelling.{region_of}
 use Rattle.memblock_find.specs.Walk.{run_at, IsLookUp}
 use Rattle.memblock_find.proofs.UpLaws.{look_top, look_hole, look_over}
 use Rattle.memblock_find.proofs.up.look_up.Goals as goal
@@ -37,8 +37,7 @@ returns-else-at-region c =
     let bases : c.get-region.result.base ≡ r.base = ap (λ (g : Region). g.base) is in
     let sizes : c.get-region.result.size ≡ r.size = ap (λ (g : Region). g.size) is in
     let ends : c.get-region.result.base + c.get-region.result.size ≡ run_end r = omega arith in
-    let labels : c.label_of.result ≡ r.value = c.label_of.ensures ∙ ap (λ (g : Region). label_of g.node) is
-    ∙ (c.get-region.ensures.fits _).back in
-    subst (λ (n : ℕ). IsLookUp rs c.args.at (record { label = Some c.label_of.result; bound = n; slot = c.args.slot + 1 })) (sym ends)
+    let labels : c.label.result ≡ r.value = c.label.ensures _ in
+    subst (λ (n : ℕ). IsLookUp rs c.args.at (record { label = Some c.label.result; bound = n; slot = c.args.slot + 1 })) (sym ends)
     (subst (λ (v : Label). IsLookUp rs c.args.at (record { label = Some v; bound = run_end r; slot = c.args.slot + 1 })) (sym labels)
     (look_over rs c.args.slot c.args.at within c.requires (omega arith) (c.get-region.ensures.fits _).small))

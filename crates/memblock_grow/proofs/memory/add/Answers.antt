@@ -28,7 +28,7 @@ returns-in_err-make_memory_room-clause-ends c =
 pub returns-in_err-make_memory_room-clause-ready : goal.returns-in_err-make_memory_room-clause-ready
 returns-in_err-make_memory_room-clause-ready c = λ spare idle.
     absurd (true≢false (sym (c.in_err-make_memory_room.ensures.idle
-    (room-of which.Memory (more.PiecesOf c.args.range) c.requires.kept.0 c.args.journal.now.items c.args.tables.now c.args.limit
+    (room-of which.Memory (more.PiecesOf c.args.range) c.requires.kept.0 c.args.journal.now.items c.args.tables.now c.args.aim
     c.requires.kept.1.kept idle)).0))
 
 pub returns-in_err-push-clause-ends : goal.returns-in_err-push-clause-ends
@@ -49,8 +49,8 @@ returns-clause-ends c =
 
 pub returns-clause-kept : goal.returns-clause-kept
 returns-clause-kept c = λ kernel kept.
-    subst (λ (l : List Item). AreKept kernel l c.cover.new.tables c.args.limit) (sym c.in_ok-push.ensures.ok)
-    (kept-mem kernel c.make_memory_room.new.journal.items c.make_memory_room.new.tables c.cover.new.tables c.args.limit c.args.range
+    subst (λ (l : List Item). AreKept kernel l c.cover.new.tables c.args.aim) (sym c.in_ok-push.ensures.ok)
+    (kept-mem kernel c.make_memory_room.new.journal.items c.make_memory_room.new.tables c.cover.new.tables c.args.aim c.args.range
     c.cover.ensures.within c.in_ok-make_memory_room.ensures.room c.cover.ensures.table c.cover.ensures.other
     (c.make_memory_room.ensures.kept kernel kept))
 
@@ -59,7 +59,7 @@ returns-clause-bytes c = λ kernel kept spelled.
     let mid = c.make_memory_room.new.journal.items in
     let u = c.make_memory_room.new.tables in
     let v = c.cover.new.tables in
-    let after = kept-mem kernel mid u v c.args.limit c.args.range c.cover.ensures.within
+    let after = kept-mem kernel mid u v c.args.aim c.args.range c.cover.ensures.within
     c.in_ok-make_memory_room.ensures.room c.cover.ensures.table c.cover.ensures.other (c.make_memory_room.ensures.kept kernel kept) in
     subst (λ (l : List Item). Follows kernel c.args.journal.now.items l (byte_of c.args.tables.now.store) (byte_of v.store))
     (sym c.in_ok-push.ensures.ok)

@@ -12,25 +12,29 @@ use Rattle.growth_model.specs.Bytes.{Follows}
 use Rattle.growth_model.proofs.FollowLaws.{follows-then, follows-stands}
 use Rattle.memblock_grow.specs.Kept.{AreKept}
 use Rattle.memblock_grow.proofs.KeptLaws.{kept-same}
-use Rattle.memblock_grow.proofs.PlaceLaws.{left-far}
+use Rattle.memblock_grow.proofs.PlaceLaws.{knows-mirrors, left-far}
 use Rattle.memblock_grow.proofs.ReservedLaws.{room-least, frames-some, left-found, twice-is, still-bytes}
 use Rattle.memblock_grow.proofs.MemoryLaws.{IsBest, best-found, memory-none, memory-fails, memory-wants, memory-done, pushed-items, best-taken, MovedMemory, memory-apart, memory-kept, prepared-bytes, memory-bytes, memory-free, left-some}
 use Rattle.memblock_grow.proofs.memory.grow_memory.Goals as goal
 
-pub place_between-requires : goal.place_between-requires
-place_between-requires c =
+pub place_between-requires-clause-some : goal.place_between-requires-clause-some
+place_between-requires-clause-some c =
     let n = ap (λ (h : Head). h.room) c.head-head.ensures.head in
-    let least = room-least which.Memory c.requires.kept.0 c.args.journal.now.items c.args.tables.now c.args.limit c.requires.kept.1.kept in
+    let least = room-least which.Memory c.requires.kept.0 c.args.journal.now.items c.args.tables.now c.args.aim c.requires.kept.1.kept in
     omega (arith, n, least)
+
+pub place_between-requires-clause-mirrors : goal.place_between-requires-clause-mirrors
+place_between-requires-clause-mirrors c =
+    knows-mirrors c.requires.kept.0 c.args.journal.now.items c.args.tables.now c.args.aim c.requires.kept.1.kept
 
 pub returns-in_default-clause-ends : goal.returns-in_default-clause-ends
 returns-in_default-clause-ends c =
-    memory-none c.requires.kept.0 c.args.journal.now.items c.args.tables.now c.args.limit c.head-head.result.room c.place_between.result
+    memory-none c.requires.kept.0 c.args.journal.now.items c.args.tables.now c.args.aim c.head-head.result.room c.place_between.result
     c.requires.kept.1.kept (ap (λ (h : Head). h.room) c.head-head.ensures.head) c.place_between.ensures c.in_default.is
 
 pub returns-in_default-clause-bytes : goal.returns-in_default-clause-bytes
 returns-in_default-clause-bytes c = λ kernel kept spelled.
-    still-bytes kernel c.args.journal.now.items c.args.journal.now.items c.args.tables.now c.args.tables.now c.args.limit refl (λ x. refl)
+    still-bytes kernel c.args.journal.now.items c.args.journal.now.items c.args.tables.now c.args.tables.now c.args.aim refl (λ x. refl)
     kept spelled
 
 pub left_place-old-requires : goal.left_place-old-requires
@@ -38,13 +42,13 @@ left_place-old-requires c =
     let head = c.head-head.ensures.head in
     record {
       far = subst (λ (h : Head). h.room ≢ 128 → h.place + frames_of (24 * h.room) < 2 ^ 64) (sym head)
-          (left-far which.Memory c.requires.kept.0 c.args.journal.now.items c.args.tables.now c.args.limit c.requires.kept.1.kept);
+          (left-far which.Memory c.requires.kept.0 c.args.journal.now.items c.args.tables.now c.args.aim c.requires.kept.1.kept);
     }
 
 pub claim-requires-clause-some : goal.claim-requires-clause-some
 claim-requires-clause-some c =
     let known : IsBest c.args.journal.now.items c.in-Some.place =
-    best-found c.requires.kept.0 c.args.journal.now.items c.args.tables.now c.args.limit c.head-head.result.room c.place_between.result
+    best-found c.requires.kept.0 c.args.journal.now.items c.args.tables.now c.args.aim c.head-head.result.room c.place_between.result
     c.in-Some.place
     c.requires.kept.1.kept (ap (λ (h : Head). h.room) c.head-head.ensures.head) c.place_between.ensures c.in-Some.is in
     frames-some which.Memory c.args.journal.now.items c.in-Some.place known.is
@@ -52,7 +56,7 @@ claim-requires-clause-some c =
 pub returns-in_err-claim-clause-ends : goal.returns-in_err-claim-clause-ends
 returns-in_err-claim-clause-ends c =
     let known : IsBest c.args.journal.now.items c.in-Some.place =
-    best-found c.requires.kept.0 c.args.journal.now.items c.args.tables.now c.args.limit c.head-head.result.room c.place_between.result
+    best-found c.requires.kept.0 c.args.journal.now.items c.args.tables.now c.args.aim c.head-head.result.room c.place_between.result
     c.in-Some.place
     c.requires.kept.1.kept (ap (λ (h : Head). h.room) c.head-head.ensures.head) c.place_between.ensures c.in-Some.is in
     let p = err_from_is_err_and c.from_residual.result c.from_residual.ensures.1 in
@@ -62,7 +66,7 @@ returns-in_err-claim-clause-ends c =
 pub returns-in_err-prepare-clause-ends : goal.returns-in_err-prepare-clause-ends
 returns-in_err-prepare-clause-ends c =
     let known : IsBest c.args.journal.now.items c.in-Some.place =
-    best-found c.requires.kept.0 c.args.journal.now.items c.args.tables.now c.args.limit c.head-head.result.room c.place_between.result
+    best-found c.requires.kept.0 c.args.journal.now.items c.args.tables.now c.args.aim c.head-head.result.room c.place_between.result
     c.in-Some.place
     c.requires.kept.1.kept (ap (λ (h : Head). h.room) c.head-head.ensures.head) c.place_between.ensures c.in-Some.is in
     let p = err_from_is_err_and c.from_residual-in_err-prepare.result c.from_residual-in_err-prepare.ensures.1 in
@@ -71,19 +75,19 @@ returns-in_err-prepare-clause-ends c =
 
 pub returns-in_err-prepare-clause-kept : goal.returns-in_err-prepare-clause-kept
 returns-in_err-prepare-clause-kept c = λ kernel kept.
-    kept-same kernel c.claim.new.journal.items c.claim.new.tables c.prepare.new.self c.args.limit c.in_err-prepare.ensures.memory
+    kept-same kernel c.claim.new.journal.items c.claim.new.tables c.prepare.new.self c.args.aim c.in_err-prepare.ensures.memory
     c.in_err-prepare.ensures.reserved (c.claim.ensures.kept kernel kept)
 
 pub returns-in_err-prepare-clause-bytes : goal.returns-in_err-prepare-clause-bytes
 returns-in_err-prepare-clause-bytes c = λ kernel kept spelled.
     prepared-bytes kernel c.args.journal.now.items c.claim.new.journal.items c.claim.new.journal.items c.args.tables.now
-    c.claim.new.tables c.prepare.new.self c.args.limit kept spelled c.claim.ensures.kept c.claim.ensures.bytes refl
+    c.claim.new.tables c.prepare.new.self c.args.aim kept spelled c.claim.ensures.kept c.claim.ensures.bytes refl
     c.in_err-prepare.ensures.bytes
 
 pub returns-in_err-ready-clause-ends : goal.returns-in_err-ready-clause-ends
 returns-in_err-ready-clause-ends c =
     let known : IsBest c.args.journal.now.items c.in-Some.place =
-    best-found c.requires.kept.0 c.args.journal.now.items c.args.tables.now c.args.limit c.head-head.result.room c.place_between.result
+    best-found c.requires.kept.0 c.args.journal.now.items c.args.tables.now c.args.aim c.head-head.result.room c.place_between.result
     c.in-Some.place
     c.requires.kept.1.kept (ap (λ (h : Head). h.room) c.head-head.ensures.head) c.place_between.ensures c.in-Some.is in
     let p = err_from_is_err_and c.from_residual-in_err-ready.result c.from_residual-in_err-ready.ensures.1 in
@@ -91,30 +95,36 @@ returns-in_err-ready-clause-ends c =
     c.from_residual-in_err-ready.result known (p.1 ∙ ap (λ (e : Refusal). Err e) p.2) c.in_ok-claim.ensures.ends
     c.in_err-ready.ensures.items
 
+pub returns-in_err-ready-clause-kept : goal.returns-in_err-ready-clause-kept
+returns-in_err-ready-clause-kept c = λ kernel kept.
+    subst (λ (l : List Item). AreKept kernel l c.prepare.new.self c.args.aim) (sym c.in_err-ready.ensures.items)
+    (kept-same kernel c.claim.new.journal.items c.claim.new.tables c.prepare.new.self c.args.aim c.in_ok-prepare.ensures.memory
+    c.in_ok-prepare.ensures.reserved (c.claim.ensures.kept kernel kept))
+
 pub returns-in_err-ready-clause-bytes : goal.returns-in_err-ready-clause-bytes
 returns-in_err-ready-clause-bytes c = λ kernel kept spelled.
     prepared-bytes kernel c.args.journal.now.items c.claim.new.journal.items c.ready.new.self.items c.args.tables.now
-    c.claim.new.tables c.prepare.new.self c.args.limit kept spelled c.claim.ensures.kept c.claim.ensures.bytes
+    c.claim.new.tables c.prepare.new.self c.args.aim kept spelled c.claim.ensures.kept c.claim.ensures.bytes
     c.in_err-ready.ensures.items c.in_ok-prepare.ensures.bytes
 
 pub relocate-requires-clause-apart : goal.relocate-requires-clause-apart
 relocate-requires-clause-apart c =
     let known : IsBest c.args.journal.now.items c.in-Some.place =
-    best-found c.requires.kept.0 c.args.journal.now.items c.args.tables.now c.args.limit c.head-head.result.room c.place_between.result
+    best-found c.requires.kept.0 c.args.journal.now.items c.args.tables.now c.args.aim c.head-head.result.room c.place_between.result
     c.in-Some.place
     c.requires.kept.1.kept (ap (λ (h : Head). h.room) c.head-head.ensures.head) c.place_between.ensures c.in-Some.is in
     let taken = best-taken c.requires.kept.0 c.args.journal.now.items c.claim.new.journal.items c.in-Some.place
     (c.requires.kept.1.placed c.requires.begun)
     known c.in_ok-claim.ensures.ends in
-    memory-apart c.requires.kept.0 c.args.journal.now.items c.claim.new.journal.items c.args.tables.now c.prepare.new.self c.args.limit
+    memory-apart c.requires.kept.0 c.args.journal.now.items c.claim.new.journal.items c.args.tables.now c.prepare.new.self c.args.aim
     c.place.inside.base c.in-Some.place c.requires.kept.1.kept
-    (kept-same c.requires.kept.0 c.claim.new.journal.items c.claim.new.tables c.prepare.new.self c.args.limit
+    (kept-same c.requires.kept.0 c.claim.new.journal.items c.claim.new.tables c.prepare.new.self c.args.aim
     c.in_ok-prepare.ensures.memory c.in_ok-prepare.ensures.reserved (c.claim.ensures.kept c.requires.kept.0 c.requires.kept.1.kept))
     (c.in_ok-prepare.ensures.memory ∙ c.claim.ensures.memory) (ap (λ (e : Extent). e.base) c.place.view_is) taken
 
 pub leave-requires-clause-some : goal.leave-requires-clause-some
 leave-requires-clause-some c =
-    let left = left-found which.Memory c.requires.kept.0 c.args.journal.now.items c.args.tables.now c.args.limit c.head-head.result
+    let left = left-found which.Memory c.requires.kept.0 c.args.journal.now.items c.args.tables.now c.args.aim c.head-head.result
     c.left_place-old.result
     c.requires.kept.1.kept c.head-head.ensures.head c.left_place-old.ensures in
     left-some c.args.journal.now.items c.left_place-old.result left
@@ -122,13 +132,13 @@ leave-requires-clause-some c =
 pub leave-requires-clause-away : goal.leave-requires-clause-away
 leave-requires-clause-away c =
     let known : IsBest c.args.journal.now.items c.in-Some.place =
-    best-found c.requires.kept.0 c.args.journal.now.items c.args.tables.now c.args.limit c.head-head.result.room c.place_between.result
+    best-found c.requires.kept.0 c.args.journal.now.items c.args.tables.now c.args.aim c.head-head.result.room c.place_between.result
     c.in-Some.place
     c.requires.kept.1.kept (ap (λ (h : Head). h.room) c.head-head.ensures.head) c.place_between.ensures c.in-Some.is in
     let taken = best-taken c.requires.kept.0 c.args.journal.now.items c.claim.new.journal.items c.in-Some.place
     (c.requires.kept.1.placed c.requires.begun)
     known c.in_ok-claim.ensures.ends in
-    let left = left-found which.Memory c.requires.kept.0 c.args.journal.now.items c.args.tables.now c.args.limit c.head-head.result
+    let left = left-found which.Memory c.requires.kept.0 c.args.journal.now.items c.args.tables.now c.args.aim c.head-head.result
     c.left_place-old.result
     c.requires.kept.1.kept c.head-head.ensures.head c.left_place-old.ensures in
     let moved : MovedMemory c.args.journal.now.items c.args.tables.now c.claim.new.tables c.prepare.new.self c.relocate.new.tables
@@ -147,19 +157,19 @@ leave-requires-clause-away c =
     let next = pushed-items c.claim.new.journal c.ready.new.self c.push_ready.new.self
     (item.Grown which.Memory c.place.inside.base (2 * c.head-head.result.room)) c.in_ok-ready.ensures.items c.push_ready.ensures in
     memory-free c.requires.kept.0 c.args.journal.now.items c.claim.new.journal.items c.push_ready.new.self.items c.args.tables.now
-    c.claim.new.tables c.prepare.new.self c.relocate.new.tables c.args.limit c.place.inside.base
+    c.claim.new.tables c.prepare.new.self c.relocate.new.tables c.args.aim c.place.inside.base
     (2 * c.head-head.result.room) c.in-Some.place c.left_place-old.result c.requires.kept.1 moved c.claim.ensures.kept c.claim.ensures.bytes
-    (twice-is which.Memory c.requires.kept.0 c.args.journal.now.items c.args.tables.now c.args.limit c.head-head.result.room
+    (twice-is which.Memory c.requires.kept.0 c.args.journal.now.items c.args.tables.now c.args.aim c.head-head.result.room
     c.requires.kept.1.kept
     (ap (λ (h : Head). h.room) c.head-head.ensures.head)) taken left next
 
 pub returns-clause-ends : goal.returns-clause-ends
 returns-clause-ends c =
     let known : IsBest c.args.journal.now.items c.in-Some.place =
-    best-found c.requires.kept.0 c.args.journal.now.items c.args.tables.now c.args.limit c.head-head.result.room c.place_between.result
+    best-found c.requires.kept.0 c.args.journal.now.items c.args.tables.now c.args.aim c.head-head.result.room c.place_between.result
     c.in-Some.place
     c.requires.kept.1.kept (ap (λ (h : Head). h.room) c.head-head.ensures.head) c.place_between.ensures c.in-Some.is in
-    let left = left-found which.Memory c.requires.kept.0 c.args.journal.now.items c.args.tables.now c.args.limit c.head-head.result
+    let left = left-found which.Memory c.requires.kept.0 c.args.journal.now.items c.args.tables.now c.args.aim c.head-head.result
     c.left_place-old.result
     c.requires.kept.1.kept c.head-head.ensures.head c.left_place-old.ensures in
     let next = pushed-items c.claim.new.journal c.ready.new.self c.push_ready.new.self
@@ -167,14 +177,14 @@ returns-clause-ends c =
     memory-done c.args.journal.now.items c.claim.new.journal.items c.push_ready.new.self.items c.leave.new.journal.items c.in-Some.place
     c.place.inside.base (2 * c.head-head.result.room) c.left_place-old.result c.leave.result known (ap (λ
     (e : Extent). e.base) c.place.view_is)
-    (twice-is which.Memory c.requires.kept.0 c.args.journal.now.items c.args.tables.now c.args.limit c.head-head.result.room
+    (twice-is which.Memory c.requires.kept.0 c.args.journal.now.items c.args.tables.now c.args.aim c.head-head.result.room
     c.requires.kept.1.kept
     (ap (λ (h : Head). h.room) c.head-head.ensures.head)) left c.in_ok-claim.ensures.ends next c.leave.ensures.ends
 
 pub returns-clause-kept : goal.returns-clause-kept
 returns-clause-kept c = λ kernel kept.
     let known : IsBest c.args.journal.now.items c.in-Some.place =
-    best-found c.requires.kept.0 c.args.journal.now.items c.args.tables.now c.args.limit c.head-head.result.room c.place_between.result
+    best-found c.requires.kept.0 c.args.journal.now.items c.args.tables.now c.args.aim c.head-head.result.room c.place_between.result
     c.in-Some.place
     c.requires.kept.1.kept (ap (λ (h : Head). h.room) c.head-head.ensures.head) c.place_between.ensures c.in-Some.is in
     let moved : MovedMemory c.args.journal.now.items c.args.tables.now c.claim.new.tables c.prepare.new.self c.relocate.new.tables
@@ -192,15 +202,15 @@ returns-clause-kept c = λ kernel kept.
     } in
     let next = pushed-items c.claim.new.journal c.ready.new.self c.push_ready.new.self
     (item.Grown which.Memory c.place.inside.base (2 * c.head-head.result.room)) c.in_ok-ready.ensures.items c.push_ready.ensures in
-    c.leave.ensures.kept kernel (subst (λ (l : List Item). AreKept kernel l c.relocate.new.tables c.args.limit) (sym next)
+    c.leave.ensures.kept kernel (subst (λ (l : List Item). AreKept kernel l c.relocate.new.tables c.args.aim) (sym next)
     (memory-kept kernel c.args.journal.now.items c.claim.new.journal.items c.args.tables.now c.claim.new.tables c.prepare.new.self
-    c.relocate.new.tables c.args.limit c.place.inside.base (2 * c.head-head.result.room) c.in-Some.place kept moved
+    c.relocate.new.tables c.args.aim c.place.inside.base (2 * c.head-head.result.room) c.in-Some.place kept moved
     c.claim.ensures.kept))
 
 pub returns-clause-bytes : goal.returns-clause-bytes
 returns-clause-bytes c = λ kernel kept spelled.
     let known : IsBest c.args.journal.now.items c.in-Some.place =
-    best-found c.requires.kept.0 c.args.journal.now.items c.args.tables.now c.args.limit c.head-head.result.room c.place_between.result
+    best-found c.requires.kept.0 c.args.journal.now.items c.args.tables.now c.args.aim c.head-head.result.room c.place_between.result
     c.in-Some.place
     c.requires.kept.1.kept (ap (λ (h : Head). h.room) c.head-head.ensures.head) c.place_between.ensures c.in-Some.is in
     let moved : MovedMemory c.args.journal.now.items c.args.tables.now c.claim.new.tables c.prepare.new.self c.relocate.new.tables
@@ -220,12 +230,12 @@ returns-clause-bytes c = λ kernel kept spelled.
     (item.Grown which.Memory c.place.inside.base (2 * c.head-head.result.room)) c.in_ok-ready.ensures.items c.push_ready.ensures in
     let there = memory-kept kernel c.args.journal.now.items c.claim.new.journal.items c.args.tables.now c.claim.new.tables
     c.prepare.new.self
-    c.relocate.new.tables c.args.limit c.place.inside.base (2 * c.head-head.result.room) c.in-Some.place kept moved
+    c.relocate.new.tables c.args.aim c.place.inside.base (2 * c.head-head.result.room) c.in-Some.place kept moved
     c.claim.ensures.kept in
     let on = memory-bytes kernel c.args.journal.now.items c.claim.new.journal.items c.args.tables.now c.claim.new.tables c.prepare.new.self
-    c.relocate.new.tables c.args.limit c.place.inside.base (2 * c.head-head.result.room) c.in-Some.place kept spelled moved
+    c.relocate.new.tables c.args.aim c.place.inside.base (2 * c.head-head.result.room) c.in-Some.place kept spelled moved
     c.claim.ensures.kept c.claim.ensures.bytes in
-    let before = subst (λ (l : List Item). AreKept kernel l c.relocate.new.tables c.args.limit) (sym next) there in
+    let before = subst (λ (l : List Item). AreKept kernel l c.relocate.new.tables c.args.aim) (sym next) there in
     let path = subst (λ (l : List Item). Follows kernel c.args.journal.now.items l (byte_of c.args.tables.now.store)
     (byte_of c.relocate.new.tables.store))
     (sym next) on in

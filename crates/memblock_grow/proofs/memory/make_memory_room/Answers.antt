@@ -16,7 +16,7 @@ pub grow_memory_once-requires-2-clause-kept : goal.grow_memory_once-requires-2-c
 grow_memory_once-requires-2-clause-kept c =
     let first = c.grow_memory_once in (
       c.requires.kept.0,
-      whole-on c.requires.kept.0 c.args.journal.now.items first.new.journal.items c.args.tables.now first.new.tables c.args.limit
+      whole-on c.requires.kept.0 c.args.journal.now.items first.new.journal.items c.args.tables.now first.new.tables c.args.aim
           c.requires.kept.1
           first.ensures.kept first.ensures.bytes
           (memory_once-stands c.requires.kept.0 first.result c.args.journal.now.items first.new.journal.items
@@ -32,13 +32,13 @@ returns-clause-ends c =
 pub returns-clause-kept : goal.returns-clause-kept
 returns-clause-kept c =
     keeps-then c.args.journal.now.items c.grow_memory_once.new.journal.items c.grow_memory_once-2.new.journal.items c.args.tables.now
-    c.grow_memory_once.new.tables c.grow_memory_once-2.new.tables c.args.limit c.grow_memory_once.ensures.kept
+    c.grow_memory_once.new.tables c.grow_memory_once-2.new.tables c.args.aim c.grow_memory_once.ensures.kept
     c.grow_memory_once-2.ensures.kept
 
 pub returns-clause-bytes : goal.returns-clause-bytes
 returns-clause-bytes c =
     bytes-then c.args.journal.now.items c.grow_memory_once.new.journal.items c.grow_memory_once-2.new.journal.items c.args.tables.now
-    c.grow_memory_once.new.tables c.grow_memory_once-2.new.tables c.args.limit c.grow_memory_once.ensures.kept
+    c.grow_memory_once.new.tables c.grow_memory_once-2.new.tables c.args.aim c.grow_memory_once.ensures.kept
     c.grow_memory_once.ensures.bytes c.grow_memory_once-2.ensures.bytes
 
 pub returns-clause-room : goal.returns-clause-room
@@ -52,8 +52,8 @@ returns-clause-room c =
     let m = c.args.more.now in
     ok-map second.result (HasRoom m second.new.tables.memory ⊎ Grew first.new.tables.memory second.new.tables.memory)
     (HasRoom m second.new.tables.memory)
-    (room-twice which.Memory m kernel second.new.journal.items second.new.tables c.args.limit t.memory first.new.tables.memory
+    (room-twice which.Memory m kernel second.new.journal.items second.new.tables c.args.aim t.memory first.new.tables.memory
     (second.ensures.kept kernel (first.ensures.kept kernel kept)) first.ensures.within
-    (room-least which.Memory kernel items t c.args.limit kept) (few-kept which.Memory kernel items t c.args.limit kept)
+    (room-least which.Memory kernel items t c.args.aim kept) (few-kept which.Memory kernel items t c.args.aim kept)
     c.in_ok-grow_memory_once.ensures.grew
     (λ has. ap (λ (u : Contents). u.memory) (second.ensures.idle has).2)) second.ensures.grew

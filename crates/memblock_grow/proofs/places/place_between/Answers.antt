@@ -3,26 +3,26 @@ use Rattle.growth_model.specs.Growth.{frames_of}
 use Rattle.memblock_grow.proofs.PlaceLaws.{between-none, between-some}
 use Rattle.memblock_grow.proofs.places.place_between.Goals as goal
 
-pub find-requires-clause-aligned : goal.find-requires-clause-aligned
-find-requires-clause-aligned c = (12, refl)
+pub best-requires-clause-aligned : goal.best-requires-clause-aligned
+best-requires-clause-aligned c = (12, refl)
 
 pub returns-in_err-checked_mul : goal.returns-in_err-checked_mul
 returns-in_err-checked_mul c =
     let large = c.in_err-checked_mul.ensures in
     c.from_residual.ensures
-    ∙ between-none c.args.tables.now c.args.room c.args.lo c.args.hi c.ranges.hi.fits (λ small. large (omega arith))
+    ∙ between-none c.args.tables.now c.args.upward c.args.room c.args.lo c.args.hi c.ranges.hi.fits (λ small. large (omega arith))
 
 pub returns-in_err-size : goal.returns-in_err-size
 returns-in_err-size c =
     let large = c.in_err-size.ensures in
     let bytes : c.in_ok-checked_mul.field-0 ≡ 48 * c.args.room = let is = c.in_ok-checked_mul.ensures in omega arith in
     c.from_residual-in_err-size.ensures
-    ∙ between-none c.args.tables.now c.args.room c.args.lo c.args.hi c.ranges.hi.fits
+    ∙ between-none c.args.tables.now c.args.upward c.args.room c.args.lo c.args.hi c.ranges.hi.fits
     (λ small. let here : frames_of c.in_ok-checked_mul.field-0 ≡ frames_of (48 * c.args.room) = ap frames_of bytes in large (omega arith))
 
 pub returns : goal.returns
 returns c =
     let bytes : c.in_ok-checked_mul.field-0 ≡ 48 * c.args.room = let is = c.in_ok-checked_mul.ensures in omega arith in
     let size : c.in_ok-size.size ≡ frames_of (48 * c.args.room) = let is = c.in_ok-size.ensures in omega arith in
-    between-some c.args.tables.now c.args.room c.args.lo c.args.hi c.in_ok-size.size c.in_ok-base.base c.new.result size
-    (sym c.find.ensures ∙ c.in_ok-base.was) c.new.ensures c.ranges.hi.fits
+    between-some c.args.tables.now c.args.upward c.args.room c.args.lo c.args.hi c.in_ok-size.size c.in_ok-base.base c.new.result size
+    (sym c.best.ensures ∙ c.in_ok-base.was) c.new.ensures c.ranges.hi.fits

@@ -1,4 +1,4 @@
-use Rattle.std.proofs.Common.{◌≡◌, false, Some, None, Err, refl, sym, ◌∙◌, ap, subst}
+use Rattle.std.proofs.Common.{◌≡◌, false, Some, None, Err, refl, sym, ◌∙◌, ap, subst, arith}
 use Rattle.std.proofs.lemmas.Bool.{true≢false}
 use Rattle.std.proofs.lemmas.Option.{none-some}
 use Rattle.std.proofs.lemmas.Result.{err_from_is_err_and}
@@ -6,41 +6,46 @@ use Rattle.memblock_model.specs.declared.which.Which.TheVariants as which
 use Rattle.growth_model.specs.declared.refusal.Refusal.{Refusal}
 use Rattle.growth_model.specs.Growth.{is_full, new_in}
 use Rattle.growth_model.specs.Request.{place_for}
+use Rattle.memblock_grow.proofs.PlaceLaws.{knows-mirrors}
 use Rattle.memblock_grow.proofs.ReservedLaws.{still-bytes}
 use Rattle.memblock_grow.proofs.RequestLaws.{place-is-for, place-small, place-allowed, alloc-none, alloc-fails, alloc-done}
 use Rattle.memblock_grow.proofs.request.allocate.Goals as goal
 
+pub place_for-requires-clause-mirrors : goal.place_for-requires-clause-mirrors
+place_for-requires-clause-mirrors c =
+    knows-mirrors c.requires.kept.0 c.args.journal.now.items c.args.tables.now c.args.aim c.requires.kept.1.kept
+
 pub returns-in_default-clause-ends : goal.returns-in_default-clause-ends
 returns-in_default-clause-ends c =
-    let found = place-is-for c.requires.kept.0 c.args.journal.now.items c.args.tables.now c.args.limit c.args.request.now
+    let found = place-is-for c.requires.kept.0 c.args.journal.now.items c.args.tables.now c.args.aim c.args.request.now
     c.place_for.result None
     c.requires.kept.1.kept c.place_for.ensures c.in_default.is in
     alloc-none c.args.journal.now.items (place_for c.args.request.now c.args.journal.now.items) c.args.request.now.size c.args.owner found
 
 pub returns-in_default-clause-bytes : goal.returns-in_default-clause-bytes
 returns-in_default-clause-bytes c = λ kernel kept spelled.
-    still-bytes kernel c.args.journal.now.items c.args.journal.now.items c.args.tables.now c.args.tables.now c.args.limit refl (λ x. refl)
+    still-bytes kernel c.args.journal.now.items c.args.journal.now.items c.args.tables.now c.args.tables.now c.args.aim refl (λ x. refl)
     kept spelled
 
 pub invariant_of-range : goal.invariant_of-range
 invariant_of-range c =
-    let found = place-is-for c.requires.kept.0 c.args.journal.now.items c.args.tables.now c.args.limit c.args.request.now
+    let found = place-is-for c.requires.kept.0 c.args.journal.now.items c.args.tables.now c.args.aim c.args.request.now
     c.place_for.result (Some c.in-Some.base)
     c.requires.kept.1.kept c.place_for.ensures c.in-Some.is in
-    place-small c.requires.kept.0 c.args.journal.now.items c.args.tables.now c.args.limit c.args.request.now c.in-Some.base
-    c.requires.kept.1.kept found c.ranges.limit.fits
+    place-small c.requires.kept.0 c.args.journal.now.items c.args.tables.now c.args.aim c.args.request.now c.in-Some.base
+    c.requires.kept.1.kept found (omega arith)
 
 pub claim-requires-clause-may : goal.claim-requires-clause-may
 claim-requires-clause-may c =
-    let found = place-is-for c.requires.kept.0 c.args.journal.now.items c.args.tables.now c.args.limit c.args.request.now
+    let found = place-is-for c.requires.kept.0 c.args.journal.now.items c.args.tables.now c.args.aim c.args.request.now
     c.place_for.result (Some c.in-Some.base)
     c.requires.kept.1.kept c.place_for.ensures c.in-Some.is in
-    place-allowed c.requires.kept.0 c.args.journal.now.items c.args.tables.now c.args.limit c.args.request.now c.in-Some.base
+    place-allowed c.requires.kept.0 c.args.journal.now.items c.args.tables.now c.args.aim c.args.request.now c.in-Some.base
     c.args.owner c.requires.kept.1 c.requires.begun found
 
 pub returns-in_err-claim-clause-ends : goal.returns-in_err-claim-clause-ends
 returns-in_err-claim-clause-ends c =
-    let found = place-is-for c.requires.kept.0 c.args.journal.now.items c.args.tables.now c.args.limit c.args.request.now
+    let found = place-is-for c.requires.kept.0 c.args.journal.now.items c.args.tables.now c.args.aim c.args.request.now
     c.place_for.result (Some c.in-Some.base)
     c.requires.kept.1.kept c.place_for.ensures c.in-Some.is in
     let p = err_from_is_err_and c.from_residual.result c.from_residual.ensures.1 in
@@ -50,7 +55,7 @@ returns-in_err-claim-clause-ends c =
 
 pub returns-clause-ends : goal.returns-clause-ends
 returns-clause-ends c =
-    let found = place-is-for c.requires.kept.0 c.args.journal.now.items c.args.tables.now c.args.limit c.args.request.now
+    let found = place-is-for c.requires.kept.0 c.args.journal.now.items c.args.tables.now c.args.aim c.args.request.now
     c.place_for.result (Some c.in-Some.base)
     c.requires.kept.1.kept c.place_for.ensures c.in-Some.is in
     alloc-done c.args.journal.now.items c.claim.new.journal.items (place_for c.args.request.now c.args.journal.now.items) c.in-Some.base
@@ -58,22 +63,22 @@ returns-clause-ends c =
 
 pub returns-clause-inside : goal.returns-clause-inside
 returns-clause-inside c =
-    let found = place-is-for c.requires.kept.0 c.args.journal.now.items c.args.tables.now c.args.limit c.args.request.now
+    let found = place-is-for c.requires.kept.0 c.args.journal.now.items c.args.tables.now c.args.aim c.args.request.now
     c.place_for.result (Some c.in-Some.base)
     c.requires.kept.1.kept c.place_for.ensures c.in-Some.is in
-    place-small c.requires.kept.0 c.args.journal.now.items c.args.tables.now c.args.limit c.args.request.now c.in-Some.base
-    c.requires.kept.1.kept found c.ranges.limit.fits
+    place-small c.requires.kept.0 c.args.journal.now.items c.args.tables.now c.args.aim c.args.request.now c.in-Some.base
+    c.requires.kept.1.kept found (omega arith)
 
 pub returns-in_default-clause-ready : goal.returns-in_default-clause-ready
 returns-in_default-clause-ready c = λ place is spare idle.
-    let found = place-is-for c.requires.kept.0 c.args.journal.now.items c.args.tables.now c.args.limit c.args.request.now
+    let found = place-is-for c.requires.kept.0 c.args.journal.now.items c.args.tables.now c.args.aim c.args.request.now
     c.place_for.result None
     c.requires.kept.1.kept c.place_for.ensures c.in_default.is in
     absurd (none-some place (sym found ∙ is))
 
 pub returns-in_err-claim-clause-ready : goal.returns-in_err-claim-clause-ready
 returns-in_err-claim-clause-ready c = λ place is spare idle.
-    let found = place-is-for c.requires.kept.0 c.args.journal.now.items c.args.tables.now c.args.limit c.args.request.now
+    let found = place-is-for c.requires.kept.0 c.args.journal.now.items c.args.tables.now c.args.aim c.args.request.now
     c.place_for.result (Some c.in-Some.base)
     c.requires.kept.1.kept c.place_for.ensures c.in-Some.is in
     let at : c.in-Some.base ≡ place = cc (sym found ∙ is) in
@@ -83,7 +88,7 @@ returns-in_err-claim-clause-ready c = λ place is spare idle.
 
 pub returns-clause-ready : goal.returns-clause-ready
 returns-clause-ready c = λ place is spare idle.
-    let found = place-is-for c.requires.kept.0 c.args.journal.now.items c.args.tables.now c.args.limit c.args.request.now
+    let found = place-is-for c.requires.kept.0 c.args.journal.now.items c.args.tables.now c.args.aim c.args.request.now
     c.place_for.result (Some c.in-Some.base)
     c.requires.kept.1.kept c.place_for.ensures c.in-Some.is in
     let at : c.in-Some.base ≡ place = cc (sym found ∙ is) in

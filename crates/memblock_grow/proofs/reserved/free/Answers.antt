@@ -40,8 +40,8 @@ returns-clause-ends c =
 
 pub returns-clause-kept : goal.returns-clause-kept
 returns-clause-kept c = λ kernel kept.
-    subst (λ (l : List Item). AreKept kernel l c.uncover.new.tables c.args.limit) (sym c.in_ok-push.ensures.ok)
-    (kept-free kernel c.make_reserved_room.new.journal.items c.make_reserved_room.new.tables c.uncover.new.tables c.args.limit c.args.range
+    subst (λ (l : List Item). AreKept kernel l c.uncover.new.tables c.args.aim) (sym c.in_ok-push.ensures.ok)
+    (kept-free kernel c.make_reserved_room.new.journal.items c.make_reserved_room.new.tables c.uncover.new.tables c.args.aim c.args.range
     c.uncover.ensures.within c.in_ok-make_reserved_room.ensures.room c.uncover.ensures.reserved c.uncover.ensures.memory
     (c.make_reserved_room.ensures.kept kernel kept))
 
@@ -50,7 +50,7 @@ returns-clause-bytes c = λ kernel kept spelled.
     let mid = c.make_reserved_room.new.journal.items in
     let u = c.make_reserved_room.new.tables in
     let v = c.uncover.new.tables in
-    let after = kept-free kernel mid u v c.args.limit c.args.range c.uncover.ensures.within
+    let after = kept-free kernel mid u v c.args.aim c.args.range c.uncover.ensures.within
     c.in_ok-make_reserved_room.ensures.room c.uncover.ensures.reserved c.uncover.ensures.memory
     (c.make_reserved_room.ensures.kept kernel kept) in
     subst (λ (l : List Item). Follows kernel c.args.journal.now.items l (byte_of c.args.tables.now.store) (byte_of v.store))

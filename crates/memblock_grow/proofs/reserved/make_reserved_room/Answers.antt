@@ -16,7 +16,7 @@ pub grow_reserved_once-requires-2 : goal.grow_reserved_once-requires-2
 grow_reserved_once-requires-2 c =
     let first = c.grow_reserved_once in (
       c.requires.0,
-      whole-on c.requires.0 c.args.journal.now.items first.new.journal.items c.args.tables.now first.new.tables c.args.limit c.requires.1
+      whole-on c.requires.0 c.args.journal.now.items first.new.journal.items c.args.tables.now first.new.tables c.args.aim c.requires.1
           first.ensures.kept first.ensures.bytes
           (once-stands c.requires.0 c.args.avoid first.result c.args.journal.now.items first.new.journal.items
           (more_by which.Reserved c.args.more.now) (full-begun c.args.more.now c.args.journal.now.items first.ensures.within)
@@ -33,13 +33,13 @@ returns-clause-ends c =
 pub returns-clause-kept : goal.returns-clause-kept
 returns-clause-kept c =
     keeps-then c.args.journal.now.items c.grow_reserved_once.new.journal.items c.grow_reserved_once-2.new.journal.items c.args.tables.now
-    c.grow_reserved_once.new.tables c.grow_reserved_once-2.new.tables c.args.limit c.grow_reserved_once.ensures.kept
+    c.grow_reserved_once.new.tables c.grow_reserved_once-2.new.tables c.args.aim c.grow_reserved_once.ensures.kept
     c.grow_reserved_once-2.ensures.kept
 
 pub returns-clause-bytes : goal.returns-clause-bytes
 returns-clause-bytes c =
     bytes-then c.args.journal.now.items c.grow_reserved_once.new.journal.items c.grow_reserved_once-2.new.journal.items c.args.tables.now
-    c.grow_reserved_once.new.tables c.grow_reserved_once-2.new.tables c.args.limit c.grow_reserved_once.ensures.kept
+    c.grow_reserved_once.new.tables c.grow_reserved_once-2.new.tables c.args.aim c.grow_reserved_once.ensures.kept
     c.grow_reserved_once.ensures.bytes c.grow_reserved_once-2.ensures.bytes
 
 pub returns-clause-room : goal.returns-clause-room
@@ -53,8 +53,8 @@ returns-clause-room c =
     let m = c.args.more.now in
     ok-map second.result (HasRoom m second.new.tables.reserved ⊎ Grew first.new.tables.reserved second.new.tables.reserved)
     (HasRoom m second.new.tables.reserved)
-    (room-twice which.Reserved m kernel second.new.journal.items second.new.tables c.args.limit t.reserved first.new.tables.reserved
+    (room-twice which.Reserved m kernel second.new.journal.items second.new.tables c.args.aim t.reserved first.new.tables.reserved
     (second.ensures.kept kernel (first.ensures.kept kernel kept)) first.ensures.within
-    (room-least which.Reserved kernel items t c.args.limit kept) (few-kept which.Reserved kernel items t c.args.limit kept)
+    (room-least which.Reserved kernel items t c.args.aim kept) (few-kept which.Reserved kernel items t c.args.aim kept)
     c.in_ok-grow_reserved_once.ensures.grew
     (λ has. ap (λ (u : Contents). u.reserved) (second.ensures.idle has).2)) second.ensures.grew

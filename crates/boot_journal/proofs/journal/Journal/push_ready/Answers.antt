@@ -1,8 +1,10 @@
-use Rattle.std.proofs.Common.{◌≡◌, ap, arith}
+use Rattle.std.proofs.Common.{◌≡◌, Bool, sym, ◌∙◌, ap, arith}
 use Rattle.address_runs.specs.Runs.{IsRunsOf}
 use Rattle.memblock_model.specs.Items.{owner_of}
 use Rattle.memblock_model.proofs.ItemLaws.{AreItems-push}
 use Rattle.boot_journal.specs.Contents.{Contents}
+use Rattle.boot_journal.specs.Mirrors.{mirrors_after, mirrors_in}
+use Rattle.boot_journal.proofs.MirrorLaws.{mirrors_in-push}
 use Rattle.boot_journal.proofs.OwnerLaws.{owners_pushed, owners_within}
 use Rattle.boot_journal.proofs.journal.Journal.push_ready.Goals as goal
 
@@ -18,4 +20,6 @@ invariant_of-self c =
       omega (arith, c.self.invariant.2, c.note.ensures.len, c.note.ensures.capacity, c.requires.spare),
       runs,
       owners_within c.push_within_capacity.new.items.items c.note.new.owners.items runs c.note.ensures.within,
+      c.mirrors_after-self-inside.ensures ∙ ap (λ (m : Bool). mirrors_after m c.args.item) c.self.invariant.5
+          ∙ sym (mirrors_in-push c.self.inside.items.items c.args.item) ∙ ap mirrors_in (sym pushed),
     )

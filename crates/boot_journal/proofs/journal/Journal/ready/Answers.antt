@@ -11,6 +11,7 @@ invariant_of-self-2 c =
       omega (arith, c.in_ok-reserve-2.ensures.ok, c.in_ok-reserve-2.ensures.len, c.in-Some.ensures.1),
       rw (items, owners) c.self.invariant.3,
       rw items c.self.invariant.4,
+      rw items c.self.invariant.5,
     )
 
 pub returns-clause-enough : goal.returns-clause-enough

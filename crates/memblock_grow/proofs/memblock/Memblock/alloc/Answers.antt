@@ -4,13 +4,14 @@ use Rattle.growth_model.specs.Sound.{HasBegun}
 use Rattle.growth_model.specs.Request.{place_for}
 use Rattle.growth_model.proofs.SoundLaws.{alloc-stands}
 use Rattle.memblock_grow.specs.Contents.{Contents}
+use Rattle.memblock_grow.specs.Kept.{aimed}
 use Rattle.memblock_grow.proofs.WholeLaws.{whole-on}
 use Rattle.memblock_grow.proofs.memblock.Memblock.alloc.Goals as goal
 
 pub invariant_of-self : goal.invariant_of-self
 invariant_of-self c =
     let m = c.self.inside in
-    whole-on m.kernel m.journal.items c.allocate.new.journal.items m.tables c.allocate.new.tables m.limit c.self.invariant
+    whole-on m.kernel m.journal.items c.allocate.new.journal.items m.tables c.allocate.new.tables (aimed m.limit m.upward) c.self.invariant
     c.allocate.ensures.kept c.allocate.ensures.bytes
     (alloc-stands m.kernel c.allocate.result m.journal.items c.allocate.new.journal.items c.args.request.now c.args.owner
     c.self.invariant.placed (subst (λ (v : Contents). HasBegun v.journal.items) (sym c.self.view_is) c.requires.begun)

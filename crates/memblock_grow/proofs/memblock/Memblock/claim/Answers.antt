@@ -3,13 +3,14 @@ use Rattle.std.proofs.Common.{sym, subst, arith}
 use Rattle.growth_model.specs.Sound.{MayClaim}
 use Rattle.growth_model.proofs.SoundLaws.{claim-stands}
 use Rattle.memblock_grow.specs.Contents.{Contents}
+use Rattle.memblock_grow.specs.Kept.{aimed}
 use Rattle.memblock_grow.proofs.WholeLaws.{whole-on}
 use Rattle.memblock_grow.proofs.memblock.Memblock.claim.Goals as goal
 
 pub invariant_of-self : goal.invariant_of-self
 invariant_of-self c =
     let m = c.self.inside in
-    whole-on m.kernel m.journal.items c.claim.new.journal.items m.tables c.claim.new.tables m.limit c.self.invariant c.claim.ensures.kept
+    whole-on m.kernel m.journal.items c.claim.new.journal.items m.tables c.claim.new.tables (aimed m.limit m.upward) c.self.invariant c.claim.ensures.kept
     c.claim.ensures.bytes
     (claim-stands m.kernel c.claim.result m.journal.items c.claim.new.journal.items c.args.range c.args.owner c.self.invariant.image
     (omega arith) c.self.invariant.placed

@@ -4,6 +4,7 @@ use Rattle.phys_store.specs.Bytes.{byte_of}
 use Rattle.growth_model.specs.Sound.{IsAway}
 use Rattle.growth_model.specs.Bytes.{Filled, put}
 use Rattle.memblock_grow.specs.Contents.{Contents}
+use Rattle.memblock_grow.specs.Kept.{aimed}
 use Rattle.memblock_grow.proofs.MemblockLaws.{wrote-put, whole-fill}
 use Rattle.memblock_grow.proofs.memblock.Memblock.fill.Goals as goal
 
@@ -11,7 +12,7 @@ pub invariant_of-self-2 : goal.invariant_of-self-2
 invariant_of-self-2 c =
     let m = c.self.inside in
     let fill : Filled = record { range = c.args.range; byte = c.args.byte; at = length m.journal.items } in
-    whole-fill m.kernel m.journal.items m.tables c.fill.new.self m.limit fill
+    whole-fill m.kernel m.journal.items m.tables c.fill.new.self (aimed m.limit m.upward) fill
     (c.fill.ensures.memory ∙ c.in_ok-prepare.ensures.memory) (c.fill.ensures.reserved ∙ c.in_ok-prepare.ensures.reserved)
     (λ x. wrote-put c.prepare.new.self.store c.fill.new.self.store fill c.fill.ensures.bytes x
     ∙ ap (λ (b : ℕ). put fill x b) (c.in_ok-prepare.ensures.bytes x))

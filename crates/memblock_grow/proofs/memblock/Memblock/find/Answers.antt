@@ -2,11 +2,16 @@
 use Rattle.std.proofs.Common.{◌∙◌, ap}
 use Rattle.memblock_model.specs.Search.{best}
 use Rattle.memblock_grow.specs.Contents.{Contents}
-use Rattle.memblock_grow.proofs.PlaceLaws.{best-is}
+use Rattle.memblock_grow.specs.Kept.{aimed}
+use Rattle.memblock_grow.proofs.PlaceLaws.{best-is, knows-mirrors}
 use Rattle.memblock_grow.proofs.memblock.Memblock.find.Goals as goal
+
+pub best-requires-clause-mirrors : goal.best-requires-clause-mirrors
+best-requires-clause-mirrors c =
+    let m = c.self.inside in knows-mirrors m.kernel m.journal.items m.tables (aimed m.limit m.upward) c.self.invariant.kept
 
 pub returns : goal.returns
 returns c =
     let m = c.self.inside in
-    c.find.ensures ∙ best-is m.kernel m.journal.items m.tables m.limit c.args.query.now c.self.invariant.kept
+    c.best.ensures ∙ best-is m.kernel m.journal.items m.tables (aimed m.limit m.upward) c.args.query.now c.self.invariant.kept
     ∙ ap (λ (v : Contents). best v.journal.items c.args.query.now) c.self.view_is

@@ -5,6 +5,7 @@ use Rattle.boot_journal.specs.Contents.{Contents as Journal}
 use Rattle.growth_model.specs.Sound.{HasBegun}
 use Rattle.growth_model.specs.Bytes.{Follows}
 use Rattle.memblock_grow.specs.Contents.{Contents}
+use Rattle.memblock_grow.specs.Kept.{aimed}
 use Rattle.memblock_grow.proofs.MemblockLaws.{follows-same, follows-limit, whole-limit}
 use Rattle.memblock_grow.proofs.memblock.Memblock.set_limit.Goals as goal
 
@@ -13,13 +14,13 @@ returns-in_err-push-clause-bytes c =
     let m = c.self.inside in
     subst (λ (v : Contents). Follows v.kernel v.journal.items c.push.new.self.items (byte_of v.tables.store) (byte_of m.tables.store))
     c.self.view_is
-    (follows-same m.kernel m.journal.items c.push.new.self.items m.tables m.limit c.self.invariant
+    (follows-same m.kernel m.journal.items c.push.new.self.items m.tables (aimed m.limit m.upward) c.self.invariant
     (ap (λ (j : Journal). j.items) c.in_err-push.ensures.err))
 
 pub invariant_of-self-2 : goal.invariant_of-self-2
 invariant_of-self-2 c =
     let m = c.self.inside in
-    whole-limit m.kernel m.journal.items c.push.new.self.items m.tables m.limit c.args.at c.in_ok-push.ensures.ok
+    whole-limit m.kernel m.journal.items c.push.new.self.items m.tables (aimed m.limit m.upward) c.args.at c.in_ok-push.ensures.ok
     (subst (λ (v : Contents). HasBegun v.journal.items) (sym c.self.view_is) c.requires) c.self.invariant
 
 pub returns-clause-bytes : goal.returns-clause-bytes
@@ -27,4 +28,4 @@ returns-clause-bytes c =
     let m = c.self.inside in
     subst (λ (v : Contents). Follows v.kernel v.journal.items c.push.new.self.items (byte_of v.tables.store) (byte_of m.tables.store))
     c.self.view_is
-    (follows-limit m.kernel m.journal.items c.push.new.self.items m.tables m.limit c.args.at c.in_ok-push.ensures.ok c.self.invariant)
+    (follows-limit m.kernel m.journal.items c.push.new.self.items m.tables (aimed m.limit m.upward) c.args.at c.in_ok-push.ensures.ok c.self.invariant)

@@ -5,6 +5,7 @@ use Rattle.boot_journal.specs.Contents.{Contents as Journal}
 use Rattle.growth_model.specs.Sound.{HasBegun}
 use Rattle.growth_model.specs.Bytes.{Follows}
 use Rattle.memblock_grow.specs.Contents.{Contents}
+use Rattle.memblock_grow.specs.Kept.{aimed}
 use Rattle.memblock_grow.proofs.MemblockLaws.{follows-same, follows-trim, whole-trim}
 use Rattle.memblock_grow.proofs.memblock.Memblock.trim.Goals as goal
 
@@ -13,13 +14,13 @@ returns-in_err-push-clause-bytes c =
     let m = c.self.inside in
     subst (λ (v : Contents). Follows v.kernel v.journal.items c.push.new.self.items (byte_of v.tables.store) (byte_of m.tables.store))
     c.self.view_is
-    (follows-same m.kernel m.journal.items c.push.new.self.items m.tables m.limit c.self.invariant
+    (follows-same m.kernel m.journal.items c.push.new.self.items m.tables (aimed m.limit m.upward) c.self.invariant
     (ap (λ (j : Journal). j.items) c.in_err-push.ensures.err))
 
 pub invariant_of-self-2 : goal.invariant_of-self-2
 invariant_of-self-2 c =
     let m = c.self.inside in
-    whole-trim m.kernel m.journal.items c.push.new.self.items m.tables c.trim.new.tables m.limit c.in_ok-push.ensures.ok
+    whole-trim m.kernel m.journal.items c.push.new.self.items m.tables c.trim.new.tables (aimed m.limit m.upward) c.in_ok-push.ensures.ok
     c.trim.ensures.memory c.trim.ensures.reserved c.trim.ensures.bytes
     (subst (λ (v : Contents). HasBegun v.journal.items) (sym c.self.view_is) c.requires) c.self.invariant
 
@@ -28,5 +29,5 @@ returns-clause-bytes c =
     let m = c.self.inside in
     subst (λ (v : Contents). Follows v.kernel v.journal.items c.push.new.self.items (byte_of v.tables.store)
     (byte_of c.trim.new.tables.store)) c.self.view_is
-    (follows-trim m.kernel m.journal.items c.push.new.self.items m.tables c.trim.new.tables m.limit c.in_ok-push.ensures.ok
+    (follows-trim m.kernel m.journal.items c.push.new.self.items m.tables c.trim.new.tables (aimed m.limit m.upward) c.in_ok-push.ensures.ok
     c.trim.ensures.memory c.trim.ensures.reserved c.trim.ensures.bytes c.self.invariant)

@@ -1,6 +1,6 @@
 use Rattle.std.proofs.Common.{◌≡◌, ◌+◌, ◌*◌, length, refl, ◌∙◌, ap, arith}
 use Rattle.phys_store.specs.Bytes.{byte_of}
-use Rattle.memblock_ranges.specs.Spelling.{node_field}
+use Rattle.memblock_ranges.specs.Spelling.{flags_field, node_field}
 use Rattle.memblock_ranges.proofs.SpellLaws.{length-records_at, length-fields_of}
 use Rattle.memblock_ranges.proofs.ByteEdits.{put_table}
 use Rattle.memblock_ranges.proofs.live.LiveSlotsRecord.put.Goals as goal
@@ -31,7 +31,7 @@ write-requires c =
     let t = l.table in
     let low = length-records_at (byte_of s) h.place h.count in
     let long : length c.spell.result ≡ 24 = ap length c.spell.ensures.bytes
-    ∙ length-fields_of c.args.item.base c.args.item.size (node_field c.args.item.value) in
+    ∙ length-fields_of c.args.item.base c.args.item.size (flags_field c.args.item.value) (node_field c.args.item.value) in
     λ x from to. t.prepared x (omega (arith, from)) (omega (arith, to, long, t.few, c.requires, low))
 
 pub invariant_of-self : goal.invariant_of-self

@@ -53,7 +53,7 @@ invariant_of-self-in-Reserved c =
     let list = records_for (covered c.args.range c.label_of-label.result (value_at (list_in s r))) in
     let end : c.args.range.base + c.args.range.size ≤ 2 ^ 64 = omega (arith, c.end-end.ensures.small) in
     let none = rw c.in-Reserved.is at c.requires.node in
-    let label : c.label_of-label.result ≡ plain_label = c.label_of-label.ensures ∙ ap label_of none in
+    let label : c.label_of-label.result ≡ plain_label = c.label_of-label.ensures ∙ ap (label_of 0) none in
     let plain : HaveNoNode list = subst (λ (l : Label). HaveNoNode (records_for (covered c.args.range l (value_at (list_in s r)))))
     (sym label)
     (plain_covered c.args.range (list_in s r) both.reserved_records both.plain end) in
@@ -70,7 +70,7 @@ returns-in-Reserved-clause-other c =
     let list = records_for (covered c.args.range c.label_of-label.result (value_at (list_in s r))) in
     let end : c.args.range.base + c.args.range.size ≤ 2 ^ 64 = omega (arith, c.end-end.ensures.small) in
     let none = rw c.in-Reserved.is at c.requires.node in
-    let label : c.label_of-label.result ≡ plain_label = c.label_of-label.ensures ∙ ap label_of none in
+    let label : c.label_of-label.result ≡ plain_label = c.label_of-label.ensures ∙ ap (label_of 0) none in
     let plain : HaveNoNode list = subst (λ (l : Label). HaveNoNode (records_for (covered c.args.range l (value_at (list_in s r)))))
     (sym label)
     (plain_covered c.args.range (list_in s r) both.reserved_records both.plain end) in

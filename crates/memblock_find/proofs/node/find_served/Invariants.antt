@@ -2,14 +2,14 @@ use Rattle.std.proofs.Common.{◌≤◌}
 use Rattle.address_runs.specs.Runs.{value_at}
 use Rattle.memblock_find.specs.Places.{NoPlaceEnds}
 use Rattle.memblock_find.specs.Walk.{IsDownAt}
-use Rattle.memblock_find.proofs.node.find_on_node.Given as goal
+use Rattle.memblock_find.proofs.node.find_served.Given as goal
 
 -- no place ends above the cursor
 abbrev pub invariant-loop-cursor : goal.invariant-loop-cursor
 invariant-loop-cursor l = record {
   walk : IsDownAt l.lists.memory l.lists.reserved l.cursor;
   window : l.cursor.at ≤ l.query.hi;
-  past : NoPlaceEnds (value_at l.lists.memory) (value_at l.lists.reserved) l.query l.cursor.at l.query.hi;
+  past : NoPlaceEnds l.mirror (value_at l.lists.memory) (value_at l.lists.reserved) l.query l.cursor.at l.query.hi;
 }
 
 abbrev pub decreases-loop-cursor : goal.decreases-loop-cursor

@@ -4,14 +4,14 @@ use Rattle.address_runs.specs.Runs.{value_at}
 use Rattle.memblock_find.proofs.DownLaws.{stretch_stays, stretch_down}
 use Rattle.memblock_find.proofs.PlaceLaws.{best_answer, no_answer, none_found}
 use Rattle.memblock_find.proofs.NodeLaws.{past_refused}
-use Rattle.memblock_find.proofs.node.find_on_node.Goals as goal
+use Rattle.memblock_find.proofs.node.find_served.Goals as goal
 
 pub returns-then-is_some : goal.returns-then-is_some
 returns-then-is_some c =
     let t = c.lists_of-lists.result in
     let i = c.loop-cursor.invariant in
     rw (← c.lists_of-lists.ensures.memory, ← c.lists_of-lists.ensures.reserved)
-    (best_answer (value_at t.memory) (value_at t.reserved) c.args.query.now c.bottom.result c.loop-cursor.cursor.at
+    (best_answer c.args.mirror (value_at t.memory) (value_at t.reserved) c.args.query.now c.bottom.result c.loop-cursor.cursor.at
     c.place_in_run-place.result i.past
     (c.place_in_run-place.ensures (value_at t.memory) (value_at t.reserved)
     (stretch_stays t.memory t.reserved c.loop-cursor.cursor c.bottom.result c.label.result i.walk c.bottom.ensures c.label.ensures)
@@ -28,9 +28,9 @@ loop-cursor-preserved c =
     record {
       walk = further.down;
       window = omega (arith, i.window, further.order);
-      past = past_refused (value_at t.memory) (value_at t.reserved) c.args.query.now c.down_for-cursor.result.at c.bottom.result
-          c.requires.some (rw (c.requires.node, c.bottom.ensures) further.passed)
-          (no_answer (value_at t.memory) (value_at t.reserved) c.args.query.now c.bottom.result
+      past = past_refused c.args.mirror (value_at t.memory) (value_at t.reserved) c.args.query.now c.down_for-cursor.result.at c.bottom.result
+          c.requires.some (rw c.bottom.ensures further.passed)
+          (no_answer c.args.mirror (value_at t.memory) (value_at t.reserved) c.args.query.now c.bottom.result
           c.loop-cursor.cursor.at c.place_in_run-place.result i.past
           (c.place_in_run-place.ensures (value_at t.memory) (value_at t.reserved)
           (stretch_stays t.memory t.reserved c.loop-cursor.cursor c.bottom.result c.label.result i.walk c.bottom.ensures c.label.ensures)
@@ -43,5 +43,5 @@ returns c =
     let t = c.lists_of-lists.result in
     let low : c.loop-cursor.cursor.at ≤ max c.args.query.now.lo 4096 = grind (arith, common_steps) in
     rw (← c.lists_of-lists.ensures.memory, ← c.lists_of-lists.ensures.reserved)
-    (sym (none_found (value_at t.memory) (value_at t.reserved) c.args.query.now c.loop-cursor.cursor.at c.requires.some
+    (sym (none_found c.args.mirror (value_at t.memory) (value_at t.reserved) c.args.query.now c.loop-cursor.cursor.at c.requires.some
     c.loop-cursor.invariant.past low))

@@ -1,0 +1,45 @@
+use Rattle.std.proofs.Common.{◌≡◌, ◌≤◌, max, sym, ◌∙◌, arith}
+use Rattle.std.proofs.lemmas.Grind.{common_steps}
+use Rattle.address_runs.specs.Runs.{value_at}
+use Rattle.memblock_find.proofs.UpLaws.{stretch_rises, stretch_up}
+use Rattle.memblock_find.proofs.BottomLaws.{lowest_answer, none_yet, none_at_all}
+use Rattle.memblock_find.proofs.bottom.find_upward.Goals as goal
+
+pub returns-then-is_some : goal.returns-then-is_some
+returns-then-is_some c =
+    let t = c.lists_of-lists.result in
+    let i = c.loop-cursor.invariant in
+    rw (← c.lists_of-lists.ensures.memory, ← c.lists_of-lists.ensures.reserved)
+    (lowest_answer c.args.mirror (value_at t.memory) (value_at t.reserved) c.args.query.now c.loop-cursor.cursor.at c.top.result
+    c.place_from-place.result c.requires.some i.past
+    (c.place_from-place.ensures (value_at t.memory) (value_at t.reserved)
+    (stretch_rises t.memory t.reserved c.loop-cursor.cursor c.top.result c.label.result i.walk c.top.ensures c.label.ensures)
+    (stretch_up t.memory t.reserved c.loop-cursor.cursor c.top.result c.label.result i.walk c.top.ensures c.label.ensures))
+    (grind (arith, common_steps)) (omega arith))
+
+pub loop-cursor-preserved : goal.loop-cursor-preserved
+loop-cursor-preserved c =
+    let t = c.lists_of-lists.result in
+    let i = c.loop-cursor.invariant in
+    let at = c.up-cursor.ensures.at in
+    let memory = i.walk.memory.order in
+    let reserved = i.walk.reserved.order in
+    let top : c.top.result ≡ c.up-cursor.result.at = c.top.ensures ∙ sym at in
+    record {
+      walk = c.up-cursor.ensures.up;
+      window = omega (arith, i.window);
+      past = rw (← top) (none_yet c.args.mirror (value_at t.memory) (value_at t.reserved) c.args.query.now (max c.args.query.now.lo 4096)
+          c.loop-cursor.cursor.at c.top.result c.place_from-place.result i.past
+          (c.place_from-place.ensures (value_at t.memory) (value_at t.reserved)
+          (stretch_rises t.memory t.reserved c.loop-cursor.cursor c.top.result c.label.result i.walk c.top.ensures c.label.ensures)
+          (stretch_up t.memory t.reserved c.loop-cursor.cursor c.top.result c.label.result i.walk c.top.ensures c.label.ensures))
+          (grind (arith, common_steps)));
+    }
+
+pub returns : goal.returns
+returns c =
+    let t = c.lists_of-lists.result in
+    let high : c.args.query.now.hi ≤ c.loop-cursor.cursor.at = grind (arith, common_steps) in
+    rw (← c.lists_of-lists.ensures.memory, ← c.lists_of-lists.ensures.reserved)
+    (sym (none_at_all c.args.mirror (value_at t.memory) (value_at t.reserved) c.args.query.now c.loop-cursor.cursor.at c.requires.some
+    c.loop-cursor.invariant.past high))

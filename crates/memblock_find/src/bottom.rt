@@ -1,0 +1,75 @@
+//! The search from below (`__memblock_find_range_bottom_up`): unclaimed memory is walked from the window's start up, a
+//! stretch of one label at a time, and the first stretch in which a place lies has the least one.
+ghost use Rattle.std.specs.Prelude.{◌≡◌, ◌≢◌, ℕ, ◌^◌, ◌≤◌, true, max, min, MatchOption, Option, Some, None};
+ghost use Rattle.address_runs.specs.Runs.{value_at};
+ghost use Rattle.address_runs.specs.Sweep.{Stays};
+ghost use Rattle.memblock_model.specs.Labels.{Label as AnyLabel, Labels};
+ghost use Rattle.memblock_model.specs.Search.{top_in};
+ghost use Rattle.memblock_find.specs.Free.{unclaimed, IsUpTo};
+ghost use Rattle.memblock_find.specs.Places.{IsBetween, NoPlaceBegins, IsBestFrom};
+
+use crate::cursor::lists_of;
+use crate::node::serves;
+use crate::up::cursor_from;
+use bm_base::FRAME_SIZE;
+use memblock_model::{Label, Query};
+use memblock_ranges::Tables;
+
+/// The search from below, in mirrored memory alone or in any.
+// Apart from `find`, as `find_served` is.
+#[inline(never)]
+pub fn find_upward(tables: &Tables, query: &Query, mirror: bool) -> Option<u64>
+    requires some { 1 ≤ query.now.size }
+    requires aligned { (k : ℕ) × (query.now.align ≡ 2 ^ k) }
+    ensures { result ≡ top_in (record { mirror = mirror; up = true })
+        (value_at tables.now.memory.records) (value_at tables.now.reserved.records) query.now }
+{
+    let lists = lists_of(tables);
+    let high = query.hi;
+    let mut cursor = cursor_from(&lists, query.lo.max(FRAME_SIZE));
+    while cursor.at < high {
+        let place = place_from(query, mirror, cursor.label(), cursor.at, cursor.top());
+        if place.is_some() {
+            return place;
+        }
+        cursor = cursor.up(&lists);
+    }
+    None
+}
+
+/// The least place in the addresses from `from` up to `until`, where that is a stretch of unclaimed memory of one
+/// label, or of none, and unclaimed memory of that label doesn't go on behind it.
+fn place_from(
+    query: &Query,
+    mirror: bool,
+    label: Option<Label>,
+    from: u64,
+    until: u64,
+) -> Option<u64>
+    requires some { 1 ≤ query.now.size }
+    requires aligned { (k : ℕ) × (query.now.align ≡ 2 ^ k) }
+    requires window { max query.now.lo FRAME_SIZE ≤ from }
+    ensures { (memory reserved : Labels) → Stays (unclaimed memory reserved) from until label →
+        (label ≢ None → IsUpTo (unclaimed memory reserved) from until label) →
+        MatchOption result (NoPlaceBegins mirror memory reserved query.now from until) (IsBestFrom mirror memory reserved query.now from) }
+{
+    let Some(found) = label else {
+        return None;
+    };
+    if !serves(mirror, query.node, found) {
+        return None;
+    }
+    first_between(from, until.min(query.hi), query.size, query.align)
+}
+
+/// The least multiple of the alignment at which so many bytes lie between the two addresses.
+fn first_between(low: u64, high: u64, size: u64, align: u64) -> Option<u64>
+    requires { (k : ℕ) × (align ≡ 2 ^ k) }
+    ensures { MatchOption result ((b : ℕ) → IsBetween low high size align b → ⊥)
+        (λ a. IsBetween low high size align a × ((b : ℕ) → IsBetween low high size align b → a ≤ b)) }
+{
+    let top = high.checked_sub(size)?;
+    let past = low & (align - 1);
+    let place = low.checked_add((align - past) & (align - 1))?;
+    if place <= top { Some(place) } else { None }
+}
