@@ -34,7 +34,7 @@ def contract_end(source, match):
     body = source.find("\n" + match.group(1) + "{", match.end())
     depth = 0
     for at in range(match.end(), len(source) if body < 0 else body):
-        depth += {"{": 1, "}": -1}.get(source[at], 0)
+        depth += (source[at] in "{[") - (source[at] in "}]")
         if source[at] == ";" and depth == 0:
             return at
     return len(source) if body < 0 else body
