@@ -1,10 +1,10 @@
 //! The boot on maps that overlap, are edited and stop it, by runs from outside, and what it does to memory.
 
-ghost use Rattle.e820_model.specs.Claims.{EndInSpace};
+ghost use Rattle.e820_model.specs.Claims.{EndInSpace, HaveTypes};
 
 use crate::common::{FIRST_640K, FIRST_PAGE, KERNEL, entry, nested, run};
 use boot_model::{Booted, Inputs, Stop};
-use boot_options::read_options;
+use boot_options::{Options, read_options};
 use boot_stages::boot;
 use e820_model::Run;
 use e820_table::Entry;
@@ -27,13 +27,25 @@ fn machine() -> [Entry; 6]
     ]
 }
 
+fn put_entries(inputs: &mut Inputs, entries: Vec<Entry>)
+    requires { EndInSpace entries.items }
+{
+    inputs.ext = entries;
+}
+
+fn put_options(inputs: &mut Inputs, options: Options)
+    requires { HaveTypes options.edits.items }
+{
+    inputs.options = options;
+}
+
 // The boot of these entries, which come as an extension, and of this line.
 fn booted(alloc: Global, entries: &[Entry], line: &[u8]) -> Result<Result<Booted, Stop>, Fail>
     requires { EndInSpace entries.now }
 {
     let mut inputs = Inputs::begun(alloc, KERNEL);
-    inputs.ext = Vec::from_slice(alloc, entries)?;
-    inputs.options = read_options(alloc, line)?;
+    put_entries(&mut inputs, Vec::from_slice(alloc, entries)?);
+    put_options(&mut inputs, read_options(alloc, line)?);
     Ok(boot(alloc, inputs))
 }
 
