@@ -30,6 +30,11 @@ fn add_more(journal: &mut Journal) -> Result<(), Memory> {
     journal.push(Item::Trim)
 }
 
+// The tag of a byte of memory.
+fn memory(node: Option<u32>, mirror: bool) -> Tag {
+    Tag::Memory { node, mirror }
+}
+
 fn compare_tags(rt: &impl Abort, journal: &Journal, rows: &[(u64, Tag)]) {
     for (x, tag) in rows {
         assert!(rt; journal.tag_at(*x) == *tag, "at {x:#x}");
@@ -45,17 +50,17 @@ fn tags(rt: HostRuntime) -> Result<(), Fail> {
     let mut journal = Journal::new(rt.alloc());
     add_memory(&mut journal)?;
     let rows = [
-        (0x17FF, Tag::NoNode),
-        (0x1800, Tag::Node(1)),
-        (0x2FFE, Tag::NoNode),
+        (0x17FF, memory(None, false)),
+        (0x1800, memory(Some(1), false)),
+        (0x2FFE, memory(None, false)),
         (0x2FFF, Tag::Absent),
     ];
     compare_tags(&rt, &journal, &rows);
 
     journal.push(Item::Trim)?;
     let rows = [
-        (0, Tag::NoNode),
-        (0xFFF, Tag::NoNode),
+        (0, memory(None, false)),
+        (0xFFF, memory(None, false)),
         (0x1000, Tag::Absent),
         (0x1FFF, Tag::Absent),
         (0x2000, Tag::Absent),
@@ -65,10 +70,49 @@ fn tags(rt: HostRuntime) -> Result<(), Fail> {
     // The second trim keeps all of it.
     add_more(&mut journal)?;
     let rows = [
-        (0xFFF, Tag::Node(3)),
-        (0x1000, Tag::NoNode),
-        (0x3FFF, Tag::NoNode),
+        (0xFFF, memory(Some(3), false)),
+        (0x1000, memory(None, false)),
+        (0x3FFF, memory(None, false)),
         (0x4000, Tag::Absent),
+    ];
+    compare_tags(&rt, &journal, &rows);
+    Ok(())
+}
+
+// The upper half of a frame and the next one become mirrored, and then get a node; a trim keeps the whole one alone.
+#[test]
+fn mirrors(rt: HostRuntime) -> Result<(), Fail> {
+    let mut journal = Journal::new(rt.alloc());
+    add_memory(&mut journal)?;
+    assert!(rt; !journal.has_mirrors());
+    journal.push(Item::Mirror {
+        range: bytes(0x1C00, 0x2400),
+    })?;
+    assert!(rt; journal.has_mirrors());
+    journal.push(Item::Node {
+        range: bytes(0x2000, 0x400),
+        node: 2,
+    })?;
+    let rows = [
+        (0x1BFF, memory(Some(1), false)),
+        (0x1C00, memory(Some(1), true)),
+        (0x2000, memory(Some(2), true)),
+        (0x2400, memory(None, true)),
+        (0x2FFF, Tag::Absent),
+    ];
+    compare_tags(&rt, &journal, &rows);
+
+    journal.push(Item::Mem {
+        range: bytes(0x2FFF, 1),
+    })?;
+    journal.push(Item::Mirror {
+        range: bytes(0, 0x1000),
+    })?;
+    journal.push(Item::Trim)?;
+    let rows = [
+        (0xFFF, memory(None, true)),
+        (0x1C00, Tag::Absent),
+        (0x2FFF, Tag::Absent),
     ];
     compare_tags(&rt, &journal, &rows);
     Ok(())

@@ -7,11 +7,12 @@ use crate::machines::{has_begun, started};
 use crate::ranges::KERNEL;
 use crate::tables::FIRST_RECORD;
 use bm_base::Range;
-use boot_journal::{Journal, Owner, Which};
+use boot_journal::{Journal, Owner, Tag, Which};
 use memblock_find::Query;
 use memblock_grow::{Memblock, Refusal, Request};
 use memblock_ranges::Head;
 use std::alloc::Global;
+use std::process::Abort;
 use std::test::Fail;
 
 mod nested;
@@ -23,8 +24,10 @@ enum Step {
     Claim(u64, u64),
     Free(u64, u64),
     Node(u64, u64, u32),
+    Mirror(u64, u64),
     Trim,
     Limit(u64),
+    Upward(bool),
 }
 
 // Whether the call's conditions hold; then it is carried out.
@@ -37,12 +40,17 @@ fn act(memblock: &mut Memblock, step: Step) -> Result<bool, Refusal> {
         Step::Claim(base, size) => claim(memblock, base, size),
         Step::Free(base, size) => free(memblock, base, size),
         Step::Node(base, size, node) => set_node(memblock, base, size, node),
+        Step::Mirror(base, size) => set_mirror(memblock, base, size),
         Step::Trim => {
             memblock.trim()?;
             Ok(true)
         }
         Step::Limit(at) => {
             memblock.set_limit(at)?;
+            Ok(true)
+        }
+        Step::Upward(on) => {
+            memblock.set_upward(on)?;
             Ok(true)
         }
     }
@@ -127,6 +135,19 @@ fn set_node(memblock: &mut Memblock, base: u64, size: u64, node: u32) -> Result<
         return Ok(false);
     }
     memblock.set_node(range, node)?;
+    Ok(true)
+}
+
+fn set_mirror(memblock: &mut Memblock, base: u64, size: u64) -> Result<bool, Refusal>
+    requires { HasBegun memblock.old.journal.items }
+{
+    let Some(range) = Range::new(base, size) else {
+        return Ok(false);
+    };
+    if size == 0 {
+        return Ok(false);
+    }
+    memblock.set_mirror(range)?;
     Ok(true)
 }
 
@@ -234,6 +255,35 @@ fn allocations_come_from_the_top(rt: HostRuntime) -> Result<(), Fail> {
     }
     assert!(rt; act(&mut memblock, Step::Free(0x7FB5000, 0x1000))?);
     assert!(rt; has_counts(&memblock, 11, 5));
+    Ok(())
+}
+
+// What a frame, and more than mirrored memory holds, are given: from the top, from below, and from the top again.
+fn place_both_ways(rt: &impl Abort, memblock: &mut Memblock) -> Result<(), Refusal> {
+    let cases = [
+        (false, 0x1000, 0x4FFF000),
+        (false, 0x2000000, 0x5FE0000),
+        (true, 0x1000, 0x4000000),
+        (true, 0x1000000, 0x3000000),
+        (false, 0x1000, 0x4FFE000),
+    ];
+    for (upward, size, want) in cases {
+        carry_out(memblock, &[Step::Upward(upward)])?;
+        assert!(rt; alloc(memblock, size, (0, None), None) == Some(Ok(want)), "{size} {upward}");
+    }
+    Ok(())
+}
+
+#[test]
+fn mirrored_memory_goes_first(rt: HostRuntime) -> Result<(), Fail> {
+    let mut memblock = machine(rt.alloc())?;
+    carry_out(&mut memblock, &[Step::Mirror(0x4000000, 0x1000000)])?;
+    let mirrored = Tag::Memory {
+        node: Some(0),
+        mirror: true,
+    };
+    assert!(rt; memblock.journal().has_mirrors() && memblock.journal().tag_at(0x4FFFFFF) == mirrored);
+    place_both_ways(&rt, &mut memblock)?;
     Ok(())
 }
 
