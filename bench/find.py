@@ -5,7 +5,8 @@ usage: bench/find.py
 
 It proves and builds bench/find.main.txt as a program over a copy of the crates, in a folder of its own, and prints the nanoseconds of
 one call: the least time of several runs less that of as many with no round. `first`: a page, which the gap right below memory's end
-has; `last`: two pages, which only the memory below all claims has; `walk`: a run of unclaimed memory by `next_free`, or by `prev_free`,
+has; `last`: two pages, which only the memory below all claims has; `low`: a page, from below, where the first
+gap has it; `none`: two pages from the first claim up, which no gap has; `walk`: a run of unclaimed memory by `next_free`, or by `prev_free`,
 going over them all. The program is linked four times, its code 16 bytes further on each time, and the least of them counts: where a loop
 of few instructions lies tells for as much as a third of its time, and says nothing of the search.
 """
@@ -16,7 +17,7 @@ import tempfile
 from memblock import build_from, least_time, write_crates
 
 CRATES = ("bm_base", "address_runs", "run_edits", "memblock_model", "phys_store", "memblock_ranges", "memblock_find")
-ROUNDS = {"first": 3000000, "last": 3000, "walk": 1000}
+ROUNDS = {"first": 3000000, "last": 3000, "low": 3000000, "none": 3000, "walk": 1000}
 
 
 def placed(folder):

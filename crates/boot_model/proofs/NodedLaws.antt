@@ -87,11 +87,11 @@ first_known given made items ends carried =
     (end_reached (reach given) (value_at map) _ (memory_end-is (reach given) (value_at map))).0 in
     let some : 0 < usable_frames (reachable (reach given) (value_at map)) =
     subst (λ (t : TypeAt). 0 < usable_frames t) (sym (types_same given)) (frames_within _ known.1).0 in
-    let FirstOf : Labels → ℕ → Type 0 = λ f at. (AreOfFrames (λ x. is_some (f x)) × NothingFrom (reach given) f × NothingFrom at f × (0 <
+    let FirstOf : Labels → ℕ → Type 0 = λ f at. (AreOfFrames f × NothingFrom (reach given) f × NothingFrom at f × (0 <
     at)) in
-    let whole : AreOfFrames (λ x. is_some (usable_memory (reach given) (value_at map) x)) = λ x.
+    let whole : AreOfFrames (usable_memory (reach given) (value_at map)) = λ x.
     (let same : (4096 * (x / 4096)) / 4096 ≡ x / 4096 = omega arith in
-    ap (λ (frame : ℕ). is_some (if is_usable (reachable (reach given) (value_at map)) frame then Some plain_label else None)) (sym same)) in
+    ap (λ (frame : ℕ). if is_usable (reachable (reach given) (value_at map)) frame then Some plain_label else None) (sym same)) in
     let all : FirstOf (usable_memory (reach given) (value_at map)) (memory_end (reach given) (value_at map)) = (
       whole,
       past_end (reach given) (value_at map) (reach given) below,

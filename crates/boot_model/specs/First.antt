@@ -1,13 +1,13 @@
 -- Memory as the map gives it, before it has nodes (`e820__memblock_setup`).
-use Rattle.std.specs.Prelude.{ℕ, ◌<◌, is_some, List}
+use Rattle.std.specs.Prelude.{ℕ, ◌<◌, List}
 use Rattle.address_runs.specs.Edits.{NothingFrom}
 use Rattle.memblock_model.specs.declared.item.Item.{Item}
 use Rattle.memblock_model.specs.Items.{limit_of, memory_of}
 use Rattle.stage_model.specs.Noded.{AreOfFrames}
 
--- whole frames within the reach of the kernel's tables of memory, which end by the limit of allocations; and there are some
+-- whole frames within the reach of the kernel's tables of memory, each of one label, which end by the limit of allocations; and there are some
 pub record IsFirst (reach : ℕ) (items : List Item) : Type 0 where
-  pub frames : AreOfFrames (λ x. is_some (memory_of items x))
+  pub frames : AreOfFrames (memory_of items)
   pub within : NothingFrom reach (memory_of items)
   pub low : NothingFrom (limit_of items) (memory_of items)
   pub some : 0 < limit_of items

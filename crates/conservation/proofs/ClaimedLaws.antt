@@ -54,7 +54,9 @@ first f (item.Free range) items x who has none =
 first f (item.Mem range) items x who has none = inl (has, none)
 first f item.Trim items x who has none = inl (has, none)
 first f (item.Node range node) items x who has none = inl (has, none)
+first f (item.Mirror range) items x who has none = inl (has, none)
 first f (item.Limit at) items x who has none = inl (has, none)
+first f (item.Upward on) items x who has none = inl (has, none)
 first f (item.Grown which place room) items x who has none = inl (has, none)
 
 comes_from : (f : Owners) (items : List Item) (x : ℕ) (who : Owner) → fold owners_after f items x ≡ Some who → ComesFrom f items x who

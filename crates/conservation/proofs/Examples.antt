@@ -11,7 +11,7 @@ use Rattle.memblock_model.specs.Items.{tag_of}
 use Rattle.memblock_model.specs.declared.owner.Owner.TheVariants as owner
 use Rattle.memblock_model.specs.declared.item.Item.{Item}
 use Rattle.memblock_model.specs.declared.item.Item.TheVariants as item
-use Rattle.memblock_model.specs.declared.tag.Tag.TheVariants as tag
+use Rattle.memblock_model.specs.Labels.{node_of_tag}
 use Rattle.frame_blocks.specs.declared.block.Block.{Block}
 use Rattle.frame_blocks.specs.declared.run.TheConstants.{MAX_FRAMES}
 use Rattle.frame_blocks.specs.Frames.{Frames}
@@ -114,7 +114,8 @@ abbrev pair_of_node_one : List Item
 pair_of_node_one =
     item.Mem (record { base = 0x4000; size = 0x2000 }) ∷ (item.Node (record { base = 0x4000; size = 0x2000 }) 1 ∷ [])
 
-tagged : (frame x : ℕ) → 4 ≤ frame → frame < 6 → covers (bytes_of_frame frame) x ≡ true → tag_of pair_of_node_one x ≡ tag.Node 1
+tagged : (frame x : ℕ) → 4 ≤ frame → frame < 6 → covers (bytes_of_frame frame) x ≡ true
+    → node_of_tag (tag_of pair_of_node_one x) ≡ Some 1
 tagged frame x above below inside =
     let within : covers (record { base = 0x4000; size = 0x2000 }) x ≡ true = grind (arith, nat_tests) in rw within refl
 
@@ -156,7 +157,7 @@ five_listed node = listed_complete (five node) (five_block node) (five_alone nod
 -- it is refused as one of another node than its memory's
 other_node : (given : Given) (told : Told) → BlocksAreWhole given (telling told pair_of_node_one (five 0)) → ⊥
 other_node given told whole =
-    let same : tag.Node 1 ≡ tag.Node 0 = ((whole (five_block 0) (five_listed 0)).frames 5 refl).node 0x5000 refl in
+    let same : Some 1 ≡ Some 0 = ((whole (five_block 0) (five_listed 0)).frames 5 refl).node 0x5000 refl in
     cc same
 
 -- and it is refused as a block by itself where its buddy is free too

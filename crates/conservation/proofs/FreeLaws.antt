@@ -8,12 +8,11 @@ use Rattle.bm_base.specs.Frames.{bytes_of_frame}
 use Rattle.bm_base.proofs.EachLaws.{each_in-all, each_in-each}
 use Rattle.address_runs.specs.Edits.{NothingFrom}
 use Rattle.e820_model.specs.Usable.{is_usable}
-use Rattle.memblock_model.specs.Labels.{Label, node_tag, tag_for}
+use Rattle.memblock_model.specs.Labels.{Label, tag_for, node_of_tag}
 use Rattle.memblock_model.specs.Items.{memory_of, owner_of, tag_of}
 use Rattle.memblock_model.specs.Tables.{reserved_of, without_owner}
 use Rattle.memblock_model.specs.declared.owner.Owner.{Owner}
 use Rattle.memblock_model.specs.declared.item.Item.{Item}
-use Rattle.memblock_model.specs.declared.tag.Tag.TheVariants as tag
 use Rattle.stage_model.specs.Noded.{IsNoded}
 use Rattle.table_frames.specs.Frames.{free_in, node_below, node_of_frame, node_told}
 use Rattle.table_frames.specs.declared.frames.TheConstants.{MAX_NODES}
@@ -33,7 +32,7 @@ pub record HasNodes (given : Given) (items : List Item) : Type 0 where
 pub record IsFree (given : Given) (items : List Item) (frame node : ℕ) : Type 0 where
   pub usable : IsUsable given frame
   pub untouched : IsUntouched items frame
-  pub tags : (x : ℕ) → covers (bytes_of_frame frame) x ≡ true → tag_of items x ≡ tag.Node node
+  pub tags : (x : ℕ) → covers (bytes_of_frame frame) x ≡ true → node_of_tag (tag_of items x) ≡ Some node
 
 -- the bytes of a frame have its number
 number : (frame x : ℕ) → covers (bytes_of_frame frame) x ≡ true → x / 4096 ≡ frame
@@ -60,19 +59,15 @@ below_is : (o : Option ℕ) (n : ℕ) → node_below o ≡ Some n → o ≡ Some
 below_is None n is = absurd (cc is)
 below_is (Some m) n is = (if_some (nat_lt m MAX_NODES) (Some m) n is).1
 
-told_tag : (o : Option Label) (n : ℕ) → node_told o ≡ Some n → tag_for o ≡ tag.Node n
+told_tag : (o : Option Label) (n : ℕ) → node_told o ≡ Some n → node_of_tag (tag_for o) ≡ Some n
 told_tag None n is = absurd (cc is)
-told_tag (Some label) n is = ap node_tag (below_is label.node n is)
+told_tag (Some label) n is = below_is label.node n is
 
-tag_has : (o : Option ℕ) (n : ℕ) → node_tag o ≡ tag.Node n → o ≡ Some n
-tag_has None n is = absurd (cc is)
-tag_has (Some m) n is = cc is
-
-tag_told : (o : Option Label) (n : ℕ) → n < MAX_NODES → tag_for o ≡ tag.Node n → node_told o ≡ Some n
+tag_told : (o : Option Label) (n : ℕ) → n < MAX_NODES → node_of_tag (tag_for o) ≡ Some n → node_told o ≡ Some n
 tag_told None n low is = absurd (cc is)
 tag_told (Some label) n low is =
     let test : nat_lt n MAX_NODES ≡ true = grind (arith, nat_tests) in
-    ap node_below (tag_has label.node n is) ∙ rw test refl
+    ap node_below is ∙ rw test refl
 
 some_label : (o : Option Label) → is_some o ≡ true → (label : Label) × (o ≡ Some label)
 some_label None is = absurd (cc is)
@@ -104,15 +99,15 @@ module _ (given : Given) (items : List Item) (known : HasNodes given items) wher
         usable = ap (λ k. is_usable (types_in_reach given) k) (sym (number frame (4096 * frame) start))
             ∙ sym (known.memory (4096 * frame)) ∙ (each (4096 * frame) start).0;
         untouched = λ x inside. unowned (owner_of items x) (each x inside).1;
-        tags = λ x inside. ap tag_for (same_labels frame x inside) ∙ told_tag (memory_of items (4096 * frame)) node parts.1;
+        tags = λ x inside. ap (λ o. node_of_tag (tag_for o)) (same_labels frame x inside) ∙ told_tag (memory_of items (4096 * frame)) node parts.1;
       }
 
   -- the node of memory is below 1,024
-  low_node : (x node : ℕ) (o : Option Label) → memory_of items x ≡ o → tag_for o ≡ tag.Node node → node < MAX_NODES
+  low_node : (x node : ℕ) (o : Option Label) → memory_of items x ≡ o → node_of_tag (tag_for o) ≡ Some node → node < MAX_NODES
   low_node x node None is told = absurd (cc told)
   low_node x node (Some label) is told =
       let one = known.noded.nodes x label is in
-      let same : one.0 ≡ node = cc (sym one.1 ∙ tag_has label.node node told) in
+      let same : one.0 ≡ node = cc (sym one.1 ∙ told) in
       subst (λ (n : ℕ). n < 1024) same one.2
 
   -- and the other way round
@@ -125,7 +120,7 @@ module _ (given : Given) (items : List Item) (known : HasNodes given items) wher
       (let inside = frame_covers frame x above below in
       and_from (is_some (memory_of items x)) (is_none (reserved_of (owner_of items) x)) (held frame x free.usable inside)
       (ap (λ o. is_none (without_owner o)) (free.untouched x inside)))) in
-      let tagged : tag_for (memory_of items (4096 * frame)) ≡ tag.Node node = free.tags (4096 * frame) start in
+      let tagged : node_of_tag (tag_for (memory_of items (4096 * frame))) ≡ Some node = free.tags (4096 * frame) start in
       let low : node < MAX_NODES = low_node (4096 * frame) node (memory_of items (4096 * frame)) refl tagged in
       rw each (tag_told (memory_of items (4096 * frame)) node low tagged)
 
@@ -140,7 +135,7 @@ module _ (given : Given) (items : List Item) (known : HasNodes given items) wher
             (record {
               usable = usable;
               untouched = untouched;
-              tags = λ x inside. ap tag_for (same_labels frame x inside ∙ there.1) ∙ ap node_tag one.1;
+              tags = λ x inside. ap (λ o. node_of_tag (tag_for o)) (same_labels frame x inside ∙ there.1) ∙ one.1;
             }),
       )
 

@@ -1,14 +1,14 @@
 -- What a boot that isn't stopped makes of each frame: a usable frame is touched by a claim or is in exactly one block of the buddy lists,
 -- and no other frame is in any (`memblock_free_all`). A block is as great as it can be (`__free_one_page`). The blocks are those that the
 -- frames told as free are (`blocks_of`). They are judged by the map, the owners and the nodes of memory alone, and by no stage of the boot.
-use Rattle.std.specs.Prelude.{◌≡◌, ◌⊎◌, ℕ, ◌+◌, ◌-◌, ◌%◌, ◌^◌, ◌<◌, ◌≤◌, Bool, true, ◌&&◌, nat_le, nat_lt, List, count_by}
+use Rattle.std.specs.Prelude.{◌≡◌, ◌⊎◌, ℕ, ◌+◌, ◌-◌, ◌%◌, ◌^◌, ◌<◌, ◌≤◌, Bool, true, ◌&&◌, nat_le, nat_lt, Some, List, count_by}
 use Rattle.bm_base.specs.Extent.{covers}
 use Rattle.bm_base.specs.Frames.{bytes_of_frame}
 use Rattle.bm_base.specs.Zones.{zone_of}
 use Rattle.e820_model.specs.Usable.{is_usable}
+use Rattle.memblock_model.specs.Labels.{node_of_tag}
 use Rattle.memblock_model.specs.Items.{tag_of}
 use Rattle.memblock_model.specs.declared.item.Item.{Item}
-use Rattle.memblock_model.specs.declared.tag.Tag.TheVariants as tag
 use Rattle.frame_blocks.specs.declared.block.Block.{Block}
 use Rattle.frame_blocks.specs.declared.block.TheConstants.{MAX_ORDER}
 use Rattle.frame_blocks.specs.Listed.{Lists, blocks_of}
@@ -36,7 +36,7 @@ told_blocks told = blocks_of told.free
 pub record IsFreeFor (given : Given) (items : List Item) (b : Block) (frame : ℕ) : Type 0 where
   pub usable : IsUsable given frame
   pub untouched : IsUntouched items frame
-  pub node : (x : ℕ) → covers (bytes_of_frame frame) x ≡ true → tag_of items x ≡ tag.Node b.node
+  pub node : (x : ℕ) → covers (bytes_of_frame frame) x ≡ true → node_of_tag (tag_of items x) ≡ Some b.node
   pub zone : zone_of frame ≡ b.zone
 
 -- all frames of the block are such
