@@ -1,5 +1,5 @@
 #!/bin/sh
-# collect.sh: runs tools/collect.sh over a folder that imitates /sys, and compares what it gathered.
+# collect.sh: runs tools/collect.sh over folders that imitate /sys and /proc, and compares what it gathered.
 # Prints a line for each difference, and 'N passed, M failed' at its end.
 set -u
 unset CDPATH
@@ -54,11 +54,17 @@ printf '0x1\n' >"$params/setup_data/2/type"
 printf 'de' >"$params/setup_data/2/data"
 mkdir -p "$work/sys/firmware/acpi/tables"
 printf 'SRAT' >"$work/sys/firmware/acpi/tables/SRAT"
-printf 'mem=1G\n' >"$work/line"
+mkdir "$work/proc"
+printf 'mem=1G\n' >"$work/proc/cmdline"
+# what lies in a frame in part belongs to the image
+printf '%s\n' '00100000-3ffdefff : System RAM' '  01000000-022090c7 : Kernel code' '  02400000-02a3ffff : Kernel rodata' \
+	'  03b34000-043fe123 : Kernel bss' '240000000-27fffffff : System RAM' >"$work/proc/iomem"
+printf 'zones\n' >"$work/proc/zoneinfo"
+printf 'blocks\n' >"$work/proc/buddyinfo"
 
 # collect FOLDER: gathers the imitated machine into a folder of $work; its two outputs go to said and err there
 collect() {
-	"$top/tools/collect.sh" --sys "$work/sys" --cmdline "$work/line" "$work/$1" >"$work/said" 2>"$work/err"
+	"$top/tools/collect.sh" --sys "$work/sys" --proc "$work/proc" "$work/$1" >"$work/said" 2>"$work/err"
 }
 
 collect out
@@ -68,14 +74,21 @@ same "extension" "$work/out/e820ext.bin" 000000000000000001000000060000006162636
 same "command line" "$work/out/cmdline" 6d656d3d31470a
 same "SRAT" "$work/out/srat.bin" 53524154
 is "release" "$(cat "$work/out/release")" "$(uname -r)"
+is "kernel" "$(cat "$work/out/kernel")" "0x1000000,0x33ff000"
+for name in iomem zoneinfo buddyinfo; do
+	is "$name" "$(cat "$work/out/$name")" "$(cat "$work/proc/$name")"
+done
 is "what is told" "$(sed -e "s|$work|WORK|" -e 's/^release: .*/release/' "$work/said")" \
 	"zp.bin: zero page, 4 bytes
 e820ext.bin: the E820 extension, 22 bytes
 cmdline: command line, 7 bytes
 srat.bin: SRAT, 4 bytes
+iomem: resources, 167 bytes
+kernel: the place of its image, 0x1000000,0x33ff000
+zoneinfo: zones, 6 bytes
+buddyinfo: free blocks, 7 bytes
 release
-next: cd WORK/out && bootmem --cmdline cmdline --e820ext e820ext.bin --srat srat.bin zp.bin
-      (--kernel BASE,SIZE tells where the kernel's image lies; bootmem-live reads it from /proc/iomem)"
+next: cd WORK/out && bootmem --cmdline cmdline --e820ext e820ext.bin --srat srat.bin --kernel 0x1000000,0x33ff000 zp.bin"
 is "what is complained of" "$(sed "s|$work|WORK|" "$work/err")" \
 	"collect.sh: slit.bin: no SLIT here (WORK/sys/firmware/acpi/tables/SLIT)
 collect.sh: cmdline may hold secrets: look at it before you hand the folder on"
@@ -84,13 +97,24 @@ collect.sh: cmdline may hold secrets: look at it before you hand the folder on"
 collect "a b'c"
 is "the next command's folder" "$(sed -n "s/^next: \(cd .*\) && .*/\1/p" "$work/said" | tail -n 1)" "cd '$work/a b'\\''c'"
 
-rm -r "$params/setup_data"
+# without root the kernel shows no address
+sed 's/[0-9a-f]*-[0-9a-f]* :/00000000-00000000 :/' "$work/proc/iomem" >"$work/hidden" && mv "$work/hidden" "$work/proc/iomem"
+rm -r "$params/setup_data" "$work/proc/buddyinfo"
 collect plain
+is "status without root" "$?" 0
 is "without setup_data" "$(ls "$work/plain")" "cmdline
 release
 srat.bin
+zoneinfo
 zp.bin"
 says "words without an extension" "$(cat "$work/said")" "bootmem --cmdline cmdline --srat srat.bin zp.bin"
+is "what is hidden" "$(sed "s|$work|WORK|" "$work/err" | sed -n 2,4p)" \
+	"collect.sh: iomem: WORK/proc/iomem hides its addresses; try it as root
+collect.sh: kernel: its place isn't known, so 16 MiB to 48 MiB is assumed where --kernel BASE,SIZE doesn't tell it
+collect.sh: buddyinfo: no free blocks here (WORK/proc/buddyinfo)"
+printf 'mem=2G' >"$work/line"
+"$top/tools/collect.sh" --cmdline "$work/line" --sys "$work/sys" --proc "$work/proc" "$work/other" >"$work/said" 2>"$work/err"
+same "another command line" "$work/other/cmdline" 6d656d3d3247
 
 : >"$params/data"
 collect empty
@@ -108,16 +132,17 @@ printf 'old' >"$work/again/e820ext.bin"
 collect again
 is "what an earlier run left" "$(ls "$work/again")" "cmdline
 release
-srat.bin"
+srat.bin
+zoneinfo"
 
-for words in '' --sys "--sys $work/sys" "--unknown $work/out" "$work/out $work/out"; do
+for words in '' --sys --proc "--sys $work/sys" "--unknown $work/out" "$work/out $work/out"; do
 	# shellcheck disable=SC2086 # the words are separated by blanks
 	"$top/tools/collect.sh" $words >"$work/said" 2>"$work/err"
 	is "status for '$words'" "$? $(wc -l <"$work/said" | tr -d ' ') $(wc -l <"$work/err" | tr -d ' ')" "2 0 1"
 done
 "$top/tools/collect.sh" --help >"$work/said" 2>"$work/err"
 is "status of --help" "$? $(cat "$work/err")" "0 "
-says "--help" "$(cat "$work/said")" "usage: collect.sh [--sys DIR] [--cmdline FILE] FOLDER"
+says "--help" "$(cat "$work/said")" "usage: collect.sh [--sys DIR] [--proc DIR] [--cmdline FILE] FOLDER"
 
 echo "$passed passed, $failed failed"
 [ "$failed" -eq 0 ]

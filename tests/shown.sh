@@ -40,19 +40,40 @@ script() {
 	printf '%s\n' '#!/bin/sh' "$@" >"$file" && chmod 755 "$file"
 }
 
+# shows EXAMPLE FOLDER: what its kernel shows of its memory, in the folder: its resources, zones and free blocks. The zones are those
+# that its log tells; the free blocks are the program's.
+shows() {
+	{
+		sed -n 's/^0x0*\([0-9a-f]*\)\.\.0x0*\([0-9a-f]*\) 1 .*/\1-\2 : System RAM/p' "$1/map.txt"
+		printf '  %s\n' '1000000-22090c7 : Kernel code' '3b34000-43fffff : Kernel bss'
+		sed -n 's/^crash [a-z]* 0x0*\([0-9a-f]*\)\.\.0x0*\([0-9a-f]*\)$/  \1-\2 : Crash kernel/p' "$1/crash.txt"
+	} >"$2/iomem"
+	while read -r node zone start spanned present; do
+		printf 'Node %s, zone %8s\n        spanned  %s\n        present  %s\n  start_pfn:           %s\n' \
+			"$node" "$zone" "$spanned" "$present" "$start"
+	done >"$2/zoneinfo" <<-'END'
+		0 DMA 1 4095 3998
+		0 DMA32 4096 1044480 520159
+		0 Normal 1048576 524288 524288
+		1 Normal 1572864 1048576 1048576
+	END
+	# shellcheck disable=SC2046 # the words are separated by blanks
+	(cd "$1" && "$program" $(cat words)) >"$2/buddyinfo"
+}
+
 # stand_in COPY: a machine, that of examples/q35-8g-numa2, for the commands that look at the one they run on. The tool that
-# gathers reads /sys and /proc/cmdline of it, under both of its names; dmesg and uname -r answer for it; and an image of its
+# gathers reads /sys and /proc of it, under both of its names; dmesg and uname -r answer for it; and an image of its
 # memory, with the place of the zero page in a System.map, lies in the copy.
 stand_in() {
 	given=$top/examples/q35-8g-numa2
 	mkdir -p "$machine/sys/kernel/boot_params" "$machine/sys/firmware/acpi/tables" "$machine/proc" "$machine/bin" "$machine/tools" &&
 		cp "$given/zp.bin" "$machine/sys/kernel/boot_params/data" &&
 		cp "$given/srat.bin" "$machine/sys/firmware/acpi/tables/SRAT" &&
-		cp "$given/cmdline" "$machine/proc/cmdline" || return 1
+		cp "$given/cmdline" "$machine/proc/cmdline" && shows "$given" "$machine/proc" || return 1
 	for tool in "$1/tools/collect.sh" "$machine/bin/bootmem-collect"; do
 		real=$machine/tools/$(basename "$tool")
 		cp "$top/tools/collect.sh" "$real" &&
-			script "$tool" "exec '$real' --sys '$machine/sys' --cmdline '$machine/proc/cmdline' \"\$@\"" || return 1
+			script "$tool" "exec '$real' --sys '$machine/sys' --proc '$machine/proc' \"\$@\"" || return 1
 	done
 	# the kernel's lines for the map and the initrd, whose address and size are the u32 at 0x218 and 0x21C
 	sed 's/^\(0x[0-9a-f]*\)\.\.\(0x[0-9a-f]*\) [0-9]* \(.*\)/BIOS-e820: [mem \1-\2] \3/' "$given/map.txt" >"$machine/log" &&

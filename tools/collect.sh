@@ -4,11 +4,12 @@ set -u
 unset CDPATH
 me=${0##*/}
 sys=/sys
-cmdline=/proc/cmdline
+proc=/proc
+cmdline=
 
 help() {
 	cat <<END
-usage: $me [--sys DIR] [--cmdline FILE] FOLDER
+usage: $me [--sys DIR] [--proc DIR] [--cmdline FILE] FOLDER
 
 Gathers what this machine's kernel was given at boot into FOLDER, in the files
 that bootmem reads:
@@ -18,10 +19,15 @@ that bootmem reads:
                where one is there
   cmdline      the command line, /proc/cmdline
   srat.bin     the ACPI table SRAT, /sys/firmware/acpi/tables/SRAT (root alone)
+  kernel       the place of the kernel's image as --kernel takes it: Kernel code
+               to Kernel bss of /proc/iomem, in whole frames (root alone)
 
-and beside them, for those who read them later,
+and beside them, for bootmem-live and for those who read them later,
 
   slit.bin     the ACPI table SLIT, /sys/firmware/acpi/tables/SLIT (root alone)
+  iomem, zoneinfo, buddyinfo
+               what the kernel shows under these names in /proc; iomem where it
+               shows its addresses (root alone)
   release      the kernel's release, of uname -r
 
 Files of these names that FOLDER has already are removed first. It reads and
@@ -31,7 +37,11 @@ read to standard error. A command line may hold secrets: look at it before you
 hand the folder on.
 
   --sys DIR       what stands for /sys
+  --proc DIR      what stands for /proc
   --cmdline FILE  what stands for /proc/cmdline
+
+example:
+  $me here && bootmem-live here
 
 exit status: 0; 1 where zero page, extension or command line couldn't be read,
 or FOLDER not be written; 2 for words that aren't those above.
@@ -41,7 +51,7 @@ END
 }
 
 usage() {
-	echo "usage: $me [--sys DIR] [--cmdline FILE] FOLDER" >&2
+	echo "usage: $me [--sys DIR] [--proc DIR] [--cmdline FILE] FOLDER" >&2
 	exit 2
 }
 
@@ -55,9 +65,13 @@ while [ $# -gt 0 ]; do
 		help
 		exit 0
 		;;
-	--sys | --cmdline)
+	--sys | --proc | --cmdline)
 		[ $# -gt 1 ] || usage
-		if [ "$1" = --sys ]; then sys=$2; else cmdline=$2; fi
+		case $1 in
+		--sys) sys=$2 ;;
+		--proc) proc=$2 ;;
+		*) cmdline=$2 ;;
+		esac
 		shift 2
 		;;
 	*) break ;;
@@ -68,10 +82,11 @@ case $1 in
 -* | '') usage ;;
 esac
 folder=$1
+cmdline=${cmdline:-$proc/cmdline}
 mkdir -p "$folder" || exit 1
 folder=$(cd "$folder" && pwd) || exit 1
 # what an earlier run left would be taken for this machine's
-for name in zp.bin e820ext.bin cmdline srat.bin slit.bin release; do
+for name in zp.bin e820ext.bin cmdline srat.bin slit.bin release kernel iomem zoneinfo buddyinfo; do
 	rm -f "$folder/$name" || exit 1
 done
 
@@ -133,6 +148,30 @@ extension() {
 	rm -f "$data"
 }
 
+# The place of the kernel's image by iomem, whose lines ascend; without root its addresses are all 0.
+place() {
+	first=$(sed -n 's/^ *\([0-9a-f]*\)-[0-9a-f]* : Kernel code$/\1/p' "$folder/iomem" | head -n 1)
+	last=$(sed -n 's/^ *[0-9a-f]*-\([0-9a-f]*\) : Kernel [a-z]*$/\1/p' "$folder/iomem" | tail -n 1)
+	[ "$((0x${first:-0}))" -gt 0 ] || return 1
+	base=$((0x$first / 4096 * 4096))
+	printf '0x%x,0x%x\n' "$base" $(((0x$last / 4096 + 1) * 4096 - base)) >"$folder/kernel"
+	echo "kernel: the place of its image, $(cat "$folder/kernel")"
+}
+
+# What the kernel shows of itself: resources where they have addresses, zones, free blocks.
+shows() {
+	if [ -e "$proc/iomem" ] && ! grep -q '^ *[0-9a-f-]*[1-9a-f][0-9a-f-]* : ' "$proc/iomem" 2>/dev/null; then
+		complain "iomem: $proc/iomem hides its addresses; try it as root"
+	else
+		take "$proc/iomem" iomem "resources"
+	fi
+	if [ ! -f "$folder/iomem" ] || ! place; then
+		complain "kernel: its place isn't known, so 16 MiB to 48 MiB is assumed where --kernel BASE,SIZE doesn't tell it"
+	fi
+	take "$proc/zoneinfo" zoneinfo "zones"
+	take "$proc/buddyinfo" buddyinfo "free blocks"
+}
+
 # quoted WORD: the word as a shell reads it
 quoted() {
 	case $1 in
@@ -147,8 +186,8 @@ next() {
 	[ ! -f "$folder/cmdline" ] || printf ' --cmdline cmdline'
 	[ ! -f "$folder/e820ext.bin" ] || printf ' --e820ext e820ext.bin'
 	[ ! -f "$folder/srat.bin" ] || printf ' --srat srat.bin'
+	[ ! -f "$folder/kernel" ] || printf ' --kernel %s' "$(cat "$folder/kernel")"
 	printf ' zp.bin\n'
-	echo "      (--kernel BASE,SIZE tells where the kernel's image lies; bootmem-live reads it from /proc/iomem)"
 }
 
 failed=0
@@ -161,6 +200,7 @@ extension || failed=1
 take "$cmdline" cmdline "command line" || failed=1
 take "$sys/firmware/acpi/tables/SRAT" srat.bin "SRAT"
 take "$sys/firmware/acpi/tables/SLIT" slit.bin "SLIT"
+shows
 if uname -r >"$folder/release"; then
 	echo "release: $(cat "$folder/release")"
 fi

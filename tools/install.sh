@@ -15,6 +15,7 @@ bin=$2$3/bin
 share=$2$3/share
 man=$2$4
 tools="bootmem-draw bootmem-where bootmem-diff bootmem-live zp-from-log"
+tools="$tools bootmem-line bootmem-crash"
 tools="$tools bootmem-fleet bootmem-json claims-from-log"
 
 uninstall() {

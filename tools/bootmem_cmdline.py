@@ -1,0 +1,555 @@
+"""What a command line says to Linux 6.1, said so that bootmem reads it alike.
+
+The kernel reads words as `next_arg` splits them, but looks for `crashkernel=` in the raw line (`get_last_crashkernel`); it takes
+of a value what it understands, warns of what it doesn't and goes on, where bootmem refuses the line. `read_line` gives a line of
+which bootmem understands what the kernel does of the given one, and tells each change. Texts are bytes as Latin-1. Nothing here is
+proved.
+"""
+
+import collections
+import functools
+import os
+import re
+import sys
+import tempfile
+
+import bootmem_reports as reports
+
+LONGEST = 2047  # bytes of a line (COMMAND_LINE_SIZE without its end)
+ROUND = 128 << 20  # total memory is rounded up to this (parse_crashkernel_mem)
+TOP = reports.TOP
+LOW_LEAST = 256 << 20  # the low part without a form `S,low` (reserve_crashkernel_low)
+KEY = "crashkernel="
+NAMES = ("mem", "memmap", "crashkernel", "numa")
+
+# Words that bootmem passes over though the kernel acts on them before the free lists, and on what.
+PASSED = {
+    "movable_node": "the kernel searches from below for a while (memblock_set_bottom_up)",
+    "kernelcore": "memory goes to zone Movable, and mirrored memory is taken first",
+    "movablecore": "memory goes to zone Movable",
+    "cma": "an area is claimed before the crash area (dma_contiguous_reserve)",
+    "hugetlb_cma": "areas are claimed before the crash area (hugetlb_cma_reserve)",
+    "log_buf_len": "a longer log buffer is claimed before the crash area (setup_log_buf)",
+    "efi_fake_mem": "EFI's memory becomes soft reserved (efi_fake_memmap_early)",
+    "add_efi_memmap": "EFI's descriptors are added to the map (do_add_efi_memmap)",
+    "memtest": "bad memory is claimed before the crash area (early_memtest)",
+}
+
+# A word of the line: where it begins, its text, its name, and its value or None (next_arg).
+Word = collections.namedtuple("Word", "start text name value")
+# The crash area that is asked for: size and base by the plain form, else the size by the form high; and the size of the low part.
+Crash = collections.namedtuple("Crash", "size base high low")
+Reading = collections.namedtuple("Reading", "line changes notes")
+Total = collections.namedtuple("Total", "kernel bootmem")
+
+
+class Malformed(Exception):
+    """Why the kernel passes a value over, in the words of its warning where it has one."""
+
+
+def memparse(text, place):
+    """The number at a place, as `memparse` takes it, and the place behind it: at most one suffix, wrapping at 2^64."""
+    number, behind = number_at(text, place)
+    suffix = text[behind:behind + 1].upper()
+    if suffix and suffix in "KMGTPE":
+        return (number << 10 * ("KMGTPE".index(suffix) + 1)) & TOP, behind + 1
+    return number, behind
+
+
+def number_at(text, place):
+    """The number at a place without a suffix, and the place behind its last digit (simple_strtoull with base 0)."""
+    for form, base in ((r"0[xX]([0-9a-fA-F]+)", 16), (r"(0[0-7]*)", 8), (r"([0-9]+)", 10)):
+        match = re.compile(form).match(text, place)
+        if match:
+            return int(match.group(1), base) & TOP, match.end()
+    return 0, place
+
+
+def size_said(text, first, behind):
+    """A size as bootmem reads it alike: what stands there, or its value where that has no digit or passes 2^64 - 1."""
+    token = text[first:behind]
+    value = memparse(text, first)[0]
+    return token if plain_size(token) == value else size_text(value)
+
+
+def plain_size(token):
+    """The value of a text that is one size for bootmem, or None."""
+    if not re.fullmatch(r"(0[xX][0-9a-fA-F]+|0[0-7]*|[1-9][0-9]*)[kKmMgGtTpPeE]?", token):
+        return None
+    digits = token.rstrip("kKmMgGtTpP") if token[:2] in ("0x", "0X") else token.rstrip("kKmMgGtTpPeE")
+    number = int(digits, 16 if digits[:2] in ("0x", "0X") else 8 if digits[0] == "0" else 10)
+    number <<= 10 * ("KMGTPE".index(token[len(digits)].upper()) + 1) if len(token) > len(digits) else 0
+    return number if number <= TOP else None
+
+
+def size_text(value):
+    """A size with the greatest suffix that leaves no fraction; without one in hexadecimal, where it isn't small."""
+    for power, suffix in ((4, "T"), (3, "G"), (2, "M"), (1, "K")):
+        if value and value % (1 << 10 * power) == 0:
+            return f"{value >> 10 * power}{suffix}"
+    return str(value) if value < 4096 else f"{value:#x}"
+
+
+def mem_said(value):
+    """What `mem=` says to the kernel, as bootmem reads it alike (parse_memopt)."""
+    if value is None:
+        raise Malformed("it has no value")
+    if value == "nopentium":
+        return value
+    size, behind = memparse(value, 0)
+    if size == 0:
+        raise Malformed("no size above 0")
+    return size_said(value, 0, behind)
+
+
+def memmap_said(value):
+    """What `memmap=` says to the kernel, map option by map option (parse_memmap_opt)."""
+    said = []
+    for part in (value or "").split(","):
+        try:
+            said.append(map_option_said(part))
+        except Malformed:
+            continue
+    if not said:
+        raise Malformed("no map option")
+    return ",".join(said)
+
+
+def map_option_said(part):
+    """What one map option says (parse_memmap_one)."""
+    if part.startswith("exactmap"):
+        return "exactmap"
+    size, behind = memparse(part, 0)
+    if behind == 0:
+        raise Malformed("no size")
+    said, mark = size_said(part, 0, behind), part[behind:behind + 1]
+    if not mark or mark not in "@#$!%":
+        return said
+    start, end = memparse(part, behind + 1)
+    place = size_said(part, behind + 1, end)
+    types, adds = types_said(part[end:]) if mark == "%" else ("", True)
+    if size + start > TOP:
+        if adds:
+            raise reports.Trouble(f"memmap={part}: it adds memory beyond 2^64 - 1, and the kernel's map never settles", 2)
+        said = size_text(TOP - start)
+    return f"{said}{mark}{place}{types}"
+
+
+def types_said(text):
+    """The types of `S%A-f+t`, which are cut to 32 bits, and whether it adds memory."""
+    said, place, types = "", 0, {"-": 0, "+": 0}
+    for mark in "-+":
+        if text[place:place + 1] == mark:
+            number, behind = number_at(text, place + 1)
+            types[mark] = number % (1 << 32)
+            token = text[place + 1:behind]
+            said += f"{mark}{token if plain_size(token) == types[mark] else types[mark]}"
+            place = behind
+    if place != len(text):
+        raise Malformed("bytes behind it")
+    if types["-"] and types["-"] == types["+"]:
+        raise reports.Trouble(f"memmap= with {text}: the kernel stops with a BUG (e820__range_update)", 2)
+    return said, types["+"] != 0 and types["-"] == 0
+
+
+def numa_said(value):
+    """What `numa=` says to the kernel (numa_setup); without an SRAT all memory is node 0, as with `off`."""
+    if value is None:
+        raise Malformed("it has no value")
+    if value.startswith(("off", "noacpi")):
+        return "off"
+    if value.startswith("fake="):
+        raise Malformed("the kernel makes nodes of its own (numa_emu_cmdline), which bootmem doesn't")
+    raise Malformed("it moves no memory" if value.startswith("nohmat") else "the kernel passes it over")
+
+
+SAID = {"mem": mem_said, "memmap": memmap_said, "numa": numa_said}
+
+
+def raw_line(data):
+    """The line of a file, as the kernel has it: before the first zero byte, without one newline at its end, uncut."""
+    line = data.split(b"\0", 1)[0]
+    return (line[:-1] if line.endswith(b"\n") else line).decode("latin-1")
+
+
+def settled_line(line, changes):
+    """The line without what splits words in the kernel alone: a quotation that isn't closed, and bytes 0xA0."""
+    letters, quoted = [], False
+    for letter in line:
+        quoted ^= letter == '"'
+        letters.append(" " if letter == "\xa0" and not quoted else letter)
+    if "".join(letters) != line:
+        changes.append("byte 0xA0: a separator in the kernel: a blank in its stead")
+    if quoted:
+        changes.append("quotation mark: it isn't closed: closed at the line's end")
+        letters.append('"')
+    return "".join(letters)
+
+
+def words_of(line):
+    """The words of a line up to `--`, as `next_arg` splits it, and where `--` or else the line's end is."""
+    found = []
+    for match in re.finditer(r'(?:[^ \t\n\v\f\r"]|"[^"]*")+', line):
+        text = match.group()
+        name, value = kernel_word(text)
+        if name == "--" and value is None:
+            return found, match.start()
+        found.append(Word(match.start(), text, name, value))
+    return found, len(line)
+
+
+def kernel_word(text):
+    """Name and value of a word in the kernel, which takes one closing mark from a word and its value together (next_arg)."""
+    quoted = text.startswith('"')
+    text = text[1:] if quoted else text
+    place = text.find("=", 1)
+    if place < 0:
+        return text.removesuffix('"') if quoted else text, None
+    name, value = text[:place], text[place + 1:]
+    if value.startswith('"'):
+        return name, value[1:].removesuffix('"')
+    return name, value.removesuffix('"') if quoted else value
+
+
+def program_word(text):
+    """Name and value of a word in bootmem: the word loses its quotation marks once, and its value once more."""
+    name, equals, value = unquoted(text).partition("=")
+    return name, unquoted(value) if equals else None
+
+
+def unquoted(text):
+    """The text without a first quotation mark, and then without a last one."""
+    return text[1:].removesuffix('"') if text.startswith('"') else text
+
+
+def options_said(words, changes):
+    """The text that stands for each word, but for `crashkernel=`; an empty one where it is left out."""
+    texts = []
+    for number, word in enumerate(words, 1):
+        name, value = program_word(word.text)
+        said, reason = None, "the kernel reads another name"
+        if word.name in SAID:
+            try:
+                said = SAID[word.name](word.value)
+            except Malformed as why:
+                reason = str(why)
+        if not {word.name, name} & set(SAID) or said is not None and (word.name, said) == (name, value):
+            texts.append(word.text)
+            continue
+        texts.append("" if said is None else f"{word.name}={said}")
+        changes.append(f"word {number}: {word.text}: " + (f"left out: {reason}" if said is None else f"read as {texts[-1]}"))
+    return texts
+
+
+def last_crash(raw, suffix):
+    """Where the value of the last `crashkernel=` of a form begins in the raw line and where its word ends, or None (get_last_crashkernel)."""
+    found = None
+    for match in re.finditer(KEY, raw):
+        end = raw.find(" ", match.start())
+        end = len(raw) if end < 0 else end
+        text = raw[:end]
+        if text.endswith(suffix) if suffix else not text.endswith((",high", ",low")):
+            found = match.end(), end
+    return found
+
+
+def suffixed(raw, place, suffix):
+    """The size of a form high or low (parse_crashkernel_suffix)."""
+    size, behind = memparse(raw, place)
+    if behind == place:
+        raise Malformed("memory value expected")
+    after = raw[behind + len(suffix):behind + len(suffix) + 1]
+    if not raw.startswith(suffix, behind) or after not in (" ", ""):
+        raise Malformed(f"unrecognized char: {raw[behind:behind + 1]}")
+    return size
+
+
+def simple(raw, place):
+    """Size and base of the plain form without ranges (parse_crashkernel_simple)."""
+    size, behind = memparse(raw, place)
+    if behind == place:
+        raise Malformed("memory value expected")
+    if raw[behind:behind + 1] == "@":
+        return size, memparse(raw, behind + 1)[0]
+    if raw[behind:behind + 1] not in (" ", ""):
+        raise Malformed(f"unrecognized char: {raw[behind]}")
+    return size, 0
+
+
+def size_at(raw, place):
+    """A size that has to be there, and the place behind it."""
+    value, behind = memparse(raw, place)
+    if behind == place:
+        raise Malformed("Memory value expected")
+    return value, behind
+
+
+def mark_at(raw, place, mark):
+    """The place behind a mark that has to be there."""
+    if raw[place:place + 1] != mark:
+        raise Malformed(f"'{mark}' expected")
+    return place + 1
+
+
+def ranged(raw, place, total):
+    """Size and base of the plain form by ranges, for this total of bytes, rounded already (parse_crashkernel_mem)."""
+    while True:
+        start, place = size_at(raw, place)
+        place, end = mark_at(raw, place, "-"), TOP
+        if raw[place:place + 1] != ":":
+            end, place = size_at(raw, place)
+            if end <= start:
+                raise Malformed("end <= start")
+        size, place = size_at(raw, mark_at(raw, place, ":"))
+        if size >= total:
+            raise Malformed("invalid size")
+        if start <= total < end:
+            break
+        if raw[place:place + 1] != ",":
+            return 0, 0
+        place += 1
+    base = re.compile(r"[^ @]*@").match(raw, place)
+    return size, size_at(raw, base.end())[0] if size and base else 0
+
+
+def round_up(total):
+    """Total memory as the kernel compares it with ranges."""
+    return -(-total // ROUND) * ROUND
+
+
+def kernel_crash(raw, words, total):
+    """What the raw line says of the crash area (parse_crashkernel, reserve_crashkernel); for each form where its value stands in the
+    raw line; and by this place why the kernel passes it over, where it does."""
+    said, places, faults = {"plain": (0, 0), "high": 0, "low": None}, {}, {}
+    for form, suffix in (("plain", ""), ("high", ",high"), ("low", ",low")):
+        found = last_crash(raw, suffix)
+        if found is None:
+            continue
+        place, end = found
+        places[form] = place
+        try:
+            if suffix:
+                said[form] = suffixed(raw, place, suffix)
+            elif ":" in raw[place:end]:
+                said[form] = ranged(raw, place, round_up(total().kernel))
+            else:
+                said[form] = simple(raw, place)
+        except Malformed as why:
+            faults[place] = f"the kernel warns: {why}"
+    return asked(*said["plain"], said["high"], said["low"], low_default(words)), places, faults
+
+
+def asked(size, base, high, low, default):
+    """What is asked for: the form high counts where the plain one has no size, and a low part only where one of them has."""
+    if size:
+        high = 0
+    elif high:
+        base = 0
+    else:
+        return Crash(0, 0, 0, 0)
+    return Crash(size, base, high, default if low is None else low)
+
+
+def low_default(words):
+    """The size of the low part without a form `S,low`: 256 MiB, or what `swiotlb=` asks for and 8 MiB (reserve_crashkernel_low)."""
+    slabs = 0
+    for word in words:
+        if word.name == "swiotlb" and (word.value or "")[:1].isdigit():
+            slabs = -(-number_at(word.value, 0)[0] // 128) * 128
+    return max(LOW_LEAST, slabs * 2048 + (8 << 20)) if slabs else LOW_LEAST
+
+
+SIZE = r"(?:0[xX][0-9a-fA-F]+|[0-9]+)[kKmMgGtTpPeE]?"
+
+
+def program_plain(value):
+    """Ranges (start, end or None, size) and base of the plain form for bootmem, or None where it refuses it."""
+    body, _, base = value.partition("@")
+    parts = [re.fullmatch(rf"(?:({SIZE})-({SIZE})?:)?({SIZE})", part) for part in body.split(",")]
+    if not all(parts) or len(parts) > 1 and not all(part.group(1) for part in parts):
+        return None
+    texts = [text for part in parts for text in part.groups() if text] + ([base] if "@" in value else [])
+    if None in map(plain_size, texts):
+        return None
+    ranges = [tuple(None if text is None else plain_size(text) for text in part.groups()) for part in parts]
+    if any(start is not None and end is not None and end <= start for start, end, _ in ranges):
+        return None
+    return [(start or 0, end, size) for start, end, size in ranges], plain_size(base) if base else 0
+
+
+def program_crash(words, total):
+    """What bootmem takes the words for, or None where it refuses one."""
+    plain, said = ([], 0), {"high": 0, "low": None}
+    for word in words:
+        name, value = program_word(word.text)
+        if name != "crashkernel":
+            continue
+        suffixed_size = re.fullmatch(rf"({SIZE}),(high|low)", value or "")
+        if suffixed_size:
+            said[suffixed_size.group(2)] = heard = plain_size(suffixed_size.group(1))
+        else:
+            plain = heard = program_plain(value or "")
+        if heard is None:
+            return None
+    ranges, base = plain
+    have = total().bootmem if any(one[:2] != (0, None) for one in ranges) else 0
+    size = next((size for start, end, size in ranges if start <= have and (end is None or have < end)), 0)
+    return asked(size, base if size else 0, said["high"], said["low"], LOW_LEAST)
+
+
+def crash_words(crash):
+    """The words that ask bootmem for this area, by the form whose value they have."""
+    found = {}
+    if crash.size:
+        found["plain"] = f"crashkernel={size_text(crash.size)}" + (f"@{size_text(crash.base)}" if crash.base else "")
+    if crash.high:
+        found["high"] = f"crashkernel={size_text(crash.high)},high"
+    if found and crash.low != LOW_LEAST:
+        found["low"] = f"crashkernel={size_text(crash.low)},low"
+    return found
+
+
+def crash_said(raw, words, texts, total, changes):
+    """The texts with `crashkernel=` as the kernel reads it, and the words that are put in behind them."""
+    wanted, places, faults = kernel_crash(raw, words, total)
+    if program_crash(words, total) == wanted:
+        return []
+    found = crash_words(wanted)
+    for index, word in enumerate(words):
+        if program_word(word.text)[0] != "crashkernel":
+            continue
+        forms = [form for form, place in places.items() if word.start <= place < word.start + len(word.text)]
+        form = next((form for form in forms if form in found), None)
+        if form:
+            texts[index] = found.pop(form)
+            if texts[index] != word.text:
+                changes.append(f"word {index + 1}: {word.text}: read as {texts[index]}{why_size(word.text, total)}")
+        else:
+            texts[index] = ""
+            changes.append(f"word {index + 1}: {word.text}: left out: {why_unused(forms, places, faults)}")
+    for form, text in found.items():
+        where = f"the kernel finds it in the raw line, from byte {places[form] - len(KEY) + 1} on" if form in places else "the low part that swiotlb= asks for"
+        changes.append(f"{text}: put in: {where}{why_size(raw[places[form]:].split(' ')[0], total) if form in places else ''}")
+    return list(found.values())
+
+
+def why_size(text, total):
+    """Why a form by ranges has another size in the kernel; empty for the others."""
+    if ":" not in text:
+        return ""
+    have = total().kernel
+    return f", since total memory, {have} bytes, counts as {size_text(round_up(have))} (parse_crashkernel_mem)"
+
+
+def why_unused(forms, places, faults):
+    """Why the kernel takes no size from a word."""
+    for form in forms:
+        return faults.get(places[form], "it asks for nothing there")
+    return "the kernel takes a later one, or none"
+
+
+def words_noted(words):
+    """What bootmem passes over though the kernel acts on it, and names that are nearly its own."""
+    for number, word in enumerate(words, 1):
+        name = word.name.replace("-", "_")
+        if name in PASSED:
+            yield f"word {number}: {word.text}: passed over: {PASSED[name]}"
+        elif name == "acpi" and word.value == "off":
+            yield f"word {number}: {word.text}: passed over: the kernel reads no SRAT; give none"
+        elif word.name not in NAMES and near(name):
+            yield f"word {number}: {word.text}: passed over, by the kernel too: is {near(name)}= meant?"
+
+
+def near(name):
+    """The one of bootmem's own names that differs from this one by case, by a sign `_` or `-`, or by one letter or two; else None."""
+    plain = name.lower().replace("_", "").replace("-", "")
+    for own, most in (("crashkernel", 2), ("memmap", 1), ("numa", 1), ("mem", 0)):
+        if distance(plain, own) <= most:
+            return own
+    return None
+
+
+def distance(one, two):
+    """How many letters are to be added, taken away, replaced or swapped with the next, from one text to the other."""
+    before, row = [], list(range(len(two) + 1))
+    for i, letter in enumerate(one, 1):
+        older, before, row = before, row, [i]
+        for j, other in enumerate(two, 1):
+            row.append(min(before[j] + 1, row[j - 1] + 1, before[j - 1] + (letter != other)))
+            if i > 1 and j > 1 and letter == two[j - 2] and one[i - 2] == other:
+                row[j] = min(row[j], older[j - 2] + 1)
+    return row[-1]
+
+
+def read_line(data, total=None):
+    """A line that bootmem reads as the kernel reads the file's bytes. `total` gives total memory, of type Total, for a line without
+    `crashkernel=`; it is called where a size depends on it."""
+    changes, raw = [], raw_line(data)
+    if len(raw) > LONGEST:
+        changes.append(f"byte {LONGEST + 1} and all behind it: cut off, as the kernel does")
+        raw = raw[:LONGEST]
+    line = settled_line(raw, changes)
+    words, end = words_of(line)
+    texts = options_said(words, changes)
+    others = " ".join(text for word, text in zip(words, texts) if text and program_word(word.text)[0] != "crashkernel")
+    more = crash_said(raw, words, texts, functools.lru_cache(None)(lambda: total_for(total, others)), changes)
+    if changes:
+        line = " ".join([text for text in texts + more if text] + ([line[end:]] if line[end:] else []))
+    return Reading(line, [shown(said) for said in changes], [shown(said) for said in words_noted(words)])
+
+
+def shown(text):
+    """A text of the line for a terminal: as UTF-8, and nothing that moves the cursor."""
+    decoded = text.encode("latin-1").decode("utf-8", "replace")
+    return "".join(letter if letter.isprintable() else f"\\x{ord(letter):02x}" for letter in decoded)
+
+
+def total_for(total, line):
+    """Total memory for a line, where something tells it."""
+    if total is None:
+        raise reports.Trouble("crashkernel= has ranges, so its size depends on how much memory there is: "
+                              "name the zero page, or --total", 2)
+    return total(line)
+
+
+def total_by(program, words, folder=None):
+    """A function from a line to total memory by the map of the named program, or of the one that is found: the kernel counts the bytes of frames that are memory in part,
+    where they are beside a whole one (memblock_trim_memory)."""
+    def total(line):
+        with tempfile.TemporaryDirectory() as work:
+            path = os.path.join(work, "line")
+            write_line(path, line)
+            lines = reports.run_program(reports.find_program(program), ["map"], ["--cmdline", path] + words, folder)["map"]
+        counted, whole = 0, 0
+        for first, last in joined(reports.spans("map", lines)):
+            frames = (last + 1) // reports.FRAME - -(-first // reports.FRAME)
+            if frames > 0:
+                counted, whole = counted + last + 1 - first, whole + frames * reports.FRAME
+        return Total(counted, whole)
+    return total
+
+
+def joined(entries):
+    """The ranges of memory of a map, neighbours joined."""
+    found = []
+    for entry in entries:
+        if entry.fields["type"] in ("1", "128"):
+            if found and found[-1][1] + 1 == entry.first:
+                found[-1] = (found[-1][0], entry.last)
+            else:
+                found.append((entry.first, entry.last))
+    return found
+
+
+def read_bytes(path):
+    """The bytes of a file, or of standard input where the path is `-`."""
+    if path == "-":
+        return sys.stdin.buffer.read()
+    with open(path, "rb") as file:
+        return file.read()
+
+
+def write_line(path, line):
+    """Writes a line of the bytes as they are, with a newline."""
+    with open(path, "wb") as file:
+        file.write(line.encode("latin-1") + b"\n")
