@@ -519,6 +519,15 @@ def test_early(work):
     # what the kernel claimed before lay on the area's place by the program alone
     check("early: without them", program(example("ovmf-4g-numa2"), "--report", "crash", *words_of("ovmf-4g-numa2")).split()[2:],
           ["0x0000000075000000..0x000000007cffffff"])
+    # a grown table lies below what the kernel had claimed there
+    grown = claims_log_of("zp-holes260") + "memblock: memory is doubled to 512 at [0x9a000-0x9cfff]\n"
+    lower = re.sub(r"\[0x0{11}9f000-", "[0x000000000009c000-", grown).replace("[0x9a000-0x9cfff]", "[0x97000-0x99fff]").replace(
+        "[0x000000000009a000-0x000000000009cfff]", "[0x0000000000097000-0x0000000000099fff]")
+    for text, place in ((grown, 0x9A000), (lower, 0x97000)):
+        _, out, err = tool("claims-from-log", "--e820ext", files[0], "--over", example("zp-holes260", "e820ext.bin"), "--kernel",
+                           "0x1000000,0x3400000", given=text)
+        tables = program(example("zp-holes260"), "--report", "tables", *out.split(), "--cmdline", "cmdline", "zp.bin")
+        check(f"early: a grown table at {place:#x}", (err, tables.split()[2:5]), ("", [f"{place:#018x}", "room", "512"]))
     old = struct.pack("<QIIQQI", 0, 1, 20, 1 << 40, 4096, 2)
     write(files[1], old)
     tool("claims-from-log", "--e820ext", files[0], "--over", files[1], given=log)

@@ -10,6 +10,7 @@ import collections
 import functools
 import os
 import re
+import sys
 import tempfile
 
 import bootmem_reports as reports
@@ -396,7 +397,7 @@ def program_crash(words, total):
     return asked(size, base if size else 0, said["high"], said["low"], LOW_LEAST)
 
 
-def crash_words(crash, places):
+def crash_words(crash):
     """The words that ask bootmem for this area, by the form whose value they have."""
     found = {}
     if crash.size:
@@ -413,7 +414,7 @@ def crash_said(raw, words, texts, total, changes):
     wanted, places, faults = kernel_crash(raw, words, total)
     if program_crash(words, total) == wanted:
         return []
-    found = crash_words(wanted, places)
+    found = crash_words(wanted)
     for index, word in enumerate(words):
         if program_word(word.text)[0] != "crashkernel":
             continue
@@ -538,6 +539,14 @@ def joined(entries):
             else:
                 found.append((entry.first, entry.last))
     return found
+
+
+def read_bytes(path):
+    """The bytes of a file, or of standard input where the path is `-`."""
+    if path == "-":
+        return sys.stdin.buffer.read()
+    with open(path, "rb") as file:
+        return file.read()
 
 
 def write_line(path, line):

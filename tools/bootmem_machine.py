@@ -46,8 +46,12 @@ def text_in(folder, name):
 
 
 def kernel_in(folder):
-    """The kernel's place in a folder of collect.sh: by its file `kernel`, else by its iomem; None where neither tells."""
+    """The kernel's place in a folder of collect.sh: by its file `kernel`, else by `words` (as under examples/), else by its iomem; None
+    where none of them tells."""
     told = text_in(folder, "kernel")
+    words = (text_in(folder, "words") or "").split()
+    if told is None and "--kernel" in words[:-1]:
+        told = words[words.index("--kernel") + 1]
     return told.strip() if told is not None else image_place(read_iomem(text_in(folder, "iomem") or ""))
 
 
@@ -56,17 +60,12 @@ def files_in(folder):
     return [word for option, name in FILES if os.path.exists(os.path.join(folder, name)) for word in (option, name)]
 
 
-def bytes_in(folder, name):
-    """The bytes of a file of the folder."""
-    with open(os.path.join(folder, name), "rb") as file:
-        return file.read()
-
-
-def line_in(program, folder, data=None):
-    """The folder's command line, or other bytes in its stead, as the kernel reads it over the folder's map."""
-    if data is None:
-        data = bytes_in(folder, "cmdline") if os.path.exists(os.path.join(folder, "cmdline")) else b""
-    extension = [word for word in files_in(folder)[:2] if files_in(folder)[0] == "--e820ext"]
+def line_in(program, folder):
+    """The folder's command line as the kernel reads it over the folder's map."""
+    path = os.path.join(folder, "cmdline")
+    data = cmdline.read_bytes(path) if os.path.exists(path) else b""
+    words = files_in(folder)
+    extension = words[:2] if "--e820ext" in words else []
     return cmdline.read_line(data, cmdline.total_by(program, extension + ["zp.bin"], folder))
 
 
