@@ -1,3 +1,4 @@
 pub mod FieldLaws
 pub mod SplitLaws
 pub mod ReportLaws
+mod Examples

@@ -5,3 +5,4 @@ pub mod FrameLaws
 pub mod OrderLaws
 pub mod ConservedLaws
 pub mod WalkLaws
+mod Examples

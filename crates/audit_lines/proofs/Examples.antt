@@ -1,0 +1,112 @@
+-- Worked examples of the definitions.
+use Rattle.std.proofs.Common.{◌≡◌, ℕ, ◌+◌, ◌*◌, ◌^◌, ◌≤◌, true, false, List, [], ◌∷◌, codes, Some, None, Ok, Err, Result, Option, refl, arith}
+use Rattle.bm_base.specs.Extent.{Extent}
+use Rattle.bm_base.specs.declared.zone.Zone.TheVariants as zones
+use Rattle.audit_lines.specs.Blocks.{Block, IsBlock, bytes_of_block}
+use Rattle.audit_lines.specs.Fields.{behind, ends, is_lower_hex, number_in, range_of}
+use Rattle.audit_lines.specs.Forms.{bounded, guard, is_just, is_numbered, is_owner, kind_name, zone_in}
+use Rattle.audit_lines.specs.Lines.{Ascend, StartFrom}
+use Rattle.audit_lines.specs.Reports.{report_of, split_lines}
+use Rattle.audit_lines.specs.declared.report.LineFault.{LineFault}
+use Rattle.audit_lines.specs.declared.report.LineFault.TheVariants as faults
+
+-- a block of two frames at 8 KiB
+abbrev pair : Block
+pair = record { node = 0; zone = zones.Dma; order = 1; at = 8192 }
+
+pair_bytes : bytes_of_block pair ≡ record { base = 8192; size = 8192 }
+pair_bytes = refl
+
+-- behind a front stands the rest, and behind another nothing
+front_there : behind (codes "node ") (codes "node 7") ≡ Some (codes "7")
+unfolding behind
+front_there = refl
+
+front_other : behind (codes "node ") (codes "mode 7") ≡ None
+unfolding behind
+front_other = refl
+
+-- `0` alone is 0; `07` leaves the 7
+zero_alone : number_in 10 (codes "0 A") ≡ Some (0, codes " A")
+unfolding number_in
+zero_alone = refl
+
+leading_zero : number_in 10 (codes "07") ≡ Some (0, codes "7")
+unfolding number_in
+leading_zero = refl
+
+-- a range of one byte, and one whose last byte is before its first
+one_byte : range_of 4096 4096 ≡ Some (record { base = 4096; size = 1 })
+one_byte = refl
+
+backwards : range_of 4096 4095 ≡ None
+backwards = refl
+
+-- digits are lower case
+lower : is_lower_hex 97 ≡ true
+lower = refl
+
+upper : is_lower_hex 65 ≡ false
+upper = refl
+
+-- types have their own names
+name_of_ram : kind_name 1 ≡ codes "usable"
+unfolding kind_name
+name_of_ram = refl
+
+name_of_others : kind_name 6 ≡ codes "other"
+unfolding kind_name
+name_of_others = refl
+
+-- names of owners are whole
+whole_name : is_just (codes "crash") (codes "crash") ≡ true
+unfolding is_just behind
+whole_name = refl
+
+longer_name : is_just (codes "crash") (codes "crash-low") ≡ false
+unfolding is_just behind
+longer_name = refl
+
+-- the zone of 32 bits begins as the zone of 16 MiB does
+zone_32 : zone_in (codes "DMA32 o") ≡ Some (zones.Dma32, codes " o")
+unfolding zone_in behind
+zone_32 = refl
+
+zone_16 : zone_in (codes "DMA o") ≡ Some (zones.Dma, codes " o")
+unfolding zone_in behind
+zone_16 = refl
+
+-- a text falls apart at its newlines, and what stands behind the last one is left
+two_lines : split_lines (codes "a\n\nb") ≡ (codes "a" ∷ [] ∷ [], codes "b")
+unfolding split_lines
+two_lines = refl
+
+-- lines that are one byte each: their own address. The second line of "ba" begins below the first
+abbrev letter : ℕ → List ℕ → Option Extent
+letter index [] = None
+letter index (b ∷ []) = Some (record { base = b; size = 1 })
+letter index (b ∷ c ∷ cs) = None
+
+in_letters : report_of letter (λ r. r) (codes "a\nb\n") ≡ Ok (record { base = 97; size = 1 } ∷ record { base = 98; size = 1 } ∷ [])
+unfolding split_lines
+in_letters = refl
+
+out_of_order : report_of letter (λ r. r) (codes "b\na\n") ≡ Err (faults.Order 2)
+unfolding split_lines
+out_of_order = refl
+
+-- form goes before order, and the lowest line first
+form_first : report_of letter (λ r. r) (codes "b\n\na\n") ≡ Err (faults.Form 2)
+unfolding split_lines
+form_first = refl
+
+no_newline : report_of letter (λ r. r) (codes "a\nb") ≡ Err (faults.Form 2)
+unfolding split_lines
+no_newline = refl
+
+-- ranges that touch are in order, those that share a byte aren't
+touching : Ascend (record { base = 0; size = 4 } ∷ record { base = 4; size = 4 } ∷ [])
+touching = (omega arith, (tt, tt))
+
+sharing : Ascend (record { base = 0; size = 5 } ∷ record { base = 4; size = 4 } ∷ []) → ⊥
+sharing order = let first : 5 ≤ 4 = order.0 in omega arith
