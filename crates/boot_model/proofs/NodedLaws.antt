@@ -1,5 +1,5 @@
 -- Memory behind the map, and behind its nodes: what each stage may rest on.
-use Rattle.std.proofs.Common.{◌≡◌, ℕ, ◌*◌, ◌/◌, ◌<◌, ◌≤◌, ◌^◌, ◌∙◌, false, is_some, Option, Some, None, if◌then◌else◌, List, [], drop, Ok, refl, ap, sym, subst, inl, inr, arith}
+use Rattle.std.proofs.Common.{◌≡◌, ℕ, ◌*◌, ◌/◌, ◌<◌, ◌≤◌, ◌^◌, ◌∙◌, false, Option, Some, None, if◌then◌else◌, List, [], drop, Ok, refl, ap, sym, subst, inl, inr, arith}
 use Rattle.std.proofs.lemmas.Bool.{cases_Bool, cases_lt}
 use Rattle.address_runs.specs.Runs.{RunOf, value_at}
 use Rattle.address_runs.specs.Edits.{NothingFrom}
