@@ -1,5 +1,5 @@
 -- Memory as the map gives it, before it has nodes (`e820__memblock_setup`).
-use Rattle.std.specs.Prelude.{◌<◌, List}
+use Rattle.std.specs.Prelude.{ℕ, ◌<◌, List}
 use Rattle.address_runs.specs.Edits.{NothingFrom}
 use Rattle.memblock_model.specs.declared.item.Item.{Item}
 use Rattle.memblock_model.specs.Items.{limit_of, memory_of}
