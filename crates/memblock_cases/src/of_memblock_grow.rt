@@ -269,7 +269,10 @@ fn place_both_ways(rt: &impl Abort, memblock: &mut Memblock) -> Result<(), Refus
     ];
     for (upward, size, want) in cases {
         carry_out(memblock, &[Step::Upward(upward)])?;
-        assert!(rt; alloc(memblock, size, (0, None), None) == Some(Ok(want)), "{size} {upward}");
+        assert!(rt;
+            alloc(memblock, size, (0, None), None) == Some(Ok(want)),
+            "{size} {upward}"
+        );
     }
     Ok(())
 }
@@ -282,7 +285,9 @@ fn mirrored_memory_goes_first(rt: HostRuntime) -> Result<(), Fail> {
         node: Some(0),
         mirror: true,
     };
-    assert!(rt; memblock.journal().has_mirrors() && memblock.journal().tag_at(0x4FFFFFF) == mirrored);
+    assert!(rt;
+        memblock.journal().has_mirrors() && memblock.journal().tag_at(0x4FFFFFF) == mirrored
+    );
     place_both_ways(&rt, &mut memblock)?;
     Ok(())
 }
