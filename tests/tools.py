@@ -122,7 +122,7 @@ def test_examples(work):
                                   cwd=folder, env={**os.environ, "BOOTMEM": "", "PATH": commands + os.pathsep + os.environ["PATH"]},
                                   check=False)
             wanted = 1 if name == "bootmem-diff" else 0
-            check(f"example: {command}", (done.returncode, without_line(done.stderr.decode())), (wanted, ""))
+            check(f"example: {command}", (done.returncode, done.stderr.decode()), (wanted, ""))
             check(f"example: {command}: it prints or writes", bool(done.stdout) != ("--output" in command), True)
     check("examples of --help", ran, 16)
 
@@ -680,11 +680,6 @@ srat-overlap\t0\t-\t6\t1048222\t1018067\tnone\t-\toverlap 0 1\t1
 FOLDERS = 1000
 
 
-def without_line(said):
-    """What a tool said, but that there is no bootmem-line."""
-    return said.replace("bootmem-fleet: there is no bootmem-line beside this tool: the lines are handed on as they are\n", "")
-
-
 def test_fleet(work):
     """Lines and objects of machines, folders with what is wrong, changed lines, and how long a thousand folders take."""
     names = [line.split("\t")[0] for line in FLEET.splitlines()]
@@ -705,7 +700,7 @@ def test_fleet(work):
                                                                "0x000000001f000000..0x000000003effffff"),
                           (("--cmdline-drop", "mem", "--cmdline-add", "crashkernel=2G,high"), "no area")):
         status, out, err = tool("bootmem-fleet", *words, "bad", folder=work)
-        check(f"fleet {words}", (status, out.split("\t")[6], without_line(err)), (0, wanted, ""))
+        check(f"fleet {words}", (status, out.split("\t")[6], err), (0, wanted, ""))
     check("fleet, no folder", tool("bootmem-fleet")[:2], (2, ""))
     check("fleet, no program", tool("bootmem-fleet", "--program", "/nowhere", "bad", folder=work)[:2], (2, ""))
     if b"__asan_init" in bytes_of(PROGRAM):
