@@ -42,10 +42,10 @@ is_lost limit map owners blocks frame = is_free limit map owners frame && not (i
 
 -- the first fault that there is
 abbrev pub first_fault : Option ℕ → Option ℕ → Option ℕ → Option ℕ → Option ℕ → Verdict
-first_fault (Some line) zone free lost maximal = verdicts.Misaligned line
-first_fault None (Some line) free lost maximal = verdicts.WrongZone line
-first_fault None None (Some frame) lost maximal = verdicts.NotFree frame
-first_fault None None None (Some frame) maximal = verdicts.Lost frame
+first_fault (Some line) misplaced taken lost parted = verdicts.Misaligned line
+first_fault None (Some line) taken lost parted = verdicts.WrongZone line
+first_fault None None (Some frame) lost parted = verdicts.NotFree frame
+first_fault None None None (Some frame) parted = verdicts.Lost frame
 first_fault None None None None (Some line) = verdicts.NotMaximal line
 first_fault None None None None None = verdicts.Sound
 
