@@ -21,7 +21,7 @@ program=$(cd "$(dirname "${1:-$top/bootmem}")" && pwd)/$(basename "${1:-$top/boo
 	echo "shown.sh: there is no program $program: 'make bootmem' builds it" >&2
 	exit 2
 }
-[ $# -gt 0 ] || set -- "$top/README.md" "$top/bootmem.1" "$top/bootmem.5" "$top/docs/TOOLS.md" "$top/examples/README.md"
+[ $# -gt 0 ] || set -- "$top/README.md" "$top/docs/RECIPES.md" "$top/bootmem.1" "$top/bootmem.5" "$top/docs/TOOLS.md" "$top/examples/README.md"
 work=$(mktemp -d) || exit 1
 trap 'rm -rf "$work"' EXIT
 machine=$work/machine
