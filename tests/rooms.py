@@ -1,0 +1,48 @@
+#!/usr/bin/env python3
+"""rooms.py: whether docs/ARCHITECTURE.md has each crate once, standing on what crates.txt says it stands on.
+
+A row is `| crate | what | stands on | what it says |`; of what it stands on, crates of the repository come first, and those of the toolchain's kit
+behind `of the kit`. The section on the way of the data, above the tables, names each crate, too. Crates of cases are in neither. Prints a line for each difference, and how many crates there are.
+"""
+
+import os
+import re
+import sys
+
+TOP = os.path.join(os.path.dirname(os.path.abspath(__file__)), "..")
+
+
+def read(name):
+    with open(os.path.join(TOP, name), encoding="utf-8") as file:
+        return file.read()
+
+
+def main():
+    crates = {}
+    for line in read("crates.txt").split("\n"):
+        name, colon, rest = line.split("#")[0].partition(":")
+        if colon and not name.endswith("_cases"):
+            crates[name.split()[0]] = set(rest.split())
+    text = read("docs/ARCHITECTURE.md")
+    rows = {}
+    for line in text.split("\n"):
+        cells = [cell.strip() for cell in line.strip("|").split("|")]
+        name = re.fullmatch(r"`(\w+)`", cells[0]) if len(cells) == 4 else None
+        if name and line.startswith("|"):
+            rows.setdefault(name.group(1), []).append(set(re.findall(r"`(\w+)`", cells[2])))
+    wrong = [f"{name}: it has {len(rows.get(name, []))} rows" for name in crates if len(rows.get(name, [])) != 1]
+    wrong += [f"{name}: there is no such crate" for name in rows if name not in crates]
+    for name, stands in crates.items():
+        for said in rows.get(name, [])[:1]:
+            wrong += [f"{name}: it stands on {other}" for other in sorted(stands - said)]
+            wrong += [f"{name}: it doesn't stand on {other}" for other in sorted(said - stands)]
+    way = text[text.index("## The way of the data"):text.index("## The house")]
+    wrong += [f"{name}: the way of the data doesn't name it" for name in crates if not re.search(rf"\b{name}\b", way)]
+    for line in wrong:
+        print(line)
+    print(f"rooms: {len(crates)} crates, {len(wrong)} differences")
+    return 1 if wrong else 0
+
+
+if __name__ == "__main__":
+    sys.exit(main())
