@@ -3,4 +3,4 @@ use Rattle.std.proofs.lemmas.Nat.{one_shl}
 use Rattle.memblock_cases.proofs.of_memblock_find.search.Goals as goal
 
 pub find-requires-clause-aligned : goal.find-requires-clause-aligned
-find-requires-clause-aligned c = (c.args.power, one_shl c.args.power 64 (omega arith))
+find-requires-clause-aligned c = (c.args.wanted.3, one_shl c.args.wanted.3 64 (omega arith))
