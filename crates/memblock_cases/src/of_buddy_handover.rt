@@ -5,7 +5,7 @@ ghost use Rattle.buddy_handover.specs.Contents.{free};
 use crate::ranges::{IN_TURN, MACHINE};
 use crate::tables::{cover, tables_of};
 use bm_base::{FRAME_SIZE, Memory, Zone};
-use buddy_handover::{Block, Buddy, MAX_FRAMES, Take, hand_over};
+use buddy_handover::{Block, Buddy, MAX_FRAMES, hand_over};
 use memblock_model::Which;
 use memblock_ranges::Heads;
 use phys_store::Store;
@@ -218,45 +218,5 @@ fn borders_of_zones(rt: HostRuntime) -> Result<(), Fail> {
         (0x100000, Zone::Normal),
     ];
     compare_zones(&rt, &buddy, &expected);
-    Ok(())
-}
-
-// One frame comes back, if it isn't free.
-fn give(buddy: &mut Buddy, frame: u64, node: u32) -> Result<bool, Memory> {
-    if frame >= MAX_FRAMES || buddy.block_of(frame).is_some() {
-        return Ok(false);
-    }
-    buddy.put_back(frame, 0, node)?;
-    Ok(true)
-}
-
-// A frame leaves a block of 1,024 frames, of which a buddy of each order is left, and comes back.
-#[test]
-fn split_and_joined(rt: HostRuntime) -> Result<(), Fail> {
-    let mut buddy = Buddy::new(rt.alloc());
-    assert!(rt; free(&mut buddy, 0x400, 0x400, 0)?);
-    let before = buddy.copy()?;
-    assert!(rt; buddy.take(0, Zone::Dma, 0) == Ok(0x400));
-    compare_counts(
-        &rt,
-        &buddy,
-        &[(0, Zone::Dma, [1, 1, 1, 1, 1, 1, 1, 1, 1, 1, 0])],
-    );
-    assert!(rt; buddy.take(0, Zone::Dma, 10) == Err(Take::NoBlock));
-    assert!(rt; buddy.take(0, Zone::Dma32, 0) == Err(Take::NoBlock));
-    assert!(rt; buddy.take(0, Zone::Dma, 9) == Ok(0x600));
-    assert!(rt; give(&mut buddy, 0x400, 0)?);
-    assert!(rt; give(&mut buddy, 0x600, 0)?);
-    assert!(rt; !give(&mut buddy, 0x600, 0)?);
-    compare_counts(
-        &rt,
-        &buddy,
-        &[(0, Zone::Dma, [1, 0, 0, 0, 0, 0, 0, 0, 0, 1, 0])],
-    );
-    compare_counts(
-        &rt,
-        &before,
-        &[(0, Zone::Dma, [0, 0, 0, 0, 0, 0, 0, 0, 0, 0, 1])],
-    );
     Ok(())
 }

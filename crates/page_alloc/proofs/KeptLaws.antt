@@ -1,27 +1,25 @@
 -- Lines keep what is free apart from what is held, and lose no frame.
-use Rattle.std.proofs.Common.{◌≡◌, ◌≢◌, ◌⊎◌, ℕ, zero, suc, ◌+◌, ◌-◌, ◌*◌, ◌/◌, ◌%◌, ◌^◌, ◌<◌, ◌≤◌, ◌==◌, Bool, true, false, if◌then◌else◌, Option, Some, None, List, [], ◌∷◌, refl, sym, ◌∙◌, ap, subst, inl, inr, ⊎_elim, arith}
+use Rattle.std.proofs.Common.{◌≡◌, ◌≢◌, ◌⊎◌, ℕ, ◌+◌, ◌-◌, ◌/◌, ◌%◌, ◌^◌, ◌≤◌, ◌==◌, false, Option, Some, None, List, [], ◌∷◌, refl, sym, ◌∙◌, ap, subst, inl, inr, ⊎_elim, arith}
 use Rattle.std.proofs.lemmas.Bool.{cases_lt, cases_Bool, eqb-true, eq-eqb}
 use Rattle.std.proofs.lemmas.Nat.{pow_pos}
 use Rattle.std.specs.Option.{option_map}
 use Rattle.bm_base.specs.declared.zone.Zone.{Zone}
-use Rattle.bm_base.specs.Extent.{covers}
 use Rattle.address_runs.specs.Edits.{NothingFrom}
 use Rattle.frame_blocks.specs.declared.block.Block.{Block}
 use Rattle.frame_blocks.specs.declared.run.TheConstants.{MAX_FRAMES}
-use Rattle.frame_blocks.specs.Frames.{Frames, IsInSet, IsBlock, IsInBlock}
-use Rattle.frame_blocks.specs.Listed.{set_around}
-use Rattle.frame_blocks.specs.Picked.{IsPicked, picked, first_picked}
-use Rattle.frame_blocks.specs.Buddies.{without_set, with_set, IsWithout}
+use Rattle.frame_blocks.specs.Frames.{Frames, IsInSet, IsInBlock}
+use Rattle.frame_blocks.specs.Picked.{picked, first_picked}
+use Rattle.frame_blocks.specs.Buddies.{without_set, with_set}
 use Rattle.frame_blocks.proofs.SetLaws.{in_set, set_until, wider, multiple}
 use Rattle.frame_blocks.proofs.BlockLaws.{found_block}
-use Rattle.frame_blocks.proofs.BuddyLaws.{set_covers, covers_set, in_set_or_not, without_is, with_is, was_there, block_or_none}
+use Rattle.frame_blocks.proofs.BuddyLaws.{set_covers, covers_set, in_set_or_not, without_is, was_there, block_or_none}
 use Rattle.frame_blocks.proofs.PickLaws.{picked_tells}
 use Rattle.page_alloc.specs.declared.act.PageAct.{PageAct}
 use Rattle.page_alloc.specs.declared.act.PageAct.TheVariants as acts
 use Rattle.page_alloc.specs.declared.act.PageLine.{PageLine}
 use Rattle.page_alloc.specs.declared.outcome.Held.{Held}
 use Rattle.page_alloc.specs.Pages.{State, begun, with_held, served, asked, given_back, step, after, HasOrder, HaveOrders}
-use Rattle.page_alloc.specs.Kept.{Holds, IsInOneBlock, IsInNoBlock, IsHeldByOne, IsHeldByNone, IsInOne, IsInNone, IsWell, IsKept}
+use Rattle.page_alloc.specs.Kept.{Holds, IsInOne, IsInNone, IsWell, IsKept}
 
 -- what the state has was in f, with its node, and what f has the state has
 pub record Shares (f : Frames) (s : State) : Type 0 where
@@ -226,11 +224,14 @@ taken_goes f s id order first node small goes none set =
                   let had_one = some.1.is in
                   let here : s.held id ≡ Some some.1.what = ap s.held same ∙ had_one in
                   absurd (cc (sym none ∙ here))
-              | inr other ↦ inr (some.0, let it : Holds new some.0 x = record {
-                what = some.1.what;
-                is = with_there id some.0 (Some made) s.held other ∙ some.1.is;
-                inside = some.1.inside;
-              } in it)
+              | inr other ↦ inr (
+                some.0,
+                let it : Holds new some.0 x = record {
+                  what = some.1.what;
+                  is = with_there id some.0 (Some made) s.held other ∙ some.1.is;
+                  inside = some.1.inside;
+                } in it,
+              )
             ])
             (goes.shares.all x n is);
       };
@@ -246,9 +247,9 @@ given_kept s id what keeps is_held =
     let kept : (x : ℕ) → (IsInSet what.order what.first x → ⊥) → new.frames x ≡ s.frames x = λ x other.
     rw (covers_set what.order what.first x other) refl in
     let still : (i : ℕ) (h : Held) → new.held i ≡ Some h → ((id == i) ≡ false) × (s.held i ≡ Some h) = λ i h is. ⊎_elim
-        (λ (mine : (id ≡ i) × (None ≡ Some h)). let both = mine.1 in cc)
-        (λ (other : ((id == i) ≡ false) × (s.held i ≡ Some h)). other)
-        (had id i None s.held h is).either in
+    (λ (mine : (id ≡ i) × (None ≡ Some h)). let both = mine.1 in cc)
+    (λ (other : ((id == i) ≡ false) × (s.held i ≡ Some h)). other)
+    (had id i None s.held h is).either in
     let other_set : (i : ℕ) (h : Held) → new.held i ≡ Some h → (x : ℕ) → IsInSet h.order h.first x → IsInSet what.order what.first x → ⊥ =
     λ i h is x in_h inside.
     let other = still i h is in
@@ -281,9 +282,9 @@ given_goes f s id what goes is_held =
     let kept : (x : ℕ) → (IsInSet what.order what.first x → ⊥) → new.frames x ≡ s.frames x = λ x other.
     rw (covers_set what.order what.first x other) refl in
     let still : (i : ℕ) (h : Held) → new.held i ≡ Some h → ((id == i) ≡ false) × (s.held i ≡ Some h) = λ i h is. ⊎_elim
-        (λ (mine : (id ≡ i) × (None ≡ Some h)). let both = mine.1 in cc)
-        (λ (other : ((id == i) ≡ false) × (s.held i ≡ Some h)). other)
-        (had id i None s.held h is).either in
+    (λ (mine : (id ≡ i) × (None ≡ Some h)). let both = mine.1 in cc)
+    (λ (other : ((id == i) ≡ false) × (s.held i ≡ Some h)). other)
+    (had id i None s.held h is).either in
     record {
       kept = given_kept s id what goes.kept is_held;
       shares = record {
@@ -301,11 +302,14 @@ given_goes f s id what goes is_held =
                     let here : s.held id ≡ Some some.1.what = let h = some.1.is in ap s.held same ∙ h in
                     let one : some.1.what ≡ what = let both : Some some.1.what ≡ Some what = sym here ∙ is_held in cc in
                     absurd (other (subst (λ (k : Held). IsInSet k.order k.first x) one some.1.inside))
-                | inr differs ↦ inr (some.0, let it : Holds new some.0 x = record {
-                  what = some.1.what;
-                  is = with_there id some.0 None s.held differs ∙ some.1.is;
-                  inside = some.1.inside;
-                } in it)
+                | inr differs ↦ inr (
+                  some.0,
+                  let it : Holds new some.0 x = record {
+                    what = some.1.what;
+                    is = with_there id some.0 None s.held differs ∙ some.1.is;
+                    inside = some.1.inside;
+                  } in it,
+                )
               ])
               (goes.shares.all x n is)
         ];

@@ -1,5 +1,5 @@
 -- The page allocator after the handover as a state of free frames and held ranges, and what each line of a page script does to it.
-use Rattle.std.specs.Prelude.{◌≡◌, ℕ, ◌*◌, ◌≤◌, ◌==◌, if◌then◌else◌, Option, Some, None, List, [], ◌∷◌}
+use Rattle.std.specs.Prelude.{ℕ, ◌*◌, ◌≤◌, ◌==◌, if◌then◌else◌, Option, Some, None, List, [], ◌∷◌}
 use Rattle.bm_base.specs.declared.frame.TheConstants.{FRAME_SIZE}
 use Rattle.bm_base.specs.declared.zone.Zone.{Zone}
 use Rattle.frame_blocks.specs.Frames.{Frames}
@@ -30,10 +30,13 @@ with_held id what held i = if id == i then what else held i
 -- that block leave, and the ID holds them
 abbrev pub served : State → ℕ → ℕ → ℕ → Option ℕ → PageOutcome × State
 served s id order node None = (outcomes.NoBlock, s)
-served s id order node (Some first) = (outcomes.At (FRAME_SIZE * first), record {
-  frames = without_set order first s.frames;
-  held = with_held id (Some (record { first = first; order = order; node = node })) s.held;
-})
+served s id order node (Some first) = (
+  outcomes.At (FRAME_SIZE * first),
+  record {
+    frames = without_set order first s.frames;
+    held = with_held id (Some (record { first = first; order = order; node = node })) s.held;
+  },
+)
 
 -- by what the ID holds already
 abbrev pub asked : State → ℕ → ℕ → ℕ → Zone → Option Held → PageOutcome × State
@@ -43,10 +46,13 @@ asked s id order node zone None = served s id order node (first_picked s.frames 
 -- what an ID holds comes back, with its node, and the ID holds nothing any more
 abbrev pub given_back : State → ℕ → Option Held → PageOutcome × State
 given_back s id None = (outcomes.Unknown, s)
-given_back s id (Some what) = (outcomes.Done, record {
-  frames = with_set what.order what.first what.node s.frames;
-  held = with_held id None s.held;
-})
+given_back s id (Some what) = (
+  outcomes.Done,
+  record {
+    frames = with_set what.order what.first what.node s.frames;
+    held = with_held id None s.held;
+  },
+)
 
 -- the outcome of a line, and the state then
 abbrev pub step : State → PageAct → PageOutcome × State

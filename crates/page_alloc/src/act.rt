@@ -14,7 +14,9 @@ pub enum PageAct {
         zone: Zone,
     },
     /// What the ID holds comes back (`__free_pages`).
-    Give { id: u32 },
+    Give {
+        id: u32,
+    },
 }
 
 /// A line of a page script.

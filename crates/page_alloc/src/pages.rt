@@ -62,7 +62,13 @@ impl Pages {
     /// `2^order` frames of the node and in the zone for the ID: `Taken` exactly where it holds something already, else `NoBlock` exactly
     /// where no block there is of the order or a greater one, else `At` with the address of the first frame. Nothing has changed
     /// after an answer other than `At`, nor after `Memory`.
-    pub fn take(&mut self, id: u32, order: u32, node: u32, zone: Zone) -> Result<PageOutcome, Memory>
+    pub fn take(
+        &mut self,
+        id: u32,
+        order: u32,
+        node: u32,
+        zone: Zone,
+    ) -> Result<PageOutcome, Memory>
         requires { order ≤ 10 }
         ensures ok { IfOk result (λ outcome. (outcome, state_of self.new) ≡ step (state_of self.old) (act.Pages id order node zone)) }
         ensures err { OnErr result (self.new ≡ self.old) }

@@ -11,7 +11,11 @@ use bm_base::Memory;
 use std::alloc::Global;
 
 /// Carries the lines out in order, and answers what came of each.
-pub fn run_lines(alloc: Global, pages: &mut Pages, lines: &[PageLine]) -> Result<Vec<PageAnswer>, Memory>
+pub fn run_lines(
+    alloc: Global,
+    pages: &mut Pages,
+    lines: &[PageLine],
+) -> Result<Vec<PageAnswer>, Memory>
     requires { HaveOrders lines.now }
     ensures answers { IfOk result (λ answers. answers.items ≡ answers_of (state_of pages.old) lines.now) }
     ensures after { OnOk result (state_of pages.new ≡ after (state_of pages.old) lines.now) }
