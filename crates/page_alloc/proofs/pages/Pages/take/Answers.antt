@@ -1,5 +1,5 @@
 -- What comes of the block that was picked, or of none.
-use Rattle.std.proofs.Common.{◌≡◌, ◌+◌, ◌*◌, ◌^◌, ◌≤◌, None, Result, sym, subst, arith, rules}
+use Rattle.std.proofs.Common.{◌≡◌, ◌*◌, None, Result, sym, subst, arith, rules}
 use Rattle.std.specs.Prelude.{IfOk}
 use Rattle.std.specs.Ordering.{nat_cmp}
 use Rattle.std.specs.BTreeMap.{insert_entry}
@@ -22,8 +22,7 @@ use Rattle.page_alloc.proofs.pages.Pages.take.Goals as goal
 
 pub overflow_mul-result : goal.overflow_mul-result
 overflow_mul-result c =
-    let low : c.in-Ok.first + 2 ^ c.args.order ≤ 2 ^ 40 = (picked_set (free c.self.inside.buddy) c.args.order c.in-Ok.first c.args.node
-    c.args.zone c.self.invariant.low c.in-Ok.ensures.first).low in
+    let low = (picked_set (free c.self.inside.buddy) _ c.in-Ok.first _ _ c.self.invariant.low c.in-Ok.ensures.first).low in
     omega (arith, low)
 
 abbrev before : goal.Joined-take → Book
