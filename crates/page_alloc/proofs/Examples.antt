@@ -27,7 +27,7 @@ use Rattle.page_alloc.specs.declared.outcome.PageOutcome.TheVariants as outcomes
 use Rattle.page_alloc.specs.Book.{Book, held_in, state_of}
 use Rattle.page_alloc.specs.Forms.{greatest_id, greatest_order, greatest_node, pages_line, give_line, by_name, is_comment, asked_by, asked}
 use Rattle.page_alloc.specs.Kept.{Holds, IsInOne, IsInNone, IsKept}
-use Rattle.page_alloc.specs.Pages.{State, begun, with_held, served, asked as asked_of, given_back, step, answers_of, after, HasOrder, HaveOrders}
+use Rattle.page_alloc.specs.Pages.{State, begun, with_held, served, asked as asked_of, given_back, step, answers_of, after, HasOrder, HaveOrders, TakesMemory}
 use Rattle.page_alloc.specs.Reading.{fault_at, with_line, lines_from, pages_of}
 use Rattle.page_alloc.specs.Words.{Words, no_words, first_word, one_word, zone_named, whole, number, within, bounded}
 use Rattle.page_alloc.proofs.KeptLaws.{in_one, in_none, begun_goes, begun_kept, after_goes, step_kept}
@@ -157,6 +157,10 @@ after_examples = (refl, ap (λ (p : PageOutcome × State). p.1) step_examples.0,
 
 order_examples : HasOrder (acts.Pages 1 10 7 zones.Dma) × (HasOrder (acts.Pages 1 11 7 zones.Dma) → ⊥) × HaveOrders (line 1 ∷ give 2 ∷ [])
 order_examples = (omega arith, λ small. absurd (omega (arith, small)), (omega arith, (tt, tt)))
+
+memory_examples : TakesMemory (begun lone) (acts.Pages 1 0 7 zones.Dma) × (TakesMemory taken (acts.Pages 1 0 7 zones.Dma) → ⊥)
+    × TakesMemory taken (acts.Give 1) × (TakesMemory (begun lone) (acts.Give 1) → ⊥)
+memory_examples = (refl, λ none. cc none, refl, λ some. cc some)
 
 -- frame 5 is in a block at first, and then held by ID 1; frame 4 is in none
 holds_examples : Holds taken 1 5 × (Holds taken 2 5 → ⊥)

@@ -1,5 +1,5 @@
 -- The page allocator after the handover as a state of free frames and held ranges, and what each line of a page script does to it.
-use Rattle.std.specs.Prelude.{ℕ, ◌*◌, ◌≤◌, ◌==◌, if◌then◌else◌, Option, Some, None, List, [], ◌∷◌}
+use Rattle.std.specs.Prelude.{◌≡◌, IsSome, ℕ, ◌*◌, ◌≤◌, ◌==◌, if◌then◌else◌, Option, Some, None, List, [], ◌∷◌}
 use Rattle.bm_base.specs.declared.frame.TheConstants.{FRAME_SIZE}
 use Rattle.bm_base.specs.declared.zone.Zone.{Zone}
 use Rattle.frame_blocks.specs.Frames.{Frames}
@@ -76,3 +76,8 @@ HasOrder (acts.Give id) = Unit {0}
 abbrev pub HaveOrders : List PageLine → Type 0
 HaveOrders [] = Unit {0}
 HaveOrders (l ∷ ls) = HasOrder l.act × HaveOrders ls
+
+-- memory is taken for a request of an ID that holds nothing, and where what an ID holds comes back
+abbrev pub TakesMemory : State → PageAct → Type 0
+TakesMemory s (acts.Pages id order node zone) = s.held id ≡ None
+TakesMemory s (acts.Give id) = IsSome (s.held id)

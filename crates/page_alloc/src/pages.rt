@@ -1,10 +1,10 @@
 //! The buddy lists, and which ID holds which frames of them.
 
-ghost use Rattle.std.specs.Prelude.{◌≡◌, ◌+◌, ◌*◌, ◌^◌, ◌<◌, ◌≤◌, IfOk, OnErr};
+ghost use Rattle.std.specs.Prelude.{◌≡◌, ◌⊎◌, ◌+◌, ◌*◌, ◌^◌, ◌<◌, ◌≤◌, IfOk, OnErr};
 ghost use Rattle.buddy_handover.specs.Contents.{free};
 ghost use Rattle.page_alloc.specs.declared.act.PageAct.TheVariants as act;
 ghost use Rattle.page_alloc.specs.Book.{held_in, state_of};
-ghost use Rattle.page_alloc.specs.Pages.{begun, step, HasOrder};
+ghost use Rattle.page_alloc.specs.Pages.{begun, step, HasOrder, TakesMemory};
 
 use crate::act::{PageAct, PageLine};
 use crate::outcome::{Held, PageOutcome};
@@ -61,7 +61,7 @@ impl Pages {
 
     /// `2^order` frames of the node and in the zone for the ID: `Taken` exactly where it holds something already, else `NoBlock` exactly
     /// where no block there is of the order or a greater one, else `At` with the address of the first frame. Nothing has changed
-    /// after an answer other than `At`, nor after `Memory`.
+    /// after an answer other than `At`, nor after `Memory`, which comes only where the ID holds nothing.
     pub fn take(
         &mut self,
         id: u32,
@@ -71,6 +71,8 @@ impl Pages {
     ) -> Result<PageOutcome, Memory>
         requires { order ≤ 10 }
         ensures ok { IfOk result (λ outcome. (outcome, state_of self.new) ≡ step (state_of self.old) (act.Pages id order node zone)) }
+        ensures memory { OnErr result (TakesMemory (state_of self.old) (act.Pages id order node zone)) }
+        ensures refused { IfOk result (λ outcome. (outcome ≡ PageOutcome.Taken) ⊎ (outcome ≡ PageOutcome.NoBlock) → self.new ≡ self.old) }
         ensures err { OnErr result (self.new ≡ self.old) }
     {
         match self.ids.entry(id)? {
@@ -86,9 +88,11 @@ impl Pages {
         }
     }
 
-    /// What the ID holds comes back: `Unknown` exactly where it holds nothing, else `Done`. Nothing has changed after `Memory`.
+    /// What the ID holds comes back: `Unknown` exactly where it holds nothing, else `Done`. Nothing has changed after `Memory`, which
+    /// comes only where it holds something.
     fn give(&mut self, id: u32) -> Result<PageOutcome, Memory>
         ensures ok { IfOk result (λ outcome. (outcome, state_of self.new) ≡ step (state_of self.old) (act.Give id)) }
+        ensures memory { OnErr result (TakesMemory (state_of self.old) (act.Give id)) }
         ensures err { OnErr result (self.new ≡ self.old) }
     {
         let Some(held) = self.held(id) else {
@@ -103,6 +107,7 @@ impl Pages {
     pub fn run_line(&mut self, line: &PageLine) -> Result<PageOutcome, Memory>
         requires { HasOrder line.now.act }
         ensures ok { IfOk result (λ outcome. (outcome, state_of self.new) ≡ step (state_of self.old) line.now.act) }
+        ensures memory { OnErr result (TakesMemory (state_of self.old) line.now.act) }
         ensures err { OnErr result (self.new ≡ self.old) }
     {
         match line.act {

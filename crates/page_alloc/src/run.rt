@@ -1,6 +1,6 @@
 //! All lines of a page script, one after the other.
 
-ghost use Rattle.std.specs.Prelude.{◌≡◌, IfOk, OnOk};
+ghost use Rattle.std.specs.Prelude.{◌≡◌, ◌<◌, length, IfOk, IfErr, OnOk};
 ghost use Rattle.page_alloc.specs.Book.{state_of};
 ghost use Rattle.page_alloc.specs.Pages.{answers_of, after, HaveOrders};
 
@@ -10,7 +10,7 @@ use crate::pages::Pages;
 use bm_base::Memory;
 use std::alloc::Global;
 
-/// Carries the lines out in order, and answers what came of each.
+/// Carries the lines out in order, and answers what came of each. `Memory` comes only where there is a line.
 pub fn run_lines(
     alloc: Global,
     pages: &mut Pages,
@@ -18,6 +18,7 @@ pub fn run_lines(
 ) -> Result<Vec<PageAnswer>, Memory>
     requires { HaveOrders lines.now }
     ensures answers { IfOk result (λ answers. answers.items ≡ answers_of (state_of pages.old) lines.now) }
+    ensures memory { IfErr result (λ _. 0 < length lines.now) }
     ensures after { OnOk result (state_of pages.new ≡ after (state_of pages.old) lines.now) }
 {
     let mut answers = Vec::new(alloc);

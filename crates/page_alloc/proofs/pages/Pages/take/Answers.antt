@@ -1,5 +1,5 @@
 -- What comes of the block that was picked, or of none.
-use Rattle.std.proofs.Common.{◌≡◌, ◌*◌, None, Result, sym, subst, arith, rules}
+use Rattle.std.proofs.Common.{◌≡◌, ◌⊎◌, ◌*◌, None, Result, inl, inr, sym, subst, arith, rules}
 use Rattle.std.specs.Prelude.{IfOk}
 use Rattle.std.specs.Ordering.{nat_cmp}
 use Rattle.std.specs.BTreeMap.{insert_entry}
@@ -34,6 +34,7 @@ behind c = record { buddy = c.match-take.self-inside.buddy; ids = c.match-take.s
 abbrev Came : goal.Joined-take → Result PageOutcome Memory → Type 0
 Came c r = IfOk r (λ outcome. (let p : PageOutcome × State = (outcome, state_of (behind c)) in p)
     ≡ step (state_of (before c)) (acts.Pages c.args.id c.args.order c.args.node c.args.zone))
+    × IfOk r (λ outcome. (outcome ≡ outcomes.Taken) ⊎ (outcome ≡ outcomes.NoBlock) → behind c ≡ before c)
 
 came : (c : goal.Joined-take) → Came c c.match-take.result × IsKept (state_of (behind c))
 came c =
@@ -49,7 +50,13 @@ came c =
           let runs = subst (λ (d : Contents). IsRunsOf (without_set c.args.order first (free c.self.inside.buddy)) d.runs) (sym buddy)
           w.in-Ok.ensures.runs in
           let is = took (before c) (behind c) id c.args.order c.args.node c.args.zone first none w.in-Ok.ensures.first runs entries in (
-            subst (λ (r : Result PageOutcome Memory). Came c r) (sym w.result-is) is,
+            subst (λ (r : Result PageOutcome Memory). Came c r) (sym w.result-is) (
+              is,
+              λ refused. elim refused [
+                | inl taken ↦ cc taken
+                | inr nothing ↦ cc nothing
+              ],
+            ),
             kept_by (before c) (behind c) (outcomes.At (FRAME_SIZE * first)) (acts.Pages id c.args.order c.args.node c.args.zone)
                 c.requires c.self.invariant is,
           )
@@ -59,14 +66,14 @@ came c =
           let same : behind c ≡ before c = λ i. record { buddy = buddy i; ids = entries i } in
           let is = took_none (before c) (behind c) id c.args.order c.args.node c.args.zone none
           (w.in-Err-NoBlock.ensures.none w.in-Err-NoBlock.field-0-is) same in (
-            subst (λ (r : Result PageOutcome Memory). Came c r) (sym w.result-is) is,
+            subst (λ (r : Result PageOutcome Memory). Came c r) (sym w.result-is) (is, λ refused. same),
             subst (λ (d : Book). IsKept (state_of d)) (sym same) c.self.invariant,
           )
       | in-Err-Memory w ↦
           let entries : c.match-take.self-inside.ids.entries ≡ es = search rules in
           let buddy : c.match-take.self-inside.buddy ≡ c.self.inside.buddy = search rules in
           let same : behind c ≡ before c = λ i. record { buddy = buddy i; ids = entries i } in (
-            subst (λ (r : Result PageOutcome Memory). Came c r) (sym w.result-is) tt,
+            subst (λ (r : Result PageOutcome Memory). Came c r) (sym w.result-is) (tt, tt),
             subst (λ (d : Book). IsKept (state_of d)) (sym same) c.self.invariant,
           )
     ]
@@ -78,4 +85,9 @@ pub returns-after-take-clause-ok : goal.returns-after-take-clause-ok
 returns-after-take-clause-ok c =
     subst (λ (d : Book). IfOk c.match-take.result (λ outcome. (let p : PageOutcome × State = (outcome, state_of (behind c)) in p)
     ≡ step (state_of d) (acts.Pages c.args.id c.args.order c.args.node c.args.zone)))
-    c.self.view_is (came c).0
+    c.self.view_is (came c).0.0
+
+pub returns-after-take-clause-refused : goal.returns-after-take-clause-refused
+returns-after-take-clause-refused c =
+    subst (λ (d : Book). IfOk c.match-take.result (λ outcome. (outcome ≡ outcomes.Taken) ⊎ (outcome ≡ outcomes.NoBlock) → behind c ≡ d))
+    c.self.view_is (came c).0.1
