@@ -1,0 +1,133 @@
+-- What contracts see of the page allocator, as a state.
+use Rattle.std.proofs.Common.{◌≡◌, ℕ, ◌*◌, ◌==◌, Bool, true, false, cond, Option, Some, None, List, [], ◌∷◌, ◌++◌, refl, sym, ◌∙◌, ap, subst, inl, inr, arith, append_assoc}
+use Rattle.std.proofs.lemmas.Bool.{cases_lt, eqb-true}
+use Rattle.std.proofs.lemmas.Bool.Decides.{nat_tests}
+use Rattle.std.specs.declared.cmp.Ordering.{Ordering}
+use Rattle.std.specs.declared.cmp.Ordering.TheVariants.{Less, Equal, Greater}
+use Rattle.std.specs.Ordering.{nat_cmp, match_ordering}
+use Rattle.std.specs.BTreeMap.{is_at, insert_entry}
+use Rattle.bm_base.specs.declared.frame.TheConstants.{FRAME_SIZE}
+use Rattle.bm_base.specs.declared.zone.Zone.{Zone}
+use Rattle.address_runs.specs.Runs.{IsRunsOf}
+use Rattle.buddy_handover.specs.Contents.{free}
+use Rattle.frame_blocks.specs.Frames.{Frames}
+use Rattle.frame_blocks.specs.Picked.{first_picked}
+use Rattle.frame_blocks.specs.Buddies.{without_set}
+use Rattle.page_alloc.specs.declared.act.PageAct.{PageAct}
+use Rattle.page_alloc.specs.declared.act.PageAct.TheVariants as acts
+use Rattle.page_alloc.specs.declared.act.PageLine.{PageLine}
+use Rattle.page_alloc.specs.declared.outcome.Held.{Held}
+use Rattle.page_alloc.specs.declared.outcome.PageAnswer.{PageAnswer}
+use Rattle.page_alloc.specs.declared.outcome.PageOutcome.{PageOutcome}
+use Rattle.page_alloc.specs.declared.outcome.PageOutcome.TheVariants as outcomes
+use Rattle.page_alloc.specs.Book.{Book, held_in, state_of}
+use Rattle.page_alloc.specs.Kept.{IsKept}
+use Rattle.page_alloc.specs.Pages.{State, with_held, served, asked, step, answers_of, after, HasOrder}
+use Rattle.page_alloc.proofs.KeptLaws.{step_kept}
+
+-- two states are one where they say the same of each frame and each ID
+pub state_is : (f g : Frames) (h k : ℕ → Option Held) → ((x : ℕ) → f x ≡ g x) → ((i : ℕ) → h i ≡ k i)
+    → (let s : State = record { frames = f; held = h } in s) ≡ (let t : State = record { frames = g; held = k } in t)
+state_is f g h k one two = λ i. record { frames = λ x. one x i; held = λ q. two q i }
+
+-- the key of a map is the ID
+pub key_is : (id q : ℕ) → is_at (nat_cmp id) q ≡ (id == q)
+key_is id q = grind (arith, nat_tests)
+
+pub changed : (id q : ℕ) (what : Option Held) (held : ℕ → Option Held) (o : Option Held) → o ≡ cond (is_at (nat_cmp id) q) what (held q)
+    → o ≡ with_held id what held q
+changed id q what held o is = is ∙ ap (λ b. cond b what (held q)) (key_is id q)
+
+-- an entry that is put at its place
+cmp_equal : (m n : ℕ) → nat_cmp m n ≡ Equal → m ≡ n
+cmp_equal m n h = elim (cases_lt m n) as (λ _. m ≡ n) [
+  | inl lt ↦ let less : nat_cmp m n ≡ Less = grind (arith, nat_tests) in cc
+  | inr ge ↦ elim (cases_lt n m) as (λ _. m ≡ n) [
+    | inl gt ↦ let more : nat_cmp m n ≡ Greater = grind (arith, nat_tests) in cc
+    | inr le ↦ omega arith
+  ]
+]
+
+cmp_self : (n : ℕ) → nat_cmp n n ≡ Equal
+cmp_self n = grind (arith, nat_tests)
+
+swapped : (s t : Bool) (a b c : Option Held) → (s ≡ true → t ≡ true → ⊥) → cond s a (cond t b c) ≡ cond t b (cond s a c)
+swapped true true a b c apart = absurd (apart refl refl)
+swapped true false a b c apart = refl
+swapped false true a b c apart = refl
+swapped false false a b c apart = refl
+
+over : (s : Bool) (a b c : Option Held) → cond s a c ≡ cond s a (cond s b c)
+over true a b c = refl
+over false a b c = refl
+
+found : (q id : ℕ) → is_at (nat_cmp q) id ≡ true → q ≡ id
+found q id is = eqb-true q id (sym (key_is q id) ∙ is)
+
+put_in : (id q : ℕ) (what : Held) (es : List (ℕ × Held))
+    → held_in (insert_entry nat_cmp es id what) q ≡ cond (is_at (nat_cmp q) id) (Some what) (held_in es q)
+put_in id q what [] = refl
+put_in id q what (e ∷ es) = by (nat_cmp id e.0) refl (put_in id q what es)
+  where
+    by : (r : Ordering) → nat_cmp id e.0 ≡ r
+        → held_in (insert_entry nat_cmp es id what) q ≡ cond (is_at (nat_cmp q) id) (Some what) (held_in es q)
+        → held_in (match_ordering r ((id, what) ∷ e ∷ es) ((e.0, what) ∷ es) (e ∷ insert_entry nat_cmp es id what)) q
+        ≡ cond (is_at (nat_cmp q) id) (Some what) (held_in (e ∷ es) q)
+    by Less is later = refl
+    by Equal is later =
+        over (is_at (nat_cmp q) e.0) (Some what) (Some e.1) (held_in es q)
+        ∙ ap (λ k. cond (is_at (nat_cmp q) k) (Some what) (held_in (e ∷ es) q)) (sym (cmp_equal id e.0 is))
+    by Greater is later =
+        ap (λ (o : Option Held). cond (is_at (nat_cmp q) e.0) (Some e.1) o) later
+        ∙ swapped (is_at (nat_cmp q) e.0) (is_at (nat_cmp q) id) (Some e.1) (Some what) (held_in es q)
+        (λ at_e at_id.
+        let same : id ≡ e.0 = sym (found q id at_id) ∙ found q e.0 at_e in
+        cc (is, cmp_self e.0, ap (λ k. nat_cmp k e.0) same))
+
+tests_alike : (id q : ℕ) → is_at (nat_cmp q) id ≡ is_at (nat_cmp id) q
+tests_alike id q = grind (arith, nat_tests)
+
+-- what comes of a request that is served
+pub took : (b new : Book) (id order node : ℕ) (zone : Zone) (first : ℕ) → held_in b.ids id ≡ None
+    → first_picked (free b.buddy) node zone order ≡ Some first → IsRunsOf (without_set order first (free b.buddy)) new.buddy.runs
+    → new.ids ≡ insert_entry nat_cmp b.ids id (record { first = first; order = order; node = node })
+    → (let p : PageOutcome × State = (outcomes.At (FRAME_SIZE * first), state_of new) in p)
+    ≡ step (state_of b) (acts.Pages id order node zone)
+took b new id order node zone first none picked runs ids =
+    let what : Held = record { first = first; order = order; node = node } in
+    let same : state_of new ≡ (let t : State = record {
+      frames = without_set order first (free b.buddy);
+      held = with_held id (Some what) (held_in b.ids);
+    } in t) =
+    state_is (free new.buddy) (without_set order first (free b.buddy)) (held_in new.ids) (with_held id (Some what) (held_in b.ids)) runs.each
+    (λ q. changed id q (Some what) (held_in b.ids) (held_in new.ids q)
+    (ap (λ (es : List (ℕ × Held)). held_in es q) ids ∙ put_in id q what b.ids
+    ∙ ap (λ t. cond t (Some what) (held_in b.ids q)) (tests_alike id q))) in
+    ap (λ (s : State). let p : PageOutcome × State = (outcomes.At (FRAME_SIZE * first), s) in p) same
+    ∙ sym (ap (asked (state_of b) id order node zone) none ∙ ap (served (state_of b) id order node) picked)
+
+-- and of one that isn't
+pub took_none : (b new : Book) (id order node : ℕ) (zone : Zone) → held_in b.ids id ≡ None
+    → first_picked (free b.buddy) node zone order ≡ None → new ≡ b
+    → (let p : PageOutcome × State = (outcomes.NoBlock, state_of new) in p) ≡ step (state_of b) (acts.Pages id order node zone)
+took_none b new id order node zone none picked is =
+    ap (λ (d : Book). let p : PageOutcome × State = (outcomes.NoBlock, state_of d) in p) is
+    ∙ sym (ap (asked (state_of b) id order node zone) none ∙ ap (served (state_of b) id order node) picked)
+
+-- what a line leaves is kept
+pub kept_by : (b new : Book) (o : PageOutcome) (act : PageAct) → HasOrder act → IsKept (state_of b)
+    → (let p : PageOutcome × State = (o, state_of new) in p) ≡ step (state_of b) act → IsKept (state_of new)
+kept_by b new o act small keeps is =
+    subst (λ (s : State). IsKept s) (sym (ap (λ (p : PageOutcome × State). p.1) is)) (step_kept (state_of b) act small keeps)
+
+-- one more line, and the lines behind it
+pub answers_on : (s t : State) (l : PageLine) (ls : List PageLine) (told : List PageAnswer) (o : PageOutcome)
+    → (let p : PageOutcome × State = (o, t) in p) ≡ step s l.act
+    → (told ++ (let a : PageAnswer = record { line = l.number; outcome = o } in a) ∷ []) ++ answers_of t ls ≡ told ++ answers_of s (l ∷ ls)
+answers_on s t l ls told o is =
+    append_assoc told ((let a : PageAnswer = record { line = l.number; outcome = o } in a) ∷ []) (answers_of t ls)
+    ∙ ap (λ (p : PageOutcome × State). told ++ (let a : PageAnswer = record { line = l.number; outcome = p.0 } in a) ∷ answers_of p.1 ls) is
+
+pub after_on : (s t : State) (l : PageLine) (ls : List PageLine) (o : PageOutcome)
+    → (let p : PageOutcome × State = (o, t) in p) ≡ step s l.act → after t ls ≡ after s (l ∷ ls)
+after_on s t l ls o is = ap (λ (p : PageOutcome × State). after p.1 ls) is

@@ -1,0 +1,266 @@
+-- A frame that is asked for and given back, and small page scripts: what the definitions say of them.
+use Rattle.std.proofs.Common.{◌≡◌, ℕ, ◌/◌, ◌^◌, ◌-◌, nat_le, nat_lt, true, false, ◌&&◌, Some, None, List, [], ◌∷◌, Ok, Err, codes, if◌then◌else◌, refl, sym, ◌∙◌, ap, subst, inl, inr, arith}
+use Rattle.std.proofs.lemmas.Bool.Decides.{nat_tests}
+use Rattle.std.proofs.Math.Nat.{div-one}
+use Rattle.std.proofs.lemmas.Bool.{cases_Bool}
+use Rattle.std.specs.Option.{option_map}
+use Rattle.address_runs.specs.Edits.{NothingFrom}
+use Rattle.bm_base.specs.declared.zone.Zone.TheVariants as zones
+use Rattle.bm_base.specs.Zones.{zone_of}
+use Rattle.text_words.specs.Words.{words_in}
+use Rattle.text_words.specs.declared.separators.Separators.TheVariants as separators
+use Rattle.frame_blocks.specs.declared.block.Block.{Block}
+use Rattle.frame_blocks.specs.declared.run.TheConstants.{MAX_FRAMES}
+use Rattle.frame_blocks.specs.Frames.{Frames, IsBlock}
+use Rattle.frame_blocks.specs.Picked.{IsPicked, first_picked}
+use Rattle.frame_blocks.specs.Buddies.{without_set}
+use Rattle.frame_blocks.proofs.BuddyLaws.{one_at, without_is, in_set_or_not}
+use Rattle.frame_blocks.proofs.PickLaws.{picked_is, picked_none}
+use Rattle.page_alloc.specs.declared.act.PageAct.TheVariants as acts
+use Rattle.page_alloc.specs.declared.act.PageLine.{PageLine}
+use Rattle.page_alloc.specs.declared.fault.Wrong.TheVariants as wrong
+use Rattle.page_alloc.specs.declared.fault.PageFault.TheVariants as faults
+use Rattle.page_alloc.specs.declared.outcome.Held.{Held}
+use Rattle.page_alloc.specs.declared.outcome.PageAnswer.{PageAnswer}
+use Rattle.page_alloc.specs.declared.outcome.PageOutcome.{PageOutcome}
+use Rattle.page_alloc.specs.declared.outcome.PageOutcome.TheVariants as outcomes
+use Rattle.page_alloc.specs.Book.{Book, held_in, state_of}
+use Rattle.page_alloc.specs.Forms.{greatest_id, greatest_order, greatest_node, pages_line, give_line, by_name, is_comment, asked_by, asked}
+use Rattle.page_alloc.specs.Kept.{Holds, IsInOne, IsInNone, IsKept}
+use Rattle.page_alloc.specs.Pages.{State, begun, with_held, served, asked as asked_of, given_back, step, answers_of, after, HasOrder, HaveOrders, TakesMemory}
+use Rattle.page_alloc.specs.Reading.{fault_at, with_line, lines_from, pages_of}
+use Rattle.page_alloc.specs.Words.{Words, no_words, first_word, one_word, zone_named, whole, number, within, bounded}
+use Rattle.page_alloc.proofs.KeptLaws.{in_one, in_none, begun_goes, begun_kept, after_goes, step_kept}
+
+-- frame 5 alone is free, of node 7
+abbrev lone : Frames
+lone x = if nat_le 5 x && nat_lt x 6 then Some 7 else None
+
+lone_at : (x n : ℕ) → lone x ≡ Some n → x ≡ 5
+lone_at x n is =
+    elim (cases_Bool (nat_le 5 x && nat_lt x 6)) as (λ _. x ≡ 5) [
+      | inl on ↦ grind (arith, nat_tests)
+      | inr off ↦ let none : None ≡ Some n = sym (rw off refl) ∙ is in cc
+    ]
+
+lone_low : NothingFrom MAX_FRAMES lone
+lone_low x high = let off : (nat_le 5 x && nat_lt x 6) ≡ false = grind (arith, nat_tests) in rw off refl
+
+-- so it is the block that is picked for one frame
+lone_is : (x : ℕ) → x / 1 ≡ 5 → x ≡ 5
+lone_is x same = sym (div-one x) ∙ same
+
+abbrev block : Block
+block = record { order = 0; first = 5; node = 7; zone = zones.Dma }
+
+block_is : IsBlock lone block
+block_is = record {
+  small = omega arith;
+  aligned = refl;
+  good = λ x same. (ap lone (lone_is x same), ap zone_of (lone_is x same));
+  whole = λ less good. let none : None ≡ Some 7 = (good 4 refl).0 in cc none;
+}
+
+picked_block : IsPicked lone 7 zones.Dma 0 block
+picked_block = record {
+  block = block_is;
+  serves = record { node = refl; zone = refl; enough = omega arith };
+  least = λ c is serves.
+      let here : c.first ≡ 5 = lone_at c.first c.node (is.good c.first refl).0 in
+      let same : block ≡ c = one_at lone block c block_is is (sym here) in
+      inr (ap (λ (b : Block). b.order) same, let first = ap (λ (b : Block). b.first) same in omega (arith, first));
+}
+
+picked_first : first_picked lone 7 zones.Dma 0 ≡ Some 5
+picked_first = ap (option_map (λ (b : Block). b.first)) (picked_is lone 7 zones.Dma 0 block lone_low picked_block)
+
+-- once it is taken no frame is free
+nothing_left : (x : ℕ) → without_set 0 5 lone x ≡ None
+nothing_left x = elim (in_set_or_not 0 5 x) as (λ _. without_set 0 5 lone x ≡ None) [
+  | inl inside ↦ (without_is 0 5 lone).gone x inside
+  | inr other ↦ elim (cases_Bool (nat_le 5 x && nat_lt x 6)) as (λ _. without_set 0 5 lone x ≡ None) [
+    | inl on ↦
+        let here : x ≡ 5 = grind (arith, nat_tests) in
+        absurd (other (ap (λ y. y / 2 ^ 0) here))
+    | inr off ↦ (without_is 0 5 lone).kept x other ∙ rw off refl
+  ]
+]
+
+picked_none_left : first_picked (without_set 0 5 lone) 7 zones.Dma 0 ≡ None
+picked_none_left =
+    ap (option_map (λ (b : Block). b.first)) (picked_none (without_set 0 5 lone) 7 zones.Dma 0 (λ x high. nothing_left x)
+    (λ b is serves. cc (sym (is.good b.first refl).0 ∙ nothing_left b.first)))
+
+-- what an ID holds, in a book and after a change
+abbrev five : Held
+five = record { first = 5; order = 0; node = 7 }
+
+held_examples : (held_in ((1, five) ∷ []) 1 ≡ Some five) × (held_in ((1, five) ∷ []) 2 ≡ None)
+held_examples = (refl, refl)
+
+book_examples : (let b : Book = record { buddy = record { runs = []; spare = 0 }; ids = (1, five) ∷ [] } in (state_of b).held 1) ≡ Some five
+book_examples = refl
+
+with_held_examples : (with_held 1 (Some five) (λ id. None) 1 ≡ Some five) × (with_held 1 (Some five) (λ id. None) 2 ≡ None)
+    × (with_held 1 None (λ id. Some five) 1 ≡ None)
+with_held_examples = (refl, refl, refl)
+
+-- the state while ID 1 holds the frame
+abbrev taken : State
+taken = record { frames = without_set 0 5 lone; held = with_held 1 (Some five) (λ id. None) }
+
+abbrev at_five : PageOutcome × State
+at_five = (outcomes.At 20480, taken)
+
+served_examples : (served (begun lone) 1 0 7 (Some 5) ≡ at_five)
+    × (served (begun lone) 1 0 7 None ≡ (let p : PageOutcome × State = (outcomes.NoBlock, begun lone) in p))
+served_examples = (refl, refl)
+
+asked_examples : (asked_of (begun lone) 1 0 7 zones.Dma None ≡ at_five)
+    × (asked_of taken 1 0 7 zones.Dma (Some five) ≡ (let p : PageOutcome × State = (outcomes.Taken, taken) in p))
+asked_examples = (ap (served (begun lone) 1 0 7) picked_first, refl)
+
+-- the frame is back with its node, and the ID is free
+back_examples : ((given_back taken 1 (Some five)).0 ≡ outcomes.Done) × ((given_back taken 1 (Some five)).1.frames 5 ≡ Some 7)
+    × ((given_back taken 1 (Some five)).1.held 1 ≡ None) × ((given_back taken 2 None).0 ≡ outcomes.Unknown)
+back_examples = (refl, refl, refl, refl)
+
+-- taken, no block left for another ID, the ID holds something already, given back, and nothing is left to give
+abbrev line : ℕ → PageLine
+line n = record { number = n; act = acts.Pages n 0 7 zones.Dma }
+
+abbrev again : ℕ → PageLine
+again n = record { number = n; act = acts.Pages 1 0 7 zones.Dma }
+
+abbrev give : ℕ → PageLine
+give n = record { number = n; act = acts.Give 1 }
+
+abbrev told : ℕ → PageOutcome → PageAnswer
+told n o = record { line = n; outcome = o }
+
+step_examples : (step (begun lone) (acts.Pages 1 0 7 zones.Dma) ≡ at_five)
+    × (step taken (acts.Pages 2 0 7 zones.Dma) ≡ (let p : PageOutcome × State = (outcomes.NoBlock, taken) in p))
+    × (step taken (acts.Pages 1 0 7 zones.Dma) ≡ (let p : PageOutcome × State = (outcomes.Taken, taken) in p))
+step_examples = (asked_examples.0, ap (served taken 2 0 7) picked_none_left, refl)
+
+answer_examples : (answers_of (begun lone) [] ≡ []) × (answers_of (begun lone) (line 1 ∷ line 2 ∷ again 3 ∷ give 4 ∷ give 5 ∷ [])
+    ≡ told 1 (outcomes.At 20480) ∷ told 2 outcomes.NoBlock ∷ told 3 outcomes.Taken ∷ told 4 outcomes.Done ∷ told 5 outcomes.Unknown ∷ [])
+answer_examples = (
+  refl,
+  ap (λ (p : PageOutcome × State). told 1 p.0 ∷ answers_of p.1 (line 2 ∷ again 3 ∷ give 4 ∷ give 5 ∷ [])) step_examples.0
+      ∙ ap (λ (p : PageOutcome × State). told 1 (outcomes.At 20480) ∷ told 2 p.0 ∷ answers_of p.1 (again 3 ∷ give 4 ∷ give 5 ∷ []))
+      step_examples.1,
+)
+
+after_examples : (after taken [] ≡ taken) × (after (begun lone) (line 1 ∷ []) ≡ taken) × ((after taken (give 1 ∷ [])).frames 5 ≡ Some 7)
+after_examples = (refl, ap (λ (p : PageOutcome × State). p.1) step_examples.0, refl)
+
+order_examples : HasOrder (acts.Pages 1 10 7 zones.Dma) × (HasOrder (acts.Pages 1 11 7 zones.Dma) → ⊥) × HaveOrders (line 1 ∷ give 2 ∷ [])
+order_examples = (omega arith, λ small. absurd (omega (arith, small)), (omega arith, (tt, tt)))
+
+memory_examples : TakesMemory (begun lone) (acts.Pages 1 0 7 zones.Dma) × (TakesMemory taken (acts.Pages 1 0 7 zones.Dma) → ⊥)
+    × TakesMemory taken (acts.Give 1) × (TakesMemory (begun lone) (acts.Give 1) → ⊥)
+memory_examples = (refl, λ none. cc none, refl, λ some. cc some)
+
+-- frame 5 is in a block at first, and then held by ID 1; frame 4 is in none
+holds_examples : Holds taken 1 5 × (Holds taken 2 5 → ⊥)
+holds_examples = (record { what = five; is = refl; inside = refl }, λ holds. let is = holds.is in cc is)
+
+in_one_examples : IsInOne (begun lone) 5 × IsInOne taken 5
+in_one_examples = (
+  in_one lone (begun lone) 5 7 (begun_goes lone lone_low) refl,
+  subst (λ (s : State). IsInOne s 5) after_examples.1
+      (in_one lone (after (begun lone) (line 1 ∷ [])) 5 7
+      (after_goes lone (begun lone) (line 1 ∷ []) (omega arith, tt) (begun_goes lone lone_low)) refl),
+)
+
+in_none_examples : IsInNone (begun lone) 4
+in_none_examples = in_none lone (begun lone) 4 (begun_goes lone lone_low) refl
+
+kept_examples : IsKept (begun lone) × IsKept taken
+    × (IsKept (record { frames = lone; held = with_held 1 (Some five) (λ id. None) }) → ⊥)
+kept_examples = (
+  begun_kept lone lone_low,
+  subst (λ (p : PageOutcome × State). IsKept p.1) step_examples.0
+      (step_kept (begun lone) (acts.Pages 1 0 7 zones.Dma) (omega arith) (begun_kept lone lone_low)),
+  λ kept. let none : Some 7 ≡ None = (kept.well 1 five refl).taken 5 refl in cc none,
+)
+
+-- words of a line, and of the rest of one
+abbrev in_words : List ℕ → Words
+in_words text = words_in separators.Script text
+
+word_examples : (no_words [] ≡ Ok tt) × (no_words (in_words (codes "a")) ≡ Err wrong.Form)
+    × (first_word (in_words (codes " a\tb")) ≡ Ok (codes "a", codes "b" ∷ [])) × (first_word [] ≡ Err wrong.Form)
+    × (one_word (in_words (codes "a")) ≡ Ok (codes "a")) × (one_word (in_words (codes "a b")) ≡ Err wrong.Form)
+word_examples = (refl, refl, refl, refl, refl, refl)
+
+zone_examples : (zone_named (codes "DMA") ≡ Ok zones.Dma) × (zone_named (codes "DMA32") ≡ Ok zones.Dma32)
+    × (zone_named (codes "Normal") ≡ Ok zones.Normal) × (zone_named (codes "normal") ≡ Err wrong.Form)
+zone_examples = (refl, refl, refl, refl)
+
+-- a size must take its whole word
+number_examples : (number (codes "1K") ≡ Ok 1024) × (number (codes "1KB") ≡ Err wrong.Number) × (number (codes "x") ≡ Err wrong.Number)
+    × (whole (codes "12") (Ok (12, 2)) ≡ Ok 12) × (whole (codes "12x") (Ok (12, 2)) ≡ Err wrong.Number)
+number_examples = (refl, refl, refl, refl, refl)
+
+bound_examples : (within 9 9 ≡ Ok 9) × (within 9 10 ≡ Err wrong.Number) × (bounded greatest_order (codes "0xa") ≡ Ok 10)
+    × (bounded greatest_order (codes "11") ≡ Err wrong.Number) × (greatest_id ≡ 2 ^ 32 - 1) × (greatest_node ≡ 1023)
+bound_examples = (refl, refl, refl, refl, refl, refl)
+
+-- a request, and one with a fault of each kind: the form goes before a number, and the zone's name is of the form
+request_example : pages_line (codes "1" ∷ codes "10" ∷ codes "1023" ∷ codes "Normal" ∷ []) ≡ Ok (acts.Pages 1 10 1023 zones.Normal)
+request_example = refl
+
+request_forms : (pages_line (codes "x" ∷ codes "11" ∷ codes "0" ∷ codes "dma" ∷ []) ≡ Err wrong.Form)
+    × (pages_line (codes "x" ∷ codes "11" ∷ codes "0" ∷ []) ≡ Err wrong.Form)
+    × (pages_line (codes "x" ∷ codes "11" ∷ codes "0" ∷ codes "DMA" ∷ codes "1" ∷ []) ≡ Err wrong.Form)
+request_forms = (refl, refl, refl)
+
+request_id : pages_line (codes "4294967296" ∷ codes "0" ∷ codes "0" ∷ codes "DMA" ∷ []) ≡ Err wrong.Number
+request_id = refl
+
+request_order : pages_line (codes "1" ∷ codes "11" ∷ codes "0" ∷ codes "DMA" ∷ []) ≡ Err wrong.Number
+request_order = refl
+
+request_node : pages_line (codes "1" ∷ codes "0" ∷ codes "1024" ∷ codes "DMA" ∷ []) ≡ Err wrong.Number
+request_node = refl
+
+give_examples : (give_line (in_words (codes "4294967295")) ≡ Ok (acts.Give 4294967295))
+    × (give_line (in_words (codes "4294967296")) ≡ Err wrong.Number) × (give_line (in_words (codes "x 1")) ≡ Err wrong.Form)
+give_examples = (refl, refl, refl)
+
+name_examples : (by_name (codes "give") (in_words (codes "1")) ≡ Ok (acts.Give 1))
+    × (by_name (codes "Give") (in_words (codes "1")) ≡ Err wrong.Form)
+name_examples = (refl, refl)
+
+comment_examples : (is_comment (codes "#give") ≡ true) × (is_comment (codes "give#") ≡ false)
+comment_examples = (refl, refl)
+
+line_examples : (asked_by [] ≡ Ok None) × (asked_by (in_words (codes "# give")) ≡ Ok None) × (asked (codes "\t\r") ≡ Ok None)
+    × (asked (codes " give\t1\r") ≡ Ok (Some (acts.Give 1)))
+line_examples = (refl, refl, refl, refl)
+
+fault_examples : (fault_at 3 wrong.Form ≡ faults.BadLine 3) × (fault_at 7 wrong.Number ≡ faults.BadNumber 7)
+fault_examples = (refl, refl)
+
+kept_line_examples : (with_line 4 None [] ≡ []) × (with_line 4 (Some (acts.Give 1)) [] ≡ give 4 ∷ [])
+    × (lines_from 5 (codes "" ∷ codes "give 1" ∷ []) ≡ Ok (give 6 ∷ []))
+kept_line_examples = (refl, refl, refl)
+
+-- whole scripts: the last line may lack its newline; the lowest line's fault is told, whatever comes behind it
+two_lines : pages_of (codes "give 1\n\n#\ngive 2") ≡ Ok (give 1 ∷ record { number = 4; act = acts.Give 2 } ∷ [])
+two_lines = refl
+
+no_lines : (pages_of [] ≡ Ok []) × (pages_of (codes "\n") ≡ Ok [])
+no_lines = (refl, refl)
+
+one_request : pages_of (codes "pages 1 0 7 DMA") ≡ Ok (line 1 ∷ [])
+one_request = refl
+
+great_order : pages_of (codes "pages 1 11 0 DMA") ≡ Err (faults.BadNumber 1)
+great_order = refl
+
+lowest_fault : (pages_of (codes "give 1\ngive x\ngive\n") ≡ Err (faults.BadNumber 2))
+    × (pages_of (codes "near 1\ngive x\n") ≡ Err (faults.BadLine 1))
+lowest_fault = (refl, refl)

@@ -1,0 +1,364 @@
+-- Lines keep what is free apart from what is held, and lose no frame.
+use Rattle.std.proofs.Common.{◌≡◌, ◌≢◌, ◌⊎◌, ℕ, ◌+◌, ◌-◌, ◌/◌, ◌%◌, ◌^◌, ◌≤◌, ◌==◌, false, Option, Some, None, List, [], ◌∷◌, refl, sym, ◌∙◌, ap, subst, inl, inr, ⊎_elim, arith}
+use Rattle.std.proofs.lemmas.Bool.{cases_lt, cases_Bool, eqb-true, eq-eqb}
+use Rattle.std.proofs.lemmas.Nat.{pow_pos}
+use Rattle.std.specs.Option.{option_map}
+use Rattle.bm_base.specs.declared.zone.Zone.{Zone}
+use Rattle.address_runs.specs.Edits.{NothingFrom}
+use Rattle.frame_blocks.specs.declared.block.Block.{Block}
+use Rattle.frame_blocks.specs.declared.run.TheConstants.{MAX_FRAMES}
+use Rattle.frame_blocks.specs.Frames.{Frames, IsInSet, IsInBlock}
+use Rattle.frame_blocks.specs.Picked.{picked, first_picked}
+use Rattle.frame_blocks.specs.Buddies.{without_set, with_set}
+use Rattle.frame_blocks.proofs.SetLaws.{in_set, set_until, wider, multiple}
+use Rattle.frame_blocks.proofs.BlockLaws.{found_block}
+use Rattle.frame_blocks.proofs.BuddyLaws.{set_covers, covers_set, in_set_or_not, without_is, was_there, block_or_none}
+use Rattle.frame_blocks.proofs.PickLaws.{picked_tells}
+use Rattle.page_alloc.specs.declared.act.PageAct.{PageAct}
+use Rattle.page_alloc.specs.declared.act.PageAct.TheVariants as acts
+use Rattle.page_alloc.specs.declared.act.PageLine.{PageLine}
+use Rattle.page_alloc.specs.declared.outcome.Held.{Held}
+use Rattle.page_alloc.specs.Pages.{State, begun, with_held, served, asked, given_back, step, after, HasOrder, HaveOrders}
+use Rattle.page_alloc.specs.Kept.{Holds, IsInOne, IsInNone, IsWell, IsKept}
+
+-- what the state has was in f, with its node, and what f has the state has
+pub record Shares (f : Frames) (s : State) : Type 0 where
+  pub free : (x n : ℕ) → s.frames x ≡ Some n → f x ≡ Some n
+  pub held : (id : ℕ) (what : Held) → s.held id ≡ Some what → (x : ℕ) → IsInSet what.order what.first x → f x ≡ Some what.node
+  pub all : (x n : ℕ) → f x ≡ Some n → (s.frames x ≡ Some n) ⊎ ((id : ℕ) × Holds s id x)
+
+pub record Goes (f : Frames) (s : State) : Type 0 where
+  pub kept : IsKept s
+  pub shares : Shares f s
+
+-- so each frame of f is in one block or held by one ID, and no other frame is
+pub in_one : (f : Frames) (s : State) (x n : ℕ) → Goes f s → f x ≡ Some n → IsInOne s x
+in_one f s x n goes is = ⊎_elim
+    (λ (free : s.frames x ≡ Some n). elim (block_or_none s.frames x) as (λ _. IsInOne s x) [
+      | inl none ↦ absurd (cc (sym free ∙ none))
+      | inr some ↦ inl (
+        record {
+          block = some.0;
+          is = some.1;
+          has = some.2;
+          one = λ b block inside.
+              let here = found_block s.frames x some.0 some.1 some.2 in
+              let there = found_block s.frames x b block inside in
+              let both : Some b ≡ Some some.0 = sym there ∙ here in cc;
+        },
+        λ id holds. cc (sym ((goes.kept.well id holds.what holds.is).taken x holds.inside) ∙ free),
+      )
+    ])
+    (λ (some : (id : ℕ) × Holds s id x). inr (
+      record {
+        id = some.0;
+        holds = some.1;
+        one = λ other holds. goes.kept.apart other some.0 holds.what some.1.what holds.is some.1.is x holds.inside some.1.inside;
+      },
+      λ b block inside.
+          cc (sym (block.good x inside).0 ∙ (goes.kept.well some.0 some.1.what some.1.is).taken x some.1.inside),
+    ))
+    (goes.shares.all x n is)
+
+pub in_none : (f : Frames) (s : State) (x : ℕ) → Goes f s → f x ≡ None → IsInNone s x
+in_none f s x goes none = (
+  λ b block inside. cc (sym (goes.shares.free x b.node (block.good x inside).0) ∙ none),
+  λ id holds. cc (sym (goes.shares.held id holds.what holds.is x holds.inside) ∙ none),
+)
+
+-- at the beginning
+pub begun_goes : (f : Frames) → NothingFrom MAX_FRAMES f → Goes f (begun f)
+begun_goes f low = record {
+  kept = record { low = low; well = λ id what is. cc; apart = λ i j g h is other x one two. cc };
+  shares = record { free = λ x n is. is; held = λ id what is x inside. cc; all = λ x n is. inl is };
+}
+
+-- what an ID holds after another one's change
+with_or_not : (id i : ℕ) → (id ≡ i) ⊎ ((id == i) ≡ false)
+with_or_not id i = elim (cases_Bool (id == i)) as (λ _. (id ≡ i) ⊎ ((id == i) ≡ false)) [
+  | inl on ↦ inl (eqb-true id i on)
+  | inr off ↦ inr off
+]
+
+with_here : (id : ℕ) (what : Option Held) (held : ℕ → Option Held) → with_held id what held id ≡ what
+with_here id what held = rw (eq-eqb id id refl) refl
+
+with_there : (id i : ℕ) (what : Option Held) (held : ℕ → Option Held) → (id == i) ≡ false → with_held id what held i ≡ held i
+with_there id i what held off = rw off refl
+
+-- the ID has the new one, or another ID has what it had
+record Had (id i : ℕ) (what : Option Held) (held : ℕ → Option Held) (h : Held) : Type 0 where
+  pub either : ((id ≡ i) × (what ≡ Some h)) ⊎ (((id == i) ≡ false) × (held i ≡ Some h))
+
+had : (id i : ℕ) (what : Option Held) (held : ℕ → Option Held) (h : Held) → with_held id what held i ≡ Some h → Had id i what held h
+had id i what held h is = elim (with_or_not id i) as (λ _. Had id i what held h) [
+  | inl same ↦ record {
+    either = inl (
+      same,
+      let here : with_held id what held i ≡ what = ap (with_held id what held) (sym same) ∙ with_here id what held in sym here ∙ is,
+    );
+  }
+  | inr other ↦ record { either = inr (other, sym (with_there id i what held other) ∙ is) }
+]
+
+differ : (id i : ℕ) → (id == i) ≡ false → id ≢ i
+differ id i off same = cc (sym (eq-eqb id i same) ∙ off)
+
+-- a set that is picked: aligned, free, of the node, and not too high
+pub record IsFreeSet (f : Frames) (order first node : ℕ) : Type 0 where
+  pub aligned : first % 2 ^ order ≡ 0
+  pub low : first + 2 ^ order ≤ MAX_FRAMES
+  pub free : (x : ℕ) → IsInSet order first x → f x ≡ Some node
+
+found_or_none : (o : Option Block) → (o ≡ None) ⊎ ((b : Block) × (o ≡ Some b))
+found_or_none None = inl refl
+found_or_none (Some b) = inr (b, refl)
+
+pub picked_set : (f : Frames) (order first node : ℕ) (zone : Zone) → NothingFrom MAX_FRAMES f → first_picked f node zone order ≡ Some first
+    → IsFreeSet f order first node
+picked_set f order first node zone low is = elim (found_or_none (picked f node zone order)) as (λ _. IsFreeSet f order first node) [
+  | inl none ↦
+      let nothing : first_picked f node zone order ≡ None = ap (option_map (λ (b : Block). b.first)) none in
+      absurd (cc (sym nothing ∙ is))
+  | inr some ↦
+      let b : Block = some.0 in
+      let something : first_picked f node zone order ≡ Some b.first = ap (option_map (λ (c : Block). c.first)) some.1 in
+      let here : b.first ≡ first = let both : Some b.first ≡ Some first = sym something ∙ is in cc in
+      let it = picked_tells f node zone order b low some.1 in
+      let enough = it.serves.enough in
+      let at_b : b.first % 2 ^ order ≡ 0 = multiple order b.order b.first enough it.block.aligned in
+      let whole : first % 2 ^ order ≡ 0 = ap (λ x. x % 2 ^ order) (sym here) ∙ at_b in
+      let all : (x : ℕ) → IsInSet order first x → f x ≡ Some node = λ x inside.
+      let in_b : IsInBlock b x = wider order b.order x b.first enough (inside ∙ ap (λ y. y / 2 ^ order) (sym here)) in
+      (it.block.good x in_b).0 ∙ ap (λ n. Some n) it.serves.node in
+      let some_frames = pow_pos order in
+      let last : ℕ = first + 2 ^ order - 1 in
+      let last_in : IsInSet order first last = in_set (2 ^ order) first last (omega (arith, whole, some_frames)) (omega (arith, whole, some_frames)) in
+      record {
+        aligned = whole;
+        low = elim (cases_lt last MAX_FRAMES) as (λ _. first + 2 ^ order ≤ MAX_FRAMES) [
+          | inl lt ↦ omega (arith, lt, some_frames)
+          | inr ge ↦ absurd (cc (sym (all last last_in) ∙ low last ge))
+        ];
+        free = all;
+      }
+]
+
+-- a set leaves, and an ID that holds nothing gets it
+taken_kept : (s : State) (id order first node : ℕ) → order ≤ 10 → IsKept s → IsFreeSet s.frames order first node
+    → IsKept (record {
+      frames = without_set order first s.frames;
+      held = with_held id (Some (record { first = first; order = order; node = node })) s.held;
+    })
+taken_kept s id order first node small keeps set =
+    let made : Held = record { first = first; order = order; node = node } in
+    let new : State = record { frames = without_set order first s.frames; held = with_held id (Some made) s.held } in
+    let without = without_is order first s.frames in
+    let stays_none : (x : ℕ) → s.frames x ≡ None → new.frames x ≡ None = λ x was. elim (in_set_or_not order first x) as (λ _. new.frames x ≡ None) [
+      | inl inside ↦ without.gone x inside
+      | inr other ↦ without.kept x other ∙ was
+    ] in
+    let not_in_set : (i : ℕ) (h : Held) → s.held i ≡ Some h → (x : ℕ) → IsInSet h.order h.first x → IsInSet order first x → ⊥ =
+    λ i h is x in_h inside. cc (sym ((keeps.well i h is).taken x in_h) ∙ set.free x inside) in
+    record {
+      low = λ x high. stays_none x (keeps.low x high);
+      well = λ i h is. ⊎_elim
+          (λ (mine : (id ≡ i) × (Some made ≡ Some h)).
+          let same : made ≡ h = let both = mine.1 in cc in
+          subst (λ (g : Held). IsWell new g) same
+          (let it : IsWell new made = record { small = small; aligned = set.aligned; low = set.low; taken = without.gone } in it))
+          (λ (other : ((id == i) ≡ false) × (s.held i ≡ Some h)).
+          let was = keeps.well i h other.1 in
+          let it : IsWell new h = record {
+            small = was.small;
+            aligned = was.aligned;
+            low = was.low;
+            taken = λ x inside. stays_none x (was.taken x inside);
+          } in it)
+          (had id i (Some made) s.held h is).either;
+      apart = λ i j g h is_i is_j x in_g in_h. ⊎_elim
+          (λ (mine : (id ≡ i) × (Some made ≡ Some g)). ⊎_elim
+          (λ (too : (id ≡ j) × (Some made ≡ Some h)). sym mine.0 ∙ too.0)
+          (λ (other : ((id == j) ≡ false) × (s.held j ≡ Some h)).
+          let same : made ≡ g = let both = mine.1 in cc in
+          let inside : IsInSet order first x = subst (λ (k : Held). IsInSet k.order k.first x) (sym same) in_g in
+          absurd (not_in_set j h other.1 x in_h inside))
+          (had id j (Some made) s.held h is_j).either)
+          (λ (one : ((id == i) ≡ false) × (s.held i ≡ Some g)). ⊎_elim
+          (λ (mine : (id ≡ j) × (Some made ≡ Some h)).
+          let same : made ≡ h = let both = mine.1 in cc in
+          let inside : IsInSet order first x = subst (λ (k : Held). IsInSet k.order k.first x) (sym same) in_h in
+          absurd (not_in_set i g one.1 x in_g inside))
+          (λ (two : ((id == j) ≡ false) × (s.held j ≡ Some h)). keeps.apart i j g h one.1 two.1 x in_g in_h)
+          (had id j (Some made) s.held h is_j).either)
+          (had id i (Some made) s.held g is_i).either;
+    }
+
+taken_goes : (f : Frames) (s : State) (id order first node : ℕ) → order ≤ 10 → Goes f s → s.held id ≡ None → IsFreeSet s.frames order first node
+    → Goes f (record {
+      frames = without_set order first s.frames;
+      held = with_held id (Some (record { first = first; order = order; node = node })) s.held;
+    })
+taken_goes f s id order first node small goes none set =
+    let made : Held = record { first = first; order = order; node = node } in
+    let new : State = record { frames = without_set order first s.frames; held = with_held id (Some made) s.held } in
+    let without = without_is order first s.frames in
+    record {
+      kept = taken_kept s id order first node small goes.kept set;
+      shares = record {
+        free = λ x n is. goes.shares.free x n (was_there s.frames new.frames order first x n without is);
+        held = λ i h is x inside. ⊎_elim
+            (λ (mine : (id ≡ i) × (Some made ≡ Some h)).
+            let same : made ≡ h = let both = mine.1 in cc in
+            let in_made : IsInSet order first x = subst (λ (k : Held). IsInSet k.order k.first x) (sym same) inside in
+            goes.shares.free x node (set.free x in_made) ∙ ap (λ (k : Held). Some k.node) same)
+            (λ (other : ((id == i) ≡ false) × (s.held i ≡ Some h)). goes.shares.held i h other.1 x inside)
+            (had id i (Some made) s.held h is).either;
+        all = λ x n is. ⊎_elim
+            (λ (was : s.frames x ≡ Some n). elim (in_set_or_not order first x) as (λ _. (new.frames x ≡ Some n) ⊎ ((i : ℕ) × Holds new i x)) [
+              | inl inside ↦ inr (id, let it : Holds new id x = record { what = made; is = with_here id (Some made) s.held; inside = inside } in it)
+              | inr other ↦ inl (without.kept x other ∙ was)
+            ])
+            (λ (some : (i : ℕ) × Holds s i x). elim (with_or_not id some.0) as (λ _. (new.frames x ≡ Some n) ⊎ ((i : ℕ) × Holds new i x)) [
+              | inl same ↦
+                  let had_one = some.1.is in
+                  let here : s.held id ≡ Some some.1.what = ap s.held same ∙ had_one in
+                  absurd (cc (sym none ∙ here))
+              | inr other ↦ inr (
+                some.0,
+                let it : Holds new some.0 x = record {
+                  what = some.1.what;
+                  is = with_there id some.0 (Some made) s.held other ∙ some.1.is;
+                  inside = some.1.inside;
+                } in it,
+              )
+            ])
+            (goes.shares.all x n is);
+      };
+    }
+
+-- what an ID holds comes back
+given_kept : (s : State) (id : ℕ) (what : Held) → IsKept s → s.held id ≡ Some what → IsKept (record { frames = with_set what.order what.first what.node s.frames; held = with_held id None s.held })
+given_kept s id what keeps is_held =
+    let new : State = record { frames = with_set what.order what.first what.node s.frames; held = with_held id None s.held } in
+    let well = keeps.well id what is_held in
+    let back : (x : ℕ) → IsInSet what.order what.first x → new.frames x ≡ Some what.node = λ x inside.
+    rw (set_covers what.order what.first x inside) refl in
+    let kept : (x : ℕ) → (IsInSet what.order what.first x → ⊥) → new.frames x ≡ s.frames x = λ x other.
+    rw (covers_set what.order what.first x other) refl in
+    let still : (i : ℕ) (h : Held) → new.held i ≡ Some h → ((id == i) ≡ false) × (s.held i ≡ Some h) = λ i h is. ⊎_elim
+    (λ (mine : (id ≡ i) × (None ≡ Some h)). let both = mine.1 in cc)
+    (λ (other : ((id == i) ≡ false) × (s.held i ≡ Some h)). other)
+    (had id i None s.held h is).either in
+    let other_set : (i : ℕ) (h : Held) → new.held i ≡ Some h → (x : ℕ) → IsInSet h.order h.first x → IsInSet what.order what.first x → ⊥ =
+    λ i h is x in_h inside.
+    let other = still i h is in
+    differ id i other.0 (keeps.apart id i what h is_held other.1 x inside in_h) in
+    record {
+      low = λ x high. elim (in_set_or_not what.order what.first x) as (λ _. new.frames x ≡ None) [
+        | inl inside ↦
+            let until = set_until (2 ^ what.order) what.first x (pow_pos what.order) inside in
+            let aligned = well.aligned in
+            let most = well.low in
+            absurd (omega (arith, until, aligned, most, high))
+        | inr other ↦ kept x other ∙ keeps.low x high
+      ];
+      well = λ i h is.
+          let was = keeps.well i h (still i h is).1 in
+          let it : IsWell new h = record {
+            small = was.small;
+            aligned = was.aligned;
+            low = was.low;
+            taken = λ x inside. kept x (other_set i h is x inside) ∙ was.taken x inside;
+          } in it;
+      apart = λ i j g h is_i is_j x in_g in_h. keeps.apart i j g h (still i g is_i).1 (still j h is_j).1 x in_g in_h;
+    }
+
+given_goes : (f : Frames) (s : State) (id : ℕ) (what : Held) → Goes f s → s.held id ≡ Some what → Goes f (record { frames = with_set what.order what.first what.node s.frames; held = with_held id None s.held })
+given_goes f s id what goes is_held =
+    let new : State = record { frames = with_set what.order what.first what.node s.frames; held = with_held id None s.held } in
+    let back : (x : ℕ) → IsInSet what.order what.first x → new.frames x ≡ Some what.node = λ x inside.
+    rw (set_covers what.order what.first x inside) refl in
+    let kept : (x : ℕ) → (IsInSet what.order what.first x → ⊥) → new.frames x ≡ s.frames x = λ x other.
+    rw (covers_set what.order what.first x other) refl in
+    let still : (i : ℕ) (h : Held) → new.held i ≡ Some h → ((id == i) ≡ false) × (s.held i ≡ Some h) = λ i h is. ⊎_elim
+    (λ (mine : (id ≡ i) × (None ≡ Some h)). let both = mine.1 in cc)
+    (λ (other : ((id == i) ≡ false) × (s.held i ≡ Some h)). other)
+    (had id i None s.held h is).either in
+    record {
+      kept = given_kept s id what goes.kept is_held;
+      shares = record {
+        free = λ x n is. elim (in_set_or_not what.order what.first x) as (λ _. f x ≡ Some n) [
+          | inl inside ↦ goes.shares.held id what is_held x inside ∙ sym (back x inside) ∙ is
+          | inr other ↦ goes.shares.free x n (sym (kept x other) ∙ is)
+        ];
+        held = λ i h is x inside. goes.shares.held i h (still i h is).1 x inside;
+        all = λ x n is. elim (in_set_or_not what.order what.first x) as (λ _. (new.frames x ≡ Some n) ⊎ ((i : ℕ) × Holds new i x)) [
+          | inl inside ↦ inl (back x inside ∙ sym (goes.shares.held id what is_held x inside) ∙ is)
+          | inr other ↦ ⊎_elim
+              (λ (was : s.frames x ≡ Some n). inl (kept x other ∙ was))
+              (λ (some : (i : ℕ) × Holds s i x). elim (with_or_not id some.0) as (λ _. (new.frames x ≡ Some n) ⊎ ((i : ℕ) × Holds new i x)) [
+                | inl same ↦
+                    let here : s.held id ≡ Some some.1.what = let h = some.1.is in ap s.held same ∙ h in
+                    let one : some.1.what ≡ what = let both : Some some.1.what ≡ Some what = sym here ∙ is_held in cc in
+                    absurd (other (subst (λ (k : Held). IsInSet k.order k.first x) one some.1.inside))
+                | inr differs ↦ inr (
+                  some.0,
+                  let it : Holds new some.0 x = record {
+                    what = some.1.what;
+                    is = with_there id some.0 None s.held differs ∙ some.1.is;
+                    inside = some.1.inside;
+                  } in it,
+                )
+              ])
+              (goes.shares.all x n is)
+        ];
+      };
+    }
+
+-- each line
+served_goes : (f : Frames) (s : State) (id order node : ℕ) (zone : Zone) (o : Option ℕ) → order ≤ 10 → Goes f s → s.held id ≡ None
+    → first_picked s.frames node zone order ≡ o → Goes f (served s id order node o).1
+served_goes f s id order node zone None small goes none is = goes
+served_goes f s id order node zone (Some first) small goes none is =
+    taken_goes f s id order first node small goes none (picked_set s.frames order first node zone goes.kept.low is)
+
+asked_goes : (f : Frames) (s : State) (id order node : ℕ) (zone : Zone) (o : Option Held) → order ≤ 10 → Goes f s → s.held id ≡ o
+    → Goes f (asked s id order node zone o).1
+asked_goes f s id order node zone (Some what) small goes is = goes
+asked_goes f s id order node zone None small goes is =
+    served_goes f s id order node zone (first_picked s.frames node zone order) small goes is refl
+
+back_goes : (f : Frames) (s : State) (id : ℕ) (o : Option Held) → Goes f s → s.held id ≡ o → Goes f (given_back s id o).1
+back_goes f s id None goes is = goes
+back_goes f s id (Some what) goes is = given_goes f s id what goes is
+
+pub step_goes : (f : Frames) (s : State) (act : PageAct) → HasOrder act → Goes f s → Goes f (step s act).1
+step_goes f s (acts.Pages id order node zone) small goes = asked_goes f s id order node zone (s.held id) small goes refl
+step_goes f s (acts.Give id) small goes = back_goes f s id (s.held id) goes refl
+
+pub after_goes : (f : Frames) (s : State) (ls : List PageLine) → HaveOrders ls → Goes f s → Goes f (after s ls)
+after_goes f s [] orders goes = goes
+after_goes f s (l ∷ ls) orders goes = after_goes f (step s l.act).1 ls orders.1 (step_goes f s l.act orders.0 goes)
+
+-- a state by itself
+served_kept : (s : State) (id order node : ℕ) (zone : Zone) (o : Option ℕ) → order ≤ 10 → IsKept s
+    → first_picked s.frames node zone order ≡ o → IsKept (served s id order node o).1
+served_kept s id order node zone None small keeps is = keeps
+served_kept s id order node zone (Some first) small keeps is =
+    taken_kept s id order first node small keeps (picked_set s.frames order first node zone keeps.low is)
+
+asked_kept : (s : State) (id order node : ℕ) (zone : Zone) (o : Option Held) → order ≤ 10 → IsKept s → IsKept (asked s id order node zone o).1
+asked_kept s id order node zone (Some what) small keeps = keeps
+asked_kept s id order node zone None small keeps = served_kept s id order node zone (first_picked s.frames node zone order) small keeps refl
+
+back_kept : (s : State) (id : ℕ) (o : Option Held) → IsKept s → s.held id ≡ o → IsKept (given_back s id o).1
+back_kept s id None keeps is = keeps
+back_kept s id (Some what) keeps is = given_kept s id what keeps is
+
+pub step_kept : (s : State) (act : PageAct) → HasOrder act → IsKept s → IsKept (step s act).1
+step_kept s (acts.Pages id order node zone) small keeps = asked_kept s id order node zone (s.held id) small keeps
+step_kept s (acts.Give id) small keeps = back_kept s id (s.held id) keeps refl
+
+pub begun_kept : (f : Frames) → NothingFrom MAX_FRAMES f → IsKept (begun f)
+begun_kept f low = (begun_goes f low).kept

@@ -1,0 +1,4 @@
+pub mod BookLaws
+pub mod KeptLaws
+pub mod ReadingLaws
+mod Examples

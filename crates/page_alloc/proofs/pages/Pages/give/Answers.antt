@@ -1,0 +1,48 @@
+use Rattle.std.proofs.Common.{◌≡◌, Some, None, sym, ◌∙◌, ap, subst}
+use Rattle.buddy_handover.specs.Contents.{free}
+use Rattle.frame_blocks.specs.Buddies.{with_set}
+use Rattle.page_alloc.specs.declared.act.PageAct.TheVariants as acts
+use Rattle.page_alloc.specs.declared.outcome.PageOutcome.{PageOutcome}
+use Rattle.page_alloc.specs.declared.outcome.PageOutcome.TheVariants as outcomes
+use Rattle.page_alloc.specs.Book.{Book, held_in, state_of}
+use Rattle.page_alloc.specs.Kept.{IsKept}
+use Rattle.page_alloc.specs.Pages.{State, with_held, given_back}
+use Rattle.page_alloc.proofs.BookLaws.{state_is, changed}
+use Rattle.page_alloc.proofs.KeptLaws.{step_kept}
+use Rattle.page_alloc.proofs.pages.Pages.give.Goals as goal
+
+pub put_back-requires-clause-small : goal.put_back-requires-clause-small
+put_back-requires-clause-small c =
+    let is = subst (λ (b : Book). held_in b.ids c.args.id ≡ Some c.in-Some.held) (sym c.self.view_is) (sym c.held.ensures ∙ c.in-Some.is) in
+    (c.self.invariant.well c.args.id c.in-Some.held is).small
+
+pub put_back-requires-clause-low : goal.put_back-requires-clause-low
+put_back-requires-clause-low c =
+    let is = subst (λ (b : Book). held_in b.ids c.args.id ≡ Some c.in-Some.held) (sym c.self.view_is) (sym c.held.ensures ∙ c.in-Some.is) in
+    (c.self.invariant.well c.args.id c.in-Some.held is).low
+
+pub returns-clause-ok : goal.returns-clause-ok
+returns-clause-ok c =
+    let id = c.args.id in
+    let what = c.in-Some.held in
+    let is = subst (λ (b : Book). held_in b.ids id ≡ Some what) (sym c.self.view_is) (sym c.held.ensures ∙ c.in-Some.is) in
+    let b : Book = record { buddy = c.self.inside.buddy; ids = c.self.inside.ids.entries } in
+    let new : Book = record { buddy = c.put_back.new.self; ids = c.remove.new.self.entries } in
+    let same : state_of new ≡ record { frames = with_set what.order what.first what.node (free b.buddy); held = with_held id None (held_in b.ids) } =
+    state_is (free new.buddy) (with_set what.order what.first what.node (free b.buddy)) (held_in new.ids) (with_held id None (held_in b.ids))
+    c.in_ok-put_back.ensures.runs.each (λ q. changed id q None (held_in b.ids) (held_in new.ids q) (c.remove.ensures.updates.0 q)) in
+    subst (λ (d : Book). (outcomes.Done, state_of new) ≡ given_back (state_of d) id (held_in d.ids id)) c.self.view_is
+    (ap (λ (s : State). let p : PageOutcome × State = (outcomes.Done, s) in p) same ∙ sym (ap (given_back (state_of b) id) is))
+
+pub invariant_of-self-2 : goal.invariant_of-self-2
+invariant_of-self-2 c =
+    let id = c.args.id in
+    let what = c.in-Some.held in
+    let is = subst (λ (b : Book). held_in b.ids id ≡ Some what) (sym c.self.view_is) (sym c.held.ensures ∙ c.in-Some.is) in
+    let b : Book = record { buddy = c.self.inside.buddy; ids = c.self.inside.ids.entries } in
+    let new : Book = record { buddy = c.put_back.new.self; ids = c.remove.new.self.entries } in
+    let same : state_of new ≡ record { frames = with_set what.order what.first what.node (free b.buddy); held = with_held id None (held_in b.ids) } =
+    state_is (free new.buddy) (with_set what.order what.first what.node (free b.buddy)) (held_in new.ids) (with_held id None (held_in b.ids))
+    c.in_ok-put_back.ensures.runs.each (λ q. changed id q None (held_in b.ids) (held_in new.ids q) (c.remove.ensures.updates.0 q)) in
+    let all = step_kept (state_of b) (acts.Give id) tt c.self.invariant in
+    subst (λ (s : State). IsKept s) (sym (same ∙ sym (ap (λ o. (given_back (state_of b) id o).1) is))) all

@@ -1,0 +1,93 @@
+-- What comes of the block that was picked, or of none.
+use Rattle.std.proofs.Common.{◌≡◌, ◌⊎◌, ◌*◌, None, Result, inl, inr, sym, subst, arith, rules}
+use Rattle.std.specs.Prelude.{IfOk}
+use Rattle.std.specs.Ordering.{nat_cmp}
+use Rattle.std.specs.BTreeMap.{insert_entry}
+use Rattle.bm_base.specs.declared.frame.TheConstants.{FRAME_SIZE}
+use Rattle.bm_base.specs.declared.memory.Memory.{Memory}
+use Rattle.address_runs.specs.Runs.{IsRunsOf}
+use Rattle.buddy_handover.specs.Contents.{Contents, free}
+use Rattle.frame_blocks.specs.Buddies.{without_set}
+use Rattle.page_alloc.specs.declared.act.PageAct.TheVariants as acts
+use Rattle.page_alloc.specs.declared.outcome.Held.{Held}
+use Rattle.page_alloc.specs.declared.outcome.PageOutcome.{PageOutcome}
+use Rattle.page_alloc.specs.declared.outcome.PageOutcome.TheVariants as outcomes
+use Rattle.page_alloc.specs.Book.{Book, held_in, state_of}
+use Rattle.page_alloc.specs.Kept.{IsKept}
+use Rattle.page_alloc.specs.Pages.{State, step}
+use Rattle.page_alloc.proofs.BookLaws.{took, took_none, kept_by}
+use Rattle.page_alloc.proofs.KeptLaws.{picked_set}
+use Rattle.page_alloc.proofs.pages.Pages.take.Goals.{in-Ok, in-Err-NoBlock, in-Err-Memory}
+use Rattle.page_alloc.proofs.pages.Pages.take.Goals as goal
+
+pub overflow_mul-result : goal.overflow_mul-result
+overflow_mul-result c =
+    let low = (picked_set (free c.self.inside.buddy) _ c.in-Ok.first _ _ c.self.invariant.low c.in-Ok.ensures.first).low in
+    omega (arith, low)
+
+abbrev before : goal.Joined-take → Book
+before c = record { buddy = c.self.inside.buddy; ids = c.self.inside.ids.entries }
+
+abbrev behind : goal.Joined-take → Book
+behind c = record { buddy = c.match-take.self-inside.buddy; ids = c.match-take.self-inside.ids.entries }
+
+abbrev Came : goal.Joined-take → Result PageOutcome Memory → Type 0
+Came c r = IfOk r (λ outcome. (let p : PageOutcome × State = (outcome, state_of (behind c)) in p)
+    ≡ step (state_of (before c)) (acts.Pages c.args.id c.args.order c.args.node c.args.zone))
+    × IfOk r (λ outcome. (outcome ≡ outcomes.Taken) ⊎ (outcome ≡ outcomes.NoBlock) → behind c ≡ before c)
+
+came : (c : goal.Joined-take) → Came c c.match-take.result × IsKept (state_of (behind c))
+came c =
+    let id = c.args.id in
+    let es = c.self.inside.ids.entries in
+    let none : held_in es id ≡ None = rw c.in-Vacant.is at c.in_ok-self-inside.ensures.found in
+    elim c.match-take.branch as (λ _. Came c c.match-take.result × IsKept (state_of (behind c))) [
+      | in-Ok w ↦
+          let first = w.in-Ok.first in
+          let what : Held = record { first = first; order = c.args.order; node = c.args.node } in
+          let entries : c.match-take.self-inside.ids.entries ≡ insert_entry nat_cmp es id what = search rules in
+          let buddy : c.match-take.self-inside.buddy ≡ c.take.new.self = search rules in
+          let runs = subst (λ (d : Contents). IsRunsOf (without_set c.args.order first (free c.self.inside.buddy)) d.runs) (sym buddy)
+          w.in-Ok.ensures.runs in
+          let is = took (before c) (behind c) id c.args.order c.args.node c.args.zone first none w.in-Ok.ensures.first runs entries in (
+            subst (λ (r : Result PageOutcome Memory). Came c r) (sym w.result-is) (
+              is,
+              λ refused. elim refused [
+                | inl taken ↦ cc taken
+                | inr nothing ↦ cc nothing
+              ],
+            ),
+            kept_by (before c) (behind c) (outcomes.At (FRAME_SIZE * first)) (acts.Pages id c.args.order c.args.node c.args.zone)
+                c.requires c.self.invariant is,
+          )
+      | in-Err-NoBlock w ↦
+          let entries : c.match-take.self-inside.ids.entries ≡ es = search rules in
+          let buddy : c.match-take.self-inside.buddy ≡ c.self.inside.buddy = search rules in
+          let same : behind c ≡ before c = λ i. record { buddy = buddy i; ids = entries i } in
+          let is = took_none (before c) (behind c) id c.args.order c.args.node c.args.zone none
+          (w.in-Err-NoBlock.ensures.none w.in-Err-NoBlock.field-0-is) same in (
+            subst (λ (r : Result PageOutcome Memory). Came c r) (sym w.result-is) (is, λ refused. same),
+            subst (λ (d : Book). IsKept (state_of d)) (sym same) c.self.invariant,
+          )
+      | in-Err-Memory w ↦
+          let entries : c.match-take.self-inside.ids.entries ≡ es = search rules in
+          let buddy : c.match-take.self-inside.buddy ≡ c.self.inside.buddy = search rules in
+          let same : behind c ≡ before c = λ i. record { buddy = buddy i; ids = entries i } in (
+            subst (λ (r : Result PageOutcome Memory). Came c r) (sym w.result-is) (tt, tt),
+            subst (λ (d : Book). IsKept (state_of d)) (sym same) c.self.invariant,
+          )
+    ]
+
+pub invariant_of-self-in-Vacant : goal.invariant_of-self-in-Vacant
+invariant_of-self-in-Vacant c = (came c).1
+
+pub returns-after-take-clause-ok : goal.returns-after-take-clause-ok
+returns-after-take-clause-ok c =
+    subst (λ (d : Book). IfOk c.match-take.result (λ outcome. (let p : PageOutcome × State = (outcome, state_of (behind c)) in p)
+    ≡ step (state_of d) (acts.Pages c.args.id c.args.order c.args.node c.args.zone)))
+    c.self.view_is (came c).0.0
+
+pub returns-after-take-clause-refused : goal.returns-after-take-clause-refused
+returns-after-take-clause-refused c =
+    subst (λ (d : Book). IfOk c.match-take.result (λ outcome. (outcome ≡ outcomes.Taken) ⊎ (outcome ≡ outcomes.NoBlock) → behind c ≡ d))
+    c.self.view_is (came c).0.1

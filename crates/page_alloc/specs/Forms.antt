@@ -1,0 +1,63 @@
+-- The forms of a line of a page script: the words behind its first, and what they ask for. The form goes before all numbers.
+use Rattle.std.specs.Prelude.{ℕ, ◌-◌, ◌^◌, ◌==◌, Bool, false, if◌then◌else◌, List, [], ◌∷◌, codes, Option, Some, None, Result, Ok, Err}
+use Rattle.std.specs.Str.{bytes_eq}
+use Rattle.bm_base.specs.ResultSteps.{◌>>=◌}
+use Rattle.text_words.specs.Words.{words_in}
+use Rattle.text_words.specs.declared.separators.Separators.TheVariants as separators
+use Rattle.page_alloc.specs.declared.act.PageAct.{PageAct}
+use Rattle.page_alloc.specs.declared.act.PageAct.TheVariants as acts
+use Rattle.page_alloc.specs.declared.fault.Wrong.{Wrong}
+use Rattle.page_alloc.specs.declared.fault.Wrong.TheVariants as wrong
+use Rattle.page_alloc.specs.Words.{Words, first_word, one_word, zone_named, bounded}
+
+-- the bounds of an ID, an order and a node
+abbrev pub greatest_id : ℕ
+greatest_id = 2 ^ 32 - 1
+
+abbrev pub greatest_order : ℕ
+greatest_order = 10
+
+abbrev pub greatest_node : ℕ
+greatest_node = 1023
+
+-- pages ID ORDER NODE ZONE
+abbrev pub pages_line : Words → Result PageAct Wrong
+pages_line words = do
+  id ← first_word words
+  order ← first_word id.1
+  node ← first_word order.1
+  name ← one_word node.1
+  zone ← zone_named name
+  of_id ← bounded greatest_id id.0
+  of_order ← bounded greatest_order order.0
+  of_node ← bounded greatest_node node.0
+  Ok (acts.Pages of_id of_order of_node zone)
+
+-- give ID
+abbrev pub give_line : Words → Result PageAct Wrong
+give_line words = do
+  said ← one_word words
+  id ← bounded greatest_id said
+  Ok (acts.Give id)
+
+-- by the first word of the line
+abbrev pub by_name : List ℕ → Words → Result PageAct Wrong
+by_name name words =
+    if bytes_eq name (codes "pages") then pages_line words else
+    (if bytes_eq name (codes "give") then give_line words else Err wrong.Form)
+
+-- a word that begins with `#` begins a comment
+abbrev pub is_comment : List ℕ → Bool
+is_comment [] = false
+is_comment (b ∷ bs) = b == 35
+
+-- what the words of a line ask for: nothing where there are none, or the first begins a comment
+abbrev pub asked_by : Words → Result (Option PageAct) Wrong
+asked_by [] = Ok None
+asked_by (name ∷ words) = if is_comment name then Ok None else (do
+  act ← by_name name words
+  Ok (Some act))
+
+-- what the text of one line asks for
+abbrev pub asked : List ℕ → Result (Option PageAct) Wrong
+asked text = asked_by (words_in separators.Script text)

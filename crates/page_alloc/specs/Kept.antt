@@ -1,0 +1,55 @@
+-- Where a frame is: in a block of the free frames, or in what an ID holds; and what keeps both apart.
+use Rattle.std.specs.Prelude.{◌≡◌, ◌⊎◌, ℕ, ◌+◌, ◌%◌, ◌^◌, ◌≤◌, Some, None}
+use Rattle.address_runs.specs.Edits.{NothingFrom}
+use Rattle.frame_blocks.specs.declared.block.Block.{Block}
+use Rattle.frame_blocks.specs.declared.run.TheConstants.{MAX_FRAMES}
+use Rattle.frame_blocks.specs.Frames.{IsInSet, IsBlock, IsInBlock}
+use Rattle.page_alloc.specs.declared.outcome.Held.{Held}
+use Rattle.page_alloc.specs.Pages.{State}
+
+-- the ID holds the frame
+pub record Holds (s : State) (id x : ℕ) : Type 0 where
+  pub what : Held
+  pub is : s.held id ≡ Some what
+  pub inside : IsInSet what.order what.first x
+
+-- the frame is in a block of the free frames, and in no other one
+pub record IsInOneBlock (s : State) (x : ℕ) : Type 0 where
+  pub block : Block
+  pub is : IsBlock s.frames block
+  pub has : IsInBlock block x
+  pub one : (b : Block) → IsBlock s.frames b → IsInBlock b x → b ≡ block
+
+abbrev pub IsInNoBlock : State → ℕ → Type 0
+IsInNoBlock s x = (b : Block) → IsBlock s.frames b → IsInBlock b x → ⊥
+
+-- an ID holds the frame, and no other ID does
+pub record IsHeldByOne (s : State) (x : ℕ) : Type 0 where
+  pub id : ℕ
+  pub holds : Holds s id x
+  pub one : (other : ℕ) → Holds s other x → other ≡ id
+
+abbrev pub IsHeldByNone : State → ℕ → Type 0
+IsHeldByNone s x = (id : ℕ) → Holds s id x → ⊥
+
+-- the frame is in exactly one block, or held by exactly one ID
+abbrev pub IsInOne : State → ℕ → Type 0
+IsInOne s x = (IsInOneBlock s x × IsHeldByNone s x) ⊎ (IsHeldByOne s x × IsInNoBlock s x)
+
+-- the frame is in none
+abbrev pub IsInNone : State → ℕ → Type 0
+IsInNone s x = IsInNoBlock s x × IsHeldByNone s x
+
+-- what is held is a set of frames of which none is free
+pub record IsWell (s : State) (what : Held) : Type 0 where
+  pub small : what.order ≤ 10
+  pub aligned : what.first % 2 ^ what.order ≡ 0
+  pub low : what.first + 2 ^ what.order ≤ MAX_FRAMES
+  pub taken : (x : ℕ) → IsInSet what.order what.first x → s.frames x ≡ None
+
+-- so are all that are held, no two of them have a frame in common, and no frame lies too high
+pub record IsKept (s : State) : Type 0 where
+  pub low : NothingFrom MAX_FRAMES s.frames
+  pub well : (id : ℕ) (what : Held) → s.held id ≡ Some what → IsWell s what
+  pub apart : (i j : ℕ) (g h : Held) → s.held i ≡ Some g → s.held j ≡ Some h → (x : ℕ) → IsInSet g.order g.first x
+      → IsInSet h.order h.first x → i ≡ j

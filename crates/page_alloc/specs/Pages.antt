@@ -1,0 +1,83 @@
+-- The page allocator after the handover as a state of free frames and held ranges, and what each line of a page script does to it.
+use Rattle.std.specs.Prelude.{◌≡◌, IsSome, ℕ, ◌*◌, ◌≤◌, ◌==◌, if◌then◌else◌, Option, Some, None, List, [], ◌∷◌}
+use Rattle.bm_base.specs.declared.frame.TheConstants.{FRAME_SIZE}
+use Rattle.bm_base.specs.declared.zone.Zone.{Zone}
+use Rattle.frame_blocks.specs.Frames.{Frames}
+use Rattle.frame_blocks.specs.Picked.{first_picked}
+use Rattle.frame_blocks.specs.Buddies.{without_set, with_set}
+use Rattle.page_alloc.specs.declared.act.PageAct.{PageAct}
+use Rattle.page_alloc.specs.declared.act.PageAct.TheVariants as acts
+use Rattle.page_alloc.specs.declared.act.PageLine.{PageLine}
+use Rattle.page_alloc.specs.declared.outcome.Held.{Held}
+use Rattle.page_alloc.specs.declared.outcome.PageOutcome.{PageOutcome}
+use Rattle.page_alloc.specs.declared.outcome.PageOutcome.TheVariants as outcomes
+use Rattle.page_alloc.specs.declared.outcome.PageAnswer.{PageAnswer}
+
+-- which frames are free, each of which node, and what each ID holds
+pub record State : Type 0 where
+  pub frames : Frames
+  pub held : ℕ → Option Held
+
+-- nothing is held
+abbrev pub begun : Frames → State
+begun f = record { frames = f; held = λ id. None }
+
+-- the ID holds this, or nothing; the others hold what they held
+abbrev pub with_held : ℕ → Option Held → (ℕ → Option Held) → ℕ → Option Held
+with_held id what held i = if id == i then what else held i
+
+-- a request for 2^order frames of a node, where `first` is the first frame of the block that is picked: the first 2^order frames of
+-- that block leave, and the ID holds them
+abbrev pub served : State → ℕ → ℕ → ℕ → Option ℕ → PageOutcome × State
+served s id order node None = (outcomes.NoBlock, s)
+served s id order node (Some first) = (
+  outcomes.At (FRAME_SIZE * first),
+  record {
+    frames = without_set order first s.frames;
+    held = with_held id (Some (record { first = first; order = order; node = node })) s.held;
+  },
+)
+
+-- by what the ID holds already
+abbrev pub asked : State → ℕ → ℕ → ℕ → Zone → Option Held → PageOutcome × State
+asked s id order node zone (Some what) = (outcomes.Taken, s)
+asked s id order node zone None = served s id order node (first_picked s.frames node zone order)
+
+-- what an ID holds comes back, with its node, and the ID holds nothing any more
+abbrev pub given_back : State → ℕ → Option Held → PageOutcome × State
+given_back s id None = (outcomes.Unknown, s)
+given_back s id (Some what) = (
+  outcomes.Done,
+  record {
+    frames = with_set what.order what.first what.node s.frames;
+    held = with_held id None s.held;
+  },
+)
+
+-- the outcome of a line, and the state then
+abbrev pub step : State → PageAct → PageOutcome × State
+step s (acts.Pages id order node zone) = asked s id order node zone (s.held id)
+step s (acts.Give id) = given_back s id (s.held id)
+
+-- the answers of several lines, in order, and the state at their end
+abbrev pub answers_of : State → List PageLine → List PageAnswer
+answers_of s [] = []
+answers_of s (l ∷ ls) = record { line = l.number; outcome = (step s l.act).0 } ∷ answers_of (step s l.act).1 ls
+
+abbrev pub after : State → List PageLine → State
+after s [] = s
+after s (l ∷ ls) = after (step s l.act).1 ls
+
+-- an order in the line is an order of blocks
+abbrev pub HasOrder : PageAct → Type 0
+HasOrder (acts.Pages id order node zone) = order ≤ 10
+HasOrder (acts.Give id) = Unit {0}
+
+abbrev pub HaveOrders : List PageLine → Type 0
+HaveOrders [] = Unit {0}
+HaveOrders (l ∷ ls) = HasOrder l.act × HaveOrders ls
+
+-- memory is taken for a request of an ID that holds nothing, and where what an ID holds comes back
+abbrev pub TakesMemory : State → PageAct → Type 0
+TakesMemory s (acts.Pages id order node zone) = s.held id ≡ None
+TakesMemory s (acts.Give id) = IsSome (s.held id)

@@ -1,0 +1,80 @@
+//! What one line asks for: its form by its first word, and the steps of each form in the order of the faults.
+
+ghost use Rattle.std.specs.Prelude.{◌≡◌, ◌<◌, length, IfOk, IfErr, IfSome};
+ghost use Rattle.text_words.specs.Words.{words_in};
+ghost use Rattle.text_words.specs.declared.separators.Separators.TheVariants as separators;
+ghost use Rattle.page_alloc.specs.Forms.{pages_line as pages_of, give_line as give_of, by_name as named_line, asked};
+ghost use Rattle.page_alloc.specs.Pages.{HasOrder};
+
+use crate::act::PageAct;
+use crate::fault::Wrong;
+use crate::words::{bounded, first_word, one_word, zone_named};
+use text_words::{Separators, next_word};
+
+/// The greatest ID.
+const GREATEST_ID: u64 = 0xFFFF_FFFF;
+
+/// The greatest order of a block.
+const GREATEST_ORDER: u64 = 10;
+
+/// The greatest number of a node.
+const GREATEST_NODE: u64 = 1023;
+
+/// What the line asks for, if anything.
+pub fn read_line(text: &[u8]) -> Result<Option<PageAct>, Wrong>
+    ensures value { result ≡ asked text.now }
+    ensures order { IfOk result (λ act. IfSome act HasOrder) }
+    ensures asks { IfOk result (λ act. IfSome act (λ _. 0 < length text.now)) }
+    ensures wrong { IfErr result (λ _. 0 < length text.now) }
+{
+    let Some((name, rest)) = next_word(text, Separators::Script) else {
+        return Ok(None);
+    };
+    if name.first() == Some(&b'#') {
+        return Ok(None);
+    }
+    Ok(Some(by_name(name, rest)?))
+}
+
+/// By the first word of the line.
+fn by_name(name: &[u8], rest: &[u8]) -> Result<PageAct, Wrong>
+    ensures value { result ≡ named_line name.now (words_in separators.Script rest.now) }
+    ensures order { IfOk result HasOrder }
+{
+    if name == b"pages".as_slice() {
+        return pages_line(rest);
+    }
+    if name == b"give".as_slice() {
+        return give_line(rest);
+    }
+    Err(Wrong::Form)
+}
+
+/// `ID ORDER NODE ZONE`.
+fn pages_line(text: &[u8]) -> Result<PageAct, Wrong>
+    ensures value { result ≡ pages_of (words_in separators.Script text.now) }
+    ensures order { IfOk result HasOrder }
+{
+    let (id, rest) = first_word(text)?;
+    let (order, rest) = first_word(rest)?;
+    let (node, rest) = first_word(rest)?;
+    let zone = zone_named(one_word(rest)?)?;
+    let id = bounded(GREATEST_ID, id)? as u32;
+    let order = bounded(GREATEST_ORDER, order)? as u32;
+    let node = bounded(GREATEST_NODE, node)? as u32;
+    Ok(PageAct::Pages {
+        id,
+        order,
+        node,
+        zone,
+    })
+}
+
+/// `ID`.
+fn give_line(text: &[u8]) -> Result<PageAct, Wrong>
+    ensures value { result ≡ give_of (words_in separators.Script text.now) }
+    ensures order { IfOk result HasOrder }
+{
+    let id = bounded(GREATEST_ID, one_word(text)?)? as u32;
+    Ok(PageAct::Give { id })
+}

@@ -1,0 +1,123 @@
+//! The buddy lists, and which ID holds which frames of them.
+
+ghost use Rattle.std.specs.Prelude.{◌≡◌, ◌⊎◌, ◌+◌, ◌*◌, ◌^◌, ◌<◌, ◌≤◌, IfOk, OnErr};
+ghost use Rattle.buddy_handover.specs.Contents.{free};
+ghost use Rattle.page_alloc.specs.declared.act.PageAct.TheVariants as act;
+ghost use Rattle.page_alloc.specs.Book.{held_in, state_of};
+ghost use Rattle.page_alloc.specs.Pages.{begun, step, HasOrder, TakesMemory};
+
+use crate::act::{PageAct, PageLine};
+use crate::outcome::{Held, PageOutcome};
+use bm_base::{FRAME_SIZE, Memory, Zone};
+use buddy_handover::{Buddy, Take};
+use std::alloc::Global;
+use std::collections::BTreeMap;
+use std::collections::btree_map::Entry;
+use std::marker::Model;
+
+/// The free frames, and the frames that IDs hold. No frame is free and held, and no two IDs hold one frame.
+#[derive(Debug, Drop)]
+pub struct Pages {
+    buddy: Buddy,
+    ids: BTreeMap<u32, Held>,
+}
+
+impl Model for Pages {
+    ghost use Rattle.page_alloc.specs.Book.{Book, state_of};
+    ghost use Rattle.page_alloc.specs.Kept.{IsKept};
+
+    ghost Value = { Book };
+
+    ghost view = { λ p. record { buddy = p.buddy; ids = p.ids.entries } };
+
+    ghost invariant = { λ p. IsKept (state_of (record { buddy = p.buddy; ids = p.ids.entries })) };
+}
+
+impl Pages {
+    /// The frames of the lists are free, and nothing is held.
+    pub fn new(alloc: Global, buddy: Buddy) -> Pages
+        ensures { state_of result ≡ begun (free buddy) }
+    {
+        buddy.lies_low();
+        Pages {
+            buddy,
+            ids: BTreeMap::new(alloc),
+        }
+    }
+
+    /// The buddy lists as they are now.
+    pub fn buddy(&self) -> &Buddy
+        ensures { result.now ≡ self.now.buddy }
+    {
+        &self.buddy
+    }
+
+    /// What the ID holds; `None` exactly where it holds nothing.
+    pub fn held(&self, id: u32) -> Option<Held>
+        ensures { result ≡ (state_of self.now).held id }
+    {
+        self.ids.get(&id).copied()
+    }
+
+    /// `2^order` frames of the node and in the zone for the ID: `Taken` exactly where it holds something already, else `NoBlock` exactly
+    /// where no block there is of the order or a greater one, else `At` with the address of the first frame. Nothing has changed
+    /// after an answer other than `At`, nor after `Memory`, which comes only where the ID holds nothing.
+    pub fn take(
+        &mut self,
+        id: u32,
+        order: u32,
+        node: u32,
+        zone: Zone,
+    ) -> Result<PageOutcome, Memory>
+        requires { order ≤ 10 }
+        ensures ok { IfOk result (λ outcome. (outcome, state_of self.new) ≡ step (state_of self.old) (act.Pages id order node zone)) }
+        ensures memory { OnErr result (TakesMemory (state_of self.old) (act.Pages id order node zone)) }
+        ensures refused { IfOk result (λ outcome. (outcome ≡ PageOutcome.Taken) ⊎ (outcome ≡ PageOutcome.NoBlock) → self.new ≡ self.old) }
+        ensures err { OnErr result (self.new ≡ self.old) }
+    {
+        match self.ids.entry(id)? {
+            Entry::Occupied(_) => Ok(PageOutcome::Taken),
+            Entry::Vacant(place) => match self.buddy.take(node, zone, order) {
+                Ok(first) => {
+                    place.insert(Held { first, order, node });
+                    Ok(PageOutcome::At(FRAME_SIZE * first))
+                }
+                Err(Take::NoBlock) => Ok(PageOutcome::NoBlock),
+                Err(Take::Memory) => Err(Memory),
+            },
+        }
+    }
+
+    /// What the ID holds comes back: `Unknown` exactly where it holds nothing, else `Done`. Nothing has changed after `Memory`, which
+    /// comes only where it holds something.
+    fn give(&mut self, id: u32) -> Result<PageOutcome, Memory>
+        ensures ok { IfOk result (λ outcome. (outcome, state_of self.new) ≡ step (state_of self.old) (act.Give id)) }
+        ensures memory { OnErr result (TakesMemory (state_of self.old) (act.Give id)) }
+        ensures err { OnErr result (self.new ≡ self.old) }
+    {
+        let Some(held) = self.held(id) else {
+            return Ok(PageOutcome::Unknown);
+        };
+        self.buddy.put_back(held.first, held.order, held.node)?;
+        let _ = self.ids.remove(&id);
+        Ok(PageOutcome::Done)
+    }
+
+    /// Carries one line out. Nothing has changed after `Memory`.
+    pub fn run_line(&mut self, line: &PageLine) -> Result<PageOutcome, Memory>
+        requires { HasOrder line.now.act }
+        ensures ok { IfOk result (λ outcome. (outcome, state_of self.new) ≡ step (state_of self.old) line.now.act) }
+        ensures memory { OnErr result (TakesMemory (state_of self.old) line.now.act) }
+        ensures err { OnErr result (self.new ≡ self.old) }
+    {
+        match line.act {
+            PageAct::Pages {
+                id,
+                order,
+                node,
+                zone,
+            } => self.take(id, order, node, zone),
+            PageAct::Give { id } => self.give(id),
+        }
+    }
+}
