@@ -8,10 +8,12 @@ use Rattle.address_runs.proofs.RunsLaws.{inside, behind, rest_from}
 use Rattle.e820_model.specs.Map.{TypeAt}
 use Rattle.e820_model.specs.Usable.{is_memory, is_usable, reachable}
 use Rattle.e820_model.proofs.UsableLaws.{memory_reached, usable_each}
-use Rattle.memblock_model.specs.Labels.{Label, plain_label}
+use Rattle.memblock_model.specs.Labels.{Label, Labels, plain_label}
 use Rattle.memblock_model.specs.Search.{last_below}
 use Rattle.memblock_model.proofs.SearchLaws.{IsLastBelow, last_below-is, last_below-none}
-use Rattle.early_stages.specs.Memory.{behind_frame, end_behind, end_of_runs, memory_end, usable_memory}
+use Rattle.early_stages.specs.Early.{FrameRange}
+use Rattle.early_stages.specs.Memory.{behind_frame, end_behind, end_of_runs, memory_end, mirrored_memory, usable_memory}
+use Rattle.early_stages.proofs.MirrorLaws.{mirrored-held, mirrored-some}
 
 -- a usable frame lies below the limit of addresses
 pub low_frame : (limit : ℕ) (f : TypeAt) (frame : ℕ) → is_usable (reachable limit f) frame ≡ true → 4096 * frame + 4096 ≤ limit
@@ -87,6 +89,17 @@ memory_below limit f x label held =
     let by : 4096 * (x / 4096) + 4096 ≤ memory_end limit f = (memory_end-is limit f).by (x / 4096) (memory_usable limit f x label held) in
     omega arith
 
+-- whatever of it is mirrored
+pub mirrored_usable : (limit : ℕ) (f : TypeAt) (mirrors : List FrameRange) (x : ℕ) (label : Label)
+    → mirrored_memory mirrors (usable_memory limit f) x ≡ Some label → is_usable (reachable limit f) (x / 4096) ≡ true
+mirrored_usable limit f mirrors x label held =
+    let was = mirrored-held mirrors (usable_memory limit f) x label held in memory_usable limit f x was.0 was.1
+
+pub mirrored_below : (limit : ℕ) (f : TypeAt) (mirrors : List FrameRange) (x : ℕ) (label : Label)
+    → mirrored_memory mirrors (usable_memory limit f) x ≡ Some label → x < memory_end limit f
+mirrored_below limit f mirrors x label held =
+    let was = mirrored-held mirrors (usable_memory limit f) x label held in memory_below limit f x was.0 was.1
+
 -- from the end of the last run on a list gives nothing, and its last address has something
 pub record EndsAt {X : Type 0} (rs : List (RunOf X)) (at : ℕ) : Type 0 where
   pub past : (x : ℕ) → at ≤ x → value_at rs x ≡ None
@@ -135,33 +148,36 @@ runs_end rs runs = record {
 }
 
 -- so the runs of memory end where memory does
-runs_are_end : (limit : ℕ) (f : TypeAt) (rs : List (RunOf Label)) (at : ℕ) → IsRunsOf (usable_memory limit f) rs → EndsAt rs at
-    → IsEnd limit f at
-runs_are_end limit f rs at are ends =
+runs_are_end : (limit : ℕ) (f : TypeAt) (mirrors : List FrameRange) (rs : List (RunOf Label)) (at : ℕ)
+    → IsRunsOf (mirrored_memory mirrors (usable_memory limit f)) rs → EndsAt rs at → IsEnd limit f at
+runs_are_end limit f mirrors rs at are ends =
+    let memory : Labels = mirrored_memory mirrors (usable_memory limit f) in
     let by : (frame : ℕ) → is_usable (reachable limit f) frame ≡ true → 4096 * frame + 4096 ≤ at =
     λ frame usable. (elim (cases_lt (4096 * frame + 4095) at) as (λ _. 4096 * frame + 4096 ≤ at) [
       | inl below ↦ omega arith
       | inr past ↦
           (let number : (4096 * frame + 4095) / 4096 ≡ frame = omega arith in
-          let held : usable_memory limit f (4096 * frame + 4095) ≡ Some plain_label = rw (number, usable) refl in
+          let plain : usable_memory limit f (4096 * frame + 4095) ≡ Some plain_label = rw (number, usable) refl in
+          let held = (mirrored-some mirrors (usable_memory limit f) (4096 * frame + 4095) plain_label plain).1 in
           let none : value_at rs (4096 * frame + 4095) ≡ None = ends.past (4096 * frame + 4095) past in
-          let same : value_at rs (4096 * frame + 4095) ≡ usable_memory limit f (4096 * frame + 4095) = are.each (4096 * frame + 4095) in
+          let same : value_at rs (4096 * frame + 4095) ≡ memory (4096 * frame + 4095) = are.each (4096 * frame + 4095) in
           absurd (cc (none, held, same)))
     ]) in
     record {
       by = by;
       last = λ some.
           let found = ends.last some in
-          let held : usable_memory limit f (at - 1) ≡ Some found.0 = sym (are.each (at - 1)) ∙ found.1 in
-          let usable : is_usable (reachable limit f) ((at - 1) / 4096) ≡ true = memory_usable limit f (at - 1) found.0 held in
+          let held : memory (at - 1) ≡ Some found.0 = sym (are.each (at - 1)) ∙ found.1 in
+          let usable : is_usable (reachable limit f) ((at - 1) / 4096) ≡ true =
+          mirrored_usable limit f mirrors (at - 1) found.0 held in
           let within : 4096 * ((at - 1) / 4096) + 4096 ≤ at = by ((at - 1) / 4096) usable in
           ((at - 1) / 4096, omega arith, usable);
     }
 
-pub runs_end_memory : (limit : ℕ) (f : TypeAt) (rs : List (RunOf Label)) → IsRunsOf (usable_memory limit f) rs
-    → end_of_runs rs ≡ memory_end limit f
-runs_end_memory limit f rs are =
-    let first : IsEnd limit f (end_of_runs rs) = runs_are_end limit f rs (end_of_runs rs) are (runs_end rs are.runs) in
+pub runs_end_memory : (limit : ℕ) (f : TypeAt) (mirrors : List FrameRange) (rs : List (RunOf Label))
+    → IsRunsOf (mirrored_memory mirrors (usable_memory limit f)) rs → end_of_runs rs ≡ memory_end limit f
+runs_end_memory limit f mirrors rs are =
+    let first : IsEnd limit f (end_of_runs rs) = runs_are_end limit f mirrors rs (end_of_runs rs) are (runs_end rs are.runs) in
     let second : IsEnd limit f (memory_end limit f) = memory_end-is limit f in
     let le : end_of_runs rs ≤ memory_end limit f = one_end limit f (end_of_runs rs) (memory_end limit f) first second in
     let ge : memory_end limit f ≤ end_of_runs rs = one_end limit f (memory_end limit f) (end_of_runs rs) second first in

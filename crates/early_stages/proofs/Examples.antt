@@ -1,5 +1,5 @@
 -- Small maps: what is wanted of them, and the memory that they come to.
-use Rattle.std.proofs.Common.{◌≡◌, ℕ, ◌^◌, ◌≤◌, Bool, true, false, ◌&&◌, nat_le, nat_lt, Some, None, List, [], ◌∷◌, refl, sym, ◌∙◌, ap, inl, inr, arith}
+use Rattle.std.proofs.Common.{◌≡◌, ℕ, ◌^◌, ◌≤◌, Bool, true, false, ◌&&◌, nat_le, nat_lt, Option, Some, None, List, [], ◌∷◌, refl, sym, ◌∙◌, ap, inl, inr, arith}
 use Rattle.std.proofs.lemmas.Bool.Decides.{nat_tests}
 use Rattle.std.proofs.lemmas.Bool.{cases_Bool}
 use Rattle.bm_base.specs.Extent.{Extent}
@@ -10,8 +10,9 @@ use Rattle.e820_model.proofs.UsableLaws.{all_bytes, interval_frame, memory_reach
 use Rattle.memblock_model.specs.Labels.{plain_label}
 use Rattle.memblock_model.specs.declared.owner.Owner.TheVariants as owner
 use Rattle.memblock_model.specs.declared.item.Item.TheVariants as item
-use Rattle.early_stages.specs.Memory.{behind_frame, end_behind, end_of_runs, memory_end, usable_memory}
-use Rattle.early_stages.specs.Wanted.{closing_items, early_claims, first_items, initrd_claims, items_of_map, items_of_run, part_below, up_to}
+use Rattle.early_stages.specs.Early.{Early, FrameRange, bytes_of_frames}
+use Rattle.early_stages.specs.Memory.{behind_frame, end_behind, end_of_runs, is_mirrored, memory_end, mirrored_memory, usable_memory}
+use Rattle.early_stages.specs.Wanted.{closing_items, direction_items, early_claims, first_items, initrd_claims, items_of_map, items_of_run, mirror_items, part_below, up_to}
 use Rattle.early_stages.proofs.EndLaws.{IsEnd, memory_end-is, one_end}
 
 abbrev bytes : ℕ → ℕ → Extent
@@ -49,21 +50,45 @@ two_runs : items_of_map limit (run 0x1000 0x9F000 1 ∷ run 0xF0000 0x10000 2 �
     ≡ item.Mem (bytes 0x1000 0x9F000) ∷ item.Claim (bytes 0x100000 0x100000) owner.Soft ∷ []
 two_runs = refl
 
-closes : closing_items 0x4000 ≡ item.Trim ∷ item.Limit 0x4000 ∷ item.Claim (bytes 0 0x100000) owner.Low1M ∷ []
+-- two ranges of mirrored frames, 1 to 2 and 8: what is trimmed is mirrored, range by range
+abbrev some_frames : List FrameRange
+some_frames = record { first = 1; count = 2 } ∷ record { first = 8; count = 1 } ∷ []
+
+closes : closing_items some_frames 0x4000
+    ≡ item.Trim ∷ item.Mirror (bytes 0x1000 0x2000) ∷ item.Mirror (bytes 0x8000 0x1000) ∷ item.Limit 0x4000
+    ∷ item.Claim (bytes 0 0x100000) owner.Low1M ∷ []
 closes = refl
 
+mirrors_and_direction : (mirror_items [] ≡ []) × (bytes_of_frames (record { first = 8; count = 1 }) ≡ bytes 0x8000 0x1000)
+    × (direction_items true ≡ item.Upward true ∷ []) × (direction_items false ≡ [])
+mirrors_and_direction = (refl, refl, refl, refl)
+
 -- without a map there is a limit of 0
-nothing_wanted_of_no_map : first_items limit (bytes 0x1000000 0x2000000) None []
+abbrev given : Option Extent → Bool → Early
+given initrd upward =
+    record { limit = limit; kernel = bytes 0x1000000 0x2000000; initrd = initrd; mirrors = some_frames; upward = upward }
+
+nothing_wanted_of_no_map : first_items (given None false) []
     ≡ item.Claim (bytes 0x1000000 0x2000000) owner.Kernel ∷ item.Claim (bytes 0 0x10000) owner.Low64K ∷ item.Limit 0x100000
-    ∷ closing_items (memory_end limit (value_at []))
+    ∷ closing_items some_frames (memory_end limit (value_at []))
 nothing_wanted_of_no_map = refl
 
--- and an initrd is claimed before that limit
-wanted_with_an_initrd : first_items limit (bytes 0x1000000 0x2000000) (Some (bytes 0x7000000 0x3000)) []
+-- an initrd is claimed before that limit, and the direction is said behind it
+wanted_with_an_initrd : first_items (given (Some (bytes 0x7000000 0x3000)) true) []
     ≡ item.Claim (bytes 0x1000000 0x2000000) owner.Kernel ∷ item.Claim (bytes 0 0x10000) owner.Low64K
-    ∷ item.Claim (bytes 0x7000000 0x3000) owner.Initrd ∷ item.Limit 0x100000
-    ∷ closing_items (memory_end limit (value_at []))
+    ∷ item.Claim (bytes 0x7000000 0x3000) owner.Initrd ∷ item.Limit 0x100000 ∷ item.Upward true
+    ∷ closing_items some_frames (memory_end limit (value_at []))
 wanted_with_an_initrd = refl
+
+-- what is mirrored and what isn't: bytes of those frames that are memory
+mirrored_bytes : (is_mirrored some_frames 0xFFF ≡ false) × (is_mirrored some_frames 0x1000 ≡ true) × (is_mirrored some_frames 0x2FFF ≡ true)
+    × (is_mirrored some_frames 0x3000 ≡ false) × (is_mirrored some_frames 0x8000 ≡ true) × (is_mirrored [] 0x8000 ≡ false)
+mirrored_bytes = (refl, refl, refl, refl, refl, refl)
+
+memory_is_mirrored : (mirrored_memory some_frames (λ x. Some plain_label) 0x2FFF ≡ Some (record { node = None; mirror = true }))
+    × (mirrored_memory some_frames (λ x. Some plain_label) 0x3000 ≡ Some plain_label)
+    × (mirrored_memory some_frames (λ x. None) 0x1000 ≡ None)
+memory_is_mirrored = (refl, refl, refl)
 
 -- ends
 frame_ends : (behind_frame None ≡ 0) × (behind_frame (Some 0) ≡ 0x1000) × (behind_frame (Some 3) ≡ 0x4000)

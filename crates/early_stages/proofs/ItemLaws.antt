@@ -1,15 +1,17 @@
 -- No item that is wanted has an empty range.
-use Rattle.std.proofs.Common.{ℕ, ◌<◌, ◌==◌, ◌&&◌, nat_lt, Option, Some, None, List, [], ◌∷◌, ◌++◌, inl, inr, arith}
+use Rattle.std.proofs.Common.{ℕ, suc, ◌<◌, Bool, true, false, ◌==◌, ◌&&◌, nat_lt, Option, Some, None, List, [], ◌∷◌, ◌++◌, inl, inr, arith}
 use Rattle.std.proofs.lemmas.Bool.Decides.{nat_tests}
 use Rattle.std.proofs.lemmas.Bool.{cases_Bool}
 use Rattle.std.specs.Prelude.{IfSome}
+use Rattle.std.specs.List.{All}
 use Rattle.bm_base.specs.Extent.{Extent}
 use Rattle.address_runs.specs.Runs.{RunOf, AreRuns, value_at}
 use Rattle.e820_model.specs.Usable.{is_memory}
 use Rattle.memblock_model.specs.declared.item.Item.{Item}
 use Rattle.memblock_model.specs.Items.{AreItems}
+use Rattle.early_stages.specs.Early.{Early, FrameRange}
 use Rattle.early_stages.specs.Memory.{memory_end}
-use Rattle.early_stages.specs.Wanted.{closing_items, first_items, initrd_claims, items_of_map, items_of_run, part_below}
+use Rattle.early_stages.specs.Wanted.{closing_items, direction_items, first_items, initrd_claims, items_of_map, items_of_run, mirror_items, part_below}
 
 items-append : (is js : List Item) → AreItems is → AreItems js → AreItems (is ++ js)
 items-append [] js first rest = rest
@@ -37,16 +39,30 @@ initrd-items : (initrd : Option Extent) → IfSome initrd (λ range. 0 < range.s
 initrd-items None some = tt
 initrd-items (Some range) some = (some, tt)
 
-pub first-items : (limit : ℕ) (kernel : Extent) (initrd : Option Extent) (map : List (RunOf ℕ)) → 0 < kernel.size
-    → IfSome initrd (λ range. 0 < range.size) → AreRuns map → AreItems (first_items limit kernel initrd map)
-first-items limit kernel initrd map image some runs =
+-- ranges of mirrored frames that have some
+mirrors-items : (mirrors : List FrameRange) → All (λ r. 0 < r.count) mirrors → AreItems (mirror_items mirrors)
+mirrors-items [] some = tt
+mirrors-items (r ∷ rs) some =
+    let here : 0 < r.count = some 0 r (omega arith) in
+    (omega arith, mirrors-items rs (λ k d lt. some (suc k) d (omega (arith, lt))))
+
+direction-items : (upward : Bool) → AreItems (direction_items upward)
+direction-items true = (tt, tt)
+direction-items false = tt
+
+pub first-items : (e : Early) (map : List (RunOf ℕ)) → 0 < e.kernel.size → IfSome e.initrd (λ range. 0 < range.size)
+    → All (λ r. 0 < r.count) e.mirrors → AreRuns map → AreItems (first_items e map)
+first-items e map image some mirrors runs =
     let low : 0 < 0x10000 = omega arith in
     let mib : 0 < 0x100000 = omega arith in
-    let closing : AreItems (closing_items (memory_end limit (value_at map))) = (tt, (tt, (mib, tt))) in (
+    let closing : AreItems (closing_items e.mirrors (memory_end e.limit (value_at map))) =
+    (tt, items-append (mirror_items e.mirrors) _ (mirrors-items e.mirrors mirrors) (tt, (mib, tt))) in
+    let adding : AreItems (items_of_map e.limit map ++ closing_items e.mirrors (memory_end e.limit (value_at map))) =
+    items-append (items_of_map e.limit map) _ (map-items e.limit map runs) closing in (
       image,
       (
         low,
-        items-append (initrd_claims initrd) _ (initrd-items initrd some)
-            (tt, items-append (items_of_map limit map) _ (map-items limit map runs) closing),
+        items-append (initrd_claims e.initrd) _ (initrd-items e.initrd some)
+            (tt, items-append (direction_items e.upward) _ (direction-items e.upward) adding),
       ),
     )

@@ -4,3 +4,4 @@ pub mod FewLaws
 pub mod ItemLaws
 pub mod MapItemLaws
 pub mod MemoryLaws
+pub mod MirrorLaws

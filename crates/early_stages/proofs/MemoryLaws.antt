@@ -1,21 +1,24 @@
 -- Memory and the limit behind all that is wanted first, whatever growth stands between.
-use Rattle.std.proofs.Common.{◌≡◌, ℕ, Option, Some, None, List, [], ◌∷◌, ◌++◌, Ok, refl, ◌∙◌, ap}
+use Rattle.std.proofs.Common.{◌≡◌, ℕ, Bool, true, false, Option, Some, None, List, [], ◌∷◌, ◌++◌, Ok, refl, sym, ◌∙◌, ap}
 use Rattle.std.proofs.lemmas.List.Sums.{fold-append}
 use Rattle.std.specs.List.{fold}
 use Rattle.bm_base.specs.Extent.{Extent}
 use Rattle.address_runs.specs.Runs.{RunOf, value_at, AreRuns}
 use Rattle.e820_model.specs.Usable.{reachable}
+use Rattle.memblock_model.specs.declared.owner.Owner.TheVariants as owner
 use Rattle.memblock_model.specs.declared.item.Item.{Item}
 use Rattle.memblock_model.specs.declared.item.Item.TheVariants as item
 use Rattle.memblock_model.specs.Labels.{Labels}
-use Rattle.memblock_model.specs.Items.{memory_after, memory_of, no_memory, limit_after, limit_of}
+use Rattle.memblock_model.specs.Items.{memory_after, memory_of, no_memory, limit_after, limit_of, trimmed}
 use Rattle.growth_model.specs.Carried.{carried_out}
 use Rattle.growth_model.proofs.MemoryItemLaws.{memory_of-same, limit_of-same}
 use Rattle.growth_model.proofs.CarriedLaws.{carried-memory}
 use Rattle.early_stages.specs.declared.low.TheConstants.{ISA_END_ADDRESS}
-use Rattle.early_stages.specs.Memory.{memory_end, usable_memory}
-use Rattle.early_stages.specs.Wanted.{closing_items, early_claims, first_items, items_of_map}
+use Rattle.early_stages.specs.Early.{Early, FrameRange}
+use Rattle.early_stages.specs.Memory.{memory_end, mirrored_memory, usable_memory}
+use Rattle.early_stages.specs.Wanted.{closing_items, direction_items, early_claims, first_items, items_of_map, mirror_items, up_to}
 use Rattle.early_stages.proofs.MapItemLaws.{added_memory, trimmed_memory}
+use Rattle.early_stages.proofs.MirrorLaws.{mirrors-memory}
 
 -- early claims say nothing of memory and of the limit
 early-memory : (kernel : Extent) (initrd : Option Extent) (is : List Item)
@@ -28,43 +31,78 @@ early-limit : (kernel : Extent) (initrd : Option Extent) (is : List Item)
 early-limit kernel None is = refl
 early-limit kernel (Some range) is = refl
 
--- what is wanted, without growth, up to the trim and behind it
-pub trimmed-first : (limit : ℕ) (kernel : Extent) (initrd : Option Extent) (map : List (RunOf ℕ)) → AreRuns map
-    → (x : ℕ) → memory_of (early_claims kernel initrd ++ (item.Limit ISA_END_ADDRESS ∷ (items_of_map limit map ++ item.Trim ∷ []))) x
-    ≡ usable_memory limit (value_at map) x
-trimmed-first limit kernel initrd map runs x =
-    ap (λ (h : Labels). h x) (early-memory kernel initrd (item.Limit ISA_END_ADDRESS ∷ (items_of_map limit map ++ item.Trim ∷ [])))
-    ∙ ap (λ (h : Labels). h x) (fold-append memory_after no_memory (items_of_map limit map) (item.Trim ∷ []))
-    ∙ trimmed_memory (reachable limit (value_at map)) (fold memory_after no_memory (items_of_map limit map))
-    (λ y. added_memory limit map y runs) x
+-- and neither does the direction
+direction-memory : (upward : Bool) (is : List Item) → fold memory_after no_memory (direction_items upward ++ is) ≡ memory_of is
+direction-memory true is = refl
+direction-memory false is = refl
 
-pub wanted-memory : (limit : ℕ) (kernel : Extent) (initrd : Option Extent) (map : List (RunOf ℕ)) → AreRuns map
-    → (x : ℕ) → memory_of (first_items limit kernel initrd map) x ≡ usable_memory limit (value_at map) x
-wanted-memory limit kernel initrd map runs x =
-    let end : ℕ = memory_end limit (value_at map) in
-    ap (λ (h : Labels). h x) (early-memory kernel initrd (item.Limit ISA_END_ADDRESS ∷ (items_of_map limit map ++ closing_items end)))
-    ∙ ap (λ (h : Labels). h x) (fold-append memory_after no_memory (items_of_map limit map) (closing_items end))
-    ∙ trimmed_memory (reachable limit (value_at map)) (fold memory_after no_memory (items_of_map limit map))
-    (λ y. added_memory limit map y runs) x
+direction-limit : (upward : Bool) (at : ℕ) (is : List Item) → fold limit_after at (direction_items upward ++ is) ≡ fold limit_after at is
+direction-limit true at is = refl
+direction-limit false at is = refl
 
-pub wanted-limit : (limit : ℕ) (kernel : Extent) (initrd : Option Extent) (map : List (RunOf ℕ))
-    → limit_of (first_items limit kernel initrd map) ≡ memory_end limit (value_at map)
-wanted-limit limit kernel initrd map =
-    let end : ℕ = memory_end limit (value_at map) in
-    early-limit kernel initrd (item.Limit ISA_END_ADDRESS ∷ (items_of_map limit map ++ closing_items end))
-    ∙ fold-append limit_after ISA_END_ADDRESS (items_of_map limit map) (closing_items end)
+mirrors-limit : (mirrors : List FrameRange) (at : ℕ) (is : List Item)
+    → fold limit_after at (mirror_items mirrors ++ is) ≡ fold limit_after at is
+mirrors-limit [] at is = refl
+mirrors-limit (r ∷ rs) at is = mirrors-limit rs at is
+
+-- the map becomes memory, is trimmed, and some of it is mirrored
+mapped : (e : Early) (map : List (RunOf ℕ)) → AreRuns map → (x : ℕ)
+    → fold memory_after no_memory (items_of_map e.limit map ++ (item.Trim ∷ mirror_items e.mirrors)) x
+    ≡ mirrored_memory e.mirrors (usable_memory e.limit (value_at map)) x
+mapped e map runs x =
+    let added : Labels = fold memory_after no_memory (items_of_map e.limit map) in
+    let trimmed_is : trimmed added ≡ usable_memory e.limit (value_at map) = λ i y.
+    trimmed_memory (reachable e.limit (value_at map)) added (λ z. added_memory e.limit map z runs) y i in
+    ap (λ (h : Labels). h x) (fold-append memory_after no_memory (items_of_map e.limit map) (item.Trim ∷ mirror_items e.mirrors))
+    ∙ mirrors-memory e.mirrors (trimmed added) x
+    ∙ ap (λ (h : Labels). mirrored_memory e.mirrors h x) trimmed_is
+
+-- what is wanted, without growth, up to the mirrored frames
+pub mirrored-first : (e : Early) (map : List (RunOf ℕ)) → AreRuns map → (x : ℕ)
+    → memory_of (early_claims e.kernel e.initrd ++ (item.Limit ISA_END_ADDRESS ∷ (direction_items e.upward
+    ++ (items_of_map e.limit map ++ (item.Trim ∷ mirror_items e.mirrors))))) x
+    ≡ mirrored_memory e.mirrors (usable_memory e.limit (value_at map)) x
+mirrored-first e map runs x =
+    let rest : List Item = items_of_map e.limit map ++ (item.Trim ∷ mirror_items e.mirrors) in
+    ap (λ (h : Labels). h x) (early-memory e.kernel e.initrd (item.Limit ISA_END_ADDRESS ∷ (direction_items e.upward ++ rest)))
+    ∙ ap (λ (h : Labels). h x) (direction-memory e.upward rest) ∙ mapped e map runs x
+
+-- and behind them
+ends-quiet : (e : Early) (map : List (RunOf ℕ)) → memory_of (first_items e map)
+    ≡ fold memory_after no_memory (items_of_map e.limit map ++ (item.Trim ∷ mirror_items e.mirrors))
+ends-quiet e map =
+    let end : ℕ = memory_end e.limit (value_at map) in
+    let closing : List Item = closing_items e.mirrors end in
+    let last : List Item = item.Limit end ∷ item.Claim (up_to ISA_END_ADDRESS) owner.Low1M ∷ [] in
+    early-memory e.kernel e.initrd (item.Limit ISA_END_ADDRESS ∷ (direction_items e.upward ++ (items_of_map e.limit map ++ closing)))
+    ∙ direction-memory e.upward (items_of_map e.limit map ++ closing)
+    ∙ fold-append memory_after no_memory (items_of_map e.limit map) closing
+    ∙ fold-append memory_after (fold memory_after no_memory (items_of_map e.limit map)) (item.Trim ∷ mirror_items e.mirrors) last
+    ∙ sym (fold-append memory_after no_memory (items_of_map e.limit map) (item.Trim ∷ mirror_items e.mirrors))
+
+pub wanted-memory : (e : Early) (map : List (RunOf ℕ)) → AreRuns map → (x : ℕ)
+    → memory_of (first_items e map) x ≡ mirrored_memory e.mirrors (usable_memory e.limit (value_at map)) x
+wanted-memory e map runs x = ap (λ (h : Labels). h x) (ends-quiet e map) ∙ mapped e map runs x
+
+pub wanted-limit : (e : Early) (map : List (RunOf ℕ)) → limit_of (first_items e map) ≡ memory_end e.limit (value_at map)
+wanted-limit e map =
+    let end : ℕ = memory_end e.limit (value_at map) in
+    let last : List Item = item.Limit end ∷ item.Claim (up_to ISA_END_ADDRESS) owner.Low1M ∷ [] in
+    let closing : List Item = closing_items e.mirrors end in
+    early-limit e.kernel e.initrd (item.Limit ISA_END_ADDRESS ∷ (direction_items e.upward ++ (items_of_map e.limit map ++ closing)))
+    ∙ direction-limit e.upward ISA_END_ADDRESS (items_of_map e.limit map ++ closing)
+    ∙ fold-append limit_after ISA_END_ADDRESS (items_of_map e.limit map) closing
+    ∙ mirrors-limit e.mirrors (fold limit_after ISA_END_ADDRESS (items_of_map e.limit map)) last
 
 -- and carried out from the beginning
-pub first_memory : (limit : ℕ) (kernel : Extent) (initrd : Option Extent) (map : List (RunOf ℕ)) (items : List Item) → AreRuns map
-    → carried_out (first_items limit kernel initrd map) [] ≡ Ok items
-    → (x : ℕ) → memory_of items x ≡ usable_memory limit (value_at map) x
-first_memory limit kernel initrd map items runs ends x =
-    ap (λ (h : Labels). h x)
-    (memory_of-same items (first_items limit kernel initrd map) (carried-memory (first_items limit kernel initrd map) [] items ends))
-    ∙ wanted-memory limit kernel initrd map runs x
+pub first_memory : (e : Early) (map : List (RunOf ℕ)) (items : List Item) → AreRuns map
+    → carried_out (first_items e map) [] ≡ Ok items
+    → (x : ℕ) → memory_of items x ≡ mirrored_memory e.mirrors (usable_memory e.limit (value_at map)) x
+first_memory e map items runs ends x =
+    ap (λ (h : Labels). h x) (memory_of-same items (first_items e map) (carried-memory (first_items e map) [] items ends))
+    ∙ wanted-memory e map runs x
 
-pub first_limit : (limit : ℕ) (kernel : Extent) (initrd : Option Extent) (map : List (RunOf ℕ)) (items : List Item)
-    → carried_out (first_items limit kernel initrd map) [] ≡ Ok items → limit_of items ≡ memory_end limit (value_at map)
-first_limit limit kernel initrd map items ends =
-    limit_of-same items (first_items limit kernel initrd map) (carried-memory (first_items limit kernel initrd map) [] items ends)
-    ∙ wanted-limit limit kernel initrd map
+pub first_limit : (e : Early) (map : List (RunOf ℕ)) (items : List Item) → carried_out (first_items e map) [] ≡ Ok items
+    → limit_of items ≡ memory_end e.limit (value_at map)
+first_limit e map items ends =
+    limit_of-same items (first_items e map) (carried-memory (first_items e map) [] items ends) ∙ wanted-limit e map

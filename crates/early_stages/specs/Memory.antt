@@ -1,17 +1,28 @@
--- The memory that a map comes to: its usable frames, and where the last of them ends.
-use Rattle.std.specs.Prelude.{ℕ, ◌/◌, if◌then◌else◌, Option, Some, None, List, [], ◌∷◌}
-use Rattle.bm_base.specs.Extent.{end_of}
+-- The memory that a map comes to: its usable frames, of which some are mirrored, and where the last of them ends.
+use Rattle.std.specs.Prelude.{ℕ, ◌/◌, Bool, if◌then◌else◌, Option, Some, None, List, [], ◌∷◌}
+use Rattle.std.specs.List.{list_any}
+use Rattle.std.specs.Option.{option_map}
+use Rattle.bm_base.specs.Extent.{covers, end_of}
 use Rattle.bm_base.specs.Frames.{bytes_of_frame}
 use Rattle.bm_base.specs.declared.frame.TheConstants.{FRAME_SIZE}
 use Rattle.address_runs.specs.Runs.{RunOf, run_end}
 use Rattle.e820_model.specs.Map.{TypeAt}
 use Rattle.e820_model.specs.Usable.{reachable, is_usable}
-use Rattle.memblock_model.specs.Labels.{Labels, plain_label}
+use Rattle.memblock_model.specs.Labels.{Labels, plain_label, with_mirror}
 use Rattle.memblock_model.specs.Search.{last_below}
+use Rattle.early_stages.specs.Early.{FrameRange, bytes_of_frames}
 
 -- the bytes of usable frames are memory, and no node has them yet (`e820__memblock_setup`)
 abbrev pub usable_memory : ℕ → TypeAt → Labels
 usable_memory limit f x = if is_usable (reachable limit f) (x / FRAME_SIZE) then Some plain_label else None
+
+-- whether the address lies in frames that are mirrored
+abbrev pub is_mirrored : List FrameRange → ℕ → Bool
+is_mirrored mirrors x = list_any (λ r. covers (bytes_of_frames r) x) mirrors
+
+-- the bytes in those frames are mirrored, where they are memory, and keep what else they carry (`memblock_mark_mirror`)
+abbrev pub mirrored_memory : List FrameRange → Labels → Labels
+mirrored_memory mirrors f x = if is_mirrored mirrors x then option_map with_mirror (f x) else f x
 
 -- the address behind the frame, and 0 without one
 abbrev pub behind_frame : Option ℕ → ℕ

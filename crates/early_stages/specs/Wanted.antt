@@ -1,5 +1,5 @@
 -- What a boot wants to happen to memory before any node is known, as items in their order. They depend on what it is given alone.
-use Rattle.std.specs.Prelude.{ℕ, ◌-◌, ◌==◌, ◌&&◌, nat_lt, min, if◌then◌else◌, Option, Some, None, List, [], ◌∷◌, ◌++◌}
+use Rattle.std.specs.Prelude.{ℕ, ◌-◌, ◌==◌, Bool, true, false, ◌&&◌, nat_lt, min, if◌then◌else◌, Option, Some, None, List, [], ◌∷◌, ◌++◌}
 use Rattle.bm_base.specs.Extent.{Extent}
 use Rattle.address_runs.specs.Runs.{RunOf, run_end, extent_of, value_at}
 use Rattle.e820_model.specs.declared.types.TheConstants.{E820_TYPE_SOFT_RESERVED}
@@ -8,6 +8,7 @@ use Rattle.memblock_model.specs.declared.owner.Owner.TheVariants as owner
 use Rattle.memblock_model.specs.declared.item.Item.{Item}
 use Rattle.memblock_model.specs.declared.item.Item.TheVariants as item
 use Rattle.early_stages.specs.declared.low.TheConstants.{ISA_END_ADDRESS, LOW_END}
+use Rattle.early_stages.specs.Early.{Early, FrameRange, bytes_of_frames}
 use Rattle.early_stages.specs.Memory.{memory_end}
 
 -- the bytes from 0 up to the address
@@ -38,13 +39,26 @@ abbrev pub items_of_map : ℕ → List (RunOf ℕ) → List Item
 items_of_map limit [] = []
 items_of_map limit (r ∷ rs) = items_of_run limit r ++ items_of_map limit rs
 
--- memory is trimmed to whole frames (`memblock_trim_memory`), what is allocated stays below the end of the last one
--- (`memblock_set_current_limit`), and the first MiB is claimed (`reserve_real_mode`)
-abbrev pub closing_items : ℕ → List Item
-closing_items end = item.Trim ∷ item.Limit end ∷ item.Claim (up_to ISA_END_ADDRESS) owner.Low1M ∷ []
+-- where places shall be looked for from the lowest address up, that is said before memory is known (`memblock_set_bottom_up` in
+-- `setup_arch`)
+abbrev pub direction_items : Bool → List Item
+direction_items true = item.Upward true ∷ []
+direction_items false = []
 
--- all of it, of a kernel's image, an initrd and a map: before memory is known an allocation stays in the first MiB (`setup_arch`)
-abbrev pub first_items : ℕ → Extent → Option Extent → List (RunOf ℕ) → List Item
-first_items limit kernel initrd map =
-    early_claims kernel initrd
-    ++ (item.Limit ISA_END_ADDRESS ∷ (items_of_map limit map ++ closing_items (memory_end limit (value_at map))))
+-- the frames that firmware mirrors, range by range (`efi_find_mirror`)
+abbrev pub mirror_items : List FrameRange → List Item
+mirror_items [] = []
+mirror_items (r ∷ rs) = item.Mirror (bytes_of_frames r) ∷ mirror_items rs
+
+-- memory is trimmed to whole frames (`memblock_trim_memory`) and some of it is mirrored, what is allocated stays below the end of the
+-- last usable frame (`memblock_set_current_limit`), and the first MiB is claimed (`reserve_real_mode`)
+abbrev pub closing_items : List FrameRange → ℕ → List Item
+closing_items mirrors end =
+    item.Trim ∷ (mirror_items mirrors ++ (item.Limit end ∷ item.Claim (up_to ISA_END_ADDRESS) owner.Low1M ∷ []))
+
+-- all of it, of what is given early and a map: before memory is known an allocation stays in the first MiB (`setup_arch`)
+abbrev pub first_items : Early → List (RunOf ℕ) → List Item
+first_items e map =
+    early_claims e.kernel e.initrd
+    ++ (item.Limit ISA_END_ADDRESS ∷ (direction_items e.upward
+    ++ (items_of_map e.limit map ++ closing_items e.mirrors (memory_end e.limit (value_at map)))))

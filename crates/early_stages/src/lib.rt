@@ -4,12 +4,13 @@
 //! (`early_reserve_memory`), and until it is known allocations stay in the first MiB. Then the runs of the map
 //! are gone through once (`e820__memblock_setup`): what firmware keeps for a driver is claimed, and what is RAM or the
 //! kernel's own becomes memory as far as the kernel's tables reach. Memory is trimmed to whole frames
-//! (`memblock_trim_memory`), allocations may go up to the end of the last one (`memblock_set_current_limit`), and
-//! the first MiB is claimed (`reserve_real_mode`).
+//! (`memblock_trim_memory`), those that firmware keeps twice are mirrored (`efi_find_mirror`), allocations may go up to the end of the
+//! last one (`memblock_set_current_limit`), and the first MiB is claimed (`reserve_real_mode`). Where places shall be looked for from the
+//! lowest address up, that is said before memory is known (`memblock_set_bottom_up`).
 //!
-//! What is wanted depends on the inputs alone, so it is one list (`specs/Wanted.antt`); the growth of tables
+//! What is wanted depends on the inputs alone (`specs/Early.antt`), so it is one list (`specs/Wanted.antt`); the growth of tables
 //! comes in where the list is carried out (`growth_model`). What memory then is, byte by byte, stands in
-//! `specs/Memory.antt`: the usable frames. The functions here are laws over these definitions: they do nothing, and
+//! `specs/Memory.antt`: the usable frames, of which some are mirrored. The functions here are laws over these definitions: they do nothing, and
 //! their contracts are proved.
 #![tactic(auto)]
 

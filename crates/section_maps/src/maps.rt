@@ -16,14 +16,14 @@ use stage_model::{Section, StageStop};
 use std::alloc::Global;
 
 /// Finds places for the usage data and the map of each section, group by group: 40 bytes and 2 MiB (`sparse_init_nid`). There
-/// are at most 2^19 sections, as many as 64 TiB have. The first that gets no place stops the boot.
+/// are at most 2^25 sections, as many as 4 PiB have. The first that gets no place stops the boot.
 pub fn place_maps(
     alloc: Global,
     memblock: &mut Memblock,
     sections: &[Section],
 ) -> Result<Vec<Placed>, StageStop>
     requires begun { HasBegun memblock.old.journal.items }
-    requires few { length sections.now ≤ 2 ^ 19 }
+    requires few { length sections.now ≤ 2 ^ 25 }
     ensures ends { EndsAs stops.Memory (ok_as (λ placed. placed.items) result) memblock.old.journal.items memblock.new.journal.items
         (maps sections.now memblock.old.journal.items) }
     ensures lent { GoesOn memblock.old memblock.new }

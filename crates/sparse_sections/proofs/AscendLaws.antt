@@ -77,7 +77,7 @@ sections-ascend f zero = record {
 }
 sections-ascend f (suc n) = ascend-for n (sections_below f n) (section_label f n) (sections-ascend f n)
 
-sections_of : (n : ℕ) (ss : List Section) → Ascend n ss → n ≡ 2 ^ 19 → AreSections ss
+sections_of : (n : ℕ) (ss : List Section) → Ascend n ss → n ≡ 2 ^ 25 → AreSections ss
 sections_of n ss so_far is = record {
   ascend = so_far.ascend;
   below = λ k d in_list. let less = so_far.below k d in_list in omega (arith, less, is);
@@ -86,7 +86,7 @@ sections_of n ss so_far is = record {
 
 pub present-ascends : (f : Labels) → AreSections (present f)
 unfolding present
-present-ascends f = sections_of (2 ^ 19) (sections_below f (2 ^ 19)) (sections-ascend f (2 ^ 19)) refl
+present-ascends f = sections_of (2 ^ 25) (sections_below f (2 ^ 25)) (sections-ascend f (2 ^ 25)) refl
 
 -- the nodes of sections with memory are those of nodes
 node-low : (limit : ℕ) (f : Labels) (s : Section) → IsNoded limit f → IsLowest f s → s.node < 1024

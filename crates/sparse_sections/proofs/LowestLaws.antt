@@ -107,7 +107,7 @@ sections-lowest f (suc n) frames =
 
 pub present-lowest : (limit : ℕ) (f : Labels) → IsNoded limit f → All (IsLowest f) (present f)
 unfolding present
-present-lowest limit f noded = sections-lowest f (2 ^ 19) noded.frames
+present-lowest limit f noded = sections-lowest f (2 ^ 25) noded.frames
 
 -- a section with memory is told
 at-left : (xs ys : List Section) (i n : ℕ) → IsAt xs i n → IsAt (xs ++ ys) i n
@@ -153,11 +153,11 @@ told-below limit f (suc n) s k label noded less few told =
           (own.0, subst (λ (m : ℕ). IsAt (sections_below f n ++ section_for n (section_label f n)) own.0 m) (sym e) own.1)
     ]
 
-pub present-all : (limit x : ℕ) (f : Labels) (label : Label) → IsNoded limit f → x < 2 ^ 46 → f x ≡ Some label
+pub present-all : (limit x : ℕ) (f : Labels) (label : Label) → IsNoded limit f → x < 2 ^ 52 → f x ≡ Some label
     → (i : ℕ) × IsAt (present f) i (x / 0x8000000)
 unfolding present
 present-all limit x f label noded low told =
     let s : ℕ = x / 0x8000000 in
     let k : ℕ = x / 4096 - 32768 * s in
     let e : 4096 * (32768 * s + k) ≡ 4096 * (x / 4096) = omega arith in
-    told-below limit f (2 ^ 19) s k label noded (omega arith) (omega arith) (ap f e ∙ sym (noded.frames x) ∙ told)
+    told-below limit f (2 ^ 25) s k label noded (omega arith) (omega arith) (ap f e ∙ sym (noded.frames x) ∙ told)

@@ -58,11 +58,11 @@ reach-by limit f rs k d is none few =
       | inr ge ↦ ge
     ]
 
-pub noded-records : (f : Labels) (rs : List (RunOf Label)) → IsRunsOf f rs → IsNoded (2 ^ 46) f → All IsWholeNoded rs
+pub noded-records : (f : Labels) (rs : List (RunOf Label)) → IsRunsOf f rs → IsNoded (2 ^ 52) f → All IsWholeNoded rs
 noded-records f rs is noded k d few =
     let r : RunOf Label = get_or rs k d in
     let some = some-at rs k d is.runs few in
-    let whole = whole_at rs k d (noded-frames (2 ^ 46) f rs is noded) few in
+    let whole = whole_at rs k d (noded-frames (2 ^ 52) f rs is noded) few in
     let base : r.base % 4096 ≡ 0 = whole.0 in
     let size : r.size % 4096 ≡ 0 = whole.1 in
     let first : value_at rs r.base ≡ Some r.value = value-in rs k d r.base is.runs few (omega arith) (omega arith) in
@@ -72,7 +72,7 @@ noded-records f rs is noded k d few =
       has = told.1;
       base = base;
       end = omega (arith, base, size);
-      reach = reach-by (2 ^ 46) f rs k d is noded.within few;
+      reach = reach-by (2 ^ 52) f rs k d is noded.within few;
     }
 
 -- memory's own records

@@ -127,7 +127,7 @@ pub record IsNext (f : Labels) (next : ℕ) (rs : List (RunOf Label)) (i : ℕ) 
   pub size : g.size ≡ (get_or rs i nobody).size
   pub node : (get_or rs i nobody).value.node ≡ Some g.node
   pub some : 0 < g.size
-  pub reach : g.base + g.size ≤ 2 ^ 46
+  pub reach : g.base + g.size ≤ 2 ^ 52
   pub from : 0x8000000 * (next - 1) ≤ g.base
 
 pub next-record : (f : Labels) (next : ℕ) (rs : List (RunOf Label)) (i : ℕ) (g : Region) → i < length rs → All IsWholeNoded rs
@@ -142,7 +142,7 @@ next-record f next rs i g few whole left is =
     let field : g.node ≡ node_field r.value = ap (λ (t : Region). t.node) is in
     let node : g.node ≡ told.node = field ∙ ap (λ (o : Option ℕ). unwrap_or o 1024) told.has in
     let some : 0 < r.size = here.runs.0 in
-    let reach : run_end r ≤ 2 ^ 46 = told.reach in
+    let reach : run_end r ≤ 2 ^ 52 = told.reach in
     let from : 0x8000000 * (next - 1) ≤ r.base = here.starts in
     record {
       left = here;
@@ -165,6 +165,6 @@ pub present-none : (f : Labels) → sections_below f 0 ≡ []
 unfolding sections_below
 present-none f = refl
 
-pub present-end : (f : Labels) (next : ℕ) → IsLeft f next [] → next ≤ 2 ^ 19 → sections_below f next ≡ present f
+pub present-end : (f : Labels) (next : ℕ) → IsLeft f next [] → next ≤ 2 ^ 25 → sections_below f next ≡ present f
 unfolding present
-present-end f next left reach = sym (sections-end f next (2 ^ 19) left reach)
+present-end f next left reach = sym (sections-end f next (2 ^ 25) left reach)

@@ -1,5 +1,7 @@
 -- The places of roots leave memory and the limit as they are.
 use Rattle.std.proofs.Common.{◌≡◌, List, ◌∷◌, [], ◌++◌, None, Some}
+use Rattle.bm_base.specs.declared.width.Width.{Width}
+use Rattle.bm_base.specs.Width.{root_table_of}
 use Rattle.memblock_model.specs.declared.owner.Owner.TheVariants as owner
 use Rattle.memblock_model.specs.declared.item.Item.{Item}
 use Rattle.memblock_model.specs.Items.{memory_of, limit_of}
@@ -19,19 +21,23 @@ quiet-root before s =
     (quiet-placed (what.Root (root_of s)) (small_request 4096 (Some s.node)) (owner.Root (root_of s)))
     (λ place. quiet-returns (before ++ record { number = root_of s; place = place } ∷ []))
 
-pub quiet-roots : (sections : List Section) → IsQuietStep (roots sections)
+pub quiet-roots : (width : Width) (sections : List Section) → IsQuietStep (roots width sections)
 unfolding roots
-quiet-roots sections =
-    quiet-bind (placed what.Roots (small_request 16384 None) owner.Roots)
+quiet-roots width sections =
+    quiet-bind (placed what.Roots (small_request (root_table_of width) None) owner.Roots)
     (λ table. in_turn root_placed [] (firsts_behind None sections) >>= λ places. returns (record { table = table; roots = places }))
-    (quiet-placed what.Roots (small_request 16384 None) owner.Roots)
+    (quiet-placed what.Roots (small_request (root_table_of width) None) owner.Roots)
     (λ table. quiet-bind (in_turn root_placed [] (firsts_behind None sections))
     (λ places. returns (record { table = table; roots = places }))
     (quiet-turn root_placed quiet-root [] (firsts_behind None sections))
     (λ places. quiet-returns (record { table = table; roots = places })))
 
-pub roots-memory : (sections : List Section) (items : List Item) → memory_of (after items (roots sections items)) ≡ memory_of items
-roots-memory sections items = quiet-appended_memory items (roots sections items).steps ((quiet-roots sections).each items)
+pub roots-memory : (width : Width) (sections : List Section) (items : List Item)
+    → memory_of (after items (roots width sections items)) ≡ memory_of items
+roots-memory width sections items =
+    quiet-appended_memory items (roots width sections items).steps ((quiet-roots width sections).each items)
 
-pub roots-limit : (sections : List Section) (items : List Item) → limit_of (after items (roots sections items)) ≡ limit_of items
-roots-limit sections items = quiet-appended_limit items (roots sections items).steps ((quiet-roots sections).each items)
+pub roots-limit : (width : Width) (sections : List Section) (items : List Item)
+    → limit_of (after items (roots width sections items)) ≡ limit_of items
+roots-limit width sections items =
+    quiet-appended_limit items (roots width sections items).steps ((quiet-roots width sections).each items)

@@ -1,6 +1,8 @@
 -- One root after another: as what is left ends, so do all.
 use Rattle.std.proofs.Common.{◌≡◌, ℕ, ◌+◌, ◌<◌, ◌≤◌, true, false, Option, Some, None, List, [], ◌∷◌, ◌++◌, length, drop, get_or, Result, Ok, Err, sym, ◌∙◌, ap, subst, add-one, drop-cons}
 use Rattle.std.proofs.lemmas.List.{drop_all}
+use Rattle.bm_base.specs.declared.width.Width.{Width}
+use Rattle.bm_base.specs.Width.{root_table_of}
 use Rattle.memblock_model.specs.declared.item.Item.{Item}
 use Rattle.memblock_model.specs.declared.owner.Owner.TheVariants as owner
 use Rattle.growth_model.specs.declared.request.Request.{Request}
@@ -112,41 +114,42 @@ root-wanting at number q before s old new is request h =
     (ends-wanting stop.Memory new (next at new))
 
 -- the table and then the roots
-pub roots-fail : (e : StageStop) (q : Request) (sections : List Section) (old new : List Item) → q ≡ small_request 16384 None
+pub roots-fail : (e : StageStop) (width : Width) (q : Request) (sections : List Section) (old new : List Item)
+    → q ≡ small_request (root_table_of width) None
     → EndsAs {A = ℕ} stop.Memory (Err e) old new (placed what.Roots q owner.Roots old)
-    → EndsAs {A = RootsPlaced} stop.Memory (Err e) old new (roots sections old)
+    → EndsAs {A = RootsPlaced} stop.Memory (Err e) old new (roots width sections old)
 unfolding roots
-roots-fail e q sections old new request h =
-    ends-first e stop.Memory old new (placed what.Roots (small_request 16384 None) owner.Roots)
+roots-fail e width q sections old new request h =
+    ends-first e stop.Memory old new (placed what.Roots (small_request (root_table_of width) None) owner.Roots)
     (λ table. in_turn root_placed [] (firsts_behind None sections) >>= λ places. returns (record { table = table; roots = places }))
     (subst (λ (r : Request). EndsAs {A = ℕ} stop.Memory (Err e) old new (placed what.Roots r owner.Roots old)) request h)
 
-roots-behind : (r : Result RootsPlaced StageStop) (table : ℕ) (q : Request) (sections : List Section) (old mid new : List Item)
-    → q ≡ small_request 16384 None → EndsAs stop.Memory (Ok table) old mid (placed what.Roots q owner.Roots old)
+roots-behind : (r : Result RootsPlaced StageStop) (table : ℕ) (width : Width) (q : Request) (sections : List Section) (old mid new : List Item)
+    → q ≡ small_request (root_table_of width) None → EndsAs stop.Memory (Ok table) old mid (placed what.Roots q owner.Roots old)
     → EndsAs stop.Memory r mid new ((in_turn root_placed [] (firsts_behind None sections)
     >>= λ places. returns (record { table = table; roots = places })) mid)
-    → EndsAs stop.Memory r old new (roots sections old)
+    → EndsAs stop.Memory r old new (roots width sections old)
 unfolding roots
-roots-behind r table q sections old mid new request was h =
-    ends-second table r stop.Memory old mid new (placed what.Roots (small_request 16384 None) owner.Roots)
+roots-behind r table width q sections old mid new request was h =
+    ends-second table r stop.Memory old mid new (placed what.Roots (small_request (root_table_of width) None) owner.Roots)
     (λ table. in_turn root_placed [] (firsts_behind None sections) >>= λ places. returns (record { table = table; roots = places }))
     (subst (λ (r : Request). EndsAs stop.Memory (Ok table) old mid (placed what.Roots r owner.Roots old)) request was) h
 
-pub roots-stop : (e : StageStop) (table : ℕ) (q : Request) (sections : List Section) (old mid new : List Item)
-    → q ≡ small_request 16384 None → EndsAs stop.Memory (Ok table) old mid (placed what.Roots q owner.Roots old)
+pub roots-stop : (e : StageStop) (table : ℕ) (width : Width) (q : Request) (sections : List Section) (old mid new : List Item)
+    → q ≡ small_request (root_table_of width) None → EndsAs stop.Memory (Ok table) old mid (placed what.Roots q owner.Roots old)
     → EndsAs {A = List RootPlace} stop.Memory (Err e) mid new (in_turn root_placed [] (firsts_behind None sections) mid)
-    → EndsAs {A = RootsPlaced} stop.Memory (Err e) old new (roots sections old)
-roots-stop e table q sections old mid new request was h =
-    roots-behind (Err e) table q sections old mid new request was
+    → EndsAs {A = RootsPlaced} stop.Memory (Err e) old new (roots width sections old)
+roots-stop e table width q sections old mid new request was h =
+    roots-behind (Err e) table width q sections old mid new request was
     (ends-first e stop.Memory mid new (in_turn root_placed [] (firsts_behind None sections))
     (λ places. returns (record { table = table; roots = places })) h)
 
-pub roots-all : (table : ℕ) (places : List RootPlace) (q : Request) (sections : List Section) (old mid new : List Item)
-    → q ≡ small_request 16384 None → EndsAs stop.Memory (Ok table) old mid (placed what.Roots q owner.Roots old)
+pub roots-all : (table : ℕ) (places : List RootPlace) (width : Width) (q : Request) (sections : List Section) (old mid new : List Item)
+    → q ≡ small_request (root_table_of width) None → EndsAs stop.Memory (Ok table) old mid (placed what.Roots q owner.Roots old)
     → EndsAs stop.Memory (Ok places) mid new (in_turn root_placed [] (firsts_behind None sections) mid)
-    → EndsAs stop.Memory (Ok (record { table = table; roots = places })) old new (roots sections old)
-roots-all table places q sections old mid new request was h =
-    roots-behind (Ok (record { table = table; roots = places })) table q sections old mid new request was
+    → EndsAs stop.Memory (Ok (record { table = table; roots = places })) old new (roots width sections old)
+roots-all table places width q sections old mid new request was h =
+    roots-behind (Ok (record { table = table; roots = places })) table width q sections old mid new request was
     (ends-second places (Ok (record { table = table; roots = places })) stop.Memory mid new new
     (in_turn root_placed [] (firsts_behind None sections)) (λ places. returns (record { table = table; roots = places })) h
     (ends-returns (record { table = table; roots = places }) stop.Memory new))

@@ -30,9 +30,9 @@ unfoldable pub sections_below : Labels → ℕ → List Section
 sections_below f zero = []
 sections_below f (suc n) = sections_below f n ++ section_for n (section_label f n)
 
--- all of them: 2^19 sections reach to 2^46, as far as the kernel's tables of memory do (`MAX_PHYSMEM_BITS`)
+-- all of them: 2^25 sections reach to 2^52, as far as the kernel's tables of memory do at most (`MAX_PHYSMEM_BITS`)
 unfoldable pub present : Labels → List Section
-present f = sections_below f (2 ^ 19)
+present f = sections_below f (2 ^ 25)
 
 -- so many sections of one node that follow one another, from the number on
 unfoldable pub sections_from : ℕ → ℕ → ℕ → List Section
@@ -45,7 +45,7 @@ pub record IsWholeNoded (r : RunOf Label) : Type 0 where
   pub has : r.value.node ≡ Some node
   pub base : r.base % FRAME_SIZE ≡ 0
   pub end : run_end r % FRAME_SIZE ≡ 0
-  pub reach : run_end r ≤ 2 ^ 46
+  pub reach : run_end r ≤ 2 ^ 52
 
 -- the section has memory, and its node is that of the lowest byte
 pub record IsLowest (f : Labels) (s : Section) : Type 0 where
@@ -64,5 +64,5 @@ pub record IsAt (ss : List Section) (i number : ℕ) : Type 0 where
 -- sections in ascending order, as far as those tables reach
 pub record AreSections (ss : List Section) : Type 0 where
   pub ascend : (i j : ℕ) (d : Section) → i < j → j < length ss → (get_or ss i d).number < (get_or ss j d).number
-  pub below : All (λ s. s.number < 2 ^ 19) ss
-  pub few : length ss ≤ 2 ^ 19
+  pub below : All (λ s. s.number < 2 ^ 25) ss
+  pub few : length ss ≤ 2 ^ 25

@@ -1,6 +1,8 @@
 -- The places of the table of roots and of the roots (`memory_present`, `sparse_index_alloc`).
 use Rattle.std.specs.Prelude.{ℕ, ◌/◌, ◌==◌, Bool, false, if◌then◌else◌, Option, Some, None, List, [], ◌∷◌, ◌++◌}
 use Rattle.bm_base.specs.declared.frame.TheConstants.{FRAME_SIZE}
+use Rattle.bm_base.specs.declared.width.Width.{Width}
+use Rattle.bm_base.specs.Width.{root_table_of}
 use Rattle.memblock_model.specs.declared.owner.Owner.TheVariants as owner
 use Rattle.growth_model.specs.declared.request.Request.{Request}
 use Rattle.stage_model.specs.declared.section.Section.{Section}
@@ -42,9 +44,9 @@ pub record RootsPlaced : Type 0 where
 abbrev pub roots_view : Roots → RootsPlaced
 roots_view r = record { table = r.table; roots = r.roots.items }
 
--- the table, and then the roots in their order
-unfoldable pub roots : List Section → Doing StageStop RootsPlaced
-roots sections =
-    placed what.Roots (small_request 16384 None) owner.Roots
+-- the table, which has room for each root that addresses of that width can have, and then the roots in their order
+unfoldable pub roots : Width → List Section → Doing StageStop RootsPlaced
+roots width sections =
+    placed what.Roots (small_request (root_table_of width) None) owner.Roots
     >>= λ table. (in_turn root_placed [] (firsts_behind None sections)
     >>= λ places. returns (record { table = table; roots = places }))

@@ -4,6 +4,7 @@
 
 ghost use Rattle.std.specs.Prelude.{◌≡◌, ℕ, ◌/◌, ◌^◌, ◌<◌, ◌≤◌, Some, List};
 ghost use Rattle.std.specs.List.{All};
+ghost use Rattle.bm_base.specs.declared.width.Width.{Width as AnyWidth};
 ghost use Rattle.address_runs.specs.Runs.{RunOf, IsRunsOf, value_at};
 ghost use Rattle.memblock_model.specs.declared.item.Item.{Item as AnyItem};
 ghost use Rattle.memblock_model.specs.declared.which.Which.TheVariants as which;
@@ -18,25 +19,25 @@ ghost use Rattle.sparse_sections.specs.Present.{present, IsWholeNoded, IsLowest,
 ghost use Rattle.sparse_sections.specs.Roots.{roots};
 
 /// A law: behind the stage of nodes the records of memory are its runs and say of each byte what the items say; each list of
-/// its runs is of whole frames, and below 64 TiB of records in which sections are found.
+/// its runs is of whole frames, and below 4 PiB of records in which sections are found.
 pub fn noded_memory_is_whole()
     ensures runs { (limit : ℕ) (items : List AnyItem) → limit ≤ 2 ^ 64 → IsNoded limit (memory_of items) →
         IsRunsOf (memory_of items) (records_of which.Memory items) }
     ensures told { (limit : ℕ) (items : List AnyItem) → limit ≤ 2 ^ 64 → IsNoded limit (memory_of items) →
         value_at (records_of which.Memory items) ≡ memory_of items }
     ensures frames { (limit : ℕ) (f : Labels) (rs : List (RunOf Label)) → IsRunsOf f rs → IsNoded limit f → AreWholeFrames rs }
-    ensures records { (f : Labels) (rs : List (RunOf Label)) → IsRunsOf f rs → IsNoded (2 ^ 46) f → All IsWholeNoded rs }
+    ensures records { (f : Labels) (rs : List (RunOf Label)) → IsRunsOf f rs → IsNoded (2 ^ 52) f → All IsWholeNoded rs }
 {}
 
-/// A law: where memory is whole frames with nodes, each byte of it within 64 TiB is of a section that is told, and each
+/// A law: where memory is whole frames with nodes, each byte of it within 4 PiB is of a section that is told, and each
 /// section that is told has memory and the node of the lowest byte.
 pub fn present_sections_are_memory()
-    ensures all { (limit x : ℕ) (f : Labels) (label : Label) → IsNoded limit f → x < 2 ^ 46 → f x ≡ Some label →
+    ensures all { (limit x : ℕ) (f : Labels) (label : Label) → IsNoded limit f → x < 2 ^ 52 → f x ≡ Some label →
         (i : ℕ) × IsAt (present f) i (x / 0x8000000) }
     ensures each { (limit : ℕ) (f : Labels) → IsNoded limit f → All (IsLowest f) (present f) }
 {}
 
-/// A law: the sections with memory ascend within 64 TiB, and behind the stage of nodes each has a node.
+/// A law: the sections with memory ascend within 4 PiB, and behind the stage of nodes each has a node.
 pub fn present_sections_ascend()
     ensures ascend { (f : Labels) → AreSections (present f) }
     ensures nodes { (limit : ℕ) (f : Labels) → IsNoded limit f → All (λ s. s.node < 1024) (present f) }
@@ -44,8 +45,8 @@ pub fn present_sections_ascend()
 
 /// A law: the places of roots leave memory and the limit as they are, whether each finds one or not.
 pub fn sections_leave_memory()
-    ensures memory { (sections : List AnySection) (items : List AnyItem) →
-        memory_of (after items (roots sections items)) ≡ memory_of items }
-    ensures limit { (sections : List AnySection) (items : List AnyItem) →
-        limit_of (after items (roots sections items)) ≡ limit_of items }
+    ensures memory { (width : AnyWidth) (sections : List AnySection) (items : List AnyItem) →
+        memory_of (after items (roots width sections items)) ≡ memory_of items }
+    ensures limit { (width : AnyWidth) (sections : List AnySection) (items : List AnyItem) →
+        limit_of (after items (roots width sections items)) ≡ limit_of items }
 {}

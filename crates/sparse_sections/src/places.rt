@@ -2,6 +2,7 @@
 //! these are a list by then, and since they ascend it is enough to know which root was placed last.
 
 ghost use Rattle.std.specs.Prelude.{◌≡◌, ℕ, None, [], List};
+ghost use Rattle.bm_base.specs.Width.{root_table_of};
 ghost use Rattle.growth_model.specs.Sound.{HasBegun};
 ghost use Rattle.stage_model.specs.declared.stop.StageStop.TheVariants as stops;
 ghost use Rattle.stage_model.specs.Doing.{EndsAs, in_turn, ok_as};
@@ -9,16 +10,13 @@ ghost use Rattle.stage_calls.specs.Lent.{GoesOn};
 ghost use Rattle.sparse_sections.specs.Roots.{root_of, is_root, firsts_behind, small_request, root_placed, roots, roots_view};
 
 use crate::roots::{RootPlace, Roots};
-use bm_base::FRAME_SIZE;
+use bm_base::{FRAME_SIZE, Width};
 use boot_journal::Owner;
 use growth_model::Request;
 use memblock_grow::Memblock;
 use stage_calls::{place, stand_still};
 use stage_model::{Section, StageStop, What};
 use std::alloc::Global;
-
-/// The bytes of the table of roots: one pointer a root.
-const ROOT_TABLE_SIZE: u64 = 16384;
 
 /// The bytes of a root: a page.
 const ROOT_SIZE: u64 = FRAME_SIZE;
@@ -38,6 +36,13 @@ fn small_request(size: u64, node: Option<u32>) -> Request
         node,
         exact: false,
     }
+}
+
+/// The request of the table of roots, which has room for all that addresses of that width can have.
+fn table_request(width: Width) -> Request
+    ensures { result ≡ small_request (root_table_of width) None }
+{
+    small_request(width.root_table(), None)
 }
 
 /// The number of the section's root.
@@ -101,20 +106,21 @@ fn place_each_root(
     Ok(roots)
 }
 
-/// Finds places for the table of roots and for the root of each section: 16 KiB and then a page each, on the node of the
-/// root's first section if there is room (`memory_present`, `sparse_index_alloc`). Where the sections ascend each root gets one place. The
+/// Finds places for the table of roots and for the root of each section: 16 KiB, or 1 MiB where addresses have 52 bits, and then a page
+/// each, on the node of the root's first section if there is room (`memory_present`, `sparse_index_alloc`). Where the sections ascend each root gets one place. The
 /// first that gets none stops the boot.
 pub fn place_roots(
     alloc: Global,
     memblock: &mut Memblock,
     sections: &[Section],
+    width: Width,
 ) -> Result<Roots, StageStop>
     requires { HasBegun memblock.old.journal.items }
     ensures ends { EndsAs stops.Memory (ok_as roots_view result) memblock.old.journal.items memblock.new.journal.items
-        (roots sections.now memblock.old.journal.items) }
+        (roots width sections.now memblock.old.journal.items) }
     ensures lent { GoesOn memblock.old memblock.new }
 {
-    let request = small_request(ROOT_TABLE_SIZE, None);
+    let request = table_request(width);
     let table = place(memblock, What::Roots, &request, Owner::Roots)?;
     let roots = place_each_root(alloc, memblock, sections)?;
     Ok(Roots { table, roots })

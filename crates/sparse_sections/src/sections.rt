@@ -18,10 +18,10 @@ use std::alloc::Global;
 const SECTION_SIZE: u64 = 0x800_0000;
 
 /// The numbers of the sections of which a record has a byte and which are `next` or behind it: the first of them, and one more
-/// than the last. The record isn't empty and ends within 64 TiB.
+/// than the last. The record isn't empty and ends within 4 PiB.
 fn numbers_of(region: &Region, next: u32) -> (u32, u32)
     requires some { 0 < region.now.size }
-    requires reach { region.now.base + region.now.size ≤ 2 ^ 46 }
+    requires reach { region.now.base + region.now.size ≤ 2 ^ 52 }
     ensures first { result.0 ≡ max next (region.now.base / 0x8000000) }
     ensures until { result.1 ≡ (region.now.base + region.now.size - 1) / 0x8000000 + 1 }
 {
@@ -47,7 +47,7 @@ fn put_sections(
 }
 
 /// The sections of 128 MiB that have memory, ascending, each with the node of its lowest memory frame (`memory_present`). Each record
-/// of memory is whole frames with a node, within 64 TiB. The cost is that of the records and of the sections that there are.
+/// of memory is whole frames with a node, within 4 PiB. The cost is that of the records and of the sections that there are.
 pub fn present(alloc: Global, tables: &Tables) -> Result<Vec<Section>, Memory>
     requires { All IsWholeNoded tables.now.memory.records }
     ensures { IfOk result (λ sections. sections.items ≡ present (value_at tables.now.memory.records)) }

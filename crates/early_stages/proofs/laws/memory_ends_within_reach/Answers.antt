@@ -1,12 +1,12 @@
 use Rattle.std.proofs.Common.{◌≡◌, ℕ, ◌+◌, ◌-◌, ◌*◌, ◌/◌, true, subst, arith}
 use Rattle.e820_model.specs.Usable.{is_usable, reachable}
 use Rattle.early_stages.specs.Memory.{memory_end}
-use Rattle.early_stages.proofs.EndLaws.{end_reached, memory_below, memory_end-is}
+use Rattle.early_stages.proofs.EndLaws.{end_reached, memory_end-is, mirrored_below}
 use Rattle.early_stages.proofs.laws.memory_ends_within_reach.Goals as goal
 
 pub returns : goal.returns
 returns c = record {
-  below = memory_below;
+  below = mirrored_below;
   reached = λ limit f. (end_reached limit f (memory_end limit f) (memory_end-is limit f)).0;
   whole = λ limit f. (end_reached limit f (memory_end limit f) (memory_end-is limit f)).1;
   last = λ limit f some.

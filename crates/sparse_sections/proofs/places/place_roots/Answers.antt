@@ -7,20 +7,20 @@ use Rattle.sparse_sections.proofs.RootLaws.{roots-fail, roots-stop, roots-all}
 use Rattle.sparse_sections.proofs.places.place_roots.Goals as goal
 
 pub place-requires-clause-aligned : goal.place-requires-clause-aligned
-place-requires-clause-aligned c = (6, ap (λ (q : Request). q.align) c.small_request-request.ensures)
+place-requires-clause-aligned c = (6, ap (λ (q : Request). q.align) c.table_request-request.ensures)
 
 pub returns-in_err-table-clause-ends : goal.returns-in_err-table-clause-ends
 returns-in_err-table-clause-ends c =
     let p = err_from_is_err_and c.from_residual.result c.from_residual.ensures.1 in
-    rw (p.1, p.2) (roots-fail c.in_err-table.field-0.0 c.small_request-request.result c.args.sections.now c.args.memblock.now.journal.items
-    c.place.new.memblock.journal.items c.small_request-request.ensures c.in_err-table.ensures.ends)
+    rw (p.1, p.2) (roots-fail c.in_err-table.field-0.0 c.args.width c.table_request-request.result c.args.sections.now
+    c.args.memblock.now.journal.items c.place.new.memblock.journal.items c.table_request-request.ensures c.in_err-table.ensures.ends)
 
 pub returns-in_err-roots-clause-ends : goal.returns-in_err-roots-clause-ends
 returns-in_err-roots-clause-ends c =
     let p = err_from_is_err_and c.from_residual-in_err-roots.result c.from_residual-in_err-roots.ensures.1 in
-    rw (p.1, p.2) (roots-stop c.in_err-roots.field-0.0 c.in_ok-table.table c.small_request-request.result c.args.sections.now
+    rw (p.1, p.2) (roots-stop c.in_err-roots.field-0.0 c.in_ok-table.table c.args.width c.table_request-request.result c.args.sections.now
     c.args.memblock.now.journal.items c.place.new.memblock.journal.items c.place_each_root.new.memblock.journal.items
-    c.small_request-request.ensures c.in_ok-table.ensures.ends c.in_err-roots.ensures.ends)
+    c.table_request-request.ensures c.in_ok-table.ensures.ends c.in_err-roots.ensures.ends)
 
 pub returns-in_err-roots-clause-lent : goal.returns-in_err-roots-clause-lent
 returns-in_err-roots-clause-lent c =
@@ -28,9 +28,9 @@ returns-in_err-roots-clause-lent c =
 
 pub returns-clause-ends : goal.returns-clause-ends
 returns-clause-ends c =
-    roots-all c.in_ok-table.table c.in_ok-roots.roots.items c.small_request-request.result c.args.sections.now
+    roots-all c.in_ok-table.table c.in_ok-roots.roots.items c.args.width c.table_request-request.result c.args.sections.now
     c.args.memblock.now.journal.items c.place.new.memblock.journal.items c.place_each_root.new.memblock.journal.items
-    c.small_request-request.ensures c.in_ok-table.ensures.ends c.in_ok-roots.ensures.ends
+    c.table_request-request.ensures c.in_ok-table.ensures.ends c.in_ok-roots.ensures.ends
 
 pub returns-clause-lent : goal.returns-clause-lent
 returns-clause-lent c =

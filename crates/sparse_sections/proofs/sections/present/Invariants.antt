@@ -9,5 +9,5 @@ abbrev pub invariant-loop-i : goal.invariant-loop-i
 invariant-loop-i l = record {
   put : l.sections.items ≡ sections_below (value_at l.tables.memory.records) l.next;
   left : IsLeft (value_at l.tables.memory.records) l.next (drop l.i l.tables.memory.records);
-  reach : l.next ≤ 2 ^ 19;
+  reach : l.next ≤ 2 ^ 25;
 }
