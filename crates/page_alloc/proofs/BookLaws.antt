@@ -22,7 +22,7 @@ use Rattle.page_alloc.specs.declared.outcome.PageOutcome.{PageOutcome}
 use Rattle.page_alloc.specs.declared.outcome.PageOutcome.TheVariants as outcomes
 use Rattle.page_alloc.specs.Book.{Book, held_in, state_of}
 use Rattle.page_alloc.specs.Kept.{IsKept}
-use Rattle.page_alloc.specs.Pages.{State, with_held, served, asked, step, answers_of, after, HasOrder}
+use Rattle.page_alloc.specs.Pages.{State, with_held, served, asked, step, HasOrder}
 use Rattle.page_alloc.proofs.KeptLaws.{step_kept}
 
 -- two states are one where they say the same of each frame and each ID
@@ -119,15 +119,3 @@ pub kept_by : (b new : Book) (o : PageOutcome) (act : PageAct) → HasOrder act 
     → (let p : PageOutcome × State = (o, state_of new) in p) ≡ step (state_of b) act → IsKept (state_of new)
 kept_by b new o act small keeps is =
     subst (λ (s : State). IsKept s) (sym (ap (λ (p : PageOutcome × State). p.1) is)) (step_kept (state_of b) act small keeps)
-
--- one more line, and the lines behind it
-pub answers_on : (s t : State) (l : PageLine) (ls : List PageLine) (told : List PageAnswer) (o : PageOutcome)
-    → (let p : PageOutcome × State = (o, t) in p) ≡ step s l.act
-    → (told ++ (let a : PageAnswer = record { line = l.number; outcome = o } in a) ∷ []) ++ answers_of t ls ≡ told ++ answers_of s (l ∷ ls)
-answers_on s t l ls told o is =
-    append_assoc told ((let a : PageAnswer = record { line = l.number; outcome = o } in a) ∷ []) (answers_of t ls)
-    ∙ ap (λ (p : PageOutcome × State). told ++ (let a : PageAnswer = record { line = l.number; outcome = p.0 } in a) ∷ answers_of p.1 ls) is
-
-pub after_on : (s t : State) (l : PageLine) (ls : List PageLine) (o : PageOutcome)
-    → (let p : PageOutcome × State = (o, t) in p) ≡ step s l.act → after t ls ≡ after s (l ∷ ls)
-after_on s t l ls o is = ap (λ (p : PageOutcome × State). after p.1 ls) is

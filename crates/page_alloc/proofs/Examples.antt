@@ -21,16 +21,15 @@ use Rattle.page_alloc.specs.declared.act.PageLine.{PageLine}
 use Rattle.page_alloc.specs.declared.fault.Wrong.TheVariants as wrong
 use Rattle.page_alloc.specs.declared.fault.PageFault.TheVariants as faults
 use Rattle.page_alloc.specs.declared.outcome.Held.{Held}
-use Rattle.page_alloc.specs.declared.outcome.PageAnswer.{PageAnswer}
 use Rattle.page_alloc.specs.declared.outcome.PageOutcome.{PageOutcome}
 use Rattle.page_alloc.specs.declared.outcome.PageOutcome.TheVariants as outcomes
 use Rattle.page_alloc.specs.Book.{Book, held_in, state_of}
-use Rattle.page_alloc.specs.Forms.{greatest_id, greatest_order, greatest_node, pages_line, give_line, by_name, is_comment, asked_by, asked}
+use Rattle.page_alloc.specs.Forms.{greatest_id, greatest_order, greatest_node, pages_line, near_line, give_line, by_name, is_comment, asked_by, asked}
 use Rattle.page_alloc.specs.Kept.{Holds, IsInOne, IsInNone, IsKept}
-use Rattle.page_alloc.specs.Pages.{State, begun, with_held, served, asked as asked_of, given_back, step, answers_of, after, HasOrder, HaveOrders, TakesMemory}
+use Rattle.page_alloc.specs.Pages.{State, begun, with_held, served, asked as asked_of, given_back, step, HasOrder, HaveOrders, IsPlain, TakesMemory}
 use Rattle.page_alloc.specs.Reading.{fault_at, with_line, lines_from, pages_of}
 use Rattle.page_alloc.specs.Words.{Words, no_words, first_word, one_word, zone_named, whole, number, within, bounded}
-use Rattle.page_alloc.proofs.KeptLaws.{in_one, in_none, begun_goes, begun_kept, after_goes, step_kept}
+use Rattle.page_alloc.proofs.KeptLaws.{Goes, in_one, in_none, begun_goes, begun_kept, step_goes, step_kept}
 
 -- frame 5 alone is free, of node 7
 abbrev lone : Frames
@@ -129,31 +128,17 @@ back_examples = (refl, refl, refl, refl)
 abbrev line : ℕ → PageLine
 line n = record { number = n; act = acts.Pages n 0 7 zones.Dma }
 
-abbrev again : ℕ → PageLine
-again n = record { number = n; act = acts.Pages 1 0 7 zones.Dma }
-
 abbrev give : ℕ → PageLine
 give n = record { number = n; act = acts.Give 1 }
-
-abbrev told : ℕ → PageOutcome → PageAnswer
-told n o = record { line = n; outcome = o }
 
 step_examples : (step (begun lone) (acts.Pages 1 0 7 zones.Dma) ≡ at_five)
     × (step taken (acts.Pages 2 0 7 zones.Dma) ≡ (let p : PageOutcome × State = (outcomes.NoBlock, taken) in p))
     × (step taken (acts.Pages 1 0 7 zones.Dma) ≡ (let p : PageOutcome × State = (outcomes.Taken, taken) in p))
 step_examples = (asked_examples.0, ap (served taken 2 0 7) picked_none_left, refl)
 
-answer_examples : (answers_of (begun lone) [] ≡ []) × (answers_of (begun lone) (line 1 ∷ line 2 ∷ again 3 ∷ give 4 ∷ give 5 ∷ [])
-    ≡ told 1 (outcomes.At 20480) ∷ told 2 outcomes.NoBlock ∷ told 3 outcomes.Taken ∷ told 4 outcomes.Done ∷ told 5 outcomes.Unknown ∷ [])
-answer_examples = (
-  refl,
-  ap (λ (p : PageOutcome × State). told 1 p.0 ∷ answers_of p.1 (line 2 ∷ again 3 ∷ give 4 ∷ give 5 ∷ [])) step_examples.0
-      ∙ ap (λ (p : PageOutcome × State). told 1 (outcomes.At 20480) ∷ told 2 p.0 ∷ answers_of p.1 (again 3 ∷ give 4 ∷ give 5 ∷ []))
-      step_examples.1,
-)
-
-after_examples : (after taken [] ≡ taken) × (after (begun lone) (line 1 ∷ []) ≡ taken) × ((after taken (give 1 ∷ [])).frames 5 ≡ Some 7)
-after_examples = (refl, ap (λ (p : PageOutcome × State). p.1) step_examples.0, refl)
+plain_examples : IsPlain (acts.Pages 1 11 7 zones.Dma) × IsPlain (acts.Give 1) × (IsPlain (acts.Near 1 0 7) → ⊥)
+    × (step taken (acts.Near 2 0 7) ≡ (let p : PageOutcome × State = (outcomes.NoBlock, taken) in p))
+plain_examples = (tt, tt, λ plain. plain, refl)
 
 order_examples : HasOrder (acts.Pages 1 10 7 zones.Dma) × (HasOrder (acts.Pages 1 11 7 zones.Dma) → ⊥) × HaveOrders (line 1 ∷ give 2 ∷ [])
 order_examples = (omega arith, λ small. absurd (omega (arith, small)), (omega arith, (tt, tt)))
@@ -169,9 +154,9 @@ holds_examples = (record { what = five; is = refl; inside = refl }, λ holds. le
 in_one_examples : IsInOne (begun lone) 5 × IsInOne taken 5
 in_one_examples = (
   in_one lone (begun lone) 5 7 (begun_goes lone lone_low) refl,
-  subst (λ (s : State). IsInOne s 5) after_examples.1
-      (in_one lone (after (begun lone) (line 1 ∷ [])) 5 7
-      (after_goes lone (begun lone) (line 1 ∷ []) (omega arith, tt) (begun_goes lone lone_low)) refl),
+  in_one lone taken 5 7
+      (subst (λ (p : PageOutcome × State). Goes lone p.1) step_examples.0
+      (step_goes lone (begun lone) (acts.Pages 1 0 7 zones.Dma) (omega arith) (begun_goes lone lone_low))) refl,
 )
 
 in_none_examples : IsInNone (begun lone) 4
@@ -226,13 +211,20 @@ request_order = refl
 request_node : pages_line (codes "1" ∷ codes "0" ∷ codes "1024" ∷ codes "DMA" ∷ []) ≡ Err wrong.Number
 request_node = refl
 
+near_examples : (near_line (in_words (codes "1 10 1023")) ≡ Ok (acts.Near 1 10 1023))
+    × (near_line (in_words (codes "x 0 0 DMA")) ≡ Err wrong.Form) × (near_line (in_words (codes "1 0")) ≡ Err wrong.Form)
+    × (near_line (in_words (codes "4294967296 0 0")) ≡ Err wrong.Number) × (near_line (in_words (codes "1 11 0")) ≡ Err wrong.Number)
+    × (near_line (in_words (codes "1 0 1024")) ≡ Err wrong.Number)
+near_examples = (refl, refl, refl, refl, refl, refl)
+
 give_examples : (give_line (in_words (codes "4294967295")) ≡ Ok (acts.Give 4294967295))
     × (give_line (in_words (codes "4294967296")) ≡ Err wrong.Number) × (give_line (in_words (codes "x 1")) ≡ Err wrong.Form)
 give_examples = (refl, refl, refl)
 
 name_examples : (by_name (codes "give") (in_words (codes "1")) ≡ Ok (acts.Give 1))
+    × (by_name (codes "near") (in_words (codes "1 0 0")) ≡ Ok (acts.Near 1 0 0))
     × (by_name (codes "Give") (in_words (codes "1")) ≡ Err wrong.Form)
-name_examples = (refl, refl)
+name_examples = (refl, refl, refl)
 
 comment_examples : (is_comment (codes "#give") ≡ true) × (is_comment (codes "give#") ≡ false)
 comment_examples = (refl, refl)

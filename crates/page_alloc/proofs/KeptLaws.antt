@@ -1,5 +1,5 @@
 -- Lines keep what is free apart from what is held, and lose no frame.
-use Rattle.std.proofs.Common.{◌≡◌, ◌≢◌, ◌⊎◌, ℕ, ◌+◌, ◌-◌, ◌/◌, ◌%◌, ◌^◌, ◌≤◌, ◌==◌, false, Option, Some, None, List, [], ◌∷◌, refl, sym, ◌∙◌, ap, subst, inl, inr, ⊎_elim, arith}
+use Rattle.std.proofs.Common.{◌≡◌, ◌≢◌, ◌⊎◌, ℕ, ◌+◌, ◌-◌, ◌/◌, ◌%◌, ◌^◌, ◌≤◌, ◌==◌, false, Option, Some, None, refl, sym, ◌∙◌, ap, subst, inl, inr, ⊎_elim, arith}
 use Rattle.std.proofs.lemmas.Bool.{cases_lt, cases_Bool, eqb-true, eq-eqb}
 use Rattle.std.proofs.lemmas.Nat.{pow_pos}
 use Rattle.std.specs.Option.{option_map}
@@ -16,9 +16,8 @@ use Rattle.frame_blocks.proofs.BuddyLaws.{set_covers, covers_set, in_set_or_not,
 use Rattle.frame_blocks.proofs.PickLaws.{picked_tells}
 use Rattle.page_alloc.specs.declared.act.PageAct.{PageAct}
 use Rattle.page_alloc.specs.declared.act.PageAct.TheVariants as acts
-use Rattle.page_alloc.specs.declared.act.PageLine.{PageLine}
 use Rattle.page_alloc.specs.declared.outcome.Held.{Held}
-use Rattle.page_alloc.specs.Pages.{State, begun, with_held, served, asked, given_back, step, after, HasOrder, HaveOrders}
+use Rattle.page_alloc.specs.Pages.{State, begun, with_held, served, asked, given_back, step, HasOrder}
 use Rattle.page_alloc.specs.Kept.{Holds, IsInOne, IsInNone, IsWell, IsKept}
 
 -- what the state has was in f, with its node, and what f has the state has
@@ -335,11 +334,8 @@ back_goes f s id (Some what) goes is = given_goes f s id what goes is
 
 pub step_goes : (f : Frames) (s : State) (act : PageAct) → HasOrder act → Goes f s → Goes f (step s act).1
 step_goes f s (acts.Pages id order node zone) small goes = asked_goes f s id order node zone (s.held id) small goes refl
+step_goes f s (acts.Near id order node) small goes = goes
 step_goes f s (acts.Give id) small goes = back_goes f s id (s.held id) goes refl
-
-pub after_goes : (f : Frames) (s : State) (ls : List PageLine) → HaveOrders ls → Goes f s → Goes f (after s ls)
-after_goes f s [] orders goes = goes
-after_goes f s (l ∷ ls) orders goes = after_goes f (step s l.act).1 ls orders.1 (step_goes f s l.act orders.0 goes)
 
 -- a state by itself
 served_kept : (s : State) (id order node : ℕ) (zone : Zone) (o : Option ℕ) → order ≤ 10 → IsKept s
@@ -358,6 +354,7 @@ back_kept s id (Some what) keeps is = given_kept s id what keeps is
 
 pub step_kept : (s : State) (act : PageAct) → HasOrder act → IsKept s → IsKept (step s act).1
 step_kept s (acts.Pages id order node zone) small keeps = asked_kept s id order node zone (s.held id) small keeps
+step_kept s (acts.Near id order node) small keeps = keeps
 step_kept s (acts.Give id) small keeps = back_kept s id (s.held id) keeps refl
 
 pub begun_kept : (f : Frames) → NothingFrom MAX_FRAMES f → IsKept (begun f)

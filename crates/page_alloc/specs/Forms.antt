@@ -33,6 +33,17 @@ pages_line words = do
   of_node ← bounded greatest_node node.0
   Ok (acts.Pages of_id of_order of_node zone)
 
+-- near ID ORDER NODE
+abbrev pub near_line : Words → Result PageAct Wrong
+near_line words = do
+  id ← first_word words
+  order ← first_word id.1
+  node ← one_word order.1
+  of_id ← bounded greatest_id id.0
+  of_order ← bounded greatest_order order.0
+  of_node ← bounded greatest_node node
+  Ok (acts.Near of_id of_order of_node)
+
 -- give ID
 abbrev pub give_line : Words → Result PageAct Wrong
 give_line words = do
@@ -44,7 +55,8 @@ give_line words = do
 abbrev pub by_name : List ℕ → Words → Result PageAct Wrong
 by_name name words =
     if bytes_eq name (codes "pages") then pages_line words else
-    (if bytes_eq name (codes "give") then give_line words else Err wrong.Form)
+    (if bytes_eq name (codes "near") then near_line words else
+    (if bytes_eq name (codes "give") then give_line words else Err wrong.Form))
 
 -- a word that begins with `#` begins a comment
 abbrev pub is_comment : List ℕ → Bool

@@ -11,7 +11,6 @@ use Rattle.page_alloc.specs.declared.act.PageLine.{PageLine}
 use Rattle.page_alloc.specs.declared.outcome.Held.{Held}
 use Rattle.page_alloc.specs.declared.outcome.PageOutcome.{PageOutcome}
 use Rattle.page_alloc.specs.declared.outcome.PageOutcome.TheVariants as outcomes
-use Rattle.page_alloc.specs.declared.outcome.PageAnswer.{PageAnswer}
 
 -- which frames are free, each of which node, and what each ID holds
 pub record State : Type 0 where
@@ -54,30 +53,31 @@ given_back s id (Some what) = (
   },
 )
 
--- the outcome of a line, and the state then
+-- the outcome of a line that names its zone or gives back, and the state then. A line for the zones near a node is served by the
+-- layer above, which knows them, and by no block here
 abbrev pub step : State → PageAct → PageOutcome × State
 step s (acts.Pages id order node zone) = asked s id order node zone (s.held id)
+step s (acts.Near id order node) = (outcomes.NoBlock, s)
 step s (acts.Give id) = given_back s id (s.held id)
-
--- the answers of several lines, in order, and the state at their end
-abbrev pub answers_of : State → List PageLine → List PageAnswer
-answers_of s [] = []
-answers_of s (l ∷ ls) = record { line = l.number; outcome = (step s l.act).0 } ∷ answers_of (step s l.act).1 ls
-
-abbrev pub after : State → List PageLine → State
-after s [] = s
-after s (l ∷ ls) = after (step s l.act).1 ls
 
 -- an order in the line is an order of blocks
 abbrev pub HasOrder : PageAct → Type 0
 HasOrder (acts.Pages id order node zone) = order ≤ 10
+HasOrder (acts.Near id order node) = order ≤ 10
 HasOrder (acts.Give id) = Unit {0}
 
 abbrev pub HaveOrders : List PageLine → Type 0
 HaveOrders [] = Unit {0}
 HaveOrders (l ∷ ls) = HasOrder l.act × HaveOrders ls
 
+-- the line names its zone or gives back
+abbrev pub IsPlain : PageAct → Type 0
+IsPlain (acts.Pages id order node zone) = Unit {0}
+IsPlain (acts.Near id order node) = ⊥
+IsPlain (acts.Give id) = Unit {0}
+
 -- memory is taken for a request of an ID that holds nothing, and where what an ID holds comes back
 abbrev pub TakesMemory : State → PageAct → Type 0
 TakesMemory s (acts.Pages id order node zone) = s.held id ≡ None
+TakesMemory s (acts.Near id order node) = s.held id ≡ None
 TakesMemory s (acts.Give id) = IsSome (s.held id)

@@ -13,6 +13,13 @@ pub enum PageAct {
         node: u32,
         zone: Zone,
     },
+    /// `2^order` frames for the ID, of the first zone in the list of the node that has them (`get_page_from_freelist`).
+    Near {
+        id: u32,
+        /// At most 10 in a script.
+        order: u32,
+        node: u32,
+    },
     /// What the ID holds comes back (`__free_pages`).
     Give {
         id: u32,

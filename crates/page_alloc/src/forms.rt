@@ -3,7 +3,7 @@
 ghost use Rattle.std.specs.Prelude.{◌≡◌, ◌<◌, length, IfOk, IfErr, IfSome};
 ghost use Rattle.text_words.specs.Words.{words_in};
 ghost use Rattle.text_words.specs.declared.separators.Separators.TheVariants as separators;
-ghost use Rattle.page_alloc.specs.Forms.{pages_line as pages_of, give_line as give_of, by_name as named_line, asked};
+ghost use Rattle.page_alloc.specs.Forms.{pages_line as pages_of, near_line as near_of, give_line as give_of, by_name as named_line, asked};
 ghost use Rattle.page_alloc.specs.Pages.{HasOrder};
 
 use crate::act::PageAct;
@@ -44,6 +44,9 @@ fn by_name(name: &[u8], rest: &[u8]) -> Result<PageAct, Wrong>
     if name == b"pages".as_slice() {
         return pages_line(rest);
     }
+    if name == b"near".as_slice() {
+        return near_line(rest);
+    }
     if name == b"give".as_slice() {
         return give_line(rest);
     }
@@ -68,6 +71,20 @@ fn pages_line(text: &[u8]) -> Result<PageAct, Wrong>
         node,
         zone,
     })
+}
+
+/// `ID ORDER NODE`.
+fn near_line(text: &[u8]) -> Result<PageAct, Wrong>
+    ensures value { result ≡ near_of (words_in separators.Script text.now) }
+    ensures order { IfOk result HasOrder }
+{
+    let (id, rest) = first_word(text)?;
+    let (order, rest) = first_word(rest)?;
+    let node = one_word(rest)?;
+    let id = bounded(GREATEST_ID, id)? as u32;
+    let order = bounded(GREATEST_ORDER, order)? as u32;
+    let node = bounded(GREATEST_NODE, node)? as u32;
+    Ok(PageAct::Near { id, order, node })
 }
 
 /// `ID`.

@@ -4,7 +4,7 @@ ghost use Rattle.std.specs.Prelude.{◌≡◌, ◌⊎◌, ◌+◌, ◌*◌, ◌^
 ghost use Rattle.buddy_handover.specs.Contents.{free};
 ghost use Rattle.page_alloc.specs.declared.act.PageAct.TheVariants as act;
 ghost use Rattle.page_alloc.specs.Book.{held_in, state_of};
-ghost use Rattle.page_alloc.specs.Pages.{begun, step, HasOrder, TakesMemory};
+ghost use Rattle.page_alloc.specs.Pages.{begun, step, HasOrder, IsPlain, TakesMemory};
 
 use crate::act::{PageAct, PageLine};
 use crate::outcome::{Held, PageOutcome};
@@ -103,9 +103,11 @@ impl Pages {
         Ok(PageOutcome::Done)
     }
 
-    /// Carries one line out. Nothing has changed after `Memory`.
+    /// Carries one line out that names its zone or gives back. Nothing has changed after `Memory`. A line for the zones near a node is
+    /// carried out by the layer above, which knows them.
     pub fn run_line(&mut self, line: &PageLine) -> Result<PageOutcome, Memory>
-        requires { HasOrder line.now.act }
+        requires order { HasOrder line.now.act }
+        requires plain { IsPlain line.now.act }
         ensures ok { IfOk result (λ outcome. (outcome, state_of self.new) ≡ step (state_of self.old) line.now.act) }
         ensures memory { OnErr result (TakesMemory (state_of self.old) line.now.act) }
         ensures err { OnErr result (self.new ≡ self.old) }
@@ -117,6 +119,7 @@ impl Pages {
                 node,
                 zone,
             } => self.take(id, order, node, zone),
+            PageAct::Near { .. } => unreachable!(),
             PageAct::Give { id } => self.give(id),
         }
     }

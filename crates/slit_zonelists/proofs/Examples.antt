@@ -1,0 +1,130 @@
+-- Three domains whose distances aren't the same both ways, and their lists: what the definitions say of them.
+use Rattle.std.proofs.Common.{◌≡◌, ℕ, ◌<◌, true, false, Some, None, List, [], ◌∷◌, ◌++◌, Ok, Err, codes, replicate, refl, inl, inr, arith}
+use Rattle.bm_base.specs.declared.zone.Zone.TheVariants as zones
+use Rattle.zone_spans.specs.declared.span.Span.{Span}
+use Rattle.page_alloc.specs.declared.act.PageAct.TheVariants as acts
+use Rattle.page_alloc.specs.declared.act.PageLine.{PageLine}
+use Rattle.page_alloc.specs.declared.outcome.Held.{Held}
+use Rattle.page_alloc.specs.declared.outcome.PageAnswer.{PageAnswer}
+use Rattle.page_alloc.specs.declared.outcome.PageOutcome.{PageOutcome}
+use Rattle.page_alloc.specs.declared.outcome.PageOutcome.TheVariants as outcomes
+use Rattle.page_alloc.specs.Pages.{State, begun}
+use Rattle.slit_zonelists.specs.declared.entry.ListZone.{ListZone}
+use Rattle.slit_zonelists.specs.declared.table.SlitFault.TheVariants as faults
+use Rattle.slit_zonelists.specs.declared.uses.SlitUse.TheVariants as uses
+use Rattle.slit_zonelists.specs.Buckets.{in_bucket, bucket_at, all_in}
+use Rattle.slit_zonelists.specs.Lists.{Known, used_of, where_used, told, own_distance, distance_in, rank, goes_before, put_in, by_node, entry_of, known, with_node, nodes_of, at_distance, zones_of}
+use Rattle.slit_zonelists.specs.Matrix.{Matrix, cell_of, HasBytes, IsSquare}
+use Rattle.slit_zonelists.specs.Near.{first_zone, near_by, asked_near, step_with, answers_with, after_with}
+use Rattle.slit_zonelists.specs.Order.{IsLower, IsNearer}
+use Rattle.slit_zonelists.specs.Table.{localities, fills, slit_fault, unless_fault, slit_of}
+use Rattle.slit_zonelists.specs.Uses.{is_bad, bad_column, bad_in_row, first_of, bad_cell, by_cells, slit_use}
+
+-- from domain 0 to 1 it is 40, and back it is 30
+abbrev three : Matrix
+three = record { count = 3; cells = 10 ∷ 40 ∷ 15 ∷ 30 ∷ 10 ∷ 25 ∷ 12 ∷ 13 ∷ 10 ∷ [] }
+
+cell_examples : (cell_of three 0 1 ≡ 40) × (cell_of three 1 0 ≡ 30) × (cell_of three 2 1 ≡ 13) × IsSquare three
+cell_examples = (refl, refl, refl, refl)
+
+byte_examples : HasBytes (record { count = 1; cells = 256 ∷ [] }) → ⊥
+byte_examples = λ bytes. let low : 256 < 256 = bytes 0 0 in absurd (omega (arith, low))
+
+-- a table of one domain, with its length, its checksum, and its number of localities
+abbrev table : ℕ → ℕ → ℕ → List ℕ
+table stated checksum count =
+    codes "SLIT" ++ stated ∷ 0 ∷ 0 ∷ 0 ∷ 0 ∷ checksum ∷ (replicate 26 0 ++ count ∷ (replicate 7 0 ++ 10 ∷ []))
+
+table_examples : (slit_of (table 45 140 1) ≡ Ok (record { count = 1; cells = 10 ∷ [] })) × (localities (table 45 140 1) ≡ 1)
+    × (slit_fault (codes "SLAT") ≡ Some faults.Short) × (slit_fault (0 ∷ table 45 140 1) ≡ Some faults.Signature)
+    × (slit_fault (table 44 140 1) ≡ Some faults.Length) × (slit_fault (table 45 141 2) ≡ Some faults.Checksum)
+    × (slit_fault (table 45 139 2) ≡ Some faults.Localities)
+table_examples = (refl, refl, refl, refl, refl, refl, refl)
+
+fill_examples : (fills 3 9 ≡ true) × (fills 3 10 ≡ false) × (fills 4294967296 0 ≡ false)
+    × (unless_fault (Some faults.Length) three ≡ Err faults.Length) × (unless_fault None three ≡ Ok three)
+fill_examples = (refl, refl, refl, refl, refl)
+
+-- a domain is 10 from itself, and further from any other
+abbrev bad : Matrix
+bad = record { count = 2; cells = 10 ∷ 20 ∷ 10 ∷ 11 ∷ [] }
+
+bad_examples : (is_bad bad 0 1 ≡ false) × (is_bad bad 1 0 ≡ true) × (is_bad bad 1 1 ≡ true) × (bad_column bad 0 ≡ None)
+    × (bad_column bad 1 ≡ Some 0) × (bad_in_row bad 1 ≡ Some (1, 0)) × (bad_cell bad ≡ Some (1, 0)) × (bad_cell three ≡ None)
+bad_examples = (refl, refl, refl, refl, refl, refl, refl, refl)
+
+first_examples : (first_of {X = ℕ} (7 ∷ 8 ∷ []) ≡ Some 7) × (by_cells None ≡ uses.Used) × (by_cells (Some (1, 0)) ≡ uses.NotValid 1 0)
+first_examples = (refl, refl, refl)
+
+use_examples : (slit_use None (0 ∷ []) ≡ uses.Absent) × (slit_use (Some bad) [] ≡ uses.NoSrat)
+    × (slit_use (Some bad) (0 ∷ []) ≡ uses.NotValid 1 0) × (slit_use (Some three) (0 ∷ []) ≡ uses.Used)
+use_examples = (refl, refl, refl, refl)
+
+-- node 0 is of domain 1, node 1 of one that the table hasn't, node 2 of domain 0
+abbrev span : ℕ → Span
+span n = record { node = n; zone = zones.Dma32; start = 0; end = 1; present = 1 }
+
+abbrev low_span : Span
+low_span = record { node = 0; zone = zones.Dma; start = 0; end = 1; present = 1 }
+
+abbrev nodes : Known
+nodes = known (Some three) (1 ∷ 3 ∷ 0 ∷ []) (low_span ∷ span 0 ∷ span 1 ∷ span 2 ∷ [])
+
+abbrev zone : ℕ → ListZone
+zone n = record { node = n; zone = zones.Dma32 }
+
+abbrev low_zone : ListZone
+low_zone = record { node = 0; zone = zones.Dma }
+
+told_examples : (used_of nodes ≡ uses.Used) × (where_used (uses.NotValid 1 0) (Some three) ≡ None) × (told (Some three) (Some 1) (Some 0) ≡ Some 30)
+    × (told (Some three) (Some 1) (Some 3) ≡ None) × (told (Some three) None (Some 0) ≡ None) × (told None (Some 1) (Some 0) ≡ None)
+    × (own_distance 3 3 ≡ 10) × (own_distance 3 0 ≡ 20)
+told_examples = (refl, refl, refl, refl, refl, refl, refl, refl)
+
+distance_examples : (distance_in nodes 0 2 ≡ 30) × (distance_in nodes 2 0 ≡ 40) × (distance_in nodes 0 1 ≡ 20) × (distance_in nodes 1 1 ≡ 10)
+    × (distance_in nodes 3 0 ≡ 20)
+distance_examples = (refl, refl, refl, refl, refl)
+
+rank_examples : (rank zones.Normal ≡ 0) × (rank zones.Dma32 ≡ 1) × (rank zones.Dma ≡ 2) × (goes_before (zone 0) low_zone ≡ true)
+    × (goes_before low_zone (zone 0) ≡ false) × (goes_before low_zone (zone 1) ≡ true)
+rank_examples = (refl, refl, refl, refl, refl, refl)
+
+order_examples : (entry_of low_span ≡ low_zone) × (put_in (zone 0) (low_zone ∷ zone 1 ∷ []) ≡ zone 0 ∷ low_zone ∷ zone 1 ∷ [])
+    × (by_node (low_zone ∷ zone 1 ∷ zone 0 ∷ []) ≡ zone 0 ∷ low_zone ∷ zone 1 ∷ [])
+    × (with_node (0 ∷ []) low_zone ≡ 0 ∷ []) × (nodes_of (zone 0 ∷ low_zone ∷ zone 2 ∷ []) ≡ 0 ∷ 2 ∷ [])
+order_examples = (refl, refl, refl, refl, refl)
+
+lower_examples : IsLower (zone 0) low_zone × IsLower low_zone (zone 1) × IsNearer nodes 2 (zone 2) (zone 0) × IsNearer nodes 0 (zone 1) (zone 2)
+lower_examples = (inr (refl, omega arith), inl (omega arith), inl (omega arith), inl (omega arith))
+
+-- node 1 is of no distance that is told, so that both others are as far
+list_examples : (at_distance nodes 1 20 ≡ zone 0 ∷ low_zone ∷ zone 2 ∷ [])
+    × (zones_of nodes 1 ≡ zone 1 ∷ zone 0 ∷ low_zone ∷ zone 2 ∷ [])
+    × (zones_of nodes 0 ≡ zone 0 ∷ low_zone ∷ zone 1 ∷ zone 2 ∷ [])
+    × (zones_of nodes 2 ≡ zone 2 ∷ zone 1 ∷ zone 0 ∷ low_zone ∷ [])
+unfolding zones_of
+list_examples = (refl, refl, refl, refl)
+
+bucket_examples : (in_bucket {A = Unit {0}} None ≡ []) × (bucket_at {A = Unit {0}} [] 0 ≡ []) × (all_in {A = Unit {0}} [] ≡ [])
+bucket_examples = (refl, refl, refl)
+
+-- where nothing is free no zone serves, and an ID that holds something gets nothing more
+abbrev empty : State
+empty = begun (λ x. None)
+
+abbrev five : Held
+five = record { first = 5; order = 0; node = 7 }
+
+near_examples : (first_zone empty 0 [] ≡ None) × (near_by empty 1 0 None ≡ (let p : PageOutcome × State = (outcomes.NoBlock, empty) in p))
+    × (asked_near empty 1 0 (zone 0 ∷ []) (Some five) ≡ (let p : PageOutcome × State = (outcomes.Taken, empty) in p))
+    × (asked_near empty 1 0 [] None ≡ (let p : PageOutcome × State = (outcomes.NoBlock, empty) in p))
+    × (step_with nodes empty (acts.Give 1) ≡ (let p : PageOutcome × State = (outcomes.Unknown, empty) in p))
+near_examples = (refl, refl, refl, refl, refl)
+
+abbrev give : ℕ → PageLine
+give n = record { number = n; act = acts.Give 1 }
+
+line_examples : (answers_with nodes empty [] ≡ [])
+    × (answers_with nodes empty (give 4 ∷ []) ≡ (let a : PageAnswer = record { line = 4; outcome = outcomes.Unknown } in a) ∷ [])
+    × (after_with nodes empty (give 4 ∷ []) ≡ empty)
+line_examples = (refl, refl, refl)

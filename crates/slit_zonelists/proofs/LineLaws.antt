@@ -1,0 +1,60 @@
+-- A request near a node is a request of one zone, or nothing; and lines go on from where those before them came to.
+use Rattle.std.proofs.Common.{◌≡◌, ℕ, ◌≤◌, true, false, Option, Some, None, List, [], ◌∷◌, ◌++◌, refl, ◌∙◌, ap, append_assoc, arith}
+use Rattle.std.specs.List.{All}
+use Rattle.std.proofs.lemmas.List.Elements.{All-tail}
+use Rattle.frame_blocks.specs.Frames.{Frames}
+use Rattle.page_alloc.specs.declared.act.PageAct.{PageAct}
+use Rattle.page_alloc.specs.declared.act.PageAct.TheVariants as acts
+use Rattle.page_alloc.specs.declared.act.PageLine.{PageLine}
+use Rattle.page_alloc.specs.declared.outcome.Held.{Held}
+use Rattle.page_alloc.specs.declared.outcome.PageOutcome.{PageOutcome}
+use Rattle.page_alloc.specs.declared.outcome.PageAnswer.{PageAnswer}
+use Rattle.page_alloc.specs.Pages.{State, HasOrder, HaveOrders}
+use Rattle.page_alloc.proofs.KeptLaws.{Goes, step_goes}
+use Rattle.slit_zonelists.specs.declared.entry.ListZone.{ListZone}
+use Rattle.slit_zonelists.specs.Lists.{Known, zones_of}
+use Rattle.slit_zonelists.specs.Near.{has_block, first_zone, near_by, asked_near, step_with, answers_with, after_with}
+
+-- the first zone that has a block
+pub first_is : (s : State) (order : ℕ) (before : List ListZone) (z : ListZone) (behind : List ListZone) → has_block s order z ≡ true
+    → All (λ y. has_block s order y ≡ false) before → first_zone s order (before ++ z ∷ behind) ≡ Some z
+first_is s order [] z behind has none = rw has refl
+first_is s order (y ∷ ys) z behind has none =
+    rw (none 0 y (omega arith)) (first_is s order ys z behind has (All-tail (λ y. has_block s order y ≡ false) y ys none))
+
+pub first_none : (s : State) (order : ℕ) (zs : List ListZone) → All (λ y. has_block s order y ≡ false) zs → first_zone s order zs ≡ None
+first_none s order [] none = refl
+first_none s order (y ∷ ys) none =
+    rw (none 0 y (omega arith)) (first_none s order ys (All-tail (λ y. has_block s order y ≡ false) y ys none))
+
+-- what is free stays apart from what is held
+near_goes : (f : Frames) (s : State) (id order : ℕ) (o : Option ListZone) → order ≤ 10 → Goes f s → Goes f (near_by s id order o).1
+near_goes f s id order None small goes = goes
+near_goes f s id order (Some z) small goes = step_goes f s (acts.Pages id order z.node z.zone) small goes
+
+asked_goes : (f : Frames) (s : State) (id order : ℕ) (zs : List ListZone) (o : Option Held) → order ≤ 10 → Goes f s
+    → Goes f (asked_near s id order zs o).1
+asked_goes f s id order zs (Some what) small goes = goes
+asked_goes f s id order zs None small goes = near_goes f s id order (first_zone s order zs) small goes
+
+step_with_goes : (k : Known) (f : Frames) (s : State) (act : PageAct) → HasOrder act → Goes f s → Goes f (step_with k s act).1
+step_with_goes k f s (acts.Pages id order node zone) small goes = step_goes f s (acts.Pages id order node zone) small goes
+step_with_goes k f s (acts.Near id order node) small goes = asked_goes f s id order (zones_of k node) (s.held id) small goes
+step_with_goes k f s (acts.Give id) small goes = step_goes f s (acts.Give id) small goes
+
+pub after_goes : (k : Known) (f : Frames) (s : State) (ls : List PageLine) → HaveOrders ls → Goes f s → Goes f (after_with k s ls)
+after_goes k f s [] orders goes = goes
+after_goes k f s (l ∷ ls) orders goes = after_goes k f (step_with k s l.act).1 ls orders.1 (step_with_goes k f s l.act orders.0 goes)
+
+-- one more line, and the lines behind it
+pub answers_on : (k : Known) (s t : State) (l : PageLine) (ls : List PageLine) (told : List PageAnswer) (o : PageOutcome)
+    → (let p : PageOutcome × State = (o, t) in p) ≡ step_with k s l.act
+    → (told ++ (let a : PageAnswer = record { line = l.number; outcome = o } in a) ∷ []) ++ answers_with k t ls
+    ≡ told ++ answers_with k s (l ∷ ls)
+answers_on k s t l ls told o is =
+    append_assoc told ((let a : PageAnswer = record { line = l.number; outcome = o } in a) ∷ []) (answers_with k t ls)
+    ∙ ap (λ (p : PageOutcome × State). told ++ (let a : PageAnswer = record { line = l.number; outcome = p.0 } in a) ∷ answers_with k p.1 ls) is
+
+pub after_on : (k : Known) (s t : State) (l : PageLine) (ls : List PageLine) (o : PageOutcome)
+    → (let p : PageOutcome × State = (o, t) in p) ≡ step_with k s l.act → after_with k t ls ≡ after_with k s (l ∷ ls)
+after_on k s t l ls o is = ap (λ (p : PageOutcome × State). after_with k p.1 ls) is

@@ -1,0 +1,16 @@
+-- The lines so far have been carried out: those behind them answer as they would have.
+use Rattle.std.proofs.Common.{◌≡◌, ◌++◌, drop}
+use Rattle.page_alloc.specs.Book.{state_of}
+use Rattle.page_alloc.specs.Pages.{HaveOrders}
+use Rattle.slit_zonelists.specs.Near.{answers_with, after_with}
+use Rattle.slit_zonelists.specs.Made.{AreMade}
+use Rattle.slit_zonelists.proofs.run.run_lines.Given as goal
+
+abbrev pub invariant-loop-line : goal.invariant-loop-line
+invariant-loop-line l = record {
+  orders : HaveOrders (drop l.line-index l.lines);
+  made : AreMade l.lists l.made;
+  told : l.answers.items ++ answers_with l.lists (state_of l.pages) (drop l.line-index l.lines)
+      ≡ answers_with l.lists (state_of l.fn.pages) l.lines;
+  ends : after_with l.lists (state_of l.pages) (drop l.line-index l.lines) ≡ after_with l.lists (state_of l.fn.pages) l.lines;
+}

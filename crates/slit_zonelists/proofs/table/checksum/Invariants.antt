@@ -1,0 +1,6 @@
+-- The sum of the bytes so far.
+use Rattle.std.proofs.Common.{◌≡◌, ◌%◌, sum, take}
+use Rattle.slit_zonelists.proofs.table.checksum.Given as goal
+
+abbrev pub invariant-loop-byte : goal.invariant-loop-byte
+invariant-loop-byte l = l.total ≡ sum (take l.byte-index l.bytes) % 256

@@ -1,0 +1,94 @@
+//! Whether the distances of a SLIT are used, and why not.
+
+ghost use Rattle.std.specs.Prelude.{◌≡◌, ◌<◌};
+ghost use Rattle.std.specs.Option.{ForSome, option_map, option_copied};
+ghost use Rattle.slit_zonelists.specs.Matrix.{matrix, cell_of, IsSquare};
+ghost use Rattle.slit_zonelists.specs.Uses.{is_bad, bad_column as first_bad_column, bad_cell as first_bad_cell, slit_use};
+
+use crate::table::Slit;
+
+/// The distance of a domain to itself (`LOCAL_DISTANCE`).
+pub const LOCAL_DISTANCE: u8 = 10;
+
+/// Whether the distances that the firmware tells are used: the first of these that holds.
+#[derive(Clone, Copy, Debug, PartialEq, Eq)]
+pub enum SlitUse {
+    /// None of the others holds.
+    Used,
+    /// There is no SLIT.
+    Absent,
+    /// No domain is a node: there is no SRAT, or it isn't used.
+    NoSrat,
+    /// The cell in that row and column, both from 0 on, is bad, and no earlier one is, by row and then by column. A cell from a domain to
+    /// itself is bad where it isn't 10, and any other where it is 10 or less (`slit_valid`).
+    NotValid { row: u32, column: u32 },
+}
+
+/// Whether the SLIT is used, where the nodes have those domains.
+pub fn use_of(slit: Option<&Slit>, domains: &[u32]) -> SlitUse
+    requires { ForSome slit (λ slit. IsSquare (matrix slit.now)) }
+    ensures { result ≡ slit_use (option_map matrix (option_copied slit.entry)) domains.now }
+{
+    let Some(slit) = slit else {
+        return SlitUse::Absent;
+    };
+    if domains.is_empty() {
+        return SlitUse::NoSrat;
+    }
+    match bad_cell(slit) {
+        Some((row, column)) => SlitUse::NotValid { row, column },
+        None => SlitUse::Used,
+    }
+}
+
+/// The first bad cell, by row, then by column.
+fn bad_cell(slit: &Slit) -> Option<(u32, u32)>
+    requires { IsSquare (matrix slit.now) }
+    ensures { result ≡ first_bad_cell (matrix slit.now) }
+{
+    for row in 0..slit.count {
+        if let Some(column) = bad_column(slit, row) {
+            return Some((row, column));
+        }
+    }
+    None
+}
+
+/// The first column in which the row has a bad cell.
+fn bad_column(slit: &Slit, row: u32) -> Option<u32>
+    requires square { IsSquare (matrix slit.now) }
+    requires row { row < slit.now.count }
+    ensures { result ≡ first_bad_column (matrix slit.now) row }
+{
+    for column in 0..slit.count {
+        if is_bad_at(slit, row, column) {
+            return Some(column);
+        }
+    }
+    None
+}
+
+/// Whether the cell is against the use of all.
+fn is_bad_at(slit: &Slit, row: u32, column: u32) -> bool
+    requires square { IsSquare (matrix slit.now) }
+    requires row { row < slit.now.count }
+    requires column { column < slit.now.count }
+    ensures { result ≡ is_bad (matrix slit.now) row column }
+{
+    let cell = cell(slit, row, column);
+    if row == column {
+        cell != LOCAL_DISTANCE
+    } else {
+        cell <= LOCAL_DISTANCE
+    }
+}
+
+/// The distance from the domain of the row to that of the column.
+pub fn cell(slit: &Slit, row: u32, column: u32) -> u8
+    requires square { IsSquare (matrix slit.now) }
+    requires row { row < slit.now.count }
+    requires column { column < slit.now.count }
+    ensures { result ≡ cell_of (matrix slit.now) row column }
+{
+    slit.cells[row as usize * slit.count as usize + column as usize]
+}
