@@ -112,6 +112,7 @@ whole_line : options_of (codes "crashkernel=64M crashkernel=512M,high crashkerne
       edits = [];
       crash = record { plain = Some (plain (range 0 None 0 ∷ []) 0); high = Some 0x20000000; low = None };
       numa_off = false;
+      add_efi = false;
     })
 unfolding form_of
 whole_line = refl

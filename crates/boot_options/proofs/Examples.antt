@@ -15,7 +15,7 @@ use Rattle.boot_options.specs.declared.reading.UserMap.{UserMap}
 use Rattle.boot_options.specs.MapOptions.{number_and_rest, front_size, front_number, at_end, whole_size, range_at, unless_empty, range_above, ram_above, adding_option, small_kind, kind_behind, retyped_to, retyped_from, retyped, changed, by_mark, sized_map_option, map_option_of, ram_up_to, mem_of, Spell, SpellsType}
 use Rattle.boot_options.specs.Crash.{crash_view, no_crash}
 use Rattle.boot_options.specs.Kept.{Keeps}
-use Rattle.boot_options.specs.Options.{raw_line, is_closed, checked_line, line_of, Said, OfMap, NumaOff, map_options_of, memmap_of, of_one, numa_of, or_fault, said_by, at_cut, name_value_of, until_end, option_words, said_from, numbered, all_map_options, edit_of, edits_of, is_numa_off, count_adding, or_here, last_exact, Chosen, chosen, chosen_by, unless_incomplete, with_user_map, options_of, HasRange, HaveRanges, IsNumbered}
+use Rattle.boot_options.specs.Options.{raw_line, is_closed, checked_line, line_of, Said, OfMap, NumaOff, AddEfi, map_options_of, memmap_of, of_one, numa_of, or_fault, said_by, at_cut, name_value_of, until_end, option_words, said_from, numbered, all_map_options, edit_of, edits_of, is_efi_added, is_numa_off, count_adding, or_here, last_exact, Chosen, chosen, chosen_by, unless_incomplete, with_user_map, options_of, HasRange, HaveRanges, IsNumbered}
 use Rattle.boot_options.specs.Reading.{start, one_fewer, user_map_behind, after_map_option, after_map_options, after, after_all, read_on, read_all, read_map_options, when_complete, at_line_end, IsAt, IsAtSome, ReadsAs}
 
 abbrev range : ℕ → ℕ → Extent
@@ -232,6 +232,11 @@ faulty_words : (said_by 2 (codes "mem", None) ≡ Err (faults.BadMem 2))
     × (said_by 4 (codes "numa", Some (codes "fake=2")) ≡ Err (faults.BadNuma 4))
 faulty_words = (refl, refl, refl)
 
+-- `add_efi_memmap` has no value, and whatever it has says the same; by its whole name
+efi_words : (said_by 2 (codes "add_efi_memmap", None) ≡ Ok AddEfi) × (said_by 2 (codes "add_efi_memmap", Some (codes "0")) ≡ Ok AddEfi)
+    × (said_by 2 (codes "add_efi_memmaps", None) ≡ Ok (OfMap [])) × (said_by 2 (codes "add_efi", None) ≡ Ok (OfMap []))
+efi_words = (refl, refl, refl, refl)
+
 -- the words up to `--`, each without its quotation marks
 words_up_to_the_end : (until_end (codes "a" ∷ codes "--" ∷ codes "b" ∷ []) ≡ codes "a" ∷ [])
     × (until_end (codes "a" ∷ codes "--x" ∷ []) ≡ codes "a" ∷ codes "--x" ∷ [])
@@ -273,6 +278,10 @@ edits_of_options = (refl, refl, refl, refl)
 numa_is_off : (is_numa_off three_words ≡ true) × (is_numa_off ((1, OfMap (ExactMap ∷ [])) ∷ []) ≡ false)
 numa_is_off = (refl, refl)
 
+efi_is_added : (is_efi_added three_words ≡ false) × (is_efi_added ((1, NumaOff) ∷ (2, AddEfi) ∷ (3, OfMap []) ∷ []) ≡ true)
+    × (is_numa_off ((1, AddEfi) ∷ []) ≡ false)
+efi_is_added = (refl, refl, refl)
+
 -- the last `exactmap` counts, and the adding map options behind it
 two_behind_it : (last_exact (all_map_options three_words) ≡ Some (1, 2)) × (count_adding (all_map_options three_words) ≡ 2)
     × (count_adding ((1, ExactMap) ∷ (2, Other None) ∷ []) ≡ 0)
@@ -290,27 +299,27 @@ here_or_behind = (refl, refl, refl)
 
 -- a user map wants two adding map options
 abbrev nothing_chosen : Chosen
-nothing_chosen = record { edits = []; crash = no_crash; numa_off = false }
+nothing_chosen = record { edits = []; crash = no_crash; numa_off = false; add_efi = false }
 
 user_maps : (unless_incomplete nothing_chosen (Some (3, 1)) ≡ Err (faults.UserMapInvalid 3))
     × (unless_incomplete nothing_chosen (Some (3, 2)) ≡ Ok nothing_chosen) × (unless_incomplete nothing_chosen None ≡ Ok nothing_chosen)
 user_maps = (refl, refl, refl)
 
 words_with_user_maps : (with_user_map three_words
-    ≡ Ok (record { edits = Clear ∷ Add (range 0 8) 1 ∷ []; crash = no_crash; numa_off = true }))
+    ≡ Ok (record { edits = Clear ∷ Add (range 0 8) 1 ∷ []; crash = no_crash; numa_off = true; add_efi = false }))
     × (with_user_map ((1, OfMap (ExactMap ∷ a_page ∷ [])) ∷ []) ≡ Err (faults.UserMapInvalid 1))
 words_with_user_maps = (refl, refl)
 
--- what contracts see of options: the edits, without the vector that holds them, and whether the SRAT is read
-chosen_options : (options : Options) → options.edits.items ≡ Clear ∷ [] → options.numa_off ≡ true
-    → chosen options ≡ record { edits = Clear ∷ []; crash = crash_view options.crash; numa_off = true }
-chosen_options options edits off = rw (edits, off) refl
+-- what contracts see of options: the edits, without the vector that holds them, whether the SRAT is read, and the EFI map added
+chosen_options : (options : Options) → options.edits.items ≡ Clear ∷ [] → options.numa_off ≡ true → options.add_efi ≡ true
+    → chosen options ≡ record { edits = Clear ∷ []; crash = crash_view options.crash; numa_off = true; add_efi = true }
+chosen_options options edits off efi = rw (edits, off, efi) refl
 
 chosen_nothing : (options : Options) → options.edits.items ≡ [] → crash_view options.crash ≡ no_crash → options.numa_off ≡ false
-    → chosen options ≡ nothing_chosen
-chosen_nothing options edits none on = rw (edits, none, on) refl
+    → options.add_efi ≡ false → chosen options ≡ nothing_chosen
+chosen_nothing options edits none on without = rw (edits, none, on, without) refl
 
-chosen_words : (chosen_by [] ≡ nothing_chosen) × (chosen_by ((2, NumaOff) ∷ []) ≡ record { edits = []; crash = no_crash; numa_off = true })
+chosen_words : (chosen_by [] ≡ nothing_chosen) × (chosen_by ((2, NumaOff) ∷ []) ≡ record { edits = []; crash = no_crash; numa_off = true; add_efi = false })
 chosen_words = (refl, refl)
 
 -- whole lines
@@ -319,11 +328,17 @@ options_of_a_line : options_of (codes "quiet mem=4G memmap=1G!2G\n")
       edits = Remove (range 0x100000000 (2 ^ 64 - 1 - 0x100000000)) 1 ∷ Add (range 0x80000000 0x40000000) 12 ∷ [];
       crash = no_crash;
       numa_off = false;
+      add_efi = false;
     })
 options_of_a_line = refl
 
-nothing_behind_the_end : options_of (codes "numa=off -- mem=0") ≡ Ok (record { edits = []; crash = no_crash; numa_off = true })
+nothing_behind_the_end : options_of (codes "numa=off -- mem=0") ≡ Ok (record { edits = []; crash = no_crash; numa_off = true; add_efi = false })
 nothing_behind_the_end = refl
+
+efi_in_a_line : (options_of (codes "quiet add_efi_memmap\n") ≡ Ok (record nothing_chosen { add_efi = true }))
+    × (options_of (codes "add_efi_memmap=off") ≡ Ok (record nothing_chosen { add_efi = true }))
+    × (options_of (codes "-- add_efi_memmap") ≡ Ok nothing_chosen)
+efi_in_a_line = (refl, refl, refl)
 
 third_word_is_faulty : options_of (codes "quiet mem=2G memmap=1G!4X\n") ≡ Err (faults.BadMemmap 3)
 third_word_is_faulty = refl
@@ -353,6 +368,7 @@ read_three_words : after_all start three_words
       edits = Clear ∷ Add (range 0 8) 1 ∷ [];
       crash = no_crash;
       numa_off = true;
+      add_efi = false;
       user_map = Some (record { word = 1; wanting = 0 });
     }
 read_three_words = refl
@@ -381,7 +397,7 @@ complete_or_not = (refl, refl, refl)
 
 steps_of_a_word : (after_map_options 3 start [] ≡ start)
     × (after_map_options 3 start (ExactMap ∷ a_page ∷ []) ≡ after_map_option 3 (after_map_option 3 start ExactMap) a_page)
-    × (after 2 start NumaOff ≡ record { edits = []; crash = no_crash; numa_off = true; user_map = None })
+    × (after 2 start NumaOff ≡ record { edits = []; crash = no_crash; numa_off = true; add_efi = false; user_map = None })
 steps_of_a_word = (refl, refl, refl)
 
 read_or_fault : (read_on 2 start (Err (faults.BadMem 2)) ≡ Err (faults.BadMem 2))
@@ -403,12 +419,12 @@ nothing_to_keep : (m : Memory) → Keeps {A = Edit} (Err m) [] → ⊥
 nothing_to_keep m wanting = omega arith
 
 abbrev half_read : Memory → Reading
-half_read m = record { edits = Err m; crash = record { plain = None; high = None; low = None }; numa_off = true; user_map = None }
+half_read m = record { edits = Err m; crash = record { plain = None; high = None; low = None }; numa_off = true; add_efi = false; user_map = None }
 
 -- all but the edits it has, also without memory
 at_a_state_without_memory : (m : Memory) → IsAt (half_read m) (after 1 (after_map_option 1 start (Other (Some Clear))) NumaOff)
 at_a_state_without_memory m =
-    record { edits = omega arith; crash = record { plain = refl; high = refl; low = refl }; numa_off = refl; user_map = refl }
+    record { edits = omega arith; crash = record { plain = refl; high = refl; low = refl }; numa_off = refl; add_efi = refl; user_map = refl }
 
 other_numa_off : (m : Memory) → IsAt (half_read m) (after_map_option 1 start (Other (Some Clear))) → ⊥
 other_numa_off m has = let off = has.numa_off in cc off

@@ -17,7 +17,7 @@ use Rattle.boot_options.specs.declared.map_option.MapOption.TheVariants.{ExactMa
 use Rattle.boot_options.specs.MapOptions.{mem_of}
 use Rattle.boot_options.specs.declared.crash.CrashPlain.{CrashPlain}
 use Rattle.boot_options.specs.Crash.{High, IsPlain, Low, Plain, PlainForm, form_of, plain_view}
-use Rattle.boot_options.specs.Options.{Said, OfMap, OfCrash, NumaOff, Chosen, chosen, crash_of, last_said, plain_said, is_closed, line_of, raw_line, map_options_of, memmap_of, of_one, numa_of, or_fault, said_by, name_value_of, said_from, option_words, numbered, all_map_options, edit_of, edits_of, count_adding, or_here, last_exact, chosen_by, unless_incomplete, with_user_map, options_of, HaveRanges, IsNumbered}
+use Rattle.boot_options.specs.Options.{Said, OfMap, OfCrash, NumaOff, AddEfi, Chosen, chosen, crash_of, last_said, plain_said, is_closed, line_of, raw_line, map_options_of, memmap_of, of_one, numa_of, or_fault, said_by, name_value_of, said_from, option_words, numbered, all_map_options, edit_of, edits_of, count_adding, or_here, last_exact, chosen_by, unless_incomplete, with_user_map, options_of, HaveRanges, IsNumbered}
 use Rattle.boot_options.proofs.CrashBounds.{IsSoundForm, sound-form}
 use Rattle.boot_options.proofs.MapOptionBounds.{IsSound, IsSoundOption, AreSound, ifsome-and_then, ifsome-map, ifsome-if, sound-mem, sound-map_options}
 
@@ -25,6 +25,7 @@ abbrev pub IsSoundWord : Said → Type 0
 IsSoundWord (OfMap ps) = AreSound ps
 IsSoundWord (OfCrash form) = IsSoundForm form
 IsSoundWord NumaOff = Unit {0}
+IsSoundWord AddEfi = Unit {0}
 
 -- each word has a number above 0 and says something sound
 abbrev pub AreSoundWords : List (ℕ × Said) → Type 0
@@ -82,14 +83,15 @@ sound-said_by number word =
     (sound-or_fault (faults.BadNuma number) _
     (ifsome-and_then IsSoundWord numa_of word.1 (λ value.
     ifsome-if IsSoundWord (bytes_eq value (codes "off")) (Some NumaOff) None tt tt)))
-    tt)))
+    (ifok-if IsSoundWord (bytes_eq word.0 (codes "add_efi_memmap")) _ _ tt tt))))
 
 pub numbered-said_by : (number : ℕ) (word : List ℕ × Option (List ℕ)) → 0 < number → IfErr (said_by number word) IsLineFault
 numbered-said_by number word above =
     iferr-if IsLineFault (bytes_eq word.0 (codes "mem")) _ _ (numbered-or_fault (faults.BadMem number) _ above)
     (iferr-if IsLineFault (bytes_eq word.0 (codes "memmap")) _ _ (numbered-or_fault (faults.BadMemmap number) _ above)
     (iferr-if IsLineFault (bytes_eq word.0 (codes "crashkernel")) _ _ (numbered-or_fault (faults.BadCrash number) _ above)
-    (iferr-if IsLineFault (bytes_eq word.0 (codes "numa")) _ _ (numbered-or_fault (faults.BadNuma number) _ above) tt)))
+    (iferr-if IsLineFault (bytes_eq word.0 (codes "numa")) _ _ (numbered-or_fault (faults.BadNuma number) _ above)
+    (iferr-if IsLineFault (bytes_eq word.0 (codes "add_efi_memmap")) _ _ tt tt))))
 
 -- a fact of a later step, by what the earlier one gives
 pub ifok-then : {A B : Type 0} (P : A → Type 0) (Q : B → Type 0) (r : Result A OptionFault) (f : A → Result B OptionFault)
@@ -130,6 +132,7 @@ sound-all_map_options ((number, OfMap ps) ∷ said) are =
     sound-numbered number ps (all_map_options said) are.0 are.1 (sound-all_map_options said are.2)
 sound-all_map_options ((number, OfCrash form) ∷ said) are = sound-all_map_options said are.2
 sound-all_map_options ((number, NumaOff) ∷ said) are = sound-all_map_options said are.2
+sound-all_map_options ((number, AddEfi) ∷ said) are = sound-all_map_options said are.2
 
 -- the plain form that counts
 pub sound-last_plain : (said : List (ℕ × Said)) → AreSoundWords said → IfSome (last_said plain_said said) IsPlain
@@ -143,6 +146,7 @@ sound-last_plain (s ∷ said) are = or_this (last_said plain_said said) s.1 (sou
     or_this None (OfCrash (High size)) is sound = tt
     or_this None (OfCrash (Low size)) is sound = tt
     or_this None NumaOff is sound = tt
+    or_this None AddEfi is sound = tt
 
 -- their edits
 pub types-edits : (ps : List (ℕ × MapOption)) → AreNumbered ps → HaveTypes (edits_of ps) × HaveRanges (edits_of ps)

@@ -1,5 +1,5 @@
 -- The number of the kernel that a definition cites by its name.
-use Rattle.std.proofs.Common.{◌≡◌, ℕ, ◌+◌, refl}
+use Rattle.std.proofs.Common.{◌≡◌, ◌+◌, refl}
 use Rattle.boot_options.specs.declared.options.TheConstants.{LONGEST_LINE}
 
 -- `COMMAND_LINE_SIZE` of x86 is 2,048 bytes with the zero byte that ends the line

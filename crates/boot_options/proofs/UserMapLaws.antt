@@ -12,7 +12,7 @@ use Rattle.boot_options.specs.declared.map_option.MapOption.{MapOption}
 use Rattle.boot_options.specs.declared.map_option.MapOption.TheVariants.{ExactMap, Adding, Other}
 use Rattle.boot_options.specs.declared.reading.UserMap.{UserMap}
 use Rattle.boot_options.specs.Crash.{Crash, Plain, High, Low, no_crash}
-use Rattle.boot_options.specs.Options.{Said, OfMap, OfCrash, NumaOff, Chosen, chosen_by, crash_by, line_of, said_from, option_words, numbered, all_map_options, edit_of, edits_of, is_numa_off, count_adding, or_here, last_exact, unless_incomplete, with_user_map, options_of}
+use Rattle.boot_options.specs.Options.{Said, OfMap, OfCrash, NumaOff, AddEfi, Chosen, chosen_by, crash_by, line_of, said_from, option_words, numbered, all_map_options, edit_of, edits_of, is_efi_added, is_numa_off, count_adding, or_here, last_exact, unless_incomplete, with_user_map, options_of}
 use Rattle.boot_options.specs.Reading.{State, start, after, after_form, one_fewer, user_map_behind, after_map_option, after_map_options, after_all, read_all, when_complete, at_line_end}
 
 -- one edit behind others
@@ -36,6 +36,7 @@ edits-all st ((number, OfMap ps) ∷ said) =
     edits-all (after_map_options number st ps) said ∙ edits-map_options number st ps (all_map_options said)
 edits-all st ((number, OfCrash form) ∷ said) = edits-all (after number st (OfCrash form)) said
 edits-all st ((number, NumaOff) ∷ said) = edits-all (after number st NumaOff) said
+edits-all st ((number, AddEfi) ∷ said) = edits-all (after number st AddEfi) said
 
 -- map options say nothing of nodes
 pub numa_off-map_options : (number : ℕ) (st : State) (ps : List MapOption) → (after_map_options number st ps).numa_off ≡ st.numa_off
@@ -50,6 +51,21 @@ numa_off-all st ((number, OfMap ps) ∷ said) =
     ∙ ap (λ (b : Bool). b || is_numa_off said) (numa_off-map_options number st ps)
 numa_off-all st ((number, OfCrash form) ∷ said) = numa_off-all (after number st (OfCrash form)) said
 numa_off-all st ((number, NumaOff) ∷ said) = numa_off-all (after number st NumaOff) said ∙ sym (or-true st.numa_off)
+numa_off-all st ((number, AddEfi) ∷ said) = numa_off-all (after number st AddEfi) said
+
+-- the same of `add_efi_memmap`
+pub add_efi-map_options : (number : ℕ) (st : State) (ps : List MapOption) → (after_map_options number st ps).add_efi ≡ st.add_efi
+add_efi-map_options number st [] = refl
+add_efi-map_options number st (p ∷ ps) = add_efi-map_options number (after_map_option number st p) ps
+
+pub add_efi-all : (st : State) (said : List (ℕ × Said)) → (after_all st said).add_efi ≡ (st.add_efi || is_efi_added said)
+add_efi-all st [] = sym (or-false st.add_efi)
+add_efi-all st ((number, OfMap ps) ∷ said) =
+    add_efi-all (after_map_options number st ps) said
+    ∙ ap (λ (b : Bool). b || is_efi_added said) (add_efi-map_options number st ps)
+add_efi-all st ((number, OfCrash form) ∷ said) = add_efi-all (after number st (OfCrash form)) said
+add_efi-all st ((number, NumaOff) ∷ said) = add_efi-all (after number st NumaOff) said
+add_efi-all st ((number, AddEfi) ∷ said) = add_efi-all (after number st AddEfi) said ∙ sym (or-true st.add_efi)
 
 -- of two values of a form the later one counts
 abbrev pub later : Crash → Crash → Crash
@@ -92,6 +108,8 @@ crash-all st ((number, OfCrash (Low size)) ∷ said) =
     crash-all (after number st (OfCrash (Low size))) said ∙ later-twice (crash_by said) (after_form no_crash (Low size)) st.crash
 crash-all st ((number, NumaOff) ∷ said) =
     crash-all (after number st NumaOff) said ∙ later-twice (crash_by said) no_crash st.crash
+crash-all st ((number, AddEfi) ∷ said) =
+    crash-all (after number st AddEfi) said ∙ later-twice (crash_by said) no_crash st.crash
 
 pub crash-start : (said : List (ℕ × Said)) → (after_all start said).crash ≡ crash_by said
 crash-start said = crash-all start said ∙ later-nothing (crash_by said)
@@ -112,6 +130,7 @@ user_map-all st ((number, OfMap ps) ∷ said) =
     user_map-all (after_map_options number st ps) said ∙ user_map-map_options number st ps (all_map_options said)
 user_map-all st ((number, OfCrash form) ∷ said) = user_map-all (after number st (OfCrash form)) said
 user_map-all st ((number, NumaOff) ∷ said) = user_map-all (after number st NumaOff) said
+user_map-all st ((number, AddEfi) ∷ said) = user_map-all (after number st AddEfi) said
 
 -- the adding map options that a user map wants still, that many map options later
 abbrev pub fewer : ℕ → UserMap → UserMap
@@ -152,6 +171,7 @@ at_line_end-with_user_map said =
       edits-all start said,
       crash-start said,
       numa_off-all start said,
+      add_efi-all start said,
       user_map-all start said,
       map_behind-wanted (all_map_options said) None,
     )

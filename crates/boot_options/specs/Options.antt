@@ -1,5 +1,5 @@
 -- What a command line says of the map, word by word (`parse_early_param`, `next_arg` of
--- lib/cmdline.c, and the handlers of `mem=`, `memmap=`, `crashkernel=` and `numa=`).
+-- lib/cmdline.c, and the handlers of `mem=`, `memmap=`, `crashkernel=`, `numa=` and `add_efi_memmap`).
 use Rattle.std.specs.Prelude.{ℕ, ◌+◌, ◌%◌, ◌<◌, ◌==◌, ◌⊎◌, IsSome, Bool, true, false, nat_lt, if◌then◌else◌, Option, Some, None, List, [], ◌∷◌, map, length, codes, Result, Ok, Err}
 use Rattle.std.specs.Option.{option_map, option_and_then, option_or}
 use Rattle.std.specs.List.{filter_map}
@@ -41,6 +41,7 @@ pub data Said : Type 0 where
   OfMap : (options : List MapOption) → Said
   OfCrash : (form : Form) → Said
   NumaOff : Said
+  AddEfi : Said
 
 -- the value of `memmap=` is one or more map options with commas between
 abbrev pub map_options_of : List (List ℕ) → Option (List MapOption)
@@ -67,14 +68,15 @@ or_fault fault None = Err fault
 or_fault fault (Some said) = Ok said
 
 -- by the name of the word; a word of another name says nothing. A word of one of these names without
--- a value is malformed
+-- a value is malformed, but for `add_efi_memmap`, which says the same with any value and without one (`setup_add_efi_memmap`)
 abbrev pub said_by : ℕ → List ℕ × Option (List ℕ) → Result Said OptionFault
 said_by number word =
     if bytes_eq word.0 (codes "mem") then or_fault (faults.BadMem number) (option_map of_one (option_and_then mem_of word.1)) else
     (if bytes_eq word.0 (codes "memmap") then or_fault (faults.BadMemmap number) (option_and_then memmap_of word.1) else
     (if bytes_eq word.0 (codes "crashkernel") then or_fault (faults.BadCrash number) (option_and_then crash_of word.1) else
     (if bytes_eq word.0 (codes "numa") then or_fault (faults.BadNuma number) (option_and_then numa_of word.1) else
-    Ok (OfMap []))))
+    (if bytes_eq word.0 (codes "add_efi_memmap") then Ok AddEfi else
+    Ok (OfMap [])))))
 
 -- the name of a word stands before its first `=`, the value behind it, without its quotation marks
 abbrev pub at_cut : List ℕ → Option (List ℕ × List ℕ) → List ℕ × Option (List ℕ)
@@ -110,6 +112,7 @@ all_map_options [] = []
 all_map_options ((number, OfMap ps) ∷ said) = numbered number ps (all_map_options said)
 all_map_options ((number, OfCrash form) ∷ said) = all_map_options said
 all_map_options ((number, NumaOff) ∷ said) = all_map_options said
+all_map_options ((number, AddEfi) ∷ said) = all_map_options said
 
 -- the edit of a map option, where it makes one
 abbrev pub edit_of : MapOption → Option Edit
@@ -126,6 +129,15 @@ is_numa_off [] = false
 is_numa_off ((number, OfMap ps) ∷ said) = is_numa_off said
 is_numa_off ((number, OfCrash form) ∷ said) = is_numa_off said
 is_numa_off ((number, NumaOff) ∷ said) = true
+is_numa_off ((number, AddEfi) ∷ said) = is_numa_off said
+
+-- some word says `add_efi_memmap`
+abbrev pub is_efi_added : List (ℕ × Said) → Bool
+is_efi_added [] = false
+is_efi_added ((number, OfMap ps) ∷ said) = is_efi_added said
+is_efi_added ((number, OfCrash form) ∷ said) = is_efi_added said
+is_efi_added ((number, NumaOff) ∷ said) = is_efi_added said
+is_efi_added ((number, AddEfi) ∷ said) = true
 
 -- the value of one form, where the word says it
 abbrev pub plain_said : Said → Option PlainForm
@@ -134,6 +146,7 @@ plain_said (OfCrash (Plain form)) = Some form
 plain_said (OfCrash (High size)) = None
 plain_said (OfCrash (Low size)) = None
 plain_said NumaOff = None
+plain_said AddEfi = None
 
 abbrev pub high_said : Said → Option ℕ
 high_said (OfMap ps) = None
@@ -141,6 +154,7 @@ high_said (OfCrash (Plain form)) = None
 high_said (OfCrash (High size)) = Some size
 high_said (OfCrash (Low size)) = None
 high_said NumaOff = None
+high_said AddEfi = None
 
 abbrev pub low_said : Said → Option ℕ
 low_said (OfMap ps) = None
@@ -148,6 +162,7 @@ low_said (OfCrash (Plain form)) = None
 low_said (OfCrash (High size)) = None
 low_said (OfCrash (Low size)) = Some size
 low_said NumaOff = None
+low_said AddEfi = None
 
 -- the last word that says it counts
 abbrev pub last_said : {A : Type 0} → (Said → Option A) → List (ℕ × Said) → Option A
@@ -181,12 +196,23 @@ pub record Chosen : Type 0 where
   pub edits : List Edit
   pub crash : Crash
   pub numa_off : Bool
+  pub add_efi : Bool
 
 abbrev pub chosen : Options → Chosen
-chosen options = record { edits = options.edits.items; crash = crash_view options.crash; numa_off = options.numa_off }
+chosen options = record {
+  edits = options.edits.items;
+  crash = crash_view options.crash;
+  numa_off = options.numa_off;
+  add_efi = options.add_efi;
+}
 
 abbrev pub chosen_by : List (ℕ × Said) → Chosen
-chosen_by said = record { edits = edits_of (all_map_options said); crash = crash_by said; numa_off = is_numa_off said }
+chosen_by said = record {
+  edits = edits_of (all_map_options said);
+  crash = crash_by said;
+  numa_off = is_numa_off said;
+  add_efi = is_efi_added said;
+}
 
 -- a user map wants two adding map options behind the last `exactmap`
 abbrev pub unless_incomplete : Chosen → Option (ℕ × ℕ) → Result Chosen OptionFault

@@ -14,16 +14,17 @@ use Rattle.boot_options.specs.declared.reading.Reading.{Reading}
 use Rattle.boot_options.specs.declared.reading.UserMap.{UserMap}
 use Rattle.boot_options.specs.Crash.{Crash, Form, Plain, High, Low, no_crash}
 use Rattle.boot_options.specs.Kept.{Keeps, KeepsLast}
-use Rattle.boot_options.specs.Options.{Said, OfMap, OfCrash, NumaOff, Chosen, edit_of}
+use Rattle.boot_options.specs.Options.{Said, OfMap, OfCrash, NumaOff, AddEfi, Chosen, edit_of}
 
 pub record State : Type 0 where
   pub edits : List Edit
   pub crash : Crash
   pub numa_off : Bool
+  pub add_efi : Bool
   pub user_map : Option UserMap
 
 abbrev pub start : State
-start = record { edits = []; crash = no_crash; numa_off = false; user_map = None }
+start = record { edits = []; crash = no_crash; numa_off = false; add_efi = false; user_map = None }
 
 -- one adding map option fewer is wanted
 abbrev pub one_fewer : UserMap → UserMap
@@ -39,6 +40,7 @@ after_map_option number st p = record {
   edits = st.edits ++ cons_option (edit_of p) [];
   crash = st.crash;
   numa_off = st.numa_off;
+  add_efi = st.add_efi;
   user_map = user_map_behind number p st.user_map;
 }
 
@@ -55,8 +57,17 @@ after_form c (Low size) = record { plain = c.plain; high = c.high; low = Some si
 abbrev pub after : ℕ → State → Said → State
 after number st (OfMap ps) = after_map_options number st ps
 after number st (OfCrash form) =
-    record { edits = st.edits; crash = after_form st.crash form; numa_off = st.numa_off; user_map = st.user_map }
-after number st NumaOff = record { edits = st.edits; crash = st.crash; numa_off = true; user_map = st.user_map }
+    record {
+      edits = st.edits;
+      crash = after_form st.crash form;
+      numa_off = st.numa_off;
+      add_efi = st.add_efi;
+      user_map = st.user_map;
+    }
+after number st NumaOff =
+    record { edits = st.edits; crash = st.crash; numa_off = true; add_efi = st.add_efi; user_map = st.user_map }
+after number st AddEfi =
+    record { edits = st.edits; crash = st.crash; numa_off = st.numa_off; add_efi = true; user_map = st.user_map }
 
 abbrev pub after_all : State → List (ℕ × Said) → State
 after_all st [] = st
@@ -80,7 +91,8 @@ when_complete chosen None = Ok chosen
 when_complete chosen (Some m) = if m.wanting == 0 then Ok chosen else Err (UserMapInvalid m.word)
 
 abbrev pub at_line_end : State → Result Chosen OptionFault
-at_line_end st = when_complete (record { edits = st.edits; crash = st.crash; numa_off = st.numa_off }) st.user_map
+at_line_end st =
+    when_complete (record { edits = st.edits; crash = st.crash; numa_off = st.numa_off; add_efi = st.add_efi }) st.user_map
 
 -- what is kept of the crash area, but for memory for ranges
 pub record KeepsCrash (r : CrashRead) (c : Crash) : Type 0 where
@@ -93,6 +105,7 @@ pub record IsAt (r : Reading) (st : State) : Type 0 where
   pub edits : Keeps r.edits st.edits
   pub crash : KeepsCrash r.crash st.crash
   pub numa_off : r.numa_off ≡ st.numa_off
+  pub add_efi : r.add_efi ≡ st.add_efi
   pub user_map : r.user_map ≡ st.user_map
 
 -- there is such a state, and the reader is at it

@@ -2,15 +2,15 @@
 //!
 //! The kernel's own options for memory are words of one line: `mem=` ends RAM, `memmap=` adds
 //! ranges, takes them away or changes their type, `crashkernel=` asks for an area that is kept for
-//! a kernel after a crash, `numa=off` has the SRAT not used. This crate follows `next_arg` and
-//! `parse_args` for the words, `memparse` for the numbers, `parse_memopt` and `parse_memmap_one` of
+//! a kernel after a crash, `numa=off` has the SRAT not used, `add_efi_memmap` adds the firmware's EFI map. This crate
+//! follows `next_arg` and `parse_args` for the words, `memparse` for the numbers, `parse_memopt` and `parse_memmap_one` of
 //! arch/x86/kernel/e820.c and `parse_crashkernel` of kernel/crash_core.c for the values. A malformed
 //! value is a fault here, where the kernel warns or says nothing; a word of another name is passed
 //! over.
 //!
 //! [`read_options`] gives [`Options`]: the [`Edit`]s of the map in the order of the line, which
 //! `e820_sanitise` applies, the last value of each form of `crashkernel=`, and whether `numa=off`
-//! was there. Its contract says value and fault exactly, by `options_of` of `specs/Options.antt`:
+//! and `add_efi_memmap` were there. Its contract says value and fault exactly, by `options_of` of `specs/Options.antt`:
 //! what each word says alone, the first fault by a walk over the words, and what all of them come
 //! to. `specs/MapOptions.antt` has the values of `mem=` and `memmap=`, `specs/Crash.antt` those of
 //! `crashkernel=`; `specs/Reading.antt` and `specs/Kept.antt` serve the proof alone.

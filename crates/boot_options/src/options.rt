@@ -30,6 +30,8 @@ pub struct Options {
     pub crash: CrashOption,
     /// Whether `numa=off` stands in the line: the SRAT isn't used then.
     pub numa_off: bool,
+    /// Whether `add_efi_memmap` stands in the line: the entries of the EFI map come into the map of memory then.
+    pub add_efi: bool,
 }
 
 /// The options of the bytes of a command line's file, or the first fault: `TooLong`, then
@@ -89,6 +91,7 @@ fn finish(reading: Reading) -> Result<Options, OptionFault>
         edits: reading.edits?,
         crash: finish_crash(reading.crash)?,
         numa_off: reading.numa_off,
+        add_efi: reading.add_efi,
     })
 }
 

@@ -31,6 +31,7 @@ pub struct Reading {
     pub edits: Result<Vec<Edit>, Memory>,
     pub crash: CrashRead,
     pub numa_off: bool,
+    pub add_efi: bool,
     pub user_map: Option<UserMap>,
 }
 
@@ -64,6 +65,7 @@ pub fn read_words(alloc: Global, line: &[u8]) -> Result<Reading, OptionFault>
             low: None,
         },
         numa_off: false,
+        add_efi: false,
         user_map: None,
     };
     let mut rest = line;
@@ -114,6 +116,8 @@ fn read_word(
             return Err(OptionFault::BadNuma { word: number });
         };
         reading.numa_off = true;
+    } else if name == b"add_efi_memmap".as_slice() {
+        reading.add_efi = true;
     }
     Ok(())
 }

@@ -1,7 +1,7 @@
 -- Small maps, computed from their entries.
 use Rattle.std.proofs.Common.{◌≡◌, ℕ, ◌^◌, ◌<◌, ◌+◌, ◌==◌, Bool, true, false, ◌&&◌, ◌||◌, nat_lt, List, [], ◌∷◌, refl, arith}
 use Rattle.std.proofs.lemmas.Bool.Decides.{nat_tests}
-use Rattle.e820_model.specs.Claims.{Claims, no_claims, is_covered_by, EndInSpace, greatest_below, greatest, type_of, settled, with_claims, claims_of_entries, edited, HasTypes, HaveTypes, after_edits, first_page, bios_area, bios_trimmed, of_zero_page, with_extension, with_edits, finished}
+use Rattle.e820_model.specs.Claims.{Claims, no_claims, is_covered_by, EndInSpace, greatest_below, greatest, type_of, settled, with_claims, claims_of_entries, edited, HasTypes, HaveTypes, after_edits, first_page, bios_area, bios_trimmed, of_zero_page, with_extension, with_options, finished}
 use Rattle.e820_model.specs.declared.entry.Entry.{Entry}
 use Rattle.e820_model.specs.declared.edit.Edit.{Edit}
 use Rattle.e820_model.specs.declared.edit.Edit.TheVariants as edit
@@ -155,13 +155,17 @@ bios_area_taken = refl
 below_bios_area_kept : bios_trimmed (claims_of_entries ram_and_acpi) 0x9FFFF 1 ≡ true
 below_bios_area_kept = refl
 
--- the whole way: RAM up to 2 MiB with ACPI data in it; an extension that has a page at 1.5 MiB as ACPI NVS; and
--- `memmap=516K$1M`, which reserves where ACPI data was and one page behind it
+-- the whole way: RAM up to 2 MiB with ACPI data in it; an extension that has a page at 1.5 MiB as ACPI NVS;
+-- `memmap=516K$1M`, which reserves where ACPI data was and one page behind it; and an EFI map that has RAM up to 2 MiB, and ACPI data
+-- in the page at 0x190000
 abbrev extension : List Entry
 extension = record { addr = 0x180000; size = 0x1000; kind = 4 } ∷ []
 
 abbrev edits : List Edit
 edits = edit.Add (record { base = 0x100000; size = 0x81000 }) 2 ∷ []
+
+abbrev efi : List Entry
+efi = record { addr = 0; size = 0x200000; kind = 1 } ∷ record { addr = 0x190000; size = 0x1000; kind = 3 } ∷ []
 
 abbrev first_claims : Claims
 first_claims = of_zero_page ram_and_acpi
@@ -181,13 +185,16 @@ extended x t u known small is_in none =
     greatest_is (with_claims first_claims (claims_of_entries extension) x) u small (λ some. rw known (is_in some))
     (λ k higher below. rw known (none k higher below))
 
+abbrev third_claims : Claims
+third_claims = with_claims (after_edits edits second_claims) (claims_of_entries efi)
+
 changed : (x t u : ℕ) → type_of (with_claims first_claims (claims_of_entries extension)) x ≡ t → u < 2 ^ 32
-    → (0 < u → edited (edit.Add (record { base = 0x100000; size = 0x81000 }) 2) (λ y. alone t) x u ≡ true)
-    → ((k : ℕ) → u < k → k < 2 ^ 32 → edited (edit.Add (record { base = 0x100000; size = 0x81000 }) 2) (λ y. alone t) x k ≡ false)
-    → type_of (after_edits edits second_claims) x ≡ u
+    → (0 < u → (edited (edit.Add (record { base = 0x100000; size = 0x81000 }) 2) (λ y. alone t) x u || claims_of_entries efi x u) ≡ true)
+    → ((k : ℕ) → u < k → k < 2 ^ 32
+    → (edited (edit.Add (record { base = 0x100000; size = 0x81000 }) 2) (λ y. alone t) x k || claims_of_entries efi x k) ≡ false)
+    → type_of third_claims x ≡ u
 changed x t u known small is_in none =
-    greatest_is (after_edits edits second_claims x) u small (λ some. rw known (is_in some))
-    (λ k higher below. rw known (none k higher below))
+    greatest_is (third_claims x) u small (λ some. rw known (is_in some)) (λ k higher below. rw known (none k higher below))
 
 -- the zero page alone: ACPI data at 1 MiB, RAM not beside it
 zero_page_examples : (of_zero_page ram_and_acpi 0x100000 3 ≡ true) × (of_zero_page ram_and_acpi 0x100000 1 ≡ false)
@@ -206,20 +213,42 @@ extension_wins = rw nvs_with_extension refl
 ram_is_settled_away : with_extension extension first_claims 0x180000 1 ≡ false
 ram_is_settled_away = rw nvs_with_extension refl
 
-nvs_stays : type_of (after_edits edits second_claims) 0x180000 ≡ 4
+nvs_stays : type_of third_claims 0x180000 ≡ 4
 nvs_stays = changed 0x180000 4 4 nvs_with_extension (omega arith) (λ some. refl) (λ k higher small. grind (arith, nat_tests))
 
-option_does_not_lower : with_edits edits second_claims 0x180000 2 ≡ false
+option_does_not_lower : with_options edits efi second_claims 0x180000 2 ≡ false
 option_does_not_lower = rw nvs_stays refl
 
-nvs_after_the_edits : with_edits edits second_claims 0x180000 4 ≡ true
+-- nor does the EFI map lower a type
+nvs_after_the_edits : with_options edits efi second_claims 0x180000 4 ≡ true
 nvs_after_the_edits = rw nvs_stays refl
 
-nvs_in_the_map : finished ram_and_acpi extension edits 0x180000 4 ≡ true
+nvs_in_the_map : finished ram_and_acpi extension edits efi 0x180000 4 ≡ true
 nvs_in_the_map = rw nvs_stays refl
 
+-- what it has as ACPI data was RAM before
+ram_before : type_of (with_claims first_claims (claims_of_entries extension)) 0x190000 ≡ 1
+ram_before =
+    let ram : type_of (claims_of_entries ram_and_acpi) 0x190000 ≡ 1 =
+    greatest_is (claims_of_entries ram_and_acpi 0x190000) 1 (omega arith) (λ some. refl) (λ k higher small. grind (arith, nat_tests)) in
+    extended 0x190000 1 1 ram (omega arith) (λ some. refl) (λ k higher small. grind (arith, nat_tests))
+
+efi_wins : (finished ram_and_acpi extension edits efi 0x190000 3 ≡ true) × (finished ram_and_acpi extension edits efi 0x190000 1 ≡ false)
+efi_wins =
+    let acpi : type_of third_claims 0x190000 ≡ 3 =
+    changed 0x190000 1 3 ram_before (omega arith) (λ some. refl) (λ k higher small. grind (arith, nat_tests)) in
+    (rw acpi refl, rw acpi refl)
+
+-- the EFI map comes in behind the edits: `memmap=exactmap` clears what firmware's table says, and none of it
+behind_the_edits : (entries more : List Entry) → finished entries more (edit.Clear ∷ []) efi 0x190000 3 ≡ true
+behind_the_edits entries more =
+    let acpi : type_of (with_claims no_claims (claims_of_entries efi)) 0x190000 ≡ 3 =
+    greatest_is (with_claims no_claims (claims_of_entries efi) 0x190000) 3 (omega arith) (λ some. refl)
+    (λ k higher small. grind (arith, nat_tests)) in
+    rw acpi refl
+
 -- the first byte is RAM up to the trim, and then the BIOS's; 640 KiB is RAM, and then nothing
-ram_until_the_trim : (x : ℕ) → x < 0x100000 → type_of (after_edits edits second_claims) x ≡ 1
+ram_until_the_trim : (x : ℕ) → x < 0x100000 → type_of third_claims x ≡ 1
 ram_until_the_trim x low =
     let ram : type_of (claims_of_entries ram_and_acpi) x ≡ 1 =
     greatest_is (claims_of_entries ram_and_acpi x) 1 (omega arith) (λ some. grind (arith, nat_tests))
@@ -228,23 +257,23 @@ ram_until_the_trim x low =
     extended x 1 1 ram (omega arith) (λ some. grind (arith, nat_tests)) (λ k higher small. grind (arith, nat_tests)) in
     changed x 1 1 still (omega arith) (λ some. grind (arith, nat_tests)) (λ k higher small. grind (arith, nat_tests))
 
-first_byte_in_the_map : (finished ram_and_acpi extension edits 0 2 ≡ true) × (finished ram_and_acpi extension edits 0 1 ≡ false)
+first_byte_in_the_map : (finished ram_and_acpi extension edits efi 0 2 ≡ true) × (finished ram_and_acpi extension edits efi 0 1 ≡ false)
 first_byte_in_the_map =
-    let ram : type_of (after_edits edits second_claims) 0 ≡ 1 = ram_until_the_trim 0 (omega arith) in (rw ram refl, rw ram refl)
+    let ram : type_of third_claims 0 ≡ 1 = ram_until_the_trim 0 (omega arith) in (rw ram refl, rw ram refl)
 
-no_ram_from_640K : finished ram_and_acpi extension edits 0xA0000 1 ≡ false
-no_ram_from_640K = let ram : type_of (after_edits edits second_claims) 0xA0000 ≡ 1 = ram_until_the_trim 0xA0000 (omega arith) in rw ram refl
+no_ram_from_640K : finished ram_and_acpi extension edits efi 0xA0000 1 ≡ false
+no_ram_from_640K = let ram : type_of third_claims 0xA0000 ≡ 1 = ram_until_the_trim 0xA0000 (omega arith) in rw ram refl
 
-ram_below_640K : finished ram_and_acpi extension edits 0x9FFFF 1 ≡ true
-ram_below_640K = let ram : type_of (after_edits edits second_claims) 0x9FFFF ≡ 1 = ram_until_the_trim 0x9FFFF (omega arith) in rw ram refl
+ram_below_640K : finished ram_and_acpi extension edits efi 0x9FFFF 1 ≡ true
+ram_below_640K = let ram : type_of third_claims 0x9FFFF ≡ 1 = ram_until_the_trim 0x9FFFF (omega arith) in rw ram refl
 
--- options go before the trim: RAM that one adds from 0 to 1 MiB isn't RAM in the first page, nor from 640 KiB on
+-- options and the EFI map go before the trim: RAM that they add from 0 to 1 MiB isn't RAM in the first page, nor from 640 KiB on
 trimmed_of_ram : (c : Claims) → (bios_trimmed c 0 1 ≡ false) × (bios_trimmed c 0xA0000 1 ≡ false)
 trimmed_of_ram c = (grind (arith, nat_tests), grind (arith, nat_tests))
 
 abbrev ram_added : List Edit
 ram_added = edit.Add (record { base = 0; size = 0x100000 }) 1 ∷ []
 
-options_before_the_trim : (entries more : List Entry) → (finished entries more ram_added 0 1 ≡ false)
-    × (finished entries more ram_added 0xA0000 1 ≡ false)
-options_before_the_trim entries more = trimmed_of_ram (with_edits ram_added (with_extension more (of_zero_page entries)))
+options_before_the_trim : (entries more : List Entry) → (finished entries more ram_added efi 0 1 ≡ false)
+    × (finished entries more ram_added efi 0xA0000 1 ≡ false)
+options_before_the_trim entries more = trimmed_of_ram (with_options ram_added efi (with_extension more (of_zero_page entries)))

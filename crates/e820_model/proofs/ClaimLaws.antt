@@ -6,7 +6,7 @@ use Rattle.std.proofs.lemmas.Bool.{cases_lt, cases_Bool}
 use Rattle.std.proofs.Math.Bool.{or_assoc}
 use Rattle.address_runs.specs.Runs.{RunOf, Tells, run_end, lies_in, value_at, AreRuns, IsRunsOf}
 use Rattle.address_runs.proofs.RunsLaws.{inside, behind, none_below, rest_from, by_address, one_list}
-use Rattle.e820_model.specs.Claims.{Types, Claims, greatest_below, greatest, type_of, settled, with_claims, after_edits, of_zero_page, with_extension, bios_trimmed, finished}
+use Rattle.e820_model.specs.Claims.{Types, Claims, greatest_below, greatest, type_of, settled, with_claims, claims_of_entries, after_edits, of_zero_page, with_extension, bios_trimmed, finished}
 use Rattle.e820_model.specs.Map.{some_kind, kinds, same_kind, map_of, claims_of, AreClaims}
 use Rattle.e820_model.specs.declared.entry.Entry.{Entry}
 use Rattle.e820_model.specs.declared.edit.Edit.{Edit}
@@ -117,11 +117,19 @@ pub bios_trimmed_one : (c : Claims) (x j k : ℕ) → ((i l : ℕ) → c x i ≡
 bios_trimmed_one c x j k one at_j at_k =
     trim_one _ _ (c x 1) (c x j) (c x k) j k (one j k) (λ a b. sym (one 1 j a b)) (λ a b. sym (one 1 k a b)) at_j at_k
 
-pub finished_one : (entries extension : List Entry) (edits : List Edit) (x j k : ℕ)
-    → finished entries extension edits x j ≡ true → finished entries extension edits x k ≡ true → j ≡ k
-finished_one entries extension edits x j k at_j at_k =
-    let before : Claims = after_edits edits (with_extension extension (of_zero_page entries)) in
+pub finished_one : (entries extension : List Entry) (edits : List Edit) (added : List Entry) (x j k : ℕ)
+    → finished entries extension edits added x j ≡ true → finished entries extension edits added x k ≡ true → j ≡ k
+finished_one entries extension edits added x j k at_j at_k =
+    let before : Claims = with_claims (after_edits edits (with_extension extension (of_zero_page entries))) (claims_of_entries added) in
     bios_trimmed_one (settled before) x j k (settled_one before x) at_j at_k
+
+-- where nothing is added the claims are those of the edits
+pub none_added : (entries extension : List Entry) (edits : List Edit)
+    → finished entries extension edits [] ≡ bios_trimmed (settled (after_edits edits (with_extension extension (of_zero_page entries))))
+none_added entries extension edits =
+    let before : Claims = after_edits edits (with_extension extension (of_zero_page entries)) in
+    let same : with_claims before (claims_of_entries []) ≡ before = λ i x k. or-false (before x k) i in
+    ap (λ (c : Claims). bios_trimmed (settled c)) same
 
 -- lists of runs read as claims
 

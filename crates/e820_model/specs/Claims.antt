@@ -1,4 +1,4 @@
--- What the firmware's entries, the extension and the options claim of one address: a set of types.
+-- What the firmware's entries, the extension, the options and the EFI map claim of one address: a set of types.
 use Rattle.std.specs.Prelude.{ℕ, zero, suc, ◌+◌, ◌^◌, ◌==◌, Bool, false, ◌&&◌, ◌||◌, ◌<◌, not, nat_lt, if◌then◌else◌, List, [], ◌∷◌}
 use Rattle.bm_base.specs.Extent.{Extent, covers}
 use Rattle.bm_base.specs.declared.frame.TheConstants.{FRAME_SIZE}
@@ -99,11 +99,13 @@ of_zero_page entries = settled (claims_of_entries entries)
 abbrev pub with_extension : List Entry → Claims → Claims
 with_extension extension c = settled (with_claims c (claims_of_entries extension))
 
--- steps 3 and 4: the options' edits in their order, and the table settles (`e820__finish_early_params`)
-abbrev pub with_edits : List Edit → Claims → Claims
-with_edits edits c = settled (after_edits edits c)
+-- steps 3 to 5: the options' edits in their order, then the entries of the firmware's EFI map that an option adds come in
+-- (`do_add_efi_memmap`), and the table settles (`e820__finish_early_params`)
+abbrev pub with_options : List Edit → List Entry → Claims → Claims
+with_options edits added c = settled (with_claims (after_edits edits c) (claims_of_entries added))
 
--- the claims of the finished map
-abbrev pub finished : List Entry → List Entry → List Edit → Claims
-finished entries extension edits =
-    bios_trimmed (with_edits edits (with_extension extension (of_zero_page entries)))
+-- the claims of the finished map: of the zero page's entries, the extension's, the options' edits, and the entries of the EFI map that
+-- are added; none of these where there is no such map, or no option asks for it
+abbrev pub finished : List Entry → List Entry → List Edit → List Entry → Claims
+finished entries extension edits added =
+    bios_trimmed (with_options edits added (with_extension extension (of_zero_page entries)))

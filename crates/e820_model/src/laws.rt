@@ -1,9 +1,9 @@
 //! Laws of the definitions, each the contract of a function that does nothing. They say what the definitions come to
 //! in the field's words: the greatest type wins, the table may settle at any time, a map is a list of runs.
 
-ghost use Rattle.std.specs.Prelude.{◌≡◌, ℕ, ◌^◌, ◌<◌, ◌≤◌, true, Option, None, List};
+ghost use Rattle.std.specs.Prelude.{◌≡◌, ℕ, ◌^◌, ◌<◌, ◌≤◌, true, Option, None, List, []};
 ghost use Rattle.address_runs.specs.Runs.{IsRunsOf};
-ghost use Rattle.e820_model.specs.Claims.{Types, Claims, greatest, type_of, settled, finished};
+ghost use Rattle.e820_model.specs.Claims.{Types, Claims, after_edits, bios_trimmed, finished, greatest, of_zero_page, settled, type_of, with_extension};
 ghost use Rattle.e820_model.specs.Map.{kinds, map_of};
 ghost use Rattle.e820_model.specs.declared.edit.Edit.{Edit as AnyEdit};
 ghost use Rattle.e820_model.specs.declared.entry.Entry.{Entry as AnyEntry};
@@ -21,9 +21,15 @@ pub fn settled_type()
 
 /// A law: an address of the finished map has one claim at most, which is its type.
 pub fn one_claim()
-    ensures { (entries extension : List AnyEntry) (edits : List AnyEdit) (x j k : ℕ) →
-        finished entries extension edits x j ≡ true → finished entries extension edits x k ≡ true →
+    ensures { (entries extension : List AnyEntry) (edits : List AnyEdit) (added : List AnyEntry) (x j k : ℕ) →
+        finished entries extension edits added x j ≡ true → finished entries extension edits added x k ≡ true →
         j ≡ k }
+{}
+
+/// A law: where no entries of an EFI map are added, the options' edits alone make the finished map.
+pub fn none_added()
+    ensures { (entries extension : List AnyEntry) (edits : List AnyEdit) →
+        finished entries extension edits [] ≡ bios_trimmed (settled (after_edits edits (with_extension extension (of_zero_page entries)))) }
 {}
 
 /// A law: the map is the list of runs of the types, where no address from 2^64 on has one.

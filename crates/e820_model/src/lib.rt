@@ -1,8 +1,8 @@
 //! The words in which the firmware's map is spoken of, by every layer above.
 //!
 //! Firmware hands the kernel a table of entries (`struct boot_e820_entry`): ranges with a type. They
-//! may overlap and come in any order, an extension may follow, and options edit them. What holds of
-//! an address is a set of claims (`specs/Claims.antt`), of which the greatest is its type; the map
+//! may overlap and come in any order, an extension may follow, options edit them, and one adds what UEFI's own
+//! map says. What holds of an address is a set of claims (`specs/Claims.antt`), of which the greatest is its type; the map
 //! is the list of runs of one type (`specs/Map.antt`), of which a kernel's table has room for
 //! [`E820_MAX_ENTRIES`]; a frame of which every byte is memory is usable (`specs/Usable.antt`).
 //!
@@ -19,7 +19,7 @@ mod types;
 
 pub use edit::Edit;
 pub use entry::Entry;
-pub use laws::{greatest_is_greatest, map_is_runs, one_claim, settled_type};
+pub use laws::{greatest_is_greatest, map_is_runs, none_added, one_claim, settled_type};
 pub use room::E820_MAX_ENTRIES;
 pub use run::Run;
 pub use types::{

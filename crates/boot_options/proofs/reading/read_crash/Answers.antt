@@ -16,5 +16,6 @@ returns-in-Some-High c =
       edits = at.edits;
       crash = record { plain = at.crash.plain; high = refl; low = at.crash.low };
       numa_off = at.numa_off;
+      add_efi = at.add_efi;
       user_map = at.user_map;
     })

@@ -4,7 +4,7 @@ use Rattle.std.specs.Option.{MatchOption, option_map, option_and_then}
 use denote.Bor.{Bor}
 use Rattle.boot_options.specs.declared.map_option.MapOption.{MapOption}
 use Rattle.boot_options.specs.MapOptions.{mem_of}
-use Rattle.boot_options.proofs.SaidLaws.{compared, said-mem, said-memmap, said-crash, said-numa, said-other}
+use Rattle.boot_options.proofs.SaidLaws.{compared, said-mem, said-memmap, said-crash, said-numa, said-efi, said-other}
 use Rattle.boot_options.proofs.reading.read_word.Goals as goal
 
 -- what `mem=` says, where it has a value
@@ -31,13 +31,24 @@ returns-then-eq-3 c =
     (compared _ _ _ _ c.as_slice-else-eq-2.ensures c.if-eq-3.ensures))
     (c.read_crash.ensures st at)
 
-pub returns-else-eq-4 : goal.returns-else-eq-4
-returns-else-eq-4 c =
+pub returns-then-eq-5 : goal.returns-then-eq-5
+returns-then-eq-5 c =
+    λ st at. rw (said-efi c.args.number c.args.word.now _ _ c.name_and_value.ensures
+    (compared _ _ _ _ c.as_slice.ensures c.if-eq.ensures)
+    (compared _ _ _ _ c.as_slice-else-eq.ensures c.if-eq-2.ensures)
+    (compared _ _ _ _ c.as_slice-else-eq-2.ensures c.if-eq-3.ensures)
+    (compared _ _ _ _ c.as_slice-else-eq-3.ensures c.if-eq-4.ensures)
+    (compared _ _ _ _ c.as_slice-else-eq-4.ensures c.if-eq-5.ensures))
+    (record { edits = at.edits; crash = at.crash; numa_off = at.numa_off; add_efi = refl; user_map = at.user_map })
+
+pub returns-else-eq-5 : goal.returns-else-eq-5
+returns-else-eq-5 c =
     λ st at. rw (said-other c.args.number c.args.word.now _ _ c.name_and_value.ensures
     (compared _ _ _ _ c.as_slice.ensures c.if-eq.ensures)
     (compared _ _ _ _ c.as_slice-else-eq.ensures c.if-eq-2.ensures)
     (compared _ _ _ _ c.as_slice-else-eq-2.ensures c.if-eq-3.ensures)
-    (compared _ _ _ _ c.as_slice-else-eq-3.ensures c.if-eq-4.ensures)) at
+    (compared _ _ _ _ c.as_slice-else-eq-3.ensures c.if-eq-4.ensures)
+    (compared _ _ _ _ c.as_slice-else-eq-4.ensures c.if-eq-5.ensures)) at
 
 pub returns-in-Some : goal.returns-in-Some
 returns-in-Some c =
@@ -57,4 +68,4 @@ returns-in-Some-off c =
     (compared _ _ _ _ c.as_slice-else-eq.ensures c.if-eq-2.ensures)
     (compared _ _ _ _ c.as_slice-else-eq-2.ensures c.if-eq-3.ensures)
     (compared _ _ _ _ c.as_slice-else-eq-3.ensures c.if-eq-4.ensures))
-    (rw (c.in-Some-off.is, off) (record { edits = at.edits; crash = at.crash; numa_off = refl; user_map = at.user_map }))
+    (rw (c.in-Some-off.is, off) (record { edits = at.edits; crash = at.crash; numa_off = refl; add_efi = at.add_efi; user_map = at.user_map }))

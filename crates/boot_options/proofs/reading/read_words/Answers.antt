@@ -12,6 +12,7 @@ loop-word-init c = record {
       edits = c.new.ensures.items;
       crash = record { plain = refl; high = refl; low = refl };
       numa_off = refl;
+      add_efi = refl;
       user_map = refl;
     },
     refl,
