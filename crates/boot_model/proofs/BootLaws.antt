@@ -84,7 +84,7 @@ later_keep given = (
       (
         lines_map given.kernel (before_sections given.lines),
         (
-          steps_keep (λ (made : Made). made.map) cause_of_stage put_sections places_of_sections (λ a m. refl) (λ before. refl),
+          steps_keep (λ (made : Made). made.map) cause_of_stage put_sections (places_of_sections given.width) (λ a m. refl) (λ before. refl),
           (lines_map given.kernel (behind_sections given.lines), tt),
         ),
       ),

@@ -1,10 +1,11 @@
 -- Small boots and their parts: what the definitions say of them. A map isn't computed, since `map_of` goes over all
 -- addresses; that of empty entries follows from laws.
-use Rattle.std.proofs.Common.{◌≡◌, ℕ, ◌*◌, ◌^◌, ◌==◌, nat_lt, if◌then◌else◌, Bool, true, false, List, [], ◌∷◌, length, Some, None, Ok, Err, refl, sym, arith}
+use Rattle.std.proofs.Common.{◌≡◌, ℕ, ◌*◌, ◌^◌, ◌==◌, nat_lt, if◌then◌else◌, Bool, true, false, List, [], ◌∷◌, length, map, Some, None, Ok, Err, refl, sym, arith}
 use Rattle.std.proofs.lemmas.Bool.Decides.{nat_tests}
 use Rattle.std.specs.Prelude.{Result}
 use Rattle.std.specs.Option.{option_map}
 use Rattle.bm_base.specs.Extent.{Extent}
+use Rattle.bm_base.specs.declared.width.Width.TheVariants.{Bits46, Bits52}
 use Rattle.address_runs.specs.Runs.{RunOf}
 use Rattle.address_runs.proofs.RunsLaws.{one_list}
 use Rattle.e820_model.specs.declared.entry.Entry.{Entry}
@@ -41,12 +42,20 @@ use Rattle.sparse_sections.specs.Roots.{roots_view}
 use Rattle.growth_model.specs.declared.refusal.Refusal.TheVariants as refusal
 use Rattle.stage_model.specs.declared.stop.StageStop.TheVariants as stage
 use Rattle.stage_model.specs.declared.stop.What.TheVariants as what
-use Rattle.boot_model.specs.Boot.{Given, Made, begin, begin_with, begun, behind_lines, boot, claims, handed_over, has_room, lies_in_memory, no_nodes, no_options, put_crash, put_nodes, put_sections, reach, reach_told, runs_lines, script_at, told, told_boot, unless_stopped, with_items}
+use Rattle.boot_model.specs.Boot.{Given, Made, added, begin, begin_with, begun, behind_lines, boot, claims, early_of, handed_over, has_room, lies_in_memory, mirrors_of, no_nodes, no_options, put_crash, put_nodes, put_sections, reach, reach_told, runs_lines, script_at, told, told_boot, unless_stopped, with_items}
+use Rattle.early_stages.specs.Early.{FrameRange}
 use Rattle.boot_model.specs.Kernel.{IsKernel, is_kernel}
+use Rattle.boot_model.specs.Mirrors.{IsMirror, frames_in}
+use Rattle.page_alloc.specs.declared.act.PageAct.TheVariants as pages
+use Rattle.page_alloc.specs.declared.outcome.PageOutcome.TheVariants as outcome
+use Rattle.page_alloc.specs.Book.{state_of}
+use Rattle.page_alloc.specs.Pages.{begun as nothing_taken}
+use Rattle.slit_zonelists.specs.Matrix.{matrix}
+use Rattle.slit_zonelists.specs.Lists.{known}
 use Rattle.boot_model.specs.Sections.{SectionPlaces, no_sections}
 use Rattle.boot_model.specs.Stages.{in_order}
 use Rattle.boot_model.specs.Stop.{cause_of, cause_of_growth, cause_of_map, cause_of_refusal, cause_of_stage, stop_of}
-use Rattle.boot_model.specs.View.{inputs_view, booted_view}
+use Rattle.boot_model.specs.View.{booted_view, efi_view, inputs_view}
 
 -- a chain of two stages on numbers, of which the second stops at 2
 abbrev doubled : ℕ → Result ℕ ℕ
@@ -71,21 +80,81 @@ image = record { base = 0x1000000; size = 0x2000000 }
 abbrev made : Made
 made = begin_with two_runs no_options
 
+abbrev empty : Entry
+empty = record { addr = 0; size = 0; kind = 0 }
+
+abbrev of_image : Given
+of_image = begun Bits46 image
+
 -- items that were carried out, and a growth that was refused
 carried_examples : (with_items made (Ok (item.Trim ∷ [])) ≡ Ok (record made { items = item.Trim ∷ [] }))
     × (with_items made (Err (record { which = which.Reserved; room = 128 })) ≡ Err (causes.NoTablePlace which.Reserved 128))
 carried_examples = (refl, refl)
 
 -- what is told of it: both tables are empty, in the image's last two frames
-told_example : ((told image made).heads.memory.place ≡ 0x2FFE000) × ((told image made).heads.reserved.place ≡ 0x2FFF000)
+told_example : ((told of_image made).heads.memory.place ≡ 0x2FFE000) × ((told of_image made).heads.reserved.place ≡ 0x2FFF000)
 told_example = (refl, refl)
 
--- nothing is given but the kernel's place; and the tables reach 64 TiB
-begun_example : ((begun image).entries ≡ []) × ((begun image).kernel ≡ image) × ((begun image).options ≡ no_options)
-begun_example = (refl, refl, refl)
+-- nothing is given but the kernel's place and the width; and the tables reach 64 TiB, with page tables of five levels 4 PiB
+begun_example : (of_image.entries ≡ []) × (of_image.kernel ≡ image) × (of_image.options ≡ no_options) × (of_image.mirrors ≡ [])
+    × (of_image.upward ≡ false)
+begun_example = (refl, refl, refl, refl, refl)
 
-reach_examples : (reach (begun image) ≡ 0x400000000000) × (reach_told (told image made) ≡ 0x400000000000)
-reach_examples = (refl, refl)
+reach_examples : (reach of_image ≡ 0x400000000000) × (reach_told (told of_image made) ≡ 0x400000000000)
+    × (reach (begun Bits52 image) ≡ 0x10000000000000) × (reach_told (told (begun Bits52 image) made) ≡ 0x10000000000000)
+reach_examples = (refl, refl, refl, refl)
+
+-- the first items are made of what is given
+early_example : (given : Given) → ((early_of given).limit ≡ reach given) × ((early_of given).kernel ≡ given.kernel)
+    × ((early_of given).initrd ≡ given.initrd) × ((early_of given).mirrors ≡ mirrors_of given) × ((early_of given).upward ≡ given.upward)
+early_example given = (refl, refl, refl, refl, refl)
+
+-- the firmware's own map adds its entries where the command line asks for them
+abbrev with_efi : Bool → Given
+with_efi asked = record of_image {
+  options = record no_options { add_efi = asked };
+  efi = Some (record { entries = empty ∷ []; mirrors = [] });
+}
+
+added_examples : (added (with_efi true) ≡ empty ∷ []) × (added (with_efi false) ≡ [])
+    × (added (record of_image { options = record no_options { add_efi = true } }) ≡ [])
+added_examples = (refl, refl, refl)
+
+-- those of the words come before those of the firmware
+abbrev one_frame_from : ℕ → FrameRange
+one_frame_from first = record { first = first; count = 1 }
+
+mirrors_in_order : mirrors_of (record of_image {
+  mirrors = one_frame_from 9 ∷ [];
+  efi = Some (record { entries = []; mirrors = one_frame_from 3 ∷ [] });
+}) ≡ one_frame_from 9 ∷ one_frame_from 3 ∷ []
+mirrors_in_order = refl
+
+-- mirrored memory is whole frames, some of them, and is given by these
+mirror_examples : IsMirror (record { base = 0x4000000; size = 0x1000 })
+    × (frames_in (record { base = 0x4000000; size = 0x1000000 }) ≡ record { first = 0x4000; count = 0x1000 })
+mirror_examples = (record { some = omega arith; at_frame = refl; of_frames = refl }, refl)
+
+no_mirror_of_a_part : IsMirror (record { base = 0x4000000; size = 0x1800 }) → ⊥
+no_mirror_of_a_part known = let wrong : 0x800 ≡ 0 = known.of_frames in absurd (omega (arith, wrong))
+
+no_mirror_amid_a_frame : IsMirror (record { base = 0x4000800; size = 0x1000 }) → ⊥
+no_mirror_amid_a_frame known = let wrong : 0x800 ≡ 0 = known.at_frame in absurd (omega (arith, wrong))
+
+no_mirror_of_nothing : IsMirror (record { base = 0x4000000; size = 0 }) → ⊥
+no_mirror_of_nothing known = omega (arith, known.some)
+
+-- lists go by the table of distances, by the domains of nodes and by the spans of memory
+lists_example : (given : Given) (m : Made) → (told given m).lists ≡ known given.slit m.nodes.domains (told given m).spans
+lists_example given m = refl
+
+-- the page script goes over what was handed over, of which nothing is taken at first
+no_page_line : (m : Made) → ((told of_image m).page_answers ≡ []) × ((told of_image m).after ≡ nothing_taken (told of_image m).free)
+no_page_line m = (refl, refl)
+
+page_line : (m : Made) → (told (record of_image { page_lines = record { number = 2; act = pages.Give 7 } ∷ [] }) m).page_answers
+    ≡ record { line = 2; outcome = outcome.Unknown } ∷ []
+page_line m = refl
 
 -- at first nothing happened, no node has memory, no frame is uncovered, and nothing of sections is placed
 nothing_yet : (made.items ≡ []) × (made.crash ≡ crash.Nothing) × (made.ids ≡ []) × (made.fills ≡ []) × (made.answers ≡ [])
@@ -131,17 +200,17 @@ unfolding free_in each_in each_from
 handed_examples = (refl, refl)
 
 -- what was made is told as it is, and by its items the frames that are free and the spans of memory
-told_as_made : (m : Made) → ((told image m).map ≡ m.map) × ((told image m).options ≡ m.options) × ((told image m).items ≡ m.items)
-    × ((told image m).nodes ≡ m.nodes) × ((told image m).crash ≡ m.crash) × ((told image m).sections ≡ m.sections)
-    × ((told image m).answers ≡ m.answers)
+told_as_made : (m : Made) → ((told of_image m).map ≡ m.map) × ((told of_image m).options ≡ m.options) × ((told of_image m).items ≡ m.items)
+    × ((told of_image m).nodes ≡ m.nodes) × ((told of_image m).crash ≡ m.crash) × ((told of_image m).sections ≡ m.sections)
+    × ((told of_image m).answers ≡ m.answers)
 told_as_made m = (refl, refl, refl, refl, refl, refl, refl)
 
-told_free : ((told image (record made { items = two_frames })).free 1 ≡ None)
-    × ((told image (record made { items = two_frames })).free 2 ≡ Some 3)
+told_free : ((told of_image (record made { items = two_frames })).free 1 ≡ None)
+    × ((told of_image (record made { items = two_frames })).free 2 ≡ Some 3)
 unfolding free_in each_in each_from
 told_free = (refl, refl)
 
-told_spans : (items : List Item) → (told image (record made { items = items })).spans ≡ spans_of (node_of_frame (memory_of items))
+told_spans : (items : List Item) → (told of_image (record made { items = items })).spans ≡ spans_of (node_of_frame (memory_of items))
 told_spans items = refl
 
 -- 3,200 runs have room, 3,201 don't, and so many are told
@@ -184,31 +253,33 @@ memory_examples : (lies_in_memory two_runs 0x1000 ≡ true) × (lies_in_memory t
 memory_examples = (refl, refl, refl, refl, refl)
 
 -- an image of two frames behind the first MiB, and one that ends where the tables of memory do; not one that begins in a
--- frame, has one frame, or ends a frame later
-kernel_tests : (is_kernel (record { base = 0x100000; size = 8192 }) ≡ true)
-    × (is_kernel (record { base = 0x3FFFFFFFE000; size = 0x2000 }) ≡ true)
-    × (is_kernel (record { base = 0x100800; size = 0x2000000 }) ≡ false) × (is_kernel (record { base = 0x100000; size = 4096 }) ≡ false)
-    × (is_kernel (record { base = 0x3FFFFFFFF000; size = 0x2000 }) ≡ false)
-kernel_tests = (refl, refl, refl, refl, refl)
+-- frame, has one frame, or ends a frame later; with 52 bits the tables reach further
+kernel_tests : (is_kernel Bits46 (record { base = 0x100000; size = 8192 }) ≡ true)
+    × (is_kernel Bits46 (record { base = 0x3FFFFFFFE000; size = 0x2000 }) ≡ true)
+    × (is_kernel Bits46 (record { base = 0x100800; size = 0x2000000 }) ≡ false) × (is_kernel Bits46 (record { base = 0x100000; size = 4096 }) ≡ false)
+    × (is_kernel Bits46 (record { base = 0x3FFFFFFFF000; size = 0x2000 }) ≡ false)
+    × (is_kernel Bits52 (record { base = 0xFFFFFFFFFE000; size = 0x2000 }) ≡ true)
+    × (is_kernel Bits52 (record { base = 0xFFFFFFFFFF000; size = 0x2000 }) ≡ false)
+kernel_tests = (refl, refl, refl, refl, refl, refl, refl)
 
-kernel_examples : IsKernel (record { base = 0x1000000; size = 0x2000000 })
-    × (IsKernel (record { base = 0xFF000; size = 0x2000000 }) → ⊥)
+kernel_examples : IsKernel Bits46 (record { base = 0x1000000; size = 0x2000000 })
+    × (IsKernel Bits46 (record { base = 0xFF000; size = 0x2000000 }) → ⊥)
 kernel_examples = (
   record { above = omega arith; long = omega arith; at_frame = refl; of_frames = refl; in_reach = omega arith },
   λ low. omega (arith, low.above),
 )
 
 -- an image has two frames at least, begins and ends where frames do, and ends in reach
-one_frame : IsKernel (record { base = 0x1000000; size = 4096 }) → ⊥
+one_frame : IsKernel Bits46 (record { base = 0x1000000; size = 4096 }) → ⊥
 one_frame known = omega (arith, known.long)
 
-ends_amid_a_frame : IsKernel (record { base = 0x1000000; size = 0x2800 }) → ⊥
+ends_amid_a_frame : IsKernel Bits46 (record { base = 0x1000000; size = 0x2800 }) → ⊥
 ends_amid_a_frame known = let wrong : 0x800 ≡ 0 = known.of_frames in absurd (omega (arith, wrong))
 
-begins_amid_a_frame : IsKernel (record { base = 0x1000800; size = 0x2000 }) → ⊥
+begins_amid_a_frame : IsKernel Bits46 (record { base = 0x1000800; size = 0x2000 }) → ⊥
 begins_amid_a_frame known = let wrong : 0x800 ≡ 0 = known.at_frame in absurd (omega (arith, wrong))
 
-ends_out_of_reach : IsKernel (record { base = 0x3FFFFFFFF000; size = 0x2000 }) → ⊥
+ends_out_of_reach : IsKernel Bits46 (record { base = 0x3FFFFFFFF000; size = 0x2000 }) → ⊥
 ends_out_of_reach known = omega (arith, known.in_reach)
 
 -- the values of a boot as its definition has them
@@ -217,8 +288,13 @@ inputs_are_items : (i : Inputs) → ((inputs_view i).entries ≡ i.zero.entries.
 inputs_are_items i = (refl, refl, refl, refl)
 
 inputs_are_all : (i : Inputs) → ((inputs_view i).options ≡ chosen i.options) × ((inputs_view i).domains ≡ option_map affinity i.srat)
-    × ((inputs_view i).lines ≡ i.lines.items)
-inputs_are_all i = (refl, refl, refl)
+    × ((inputs_view i).lines ≡ i.lines.items) × ((inputs_view i).page_lines ≡ i.page_lines.items)
+inputs_are_all i = (refl, refl, refl, refl)
+
+inputs_are_words : (i : Inputs) → ((inputs_view i).width ≡ i.width) × ((inputs_view i).mirrors ≡ map frames_in i.mirrors.items)
+    × ((inputs_view i).upward ≡ i.upward) × ((inputs_view i).efi ≡ option_map efi_view i.efi)
+    × ((inputs_view i).slit ≡ option_map matrix i.slit)
+inputs_are_words i = (refl, refl, refl, refl, refl)
 
 booted_are_items : (b : Booted) → ((booted_view b).map ≡ b.map.items) × ((booted_view b).options ≡ chosen b.options)
     × ((booted_view b).items ≡ b.journal.items) × ((booted_view b).answers ≡ b.answers.items)
@@ -227,8 +303,9 @@ booted_are_items b = (refl, refl, refl, refl)
 booted_is_all : (b : Booted) → ((booted_view b).heads ≡ b.heads) × ((booted_view b).nodes ≡ nodes_view b.nodes)
     × ((booted_view b).crash ≡ b.crash) × ((booted_view b).sections.roots ≡ roots_view b.roots)
     × ((booted_view b).sections.placed ≡ b.placed.items) × ((booted_view b).spans ≡ b.spans.items)
-    × ((booted_view b).free ≡ free b.buddy)
-booted_is_all b = (refl, refl, refl, refl, refl, refl, refl)
+    × ((booted_view b).free ≡ free b.buddy) × ((booted_view b).width ≡ b.width)
+    × ((booted_view b).page_answers ≡ b.page_answers.items) × ((booted_view b).after ≡ state_of b.after) × ((booted_view b).lists ≡ b.lists)
+booted_is_all b = (refl, refl, refl, refl, refl, refl, refl, refl, refl, refl, refl)
 
 -- two entries of size 0 claim nothing, so no frame is usable, and the boot stops
 Nothing : Claims → Type 0
@@ -268,11 +345,8 @@ no_frame limit c nothing =
     usable_but (reachable limit (kinds c)) frame (4096 * frame) (omega arith) (omega arith)
     (no_type_in_reach limit c nothing (4096 * frame)))
 
-abbrev empty : Entry
-empty = record { addr = 0; size = 0; kind = 0 }
-
 abbrev two_empty : Given
-two_empty = record (begun image) { entries = empty ∷ empty ∷ [] }
+two_empty = record of_image { entries = empty ∷ empty ∷ [] }
 
 none_covers : Nothing (claims_of_entries (empty ∷ empty ∷ []))
 unfolding Nothing
@@ -284,7 +358,7 @@ nothing_added c nothing x k = rw (nothing x k) refl
 
 nothing_claimed : Nothing (claims two_empty)
 nothing_claimed =
-    nothing_trimmed _ (nothing_settled _ (nothing_settled _ (nothing_added _ (nothing_settled _ none_covers))))
+    nothing_trimmed _ (nothing_settled _ (nothing_added _ (nothing_settled _ (nothing_added _ (nothing_settled _ none_covers)))))
 
 begins_without_a_run : (begin two_empty).map ≡ []
 begins_without_a_run = no_runs (claims two_empty) nothing_claimed
@@ -293,8 +367,8 @@ no_ram : boot two_empty ≡ Err causes.NoRam
 unfolding boot
 no_ram = rw (no_runs (claims two_empty) nothing_claimed, no_frame (reach two_empty) (claims two_empty) nothing_claimed) refl
 
--- what a boot made is told with the image that it was given, and its stop is its own
-boot_tells : (given : Given) (last : Made) → boot given ≡ Ok last → told_boot given ≡ Ok (told given.kernel last)
+-- what a boot made is told with what it was given, and its stop is its own
+boot_tells : (given : Given) (last : Made) → boot given ≡ Ok last → told_boot given ≡ Ok (told given last)
 boot_tells given last ends = rw ends refl
 
 boot_stops : (given : Given) (cause : Cause) → boot given ≡ Err cause → told_boot given ≡ Err cause

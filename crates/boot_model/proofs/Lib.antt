@@ -1,6 +1,8 @@
 pub mod BootLaws
+mod EfiLaws
 mod Examples
 pub mod MemoryLaws
+pub mod MirrorLaws
 pub mod NodedLaws
 pub mod ReachLaws
 pub mod StageLaws

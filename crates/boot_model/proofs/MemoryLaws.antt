@@ -1,17 +1,20 @@
 -- Memory and the limit of a boot that isn't stopped: those of its map. Each stage behind the one that makes them leaves them as they are.
-use Rattle.std.proofs.Common.{◌≡◌, ℕ, ◌/◌, ◌^◌, ◌<◌, ◌≤◌, ◌∙◌, sym, ap, refl, arith, inl, inr, Bool, true, false, nat_lt, if◌then◌else◌, is_some, Some, None, List, [], ◌∷◌, drop, Ok}
+use Rattle.std.proofs.Common.{◌≡◌, ℕ, ◌/◌, ◌^◌, ◌<◌, ◌≤◌, ◌∙◌, sym, ap, refl, arith, inl, inr, Bool, true, false, nat_lt, if◌then◌else◌, is_some, Option, Some, None, List, [], ◌∷◌, drop, Ok}
+use Rattle.std.specs.Option.{option_map}
 use Rattle.std.proofs.lemmas.Bool.{cases_Bool}
 use Rattle.std.proofs.lemmas.Bool.Decides.{nat_tests}
 use Rattle.bm_base.specs.Extent.{Extent}
+use Rattle.bm_base.specs.declared.width.Width.{Width}
 use Rattle.address_runs.specs.Runs.{RunOf, value_at}
 use Rattle.e820_model.specs.Claims.{Claims}
 use Rattle.e820_model.specs.Map.{TypeAt, kinds, map_of}
 use Rattle.e820_model.specs.Usable.{is_usable, reachable}
-use Rattle.memblock_model.specs.Labels.{Labels, plain_label}
+use Rattle.memblock_model.specs.Labels.{Label, Labels, plain_label, with_mirror}
 use Rattle.memblock_model.specs.Items.{limit_of, memory_of}
 use Rattle.growth_model.specs.Carried.{carried_out}
 use Rattle.growth_model.specs.Bytes.{byte}
-use Rattle.early_stages.specs.Memory.{memory_end}
+use Rattle.early_stages.specs.Early.{FrameRange}
+use Rattle.early_stages.specs.Memory.{is_mirrored, memory_end, mirrored_memory, usable_memory}
 use Rattle.early_stages.specs.Wanted.{first_items}
 use Rattle.early_stages.proofs.MemoryLaws.{first_limit, first_memory}
 use Rattle.early_stages.proofs.EndLaws.{memory_end-same}
@@ -19,7 +22,7 @@ use Rattle.script_reader.specs.declared.act.Line.{Line}
 use Rattle.early_script.specs.Acted.{answer_of, state_after}
 use Rattle.early_script.specs.Stage.{Stage as Script, after_line, after_lines, before_sections, behind_sections, deed_at}
 use Rattle.early_script.proofs.QuietLaws.{acts-limit, acts-memory, deed-quiet}
-use Rattle.boot_model.specs.Boot.{Given, Made, Stage, begin, boot, claims, has_crash_area, has_memory, has_nodes, has_sections, later_stages, map_judged, map_stages, put_crash, put_nodes, put_sections, reach, runs_lines, script_at, types_in_reach}
+use Rattle.boot_model.specs.Boot.{Given, Made, Stage, begin, boot, claims, early_of, has_crash_area, has_memory, has_nodes, has_sections, later_stages, map_judged, map_stages, mirrors_of, put_crash, put_nodes, put_sections, reach, runs_lines, script_at, types_in_reach}
 use Rattle.boot_model.specs.Sections.{SectionPlaces, places_of_sections, sections_placed}
 use Rattle.boot_model.specs.Stop.{cause_of_refusal, cause_of_stage}
 use Rattle.numa_nodes.specs.Assigned.{assigned}
@@ -109,27 +112,30 @@ crash_bound given =
     (λ before. quiet-appended_limit before.items (reserved given.options.crash before.items).steps
     ((quiet-reserved given.options.crash).each before.items))
 
-quiet_places : (sections : List Section) → IsQuietStep (sections_placed sections)
-quiet_places sections =
+quiet_places : (width : Width) (sections : List Section) → IsQuietStep (sections_placed width sections)
+quiet_places width sections =
     let told : RootsPlaced → List Placed → SectionPlaces = λ table placed. record { roots = table; placed = placed } in
-    quiet-bind (roots sections) (λ table. maps sections >>= λ placed. returns (told table placed)) (quiet-roots sections)
+    quiet-bind (roots width sections) (λ table. maps sections >>= λ placed. returns (told table placed)) (quiet-roots width sections)
     (λ table. quiet-bind (maps sections) (λ placed. returns (told table placed)) (quiet-maps sections)
     (λ placed. quiet-returns (told table placed)))
 
-quiet_sections : IsQuietStep places_of_sections
+quiet_sections : (width : Width) → IsQuietStep (places_of_sections width)
 unfolding places_of_sections
-quiet_sections =
-    quiet-bind (seen (λ items. present (memory_of items))) sections_placed (quiet-seen (λ items. present (memory_of items))) quiet_places
+quiet_sections width =
+    quiet-bind (seen (λ items. present (memory_of items))) (sections_placed width) (quiet-seen (λ items. present (memory_of items)))
+    (quiet_places width)
 
-pub section_labels : Keeps labels_by has_sections
-section_labels =
-    steps_keep labels_by cause_of_stage put_sections places_of_sections (λ a m. refl)
-    (λ before. quiet-appended_memory before.items (places_of_sections before.items).steps (quiet_sections.each before.items))
+pub section_labels : (given : Given) → Keeps labels_by (has_sections given)
+section_labels given =
+    steps_keep labels_by cause_of_stage put_sections (places_of_sections given.width) (λ a m. refl)
+    (λ before. quiet-appended_memory before.items (places_of_sections given.width before.items).steps
+    ((quiet_sections given.width).each before.items))
 
-section_bound : Keeps bound_by has_sections
-section_bound =
-    steps_keep bound_by cause_of_stage put_sections places_of_sections (λ a m. refl)
-    (λ before. quiet-appended_limit before.items (places_of_sections before.items).steps (quiet_sections.each before.items))
+section_bound : (given : Given) → Keeps bound_by (has_sections given)
+section_bound given =
+    steps_keep bound_by cause_of_stage put_sections (places_of_sections given.width) (λ a m. refl)
+    (λ before. quiet-appended_limit before.items (places_of_sections given.width before.items).steps
+    ((quiet_sections given.width).each before.items))
 
 -- where the labels stay, what is memory does
 by_labels : (stage : Stage) → Keeps labels_by stage → Keeps held_by stage
@@ -143,7 +149,7 @@ memory_keep given = (
     by_labels (has_crash_area given) (crash_labels given),
     (
       by_labels _ (lines_labels given.kernel (before_sections given.lines)),
-      (by_labels has_sections section_labels, (by_labels _ (lines_labels given.kernel (behind_sections given.lines)), tt)),
+      (by_labels (has_sections given) (section_labels given), (by_labels _ (lines_labels given.kernel (behind_sections given.lines)), tt)),
     ),
   ),
 )
@@ -155,7 +161,7 @@ limit_keep given = (
     crash_bound given,
     (
       lines_bound given.kernel (before_sections given.lines),
-      (section_bound, (lines_bound given.kernel (behind_sections given.lines), tt)),
+      (section_bound given, (lines_bound given.kernel (behind_sections given.lines), tt)),
     ),
   ),
 )
@@ -166,14 +172,14 @@ labels_keep given = (
   crash_labels given,
   (
     lines_labels given.kernel (before_sections given.lines),
-    (section_labels, (lines_labels given.kernel (behind_sections given.lines), tt)),
+    (section_labels given, (lines_labels given.kernel (behind_sections given.lines), tt)),
   ),
 )
 
 -- what is known where memory was made
 pub record HasMemory (given : Given) (made : Made) : Type 0 where
   pub first : Made
-  pub carried : carried_out (first_items (reach given) given.kernel given.initrd (map_of (claims given))) [] ≡ Ok first.items
+  pub carried : carried_out (first_items (early_of given) (map_of (claims given))) [] ≡ Ok first.items
   pub memory : held_by made ≡ held_by first
   pub limit : limit_of made.items ≡ limit_of first.items
 
@@ -186,9 +192,7 @@ memory_made given made ends =
     chain_keeps (λ (m : Made). m.items) (map_stages given) (items_keep given) (begin given) judged.middle judged.first in
     let map : judged.middle.map ≡ map_of (claims given) =
     chain_keeps (λ (m : Made). m.map) (map_stages given) (map_keep given) (begin given) judged.middle judged.first in
-    let passed = items_passed (carried_out (first_items (reach given) given.kernel given.initrd judged.middle.map)
-    judged.middle.items)
-    judged.middle behind.middle behind.first in
+    let passed = items_passed (carried_out (first_items (early_of given) judged.middle.map) judged.middle.items) judged.middle behind.middle behind.first in
     record {
       first = behind.middle;
       carried = rw (nothing, map) at passed.0;
@@ -214,6 +218,15 @@ some_is : (b : Bool) → is_some (if b then Some plain_label else None) ≡ b
 some_is true = refl
 some_is false = refl
 
+-- what is mirrored is memory where it was
+mapped_some : (mirrored : Bool) (o : Option Label) → is_some (if mirrored then option_map with_mirror o else o) ≡ is_some o
+mapped_some true None = refl
+mapped_some true (Some label) = refl
+mapped_some false o = refl
+
+mirrored_some : (mirrors : List FrameRange) (f : Labels) (x : ℕ) → is_some (mirrored_memory mirrors f x) ≡ is_some (f x)
+mirrored_some mirrors f x = mapped_some (is_mirrored mirrors x) (f x)
+
 -- a byte is memory exactly where its frame is usable
 pub memory_told : (given : Given) (made : Made) (x : ℕ) → boot given ≡ Ok made
     → is_some (memory_of made.items x) ≡ is_usable (types_in_reach given) (x / 4096)
@@ -221,9 +234,9 @@ memory_told given made x ends =
     let known : HasMemory given made = memory_made given made ends in
     let map : List (RunOf ℕ) = map_of (claims given) in
     let reached : TypeAt = reachable (reach given) (value_at map) in
-    let first = first_memory (reach given) given.kernel given.initrd map known.first.items (map_between (claims given)).runs
-    known.carried x in
+    let first = first_memory (early_of given) map known.first.items (map_between (claims given)).runs known.carried x in
     ap (λ (h : ℕ → Bool). h x) known.memory ∙ ap is_some first
+    ∙ mirrored_some (mirrors_of given) (usable_memory (reach given) (value_at map)) x
     ∙ some_is (is_usable reached (x / 4096))
     ∙ ap (λ (t : TypeAt). is_usable t (x / 4096)) (types_same given)
 
@@ -232,5 +245,5 @@ pub limit_told : (given : Given) (made : Made) → boot given ≡ Ok made
     → limit_of made.items ≡ memory_end (reach given) (kinds (claims given))
 limit_told given made ends =
     let known : HasMemory given made = memory_made given made ends in
-    known.limit ∙ first_limit (reach given) given.kernel given.initrd (map_of (claims given)) known.first.items known.carried
+    known.limit ∙ first_limit (early_of given) (map_of (claims given)) known.first.items known.carried
     ∙ memory_end-same (reach given) (value_at (map_of (claims given))) (kinds (claims given)) (types_same given)

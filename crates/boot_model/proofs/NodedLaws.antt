@@ -11,14 +11,16 @@ use Rattle.memblock_model.specs.declared.item.Item.{Item}
 use Rattle.memblock_model.specs.Labels.{Label, Labels, plain_label}
 use Rattle.memblock_model.specs.Items.{limit_of, memory_of}
 use Rattle.growth_model.specs.Carried.{carried_out}
-use Rattle.early_stages.specs.Memory.{memory_end, usable_memory}
+use Rattle.early_stages.specs.Early.{FrameRange}
+use Rattle.early_stages.specs.Memory.{memory_end, mirrored_memory, usable_memory}
 use Rattle.early_stages.specs.Wanted.{first_items}
 use Rattle.early_stages.proofs.MemoryLaws.{first_limit, first_memory}
-use Rattle.early_stages.proofs.EndLaws.{end_reached, memory_below, memory_end-is}
+use Rattle.early_stages.proofs.EndLaws.{end_reached, memory_below, memory_end-is, mirrored_below}
+use Rattle.early_stages.proofs.MirrorLaws.{mirrored-alike}
 use Rattle.stage_model.specs.Noded.{AreOfFrames, IsNoded}
 use Rattle.numa_nodes.specs.Assigned.{assigned}
 use Rattle.numa_nodes.proofs.NodedLaws.{answer-noded}
-use Rattle.boot_model.specs.Boot.{Given, Made, begin, boot, claims, has_frames, has_memory, has_nodes, has_room, later_stages, map_judged, map_stages, put_nodes, reach, types_in_reach}
+use Rattle.boot_model.specs.Boot.{Given, Made, begin, boot, claims, early_of, has_frames, has_memory, has_nodes, has_room, later_stages, map_judged, map_stages, mirrors_of, put_nodes, reach, types_in_reach}
 use Rattle.boot_model.specs.First.{IsFirst}
 use Rattle.boot_model.specs.Stages.{in_order}
 use Rattle.boot_model.specs.Stop.{cause_of_stage}
@@ -33,10 +35,17 @@ none_from : (at : ℕ) (f : Labels) (x : ℕ) (o : Option Label) → f x ≡ o �
 none_from at f x None is below far = is
 none_from at f x (Some label) is below far = absurd (omega (arith, below label is))
 
-past_end : (limit : ℕ) (f : TypeAt) (at : ℕ) → memory_end limit f ≤ at → NothingFrom at (usable_memory limit f)
-past_end limit f at high x far =
-    none_from at (usable_memory limit f) x (usable_memory limit f x) refl
-    (λ label is. (let low : x < memory_end limit f = memory_below limit f x label is in omega arith)) far
+past_end : (limit : ℕ) (f : TypeAt) (mirrors : List FrameRange) (at : ℕ) → memory_end limit f ≤ at
+    → NothingFrom at (mirrored_memory mirrors (usable_memory limit f))
+past_end limit f mirrors at high x far =
+    none_from at (mirrored_memory mirrors (usable_memory limit f)) x (mirrored_memory mirrors (usable_memory limit f) x) refl
+    (λ label is. (let low : x < memory_end limit f = mirrored_below limit f mirrors x label is in omega arith)) far
+
+-- ranges of frames mirror the bytes of a frame alike
+mirrored_whole : (mirrors : List FrameRange) (f : Labels) → AreOfFrames f → AreOfFrames (mirrored_memory mirrors f)
+mirrored_whole mirrors f whole x =
+    let frame : x / 4096 ≡ (4096 * (x / 4096)) / 4096 = omega arith in
+    mirrored-alike mirrors f x (4096 * (x / 4096)) frame (whole x)
 
 -- a map with a usable frame ends above 0
 no_frame_low : (limit : ℕ) (f : TypeAt) (frame : ℕ) → memory_end limit f ≡ 0 → is_usable (reachable limit f) frame ≡ false
@@ -73,16 +82,16 @@ judged_first given made ends =
     (sym (room.1 ∙ frames.1 ∙ last), frames.0)
 
 pub first_known : (given : Given) (made : Made) (items : List Item) → map_judged given ≡ Ok made
-    → carried_out (first_items (reach given) given.kernel given.initrd made.map) made.items ≡ Ok items → IsFirst (reach given) items
+    → carried_out (first_items (early_of given) made.map) made.items ≡ Ok items → IsFirst (reach given) items
 first_known given made items ends carried =
     let known = judged_first given made ends in
     let map : List (RunOf ℕ) = map_of (claims given) in
-    let from : carried_out (first_items (reach given) given.kernel given.initrd map) [] ≡ Ok items =
-    ap (λ (m : Made). carried_out (first_items (reach given) given.kernel given.initrd m.map) m.items) (sym known.0) ∙ carried in
-    let memory : memory_of items ≡ usable_memory (reach given) (value_at map) = λ i x.
-    first_memory (reach given) given.kernel given.initrd map items (map_between (claims given)).runs from x i in
+    let from : carried_out (first_items (early_of given) map) [] ≡ Ok items =
+    ap (λ (m : Made). carried_out (first_items (early_of given) m.map) m.items) (sym known.0) ∙ carried in
+    let memory : memory_of items ≡ mirrored_memory (mirrors_of given) (usable_memory (reach given) (value_at map)) = λ i x.
+    first_memory (early_of given) map items (map_between (claims given)).runs from x i in
     let limit : limit_of items ≡ memory_end (reach given) (value_at map) =
-    first_limit (reach given) given.kernel given.initrd map items from in
+    first_limit (early_of given) map items from in
     let below : memory_end (reach given) (value_at map) ≤ reach given =
     (end_reached (reach given) (value_at map) _ (memory_end-is (reach given) (value_at map))).0 in
     let some : 0 < usable_frames (reachable (reach given) (value_at map)) =
@@ -92,10 +101,11 @@ first_known given made items ends carried =
     let whole : AreOfFrames (usable_memory (reach given) (value_at map)) = λ x.
     (let same : (4096 * (x / 4096)) / 4096 ≡ x / 4096 = omega arith in
     ap (λ (frame : ℕ). if is_usable (reachable (reach given) (value_at map)) frame then Some plain_label else None) (sym same)) in
-    let all : FirstOf (usable_memory (reach given) (value_at map)) (memory_end (reach given) (value_at map)) = (
-      whole,
-      past_end (reach given) (value_at map) (reach given) below,
-      past_end (reach given) (value_at map) (memory_end (reach given) (value_at map)) (omega arith),
+    let all : FirstOf (mirrored_memory (mirrors_of given) (usable_memory (reach given) (value_at map)))
+    (memory_end (reach given) (value_at map)) = (
+      mirrored_whole (mirrors_of given) (usable_memory (reach given) (value_at map)) whole,
+      past_end (reach given) (value_at map) (mirrors_of given) (reach given) below,
+      past_end (reach given) (value_at map) (mirrors_of given) (memory_end (reach given) (value_at map)) (omega arith),
       end_some (reach given) (value_at map) some,
     ) in
     let told : FirstOf (memory_of items) (limit_of items) = rw (memory, limit) all in
@@ -116,7 +126,7 @@ unfolding boot
 noded_told given made ends =
     let judged_map = goes_by (map_judged given) (λ m. in_order (later_stages given) m) made ends in
     let behind = passes (has_memory given) (drop 1 (later_stages given)) judged_map.middle made judged_map.rest in
-    let passed = items_passed (carried_out (first_items (reach given) given.kernel given.initrd judged_map.middle.map)
+    let passed = items_passed (carried_out (first_items (early_of given) judged_map.middle.map)
     judged_map.middle.items) judged_map.middle behind.middle behind.first in
     let first : IsFirst (reach given) behind.middle.items = first_known given judged_map.middle behind.middle.items judged_map.first passed.0 in
     let nodes = passes (has_nodes given) (drop 2 (later_stages given)) behind.middle made behind.rest in

@@ -20,7 +20,7 @@ use Rattle.numa_nodes.specs.Assigned.{assigned}
 use Rattle.crash_kernel.specs.Reserved.{reserved}
 use Rattle.boot_model.specs.declared.stop.Cause.{Cause}
 use Rattle.boot_model.specs.declared.stop.Cause.TheVariants as causes
-use Rattle.boot_model.specs.Boot.{Given, Made, Stage, begin, boot, by_steps, has_crash_area, has_frames, has_memory, has_nodes, has_room, has_sections, later_stages, map_judged, map_stages, put_crash, put_nodes, put_sections, reach, runs_lines, types_in_reach, unless_stopped, with_answer, with_items}
+use Rattle.boot_model.specs.Boot.{Given, Made, Stage, begin, boot, by_steps, early_of, has_crash_area, has_frames, has_memory, has_nodes, has_room, has_sections, later_stages, map_judged, map_stages, put_crash, put_nodes, put_sections, reach, runs_lines, types_in_reach, unless_stopped, with_answer, with_items}
 use Rattle.boot_model.specs.Sections.{places_of_sections}
 use Rattle.boot_model.specs.Stages.{in_order}
 use Rattle.boot_model.specs.Stop.{cause_of_refusal, cause_of_stage}
@@ -102,7 +102,7 @@ later_errs : (given : Given) → AllErr (IsTold (usable_frames (types_in_reach g
 unfolding AllErr
 later_errs given =
     let frames : ℕ = usable_frames (types_in_reach given) in (
-      λ made. items_errs frames made (carried_out (first_items (reach given) given.kernel given.initrd made.map) made.items),
+      λ made. items_errs frames made (carried_out (first_items (early_of given) made.map) made.items),
       (
         steps_errs frames (λ stop. stop ≢ stage.Memory) cause_of_stage put_nodes (assigned given.domains given.options.numa_off)
             (stage_told frames) (nodes_errs given.domains given.options.numa_off),
@@ -112,8 +112,8 @@ later_errs given =
           (
             λ made. tt,
             (
-              steps_errs frames (λ stop. stop ≢ stage.Memory) cause_of_stage put_sections places_of_sections (stage_told frames)
-                  sections_errs,
+              steps_errs frames (λ stop. stop ≢ stage.Memory) cause_of_stage put_sections (places_of_sections given.width)
+                  (stage_told frames) (sections_errs given.width),
               ((λ made. tt), tt),
             ),
           ),

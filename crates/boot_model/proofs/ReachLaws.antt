@@ -14,10 +14,10 @@ width-whole Bits46 = refl
 width-whole Bits52 = refl
 
 pub reach-small : (given : Given) → reach given ≤ 2 ^ 52
-reach-small given = width-small Bits46
+reach-small given = width-small given.width
 
 pub reach-below : (given : Given) → reach given ≤ 2 ^ 64
 reach-below given = let small : reach given ≤ 2 ^ 52 = reach-small given in omega (arith, small)
 
 pub reach-whole : (given : Given) → reach given % 4096 ≡ 0
-reach-whole given = width-whole Bits46
+reach-whole given = width-whole given.width

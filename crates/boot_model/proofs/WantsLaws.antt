@@ -2,6 +2,8 @@
 use Rattle.std.proofs.Common.{◌≡◌, ◌≢◌, ℕ, Bool, true, false, if◌then◌else◌, List, [], ◌∷◌, Option, Some, None, Result, Ok, Err, ◌+◌, ◌++◌, length}
 use Rattle.std.specs.Prelude.{IfErr}
 use Rattle.bm_base.specs.Extent.{Extent}
+use Rattle.bm_base.specs.Width.{root_table_of}
+use Rattle.bm_base.specs.declared.width.Width.{Width}
 use Rattle.memblock_model.specs.declared.item.Item.{Item}
 use Rattle.memblock_model.specs.declared.owner.Owner.{Owner}
 use Rattle.memblock_model.specs.declared.owner.Owner.TheVariants as owner
@@ -203,13 +205,13 @@ root_errs before s =
     (λ place. returns (next place))
     (placed_errs (what.Root (root_of s)) (small_request 4096 (Some s.node)) (owner.Root (root_of s))) (λ place items. tt)
 
-roots_errs : (sections : List Section) → Errs IsStop (roots sections)
+roots_errs : (width : Width) (sections : List Section) → Errs IsStop (roots width sections)
 unfolding roots
-roots_errs sections =
+roots_errs width sections =
     let told : ℕ → List RootPlace → RootsPlaced = λ table places. record { table = table; roots = places } in
-    then_errs IsStop (placed what.Roots (small_request 16384 None) owner.Roots)
+    then_errs IsStop (placed what.Roots (small_request (root_table_of width) None) owner.Roots)
     (λ table. (in_turn root_placed [] (firsts_behind None sections) >>= λ places. returns (told table places)))
-    (placed_errs what.Roots (small_request 16384 None) owner.Roots)
+    (placed_errs what.Roots (small_request (root_table_of width) None) owner.Roots)
     (λ table. then_errs IsStop (in_turn root_placed [] (firsts_behind None sections)) (λ places. returns (told table places))
     (turn_errs IsStop root_placed root_errs [] (firsts_behind None sections)) (λ places items. tt))
 
@@ -242,13 +244,13 @@ maps_errs : (sections : List Section) → Errs IsStop (maps sections)
 unfolding maps
 maps_errs sections = turn_errs IsStop map_group group_errs [] (groups_of sections)
 
-placed_sections_errs : (sections : List Section) → Errs IsStop (sections_placed sections)
-placed_sections_errs sections =
+placed_sections_errs : (width : Width) (sections : List Section) → Errs IsStop (sections_placed width sections)
+placed_sections_errs width sections =
     let told : RootsPlaced → List Placed → SectionPlaces = λ table placed. record { roots = table; placed = placed } in
-    then_errs IsStop (roots sections) (λ table. maps sections >>= λ placed. returns (told table placed)) (roots_errs sections)
+    then_errs IsStop (roots width sections) (λ table. maps sections >>= λ placed. returns (told table placed)) (roots_errs width sections)
     (λ table. then_errs IsStop (maps sections) (λ placed. returns (told table placed)) (maps_errs sections) (λ placed items. tt))
 
-pub sections_errs : Errs IsStop places_of_sections
+pub sections_errs : (width : Width) → Errs IsStop (places_of_sections width)
 unfolding places_of_sections
-sections_errs =
-    then_errs IsStop (seen (λ items. present (memory_of items))) sections_placed (λ items. tt) placed_sections_errs
+sections_errs width =
+    then_errs IsStop (seen (λ items. present (memory_of items))) (sections_placed width) (λ items. tt) (placed_sections_errs width)

@@ -1,9 +1,9 @@
 -- The boot: what `setup_arch` makes of the firmware's map and of the command line, stage by stage.
-use Rattle.std.specs.Prelude.{ℕ, ◌==◌, Bool, false, ◌&&◌, ◌||◌, List, [], ◌∷◌, length, nat_lt, if◌then◌else◌, Option, Some, None, Result, Ok, Err}
+use Rattle.std.specs.Prelude.{ℕ, ◌==◌, Bool, false, ◌&&◌, ◌||◌, List, [], ◌∷◌, ◌++◌, length, nat_lt, if◌then◌else◌, Option, Some, None, Result, Ok, Err}
 use Rattle.std.specs.List.{list_any}
 use Rattle.bm_base.specs.Extent.{Extent}
 use Rattle.bm_base.specs.Width.{reach_of}
-use Rattle.bm_base.specs.declared.width.Width.TheVariants.{Bits46}
+use Rattle.bm_base.specs.declared.width.Width.{Width}
 use Rattle.address_runs.specs.Runs.{RunOf, lies_in}
 use Rattle.e820_model.specs.declared.types.TheConstants.{E820_TYPE_RAM, E820_TYPE_RESERVED_KERN}
 use Rattle.e820_model.specs.declared.entry.Entry.{Entry}
@@ -22,6 +22,7 @@ use Rattle.memblock_ranges.specs.Tables.{head_of}
 use Rattle.growth_model.specs.Outcome.{Refused}
 use Rattle.growth_model.specs.Carried.{carried_out}
 use Rattle.growth_model.specs.Bytes.{Filled, table_for}
+use Rattle.early_stages.specs.Early.{Early, FrameRange}
 use Rattle.early_stages.specs.Wanted.{first_items}
 use Rattle.script_reader.specs.declared.act.Line.{Line}
 use Rattle.early_script.specs.declared.outcome.Answer.{Answer}
@@ -39,6 +40,12 @@ use Rattle.crash_kernel.specs.declared.crash.Crash.TheVariants as crash
 use Rattle.crash_kernel.specs.Reserved.{reserved}
 use Rattle.table_frames.specs.Frames.{free_in, node_of_frame}
 use Rattle.frame_blocks.specs.Frames.{Frames}
+use Rattle.page_alloc.specs.declared.act.PageLine.{PageLine}
+use Rattle.page_alloc.specs.declared.outcome.PageAnswer.{PageAnswer}
+use Rattle.page_alloc.specs.Pages.{State as Pages, begun as nothing_taken}
+use Rattle.slit_zonelists.specs.Matrix.{Matrix}
+use Rattle.slit_zonelists.specs.Lists.{Known, known}
+use Rattle.slit_zonelists.specs.Near.{after_with, answers_with}
 use Rattle.zone_spans.specs.declared.span.Span.{Span}
 use Rattle.zone_spans.specs.Spans.{spans_of}
 use Rattle.boot_model.specs.declared.stop.Cause.{Cause}
@@ -47,36 +54,73 @@ use Rattle.boot_model.specs.Sections.{SectionPlaces, no_sections, places_of_sect
 use Rattle.boot_model.specs.Stages.{in_order}
 use Rattle.boot_model.specs.Stop.{cause_of_growth, cause_of_map, cause_of_refusal, cause_of_stage}
 
+-- what the firmware's own map of memory says: its entries, and the frames of which the machine keeps a second copy
+pub record EfiGiven : Type 0 where
+  pub entries : List Entry
+  pub mirrors : List FrameRange
+
 -- what a boot is given: the zero page's entries and its initrd, where there is one, the entries of the
--- extension, the options, the table of domains, where there is one, where the kernel lies, and the lines of the early script
+-- extension, the options, the table of domains, where there is one; how far addresses reach, where the kernel lies, which memory is
+-- mirrored, and whether places are looked for from below; the lines of the early script, and those of the page script; the table of
+-- distances, and the firmware's own map of memory, where there is one
 pub record Given : Type 0 where
   pub entries : List Entry
   pub initrd : Option Extent
   pub extension : List Entry
   pub options : Chosen
   pub domains : Option Affinity
+  pub width : Width
   pub kernel : Extent
+  pub mirrors : List FrameRange
+  pub upward : Bool
   pub lines : List Line
+  pub page_lines : List PageLine
+  pub slit : Option Matrix
+  pub efi : Option EfiGiven
 
 -- a command line of no words
 abbrev pub no_options : Chosen
-no_options = record { edits = []; crash = no_crash; numa_off = false }
+no_options = record { edits = []; crash = no_crash; numa_off = false; add_efi = false }
 
--- what a boot is given by no file: where the kernel lies, and nothing else
-abbrev pub begun : Extent → Given
-begun kernel = record {
+-- what a boot is given by no file: how far addresses reach and where the kernel lies, and nothing else
+abbrev pub begun : Width → Extent → Given
+begun width kernel = record {
   entries = [];
   initrd = None;
   extension = [];
   options = no_options;
   domains = None;
+  width = width;
   kernel = kernel;
+  mirrors = [];
+  upward = false;
   lines = [];
+  page_lines = [];
+  slit = None;
+  efi = None;
 }
 
--- the address behind the last one that the kernel's tables of memory reach, in bytes (`MAX_PHYSMEM_BITS`, with page tables of four levels)
+-- the address behind the last one that the kernel's tables of memory reach, in bytes (`MAX_PHYSMEM_BITS`)
 abbrev pub reach : Given → ℕ
-reach given = reach_of Bits46
+reach given = reach_of given.width
+
+-- the frames that are mirrored: those that the words say, then those of the firmware's map (`efi_find_mirror`)
+abbrev pub efi_mirrors : Option EfiGiven → List FrameRange
+efi_mirrors None = []
+efi_mirrors (Some efi) = efi.mirrors
+
+abbrev pub mirrors_of : Given → List FrameRange
+mirrors_of given = given.mirrors ++ efi_mirrors given.efi
+
+-- what the first items are made of, beside the map
+abbrev pub early_of : Given → Early
+early_of given = record {
+  limit = reach given;
+  kernel = given.kernel;
+  initrd = given.initrd;
+  mirrors = mirrors_of given;
+  upward = given.upward;
+}
 
 -- what a boot has made so far: the map, the options, what happened to memory, oldest first; the nodes, what came of the crash area, and
 -- the places of sections; and of the script the IDs that are live, the fills, and the answers
@@ -91,9 +135,11 @@ pub record Made : Type 0 where
   pub fills : List Filled
   pub answers : List Answer
 
--- and what is told of it in the end: beside these where the two tables then lie, and how full they are; what the memory of each node
--- spans, and which frames are free. The fills stand in the bytes of memory
+-- and what is told of it in the end: beside these how far addresses reached, where the two tables then lie, and how full they are; what
+-- the memory of each node spans, and which frames are free; in what order a node's requests look at zones, the answers of the page
+-- script, and what it left. The fills stand in the bytes of memory
 pub record Told : Type 0 where
+  pub width : Width
   pub map : List (RunOf ℕ)
   pub options : Chosen
   pub items : List Item
@@ -104,6 +150,9 @@ pub record Told : Type 0 where
   pub answers : List Answer
   pub spans : List Span
   pub free : Frames
+  pub lists : Known
+  pub page_answers : List PageAnswer
+  pub after : Pages
 
 -- before memory has nodes
 abbrev pub no_nodes : Noded
@@ -113,9 +162,17 @@ no_nodes = record { why = why.Absent; domains = []; uncovered = 0; with_memory =
 abbrev pub Stage : Type 0
 Stage = Made → Result Made Cause
 
+-- the entries of the firmware's own map, where there is one; they are added where the command line asks for them (`add_efi_memmap`)
+abbrev pub efi_entries : Option EfiGiven → List Entry
+efi_entries None = []
+efi_entries (Some efi) = efi.entries
+
+abbrev pub added : Given → List Entry
+added given = if given.options.add_efi then efi_entries given.efi else []
+
 -- the claims of the finished map
 abbrev pub claims : Given → Claims
-claims given = finished given.entries given.extension given.options.edits
+claims given = finished given.entries given.extension given.options.edits (added given)
 
 -- the heads of the tables that the items stand for
 abbrev pub heads_of : Extent → List Item → Heads
@@ -134,20 +191,29 @@ spanned items = spans_of (node_of_frame (memory_of items))
 
 -- how far the tables of memory reached
 abbrev pub reach_told : Told → ℕ
-reach_told told = reach_of Bits46
+reach_told told = reach_of told.width
 
-abbrev pub told : Extent → Made → Told
-told kernel made = record {
+-- the zones with memory, in the order in which each node's requests look at them (`build_zonelists`)
+abbrev pub lists_told : Given → Made → Known
+lists_told given made = known given.slit made.nodes.domains (spanned made.items)
+
+-- the page script runs on a copy of what was handed over, of which nothing is taken at first
+abbrev pub told : Given → Made → Told
+told given made = record {
+  width = given.width;
   map = made.map;
   options = made.options;
   items = made.items;
-  heads = heads_of kernel made.items;
+  heads = heads_of given.kernel made.items;
   nodes = made.nodes;
   crash = made.crash;
   sections = made.sections;
   answers = made.answers;
   spans = spanned made.items;
   free = handed_over made.items;
+  lists = lists_told given made;
+  page_answers = answers_with (lists_told given made) (nothing_taken (handed_over made.items)) given.page_lines;
+  after = after_with (lists_told given made) (nothing_taken (handed_over made.items)) given.page_lines;
 }
 
 -- a boot begins with a map, and nothing happened to memory yet
@@ -199,7 +265,7 @@ with_items made (Err refused) = Err (cause_of_growth refused)
 -- the first claims are made, the map becomes memory, whole frames of it, and the first MiB is claimed (`early_reserve_memory`,
 -- `e820__memblock_setup`, `reserve_real_mode`)
 abbrev pub has_memory : Given → Stage
-has_memory given made = with_items made (carried_out (first_items (reach given) given.kernel given.initrd made.map) made.items)
+has_memory given made = with_items made (carried_out (first_items (early_of given) made.map) made.items)
 
 -- where lines of the script begin, and what is made behind them
 abbrev pub script_at : Extent → Made → Script
@@ -245,13 +311,13 @@ has_crash_area given = by_steps cause_of_refusal put_crash (reserved given.optio
 abbrev pub put_sections : SectionPlaces → Made → Made
 put_sections sections made = record made { sections = sections }
 
-abbrev pub has_sections : Stage
-has_sections = by_steps cause_of_stage put_sections places_of_sections
+abbrev pub has_sections : Given → Stage
+has_sections given = by_steps cause_of_stage put_sections (places_of_sections given.width)
 
 -- the stages behind the map, in their order. The script says where among its lines the sections are placed
 abbrev pub later_stages : Given → List Stage
 later_stages given =
-    has_memory given ∷ has_nodes given ∷ has_crash_area given ∷ runs_lines given.kernel (before_sections given.lines) ∷ has_sections
+    has_memory given ∷ has_nodes given ∷ has_crash_area given ∷ runs_lines given.kernel (before_sections given.lines) ∷ has_sections given
     ∷ runs_lines given.kernel (behind_sections given.lines) ∷ []
 
 -- the boot (`setup_arch`), up to what it hands over (`mem_init`)
@@ -260,7 +326,7 @@ boot given = map_judged given >>= λ made. in_order (later_stages given) made
 
 -- what is told of it
 abbrev pub told_boot : Given → Result Told Cause
-told_boot given = boot given >>= λ made. Ok (told given.kernel made)
+told_boot given = boot given >>= λ made. Ok (told given made)
 
 -- whether the address lies in a run of RAM, or of memory of the kernel's own
 abbrev pub lies_in_memory : List (RunOf ℕ) → ℕ → Bool

@@ -1,5 +1,5 @@
 -- The facts that stand with the inputs of a boot: of each there is one proof at most.
-use Rattle.std.specs.Prelude.{List, [], ◌∷◌}
+use Rattle.std.specs.Prelude.{IfSome, List, [], ◌∷◌, Option, Some, None}
 use Rattle.std.specs.List.{All}
 use Rattle.std.specs.Coded.{×_prop, Unit-prop, le_prop}
 use Rattle.std.proofs.Math.Bool.{Bool-set}
@@ -7,16 +7,26 @@ use Rattle.e820_model.specs.declared.entry.Entry.{Entry}
 use Rattle.e820_model.specs.declared.edit.Edit.{Edit}
 use Rattle.e820_model.specs.declared.edit.Edit.TheVariants as edit
 use Rattle.e820_model.specs.Claims.{EndInSpace, HaveTypes, HasTypes}
+use Rattle.efi_map.specs.declared.efi.EfiMap.{EfiMap}
 use Rattle.script_reader.specs.declared.act.Act.{Act}
 use Rattle.script_reader.specs.declared.act.Act.TheVariants as acts
 use Rattle.script_reader.specs.declared.act.Line.{Line}
 use Rattle.script_reader.specs.Forms.{HasBounds}
 use Rattle.early_script.specs.Acted.{IsRun}
+use Rattle.page_alloc.specs.declared.act.PageAct.{PageAct}
+use Rattle.page_alloc.specs.declared.act.PageAct.TheVariants as pages
+use Rattle.page_alloc.specs.declared.act.PageLine.{PageLine}
+use Rattle.page_alloc.specs.Pages.{HasOrder, HaveOrders}
 use Rattle.early_script.specs.Stage.{PlaceOnce}
 
 pub EndInSpace-prop : (entries : List Entry) → IsProp (EndInSpace entries)
 EndInSpace-prop [] = Unit-prop
 EndInSpace-prop (e ∷ es) = ×_prop le_prop (EndInSpace-prop es)
+
+-- of the firmware's own map, where there is one
+pub efi_ends-prop : (efi : Option EfiMap) → IsProp (IfSome efi (λ map. EndInSpace map.entries.items))
+efi_ends-prop None = Unit-prop
+efi_ends-prop (Some map) = EndInSpace-prop map.entries.items
 
 HasTypes-prop : (e : Edit) → IsProp (HasTypes e)
 HasTypes-prop (edit.Add range kind) = le_prop
@@ -56,3 +66,12 @@ IsRun-prop acts.Sections = Prim.hlevel Unit-prop
 
 pub PlaceOnce-prop : (lines : List Line) → IsProp (PlaceOnce lines)
 PlaceOnce-prop lines = Prim.hlevel IsRun-prop
+
+HasOrder-prop : (act : PageAct) → IsProp (HasOrder act)
+HasOrder-prop (pages.Pages id order node zone) = le_prop
+HasOrder-prop (pages.Near id order node) = le_prop
+HasOrder-prop (pages.Give id) = Unit-prop
+
+pub HaveOrders-prop : (lines : List PageLine) → IsProp (HaveOrders lines)
+HaveOrders-prop [] = Unit-prop
+HaveOrders-prop (l ∷ ls) = ×_prop (HasOrder-prop l.act) (HaveOrders-prop ls)

@@ -1,21 +1,21 @@
 -- Where the kernel's image may lie, from its text to the end of its bss (`_text` to `__end_of_kernel_reserve`).
 use Rattle.std.specs.Prelude.{◌≡◌, ◌*◌, ◌%◌, ◌≤◌, ◌==◌, Bool, ◌&&◌, nat_le}
 use Rattle.bm_base.specs.Extent.{Extent, end_of}
-use Rattle.bm_base.specs.Width.{reach_of}
 use Rattle.bm_base.specs.declared.frame.TheConstants.{FRAME_SIZE}
-use Rattle.bm_base.specs.declared.width.Width.TheVariants.{Bits46}
+use Rattle.bm_base.specs.Width.{reach_of}
+use Rattle.bm_base.specs.declared.width.Width.{Width}
 
 -- above the first MiB, which real mode keeps; with room for memblock's two tables in its last two frames; in whole frames; and in reach
 -- of the kernel's tables of memory. The bounds are this project's own, since the boot protocol leaves them to the loader
-pub record IsKernel (image : Extent) : Type 0 where
+pub record IsKernel (width : Width) (image : Extent) : Type 0 where
   pub above : 0x100000 ≤ image.base
   pub long : 2 * FRAME_SIZE ≤ image.size
   pub at_frame : image.base % FRAME_SIZE ≡ 0
   pub of_frames : image.size % FRAME_SIZE ≡ 0
-  pub in_reach : end_of image ≤ reach_of Bits46
+  pub in_reach : end_of image ≤ reach_of width
 
 -- the same as a test
-abbrev pub is_kernel : Extent → Bool
-is_kernel image =
+abbrev pub is_kernel : Width → Extent → Bool
+is_kernel width image =
     nat_le 0x100000 image.base && nat_le (2 * FRAME_SIZE) image.size && (image.base % FRAME_SIZE == 0) && (image.size % FRAME_SIZE == 0)
-    && nat_le (end_of image) (reach_of Bits46)
+    && nat_le (end_of image) (reach_of width)

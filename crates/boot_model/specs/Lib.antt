@@ -2,6 +2,7 @@ pub mod Boot
 pub mod Facts
 pub mod First
 pub mod Kernel
+pub mod Mirrors
 pub mod Sections
 pub mod Stages
 pub mod Stop

@@ -1,5 +1,6 @@
 -- The places of sections: of the roots, and behind them of usage data and maps (`sparse_init`).
 use Rattle.std.specs.Prelude.{List, []}
+use Rattle.bm_base.specs.declared.width.Width.{Width}
 use Rattle.memblock_model.specs.Items.{memory_of}
 use Rattle.stage_model.specs.declared.section.Section.{Section}
 use Rattle.stage_model.specs.declared.stop.StageStop.{StageStop}
@@ -18,14 +19,14 @@ pub record SectionPlaces : Type 0 where
 abbrev pub no_sections : SectionPlaces
 no_sections = record { roots = record { table = 0; roots = [] }; placed = [] }
 
-abbrev pub sections_placed : List Section → Doing StageStop SectionPlaces
-sections_placed sections = do
-  table ← roots sections
+abbrev pub sections_placed : Width → List Section → Doing StageStop SectionPlaces
+sections_placed width sections = do
+  table ← roots width sections
   placed ← maps sections
   returns (record { roots = table; placed = placed })
 
 -- the sections that have memory, in their order
-unfoldable pub places_of_sections : Doing StageStop SectionPlaces
-places_of_sections = do
+unfoldable pub places_of_sections : Width → Doing StageStop SectionPlaces
+places_of_sections width = do
   sections ← seen (λ items. present (memory_of items))
-  sections_placed sections
+  sections_placed width sections

@@ -9,14 +9,18 @@ use e820_model::Run;
 use early_script::Answer;
 use memblock_ranges::Heads;
 use numa_nodes::Nodes;
+use page_alloc::{PageAnswer, Pages};
 use phys_store::Store;
 use section_maps::Placed;
+use slit_zonelists::Lists;
 use sparse_sections::Roots;
 use zone_spans::Span;
 
 /// What a boot makes.
 #[derive(Drop)]
 pub struct Booted {
+    /// How far addresses reached.
+    pub width: Width,
     /// The map, as runs in the order of their addresses.
     pub map: Vec<Run>,
     /// The options, as they were given.
@@ -41,6 +45,12 @@ pub struct Booted {
     pub spans: Vec<Span>,
     /// The frames that were handed over.
     pub buddy: Buddy,
+    /// The zones with memory, in the order in which each node's requests look at them.
+    pub lists: Lists,
+    /// What came of each line of the page script.
+    pub page_answers: Vec<PageAnswer>,
+    /// What the page script left of a copy of those frames, and what its IDs hold.
+    pub after: Pages,
 }
 
 impl Booted {
@@ -52,6 +62,6 @@ impl Booted {
     pub fn reach(&self) -> u64
         ensures { result ≡ reach_told (booted_view self.now) }
     {
-        Width::Bits46.limit()
+        self.width.limit()
     }
 }

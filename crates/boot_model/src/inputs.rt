@@ -2,18 +2,25 @@
 //! stands with it, as a fact, so who has inputs has those facts and hands on none of them.
 
 ghost use Rattle.std.specs.Prelude.{◌≡◌, ◌^◌, ◌<◌, IfSome, length};
+ghost use Rattle.std.specs.List.{All};
 ghost use Rattle.std.proofs.Props.{props};
 ghost use Rattle.e820_model.specs.Claims.{EndInSpace, HaveTypes};
 ghost use Rattle.e820_table.specs.Initrd.{IsInitrd};
 ghost use Rattle.early_script.specs.Stage.{PlaceOnce};
-ghost use Rattle.boot_model.specs.Facts.{EndInSpace-prop, HaveBounds, HaveBounds-prop, HaveTypes-prop, PlaceOnce-prop};
+ghost use Rattle.page_alloc.specs.Pages.{HaveOrders};
+ghost use Rattle.slit_zonelists.specs.Matrix.{IsSquare, matrix};
+ghost use Rattle.boot_model.specs.Facts.{EndInSpace-prop, HaveBounds, HaveBounds-prop, HaveOrders-prop, HaveTypes-prop, PlaceOnce-prop, efi_ends-prop};
 ghost use Rattle.boot_model.specs.Kernel.{IsKernel};
+ghost use Rattle.boot_model.specs.Mirrors.{IsMirror};
 
 use arrayvec::ArrayVec;
 use bm_base::{Range, Width};
 use boot_options::{CrashOption, Options};
 use e820_table::{Entry, ZeroPage};
+use efi_map::EfiMap;
+use page_alloc::PageLine;
 use script_reader::Line;
+use slit_zonelists::Slit;
 use srat_reader::Srat;
 use std::alloc::Global;
 
@@ -29,19 +36,38 @@ pub struct Inputs {
     pub options: Options,
     /// The firmware's table of domains, if there is one. It has fewer than 2^32 ranges of memory.
     pub srat: Option<Srat>,
+    /// How far addresses reach.
+    pub width: Width,
     /// Where the kernel's image lies.
     pub kernel: Range,
+    /// Which memory is mirrored: whole frames, some in each range.
+    pub mirrors: Vec<Range>,
+    /// Whether places are looked for from the lowest address up.
+    pub upward: bool,
     /// The lines of the early script; none where there is no script. They are in their bounds, and place the sections
     /// once at most.
     pub lines: Vec<Line>,
+    /// The lines of the page script; none where there is no page script. An order in them is at most 10.
+    pub page_lines: Vec<PageLine>,
+    /// The firmware's table of distances between domains, if there is one: as many cells as it has localities times
+    /// localities.
+    pub slit: Option<Slit>,
+    /// The firmware's own map of memory, if there is one. Its entries end as the others do, and its mirrored ranges are
+    /// whole frames, some in each.
+    pub efi: Option<EfiMap>,
     ghost entries_end: { EndInSpace zero.entries.items } by { EndInSpace-prop zero.entries.items },
     ghost initrd_fits: { IfSome zero.initrd IsInitrd } by { Prim.hlevel props },
     ghost extension_ends: { EndInSpace ext.items } by { EndInSpace-prop ext.items },
     ghost types_fit: { HaveTypes options.edits.items } by { HaveTypes-prop options.edits.items },
     ghost few_blocks: { IfSome srat (λ table. length table.blocks.items < 2 ^ 32) } by { Prim.hlevel props },
-    ghost kernel_fits: { IsKernel kernel },
+    ghost kernel_fits: { IsKernel width kernel },
+    ghost mirrors_fit: { All IsMirror mirrors.items },
     ghost bounds_fit: { HaveBounds lines.items } by { HaveBounds-prop lines.items },
     ghost placed_once: { PlaceOnce lines.items } by { PlaceOnce-prop lines.items },
+    ghost orders_fit: { HaveOrders page_lines.items } by { HaveOrders-prop page_lines.items },
+    ghost slit_square: { IfSome slit (λ table. IsSquare (matrix table)) } by { Prim.hlevel props },
+    ghost efi_ends: { IfSome efi (λ map. EndInSpace map.entries.items) } by { efi_ends-prop efi },
+    ghost efi_mirrors_fit: { IfSome efi (λ map. All IsMirror map.mirrors.items) } by { Prim.hlevel props },
 }
 
 impl Inputs {
@@ -49,9 +75,9 @@ impl Inputs {
     ghost use Rattle.boot_model.specs.View.{inputs_view};
 
     /// What a boot is given by no file. Each file adds to it.
-    pub fn begun(alloc: Global, kernel: Range) -> Inputs
-        requires { IsKernel kernel }
-        ensures { inputs_view result ≡ begun kernel }
+    pub fn begun(alloc: Global, width: Width, kernel: Range) -> Inputs
+        requires { IsKernel width kernel }
+        ensures { inputs_view result ≡ begun width kernel }
     {
         Inputs {
             zero: ZeroPage {
@@ -67,10 +93,17 @@ impl Inputs {
                     low: None,
                 },
                 numa_off: false,
+                add_efi: false,
             },
             srat: None,
+            width,
             kernel,
+            mirrors: Vec::new(alloc),
+            upward: false,
             lines: Vec::new(alloc),
+            page_lines: Vec::new(alloc),
+            slit: None,
+            efi: None,
         }
     }
 
@@ -78,6 +111,6 @@ impl Inputs {
     pub fn reach(&self) -> u64
         ensures { result ≡ reach (inputs_view self.now) }
     {
-        Width::Bits46.limit()
+        self.width.limit()
     }
 }

@@ -12,16 +12,15 @@ const LOWEST_KERNEL: u64 = 0x10_0000;
 /// The fewest bytes of a kernel's image: two frames, for memblock's two tables at its end.
 const SMALLEST_KERNEL: u64 = 2 * FRAME_SIZE;
 
-/// Whether a kernel's image may lie there: above the first MiB, within the reach of the kernel's tables of memory
-/// (`MAX_PHYSMEM_BITS`, with page tables of four levels), in whole frames,
+/// Whether a kernel's image may lie there: above the first MiB, below the width's limit, in whole frames,
 /// of which there are two at least.
-pub fn is_kernel(range: &Range) -> bool
-    ensures value { result ≡ is_kernel range.now }
-    ensures facts { IsTrue result → IsKernel range.now }
+pub fn is_kernel(range: &Range, width: Width) -> bool
+    ensures value { result ≡ is_kernel width range.now }
+    ensures facts { IsTrue result → IsKernel width range.now }
 {
     range.base >= LOWEST_KERNEL
         && range.size >= SMALLEST_KERNEL
         && range.base % FRAME_SIZE == 0
         && range.size % FRAME_SIZE == 0
-        && range.end() <= Width::Bits46.limit()
+        && range.end() <= width.limit()
 }

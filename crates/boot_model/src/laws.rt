@@ -1,11 +1,15 @@
 //! What holds of a boot that isn't stopped, for whoever reads its map. The laws speak of the definition of the
 //! boot, so who has an answer of it may rest on them and needs to know none of its stages.
 
-ghost use Rattle.std.specs.Prelude.{◌≡◌, ◌≢◌, ℕ, ◌+◌, ◌*◌, ◌^◌, ◌/◌, ◌<◌, ◌≤◌, Bool, Option, List, is_some, IfErr, Ok, Err, length};
+ghost use Rattle.std.specs.Prelude.{◌≡◌, ◌≢◌, ℕ, ◌+◌, ◌*◌, ◌^◌, ◌/◌, ◌<◌, ◌≤◌, Bool, false, Option, None, List, [], is_some, IfErr, IfOk, IfSome, Ok, Err, length};
 ghost use Rattle.address_runs.specs.Runs.{value_at};
 ghost use Rattle.e820_model.specs.Map.{kinds};
+ghost use Rattle.std.specs.List.{All};
 ghost use Rattle.bm_base.specs.Each.{each_in};
-ghost use Rattle.bm_base.specs.Frames.{bytes_of_frame};
+ghost use Rattle.bm_base.specs.Extent.{Extent};
+ghost use Rattle.bm_base.specs.declared.width.Width.{Width as AnyWidth};
+ghost use Rattle.bm_base.specs.Frames.{bytes_of_frame, frames_within};
+ghost use Rattle.efi_map.specs.Map.{efi_of};
 ghost use Rattle.e820_model.specs.Usable.{is_usable, usable_frames};
 ghost use Rattle.e820_model.specs.declared.room.TheConstants.{E820_MAX_ENTRIES};
 ghost use Rattle.memblock_model.specs.Items.{limit_of, memory_of};
@@ -19,9 +23,19 @@ ghost use Rattle.boot_options.specs.Crash.{Crash as Asked};
 ghost use Rattle.crash_kernel.specs.Reserved.{reserved};
 ghost use Rattle.boot_model.specs.declared.stop.Cause.TheVariants as causes;
 ghost use Rattle.boot_model.specs.Sections.{places_of_sections};
-ghost use Rattle.boot_model.specs.Boot.{Given, Made, boot, claims, lies_in_memory, reach, types_in_reach};
+ghost use Rattle.boot_model.specs.Mirrors.{IsMirror};
+ghost use Rattle.boot_model.specs.Boot.{Given, Made, boot, claims, efi_entries, lies_in_memory, reach, types_in_reach};
 
 use bm_base::FRAME_SIZE;
+
+/// A law: where the command line doesn't ask for the firmware's own map, or that map has no descriptors, the claims are those of a
+/// boot without it.
+pub fn firmware_adds_what_is_asked()
+    ensures unasked { (given : Given) → given.options.add_efi ≡ false →
+        claims given ≡ claims (record given { efi = None }) }
+    ensures empty { (given : Given) → efi_entries given.efi ≡ [] →
+        claims given ≡ claims (record given { efi = None }) }
+{}
 
 /// A law: the map of a boot gives each address below 2^64 the type of its greatest claim, and has at
 /// most as many runs as the table has room for.
@@ -60,6 +74,13 @@ pub fn stages_want_no_memory()
         IfErr (assigned table off items).answer (λ stop. stop ≢ stage.Memory) }
     ensures crash { (asked : Asked) (items : List Item) →
         IfErr (reserved asked items).answer (λ why. (why ≢ refusal.NoGap) × (why ≢ refusal.Memory)) }
-    ensures sections { (items : List Item) → IfErr (places_of_sections items).answer (λ stop. stop ≢ stage.Memory) }
+    ensures sections { (width : AnyWidth) (items : List Item) →
+        IfErr (places_of_sections width items).answer (λ stop. stop ≢ stage.Memory) }
     ensures ram { (given : Given) → boot given ≡ Err causes.NoRam → usable_frames (types_in_reach given) ≡ 0 }
+{}
+
+/// A law: the ranges that the firmware mirrors, and those of words that are cut to whole frames, are what a boot may be given.
+pub fn mirrors_are_whole_frames()
+    ensures cut { (range : Extent) → IfSome (frames_within range) IsMirror }
+    ensures firmware { (bytes : List ℕ) → IfOk (efi_of bytes) (λ map. All IsMirror map.mirrors) }
 {}

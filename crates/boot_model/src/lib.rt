@@ -14,7 +14,9 @@
 //! [`Inputs::begun`] is what a boot is given by no file, to which each file adds.
 //!
 //! How far the kernel's tables of memory reach is told by [`Inputs::reach`], and by nothing else: the boot hands that
-//! limit to what depends on it.
+//! limit to what depends on it. Mirrored memory is given as whole frames, so that no law about a boot has to ask for that.
+//!
+//! What is handed over stays as it is: the page script runs on a copy of it, so what it answers and leaves is told beside.
 //!
 //! The layers above may rest on the laws of this crate: the map of a boot that isn't stopped gives
 //! every address the type of its greatest claim, and tells which frames are usable; and a byte is memory in the end
@@ -30,5 +32,8 @@ mod stop;
 pub use booted::Booted;
 pub use inputs::Inputs;
 pub use kernel::is_kernel;
-pub use laws::{map_gives_frames, map_gives_memory, map_gives_types, stages_want_no_memory};
+pub use laws::{
+    firmware_adds_what_is_asked, map_gives_frames, map_gives_memory, map_gives_types,
+    mirrors_are_whole_frames, stages_want_no_memory,
+};
 pub use stop::{Cause, Stop};

@@ -16,11 +16,14 @@ use Rattle.frame_blocks.specs.declared.block.Block.{Block}
 use Rattle.frame_blocks.specs.declared.run.TheConstants.{MAX_FRAMES}
 use Rattle.frame_blocks.specs.Frames.{Frames}
 use Rattle.frame_blocks.specs.Listed.{Lists, blocks_of}
-use Rattle.frame_blocks.proofs.BlockLaws.{listed_complete}
+use Rattle.frame_blocks.proofs.BlockLaws.{listed_complete, listed_sound}
+use Rattle.page_alloc.specs.Kept.{IsHeldByNone, IsHeldByOne, IsInNoBlock, IsInOneBlock}
+use Rattle.page_alloc.specs.Pages.{State, begun}
 use Rattle.boot_model.specs.Boot.{Given, Told}
 use Rattle.conservation.specs.ByMap.{IsUsableBy}
 use Rattle.conservation.specs.Claimed.{IsRecorded, IsTouched, IsUntouched, decides}
 use Rattle.conservation.specs.Headline.{AllTouchedOrInOne, BlocksAreMaximal, BlocksAreWhole, IsFreeFor, IsMaximal, IsUsable, IsWhole, NoOtherInABlock, blocks_with, has_frame, with_buddy}
+use Rattle.conservation.specs.Paged.{AllInOneOrHeld, NoOtherInOneOrHeld}
 use Rattle.conservation.proofs.CountLaws.{no_block_with, one_block_with}
 
 -- a byte of frame 4 and one of frame 5 are claimed, and the claim of frame 4 is freed again
@@ -105,6 +108,10 @@ reserved_by_runs usable = let wrong : false ≡ true = usable.1 0x2000 refl in c
 out_of_reach : (map : List (RunOf ℕ)) → IsUsableBy (2 ^ 46) map 17179869184 → ⊥
 out_of_reach map usable = let low = usable.0 in absurd (omega (arith, low))
 
+-- with page tables of five levels memory reaches to 4 PiB, and no frame behind them is usable
+out_of_reach_of_52 : (map : List (RunOf ℕ)) → IsUsableBy (2 ^ 52) map 1099511627776 → ⊥
+out_of_reach_of_52 map usable = let low = usable.0 in absurd (omega (arith, low))
+
 -- a boot that tells these items and these free frames, whatever else it tells
 abbrev telling : Told → List Item → Frames → Told
 telling told items free = record told { items = items; free = free }
@@ -183,3 +190,18 @@ half_alone given told four_usable five_usable maximal =
             zone = rw is refl;
           })
     ]))
+
+-- a frame that was handed over and is neither in a block nor held behind the page script is refused, and so is one in a block that
+-- wasn't handed over
+abbrev paged : Told → Frames → State → Told
+paged told free after = record told { free = free; after = after }
+
+lost_page : (told : Told) → AllInOneOrHeld (paged told (five 1) (begun (λ frame. None))) → ⊥
+lost_page told all = ⊎_elim
+    (λ (in_block : IsInOneBlock (begun (λ frame. None)) 5 × IsHeldByNone (begun (λ frame. None)) 5).
+    (let none : None ≡ Some in_block.0.block.node = (in_block.0.is.good 5 in_block.0.has).0 in cc none))
+    (λ (held : IsHeldByOne (begun (λ frame. None)) 5 × IsInNoBlock (begun (λ frame. None)) 5). absurd (cc held.0.holds.is)) (all 5 1 refl)
+
+page_from_nowhere : (told : Told) → NoOtherInOneOrHeld (paged told (λ frame. None) (begun (five 1))) → ⊥
+page_from_nowhere told none =
+    (none 5 refl).0 (five_block 1) (listed_sound (five 1) (five_block 1) (five_listed 1)) refl

@@ -4,6 +4,8 @@ use Rattle.address_runs.specs.Edits.{NothingFrom}
 use Rattle.frame_blocks.specs.declared.run.TheConstants.{MAX_FRAMES}
 use Rattle.frame_blocks.specs.Frames.{Frames, IsBlock, IsGood}
 use Rattle.frame_blocks.proofs.BlockLaws.{listed_sound}
+use Rattle.page_alloc.specs.Pages.{begun as nothing_taken}
+use Rattle.slit_zonelists.specs.Near.{after_with}
 use Rattle.boot_model.specs.Boot.{Given, Told, handed_over, told_boot}
 use Rattle.boot_model.proofs.MemoryLaws.{memory_told}
 use Rattle.boot_model.proofs.NodedLaws.{noded_told}
@@ -18,6 +20,7 @@ use Rattle.conservation.proofs.FreeLaws.{HasNodes, IsFree, free_is_handed, free_
 pub record IsTold (given : Given) (t : Told) : Type 0 where
   pub nodes : HasNodes given t.items
   pub free : t.free ≡ handed_over t.items
+  pub after : t.after ≡ after_with t.lists (nothing_taken t.free) given.page_lines
 
 pub is_told : (given : Given) (t : Told) → told_boot given ≡ Ok t → IsTold given t
 is_told given t ends =
@@ -25,6 +28,7 @@ is_told given t ends =
     subst (λ (u : Told). IsTold given u) of.tells (record {
       nodes = record { memory = λ x. memory_told given of.made x of.boots; noded = noded_told given of.made of.boots };
       free = refl;
+      after = refl;
     })
 
 module _ (given : Given) (t : Told) (ends : told_boot given ≡ Ok t) where
@@ -39,7 +43,7 @@ module _ (given : Given) (t : Told) (ends : told_boot given ≡ Ok t) where
   is_free_by frame node free =
       handed_is_free given t.items known.nodes frame node (ap (λ (f : Frames). f frame) (sym known.free) ∙ free)
 
-  below : NothingFrom MAX_FRAMES t.free
+  pub below : NothingFrom MAX_FRAMES t.free
   below frame far = ap (λ (f : Frames). f frame) known.free ∙ handed_below given t.items known.nodes frame far
 
   -- a touched frame isn't among them

@@ -1,6 +1,5 @@
 -- What is told of a boot that isn't stopped is told of what it made.
 use Rattle.std.proofs.Common.{◌≡◌, Result, Ok, Err, refl}
-use Rattle.bm_base.specs.Extent.{Extent}
 use Rattle.bm_base.specs.ResultSteps.{◌>>=◌}
 use Rattle.boot_model.specs.declared.stop.Cause.{Cause}
 use Rattle.boot_model.specs.Boot.{Given, Made, Told, boot, told, told_boot}
@@ -9,14 +8,14 @@ use Rattle.boot_model.specs.Boot.{Given, Made, Told, boot, told, told_boot}
 pub record IsToldOf (given : Given) (t : Told) : Type 0 where
   pub made : Made
   pub boots : boot given ≡ Ok made
-  pub tells : told given.kernel made ≡ t
+  pub tells : told given made ≡ t
 
-told_of : (kernel : Extent) (answer : Result Made Cause) (t : Told) → (answer >>= λ made. Ok (told kernel made)) ≡ Ok t
-    → (made : Made) × (answer ≡ Ok made) × (told kernel made ≡ t)
-told_of kernel (Ok made) t ends = (made, refl, cc ends)
-told_of kernel (Err cause) t ends = absurd (cc ends)
+told_of : (given : Given) (answer : Result Made Cause) (t : Told) → (answer >>= λ made. Ok (told given made)) ≡ Ok t
+    → (made : Made) × (answer ≡ Ok made) × (told given made ≡ t)
+told_of given (Ok made) t ends = (made, refl, cc ends)
+told_of given (Err cause) t ends = absurd (cc ends)
 
 pub is_told_of : (given : Given) (t : Told) → told_boot given ≡ Ok t → IsToldOf given t
 is_told_of given t ends =
-    let known = told_of given.kernel (boot given) t ends in
+    let known = told_of given (boot given) t ends in
     record { made = known.0; boots = known.1; tells = known.2 }

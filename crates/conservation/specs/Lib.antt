@@ -1,3 +1,4 @@
 pub mod ByMap
 pub mod Claimed
 pub mod Headline
+pub mod Paged

@@ -5,6 +5,7 @@
 //!
 //! - `specs/Claimed.antt`: the claims that stand in the end, and the frames that they touch.
 //! - `specs/Headline.antt`: the four facts, over what a boot is given and what it tells.
+//! - `specs/Paged.antt`: where the frames that were handed over are behind the page script.
 //!
 //! Usable frames are those of the finished map (`e820_model`), owners those of the journal (`memblock_model`), blocks
 //! those that the free frames are (`frame_blocks`). The functions are laws over the definition of the boot (`boot_model`):
@@ -15,6 +16,7 @@
 mod laws;
 
 pub use laws::{
-    blocks_are_maximal, blocks_are_whole, map_tells_usable_frames, no_other_frame_is_in_a_block,
+    blocks_are_maximal, blocks_are_whole, handed_frames_stay_in_one_block_or_held,
+    map_tells_usable_frames, no_other_frame_is_in_a_block,
     usable_frames_are_touched_or_in_one_block,
 };

@@ -1,0 +1,82 @@
+-- Ranges of whole frames: the frames of a range, and their bytes.
+use Rattle.std.proofs.Common.{◌≡◌, ℕ, ◌+◌, ◌-◌, ◌*◌, ◌/◌, ◌%◌, ◌<◌, Bool, true, false, not, nat_lt, if◌then◌else◌, Option, Some, None, List, [], ◌∷◌, map, IfOk, IfSome, Result, Ok, Err, refl, subst, arith}
+use Rattle.std.specs.Int.{next_multiple_of}
+use Rattle.std.specs.List.{All}
+use Rattle.std.proofs.lemmas.Bool.Decides.{nat_tests}
+use Rattle.std.proofs.lemmas.List.Elements.{All-cons, All-nil}
+use Rattle.bm_base.specs.Extent.{Extent, end_of}
+use Rattle.bm_base.specs.Frames.{frames_within}
+use Rattle.efi_map.specs.declared.efi.EfiFault.{EfiFault}
+use Rattle.efi_map.specs.declared.efi.EfiFault.TheVariants as faults
+use Rattle.efi_map.specs.Descriptors.{Descriptor, bytes_of_descriptor, entry_of, has_attribute, mirror_of}
+use Rattle.efi_map.specs.Map.{Efi, descriptors_of, efi_of, far_among, has_header, has_length, mirror_in_front, mirrors_of, unless_far}
+use Rattle.early_stages.specs.Early.{bytes_of_frames}
+use Rattle.boot_model.specs.Mirrors.{IsMirror, frames_in}
+
+-- the bytes of its frames are the range
+pub mirror-frames : (r : Extent) → IsMirror r → bytes_of_frames (frames_in r) ≡ r
+mirror-frames r mirror =
+    let base : 4096 * (r.base / 4096) ≡ r.base = omega (arith, mirror.at_frame) in
+    let size : 4096 * (r.size / 4096) ≡ r.size = omega (arith, mirror.of_frames) in
+    rw (base, size) refl
+
+-- the whole frames of a range, where it has some
+whole : (from until : ℕ) (m : Extent) (some : Bool) → nat_lt from until ≡ some → from % 4096 ≡ 0 → until % 4096 ≡ 0
+    → (if some then Some (record { base = from; size = until - from }) else None) ≡ Some m → IsMirror m
+whole from until m true more first last is =
+    let same : record { base = from; size = until - from } ≡ m = cc is in
+    subst IsMirror same (record {
+      some = grind (arith, nat_tests, more);
+      at_frame = first;
+      of_frames = omega (arith, first, last);
+    })
+whole from until m false none first last is = absurd (cc is)
+
+whole-mirrors : (r m : Extent) → frames_within r ≡ Some m → IsMirror m
+whole-mirrors r m is =
+    whole (next_multiple_of r.base 4096) (end_of r - end_of r % 4096) m (nat_lt (next_multiple_of r.base 4096)
+    (end_of r - end_of r % 4096)) refl (omega arith) (omega arith) is
+
+if_some : (o : Option Extent) → ((m : Extent) → o ≡ Some m → IsMirror m) → IfSome o IsMirror
+if_some None mirror = tt
+if_some (Some m) mirror = mirror m refl
+
+pub cut-mirrors : (r : Extent) → IfSome (frames_within r) IsMirror
+cut-mirrors r = if_some (frames_within r) (whole-mirrors r)
+
+-- so are the mirrors of descriptors
+mirror_whole : (mirrors : Bool) (r m : Extent) → (if mirrors then frames_within r else None) ≡ Some m → IsMirror m
+mirror_whole true r m is = whole-mirrors r m is
+mirror_whole false r m is = absurd (cc is)
+
+in_front : (o : Option Extent) (ms : List Extent) → ((m : Extent) → o ≡ Some m → IsMirror m) → All IsMirror ms
+    → All IsMirror (mirror_in_front o ms)
+in_front None ms first rest = rest
+in_front (Some m) ms first rest = All-cons IsMirror m ms (first m refl) rest
+
+descriptors-whole : (ds : List Descriptor) → All IsMirror (mirrors_of ds)
+unfolding mirrors_of
+descriptors-whole [] = All-nil IsMirror
+descriptors-whole (d ∷ ds) =
+    in_front (mirror_of d) (mirrors_of ds) (λ m is. mirror_whole (has_attribute 0x10000 d) (bytes_of_descriptor d) m is)
+    (descriptors-whole ds)
+
+unless_whole : (ds : List Descriptor) (far : Option ℕ) (efi : Efi) → unless_far ds far ≡ Ok efi → All IsMirror efi.mirrors
+unless_whole ds (Some index) efi is = absurd (cc is)
+unless_whole ds None efi is =
+    let same : record { entries = map entry_of ds; mirrors = mirrors_of ds } ≡ efi = cc is in
+    subst (λ (m : Efi). All IsMirror m.mirrors) same (descriptors-whole ds)
+
+given_whole : (header fits : Bool) (bytes : List ℕ) (efi : Efi) → (if header then Err faults.Header else (if fits then Err faults.Length
+    else unless_far (descriptors_of bytes) (far_among 0 (descriptors_of bytes)))) ≡ Ok efi → All IsMirror efi.mirrors
+given_whole true fits bytes efi is = absurd (cc is)
+given_whole false true bytes efi is = absurd (cc is)
+given_whole false false bytes efi is = unless_whole (descriptors_of bytes) (far_among 0 (descriptors_of bytes)) efi is
+
+if_ok : (said : Result Efi EfiFault) → ((efi : Efi) → said ≡ Ok efi → All IsMirror efi.mirrors)
+    → IfOk said (λ efi. All IsMirror efi.mirrors)
+if_ok (Ok efi) whole = whole efi refl
+if_ok (Err fault) whole = tt
+
+pub efi-mirrors : (bytes : List ℕ) → IfOk (efi_of bytes) (λ efi. All IsMirror efi.mirrors)
+efi-mirrors bytes = if_ok (efi_of bytes) (given_whole (not (has_header bytes)) (not (has_length bytes)) bytes)
