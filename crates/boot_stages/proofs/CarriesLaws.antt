@@ -1,6 +1,6 @@
 -- Calls that carry out what is wanted, one after another.
-use Rattle.std.proofs.Common.{◌≡◌, ◌≢◌, ℕ, Option, Some, None, List, [], ◌∷◌, ◌++◌, Result, Ok, Err, refl, sym, ◌∙◌, ap, subst}
-use Rattle.std.proofs.lemmas.List.{append_assoc}
+use Rattle.std.proofs.Common.{◌≡◌, ◌≢◌, ℕ, Bool, true, false, Option, Some, None, List, [], ◌∷◌, ◌++◌, Result, Ok, Err, refl, sym, ◌∙◌, ap, subst}
+use Rattle.std.proofs.lemmas.List.{append-nil, append_assoc}
 use Rattle.std.specs.Prelude.{OnOk}
 use Rattle.bm_base.specs.ResultSteps.{◌>>=◌}
 use Rattle.bm_base.specs.Extent.{Extent}
@@ -17,6 +17,7 @@ use Rattle.growth_model.specs.Ends.{Ends}
 use Rattle.growth_model.specs.Carried.{carried_out, change, ended, unless_refused}
 use Rattle.growth_model.proofs.CarriedLaws.{carried-append}
 use Rattle.growth_model.proofs.EndLaws.{joined-append}
+use Rattle.early_stages.specs.Wanted.{direction_items}
 use Rattle.boot_model.specs.declared.stop.Stop.{Stop}
 use Rattle.boot_model.specs.declared.stop.Stop.TheVariants as stops
 use Rattle.boot_stages.specs.Carries.{Carries, or_stop, stop_for}
@@ -54,6 +55,12 @@ carries-limit at old new same = one_ends (item.Limit at) old ∙ ap (λ (items :
 pub carries-nothing : (items : List Item) → carried_out [] items ≡ Ok items
 unfolding carried_out
 carries-nothing items = refl
+
+-- the direction, which is one item or none
+pub carries-direction : (upward : Bool) (old new : List Item) → new ≡ old ++ direction_items upward
+    → carried_out (direction_items upward) old ≡ Ok new
+carries-direction true old new same = one_ends (item.Upward true) old ∙ ap (λ (items : List Item). Ok items) (sym same)
+carries-direction false old new same = carries-nothing old ∙ ap (λ (items : List Item). Ok items) (sym (same ∙ append-nil old))
 
 -- the first part was carried out, and the second ends so
 pub carried-on : (is js old mid : List Item) → carried_out is old ≡ Ok mid → carried_out (is ++ js) old ≡ carried_out js mid

@@ -1,11 +1,16 @@
--- What the boot makes of small answers of the table.
-use Rattle.std.proofs.Common.{◌≡◌, ℕ, List, [], ◌∷◌, Some, None, Ok, Err, refl}
+-- What the boot makes of small answers of the table, and the parts of a small memory.
+use Rattle.std.proofs.Common.{◌≡◌, ℕ, true, List, [], ◌∷◌, Some, None, Ok, Err, refl}
+use Rattle.bm_base.specs.Extent.{Extent}
 use Rattle.address_runs.specs.Runs.{RunOf}
+use Rattle.memblock_model.specs.declared.owner.Owner.TheVariants as owner
+use Rattle.memblock_model.specs.declared.item.Item.TheVariants as item
+use Rattle.early_stages.specs.Early.{Early}
 use Rattle.e820_sanitise.specs.declared.fault.MapFault.TheVariants as faults
 use Rattle.e820_usable.specs.declared.stop.MapStop.TheVariants as reasons
 use Rattle.boot_model.specs.declared.stop.Stop.TheVariants as stops
 use Rattle.boot_model.specs.Boot.{Given}
 use Rattle.boot_stages.specs.Boots.{IsDecided, judged_answer, stop_of_map, goes_on_with}
+use Rattle.boot_stages.specs.Parts.{beginning, ending, mapping}
 
 abbrev one_run : List (RunOf ℕ)
 one_run = record { base = 0x1000; size = 0x1000; value = 1 } ∷ []
@@ -23,3 +28,17 @@ judged_examples = (refl, refl)
 -- want of memory decides nothing
 undecided : (given : Given) → IsDecided given (Err faults.Memory)
 undecided given = tt
+
+-- the parts of what is wanted, where frames 1 and 2 are mirrored and searches go upward
+abbrev image : Extent
+image = record { base = 0x1000000; size = 0x2000000 }
+
+abbrev early : Early
+early = record { limit = 0x2000; kernel = image; initrd = None; mirrors = record { first = 1; count = 2 } ∷ []; upward = true }
+
+parts : (beginning early ≡ item.Claim image owner.Kernel ∷ item.Claim (record { base = 0; size = 0x10000 }) owner.Low64K
+    ∷ item.Limit 0x100000 ∷ item.Upward true ∷ [])
+    × (mapping early one_run ≡ item.Mem (record { base = 0x1000; size = 0x1000 }) ∷ item.Trim
+    ∷ item.Mirror (record { base = 0x1000; size = 0x2000 }) ∷ [])
+    × (ending 0x4000 ≡ item.Limit 0x4000 ∷ item.Claim (record { base = 0; size = 0x100000 }) owner.Low1M ∷ [])
+parts = (refl, refl, refl)

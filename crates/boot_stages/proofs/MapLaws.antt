@@ -17,7 +17,7 @@ use Rattle.e820_usable.specs.Judged.{judged}
 use Rattle.boot_model.specs.declared.stop.Cause.{Cause}
 use Rattle.boot_model.specs.declared.stop.Stop.{Stop}
 use Rattle.boot_model.specs.declared.stop.Stop.TheVariants as stops
-use Rattle.boot_model.specs.Boot.{Given, Made, begin, begin_with, boot, claims, has_frames, has_memory, later_stages, map_judged, reach, Told, told, told_boot, types_in_reach, unless_stopped, with_items}
+use Rattle.boot_model.specs.Boot.{Given, Made, added, begin, begin_with, boot, claims, early_of, has_frames, has_memory, later_stages, map_judged, reach, Told, told, told_boot, types_in_reach, unless_stopped, with_items}
 use Rattle.memblock_model.specs.declared.item.Item.{Item}
 use Rattle.growth_model.specs.Outcome.{Refused}
 use Rattle.growth_model.specs.Carried.{carried_out}
@@ -110,7 +110,7 @@ pub told_stops : {X : Type 0} (view : X → Told) (given : Given) (answer : Resu
     → (stop ≢ stops.Memory → with_error stop_of (boot given) ≡ Err stop)
     → Answers stops.Memory view answer (with_error stop_of (told_boot given))
 told_stops view given answer stop is stops_so =
-    rw is (λ other. stopped (boot given) (λ made. Ok (told given.kernel made)) stop (stops_so other))
+    rw is (λ other. stopped (boot given) (λ made. Ok (told given made)) stop (stops_so other))
 
 pub boot_stops : {X : Type 0} (view : X → Told) (given : Given) (answer : Result X Stop) (stop : Stop)
     → answer ≡ Err stop → Answers stops.Memory (made_of given) (Err stop) (with_error stop_of (map_judged given))
@@ -140,7 +140,7 @@ items_stop made (Err refused) stop is =
 
 -- the items that the stage of memory wants
 abbrev pub memory_said : Given → Made → Result (List Item) Refused
-memory_said given made = carried_out (first_items (reach given) given.kernel given.initrd made.map) made.items
+memory_said given made = carried_out (first_items (early_of given) made.map) made.items
 
 pub memory_stops : {X : Type 0} (view : X → Told) (given : Given) (made : Made) (answer : Result X Stop) (stop : Stop) → answer ≡ Err stop
     → with_error stop_of (map_judged given) ≡ Ok made → (stop ≢ stops.Memory → or_stop (memory_said given made) ≡ Err stop)
@@ -166,16 +166,18 @@ pub stages_stop : {X : Type 0} (view : X → Told) (given : Given) (made : Made)
 stages_stop view given made answer stop is comes stopped_so =
     told_stops view given answer stop is (λ other. ap (with_error stop_of) comes ∙ stopped_so other)
 
-pub boot_told : (given : Given) (made : Made) → boot given ≡ Ok made → told_boot given ≡ Ok (told given.kernel made)
-boot_told given made comes = ap (λ (said : Result Made Cause). said >>= λ m. Ok (told given.kernel m)) comes
+pub boot_told : (given : Given) (made : Made) → boot given ≡ Ok made → told_boot given ≡ Ok (told given made)
+boot_told given made comes = ap (λ (said : Result Made Cause). said >>= λ m. Ok (told given m)) comes
 
 -- the claims of a table that was finished
-pub claims-told : (given : Given) (c : Claims) (entries extension : List Entry) (edits : List Edit) → c ≡ finished entries extension edits
-    → entries ≡ given.entries → extension ≡ given.extension → edits ≡ given.options.edits → claims given ≡ c
-claims-told given c entries extension edits is first second third =
-    sym (is ∙ ap (λ (es : List Entry). finished es extension edits) first
-    ∙ ap (λ (es : List Entry). finished given.entries es edits) second
-    ∙ ap (λ (es : List Edit). finished given.entries given.extension es) third)
+pub claims-told : (given : Given) (c : Claims) (entries extension : List Entry) (edits : List Edit) (more : List Entry)
+    → c ≡ finished entries extension edits more
+    → entries ≡ given.entries → extension ≡ given.extension → edits ≡ given.options.edits → more ≡ added given → claims given ≡ c
+claims-told given c entries extension edits more is first second third fourth =
+    sym (is ∙ ap (λ (es : List Entry). finished es extension edits more) first
+    ∙ ap (λ (es : List Entry). finished given.entries es edits more) second
+    ∙ ap (λ (es : List Edit). finished given.entries given.extension es more) third
+    ∙ ap (λ (es : List Entry). finished given.entries given.extension given.options.edits es) fourth)
 
 -- an answer that is told with another error
 pub told_ok : {A E F : Type 0} (f : E → F) (said : Result A E) (a : A) → with_error f said ≡ Ok a → said ≡ Ok a

@@ -1,5 +1,6 @@
--- The items of a run by its type, the end of memory by its table, and the list of what is wanted in two parts.
-use Rattle.std.proofs.Common.{◌≡◌, ◌≢◌, ℕ, ◌+◌, ◌^◌, ◌<◌, ◌≤◌, ◌==◌, true, false, ◌&&◌, nat_lt, Option, Some, List, [], ◌∷◌, ◌++◌, length, get_or, drop, Ok, refl, sym, ◌∙◌, ap, subst, arith}
+-- The items of a run by its type, the end of memory by its table, and the list of what is wanted in its parts.
+use Rattle.std.proofs.Common.{◌≡◌, ◌≢◌, ℕ, ◌+◌, ◌^◌, ◌<◌, ◌≤◌, ◌==◌, true, false, ◌&&◌, nat_lt, Some, List, [], ◌∷◌, ◌++◌, length, get_or, drop, map, Ok, refl, sym, ◌∙◌, ap, subst, arith}
+use Rattle.std.specs.List.{All}
 use Rattle.std.proofs.lemmas.Bool.Decides.{nat_tests}
 use Rattle.std.proofs.lemmas.List.{append_assoc, at_drop_more}
 use Rattle.bm_base.specs.Extent.{Extent}
@@ -18,10 +19,14 @@ use Rattle.growth_model.specs.Carried.{carried_out}
 use Rattle.growth_model.proofs.MemoryItemLaws.{memory_of-same}
 use Rattle.growth_model.proofs.CarriedLaws.{carried-memory}
 use Rattle.early_stages.specs.declared.low.TheConstants.{ISA_END_ADDRESS}
-use Rattle.early_stages.specs.Memory.{end_behind, end_of_runs, memory_end, usable_memory}
-use Rattle.early_stages.specs.Wanted.{early_claims, first_items, items_of_map, items_of_run, part_below, up_to}
-use Rattle.early_stages.proofs.EndLaws.{end_reached, memory_end-is, runs_end_memory}
-use Rattle.early_stages.proofs.MemoryLaws.{trimmed-first}
+use Rattle.early_stages.specs.Early.{Early, FrameRange, bytes_of_frames}
+use Rattle.early_stages.specs.Memory.{end_behind, end_of_runs, memory_end, mirrored_memory, usable_memory}
+use Rattle.early_stages.specs.Wanted.{direction_items, early_claims, first_items, items_of_map, items_of_run, mirror_items, part_below}
+use Rattle.early_stages.proofs.EndLaws.{runs_end_memory}
+use Rattle.early_stages.proofs.MemoryLaws.{mirrored-first}
+use Rattle.boot_model.specs.Mirrors.{IsMirror, frames_in}
+use Rattle.boot_model.proofs.MirrorLaws.{mirror-frames}
+use Rattle.boot_stages.specs.Parts.{beginning, ending, mapping}
 
 -- the items of a run
 pub soft_run : (limit : ℕ) (r : RunOf ℕ) → r.value ≡ 0xEFFFFFFF → items_of_run limit r ≡ item.Claim (extent_of r) owner.Soft ∷ []
@@ -55,44 +60,49 @@ end_at {X} (r ∷ rs) n d long =
     let same : length rs ≡ n = omega arith in
     end_last 0 r rs d ∙ ap (λ (k : ℕ). run_end (get_or (r ∷ rs) k d)) same
 
--- what is wanted up to the trim
-abbrev pub opening : ℕ → Extent → Option Extent → List (RunOf ℕ) → List Item
-opening limit kernel initrd map =
-    early_claims kernel initrd ++ (item.Limit ISA_END_ADDRESS ∷ (items_of_map limit map ++ item.Trim ∷ []))
+-- the parts of what is wanted are all of it
+pub in_parts : (e : Early) (map : List (RunOf ℕ))
+    → beginning e ++ (mapping e map ++ ending (memory_end e.limit (value_at map))) ≡ first_items e map
+in_parts e map =
+    let last : List Item = ending (memory_end e.limit (value_at map)) in
+    append_assoc (early_claims e.kernel e.initrd) (item.Limit ISA_END_ADDRESS ∷ direction_items e.upward) (mapping e map ++ last)
+    ∙ ap (λ (t : List Item). early_claims e.kernel e.initrd ++ (item.Limit ISA_END_ADDRESS ∷ (direction_items e.upward ++ t)))
+    (append_assoc (items_of_map e.limit map) (item.Trim ∷ mirror_items e.mirrors) last)
 
--- and behind it
-abbrev pub ending : ℕ → List Item
-ending end = item.Limit end ∷ item.Claim (up_to ISA_END_ADDRESS) owner.Low1M ∷ []
+-- behind the first two parts memory is the usable frames, so its table tells its end
+pub mapped : (e : Early) (map : List (RunOf ℕ)) (items : List Item) → AreRuns map
+    → carried_out (beginning e ++ mapping e map) [] ≡ Ok items
+    → memory_of items ≡ mirrored_memory e.mirrors (usable_memory e.limit (value_at map))
+mapped e map items runs ends =
+    memory_of-same items (beginning e ++ mapping e map) (carried-memory (beginning e ++ mapping e map) [] items ends)
+    ∙ ap memory_of (append_assoc (early_claims e.kernel e.initrd) (item.Limit ISA_END_ADDRESS ∷ direction_items e.upward) (mapping e map))
+    ∙ (λ i x. mirrored-first e map runs x i)
 
-pub in_two : (limit : ℕ) (kernel : Extent) (initrd : Option Extent) (map : List (RunOf ℕ))
-    → opening limit kernel initrd map ++ ending (memory_end limit (value_at map)) ≡ first_items limit kernel initrd map
-in_two limit kernel initrd map =
-    append_assoc (early_claims kernel initrd) (item.Limit ISA_END_ADDRESS ∷ (items_of_map limit map ++ item.Trim ∷ []))
-    (ending (memory_end limit (value_at map)))
-    ∙ ap (λ (t : List Item). early_claims kernel initrd ++ (item.Limit ISA_END_ADDRESS ∷ t))
-    (append_assoc (items_of_map limit map) (item.Trim ∷ []) (ending (memory_end limit (value_at map))))
-
--- behind the first part memory is the usable frames, so its table tells its end
-pub mapped : (limit : ℕ) (kernel : Extent) (initrd : Option Extent) (map : List (RunOf ℕ)) (items : List Item) → AreRuns map
-    → carried_out (opening limit kernel initrd map) [] ≡ Ok items → memory_of items ≡ usable_memory limit (value_at map)
-mapped limit kernel initrd map items runs ends =
-    memory_of-same items (opening limit kernel initrd map) (carried-memory (opening limit kernel initrd map) [] items ends)
-    ∙ (λ i x. trimmed-first limit kernel initrd map runs x i)
-
-pub table_end : (limit : ℕ) (kernel : Extent) (initrd : Option Extent) (map : List (RunOf ℕ)) (items : List Item) → AreRuns map
-    → carried_out (opening limit kernel initrd map) [] ≡ Ok items → NothingFrom (2 ^ 64) (memory_of items)
-    → end_of_runs (records_of which.Memory items) ≡ memory_end limit (value_at map)
+pub table_end : (e : Early) (map : List (RunOf ℕ)) (items : List Item) → AreRuns map
+    → carried_out (beginning e ++ mapping e map) [] ≡ Ok items → NothingFrom (2 ^ 64) (memory_of items)
+    → end_of_runs (records_of which.Memory items) ≡ memory_end e.limit (value_at map)
 unfolding records_of
-table_end limit kernel initrd map items runs ends within =
+table_end e map items runs ends within =
     let are : IsRunsOf (memory_of items) (records_for (memory_of items)) = records_for-runs (memory_of items) within in
-    let memory = mapped limit kernel initrd map items runs ends in
-    runs_end_memory limit (value_at map) (records_for (memory_of items)) (record {
+    let memory = mapped e map items runs ends in
+    runs_end_memory e.limit (value_at map) e.mirrors (records_for (memory_of items)) (record {
       runs = are.runs;
       each = λ x. are.each x ∙ ap (λ (f : Labels). f x) memory;
     })
 
-pub end_within : (limit : ℕ) (map : List (RunOf ℕ)) → memory_end limit (value_at map) ≤ limit
-end_within limit map = (end_reached limit (value_at map) (memory_end limit (value_at map)) (memory_end-is limit (value_at map))).0
+-- the items of mirrored frames, and of what is left of them
+pub mirrors-append : (first rest : List FrameRange) → mirror_items (first ++ rest) ≡ mirror_items first ++ mirror_items rest
+mirrors-append [] rest = refl
+mirrors-append (r ∷ rs) rest = ap (λ (is : List Item). item.Mirror (bytes_of_frames r) ∷ is) (mirrors-append rs rest)
+
+pub mirrors_next : (rs : List Extent) (i : ℕ) (r : Extent) → i < length rs → r ≡ get_or rs i r → All IsMirror rs
+    → mirror_items (map frames_in (drop i rs)) ≡ item.Mirror r ∷ mirror_items (map frames_in (drop (i + 1) rs))
+mirrors_next rs i r low is whole =
+    let rest : List Item = mirror_items (map frames_in (drop (i + 1) rs)) in
+    let here : IsMirror r = subst IsMirror (sym is) (whole i r low) in
+    at_drop_more (λ (xs : List Extent). mirror_items (map frames_in xs)) rs i r low
+    ∙ ap (λ (s : Extent). item.Mirror (bytes_of_frames (frames_in s)) ∷ rest) (sym is)
+    ∙ ap (λ (s : Extent). item.Mirror s ∷ rest) (mirror-frames r here)
 
 -- the items of what is left of a map begin with those of its first run
 pub map_next : (limit : ℕ) (rs : List (RunOf ℕ)) (i : ℕ) (r : RunOf ℕ) → i < length rs → r ≡ get_or rs i r

@@ -1,5 +1,6 @@
 -- The places of sections, step by step.
 use Rattle.std.proofs.Common.{◌≡◌, List, Result, Ok, Err, refl, subst}
+use Rattle.bm_base.specs.declared.width.Width.{Width}
 use Rattle.memblock_model.specs.declared.item.Item.{Item}
 use Rattle.memblock_model.specs.Items.{memory_of}
 use Rattle.stage_model.specs.declared.section.Section.{Section}
@@ -20,40 +21,42 @@ abbrev behind_roots : List Section → RootsPlaced → Doing StageStop SectionPl
 behind_roots sections table = maps sections >>= λ placed. returns (record { roots = table; placed = placed })
 
 -- as the sections with memory end, so do all
-from_present : (r : Result SectionPlaces StageStop) (old new : List Item) (sections : List Section) → sections ≡ present (memory_of old)
-    → EndsAs stage.Memory r old new (sections_placed sections old) → EndsAs stage.Memory r old new (places_of_sections old)
+from_present : (width : Width) (r : Result SectionPlaces StageStop) (old new : List Item) (sections : List Section)
+    → sections ≡ present (memory_of old) → EndsAs stage.Memory r old new (sections_placed width sections old)
+    → EndsAs stage.Memory r old new (places_of_sections width old)
 unfolding places_of_sections
-from_present r old new sections is ends =
-    ends-second (present (memory_of old)) r stage.Memory old old new (seen (λ items. present (memory_of items))) sections_placed (
+from_present width r old new sections is ends =
+    ends-second (present (memory_of old)) r stage.Memory old old new (seen (λ items. present (memory_of items))) (sections_placed width) (
       refl,
       refl,
     )
-    (subst (λ (ss : List Section). EndsAs stage.Memory r old new (sections_placed ss old)) is ends)
+    (subst (λ (ss : List Section). EndsAs stage.Memory r old new (sections_placed width ss old)) is ends)
 
-pub places-first : (e : StageStop) (r : Result Sections StageStop) (y : StageStop) (old new : List Item) (sections : List Section)
-    → r ≡ Err y → y ≡ e → sections ≡ present (memory_of old) → EndsAs {A = RootsPlaced} stage.Memory (Err e) old new (roots sections old)
-    → EndsAs stage.Memory (ok_as places_view r) old new (places_of_sections old)
-places-first e r y old new sections is same present_is ends =
-    rw (is, same) (from_present (Err e) old new sections present_is
-    (ends-first e stage.Memory old new (roots sections) (behind_roots sections) ends))
+pub places-first : (width : Width) (e : StageStop) (r : Result Sections StageStop) (y : StageStop) (old new : List Item)
+    (sections : List Section) → r ≡ Err y → y ≡ e → sections ≡ present (memory_of old)
+    → EndsAs {A = RootsPlaced} stage.Memory (Err e) old new (roots width sections old)
+    → EndsAs stage.Memory (ok_as places_view r) old new (places_of_sections width old)
+places-first width e r y old new sections is same present_is ends =
+    rw (is, same) (from_present width (Err e) old new sections present_is
+    (ends-first e stage.Memory old new (roots width sections) (behind_roots sections) ends))
 
-pub places-second : (e : StageStop) (r : Result Sections StageStop) (y : StageStop) (old mid new : List Item) (sections : List Section)
-    (table : RootsPlaced) → r ≡ Err y → y ≡ e → sections ≡ present (memory_of old)
-    → EndsAs stage.Memory (Ok table) old mid (roots sections old)
+pub places-second : (width : Width) (e : StageStop) (r : Result Sections StageStop) (y : StageStop) (old mid new : List Item)
+    (sections : List Section) (table : RootsPlaced) → r ≡ Err y → y ≡ e → sections ≡ present (memory_of old)
+    → EndsAs stage.Memory (Ok table) old mid (roots width sections old)
     → EndsAs {A = List Placed} stage.Memory (Err e) mid new (maps sections mid)
-    → EndsAs stage.Memory (ok_as places_view r) old new (places_of_sections old)
-places-second e r y old mid new sections table is same present_is first ends =
-    rw (is, same) (from_present (Err e) old new sections present_is
-    (ends-second table (Err e) stage.Memory old mid new (roots sections) (behind_roots sections) first
+    → EndsAs stage.Memory (ok_as places_view r) old new (places_of_sections width old)
+places-second width e r y old mid new sections table is same present_is first ends =
+    rw (is, same) (from_present width (Err e) old new sections present_is
+    (ends-second table (Err e) stage.Memory old mid new (roots width sections) (behind_roots sections) first
     (ends-first e stage.Memory mid new (maps sections) (λ placed. returns (record { roots = table; placed = placed })) ends)))
 
-pub places-all : (old mid new : List Item) (sections : List Section) (table : RootsPlaced) (placed : List Placed)
-    → sections ≡ present (memory_of old) → EndsAs stage.Memory (Ok table) old mid (roots sections old)
+pub places-all : (width : Width) (old mid new : List Item) (sections : List Section) (table : RootsPlaced) (placed : List Placed)
+    → sections ≡ present (memory_of old) → EndsAs stage.Memory (Ok table) old mid (roots width sections old)
     → EndsAs stage.Memory (Ok placed) mid new (maps sections mid)
-    → EndsAs stage.Memory (Ok (record { roots = table; placed = placed })) old new (places_of_sections old)
-places-all old mid new sections table placed present_is first ends =
-    from_present (Ok (record { roots = table; placed = placed })) old new sections present_is
-    (ends-second table (Ok (record { roots = table; placed = placed })) stage.Memory old mid new (roots sections) (behind_roots
+    → EndsAs stage.Memory (Ok (record { roots = table; placed = placed })) old new (places_of_sections width old)
+places-all width old mid new sections table placed present_is first ends =
+    from_present width (Ok (record { roots = table; placed = placed })) old new sections present_is
+    (ends-second table (Ok (record { roots = table; placed = placed })) stage.Memory old mid new (roots width sections) (behind_roots
     sections) first
     (ends-second placed (Ok (record { roots = table; placed = placed })) stage.Memory mid new new (maps sections)
     (λ p. returns (record { roots = table; placed = p })) ends (refl, refl)))

@@ -19,6 +19,7 @@ use Rattle.boot_model.specs.Sections.{SectionPlaces}
 use Rattle.boot_model.specs.Stages.{in_order}
 use Rattle.boot_model.proofs.MemoryLaws.{crash_labels, lines_labels, section_labels}
 use Rattle.boot_model.proofs.NodedLaws.{nodes_known}
+use Rattle.boot_model.proofs.ReachLaws.{reach-small}
 use Rattle.boot_stages.specs.Boots.{AreRun, Comes, HoldsWith, LaterMade, at_memblock, begun_with, made_by_lines}
 use Rattle.boot_stages.proofs.BytesLaws.{holds-on}
 use Rattle.boot_stages.proofs.LaterLaws.{link-on}
@@ -48,14 +49,15 @@ pub record UpToLines (given : Given) (made : Made) (start mid second m : Content
     (answers : List Answer) : Type 0 where
   pub fills : List Filled
   pub come : in_order (drop 1 (later_stages given)) (begun_with made start)
-      ≡ in_order (has_sections ∷ runs_lines given.kernel (behind_sections given.lines) ∷ [])
+      ≡ in_order (has_sections given ∷ runs_lines given.kernel (behind_sections given.lines) ∷ [])
       (made_by_lines (behind_crash made start mid second nodes area) m ids fills answers)
-  pub noded : IsNoded (2 ^ 46) (memory_of m.journal.items)
+  pub noded : IsNoded (2 ^ 52) (memory_of m.journal.items)
   pub kernel : m.kernel ≡ given.kernel
   pub holds : HoldsWith fills m
 
 pub up_to_lines : (given : Given) (made : Made) (start mid second m : Contents) (nodes : Noded) (area : Crash) (live ids : Ids)
-    (told answers : List Answer) (before : List Line) → start.kernel ≡ given.kernel → IsFirst (reach given) start.journal.items → HoldsWith [] start
+    (told answers : List Answer) (before : List Line) → start.kernel ≡ given.kernel
+    → IsFirst (reach given) start.journal.items → HoldsWith [] start
     → ((n : Made) → Comes (has_nodes given) put_nodes n start mid (Ok nodes)) → GoesOn start mid
     → ((n : Made) → Comes (has_crash_area given) put_crash n mid second (Ok area)) → GoesOn mid second
     → live ≡ [] → told ≡ [] → before ≡ before_sections given.lines
@@ -77,9 +79,9 @@ up_to_lines given made start mid second m nodes area live ids told answers befor
     ap (λ (ls : List Line). runs_lines given.kernel ls s2) (sym lines)
     ∙ ap (λ (l : Ids). runs_lines given.kernel before (begins l [])) (sym no_ids)
     ∙ ap (λ (t : List Answer). runs_lines given.kernel before (begins live t)) (sym none_told) ∙ lines_end.come in
-    let behind : List Stage = has_sections ∷ runs_lines given.kernel (behind_sections given.lines) ∷ [] in
-    let noded_first : IsNoded (2 ^ 46) (memory_of mid.journal.items) =
-    noded-within (reach given) (2 ^ 46) (memory_of mid.journal.items) (nodes_known given s0 s1 first (nodes_come s0)) (omega arith) in
+    let behind : List Stage = has_sections given ∷ runs_lines given.kernel (behind_sections given.lines) ∷ [] in
+    let noded_first : IsNoded (2 ^ 52) (memory_of mid.journal.items) =
+    noded-within (reach given) (2 ^ 52) (memory_of mid.journal.items) (nodes_known given s0 s1 first (nodes_come s0)) (reach-small given) in
     let by_crash : memory_of second.journal.items ≡ memory_of mid.journal.items = crash_labels given s1 s2 (crash_come s1) in
     let by_lines : memory_of m.journal.items ≡ memory_of second.journal.items =
     lines_labels given.kernel (before_sections given.lines) s2 s3 comes in
@@ -88,7 +90,7 @@ up_to_lines given made start mid second m nodes area live ids told answers befor
       come = link-on (has_nodes given) (drop 2 (later_stages given)) s0 s1 (nodes_come s0)
           ∙ link-on (has_crash_area given) (drop 3 (later_stages given)) s1 s2 (crash_come s1)
           ∙ link-on (runs_lines given.kernel (before_sections given.lines)) behind s2 s3 comes;
-      noded = subst (λ (f : Labels). IsNoded (2 ^ 46) f) (sym (by_lines ∙ by_crash)) noded_first;
+      noded = subst (λ (f : Labels). IsNoded (2 ^ 52) f) (sym (by_lines ∙ by_crash)) noded_first;
       kernel = same ∙ second_kernel;
       holds = lines_end.holds;
     }
@@ -102,7 +104,7 @@ pub all_run : (given : Given) (made : Made) (start mid second m next last : Cont
     SectionPlaces)
     (ids final : Ids) (answers told : List Answer) (behind : List Line)
     → UpToLines given made start mid second m nodes area ids answers
-    → ((n : Made) → Comes has_sections put_sections n m next (Ok places)) → GoesOn m next
+    → ((n : Made) → Comes (has_sections given) put_sections n m next (Ok places)) → GoesOn m next
     → behind ≡ behind_sections given.lines
     → ((fills : List Filled) → Holds next.kernel next.journal.items fills (bytes_in next)
     → Reaches (after_lines (stage_of ids next fills answers) behind) final last told)
@@ -118,7 +120,7 @@ all_run given made start mid second m next last nodes area places ids final answ
     let s5 : Made = made_by_lines s4 last final lines_end.fills told in
     let comes : runs_lines given.kernel (behind_sections given.lines) s4 ≡ Ok s5 =
     ap (λ (ls : List Line). runs_lines given.kernel ls s4) (sym lines) ∙ lines_end.come in
-    let by_sections : memory_of next.journal.items ≡ memory_of m.journal.items = section_labels s3 s4 (sections_come s3) in
+    let by_sections : memory_of next.journal.items ≡ memory_of m.journal.items = section_labels given s3 s4 (sections_come s3) in
     let by_lines : memory_of last.journal.items ≡ memory_of next.journal.items =
     lines_labels given.kernel (behind_sections given.lines) s4 s5 comes in
     record {
@@ -126,10 +128,9 @@ all_run given made start mid second m next last nodes area places ids final answ
         ids = final;
         fills = lines_end.fills;
         kernel = same ∙ kernel;
-        come = up.come ∙ link-on has_sections (runs_lines given.kernel (behind_sections given.lines) ∷ []) s3 s4 (sections_come s3)
+        come = up.come ∙ link-on (has_sections given) (runs_lines given.kernel (behind_sections given.lines) ∷ []) s3 s4 (sections_come s3)
             ∙ link-on (runs_lines given.kernel (behind_sections given.lines)) [] s4 s5 comes;
         holds = lines_end.holds;
       };
-      noded = noded-within (2 ^ 46) (2 ^ 52) (memory_of last.journal.items)
-          (subst (λ (f : Labels). IsNoded (2 ^ 46) f) (sym (by_lines ∙ by_sections)) up.noded) (omega arith);
+      noded = subst (λ (f : Labels). IsNoded (2 ^ 52) f) (sym (by_lines ∙ by_sections)) up.noded;
     }

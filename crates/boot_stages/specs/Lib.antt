@@ -1,3 +1,4 @@
 pub mod Boots
 pub mod Carries
 pub mod Ended
+pub mod Parts

@@ -20,6 +20,7 @@ ghost use Rattle.boot_model.specs.View.{inputs_view};
 ghost use Rattle.boot_stages.specs.Boots.{AreRun, AreStopped, Comes, HoldsWith, begun_with, later_view, places_view, stop_of_stage};
 
 use crate::memory::stopped;
+use bm_base::Width;
 use boot_model::{Inputs, Stop};
 use crash_kernel::{Crash, reserve};
 use early_script::{Answer, Live, run_lines, split_at_sections};
@@ -94,29 +95,30 @@ fn reserve_area(memblock: &mut Memblock, inputs: &Inputs) -> Result<Crash, Stop>
 }
 
 /// The sections that have memory get their roots, and then their usage data and maps (`sparse_init`).
-fn place_sections(alloc: Global, memblock: &mut Memblock) -> Result<Sections, Stop>
+fn place_sections(alloc: Global, memblock: &mut Memblock, inputs: &Inputs) -> Result<Sections, Stop>
     requires begun { HasBegun memblock.old.journal.items }
-    requires noded { IsNoded (2 ^ 46) (memory_of memblock.old.journal.items) }
-    ensures comes { (made : Made) → Comes has_sections put_sections made memblock.old memblock.new (ok_as places_view result) }
+    requires noded { IsNoded (2 ^ 52) (memory_of memblock.old.journal.items) }
+    ensures comes { (made : Made) → Comes (has_sections (inputs_view inputs.now)) put_sections made memblock.old memblock.new
+        (ok_as places_view result) }
     ensures begun { HasBegun memblock.new.journal.items }
     ensures lent { GoesOn memblock.old memblock.new }
 {
-    match place_all(alloc, memblock) {
+    match place_all(alloc, memblock, inputs.width) {
         Ok(sections) => Ok(sections),
         Err(stop) => Err(stop_of_stage(stop)),
     }
 }
 
-fn place_all(alloc: Global, memblock: &mut Memblock) -> Result<Sections, StageStop>
+fn place_all(alloc: Global, memblock: &mut Memblock, width: Width) -> Result<Sections, StageStop>
     requires begun { HasBegun memblock.old.journal.items }
-    requires noded { IsNoded (2 ^ 46) (memory_of memblock.old.journal.items) }
+    requires noded { IsNoded (2 ^ 52) (memory_of memblock.old.journal.items) }
     ensures ends { EndsAs stage.Memory (ok_as places_view result) memblock.old.journal.items memblock.new.journal.items
-        (places_of_sections memblock.old.journal.items) }
+        (places_of_sections width memblock.old.journal.items) }
     ensures lent { GoesOn memblock.old memblock.new }
 {
     stand_still(memblock);
     let sections = present(alloc, memblock.tables())?;
-    let roots = place_roots(alloc, memblock, &sections)?;
+    let roots = place_roots(alloc, memblock, &sections, width)?;
     let placed = place_maps(alloc, memblock, &sections)?;
     Ok(Sections { roots, placed })
 }
@@ -140,7 +142,7 @@ pub fn run_stages(alloc: Global, memblock: &mut Memblock, inputs: &Inputs) -> Re
     let mut answers = Vec::new(alloc);
     let (before, behind) = split_at_sections(&inputs.lines);
     run_lines(&mut live, memblock, before, &mut answers)?;
-    let sections = place_sections(alloc, memblock)?;
+    let sections = place_sections(alloc, memblock, inputs)?;
     run_lines(&mut live, memblock, behind, &mut answers)?;
     Ok(Later {
         nodes,

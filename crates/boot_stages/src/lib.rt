@@ -6,8 +6,10 @@
 //! that it carries out.
 //!
 //! Behind the map memory comes up (`src/memory.rt`): the first claims, the runs of the map as memory, whole
-//! frames of it, and the first MiB, each a call of memblock in the order of what is wanted. A table that has to grow and
-//! finds no place stops the boot.
+//! frames of it, what of it is mirrored, and the first MiB, each a call of memblock in the order of what is wanted. A table that has to
+//! grow and finds no place stops the boot.
+//!
+//! The page script comes last (`src/pages.rt`), on a copy of what was handed over.
 //!
 //! What judges takes no memory: it answers a [`Cause`](boot_model::Cause), which want of memory isn't.
 //! So a boot that stops at its map says so whenever the table could tell the map at all
@@ -21,6 +23,7 @@ mod later;
 mod laws;
 mod map;
 mod memory;
+mod pages;
 mod stages;
 
 pub use laws::map_is_judged;

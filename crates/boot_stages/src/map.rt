@@ -3,39 +3,56 @@
 
 ghost use Rattle.std.specs.Prelude.{◌≡◌, ◌↔◌, IfOk, IsErrOf, OnOk};
 ghost use Rattle.address_runs.specs.Runs.{AreRuns, value_at};
-ghost use Rattle.e820_model.specs.Claims.{EndInSpace, HaveTypes, finished, with_edits, with_extension};
+ghost use Rattle.e820_model.specs.Claims.{EndInSpace, HaveTypes, finished, with_extension, with_options};
 ghost use Rattle.e820_model.specs.Map.{claims_of};
 ghost use Rattle.bm_base.specs.Answers.{Answers};
 ghost use Rattle.e820_model.specs.Usable.{reachable};
 ghost use Rattle.e820_usable.specs.Judged.{judged};
+ghost use Rattle.boot_model.specs.Boot.{added};
+ghost use Rattle.boot_model.specs.View.{inputs_view};
 ghost use Rattle.boot_stages.specs.Boots.{judged_answer, goes_on_with};
 
 use bm_base::Memory;
-use boot_model::{Cause, Stop};
+use boot_model::{Cause, Inputs, Stop};
 use boot_options::Edit;
 use e820_sanitise::{MapFault, Run, Table};
 use e820_table::Entry;
 use e820_usable::judge;
 use std::alloc::Global;
 
-/// The table of the finished map.
+/// The table of the finished map: the zero page's entries, the extension's, the options' edits, and the entries that are
+/// added behind them.
 pub fn finished_table(
     alloc: Global,
     entries: &[Entry],
     extension: &[Entry],
     edits: &[Edit],
+    added: &[Entry],
 ) -> Result<Table, Memory>
     requires entries_end { EndInSpace entries.now }
     requires extension_ends { EndInSpace extension.now }
     requires types { HaveTypes edits.now }
-    ensures { IfOk result (λ table. claims_of table ≡ finished entries.now extension.now edits.now) }
+    requires added_end { EndInSpace added.now }
+    ensures { IfOk result (λ table. claims_of table ≡ finished entries.now extension.now edits.now added.now) }
 {
     let mut table = Table::new(alloc);
     append_settled(&mut table, entries)?;
     append_settled(&mut table, extension)?;
-    edit_settled(&mut table, edits)?;
+    edit_settled(&mut table, edits, added)?;
     table.trim_bios()?;
     Ok(table)
+}
+
+/// The entries of the firmware's own map, where there is one and the command line asks for them; else none
+/// (`add_efi_memmap`).
+pub fn added_entries(inputs: &Inputs) -> &[Entry]
+    ensures value { result.now ≡ added (inputs_view inputs.now) }
+    ensures space { EndInSpace result.now }
+{
+    match &inputs.efi {
+        Some(efi) if inputs.options.add_efi => &efi.entries,
+        _ => &[],
+    }
 }
 
 /// Appends the entries, and settles the table (`e820__memory_setup`, `e820__memory_setup_extended`).
@@ -47,15 +64,17 @@ fn append_settled(table: &mut Table, entries: &[Entry]) -> Result<(), Memory>
     table.settle()
 }
 
-/// Edits the table, and settles it (`e820__finish_early_params`).
-fn edit_settled(table: &mut Table, edits: &[Edit]) -> Result<(), Memory>
-    requires { HaveTypes edits.now }
-    ensures { OnOk result (claims_of table.new ≡ with_edits edits.now (claims_of table.old)) }
+/// Edits the table, appends the entries that are added (`do_add_efi_memmap`), and settles it
+/// (`e820__finish_early_params`).
+fn edit_settled(table: &mut Table, edits: &[Edit], added: &[Entry]) -> Result<(), Memory>
+    requires types { HaveTypes edits.now }
+    requires added_end { EndInSpace added.now }
+    ensures { OnOk result (claims_of table.new ≡ with_options edits.now added.now (claims_of table.old)) }
 {
     for edit in edits {
         table.edit(edit)?;
     }
-    table.settle()
+    append_settled(table, added)
 }
 
 /// The map that the table answers, where a boot goes on with it: it has usable frames within reach, and

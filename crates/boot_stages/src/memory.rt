@@ -1,22 +1,25 @@
-//! Memory by the map: the first claims, what the map says is memory, and the first MiB. Each call carries out a part of
+//! Memory by the map: the first claims, what the map says is memory and what of it is mirrored, and the first MiB. Each call carries out a part of
 //! the list of what a boot wants, in its order; the growth that comes between is memblock's.
 
-ghost use Rattle.std.specs.Prelude.{◌≡◌, ◌≢◌, ◌-◌, ◌+◌, ◌^◌, ◌<◌, ◌∷◌, ◌++◌, [], ℕ, Some, min, length, IfOk, IfSome, OnOk};
+ghost use Rattle.std.specs.Prelude.{◌≡◌, ◌≢◌, ◌-◌, ◌+◌, ◌<◌, ◌++◌, [], min, map, IfOk, IfSome, OnOk};
+ghost use Rattle.std.specs.List.{All};
 ghost use Rattle.bm_base.specs.Answers.{Answers};
-ghost use Rattle.address_runs.specs.Runs.{AreRuns, value_at};
-ghost use Rattle.memblock_model.specs.declared.item.Item.TheVariants as item;
-ghost use Rattle.memblock_model.specs.declared.owner.Owner.TheVariants as owner;
-ghost use Rattle.growth_model.specs.Sound.{HasBegun, IsImage};
+ghost use Rattle.address_runs.specs.Runs.{AreRuns};
+ghost use Rattle.growth_model.specs.Sound.{HasBegun};
 ghost use Rattle.growth_model.specs.Carried.{carried_out};
 ghost use Rattle.stage_calls.specs.Lent.{GoesOn};
-ghost use Rattle.early_stages.specs.Memory.{end_of_runs, memory_end};
-ghost use Rattle.early_stages.specs.Wanted.{early_claims, first_items, items_of_map, items_of_run, up_to};
+ghost use Rattle.early_stages.specs.Memory.{end_of_runs};
+ghost use Rattle.early_stages.specs.Wanted.{direction_items, early_claims, first_items, items_of_map, items_of_run, mirror_items, up_to};
+ghost use Rattle.boot_model.specs.Boot.{early_of, mirrors_of};
+ghost use Rattle.boot_model.specs.Mirrors.{IsMirror, frames_in};
+ghost use Rattle.boot_model.specs.View.{inputs_view};
 ghost use Rattle.boot_stages.specs.Boots.{HoldsWith};
 ghost use Rattle.boot_stages.specs.Carries.{Carries, or_stop, stop_for};
+ghost use Rattle.boot_stages.specs.Parts.{beginning, ending, mapping};
 
-use bm_base::Range;
+use bm_base::{Memory, Range};
 use boot_journal::Owner;
-use boot_model::Stop;
+use boot_model::{Inputs, Stop};
 use e820_model::E820_TYPE_SOFT_RESERVED;
 use e820_sanitise::Run;
 use e820_usable::is_memory;
@@ -116,38 +119,84 @@ fn end_of_memory(tables: &Tables) -> u64
     last.base + last.size
 }
 
-/// The first claims are made, and the map becomes memory, whole frames of it (`e820__memblock_setup`).
-fn map_memory(
-    memblock: &mut Memblock,
-    kernel: Range,
-    initrd: Option<Range>,
-    map: &[Run],
-    reach: u64,
-) -> Result<(), Refusal>
+/// Where it was asked for, places are looked for from the lowest address up (`memblock_set_bottom_up`).
+fn turn_upward(memblock: &mut Memblock, upward: bool) -> Result<(), Memory>
+    requires { HasBegun memblock.old.journal.items }
+    ensures ok { OnOk result (memblock.new.journal.items ≡ memblock.old.journal.items ++ direction_items upward) }
+    ensures lent { GoesOn memblock.old memblock.new }
+{
+    stand_still(memblock);
+    if upward {
+        return memblock.set_upward(true);
+    }
+    Ok(())
+}
+
+/// The first claims are made, and allocations stay in the first MiB until memory is known.
+fn begin_memory(memblock: &mut Memblock, inputs: &Inputs) -> Result<(), Refusal>
     requires first { memblock.old.journal.items ≡ [] }
-    requires kernel { kernel ≡ memblock.old.kernel }
-    requires image { 0 < kernel.size }
-    requires initrd { IfSome initrd (λ range. 0 < range.size) }
-    requires runs { AreRuns map.now }
-    ensures carries { Carries result
-        (early_claims kernel initrd ++ (item.Limit ISA_END_ADDRESS ∷ (items_of_map reach map.now ++ item.Trim ∷ [])))
+    requires kernel { inputs.now.kernel ≡ memblock.old.kernel }
+    ensures carries { Carries result (beginning (early_of (inputs_view inputs.now)))
         memblock.old.journal.items memblock.new.journal.items }
     ensures begun { OnOk result (HasBegun memblock.new.journal.items) }
     ensures lent { GoesOn memblock.old memblock.new }
 {
-    claim_early(memblock, kernel, initrd)?;
+    claim_early(memblock, inputs.kernel, inputs.zero.initrd)?;
     memblock.set_limit(ISA_END_ADDRESS)?;
-    add_map(memblock, map, reach)?;
-    memblock.trim()?;
+    turn_upward(memblock, inputs.upward)?;
     Ok(())
+}
+
+/// The memory of the ranges, which are whole frames, is mirrored, one after another (`efi_find_mirror`).
+fn add_mirrors(memblock: &mut Memblock, mirrors: &[Range]) -> Result<(), Refusal>
+    requires whole { All IsMirror mirrors.now }
+    requires begun { HasBegun memblock.old.journal.items }
+    ensures carries { Carries result (mirror_items (map frames_in mirrors.now))
+        memblock.old.journal.items memblock.new.journal.items }
+    ensures begun { HasBegun memblock.new.journal.items }
+    ensures lent { GoesOn memblock.old memblock.new }
+{
+    stand_still(memblock);
+    for mirror in mirrors {
+        memblock.set_mirror(*mirror)?;
+    }
+    Ok(())
+}
+
+/// What the words say is mirrored, and then what the firmware's own map says.
+fn mirror_memory(memblock: &mut Memblock, inputs: &Inputs) -> Result<(), Refusal>
+    requires { HasBegun memblock.old.journal.items }
+    ensures carries { Carries result (mirror_items (mirrors_of (inputs_view inputs.now)))
+        memblock.old.journal.items memblock.new.journal.items }
+    ensures begun { HasBegun memblock.new.journal.items }
+    ensures lent { GoesOn memblock.old memblock.new }
+{
+    add_mirrors(memblock, &inputs.mirrors)?;
+    match &inputs.efi {
+        Some(efi) => add_mirrors(memblock, &efi.mirrors),
+        None => Ok(()),
+    }
+}
+
+/// The map becomes memory, whole frames of it (`e820__memblock_setup`), of which some are mirrored.
+fn map_memory(memblock: &mut Memblock, inputs: &Inputs, map: &[Run]) -> Result<(), Refusal>
+    requires begun { HasBegun memblock.old.journal.items }
+    requires runs { AreRuns map.now }
+    ensures carries { Carries result (mapping (early_of (inputs_view inputs.now)) map.now)
+        memblock.old.journal.items memblock.new.journal.items }
+    ensures begun { OnOk result (HasBegun memblock.new.journal.items) }
+    ensures lent { GoesOn memblock.old memblock.new }
+{
+    add_map(memblock, map, inputs.reach())?;
+    memblock.trim()?;
+    mirror_memory(memblock, inputs)
 }
 
 /// What is allocated stays below the address, and the first MiB is claimed (`memblock_set_current_limit`,
 /// `reserve_real_mode`).
 fn limit_memory(memblock: &mut Memblock, end: u64) -> Result<(), Refusal>
     requires { HasBegun memblock.old.journal.items }
-    ensures carries { Carries result (item.Limit end ∷ item.Claim (up_to ISA_END_ADDRESS) owner.Low1M ∷ [])
-        memblock.old.journal.items memblock.new.journal.items }
+    ensures carries { Carries result (ending end) memblock.old.journal.items memblock.new.journal.items }
     ensures begun { OnOk result (HasBegun memblock.new.journal.items) }
     ensures lent { GoesOn memblock.old memblock.new }
 {
@@ -156,24 +205,17 @@ fn limit_memory(memblock: &mut Memblock, end: u64) -> Result<(), Refusal>
 }
 
 /// All of it, in a memblock to which nothing happened yet.
-fn set_up(
-    memblock: &mut Memblock,
-    kernel: Range,
-    initrd: Option<Range>,
-    map: &[Run],
-    reach: u64,
-) -> Result<(), Refusal>
+fn set_up(memblock: &mut Memblock, inputs: &Inputs, map: &[Run]) -> Result<(), Refusal>
     requires first { memblock.old.journal.items ≡ [] }
-    requires kernel { kernel ≡ memblock.old.kernel }
-    requires image { 0 < kernel.size }
-    requires initrd { IfSome initrd (λ range. 0 < range.size) }
+    requires kernel { inputs.now.kernel ≡ memblock.old.kernel }
     requires runs { AreRuns map.now }
-    ensures carries { Carries result (first_items reach kernel initrd map.now)
+    ensures carries { Carries result (first_items (early_of (inputs_view inputs.now)) map.now)
         memblock.old.journal.items memblock.new.journal.items }
     ensures begun { OnOk result (HasBegun memblock.new.journal.items) }
     ensures lent { GoesOn memblock.old memblock.new }
 {
-    map_memory(memblock, kernel, initrd, map, reach)?;
+    begin_memory(memblock, inputs)?;
+    map_memory(memblock, inputs, map)?;
     let end = end_of_memory(memblock.tables());
     limit_memory(memblock, end)
 }
@@ -190,25 +232,17 @@ pub fn stopped(refusal: Refusal) -> Stop
     }
 }
 
-/// Memory as the map says it below `reach`, with what is claimed before nodes are known.
-pub fn make_memory(
-    alloc: Global,
-    kernel: Range,
-    initrd: Option<Range>,
-    map: &[Run],
-    reach: u64,
-) -> Result<Memblock, Stop>
-    requires image { IsImage kernel }
-    requires initrd { IfSome initrd (λ range. 0 < range.size) }
+/// Memory as the map says it within reach, with what is claimed before nodes are known.
+pub fn make_memory(alloc: Global, inputs: &Inputs, map: &[Run]) -> Result<Memblock, Stop>
     requires runs { AreRuns map.now }
     ensures answers { Answers Stop.Memory (λ memblock. memblock.journal.items) result
-        (or_stop (carried_out (first_items reach kernel initrd map.now) [])) }
-    ensures kernel { IfOk result (λ memblock. memblock.kernel ≡ kernel) }
+        (or_stop (carried_out (first_items (early_of (inputs_view inputs.now)) map.now) [])) }
+    ensures kernel { IfOk result (λ memblock. memblock.kernel ≡ inputs.now.kernel) }
     ensures begun { IfOk result (λ memblock. HasBegun memblock.journal.items) }
     ensures bytes { IfOk result (λ memblock. HoldsWith [] memblock) }
 {
-    let mut memblock = Memblock::new(alloc, kernel)?;
-    match set_up(&mut memblock, kernel, initrd, map, reach) {
+    let mut memblock = Memblock::new(alloc, inputs.kernel)?;
+    match set_up(&mut memblock, inputs, map) {
         Ok(()) => Ok(memblock),
         Err(refusal) => Err(stopped(refusal)),
     }

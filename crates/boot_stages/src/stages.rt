@@ -8,6 +8,7 @@ ghost use Rattle.e820_model.specs.Map.{claims_of};
 ghost use Rattle.boot_model.specs.Boot.{Given, Made, begin_with, boot, claims, map_judged, reach, told_boot};
 ghost use Rattle.boot_model.specs.View.{booted_view, inputs_view};
 ghost use Rattle.conservation.specs.Headline.{AllTouchedOrInOne, BlocksAreMaximal, BlocksAreWhole, NoOtherInABlock};
+ghost use Rattle.conservation.specs.Paged.{AllInOneOrHeld, NoOtherInOneOrHeld};
 ghost use Rattle.bm_base.specs.Answers.{Answers};
 ghost use Rattle.bm_base.specs.ResultSteps.{with_error};
 ghost use Rattle.boot_model.specs.Stop.{stop_of};
@@ -15,14 +16,14 @@ ghost use Rattle.memblock_model.specs.declared.which.Which.TheVariants as which;
 ghost use Rattle.phys_store.specs.Bytes.{byte_of};
 ghost use Rattle.growth_model.specs.Sound.{HasBegun};
 ghost use Rattle.growth_model.specs.Bytes.{byte};
-ghost use Rattle.boot_options.specs.Options.{chosen};
 ghost use Rattle.boot_stages.specs.Boots.{IsSpelledFree, TableStands};
 ghost use Rattle.boot_stages.specs.Ended.{ended_view};
 
 use crate::handover::{End, hand_over_memory};
 use crate::later::{Later, Sections, run_stages};
-use crate::map::{finished_table, judged_map};
+use crate::map::{added_entries, finished_table, judged_map};
 use crate::memory::make_memory;
+use crate::pages::{Paged, run_pages};
 use boot_model::{Booted, Inputs, Stop};
 use e820_sanitise::{Run, Table};
 use std::alloc::Global;
@@ -31,7 +32,8 @@ use std::alloc::Global;
 /// one table, the BIOS's part of it is trimmed (`trim_bios_range`), its map is judged, and what it says is
 /// memory becomes memory (`e820__memblock_setup`). Memory gets its nodes (`initmem_init`), the crash area is reserved
 /// (`reserve_crashkernel`), the lines of the early script are carried out around the places of the sections (`sparse_init`),
-/// and the frames of which nobody has a byte are free (`memblock_free_all`).
+/// and the frames of which nobody has a byte are free (`memblock_free_all`). Each node's requests get their order of zones
+/// (`build_zonelists`), and the lines of the page script are carried out on a copy of the free frames.
 ///
 /// The map is refused exactly where the definition stops: first where it has more than 3,200 runs, then where no
 /// frame of it is usable, then where more than 2^32 are. Behind it the boot stops exactly where a table had to grow
@@ -50,8 +52,15 @@ pub fn boot(alloc: Global, inputs: Inputs) -> Result<Booted, Stop>
     ensures others { IfOk result (λ booted. NoOtherInABlock (inputs_view inputs) (booted_view booted)) }
     ensures whole { IfOk result (λ booted. BlocksAreWhole (inputs_view inputs) (booted_view booted)) }
     ensures maximal { IfOk result (λ booted. BlocksAreMaximal (inputs_view inputs) (booted_view booted)) }
+    ensures paged { IfOk result (λ booted. AllInOneOrHeld (booted_view booted)) }
+    ensures none_paged { IfOk result (λ booted. NoOtherInOneOrHeld (booted_view booted)) }
 {
-    let Ended { map, later, end } = boot_by(alloc, &inputs)?;
+    let Ended {
+        map,
+        later,
+        end,
+        paged,
+    } = boot_by(alloc, &inputs)?;
     let Later {
         nodes,
         crash,
@@ -67,6 +76,7 @@ pub fn boot(alloc: Global, inputs: Inputs) -> Result<Booted, Stop>
         buddy,
     } = end;
     Ok(Booted {
+        width: inputs.width,
         map,
         options: inputs.options,
         journal,
@@ -79,20 +89,24 @@ pub fn boot(alloc: Global, inputs: Inputs) -> Result<Booted, Stop>
         answers,
         spans,
         buddy,
+        lists: paged.lists,
+        page_answers: paged.answers,
+        after: paged.after,
     })
 }
 
-/// What the stages made, and what is handed over.
+/// What the stages made, and what is handed over. The page script ran on a copy of that.
 #[derive(Drop)]
 struct Ended {
     map: Vec<Run>,
     later: Later,
     end: End,
+    paged: Paged,
 }
 
 /// The stages in their order. The inputs are lent, since the options stand in what the boot makes.
 fn boot_by(alloc: Global, inputs: &Inputs) -> Result<Ended, Stop>
-    ensures boots { Answers Stop.Memory (ended_view (chosen inputs.now.options)) result
+    ensures boots { Answers Stop.Memory (ended_view (inputs_view inputs.now)) result
         (with_error stop_of (told_boot (inputs_view inputs.now))) }
     ensures bytes { IfOk result (λ ended. (made : Made) → boot (inputs_view inputs.now) ≡ Ok made →
         (x : ℕ) → byte_of ended.end.store x ≡ byte inputs.now.kernel made.items made.fills x) }
@@ -108,13 +122,20 @@ fn boot_by(alloc: Global, inputs: &Inputs) -> Result<Ended, Stop>
         &inputs.zero.entries,
         &inputs.ext,
         &inputs.options.edits,
+        added_entries(inputs),
     )?;
     let reach = inputs.reach();
     let map = settled_map(&table, reach)?;
-    let mut memblock = make_memory(alloc, inputs.kernel, inputs.zero.initrd, &map, reach)?;
+    let mut memblock = make_memory(alloc, inputs, &map)?;
     let later = run_stages(alloc, &mut memblock, inputs)?;
     let end = hand_over_memory(alloc, memblock)?;
-    Ok(Ended { map, later, end })
+    let paged = run_pages(alloc, inputs, &later.nodes, &end)?;
+    Ok(Ended {
+        map,
+        later,
+        end,
+        paged,
+    })
 }
 
 /// The map of the table's claims, where the boot goes on with it.

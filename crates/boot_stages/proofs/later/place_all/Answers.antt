@@ -22,7 +22,7 @@ pub present-requires : goal.present-requires
 present-requires c =
     let items : List Item = c.args.memblock.now.journal.items in
     let told : All IsWholeNoded (records_of which.Memory items) =
-    noded-records (memory_of items) (records_of which.Memory items) (noded-runs (2 ^ 46) items (omega arith) c.requires.noded)
+    noded-records (memory_of items) (records_of which.Memory items) (noded-runs (2 ^ 52) items (omega arith) c.requires.noded)
     c.requires.noded in
     subst (λ (rs : List (RunOf Label)). All IsWholeNoded rs) (sym (ap (λ (t : Table). t.records) c.tables.ensures.memory)) told
 
@@ -33,11 +33,10 @@ returns-in_err-roots-clause-ends c =
     let is : sections ≡ present (memory_of items) =
     c.deref.ensures.value ∙ c.in_ok-sections.ensures
     ∙ ap (λ (t : Table). present (value_at t.records)) c.tables.ensures.memory
-    ∙ ap present (noded-told (2 ^ 46) items (omega arith) c.requires.noded) in
+    ∙ ap present (noded-told (2 ^ 52) items (omega arith) c.requires.noded) in
     let p = err_from_is_err_and c.from_residual-in_err-roots.result c.from_residual-in_err-roots.ensures.1 in
-    places-first c.in_err-roots.field-0.0 c.from_residual-in_err-roots.result p.0 items c.place_roots.new.memblock.journal.items
-    sections p.1 p.2 is
-    c.in_err-roots.ensures.ends
+    places-first c.args.width c.in_err-roots.field-0.0 c.from_residual-in_err-roots.result p.0 items
+    c.place_roots.new.memblock.journal.items sections p.1 p.2 is c.in_err-roots.ensures.ends
 
 pub place_maps-requires-clause-few : goal.place_maps-requires-clause-few
 place_maps-requires-clause-few c =
@@ -53,11 +52,12 @@ returns-in_err-placed-clause-ends c =
     let is : sections ≡ present (memory_of items) =
     c.deref.ensures.value ∙ c.in_ok-sections.ensures
     ∙ ap (λ (t : Table). present (value_at t.records)) c.tables.ensures.memory
-    ∙ ap present (noded-told (2 ^ 46) items (omega arith) c.requires.noded) in
+    ∙ ap present (noded-told (2 ^ 52) items (omega arith) c.requires.noded) in
     let same : c.deref-2.result.now ≡ sections = c.deref-2.ensures.value ∙ sym c.deref.ensures.value in
     let p = err_from_is_err_and c.from_residual-in_err-placed.result c.from_residual-in_err-placed.ensures.1 in
-    places-second c.in_err-placed.field-0.0 c.from_residual-in_err-placed.result p.0 items c.place_roots.new.memblock.journal.items
-    c.place_maps.new.memblock.journal.items sections (roots_view c.in_ok-roots.roots) p.1 p.2 is c.in_ok-roots.ensures.ends
+    places-second c.args.width c.in_err-placed.field-0.0 c.from_residual-in_err-placed.result p.0 items
+    c.place_roots.new.memblock.journal.items c.place_maps.new.memblock.journal.items sections (roots_view c.in_ok-roots.roots) p.1 p.2 is
+    c.in_ok-roots.ensures.ends
     (rw (← same) c.in_err-placed.ensures.ends)
 
 pub returns-in_err-placed-clause-lent : goal.returns-in_err-placed-clause-lent
@@ -72,9 +72,9 @@ returns-clause-ends c =
     let is : sections ≡ present (memory_of items) =
     c.deref.ensures.value ∙ c.in_ok-sections.ensures
     ∙ ap (λ (t : Table). present (value_at t.records)) c.tables.ensures.memory
-    ∙ ap present (noded-told (2 ^ 46) items (omega arith) c.requires.noded) in
+    ∙ ap present (noded-told (2 ^ 52) items (omega arith) c.requires.noded) in
     let same : c.deref-2.result.now ≡ sections = c.deref-2.ensures.value ∙ sym c.deref.ensures.value in
-    places-all items c.place_roots.new.memblock.journal.items c.place_maps.new.memblock.journal.items sections
+    places-all c.args.width items c.place_roots.new.memblock.journal.items c.place_maps.new.memblock.journal.items sections
     (roots_view c.in_ok-roots.roots) c.in_ok-placed.placed.items is c.in_ok-roots.ensures.ends (rw (← same) c.in_ok-placed.ensures.ends)
 
 pub returns-clause-lent : goal.returns-clause-lent

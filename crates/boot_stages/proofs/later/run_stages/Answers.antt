@@ -72,7 +72,7 @@ returns-in_err-sections-clause-stopped c =
     if_err c.from_residual-in_err-sections.result (λ stop. (made : Made) → AreStopped given (begun_with made m) stop) p.0
     c.in_err-sections.field-0.0 p.1 p.2
     (λ made some. ap (with_error stop_of) (up made).come
-    ∙ link-stops has_sections (runs_lines given.kernel (behind_sections given.lines) ∷ []) (at made) c.in_err-sections.field-0.0
+    ∙ link-stops (has_sections given) (runs_lines given.kernel (behind_sections given.lines) ∷ []) (at made) c.in_err-sections.field-0.0
     (c.in_err-sections.ensures.comes (at made) some))
 
 pub returns-clause-run : goal.returns-clause-run

@@ -1,6 +1,6 @@
 -- Each call's equation on the claims, one after another.
 use Rattle.std.proofs.Common.{◌≡◌, ◌∙◌, ap}
-use Rattle.e820_model.specs.Claims.{of_zero_page, bios_trimmed, with_edits, with_extension}
+use Rattle.e820_model.specs.Claims.{of_zero_page, bios_trimmed, with_extension, with_options}
 use Rattle.e820_model.specs.Map.{claims_of}
 use Rattle.boot_stages.proofs.map.finished_table.Goals as goal
 
@@ -10,4 +10,4 @@ returns c =
     c.in_ok-append_settled.ensures ∙ ap (with_extension c.args.entries.now) c.new-table.ensures in
     let second : claims_of c.append_settled-2.new.table ≡ with_extension c.args.extension.now (of_zero_page c.args.entries.now) =
     c.in_ok-append_settled-2.ensures ∙ ap (with_extension c.args.extension.now) first in
-    c.in_ok-trim_bios.ensures.ok ∙ ap bios_trimmed (c.in_ok-edit_settled.ensures ∙ ap (with_edits c.args.edits.now) second)
+    c.in_ok-trim_bios.ensures.ok ∙ ap bios_trimmed (c.in_ok-edit_settled.ensures ∙ ap (with_options c.args.edits.now c.args.added.now) second)

@@ -1,8 +1,7 @@
 -- What is decided for the map is decided for the boot, and behind it what memory comes to.
-use Rattle.std.proofs.Common.{◌≡◌, ◌≢◌, ℕ, List, [], drop, Vec, Global, ◌^◌, Ok, Err, ap, sym, ◌∙◌, subst, rules}
+use Rattle.std.proofs.Common.{◌≡◌, ◌≢◌, ℕ, List, [], drop, Vec, Global, ◌^◌, Result, Ok, Err, ap, sym, ◌∙◌, subst}
 use Rattle.std.proofs.lemmas.Result.{err_from_is_err_and}
 use Rattle.address_runs.specs.Runs.{RunOf}
-use Rattle.e820_model.specs.Map.{claims_of}
 use Rattle.growth_model.specs.Carried.{carried_out}
 use Rattle.early_stages.specs.Wanted.{first_items}
 use Rattle.boot_journal.specs.Contents.{Contents}
@@ -17,7 +16,7 @@ use Rattle.growth_model.specs.Bytes.{byte}
 use Rattle.phys_store.specs.Bytes.{Stored, byte_of}
 use Rattle.memblock_grow.specs.Contents.{Contents as Memblock}
 use Rattle.bm_base.specs.ResultSteps.{with_error}
-use Rattle.boot_model.specs.Boot.{Given, Made, Told, boot, claims, handed_over, heads_of, later_stages, map_judged, reach, spanned}
+use Rattle.boot_model.specs.Boot.{Given, Made, Told, boot, early_of, handed_over, heads_of, later_stages, map_judged, reach, spanned}
 use Rattle.boot_model.specs.Stages.{in_order}
 use Rattle.boot_model.specs.Stop.{stop_of}
 use Rattle.boot_model.specs.View.{inputs_view}
@@ -27,6 +26,10 @@ use Rattle.memblock_model.specs.Tables.{reserved_of}
 use Rattle.frame_blocks.specs.Frames.{Frames}
 use Rattle.zone_spans.specs.declared.span.Span.{Span}
 use Rattle.buddy_handover.specs.Contents.{free}
+use Rattle.page_alloc.specs.declared.outcome.PageAnswer.{PageAnswer}
+use Rattle.page_alloc.specs.Pages.{State as Pages, begun}
+use Rattle.slit_zonelists.specs.Lists.{Known, known}
+use Rattle.slit_zonelists.specs.Near.{after_with, answers_with}
 use Rattle.boot_model.specs.First.{IsFirst}
 use Rattle.boot_stages.specs.Boots.{LaterMade, begun_with, later_view, made_behind}
 use Rattle.boot_stages.specs.Carries.{or_stop}
@@ -39,38 +42,36 @@ heads_in memory reserved = record { memory = head_of memory; reserved = head_of 
 
 pub returns-in_err-map-clause-boots : goal.returns-in_err-map-clause-boots
 returns-in_err-map-clause-boots c =
-    let same : claims (inputs_view c.args.inputs.now) ≡ claims_of c.in_ok-table.table = search rules in
+    let same = claims-told (inputs_view c.args.inputs.now) _ _ _ _ _ c.in_ok-table.ensures c.deref.ensures.0 c.deref-2.ensures.value
+    c.deref-3.ensures.value c.added_entries.ensures.value in
     let p = err_from_is_err_and c.from_residual-in_err-map.result c.from_residual-in_err-map.ensures.1 in
     boot_stops _ (inputs_view c.args.inputs.now) _ c.in_err-map.field-0.0 (p.1 ∙ ap (λ (s : Stop). Err s) p.2)
     (c.in_err-map.ensures.answers (inputs_view c.args.inputs.now) same (sym c.reach-reach.ensures))
 
 pub returns-in_err-memblock-clause-boots : goal.returns-in_err-memblock-clause-boots
 returns-in_err-memblock-clause-boots c =
-    let same : claims (inputs_view c.args.inputs.now) ≡ claims_of c.in_ok-table.table = search rules in
+    let same = claims-told (inputs_view c.args.inputs.now) _ _ _ _ _ c.in_ok-table.ensures c.deref.ensures.0 c.deref-2.ensures.value
+    c.deref-3.ensures.value c.added_entries.ensures.value in
     let r = c.from_residual-in_err-memblock.result in
     let p = err_from_is_err_and r c.from_residual-in_err-memblock.ensures.1 in
     let stop : Stop = c.in_err-memblock.field-0.0 in
-    let far = c.reach-reach.result in
-    let Stops : ℕ → List (RunOf ℕ) → Type 0 = λ limit map. stop ≢ stops.Memory
-    → or_stop (carried_out (first_items limit c.args.inputs.now.kernel c.args.inputs.now.zero.initrd map) []) ≡ Err stop in
+    let Stops : List (RunOf ℕ) → Type 0 = λ map. stop ≢ stops.Memory
+    → or_stop (carried_out (first_items (early_of (inputs_view c.args.inputs.now)) map) []) ≡ Err stop in
     memory_stops _ (inputs_view c.args.inputs.now) (made_of (inputs_view c.args.inputs.now) c.in_ok-map.map) r stop
     (p.1 ∙ ap (λ (s : Stop). Err s) p.2) (c.in_ok-map.ensures.answers (inputs_view c.args.inputs.now) same (sym c.reach-reach.ensures))
-    (subst (λ limit. Stops limit c.in_ok-map.map.items) c.reach-reach.ensures
-    (subst (Stops far) c.deref-4.ensures.value c.in_err-memblock.ensures.answers))
+    (subst Stops c.deref-4.ensures.value c.in_err-memblock.ensures.answers)
 
 -- what is known where memory was made
 record MemoryIsMade (given : Given) (map : Vec (RunOf ℕ) Global) (m : Memblock) : Type 0 where
   comes : boot given ≡ in_order (drop 1 (later_stages given)) (begun_with (made_of given map) m)
   first : IsFirst (reach given) m.journal.items
 
-memory_is_made : (given : Given) (limit : ℕ) (map : Vec (RunOf ℕ) Global) (runs : List (RunOf ℕ)) (m : Memblock) → limit ≡ reach given
-    → runs ≡ map.items → with_error stop_of (map_judged given) ≡ Ok (made_of given map)
-    → or_stop (carried_out (first_items limit given.kernel given.initrd runs) []) ≡ Ok m.journal.items
-    → MemoryIsMade given map m
-memory_is_made given limit map runs m far same judged carried =
-    let Goes : ℕ → List (RunOf ℕ) → Type 0 =
-    λ l rs. or_stop (carried_out (first_items l given.kernel given.initrd rs) []) ≡ Ok m.journal.items in
-    let told : Goes (reach given) map.items = subst (λ l. Goes l map.items) far (subst (Goes limit) same carried) in
+memory_is_made : (given : Given) (map : Vec (RunOf ℕ) Global) (runs : List (RunOf ℕ)) (m : Memblock) → runs ≡ map.items
+    → with_error stop_of (map_judged given) ≡ Ok (made_of given map)
+    → or_stop (carried_out (first_items (early_of given) runs) []) ≡ Ok m.journal.items → MemoryIsMade given map m
+memory_is_made given map runs m same judged carried =
+    let Goes : List (RunOf ℕ) → Type 0 = λ rs. or_stop (carried_out (first_items (early_of given) rs) []) ≡ Ok m.journal.items in
+    let told : Goes map.items = subst Goes same carried in
     record {
       comes = memory_goes_on given (made_of given map) m.journal.items judged told;
       first = first_made given (made_of given map) m.journal.items judged told;
@@ -79,19 +80,21 @@ memory_is_made given limit map runs m far same judged carried =
 pub run_stages-requires-clause-first : goal.run_stages-requires-clause-first
 run_stages-requires-clause-first c =
     let given : Given = inputs_view c.args.inputs.now in
-    let same = claims-told given _ _ _ _ c.in_ok-table.ensures c.deref.ensures.0 c.deref-2.ensures.value c.deref-3.ensures.value in
-    (memory_is_made given c.reach-reach.result c.in_ok-map.map c.deref-4.result.now c.in_ok-memblock.memblock c.reach-reach.ensures
-    c.deref-4.ensures.value (c.in_ok-map.ensures.answers given same (sym c.reach-reach.ensures)) c.in_ok-memblock.ensures.answers).first
+    let same = claims-told given _ _ _ _ _ c.in_ok-table.ensures c.deref.ensures.0 c.deref-2.ensures.value c.deref-3.ensures.value
+    c.added_entries.ensures.value in
+    (memory_is_made given c.in_ok-map.map c.deref-4.result.now c.in_ok-memblock.memblock c.deref-4.ensures.value
+    (c.in_ok-map.ensures.answers given same (sym c.reach-reach.ensures)) c.in_ok-memblock.ensures.answers).first
 
 pub returns-in_err-later-clause-boots : goal.returns-in_err-later-clause-boots
 returns-in_err-later-clause-boots c =
     let given : Given = inputs_view c.args.inputs.now in
-    let same = claims-told given _ _ _ _ c.in_ok-table.ensures c.deref.ensures.0 c.deref-2.ensures.value c.deref-3.ensures.value in
+    let same = claims-told given _ _ _ _ _ c.in_ok-table.ensures c.deref.ensures.0 c.deref-2.ensures.value c.deref-3.ensures.value
+    c.added_entries.ensures.value in
     let made : Made = made_of given c.in_ok-map.map in
     let m : Memblock = c.in_ok-memblock.memblock in
     let p = err_from_is_err_and c.from_residual-in_err-later.result c.from_residual-in_err-later.ensures.1 in
     stages_stop _ given (begun_with made m) _ c.in_err-later.field-0.0 (p.1 ∙ ap (λ (s : Stop). Err s) p.2)
-    (memory_is_made given c.reach-reach.result c.in_ok-map.map c.deref-4.result.now m c.reach-reach.ensures c.deref-4.ensures.value
+    (memory_is_made given c.in_ok-map.map c.deref-4.result.now m c.deref-4.ensures.value
     (c.in_ok-map.ensures.answers given same (sym c.reach-reach.ensures))
     c.in_ok-memblock.ensures.answers).comes
     (c.in_err-later.ensures.stopped made)
@@ -102,8 +105,9 @@ hand_over_memory-requires-clause-within c =
     (c.memblock.invariant.kept.ends which.Reserved)
 
 -- what is told, by its parts
-told_by : Given → List (RunOf ℕ) → LaterMade → List Item → Heads → List Span → Frames → Told
-told_by given map later items heads spans free = record {
+told_by : Given → List (RunOf ℕ) → LaterMade → List Item → Heads → List Span → Frames → Known → List PageAnswer → Pages → Told
+told_by given map later items heads spans free lists answers after = record {
+  width = given.width;
   map = map;
   options = given.options;
   items = items;
@@ -114,42 +118,56 @@ told_by given map later items heads spans free = record {
   answers = later.answers;
   spans = spans;
   free = free;
+  lists = lists;
+  page_answers = answers;
+  after = after;
 }
 
 pub returns-clause-boots : goal.returns-clause-boots
 unfolding told_by
 returns-clause-boots c =
     let given : Given = inputs_view c.args.inputs.now in
-    let same = claims-told given _ _ _ _ c.in_ok-table.ensures c.deref.ensures.0 c.deref-2.ensures.value c.deref-3.ensures.value in
+    let same = claims-told given _ _ _ _ _ c.in_ok-table.ensures c.deref.ensures.0 c.deref-2.ensures.value c.deref-3.ensures.value
+    c.added_entries.ensures.value in
     let made : Made = made_of given c.in_ok-map.map in
     let map : List (RunOf ℕ) = c.in_ok-map.map.items in
     let m : Memblock = c.in_ok-memblock.memblock in
     let last : Memblock = c.run_stages.new.memblock in
     let later : LaterMade = later_view c.in_ok-later.later in
     let run = c.in_ok-later.ensures.run made in
-    let comes = (memory_is_made given c.reach-reach.result c.in_ok-map.map c.deref-4.result.now m c.reach-reach.ensures c.deref-4.ensures.value
+    let comes = (memory_is_made given c.in_ok-map.map c.deref-4.result.now m c.deref-4.ensures.value
     (c.in_ok-map.ensures.answers given same (sym c.reach-reach.ensures)) c.in_ok-memblock.ensures.answers).comes ∙ run.come in
     let end = c.in_ok-end.end in
+    let paged = c.in_ok-paged.paged in
+    let zones : List Span → Known = λ spans. known given.slit later.nodes.domains spans in
+    let told : List Item → Heads → List Span → Frames → Result Told Stop = λ items heads spans f. Ok (told_by given map later items heads
+    spans f (zones spans) (answers_with (zones spans) (begun f) given.page_lines) (after_with (zones spans) (begun f) given.page_lines)) in
+    let by : Known → List PageAnswer → Pages → Result Told Stop = λ lists answers after.
+    Ok (told_by given map later end.journal.items end.heads end.spans.items (free end.buddy) lists answers after) in
     let heads : heads_of given.kernel last.journal.items ≡ end.heads =
     sym (c.in_ok-end.ensures.heads ∙ ap (λ (k : Extent). heads_of k last.journal.items) run.kernel) in
     let items : last.journal.items ≡ end.journal.items = ap (λ (j : Contents). j.items) (sym c.in_ok-end.ensures.journal) in
-    ap (with_error stop_of) (boot_told given (made_behind (begun_with made m) last later run.ids run.fills) comes
-    ∙ ap (λ (h : Heads). Ok (told_by given map later last.journal.items h (spanned last.journal.items) (handed_over
-    last.journal.items))) heads
-    ∙ ap (λ (ss : List Span). Ok (told_by given map later last.journal.items end.heads ss (handed_over last.journal.items)))
-    (sym c.in_ok-end.ensures.spans)
-    ∙ ap (λ (f : Frames). Ok (told_by given map later last.journal.items end.heads end.spans.items f)) (sym c.in_ok-end.ensures.free)
-    ∙ ap (λ (is : List Item). Ok (told_by given map later is end.heads end.spans.items (free end.buddy))) items)
+    ap (with_error stop_of) (boot_told given (made_behind (begun_with made m) last later run.ids run.fills) comes)
+    ∙ ap (λ (h : Heads). told last.journal.items h (spanned last.journal.items) (handed_over last.journal.items)) heads
+    ∙ ap (λ (ss : List Span). told last.journal.items end.heads ss (handed_over last.journal.items)) (sym c.in_ok-end.ensures.spans)
+    ∙ ap (λ (f : Frames). told last.journal.items end.heads end.spans.items f) (sym c.in_ok-end.ensures.free)
+    ∙ ap (λ (is : List Item). told is end.heads end.spans.items (free end.buddy)) items
+    ∙ ap (λ (k : Known). by k (answers_with k (begun (free end.buddy)) given.page_lines) (after_with k (begun (free end.buddy))
+    given.page_lines)) (sym c.in_ok-paged.ensures.lists)
+    ∙ ap (λ (each : List PageAnswer). by paged.lists each (after_with paged.lists (begun (free end.buddy)) given.page_lines))
+    (sym c.in_ok-paged.ensures.answers)
+    ∙ ap (λ (state : Pages). by paged.lists paged.answers.items state) (sym c.in_ok-paged.ensures.after)
 
 pub returns-clause-bytes : goal.returns-clause-bytes
 returns-clause-bytes c = λ final ends x. (
     let given : Given = inputs_view c.args.inputs.now in
-    let same = claims-told given _ _ _ _ c.in_ok-table.ensures c.deref.ensures.0 c.deref-2.ensures.value c.deref-3.ensures.value in
+    let same = claims-told given _ _ _ _ _ c.in_ok-table.ensures c.deref.ensures.0 c.deref-2.ensures.value c.deref-3.ensures.value
+    c.added_entries.ensures.value in
     let made : Made = made_of given c.in_ok-map.map in
     let m : Memblock = c.in_ok-memblock.memblock in
     let last : Memblock = c.run_stages.new.memblock in
     let run = c.in_ok-later.ensures.run made in
-    let comes = (memory_is_made given c.reach-reach.result c.in_ok-map.map c.deref-4.result.now m c.reach-reach.ensures c.deref-4.ensures.value
+    let comes = (memory_is_made given c.in_ok-map.map c.deref-4.result.now m c.deref-4.ensures.value
     (c.in_ok-map.ensures.answers given same (sym c.reach-reach.ensures)) c.in_ok-memblock.ensures.answers).comes ∙ run.come in
     let behind : Made = made_behind (begun_with made m) last (later_view c.in_ok-later.later) run.ids run.fills in
     let told : Ok behind ≡ Ok final = sym comes ∙ ends in
