@@ -18,6 +18,9 @@ use Rattle.frame_blocks.specs.declared.block.Block.{Block}
 use Rattle.frame_blocks.specs.Frames.{Frames}
 use Rattle.frame_blocks.specs.Listed.{are_free, blocks_from, blocks_of, order_up_to}
 use Rattle.frame_blocks.proofs.ListLaws.{from-append, from-block, from-none, not_first-bare}
+use Rattle.bm_base.specs.declared.width.Width.TheVariants.{Bits46}
+use Rattle.page_alloc.specs.Pages.{begun}
+use Rattle.slit_zonelists.specs.Lists.{Known, known}
 use Rattle.boot_model.specs.Boot.{Told, no_nodes}
 use Rattle.boot_model.specs.Sections.{no_sections}
 use Rattle.stage_texts.specs.SummaryText.{summary_text}
@@ -39,10 +42,15 @@ heads = record {
 abbrev no_frames : Frames
 no_frames frame = None
 
+-- no table of distances, and no zone
+abbrev no_lists : Known
+no_lists = known None [] []
+
 made : Told
 made = record {
+  width = Bits46;
   map = reserved ∷ [];
-  options = record { edits = edits.Clear ∷ []; crash = no_crash; numa_off = true };
+  options = record { edits = edits.Clear ∷ []; crash = no_crash; numa_off = true; add_efi = false };
   items = [];
   heads = heads;
   nodes = no_nodes;
@@ -51,12 +59,16 @@ made = record {
   answers = record { line = 2; outcome = outcomes.NoGap } ∷ [];
   spans = [];
   free = no_frames;
+  lists = no_lists;
+  page_answers = [];
+  after = begun no_frames;
 }
 
 nothing : Told
 nothing = record {
+  width = Bits46;
   map = [];
-  options = record { edits = []; crash = no_crash; numa_off = false };
+  options = record { edits = []; crash = no_crash; numa_off = false; add_efi = false };
   items = [];
   heads = heads;
   nodes = no_nodes;
@@ -65,6 +77,9 @@ nothing = record {
   answers = [];
   spans = [];
   free = no_frames;
+  lists = no_lists;
+  page_answers = [];
+  after = begun no_frames;
 }
 
 text_examples : (report_text reports.Map made ≡ codes "0x0000000007fe0000..0x0000000007ffffff 2 reserved\n")
@@ -121,6 +136,15 @@ no_reports : text_of [] made ≡ []
 no_reports = refl
 
 -- each report has a name, and its name finds it
+pages_are_named : (report_named (codes "pages") ≡ Some reports.Pages) × (report_named (codes "pagesinfo") ≡ Some reports.Pagesinfo)
+    × (report_named (codes "zonelists") ≡ Some reports.Zonelists)
+pages_are_named = (refl, refl, refl)
+
+page_texts : (report_text reports.Pages made ≡ []) × (report_text reports.Pagesinfo made ≡ [])
+    × (report_text reports.Zonelists made ≡ codes "slit absent\n")
+unfolding made digits
+page_texts = (refl, refl, refl)
+
 all_are_named : (report_named (codes "memory") ≡ Some reports.Memory) × (report_named (codes "reserved") ≡ Some reports.Reserved)
     × (report_named (codes "owners") ≡ Some reports.Owners) × (report_named (codes "journal") ≡ Some reports.Journal)
     × (report_named (codes "tables") ≡ Some reports.Tables) × (report_named (codes "summary") ≡ Some reports.Summary)
@@ -170,8 +194,9 @@ pair_blocks =
 
 small : Told
 small = record {
+  width = Bits46;
   map = six_frames ∷ reserved ∷ [];
-  options = record { edits = []; crash = no_crash; numa_off = false };
+  options = record { edits = []; crash = no_crash; numa_off = false; add_efi = false };
   items = [];
   heads = record {
     memory = record { place = 0x2FFE000; room = 128; count = 1 };
@@ -183,6 +208,9 @@ small = record {
   answers = [];
   spans = [];
   free = pair;
+  lists = no_lists;
+  page_answers = [];
+  after = begun pair;
 }
 
 -- the second run of that map isn't memory

@@ -17,9 +17,11 @@ use Rattle.report_texts.specs.TablesText.{tables_text}
 use Rattle.stage_texts.specs.BlocksText.{blocks_text}
 use Rattle.stage_texts.specs.CrashText.{crash_text}
 use Rattle.stage_texts.specs.NodesText.{nodes_text}
+use Rattle.stage_texts.specs.PagesText.{pages_text}
 use Rattle.stage_texts.specs.ScriptText.{script_text}
 use Rattle.stage_texts.specs.SectionsText.{sections_text}
 use Rattle.stage_texts.specs.SummaryText.{summary_text}
+use Rattle.stage_texts.specs.ListsText.{zonelists_text}
 use Rattle.stage_texts.specs.ZonesText.{buddyinfo_text, zones_text}
 
 abbrev pub name_of : Report → List ℕ
@@ -37,13 +39,16 @@ name_of reports.Script = codes "script"
 name_of reports.Tables = codes "tables"
 name_of reports.Buddyinfo = codes "buddyinfo"
 name_of reports.Blocks = codes "blocks"
+name_of reports.Pages = codes "pages"
+name_of reports.Pagesinfo = codes "pagesinfo"
+name_of reports.Zonelists = codes "zonelists"
 name_of reports.Summary = codes "summary"
 
 abbrev pub all_reports : List Report
 all_reports =
     reports.Map ∷ reports.Options ∷ reports.Nodes ∷ reports.Memory ∷ reports.Reserved ∷ reports.Owners ∷ reports.Journal ∷ reports.Crash
     ∷ reports.Sections ∷ reports.Zones ∷ reports.Script ∷ reports.Tables ∷ reports.Buddyinfo ∷ reports.Blocks
-    ∷ reports.Summary ∷ []
+    ∷ reports.Pages ∷ reports.Pagesinfo ∷ reports.Zonelists ∷ reports.Summary ∷ []
 
 -- the first of the reports that has the name
 abbrev pub first_named : List Report → List ℕ → Option Report
@@ -68,4 +73,7 @@ report_text reports.Script told = script_text told.answers
 report_text reports.Tables told = tables_text told.heads
 report_text reports.Buddyinfo told = buddyinfo_text told.free told.spans
 report_text reports.Blocks told = blocks_text told.free
+report_text reports.Pages told = pages_text told.page_answers
+report_text reports.Pagesinfo told = buddyinfo_text told.after.frames told.spans
+report_text reports.Zonelists told = zonelists_text told.lists
 report_text reports.Summary told = summary_text (summary_of told)

@@ -14,8 +14,8 @@ use bm_base::Memory;
 use boot_model::Booted;
 use report_texts::{put_journal, put_map, put_options, put_owners, put_records, put_tables};
 use stage_texts::{
-    Chunk, Draft, put_blocks, put_buddyinfo, put_crash, put_nodes, put_script, put_sections,
-    put_summary, put_zones,
+    Chunk, Draft, put_blocks, put_buddyinfo, put_crash, put_nodes, put_pages, put_script,
+    put_sections, put_summary, put_zonelists, put_zones,
 };
 use std::alloc::Global;
 
@@ -50,6 +50,12 @@ pub enum Report {
     Buddyinfo,
     /// Each free block.
     Blocks,
+    /// What came of each line of the page script.
+    Pages,
+    /// How many free blocks there are behind the page script.
+    Pagesinfo,
+    /// In which order each node's requests look at zones.
+    Zonelists,
     /// How much there is of everything.
     Summary,
 }
@@ -74,13 +80,16 @@ impl Report {
             Report::Tables => "tables",
             Report::Buddyinfo => "buddyinfo",
             Report::Blocks => "blocks",
+            Report::Pages => "pages",
+            Report::Pagesinfo => "pagesinfo",
+            Report::Zonelists => "zonelists",
             Report::Summary => "summary",
         }
     }
 }
 
 /// The reports that there are.
-const REPORTS: [Report; 15] = [
+const REPORTS: [Report; 18] = [
     Report::Map,
     Report::Options,
     Report::Nodes,
@@ -95,6 +104,9 @@ const REPORTS: [Report; 15] = [
     Report::Tables,
     Report::Buddyinfo,
     Report::Blocks,
+    Report::Pages,
+    Report::Pagesinfo,
+    Report::Zonelists,
     Report::Summary,
 ];
 
@@ -154,6 +166,9 @@ pub fn put_report(draft: &mut Draft, report: Report, booted: &Booted) -> Result<
         Report::Tables => put_tables(text, &booted.heads),
         Report::Buddyinfo => put_buddyinfo(text, &booted.spans, &booted.buddy),
         Report::Blocks => put_blocks(draft, &booted.buddy),
+        Report::Pages => put_pages(text, &booted.page_answers),
+        Report::Pagesinfo => put_buddyinfo(text, &booted.spans, booted.after.buddy()),
+        Report::Zonelists => put_zonelists(text, &booted.lists),
         Report::Summary => put_numbers(text, booted),
     }
 }

@@ -128,12 +128,13 @@ some_options : options_text (record {
   edits = edits.Clear ∷ edits.Add first_MiB 1 ∷ [];
   crash = record { plain = None; high = None; low = Some 0x4000000 };
   numa_off = true;
+  add_efi = true;
 })
-    ≡ codes "clear\nadd 1 0x0000000000000000..0x00000000000fffff\ncrash low 0x0000000004000000\nnuma off\n"
+    ≡ codes "clear\nadd 1 0x0000000000000000..0x00000000000fffff\ncrash low 0x0000000004000000\nnuma off\nefi add\n"
 unfolding first_MiB digits
 some_options = refl
 
-no_options : options_text (record { edits = []; crash = no_crash; numa_off = false }) ≡ []
+no_options : options_text (record { edits = []; crash = no_crash; numa_off = false; add_efi = false }) ≡ []
 no_options = refl
 
 -- owners

@@ -55,6 +55,11 @@ crash_lines crash = plain_lines crash.plain ++ size_line (codes "crash high ") c
 abbrev pub numa_line : Bool → List ℕ
 numa_line numa_off = if numa_off then codes "numa off\n" else []
 
--- the options: the edits in the order of the command line, then the crash area, and then `numa=off`
+-- a line where the entries of the EFI map come into the map of memory
+abbrev pub efi_line : Bool → List ℕ
+efi_line add_efi = if add_efi then codes "efi add\n" else []
+
+-- the options: the edits in the order of the command line, then the crash area, then `numa=off`, and then `add_efi_memmap`
 abbrev pub options_text : Chosen → List ℕ
-options_text chosen = lines_from edit_line 0 chosen.edits ++ crash_lines chosen.crash ++ numa_line chosen.numa_off
+options_text chosen =
+    lines_from edit_line 0 chosen.edits ++ crash_lines chosen.crash ++ numa_line chosen.numa_off ++ efi_line chosen.add_efi

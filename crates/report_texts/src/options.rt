@@ -6,7 +6,7 @@ ghost use Rattle.std.specs.Option.{option_map};
 ghost use Rattle.bm_base.specs.Text.{hex_text};
 ghost use Rattle.boot_options.specs.Crash.{crash_view, plain_view};
 ghost use Rattle.boot_options.specs.Options.{chosen};
-ghost use Rattle.report_texts.specs.OptionsText.{crash_lines, crash_range_text, edit_line, edit_text, end_text, kind_text, numa_line, options_text, plain_lines, size_line};
+ghost use Rattle.report_texts.specs.OptionsText.{crash_lines, crash_range_text, edit_line, edit_text, efi_line, end_text, kind_text, numa_line, options_text, plain_lines, size_line};
 
 use crate::lines::put_lines;
 use crate::ranges::{put_range, put_word_range};
@@ -14,13 +14,14 @@ use bm_base::{Memory, put_dec, put_hex, put_text};
 use boot_options::{CrashOption, CrashPlain, CrashRange, Edit, Options};
 
 /// Appends the text of the options: a line for each edit in the order of the command line, then those
-/// of the crash area, and one where `numa=off` stands in it.
+/// of the crash area, and one each where `numa=off` and `add_efi_memmap` stand in it.
 pub fn put_options(text: &mut Vec<u8>, options: &Options) -> Result<(), Memory>
     ensures { OnOk result (text.new.items ≡ text.old.items ++ options_text (chosen options.now)) }
 {
     put_lines(text, &options.edits, put_edit_line)?;
     put_crash_lines(text, &options.crash)?;
-    put_numa_line(text, options.numa_off)
+    put_numa_line(text, options.numa_off)?;
+    put_efi_line(text, options.add_efi)
 }
 
 /// Appends the line of an edit.
@@ -154,4 +155,14 @@ fn put_numa_line(text: &mut Vec<u8>, numa_off: bool) -> Result<(), Memory>
         return Ok(());
     }
     put_text(text, b"numa off\n")
+}
+
+/// Appends the line of `add_efi_memmap`, where it stands in the command line.
+fn put_efi_line(text: &mut Vec<u8>, add_efi: bool) -> Result<(), Memory>
+    ensures { OnOk result (text.new.items ≡ text.old.items ++ efi_line add_efi) }
+{
+    if !add_efi {
+        return Ok(());
+    }
+    put_text(text, b"efi add\n")
 }

@@ -12,12 +12,16 @@ use Rattle.frame_blocks.specs.declared.block.Block.{Block}
 use Rattle.frame_blocks.specs.Frames.{Frames}
 use Rattle.crash_kernel.specs.declared.crash.Crash.TheVariants as crash
 use Rattle.node_hulls.specs.declared.reasons.Why.TheVariants as why
+use Rattle.page_alloc.specs.declared.outcome.PageOutcome.TheVariants as page
+use Rattle.slit_zonelists.specs.declared.uses.SlitUse.TheVariants as uses
 use Rattle.section_maps.specs.declared.placed.Placed.{Placed}
 use Rattle.zone_spans.specs.declared.span.Span.{Span}
 use Rattle.report_texts.specs.Lines.{lines_from}
 use Rattle.stage_texts.specs.BlocksText.{block_line}
 use Rattle.stage_texts.specs.CrashText.{crash_text, low_line}
+use Rattle.stage_texts.specs.ListsText.{entry_text, use_line}
 use Rattle.stage_texts.specs.NodesText.{domain_line, node_line, nodes_text, uncovered_line, why_line}
+use Rattle.stage_texts.specs.PagesText.{page_text, pages_text}
 use Rattle.stage_texts.specs.ScriptText.{answer_line, outcome_text, script_text}
 use Rattle.stage_texts.specs.SectionsText.{root_line, roots_line, section_line, sections_text}
 use Rattle.stage_texts.specs.SummaryText.{fullness_line, number_line, summary_text}
@@ -50,6 +54,27 @@ two_answers = refl
 
 no_answer : script_text [] ≡ []
 no_answer = refl
+
+-- the page script
+page_examples : (page_text (page.At 0x100000) ≡ codes "at 0x0000000000100000") × (page_text page.Done ≡ codes "done")
+    × (page_text page.NoBlock ≡ codes "no block") × (page_text page.Taken ≡ codes "taken") × (page_text page.Unknown ≡ codes "unknown")
+unfolding digits
+page_examples = (refl, refl, refl, refl, refl)
+
+two_page_answers : pages_text (record { line = 2; outcome = page.At 0 } ∷ record { line = 7; outcome = page.NoBlock } ∷ [])
+    ≡ codes "2: at 0x0000000000000000\n7: no block\n"
+unfolding digits
+two_page_answers = refl
+
+-- the zone lists
+use_examples : (use_line uses.Used ≡ codes "slit used\n") × (use_line uses.Absent ≡ codes "slit absent\n")
+    × (use_line uses.NoSrat ≡ codes "slit no srat\n") × (use_line (uses.NotValid 1 12) ≡ codes "slit not valid 1 12\n")
+unfolding digits
+use_examples = (refl, refl, refl, refl)
+
+entry_example : entry_text (record { node = 12; zone = zone.Dma32 }) ≡ codes " 12/DMA32"
+unfolding digits
+entry_example = refl
 
 -- nodes
 first_MiB : Extent

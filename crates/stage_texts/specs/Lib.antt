@@ -2,6 +2,8 @@ pub mod BlocksText
 pub mod CrashText
 pub mod NodesText
 pub mod Chunks
+pub mod ListsText
+pub mod PagesText
 pub mod ScriptText
 pub mod SectionsText
 pub mod Sheets

@@ -9,7 +9,8 @@
 //! A `put_` call appends the text of one part: [`put_script`] of what came of each line of the early script,
 //! [`put_nodes`] of the table of domains and the nodes that memory got, [`put_crash`] of the crash area,
 //! [`put_sections`] of the places that sections have, [`put_zones`], [`put_buddyinfo`] and [`put_blocks`] of
-//! the zones and the free blocks at the handover, [`put_summary`] of how much there is of everything.
+//! the zones and the free blocks at the handover, [`put_pages`] of what came of each line of the page script,
+//! [`put_zonelists`] of the zones in the order in which a request near a node asks them, [`put_summary`] of how much there is of everything.
 //!
 //! A text stands in a `Vec<u8>`, but that of the blocks, which may have millions of lines: it goes to a [`Draft`], whose
 //! chunks are texts and [`Sheets`], the lines of great rows, of which no more than some thousand are ever in memory.
@@ -21,7 +22,9 @@
 mod blocks;
 mod chunks;
 mod crash;
+mod lists;
 mod nodes;
+mod pages;
 mod script;
 mod sections;
 mod sheets;
@@ -32,7 +35,9 @@ mod zones;
 pub use blocks::put_blocks;
 pub use chunks::{Chunk, Draft};
 pub use crash::put_crash;
+pub use lists::put_zonelists;
 pub use nodes::put_nodes;
+pub use pages::put_pages;
 pub use script::put_script;
 pub use sections::put_sections;
 pub use sheets::Sheets;

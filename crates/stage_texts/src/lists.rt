@@ -1,0 +1,85 @@
+//! The text of the zone lists: whether the distances that the firmware tells are used, and in which order a request near a node asks the
+//! zones.
+
+ghost use Rattle.std.specs.Prelude.{◌≡◌, ◌++◌, OnOk};
+ghost use Rattle.std.specs.List.{flat_map};
+ghost use Rattle.report_texts.specs.Lines.{lines_from};
+ghost use Rattle.stage_texts.specs.ListsText.{entry_text, list_line, use_line, use_text, zonelists_text};
+
+use crate::words::put_word_dec;
+use crate::zones::zone_name;
+use bm_base::{Memory, put_text};
+use report_texts::put_lines;
+use slit_zonelists::{ListZone, Lists, SlitUse};
+
+/// Appends the text of the zone lists: whether the SLIT is used, and a line for each node that has memory.
+pub fn put_zonelists(text: &mut Vec<u8>, lists: &Lists) -> Result<(), Memory>
+    ensures { OnOk result (text.new.items ≡ text.old.items ++ zonelists_text lists.now) }
+{
+    put_use_line(text, lists.used())?;
+    let nodes = lists.nodes()?;
+    put_list_lines(text, &nodes, lists)
+}
+
+/// Appends the line of each of the nodes.
+fn put_list_lines(text: &mut Vec<u8>, nodes: &[u32], lists: &Lists) -> Result<(), Memory>
+    ensures { OnOk result (text.new.items ≡ text.old.items ++ lines_from (list_line lists.now) 0 nodes.now) }
+{
+    put_lines(text, nodes, |text: &mut Vec<u8>, index: u64, node: &u32| {
+        put_list_line(text, index, node, lists)
+    })
+}
+
+/// Appends the line of the use.
+fn put_use_line(text: &mut Vec<u8>, used: SlitUse) -> Result<(), Memory>
+    ensures { OnOk result (text.new.items ≡ text.old.items ++ use_line used) }
+{
+    put_text(text, b"slit ")?;
+    put_use(text, used)?;
+    put_text(text, b"\n")
+}
+
+/// Appends whether the SLIT is used, and why not.
+fn put_use(text: &mut Vec<u8>, used: SlitUse) -> Result<(), Memory>
+    ensures { OnOk result (text.new.items ≡ text.old.items ++ use_text used) }
+{
+    match used {
+        SlitUse::Used => put_text(text, b"used"),
+        SlitUse::Absent => put_text(text, b"absent"),
+        SlitUse::NoSrat => put_text(text, b"no srat"),
+        SlitUse::NotValid { row, column } => {
+            put_word_dec(text, b"not valid ", u64::from(row))?;
+            put_word_dec(text, b" ", u64::from(column))
+        }
+    }
+}
+
+/// Appends the line of a node: its number, and the zones of its list.
+fn put_list_line(text: &mut Vec<u8>, index: u64, node: &u32, lists: &Lists) -> Result<(), Memory>
+    ensures { OnOk result (text.new.items ≡ text.old.items ++ list_line lists.now index node.now) }
+{
+    put_word_dec(text, b"Node ", u64::from(*node))?;
+    put_text(text, b":")?;
+    let zones = lists.of(*node)?;
+    put_entries(text, &zones)?;
+    put_text(text, b"\n")
+}
+
+/// Appends the zones of a list, in their order.
+fn put_entries(text: &mut Vec<u8>, zones: &[ListZone]) -> Result<(), Memory>
+    ensures { OnOk result (text.new.items ≡ text.old.items ++ flat_map entry_text zones.now) }
+{
+    for entry in zones {
+        put_entry(text, entry)?;
+    }
+    Ok(())
+}
+
+/// Appends an entry of a list.
+fn put_entry(text: &mut Vec<u8>, entry: &ListZone) -> Result<(), Memory>
+    ensures { OnOk result (text.new.items ≡ text.old.items ++ entry_text entry.now) }
+{
+    put_word_dec(text, b" ", u64::from(entry.node))?;
+    put_text(text, b"/")?;
+    put_text(text, zone_name(entry.zone).as_bytes())
+}
