@@ -9,6 +9,7 @@ use Rattle.e820_table.specs.Entries.{entry_at}
 use Rattle.e820_table.specs.Initrd.{initrd_of, is_initrd_far}
 use Rattle.boot_options.specs.Crash.{no_crash}
 use Rattle.bm_base.specs.Extent.{Extent}
+use Rattle.bm_base.specs.declared.width.Width.TheVariants.{Bits46}
 use Rattle.boot_model.specs.Boot.{Given, begun, no_options}
 use Rattle.boot_options.specs.declared.fault.OptionFault.TheVariants as options
 use Rattle.srat_reader.specs.declared.table.SratFault.TheVariants as srat
@@ -16,6 +17,10 @@ use Rattle.srat_reader.specs.Entries.{is_whole, said_at}
 use Rattle.srat_reader.specs.Table.{Affinity, offsets_from}
 use Rattle.script_reader.specs.declared.act.Act.TheVariants as acts
 use Rattle.script_reader.specs.declared.fault.ScriptFault.TheVariants as script
+use Rattle.page_alloc.specs.declared.fault.PageFault.TheVariants as pages
+use Rattle.slit_zonelists.specs.declared.table.SlitFault.TheVariants as slit
+use Rattle.efi_map.specs.declared.efi.EfiFault.TheVariants as efi
+use Rattle.efi_map.specs.Map.{descriptors_from}
 use Rattle.boot_inputs.specs.declared.fault.Fault.TheVariants as faults
 use Rattle.boot_inputs.specs.declared.fault.Misread.TheVariants as misreads
 use Rattle.boot_inputs.specs.declared.input.Input.TheVariants as inputs
@@ -25,12 +30,15 @@ use Rattle.boot_inputs.specs.declared.refusal.InputError.TheVariants as errors
 use Rattle.boot_inputs.specs.Answers.{ComesTo, Fits, FitsRefusal, Gives, HasCause, IsCaused, IsOf, Passes, RefusalHasCause, RoseAt, input_of}
 use Rattle.boot_inputs.specs.CommandLine.{command_line, fault_of_option, options_said, options_take, options_told, put_options}
 use Rattle.boot_inputs.specs.Extension.{entries_said, extension_file, fault_of_extension, put_extension}
+use Rattle.boot_inputs.specs.Efi.{efi_file, efi_said, efi_takes, efi_told, fault_of_efi, put_efi}
 use Rattle.boot_inputs.specs.Faults.{misread_of}
 use Rattle.boot_inputs.specs.File.{File, unless_fault, with_value}
 use Rattle.boot_inputs.specs.Input.{place, word_for}
 use Rattle.boot_inputs.specs.Inputs.{Held, Named, file_step, given_in, input_files, inputs_of, named_step, or_faulty, or_unread, step_if, takes_held, takes_memory, within}
+use Rattle.boot_inputs.specs.Pages.{fault_of_pages, pages_file, pages_said, pages_take, pages_told, put_pages}
 use Rattle.boot_inputs.specs.Reading.{IsIn, WantsMemory, are_behind, ascend}
 use Rattle.boot_inputs.specs.Script.{fault_of_script, lines_said, lines_take, lines_told, put_lines, script_file}
+use Rattle.boot_inputs.specs.Slit.{distances_said, distances_take, distances_told, fault_of_slit, put_distances, slit_file}
 use Rattle.boot_inputs.specs.Srat.{fault_of_srat, put_domains, srat_file, table_said, table_takes, table_told}
 use Rattle.boot_inputs.specs.ZeroPage.{page_said, put_page, zero_page}
 
@@ -106,7 +114,7 @@ extension_is_said = refl
 bad_extension_said : entries_said (replicate 15 0) ≡ Err faults.Header
 bad_extension_said = refl
 
-line_said : (options_said (codes "quiet numa=off\n") ≡ Ok (record { edits = []; crash = no_crash; numa_off = true }))
+line_said : (options_said (codes "quiet numa=off\n") ≡ Ok (record { edits = []; crash = no_crash; numa_off = true; add_efi = false }))
     × (options_said (codes "numa=on") ≡ Err (faults.BadNuma 1))
 line_said = (refl, refl)
 
@@ -127,6 +135,21 @@ script_examples = (refl, refl, refl)
 srat_examples : (fault_of_srat srat.Memory ≡ None) × (fault_of_srat srat.Length ≡ Some faults.Length)
     × (fault_of_srat (srat.BlockTooFar 48) ≡ Some (faults.BlockTooFar 48))
 srat_examples = (refl, refl, refl)
+
+pages_examples : (fault_of_pages pages.Memory ≡ None) × (fault_of_pages (pages.BadNumber 9) ≡ Some (faults.BadNumber 9))
+    × (pages_told (Err (pages.BadLine 4)) ≡ Err (faults.BadLine 4)) × (pages_said [] ≡ Ok [])
+pages_examples = (refl, refl, refl, refl)
+
+distances_examples : (fault_of_slit slit.Memory ≡ None) × (fault_of_slit slit.Localities ≡ Some faults.Localities)
+    × (distances_told (Err slit.Checksum) ≡ Err faults.Checksum) × (distances_said [] ≡ Err faults.Short)
+    × (distances_told (Ok (record { count = 0; cells = [] })) ≡ Ok (Some (record { count = 0; cells = [] })))
+distances_examples = (refl, refl, refl, refl, refl)
+
+efi_examples : (fault_of_efi efi.Memory ≡ None) × (fault_of_efi (efi.TooFar 3) ≡ Some (faults.DescriptorTooFar 3))
+    × (efi_told (Err efi.Length) ≡ Err faults.Length) × (efi_said [] ≡ Err faults.Header)
+    × (efi_told (Ok (record { entries = []; mirrors = record { base = 0x4000; size = 0x1000 } ∷ [] }))
+    ≡ Ok (Some (record { entries = []; mirrors = record { first = 4; count = 1 } ∷ [] })))
+efi_examples = (refl, refl, refl, refl, refl)
 
 table_examples : (table_told (Ok processor_alone) ≡ Ok (Some processor_alone))
     × (table_told (Err (srat.EntryLength 88)) ≡ Err (faults.EntryLength 88))
@@ -150,8 +173,8 @@ limit_examples : (within 3 (1 ∷ 2 ∷ 3 ∷ []) ≡ Ok (1 ∷ 2 ∷ 3 ∷ []))
 limit_examples = (refl, refl)
 
 limits : (zero_page.limit ≡ 4096) × (extension_file.limit ≡ 16 + 20 * 3072) × (command_line.limit ≡ 4096) × (srat_file.limit ≡ 0x100000)
-    × (script_file.limit ≡ 0x100000)
-limits = (refl, refl, refl, refl, refl)
+    × (script_file.limit ≡ 0x100000) × (pages_file.limit ≡ 0x100000) × (slit_file.limit ≡ 0x100000) × (efi_file.limit ≡ 0x100000)
+limits = (refl, refl, refl, refl, refl, refl, refl, refl)
 
 faulty_examples : (or_faulty {A = ℕ} inputs.Extension (Ok 7) ≡ Ok 7)
     × (or_faulty {A = ℕ} inputs.Extension (Err faults.Length) ≡ Err (refusals.Faulty inputs.Extension faults.Length))
@@ -166,7 +189,7 @@ abbrev image : Extent
 image = record { base = 0x1000000; size = 0x2000000 }
 
 abbrev start : Given
-start = begun image
+start = begun Bits46 image
 
 -- what is said is put where it belongs, and nothing else changes; a fault is handed on
 put_examples : (with_value put_lines start (Ok []) ≡ Ok start) × (with_value put_extension start (Err faults.Header) ≡ Err faults.Header)
@@ -175,8 +198,11 @@ put_examples : (with_value put_lines start (Ok []) ≡ Ok start) × (with_value 
     × ((put_options no_options start).entries ≡ []) × ((put_domains (Some processor_alone) start).domains ≡ Some processor_alone)
 put_examples = (refl, refl, refl, refl, refl, refl)
 
+put_more_examples : ((put_pages [] start).page_lines ≡ []) × ((put_distances None start).slit ≡ None) × ((put_efi None start).efi ≡ None)
+put_more_examples = (refl, refl, refl)
+
 -- the step of one file: read, unread, too long, and not named
-step_examples : (named_step held command_line start (codes "cmd") ≡ Ok (record start { options = record no_options { numa_off = true } }))
+step_examples : (named_step held command_line start (codes "cmd") ≡ Ok (record start { options = record no_options { numa_off = true; add_efi = false } }))
     × (named_step held command_line start (codes "no") ≡ Err (refusals.Unread inputs.CommandLine))
     × (named_step held zero_page start (codes "long") ≡ Err (refusals.Faulty inputs.ZeroPage faults.TooLong))
 step_examples = (refl, refl, refl)
@@ -213,6 +239,22 @@ options_take_examples = (refl, refl)
 table_takes_examples : (table_takes (Ok processor_alone) ≡ true) × (table_takes (Ok (record { processors = []; blocks = [] })) ≡ false)
 table_takes_examples = (refl, refl)
 
+pages_take_examples : (pages_take (Ok []) ≡ false) × (pages_take (Err pages.Memory) ≡ false)
+    × (pages_file.takes (codes "give 7") ≡ true)
+pages_take_examples = (refl, refl, refl)
+
+distances_take_examples : (distances_take (Ok (record { count = 1; cells = 10 ∷ [] })) ≡ true)
+    × (distances_take (Ok (record { count = 0; cells = [] })) ≡ false) × (distances_take (Err slit.Short) ≡ false)
+distances_take_examples = (refl, refl, refl)
+
+-- a header alone, and one descriptor behind it
+abbrev header : List ℕ
+header = 40 ∷ 0 ∷ 0 ∷ 0 ∷ 1 ∷ 0 ∷ 0 ∷ 0 ∷ []
+
+efi_take_examples : (efi_takes header ≡ false) × (efi_takes (header ++ replicate 40 0) ≡ true)
+unfolding descriptors_from
+efi_take_examples = (refl, refl)
+
 lines_take_examples : (lines_take (Ok []) ≡ false) × (lines_take (Err script.Memory) ≡ false)
 lines_take_examples = (refl, refl)
 
@@ -242,7 +284,7 @@ all_inputs : inputs_of held (naming (codes "zp") (Some (codes "ext")) (Some (cod
     ≡ Ok (record start {
       entries = ram ∷ reserved ∷ [];
       extension = acpi ∷ [];
-      options = record { edits = []; crash = no_crash; numa_off = true };
+      options = record { edits = []; crash = no_crash; numa_off = true; add_efi = false };
     })
 unfolding entry_at initrd_of is_initrd_far
 all_inputs = refl
@@ -301,10 +343,12 @@ line_goes_last = refl
 
 -- the inputs' places and words, and whose refusal it is
 place_examples : (place inputs.ZeroPage ≡ 0) × (place inputs.CommandLine ≡ 2) × (place inputs.Srat ≡ 3) × (place inputs.Script ≡ 4)
-place_examples = (refl, refl, refl, refl)
+    × (place inputs.Pages ≡ 5) × (place inputs.Slit ≡ 6) × (place inputs.Efi ≡ 7)
+place_examples = (refl, refl, refl, refl, refl, refl, refl)
 
 word_examples : (word_for inputs.ZeroPage ≡ codes "zeropage") × (word_for inputs.CommandLine ≡ codes "cmdline")
-word_examples = (refl, refl)
+    × (word_for inputs.Pages ≡ codes "pages") × (word_for inputs.Slit ≡ codes "slit") × (word_for inputs.Efi ≡ codes "efi")
+word_examples = (refl, refl, refl, refl, refl)
 
 input_examples : (input_of (refusals.Faulty inputs.Extension faults.TooLong) ≡ inputs.Extension)
     × (input_of (refusals.Unread inputs.CommandLine) ≡ inputs.CommandLine)

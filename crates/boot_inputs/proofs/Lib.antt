@@ -1,3 +1,4 @@
 mod Examples
 mod FileLaws
 mod ReadingLaws
+mod TakeLaws

@@ -10,6 +10,9 @@ place inputs.Extension = 1
 place inputs.CommandLine = 2
 place inputs.Srat = 3
 place inputs.Script = 4
+place inputs.Pages = 5
+place inputs.Slit = 6
+place inputs.Efi = 7
 
 -- the word for an input in the line of its fault
 abbrev pub word_for : Input → List ℕ
@@ -18,3 +21,6 @@ word_for inputs.Extension = codes "e820ext"
 word_for inputs.CommandLine = codes "cmdline"
 word_for inputs.Srat = codes "srat"
 word_for inputs.Script = codes "script"
+word_for inputs.Pages = codes "pages"
+word_for inputs.Slit = codes "slit"
+word_for inputs.Efi = codes "efi"

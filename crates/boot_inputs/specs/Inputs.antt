@@ -9,9 +9,12 @@ use Rattle.boot_inputs.specs.declared.input.Input.{Input}
 use Rattle.boot_inputs.specs.declared.refusal.Refusal.{Refusal}
 use Rattle.boot_inputs.specs.declared.refusal.Refusal.TheVariants as refusals
 use Rattle.boot_inputs.specs.CommandLine.{command_line}
+use Rattle.boot_inputs.specs.Efi.{efi_file}
 use Rattle.boot_inputs.specs.Extension.{extension_file}
 use Rattle.boot_inputs.specs.File.{File}
+use Rattle.boot_inputs.specs.Pages.{pages_file}
 use Rattle.boot_inputs.specs.Script.{script_file}
+use Rattle.boot_inputs.specs.Slit.{slit_file}
 use Rattle.boot_inputs.specs.Srat.{srat_file}
 use Rattle.boot_inputs.specs.ZeroPage.{zero_page}
 
@@ -64,7 +67,7 @@ takes_memory held named file = takes_held file (option_and_then held (named file
 
 -- the input files in the order of work
 abbrev pub input_files : List File
-input_files = zero_page ∷ extension_file ∷ command_line ∷ srat_file ∷ script_file ∷ []
+input_files = zero_page ∷ extension_file ∷ command_line ∷ srat_file ∷ script_file ∷ pages_file ∷ slit_file ∷ efi_file ∷ []
 
 -- what they make of what is given by no file
 abbrev pub inputs_of : Held → Named → Given → Result Given Refusal

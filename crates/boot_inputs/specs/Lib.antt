@@ -1,11 +1,14 @@
 pub mod Answers
 pub mod CommandLine
 pub mod Extension
+pub mod Efi
 pub mod Faults
 pub mod File
 pub mod Input
 pub mod Inputs
+pub mod Pages
 pub mod Reading
 pub mod Script
+pub mod Slit
 pub mod Srat
 pub mod ZeroPage

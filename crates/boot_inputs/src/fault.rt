@@ -16,10 +16,10 @@ pub enum Fault {
     ZeroPage(ZeroFault),
     /// The extension's entry's address plus size exceeds 2^64 - 1; the least such index, from 0.
     EntryTooFar { index: u32 },
-    /// The extension has no whole header of its type.
+    /// The extension, or the EFI memory map, has no whole header of its form.
     Header,
-    /// The length of the extension or of the SRAT isn't the one that its header states, or an extension's
-    /// isn't that of whole entries.
+    /// The length of the extension, of the SRAT or of the SLIT isn't the one that its header states, or an extension's
+    /// isn't that of whole entries, or an EFI memory map's isn't that of whole descriptors.
     Length,
     /// The command line has more than 2,047 bytes.
     LineTooLong,
@@ -35,18 +35,20 @@ pub enum Fault {
     UserMapInvalid { word: u32 },
     /// The word is a malformed `numa=`.
     BadNuma { word: u32 },
-    /// The SRAT has fewer than 48 bytes.
+    /// The SRAT has fewer than 48 bytes, or the SLIT fewer than 44.
     Short,
-    /// The first four bytes of the SRAT aren't `SRAT`.
+    /// The first four bytes of the SRAT aren't `SRAT`, or those of the SLIT aren't `SLIT`.
     Signature,
-    /// The bytes of the SRAT don't sum to 0 modulo 256.
+    /// The bytes of the SRAT, or of the SLIT, don't sum to 0 modulo 256.
     Checksum,
+    /// The SLIT hasn't as many cells as it has localities times localities.
+    Localities,
     /// No whole entry of the SRAT begins at this offset, in bytes from its first on.
     EntryLength { offset: u32 },
     /// The entry at this offset of the SRAT is an enabled range of memory whose base plus length exceeds
     /// 2^64 - 1.
     BlockTooFar { offset: u32 },
-    /// The line of the script, from 1 on, has no form, whatever its numbers are.
+    /// The line of the script, or of the page script, from 1 on, has no form, whatever its numbers are.
     BadLine { line: u32 },
     /// A number of the line isn't a size that takes its whole word, or is above its bound.
     BadNumber { line: u32 },
@@ -58,6 +60,8 @@ pub enum Fault {
     SecondSections { line: u32 },
     /// The range of the line ends above 2^64 - 1.
     LineTooFar { line: u32 },
+    /// The EFI memory map's descriptor's address plus its bytes exceeds 2^64 - 1; the least such index, from 0.
+    DescriptorTooFar { index: u32 },
 }
 
 /// Why bytes give no value.

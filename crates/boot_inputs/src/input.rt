@@ -16,6 +16,12 @@ pub enum Input {
     Srat,
     /// The script of early allocations.
     Script,
+    /// The page script.
+    Pages,
+    /// The firmware's table of distances between domains (the ACPI table SLIT).
+    Slit,
+    /// The firmware's own map of memory (UEFI, `GetMemoryMap`).
+    Efi,
 }
 
 impl Input {
@@ -29,6 +35,9 @@ impl Input {
             Input::CommandLine => "cmdline",
             Input::Srat => "srat",
             Input::Script => "script",
+            Input::Pages => "pages",
+            Input::Slit => "slit",
+            Input::Efi => "efi",
         }
     }
 }

@@ -9,11 +9,14 @@ ghost use Rattle.boot_inputs.specs.Reading.{WantsMemory};
 ghost use Rattle.boot_inputs.specs.declared.input.Input.{Input as AnyInput};
 
 use crate::command_line::CommandLines;
+use crate::efi::EfiMaps;
 use crate::extension::Extensions;
 use crate::list::Readers;
 use crate::names::Names;
+use crate::pages::PageScripts;
 use crate::refusal::InputError;
 use crate::script::Scripts;
+use crate::slit::Slits;
 use crate::srat::Srats;
 use crate::zero_page::ZeroPages;
 use bm_io::Files;
@@ -29,7 +32,13 @@ type FromCommandLine = (CommandLines, FromSrat);
 
 type FromSrat = (Srats, FromScript);
 
-type FromScript = (Scripts, ());
+type FromScript = (Scripts, FromPages);
+
+type FromPages = (PageScripts, FromSlit);
+
+type FromSlit = (Slits, FromEfi);
+
+type FromEfi = (EfiMaps, ());
 
 /// Fetches each file that is named, in the order of work, and judges it before the next; the first
 /// refusal is the answer. Where none is named there is no refusal. What they give is put into what is begun with. Memory is

@@ -1,12 +1,13 @@
 //! The input files of a boot: each fetched by its name and judged before the next is fetched.
 //!
 //! A boot is given a zero page, and where they are named an E820 extension, a command line, the firmware's table of
-//! domains (SRAT) and a script. What the program does with a file is the same for all of them: look up its name, fetch
+//! domains (SRAT), a script, a page script, the table of distances (SLIT)
+//! and the firmware's own map of memory (EFI). What the program does with a file is the same for all of them: look up its name, fetch
 //! it up to its limit, and read it into the inputs ([`add_file`]). So an input file is one value in one module, an
 //! implementation of [`Reader`]: which [`Input`] it is, the most bytes that it has, and how they are read. Its
 //! definition is one value too, a `File` of `specs/File.antt`.
 //!
-//! The files in the order of work, zero page, extension, command line, SRAT, script, are a list in the code
+//! The files in the order of work, zero page, extension, command line, SRAT, script, page script, SLIT, EFI map, are a list in the code
 //! (`src/inputs.rt`) and one in the definition (`input_files` of `specs/Inputs.antt`). [`Readers`] walks any list, and what
 //! is said of it (`AreRead` of `specs/Reading.antt`) is proved once. [`read_inputs`] walks this one: the first file
 //! that can't be read ([`Refusal::Unread`]) or is malformed ([`Refusal::Faulty`]) is the answer. A file that couldn't be
@@ -20,6 +21,7 @@
 #![tactic(auto)]
 
 mod command_line;
+mod efi;
 mod extension;
 mod fault;
 mod fetching;
@@ -27,9 +29,11 @@ mod input;
 mod inputs;
 mod list;
 mod names;
+mod pages;
 mod reader;
 mod refusal;
 mod script;
+mod slit;
 mod srat;
 mod zero_page;
 

@@ -1,0 +1,52 @@
+//! The firmware's own map of memory as an input.
+
+ghost use Rattle.std.specs.Prelude.{◌≡◌, ◌≤◌, length, IsErrOf, IsOk, IsTrue};
+ghost use Rattle.bm_base.specs.Answers.{Answers};
+ghost use Rattle.bm_base.specs.ResultSteps.{with_error};
+ghost use Rattle.boot_model.specs.View.{inputs_view};
+ghost use Rattle.boot_inputs.specs.Efi.{efi_file, fault_of_efi};
+
+use crate::fault::{Fault, Misread};
+use crate::input::Input;
+use crate::reader::Reader;
+use boot_model::{Inputs, mirrors_are_whole_frames};
+use efi_map::{EfiFault, read_efi};
+use std::alloc::Global;
+
+/// Reads an EFI memory map.
+pub struct EfiMaps;
+
+impl Reader for EfiMaps {
+    ghost file = { efi_file };
+
+    fn input() -> Input {
+        Input::Efi
+    }
+
+    fn limit() -> u64 {
+        1_048_576
+    }
+
+    fn read(alloc: Global, bytes: &[u8], inputs: &mut Inputs) -> Result<(), Misread> {
+        mirrors_are_whole_frames();
+        match read_efi(alloc, bytes) {
+            Ok(map) => {
+                inputs.efi = Some(map);
+                Ok(())
+            }
+            Err(fault) => Err(Misread::of(fault_of_efi(fault))),
+        }
+    }
+}
+
+/// The fault of an EFI memory map; none for want of memory.
+fn fault_of_efi(fault: EfiFault) -> Option<Fault>
+    ensures { result ≡ fault_of_efi fault }
+{
+    match fault {
+        EfiFault::Header => Some(Fault::Header),
+        EfiFault::Length => Some(Fault::Length),
+        EfiFault::TooFar { index } => Some(Fault::DescriptorTooFar { index }),
+        EfiFault::Memory => None,
+    }
+}

@@ -1,0 +1,50 @@
+//! The page script as an input: what is asked of the page allocator behind the boot.
+
+ghost use Rattle.std.specs.Prelude.{◌≡◌, ◌≤◌, length, IsErrOf, IsOk, IsTrue};
+ghost use Rattle.bm_base.specs.Answers.{Answers};
+ghost use Rattle.bm_base.specs.ResultSteps.{with_error};
+ghost use Rattle.boot_model.specs.View.{inputs_view};
+ghost use Rattle.boot_inputs.specs.Pages.{fault_of_pages, pages_file};
+
+use crate::fault::{Fault, Misread};
+use crate::input::Input;
+use crate::reader::Reader;
+use boot_model::Inputs;
+use page_alloc::{PageFault, read_pages};
+use std::alloc::Global;
+
+/// Reads a page script.
+pub struct PageScripts;
+
+impl Reader for PageScripts {
+    ghost file = { pages_file };
+
+    fn input() -> Input {
+        Input::Pages
+    }
+
+    fn limit() -> u64 {
+        1_048_576
+    }
+
+    fn read(alloc: Global, bytes: &[u8], inputs: &mut Inputs) -> Result<(), Misread> {
+        match read_pages(alloc, bytes) {
+            Ok(lines) => {
+                inputs.page_lines = lines;
+                Ok(())
+            }
+            Err(fault) => Err(Misread::of(fault_of_pages(fault))),
+        }
+    }
+}
+
+/// The fault of a page script; none for want of memory.
+fn fault_of_pages(fault: PageFault) -> Option<Fault>
+    ensures { result ≡ fault_of_pages fault }
+{
+    match fault {
+        PageFault::BadLine { line } => Some(Fault::BadLine { line }),
+        PageFault::BadNumber { line } => Some(Fault::BadNumber { line }),
+        PageFault::Memory => None,
+    }
+}
