@@ -14,6 +14,7 @@ use Rattle.e820_model.specs.Usable.{is_memory, reachable, usable_frames}
 use Rattle.e820_model.proofs.ClaimLaws.{greatest_is, map_runs}
 use Rattle.e820_model.proofs.UsableLaws.{count_same, count_frames_between, memory_reached, usable_count}
 use Rattle.bm_base.specs.Frames.{bytes_of_frame}
+use Rattle.bm_base.specs.declared.width.Width.TheVariants.{Bits46}
 use Rattle.bm_base.proofs.EachLaws.{each_in-same}
 use Rattle.e820_table.specs.Entries.{entry_at}
 use Rattle.e820_table.specs.Initrd.{initrd_of, is_initrd_far}
@@ -22,7 +23,7 @@ use Rattle.growth_model.specs.Carried.{carried_out}
 use Rattle.early_stages.specs.Wanted.{first_items}
 use Rattle.early_stages.proofs.FewLaws.{NeedNone, few_from_nothing}
 use Rattle.bm_base.specs.ResultSteps.{◌>>=◌}
-use Rattle.boot_model.specs.Boot.{Given, Made, begin_with, begun, boot, claims, has_memory, map_judged, no_options, reach}
+use Rattle.boot_model.specs.Boot.{Given, Made, begin_with, begun, boot, claims, early_of, has_memory, map_judged, no_options, reach}
 use Rattle.boot_model.proofs.BootLaws.{goes_on}
 use Rattle.program_words.specs.Kernel.{default_kernel}
 use Rattle.program_words.specs.Spelling.{AreSpellings, Spelling, apart, given_by, named}
@@ -50,7 +51,7 @@ abbrev held : Held
 held name = if bytes_eq name (codes "zp") then Some page else None
 
 abbrev given : Given
-given = record (begun (record { base = 0x1000000; size = 0x2000000 })) { entries = ram ∷ reserved ∷ [] }
+given = record (begun Bits46 (record { base = 0x1000000; size = 0x2000000 })) { entries = ram ∷ reserved ∷ [] }
 
 -- the type of each address: where both entries claim it, the greater one
 kind_at : ℕ → ℕ
@@ -90,7 +91,7 @@ only_trimmed c only x k = rw (only x k, only x 1) (grind (arith, nat_tests))
 
 only_claims : IsOnly (claims given)
 only_claims =
-    only_trimmed _ (only_settled _ (only_gives _ (only_settled _ (only_gives _ (only_added _ (only_settled _ entries_give))))))
+    only_trimmed _ (only_settled _ (only_gives _ (only_added _ (only_settled _ (only_gives _ (only_added _ (only_settled _ entries_give)))))))
 
 -- so these are the runs of the map
 abbrev runs : List (RunOf ℕ)
@@ -127,7 +128,7 @@ frames_are =
 
 -- what a boot wants of them, so few items that no table grows
 abbrev wanted : List Item
-wanted = first_items (reach given) given.kernel given.initrd runs
+wanted = first_items (early_of given) runs
 
 few_wanted : NeedNone 0 0 wanted
 few_wanted = (omega arith, omega arith, (omega arith, omega arith, (omega arith, omega arith, (omega arith, omega arith, tt))))
@@ -147,7 +148,7 @@ are_spellings : AreSpellings spellings
 are_spellings = ((refl, refl), refl, (refl, refl, tt))
 
 abbrev asked : Wanted
-asked = record { named = name_in (given_by spellings); kernel = default_kernel; reports = reports.Map ∷ []; made = None }
+asked = record { named = name_in (given_by spellings); begun = begun Bits46 default_kernel; reports = reports.Map ∷ []; made = None }
 
 words_ask : accepted (codes "--report" ∷ codes "map" ∷ codes "zp" ∷ []) ≡ Some asked
 words_ask = accepted_as_given spellings are_spellings

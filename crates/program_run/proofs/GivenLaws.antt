@@ -12,7 +12,7 @@ use Rattle.boot_inputs.specs.declared.refusal.Refusal.{Refusal}
 use Rattle.boot_inputs.specs.declared.refusal.Refusal.TheVariants as refusals
 use Rattle.boot_inputs.specs.Answers.{ComesTo, Fits, Gives}
 use Rattle.boot_inputs.specs.Inputs.{Held, inputs_of}
-use Rattle.boot_model.specs.Boot.{Given, begun}
+use Rattle.boot_model.specs.Boot.{Given}
 use Rattle.program_words.specs.Words.{Wanted}
 use Rattle.program_run.specs.Outcome.{given_by, with_made}
 
@@ -28,11 +28,16 @@ fits_behind (errors.Refused (refusals.Faulty input fault)) said next fits = rw f
 fits_behind errors.Memory said next fits = tt
 
 pub given_none : {X : Type 0} (view : X → Given) (r : Result X InputError) (other error : InputError) (told : Option Held) (wanted : Wanted)
-    → r ≡ Err other → other ≡ error → IfSome told (λ held. Fits error (inputs_of held wanted.named (begun wanted.kernel)))
+    → r ≡ Err other → other ≡ error → IfSome told (λ held. Fits error (inputs_of held wanted.named wanted.begun))
     → IfSome told (λ held. Gives view r (given_by held wanted))
 given_none view r other error None wanted is same fits = tt
 given_none view r other error (Some held) wanted is same fits =
-    rw (is, same) (fits_behind error (inputs_of held wanted.named (begun wanted.kernel)) (with_made wanted.made) fits)
+    rw (is, same) (fits_behind error (inputs_of held wanted.named wanted.begun) (with_made wanted.made) fits)
+
+pub given_some : (told : Option Held) (wanted : Wanted) (given out : Given) → out ≡ with_made wanted.made given
+    → IfSome told (λ held. inputs_of held wanted.named wanted.begun ≡ Ok given) → IfSome told (λ held. given_by held wanted ≡ Ok out)
+given_some None wanted given out made is = tt
+given_some (Some held) wanted given out made is = rw (is, made) refl
 
 pub made_given : (given : Given) (entries : Option ℕ) (count : ℕ) (page extension : List Entry) (initrd : Option Extent)
     → entries ≡ Some count → page ≡ take 128 (made_entries count) → initrd ≡ None → extension ≡ drop 128 (made_entries count)

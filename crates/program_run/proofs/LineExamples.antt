@@ -13,7 +13,7 @@ use Rattle.boot_model.specs.declared.stop.Stop.TheVariants as stops
 use Rattle.program_run.specs.declared.failure.Reason.TheVariants as reasons
 use Rattle.program_run.specs.declared.failure.Failure.TheVariants as failures
 use Rattle.program_run.specs.Status.{refusal_status, reason_status, status_of, status_of_end, failure_by, failure_of_input, failure_of_stop}
-use Rattle.program_run.specs.Line.{whole_line, entry_line, word_line, numbered_line, offset_line, fault_line, thing_line, place_line, table_line, table_name, cause_line, refusal_line, reason_line, failure_line, name_text}
+use Rattle.program_run.specs.Line.{whole_line, far_line, word_line, numbered_line, offset_line, fault_line, thing_line, place_line, table_line, table_name, cause_line, refusal_line, reason_line, failure_line, name_text}
 use Rattle.program_run.proofs.OutcomeExamples.{wanting}
 
 -- the status of each way to end
@@ -46,7 +46,7 @@ input_error_examples = (refl, refl)
 
 -- the line of each way to end
 entry_lines : (fault_line (codes "zeropage") (faults.ZeroPage (zero.EntryTooFar 3)) ≡ codes "bootmem: zeropage: entry 3 too far\n")
-    × (entry_line (codes "e820ext") 3071 ≡ codes "bootmem: e820ext: entry 3071 too far\n")
+    × (far_line (codes "e820ext") (codes "entry") 3071 ≡ codes "bootmem: e820ext: entry 3071 too far\n")
     × (fault_line (codes "zeropage") (faults.ZeroPage zero.InitrdTooFar) ≡ codes "bootmem: zeropage: initrd too far\n")
 unfolding digits
 entry_lines = (refl, refl, refl)
@@ -61,6 +61,11 @@ script_lines : (fault_line (codes "script") (faults.ZeroSize 12) ≡ codes "boot
     × (numbered_line (codes "script") 1 (codes "form") ≡ codes "bootmem: script: line 1: form\n")
 unfolding digits
 script_lines = (refl, refl)
+
+efi_lines : (fault_line (codes "efi") (faults.DescriptorTooFar 3) ≡ codes "bootmem: efi: descriptor 3 too far\n")
+    × (fault_line (codes "slit") faults.Localities ≡ codes "bootmem: slit: localities\n")
+unfolding digits
+efi_lines = (refl, refl)
 
 srat_lines : (refusal_line None (refusals.Faulty inputs.Srat (faults.EntryLength 48)) ≡ codes "bootmem: srat: entry length at 48\n")
     × (offset_line (codes "srat") (codes "block too far") 1048 ≡ codes "bootmem: srat: block too far at 1048\n")

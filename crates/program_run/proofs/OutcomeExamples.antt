@@ -11,6 +11,7 @@ use Rattle.boot_inputs.specs.declared.refusal.Refusal.TheVariants as refusals
 use Rattle.boot_inputs.specs.Inputs.{Held}
 use Rattle.e820_table.specs.Made.{entries_behind, high_ram, low_ram}
 use Rattle.boot_model.specs.declared.stop.Cause.TheVariants as causes
+use Rattle.bm_base.specs.declared.width.Width.TheVariants.{Bits46}
 use Rattle.boot_model.specs.Boot.{Given, begun, boot}
 use Rattle.debugfs_reports.specs.declared.report.Report.TheVariants as reports
 use Rattle.program_run.specs.declared.failure.Reason.{Reason}
@@ -29,7 +30,7 @@ naming zero_page other = None
 abbrev pub wanting : List ℕ → Wanted
 wanting zero_page = record {
   named = naming zero_page;
-  kernel = record { base = 0x1000000; size = 0x2000000 };
+  begun = begun Bits46 (record { base = 0x1000000; size = 0x2000000 });
   reports = reports.Map ∷ [];
   made = None;
 }
@@ -51,7 +52,7 @@ with_a_short_page = refl
 
 -- a made table in place of the files' entries
 abbrev of_files : Given
-of_files = record (begun (record { base = 0x1000000; size = 0x2000000 })) {
+of_files = record (begun Bits46 (record { base = 0x1000000; size = 0x2000000 })) {
   entries = low_ram ∷ low_ram ∷ low_ram ∷ [];
   initrd = Some (record { base = 0x7D00000; size = 0x1000 });
   extension = low_ram ∷ [];
@@ -65,7 +66,7 @@ made_examples = (refl, refl)
 
 given_examples : (h : Held) → given_by h (record {
   named = λ input. None;
-  kernel = record { base = 0x1000000; size = 0x2000000 };
+  begun = begun Bits46 (record { base = 0x1000000; size = 0x2000000 });
   reports = [];
   made = Some 2;
 }) ≡ Ok (record of_files { entries = low_ram ∷ high_ram ∷ []; initrd = None; extension = [] })

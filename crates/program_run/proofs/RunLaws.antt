@@ -102,6 +102,12 @@ pub wanting_fits : (holds : Option Held) (accepted : Option Wanted) (written : O
 wanting_fits None accepted written = tt
 wanting_fits (Some held) accepted written = inl refl
 
+-- refused words fit the outcome, which is that they are refused
+pub usage_fits : (holds : Option Held) (accepted : Option Wanted) (written : Option (List ℕ)) → accepted ≡ None
+    → IfSome holds (λ held. Writes written written (Err (failures.NoReport reasons.Usage)) (outcome accepted held))
+usage_fits None accepted written none = tt
+usage_fits (Some held) accepted written none = rw none refl
+
 -- a failure fits the outcome
 end_fits : (said : Result (List ℕ) Reason) (failure : Failure) (old new : Option (List ℕ)) → Writes old new (Err failure) said
     → EndFits failure said
@@ -136,6 +142,29 @@ both (Some wanted) some none = cc
 named_some : (before now : List ℕ → ℕ) (accepted : Option Wanted) (input : Input) → RoseFor before now accepted input → IsSome accepted
 named_some before now None input rose = absurd rose
 named_some before now (Some wanted) input rose = refl
+
+-- a run that ends with 3 couldn't read a file that the words name
+abbrev pub NamesUnread : (before now : List ℕ → ℕ) → Option Wanted → Type 0
+NamesUnread before now accepted = (input : Input) × RoseFor before now accepted input
+
+not_three : (before now : List ℕ → ℕ) (accepted : Option Wanted) (status other : ℕ) → status ≡ other → other ≢ 3
+    → status ≡ 3 → NamesUnread before now accepted
+not_three before now accepted status other is differs three = absurd (differs (sym is ∙ three))
+
+pub ran_unread : (before now : List ℕ → ℕ) (accepted : Option Wanted) (end : End) (status : ℕ) → status ≡ status_of_end end
+    → EndHasCause before now accepted end → status ≡ 3 → NamesUnread before now accepted
+ran_unread before now accepted (Ok done) status is cause = not_three before now accepted status 0 is (λ same. omega (arith, same))
+ran_unread before now accepted (Err (failures.NoReport reasons.Usage)) status is cause =
+    not_three before now accepted status 2 is (λ same. omega (arith, same))
+ran_unread before now accepted (Err (failures.NoReport (reasons.Refused (refusals.Unread input)))) status is cause = λ three. (input, cause)
+ran_unread before now accepted (Err (failures.NoReport (reasons.Refused (refusals.Faulty input fault)))) status is cause =
+    not_three before now accepted status 5 is (λ same. omega (arith, same))
+ran_unread before now accepted (Err (failures.NoReport (reasons.Stopped cause_of))) status is cause =
+    not_three before now accepted status 6 is (λ same. omega (arith, same))
+ran_unread before now accepted (Err failures.Unwritten) status is cause =
+    not_three before now accepted status 4 is (λ same. omega (arith, same))
+ran_unread before now accepted (Err failures.Memory) status is cause =
+    not_three before now accepted status 7 is (λ same. omega (arith, same))
 
 -- what the status says of the words, and they of it
 abbrev pub Refuses : Option Wanted → ℕ → Type 0

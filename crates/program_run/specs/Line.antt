@@ -24,13 +24,13 @@ use Rattle.program_run.specs.declared.failure.Failure.{Failure}
 use Rattle.program_run.specs.declared.failure.Failure.TheVariants as failures
 use Rattle.program_words.specs.Words.{Wanted}
 
--- of the input of that name: a fault of the whole file, of an entry, which are numbered from 0, of a word or of a line, which are
+-- of the input of that name: a fault of the whole file, of an entry or a descriptor, which are numbered from 0, of a word or of a line, which are
 -- numbered from 1, and of what stands at an offset in bytes
 abbrev pub whole_line : List ℕ → List ℕ → List ℕ
 whole_line name what = codes "bootmem: " ++ (name ++ (codes ": " ++ (what ++ codes "\n")))
 
-abbrev pub entry_line : List ℕ → ℕ → List ℕ
-entry_line name index = codes "bootmem: " ++ (name ++ (codes ": entry " ++ (decimal index ++ codes " too far\n")))
+abbrev pub far_line : List ℕ → List ℕ → ℕ → List ℕ
+far_line name thing index = codes "bootmem: " ++ (name ++ (codes ": " ++ (thing ++ (codes " " ++ (decimal index ++ codes " too far\n")))))
 
 abbrev pub word_line : List ℕ → ℕ → List ℕ → List ℕ
 word_line name word what = codes "bootmem: " ++ (name ++ (codes ": word " ++ (decimal word ++ (codes ": " ++ (what ++ codes "\n")))))
@@ -45,13 +45,13 @@ abbrev pub zero_line : List ℕ → ZeroFault → List ℕ
 zero_line name zero.WrongLength = whole_line name (codes "wrong length")
 zero_line name zero.TooFew = whole_line name (codes "too few entries")
 zero_line name zero.TooMany = whole_line name (codes "too many entries")
-zero_line name (zero.EntryTooFar index) = entry_line name index
+zero_line name (zero.EntryTooFar index) = far_line name (codes "entry") index
 zero_line name zero.InitrdTooFar = whole_line name (codes "initrd too far")
 
 abbrev pub fault_line : List ℕ → Fault → List ℕ
 fault_line name faults.TooLong = whole_line name (codes "too long")
 fault_line name (faults.ZeroPage fault) = zero_line name fault
-fault_line name (faults.EntryTooFar index) = entry_line name index
+fault_line name (faults.EntryTooFar index) = far_line name (codes "entry") index
 fault_line name faults.Header = whole_line name (codes "header")
 fault_line name faults.Length = whole_line name (codes "length")
 fault_line name faults.LineTooLong = whole_line name (codes "line too long")
@@ -64,6 +64,7 @@ fault_line name (faults.BadNuma word) = word_line name word (codes "numa")
 fault_line name faults.Short = whole_line name (codes "short")
 fault_line name faults.Signature = whole_line name (codes "signature")
 fault_line name faults.Checksum = whole_line name (codes "checksum")
+fault_line name faults.Localities = whole_line name (codes "localities")
 fault_line name (faults.EntryLength offset) = offset_line name (codes "entry length") offset
 fault_line name (faults.BlockTooFar offset) = offset_line name (codes "block too far") offset
 fault_line name (faults.BadLine line) = numbered_line name line (codes "form")
@@ -72,6 +73,7 @@ fault_line name (faults.BadAlign line) = numbered_line name line (codes "alignme
 fault_line name (faults.ZeroSize line) = numbered_line name line (codes "zero size")
 fault_line name (faults.SecondSections line) = numbered_line name line (codes "second sections")
 fault_line name (faults.LineTooFar line) = numbered_line name line (codes "too far")
+fault_line name (faults.DescriptorTooFar index) = far_line name (codes "descriptor") index
 
 -- the name of a table of memblock
 abbrev pub table_name : Which → List ℕ

@@ -5,7 +5,7 @@ use Rattle.e820_table.specs.Made.{made_entries}
 use Rattle.boot_inputs.specs.declared.refusal.Refusal.{Refusal}
 use Rattle.boot_inputs.specs.Inputs.{Held, inputs_of}
 use Rattle.boot_model.specs.declared.stop.Cause.{Cause}
-use Rattle.boot_model.specs.Boot.{Given, begun, told_boot}
+use Rattle.boot_model.specs.Boot.{Given, told_boot}
 use Rattle.debugfs_reports.specs.declared.report.Report.{Report}
 use Rattle.debugfs_reports.specs.ReportList.{text_of}
 use Rattle.program_run.specs.declared.failure.Reason.{Reason}
@@ -37,7 +37,7 @@ with_made (Some count) given = record given {
 -- what the boot is given, by the words and by the files that they name
 abbrev pub given_by : Held → Wanted → Result Given Refusal
 given_by held wanted = do
-  given ← inputs_of held wanted.named (begun wanted.kernel)
+  given ← inputs_of held wanted.named wanted.begun
   Ok (with_made wanted.made given)
 
 -- the text of the reports of what the boot makes of the inputs

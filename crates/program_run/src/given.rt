@@ -1,7 +1,7 @@
 //! What the boot is given: what the named files say, and where the words ask for a made table, that in place of the zero
 //! page's and the extension's.
 
-ghost use Rattle.std.specs.Prelude.{◌≡◌, ℕ, ◌<◌, List, IfSome, IsErr, IsErrOf, IsSomeAnd, OnOk};
+ghost use Rattle.std.specs.Prelude.{◌≡◌, ℕ, ◌<◌, List, IfErr, IfOk, IfSome, IsErr, IsErrOf, IsSomeAnd, OnOk, Some};
 ghost use Rattle.boot_model.specs.View.{inputs_view};
 ghost use Rattle.boot_inputs.specs.Answers.{Gives, HasCause};
 ghost use Rattle.program_words.specs.Entries.{AreEntries};
@@ -29,24 +29,46 @@ pub fn read_given<F: Files>(
         → ((any : List ℕ) → F.faults files.new any ≡ F.faults files.old any) }
     ensures uncounted { OnOk result ((any : List ℕ) → F.faults files.new any ≡ F.faults files.old any) }
 {
-    let begun = Inputs::begun(alloc, wanted.kernel);
-    let mut inputs = read_inputs::<F, Wanted<'_>>(alloc, files, wanted, begun)?;
-    match put_made(alloc, &mut inputs, wanted.made) {
-        Ok(()) => Ok(inputs),
+    let begun = begun_by(alloc, wanted)?;
+    let inputs = read_inputs::<F, Wanted<'_>>(alloc, files, wanted, begun)?;
+    match with_made(alloc, inputs, wanted.made) {
+        Ok(inputs) => Ok(inputs),
         Err(_) => Err(InputError::Memory),
     }
 }
 
-/// Puts a made table of so many entries in place of those that the files give, where one is asked for. It has no initrd.
-fn put_made(alloc: Global, inputs: &mut Inputs, entries: Option<u32>) -> Result<(), Memory>
+/// What the boot is given by the words themselves.
+fn begun_by(alloc: Global, wanted: &Wanted<'_>) -> Result<Inputs, InputError>
+    ensures begun { IfOk result (λ inputs. inputs_view inputs ≡ (wanted_view wanted.now).begun) }
+    ensures only { IfErr result (λ error. error ≡ InputError.Memory) }
+{
+    match wanted.begun(alloc) {
+        Ok(inputs) => Ok(inputs),
+        Err(_) => Err(InputError::Memory),
+    }
+}
+
+/// The inputs with a made table of so many entries in place of those that the files give, where one is asked for.
+fn with_made(alloc: Global, inputs: Inputs, entries: Option<u32>) -> Result<Inputs, Memory>
     requires few { IfSome entries AreEntries }
-    ensures put { OnOk result (inputs_view inputs.new ≡ with_made entries (inputs_view inputs.old)) }
+    ensures made { IfOk result (λ given. inputs_view given ≡ with_made entries (inputs_view inputs)) }
     ensures many { IsErr result → IsSomeAnd entries (λ n. 128 < n) }
 {
-    if let Some(count) = entries {
-        let made = made(alloc, count)?;
-        inputs.zero = made.zero;
-        inputs.ext = made.ext;
+    match entries {
+        Some(count) => with_entries(alloc, inputs, count),
+        None => Ok(inputs),
     }
-    Ok(())
+}
+
+/// The inputs with a made table of so many entries in place of those that the files give. It has no initrd.
+fn with_entries(alloc: Global, inputs: Inputs, count: u32) -> Result<Inputs, Memory>
+    requires few { AreEntries count }
+    ensures made { IfOk result (λ given. inputs_view given ≡ with_made (Some count) (inputs_view inputs)) }
+    ensures many { IsErr result → 128 < count }
+{
+    let made = made(alloc, count)?;
+    let mut inputs = inputs;
+    inputs.zero = made.zero;
+    inputs.ext = made.ext;
+    Ok(inputs)
 }

@@ -1,8 +1,7 @@
 //! The whole program over any files and outputs. It is generic over them, so one contract speaks of those in
 //! memory, with which tests run it, and of the system's, which `main` hands in (`bootmem_cli`).
 
-ghost use Rattle.std.specs.Prelude.{◌≡◌, ℕ, List, IfSome, IfErr, IsNone, IsSome, IsErrOf, OnOk, OnErr, IfOk, ◌⊎◌, flat_map};
-ghost use Rattle.std.specs.Option.{option_map};
+ghost use Rattle.std.specs.Prelude.{◌≡◌, ℕ, List, Some, IfSome, IfErr, IsErrOf, OnOk, OnErr, ◌⊎◌, flat_map};
 ghost use Rattle.std.specs.Io.KnownBytes.{Appends};
 ghost use Rattle.bm_io.specs.Counts.{Rose};
 ghost use Rattle.bm_io.specs.Told.{AppendsFront};
@@ -19,8 +18,7 @@ ghost use Rattle.program_run.specs.Status.{End, status_of_end};
 use crate::chunks::put_reports;
 use crate::failure::{Failure, Reason};
 use crate::given::read_given;
-use crate::tell::tell;
-use bm_base::Memory;
+use crate::tell::{tell, tell_memory, tell_usage};
 use bm_io::{Files, Put, Sink};
 use boot_model::Inputs;
 use boot_stages::boot;
@@ -46,43 +44,49 @@ pub fn run<F: Files, S: Sink, E: Sink>(
     ensures { (end : End) × (result ≡ status_of_end end) × RanTo F.Files S.Sink E.Sink
         (accepted (texts words.now)) files.old files.new out.old out.new err.old err.new end }
 {
-    let Ok(wanted) = wanted_by(alloc, words) else {
-        tell(err, &None, Failure::Memory);
-        return Failure::Memory.status();
-    };
-    let Err(failure) = write_reports(alloc, &wanted, files, out) else {
-        return 0;
-    };
-    tell(err, &wanted, failure);
-    failure.status()
+    match read_words(alloc, words) {
+        Ok(wanted) => run_wanted(alloc, &wanted, files, out, err),
+        Err(WordError::Usage) => {
+            tell_usage(err);
+            Failure::NoReport(Reason::Usage).status()
+        }
+        Err(WordError::Memory) => {
+            tell_memory(err);
+            Failure::Memory.status()
+        }
+    }
 }
 
-/// What the words ask for; `None` exactly where they are refused for another cause than want of memory.
-fn wanted_by<'w>(alloc: Global, words: &'w [String]) -> Result<Option<Wanted<'w>>, Memory>
-    ensures { IfOk result (λ wanted. option_map wanted_view wanted ≡ accepted (texts words.entry.now)) }
+/// The program behind accepted words: what they ask for is written, or the line of the failure told.
+fn run_wanted<F: Files, S: Sink, E: Sink>(
+    alloc: Global,
+    wanted: &Wanted<'_>,
+    files: &mut F,
+    out: &mut S,
+    err: &mut E,
+) -> u8
+    ensures { (end : End) × (result ≡ status_of_end end) × RanTo F.Files S.Sink E.Sink
+        (Some (wanted_view wanted.now)) files.old files.new out.old out.new err.old err.new end }
 {
-    match read_words(alloc, words) {
-        Ok(wanted) => Ok(Some(wanted)),
-        Err(WordError::Usage) => Ok(None),
-        Err(WordError::Memory) => Err(Memory),
-    }
+    let Err(failure) = write_reports(alloc, wanted, files, out) else {
+        return 0;
+    };
+    tell(err, wanted, failure);
+    failure.status()
 }
 
 /// Writes the reports that are asked for, once all of them are there.
 fn write_reports<F: Files, S: Sink>(
     alloc: Global,
-    wanted: &Option<Wanted<'_>>,
+    wanted: &Wanted<'_>,
     files: &mut F,
     out: &mut S,
 ) -> Result<(), Failure>
     ensures writes { IfSome (F.holds files.old) (λ held.
         Writes (S.written out.old) (S.written out.new) result
-        (outcome (option_map wanted_view wanted.now) held)) }
-    ensures accepted { OnOk result (IsSome (option_map wanted_view wanted.now)) }
+        (outcome (Some (wanted_view wanted.now)) held)) }
     ensures cause { IfErr result (λ failure. FailureHasCause (F.faults files.old)
-        (F.faults files.new) (option_map wanted_view wanted.now) failure) }
-    ensures unfetched { IsNone (option_map wanted_view wanted.now) → files.new ≡ files.old }
-    ensures unput { IsNone (option_map wanted_view wanted.now) → out.new ≡ out.old }
+        (F.faults files.new) (Some (wanted_view wanted.now)) failure) }
     ensures unfailed { IsErrOf result Failure.Memory
         → ((any : List ℕ) → F.faults files.new any ≡ F.faults files.old any) }
     ensures output { WritingHasCause S.faults S.wants out.old out.new result }
@@ -115,22 +119,18 @@ fn put_texts<S: Sink>(out: &mut S, texts: Vec<Vec<Chunk>>) -> Result<(), Failure
 /// The texts of the reports that are asked for.
 fn make_texts<F: Files>(
     alloc: Global,
-    wanted: &Option<Wanted<'_>>,
+    wanted: &Wanted<'_>,
     files: &mut F,
 ) -> Result<Vec<Vec<Chunk>>, Failure>
     ensures makes { IfSome (F.holds files.old) (λ held.
         Makes (λ texts. flat_map (λ chunks. text_of_chunks chunks.items) texts.items) result
-        (outcome (option_map wanted_view wanted.now) held)) }
+        (outcome (Some (wanted_view wanted.now)) held)) }
     ensures cause { ReportHasCause (F.faults files.old) (F.faults files.new)
-        (option_map wanted_view wanted.now) result }
-    ensures unfetched { IsNone (option_map wanted_view wanted.now) → files.new ≡ files.old }
+        (Some (wanted_view wanted.now)) result }
     ensures unfailed { IsErrOf result Failure.Memory
         → ((any : List ℕ) → F.faults files.new any ≡ F.faults files.old any) }
     ensures uncounted { OnOk result ((any : List ℕ) → F.faults files.new any ≡ F.faults files.old any) }
 {
-    let Some(wanted) = wanted else {
-        return Err(Failure::NoReport(Reason::Usage));
-    };
     let inputs = read_given(alloc, wanted, files)?;
     boot_texts(alloc, inputs, wanted.list)
 }

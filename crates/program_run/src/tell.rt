@@ -1,10 +1,12 @@
 //! The line of a failure, chunk by chunk: it takes no memory, and no kind of failure that comes here can be
 //! want of memory under another name.
 
-ghost use Rattle.std.specs.Prelude.{◌≡◌, flat_map};
-ghost use Rattle.std.specs.Option.{option_map};
-ghost use Rattle.program_run.specs.Line.{Tells, cause_line, entry_line, failure_line, fault_line, name_text, numbered_line, offset_line, place_line, reason_line, refusal_line, table_line, table_name, thing_line, whole_line, word_line, zero_line};
+ghost use Rattle.std.specs.Prelude.{◌≡◌, Option, Some, None, flat_map};
+ghost use Rattle.program_run.specs.declared.failure.Failure.TheVariants as failures;
+ghost use Rattle.program_run.specs.declared.failure.Reason.TheVariants as reasons;
+ghost use Rattle.program_run.specs.Line.{Tells, cause_line, failure_line, far_line, fault_line, name_text, numbered_line, offset_line, place_line, reason_line, refusal_line, table_line, table_name, thing_line, whole_line, word_line, zero_line};
 ghost use Rattle.program_words.specs.View.{wanted_view};
+ghost use Rattle.program_words.specs.Words.{Wanted as AnyWanted};
 
 use crate::failure::{Failure, Reason};
 use bm_io::{Sink, put_all};
@@ -16,31 +18,45 @@ use memblock_model::Which;
 use program_words::Wanted;
 use stage_model::What;
 
+/// Puts the line of refused words on the error output.
+pub fn tell_usage<E: Sink>(err: &mut E)
+    ensures { Tells E.Sink err.old err.new (failure_line None (failures.NoReport reasons.Usage)) }
+{
+    put_line(err, &["bootmem: usage\n"])
+}
+
+/// Puts the line of want of memory on the error output, whatever the words ask for.
+pub fn tell_memory<E: Sink>(err: &mut E)
+    ensures { (accepted : Option AnyWanted) → Tells E.Sink err.old err.new (failure_line accepted failures.Memory) }
+{
+    put_line(err, &["bootmem: out of memory\n"])
+}
+
 /// Puts the line of a failure on the error output. What the output answers changes nothing: the line goes out
 /// chunk by chunk, up to the first that is refused.
-pub fn tell<E: Sink>(err: &mut E, wanted: &Option<Wanted<'_>>, failure: Failure)
-    ensures { Tells E.Sink err.old err.new (failure_line (option_map wanted_view wanted.now) failure) }
+pub fn tell<E: Sink>(err: &mut E, wanted: &Wanted<'_>, failure: Failure)
+    ensures { Tells E.Sink err.old err.new (failure_line (Some (wanted_view wanted.now)) failure) }
 {
     match failure {
         Failure::NoReport(reason) => tell_reason(err, wanted, reason),
         Failure::Unwritten => put_line(err, &["bootmem: cannot write\n"]),
-        Failure::Memory => put_line(err, &["bootmem: out of memory\n"]),
+        Failure::Memory => tell_memory(err),
     }
 }
 
-fn tell_reason<E: Sink>(err: &mut E, wanted: &Option<Wanted<'_>>, reason: Reason)
-    ensures { Tells E.Sink err.old err.new (reason_line (option_map wanted_view wanted.now) reason) }
+fn tell_reason<E: Sink>(err: &mut E, wanted: &Wanted<'_>, reason: Reason)
+    ensures { Tells E.Sink err.old err.new (reason_line (Some (wanted_view wanted.now)) reason) }
 {
     match reason {
-        Reason::Usage => put_line(err, &["bootmem: usage\n"]),
+        Reason::Usage => tell_usage(err),
         Reason::Refused(refusal) => tell_refusal(err, wanted, refusal),
         Reason::Stopped(cause) => tell_cause(err, cause),
     }
 }
 
-fn tell_refusal<E: Sink>(err: &mut E, wanted: &Option<Wanted<'_>>, refusal: Refusal)
+fn tell_refusal<E: Sink>(err: &mut E, wanted: &Wanted<'_>, refusal: Refusal)
     ensures { Tells E.Sink err.old err.new
-        (refusal_line (option_map wanted_view wanted.now) refusal) }
+        (refusal_line (Some (wanted_view wanted.now)) refusal) }
 {
     match refusal {
         Refusal::Unread(input) => {
@@ -53,14 +69,11 @@ fn tell_refusal<E: Sink>(err: &mut E, wanted: &Option<Wanted<'_>>, refusal: Refu
     }
 }
 
-/// The name of an input's file, empty where there is none or the words weren't accepted.
-fn name_text<'a>(wanted: &'a Option<Wanted<'_>>, input: Input) -> &'a str
-    ensures { result.now ≡ name_text (option_map wanted_view wanted.now) input }
+/// The name of an input's file, empty where there is none.
+fn name_text<'a>(wanted: &'a Wanted<'_>, input: Input) -> &'a str
+    ensures { result.now ≡ name_text (Some (wanted_view wanted.now)) input }
 {
-    match wanted {
-        Some(wanted) => wanted.of(input).unwrap_or(""),
-        None => "",
-    }
+    wanted.of(input).unwrap_or("")
 }
 
 /// The line of a fault of the input of that name.
@@ -70,7 +83,7 @@ fn tell_fault<E: Sink>(err: &mut E, name: &str, fault: Fault)
     match fault {
         Fault::TooLong => tell_whole(err, name, "too long"),
         Fault::ZeroPage(fault) => tell_zero(err, name, fault),
-        Fault::EntryTooFar { index } => tell_entry(err, name, index),
+        Fault::EntryTooFar { index } => tell_far(err, name, "entry", index),
         Fault::Header => tell_whole(err, name, "header"),
         Fault::Length => tell_whole(err, name, "length"),
         Fault::LineTooLong => tell_whole(err, name, "line too long"),
@@ -83,6 +96,7 @@ fn tell_fault<E: Sink>(err: &mut E, name: &str, fault: Fault)
         Fault::Short => tell_whole(err, name, "short"),
         Fault::Signature => tell_whole(err, name, "signature"),
         Fault::Checksum => tell_whole(err, name, "checksum"),
+        Fault::Localities => tell_whole(err, name, "localities"),
         Fault::EntryLength { offset } => tell_offset(err, name, "entry length", offset),
         Fault::BlockTooFar { offset } => tell_offset(err, name, "block too far", offset),
         Fault::BadLine { line } => tell_line(err, name, line, "form"),
@@ -91,6 +105,7 @@ fn tell_fault<E: Sink>(err: &mut E, name: &str, fault: Fault)
         Fault::ZeroSize { line } => tell_line(err, name, line, "zero size"),
         Fault::SecondSections { line } => tell_line(err, name, line, "second sections"),
         Fault::LineTooFar { line } => tell_line(err, name, line, "too far"),
+        Fault::DescriptorTooFar { index } => tell_far(err, name, "descriptor", index),
     }
 }
 
@@ -102,7 +117,7 @@ fn tell_zero<E: Sink>(err: &mut E, name: &str, fault: ZeroFault)
         ZeroFault::WrongLength => tell_whole(err, name, "wrong length"),
         ZeroFault::TooFew => tell_whole(err, name, "too few entries"),
         ZeroFault::TooMany => tell_whole(err, name, "too many entries"),
-        ZeroFault::EntryTooFar { index } => tell_entry(err, name, index),
+        ZeroFault::EntryTooFar { index } => tell_far(err, name, "entry", index),
         ZeroFault::InitrdTooFar => tell_whole(err, name, "initrd too far"),
     }
 }
@@ -114,13 +129,16 @@ fn tell_whole<'a, E: Sink>(err: &mut E, name: &'a str, what: &'a str)
     put_line(err, &["bootmem: ", name, ": ", what, "\n"])
 }
 
-/// The line of an entry that ends too far, numbered from 0.
-fn tell_entry<E: Sink>(err: &mut E, name: &str, index: u32)
-    ensures { Tells E.Sink err.old err.new (entry_line name.now index) }
+/// The line of an entry or a descriptor that ends too far, numbered from 0.
+fn tell_far<'a, E: Sink>(err: &mut E, name: &'a str, thing: &'a str, index: u32)
+    ensures { Tells E.Sink err.old err.new (far_line name.now thing.now index) }
 {
     let mut buffer = Buffer::new();
     let index = buffer.format(index);
-    put_line(err, &["bootmem: ", name, ": entry ", index, " too far\n"])
+    put_line(
+        err,
+        &["bootmem: ", name, ": ", thing, " ", index, " too far\n"],
+    )
 }
 
 /// The line of a word of the file, numbered from 1.

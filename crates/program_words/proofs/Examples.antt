@@ -1,18 +1,22 @@
 -- Small command lines and their parts, computed.
-use Rattle.std.proofs.Common.{◌≡◌, ℕ, true, false, List, [], ◌∷◌, codes, Option, Some, None, refl}
+use Rattle.std.proofs.Common.{◌≡◌, ℕ, zero, suc, ◌-◌, ◌^◌, ◌++◌, Bool, true, false, List, [], ◌∷◌, codes, Option, Some, None, refl, arith}
 use Rattle.std.specs.Option.{option_map}
 use Rattle.clap.specs.Words.{matches_of}
 use Rattle.clap.specs.declared.builder.action.ArgAction.TheVariants.{Set, SetFalse, SetTrue}
 use Rattle.clap.proofs.OnLiterals.{clap_on_literals}
 use Rattle.bm_base.specs.Extent.{Extent}
+use Rattle.bm_base.specs.declared.width.Width.TheVariants.{Bits46, Bits52}
+use Rattle.boot_model.specs.Boot.{Given, begun}
 use Rattle.boot_inputs.specs.declared.input.Input.TheVariants as inputs
 use Rattle.debugfs_reports.specs.declared.report.Report.{Report}
 use Rattle.debugfs_reports.specs.declared.report.Report.TheVariants as reports
 use Rattle.program_words.specs.Entries.{are_digits, are_entries, entries_in, entries_of}
 use Rattle.program_words.specs.Grammar.{has_value, is_faultless, is_switch, program}
 use Rattle.program_words.specs.Kernel.{default_kernel, if_kernel, kernel_in, kernel_of}
+use Rattle.program_words.specs.Mirrors.{are_pieces, frames_by, mirrors_in, mirrors_of, pieces_in}
+use Rattle.program_words.specs.Range.{if_in_space, range_in}
 use Rattle.program_words.specs.Spelling.{Spelling, apart, argument_in, dashed, flag, given_by, is_flag, is_option, is_plain, joined, named, spelled, spelled_for, text_in, unspelled, words_of}
-use Rattle.program_words.specs.Words.{Values, Wanted, accepted, argument_of, asked_by, has_source, list_asked, list_in, name_in, provided, value_in}
+use Rattle.program_words.specs.Words.{Values, Wanted, accepted, argument_of, asked_by, begun_by, has_source, is_on, list_asked, list_in, name_in, provided, value_in, width_in}
 
 -- what words ask for, apart from the names of files by input
 record Asked : Type 0 where
@@ -21,7 +25,10 @@ record Asked : Type 0 where
   command_line : Option (List ℕ)
   srat : Option (List ℕ)
   script : Option (List ℕ)
-  kernel : Extent
+  pages : Option (List ℕ)
+  slit : Option (List ℕ)
+  efi : Option (List ℕ)
+  begun : Given
   reports : List Report
   made : Option ℕ
 
@@ -32,7 +39,10 @@ seen wanted = record {
   command_line = wanted.named inputs.CommandLine;
   srat = wanted.named inputs.Srat;
   script = wanted.named inputs.Script;
-  kernel = wanted.kernel;
+  pages = wanted.named inputs.Pages;
+  slit = wanted.named inputs.Slit;
+  efi = wanted.named inputs.Efi;
+  begun = wanted.begun;
   reports = wanted.reports;
   made = wanted.made;
 }
@@ -47,7 +57,10 @@ map_of_zp = record {
   command_line = None;
   srat = None;
   script = None;
-  kernel = default_kernel;
+  pages = None;
+  slit = None;
+  efi = None;
+  begun = begun Bits46 default_kernel;
   reports = reports.Map ∷ [];
   made = None;
 }
@@ -69,7 +82,7 @@ name_alone = refl
 -- every option, in two forms
 all_words : asked (codes "--cmdline=-c" ∷ codes "--kernel" ∷ codes "16M,0x200000" ∷ codes "--script" ∷ codes "s" ∷ codes "zp" ∷
     codes "--e820ext" ∷ codes "e" ∷
-    codes "--srat=t" ∷
+    codes "--srat=t" ∷ codes "--slit=d" ∷ codes "--pages" ∷ codes "p" ∷ codes "--efi=m" ∷
     codes "--report=map,options,map" ∷
     []) ≡ Some (record {
       zero_page = Some (codes "zp");
@@ -77,12 +90,30 @@ all_words : asked (codes "--cmdline=-c" ∷ codes "--kernel" ∷ codes "16M,0x20
       command_line = Some (codes "-c");
       srat = Some (codes "t");
       script = Some (codes "s");
-      kernel = record { base = 0x1000000; size = 0x200000 };
+      pages = Some (codes "p");
+      slit = Some (codes "d");
+      efi = Some (codes "m");
+      begun = begun Bits46 (record { base = 0x1000000; size = 0x200000 });
       reports = reports.Map ∷ reports.Options ∷ reports.Map ∷ [];
       made = None;
     })
 unfolding program clap_on_literals
 all_words = refl
+
+-- both flags, and two mirrored ranges of which one is no whole frame
+flag_words : asked (codes "--bottom-up" ∷ codes "--mirror" ∷ codes "4095,8193:1,4096" ∷ codes "zp" ∷ codes "--report=map" ∷ codes "--la57" ∷ [])
+    ≡ Some (record map_of_zp {
+      begun = record (begun Bits52 default_kernel) { mirrors = record { first = 1; count = 2 } ∷ []; upward = true };
+    })
+unfolding program clap_on_literals
+flag_words = refl
+
+-- an image that lies out of reach of 46 bits is taken with page tables of five levels
+wide_kernel : (accepted (codes "--kernel" ∷ codes "0x400000000000,0x2000" ∷ codes "zp" ∷ []) ≡ None)
+    × (asked (codes "--la57" ∷ codes "--kernel" ∷ codes "0x400000000000,0x2000" ∷ codes "--report=map" ∷ codes "zp" ∷ [])
+    ≡ Some (record map_of_zp { begun = begun Bits52 (record { base = 0x400000000000; size = 0x2000 }) }))
+unfolding program clap_on_literals
+wide_kernel = (refl, refl)
 
 -- a made table in place of a zero page
 made_words : asked (codes "--make" ∷ codes "007" ∷ codes "--report" ∷ codes "map" ∷ [])
@@ -107,6 +138,14 @@ refused_by_the_command : (is_faultless (codes "--report=map" ∷ codes "--report
 unfolding program clap_on_literals
 refused_by_the_command = (refl, refl, refl, refl, refl, refl)
 
+-- a flag twice, one with a value, in the next word or behind `=`, and one cut short
+flags_refused : (is_faultless (codes "--la57" ∷ codes "zp" ∷ codes "--la57" ∷ []) ≡ false)
+    × (is_faultless (codes "--bottom-up" ∷ codes "true" ∷ codes "zp" ∷ []) ≡ false)
+    × (is_faultless (codes "--la57=true" ∷ codes "zp" ∷ []) ≡ false)
+    × (is_faultless (codes "--bottom" ∷ codes "zp" ∷ []) ≡ false)
+unfolding program clap_on_literals
+flags_refused = (refl, refl, refl, refl)
+
 -- the command takes these, and what they ask for is refused: neither a zero page nor a number, both, an extension beside a number, an
 -- empty list, a kernel below the first MiB
 refused_for_what_they_ask : (is_faultless [] ≡ true) × (accepted [] ≡ None)
@@ -124,7 +163,8 @@ unfolding program clap_on_literals
 faultless_examples = (refl, refl)
 
 argument_examples : (argument_of inputs.ZeroPage ≡ codes "ZEROPAGE") × (argument_of inputs.Extension ≡ codes "e820ext")
-argument_examples = (refl, refl)
+    × (argument_of inputs.Pages ≡ codes "pages") × (argument_of inputs.Slit ≡ codes "slit") × (argument_of inputs.Efi ≡ codes "efi")
+argument_examples = (refl, refl, refl, refl, refl)
 
 found_examples : (value_in (matches_of program (codes "--script" ∷ codes "s" ∷ codes "zp" ∷ [])) (codes "script") ≡ Some (codes "s"))
     × (name_in (value_in (matches_of program (codes "zp" ∷ []))) inputs.ZeroPage ≡ Some (codes "zp"))
@@ -154,6 +194,10 @@ by_examples : (option_map (λ wanted. wanted.named inputs.Extension) (asked_by w
     × (asked_by with_number ≡ None)
 by_examples = (refl, refl)
 
+begun_example : begun_by Bits52 default_kernel (record { base = 4096; size = 8192 } ∷ []) true
+    ≡ record (begun Bits52 default_kernel) { mirrors = record { first = 1; count = 2 } ∷ []; upward = true }
+begun_example = refl
+
 provided_examples : (provided true ≡ Some tt) × (provided false ≡ None)
 provided_examples = (refl, refl)
 
@@ -172,19 +216,21 @@ entry_examples = (refl, refl, refl, refl, refl, refl)
 made_examples : (entries_of None ≡ Some None) × (entries_of (Some (codes "5")) ≡ Some (Some 5)) × (entries_of (Some (codes "1")) ≡ None)
 made_examples = (refl, refl, refl)
 
--- the least image, and the last one; one frame too few, half a frame, and a frame too far
-image_examples : (kernel_in (codes "1M,8K") ≡ Some (record { base = 0x100000; size = 8192 }))
-    × (kernel_in (codes "0x3FFFFFFFE000,8192") ≡ Some (record { base = 0x3FFFFFFFE000; size = 8192 }))
-    × (kernel_in (codes "1M,4K") ≡ None) × (kernel_in (codes "0x100800,32M") ≡ None) × (kernel_in (codes "0x3FFFFFFFF000,8192") ≡ None)
-image_examples = (refl, refl, refl, refl, refl)
+-- the least image, and the last one; one frame too few, half a frame, and a frame too far, which isn't too far for 52 bits
+image_examples : (kernel_in Bits46 (codes "1M,8K") ≡ Some (record { base = 0x100000; size = 8192 }))
+    × (kernel_in Bits46 (codes "0x3FFFFFFFE000,8192") ≡ Some (record { base = 0x3FFFFFFFE000; size = 8192 }))
+    × (kernel_in Bits46 (codes "1M,4K") ≡ None) × (kernel_in Bits46 (codes "0x100800,32M") ≡ None) × (kernel_in Bits46 (codes "0x3FFFFFFFF000,8192") ≡ None)
+    × (kernel_in Bits52 (codes "0x3FFFFFFFF000,8192") ≡ Some (record { base = 0x3FFFFFFFF000; size = 8192 }))
+    × (kernel_in Bits52 (codes "0xFFFFFFFFFF000,8192") ≡ None)
+image_examples = (refl, refl, refl, refl, refl, refl, refl)
 
 -- one comma, and a size on each side of it that takes all that stands there
-comma_examples : (kernel_in (codes "16M") ≡ None) × (kernel_in (codes "16M,32M,") ≡ None) × (kernel_in (codes " 16M,32M") ≡ None)
-    × (kernel_in (codes "16M,") ≡ None) × (kernel_in (codes "16E,32M") ≡ None)
+comma_examples : (kernel_in Bits46 (codes "16M") ≡ None) × (kernel_in Bits46 (codes "16M,32M,") ≡ None) × (kernel_in Bits46 (codes " 16M,32M") ≡ None)
+    × (kernel_in Bits46 (codes "16M,") ≡ None) × (kernel_in Bits46 (codes "16E,32M") ≡ None)
 comma_examples = (refl, refl, refl, refl, refl)
 
-kernel_examples : (kernel_of None ≡ Some default_kernel) × (kernel_of (Some (codes "0x1000000,0x2000000")) ≡ Some default_kernel)
-    × (if_kernel (record { base = 0; size = 0x2000000 }) ≡ None)
+kernel_examples : (kernel_of Bits46 None ≡ Some default_kernel) × (kernel_of Bits46 (Some (codes "0x1000000,0x2000000")) ≡ Some default_kernel)
+    × (if_kernel Bits46 (record { base = 0; size = 0x2000000 }) ≡ None)
 kernel_examples = (refl, refl, refl)
 
 -- spelling
@@ -195,15 +241,48 @@ spelled_examples : (dashed (codes "make") ≡ codes "--make") × (words_of (join
     × (spelled three_spellings ≡ codes "--report" ∷ codes "map" ∷ codes "zp" ∷ codes "--script=-s" ∷ [])
 spelled_examples = (refl, refl, refl)
 
--- a value goes with each option, and none is a flag; what no spelling has isn't there
+-- a value goes with an option, and none with a flag; a flag that no spelling has is off, and another option isn't there
 kind_examples : (has_value Set ≡ true) × (has_value SetTrue ≡ false) × (is_switch SetTrue ≡ true) × (is_switch SetFalse ≡ false)
 kind_examples = (refl, refl, refl, refl)
 
-flag_examples : (is_flag (codes "kernel") ≡ false) × (is_flag (codes "ZEROPAGE") ≡ false) × (unspelled (codes "kernel") ≡ None)
+flag_examples : (is_flag (codes "la57") ≡ true) × (is_flag (codes "bottom-up") ≡ true) × (is_flag (codes "mirror") ≡ false)
+    × (unspelled (codes "la57") ≡ Some (codes "false"))
+    × (unspelled (codes "kernel") ≡ None)
     × (spelled_for three_spellings (codes "report") ≡ Some (codes "map")) × (spelled_for three_spellings (codes "kernel") ≡ None)
-    × (words_of (flag (codes "on")) ≡ codes "--on" ∷ [])
-    × (text_in (flag (codes "on")) ≡ codes "true")
-flag_examples = (refl, refl, refl, refl, refl, refl, refl)
+    × (words_of (flag (codes "la57")) ≡ codes "--la57" ∷ [])
+    × (text_in (flag (codes "la57")) ≡ codes "true")
+flag_examples = (refl, refl, refl, refl, refl, refl, refl, refl, refl)
+
+width_examples : (width_in (given_by (flag (codes "la57") ∷ [])) ≡ Bits52) × (width_in (given_by (named (codes "zp") ∷ [])) ≡ Bits46)
+    × (is_on (given_by (flag (codes "bottom-up") ∷ [])) (codes "bottom-up") ≡ true)
+    × (is_on (given_by (flag (codes "la57") ∷ [])) (codes "bottom-up") ≡ false)
+width_examples = (refl, refl, refl, refl)
+
+-- ranges: what is spelled so, up to the last address; one more isn't, nor another form
+range_examples : (range_in (codes "4K,0x1000") ≡ Some (record { base = 4096; size = 4096 }))
+    × (range_in (codes "0xFFFFFFFFFFFFEFFF,4096") ≡ Some (record { base = 0xFFFFFFFFFFFFEFFF; size = 4096 }))
+    × (range_in (codes "0xFFFFFFFFFFFFF000,4096") ≡ None) × (range_in (codes "4K") ≡ None) × (range_in (codes "4K,4K,4K") ≡ None)
+    × (if_in_space (record { base = 2 ^ 64 - 1; size = 0 }) ≡ Some (record { base = 2 ^ 64 - 1; size = 0 }))
+range_examples = (refl, refl, refl, refl, refl, refl)
+
+-- lists: one piece, two of which one has no whole frame, no piece, an empty one at the end
+list_of_ranges : (pieces_in (codes "1,2:3,4") ≡ codes "1,2" ∷ codes "3,4" ∷ []) × (are_pieces (codes "64M,16M") ≡ true)
+    × (are_pieces [] ≡ false) × (are_pieces (codes "64M,16M:") ≡ false)
+    × (frames_by (codes "64M,16M") ≡ Some (record { base = 0x4000000; size = 0x1000000 }))
+    × (mirrors_of None ≡ Some []) × (mirrors_of (Some (codes "64M")) ≡ None)
+list_of_ranges = (refl, refl, refl, refl, refl, refl, refl)
+
+frames_of_lists : (mirrors_in (codes "1,2:4K,4K") ≡ record { base = 4096; size = 4096 } ∷ [])
+    × (mirrors_of (Some (codes "4K,4K")) ≡ Some (record { base = 4096; size = 4096 } ∷ []))
+frames_of_lists = (refl, refl)
+
+-- 64 pieces are few enough, 65 aren't
+abbrev some_pieces : ℕ → List ℕ
+some_pieces zero = codes "0,0"
+some_pieces (suc more) = codes "0,0:" ++ some_pieces more
+
+most_pieces : (are_pieces (some_pieces 63) ≡ true) × (are_pieces (some_pieces 64) ≡ false)
+most_pieces = (refl, refl)
 
 word_examples : (is_plain (codes "z-p") ≡ true) × (is_plain [] ≡ true) × (is_plain (codes "-") ≡ false)
     × (is_option (codes "kernel") ≡ true) × (is_option (codes "ZEROPAGE") ≡ false)

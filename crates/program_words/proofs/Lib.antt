@@ -5,5 +5,6 @@ pub mod GrammarLaws
 pub mod KernelLaws
 pub mod KnownLaws
 pub mod MatchedLaws
+pub mod MirrorLaws
 pub mod SpellingLaws
 pub mod ValueLaws

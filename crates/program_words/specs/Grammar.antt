@@ -26,7 +26,17 @@ with_positional command name = with_rule command (positional_rule name)
 -- the options, in the order in which the command has them
 abbrev pub options : List Listed
 options =
-    (codes "cmdline", Set) ∷ (codes "e820ext", Set) ∷ (codes "srat", Set) ∷ (codes "script", Set) ∷ (codes "kernel", Set)
+    (codes "la57", SetTrue)
+    ∷ (codes "mirror", Set)
+    ∷ (codes "bottom-up", SetTrue)
+    ∷ (codes "cmdline", Set)
+    ∷ (codes "e820ext", Set)
+    ∷ (codes "srat", Set)
+    ∷ (codes "script", Set)
+    ∷ (codes "pages", Set)
+    ∷ (codes "slit", Set)
+    ∷ (codes "efi", Set)
+    ∷ (codes "kernel", Set)
     ∷ (codes "report", Set)
     ∷ (codes "make", Set)
     ∷ []

@@ -6,7 +6,7 @@ ghost use Rattle.std.specs.Option.{option_copied};
 ghost use Rattle.clap.specs.Words.{app_of, fault_of, first_of, found_of, matches_of, rows_of};
 ghost use Rattle.clap.specs.declared.error.kind.ErrorKind.TheVariants as error_kinds;
 ghost use Rattle.program_words.specs.Grammar.{bare, program, with_option, with_positional};
-ghost use Rattle.program_words.specs.Words.{texts};
+ghost use Rattle.program_words.specs.Words.{is_on, texts, value_in};
 ghost use Rattle.program_words.specs.declared.error.WordError.TheVariants as errors;
 
 use crate::error::WordError;
@@ -15,13 +15,19 @@ use clap::error::ErrorKind;
 use clap::{Arg, ArgAction, ArgMatches, Command};
 use std::alloc::Global;
 
-/// The options by name, and what the word of each does: with [`ArgAction::Set`] a value goes with it, and a flag would
-/// have [`ArgAction::SetTrue`].
-const OPTIONS: [(&str, ArgAction); 7] = [
+/// The options by name, and what the word of each does: with [`ArgAction::Set`] a value goes with it, with
+/// [`ArgAction::SetTrue`] it is a flag.
+const OPTIONS: [(&str, ArgAction); 13] = [
+    ("la57", ArgAction::SetTrue),
+    ("mirror", ArgAction::Set),
+    ("bottom-up", ArgAction::SetTrue),
     ("cmdline", ArgAction::Set),
     ("e820ext", ArgAction::Set),
     ("srat", ArgAction::Set),
     ("script", ArgAction::Set),
+    ("pages", ArgAction::Set),
+    ("slit", ArgAction::Set),
+    ("efi", ArgAction::Set),
     ("kernel", ArgAction::Set),
     ("report", ArgAction::Set),
     ("make", ArgAction::Set),
@@ -56,6 +62,13 @@ pub fn value_of<'w>(matches: &ArgMatches<'w>, name: &str) -> Option<&'w str>
     ensures { option_copied result ≡ first_of name.now (rows_of (found_of matches.now)) }
 {
     matches.get_str(name)
+}
+
+/// Whether the words have a flag: the value that was found for it is `true` then, else `false`.
+pub fn is_on(matches: &ArgMatches<'_>, flag: &str) -> bool
+    ensures { result ≡ is_on (value_in (rows_of (found_of matches.now))) flag.now }
+{
+    value_of(matches, flag) == Some("true")
 }
 
 /// The command: its options, and the name of the zero page.

@@ -6,10 +6,9 @@ ghost use Rattle.std.specs.Option.{option_copied};
 ghost use Rattle.boot_model.specs.Kernel.{IsKernel};
 ghost use Rattle.program_words.specs.Kernel.{kernel_in, kernel_of};
 
-use bm_base::Range;
+use crate::range::read_range;
+use bm_base::{Range, Width};
 use boot_model::is_kernel;
-use boot_options::read_whole_size;
-use text_words::cut;
 
 /// The kernel's image where `--kernel` isn't given: 32 MiB from 16 MiB on (`CONFIG_PHYSICAL_START`).
 const DEFAULT_KERNEL: Range = Range {
@@ -18,26 +17,24 @@ const DEFAULT_KERNEL: Range = Range {
 };
 
 /// Where the kernel lies, by the value of `--kernel` if there is one; `None` exactly where the value is
-/// refused.
-pub fn kernel_of(value: Option<&str>) -> Option<Range>
-    ensures value { result ≡ kernel_of (option_copied value.entry) }
-    ensures facts { IfSome result IsKernel }
+/// refused. It lies below the limit of the width.
+pub fn kernel_of(value: Option<&str>, width: Width) -> Option<Range>
+    ensures value { result ≡ kernel_of width (option_copied value.entry) }
+    ensures facts { IfSome result (IsKernel width) }
 {
     match value {
-        Some(text) => read_kernel(text.as_bytes()),
+        Some(text) => read_kernel(text.as_bytes(), width),
         None => Some(DEFAULT_KERNEL),
     }
 }
 
-/// The range that `BASE,SIZE` says, where a kernel's image may lie there. Both are sizes as the kernel's
-/// command line has them.
-fn read_kernel(text: &[u8]) -> Option<Range>
-    ensures value { result ≡ kernel_in text.now }
-    ensures facts { IfSome result IsKernel }
+/// The range that `BASE,SIZE` says, where a kernel's image may lie there.
+fn read_kernel(text: &[u8], width: Width) -> Option<Range>
+    ensures value { result ≡ kernel_in width text.now }
+    ensures facts { IfSome result (IsKernel width) }
 {
-    let (base, size) = cut(text, b',')?;
-    let kernel = Range::new(read_whole_size(base)?, read_whole_size(size)?)?;
-    if is_kernel(&kernel) {
+    let kernel = read_range(text)?;
+    if is_kernel(&kernel, width) {
         Some(kernel)
     } else {
         None

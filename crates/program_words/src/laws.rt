@@ -1,7 +1,10 @@
 //! What holds of all words that are spelled in one of the forms of the grammar, in its own words and not in
 //! those of `clap`'s walk over them. A law takes nothing and does nothing; its clause is what it says.
 
-ghost use Rattle.std.specs.Prelude.{◌≡◌, List};
+ghost use Rattle.std.specs.Prelude.{◌≡◌, ℕ, ◌+◌, ◌*◌, ◌/◌, ◌≤◌, ◌↔◌, List};
+ghost use Rattle.bm_base.specs.Extent.{Extent, end_of};
+ghost use Rattle.bm_base.specs.Frames.{frames_within};
+ghost use Rattle.program_words.specs.Mirrors.{lies_in};
 ghost use Rattle.program_words.specs.Spelling.{AreSpellings, Spelling, given_by, spelled};
 ghost use Rattle.program_words.specs.Words.{accepted, asked_by};
 
@@ -10,4 +13,10 @@ ghost use Rattle.program_words.specs.Words.{accepted, asked_by};
 /// A name, and a value that is a word of its own, begins with no hyphen.
 pub fn words_of_spelling()
     ensures { (spellings : List Spelling) → AreSpellings spellings → accepted (spelled spellings) ≡ asked_by (given_by spellings) }
+{}
+
+/// A law: an address lies in the mirrored frames of a range exactly where each byte of its frame lies in the range.
+pub fn frames_of_ranges()
+    ensures { (range : Extent) (x : ℕ) → lies_in (frames_within range) x
+        ↔ ((range.base ≤ 4096 * (x / 4096)) × (4096 * (x / 4096) + 4096 ≤ end_of range)) }
 {}

@@ -1,18 +1,20 @@
 //! From words to what they ask for. The command knows the options and not what they mean: what the values say, and
 //! that the first entries have one source, is judged here, behind it.
 
-ghost use Rattle.std.specs.Prelude.{◌≡◌, IfSome};
+ghost use Rattle.std.specs.Prelude.{◌≡◌, IsErrOf, IsSome};
 ghost use Rattle.std.specs.Option.{option_copied, option_map};
 ghost use Rattle.clap.specs.Words.{found_of, rows_of};
 ghost use Rattle.program_words.specs.Answers.{Reads};
 ghost use Rattle.program_words.specs.View.{wanted_view};
-ghost use Rattle.program_words.specs.Words.{accepted, asked_by, has_source, list_in, texts, value_in};
+ghost use Rattle.program_words.specs.Words.{accepted, asked_by, has_source, list_in, texts, value_in, width_in};
 
 use crate::entries::entries_of;
 use crate::error::WordError;
-use crate::grammar::{match_words, value_of};
+use crate::grammar::{is_on, match_words, value_of};
 use crate::kernel::kernel_of;
+use crate::mirrors::mirrors_of;
 use crate::wanted::Wanted;
+use bm_base::Width;
 use clap::ArgMatches;
 use debugfs_reports::are_reports;
 use std::alloc::Global;
@@ -22,9 +24,9 @@ const DEFAULT_LIST: &str = "buddyinfo";
 
 /// What the words after the program's name ask for.
 ///
-/// The options are `--cmdline F`, `--e820ext F`, `--srat F`, `--script F`, `--kernel BASE,SIZE`,
-/// `--report LIST` and `--make N`, each at most once, in any order, also as `--NAME=VALUE`; and ZEROPAGE
-/// at any place. There is ZEROPAGE, or `--make` with neither ZEROPAGE nor `--e820ext`.
+/// The options are `--mirror LIST`, `--cmdline F`, `--e820ext F`, `--srat F`, `--script F`, `--pages F`, `--slit F`, `--efi F`,
+/// `--kernel BASE,SIZE`, `--report LIST` and `--make N`, also as `--NAME=VALUE`, and the flags `--la57` and
+/// `--bottom-up`, each at most once, in any order; and ZEROPAGE at any place. There is ZEROPAGE, or `--make` with neither ZEROPAGE nor `--e820ext`.
 ///
 /// # Errors
 ///
@@ -33,11 +35,7 @@ const DEFAULT_LIST: &str = "buddyinfo";
 pub fn read_words<'w>(alloc: Global, words: &'w [String]) -> Result<Wanted<'w>, WordError>
     ensures { Reads wanted_view result (accepted (texts words.entry.now)) }
 {
-    let matches = match_words(alloc, words)?;
-    match asked_by(matches) {
-        Some(wanted) => Ok(wanted),
-        None => Err(WordError::Usage),
-    }
+    asked_by(alloc, match_words(alloc, words)?)
 }
 
 /// Whether the first entries have one source: they are made, or a zero page is named, which an extension
@@ -54,19 +52,37 @@ fn has_source(matches: &ArgMatches<'_>) -> bool
     }
 }
 
-/// What the values that were found ask for; `None` exactly where they are refused.
-fn asked_by<'w>(matches: ArgMatches<'w>) -> Option<Wanted<'w>>
-    ensures { option_map wanted_view result ≡ asked_by (value_in (rows_of (found_of matches.entry))) }
+/// The width that the words ask for: page tables of five levels where they have the flag.
+fn width_in(matches: &ArgMatches<'_>) -> Width
+    ensures { result ≡ width_in (value_in (rows_of (found_of matches.now))) }
+{
+    if is_on(matches, "la57") {
+        Width::Bits52
+    } else {
+        Width::Bits46
+    }
+}
+
+/// What the values that were found ask for. Memory is wanting only for mirrored ranges, where nothing is refused.
+fn asked_by<'w>(alloc: Global, matches: ArgMatches<'w>) -> Result<Wanted<'w>, WordError>
+    ensures value { Reads wanted_view result (asked_by (value_in (rows_of (found_of matches.entry)))) }
+    ensures memory { IsErrOf result WordError.Memory → IsSome (asked_by (value_in (rows_of (found_of matches.entry)))) }
 {
     if !has_source(&matches) {
-        return None;
+        return Err(WordError::Usage);
     }
-    let made = entries_of(value_of(&matches, "make"))?;
-    let kernel = kernel_of(value_of(&matches, "kernel"))?;
-    let list = list_in(&matches)?;
-    Some(Wanted {
+    let made = entries_of(value_of(&matches, "make")).ok_or(WordError::Usage)?;
+    let width = width_in(&matches);
+    let kernel = kernel_of(value_of(&matches, "kernel"), width).ok_or(WordError::Usage)?;
+    let list = list_in(&matches).ok_or(WordError::Usage)?;
+    let mirrors = mirrors_of(alloc, value_of(&matches, "mirror"))?;
+    let upward = is_on(&matches, "bottom-up");
+    Ok(Wanted {
         matches,
         list,
+        width,
+        mirrors,
+        upward,
         kernel,
         made,
     })

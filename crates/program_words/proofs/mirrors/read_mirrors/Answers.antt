@@ -1,0 +1,20 @@
+-- The frames of one more piece stand behind the others; where no piece is left, the ranges so far are all.
+use Rattle.std.proofs.Common.{◌≡◌, ◌∙◌, ◌∷◌, [], sym, append-nil, rules}
+use Rattle.std.specs.List.{All}
+use Rattle.std.proofs.lemmas.List.Elements.{All-append, All-cons, All-nil}
+use Rattle.boot_model.specs.Mirrors.{IsMirror}
+use Rattle.program_words.proofs.MirrorLaws.{frames_onward}
+use Rattle.program_words.proofs.mirrors.read_mirrors.Goals as goal
+
+pub loop-rest-preserved-in_ok-push : goal.loop-rest-preserved-in_ok-push
+loop-rest-preserved-in_ok-push c = record {
+  facts = rw c.in_ok-push.ensures.items
+      (All-append IsMirror c.loop-rest.mirrors.items _ c.loop-rest.invariant.facts
+      (All-cons IsMirror c.in-Some-read_frames.frames [] c.in-Some-read_frames.ensures.facts (All-nil IsMirror)));
+  same = rw c.in_ok-push.ensures.items
+      (frames_onward c.loop-rest.mirrors.items c.in-Some-read_frames.frames _ _ _ c.next_part.ensures.parts
+      c.in-Some-read_frames.ensures.value ∙ (rw c.in-Some.is at c.loop-rest.invariant.same));
+}
+
+pub returns-clause-value : goal.returns-clause-value
+returns-clause-value c = sym (append-nil c.loop-rest.mirrors.items) ∙ (rw c.in_default.is at c.loop-rest.invariant.same)

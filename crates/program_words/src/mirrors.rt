@@ -1,0 +1,81 @@
+//! Which memory is mirrored, by the value of `--mirror`. Memory is mirrored by whole frames, so each range is cut to those that
+//! lie whole in it. The list is judged before memory is taken for its ranges, so want of memory hides no refusal.
+
+ghost use Rattle.std.specs.Prelude.{◌≡◌, IfOk, IfSome, IsErrOf, IsSome};
+ghost use Rattle.std.specs.List.{All};
+ghost use Rattle.std.specs.Option.{option_copied};
+ghost use Rattle.program_words.specs.Answers.{Reads};
+ghost use Rattle.boot_model.specs.Mirrors.{IsMirror};
+ghost use Rattle.program_words.specs.Mirrors.{are_pieces, frames_by, mirrors_in, mirrors_of};
+
+use crate::error::WordError;
+use crate::range::read_range;
+use bm_base::{Memory, Range};
+use boot_model::mirrors_are_whole_frames;
+use std::alloc::Global;
+use text_words::{Separators, next_part};
+
+/// The most ranges that the list may have.
+const MOST_RANGES: usize = 64;
+
+/// The mirrored ranges, in the order of the list; none where the option isn't given.
+///
+/// # Errors
+///
+/// [`WordError::Usage`] exactly where the value is refused, and [`WordError::Memory`] only where it isn't.
+pub fn mirrors_of(alloc: Global, value: Option<&str>) -> Result<Vec<Range>, WordError>
+    ensures value { Reads (λ ranges. ranges.items) result (mirrors_of (option_copied value.entry)) }
+    ensures facts { IfOk result (λ ranges. All IsMirror ranges.items) }
+    ensures memory { IsErrOf result WordError.Memory → IsSome (mirrors_of (option_copied value.entry)) }
+{
+    let Some(list) = value else {
+        return Ok(Vec::new(alloc));
+    };
+    if !are_pieces(list.as_bytes()) {
+        return Err(WordError::Usage);
+    }
+    Ok(read_mirrors(alloc, list.as_bytes())?)
+}
+
+/// Whether the list has one range to 64, with a colon between each two.
+fn are_pieces(list: &[u8]) -> bool
+    ensures { result ≡ are_pieces list.now }
+{
+    let mut pieces = 0;
+    let mut rest = Some(list);
+    while let Some(text) = rest {
+        let (piece, behind) = next_part(text, Separators::Byte(b':'));
+        if pieces == MOST_RANGES || read_range(piece).is_none() {
+            return false;
+        }
+        pieces += 1;
+        rest = behind;
+    }
+    true
+}
+
+/// The frames of each range of the list that has some.
+fn read_mirrors(alloc: Global, list: &[u8]) -> Result<Vec<Range>, Memory>
+    ensures value { IfOk result (λ ranges. ranges.items ≡ mirrors_in list.now) }
+    ensures facts { IfOk result (λ ranges. All IsMirror ranges.items) }
+{
+    let mut mirrors = Vec::new(alloc);
+    let mut rest = Some(list);
+    while let Some(text) = rest {
+        let (piece, behind) = next_part(text, Separators::Byte(b':'));
+        if let Some(frames) = read_frames(piece) {
+            mirrors.push(frames)?;
+        }
+        rest = behind;
+    }
+    Ok(mirrors)
+}
+
+/// The frames that lie whole in the range that the piece says.
+fn read_frames(piece: &[u8]) -> Option<Range>
+    ensures value { result ≡ frames_by piece.now }
+    ensures facts { IfSome result IsMirror }
+{
+    mirrors_are_whole_frames();
+    read_range(piece)?.whole_frames()
+}
