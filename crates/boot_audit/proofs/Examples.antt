@@ -1,14 +1,12 @@
 -- Worked examples of the definitions.
-use Rattle.std.proofs.Common.{◌≡◌, ℕ, true, false, nat_lt, List, [], ◌∷◌, Some, None, refl}
-use Rattle.bm_base.specs.Extent.{Extent}
+use Rattle.std.proofs.Common.{◌≡◌, ℕ, true, false, nat_lt, [], ◌∷◌, Some, None, refl}
 use Rattle.bm_base.specs.declared.zone.Zone.TheVariants as zones
 use Rattle.bm_base.specs.Each.{each_from, each_in}
 use Rattle.audit_lines.specs.Blocks.{Block}
-use Rattle.boot_audit.specs.declared.sweep.State.TheVariants as states
 use Rattle.boot_audit.specs.declared.verdict.Verdict.TheVariants as verdicts
 use Rattle.boot_audit.specs.Conserved.{blocks_with}
-use Rattle.boot_audit.specs.Frames.{are_kin, could_join, frames_of_block, in_a_block, is_aligned, is_in_zone, is_memory, parent_of}
-use Rattle.boot_audit.specs.Sweep.{first_whole, state_by}
+use Rattle.boot_audit.specs.Frames.{could_join, is_aligned, is_in_zone, is_memory, parent_of}
+use Rattle.boot_audit.specs.Sweep.{first_whole}
 use Rattle.boot_audit.specs.Verdicts.{first_fault, first_line, least_below}
 
 abbrev block_at : ℕ → ℕ → Block

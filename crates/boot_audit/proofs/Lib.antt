@@ -5,4 +5,6 @@ pub mod FrameLaws
 pub mod OrderLaws
 pub mod ConservedLaws
 pub mod WalkLaws
+pub mod HeadlineLaws
+pub mod RunLaws
 mod Examples

@@ -1,5 +1,13 @@
+pub mod Answers
 pub mod Conserved
 pub mod Frames
+pub mod Headline
+pub mod Line
+pub mod Outcome
+pub mod Run
+pub mod Status
 pub mod Sweep
 pub mod Verdicts
+pub mod View
 pub mod Walk
+pub mod Words

@@ -1,0 +1,28 @@
+-- What lines tell of a run and of a block, and of what they can't be told.
+use Rattle.std.proofs.Common.{◌≡◌, ℕ, ◌-◌, ◌^◌, refl, arith}
+use Rattle.address_runs.specs.Runs.{RunOf}
+use Rattle.bm_base.specs.declared.zone.Zone.TheVariants as zones
+use Rattle.audit_texts.specs.Told.{IsToldBlock, IsToldRun, told_block, told_run}
+
+-- two frames of RAM at 4 KiB
+abbrev two_frames : RunOf ℕ
+two_frames = record { base = 4096; size = 8192; value = 1 }
+
+two_frames_told : told_run two_frames ≡ record { range = record { base = 4096; size = 8192 }; kind = 1 }
+two_frames_told = refl
+
+two_frames_fit : IsToldRun two_frames
+two_frames_fit = ((omega arith, omega arith), (omega arith, omega arith))
+
+-- a run of type 0 has no line
+no_type : ¬ IsToldRun (record { base = 4096; size = 8192; value = 0 })
+no_type told = absurd (omega (arith, told.1.0))
+
+-- the block of 256 frames at 1 MiB
+block_told : told_block (record { node = 0; zone = zones.Dma; order = 8; first = 256 })
+    ≡ record { node = 0; zone = zones.Dma; order = 8; at = 0x100000 }
+block_told = refl
+
+-- a block whose last frame is behind 2^52 has no line
+too_far : ¬ IsToldBlock (record { node = 0; zone = zones.Normal; order = 1; first = 2 ^ 40 - 1 })
+too_far told = absurd (omega (arith, told.1.1))

@@ -1,0 +1,14 @@
+-- What status 0 says, where the files tell what they hold.
+use Rattle.std.specs.Prelude.{◌≡◌, Option, Some, Ok}
+use Rattle.bm_base.specs.Width.{reach_of}
+use Rattle.boot_audit.specs.Conserved.{AreConserved}
+use Rattle.boot_audit.specs.Outcome.{Held, Lines, lines_of}
+use Rattle.boot_audit.specs.Words.{Wanted}
+
+-- the words have their form, the three texts are well-formed, and by their lines memory was conserved
+pub record IsConservedBy (accepted : Option Wanted) (held : Held) : Type 0 where
+  pub wanted : Wanted
+  pub lines : Lines
+  pub words : accepted ≡ Some wanted
+  pub texts : lines_of held wanted ≡ Ok lines
+  pub conserved : AreConserved (reach_of wanted.width) lines.map_lines lines.owners lines.blocks

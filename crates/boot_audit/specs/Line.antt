@@ -1,0 +1,77 @@
+-- The texts of the program: the verdict on the output, and the one line on the error output.
+use Rattle.std.specs.Prelude.{ℕ, ◌*◌, List, [], ◌++◌, codes, decimal, Option, Some, None, ◌⊎◌}
+use Rattle.std.specs.Io.KnownBytes.{Appends}
+use Rattle.bm_base.specs.Text.{hex_text}
+use Rattle.bm_base.specs.declared.frame.TheConstants.{FRAME_SIZE}
+use Rattle.bm_io.specs.Counts.{Rose}
+use Rattle.bm_io.specs.Told.{AppendsFront}
+use Rattle.bm_io.specs.declared.writing.Sink.{Ghosts as SinkOf}
+use Rattle.audit_lines.specs.declared.report.LineFault.{LineFault}
+use Rattle.audit_lines.specs.declared.report.LineFault.TheVariants as line_faults
+use Rattle.boot_audit.specs.declared.failure.Failure.{Failure}
+use Rattle.boot_audit.specs.declared.failure.Failure.TheVariants as failures
+use Rattle.boot_audit.specs.declared.failure.Fault.{Fault}
+use Rattle.boot_audit.specs.declared.failure.Fault.TheVariants as faults
+use Rattle.boot_audit.specs.declared.failure.Reason.{Reason}
+use Rattle.boot_audit.specs.declared.failure.Reason.TheVariants as reasons
+use Rattle.boot_audit.specs.declared.failure.Report.{Report}
+use Rattle.boot_audit.specs.declared.failure.Report.TheVariants as reports
+use Rattle.boot_audit.specs.declared.verdict.Verdict.{Verdict}
+use Rattle.boot_audit.specs.declared.verdict.Verdict.TheVariants as verdicts
+use Rattle.boot_audit.specs.Words.{Wanted, name_of}
+
+-- a line of `blocks`, numbered from 1
+abbrev pub block_text : ℕ → List ℕ → List ℕ
+block_text line what = codes "not sound: block at line " ++ (decimal line ++ what)
+
+-- a frame, told by the address of its first byte
+abbrev pub frame_text : ℕ → List ℕ → List ℕ
+frame_text frame what = codes "not sound: frame " ++ (hex_text (FRAME_SIZE * frame) ++ what)
+
+abbrev pub verdict_text : Verdict → List ℕ
+verdict_text verdicts.Sound = codes "sound\n"
+verdict_text (verdicts.Misaligned line) = block_text line (codes " misaligned\n")
+verdict_text (verdicts.WrongZone line) = block_text line (codes " in wrong zone\n")
+verdict_text (verdicts.NotFree frame) = frame_text frame (codes " not free\n")
+verdict_text (verdicts.Lost frame) = frame_text frame (codes " lost\n")
+verdict_text (verdicts.NotMaximal line) = block_text line (codes " not maximal\n")
+
+-- the word for a report
+abbrev pub word_for : Report → List ℕ
+word_for reports.Map = codes "map"
+word_for reports.Owners = codes "owners"
+word_for reports.Blocks = codes "blocks"
+
+-- a fault of a line of the report, numbered from 1
+abbrev pub numbered_line : List ℕ → ℕ → List ℕ → List ℕ
+numbered_line name line what = codes "bootaudit: " ++ (name ++ (codes ": line " ++ (decimal line ++ (codes ": " ++ (what ++ codes "\n")))))
+
+abbrev pub line_fault_line : List ℕ → LineFault → List ℕ
+line_fault_line name (line_faults.Form line) = numbered_line name line (codes "form")
+line_fault_line name (line_faults.Order line) = numbered_line name line (codes "order")
+
+abbrev pub fault_line : List ℕ → Fault → List ℕ
+fault_line name faults.TooLong = codes "bootaudit: " ++ (name ++ codes ": too long\n")
+fault_line name (faults.Line fault) = line_fault_line name fault
+
+-- the name of a report's file as the words give it, which is empty where they are refused
+abbrev pub name_text : Option Wanted → Report → List ℕ
+name_text None report = []
+name_text (Some wanted) report = name_of wanted report
+
+abbrev pub reason_line : Option Wanted → Reason → List ℕ
+reason_line accepted reasons.Usage = codes "bootaudit: usage\n"
+reason_line accepted (reasons.Unread report) = codes "bootaudit: cannot read " ++ (name_text accepted report ++ codes "\n")
+reason_line accepted (reasons.Faulty report fault) = fault_line (word_for report) fault
+
+abbrev pub failure_line : Option Wanted → Failure → List ℕ
+failure_line accepted (failures.NoVerdict reason) = reason_line accepted reason
+failure_line accepted failures.Unwritten = codes "bootaudit: cannot write\n"
+failure_line accepted failures.Memory = codes "bootaudit: out of memory\n"
+
+-- the front of the line was appended to the output, and all of it unless the output itself failed; `sink` is what the
+-- output's kind tells
+pub record Tells {S : Type 0} (sink : SinkOf S) (old new : S) (line : List ℕ) : Type 0 where
+  pub front : AppendsFront (sink.written old) (sink.written new) line
+  pub whole : Appends (sink.written old) (sink.written new) line ⊎ Rose (sink.faults old) (sink.faults new)
+      ⊎ Rose (sink.wants old) (sink.wants new)

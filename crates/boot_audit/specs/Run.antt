@@ -1,0 +1,37 @@
+-- What is said of an audit, whole.
+use Rattle.std.specs.Prelude.{◌≡◌, ℕ, List, Option, IfSome, IsErrOf, IsNone, OnOk, Ok, Err}
+use Rattle.bm_io.specs.declared.reading.Files.{Ghosts as FilesOf}
+use Rattle.bm_io.specs.declared.writing.Sink.{Ghosts as SinkOf}
+use Rattle.boot_audit.specs.declared.failure.Failure.TheVariants as failures
+use Rattle.boot_audit.specs.Answers.{AnswerHasCause, Writes, WritingHasCause}
+use Rattle.boot_audit.specs.Line.{Tells, failure_line}
+use Rattle.boot_audit.specs.Outcome.{outcome}
+use Rattle.boot_audit.specs.Status.{End}
+use Rattle.boot_audit.specs.Words.{Wanted}
+
+-- with a verdict nothing stands on the error output; else a front of the failure's line, and all of it unless the
+-- error output itself failed
+abbrev pub IsTold : {E : Type 0} → SinkOf E → Option Wanted → (old new : E) → End → Type 0
+IsTold errors accepted old new (Ok verdict) = new ≡ old
+IsTold errors accepted old new (Err failure) = Tells errors old new (failure_line accepted failure)
+
+-- an audit to that end. `files`, `sink` and `errors` are what the objects that it was handed tell; each object is seen
+-- before and now
+pub record RanTo {F S E : Type 0} (files : FilesOf F) (sink : SinkOf S) (errors : SinkOf E) (accepted : Option Wanted)
+    (held_before held_now : F) (out_before out_now : S) (err_before err_now : E) (end : End) : Type 0 where
+  -- the end has its cause, whatever the files tell
+  pub cause : AnswerHasCause (files.faults held_before) (files.faults held_now) accepted end
+  -- with refused words no file is fetched, and nothing is put into the output
+  pub unfetched : IsNone accepted → held_now ≡ held_before
+  pub unput : IsNone accepted → out_now ≡ out_before
+  -- the output is as it was, or has the cause of what became of it
+  pub output : WritingHasCause sink.faults sink.wants out_before out_now end
+  -- with a verdict no fault was counted, of any file or of the output
+  pub uncounted : OnOk end (((any : List ℕ) → files.faults held_now any ≡ files.faults held_before any)
+      × (sink.faults out_now ≡ sink.faults out_before))
+  -- a file that couldn't be read isn't told as want of memory
+  pub unfailed : IsErrOf end failures.Memory → (any : List ℕ) → files.faults held_now any ≡ files.faults held_before any
+  -- where the files tell what they hold, the end and the output are those of the outcome
+  pub said : IfSome (files.holds held_before) (λ held. Writes (sink.written out_before) (sink.written out_now) end (outcome accepted held))
+  -- the line of a failure goes to the error output
+  pub line : IsTold errors accepted err_before err_now end

@@ -1,0 +1,86 @@
+//! The three reports are fetched and read one after another.
+
+ghost use Rattle.std.specs.Prelude.{◌≡◌, ◌<◌, ◌^◌, ℕ, List, Some, length, map, IfErr, IfOk, IfSome, IsErrOf, OnOk};
+ghost use Rattle.audit_lines.specs.Blocks.{bytes_of_block};
+ghost use Rattle.audit_lines.specs.Lines.{Ascend};
+ghost use Rattle.bm_io.specs.Counts.{Rose};
+ghost use Rattle.boot_audit.specs.Answers.{FailureHasCause, IsEarly, IsOf, Makes};
+ghost use Rattle.boot_audit.specs.Outcome.{lines_by, lines_of};
+ghost use Rattle.boot_audit.specs.View.{saved_lines, wanted_view};
+
+use crate::failure::{Failure, Fault, Reason, Report};
+use crate::saved::Saved;
+use crate::words::Names;
+use audit_lines::{BlockLine, MapLine, ReadError, ReportLine, read_report};
+use bm_base::Range;
+use bm_io::{Fetch, Files};
+use std::alloc::Global;
+
+/// The bytes that a saved report has at most.
+const LIMIT: u64 = 536_870_912;
+
+/// What was saved, of the three files that the words name. The first file that can't be read or has a fault is the answer.
+pub fn fetch_saved<F: Files>(
+    alloc: Global,
+    files: &mut F,
+    names: &Names<'_>,
+) -> Result<Saved, Failure>
+    ensures makes { IfSome (F.holds files.old) (λ held.
+        Makes saved_lines result (lines_of held (wanted_view names.now))) }
+    ensures cause { IfErr result (FailureHasCause (F.faults files.old) (F.faults files.new) (Some (wanted_view names.now))) }
+    ensures early { IfErr result IsEarly }
+    ensures unfailed { IsErrOf result Failure.Memory
+        → ((any : List ℕ) → F.faults files.new any ≡ F.faults files.old any) }
+    ensures uncounted { OnOk result ((any : List ℕ) → F.faults files.new any ≡ F.faults files.old any) }
+    ensures map_order { IfOk result (λ saved. Ascend (map (λ l. l.range) saved.map.items)) }
+    ensures owner_order { IfOk result (λ saved. Ascend (map (λ r. r) saved.owners.items)) }
+    ensures block_order { IfOk result (λ saved. Ascend (map bytes_of_block saved.blocks.items)) }
+    ensures few { IfOk result (λ saved. length saved.blocks.items < 2 ^ 32) }
+{
+    let runs: Vec<MapLine> = fetch_lines(alloc, files, names.map, Report::Map)?;
+    let owners: Vec<Range> = fetch_lines(alloc, files, names.owners, Report::Owners)?;
+    let blocks: Vec<BlockLine> = fetch_lines(alloc, files, names.blocks, Report::Blocks)?;
+    Ok(Saved {
+        map: runs,
+        owners,
+        blocks,
+    })
+}
+
+/// The lines of a report, of the file of that name.
+fn fetch_lines<F: Files, L: ReportLine>(
+    alloc: Global,
+    files: &mut F,
+    name: &str,
+    report: Report,
+) -> Result<Vec<L>, Failure>
+    ensures makes { IfSome (F.holds files.old) (λ held.
+        Makes (λ lines. lines.items) result (lines_by L.form L.extent report (held name.now))) }
+    ensures own { IfErr result (IsOf report) }
+    ensures failed { IsErrOf result (Failure.NoVerdict (Reason.Unread report))
+        → Rose (F.faults files.old name.now) (F.faults files.new name.now) }
+    ensures unfailed { IsErrOf result Failure.Memory
+        → ((any : List ℕ) → F.faults files.new any ≡ F.faults files.old any) }
+    ensures uncounted { OnOk result ((any : List ℕ) → F.faults files.new any ≡ F.faults files.old any) }
+    ensures kept { F.holds files.new ≡ F.holds files.old }
+    ensures order { IfOk result (λ lines. Ascend (map L.extent lines.items)) }
+    ensures few { IfOk result (λ lines. length lines.items < 2 ^ 32) }
+{
+    let bytes = match files.fetch(alloc, name, LIMIT) {
+        Ok(bytes) => bytes,
+        Err(Fetch::Failed) => return Err(Failure::NoVerdict(Reason::Unread(report))),
+        Err(Fetch::TooLong) => return Err(Failure::NoVerdict(Reason::Faulty(
+            report,
+            Fault::TooLong,
+        ))),
+        Err(Fetch::Memory) => return Err(Failure::Memory),
+    };
+    match read_report(alloc, &bytes) {
+        Ok(lines) => Ok(lines),
+        Err(ReadError::Fault(fault)) => Err(Failure::NoVerdict(Reason::Faulty(
+            report,
+            Fault::Line(fault),
+        ))),
+        Err(ReadError::Memory) => Err(Failure::Memory),
+    }
+}

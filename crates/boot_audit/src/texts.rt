@@ -1,0 +1,55 @@
+//! The text of a verdict, whole, so that it goes out by one put.
+
+ghost use Rattle.std.specs.Prelude.{◌≡◌, ◌<◌, ◌^◌, IfOk};
+ghost use Rattle.boot_audit.specs.Line.{block_text, frame_text, verdict_text};
+ghost use Rattle.boot_audit.specs.Verdicts.{IsNear};
+
+use crate::verdict::Verdict;
+use bm_base::{FRAME_SIZE, Memory, put_dec, put_hex, put_text};
+use std::alloc::Global;
+
+/// The text of the verdict, with its newline.
+pub fn verdict_text(alloc: Global, verdict: Verdict) -> Result<Vec<u8>, Memory>
+    requires { IsNear verdict }
+    ensures { IfOk result (λ text. text.items ≡ verdict_text verdict) }
+{
+    match verdict {
+        Verdict::Sound => sound_text(alloc),
+        Verdict::Misaligned { line } => block_text(alloc, line, b" misaligned\n"),
+        Verdict::WrongZone { line } => block_text(alloc, line, b" in wrong zone\n"),
+        Verdict::NotFree { frame } => frame_text(alloc, frame, b" not free\n"),
+        Verdict::Lost { frame } => frame_text(alloc, frame, b" lost\n"),
+        Verdict::NotMaximal { line } => block_text(alloc, line, b" not maximal\n"),
+    }
+}
+
+fn sound_text(alloc: Global) -> Result<Vec<u8>, Memory>
+    ensures { IfOk result (λ text. text.items ≡ verdict_text Verdict.Sound) }
+{
+    let mut text = Vec::new(alloc);
+    put_text(&mut text, b"sound\n")?;
+    Ok(text)
+}
+
+/// The text on a line of `blocks`, numbered from 1.
+fn block_text(alloc: Global, line: u32, what: &[u8]) -> Result<Vec<u8>, Memory>
+    ensures { IfOk result (λ text. text.items ≡ block_text line what.now) }
+{
+    let mut text = Vec::new(alloc);
+    put_text(&mut text, b"not sound: block at line ")?;
+    put_dec(&mut text, u64::from(line), 0)?;
+    put_text(&mut text, what)?;
+    Ok(text)
+}
+
+/// The text on a frame, which is told by the address of its first byte.
+fn frame_text(alloc: Global, frame: u64, what: &[u8]) -> Result<Vec<u8>, Memory>
+    requires { frame < 2 ^ 40 }
+    ensures { IfOk result (λ text. text.items ≡ frame_text frame what.now) }
+{
+    let mut text = Vec::new(alloc);
+    put_text(&mut text, b"not sound: frame ")?;
+    put_hex(&mut text, FRAME_SIZE * frame)?;
+    put_text(&mut text, what)?;
+    Ok(text)
+}

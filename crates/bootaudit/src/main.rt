@@ -1,0 +1,36 @@
+//! `bootaudit`: whether memory was conserved, by the saved reports `map`, `owners` and `blocks` of one boot.
+//!
+//! The program reads three reports in the form in which `bootmem` prints them, be they its own or another's, and prints
+//! `sound`, or the first fault that there is: `bootaudit [--la57] MAP OWNERS BLOCKS`. [`audit`] of `boot_audit` is the
+//! whole of it over any files, output and error output, with the contract; `main` hands it those of the system.
+//!
+//! Exit statuses: 0 memory was conserved, 8 it wasn't; 2 the words are refused, 3 a file couldn't be read, 4 the output
+//! failed, 5 a report has a fault, 7 out of memory. All of the last five put one line on the error output; where the
+//! words themselves can't be collected, `main` ends without one, with 2 for a word that isn't UTF-8 and with 7 for want
+//! of memory.
+#![tactic(auto)]
+
+use bm_io::{RealFiles, StdSink};
+pub use boot_audit::{Saved, Verdict, audit, judge, sound_is_conserved};
+use std::env;
+use std::io::ErrorKind;
+use std::process::ExitCode;
+
+fn main(rt: HostRuntime) -> ExitCode {
+    let alloc = rt.alloc();
+    let args = match env::args(&rt) {
+        Ok(args) => args,
+        Err(error) if error.kind() == ErrorKind::OutOfMemory => return ExitCode::from(7),
+        Err(_) => return ExitCode::from(2),
+    };
+    let mut words = Vec::new(alloc);
+    for word in args.skip(1) {
+        if words.push(word).is_err() {
+            return ExitCode::from(7);
+        }
+    }
+    let mut files = RealFiles::new(&rt);
+    let mut out = StdSink::new(rt.stdout());
+    let mut err = StdSink::new(rt.stderr());
+    ExitCode::from(audit(alloc, &words, &mut files, &mut out, &mut err))
+}
