@@ -2,4 +2,6 @@
 #![tactic(auto)]
 
 #[cfg(test)]
+mod of_audit;
+#[cfg(test)]
 mod of_boot_audit;

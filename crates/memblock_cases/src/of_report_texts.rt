@@ -62,11 +62,12 @@ fn map_and_options(rt: HostRuntime) -> Result<(), Fail> {
             low: None,
         },
         numa_off: true,
+        add_efi: true,
     };
     let mut text = Vec::new(alloc);
     put_options(&mut text, &options)?;
     let want =
-        b"clear\nchange 2 1 0x0000000000000000..0x00000000000fffff\ncrash range 0x0000000000000000 0x0000000004000000 0x0000000000800000 base 0x0000000001000000\ncrash range 0x0000000004000000 - 0x0000000001000000 base 0x0000000001000000\ncrash high 0x0000000020000000\nnuma off\n";
+        b"clear\nchange 2 1 0x0000000000000000..0x00000000000fffff\ncrash range 0x0000000000000000 0x0000000004000000 0x0000000000800000 base 0x0000000001000000\ncrash range 0x0000000004000000 - 0x0000000001000000 base 0x0000000001000000\ncrash high 0x0000000020000000\nnuma off\nefi add\n";
     assert!(rt; text.as_slice() == want.as_slice());
     Ok(())
 }

@@ -5,7 +5,7 @@ ghost use Rattle.sparse_sections.specs.Present.{IsWholeNoded};
 
 use crate::machines::{has_begun, limit, machine};
 use crate::ranges::{KERNEL, Part};
-use bm_base::FRAME_SIZE;
+use bm_base::{FRAME_SIZE, Width};
 use memblock_grow::Memblock;
 use memblock_model::Which;
 use memblock_ranges::{Region, Tables};
@@ -26,13 +26,13 @@ fn is_whole(region: &Region) -> bool
     ensures base { IsTrue result → region.now.base % 4096 ≡ 0 }
     ensures size { IsTrue result → region.now.size % 4096 ≡ 0 }
     ensures node { IsTrue result → region.now.node < 1024 }
-    ensures reach { IsTrue result → region.now.base + region.now.size ≤ 2 ^ 46 }
+    ensures reach { IsTrue result → region.now.base + region.now.size ≤ 2 ^ 52 }
 {
     region.base % FRAME_SIZE == 0
         && region.size % FRAME_SIZE == 0
         && region.node < 1024
-        && region.size <= 0x4000_0000_0000
-        && region.base <= 0x4000_0000_0000 - region.size
+        && region.size <= 0x10_0000_0000_0000
+        && region.base <= 0x10_0000_0000_0000 - region.size
 }
 
 // Whether each record is such that sections are found by it.
@@ -67,11 +67,16 @@ fn sections_of(alloc: Global, memblock: &Memblock) -> Result<Vec<Section>, Fail>
     Ok(present(alloc, memblock.tables())?)
 }
 
-fn roots_of(alloc: Global, memblock: &mut Memblock, sections: &[Section]) -> Result<Roots, Fail> {
+fn roots_of(
+    alloc: Global,
+    memblock: &mut Memblock,
+    sections: &[Section],
+    width: Width,
+) -> Result<Roots, Fail> {
     if !has_begun(memblock) {
         return Err("nothing has happened".into());
     }
-    Ok(place_roots(alloc, memblock, sections)?)
+    Ok(place_roots(alloc, memblock, sections, width)?)
 }
 
 fn compare_roots(rt: &impl Abort, roots: &Roots, table: u64, places: &[RootPlace]) {
@@ -79,14 +84,19 @@ fn compare_roots(rt: &impl Abort, roots: &Roots, table: u64, places: &[RootPlace
     assert!(rt; roots.roots.as_slice() == places);
 }
 
-#[test]
-fn sections_and_roots(rt: HostRuntime) -> Result<(), Fail> {
-    let alloc = rt.alloc();
+// The table is 16 KiB or 1 MiB at the end of memory, root 1 a page below it, and root 0 a page at the end of node 0.
+const WIDTHS: [(Width, u64, u64); 2] = [
+    (Width::Bits46, 0x8_07FF_C000, 0x8_07FF_B000),
+    (Width::Bits52, 0x8_07F0_0000, 0x8_07EF_F000),
+];
+
+fn check_width(rt: &impl Abort, alloc: Global, row: (Width, u64, u64)) -> Result<(), Fail> {
+    let (width, table, second) = row;
     let mut memblock = machine(alloc, KERNEL, &MEMORY)?;
     limit(&mut memblock, 0x8_0800_0000)?;
     let sections = sections_of(alloc, &memblock)?;
-    compare_sections(&rt, &sections, &[(0, 0), (1, 0), (2, 1), (3, 1), (256, 1)]);
-    let roots = roots_of(alloc, &mut memblock, &sections)?;
+    compare_sections(rt, &sections, &[(0, 0), (1, 0), (2, 1), (3, 1), (256, 1)]);
+    let roots = roots_of(alloc, &mut memblock, &sections, width)?;
     let places = [
         RootPlace {
             number: 0,
@@ -94,9 +104,18 @@ fn sections_and_roots(rt: HostRuntime) -> Result<(), Fail> {
         },
         RootPlace {
             number: 1,
-            place: 0x8_07FF_B000,
+            place: second,
         },
     ];
-    compare_roots(&rt, &roots, 0x8_07FF_C000, &places);
+    compare_roots(rt, &roots, table, &places);
+    Ok(())
+}
+
+#[test]
+fn sections_and_roots(rt: HostRuntime) -> Result<(), Fail> {
+    let alloc = rt.alloc();
+    for row in WIDTHS {
+        check_width(&rt, alloc, row)?;
+    }
     Ok(())
 }

@@ -4,9 +4,8 @@ ghost use Rattle.std.specs.Prelude.{◌<◌, ◌^◌, length};
 
 use bm_base::{Memory, Zone};
 use buddy_handover::Buddy;
-use page_alloc::{
-    Held, PageAct, PageAnswer, PageFault, PageLine, PageOutcome, Pages, read_pages, run_lines,
-};
+use page_alloc::{Held, PageAct, PageAnswer, PageFault, PageLine, PageOutcome, Pages, read_pages};
+use slit_zonelists::{Lists, run_lines};
 use std::alloc::Global;
 use std::test::Fail;
 
@@ -22,7 +21,8 @@ fn run(alloc: Global, pages: &mut Pages, text: &[u8]) -> Result<Vec<PageAnswer>,
     requires { length text.now < 2 ^ 32 }
 {
     let lines = read_pages(alloc, text)?;
-    let answers = run_lines(alloc, pages, &lines)?;
+    let lists = Lists::new(alloc, None, &[], &[])?;
+    let answers = run_lines(alloc, pages, &lists, &lines)?;
     Ok(answers)
 }
 

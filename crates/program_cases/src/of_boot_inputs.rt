@@ -5,6 +5,7 @@ ghost use Rattle.std.specs.Prelude.{IfOk};
 ghost use Rattle.bm_io.specs.HeldFiles.{held_files, HaveOwnNames};
 
 use crate::common::{KERNEL, file};
+use bm_base::Width;
 use bm_io::{MemFile, MemFiles};
 use boot_inputs::{Fault, Input, InputError, Names, Refusal, read_inputs};
 use boot_model::Inputs;
@@ -15,24 +16,30 @@ use std::test::Fail;
 
 /// The name of each file.
 #[derive(Clone, Copy)]
-struct Five<'a> {
+struct Eight<'a> {
     zp: &'a str,
     ext: &'a str,
     cmd: &'a str,
     srat: &'a str,
     script: &'a str,
+    pages: &'a str,
+    slit: &'a str,
+    efi: &'a str,
 }
 
-impl<'a> Names for Five<'a> {
+impl<'a> Names for Eight<'a> {
     ghost use Rattle.std.specs.Prelude.{Some};
     ghost use Rattle.boot_inputs.specs.declared.input.Input.TheVariants as inputs;
 
-    ghost named = { λ five input. elim input [
-      | inputs.ZeroPage ↦ Some five.zp.now
-      | inputs.Extension ↦ Some five.ext.now
-      | inputs.CommandLine ↦ Some five.cmd.now
-      | inputs.Srat ↦ Some five.srat.now
-      | inputs.Script ↦ Some five.script.now
+    ghost named = { λ eight input. elim input [
+      | inputs.ZeroPage ↦ Some eight.zp.now
+      | inputs.Extension ↦ Some eight.ext.now
+      | inputs.CommandLine ↦ Some eight.cmd.now
+      | inputs.Srat ↦ Some eight.srat.now
+      | inputs.Script ↦ Some eight.script.now
+      | inputs.Pages ↦ Some eight.pages.now
+      | inputs.Slit ↦ Some eight.slit.now
+      | inputs.Efi ↦ Some eight.efi.now
     ] };
 
     fn of(&self, input: Input) -> Option<&str> {
@@ -42,11 +49,14 @@ impl<'a> Names for Five<'a> {
             Input::CommandLine => Some(self.cmd),
             Input::Srat => Some(self.srat),
             Input::Script => Some(self.script),
+            Input::Pages => Some(self.pages),
+            Input::Slit => Some(self.slit),
+            Input::Efi => Some(self.efi),
         }
     }
 }
 
-/// The bytes of the files `zp`, `ext`, `cmd`, `srat` and `script`.
+/// The bytes of the files `zp`, `ext`, `cmd`, `srat`, `script`, `pages`, `slit` and `efi`.
 #[derive(Clone, Copy)]
 struct Held<'a> {
     zp: &'a [u8],
@@ -54,6 +64,9 @@ struct Held<'a> {
     cmd: &'a [u8],
     srat: &'a [u8],
     script: &'a [u8],
+    pages: &'a [u8],
+    slit: &'a [u8],
+    efi: &'a [u8],
 }
 
 fn files_of(alloc: Global, held: &Held<'_>) -> Result<Vec<MemFile>, Fail>
@@ -64,7 +77,10 @@ fn files_of(alloc: Global, held: &Held<'_>) -> Result<Vec<MemFile>, Fail>
     let cmd = file(alloc, "cmd", held.cmd)?;
     let srat = file(alloc, "srat", held.srat)?;
     let script = file(alloc, "script", held.script)?;
-    Ok(vec![in alloc; zp, ext, cmd, srat, script]?)
+    let pages = file(alloc, "pages", held.pages)?;
+    let slit = file(alloc, "slit", held.slit)?;
+    let efi = file(alloc, "efi", held.efi)?;
+    Ok(vec![in alloc; zp, ext, cmd, srat, script, pages, slit, efi]?)
 }
 
 /// Reads the files, where the fetch of that number fails, and compares the refusal.
@@ -77,7 +93,12 @@ fn expect(
 ) -> Result<(), Fail> {
     let calls = vec![in alloc; failing]?;
     let mut files = MemFiles::new(files_of(alloc, held)?, calls);
-    let answer = read_inputs(alloc, &mut files, &ALL, Inputs::begun(alloc, KERNEL));
+    let answer = read_inputs(
+        alloc,
+        &mut files,
+        &ALL,
+        Inputs::begun(alloc, Width::Bits46, KERNEL),
+    );
     assert!(rt;
         answer.err() == want.map(InputError::Refused),
         "fetch {failing}"
@@ -92,6 +113,13 @@ const SMALLEST_SRAT: [u8; 48] = [
     0, 0, 0, 0, 0, 0,
 ];
 
+/// A SLIT of one locality.
+const SMALLEST_SLIT: [u8; 45] = [
+    b'S', b'L', b'I', b'T', 45, 0, 0, 0, 1, 0x8B, // signature, length, revision, checksum
+    0, 0, 0, 0, 0, 0, 0, 0, 0, 0, 0, 0, 0, 0, 0, 0, 0, 0, 0, 0, 0, 0, 0, 0, 0, 0, // names
+    1, 0, 0, 0, 0, 0, 0, 0, 10, // localities, and the distance
+];
+
 /// Files without a fault, but for the zero page.
 const HELD: Held<'static> = Held {
     zp: b"",
@@ -99,18 +127,23 @@ const HELD: Held<'static> = Held {
     cmd: b"quiet",
     srat: &SMALLEST_SRAT,
     script: b"free 1",
+    pages: b"give 1",
+    slit: &SMALLEST_SLIT,
+    efi: &[40, 0, 0, 0, 1, 0, 0, 0],
 };
 
-const ALL: Five<'static> = Five {
+const ALL: Eight<'static> = Eight {
     zp: "zp",
     ext: "ext",
     cmd: "cmd",
     srat: "srat",
     script: "script",
+    pages: "pages",
+    slit: "slit",
+    efi: "efi",
 };
 
-/// The zero page, the extension, the line, the table and the script, each fetched once: where that fetch fails its file
-/// is unread, and a sixth would change nothing.
+/// Each file is fetched once, in this order: where that fetch fails its file is unread, and a ninth would change nothing.
 #[test]
 fn files_in_their_order(rt: HostRuntime) -> Result<(), Fail> {
     let mut zp = [0; 4096];
@@ -122,7 +155,10 @@ fn files_in_their_order(rt: HostRuntime) -> Result<(), Fail> {
         (3, Some(Refusal::Unread(Input::CommandLine))),
         (4, Some(Refusal::Unread(Input::Srat))),
         (5, Some(Refusal::Unread(Input::Script))),
-        (6, None),
+        (6, Some(Refusal::Unread(Input::Pages))),
+        (7, Some(Refusal::Unread(Input::Slit))),
+        (8, Some(Refusal::Unread(Input::Efi))),
+        (9, None),
     ];
     for (failing, want) in &rows {
         expect(&rt, rt.alloc(), &held, *failing, *want)?;
@@ -159,6 +195,17 @@ fn refused_file_is_the_last(rt: HostRuntime) -> Result<(), Fail> {
             4,
         ),
         (Held { srat: b"", ..good }, Input::Srat, Fault::Short, 5),
+        (
+            Held {
+                pages: b"give",
+                ..good
+            },
+            Input::Pages,
+            Fault::BadLine { line: 1 },
+            7,
+        ),
+        (Held { slit: b"", ..good }, Input::Slit, Fault::Short, 8),
+        (Held { efi: b"", ..good }, Input::Efi, Fault::Header, 9),
     ];
     for (held, input, fault, behind) in &rows {
         let want = Refusal::Faulty(*input, *fault);

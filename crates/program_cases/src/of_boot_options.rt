@@ -9,44 +9,59 @@ use std::test::Fail;
 
 const MIB: u64 = 1 << 20;
 
-/// How many edits a line gives, and whether it turns the SRAT off.
-fn read_count(alloc: Global, line: &[u8]) -> Result<(usize, bool), OptionFault> {
+/// How many edits a line gives, whether it turns the SRAT off, and whether it adds the EFI map.
+fn read_count(alloc: Global, line: &[u8]) -> Result<(usize, bool, bool), OptionFault> {
     let options = read_options(alloc, line)?;
-    Ok((options.edits.len(), options.numa_off))
+    Ok((options.edits.len(), options.numa_off, options.add_efi))
 }
 
 #[test]
 fn lines_of_words(rt: HostRuntime) {
     let cases = [
-        (b"".as_slice(), Ok((0, false))),
-        (b"mem=1M\n\n".as_slice(), Ok((1, false))),
-        (b"numa=off mem=1G numa=off".as_slice(), Ok((1, true))),
-        (b"memory=x Mem=x mem.x=0 =".as_slice(), Ok((0, false))),
-        (b"mem=1M \"--\" mem=0".as_slice(), Ok((1, false))),
-        (b"mem=1M\0 mem=0".as_slice(), Ok((1, false))),
+        (b"".as_slice(), Ok((0, false, false))),
+        (b"mem=1M\n\n".as_slice(), Ok((1, false, false))),
+        (b"numa=off mem=1G numa=off".as_slice(), Ok((1, true, false))),
+        (b"add_efi_memmap mem=1M".as_slice(), Ok((1, false, true))),
+        (
+            b"numa=off add_efi_memmap=off".as_slice(),
+            Ok((0, true, true)),
+        ),
+        (
+            b"add_efi_memmap1 -- add_efi_memmap".as_slice(),
+            Ok((0, false, false)),
+        ),
+        (
+            b"memory=x Mem=x mem.x=0 =".as_slice(),
+            Ok((0, false, false)),
+        ),
+        (b"mem=1M \"--\" mem=0".as_slice(), Ok((1, false, false))),
+        (b"mem=1M\0 mem=0".as_slice(), Ok((1, false, false))),
         (
             b"a\tmem=1M\x0Bmem=2M\x0Cmem=3M\rmem=4M".as_slice(),
-            Ok((4, false)),
+            Ok((4, false, false)),
         ),
-        (b"a\xA0mem=0".as_slice(), Ok((0, false))),
-        (b"\"mem=\"1M\"\"".as_slice(), Ok((1, false))),
-        (b"me\"m=0\"".as_slice(), Ok((0, false))),
-        (b"a=\"b mem=0 c\" numa=off".as_slice(), Ok((0, true))),
+        (b"a\xA0mem=0".as_slice(), Ok((0, false, false))),
+        (b"\"mem=\"1M\"\"".as_slice(), Ok((1, false, false))),
+        (b"me\"m=0\"".as_slice(), Ok((0, false, false))),
+        (b"a=\"b mem=0 c\" numa=off".as_slice(), Ok((0, true, false))),
         (
             b"crashkernel=1M,low crashkernels=x".as_slice(),
-            Ok((0, false)),
+            Ok((0, false, false)),
         ),
         (
             b"memmap=exactmap memmap=640K@0 memmap=127M@1M".as_slice(),
-            Ok((3, false)),
+            Ok((3, false, false)),
         ),
-        (b"memmap=exactmap,1M!0,1M%2M-0+1".as_slice(), Ok((3, false))),
+        (
+            b"memmap=exactmap,1M!0,1M%2M-0+1".as_slice(),
+            Ok((3, false, false)),
+        ),
         (
             b"BOOT_IMAGE=/boot/vmlinuz-6.1.0-28-amd64 root=UUID=2f1f9c7e-93a5-4c1e-8a35 ro \
               console=tty0 console=ttyS0,115200n8 dyndbg=\"file e820.c +p\" memmap=4G!12G \
               mem=64G quiet\n"
                 .as_slice(),
-            Ok((2, false)),
+            Ok((2, false, false)),
         ),
     ];
     for (line, want) in &cases {
@@ -100,6 +115,7 @@ fn edits_in_the_order_of_the_line(rt: HostRuntime) -> Result<(), Fail> {
         edits,
         crash: _,
         numa_off,
+        add_efi: _,
     } = read_options(rt.alloc(), line)?;
     let want = [
         Edit::Add {

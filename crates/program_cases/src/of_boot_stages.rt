@@ -1,8 +1,11 @@
 //! The boot on maps that overlap, are edited and stop it, by runs from outside, and what it does to memory.
 
+ghost use Rattle.std.specs.List.{All};
 ghost use Rattle.e820_model.specs.Claims.{EndInSpace, HaveTypes};
+ghost use Rattle.boot_model.specs.Mirrors.{IsMirror};
 
 use crate::common::{FIRST_640K, FIRST_PAGE, KERNEL, entry, nested, run};
+use bm_base::{Range, Width};
 use boot_model::{Booted, Inputs, Stop};
 use boot_options::{Options, read_options};
 use boot_stages::boot;
@@ -43,7 +46,7 @@ fn put_options(inputs: &mut Inputs, options: Options)
 fn booted(alloc: Global, entries: &[Entry], line: &[u8]) -> Result<Result<Booted, Stop>, Fail>
     requires { EndInSpace entries.now }
 {
-    let mut inputs = Inputs::begun(alloc, KERNEL);
+    let mut inputs = Inputs::begun(alloc, Width::Bits46, KERNEL);
     put_entries(&mut inputs, Vec::from_slice(alloc, entries)?);
     put_options(&mut inputs, read_options(alloc, line)?);
     Ok(boot(alloc, inputs))
@@ -133,13 +136,123 @@ const JOURNAL: &str = "1: claim kernel 0x0000000001000000..0x0000000002ffffff\n\
                        13: claim usage 0 0x0000000007faffc0..0x0000000007faffe7\n\
                        14: claim map 0 0x0000000007c00000..0x0000000007dfffff\n";
 
-#[test]
-fn journal_of_a_virtual_machine(rt: HostRuntime) -> Result<(), Fail> {
-    let Ok(booted) = booted(rt.alloc(), &machine(), b"")? else {
+// With 16 MiB of it mirrored the places lie in these.
+const MIRRORED: &str = "1: claim kernel 0x0000000001000000..0x0000000002ffffff\n\
+                        2: claim low-64k 0x0000000000000000..0x000000000000ffff\n\
+                        3: limit 0x0000000000100000\n\
+                        4: mem 0x0000000000001000..0x000000000009fbff\n\
+                        5: mem 0x0000000000100000..0x0000000007fdffff\n\
+                        6: trim\n\
+                        7: mirror 0x0000000004000000..0x0000000004ffffff\n\
+                        8: limit 0x0000000007fe0000\n\
+                        9: claim low-1m 0x0000000000000000..0x00000000000fffff\n\
+                        10: node 0 0x0000000000000000..0x0000000007fdffff\n\
+                        11: claim node-data 0 0x0000000004fd5000..0x0000000004ffffff\n\
+                        12: claim roots 0x0000000004fd1000..0x0000000004fd4fff\n\
+                        13: claim root 0 0x0000000004fd0000..0x0000000004fd0fff\n\
+                        14: claim usage 0 0x0000000004fcffc0..0x0000000004fcffe7\n\
+                        15: claim map 0 0x0000000004c00000..0x0000000004dfffff\n";
+
+// From below the places lie behind the first MiB, and the map behind the kernel's image.
+const UPWARD: &str = "1: claim kernel 0x0000000001000000..0x0000000002ffffff\n\
+                      2: claim low-64k 0x0000000000000000..0x000000000000ffff\n\
+                      3: limit 0x0000000000100000\n\
+                      4: upward on\n\
+                      5: mem 0x0000000000001000..0x000000000009fbff\n\
+                      6: mem 0x0000000000100000..0x0000000007fdffff\n\
+                      7: trim\n\
+                      8: limit 0x0000000007fe0000\n\
+                      9: claim low-1m 0x0000000000000000..0x00000000000fffff\n\
+                      10: node 0 0x0000000000000000..0x0000000007fdffff\n\
+                      11: claim node-data 0 0x0000000000100000..0x000000000012afff\n\
+                      12: claim roots 0x000000000012b000..0x000000000012efff\n\
+                      13: claim root 0 0x000000000012f000..0x000000000012ffff\n\
+                      14: claim usage 0 0x0000000000130000..0x0000000000130027\n\
+                      15: claim map 0 0x0000000003000000..0x00000000031fffff\n";
+
+// With 128 MiB at 64 TiB besides, and addresses of 52 bits: the table of roots is 1 MiB.
+const WIDE: &str = "1: claim kernel 0x0000000001000000..0x0000000002ffffff\n\
+                    2: claim low-64k 0x0000000000000000..0x000000000000ffff\n\
+                    3: limit 0x0000000000100000\n\
+                    4: mem 0x0000000000001000..0x000000000009fbff\n\
+                    5: mem 0x0000000000100000..0x0000000007fdffff\n\
+                    6: mem 0x0000400000000000..0x0000400007ffffff\n\
+                    7: trim\n\
+                    8: limit 0x0000400008000000\n\
+                    9: claim low-1m 0x0000000000000000..0x00000000000fffff\n\
+                    10: node 0 0x0000000000000000..0x0000400007ffffff\n\
+                    11: claim node-data 0 0x0000400007fd5000..0x0000400007ffffff\n\
+                    12: claim roots 0x0000400007ed5000..0x0000400007fd4fff\n\
+                    13: claim root 0 0x0000400007ed4000..0x0000400007ed4fff\n\
+                    14: claim root 2048 0x0000400007ed3000..0x0000400007ed3fff\n\
+                    15: claim usage 0 0x0000400007ed2f80..0x0000400007ed2fcf\n\
+                    16: claim map 0 0x0000400007a00000..0x0000400007dfffff\n";
+
+// The same machine with 128 MiB at 64 TiB besides.
+fn wide_machine() -> [Entry; 7]
+    ensures { EndInSpace result }
+{
+    [
+        entry(0, 0x9_FC00, 1),
+        entry(0x9_FC00, 0x400, 2),
+        entry(0xF_0000, 0x1_0000, 2),
+        entry(0x10_0000, 0x7EE_0000, 1),
+        entry(0x7FE_0000, 0x2_0000, 2),
+        entry(0xFFFC_0000, 0x4_0000, 2),
+        entry(0x4000_0000_0000, 0x800_0000, 1),
+    ]
+}
+
+fn put_mirrors(inputs: &mut Inputs, mirrors: Vec<Range>)
+    requires { All IsMirror mirrors.items }
+{
+    inputs.mirrors = mirrors;
+}
+
+// The journal of the boot of these entries, and of what is given besides.
+fn expect_journal(
+    rt: &impl Abort,
+    alloc: Global,
+    mut inputs: Inputs,
+    entries: &[Entry],
+    journal: &str,
+) -> Result<(), Fail>
+    requires { EndInSpace entries.now }
+{
+    put_entries(&mut inputs, Vec::from_slice(alloc, entries)?);
+    let Ok(booted) = boot(alloc, inputs) else {
         return Err("the boot stops".into());
     };
-    let mut text = Vec::new(rt.alloc());
+    let mut text = Vec::new(alloc);
     put_journal(&mut text, &booted.journal)?;
-    assert!(rt; text.as_slice() == JOURNAL.as_bytes());
+    assert!(rt; text.as_slice() == journal.as_bytes());
     Ok(())
+}
+
+#[test]
+fn journals_of_a_virtual_machine(rt: HostRuntime) -> Result<(), Fail> {
+    let alloc = rt.alloc();
+    let narrow = Inputs::begun(alloc, Width::Bits46, KERNEL);
+    expect_journal(&rt, alloc, narrow, &machine(), JOURNAL)?;
+    // what lies at 64 TiB is out of reach of 46 bits
+    let narrow = Inputs::begun(alloc, Width::Bits46, KERNEL);
+    expect_journal(&rt, alloc, narrow, &wide_machine(), JOURNAL)?;
+    let wide = Inputs::begun(alloc, Width::Bits52, KERNEL);
+    expect_journal(&rt, alloc, wide, &wide_machine(), WIDE)
+}
+
+#[test]
+fn mirrors_and_search_from_below(rt: HostRuntime) -> Result<(), Fail> {
+    let alloc = rt.alloc();
+    let mut inputs = Inputs::begun(alloc, Width::Bits46, KERNEL);
+    inputs.upward = true;
+    expect_journal(&rt, alloc, inputs, &machine(), UPWARD)?;
+    let mirror = Range {
+        base: 0x400_0000,
+        size: 0x100_0000,
+    };
+    let mirrors = vec![in alloc; mirror]?;
+    let mut inputs = Inputs::begun(alloc, Width::Bits46, KERNEL);
+    put_mirrors(&mut inputs, mirrors);
+    expect_journal(&rt, alloc, inputs, &machine(), MIRRORED)
 }

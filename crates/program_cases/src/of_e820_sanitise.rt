@@ -116,6 +116,46 @@ fn bios_areas_are_trimmed(rt: HostRuntime) {
 }
 
 #[test]
+fn entries_come_in_behind_edits(rt: HostRuntime) {
+    let mut table = settled(
+        &rt,
+        rt.alloc(),
+        &[
+            entry(0x10_0000, 0x7EE_0000, 1),
+            entry(0x7FE_0000, 0x2_0000, 2),
+        ],
+    );
+    // `mem=64M`, and then an EFI map: ACPI data in RAM, memory that can't be cached, and RAM that was taken away
+    let above = Range {
+        base: 0x400_0000,
+        size: u64::MAX - 0x400_0000,
+    };
+    assert!(rt;
+        table.edit(&Edit::Remove {
+            range: above,
+            kind: 1
+        }) == Ok(())
+    );
+    let added = [
+        entry(0x20_0000, 0x1_0000, 3),
+        entry(0x30_0000, 0x1000, 2),
+        entry(0x500_0000, 0x1000, 1),
+    ];
+    assert!(rt; table.append(&added) == Ok(()));
+    assert!(rt; table.settle() == Ok(()));
+    let runs = [
+        run(0x10_0000, 0x10_0000, 1),
+        run(0x20_0000, 0x1_0000, 3),
+        run(0x21_0000, 0xF_0000, 1),
+        run(0x30_0000, 0x1000, 2),
+        run(0x30_1000, 0x3CF_F000, 1),
+        run(0x500_0000, 0x1000, 1),
+        run(0x7FE_0000, 0x2_0000, 2),
+    ];
+    expect(&rt, &table, &runs);
+}
+
+#[test]
 fn nested_entries_are_too_many_runs(rt: HostRuntime) {
     let mut table = Table::new(rt.alloc());
     for depth in 0..3200u32 {

@@ -1,7 +1,9 @@
 //! Words that the command takes and refuses, each form of an option in turn. The expected answers are worked out
 //! from the port's definition, word by word. What the proved examples of `program_words` say isn't repeated.
 
+use bm_base::Width;
 use boot_inputs::{Input, Names};
+use boot_model::Inputs;
 use program_words::{Wanted, WordError, read_words};
 use std::alloc::Global;
 use std::process::Abort;
@@ -35,9 +37,52 @@ fn told_of(alloc: Global, wanted: &Wanted<'_>) -> Result<String, Fail> {
         line.push_str(" ")?;
     }
     line.push_str(wanted.list)?;
-    let kernel = wanted.kernel.base / 0x10_0000;
+    let kernel = wanted.begun(alloc)?.kernel.base / 0x10_0000;
     let made = wanted.made.unwrap_or(0);
     Ok(format!(in alloc; "{line} {kernel} {made}")?)
+}
+
+/// What the words ask of memory in one line: the width, the direction, and each mirrored range by its first frame
+/// and how many it has.
+fn memory_told(alloc: Global, words: &[&str]) -> Result<String, Fail> {
+    let mut owned = Vec::new(alloc);
+    for word in words {
+        owned.push(String::from_str(alloc, word)?)?;
+    }
+    match read_words(alloc, &owned) {
+        Ok(wanted) => memory_of(alloc, &wanted),
+        Err(WordError::Usage) => Ok(String::from_str(alloc, "refused")?),
+        Err(WordError::Memory) => Ok(String::from_str(alloc, "out of memory")?),
+    }
+}
+
+fn memory_of(alloc: Global, wanted: &Wanted<'_>) -> Result<String, Fail> {
+    let begun = wanted.begun(alloc)?;
+    line_of(alloc, &begun)
+}
+
+fn line_of(alloc: Global, begun: &Inputs) -> Result<String, Fail> {
+    let width = match begun.width {
+        Width::Bits46 => "46",
+        Width::Bits52 => "52",
+    };
+    let direction = if begun.upward { "up" } else { "down" };
+    let mut line = format!(in alloc; "{width} {direction}")?;
+    for range in &begun.mirrors {
+        let first = range.base / 4096;
+        let count = range.size / 4096;
+        line.push_str(format!(in alloc; " {first}+{count}")?.as_str())?;
+    }
+    Ok(line)
+}
+
+/// A list of so many mirrored frames, each a piece of its own.
+fn mirrored_pieces(alloc: Global, count: u32) -> Result<String, Fail> {
+    let mut list = String::from_str(alloc, "--mirror=0,4K")?;
+    for _ in 1..count {
+        list.push_str(":0,4K")?;
+    }
+    Ok(list)
 }
 
 /// Each row is a list of words and what they come to.
@@ -174,4 +219,48 @@ fn values(rt: HostRuntime) -> Result<(), Fail> {
         (&["--report=map", "--", "--make", "5"], "refused"),
     ];
     compare(&rt, rt.alloc(), &rows)
+}
+
+#[test]
+fn flags_and_mirrored_memory(rt: HostRuntime) -> Result<(), Fail> {
+    let rows: [(&[&str], &str); 14] = [
+        (&["zp"], "46 down"),
+        (&["--la57", "zp"], "52 down"),
+        (&["zp", "--bottom-up"], "46 up"),
+        (&["--mirror", "64M,16M", "zp"], "46 down 16384+4096"),
+        // both ends amid a frame, and no whole frame
+        (&["--mirror=0x1001,0x1fff:0,4095", "zp"], "46 down 2+1"),
+        (
+            &["--bottom-up", "--mirror=4K,8K:1M,4K", "--la57", "zp"],
+            "52 up 1+2 256+1",
+        ),
+        // an empty list or piece, another mark, a range that passes the last address
+        (&["--mirror=", "zp"], "refused"),
+        (&["--mirror=1M,1M:", "zp"], "refused"),
+        (&["--mirror=1M,1M;2M,1M", "zp"], "refused"),
+        (&["--mirror=0xfffffffffffff000,4K", "zp"], "refused"),
+        // a flag twice, one with a value, and one cut short
+        (&["--la57", "zp", "--la57"], "refused"),
+        (&["--la57=true", "zp"], "refused"),
+        (&["--bottom-up", "true", "zp"], "refused"),
+        (&["--bottom", "zp"], "refused"),
+    ];
+    let alloc = rt.alloc();
+    for (words, expected) in rows {
+        let line = memory_told(alloc, words)?;
+        assert!(rt; line.as_str() == expected, "{words:?}");
+    }
+    Ok(())
+}
+
+#[test]
+fn the_most_mirrored_ranges(rt: HostRuntime) -> Result<(), Fail> {
+    let alloc = rt.alloc();
+    let most = mirrored_pieces(alloc, 64)?;
+    let told = memory_told(alloc, &[most.as_str(), "zp"])?;
+    assert!(rt; told.as_str().len() == 7 + 64 * 4, "64 pieces");
+    let more = mirrored_pieces(alloc, 65)?;
+    let told = memory_told(alloc, &[more.as_str(), "zp"])?;
+    assert!(rt; told.as_str() == "refused", "65 pieces");
+    Ok(())
 }
