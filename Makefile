@@ -2,11 +2,13 @@
 #
 #   make run                  prints the map of the example zero page: by ./bootmem where it is up to date, else by an
 #                             unproved build of e820_map, a program for the map alone, within half a minute
+#   make                      proves and builds both programs, as the next two do
 #   make bootmem              proves and builds ./bootmem: some 35 minutes of a processor, 10 of the clock at least
+#   make bootaudit            proves and builds ./bootaudit, the audit of saved reports, which takes some minutes
 #   make try ARGS="..."       runs the program on these words without proof, within a minute
 #   make test                 the whole gate: every proof, every test, the real machines
-#   make install PREFIX=DIR   installs ./bootmem as it is, tools, manual pages, documents and examples, and proves nothing:
-#                             without a ./bootmem it stops, unless PROVE=1 (DESTDIR and MANDIR are honoured)
+#   make install PREFIX=DIR   installs both programs as they are, tools, manual pages, documents and examples, and proves
+#                             nothing: without one of them it stops, unless PROVE=1 (DESTDIR and MANDIR are honoured)
 #   make uninstall PREFIX=DIR removes what 'make install' put there
 #   make deb                  makes a Debian package of what 'make install' installs (needs dpkg-deb)
 #   make clean                removes what was built
@@ -26,16 +28,24 @@ PROVE ?=
 # the words of the first run
 FIRST := --report map examples/first/zp.bin
 
-SOURCES := crates.txt $(shell find crates -name out -prune -o \( -name '*.rt' -o -name '*.antt' \) -print)
+# sources FOLDER..: the files of those folders that a proof reads
+sources = crates.txt $(if $(1),$(shell find $(1) -name out -prune -o \( -name '*.rt' -o -name '*.antt' \) -print))
+SOURCES := $(call sources,crates)
+AUDIT := $(call sources,$(wildcard $(addprefix crates/,bm_base bm_io audit_lines boot_audit bootaudit)))
 
 export RT
 
+PROGRAMS := bootmem bootaudit
+
 .PHONY: all run try test install uninstall deb clean help
 
-all: bootmem
+all: $(PROGRAMS)
 
 bootmem: $(SOURCES)
 	@tools/build.sh bootmem_cli $@ --report map "$(CURDIR)/examples/first/zp.bin"
+
+bootaudit: $(AUDIT)
+	@tools/build.sh bootaudit $@ $(addprefix "$(CURDIR)"/crates/bootaudit/data/,map owners blocks)
 
 run:
 	@if $(MAKE) -q --no-print-directory bootmem >/dev/null 2>&1; then ./bootmem $(FIRST); else tools/try.sh e820_map examples/first/zp.bin </dev/null; fi
@@ -49,12 +59,14 @@ test:
 
 # a program that is there is installed as it is: an installation proves nothing, but where PROVE=1 asks for it
 install:
-	@if [ ! -f bootmem ] && [ "$(PROVE)" = 1 ]; then $(MAKE) --no-print-directory bootmem; \
-	elif [ ! -f bootmem ]; then \
-		echo "bootmem: there is no ./bootmem to install: 'make bootmem' proves and builds it, which takes some 35 minutes of a processor;" \
-			"'make install PROVE=1' does both" >&2; exit 1; \
-	elif ! $(MAKE) -q --no-print-directory bootmem >/dev/null 2>&1; then \
-		echo "bootmem: some sources are newer than ./bootmem, which is installed as it is; 'make bootmem' builds it anew" >&2; fi
+	@for program in $(PROGRAMS); do \
+		if [ ! -f $$program ] && [ "$(PROVE)" = 1 ]; then $(MAKE) --no-print-directory $$program || exit 1; \
+		elif [ ! -f $$program ]; then \
+			echo "$$program: there is no ./$$program to install: 'make $$program' proves and builds it, which takes a while;" \
+				"'make install PROVE=1' does both" >&2; exit 1; \
+		elif ! $(MAKE) -q --no-print-directory $$program >/dev/null 2>&1; then \
+			echo "$$program: some sources are newer than ./$$program, which is installed as it is; 'make $$program' builds it anew" >&2; fi; \
+	done
 	@tools/install.sh install "$(DESTDIR)" "$(PREFIX)" "$(MANDIR)"
 
 uninstall:
@@ -64,8 +76,8 @@ deb:
 	@tools/deb.sh "$(VERSION)" "$(MAKE)"
 
 clean:
-	rm -f bootmem bootmem_*.deb
+	rm -f $(PROGRAMS) bootmem_*.deb
 	rm -rf crates/*/out
 
 help:
-	@sed -n '3,15s/^# *//p' Makefile | sed '/^$$/d; s/^/  /'
+	@sed -n '3,17s/^# *//p' Makefile | sed '/^$$/d; s/^/  /'
