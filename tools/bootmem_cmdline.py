@@ -21,6 +21,7 @@ TOP = reports.TOP
 LOW_LEAST = 256 << 20  # the low part without a form `S,low` (reserve_crashkernel_low)
 KEY = "crashkernel="
 NAMES = ("mem", "memmap", "crashkernel", "numa")
+EFI = "add_efi_memmap"  # with any value, and without one (setup_add_efi_memmap)
 
 # Words that bootmem passes over though the kernel acts on them before the free lists, and on what.
 PASSED = {
@@ -31,7 +32,6 @@ PASSED = {
     "hugetlb_cma": "areas are claimed before the crash area (hugetlb_cma_reserve)",
     "log_buf_len": "a longer log buffer is claimed before the crash area (setup_log_buf)",
     "efi_fake_mem": "EFI's memory becomes soft reserved (efi_fake_memmap_early)",
-    "add_efi_memmap": "EFI's descriptors are added to the map (do_add_efi_memmap)",
     "memtest": "bad memory is claimed before the crash area (early_memtest)",
 }
 
@@ -228,12 +228,17 @@ def options_said(words, changes):
     for number, word in enumerate(words, 1):
         name, value = program_word(word.text)
         said, reason = None, "the kernel reads another name"
+        if word.name.replace("-", "_") == EFI:  # the kernel takes both signs for one (parameq)
+            texts.append(word.text if name == EFI else EFI)
+            if name != EFI:
+                changes.append(f"word {number}: {word.text}: read as {EFI}")
+            continue
         if word.name in SAID:
             try:
                 said = SAID[word.name](word.value)
             except Malformed as why:
                 reason = str(why)
-        if not {word.name, name} & set(SAID) or said is not None and (word.name, said) == (name, value):
+        if not {word.name, name} & {*SAID, EFI} or said is not None and (word.name, said) == (name, value):
             texts.append(word.text)
             continue
         texts.append("" if said is None else f"{word.name}={said}")
@@ -449,11 +454,13 @@ def why_unused(forms, places, faults):
 
 
 def words_noted(words):
-    """What bootmem passes over though the kernel acts on it, and names that are nearly its own."""
+    """What bootmem passes over though the kernel acts on it, what wants a file, and names that are nearly its own."""
     for number, word in enumerate(words, 1):
         name = word.name.replace("-", "_")
         if name in PASSED:
             yield f"word {number}: {word.text}: passed over: {PASSED[name]}"
+        elif name == EFI:
+            yield f"word {number}: {word.text}: EFI's descriptors are added to the map (do_add_efi_memmap): by bootmem those of --efi alone"
         elif name == "acpi" and word.value == "off":
             yield f"word {number}: {word.text}: passed over: the kernel reads no SRAT; give none"
         elif word.name not in NAMES and near(name):

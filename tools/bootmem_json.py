@@ -57,15 +57,17 @@ def plain(form):
 
 
 def of_options(lines):
-    """The edits in their order, and what the crash area and nodes are asked for."""
-    answer = {"edits": [], "crash": {"ranges": [], "high": None, "low": None}, "numa_off": False}
+    """The edits in their order, and what the crash area, nodes and the EFI map are asked for."""
+    answer = {"edits": [], "crash": {"ranges": [], "high": None, "low": None}, "numa_off": False, "add_efi": False}
     forms = {"add": rf"add (?P<type>\d+) {RANGE}", "remove": rf"remove (?P<type>\d+) {RANGE}", "remove-all": rf"remove-all {RANGE}",
-             "change": rf"change (?P<from>\d+) (?P<to>\d+) {RANGE}", "clear": "clear", "numa": "numa off",
+             "change": rf"change (?P<from>\d+) (?P<to>\d+) {RANGE}", "clear": "clear", "numa": "numa off", "efi": "efi add",
              "range": rf"crash range (?P<start>{A}) (?P<end>{A}|-) (?P<size>{A}) base (?P<base>{A})",
              "high": rf"crash high (?P<size>{A})", "low": rf"crash low (?P<size>{A})"}
     for kind, found in lines.match(forms):
         if kind == "numa":
             answer["numa_off"] = True
+        elif kind == "efi":
+            answer["add_efi"] = True
         elif kind == "range":
             answer["crash"]["ranges"].append({**found, "end": None if found["end"] == "-" else found["end"]})
         elif kind in ("high", "low"):

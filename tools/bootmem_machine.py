@@ -9,8 +9,7 @@ import subprocess
 import bootmem_cmdline as cmdline
 import bootmem_reports as reports
 
-FILES = (("--e820ext", "e820ext.bin"), ("--srat", "srat.bin"))
-ASSUMED = "the kernel's place isn't known, so 16 MiB to 48 MiB is assumed; --kernel BASE,SIZE tells it"
+FILES = (("--e820ext", "e820ext.bin"), ("--srat", "srat.bin"), ("--efi", "efi.bin"))
 REACH = 1 << 46  # of page tables of four levels
 FEW = 256  # frames: fewer that no block covers pass numa_meminfo_cover_memory
 SIGNATURE = 0x1C0  # of efi_info in the zero page: EL64 or EL32 where the firmware is UEFI
@@ -56,7 +55,7 @@ def kernel_in(folder):
 
 
 def files_in(folder):
-    """The program's words for the extension and the SRAT of a folder of collect.sh, by their names in it."""
+    """The program's words for the extension, the SRAT and the EFI memory map of a folder of collect.sh, by their names in it."""
     return [word for option, name in FILES if os.path.exists(os.path.join(folder, name)) for word in (option, name)]
 
 

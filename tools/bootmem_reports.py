@@ -18,6 +18,8 @@ WIDTH = 80  # of help, in letters
 FRAME = 4096
 SECTION = 128 << 20
 TOP = (1 << 64) - 1
+ASSUMED = "the kernel's place isn't known, so 16 MiB to 48 MiB is assumed; --kernel BASE,SIZE tells it"
+PLACELESS = {"map", "options", "nodes"}  # reports that don't go by the kernel's place
 
 BEHIND = ", or put the program's own words behind --"
 UNPROVED = "This tool isn't proved: it only reads what the proved program prints, or writes what it reads."
@@ -152,6 +154,19 @@ def run_program(program, names, words, folder=None):
         raise Trouble(f"the program ended with status {done.returncode}: {said or 'it said nothing'}")
     text = done.stdout.decode("utf-8", "replace")
     return split_reports(text) if len(names) > 1 else {names[0]: text.splitlines()}
+
+
+def is_place_assumed(names, words):
+    """Whether one of these reports goes by the kernel's place, and the program's words don't tell it."""
+    return not PLACELESS.issuperset(names) and not any(word == "--kernel" or word.startswith("--kernel=") for word in words)
+
+
+def run_for(tool, program, names, words):
+    """The same for a tool whose words are its user's: where the kernel's place is assumed, it is said."""
+    found = run_program(program, names, words)
+    if is_place_assumed(names, words):
+        complain(tool, ASSUMED)
+    return found
 
 
 def read_text(name, behind=False):

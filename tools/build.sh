@@ -13,7 +13,11 @@ log=$top/crates/$crate/out/build.log
 
 "$top/tools/toolchain.sh"
 mkdir -p "$top/crates/$crate/out"
-echo "$program: proving and building it; the first time this takes some 35 minutes of a processor, 10 of the clock at least" >&2
+case $crate in
+bootaudit) cost="some minutes" ;;
+*) cost="some 35 minutes of a processor, 10 of the clock at least" ;;
+esac
+echo "$program: proving and building it; the first time this takes $cost" >&2
 if ! (cd "$top/crates/$crate" && exec "$rt" run -- "$@") >"$log" 2>&1; then
 	tail -n 30 "$log" >&2
 	echo "$program: not built; the whole log is $log" >&2

@@ -19,6 +19,9 @@ that bootmem reads:
                where one is there
   cmdline      the command line, /proc/cmdline
   srat.bin     the ACPI table SRAT, /sys/firmware/acpi/tables/SRAT (root alone)
+  efi.bin      EFI's memory map, made from /sys/firmware/efi/runtime-map where
+               one is there (root alone): its descriptors of runtime services,
+               since the kernel shows no others
   kernel       the place of the kernel's image as --kernel takes it: Kernel code
                to Kernel bss of /proc/iomem, in whole frames (root alone)
 
@@ -86,7 +89,7 @@ cmdline=${cmdline:-$proc/cmdline}
 mkdir -p "$folder" || exit 1
 folder=$(cd "$folder" && pwd) || exit 1
 # what an earlier run left would be taken for this machine's
-for name in zp.bin e820ext.bin cmdline srat.bin slit.bin release kernel iomem zoneinfo buddyinfo; do
+for name in zp.bin e820ext.bin cmdline srat.bin efi.bin slit.bin release kernel iomem zoneinfo buddyinfo; do
 	rm -f "$folder/$name" || exit 1
 done
 
@@ -117,6 +120,43 @@ number() {
 		printf "\\$(printf '%03o' $((left % 256)))"
 		left=$((left / 256))
 	done
+}
+
+# little HEX: the number 0xHEX in 8 bytes, the lowest first; a shell's own numbers end at 2^63
+little() {
+	digits=$(printf '%s' "0000000000000000${1#0x}" | sed 's/.*\(.\{16\}\)$/\1/')
+	while [ -n "$digits" ]; do
+		front=${digits%??}
+		# shellcheck disable=SC2059 # the format is the escape itself
+		printf "\\$(printf '%03o' "0x${digits#"$front"}")"
+		digits=$front
+	done
+}
+
+# The descriptors that the kernel shows, of 48 bytes each; where they lie in its own addresses is left out.
+descriptors() {
+	shown=$sys/firmware/efi/runtime-map
+	[ -d "$shown" ] || return 0
+	data=$(mktemp) || return 1
+	{
+		number 48
+		number 1
+	} >"$data"
+	for node in $(cd "$shown" && printf '%s\n' * | sort -n); do
+		if ! kind=$(cat "$shown/$node/type" 2>/dev/null) || ! first=$(cat "$shown/$node/phys_addr" 2>/dev/null) ||
+			! pages=$(cat "$shown/$node/num_pages" 2>/dev/null) || ! attributes=$(cat "$shown/$node/attribute" 2>/dev/null); then
+			complain "efi.bin: can't read $shown/$node; try it as root"
+			rm -f "$data"
+			return 1
+		fi
+		for value in "$kind" "$first" 0 "$pages" "$attributes" 0; do
+			little "$value"
+		done >>"$data"
+	done
+	cat "$data" >"$folder/efi.bin"
+	rm -f "$data"
+	echo "efi.bin: EFI's descriptors of runtime services, $(size efi.bin) bytes"
+	complain "efi.bin: the kernel shows no other descriptors; the log of a boot with efi=debug has all of them (zp-from-log --efi)"
 }
 
 # The data of all nodes of type 1 (SETUP_E820_EXT), in their order, behind one header: next 0, type 1, length.
@@ -186,6 +226,7 @@ next() {
 	[ ! -f "$folder/cmdline" ] || printf ' --cmdline cmdline'
 	[ ! -f "$folder/e820ext.bin" ] || printf ' --e820ext e820ext.bin'
 	[ ! -f "$folder/srat.bin" ] || printf ' --srat srat.bin'
+	[ ! -f "$folder/efi.bin" ] || printf ' --efi efi.bin'
 	[ ! -f "$folder/kernel" ] || printf ' --kernel %s' "$(cat "$folder/kernel")"
 	printf ' zp.bin\n'
 }
@@ -199,6 +240,7 @@ fi
 extension || failed=1
 take "$cmdline" cmdline "command line" || failed=1
 take "$sys/firmware/acpi/tables/SRAT" srat.bin "SRAT"
+descriptors
 take "$sys/firmware/acpi/tables/SLIT" slit.bin "SLIT"
 shows
 if uname -r >"$folder/release"; then

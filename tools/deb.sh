@@ -1,5 +1,5 @@
 #!/bin/sh
-# deb.sh VERSION MAKE: makes bootmem_VERSION_ARCHITECTURE.deb of what 'make install PREFIX=/usr' installs, the program stripped.
+# deb.sh VERSION MAKE: makes bootmem_VERSION_ARCHITECTURE.deb of what 'make install PREFIX=/usr' installs, the programs stripped.
 # MAINTAINER names who is told as the package's maintainer, in place of the author of the newest commit.
 set -eu
 unset CDPATH
@@ -14,7 +14,7 @@ trap 'rm -rf "$root"' EXIT
 chmod 755 "$root"
 
 "$make" --no-print-directory install DESTDIR="$root" PREFIX=/usr
-strip --strip-unneeded --remove-section=.comment --remove-section=.note "$root/usr/bin/bootmem"
+strip --strip-unneeded --remove-section=.comment --remove-section=.note "$root/usr/bin/bootmem" "$root/usr/bin/bootaudit"
 doc=$root/usr/share/doc/bootmem
 # a Debian change log, and the change log that a user reads
 {
@@ -49,7 +49,8 @@ Description: boot-time memory set-up of x86-64 Linux 6.1, proved
  memory: from the bytes of the firmware's tables and the kernel's command line
  to the free blocks of the buddy lists. It answers which addresses are RAM,
  whether a crash area fits and where, which node and zone each range has, who
- holds what, and which frames are free.
+ holds what, and which frames are free. bootaudit says of such reports, saved
+ from another machine or another program, whether memory was conserved.
 END
 dpkg-deb --root-owner-group --build "$root" "$package" >&2
 echo "$package"

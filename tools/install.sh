@@ -2,11 +2,11 @@
 # install.sh install|uninstall DESTDIR PREFIX MANDIR: puts the built program, the tools, the manual pages, the documents and the
 # examples under DESTDIR, or removes what it put there. 'make install' and 'make uninstall' call it.
 #
-#   PREFIX/bin                bootmem, the tools that are there, and tools/collect.sh as bootmem-collect
+#   PREFIX/bin                bootmem, bootaudit, the tools that are there, and tools/collect.sh as bootmem-collect
 #   MANDIR/man1, MANDIR/man5  the manual pages; those of the tools are made of their --help, where they run
 #   PREFIX/share/doc/bootmem  the documents
 #   PREFIX/share/bootmem      the machines of examples/, and what the tools share
-#   PREFIX/share/bash-completion/completions/bootmem
+#   PREFIX/share/bash-completion/completions/bootmem, bootaudit
 set -eu
 unset CDPATH
 cd "$(dirname "$0")/.."
@@ -19,13 +19,14 @@ tools="$tools bootmem-line bootmem-crash"
 tools="$tools bootmem-fleet bootmem-json claims-from-log"
 
 uninstall() {
-	for tool in bootmem bootmem-collect $tools; do
+	for tool in bootmem bootaudit bootmem-collect $tools; do
 		rm -f "$bin/$tool"
 	done
 	for tool in bootmem-collect $tools; do
 		rm -f "$man/man1/$tool.1"
 	done
-	rm -f "$man/man1/bootmem.1" "$man/man5/bootmem.5" "$share/bash-completion/completions/bootmem"
+	rm -f "$man/man1/bootmem.1" "$man/man1/bootaudit.1" "$man/man5/bootmem.5"
+	rm -f "$share/bash-completion/completions/bootmem" "$share/bash-completion/completions/bootaudit"
 	rm -rf "$share/doc/bootmem" "$share/bootmem"
 }
 
@@ -38,7 +39,7 @@ examples() {
 
 install_all() {
 	install -d "$bin" "$man/man1" "$man/man5" "$share/doc/bootmem" "$share/bootmem/examples"
-	install -m 755 bootmem "$bin/bootmem"
+	install -m 755 bootmem bootaudit "$bin"
 	install -m 755 tools/collect.sh "$bin/bootmem-collect"
 	for tool in $tools; do
 		[ ! -f "tools/$tool" ] || install -m 755 "tools/$tool" "$bin/$tool"
@@ -46,11 +47,12 @@ install_all() {
 	for module in tools/*.py; do
 		[ ! -f "$module" ] || install -m 644 "$module" "$share/bootmem/$(basename "$module")"
 	done
-	if [ -f tools/bootmem.bash-completion ]; then
+	for program in bootmem bootaudit; do
+		[ -f "tools/$program.bash-completion" ] || continue
 		install -d "$share/bash-completion/completions"
-		install -m 644 tools/bootmem.bash-completion "$share/bash-completion/completions/bootmem"
-	fi
-	install -m 644 bootmem.1 "$man/man1/bootmem.1"
+		install -m 644 "tools/$program.bash-completion" "$share/bash-completion/completions/$program"
+	done
+	install -m 644 bootmem.1 bootaudit.1 "$man/man1"
 	install -m 644 bootmem.5 "$man/man5/bootmem.5"
 	for tool in bootmem-collect $tools; do
 		if "$bin/$tool" --help >/dev/null 2>&1; then
