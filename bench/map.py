@@ -1,12 +1,14 @@
 #!/usr/bin/env python3
-"""What the map costs over 800 and over 3,200 entries, without what is in front of it and behind it.
+"""What the map costs over 800 and over 3,200 entries, and over 6,553 and 26,214 descriptors of an EFI memory map, which are as many as its
+file has room for, without what is in front of it and behind it.
 
 usage: bench/map.py [RUNS]
 
 It proves and builds bench/map.main.txt as a program over a copy of the crates of the map, in a folder of its own. A round of it reads
-the bytes of a zero page, an extension and a command line, settles the table behind each, trims the BIOS's part, makes the map and
-judges it; no file is opened in it, no text made, no memory set up. Each shape is a table of which the first 128 entries stand in the
-zero page and the others in the extension, with a command line.
+the bytes of a zero page, an extension, a command line and an EFI memory map, settles the table behind the first two and behind both others,
+trims the BIOS's part, makes the map and judges it; no file is opened in it, no text made, no memory set up. Each shape is a table of which the
+first 128 entries stand in the zero page and the others in the extension, with a command line; or the descriptors of an EFI memory map, which are
+added to two entries.
 
 The program runs over each shape with ROUNDS rounds, with one and with none, in no fixed order, RUNS times each, and of each the least
 time counts. `first`: one round less none, so one in a new process, which touches its memory for the first time; `next`: each round
@@ -22,8 +24,9 @@ import time
 
 from memblock import write_crates
 
-CRATES = ("bm_base", "address_runs", "e820_model", "e820_sanitise", "e820_table", "e820_usable", "text_words", "boot_options")
+CRATES = ("bm_base", "address_runs", "e820_model", "e820_sanitise", "e820_table", "e820_usable", "text_words", "boot_options", "efi_map")
 SMALL, LARGE = 800, 3200
+FEW, MANY = 6553, ((1 << 20) - 8) // 40
 ROUNDS = 21
 BASE, SLOT = 0x100000, 0x4000
 TYPES = (1, 2, 3, 4, 5, 7, 12)
@@ -78,20 +81,50 @@ SHAPES = (
 )
 
 
+def descriptors(count, chance):
+    """Memory of boot services and free memory in turn, each behind the one before: one run comes out."""
+    return [(BASE + i * SLOT, SLOT, (3, 4, 7)[i % 3]) for i in range(count)]
+
+
+def any_order(count, chance):
+    """The same in no order."""
+    found = descriptors(count, chance)
+    chance.shuffle(found)
+    return found
+
+
+def crossing(count, chance):
+    """At random places, eight times as long all together as the room that they lie in, so that few runs come out."""
+    return [(BASE + chance.randrange(4 * count) * 0x1000, chance.randrange(1, 64) * 0x1000, 7) for _ in range(count)]
+
+
+def within(count, chance):
+    """Each within the one before, free memory and ACPI's tables in turn, so that few runs come out."""
+    return [(BASE + i * 0x1000, (2 * count - i) * 0x1000, (7, 9)[i % 2]) for i in range(count)]
+
+
+EFI_SHAPES = (
+    ("EFI, in order", descriptors, 20),
+    ("EFI, in no order", any_order, 20),
+    ("EFI, at random", crossing, 20),
+    ("EFI, nested", within, 20),
+)
+
+
 def build(folder):
     """Proves and builds the program in the folder, and gives its path."""
-    write_crates(folder, CRATES, [("map", "e820_usable e820_sanitise e820_table e820_model boot_options address_runs bm_base",
+    write_crates(folder, CRATES, [("map", "efi_map e820_usable e820_sanitise e820_table e820_model boot_options address_runs bm_base",
                                    [("proofs/edit_settled/Invariants.antt", "map.invariants.txt")])])
     here = os.path.join(folder, "crates", "bench_map")
-    words = write_inputs(os.path.join(folder, "first"), disjoint(SMALL, None), b"")
+    words = write_inputs(os.path.join(folder, "first"), disjoint(SMALL, None), b"", [])
     done = subprocess.run(["rt", "run", "--"] + words + ["1"], cwd=here, capture_output=True, text=True)
     if done.returncode != 0:
         sys.exit("bench: map isn't built\n" + done.stdout[-3000:] + done.stderr[-3000:])
     return os.path.join(here, "out", "bench_map")
 
 
-def write_inputs(folder, entries, line):
-    """Writes the three files, and gives their names."""
+def write_inputs(folder, entries, line, efi):
+    """Writes the four files, and gives their names."""
     page = bytearray(4096)
     first, others = entries[:128], entries[128:]
     page[0x1E8] = len(first)
@@ -99,8 +132,10 @@ def write_inputs(folder, entries, line):
         struct.pack_into("<QQI", page, 0x2D0 + 20 * i, *entry)
     data = b"".join(struct.pack("<QQI", *entry) for entry in others)
     os.mkdir(folder)
-    paths = [os.path.join(folder, name) for name in ("zp.bin", "ext.bin", "line")]
-    for path, held in zip(paths, (bytes(page), struct.pack("<QII", 0, 1, len(data)) + data, line + b"\n")):
+    paths = [os.path.join(folder, name) for name in ("zp.bin", "ext.bin", "line", "efi.bin")]
+    described = b"".join(struct.pack("<IIQQQQ", kind, 0, base, 0, size >> 12, 0x8) for base, size, kind in efi)
+    for path, held in zip(paths, (bytes(page), struct.pack("<QII", 0, 1, len(data)) + data, line + b"\n",
+                                  struct.pack("<II", 40, 1) + described)):
         with open(path, "wb") as file:
             file.write(held)
     return paths
@@ -136,7 +171,11 @@ def main():
         for number, (name, make, line, _) in enumerate(SHAPES):
             for count in (SMALL, LARGE):
                 place = os.path.join(folder, "%d-%d" % (number, count))
-                inputs[name, count] = write_inputs(place, make(count, random.Random(1)), line)
+                inputs[name, count] = write_inputs(place, make(count, random.Random(1)), line, [])
+        for number, (name, make, _) in enumerate(EFI_SHAPES, len(SHAPES)):
+            for count in (FEW, MANY):
+                place = os.path.join(folder, "%d-%d" % (number, count))
+                inputs[name, count] = write_inputs(place, disjoint(2, None), b"", make(count, random.Random(1)))
         least = least_times(program, inputs, runs)
     first = {name: max(least[name, 1] - least[name, 0], 1e-9) * 1e3 for name in inputs}
     each = {name: max(least[name, ROUNDS] - least[name, 1], 1e-9) / (ROUNDS - 1) * 1e3 for name in inputs}
@@ -147,6 +186,11 @@ def main():
         print("%-22s %9.3f %9.3f %11.3f %9.3f %7s %7.1f %9.2f"
               % (name, first[small], each[small], first[large], each[large], most or "-", each[large] / each[small],
                  each[large] / each["disjoint", LARGE]))
+    print("%-22s %11s %9s %11s %9s %7s %7s" % ("", "6,553 first", "next", "26,214 first", "next", "at most", "times"))
+    for name, _, most in EFI_SHAPES:
+        small, large = (name, FEW), (name, MANY)
+        print("%-22s %11.3f %9.3f %11.3f %9.3f %7s %7.1f"
+              % (name, first[small], each[small], first[large], each[large], most, each[large] / each[small]))
 
 
 if __name__ == "__main__":

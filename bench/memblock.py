@@ -57,7 +57,7 @@ def least_time(words, runs=7):
     least = None
     for _ in range(runs):
         start = time.perf_counter()
-        done = subprocess.run(words)
+        done = subprocess.run(words, stdout=subprocess.DEVNULL)
         took = time.perf_counter() - start
         if done.returncode != 0:
             sys.exit("bench: status %d of %s" % (done.returncode, " ".join(words[1:])))

@@ -93,6 +93,36 @@ is "what is complained of" "$(sed "s|$work|WORK|" "$work/err")" \
 	"collect.sh: slit.bin: no SLIT here (WORK/sys/firmware/acpi/tables/SLIT)
 collect.sh: cmdline may hold secrets: look at it before you hand the folder on"
 
+# descriptors of runtime services, in the order of their numbers, of which the greatest doesn't fit a shell's numbers
+map=$work/sys/firmware/efi/runtime-map
+# descriptor NUMBER TYPE ADDRESS PAGES ATTRIBUTES: as the kernel shows one
+descriptor() {
+	mkdir -p "$map/$1"
+	printf '%s\n' "$2" >"$map/$1/type"
+	printf '%s\n' "$3" >"$map/$1/phys_addr"
+	printf '%s\n' "$4" >"$map/$1/num_pages"
+	printf '%s\n' "$5" >"$map/$1/attribute"
+	printf '0xfffffffeffa00000\n' >"$map/$1/virt_addr"
+}
+descriptor 0 0x5 0x7f5ec000 0x100 0x800000000000000f
+descriptor 10 0xb 0xffc00000 0x400 0x8000000000000001
+descriptor 2 0x6 0x123456789abcd000 0x1 0x800000000000000f
+collect efi
+is "status with descriptors" "$?" 0
+same "descriptors" "$work/efi/efi.bin" "3000000001000000$(
+	)050000000000000000c05e7f00000000000000000000000000010000000000000f000000000000800000000000000000$(
+	)060000000000000000d0bc9a78563412000000000000000001000000000000000f000000000000800000000000000000$(
+	)0b000000000000000000c0ff000000000000000000000000000400000000000001000000000000800000000000000000"
+says "words with descriptors" "$(cat "$work/said")" "--srat srat.bin --efi efi.bin --kernel"
+says "descriptors that are told" "$(cat "$work/said")" "efi.bin: EFI's descriptors of runtime services, 152 bytes"
+says "descriptors that aren't there" "$(cat "$work/err")" "efi.bin: the kernel shows no other descriptors"
+rm "$map/10/num_pages"
+collect efi
+is "status without a descriptor's pages" "$?" 0
+says "a descriptor that can't be read" "$(cat "$work/err")" "efi.bin: can't read $map/10; try it as root"
+is "no file of descriptors" "$(ls "$work/efi/efi.bin" 2>/dev/null)" ""
+rm -r "$map"
+
 # a folder whose name a shell would split
 collect "a b'c"
 is "the next command's folder" "$(sed -n "s/^next: \(cd .*\) && .*/\1/p" "$work/said" | tail -n 1)" "cd '$work/a b'\\''c'"

@@ -19,6 +19,7 @@ from tools import COUNTS, EXAMPLES, PROGRAM, TOP, bytes_of, check, example, has,
 
 MIB, GIB = 1 << 20, 1 << 30
 BOOTS = sorted(name for name in os.listdir(EXAMPLES) if os.path.exists(os.path.join(EXAMPLES, name, "cmdline")))
+ADDED = "add_efi_memmap: EFI's descriptors are added to the map (do_add_efi_memmap): by bootmem those of --efi alone\n"
 NOTED = "log_buf_len=1M: passed over: a longer log buffer is claimed before the crash area (setup_log_buf)\n"
 
 
@@ -52,8 +53,10 @@ def test_boots(_):
     for name in BOOTS:
         extension = ["--e820ext", "e820ext.bin"] if os.path.exists(example(name, "e820ext.bin")) else []
         status, out, err = tool("bootmem-line", *extension, "cmdline", "zp.bin", folder=example(name))
-        check(f"line {name}", (status, out.encode("latin-1").rstrip(b"\n")), (0, bytes_of(example(name, "cmdline")).rstrip(b"\n")))
-        check(f"line {name}: said", re.sub(r"^bootmem-line: word \d+: ", "", err), NOTED)
+        line = bytes_of(example(name, "cmdline")).rstrip(b"\n")
+        check(f"line {name}", (status, out.encode("latin-1").rstrip(b"\n")), (0, line))
+        said = NOTED + (ADDED if b"add_efi_memmap" in line else "")
+        check(f"line {name}: said", re.sub(r"(?m)^bootmem-line: word \d+: ", "", err), said)
 
 
 # Ranges as distributions have them, and the size that the kernel takes by them on a virtual machine of so many bytes.
@@ -117,7 +120,9 @@ RULES = (
     ("crashkernel=64M,low crashkernel=1G,high", None, ""),
     ("crashkernel=1G,high crashkernel=x,low", "crashkernel=1G,high", "crashkernel=x,low: left out: the kernel warns: memory value"),
     ("crashkernel=1G,high swiotlb=262144", "crashkernel=1G,high swiotlb=262144 crashkernel=520M,low", "swiotlb= asks for"),
-    ("movable-node kernelcore=1G cma=1G hugetlb_cma=1G efi_fake_mem=1G@1G:1 add_efi_memmap acpi=off", None, "word 7: acpi=off: passed over"),
+    ("movable-node kernelcore=1G cma=1G hugetlb_cma=1G efi_fake_mem=1G@1G:1 acpi=off", None, "word 6: acpi=off: passed over"),
+    ("add_efi_memmap=0 \"add_efi_memmap\"", None, "word 1: add_efi_memmap=0: EFI's descriptors are added to the map"),
+    ("add-efi-memmap=1 add_efi-memmap", "add_efi_memmap add_efi_memmap", "word 1: add-efi-memmap=1: read as add_efi_memmap"),
     ("crashkernal=64M crash_kernel=1 MEM=1G mem_map=1 numma=off", None, "word 1: crashkernal=64M: passed over, by the kernel too: is crash"),
     ("x" * 2040 + " mem=64M", "x" * 2040 + " mem=64", "byte 2048 and all behind it: cut off"),
 )

@@ -10,17 +10,19 @@ import sys
 
 sys.dont_write_bytecode = True
 
-from fault_tables import command_line, extension, inputs_in_order, script, srat, zero_page
+from fault_tables import command_line, efi, extension, inputs_in_order, pages, script, slit, srat, zero_page
 from inputs import MACHINE, Runs, zero_page as page_of
 
 PAGE = page_of(MACHINE)
 
 
 def words_and_files(table, held):
-    """The words that name a file of these bytes as the table's input, and the files."""
+    """The words that name a file of these bytes as the table's input, and the files, with what the table has beside it."""
     if table.OPTION is None:
         return ["zp"], {"zp": held}
-    return [table.OPTION, "file", "zp"], {"file": held, "zp": PAGE}
+    beside = getattr(table, "BESIDE", {})
+    return [*sum(([option, option[2:]] for option in beside), []), table.OPTION, "file", "zp"], {
+        "file": held, "zp": PAGE, **{option[2:]: bytes_beside for option, bytes_beside in beside.items()}}
 
 
 def refused(runs, table):
@@ -47,7 +49,7 @@ def in_order(runs):
 
 def main():
     with Runs(sys.argv[0], sys.argv[1:]) as runs:
-        for table in (zero_page, extension, command_line, srat, script):
+        for table in (zero_page, extension, command_line, srat, script, pages, slit, efi):
             refused(runs, table)
             accepted(runs, table)
         in_order(runs)

@@ -1,15 +1,17 @@
 #!/bin/sh
-# install.sh: installs ./bootmem into a folder as 'make install' does, and looks that what the manual pages and the README point
-# to is there, that the program and the tools run from there, that an installation proves nothing, and that 'make uninstall'
+# install.sh: installs ./bootmem and ./bootaudit into a folder as 'make install' does, and looks that what the manual pages and the
+# README point to is there, that the programs and the tools run from there, that an installation proves nothing, and that 'make uninstall'
 # leaves nothing. Prints a line for each difference, and 'N passed, M failed' at its end.
 set -u
 unset CDPATH
 cd "$(dirname "$0")/.." || exit 1
 top=$PWD
-[ -x bootmem ] || {
-	echo "install.sh: there is no program $top/bootmem: 'make bootmem' builds it" >&2
-	exit 2
-}
+for program in bootmem bootaudit; do
+	[ -x "$program" ] || {
+		echo "install.sh: there is no program $top/$program: 'make $program' builds it" >&2
+		exit 2
+	}
+done
 work=$(mktemp -d) || exit 1
 trap 'rm -rf "$work"' EXIT
 passed=0
@@ -56,18 +58,24 @@ installed() {
 
 # a tree without crates: none of what is installed is made of them
 mkdir -p "$work/tree/crates" "$work/root"
-cp -r Makefile README.md CHANGELOG.md CONTRIBUTING.md bootmem.1 bootmem.5 crates.txt docs examples tools "$work/tree" &&
-	cp bootmem "$work/tree/bootmem" || exit 1
+cp -r Makefile README.md CHANGELOG.md CONTRIBUTING.md bootmem.1 bootaudit.1 bootmem.5 crates.txt docs examples tools "$work/tree" &&
+	cp bootmem bootaudit "$work/tree" || exit 1
 root=$work/root/opt/it
 share=$root/share
 
 ok "make install" installed /opt/it
 is "make install says" "$(cat "$work/out" "$work/err")" ""
 there "the program" "$root/bin/bootmem" "$root/bin/bootmem-collect" "$share/man/man1/bootmem.1" "$share/man/man5/bootmem.5"
+there "the audit" "$root/bin/bootaudit" "$share/man/man1/bootaudit.1" "$share/bash-completion/completions/bootaudit"
 is "the first run" "$("$root/bin/bootmem" --report map "$share/bootmem/examples/first/zp.bin")" "$(cat examples/first/map.txt)"
 
+for report in map owners blocks; do
+	"$root/bin/bootmem" --report "$report" "$share/bootmem/examples/first/zp.bin" >"$work/$report"
+done
+is "the first audit" "$("$root/bin/bootaudit" "$work/map" "$work/owners" "$work/blocks")" sound
+
 # what the pages point to: documents, machines, commands, places under the prefix, links
-pages="$share/man/man1/bootmem.1 $share/man/man5/bootmem.5 $share/doc/bootmem/README.md"
+pages="$share/man/man1/bootmem.1 $share/man/man1/bootaudit.1 $share/man/man5/bootmem.5 $share/doc/bootmem/README.md"
 for page in $pages; do
 	name=$(basename "$page")
 	sed 's/\\-/-/g' "$page" >"$work/page"
@@ -114,7 +122,7 @@ done
 version=$(sed -n 's/^VERSION := //p' Makefile)
 is "the version of CHANGELOG.md" "$(sed -n 's/^## \([0-9.]*\), [0-9-]*$/\1/p' CHANGELOG.md | head -n 1)" "$version"
 is "the date of the newest changes" "$(sed -n "s/^## $version, //p" CHANGELOG.md)" "$(sed -n 's/^\.TH BOOTMEM 1 \([^ ]*\) .*/\1/p' bootmem.1)"
-for page in bootmem.1 bootmem.5; do
+for page in bootmem.1 bootaudit.1 bootmem.5; do
 	is "the version of $page" "$(sed -n 's/^\.TH .*"bootmem \([0-9.]*\)".*/\1/p' "$page")" "$version"
 done
 for target in $(sed -n 's/^\.PHONY: all //p' Makefile); do
@@ -133,10 +141,14 @@ is "what make uninstall leaves with MANDIR" "$(find "$work/root" ! -type d | hea
 touch -d '+1 hour' "$work/tree/crates.txt"
 ok "make install with newer sources" installed /opt/it
 is "what it says of them" "$(cat "$work/out" "$work/err")" \
-	"bootmem: some sources are newer than ./bootmem, which is installed as it is; 'make bootmem' builds it anew"
-rm "$work/tree/bootmem"
-installed /opt/none >"$work/out" 2>"$work/err"
-is "make install without a program" "$([ $? -ne 0 ] && grep -c "there is no ./bootmem to install" "$work/err")" 1
+	"$(for program in bootmem bootaudit; do
+		echo "$program: some sources are newer than ./$program, which is installed as it is; 'make $program' builds it anew"
+	done)"
+for program in bootaudit bootmem; do
+	rm "$work/tree/$program"
+	installed /opt/none >"$work/out" 2>"$work/err"
+	is "make install without $program" "$([ $? -ne 0 ] && grep -c "there is no ./$program to install" "$work/err")" 1
+done
 is "what it installs" "$(find "$work/root/opt/none" 2>/dev/null)" ""
 installed /opt/none PROVE=1 >"$work/out" 2>"$work/err"
 is "make install PROVE=1 without a program or a toolchain" "$([ $? -ne 0 ] && grep -c "there is no command" "$work/err")" 1

@@ -10,7 +10,7 @@ top=$(cd "$(dirname "$0")/.." && pwd)
 program=$(cd "$(dirname "${1:-$top/bootmem}")" && pwd)/$(basename "${1:-$top/bootmem}")
 reports="map memory nodes zones crash script"
 # so many texts there are
-all=184
+all=188
 passed=0
 failed=0
 answers=0
@@ -25,6 +25,7 @@ words() {
 	map)
 		[ ! -f "$2/cmdline" ] || printf '%s ' --cmdline cmdline
 		[ ! -f "$2/e820ext.bin" ] || printf '%s ' --e820ext e820ext.bin
+		! grep -q -e --efi "$2/words" 2>/dev/null || printf '%s ' --efi efi.bin
 		printf '%s\n' zp.bin
 		;;
 	*) cat "$2/words" ;;
@@ -81,7 +82,7 @@ if [ $((passed + failed)) -ne "$all" ]; then
 	differs examples texts "there are $((passed + failed)), and not $all"
 fi
 unread=$(cd "$top/examples" && find . -mindepth 2 -type f ! -name '*.txt' ! -name words ! -name cmdline \
-	! -name zp.bin ! -name e820ext.bin ! -name srat.bin ! -name script | sort | sed 's/^\.\///' | tr '\n' ' ')
+	! -name zp.bin ! -name e820ext.bin ! -name srat.bin ! -name script ! -path ./ovmf-1g-addefi/efi.bin | sort | sed 's/^\.\///' | tr '\n' ' ')
 echo "no report reads: ${unread:-nothing}"
 echo "texts that agree: $texts; the replays have $answers answers, $addresses of them addresses"
 echo "$passed passed, $failed failed"

@@ -1,11 +1,11 @@
 #!/bin/sh
 # shown.sh [PROGRAM [FILE..]]: runs the commands that the documents show, and compares what they print with what is shown, byte
-# for byte. The documents are README.md, the manual pages and some of docs/ and examples/, or the files that are named.
+# for byte. bootaudit lies beside PROGRAM. The documents are README.md, the manual pages and some of docs/ and examples/, or the files that are named.
 #
 # A command stands behind '$ ' in an indented block of a .md file, or between .nf and .fi of a manual page; what follows
 # it, up to the next one, is its output and its standard error as they come. A here-document belongs to its command, and so
 # does the line behind one that ends with a backslash or a bar. Each block begins at the top of a copy of the repository's examples and
-# tools, with the program as ./bootmem and on the PATH; files that an earlier block of the same document made are still there.
+# tools, with the programs as ./bootmem and ./bootaudit and on the PATH; files that an earlier block of the same document made are still there.
 # A block whose first line has no '$ ' shows no command and isn't run: `plain` names each that may be so, another one fails.
 #
 # What a command needs of the machine is stood in for by `stand_in`, and none of it is read from the machine that runs the test.
@@ -17,11 +17,14 @@ unset CDPATH
 top=$(cd "$(dirname "$0")/.." && pwd)
 program=$(cd "$(dirname "${1:-$top/bootmem}")" && pwd)/$(basename "${1:-$top/bootmem}")
 [ $# -eq 0 ] || shift
-[ -x "$program" ] || {
-	echo "shown.sh: there is no program $program: 'make bootmem' builds it" >&2
-	exit 2
-}
-[ $# -gt 0 ] || set -- "$top/README.md" "$top/docs/RECIPES.md" "$top/bootmem.1" "$top/bootmem.5" "$top/docs/TOOLS.md" "$top/examples/README.md"
+audit=$(dirname "$program")/bootaudit
+for built in "$program" "$audit"; do
+	[ -x "$built" ] || {
+		echo "shown.sh: there is no program $built: 'make' builds both" >&2
+		exit 2
+	}
+done
+[ $# -gt 0 ] || set -- "$top/README.md" "$top/docs/RECIPES.md" "$top/bootmem.1" "$top/bootaudit.1" "$top/bootmem.5" "$top/docs/TOOLS.md" "$top/examples/README.md"
 work=$(mktemp -d) || exit 1
 trap 'rm -rf "$work"' EXIT
 machine=$work/machine
@@ -90,7 +93,7 @@ stand_in() {
 # machine that isn't here
 plain() {
 	case $1 in
-	'bootmem [--report LIST] '*) ;;
+	'bootmem [--la57] '* | 'bootaudit [--la57] '*) ;;
 	'bootmem --cmdline cmdline --kernel 0x1000000,0x2c58000 zp.bin') ;;
 	*) return 1 ;;
 	esac
@@ -157,7 +160,7 @@ for document; do
 	mkdir "$shown" "$copy" || exit 1
 	# without crates none is newer than the program, so 'make run' runs it as it is
 	mkdir "$copy/crates" && cp -r "$top/examples" "$top/tools" "$top/Makefile" "$top/crates.txt" "$copy" &&
-		cp "$program" "$copy/bootmem" && stand_in "$copy" || exit 1
+		cp "$program" "$copy/bootmem" && cp "$audit" "$copy/bootaudit" && stand_in "$copy" || exit 1
 	: >"$shown/plain"
 	blocks "$document" | split "$shown"
 	block=1

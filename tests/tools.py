@@ -123,7 +123,7 @@ def test_examples(work):
             wanted = 1 if name == "bootmem-diff" else 0
             check(f"example: {command}", (done.returncode, done.stderr.decode()), (wanted, ""))
             check(f"example: {command}: it prints or writes", bool(done.stdout) != ("--output" in command), True)
-    check("examples of --help", ran, 16)
+    check("examples of --help", ran, 15)
 
 
 WHERE = """address  0x000000017be00040 (5.9 GiB), frame 1555968
@@ -202,7 +202,12 @@ def test_diff(_):
     status, out, _ = tool("bootmem-diff", "--a", "zp.bin", "--b", "--cmdline cmdline zp.bin", folder=folder)
     check("diff, two runs", (status, out.splitlines()[:1]), (1, ["== owners"]))
     has("diff, two runs", out, "0x000000006f000000-0x000000007effffff none -> crash\n")
-    check("diff, the same run", tool("bootmem-diff", "--a", "zp.bin", "--b", "'zp.bin'", folder=folder), (0, "", ""))
+    check("diff, the same run", tool("bootmem-diff", "--a", "--kernel 16M,52M zp.bin", "--b", "--kernel=16M,52M 'zp.bin'", folder=folder), (0, "", ""))
+    assumed = "bootmem-diff: the kernel's place isn't known, so 16 MiB to 48 MiB is assumed; --kernel BASE,SIZE tells it\n"
+    check("diff, an assumed place", tool("bootmem-diff", "--a", "--kernel 16M,52M zp.bin", "--b", "--kernel 16M,52M zp.bin",
+                                         "--report", "owners", folder=folder), (0, "", ""))
+    check("diff, it is said once", tool("bootmem-diff", "--a", "zp.bin", "--b", "zp.bin", folder=folder), (0, "", assumed))
+    check("diff, no place matters", tool("bootmem-diff", "--report", "map", "--a", "zp.bin", "--b", "zp.bin", folder=folder), (0, "", ""))
     check("diff, other reports", tool("bootmem-diff", "map.txt", "memory.txt", folder=folder)[:2], (2, ""))
     status, _, err = tool("bootmem-diff", "cmdline", "map.txt", folder=folder)
     check("diff, no reports", (status, err), (2, "bootmem-diff: cmdline: no report of bootmem in it\n"))
@@ -394,6 +399,54 @@ def test_refused(work):
         check(f"zp-from-log, {what}", (status, out, err.count("\n"), os.path.exists(os.path.join(work, "none"))), (1, "", 1, False))
     check("zp-from-log, no output", tool("zp-from-log", given=plain)[:2], (2, ""))
     check("zp-from-log, a bad initrd", tool("zp-from-log", "--output", "zp", "--initrd", "1M", given=plain, folder=work)[0], 2)
+
+
+EFI_LOG = """[    0.000000] efi: EFI v2.70 by EDK II
+[    0.000000] efi: mem00: [Boot Code   |   |  |  |  |  |  |  |  |  |   |WB|WT|WC|UC] range=[0x0000000000000000-0x0000000000000fff] (0MB)
+[    0.000000] efi: mem01: [Conventional|   |MR|  |SP|  |  |  |  |  |   |WB|  |  |  ] range=[0x0000000100000000-0x00000001ffffffff] (4096MB)
+[    0.000000] efi: mem02: [Runtime Data|RUN|  |CC|  |NV|XP|RP|WP|RO|UCE|  |  |  |UC] range=[0x000000003fef4000-0x000000003ff77fff] (0MB)
+[    0.000000] efi: mem03: [type=15|attr=0x8000000000100001] range=[0x0000000040000000-0x0000000040000fff] (0MB)
+[    0.000000] efi: mem04: [Persistent  |   |  |  |  |  |  |  |  |  |   |  |  |  |  ] range=[0x0000000050000000-0x000000004fffffff] (0MB)
+[    0.100000] efi: mem00: [MMIO        |RUN|  |  |  |  |  |  |  |  |   |  |  |  |UC] range=[0x00000000ffc00000-0x00000000ffffffff] (4MB)
+"""
+# UC 0x1, WB 0x8, UCE 0x10, WP 0x1000, RP 0x2000, XP 0x4000, NV 0x8000, MR 0x10000, RO 0x20000, SP 0x40000, CC 0x80000, RUN 2^63
+EFI_DESCRIPTORS = [(3, 0, 1, 0xF), (7, 1 << 32, 1 << 20, 0x50008), (6, 0x3FEF4000, 0x84, 0x80000000000AF011),
+                   (15, 0x40000000, 1, 0x8000000000100001), (14, 0x50000000, 0, 0)]
+EFI_NAMES = {0: "Reserved", 1: "Loader Code", 2: "Loader Data", 3: "Boot Code", 4: "Boot Data", 5: "Runtime Code", 6: "Runtime Data",
+             7: "Conventional", 9: "ACPI Reclaim", 10: "ACPI Mem NVS", 11: "MMIO"}
+
+
+def descriptors_of(path):
+    """Type, address, pages and attributes of each descriptor of a file; its header's two numbers first."""
+    data = bytes_of(path)
+    stride = struct.unpack_from("<I", data)[0]
+    return [struct.unpack_from("<II", data)] + [struct.unpack_from("<I4xQ8xQQ", data, place) for place in range(8, len(data), stride)]
+
+
+def efi_line(index, kind, first, pages, attributes):
+    """The line of the kernel for a descriptor whose attributes are of the first four and of RUN."""
+    marks = "".join(f"|{name if attributes & bit else '':2}" for name, bit in (("WB", 8), ("WT", 4), ("WC", 2), ("UC", 1)))
+    run = "RUN" if attributes >> 63 else ""
+    return (f"[    0.000000] efi: mem{index:02}: [{EFI_NAMES[kind]:12}|{run:3}{'|  ' * 8}|   {marks}] "
+            f"range=[{first:#018x}-{first + 4096 * pages - 1:#018x}] ({pages >> 8}MB)\n")
+
+
+def test_efi(work):
+    """Descriptors of a log, by the names that the kernel prints; those of the machines with UEFI firmware, line by line; what is refused."""
+    page = log_of("q35-1g")
+    words = ("--output", "zp", "--no-initrd", "--efi", "efi")
+    status, out, err = tool("zp-from-log", *words, given=page + EFI_LOG, folder=work)
+    check("zp-from-log --efi", (status, out, err, descriptors_of(os.path.join(work, "efi"))), (0, "", "", [(48, 1), *EFI_DESCRIPTORS]))
+    for name in ("ovmf-512m", "ovmf-4g-numa2"):
+        listed = descriptors_of(example(name, "efi.bin"))[1:]
+        log = page + "".join(efi_line(index, *one) for index, one in enumerate(listed))
+        tool("zp-from-log", *words, given=log, folder=work)
+        check(f"zp-from-log --efi, {name}", bytes_of(os.path.join(work, "efi")) == bytes_of(example(name, "efi.bin")), True)
+    refused = {"no descriptors": "", "one is missing": EFI_LOG.replace("mem03", "mem05"), "an unknown type": EFI_LOG.replace("Boot Code", "Boot Mode"),
+               "an unknown attribute": EFI_LOG.replace("|MR|", "|QQ|")}
+    for what, log in refused.items():
+        status, out, err = tool("zp-from-log", "--output", "none", "--no-initrd", "--efi", "none", given=page + log, folder=work)
+        check(f"zp-from-log --efi, {what}", (status, out, err.count("\n"), os.path.exists(os.path.join(work, "none"))), (1, "", 1, False))
 
 
 def replay_lines(name, file):
@@ -616,7 +669,7 @@ def test_json(work):
         check(f"json: {name} alone", list(json.loads(tool("bootmem-json", given=alone)[1])), [name if name != "reserved" else "memory"])
         check(f"json: {name} by its name", list(json.loads(tool("bootmem-json", "--report", name, given=alone)[1])), [name])
     check("json: no line at all", tool("bootmem-json", "--compact", "--report", "options")[1],
-          '{"options":{"edits":[],"crash":{"ranges":[],"high":null,"low":null},"numa_off":false}}\n')
+          '{"options":{"edits":[],"crash":{"ranges":[],"high":null,"low":null},"numa_off":false,"add_efi":false}}\n')
     for what, text in (("nothing", ""), ("another text", "hello\n"), ("a broken line", "== map\n0x1..0x2\n"), ("another report", "== maps\n")):
         status, out, err = tool("bootmem-json", given=text)
         check(f"json, {what}", (status, out, err.count("\n")), (1, "", 1))
@@ -636,6 +689,7 @@ crash range 0x0000000020000000 - 0x0000000004000000 base 0x0000000010000000
 crash high 0x0000000020000000
 crash low 0x0000000004000000
 numa off
+efi add
 == nodes
 numa not covered 256
 uncovered 0
@@ -662,7 +716,7 @@ RARE_OBJECT = {
         {"edit": "clear"}], "crash": {"ranges": [
             {"start": "0x0000000000000000", "end": "0x0000000020000000", "size": "0x0000000002000000", "base": "0x0000000000000000"},
             {"start": "0x0000000020000000", "end": None, "size": "0x0000000004000000", "base": "0x0000000010000000"}],
-            "high": "0x0000000020000000", "low": "0x0000000004000000"}, "numa_off": True},
+            "high": "0x0000000020000000", "low": "0x0000000004000000"}, "numa_off": True, "add_efi": True},
     "nodes": {"numa": "not covered", "frames": 256, "domains": [], "uncovered": 0, "ranges": []},
     "crash": {"outcome": "low failed", "low": None},
     "journal": [{"item": 1, "deed": "trim"}, {"item": 2, "deed": "limit", "limit": A_MIB},
@@ -884,7 +938,7 @@ def test_installed(work):
 
 
 TESTS = {"help": test_help, "examples": test_examples, "where": test_where, "diff": test_diff, "draw": test_draw,
-         "trips": test_round_trips, "claims": test_claims, "early": test_early, "json": test_json, "fleet": test_fleet, "logs": test_logs, "refused": test_refused, "live": test_live, "hidden": test_hidden,
+         "trips": test_round_trips, "claims": test_claims, "early": test_early, "json": test_json, "fleet": test_fleet, "logs": test_logs, "efi": test_efi, "refused": test_refused, "live": test_live, "hidden": test_hidden,
          "hull": test_hull, "installed": test_installed}
 
 

@@ -1,18 +1,24 @@
-"""Each input is read and judged before the next one is read: zero page, extension, command line, SRAT, script."""
+"""Each input is read and judged before the next one is read: zero page, extension, command line, SRAT, script, page script, SLIT, EFI
+memory map."""
 from inputs import MACHINE, extension, srat, zero_page
 
+from . import efi, slit
+
 PAGE = zero_page(MACHINE)
-GOOD = {"zp": PAGE, "ext": extension([]), "cmd": b"", "srat": srat(), "script": b""}
-BAD = {"zp": PAGE[:4095], "ext": b"", "cmd": b"mem=0", "srat": b"", "script": b"free"}
+GOOD = {"zp": PAGE, "ext": extension([]), "cmd": b"", "srat": srat(), "script": b"", "pages": b"", "slit": slit.ONE, "efi": efi.efi()}
+BAD = {"zp": PAGE[:4095], "ext": b"", "cmd": b"mem=0", "srat": b"", "script": b"free", "pages": b"give", "slit": b"", "efi": b""}
 LINES = {
     "zp": "bootmem: zeropage: wrong length",
     "ext": "bootmem: e820ext: header",
     "cmd": "bootmem: cmdline: word 1: mem",
     "srat": "bootmem: srat: short",
     "script": "bootmem: script: line 1: form",
+    "pages": "bootmem: pages: line 1: form",
+    "slit": "bootmem: slit: short",
+    "efi": "bootmem: efi: header",
 }
 # in another order than the files are read
-WORDS = ["--script", "script", "--srat", "srat", "--cmdline", "cmd", "--e820ext", "ext", "zp"]
+WORDS = ["--efi", "efi", "--slit", "slit", "--pages", "pages", "--script", "script", "--srat", "srat", "--cmdline", "cmd", "--e820ext", "ext", "zp"]
 ORDER = list(LINES)
 
 

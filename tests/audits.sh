@@ -1,0 +1,79 @@
+#!/bin/sh
+# audits.sh [PROGRAM [AUDIT]]: the reports map, owners and blocks that PROGRAM makes of every machine of examples/ audit as sound, with
+# status 0 and nothing on standard error. Then what AUDIT says where a line of one of them is gone, where a file, the words or
+# the output are at fault, and of three empty files. Prints a line for each difference, and 'N passed, M failed' at its end.
+set -u
+unset CDPATH
+top=$(cd "$(dirname "$0")/.." && pwd)
+program=$(cd "$(dirname "${1:-$top/bootmem}")" && pwd)/$(basename "${1:-$top/bootmem}")
+audit=$(cd "$(dirname "${2:-$top/bootaudit}")" && pwd)/$(basename "${2:-$top/bootaudit}")
+work=$(mktemp -d) || exit 1
+trap 'rm -rf "$work"' EXIT
+passed=0
+failed=0
+for built in "$program" "$audit"; do
+	[ -x "$built" ] || {
+		echo "audits.sh: there is no program $built: 'make' builds both" >&2
+		exit 2
+	}
+done
+
+# says WHAT STATUS TEXT LINE WORD..: the audit on these words: its status, its output, and its standard error
+says() {
+	what=$1
+	wanted=$(printf '%s|%s|%s' "$2" "$3" "$4")
+	shift 4
+	(cd "$work" && exec "$audit" "$@") >"$work/out" 2>"$work/err"
+	got=$(printf '%s|%s|%s' "$?" "$(cat "$work/out")" "$(cat "$work/err")")
+	if [ "$got" = "$wanted" ]; then
+		passed=$((passed + 1))
+	else
+		failed=$((failed + 1))
+		echo "$what: $got, wanted $wanted"
+	fi
+}
+
+# reports FOLDER: the three reports of the machine in the folder, as the files of their names; the words are the machine's
+# own, or its zero page alone
+reports() {
+	for report in map owners blocks; do
+		# shellcheck disable=SC2046 # the words are separated by blanks
+		(cd "$1" && exec "$program" --report $report $(cat words 2>/dev/null || echo zp.bin)) >"$work/$report" || return 1
+	done
+}
+
+machines=0
+for folder in "$top"/examples/*/; do
+	[ -f "$folder/zp.bin" ] || continue
+	# a machine whose boot stops, or whose line is refused, has no reports
+	reports "$folder" 2>"$work/stopped" || continue
+	machines=$((machines + 1))
+	says "$(basename "$folder")" 0 sound '' map owners blocks
+done
+
+reports "$top/examples/first" || exit 1
+last=$(sed -n '$s/.* //p' "$work/blocks")
+sed '$d' "$work/blocks" >"$work/fewer"
+sed 's/^node 0/node 00/' "$work/blocks" >"$work/zeros"
+: >"$work/empty"
+says "a block is gone" 8 "not sound: frame $last lost" '' map owners fewer
+says "leading zeros" 5 '' 'bootaudit: blocks: line 1: form' map owners zeros
+says "owners as a map" 5 '' 'bootaudit: map: line 1: form' owners owners blocks
+says "nothing at all" 0 sound '' --la57 empty empty empty
+says "a missing file" 3 '' 'bootaudit: cannot read missing' map missing blocks
+says "a folder" 3 '' 'bootaudit: cannot read .' map owners .
+says "two names" 2 '' 'bootaudit: usage' map owners
+says "an option behind" 2 '' 'bootaudit: usage' map owners blocks --la57
+says "what isn't UTF-8" 2 '' '' map owners "$(printf '\377')"
+truncate -s 536870913 "$work/long" && says "a file of 512 MiB and a byte" 5 '' 'bootaudit: map: too long' long owners blocks
+(cd "$work" && exec "$audit" map owners blocks) >/dev/full 2>"$work/err"
+got="$? $(cat "$work/err")"
+if [ "$got" = "4 bootaudit: cannot write" ]; then
+	passed=$((passed + 1))
+else
+	failed=$((failed + 1))
+	echo "a full device: $got"
+fi
+
+echo "$passed passed, $failed failed; $machines machines"
+[ "$failed" -eq 0 ] && [ "$machines" -gt 30 ]

@@ -1,0 +1,142 @@
+#!/usr/bin/env python3
+"""mirrored.py [PROGRAM]: ranges of mirrored memory that begin or end amid a record or a frame, over a node's border, outside memory and
+twice over the same bytes; those of an EFI memory map; how many ranges there may be; and the growth of both tables where memory is mirrored, and from below.
+
+Each case has a name that says what it shows. Its text is the whole report, or of `journal` the lines with these words. Prints a line for
+each difference, and 'N passed, M failed' at its end.
+"""
+import struct
+import sys
+
+sys.dont_write_bytecode = True
+
+from inputs import MACHINE, RAM, RESERVED, Runs, machine_files, memory_of, srat
+
+PC = MACHINE + [(0x7FE0000, 0x20000, RESERVED)]
+FULL = [(0x0, 0xA0000, RAM), (0x100000, 0x7F00000, RAM)]
+NODES = srat(memory_of(0, 0, 0x4000000), memory_of(1, 0x4000000, 0x4000000))
+
+
+def efi(*descriptors):
+    """An EFI memory map of descriptors of boot services' data: first address, pages, attributes."""
+    return struct.pack("<II", 48, 1) + b"".join(struct.pack("<IIQQQQQ", 4, 0, base, 0, pages, attributes, 0)
+                                               for base, pages, attributes in descriptors)
+
+
+# EFI_MEMORY_WB, and beside it EFI_MEMORY_MORE_RELIABLE
+PLAIN, TWICE = 0x8, 0x10008
+EFI = efi((0x4000800, 2, TWICE), (0x5000800, 1, TWICE), (0x6000000, 16, PLAIN), (0x7000000, 16, TWICE))
+
+
+def high(count):
+    """Single pages of RAM with a page between each two."""
+    return [(0x10000000 + place * 0x2000, 0x1000, RAM) for place in range(1, count + 1)]
+
+
+# As many bytes of their own as let the reserved table grow.
+RESERVES = "sections\n" + "".join(f"reserve {number} 0x{0x5000000 + number * 0x2000:x} 1\n" for number in range(1, 140))
+
+LOWEST = "   0: 0x0000000000001000..0x000000000009efff\n"
+
+# name, entries, words, script, report, words of the journal's lines, text
+CASES = [
+    ("amid a record, of whole frames alone", PC, ["--mirror", "0x4000800,0x1001000"], "", "memory", None, LOWEST + """\
+   1: 0x0000000000100000..0x0000000004000fff
+   2: 0x0000000004001000..0x0000000005000fff
+   3: 0x0000000005001000..0x0000000007fdffff
+"""),
+    ("outside memory", PC, ["--mirror", "0x100000000,0x1000000"], "", "memory", None, LOWEST + """\
+   1: 0x0000000000100000..0x0000000007fdffff
+"""),
+    ("a range that holds no memory is told all the same", PC, ["--mirror", "0x100000000,0x1000000"], "", "journal", "mirror", """\
+7: mirror 0x0000000100000000..0x0000000100ffffff
+"""),
+    ("two ranges over the same bytes", PC, ["--mirror", "64M,16M:72M,16M"], "", "memory", None, LOWEST + """\
+   1: 0x0000000000100000..0x0000000003ffffff
+   2: 0x0000000004000000..0x00000000057fffff
+   3: 0x0000000005800000..0x0000000007fdffff
+"""),
+    ("no whole frame", PC, ["--mirror", "0x4000800,0x1000"], "", "memory", None, LOWEST + """\
+   1: 0x0000000000100000..0x0000000007fdffff
+"""),
+    ("a range of no whole frame is dropped", PC, ["--mirror", "0x4000800,0x1000:64M,4K"], "", "journal", "mirror", """\
+7: mirror 0x0000000004000000..0x0000000004000fff
+"""),
+    ("over a node's border", PC, ["--mirror", "48M,32M", "--srat", "srat"], "", "memory", None, LOWEST + """\
+   1: 0x0000000000100000..0x0000000002ffffff
+   2: 0x0000000003000000..0x0000000003ffffff
+   3: 0x0000000004000000..0x0000000004ffffff
+   4: 0x0000000005000000..0x0000000007fdffff
+"""),
+    ("an EFI map's ranges, of whole frames alone, behind those of the words", PC, ["--mirror", "96M,16M", "--efi", "efi"], "", "journal",
+     "mirror", """\
+7: mirror 0x0000000006000000..0x0000000006ffffff
+8: mirror 0x0000000004001000..0x0000000004001fff
+9: mirror 0x0000000007000000..0x000000000700ffff
+"""),
+    ("the memory table grows into mirrored memory", FULL + high(127), ["--mirror", "0x90000,0x8000"], "", "tables", None, """\
+memory place 0x000000000009e000 room 256 records 131
+reserved place 0x0000000002fff000 room 128 records 6
+"""),
+    ("a mirror makes the memory table grow", FULL + high(126), ["--mirror", "64M,16M"], "", "journal", "grown mirror", """\
+134: grown memory 0x000000000009e000 room 256
+135: mirror 0x0000000004000000..0x0000000004ffffff
+"""),
+    ("the reserved table grows where memory is mirrored", PC, ["--mirror", "64M,16M"], RESERVES, "tables", None, """\
+memory place 0x0000000002ffe000 room 128 records 4
+reserved place 0x0000000007fde000 room 256 records 145
+"""),
+    ("the memory table grows from below", FULL + high(127), ["--bottom-up"], "", "tables", None, """\
+memory place 0x0000000000010000 room 256 records 129
+reserved place 0x0000000002fff000 room 128 records 2
+"""),
+    ("the reserved table grows from below", PC, ["--bottom-up"], RESERVES, "tables", None, """\
+memory place 0x0000000002ffe000 room 128 records 2
+reserved place 0x00000000050ff000 room 256 records 141
+"""),
+]
+
+
+def with_words(text, wanted):
+    """The lines that have one of the words; all of them where none is named."""
+    if wanted is None:
+        return text
+    return "".join(line for line in text.splitlines(keepends=True) if line.split()[1] in wanted.split())
+
+
+def told(runs):
+    for name, entries, words, script, report, lines, text in CASES:
+        more, files = machine_files(entries)
+        files["script"] = script.encode()
+        if "--srat" in words:
+            files["srat"] = NODES
+        if "--efi" in words:
+            files["efi"] = EFI
+        status, out, line = runs.run(["--report", report, "--script", "script", *words, *more, "zp"], files)
+        runs.compare(name, (status, with_words(out, lines), line), (0, text, ""))
+
+
+def many(runs):
+    """64 ranges may be named, 65 may not, and each is two sizes."""
+    _, files = machine_files(PC)
+    for name, value, status, line in (
+            ("64 ranges", ":".join(["4K,4K"] * 64), 0, ""),
+            ("65 ranges", ":".join(["4K,4K"] * 65), 2, "bootmem: usage\n"),
+            ("a range that ends at 2^64 - 1", "0xffffffffffffe000,0x1fff", 0, ""),
+            ("a range that ends a byte further", "0xffffffffffffe000,0x2000", 2, "bootmem: usage\n"),
+            ("no range", "", 2, "bootmem: usage\n"),
+            ("an empty one at the end", "4K,4K:", 2, "bootmem: usage\n"),
+            ("no size", "4K", 2, "bootmem: usage\n")):
+        got = runs.run(["--report", "map", f"--mirror={value}", "zp"], files)
+        runs.compare(name, (got[0], got[2]), (status, line))
+
+
+def main():
+    with Runs(sys.argv[0], sys.argv[1:]) as runs:
+        told(runs)
+        many(runs)
+        return runs.end()
+
+
+if __name__ == "__main__":
+    sys.exit(main())
