@@ -57,18 +57,19 @@ fn memory_told(alloc: Global, words: &[&str]) -> Result<String, Fail> {
 }
 
 fn memory_of(alloc: Global, wanted: &Wanted<'_>) -> Result<String, Fail> {
-    let begun = wanted.begun(alloc)?;
-    line_of(alloc, &begun)
-}
-
-fn line_of(alloc: Global, begun: &Inputs) -> Result<String, Fail> {
-    let width = match begun.width {
+    let Inputs {
+        width,
+        upward,
+        mirrors,
+        ..
+    } = wanted.begun(alloc)?;
+    let width = match width {
         Width::Bits46 => "46",
         Width::Bits52 => "52",
     };
-    let direction = if begun.upward { "up" } else { "down" };
+    let direction = if upward { "up" } else { "down" };
     let mut line = format!(in alloc; "{width} {direction}")?;
-    for range in &begun.mirrors {
+    for range in &mirrors {
         let first = range.base / 4096;
         let count = range.size / 4096;
         line.push_str(format!(in alloc; " {first}+{count}")?.as_str())?;
