@@ -4,7 +4,8 @@
 A row of that page is `| words | file | ..`: words and files stand between backticks, a file as CRATE/FILE for crates/CRATE/specs/FILE.antt. Each
 file of definitions of a crate that isn't one of cases has a row, and each word of a row is a definition of one of the row's files. Prints a line
 for each difference, and how many files and definitions there are.
---table prints the definitions instead, a line each: file, name, and the comment above it in the file; with WORD, those of files or names that have it.
+--table prints the definitions instead, a line each: file, name, and the comment above it in the file, behind a line of the file with the comment at
+its head; with words, the lines that have one of them.
 """
 
 import glob
@@ -17,8 +18,8 @@ DEFINED = re.compile(r"^\s*(?:(?:abbrev|unfoldable) pub|pub (?:record|data)) (\S
 
 
 def definitions_of(path):
-    """The definitions of a file with the comments above them, in their order."""
-    found, comment = {}, []
+    """The comment at the head of a file, by the empty name, and its definitions with the comments above them, in their order."""
+    found, comment = {"": ""}, []
     with open(path, encoding="utf-8") as file:
         for line in file:
             text = line.strip()
@@ -29,6 +30,7 @@ def definitions_of(path):
                 found.setdefault(match.group(1), " ".join(comment))
                 comment = []
             elif not text or text.startswith("use "):
+                found[""] = found[""] or " ".join(comment)
                 comment = []
     return found
 
@@ -52,8 +54,9 @@ def main():
         wanted = [word for word in sys.argv[1:] if word != "--table"]
         for file, found in files.items():
             for name, comment in found.items():
-                if not wanted or any(word in file or word == name for word in wanted):
-                    print(f"{file}\t{name}\t{comment}")
+                line = f"{file}\t{name}\t{comment}"
+                if not wanted or any(word in line for word in wanted):
+                    print(line)
         return 0
     with open(os.path.join(TOP, "docs/DEFINITIONS.md"), encoding="utf-8") as file:
         rows = list(rows_of(file.read()))
@@ -65,7 +68,7 @@ def main():
         wrong += [f"{', '.join(of_row)}: it has no {word}" for word in words if of_row and word not in known]
     for line in wrong:
         print(line)
-    print(f"definitions: {len(files)} files, {sum(map(len, files.values()))} definitions, {len(wrong)} differences")
+    print(f"definitions: {len(files)} files, {sum(len(found) - 1 for found in files.values())} definitions, {len(wrong)} differences")
     return 1 if wrong else 0
 
 
