@@ -2,8 +2,8 @@
 """definitions.py [--table [WORD..]]: whether docs/DEFINITIONS.md has each file of definitions, and names no definition that isn't in it.
 
 A row of that page is `| words | file | ..`: words and files stand between backticks, a file as CRATE/FILE for crates/CRATE/specs/FILE.antt. Each
-file of definitions of a crate that isn't one of cases has a row, and each word of a row is a definition of one of the row's files. Prints a line
-for each difference, and how many files and definitions there are.
+file of definitions of a crate that isn't one of cases stands on the page, and each word of a row is a definition of one of the row's files. Prints a
+line for each difference, and how many files and definitions there are.
 --table prints the definitions instead, a line each: file, name, and the comment above it in the file, behind a line of the file with the comment at
 its head; with words, the lines that have one of them.
 """
@@ -40,8 +40,7 @@ def rows_of(page):
     for line in page.split("\n"):
         cells = [re.findall(r"`([^`]+)`", cell) for cell in line.strip("|").split("|")]
         if line.startswith("| `") and len(cells) > 1:
-            files = [word for word in cells[1] if "/" in word] or [word for word in cells[0] if "/" in word]
-            yield [word for word in cells[0] if word not in files], files
+            yield cells[0], cells[1]
 
 
 def main():
@@ -59,13 +58,13 @@ def main():
                     print(line)
         return 0
     with open(os.path.join(TOP, "docs/DEFINITIONS.md"), encoding="utf-8") as file:
-        rows = list(rows_of(file.read()))
-    named = {file for _, of_row in rows for file in of_row}
-    wrong = [f"{file}: it has no row" for file in files if file not in named]
+        page = file.read()
+    named = set(re.findall(r"`(\w+/\w+)`", page))
+    wrong = [f"{file}: it doesn't stand there" for file in files if file not in named]
     wrong += [f"{file}: there is no such file" for file in sorted(named) if file not in files]
-    for words, of_row in rows:
+    for words, of_row in rows_of(page):
         known = {name for file in of_row for name in files.get(file, {})}
-        wrong += [f"{', '.join(of_row)}: it has no {word}" for word in words if of_row and word not in known]
+        wrong += [f"{', '.join(of_row)}: it has no {word}" for word in words if word not in known]
     for line in wrong:
         print(line)
     print(f"definitions: {len(files)} files, {sum(len(found) - 1 for found in files.values())} definitions, {len(wrong)} differences")
