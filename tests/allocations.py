@@ -8,14 +8,18 @@ from concurrent.futures import ThreadPoolExecutor
 
 sys.dont_write_bytecode = True
 
+from fault_tables.efi import KINDS, efi, in_a_row
+from fault_tables.slit import slit
 from growth import HERE, LOW, MAIN, PC, high, reserves, soft
 from inputs import RAM, machine_files
+from mirrored import FULL, NODES, RESERVES
 
 TOP = os.path.dirname(os.path.dirname(os.path.abspath(__file__)))
 EXAMPLES = os.path.join(TOP, "examples")
 WANTING = (7, b"", b"bootmem: out of memory\n")
 SILENT = (7, b"", b"")
 SECONDS = 60
+PAGES = b"pages 1 0 0 DMA\npages 2 10 1 DMA32\nnear 3 4 1\ngive 2\ngive 2\npages 1 0 0 DMA\npages 4 10 7 Normal\n"
 
 
 def example(name, words):
@@ -23,11 +27,11 @@ def example(name, words):
     return os.path.join(EXAMPLES, name), words.split(), {}
 
 
-def machine(entries, script, reports):
-    """The words and the files of a machine that is made here."""
+def machine(entries, script, reports, *more, **held):
+    """The words and the files of a machine that is made here; the further words name the files that are held besides."""
     words, files = machine_files(entries)
-    files["script"] = script.encode()
-    return None, ["--script", "script", "--report", reports, *words, "zp"], files
+    files |= {"script": script.encode(), **held}
+    return None, ["--script", "script", "--report", reports, *words, *more, "zp"], files
 
 
 CASES = [
@@ -38,6 +42,13 @@ CASES = [
     ("a release makes the other table grow", machine([LOW, MAIN] + soft(124) + high(255), "", "journal,tables")),
     ("that growth is refused", machine([(0x11000, 0x5000, RAM), MAIN] + soft(124) + high(255), "", "journal,tables")),
     ("the script makes a table grow twice", machine(PC, reserves(1, 260, HERE) + "free 7\npeek 0x7fb0000 64\n", "script,tables")),
+    ("a mirror makes the memory table grow", machine(FULL + high(126), "", "journal,tables", "--mirror", "64M,16M:72M,16M")),
+    ("both tables grow from below, where memory is mirrored", machine(
+        FULL + high(127), RESERVES, "script,tables", "--bottom-up", "--mirror", "0x90000,0x8000:64M,16M")),
+    ("addresses of 52 bits, pages, lists of zones and EFI's map", machine(
+        PC, "", "map,options,memory,journal,pages,pagesinfo,zonelists,sections", "--la57", "--pages", "pages", "--srat", "srat",
+        "--slit", "slit", "--cmdline", "cmdline", "--efi", "efi", pages=PAGES, srat=NODES, slit=slit(2, [10, 20, 20, 10]), cmdline=b"add_efi_memmap",
+        efi=efi(*in_a_row(KINDS)))),
     ("nodes, sections, blocks and a script", example(
         "q35-8g-numa2", "--report map,options,nodes,memory,reserved,owners,journal,crash,sections,zones,script,tables,buddyinfo,blocks,"
         "summary --script replay/script --cmdline cmdline --srat srat.bin --kernel 0x1000000,0x3400000 zp.bin")),

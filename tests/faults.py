@@ -13,16 +13,15 @@ sys.dont_write_bytecode = True
 from fault_tables import command_line, efi, extension, inputs_in_order, pages, script, slit, srat, zero_page
 from inputs import MACHINE, Runs, zero_page as page_of
 
-PAGE = page_of(MACHINE)
 
-
-def words_and_files(table, held):
-    """The words that name a file of these bytes as the table's input, and the files, with what the table has beside it."""
+def words_and_files(table, held, entries=MACHINE):
+    """The words that name a file of these bytes as the table's input, and the files, with what the table has beside it: a zero page of
+    these entries unless the bytes are one."""
     if table.OPTION is None:
         return ["zp"], {"zp": held}
     beside = getattr(table, "BESIDE", {})
     return [*sum(([option, option[2:]] for option in beside), []), table.OPTION, "file", "zp"], {
-        "file": held, "zp": PAGE, **{option[2:]: bytes_beside for option, bytes_beside in beside.items()}}
+        "file": held, "zp": page_of(entries), **{option[2:]: bytes_beside for option, bytes_beside in beside.items()}}
 
 
 def refused(runs, table):
@@ -33,9 +32,9 @@ def refused(runs, table):
 
 
 def accepted(runs, table):
-    """The report is the text; of `journal` the text is the first lines."""
-    for name, held, report, text in table.ACCEPTED:
-        words, files = words_and_files(table, held)
+    """The report is the text; of `journal` the text is the first lines. A case may name the machine's entries."""
+    for name, held, report, text, *entries in table.ACCEPTED:
+        words, files = words_and_files(table, held, *entries)
         status, out, line = runs.run(["--report", report, *words], files)
         if report == "journal":
             out = out[:len(text)]

@@ -13,6 +13,8 @@ sys.dont_write_bytecode = True
 from inputs import MACHINE, RAM, RESERVED, Runs, machine_files, memory_of, srat
 
 PC = MACHINE + [(0x7FE0000, 0x20000, RESERVED)]
+# the same as QEMU's firmware tells it whole
+QEMU = [MACHINE[0], (0x9FC00, 0x400, RESERVED), (0xF0000, 0x10000, RESERVED), *PC[1:], (0xFFFC0000, 0x40000, RESERVED)]
 FULL = [(0x0, 0xA0000, RAM), (0x100000, 0x7F00000, RAM)]
 NODES = srat(memory_of(0, 0, 0x4000000), memory_of(1, 0x4000000, 0x4000000))
 
@@ -26,6 +28,7 @@ def efi(*descriptors):
 # EFI_MEMORY_WB, and beside it EFI_MEMORY_MORE_RELIABLE
 PLAIN, TWICE = 0x8, 0x10008
 EFI = efi((0x4000800, 2, TWICE), (0x5000800, 1, TWICE), (0x6000000, 16, PLAIN), (0x7000000, 16, TWICE))
+EFI_16_MIB = efi((0x4000000, 4096, TWICE))
 
 
 def high(count):
@@ -74,6 +77,32 @@ CASES = [
 8: mirror 0x0000000004001000..0x0000000004001fff
 9: mirror 0x0000000007000000..0x000000000700ffff
 """),
+    ("an EFI map's range mirrors without add_efi_memmap", QEMU, ["--efi", "efi-16m"], "", "journal", None, """\
+1: claim kernel 0x0000000001000000..0x0000000002ffffff
+2: claim low-64k 0x0000000000000000..0x000000000000ffff
+3: limit 0x0000000000100000
+4: mem 0x0000000000001000..0x000000000009fbff
+5: mem 0x0000000000100000..0x0000000007fdffff
+6: trim
+7: mirror 0x0000000004000000..0x0000000004ffffff
+8: limit 0x0000000007fe0000
+9: claim low-1m 0x0000000000000000..0x00000000000fffff
+10: node 0 0x0000000000000000..0x0000000007fdffff
+11: claim node-data 0 0x0000000004fd5000..0x0000000004ffffff
+12: claim roots 0x0000000004fd1000..0x0000000004fd4fff
+13: claim root 0 0x0000000004fd0000..0x0000000004fd0fff
+14: claim usage 0 0x0000000004fcffc0..0x0000000004fcffe7
+15: claim map 0 0x0000000004c00000..0x0000000004dfffff
+"""),
+    ("and leaves the map as it is", QEMU, ["--efi", "efi-16m"], "", "map", None, """\
+0x0000000000000000..0x0000000000000fff 2 reserved
+0x0000000000001000..0x000000000009fbff 1 usable
+0x000000000009fc00..0x000000000009ffff 2 reserved
+0x00000000000f0000..0x00000000000fffff 2 reserved
+0x0000000000100000..0x0000000007fdffff 1 usable
+0x0000000007fe0000..0x0000000007ffffff 2 reserved
+0x00000000fffc0000..0x00000000ffffffff 2 reserved
+"""),
     ("the memory table grows into mirrored memory", FULL + high(127), ["--mirror", "0x90000,0x8000"], "", "tables", None, """\
 memory place 0x000000000009e000 room 256 records 131
 reserved place 0x0000000002fff000 room 128 records 6
@@ -111,7 +140,7 @@ def told(runs):
         if "--srat" in words:
             files["srat"] = NODES
         if "--efi" in words:
-            files["efi"] = EFI
+            files |= {"efi": EFI, "efi-16m": EFI_16_MIB}
         status, out, line = runs.run(["--report", report, "--script", "script", *words, *more, "zp"], files)
         runs.compare(name, (status, with_words(out, lines), line), (0, text, ""))
 

@@ -2,6 +2,8 @@
 descriptors make of a map."""
 import struct
 
+from inputs import RAM, RESERVED
+
 INPUT = "efi"
 OPTION = "--efi"
 BESIDE = {"--cmdline": b"add_efi_memmap"}
@@ -82,6 +84,18 @@ def in_a_row(kinds):
         base += 0x1000 * pages
 
 
+# a machine whose firmware tells two entries that overlap, and what is added to its map
+TWO_ENTRIES = [(0x100000, 0x7F00000, RAM), (0x7FE0000, 0x20000, RESERVED)]
+ADDED = """\
+0x0000000000100000..0x00000000001fffff 1 usable
+0x0000000000200000..0x000000000020ffff 3 ACPI data
+0x0000000000210000..0x00000000002fffff 1 usable
+0x0000000000300000..0x0000000000300fff 2 reserved
+0x0000000000301000..0x0000000007fdffff 1 usable
+0x0000000007fe0000..0x0000000007ffffff 2 reserved
+"""
+
+
 # UEFI's types by their names (EFI_MEMORY_TYPE), and a type of a firmware's own; what each becomes with the attributes of TABLE's head
 ATTRIBUTES = [SP, SP | WB, WB, 0]
 FREE = ["4026531839 soft reserved", "4026531839 soft reserved", "1 usable", "2 reserved"]
@@ -106,4 +120,5 @@ ACCEPTED = [
     ("as far as one can go", efi(descriptor(9, 2**64 - 0x1001, 1)), "map", PLAIN + "0xffffffffffffefff..0xfffffffffffffffe 3 ACPI data\n"),
     ("a descriptor of each kind", efi(*in_a_row(KINDS)), "map", MADE),
     *each_type(),
+    ("ACPI's tables, and memory that can't be cached", efi(descriptor(9, 0x200000, 16), descriptor(7, 0x300000, 1, 0)), "map", ADDED, TWO_ENTRIES),
 ]

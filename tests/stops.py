@@ -1,0 +1,97 @@
+#!/usr/bin/env python3
+"""stops.py [PROGRAM]: each stop of a boot but those of the two tables (growth.py), and beside it the machine that has just enough to go on to
+the next stage, for either width; the greatest memory that a boot takes; and what the script sees of a table's bytes.
+
+Above 1 MiB, of which the boot claims all, a machine needs 172 KiB of node data, a table of roots (16 KiB, or 1 MiB where addresses have 52
+bits), a frame of roots of section 0 and one of which its usage takes 40 bytes, and 2 MiB at a multiple of 2 MiB for its map.
+
+Each case has a name that says what it shows. Prints a line for each difference, and 'N passed, M failed' at its end.
+"""
+import sys
+
+sys.dont_write_bytecode = True
+
+from inputs import MACHINE, RAM, RESERVED, Runs, machine_files
+
+ACPI = 3
+LOW = (0x0, 0xA0000, RAM)
+WIDE = ["--la57"]
+PC = [MACHINE[0], (0x9FC00, 0x400, RESERVED), MACHINE[1], (0x7FE0000, 0x20000, RESERVED)]
+
+
+def above(size):
+    """So many bytes of memory from 1 MiB on, and the lowest 640 KiB."""
+    return [LOW, (0x100000, size, RAM)]
+
+
+def single(count):
+    """256 MiB of which so many frames are reserved, none beside another."""
+    return [(0x100000, 0x10000000, RAM)] + [(0x100000 + place * 0x2000, 0x1000, RESERVED) for place in range(1, count + 1)]
+
+
+# name, entries, words, what the line says behind `stopped: `
+STOPPED = [
+    ("no memory", [(0x0, 0x1000, RESERVED), (0x100000, 0x1000, RESERVED)], [], "no usable frame"),
+    ("the first frame alone", [(0x0, 0x1000, RAM), (0x100000, 0x1000, RESERVED)], [], "no usable frame"),
+    ("more frames than 2^32 less 256", above(0x100000000000), [], "4294967455 usable frames"),
+    ("more frames for addresses of 52 bits, too", above(0x100000000000), WIDE, "4294967455 usable frames"),
+    ("3,201 runs", single(1600), [], "3201 map runs"),
+    ("6,399 runs", single(3199), [], "6399 map runs"),
+    ("640 KiB", [LOW, (0x100000, 0x1000, RESERVED)], [], "no place for node-data 0"),
+    ("node data short of a frame", above(0x2A000), [], "no place for node-data 0"),
+    ("node data, and nothing else", above(0x2B000), [], "no place for roots"),
+    ("roots short of a frame", above(0x2E000), [], "no place for roots"),
+    ("roots, and nothing else", above(0x2F000), [], "no place for root 0"),
+    ("wide roots short of a frame", above(0x12A000), WIDE, "no place for roots"),
+    ("wide roots, and nothing else", above(0x12B000), WIDE, "no place for root 0"),
+    ("the first root, and nothing else", above(0x30000), [], "no place for usage 0"),
+    ("the first root, and nothing else, wide", above(0x12C000), WIDE, "no place for usage 0"),
+    ("usage, and nothing else", above(0x31000), [], "no place for map 0"),
+    ("usage, and nothing else, wide", above(0x12D000), WIDE, "no place for map 0"),
+    ("2 MiB at no multiple of 2 MiB", above(0x231000), [], "no place for map 0"),
+    ("ACPI's tables over half of 1 MiB", [(0x100000, 0x80000, ACPI), (0x0, 0x200000, RAM)], [], "no place for map 0"),
+]
+
+WENT_ON = [
+    ("2 MiB at a multiple of 2 MiB", above(0x331000), "", "summary", """\
+runs 3
+usable 976
+free 256
+memory records 2 room 128
+reserved records 5 room 128
+blocks 1
+"""),
+    ("16 TiB", above(0x100000000000 - 0x100000), "", "summary", """\
+runs 3
+usable 4294967199
+free 4227848145
+memory records 2 room 128
+reserved records 4 room 128
+blocks 4128763
+"""),
+    ("the bytes of the first record of memory, and zeros behind the last one", PC, "peek 0x2ffe000 24\npeek 0x2ffe030 24\n", "script", f"""\
+1: bytes 001000000000000000e00900000000000000000000000000
+2: bytes {"00" * 24}
+"""),
+    ("a place that a table left has zeros alone", [(0x0, 0x9F000, RAM), MACHINE[1], *((0x8000000 + place * 0x2000, 0x1000, RAM) for place in range(1, 254))],
+     "sections\n" + "".join(f"peek 0x{0x9d000 + 64 * place:x} 64\n" for place in range(96)), "script",
+     "".join(f"{place + 2}: bytes {'00' * 64}\n" for place in range(96))),
+]
+
+
+def main():
+    with Runs(sys.argv[0], sys.argv[1:]) as runs:
+        for name, entries, extra, line in STOPPED:
+            words, files = machine_files(entries)
+            got = runs.run(["--report", "map", *extra, *words, "zp"], files)
+            runs.compare(name, got, (6, "", f"bootmem: stopped: {line}\n"))
+        for name, entries, script, report, text in WENT_ON:
+            words, files = machine_files(entries)
+            files["script"] = script.encode()
+            got = runs.run(["--script", "script", "--report", report, *words, "zp"], files)
+            runs.compare(name, got, (0, text, ""))
+        return runs.end()
+
+
+if __name__ == "__main__":
+    sys.exit(main())
