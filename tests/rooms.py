@@ -2,7 +2,8 @@
 """rooms.py: whether docs/ARCHITECTURE.md has each crate once, standing on what crates.txt says it stands on.
 
 A row is `| crate | what | stands on | what it says |`; of what it stands on, crates of the repository come first, and those of the toolchain's kit
-behind `of the kit`. The section on the way of the data, above the tables, names each crate, too. Crates of cases are in neither. Prints a line for each difference, and how many crates there are.
+behind `of the kit`. The two drawings above the table, of the way of the data and of its storeys, name each crate, too. Crates of cases are in neither.
+Prints a line for each difference, and how many crates there are.
 """
 
 import os
@@ -36,8 +37,9 @@ def main():
         for said in rows.get(name, [])[:1]:
             wrong += [f"{name}: it stands on {other}" for other in sorted(stands - said)]
             wrong += [f"{name}: it doesn't stand on {other}" for other in sorted(said - stands)]
-    way = text[text.index("## The way of the data"):text.index("## The house")]
-    wrong += [f"{name}: the way of the data doesn't name it" for name in crates if not re.search(rf"\b{name}\b", way)]
+    drawn = "\n".join(line for line in text[:text.index("## The crates")].split("\n") if line.startswith("    "))
+    wrong += [f"{name}: no drawing names it" for name in crates if not re.search(rf"\b{name}\b", drawn)]
+    wrong += [f"{name}: it is drawn, and there is no such crate" for name in re.findall(r"\b[a-z]\w*_\w+\b", drawn) if name not in crates]
     for line in wrong:
         print(line)
     print(f"rooms: {len(crates)} crates, {len(wrong)} differences")

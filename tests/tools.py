@@ -701,10 +701,20 @@ crash low failed
 3: grown memory 0x000000000009a000 room 256
 4: claim table-memory 0x000000000009a000..0x000000000009cfff
 5: claim script 7 0x0000000000100000..0x0000000000100fff
+6: upward on
+7: mirror 0x0000000000100000..0x0000000000100fff
 == script
 3: no gap
 4: no gap for table memory room 128
 5: bytes 00ff
+== pages
+1: at 0x0000000000100000
+2: no block
+== pagesinfo
+Node 0, zone      DMA      1      0      0      0      0      0      0      0      1      1      3 
+== zonelists
+slit not valid 0 1
+Node 0: 0/DMA32 0/DMA 1/Normal
 """
 A_MIB, A_TABLE = "0x0000000000100000", "0x000000000009a000"
 RARE_OBJECT = {
@@ -722,9 +732,14 @@ RARE_OBJECT = {
     "journal": [{"item": 1, "deed": "trim"}, {"item": 2, "deed": "limit", "limit": A_MIB},
                 {"item": 3, "deed": "grown", "table": "memory", "place": A_TABLE, "room": 256},
                 {"item": 4, "deed": "claim", "owner": "table-memory", "first": A_TABLE, "last": "0x000000000009cfff"},
-                {"item": 5, "deed": "claim", "owner": "script", "number": 7, "first": A_MIB, "last": "0x0000000000100fff"}],
+                {"item": 5, "deed": "claim", "owner": "script", "number": 7, "first": A_MIB, "last": "0x0000000000100fff"},
+                {"item": 6, "deed": "upward", "on": True}, {"item": 7, "deed": "mirror", "first": A_MIB, "last": "0x0000000000100fff"}],
     "script": [{"line": 3, "outcome": "no gap"}, {"line": 4, "outcome": "no gap for table", "table": "memory", "room": 128},
                {"line": 5, "outcome": "bytes", "bytes": "00ff"}],
+    "pages": [{"line": 1, "outcome": "at", "place": A_MIB}, {"line": 2, "outcome": "no block"}],
+    "pagesinfo": [{"node": 0, "zone": "DMA", "blocks": [1, 0, 0, 0, 0, 0, 0, 0, 1, 1, 3]}],
+    "zonelists": {"slit": "not valid", "row": 0, "column": 1, "lists": [
+        {"node": 0, "zones": [{"node": 0, "zone": "DMA32"}, {"node": 0, "zone": "DMA"}, {"node": 1, "zone": "Normal"}]}]},
 }
 FLEET = """q35-1g\t0\t-\t10\t262013\t244146\tnone\t-\tabsent\t1
 q35-8g-crashhighlow\t0\t-\t11\t2097021\t1903026\t0x000000025f000000..0x000000027effffff\t0x000000007b000000..0x000000007effffff\tabsent\t1

@@ -107,12 +107,15 @@ def of_journal(lines):
     forms = {"mem": rf"(?P<number>\d+): mem {RANGE}", "trim": r"(?P<number>\d+): trim",
              "node": rf"(?P<number>\d+): node (?P<node>\d+) {RANGE}", "claim": rf"(?P<number>\d+): claim (?P<owner>.+) {RANGE}",
              "free": rf"(?P<number>\d+): free {RANGE}", "limit": rf"(?P<number>\d+): limit (?P<limit>{A})",
+             "mirror": rf"(?P<number>\d+): mirror {RANGE}", "upward": r"(?P<number>\d+): upward (?P<on>on|off)",
              "grown": rf"(?P<number>\d+): grown (?P<table>memory|reserved) (?P<place>{A}) room (?P<room>\d+)"}
     answer = []
     for kind, found in lines.match(forms):
         item = {"item": int(found.pop("number")), "deed": kind}
         if kind == "claim":
             item.update(owner(found.pop("owner")))
+        if kind == "upward":
+            item["on"] = found.pop("on") == "on"
         answer.append({**item, **fields(found)})
     return answer
 
@@ -148,6 +151,27 @@ def of_script(lines):
              "no gap for table": r"(?P<line>\d+): no gap for table (?P<table>memory|reserved) room (?P<room>\d+)",
              "": r"(?P<line>\d+): (?P<name>done|no gap|taken|unknown|not whole|table in use|keep too large|fill too large)"}
     return [{"line": int(found.pop("line")), "outcome": kind or found.pop("name"), **fields(found)} for kind, found in lines.match(forms)]
+
+
+def of_pages(lines):
+    """What came of each line of the page script."""
+    forms = {"at": rf"(?P<line>\d+): at (?P<place>{A})", "": r"(?P<line>\d+): (?P<name>done|no block|taken|unknown)"}
+    return [{"line": int(found.pop("line")), "outcome": kind or found.pop("name"), **fields(found)} for kind, found in lines.match(forms)]
+
+
+def of_zonelists(lines):
+    """Whether the distances are used, with the first bad cell, and the list of each node."""
+    answer = {"slit": None, "lists": []}
+    forms = {"not valid": r"slit not valid (?P<row>\d+) (?P<column>\d+)", "slit": r"slit (?P<name>used|absent|no srat)",
+             "list": r"Node (?P<node>\d+):(?P<zones>(?: \d+/\w+)*)"}
+    for kind, found in lines.match(forms):
+        if kind == "list":
+            zones = [one.split("/") for one in found["zones"].split()]
+            answer["lists"].append({"node": int(found["node"]), "zones": [{"node": int(node), "zone": zone} for node, zone in zones]})
+        else:
+            answer["slit"] = found.pop("name", kind)
+            answer.update(fields(found))
+    return answer
 
 
 def of_tables(lines):
@@ -192,6 +216,9 @@ REPORTS = {
     "script": of_script,
     "tables": of_tables,
     "buddyinfo": of_buddyinfo,
+    "pages": of_pages,
+    "pagesinfo": of_buddyinfo,
+    "zonelists": of_zonelists,
     "blocks": plain(rf"node (?P<node>\d+) zone (?P<zone>\S+) order (?P<order>\d+) (?P<place>{A})"),
     "summary": of_summary,
 }

@@ -39,13 +39,16 @@ FORMS = {
              r"present (?P<present>\d+) free (?P<free>\d+)",
     "blocks": r"node (?P<node>\d+) zone (?P<zone>\S+) order (?P<order>\d+) (?P<place>" + _PLACE + r")",
     "journal": r"(?P<number>\d+): (?P<deed>mem|node \d+|claim .+|free) " + _RANGE
-               + r"|\d+: (trim|limit .+|grown .+)",
+               + r"|\d+: (trim|limit .+|grown .+|mirror .+|upward (on|off))",
     "sections": r"section (?P<section>\d+) node (?P<node>\d+) map (?P<map>" + _PLACE + r") usage (?P<usage>" + _PLACE
                 + r")|roots .+|root \d+ .+",
-    "options": r"(add|remove|change|remove-all) .+|clear|crash (range|high|low) 0x[0-9a-f]{16}(| .+)|numa off",
+    "options": r"(add|remove|change|remove-all) .+|clear|crash (range|high|low) 0x[0-9a-f]{16}(| .+)|numa off|efi add",
     "crash": r"crash (none|no area|in use|low failed|(at|low) .+)",
     "script": r"\d+: (at|done|bytes|no gap|taken|unknown|not whole|table in use|keep too large|fill too large).*",
     "buddyinfo": r"Node \d+, zone +\S+(?: +\d+){11} ",
+    "pages": r"\d+: (at .+|done|no block|taken|unknown)",
+    "pagesinfo": r"Node \d+, zone +\S+(?: +\d+){11} ",
+    "zonelists": r"slit (used|absent|no srat|not valid \d+ \d+)|Node \d+:( \d+/\w+)*",
     "summary": r"(runs|usable|free|blocks) \d+|(memory|reserved) records \d+ room \d+",
     "tables": r"(?P<table>memory|reserved) place (?P<place>" + _PLACE + r") room (?P<room>\d+) records (?P<records>\d+)",
 }
