@@ -1,5 +1,5 @@
 -- Small sets of free frames, computed.
-use Rattle.std.proofs.Common.{◌≡◌, ℕ, ◌/◌, nat_le, nat_lt, true, false, ◌&&◌, Some, None, [], ◌∷◌, if◌then◌else◌, refl, sym, ◌∙◌, ap, subst, inl, inr, arith}
+use Rattle.std.proofs.Common.{◌≡◌, ℕ, ◌+◌, ◌*◌, ◌^◌, ◌/◌, nat_le, nat_lt, true, false, ◌&&◌, Some, None, [], ◌∷◌, if◌then◌else◌, refl, sym, ◌∙◌, ap, subst, inl, inr, arith}
 use Rattle.std.proofs.lemmas.Bool.Decides.{nat_tests}
 use Rattle.std.proofs.Math.Nat.{div-one}
 use Rattle.std.proofs.lemmas.Bool.{cases_Bool}
@@ -10,6 +10,7 @@ use Rattle.bm_base.specs.Each.{each_from, each_in}
 use Rattle.bm_base.specs.declared.zone.Zone.TheVariants as zone
 use Rattle.bm_base.specs.Zones.{zone_of}
 use Rattle.frame_blocks.specs.declared.block.Block.{Block}
+use Rattle.frame_blocks.specs.declared.block.TheConstants.{MAX_ORDER}
 use Rattle.frame_blocks.specs.declared.block.BlockRow.{BlockRow}
 use Rattle.frame_blocks.specs.Frames.{Frames, IsInSet, AreFree, IsGood, IsBlock, IsInBlock}
 use Rattle.frame_blocks.specs.Listed.{is_node, set_around, are_free, order_up_to, block_around, block_for, block_of, led_by_block, blocks_from, blocks_of, same_zone, is_of, Lists, AscendFrom}
@@ -21,6 +22,10 @@ use Rattle.frame_blocks.specs.Picked.{Serves, IsPicked, NoneServes, picked_up, p
 use Rattle.frame_blocks.proofs.BuddyLaws.{one_at, without_is}
 use Rattle.frame_blocks.proofs.PickLaws.{picked_is, picked_none}
 use Rattle.frame_blocks.proofs.RunLaws.{start_first}
+
+-- frames of addresses below 2^52, and the greatest order of the page allocator's lists (`MAX_ORDER` of 6.1 is the number of orders, 11)
+numbers : (MAX_FRAMES * 4096 ≡ 2 ^ 52) × (MAX_ORDER + 1 ≡ 11)
+numbers = (refl, refl)
 
 -- frames 4 and 5 are free, of node 7; or frame 5 alone
 abbrev pair : Frames
