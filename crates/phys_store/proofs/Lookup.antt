@@ -111,6 +111,8 @@ pub record Holds (es : List Held) (a n i : ℕ) (e : Held) : Type 0 where
   pub high : a + n ≤ past (stored e)
   pub small : past (stored e) < 2 ^ 64
   pub long : length (drop e.front e.bytes.items) ≡ length e.bytes.items - e.front
+  pub most : length e.bytes.items < 2 ^ 64
+  pub len : length e.bytes.items ≡ e.bytes.len
 
 -- what the look-up finds holds the whole of a prepared range
 pub holds : (es : List Held) (a n i : ℕ) (e : Held) → Apart 0 (map stored es) → AreReady (map stored es) a n →
@@ -130,6 +132,8 @@ holds es a n i e apart ready found is =
       high = whole 0 (map stored es) i (stored e) a n apart count there low high ready;
       small = fits 0 (map stored es) i (stored e) apart count there;
       long = length-drop e.front e.bytes.items;
+      most = omega (arith, e.bytes.ok.0);
+      len = omega (arith, e.bytes.ok.0);
     }
 
 -- the same of one byte, prepared or not

@@ -1,5 +1,5 @@
 -- An extent goes further both ways, gets the bytes of others, and stands in their place.
-use Rattle.std.proofs.Common.{◌≡◌, ℕ, zero, suc, ◌+◌, ◌-◌, ◌<◌, ◌≤◌, false, List, [], ◌∷◌, ◌++◌, length, get_or, set, take, drop, map, replicate, refl, sym, ◌∙◌, ap, arith, inl, inr, length-append}
+use Rattle.std.proofs.Common.{◌≡◌, ℕ, zero, suc, ◌+◌, ◌-◌, ◌<◌, ◌≤◌, false, List, [], ◌∷◌, ◌++◌, length, get_or, set, take, drop, map, replicate, refl, sym, ◌∙◌, ap, subst, arith, inl, inr, length-append}
 use Rattle.std.proofs.lemmas.Bool.{cases_Bool, cases_lt, false≢true}
 use Rattle.std.proofs.lemmas.Bool.Decides.{nat_tests}
 use Rattle.std.proofs.lemmas.List.{ext_get_or, drop_more, get_or-drop, get_or-take, get_or-map, get_or-replicate, length-replicate, length-drop, length-take, length-map, take-map, drop-map, map-append, map-set, set-set, get_or-set_same, get_or-set_other, take-set-le, drop-set-lt, drop-set-add, places}
@@ -9,9 +9,9 @@ use borrow.Rule.Slice.PartMut.{put_mid}
 use Rattle.phys_store.specs.declared.extents.Held.{Held}
 use Rattle.phys_store.specs.Bytes.{Stored, past, inside, byte_of, is_ready, bytes_at}
 use Rattle.phys_store.specs.Extents.{stored, Apart, nth, Joins, covering, as_one}
-use Rattle.phys_store.proofs.Joining.{nth_part}
+use Rattle.phys_store.proofs.Joining.{nth_part, nth_piece, there}
 use Rattle.phys_store.proofs.ByteLists.{length-bytes_at, get-bytes_at, told_bytes}
-use Rattle.phys_store.proofs.Lookup.{inside-in, inside-below, inside-above, inside-low, inside-high, ready-below}
+use Rattle.phys_store.proofs.Lookup.{inside-in, inside-below, inside-above, inside-low, inside-high, ready-below, some-at}
 use Rattle.phys_store.proofs.Writes.{length-mid, mid-in, mid-out}
 
 -- an extent, told by its two parts
@@ -247,3 +247,24 @@ others_in es ds none f b k from to joins order below same base empty i count =
         | inr most ↦ rw (here (omega arith)) (omega (arith, base), omega (arith, base, empty, order))
       ]
     ])
+
+-- the extent that is kept: it has bytes, and lies in what it is joined to
+pub record IsKept (es : List Held) (p : Held) (k from to : ℕ) : Type 0 where
+  pub count : k < length es
+  pub some : 0 < length (stored p).bytes
+  pub low : from ≤ p.base
+  pub high : past (stored p) ≤ to
+
+pub kept_piece : (es : List Held) (p : Held) (f b k from to : ℕ) → Apart 0 (map stored es) → Joins (map stored es) f b from to
+    → f ≤ k → k < b → p ≡ get_or es k p → IsKept es p k from to
+kept_piece es p f b k from to apart joins least below value =
+    let ps : List Stored = map stored es in
+    let count : k < length es = omega (arith, joins.most, length-map es stored, below) in
+    let inner : k < length ps = omega (arith, count, length-map es stored) in
+    let is : nth ps k ≡ stored p = nth_piece es k p count value in
+    record {
+      count = count;
+      some = subst (λ (q : Stored). 0 < length q.bytes) is (some-at 0 ps k (nth ps k) apart inner (there ps k inner));
+      low = subst (λ (q : Stored). from ≤ q.base) is (joins.low k least below);
+      high = subst (λ (q : Stored). past q ≤ to) is (joins.high k least below);
+    }

@@ -1,35 +1,33 @@
 use Rattle.std.proofs.Common.{◌+◌, ◌-◌, ◌<◌, length, map, sym, ◌∙◌, arith}
 use Rattle.std.proofs.lemmas.List.{get_or_read, get_or-drop}
 use Rattle.phys_store.specs.Extents.{stored}
-use Rattle.phys_store.proofs.Lookup.{holds_one, byte-at, none-found, byte-unready}
+use Rattle.phys_store.proofs.Lookup.{Holds, holds_one, byte-at, none-found, byte-unready}
 use Rattle.phys_store.proofs.extents.byte_at.Goals as goal
+use Rattle.phys_store.proofs.extents.byte_at.Goals.{In-Some}
+
+-- the extent that has the address
+has_it : (c : In-Some) → Holds c.args.extents.now c.args.address 0 c.in-Some.ensures.0 c.in-Some.extent.now
+has_it c =
+    let (i, found, is) = c.in-Some.ensures in holds_one c.args.extents.now c.args.address i c.in-Some.extent.now c.requires found is
 
 pub overflow_sub-address : goal.overflow_sub-address
-overflow_sub-address c =
-    let e = c.in-Some.extent.now in
-    let (i, found, is) = c.in-Some.ensures in
-    let h = holds_one c.args.extents.now c.args.address i e c.requires found is in
-    h.low
+overflow_sub-address c = (has_it (goal.at.overflow_sub-address c).In-Some).low
 
 pub index-requires : goal.index-requires
 index-requires c =
-    let e = c.in-Some.extent.now in
-    let (i, found, is) = c.in-Some.ensures in
-    let h = holds_one c.args.extents.now c.args.address i e c.requires found is in
-    omega (arith, h.low, h.inner, h.long, e.bytes.ok.0)
+    let h = has_it (goal.at.index-requires c).In-Some in
+    omega (arith, h.low, h.inner, h.long, h.len)
 
 pub overflow_add-extent : goal.overflow_add-extent
 overflow_add-extent c =
-    let e = c.in-Some.extent.now in
-    let (i, found, is) = c.in-Some.ensures in
-    let h = holds_one c.args.extents.now c.args.address i e c.requires found is in
-    omega (arith, h.low, h.inner, h.long, e.bytes.ok.0)
+    let h = has_it (goal.at.overflow_add-extent c).In-Some in
+    omega (arith, h.low, h.inner, h.long, h.most)
 
 pub returns-in-Some : goal.returns-in-Some
 returns-in-Some c =
     let e = c.in-Some.extent.now in
-    let (i, found, is) = c.in-Some.ensures in
-    let h = holds_one c.args.extents.now c.args.address i e c.requires found is in
+    let i = c.in-Some.ensures.0 in
+    let h = has_it (goal.at.returns-in-Some c).In-Some in
     let k = e.front + (c.args.address - e.base) in
     let below : k < length e.bytes.items = omega (arith, h.low, h.inner, h.long) in
     get_or_read e.bytes.items k c.index.result.now below c.index.ensures 0

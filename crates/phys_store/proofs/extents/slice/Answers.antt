@@ -2,43 +2,40 @@ use Rattle.std.proofs.Common.{◌≡◌, ◌+◌, ◌-◌, length, get_or, take,
 use Rattle.std.proofs.lemmas.List.{get_or-take, get_or-drop, length-take, length-drop}
 use Rattle.phys_store.specs.Bytes.{byte_of, bytes_at}
 use Rattle.phys_store.specs.Extents.{stored}
-use Rattle.phys_store.proofs.Lookup.{holds, byte-at, none_ready}
+use Rattle.phys_store.proofs.Lookup.{Holds, holds, byte-at, none_ready}
 use Rattle.phys_store.proofs.ByteLists.{told_bytes}
 use Rattle.phys_store.proofs.extents.slice.Goals as goal
+use Rattle.phys_store.proofs.extents.slice.Goals.{In-Some}
+
+-- the extent that has the addresses
+has_all : (c : In-Some) → Holds c.args.extents.now c.args.at c.args.count c.in-Some.ensures.0 c.in-Some.extent.now
+has_all c =
+    let (i, found, is) = c.in-Some.ensures in
+    holds c.args.extents.now c.args.at c.args.count i c.in-Some.extent.now c.requires.apart c.requires.prepared found is
 
 pub overflow_sub-from : goal.overflow_sub-from
-overflow_sub-from c =
-    let e = c.in-Some.extent.now in
-    let (i, found, is) = c.in-Some.ensures in
-    let h = holds c.args.extents.now c.args.at c.args.count i e c.requires.apart c.requires.prepared found is in
-    h.low
+overflow_sub-from c = (has_all (goal.at.overflow_sub-from c).In-Some).low
 
 pub overflow_add-result : goal.overflow_add-result
 overflow_add-result c =
-    let e = c.in-Some.extent.now in
-    let (i, found, is) = c.in-Some.ensures in
-    let h = holds c.args.extents.now c.args.at c.args.count i e c.requires.apart c.requires.prepared found is in
-    omega (arith, h.low, h.high, h.inner, h.long, e.bytes.ok.0)
+    let h = has_all (goal.at.overflow_add-result c).In-Some in
+    omega (arith, h.low, h.high, h.inner, h.long, h.most)
 
 pub overflow_add-from : goal.overflow_add-from
 overflow_add-from c =
-    let e = c.in-Some.extent.now in
-    let (i, found, is) = c.in-Some.ensures in
-    let h = holds c.args.extents.now c.args.at c.args.count i e c.requires.apart c.requires.prepared found is in
-    omega (arith, h.low, h.high, h.inner, h.long, e.bytes.ok.0)
+    let h = has_all (goal.at.overflow_add-from c).In-Some in
+    omega (arith, h.low, h.high, h.inner, h.long, h.most)
 
 pub slice_bounds-result-end : goal.slice_bounds-result-end
 slice_bounds-result-end c =
-    let e = c.in-Some.extent.now in
-    let (i, found, is) = c.in-Some.ensures in
-    let h = holds c.args.extents.now c.args.at c.args.count i e c.requires.apart c.requires.prepared found is in
-    omega (arith, h.low, h.high, h.inner, h.long, c.deref.ensures.len, e.bytes.ok.0)
+    let h = has_all (goal.at.slice_bounds-result-end c).In-Some in
+    omega (arith, h.low, h.high, h.inner, h.long, c.deref.ensures.len, h.len)
 
 pub returns-in-Some : goal.returns-in-Some
 returns-in-Some c =
     let e = c.in-Some.extent.now in
-    let (i, found, is) = c.in-Some.ensures in
-    let h = holds c.args.extents.now c.args.at c.args.count i e c.requires.apart c.requires.prepared found is in
+    let i = c.in-Some.ensures.0 in
+    let h = has_all (goal.at.returns-in-Some c).In-Some in
     let m = e.front + (c.args.at - e.base) in
     let n = m + c.args.count - m in
     let ps = map stored c.args.extents.now in

@@ -8,87 +8,80 @@ use Rattle.phys_store.proofs.Joining.{nth_piece}
 use Rattle.phys_store.proofs.Writes.{length-mid}
 use Rattle.phys_store.proofs.Widening.{absorbed, same_piece}
 use Rattle.phys_store.proofs.prepare.absorb.Goals as goal
+use Rattle.phys_store.proofs.prepare.absorb.Goals.{After-index-others-i}
+
+-- the next of the others lies in the extent
+record LiesIn (c : After-index-others-i) : Type 0 where
+  count : c.loop-i.i - 1 < length c.args.others.now
+  is : nth (map stored c.args.others.now) (c.loop-i.i - 1) ≡ stored c.index-others-i.result
+  low : c.args.extent.now.base ≤ c.index-others-i.result.base
+  high : past (stored c.index-others-i.result) ≤ past (stored c.args.extent.now)
+  long : length (drop c.args.extent.now.front c.args.extent.now.bytes.items)
+      ≡ length c.args.extent.now.bytes.items - c.args.extent.now.front
+
+lies_in : (c : After-index-others-i) → LiesIn c
+lies_in c =
+    let i : ℕ = c.loop-i.i - 1 in
+    let w = c.args.extent.now in
+    let count : i < length c.args.others.now = omega (arith, c.loop-i-test.true, c.loop-i.invariant.most) in
+    let is : nth (map stored c.args.others.now) i ≡ stored c.index-others-i.result =
+    nth_piece c.args.others.now i c.index-others-i.result count c.index-others-i.is in
+    record {
+      count = count;
+      is = is;
+      low = subst (λ (q : Stored). w.base ≤ q.base) is (c.requires.low i count);
+      high = subst (λ (q : Stored). past q ≤ past (stored w)) is (c.requires.high i count);
+      long = length-drop w.front w.bytes.items;
+    }
 
 pub overflow_sub-from : goal.overflow_sub-from
 overflow_sub-from c =
-    let es = c.args.others.now in
-    let i = c.loop-i.i - 1 in
-    let d = c.index-others-i.result in
-    let w = c.args.extent.now in
-    let v = c.loop-i.invariant in
-    let count : i < length es = omega (arith, c.loop-i-test.true, v.most) in
-    let is = nth_piece es i d count c.index-others-i.is in
-    let low : w.base ≤ d.base = subst (λ (q : Stored). w.base ≤ q.base) is (c.requires.low i count) in
-    let high : past (stored d) ≤ past (stored w) = subst (λ (q : Stored). past q ≤ past (stored w)) is (c.requires.high i count) in
-    let long = length-drop w.front w.bytes.items in
-    omega (arith, low, v.base)
+    let d = lies_in (goal.at.overflow_sub-from c).After-index-others-i in omega (arith, d.low, c.loop-i.invariant.base)
 
 pub overflow_add-from : goal.overflow_add-from
 overflow_add-from c =
-    let es = c.args.others.now in
-    let i = c.loop-i.i - 1 in
-    let d = c.index-others-i.result in
-    let w = c.args.extent.now in
     let v = c.loop-i.invariant in
-    let count : i < length es = omega (arith, c.loop-i-test.true, v.most) in
-    let is = nth_piece es i d count c.index-others-i.is in
-    let low : w.base ≤ d.base = subst (λ (q : Stored). w.base ≤ q.base) is (c.requires.low i count) in
-    let high : past (stored d) ≤ past (stored w) = subst (λ (q : Stored). past q ≤ past (stored w)) is (c.requires.high i count) in
-    let long = length-drop w.front w.bytes.items in
-    omega (arith, low, high, v.base, v.front, long, c.requires.some, w.bytes.ok.0)
+    let d = lies_in (goal.at.overflow_add-from c).After-index-others-i in
+    omega (arith, d.low, d.high, v.base, v.front, d.long, c.requires.some, c.args.extent.now.bytes.ok.0)
 
 pub overflow_add-from-in-loop-i : goal.overflow_add-from-in-loop-i
 overflow_add-from-in-loop-i c =
-    let es = c.args.others.now in
-    let i = c.loop-i.i - 1 in
-    let d = c.index-others-i.result in
-    let w = c.args.extent.now in
     let v = c.loop-i.invariant in
-    let count : i < length es = omega (arith, c.loop-i-test.true, v.most) in
-    let is = nth_piece es i d count c.index-others-i.is in
-    let low : w.base ≤ d.base = subst (λ (q : Stored). w.base ≤ q.base) is (c.requires.low i count) in
-    let high : past (stored d) ≤ past (stored w) = subst (λ (q : Stored). past q ≤ past (stored w)) is (c.requires.high i count) in
-    let long = length-drop w.front w.bytes.items in
-    omega (arith, low, high, v.base, v.front, long, c.requires.some, w.bytes.ok.0, ap length c.bytes_of-bytes.ensures)
+    let d = lies_in (goal.at.overflow_add-from-in-loop-i c).After-index-others-i in
+    omega (arith, d.low, d.high, v.base, v.front, d.long, c.requires.some, c.args.extent.now.bytes.ok.0, ap length c.bytes_of-bytes.ensures)
 
 pub slice_bounds-copy_from_slice-end : goal.slice_bounds-copy_from_slice-end
 slice_bounds-copy_from_slice-end c =
-    let es = c.args.others.now in
-    let i = c.loop-i.i - 1 in
-    let d = c.index-others-i.result in
-    let w = c.args.extent.now in
     let v = c.loop-i.invariant in
-    let count : i < length es = omega (arith, c.loop-i-test.true, v.most) in
-    let is = nth_piece es i d count c.index-others-i.is in
-    let low : w.base ≤ d.base = subst (λ (q : Stored). w.base ≤ q.base) is (c.requires.low i count) in
-    let high : past (stored d) ≤ past (stored w) = subst (λ (q : Stored). past q ≤ past (stored w)) is (c.requires.high i count) in
-    let long = length-drop w.front w.bytes.items in
+    let d = lies_in (goal.at.slice_bounds-copy_from_slice-end c).After-index-others-i in
+    let long = ap length c.bytes_of-bytes.ensures in
     omega (
       arith,
-      low,
-      high,
+      d.low,
+      d.high,
       v.base,
       v.front,
       v.count,
-      long,
+      d.long,
       c.requires.some,
-      w.bytes.ok.0,
-      ap length c.bytes_of-bytes.ensures,
+      c.args.extent.now.bytes.ok.0,
+      long,
       c.deref_mut.ensures.len,
     )
 
 pub loop-i-preserved : goal.loop-i-preserved
 loop-i-preserved c =
+    let there = lies_in (goal.at.loop-i-preserved c).After-index-others-i in
     let es = c.args.others.now in
     let i = c.loop-i.i - 1 in
     let d = c.index-others-i.result in
     let w = c.args.extent.now in
     let v = c.loop-i.invariant in
-    let count : i < length es = omega (arith, c.loop-i-test.true, v.most) in
-    let is = nth_piece es i d count c.index-others-i.is in
-    let low : w.base ≤ d.base = subst (λ (q : Stored). w.base ≤ q.base) is (c.requires.low i count) in
-    let high : past (stored d) ≤ past (stored w) = subst (λ (q : Stored). past q ≤ past (stored w)) is (c.requires.high i count) in
-    let long = length-drop w.front w.bytes.items in
+    let count : i < length es = there.count in
+    let is = there.is in
+    let low = there.low in
+    let high = there.high in
+    let long = there.long in
     let ps = map stored es in
     let e = c.loop-i.extent in
     let f : ℕ = e.front in

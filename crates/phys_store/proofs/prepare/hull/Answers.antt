@@ -6,6 +6,23 @@ use Rattle.phys_store.specs.Bytes.{Stored, past}
 use Rattle.phys_store.specs.Extents.{stored, nth}
 use Rattle.phys_store.proofs.Joining.{nth_piece, nth-fits, Hull, hull_more, hull_joins}
 use Rattle.phys_store.proofs.prepare.hull.Goals as goal
+use Rattle.phys_store.proofs.prepare.hull.Goals.{After-index-extents-behind}
+
+-- what the extents so far make
+so_far : (c : After-index-extents-behind) → Hull (map stored c.args.extents.now) c.args.range c.first_reaching-first.result
+    c.loop-behind.behind c.loop-behind.low c.loop-behind.high
+so_far c =
+    let i = c.loop-behind.invariant in record {
+      order = i.order;
+      most = omega (arith, length-map c.args.extents.now stored, i.most);
+      least = i.least;
+      end = i.end;
+      small = i.small;
+      below = i.below;
+      low = i.low;
+      high = i.high;
+      ready = i.ready;
+    }
 
 pub end_of-requires : goal.end_of-requires
 end_of-requires c =
@@ -22,17 +39,7 @@ loop-behind-preserved c =
     let b = c.loop-behind.behind in
     let i = c.loop-behind.invariant in
     let long = length-map es stored in
-    let h : Hull (map stored es) c.args.range c.first_reaching-first.result b c.loop-behind.low c.loop-behind.high = record {
-      order = i.order;
-      most = omega (arith, long, i.most);
-      least = i.least;
-      end = i.end;
-      small = i.small;
-      below = i.below;
-      low = i.low;
-      high = i.high;
-      ready = i.ready;
-    } in
+    let h = so_far (goal.at.loop-behind-preserved c).After-index-extents-behind in
     let e = c.index-extents-behind-in-loop-behind.result in
     let is = nth_piece es b e c.loop-behind-test.true c.index-extents-behind-in-loop-behind.is in
     let first = nth_piece es b c.index-extents-behind.result c.loop-behind-test.true c.index-extents-behind.is in
@@ -54,8 +61,7 @@ loop-behind-preserved c =
       end = more.end;
       small = more.small;
       below = more.below;
-      low =
-          more.low;
+      low = more.low;
       high = more.high;
       ready = more.ready;
     }
@@ -64,19 +70,7 @@ pub returns-else-extents-behind-clause-joins : goal.returns-else-extents-behind-
 returns-else-extents-behind-clause-joins c =
     let es = c.args.extents.now in
     let b = c.loop-behind.behind in
-    let i = c.loop-behind.invariant in
-    let long = length-map es stored in
-    let h : Hull (map stored es) c.args.range c.first_reaching-first.result b c.loop-behind.low c.loop-behind.high = record {
-      order = i.order;
-      most = omega (arith, long, i.most);
-      least = i.least;
-      end = i.end;
-      small = i.small;
-      below = i.below;
-      low = i.low;
-      high = i.high;
-      ready = i.ready;
-    } in
+    let h = so_far (goal.at.returns-else-extents-behind-clause-joins c).After-index-extents-behind in
     hull_joins (map stored es) c.args.range c.first_reaching-first.result b c.loop-behind.low c.loop-behind.high c.requires h
     (λ count. let first = nth_piece es b c.index-extents-behind.result c.loop-behind-test.true c.index-extents-behind.is in
     rw first (subst (λ (d : Held). c.loop-behind.high < d.base) (sym c.index-extents-behind.is) c.if-extents-behind.false))
