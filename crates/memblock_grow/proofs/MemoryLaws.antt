@@ -208,6 +208,21 @@ memory-bytes kernel items mid t k p r at base room place kept spelled m keeps by
     (follows-grown kernel mid which.Memory base room p.memory r.memory r.reserved (byte_of p.store) (byte_of r.store) after.memory
     moved.memory moved.reserved m.told)
 
+-- the same where the items are told by an equation
+pub memory-keeps : (items mid next : List Item) (t k p r : Contents) (at : Aim) (base room : ℕ) (place : Extent)
+    → MovedMemory items t k p r base place → Keeps items t mid k at → next ≡ mid ++ item.Grown which.Memory base room ∷ []
+    → Keeps items t next r at
+memory-keeps items mid next t k p r at base room place m keeps is = λ kernel kept.
+    subst (λ (l : List Item). AreKept kernel l r at) (sym is)
+    (memory-kept kernel items mid t k p r at base room place kept m keeps)
+
+pub memory-tells : (items mid next : List Item) (t k p r : Contents) (at : Aim) (base room : ℕ) (place : Extent)
+    → MovedMemory items t k p r base place → Keeps items t mid k at → KeepsBytes items t mid k at
+    → next ≡ mid ++ item.Grown which.Memory base room ∷ [] → KeepsBytes items t next r at
+memory-tells items mid next t k p r at base room place m keeps bytes is = λ kernel kept spelled.
+    subst (λ (l : List Item). Follows kernel items l (byte_of t.store) (byte_of r.store)) (sym is)
+    (memory-bytes kernel items mid t k p r at base room place kept spelled m keeps bytes)
+
 -- what stands before the old place is freed
 pub memory-stands : (kernel : Extent) (items mid : List Item) (t k p r : Contents) (at : Aim) (base room : ℕ) (place : Extent)
     → IsMemblock kernel items t at → MovedMemory items t k p r base place → Keeps items t mid k at → KeepsBytes items t mid k at

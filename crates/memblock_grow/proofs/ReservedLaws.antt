@@ -30,7 +30,7 @@ use Rattle.growth_model.proofs.SpotLaws.{covers-to}
 use Rattle.growth_model.proofs.FoundLaws.{beside-new, found-apart}
 use Rattle.growth_model.proofs.FollowLaws.{follows-still, follows-item, follows-grown, follows-then}
 use Rattle.memblock_grow.specs.declared.aim.Aim.{Aim}
-use Rattle.memblock_grow.specs.Kept.{AreKept, AreTold}
+use Rattle.memblock_grow.specs.Kept.{AreKept, AreTold, Keeps}
 use Rattle.memblock_grow.specs.Places.{frames_beside, left_frames}
 use Rattle.memblock_grow.specs.More.{Grew}
 use Rattle.memblock_grow.proofs.KeptLaws.{values-are, room-is, few-kept, few-covered, few-uncovered, kept-same, kept-claim, kept-free, kept-grown}
@@ -164,23 +164,23 @@ two-items items base room place rest here twice is left =
     ∙ ap (λ (l : List Item). items ++ item.Grown which.Reserved place.base (2 * n)
     ∷ (item.Claim (frames_at place.base (48 * n)) (owner.Table which.Reserved) ∷ l)) left
 
-pub written-two : (items : List Item) (base room : ℕ) (avoid place : Extent) → IsBeside items avoid place → base ≡ place.base
+pub written-two : (items new : List Item) (base room : ℕ) (avoid place : Extent) → IsBeside items avoid place → base ≡ place.base
     → room ≡ 2 * room_of which.Reserved items → old_frames (room_of which.Reserved items) (moved_to which.Reserved items) ≡ None
-    → Ends {T = Unit {0}} (Ok tt) items (moved_items items base room place) (reserved_growth avoid)
-written-two items base room avoid place known here twice none =
+    → new ≡ moved_items items base room place → Ends {T = Unit {0}} (Ok tt) items new (reserved_growth avoid)
+written-two items new base room avoid place known here twice none is =
     let c : Item = item.Claim place (owner.Table which.Reserved) in
-    written-by items avoid place (moved_items items base room place) known
-    (sym (append_assoc (items ++ item.Grown which.Reserved base room ∷ []) (c ∷ []) [])
+    written-by items avoid place new known
+    (is ∙ sym (append_assoc (items ++ item.Grown which.Reserved base room ∷ []) (c ∷ []) [])
     ∙ two-items items base room place [] here twice known.is
     (sym (left-none (room_of which.Reserved items) (moved_to which.Reserved items) none)))
 
-pub written-three : (items : List Item) (base room : ℕ) (avoid place range : Extent) → IsBeside items avoid place → base ≡ place.base
+pub written-three : (items new : List Item) (base room : ℕ) (avoid place range : Extent) → IsBeside items avoid place → base ≡ place.base
     → room ≡ 2 * room_of which.Reserved items
     → old_frames (room_of which.Reserved items) (moved_to which.Reserved items) ≡ Some range
-    → Ends {T = Unit {0}} (Ok tt) items (moved_items items base room place ++ item.Free range ∷ []) (reserved_growth avoid)
-written-three items base room avoid place range known here twice some =
-    written-by items avoid place (moved_items items base room place ++ item.Free range ∷ []) known
-    (two-items items base room place (item.Free range ∷ []) here twice known.is
+    → new ≡ moved_items items base room place ++ item.Free range ∷ [] → Ends {T = Unit {0}} (Ok tt) items new (reserved_growth avoid)
+written-three items new base room avoid place range known here twice some is =
+    written-by items avoid place new known
+    (is ∙ two-items items base room place (item.Free range ∷ []) here twice known.is
     (sym (left-some (room_of which.Reserved items) (moved_to which.Reserved items) range some)))
 
 -- the journal behind both items, and behind the third
@@ -307,6 +307,29 @@ claimed-bytes kernel items t p r v at base room place kept m fits =
     (follows-item kernel (items ++ g ∷ []) (item.Claim place (owner.Table which.Reserved)) v.memory v.reserved (byte_of r.store)
     (byte_of v.store) (λ x. refl) claimed.memory claimed.reserved m.after)
 
+-- what stands once the new place is claimed
+pub record Claimed (items longer : List Item) (t v : Contents) (at : Aim) : Type 0 where
+  pub kept : Keeps items t longer v at
+  pub bytes : (kernel : Extent) → AreKept kernel items t at → Follows kernel items longer (byte_of t.store) (byte_of v.store)
+  pub grew : (kernel : Extent) → AreKept kernel items t at
+      → (v.reserved.room ≡ 2 * t.reserved.room) × (length v.reserved.records ≤ length t.reserved.records + 1)
+
+pub claimed : (items longer : List Item) (t p r v : Contents) (at : Aim) (base room : ℕ) (place : Extent)
+    → longer ≡ moved_items items base room place → Moved items t p r v at base place → Unclaimed (owner_of items) place
+    → Claimed items longer t v at
+claimed items longer t p r v at base room place is m free =
+    let fits : (kernel : Extent) → AreKept kernel items t at
+    → length r.reserved.records + pieces place (value_at r.reserved.records) ≤ r.reserved.room =
+    λ kernel kept. claim-room kernel items t p r at base place kept m.second m.table free (frames-some which.Reserved items place m.is) m.ends
+    in
+    record {
+      kept = λ kernel kept. subst (λ (l : List Item). AreKept kernel l v at) (sym is)
+          (claimed-kept kernel items t p r v at base room place kept m (fits kernel kept));
+      bytes = λ kernel kept. subst (λ (l : List Item). Follows kernel items l (byte_of t.store) (byte_of v.store)) (sym is)
+          (claimed-bytes kernel items t p r v at base room place kept m (fits kernel kept));
+      grew = λ kernel kept. claimed-grew kernel items t p r v at base room place kept m free;
+    }
+
 -- and after the old place was freed
 pub record Freed (v u : Contents) (range : Extent) : Type 0 where
   pub table : u.reserved ≡ record v.reserved { records = records_for (uncovered range (value_at v.reserved.records)) }
@@ -346,6 +369,29 @@ freed-grown kernel items t v u at range kept grew f =
     let a = ap (λ (t : Table). t.room) f.table in
     let b = ap (λ (t : Table). length t.records) f.table in
     record { room = a ∙ grew.0; few = omega (arith, few, m, b) }
+
+-- what stands once the old place is freed
+pub record Left (items longer : List Item) (t u : Contents) (at : Aim) : Type 0 where
+  pub kept : Keeps items t longer u at
+  pub bytes : (kernel : Extent) → AreKept kernel items t at → Follows kernel items longer (byte_of t.store) (byte_of u.store)
+  pub grew : (kernel : Extent) → AreKept kernel items t at → Grew t.reserved u.reserved
+
+pub claimed-room : (kernel : Extent) (items longer : List Item) (t v : Contents) (at : Aim) → AreKept kernel items t at
+    → Claimed items longer t v at → length v.reserved.records + 2 ≤ v.reserved.room
+claimed-room kernel items longer t v at kept c =
+    freed-room t v (c.grew kernel kept) (few-kept which.Reserved kernel items t at kept) (room-least which.Reserved kernel items t at kept)
+
+pub left-freed : (items longer new : List Item) (t v u : Contents) (at : Aim) (range : Extent) → new ≡ longer ++ item.Free range ∷ []
+    → Claimed items longer t v at → Freed v u range → Left items new t u at
+left-freed items longer new t v u at range is c f = record {
+  kept = λ kernel kept. subst (λ (l : List Item). AreKept kernel l u at) (sym is)
+      (freed-kept kernel longer v u at range (c.kept kernel kept) f (claimed-room kernel items longer t v at kept c));
+  bytes = λ kernel kept. subst (λ (l : List Item). Follows kernel items l (byte_of t.store) (byte_of u.store)) (sym is)
+      (follows-then kernel items longer (longer ++ item.Free range ∷ []) (byte_of t.store) (byte_of v.store) (byte_of u.store)
+      (c.bytes kernel kept)
+      (freed-bytes kernel longer v u at range (c.kept kernel kept) f (claimed-room kernel items longer t v at kept c)));
+  grew = λ kernel kept. freed-grown kernel longer t v u at range (c.kept kernel kept) (c.grew kernel kept) f;
+}
 
 -- where nothing was written
 pub still-bytes : (kernel : Extent) (items longer : List Item) (t p : Contents) (at : Aim) → longer ≡ items
