@@ -81,3 +81,7 @@ record_fits bs count i r lent less =
     let here : 0 + 24 * i ≡ 24 * i = omega arith in
     subst FitsRecord (sym (get-records_at (slice_index bs) 0 count i r less ∙ ap (λ (y : ℕ). run_in (bytes_at (slice_index bs) y 24)) here))
     (run_fits (bytes_at (slice_index bs) (24 * i) 24) (lent.each i less))
+
+-- how many records a table in a store has
+pub count_is : (s : List Stored) (h : Head) → length (list_in s h) ≡ h.count
+count_is s h = length-records_at (byte_of s) h.place h.count

@@ -1,176 +1,78 @@
-use Rattle.std.proofs.Common.{◌+◌, ◌-◌, ◌*◌, refl, ◌∙◌, arith}
-use Rattle.phys_store.specs.Bytes.{byte_of}
-use Rattle.memblock_ranges.proofs.SpellLaws.{length-records_at}
-use Rattle.memblock_ranges.proofs.ByteEdits.{close_table}
+use Rattle.std.proofs.Common.{◌+◌, ◌-◌, ◌*◌, ◌++◌, take, drop, refl, ◌∙◌, arith}
+use Rattle.memblock_ranges.specs.Tables.{list_in}
+use Rattle.memblock_ranges.proofs.LentLaws.{count_is}
+use Rattle.memblock_ranges.proofs.ByteEdits.{Edited, close_table}
 use Rattle.memblock_ranges.proofs.live.LiveSlotsRecord.close.Goals as goal
+use Rattle.memblock_ranges.proofs.live.LiveSlotsRecord.close.Goals.{After-fill}
 
 pub overflow_add-i : goal.overflow_add-i
-overflow_add-i c =
-    let l = c.args.self.now in
-    let s = l.store.now in
-    let h = l.head.now in
-    let t = l.table in
-    let low = length-records_at (byte_of s) h.place h.count in
-    omega (arith, t.few, t.fits, c.requires, low)
+overflow_add-i c = let l = c.args.self.now in omega (arith, l.table.few, l.table.fits, c.requires, count_is l.store.now l.head.now)
 
 pub overflow_mul-i : goal.overflow_mul-i
-overflow_mul-i c =
-    let l = c.args.self.now in
-    let s = l.store.now in
-    let h = l.head.now in
-    let t = l.table in
-    let low = length-records_at (byte_of s) h.place h.count in
-    omega (arith, t.few, t.fits, c.requires, low)
+overflow_mul-i c = let l = c.args.self.now in omega (arith, l.table.few, l.table.fits, c.requires, count_is l.store.now l.head.now)
 
 pub overflow_add-place : goal.overflow_add-place
-overflow_add-place c =
-    let l = c.args.self.now in
-    let s = l.store.now in
-    let h = l.head.now in
-    let t = l.table in
-    let low = length-records_at (byte_of s) h.place h.count in
-    omega (arith, t.few, t.fits, c.requires, low)
+overflow_add-place c = let l = c.args.self.now in omega (arith, l.table.few, l.table.fits, c.requires, count_is l.store.now l.head.now)
 
 pub overflow_mul-i-2 : goal.overflow_mul-i-2
-overflow_mul-i-2 c =
-    let l = c.args.self.now in
-    let s = l.store.now in
-    let h = l.head.now in
-    let t = l.table in
-    let low = length-records_at (byte_of s) h.place h.count in
-    omega (arith, t.few, t.fits, c.requires, low)
+overflow_mul-i-2 c = let l = c.args.self.now in omega (arith, l.table.few, l.table.fits, c.requires, count_is l.store.now l.head.now)
 
 pub overflow_add-place-2 : goal.overflow_add-place-2
-overflow_add-place-2 c =
-    let l = c.args.self.now in
-    let s = l.store.now in
-    let h = l.head.now in
-    let t = l.table in
-    let low = length-records_at (byte_of s) h.place h.count in
-    omega (arith, t.few, t.fits, c.requires, low)
+overflow_add-place-2 c = let l = c.args.self.now in omega (arith, l.table.few, l.table.fits, c.requires, count_is l.store.now l.head.now)
 
 pub overflow_add-i-2 : goal.overflow_add-i-2
-overflow_add-i-2 c =
-    let l = c.args.self.now in
-    let s = l.store.now in
-    let h = l.head.now in
-    let t = l.table in
-    let low = length-records_at (byte_of s) h.place h.count in
-    omega (arith, t.few, t.fits, c.requires, low)
+overflow_add-i-2 c = let l = c.args.self.now in omega (arith, l.table.few, l.table.fits, c.requires, count_is l.store.now l.head.now)
 
 pub overflow_sub-count : goal.overflow_sub-count
-overflow_sub-count c =
-    let l = c.args.self.now in
-    let s = l.store.now in
-    let h = l.head.now in
-    let t = l.table in
-    let low = length-records_at (byte_of s) h.place h.count in
-    omega (arith, t.few, t.fits, c.requires, low)
+overflow_sub-count c = let l = c.args.self.now in omega (arith, l.table.few, l.table.fits, c.requires, count_is l.store.now l.head.now)
 
 pub overflow_sub-freed : goal.overflow_sub-freed
-overflow_sub-freed c =
-    let l = c.args.self.now in
-    let s = l.store.now in
-    let h = l.head.now in
-    let t = l.table in
-    let low = length-records_at (byte_of s) h.place h.count in
-    omega (arith, t.few, t.fits, c.requires, low)
+overflow_sub-freed c = let l = c.args.self.now in omega (arith, l.table.few, l.table.fits, c.requires, count_is l.store.now l.head.now)
 
 pub overflow_mul-freed-2 : goal.overflow_mul-freed-2
-overflow_mul-freed-2 c =
-    let l = c.args.self.now in
-    let s = l.store.now in
-    let h = l.head.now in
-    let t = l.table in
-    let low = length-records_at (byte_of s) h.place h.count in
-    omega (arith, t.few, t.fits, c.requires, low)
+overflow_mul-freed-2 c = let l = c.args.self.now in omega (arith, l.table.few, l.table.fits, c.requires, count_is l.store.now l.head.now)
 
 pub invariant_of-freed : goal.invariant_of-freed
-invariant_of-freed c =
-    let l = c.args.self.now in
-    let s = l.store.now in
-    let h = l.head.now in
-    let t = l.table in
-    let low = length-records_at (byte_of s) h.place h.count in
-    omega (arith, t.few, t.fits, c.requires, low)
+invariant_of-freed c = let l = c.args.self.now in omega (arith, l.table.few, l.table.fits, c.requires, count_is l.store.now l.head.now)
 
 pub overflow_sub-self : goal.overflow_sub-self
-overflow_sub-self c =
-    let l = c.args.self.now in
-    let s = l.store.now in
-    let h = l.head.now in
-    let t = l.table in
-    let low = length-records_at (byte_of s) h.place h.count in
-    omega (arith, t.few, t.fits, c.requires, low)
+overflow_sub-self c = let l = c.args.self.now in omega (arith, l.table.few, l.table.fits, c.requires, count_is l.store.now l.head.now)
 
 pub move_bytes-requires : goal.move_bytes-requires
 move_bytes-requires c =
-    let l = c.args.self.now in
-    let s = l.store.now in
-    let h = l.head.now in
-    let t = l.table in
-    let low = length-records_at (byte_of s) h.place h.count in
+    let t = c.args.self.now.table in
+    let low = count_is c.args.self.now.store.now c.args.self.now.head.now in
     λ x from to. t.prepared x (omega (arith, from, c.requires)) (omega (arith, to, t.few, c.requires, low))
 
 pub fill-requires : goal.fill-requires
 fill-requires c =
-    let l = c.args.self.now in
-    let s = l.store.now in
-    let h = l.head.now in
-    let t = l.table in
-    let low = length-records_at (byte_of s) h.place h.count in
+    let t = c.args.self.now.table in
+    let low = count_is c.args.self.now.store.now c.args.self.now.head.now in
     λ x from to. c.move_bytes.ensures.ready x ∙ t.prepared x (omega (arith, from)) (omega (arith, to, t.few, c.requires, low))
 
-pub invariant_of-self : goal.invariant_of-self
-invariant_of-self c =
+-- what the table becomes
+closed : (c : After-fill) → let l = c.args.self.now in
+    let rs = list_in l.store.now l.head.now in
+    Edited l.store.now c.fill.new.self l.head.now.place l.head.now.room (l.head.now.count - c.args.n)
+    (take c.args.i rs ++ drop (c.args.i + c.args.n) rs)
+closed c =
     let l = c.args.self.now in
-    let s = l.store.now in
     let h = l.head.now in
-    let t = l.table in
-    let low = length-records_at (byte_of s) h.place h.count in
     let i = c.args.i in
     let n = c.args.n in
-    let e = close_table s c.move_bytes.new.self c.fill.new.self h.place h.room h.count i n (h.place + 24 * (i + n)) (h.place + 24 * i)
-    (24 * (h.count - (i + n)))
-    (h.place + 24 * (h.count - n)) (24 * n) t (omega (
-      arith,
-      c.requires,
-      low,
-    )) c.move_bytes.ensures c.fill.ensures refl refl refl refl refl in
-    record { table = e.table }
+    let low = count_is l.store.now h in
+    close_table l.store.now c.move_bytes.new.self c.fill.new.self h.place h.room h.count i n (h.place + 24 * (i + n)) (h.place + 24 * i)
+    (24 * (h.count - (i + n))) (h.place + 24 * (h.count - n)) (24 * n) l.table (omega (arith, c.requires, low)) c.move_bytes.ensures
+    c.fill.ensures refl refl refl refl refl
+
+pub invariant_of-self : goal.invariant_of-self
+invariant_of-self c = record { table = (closed (goal.at.invariant_of-self c).After-fill).table }
 
 pub returns-clause-list : goal.returns-clause-list
-returns-clause-list c =
-    let l = c.args.self.now in
-    let s = l.store.now in
-    let h = l.head.now in
-    let t = l.table in
-    let low = length-records_at (byte_of s) h.place h.count in
-    let i = c.args.i in
-    let n = c.args.n in
-    let e = close_table s c.move_bytes.new.self c.fill.new.self h.place h.room h.count i n (h.place + 24 * (i + n)) (h.place + 24 * i)
-    (24 * (h.count - (i + n)))
-    (h.place + 24 * (h.count - n)) (24 * n) t (omega (
-      arith,
-      c.requires,
-      low,
-    )) c.move_bytes.ensures c.fill.ensures refl refl refl refl refl in
-    e.list_is
+returns-clause-list c = (closed (goal.at.returns-clause-list c).After-fill).list_is
 
 pub returns-clause-keeps : goal.returns-clause-keeps
 returns-clause-keeps c =
-    let l = c.args.self.now in
-    let s = l.store.now in
-    let h = l.head.now in
-    let t = l.table in
-    let low = length-records_at (byte_of s) h.place h.count in
-    let i = c.args.i in
-    let n = c.args.n in
-    let e = close_table s c.move_bytes.new.self c.fill.new.self h.place h.room h.count i n (h.place + 24 * (i + n)) (h.place + 24 * i)
-    (24 * (h.count - (i + n)))
-    (h.place + 24 * (h.count - n)) (24 * n) t (omega (
-      arith,
-      c.requires,
-      low,
-    )) c.move_bytes.ensures c.fill.ensures refl refl refl refl refl in
+    let h = c.args.self.now.head.now in
+    let e = closed (goal.at.returns-clause-keeps c).After-fill in
     (refl, refl, λ j. record { place = h.place; room = h.room; others = e.others j; ready = e.ready j })

@@ -6,19 +6,11 @@ returns-in-Memory-clause-head c = rw (← c.self.view_is, c.in-Memory.is) (head_
 
 pub returns-in-Memory-clause-table : goal.returns-in-Memory-clause-table
 returns-in-Memory-clause-table c =
-    let s = c.self.inside.store in
-    let m = c.self.inside.heads.memory in
-    let r = c.self.inside.heads.reserved in
-    let both = c.self.invariant in
-    rw (← c.self.view_is, c.in-Memory.is) (stands s m both.memory both.memory_records)
+    rw (← c.self.view_is, c.in-Memory.is) (stands _ _ c.self.invariant.memory c.self.invariant.memory_records)
 
 pub returns-in-Reserved-clause-head : goal.returns-in-Reserved-clause-head
 returns-in-Reserved-clause-head c = rw (← c.self.view_is, c.in-Reserved.is) (head_is c.self.inside.store c.self.inside.heads.reserved)
 
 pub returns-in-Reserved-clause-table : goal.returns-in-Reserved-clause-table
 returns-in-Reserved-clause-table c =
-    let s = c.self.inside.store in
-    let m = c.self.inside.heads.memory in
-    let r = c.self.inside.heads.reserved in
-    let both = c.self.invariant in
-    rw (← c.self.view_is, c.in-Reserved.is) (stands s r both.reserved both.reserved_records)
+    rw (← c.self.view_is, c.in-Reserved.is) (stands _ _ c.self.invariant.reserved c.self.invariant.reserved_records)

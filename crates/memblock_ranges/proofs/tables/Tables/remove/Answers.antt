@@ -1,87 +1,46 @@
-use Rattle.std.proofs.Common.{◌+◌, ◌^◌, ◌≤◌, arith}
+use Rattle.std.proofs.Common.{arith}
 use Rattle.address_runs.specs.Runs.{value_at}
 use Rattle.address_runs.specs.Edits.{uncovered}
 use Rattle.memblock_model.specs.Tables.{records_for}
-use Rattle.memblock_ranges.specs.Tables.{list_in}
+use Rattle.memblock_ranges.specs.Tables.{list_in, HaveNoNode}
 use Rattle.memblock_ranges.proofs.PairLaws.{pair_memory, pair_reserved, edited_at, edited_ready, plain_uncovered}
 use Rattle.memblock_ranges.proofs.tables.Tables.remove.Goals as goal
+use Rattle.memblock_ranges.proofs.tables.Tables.remove.Goals.{In-Reserved}
+
+-- no record of the reserved table has a node
+plain : (c : In-Reserved) →
+    HaveNoNode (records_for (uncovered c.args.range (value_at (list_in c.self.inside.store c.self.inside.heads.reserved))))
+plain c =
+    plain_uncovered c.args.range (list_in c.self.inside.store c.self.inside.heads.reserved) c.self.invariant.reserved_records
+    c.self.invariant.plain (omega (arith, c.end-end.ensures.small))
 
 pub invariant_of-self : goal.invariant_of-self
-invariant_of-self c =
-    let s = c.self.inside.store in
-    let m = c.self.inside.heads.memory in
-    let r = c.self.inside.heads.reserved in
-    let both = c.self.invariant in
-    let list = records_for (uncovered c.args.range (value_at (list_in s m))) in
-    let p = pair_memory s c.uncover.new.store m r c.uncover.new.head list both c.uncover.ensures.edits c.uncover.ensures.records in
-    p.0
+invariant_of-self c = (pair_memory _ _ _ _ _ _ c.self.invariant c.uncover.ensures.edits c.uncover.ensures.records).0
 
 pub returns-in-Memory-clause-other : goal.returns-in-Memory-clause-other
 returns-in-Memory-clause-other c =
-    let s = c.self.inside.store in
-    let m = c.self.inside.heads.memory in
-    let r = c.self.inside.heads.reserved in
-    let both = c.self.invariant in
-    let list = records_for (uncovered c.args.range (value_at (list_in s m))) in
-    let p = pair_memory s c.uncover.new.store m r c.uncover.new.head list both c.uncover.ensures.edits c.uncover.ensures.records in
-    rw (← c.self.view_is, c.in-Memory.is) p.1
+    rw (← c.self.view_is, c.in-Memory.is) (pair_memory _ _ _ _ _ _ c.self.invariant c.uncover.ensures.edits c.uncover.ensures.records).1
 
 pub returns-in-Memory-clause-elsewhere : goal.returns-in-Memory-clause-elsewhere
-returns-in-Memory-clause-elsewhere c =
-    let s = c.self.inside.store in
-    let m = c.self.inside.heads.memory in
-    let r = c.self.inside.heads.reserved in
-    let both = c.self.invariant in
-    rw (← c.self.view_is, c.in-Memory.is) (edited_at s c.uncover.new.store m c.uncover.new.head _ c.uncover.ensures.edits)
+returns-in-Memory-clause-elsewhere c = rw (← c.self.view_is, c.in-Memory.is) (edited_at _ _ _ _ _ c.uncover.ensures.edits)
 
 pub returns-in-Memory-clause-ready : goal.returns-in-Memory-clause-ready
-returns-in-Memory-clause-ready c =
-    let s = c.self.inside.store in
-    let m = c.self.inside.heads.memory in
-    let r = c.self.inside.heads.reserved in
-    let both = c.self.invariant in
-    rw (← c.self.view_is) (edited_ready s c.uncover.new.store m c.uncover.new.head _ c.uncover.ensures.edits)
+returns-in-Memory-clause-ready c = rw (← c.self.view_is) (edited_ready _ _ _ _ _ c.uncover.ensures.edits)
 
 pub invariant_of-self-in-Reserved : goal.invariant_of-self-in-Reserved
 invariant_of-self-in-Reserved c =
-    let s = c.self.inside.store in
-    let m = c.self.inside.heads.memory in
-    let r = c.self.inside.heads.reserved in
-    let both = c.self.invariant in
-    let list = records_for (uncovered c.args.range (value_at (list_in s r))) in
-    let end : c.args.range.base + c.args.range.size ≤ 2 ^ 64 = omega (arith, c.end-end.ensures.small) in
-    let plain = plain_uncovered c.args.range (list_in s r) both.reserved_records both.plain end in
-    let p = pair_reserved s c.uncover-in-Reserved.new.store m r c.uncover-in-Reserved.new.head list both
-    c.uncover-in-Reserved.ensures.edits c.uncover-in-Reserved.ensures.records plain in
-    p.0
+    (pair_reserved _ _ _ _ _ _ c.self.invariant c.uncover-in-Reserved.ensures.edits c.uncover-in-Reserved.ensures.records
+    (plain (goal.at.invariant_of-self-in-Reserved c).In-Reserved)).0
 
 pub returns-in-Reserved-clause-other : goal.returns-in-Reserved-clause-other
 returns-in-Reserved-clause-other c =
-    let s = c.self.inside.store in
-    let m = c.self.inside.heads.memory in
-    let r = c.self.inside.heads.reserved in
-    let both = c.self.invariant in
-    let list = records_for (uncovered c.args.range (value_at (list_in s r))) in
-    let end : c.args.range.base + c.args.range.size ≤ 2 ^ 64 = omega (arith, c.end-end.ensures.small) in
-    let plain = plain_uncovered c.args.range (list_in s r) both.reserved_records both.plain end in
-    let p = pair_reserved s c.uncover-in-Reserved.new.store m r c.uncover-in-Reserved.new.head list both
-    c.uncover-in-Reserved.ensures.edits c.uncover-in-Reserved.ensures.records plain in
-    rw (← c.self.view_is, c.in-Reserved.is) p.1
+    rw (← c.self.view_is, c.in-Reserved.is)
+    (pair_reserved _ _ _ _ _ _ c.self.invariant c.uncover-in-Reserved.ensures.edits c.uncover-in-Reserved.ensures.records
+    (plain (goal.at.returns-in-Reserved-clause-other c).In-Reserved)).1
 
 pub returns-in-Reserved-clause-elsewhere : goal.returns-in-Reserved-clause-elsewhere
 returns-in-Reserved-clause-elsewhere c =
-    let s = c.self.inside.store in
-    let m = c.self.inside.heads.memory in
-    let r = c.self.inside.heads.reserved in
-    let both = c.self.invariant in
-    rw (← c.self.view_is, c.in-Reserved.is)
-    (edited_at s c.uncover-in-Reserved.new.store r c.uncover-in-Reserved.new.head _ c.uncover-in-Reserved.ensures.edits)
+    rw (← c.self.view_is, c.in-Reserved.is) (edited_at _ _ _ _ _ c.uncover-in-Reserved.ensures.edits)
 
 pub returns-in-Reserved-clause-ready : goal.returns-in-Reserved-clause-ready
-returns-in-Reserved-clause-ready c =
-    let s = c.self.inside.store in
-    let m = c.self.inside.heads.memory in
-    let r = c.self.inside.heads.reserved in
-    let both = c.self.invariant in
-    rw (← c.self.view_is)
-    (edited_ready s c.uncover-in-Reserved.new.store r c.uncover-in-Reserved.new.head _ c.uncover-in-Reserved.ensures.edits)
+returns-in-Reserved-clause-ready c = rw (← c.self.view_is) (edited_ready _ _ _ _ _ c.uncover-in-Reserved.ensures.edits)
