@@ -13,10 +13,7 @@ ghost use Rattle.memblock_grow.specs.Kept.{AreTold, StayReady};
 
 use bm_base::Range;
 use memblock_model::Which;
-use memblock_ranges::Tables;
-
-/// The node of a record that has none (`MAX_NUMNODES`).
-const NO_NODE: u32 = 1024;
+use memblock_ranges::{NO_NODE, Tables};
 
 /// The bytes of both tables: a look at their heads, for what it tells of the bytes there.
 fn look(tables: &Tables)

@@ -8,10 +8,7 @@ use crate::aim::Aim;
 use bm_base::{FRAME_SIZE, Range};
 use boot_journal::Journal;
 use memblock_find::{Mode, Query, find};
-use memblock_ranges::{Head, Tables};
-
-/// The records that a table has room for as long as it never moved (`INIT_MEMBLOCK_REGIONS`).
-const FIRST_ROOM: u64 = 128;
+use memblock_ranges::{FIRST_ROOM, Head, Tables};
 
 /// The bytes of the frames that so many bytes take; `None` where they exceed 2^64 - 1.
 fn frames(bytes: u64) -> Option<u64>
