@@ -361,3 +361,21 @@ impl Memblock {
         (store, heads, journal)
     }
 }
+
+// Memblock is the kernel's place, the journal, the tables, the limit and the direction: nothing else tells of memory.
+#[test]
+fn memblock_is_five_parts(rt: HostRuntime) -> Result<(), std::test::Fail> {
+    let image = Range {
+        base: 0x100_0000,
+        size: 0x2000,
+    };
+    let Memblock {
+        kernel,
+        journal,
+        tables,
+        limit,
+        upward,
+    } = Memblock::new(rt.alloc(), image)?;
+    let _parts: (Range, Journal, Tables, u64, bool) = (kernel, journal, tables, limit, upward);
+    Ok(())
+}

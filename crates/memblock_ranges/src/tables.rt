@@ -288,3 +288,16 @@ fn built_in(kernel: Range, frames: u64) -> Head
         count: 0,
     }
 }
+
+// The tables are the bytes and two heads: nothing else tells of a record.
+#[test]
+fn tables_are_bytes_and_two_heads(rt: HostRuntime) -> Result<(), std::test::Fail> {
+    let kernel = Range {
+        base: 0x100_0000,
+        size: 0x2000,
+    };
+    let Tables { store, heads } = Tables::new(rt.alloc(), kernel)?;
+    let Heads { memory, reserved } = heads;
+    let _parts: (Store, [Head; 2]) = (store, [memory, reserved]);
+    Ok(())
+}
