@@ -67,3 +67,15 @@ returns-then-at-frames-clause-some c =
     let most = c.max.ensures in
     let test = c.if-at-frames.true in
     omega (arith, first, end, order, most, test)
+
+pub returns-then-at-frames-clause-not_empty : goal.returns-then-at-frames-clause-not_empty
+returns-then-at-frames-clause-not_empty c = λ here.
+    let rs = list_in c.args.store.now c.args.head.now in
+    let first : c.frames_at-frames.result.first ≡ (frames_of (get_or rs c.loop-i.i nobody)).first =
+    ap (λ (f : RecordFrames). f.first) (c.frames_at-frames.ensures nobody) in
+    let end : c.frames_at-frames.result.end ≡ (frames_of (get_or rs c.loop-i.i nobody)).end =
+    ap (λ (f : RecordFrames). f.end) (c.frames_at-frames.ensures nobody) in
+    let order = frames_order (get_or rs c.loop-i.i nobody) in
+    let most = c.max.ensures in
+    let test = c.if-at-frames.true in
+    omega (arith, first, end, order, most, test)
