@@ -15,7 +15,8 @@ use Rattle.phys_store.proofs.extents.fill.Goals.{After-index-extents-i, After-fi
 record HasRange (c : After-index-extents-i) : Type 0 where
   base : c.range.inside.base ≡ c.args.range.base
   size : c.range.inside.size ≡ c.args.range.size
-  held : Holds c.args.extents.now c.args.range.base c.args.range.size c.in-Some.i (get_or c.args.extents.now c.in-Some.i c.index-extents-i.result)
+  held : Holds c.args.extents.now c.args.range.base c.args.range.size c.in-Some.i
+      (get_or c.args.extents.now c.in-Some.i c.index-extents-i.result)
 
 has_range : (c : After-index-extents-i) → HasRange c
 has_range c =
@@ -23,7 +24,8 @@ has_range c =
     record {
       base = base;
       size = ap (λ (r : Extent). r.size) c.range.view_is;
-      held = holds c.args.extents.now c.args.range.base c.args.range.size c.in-Some.i (get_or c.args.extents.now c.in-Some.i c.index-extents-i.result) c.requires.apart c.requires.prepared
+      held = holds c.args.extents.now c.args.range.base c.args.range.size c.in-Some.i
+          (get_or c.args.extents.now c.in-Some.i c.index-extents-i.result) c.requires.apart c.requires.prepared
           (subst (λ a. position (λ d. inside (stored d) a) c.args.extents.now ≡ Some c.in-Some.i) base
           (sym c.place_of.ensures ∙ c.in-Some.is)) (ap (λ (d : Held). get_or c.args.extents.now c.in-Some.i d) c.index-extents-i.is);
     }

@@ -10,7 +10,8 @@ use Rattle.phys_store.proofs.extents.shift.Goals.{After-index-extents-i, After-c
 
 -- the extent that has both ranges
 has_both : (c : After-index-extents-i) → Holds c.args.extents.now (min c.args.from c.args.to)
-    (max c.args.from c.args.to - min c.args.from c.args.to + c.args.count) c.in-Some.i (get_or c.args.extents.now c.in-Some.i c.index-extents-i.result)
+    (max c.args.from c.args.to - min c.args.from c.args.to + c.args.count) c.in-Some.i
+    (get_or c.args.extents.now c.in-Some.i c.index-extents-i.result)
 has_both c =
     holds c.args.extents.now (min c.args.from c.args.to) (max c.args.from c.args.to - min c.args.from c.args.to + c.args.count)
     c.in-Some.i (get_or c.args.extents.now c.in-Some.i c.index-extents-i.result) c.requires.apart c.requires.prepared

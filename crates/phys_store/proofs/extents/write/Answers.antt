@@ -10,9 +10,11 @@ use Rattle.phys_store.proofs.extents.write.Goals as goal
 use Rattle.phys_store.proofs.extents.write.Goals.{After-index-extents-i, After-copy_from_slice}
 
 -- the extent that has the addresses
-has_place : (c : After-index-extents-i) → Holds c.args.extents.now c.args.at (length c.args.bytes.now) c.in-Some.i (get_or c.args.extents.now c.in-Some.i c.index-extents-i.result)
+has_place : (c : After-index-extents-i) → Holds c.args.extents.now c.args.at (length c.args.bytes.now) c.in-Some.i
+    (get_or c.args.extents.now c.in-Some.i c.index-extents-i.result)
 has_place c =
-    holds c.args.extents.now c.args.at (length c.args.bytes.now) c.in-Some.i (get_or c.args.extents.now c.in-Some.i c.index-extents-i.result) c.requires.apart c.requires.prepared
+    holds c.args.extents.now c.args.at (length c.args.bytes.now) c.in-Some.i
+    (get_or c.args.extents.now c.in-Some.i c.index-extents-i.result) c.requires.apart c.requires.prepared
     (sym c.place_of.ensures ∙ c.in-Some.is) (ap (λ (d : Held). get_or c.args.extents.now c.in-Some.i d) c.index-extents-i.is)
 
 pub overflow_sub-from : goal.overflow_sub-from
