@@ -1,0 +1,27 @@
+-- Runs that the program's types hold, and one that they don't; a text that is held whole, and one that isn't.
+use Rattle.std.proofs.Common.{ℕ, ◌-◌, ◌^◌, Some, None, [], ◌∷◌, refl, arith}
+use Rattle.address_runs.specs.Runs.{RunOf}
+use Rattle.memblock_model.specs.declared.owner.Owner.TheVariants as owners
+use Rattle.audit_laws.specs.Saved.{IsSaved}
+use Rattle.audit_laws.specs.Told.{IsNear, IsNearOwner}
+
+-- the last frame below 2^64 but one, and the last one
+abbrev run_at : ℕ → RunOf ℕ
+run_at base = record { base = base; size = 4096; value = 2 }
+
+last_but_one : IsNear (run_at (2 ^ 64 - 8192))
+last_but_one = omega arith
+
+last : ¬ IsNear (run_at (2 ^ 64 - 4096))
+last near = absurd (omega (arith, near))
+
+-- a number of 33 bits
+wide_number : ¬ IsNearOwner (record { base = 0; size = 4096; value = owners.Script (2 ^ 32) })
+wide_number near = absurd (omega (arith, near.1))
+
+-- the text `a`
+held_whole : IsSaved (Some (97 ∷ [])) (97 ∷ [])
+held_whole = record { holds = refl; short = omega arith }
+
+not_there : ¬ IsSaved None (97 ∷ [])
+not_there saved = cc (saved.holds)
