@@ -109,7 +109,8 @@ module _ (given : Given) (items : List Item) (bs : List Block) (whole : (b : Blo
       let first : (4096 * b.first) / 4096 ≡ b.first = omega arith in
       subst (λ (n : ℕ). (n - n % s ≤ frame) × (frame < n - n % s + s)) (sym first) (ends.0, ends.1)
 
-  joined_free : (b : Block) → could_join (map told_block bs) (told_block b) ≡ true → (nat_lt b.order 10 ≡ true) × AreAllFree given items (with_buddy b)
+  joined_free : (b : Block) → could_join (map told_block bs) (told_block b) ≡ true
+      → (nat_lt b.order 10 ≡ true) × AreAllFree given items (with_buddy b)
   unfolding could_join
   joined_free b joins = (
     (and_parts (nat_lt b.order 10) _ joins).0,

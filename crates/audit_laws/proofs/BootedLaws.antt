@@ -61,7 +61,8 @@ module _ (given : Given) (told : Told) (ends : told_boot given ≡ Ok told) wher
       let is : told.map ≡ map_of (claims given) = ap (λ (t : Told). t.map) (sym of.tells) ∙ (goes_on given of.made of.boots).map in
       let given_so : value_at (map_of (claims given)) x ≡ Some k = ap (λ (rs : List (RunOf ℕ)). value_at rs x) (sym is) ∙ found in
       elim (cases_lt x (2 ^ 64)) as (λ _. (0 < k) × (k < 2 ^ 32)) [
-        | inl low ↦ kind_small (claims given) x k (sym ((map_between (claims given)).within x (omega arith) (omega (arith, low))) ∙ given_so)
+        | inl low ↦
+            kind_small (claims given) x k (sym ((map_between (claims given)).within x (omega arith) (omega (arith, low))) ∙ given_so)
         | inr far ↦ absurd (cc (sym given_so ∙ (map_between (claims given)).past x (omega (arith, far))))
       ]
 

@@ -72,7 +72,8 @@ module _ (given : Given) (told : Told) (ends : told_boot given ≡ Ok told) (can
     lines_told : lines_of held wanted ≡ Ok told_lines
     lines_told =
         rw (
-          read_saved map_in (λ l. l.range) saved.Map (held wanted.map_name) (report_text reports.Map told) (map told_run told.map) is.map map_read,
+          read_saved map_in (λ l. l.range) saved.Map (held wanted.map_name) (report_text reports.Map told)
+              (map told_run told.map) is.map map_read,
           read_saved owner_in (λ r. r) saved.Owners (held wanted.owners_name) (report_text reports.Owners told)
               (map extent_of (owner_runs_of told.items)) is.owners owners_read,
           read_saved block_in bytes_of_block saved.Blocks (held wanted.blocks_name) (report_text reports.Blocks told)

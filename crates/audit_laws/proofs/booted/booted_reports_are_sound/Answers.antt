@@ -15,7 +15,8 @@ pub returns-clause-told : goal.returns-clause-told
 returns-clause-told g c =
     can_be_told g.given (booted_view c.args.booted.now) c.requires
     (subst (λ (rs : List (RunOf ℕ)). All IsNear rs) c.deref.ensures.value c.read_map.ensures)
-    (subst (λ (rs : List (RunOf Owner)). IsRunsOf (owner_of c.args.booted.now.journal.items) rs) c.owners.ensures.list c.owners.ensures.runs)
+    (subst (λ (rs : List (RunOf Owner)). IsRunsOf (owner_of c.args.booted.now.journal.items) rs) c.owners.ensures.list
+    c.owners.ensures.runs)
     (subst (λ (rs : List (RunOf Owner)). All IsNearOwner rs) c.owners.ensures.list c.read_owners.ensures)
 
 pub returns-clause-conserved : goal.returns-clause-conserved
