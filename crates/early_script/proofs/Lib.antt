@@ -3,7 +3,6 @@ pub mod OwnedLaws
 pub mod IdsLaws
 pub mod WholeLaws
 pub mod RunLaws
-pub mod AnswerLaws
 pub mod DeedLaws
 pub mod HoldLaws
 pub mod StageLaws

@@ -15,6 +15,7 @@ use Rattle.early_script.specs.Ids.{Ids}
 use Rattle.early_script.specs.Acted.{State, Deed, IsAmid, Acts, with_fill, deed}
 use Rattle.early_script.specs.Found.{state_of, bytes_in}
 use Rattle.early_script.specs.Stage.{Stage, Reaches, EndsAmid, EndsBehind, RunsOut, IsBetween, deed_at, after_line, after_lines}
+use Rattle.early_script.proofs.RunLaws.{ran-cut}
 use Rattle.early_script.proofs.StageLaws.{after_lines-append, reaches-line}
 
 -- amid the next line
@@ -131,11 +132,13 @@ between-out start lines ids m answers out =
     (lines-go next (drop (out.count + 1) lines)) in
     elim out.ends as (λ _. IsBetween start.state.items m.journal.items whole) [
       | inl ends ↦
-          let change = (deed_at so_far out.line).change so_far.state.items in
+          let d = deed_at so_far out.line in
+          let change = d.change so_far.state.items in
+          let cut = ran-cut d.takes so_far.state.items m.journal.items change ends.amid.0 in
           between start.state.items m.journal.items whole
           (goes-then start.state.items so_far.state.items m.journal.items goes
-          (record { more = joined (take ends.amid.0.count change.steps); on = ends.amid.0.stands }))
-          (goes-then m.journal.items next.state.items whole (cut-goes-on so_far.state.items m.journal.items change ends.amid.0)
+          (record { more = joined (take cut.count change.steps); on = cut.stands }))
+          (goes-then m.journal.items next.state.items whole (cut-goes-on so_far.state.items m.journal.items change cut)
           goes_further)
       | inr ends ↦
           let same : m.journal.items ≡ next.state.items = ap (λ (s : State). s.items) ends.state in

@@ -19,6 +19,7 @@ use Rattle.early_script.specs.declared.outcome.Outcome.TheVariants as outcomes
 use Rattle.early_script.specs.Ids.{range_of, is_live, with_range}
 use Rattle.early_script.specs.Owned.{is_owned, touches}
 use Rattle.early_script.specs.Acted.{State, Deed, Acts, answers, request_of, alloc_at, alloc_deed, reserve_deed, on_range, free_whole, trimmed_to, trim_whole, fill_whole, deed}
+use Rattle.early_script.proofs.RunLaws.{ran-cut}
 
 pub record IsQuietDeed (d : Deed) : Type 0 where
   pub change : IsQuiet d.change
@@ -41,7 +42,7 @@ alloc-quiet s id r = either (is_live s.ids id) (answers s outcomes.Taken) (alloc
 reserve-quiet : (s : State) (id : ℕ) (range : Extent) → IsQuietDeed (reserve_deed s id range)
 reserve-quiet s id range =
     let claim : Deed =
-    record { change = claimed range (owner.Script id); answer = outcomes.Done; ids = with_range s.ids id range; fill = None } in
+    record { change = claimed range (owner.Script id); answer = outcomes.Done; ids = with_range s.ids id range; fill = None; takes = true } in
     either (is_live s.ids id) (answers s outcomes.Taken) (if touches s.kernel s.items range then answers s outcomes.TableInUse else claim)
     (answers-quiet s outcomes.Taken)
     (either (touches s.kernel s.items range) (answers s outcomes.TableInUse) claim (answers-quiet s outcomes.TableInUse)
@@ -68,7 +69,7 @@ deed-quiet s bytes (acts.Trim id keep) =
 deed-quiet s bytes (acts.Fill id byte) =
     whole-quiet s id (fill_whole s byte) (range_of s.ids id)
     (λ range. either (nat_lt 65536 range.size) (answers s outcomes.TooLargeFill)
-    (record (answers s outcomes.Done) { fill = Some (record { range = range; byte = byte; at = length s.items }) })
+    (record (answers s outcomes.Done) { fill = Some (record { range = range; byte = byte; at = length s.items }); takes = true })
     (answers-quiet s outcomes.TooLargeFill) (record { change = record { each = λ items. tt } }))
 deed-quiet s bytes (acts.Peek at len) = record { change = record { each = λ items. tt } }
 deed-quiet s bytes acts.Sections = answers-quiet s outcomes.Done
@@ -80,10 +81,11 @@ pub acts-keep : {X : Type 0} (f : List Item → X) →
 acts-keep f keeps (Ok answer) old new d quiet acts =
     ap (λ (s : State). f s.items) acts.1 ∙ keeps old.items (d.change old.items) (quiet.change.each old.items)
 acts-keep f keeps (Err memory) old new d quiet acts =
-    let steps = take acts.0.count (d.change old.items).steps in
-    ap f acts.0.stands
+    let cut = ran-cut d.takes old.items new.items (d.change old.items) acts.0 in
+    let steps = take cut.count (d.change old.items).steps in
+    ap f cut.stands
     ∙ keeps old.items (record { steps = steps; refused = None })
-    (quiet-take acts.0.count (d.change old.items).steps (quiet.change.each old.items))
+    (quiet-take cut.count (d.change old.items).steps (quiet.change.each old.items))
 
 pub acts-memory : (r : Result Outcome Memory) (old new : State) (d : Deed) → IsQuietDeed d → Acts r old new d →
     memory_of new.items ≡ memory_of old.items

@@ -1,5 +1,5 @@
 -- How a line ends, by how memblock's call ended, and that it leaves the bytes to the items where it fills nothing.
-use Rattle.std.proofs.Common.{◌≡◌, ℕ, Bool, true, false, nat_le, if◌then◌else◌, Option, Some, None, List, ◌++◌, length, Result, Ok, Err, IsErr, refl, sym, ◌∙◌, ap, subst, arith}
+use Rattle.std.proofs.Common.{◌≡◌, ℕ, Bool, true, false, nat_le, if◌then◌else◌, Option, Some, None, List, ◌++◌, length, Result, Ok, Err, IsOk, IsErr, refl, sym, ◌∙◌, ap, subst, arith, inl, inr}
 use Rattle.std.proofs.lemmas.Bool.{true≢false}
 use Rattle.std.proofs.Math.Seq.{take-length}
 use Rattle.bm_base.specs.declared.memory.Memory.{Memory}
@@ -13,26 +13,41 @@ use Rattle.growth_model.specs.Outcome.{joined}
 use Rattle.growth_model.specs.Growth.{claimed}
 use Rattle.growth_model.specs.Request.{place_for}
 use Rattle.growth_model.specs.Ends.{IsCut, EndsBy, Ends, Allocates}
+use Rattle.growth_model.proofs.EndLaws.{cut-short}
 use Rattle.growth_model.specs.Bytes.{byte_after, Filled, Follows}
 use Rattle.early_script.specs.declared.outcome.Outcome.{Outcome}
 use Rattle.early_script.specs.declared.outcome.Outcome.TheVariants as outcomes
 use Rattle.early_script.specs.Ids.{range_of, is_live, with_range}
 use Rattle.early_script.specs.Owned.{is_owned, touches}
-use Rattle.early_script.specs.Acted.{State, Deed, Acts, answers, alloc_at, alloc_deed, reserve_deed, on_range, free_whole, free_deed, trimmed_to, trim_whole, trim_deed, byte_by, put_by}
+use Rattle.early_script.specs.Acted.{State, Deed, RanOut, OnlyAnswers, Acts, answers, alloc_at, alloc_deed, reserve_deed, on_range, free_whole, free_deed, trimmed_to, trim_whole, trim_deed, byte_by, put_by}
 
--- all steps of a change are some of them
-pub cut-whole : (T : Type 0) (x : T) (old new : List Item) (o : growth.Outcome) → EndsBy {T = T} (Ok x) old new o → IsCut old new o
-cut-whole T x old new o ends = record {
-  count = length o.steps;
-  within = omega arith;
-  stands = ends.1 ∙ ap (λ (s : List (List Item)). old ++ joined s) (sym (take-length o.steps));
-}
+-- where memory ran out, some of the steps stand, or all of them
+pub ran-cut : (takes : Bool) (old new : List Item) (o : growth.Outcome) → RanOut takes old new o → IsCut old new o
+ran-cut takes old new o ran =
+    elim ran as (λ _. IsCut old new o) [
+      | inl cut ↦ cut-short old new o cut
+      | inr behind ↦ record {
+        count = length o.steps;
+        within = omega arith;
+        stands = behind.2 ∙ ap (λ (s : List (List Item)). old ++ joined s) (sym (take-length o.steps));
+      }
+    ]
+
+-- a line that only answers wants none
+pub only-answers : (r : Result Outcome Memory) (old new : State) (d : Deed) → OnlyAnswers old d → Acts r old new d → IsOk r
+only-answers (Ok answer) old new d only acts = refl
+only-answers (Err memory) old new d only acts =
+    let none = ap (λ (o : growth.Outcome). length o.steps) only.unchanged in
+    elim acts.0 as (λ _. IsOk {T = Outcome} (Err memory)) [
+      | inl cut ↦ let short = cut.short in absurd (omega (arith, none, short))
+      | inr behind ↦ absurd (true≢false (sym behind.0 ∙ only.untaken))
+    ]
 
 -- a line that found want of memory behind its change
-pub acts-wanting : (T : Type 0) (x : T) (r : Result Outcome Memory) (old new : State) (d : Deed) → IsErr r →
+pub acts-wanting : (T : Type 0) (x : T) (r : Result Outcome Memory) (old new : State) (d : Deed) → IsErr r → d.takes ≡ true →
     EndsBy {T = T} (Ok x) old.items new.items (d.change old.items) → new.kernel ≡ old.kernel → new.ids ≡ old.ids → Acts r old new d
-acts-wanting T x (Ok answer) old new d wants ends kernel ids = absurd (true≢false (sym wants))
-acts-wanting T x (Err memory) old new d wants ends kernel ids = (cut-whole T x old.items new.items (d.change old.items) ends, kernel, ids)
+acts-wanting T x (Ok answer) old new d wants takes ends kernel ids = absurd (true≢false (sym wants))
+acts-wanting T x (Err memory) old new d wants takes ends kernel ids = (inr (takes, ends.0, ends.1), kernel, ids)
 
 alloc_wanting : (r : Result Outcome Memory) (old new : State) (id : ℕ) (q : Request) (base : ℕ) (place : Option ℕ) → IsErr r →
     is_live old.ids id ≡ false → place_for q old.items ≡ place →
@@ -41,7 +56,7 @@ alloc_wanting : (r : Result Outcome Memory) (old new : State) (id : ℕ) (q : Re
 alloc_wanting r old new id q base None wants free found allocates kernel ids = let clash = allocates.0 in cc
 alloc_wanting r old new id q base (Some place) wants free found allocates kernel ids =
     let here : Acts r old new (alloc_at old id q.size (Some place)) =
-    acts-wanting ℕ base r old new (alloc_at old id q.size (Some place)) wants allocates.1 kernel ids in
+    acts-wanting ℕ base r old new (alloc_at old id q.size (Some place)) wants refl allocates.1 kernel ids in
     subst (λ (t : Bool). Acts r old new (if t then answers old outcomes.Taken else alloc_at old id q.size (place_for q old.items))) (sym free)
     (subst (λ (o : Option ℕ). Acts r old new (alloc_at old id q.size o)) (sym found) here)
 
@@ -57,8 +72,8 @@ pub reserve-wanting : (r : Result Outcome Memory) (old new : State) (id : ℕ) (
     Acts r old new (reserve_deed old id range)
 reserve-wanting r old new id range u wants free away ends kernel ids =
     let claim : Deed =
-    record { change = claimed range (owner.Script id); answer = outcomes.Done; ids = with_range old.ids id range; fill = None } in
-    let here : Acts r old new claim = acts-wanting (Unit {0}) u r old new claim wants ends kernel ids in
+    record { change = claimed range (owner.Script id); answer = outcomes.Done; ids = with_range old.ids id range; fill = None; takes = true } in
+    let here : Acts r old new claim = acts-wanting (Unit {0}) u r old new claim wants refl ends kernel ids in
     subst (λ (t : Bool). Acts r old new (if t then answers old outcomes.Taken else
     (if touches old.kernel old.items range then answers old outcomes.TableInUse else claim))) (sym free)
     (subst (λ (t : Bool). Acts r old new (if t then answers old outcomes.TableInUse else claim)) (sym away) here)
@@ -85,7 +100,7 @@ alloc-quiet s id r = either (is_live s.ids id) (answers s outcomes.Taken) (alloc
 pub reserve-quiet : (s : State) (id : ℕ) (range : Extent) → (reserve_deed s id range).fill ≡ None
 reserve-quiet s id range =
     let claim : Deed =
-    record { change = claimed range (owner.Script id); answer = outcomes.Done; ids = with_range s.ids id range; fill = None } in
+    record { change = claimed range (owner.Script id); answer = outcomes.Done; ids = with_range s.ids id range; fill = None; takes = true } in
     either (is_live s.ids id) (answers s outcomes.Taken) (if touches s.kernel s.items range then answers s outcomes.TableInUse else
     claim) refl
     (either (touches s.kernel s.items range) (answers s outcomes.TableInUse) claim refl refl)

@@ -1,6 +1,6 @@
 -- What a line of the script does and answers: the tests of its act in their order, the first that holds is the outcome; and the change of
 -- memory where none does.
-use Rattle.std.specs.Prelude.{◌≡◌, ℕ, ◌+◌, ◌-◌, nat_le, nat_lt, if◌then◌else◌, Option, Some, None, List, [], ◌∷◌, ◌++◌, length, Result, Ok, Err}
+use Rattle.std.specs.Prelude.{◌≡◌, ◌⊎◌, ℕ, ◌+◌, ◌-◌, nat_le, nat_lt, Bool, true, false, IsTrue, if◌then◌else◌, Option, Some, None, List, [], ◌∷◌, ◌++◌, length, Result, Ok, Err}
 use Rattle.bm_base.specs.declared.memory.Memory.{Memory}
 use Rattle.bm_base.specs.Extent.{Extent}
 use Rattle.phys_store.specs.Bytes.{bytes_at}
@@ -15,7 +15,7 @@ use Rattle.growth_model.specs.Outcome.{Refused, Change, after, nothing}
 use Rattle.growth_model.specs.Outcome as growth
 use Rattle.growth_model.specs.Growth.{claimed, freed}
 use Rattle.growth_model.specs.Request.{place_for}
-use Rattle.growth_model.specs.Ends.{IsCut}
+use Rattle.growth_model.specs.Ends.{IsCutShort}
 use Rattle.growth_model.specs.Bytes.{byte_after, Filled, put}
 use Rattle.early_script.specs.declared.outcome.Outcome.{Outcome}
 use Rattle.early_script.specs.declared.outcome.Outcome.TheVariants as outcomes
@@ -28,21 +28,23 @@ pub record State : Type 0 where
   pub items : List Item
   pub ids : Ids
 
--- what a line does to memory; and, unless that is refused: its answer, the IDs then, and a fill of bytes
+-- what a line does to memory; and, unless that is refused: its answer, the IDs then, a fill of bytes, and whether the program's own memory
+-- is taken then, for the range that an ID gets or for the bytes of the fill
 pub record Deed : Type 0 where
   pub change : Change
   pub answer : Outcome
   pub ids : Ids
   pub fill : Option Filled
+  pub takes : Bool
 
 -- a line that only answers
 abbrev pub answers : State → Outcome → Deed
-answers s answer = record { change = nothing; answer = answer; ids = s.ids; fill = None }
+answers s answer = record { change = nothing; answer = answer; ids = s.ids; fill = None; takes = false }
 
--- where it does: its change comes to nothing, and no byte is filled
+-- where it does: its change comes to nothing, and no memory is taken
 pub record OnlyAnswers (s : State) (d : Deed) : Type 0 where
   pub unchanged : d.change s.items ≡ nothing s.items
-  pub unfilled : d.fill ≡ None
+  pub untaken : d.takes ≡ false
 
 -- the same request, as memblock takes it
 abbrev pub request_of : Asked → Request
@@ -56,6 +58,7 @@ alloc_at s id size (Some place) = record {
   answer = outcomes.At place;
   ids = with_range s.ids id (record { base = place; size = size });
   fill = None;
+  takes = true;
 }
 
 abbrev pub alloc_deed : State → ℕ → Request → Deed
@@ -66,7 +69,7 @@ abbrev pub reserve_deed : State → ℕ → Extent → Deed
 reserve_deed s id range =
     if is_live s.ids id then answers s outcomes.Taken else
     (if touches s.kernel s.items range then answers s outcomes.TableInUse else
-    record { change = claimed range (owner.Script id); answer = outcomes.Done; ids = with_range s.ids id range; fill = None })
+    record { change = claimed range (owner.Script id); answer = outcomes.Done; ids = with_range s.ids id range; fill = None; takes = true })
 
 -- an act on the range of a live ID, of which nobody else has a byte
 abbrev pub on_range : State → ℕ → (Extent → Deed) → Option Extent → Deed
@@ -78,7 +81,7 @@ on_whole s id deed = on_range s id deed (range_of s.ids id)
 
 -- free: the ID's whole range is freed
 abbrev pub free_whole : State → ℕ → Extent → Deed
-free_whole s id range = record { change = freed range; answer = outcomes.Done; ids = without s.ids id; fill = None }
+free_whole s id range = record { change = freed range; answer = outcomes.Done; ids = without s.ids id; fill = None; takes = false }
 
 abbrev pub free_deed : State → ℕ → Deed
 free_deed s id = on_whole s id (free_whole s id)
@@ -90,6 +93,7 @@ trimmed_to s id keep range = record {
   answer = outcomes.Done;
   ids = with_range s.ids id (record { base = range.base; size = keep });
   fill = None;
+  takes = true;
 }
 
 abbrev pub trim_whole : State → ℕ → ℕ → Extent → Deed
@@ -101,7 +105,7 @@ trim_deed s id keep = on_whole s id (trim_whole s id keep)
 -- fill: each byte of the ID's range gets the value, where there are at most 65,536
 abbrev pub fill_whole : State → ℕ → Extent → Deed
 fill_whole s byte range = if nat_lt 65536 range.size then answers s outcomes.TooLargeFill else
-    record (answers s outcomes.Done) { fill = Some (record { range = range; byte = byte; at = length s.items }) }
+    record (answers s outcomes.Done) { fill = Some (record { range = range; byte = byte; at = length s.items }); takes = true }
 
 abbrev pub fill_deed : State → ℕ → ℕ → Deed
 fill_deed s id byte = on_whole s id (fill_whole s byte)
@@ -138,9 +142,14 @@ answer_of s d = answer_to (d.change s.items).refused d.answer
 abbrev pub state_after : State → Deed → State
 state_after s d = state_by s d.ids (d.change s.items)
 
--- the program's own memory ran out amid a line: some steps of its change stand, and the IDs are as they were
+-- the program's own memory ran out: before a step of the change that was still to be taken; or behind all of them, where none was refused and
+-- memory is taken then
+abbrev pub RanOut : Bool → List Item → List Item → growth.Outcome → Type 0
+RanOut takes old new o = IsCutShort old new o ⊎ (IsTrue takes × (o.refused ≡ None) × (new ≡ after old o))
+
+-- so it ran out amid a line, and the IDs are as they were
 abbrev pub IsAmid : State → State → Deed → Type 0
-IsAmid old new d = IsCut old.items new.items (d.change old.items) × (new.kernel ≡ old.kernel) × (new.ids ≡ old.ids)
+IsAmid old new d = RanOut d.takes old.items new.items (d.change old.items) × (new.kernel ≡ old.kernel) × (new.ids ≡ old.ids)
 
 -- a line ends with its answer, and leaves what it comes to; or it wants the program's own memory
 abbrev pub Acts : Result Outcome Memory → State → State → Deed → Type 0

@@ -85,8 +85,6 @@ impl Live {
         requires aligned { (k : ℕ) × (request.now.align ≡ 2 ^ k) }
         ensures acts { Acts result (state_of self.old mb.old) (state_of self.new mb.new)
             (alloc_deed (state_of self.old mb.old) id request.now) }
-        ensures answered { OnlyAnswers (state_of self.old mb.old)
-            (alloc_deed (state_of self.old mb.old) id request.now) → IsOk result }
         ensures bytes { Follows mb.old.kernel mb.old.journal.items mb.new.journal.items (bytes_in mb.old) (bytes_in mb.new) }
         ensures still_ready { StayReady mb.old.tables.store mb.new.tables.store }
     {
@@ -113,8 +111,6 @@ impl Live {
         requires some { 0 < range.size }
         ensures acts { Acts result (state_of self.old mb.old) (state_of self.new mb.new)
             (reserve_deed (state_of self.old mb.old) id range) }
-        ensures answered { OnlyAnswers (state_of self.old mb.old)
-            (reserve_deed (state_of self.old mb.old) id range) → IsOk result }
         ensures bytes { Follows mb.old.kernel mb.old.journal.items mb.new.journal.items (bytes_in mb.old) (bytes_in mb.new) }
         ensures still_ready { StayReady mb.old.tables.store mb.new.tables.store }
     {
@@ -138,8 +134,6 @@ impl Live {
         requires { HasBegun mb.old.journal.items }
         ensures acts { Acts result (state_of self.old mb.old) (state_of self.new mb.new)
             (free_deed (state_of self.old mb.old) id) }
-        ensures answered { OnlyAnswers (state_of self.old mb.old)
-            (free_deed (state_of self.old mb.old) id) → IsOk result }
         ensures bytes { Follows mb.old.kernel mb.old.journal.items mb.new.journal.items (bytes_in mb.old) (bytes_in mb.new) }
         ensures still_ready { StayReady mb.old.tables.store mb.new.tables.store }
     {
@@ -148,13 +142,11 @@ impl Live {
             Ok(range) => range,
             Err(outcome) => return Ok(outcome),
         };
-        match mb.free(range) {
-            Ok(()) => {
-                let _ = self.ids.remove(&id);
-                Ok(Outcome::Done)
-            }
-            Err(refusal) => refused(refusal),
+        if let Err(refusal) = mb.free(range) {
+            return refused(refusal);
         }
+        let _ = self.ids.remove(&id);
+        Ok(Outcome::Done)
     }
 
     fn trim(&mut self, mb: &mut Memblock, id: u32, keep: u64) -> Result<Outcome, Memory>
@@ -162,8 +154,6 @@ impl Live {
         requires some { 0 < keep }
         ensures acts { Acts result (state_of self.old mb.old) (state_of self.new mb.new)
             (trim_deed (state_of self.old mb.old) id keep) }
-        ensures answered { OnlyAnswers (state_of self.old mb.old)
-            (trim_deed (state_of self.old mb.old) id keep) → IsOk result }
         ensures bytes { Follows mb.old.kernel mb.old.journal.items mb.new.journal.items (bytes_in mb.old) (bytes_in mb.new) }
         ensures still_ready { StayReady mb.old.tables.store mb.new.tables.store }
     {
@@ -188,8 +178,6 @@ impl Live {
         requires { HasBegun mb.old.journal.items }
         ensures acts { Acts result (state_of self.old mb.old) (state_of self.new mb.new)
             (fill_deed (state_of self.old mb.old) id byte) }
-        ensures answered { OnlyAnswers (state_of self.old mb.old)
-            (fill_deed (state_of self.old mb.old) id byte) → IsOk result }
         ensures bytes { (x : ℕ) → bytes_in mb.new x ≡ byte_by result (state_of self.old mb.old) (state_of self.new mb.new)
             (fill_deed (state_of self.old mb.old) id byte) x (bytes_in mb.old x) }
         ensures holds { (fills : List Filled) → Holds mb.old.kernel mb.old.journal.items fills (bytes_in mb.old) →

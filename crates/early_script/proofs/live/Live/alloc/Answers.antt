@@ -1,8 +1,7 @@
--- Where memory is wanted behind the claim, the claim stands. A line that only answers finds no place, and that is the answer.
+-- Where memory is wanted behind the claim, the claim stands.
 use Rattle.std.proofs.Common.{sym, ◌∙◌}
 use Rattle.early_script.specs.Found.{state_of}
 use Rattle.early_script.proofs.RunLaws.{alloc-wanting}
-use Rattle.early_script.proofs.AnswerLaws.{alloc-placed, alloc-refused}
 use Rattle.early_script.proofs.live.Live.alloc.Goals as goal
 
 pub returns-in_err-keep-in-Ok-clause-acts : goal.returns-in_err-keep-in-Ok-clause-acts
@@ -10,13 +9,3 @@ returns-in_err-keep-in-Ok-clause-acts c =
     alloc-wanting c.from_residual.result (state_of c.args.self.now c.args.mb.now) (state_of c.keep.new.self c.alloc.new.self) c.args.id
     c.args.request.now c.in-Ok.base c.from_residual.ensures.0 (sym c.is_live.ensures ∙ c.if-is_live.false) c.in-Ok.ensures.ends
     c.in-Ok.ensures.kernel c.in_err-keep-in-Ok.ensures.err
-
-pub returns-in_err-keep-in-Ok-clause-answered : goal.returns-in_err-keep-in-Ok-clause-answered
-returns-in_err-keep-in-Ok-clause-answered c = λ only.
-    absurd (alloc-placed c.in-Ok.base (state_of c.args.self.now c.args.mb.now) c.alloc.new.self.journal.items c.args.id c.args.request.now
-    (sym c.is_live.ensures ∙ c.if-is_live.false) c.in-Ok.ensures.ends only)
-
-pub returns-in-Err-clause-answered : goal.returns-in-Err-clause-answered
-returns-in-Err-clause-answered c = λ only.
-    alloc-refused c.refused.result c.in-Err.refusal (state_of c.args.self.now c.args.mb.now) c.alloc.new.self.journal.items c.args.id
-    c.args.request.now c.refused.ensures (sym c.is_live.ensures ∙ c.if-is_live.false) c.in-Err.ensures.ends only

@@ -1,5 +1,5 @@
 -- The range's bytes are filled, and nobody else had one.
-use Rattle.std.proofs.Common.{◌≡◌, ◌≤◌, Bool, false, nat_lt, if◌then◌else◌, Some, Ok, [], ◌∷◌, ◌++◌, length, refl, ◌∙◌, ap, subst, arith}
+use Rattle.std.proofs.Common.{◌≡◌, ◌≤◌, Bool, false, true, nat_lt, if◌then◌else◌, Some, Ok, [], ◌∷◌, ◌++◌, length, refl, ◌∙◌, ap, subst, arith}
 use Rattle.std.proofs.lemmas.Bool.Decides.{nat_tests}
 use Rattle.bm_base.specs.Extent.{Extent}
 use Rattle.boot_journal.specs.Contents.{Contents as Journal}
@@ -17,7 +17,7 @@ returns-clause-holds c = λ fills holds.
     let next = c.fill.new.self in
     let old = state_of c.args.self.now m in
     let f : Filled = record { range = c.in-Ok.range; byte = c.args.byte; at = length m.journal.items } in
-    let filled : Deed = record (answers old outcomes.Done) { fill = Some f } in
+    let filled : Deed = record (answers old outcomes.Done) { fill = Some f; takes = true } in
     let size = subst (λ (r : Extent). r.size ≤ 65536) c.range.view_is c.if-range-gt-MOST_FILLED.false in
     let few : nat_lt 65536 c.in-Ok.range.size ≡ false = grind (arith, nat_tests) in
     let same = c.in-Ok.ensures.range (fill_whole old c.args.byte)

@@ -1,8 +1,7 @@
--- Where memory is wanted behind the claim, the claim stands; and a line that only answers claims nothing.
+-- Where memory is wanted behind the claim, the claim stands.
 use Rattle.std.proofs.Common.{sym, ◌∙◌}
 use Rattle.early_script.specs.Found.{state_of}
 use Rattle.early_script.proofs.RunLaws.{reserve-wanting}
-use Rattle.early_script.proofs.AnswerLaws.{reserve-claims}
 use Rattle.early_script.proofs.live.Live.reserve.Goals as goal
 
 pub returns-in_err-keep-in-Ok-clause-acts : goal.returns-in_err-keep-in-Ok-clause-acts
@@ -11,13 +10,3 @@ returns-in_err-keep-in-Ok-clause-acts c =
     c.args.range c.in-Ok.field-0 c.from_residual.ensures.0 (sym c.is_live.ensures ∙ c.if-is_live.false) (sym c.touches.ensures.value ∙
     c.if-touches.false) c.in-Ok.ensures.ends
     c.in-Ok.ensures.kernel c.in_err-keep-in-Ok.ensures.err
-
-pub returns-in_err-keep-in-Ok-clause-answered : goal.returns-in_err-keep-in-Ok-clause-answered
-returns-in_err-keep-in-Ok-clause-answered c = λ only.
-    absurd (reserve-claims (state_of c.args.self.now c.args.mb.now) c.args.id c.args.range (sym c.is_live.ensures ∙ c.if-is_live.false)
-    (sym c.touches.ensures.value ∙ c.if-touches.false) only)
-
-pub returns-in-Err-clause-answered : goal.returns-in-Err-clause-answered
-returns-in-Err-clause-answered c = λ only.
-    absurd (reserve-claims (state_of c.args.self.now c.args.mb.now) c.args.id c.args.range (sym c.is_live.ensures ∙ c.if-is_live.false)
-    (sym c.touches.ensures.value ∙ c.if-touches.false) only)

@@ -6,8 +6,7 @@ use Rattle.script_reader.specs.Forms.{HasBounds}
 use Rattle.early_script.specs.Acted.{deed, alloc_deed, reserve_deed, free_deed, trim_deed, fill_deed, peek_deed}
 use Rattle.early_script.specs.Found.{state_of, bytes_in}
 use Rattle.early_script.proofs.PowerLaws.{power_of}
-use Rattle.early_script.proofs.AnswerLaws.{only-as}
-use Rattle.early_script.proofs.RunLaws.{alloc-quiet, reserve-quiet, free-quiet, trim-quiet}
+use Rattle.early_script.proofs.RunLaws.{only-answers, alloc-quiet, reserve-quiet, free-quiet, trim-quiet}
 use Rattle.early_script.proofs.DeedLaws.{deed-alloc, deed-reserve, deed-free, deed-trim, deed-fill, deed-peek, nothing-done, acts-as, bytes-as, quiet-as}
 use Rattle.early_script.proofs.HoldLaws.{holds-quiet, holds-by}
 use Rattle.early_script.proofs.live.Live.run_line.Goals as goal
@@ -164,34 +163,35 @@ returns-in-Peek-clause-holds c = λ fills holds.
 pub returns-in-Alloc-clause-answered : goal.returns-in-Alloc-clause-answered
 returns-in-Alloc-clause-answered c = λ only.
     let old = state_of c.args.self.now c.args.mb.now in
+    let new = state_of c.alloc.new.self c.alloc.new.mb in
     let is = deed-alloc old (bytes_in c.args.mb.now) c.args.line.now.act c.in-Alloc.id c.in-Alloc.request c.asked.result c.in-Alloc.is
     c.asked.ensures in
-    c.alloc.ensures.answered
-    (only-as old (deed old (bytes_in c.args.mb.now) c.args.line.now.act) (alloc_deed old c.in-Alloc.id c.asked.result) is only)
+    only-answers c.alloc.result old new _ only (acts-as c.alloc.result old new _ (alloc_deed old c.in-Alloc.id c.asked.result) is c.alloc.ensures.acts)
 
 pub returns-in-Reserve-clause-answered : goal.returns-in-Reserve-clause-answered
 returns-in-Reserve-clause-answered c = λ only.
     let old = state_of c.args.self.now c.args.mb.now in
+    let new = state_of c.reserve.new.self c.reserve.new.mb in
     let is = deed-reserve old (bytes_in c.args.mb.now) c.args.line.now.act c.in-Reserve.id c.in-Reserve.range c.in-Reserve.is in
-    c.reserve.ensures.answered
-    (only-as old (deed old (bytes_in c.args.mb.now) c.args.line.now.act) (reserve_deed old c.in-Reserve.id c.in-Reserve.range) is only)
+    only-answers c.reserve.result old new _ only (acts-as c.reserve.result old new _ (reserve_deed old c.in-Reserve.id c.in-Reserve.range) is c.reserve.ensures.acts)
 
 pub returns-in-Free-clause-answered : goal.returns-in-Free-clause-answered
 returns-in-Free-clause-answered c = λ only.
     let old = state_of c.args.self.now c.args.mb.now in
+    let new = state_of c.free.new.self c.free.new.mb in
     let is = deed-free old (bytes_in c.args.mb.now) c.args.line.now.act c.in-Free.id c.in-Free.is in
-    c.free.ensures.answered (only-as old (deed old (bytes_in c.args.mb.now) c.args.line.now.act) (free_deed old c.in-Free.id) is only)
+    only-answers c.free.result old new _ only (acts-as c.free.result old new _ (free_deed old c.in-Free.id) is c.free.ensures.acts)
 
 pub returns-in-Trim-clause-answered : goal.returns-in-Trim-clause-answered
 returns-in-Trim-clause-answered c = λ only.
     let old = state_of c.args.self.now c.args.mb.now in
+    let new = state_of c.trim.new.self c.trim.new.mb in
     let is = deed-trim old (bytes_in c.args.mb.now) c.args.line.now.act c.in-Trim.id c.in-Trim.keep c.in-Trim.is in
-    c.trim.ensures.answered
-    (only-as old (deed old (bytes_in c.args.mb.now) c.args.line.now.act) (trim_deed old c.in-Trim.id c.in-Trim.keep) is only)
+    only-answers c.trim.result old new _ only (acts-as c.trim.result old new _ (trim_deed old c.in-Trim.id c.in-Trim.keep) is c.trim.ensures.acts)
 
 pub returns-in-Fill-clause-answered : goal.returns-in-Fill-clause-answered
 returns-in-Fill-clause-answered c = λ only.
     let old = state_of c.args.self.now c.args.mb.now in
+    let new = state_of c.fill.new.self c.fill.new.mb in
     let is = deed-fill old (bytes_in c.args.mb.now) c.args.line.now.act c.in-Fill.id c.in-Fill.byte c.in-Fill.is in
-    c.fill.ensures.answered
-    (only-as old (deed old (bytes_in c.args.mb.now) c.args.line.now.act) (fill_deed old c.in-Fill.id c.in-Fill.byte) is only)
+    only-answers c.fill.result old new _ only (acts-as c.fill.result old new _ (fill_deed old c.in-Fill.id c.in-Fill.byte) is c.fill.ensures.acts)
