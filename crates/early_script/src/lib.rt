@@ -28,4 +28,5 @@ mod steps;
 pub use laws::{lines_leave_memory, scripts_place_once};
 pub use live::Live;
 pub use outcome::{Answer, Outcome};
+pub use script_reader::{Act, Line, ScriptFault, read_script};
 pub use stage::{run_lines, split_at_sections};
