@@ -31,8 +31,8 @@ use Rattle.crash_kernel.specs.Reserved.{reserved}
 use Rattle.crash_kernel.proofs.QuietLaws.{quiet-reserved}
 use Rattle.stage_model.specs.declared.section.Section.{Section}
 use Rattle.stage_model.specs.Quiet.{IsQuietStep}
-use Rattle.stage_model.specs.Doing.{◌>>=◌, returns, seen}
-use Rattle.stage_model.proofs.QuietLaws.{quiet-appended_limit, quiet-appended_memory, quiet-bind, quiet-returns, quiet-seen}
+use Rattle.stage_model.specs.Doing.{◌>>=◌, returns, listed}
+use Rattle.stage_model.proofs.QuietLaws.{quiet-appended_limit, quiet-appended_memory, quiet-bind, quiet-listed, quiet-returns}
 use Rattle.sparse_sections.specs.Present.{present}
 use Rattle.sparse_sections.specs.Roots.{RootsPlaced, roots}
 use Rattle.sparse_sections.proofs.QuietLaws.{quiet-roots}
@@ -122,7 +122,7 @@ quiet_places width sections =
 quiet_sections : (width : Width) → IsQuietStep (places_of_sections width)
 unfolding places_of_sections
 quiet_sections width =
-    quiet-bind (seen (λ items. present (memory_of items))) (sections_placed width) (quiet-seen (λ items. present (memory_of items)))
+    quiet-bind (listed (λ items. present (memory_of items))) (sections_placed width) (quiet-listed (λ items. present (memory_of items)))
     (quiet_places width)
 
 pub section_labels : (given : Given) → Keeps labels_by (has_sections given)

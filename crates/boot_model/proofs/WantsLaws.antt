@@ -19,7 +19,7 @@ use Rattle.stage_model.specs.declared.stop.What.{What}
 use Rattle.stage_model.specs.declared.stop.What.TheVariants as what
 use Rattle.stage_model.specs.declared.stop.StageStop.{StageStop}
 use Rattle.stage_model.specs.declared.stop.StageStop.TheVariants as stage
-use Rattle.stage_model.specs.Doing.{Done, Doing, ◌>>=◌, after, going_on, in_turn, returns, seen, stops}
+use Rattle.stage_model.specs.Doing.{Done, Doing, ◌>>=◌, after, going_on, in_turn, listed, returns, seen, stops}
 use Rattle.stage_model.specs.Requests.{allocated, carried, changes, claimed_at, or_else, or_stop, placed, refusal_of, stop_of, unless_gap}
 use Rattle.address_runs.specs.Runs.{extent_of}
 use Rattle.boot_options.specs.Crash.{Crash as Asked}
@@ -36,7 +36,7 @@ use Rattle.crash_kernel.specs.Places.{low_range, low_size, main_range, needs_low
 use Rattle.crash_kernel.specs.Reserved.{low_part, reserved, with_area, with_low, with_main}
 use Rattle.sparse_sections.specs.declared.roots.RootPlace.{RootPlace}
 use Rattle.sparse_sections.specs.Present.{present}
-use Rattle.sparse_sections.specs.Roots.{RootsPlaced, firsts_behind, root_of, root_placed, roots, small_request}
+use Rattle.sparse_sections.specs.Roots.{RootsPlaced, firsts_behind, root_of, root_placed, roots, roots_listed, small_request}
 use Rattle.section_maps.specs.declared.placed.Placed.{Placed}
 use Rattle.section_maps.specs.Maps.{Group, group_placed, groups_of, map_all, map_each, map_group, map_request, maps, sections_in, spread, usage_request}
 use Rattle.boot_model.specs.Sections.{SectionPlaces, places_of_sections, sections_placed}
@@ -135,23 +135,23 @@ with_data_errs found nodes =
     tt nodes)
     (λ done items. tt)
 
-ranges_errs : (found : Judgement) (limit : ℕ)
-    → Errs IsStop (in_turn given tt (ranges_given limit found)
-    >>= λ done. (seen (λ items. nodes_with_memory (memory_of items)) >>= λ nodes. with_data found nodes))
-ranges_errs found limit =
-    then_errs IsStop (in_turn given tt (ranges_given limit found))
-    (λ done. (seen (λ items. nodes_with_memory (memory_of items)) >>= λ nodes. with_data found nodes))
-    (turn_errs IsStop given (λ done r. carried_errs (noded (extent_of r) r.value)) tt (ranges_given limit found))
-    (λ done. then_errs IsStop (seen (λ items. nodes_with_memory (memory_of items))) (λ nodes. with_data found nodes) (λ items. tt)
+ranges_errs : (found : Judgement) (ranges : List Block)
+    → Errs IsStop (in_turn given tt ranges
+    >>= λ done. (listed (λ items. nodes_with_memory (memory_of items)) >>= λ nodes. with_data found nodes))
+ranges_errs found ranges =
+    then_errs IsStop (in_turn given tt ranges)
+    (λ done. (listed (λ items. nodes_with_memory (memory_of items)) >>= λ nodes. with_data found nodes))
+    (turn_errs IsStop given (λ done r. carried_errs (noded (extent_of r) r.value)) tt ranges)
+    (λ done. then_errs IsStop (listed (λ items. nodes_with_memory (memory_of items))) (λ nodes. with_data found nodes) (λ items. tt)
     (λ nodes. with_data_errs found nodes))
 
 assigned_by_errs : (found : Judgement) → Errs IsStop (assigned_by found)
 unfolding assigned_by
 assigned_by_errs found =
-    then_errs IsStop (seen limit_of)
-    (λ limit. (in_turn given tt (ranges_given limit found)
-    >>= λ done. (seen (λ items. nodes_with_memory (memory_of items)) >>= λ nodes. with_data found nodes)))
-    (λ items. tt) (λ limit. ranges_errs found limit)
+    then_errs IsStop (listed (λ items. ranges_given (limit_of items) found))
+    (λ ranges. (in_turn given tt ranges
+    >>= λ done. (listed (λ items. nodes_with_memory (memory_of items)) >>= λ nodes. with_data found nodes)))
+    (λ items. tt) (λ ranges. ranges_errs found ranges)
 
 pub nodes_errs : (table : Option Affinity) (off : Bool) → Errs IsStop (assigned table off)
 unfolding assigned
@@ -210,10 +210,12 @@ unfolding roots
 roots_errs width sections =
     let told : ℕ → List RootPlace → RootsPlaced = λ table places. record { table = table; roots = places } in
     then_errs IsStop (placed what.Roots (small_request (root_table_of width) None) owner.Roots)
-    (λ table. (in_turn root_placed [] (firsts_behind None sections) >>= λ places. returns (told table places)))
+    (λ table. (roots_listed sections >>= λ places. returns (told table places)))
     (placed_errs what.Roots (small_request (root_table_of width) None) owner.Roots)
-    (λ table. then_errs IsStop (in_turn root_placed [] (firsts_behind None sections)) (λ places. returns (told table places))
-    (turn_errs IsStop root_placed root_errs [] (firsts_behind None sections)) (λ places items. tt))
+    (λ table. then_errs IsStop (roots_listed sections) (λ places. returns (told table places))
+    (then_errs IsStop (listed (λ items. [])) (λ none. in_turn root_placed none (firsts_behind None sections)) (λ items. tt)
+    (λ none. turn_errs IsStop root_placed root_errs none (firsts_behind None sections)))
+    (λ places items. tt))
 
 map_each_errs : (usage : ℕ) (before : List Placed) (sections : List Section) → Errs IsStop (map_each usage before sections)
 map_each_errs usage before [] = λ items. tt
@@ -242,7 +244,9 @@ group_errs before g =
 
 maps_errs : (sections : List Section) → Errs IsStop (maps sections)
 unfolding maps
-maps_errs sections = turn_errs IsStop map_group group_errs [] (groups_of sections)
+maps_errs sections =
+    then_errs IsStop (listed (λ items. [])) (λ none. in_turn map_group none (groups_of sections)) (λ items. tt)
+    (λ none. turn_errs IsStop map_group group_errs none (groups_of sections))
 
 placed_sections_errs : (width : Width) (sections : List Section) → Errs IsStop (sections_placed width sections)
 placed_sections_errs width sections =
@@ -253,4 +257,4 @@ placed_sections_errs width sections =
 pub sections_errs : (width : Width) → Errs IsStop (places_of_sections width)
 unfolding places_of_sections
 sections_errs width =
-    then_errs IsStop (seen (λ items. present (memory_of items))) (sections_placed width) (λ items. tt) (placed_sections_errs width)
+    then_errs IsStop (listed (λ items. present (memory_of items))) (sections_placed width) (λ items. tt) (placed_sections_errs width)

@@ -4,7 +4,7 @@ use Rattle.bm_base.specs.declared.width.Width.{Width}
 use Rattle.memblock_model.specs.Items.{memory_of}
 use Rattle.stage_model.specs.declared.section.Section.{Section}
 use Rattle.stage_model.specs.declared.stop.StageStop.{StageStop}
-use Rattle.stage_model.specs.Doing.{Doing, ◌>>=◌, returns, seen}
+use Rattle.stage_model.specs.Doing.{Doing, ◌>>=◌, returns, listed}
 use Rattle.sparse_sections.specs.Present.{present}
 use Rattle.sparse_sections.specs.Roots.{RootsPlaced, roots}
 use Rattle.section_maps.specs.declared.placed.Placed.{Placed}
@@ -28,5 +28,5 @@ sections_placed width sections = do
 -- the sections that have memory, in their order
 unfoldable pub places_of_sections : Width → Doing StageStop SectionPlaces
 places_of_sections width = do
-  sections ← seen (λ items. present (memory_of items))
+  sections ← listed (λ items. present (memory_of items))
   sections_placed width sections

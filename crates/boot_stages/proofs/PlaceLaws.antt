@@ -6,8 +6,8 @@ use Rattle.memblock_model.specs.Items.{memory_of}
 use Rattle.stage_model.specs.declared.section.Section.{Section}
 use Rattle.stage_model.specs.declared.stop.StageStop.{StageStop}
 use Rattle.stage_model.specs.declared.stop.StageStop.TheVariants as stage
-use Rattle.stage_model.specs.Doing.{Doing, EndsAs, ◌>>=◌, ok_as, returns, seen}
-use Rattle.stage_model.proofs.DoingLaws.{ends-first, ends-second}
+use Rattle.stage_model.specs.Doing.{Doing, EndsAs, ◌>>=◌, ok_as, returns, listed}
+use Rattle.stage_model.proofs.DoingLaws.{ends-first, ends-listed, ends-second, ends-wanting}
 use Rattle.sparse_sections.specs.Present.{present}
 use Rattle.sparse_sections.specs.Roots.{RootsPlaced, roots}
 use Rattle.section_maps.specs.declared.placed.Placed.{Placed}
@@ -26,11 +26,19 @@ from_present : (width : Width) (r : Result SectionPlaces StageStop) (old new : L
     → EndsAs stage.Memory r old new (places_of_sections width old)
 unfolding places_of_sections
 from_present width r old new sections is ends =
-    ends-second (present (memory_of old)) r stage.Memory old old new (seen (λ items. present (memory_of items))) (sections_placed width) (
-      refl,
-      refl,
-    )
+    let sections_in : List Item → List Section = λ items. present (memory_of items) in
+    ends-second (sections_in old) r stage.Memory old old new (listed sections_in) (sections_placed width)
+    (ends-listed sections_in stage.Memory old)
     (subst (λ (ss : List Section). EndsAs stage.Memory r old new (sections_placed width ss old)) is ends)
+
+-- memory ran out for the list of them
+pub places-wanting : (width : Width) (r : Result Sections StageStop) (old : List Item) → r ≡ Err stage.Memory
+    → EndsAs stage.Memory (ok_as places_view r) old old (places_of_sections width old)
+unfolding places_of_sections
+places-wanting width r old is =
+    let sections_in : List Item → List Section = λ items. present (memory_of items) in
+    rw is (ends-first stage.Memory stage.Memory old old (listed sections_in) (sections_placed width)
+    (ends-wanting sections_in stage.Memory old))
 
 pub places-first : (width : Width) (e : StageStop) (r : Result Sections StageStop) (y : StageStop) (old new : List Item)
     (sections : List Section) → r ≡ Err y → y ≡ e → sections ≡ present (memory_of old)

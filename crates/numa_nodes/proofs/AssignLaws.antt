@@ -26,14 +26,29 @@ use Rattle.node_hulls.specs.Kept.{in_any}
 use Rattle.node_hulls.proofs.GivenLaws.{given-small}
 use Rattle.stage_model.specs.declared.stop.StageStop.{StageStop}
 use Rattle.stage_model.specs.declared.stop.StageStop.TheVariants as stop
-use Rattle.stage_model.specs.Doing.{Doing, EndsAs, in_turn, returns, seen, ◌>>=◌}
-use Rattle.stage_model.proofs.DoingLaws.{ends-along, ends-first, ends-second, ends-wanting}
+use Rattle.stage_model.specs.Doing.{Doing, EndsAs, in_turn, returns, listed, ◌>>=◌}
+use Rattle.stage_model.proofs.DoingLaws.{ends-along, ends-first, ends-listed, ends-second, ends-wanting}
 use Rattle.numa_nodes.specs.Assigned.{Noded, assigned, assigned_by, data_placed, given, is_memory, noded_by, nodes_with_memory, ranges_by, ranges_given, with_data}
 use Rattle.numa_nodes.specs.Steps.{CanGetNodes}
 
--- what comes behind the nodes of memory
+-- the ranges as a list, what comes behind them, and behind the nodes of memory
+abbrev ranges_in : Judgement → List Item → List Block
+ranges_in found items = ranges_given (limit_of items) found
+
 abbrev behind : Judgement → Unit {0} → Doing StageStop Noded
-behind found done = seen (λ items. nodes_with_memory (memory_of items)) >>= λ nodes. with_data found nodes
+behind found done = listed (λ items. nodes_with_memory (memory_of items)) >>= λ nodes. with_data found nodes
+
+abbrev by_ranges : Judgement → List Block → Doing StageStop Noded
+by_ranges found ranges = in_turn given tt ranges >>= behind found
+
+-- memory ran out before anything was written
+pub by-wanting : (r : Result Noded StageStop) (items : List Item) (found : Judgement) → r ≡ Err stop.Memory
+    → EndsAs stop.Memory r items items (assigned_by found items)
+unfolding assigned_by
+by-wanting r items found err =
+    ends-along (Err stop.Memory) r stop.Memory items items (assigned_by found items) (sym err)
+    (ends-first stop.Memory stop.Memory items items (listed (ranges_in found)) (by_ranges found)
+    (ends-wanting (ranges_in found) stop.Memory items))
 
 pub by-ranges : (r : Result Noded StageStop) (e : StageStop) (old new : List Item) (found : Judgement) (ranges : List Block) → r ≡ Err e
     → ranges ≡ ranges_given (limit_of old) found → EndsAs {A = Unit {0}} stop.Memory (Err e) old new (in_turn given tt ranges old)
@@ -41,23 +56,40 @@ pub by-ranges : (r : Result Noded StageStop) (e : StageStop) (old new : List Ite
 unfolding assigned_by
 by-ranges r e old new found ranges err same was =
     ends-along (Err e) r stop.Memory old new (assigned_by found old) (sym err)
-    (ends-first e stop.Memory old new (in_turn given tt (ranges_given (limit_of old) found)) (behind found)
-    (subst (λ (t : List Block). EndsAs {A = Unit {0}} stop.Memory (Err e) old new (in_turn given tt t old)) same was))
+    (ends-second (ranges_in found old) (Err e) stop.Memory old old new (listed (ranges_in found)) (by_ranges found)
+    (ends-listed (ranges_in found) stop.Memory old)
+    (ends-first e stop.Memory old new (in_turn given tt (ranges_in found old)) (behind found)
+    (subst (λ (t : List Block). EndsAs {A = Unit {0}} stop.Memory (Err e) old new (in_turn given tt t old)) same was)))
+
+by-behind : (r : Result Noded StageStop) (old mid new : List Item) (found : Judgement) (ranges : List Block)
+    → ranges ≡ ranges_given (limit_of old) found → EndsAs stop.Memory (Ok tt) old mid (in_turn given tt ranges old)
+    → EndsAs stop.Memory r mid new (behind found tt mid)
+    → EndsAs stop.Memory r old new (assigned_by found old)
+unfolding assigned_by
+by-behind r old mid new found ranges same was rest =
+    ends-second (ranges_in found old) r stop.Memory old old new (listed (ranges_in found)) (by_ranges found)
+    (ends-listed (ranges_in found) stop.Memory old)
+    (ends-second tt r stop.Memory old mid new (in_turn given tt (ranges_in found old)) (behind found)
+    (subst (λ (t : List Block). EndsAs {A = Unit {0}} stop.Memory (Ok tt) old mid (in_turn given tt t old)) same was) rest)
 
 pub by-data : (r : Result Noded StageStop) (old mid new : List Item) (found : Judgement) (ranges : List Block)
     → ranges ≡ ranges_given (limit_of old) found → EndsAs stop.Memory (Ok tt) old mid (in_turn given tt ranges old)
     → EndsAs stop.Memory r mid new (with_data found (nodes_with_memory (memory_of mid)) mid)
     → EndsAs stop.Memory r old new (assigned_by found old)
-unfolding assigned_by nodes_with_memory
 by-data r old mid new found ranges same was rest =
-    ends-second tt r stop.Memory old mid new (in_turn given tt (ranges_given (limit_of old) found)) (behind found)
-    (subst (λ (t : List Block). EndsAs {A = Unit {0}} stop.Memory (Ok tt) old mid (in_turn given tt t old)) same was) rest
+    let nodes_in : List Item → List ℕ = λ items. nodes_with_memory (memory_of items) in
+    by-behind r old mid new found ranges same was
+    (ends-second (nodes_in mid) r stop.Memory mid mid new (listed nodes_in) (with_data found) (ends-listed nodes_in stop.Memory mid) rest)
 
-pub data-wanting : (r : Result Noded StageStop) (items : List Item) (found : Judgement) (nodes : List ℕ) → r ≡ Err stop.Memory
-    → EndsAs stop.Memory r items items (with_data found nodes items)
-data-wanting r items found nodes err =
-    ends-along (Err stop.Memory) r stop.Memory items items (with_data found nodes items) (sym err)
-    (ends-wanting stop.Memory items (with_data found nodes items))
+-- or behind the nodes of memory, for those that have some
+pub data-wanting : (r : Result Noded StageStop) (old mid : List Item) (found : Judgement) (ranges : List Block) → r ≡ Err stop.Memory
+    → ranges ≡ ranges_given (limit_of old) found → EndsAs stop.Memory (Ok tt) old mid (in_turn given tt ranges old)
+    → EndsAs stop.Memory r old mid (assigned_by found old)
+data-wanting r old mid found ranges err same was =
+    let nodes_in : List Item → List ℕ = λ items. nodes_with_memory (memory_of items) in
+    by-behind r old mid mid found ranges same was
+    (ends-along (Err stop.Memory) r stop.Memory mid mid (behind found tt mid) (sym err)
+    (ends-first stop.Memory stop.Memory mid mid (listed nodes_in) (with_data found) (ends-wanting nodes_in stop.Memory mid)))
 
 pub data-fails : (r : Result Noded StageStop) (e : StageStop) (mid new : List Item) (found : Judgement) (nodes others : List ℕ)
     → nodes ≡ others → r ≡ Err e → EndsAs {A = Unit {0}} stop.Memory (Err e) mid new (in_turn data_placed tt nodes mid)
@@ -81,6 +113,12 @@ pub by-judgement : (r : Result Noded StageStop) (old new : List Item) (found : J
 unfolding assigned
 by-judgement r old new found table off is was =
     subst (λ (f : Judgement). EndsAs stop.Memory r old new (assigned_by f old)) is was
+
+pub all-wanting : (r : Result Noded StageStop) (items : List Item) (table : Option Affinity) (off : Bool) → r ≡ Err stop.Memory
+    → EndsAs stop.Memory r items items (assigned table off items)
+all-wanting r items table off err =
+    let found : Judgement = judged (is_memory items) off table in
+    by-judgement r items items found table off refl (by-wanting r items found err)
 
 -- the ranges by the limit that the journal tells
 pub ranges-told : (ranges others : List Block) (limit : ℕ) (items : List Item) (journal memblock : Journal) (found : Judgement)

@@ -1,7 +1,8 @@
 -- What the steps make of memory and of the limit: the ranges get their nodes, and that is all.
-use Rattle.std.proofs.Common.{◌≡◌, ℕ, Bool, is_some, Option, Some, None, List, [], ◌∷◌, ◌++◌, Result, Ok, Err, refl, sym, ◌∙◌, ap, inl, inr}
+use Rattle.std.proofs.Common.{◌≡◌, ℕ, Bool, is_some, Option, Some, None, List, [], ◌∷◌, ◌++◌, Result, Ok, Err, refl, sym, ◌∙◌, ap, subst, inl, inr}
 use Rattle.std.proofs.lemmas.Bool.{cases_Bool}
 use Rattle.std.specs.Option.{option_map}
+use Rattle.std.proofs.lemmas.List.{append-nil}
 use Rattle.std.proofs.lemmas.List.Sums.{fold-append}
 use Rattle.bm_base.specs.Extent.{Extent, covers}
 use Rattle.address_runs.specs.Edits.{relabelled}
@@ -20,11 +21,11 @@ use Rattle.growth_model.specs.Outcome.{after as after_change}
 use Rattle.growth_model.proofs.QuietLaws.{memory_growth-quiet, quiet-grown}
 use Rattle.stage_model.specs.declared.stop.StageStop.{StageStop}
 use Rattle.stage_model.specs.declared.stop.What.TheVariants as what
-use Rattle.stage_model.specs.Doing.{Done, Doing, ◌>>=◌, after, appended, going_on, in_turn, returns, seen}
+use Rattle.stage_model.specs.Doing.{Done, Doing, ◌>>=◌, after, appended, going_on, in_turn, returns, listed}
 use Rattle.stage_model.specs.Requests.{placed, stop_of}
 use Rattle.stage_model.specs.Quiet.{IsQuietStep}
 use Rattle.stage_model.proofs.DoingLaws.{appended-append}
-use Rattle.stage_model.proofs.QuietLaws.{quiet-appended_limit, quiet-appended_memory, quiet-bind, quiet-placed, quiet-returns, quiet-seen, quiet-turn}
+use Rattle.stage_model.proofs.QuietLaws.{quiet-appended_limit, quiet-appended_memory, quiet-bind, quiet-placed, quiet-returns, quiet-listed, quiet-turn}
 use Rattle.node_hulls.specs.Hulls.{Block}
 use Rattle.node_hulls.specs.Judgement.{Judgement, judged}
 use Rattle.numa_nodes.specs.Assigned.{Noded, assigned, assigned_by, data_placed, given, is_memory, node_data_request, noded_by, nodes_with_memory, ranges_given, with_data}
@@ -125,12 +126,12 @@ quiet-with_data found nodes =
     (λ done. quiet-returns (noded_by found nodes))
 
 abbrev behind : Judgement → Unit {0} → Doing StageStop Noded
-behind found done = seen (λ items. nodes_with_memory (memory_of items)) >>= λ nodes. with_data found nodes
+behind found done = listed (λ items. nodes_with_memory (memory_of items)) >>= λ nodes. with_data found nodes
 
 quiet-behind : (found : Judgement) (done : Unit {0}) → IsQuietStep (behind found done)
 quiet-behind found done =
-    quiet-bind (seen (λ items. nodes_with_memory (memory_of items))) (λ nodes. with_data found nodes)
-    (quiet-seen (λ items. nodes_with_memory (memory_of items))) (λ nodes. quiet-with_data found nodes)
+    quiet-bind (listed (λ items. nodes_with_memory (memory_of items))) (λ nodes. with_data found nodes)
+    (quiet-listed (λ items. nodes_with_memory (memory_of items))) (λ nodes. quiet-with_data found nodes)
 
 -- what quiet steps and nodes leave as it is, all of it leaves
 module _ {V : Type 0} (seen_of : List Item → V)
@@ -153,9 +154,12 @@ module _ {V : Type 0} (seen_of : List Item → V)
   unfolding assigned assigned_by nodes_with_memory
   keeps-all table off items =
       let found : Judgement = judged (is_memory items) off table in
-      let d : Done StageStop (Unit {0}) = in_turn given tt (ranges_given (limit_of items) found) items in
-      keeps-going items d d.answer (λ a. behind found a (after items d)) (keeps-turn (ranges_given (limit_of items) found) items)
-      (λ a. quiet (after items d) (behind found a (after items d)).steps ((quiet-behind found a).each (after items d)))
+      let ranges : List Block = ranges_given (limit_of items) found in
+      let start : List Item = items ++ [] in
+      let d : Done StageStop (Unit {0}) = in_turn given tt ranges start in
+      keeps-going start d d.answer (λ a. behind found a (after start d)) (keeps-turn ranges start)
+      (λ a. quiet (after start d) (behind found a (after start d)).steps ((quiet-behind found a).each (after start d)))
+      ∙ ap seen_of (append-nil items)
 
 pub keeps-memory : (table : Option Affinity) (off : Bool) (items : List Item) (x : ℕ)
     → is_some (memory_of (after items (assigned table off items)) x) ≡ is_some (memory_of items x)
@@ -219,7 +223,7 @@ ended-by items found noded d (Ok a) first answered =
     quiet-appended_memory mid last.steps ((quiet-behind found tt).each mid) in
     record {
       memory = ap memory_of whole ∙ still ∙ first refl;
-      nodes = data-nodes found (nodes_with_memory (memory_of mid)) mid noded answered
+      nodes = data-nodes found (nodes_with_memory (memory_of mid)) (mid ++ []) noded answered
           ∙ ap nodes_with_memory (sym (ap memory_of whole ∙ still));
     }
 
@@ -229,5 +233,9 @@ pub behind-answer : (table : Option Affinity) (off : Bool) (items : List Item) (
 unfolding assigned assigned_by
 behind-answer table off items noded answered =
     let found : Judgement = judged (is_memory items) off table in
-    let d : Done StageStop (Unit {0}) = in_turn given tt (ranges_given (limit_of items) found) items in
-    ended-by items found noded d d.answer (turn-memory (ranges_given (limit_of items) found) items) answered
+    let ranges : List Block = ranges_given (limit_of items) found in
+    let from : List Item → Done StageStop Noded = λ start. (in_turn given tt ranges >>= behind found) start in
+    subst (λ (start : List Item). (from start).answer ≡ Ok noded → IsBehind items found (after start (from start)) noded)
+    (sym (append-nil items))
+    (λ told. ended-by items found noded (in_turn given tt ranges items) (in_turn given tt ranges items).answer (turn-memory ranges items) told)
+    answered

@@ -17,7 +17,7 @@ use Rattle.growth_model.specs.declared.request.Request.{Request}
 use Rattle.growth_model.specs.Growth.{noded}
 use Rattle.stage_model.specs.declared.stop.What.TheVariants as what
 use Rattle.stage_model.specs.declared.stop.StageStop.{StageStop}
-use Rattle.stage_model.specs.Doing.{Doing, ◌>>=◌, returns, seen, in_turn}
+use Rattle.stage_model.specs.Doing.{Doing, ◌>>=◌, returns, seen, listed, in_turn}
 use Rattle.stage_model.specs.Requests.{carried, placed}
 use Rattle.numa_nodes.specs.declared.nodes.Nodes.{Nodes}
 
@@ -84,8 +84,8 @@ with_data found nodes = in_turn data_placed tt nodes >>= λ done. returns (noded
 -- all of it, by a judgement
 unfoldable pub assigned_by : Judgement → Doing StageStop Noded
 assigned_by found =
-    seen limit_of >>= λ limit. (in_turn given tt (ranges_given limit found)
-    >>= λ done. (seen (λ items. nodes_with_memory (memory_of items)) >>= λ nodes. with_data found nodes))
+    listed (λ items. ranges_given (limit_of items) found) >>= λ ranges. (in_turn given tt ranges
+    >>= λ done. (listed (λ items. nodes_with_memory (memory_of items)) >>= λ nodes. with_data found nodes))
 
 -- and by the table and `numa=off`: the table is judged by the memory that there is before the first range gets its node
 unfoldable pub assigned : Option Affinity → Bool → Doing StageStop Noded

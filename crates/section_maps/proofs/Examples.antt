@@ -1,7 +1,7 @@
 -- Worked examples: sections in groups, the places within a group, and what is asked for.
 use Rattle.std.proofs.Common.{◌≡◌, ℕ, true, false, Some, None, List, [], ◌∷◌, refl}
 use Rattle.stage_model.specs.declared.section.Section.{Section}
-use Rattle.stage_model.specs.Doing.{returns}
+use Rattle.stage_model.specs.Doing.{returns, listed}
 use Rattle.section_maps.specs.Maps.{Group, sections_in, groups_of, usage_request, map_request, spread, map_each, maps}
 
 abbrev section : ℕ → ℕ → Section
@@ -39,6 +39,6 @@ map_of_one : map_request 1 1 false
     ≡ record { size = 0x200000; align = 0x200000; min = 0x1000000; max = None; node = Some 1; exact = false }
 map_of_one = refl
 
-no_sections : (map_each 0x1000 [] [] [] ≡ returns [] []) × (maps [] [] ≡ returns [] [])
+no_sections : (map_each 0x1000 [] [] [] ≡ returns [] []) × (maps [] [] ≡ listed (λ items. []) [])
 unfolding maps
 no_sections = (refl, refl)

@@ -6,8 +6,8 @@ use Rattle.memblock_model.specs.declared.item.Item.{Item}
 use Rattle.stage_model.specs.declared.section.Section.{Section}
 use Rattle.stage_model.specs.declared.stop.StageStop.{StageStop}
 use Rattle.stage_model.specs.declared.stop.StageStop.TheVariants as stop
-use Rattle.stage_model.specs.Doing.{EndsAs, in_turn}
-use Rattle.stage_model.proofs.DoingLaws.{ends-second, ends-first, ends-returns}
+use Rattle.stage_model.specs.Doing.{EndsAs, listed, in_turn}
+use Rattle.stage_model.proofs.DoingLaws.{ends-second, ends-first, ends-listed, ends-wanting, ends-returns}
 use Rattle.section_maps.specs.declared.placed.Placed.{Placed}
 use Rattle.section_maps.specs.Maps.{Group, sections_in, leading, groups_of, group_placed, map_group, maps}
 
@@ -72,9 +72,22 @@ pub goes-first : (entry : List Item) (sections : List Section) (placed : List Pl
     → Goes entry sections entry placed sections
 unfolding maps
 goes-first entry sections placed none = record {
-  ends = λ r new h. subst (λ (before : List Placed). EndsAs stop.Memory r entry new (in_turn map_group before (groups_of sections) entry))
-      none h;
+  ends = λ r new h.
+      let groups : List Group = groups_of sections in
+      let no_placed : List Item → List Placed = λ items. [] in
+      ends-second [] r stop.Memory entry entry new (listed no_placed) (λ before. in_turn map_group before groups)
+      (ends-listed no_placed stop.Memory entry)
+      (subst (λ (before : List Placed). EndsAs stop.Memory r entry new (in_turn map_group before groups entry)) none h);
 }
+
+-- memory ran out for the list
+pub maps-wanting : (entry : List Item) (sections : List Section)
+    → EndsAs {A = List Placed} stop.Memory (Err stop.Memory) entry entry (maps sections entry)
+unfolding maps
+maps-wanting entry sections =
+    let no_placed : List Item → List Placed = λ items. [] in
+    ends-first stop.Memory stop.Memory entry entry (listed no_placed) (λ before. in_turn map_group before (groups_of sections))
+    (ends-wanting no_placed stop.Memory entry)
 
 pub goes-all : (entry : List Item) (sections : List Section) (now : List Item) (placed : List Placed) (rest : List Section)
     → length rest ≡ 0 → Goes entry sections now placed rest → EndsAs stop.Memory (Ok placed) entry now (maps sections entry)

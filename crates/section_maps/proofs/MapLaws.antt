@@ -15,7 +15,7 @@ use Rattle.stage_model.specs.declared.stop.StageStop.{StageStop}
 use Rattle.stage_model.specs.declared.stop.StageStop.TheVariants as stop
 use Rattle.stage_model.specs.Doing.{Doing, EndsAs, returns}
 use Rattle.stage_model.specs.Requests.{allocated, placed, or_else}
-use Rattle.stage_model.proofs.DoingLaws.{ends-second, ends-first, ends-wanting, ends-returns}
+use Rattle.stage_model.proofs.DoingLaws.{ends-second, ends-first, ends-returns}
 use Rattle.stage_model.proofs.RequestLaws.{ends-allocation, else-first, else-table, else-wanting, else-second}
 use Rattle.section_maps.specs.declared.placed.Placed.{Placed}
 use Rattle.section_maps.specs.Maps.{usage_request, map_request, spread, map_each, map_all, group_placed}
@@ -102,17 +102,6 @@ module _ (entry : List Item) (usage : ℕ) (first : List Placed) (sections : Lis
       (ends-first e stop.Memory now new (placed (what.Map s.number) (map_request 1 s.node false) (owner.Map s.number))
       (λ map. map_each (at + 40) (before ++ placed_at at map s ∷ []) (drop (i + 1) sections)) failed)
 
-  pub goes-wanting : (i : ℕ) (d : Section) (mid : List Item) (map : ℕ) → i < length sections
-      → Goes entry usage first sections now at before (drop i sections)
-      → EndsAs stop.Memory (Ok map) now mid (placed (what.Map (get_or sections i d).number) (map_request 1 (get_or sections i d).node false)
-      (owner.Map (get_or sections i d).number) now)
-      → EndsAs {A = List Placed} stop.Memory (Err stop.Memory) entry mid (map_each usage first sections entry)
-  goes-wanting i d mid map few goes was =
-      let s : Section = get_or sections i d in
-      let longer : List Placed = before ++ placed_at at map s ∷ [] in
-      (goes-next i d mid map longer few goes was refl).ends (Err stop.Memory) mid
-      (ends-wanting stop.Memory mid (map_each (at + 40) longer (drop (i + 1) sections) mid))
-
   pub goes-all : (i : ℕ) → length sections ≤ i → Goes entry usage first sections now at before (drop i sections)
       → EndsAs stop.Memory (Ok before) entry now (map_each usage first sections entry)
   goes-all i all goes =
@@ -144,16 +133,6 @@ module _ (usage : ℕ) (before : List Placed) (first : Section) (sections : List
       (ends-second map (Ok now) refusal.Memory old new new
       (allocated (map_request (length sections) first.node true) (owner.Map first.number))
       (λ map. returns (before ++ spread usage map sections)) (alloc-ends (Ok map) new h) (ap (λ (ps : List Placed). Ok ps) (sym is), refl))
-
-  pub buffer-lost : (map : ℕ) (new : List Item) → Allocates (Ok map) old new (place_for q old) q.size (owner.Map first.number)
-      → EndsAs stop.Memory (Err stop.Memory) old new (or_else (what.Map first.number) (map_all usage before first sections)
-      (map_each usage before sections) old)
-  buffer-lost map new h =
-      else-wanting (what.Map first.number) old new (map_all usage before first sections) (map_each usage before sections)
-      (ends-second map (Err refusal.Memory) refusal.Memory old new new
-      (allocated (map_request (length sections) first.node true) (owner.Map first.number))
-      (λ map. returns (before ++ spread usage map sections)) (alloc-ends (Ok map) new h)
-      (ends-wanting refusal.Memory new (returns (before ++ spread usage map sections) new)))
 
   pub buffer-table : (w : Which) (room : ℕ) (new : List Item)
       → Allocates (Err (refusal.NoGapForTable w room)) old new (place_for q old) q.size (owner.Map first.number)

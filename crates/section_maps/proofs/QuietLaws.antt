@@ -5,10 +5,10 @@ use Rattle.memblock_model.specs.declared.item.Item.{Item}
 use Rattle.memblock_model.specs.Items.{memory_of, limit_of}
 use Rattle.stage_model.specs.declared.section.Section.{Section}
 use Rattle.stage_model.specs.declared.stop.What.TheVariants as what
-use Rattle.stage_model.specs.Doing.{after, returns}
+use Rattle.stage_model.specs.Doing.{after, returns, listed, in_turn}
 use Rattle.stage_model.specs.Requests.{allocated, placed, or_else}
 use Rattle.stage_model.specs.Quiet.{IsQuietStep}
-use Rattle.stage_model.proofs.QuietLaws.{quiet-returns, quiet-bind, quiet-turn, quiet-allocated, quiet-placed, quiet-else, quiet-appended_memory, quiet-appended_limit}
+use Rattle.stage_model.proofs.QuietLaws.{quiet-returns, quiet-listed, quiet-bind, quiet-turn, quiet-allocated, quiet-placed, quiet-else, quiet-appended_memory, quiet-appended_limit}
 use Rattle.section_maps.specs.declared.placed.Placed.{Placed}
 use Rattle.section_maps.specs.Maps.{Group, sections_in, groups_of, usage_request, map_request, spread, map_each, map_all, map_group, maps}
 
@@ -39,7 +39,9 @@ quiet-group before g =
 
 pub quiet-maps : (sections : List Section) → IsQuietStep (maps sections)
 unfolding maps
-quiet-maps sections = quiet-turn map_group quiet-group [] (groups_of sections)
+quiet-maps sections =
+    quiet-bind (listed (λ items. [])) (λ none. in_turn map_group none (groups_of sections)) (quiet-listed (λ items. []))
+    (λ none. quiet-turn map_group quiet-group none (groups_of sections))
 
 pub maps-memory : (sections : List Section) (items : List Item) → memory_of (after items (maps sections items)) ≡ memory_of items
 maps-memory sections items = quiet-appended_memory items (maps sections items).steps ((quiet-maps sections).each items)

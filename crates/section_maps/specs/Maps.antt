@@ -6,7 +6,7 @@ use Rattle.growth_model.specs.declared.request.Request.{Request}
 use Rattle.stage_model.specs.declared.section.Section.{Section}
 use Rattle.stage_model.specs.declared.stop.What.TheVariants as what
 use Rattle.stage_model.specs.declared.stop.StageStop.{StageStop}
-use Rattle.stage_model.specs.Doing.{Doing, ◌>>=◌, returns, in_turn}
+use Rattle.stage_model.specs.Doing.{Doing, ◌>>=◌, returns, listed, in_turn}
 use Rattle.stage_model.specs.Requests.{allocated, placed, or_else}
 use Rattle.section_maps.specs.declared.placed.Placed.{Placed}
 
@@ -70,6 +70,6 @@ group_placed before first sections =
 abbrev pub map_group : List Placed → Group → Doing StageStop (List Placed)
 map_group before g = group_placed before g.first (sections_in g)
 
--- the groups in their order
+-- a list with room for all sections, and then the groups in their order
 unfoldable pub maps : List Section → Doing StageStop (List Placed)
-maps sections = in_turn map_group [] (groups_of sections)
+maps sections = listed (λ items. []) >>= λ none. in_turn map_group none (groups_of sections)

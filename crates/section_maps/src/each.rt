@@ -1,7 +1,7 @@
 //! The maps of sections one by one. So they are placed where no buffer is free for those of their group: each has
 //! an owner of its own then, and may lie on another node.
 
-ghost use Rattle.std.specs.Prelude.{◌≡◌, ◌+◌, ◌*◌, ◌^◌, ◌<◌, false, length};
+ghost use Rattle.std.specs.Prelude.{◌≡◌, ◌+◌, ◌*◌, ◌^◌, ◌<◌, ◌≤◌, false, length, vec_len, vec_capacity};
 ghost use Rattle.memblock_model.specs.declared.owner.Owner.TheVariants as owner;
 ghost use Rattle.growth_model.specs.Sound.{HasBegun};
 ghost use Rattle.stage_model.specs.declared.stop.StageStop.TheVariants as stops;
@@ -39,16 +39,19 @@ pub fn place_each(
     usage: u64,
 ) -> Result<(), StageStop>
     requires begun { HasBegun memblock.old.journal.items }
+    requires room { vec_len placed.old + length sections.now ≤ vec_capacity placed.old }
     requires usage { usage + 40 * length sections.now < 2 ^ 64 }
     ensures ends { EndsAs stops.Memory (ok_as (λ _. placed.new.items) result) memblock.old.journal.items memblock.new.journal.items
         (map_each usage placed.old.items sections.now memblock.old.journal.items) }
+    ensures len { vec_len placed.new ≤ vec_len placed.old + length sections.now }
+    ensures capacity { vec_capacity placed.old ≤ vec_capacity placed.new }
     ensures lent { GoesOn memblock.old memblock.new }
 {
     stand_still(memblock);
     let mut at = usage;
     for section in sections {
         let map = place_map(memblock, section)?;
-        put_placed(placed, section, map, at)?;
+        put_placed(placed, section, map, at);
         at += USAGE_SIZE;
     }
     Ok(())

@@ -1,6 +1,6 @@
 //! One group: its usage data, and its maps in one buffer or one by one.
 
-ghost use Rattle.std.specs.Prelude.{◌≡◌, ℕ, ◌+◌, ◌*◌, ◌^◌, ◌<◌, ◌≤◌, ◌==◌, length};
+ghost use Rattle.std.specs.Prelude.{◌≡◌, ℕ, ◌+◌, ◌*◌, ◌^◌, ◌<◌, ◌≤◌, ◌==◌, length, vec_len, vec_capacity};
 ghost use Rattle.std.specs.List.{prefix_len};
 ghost use Rattle.growth_model.specs.Sound.{HasBegun};
 ghost use Rattle.stage_model.specs.declared.stop.StageStop.TheVariants as stops;
@@ -38,18 +38,21 @@ fn map_group(
     requires begun { HasBegun memblock.old.journal.items }
     requires some { 1 ≤ length sections.now }
     requires few { length sections.now ≤ 2 ^ 32 }
+    requires room { vec_len placed.old + length sections.now ≤ vec_capacity placed.old }
     requires usage { usage + 40 * length sections.now < 2 ^ 64 }
     ensures ends { EndsAs stops.Memory (ok_as (λ _. placed.new.items) result) memblock.old.journal.items memblock.new.journal.items
         (or_else (what.Map first.now.number) (map_all usage placed.old.items first.now sections.now)
         (map_each usage placed.old.items sections.now) memblock.old.journal.items) }
+    ensures len { vec_len placed.new ≤ vec_len placed.old + length sections.now }
+    ensures capacity { vec_capacity placed.old ≤ vec_capacity placed.new }
     ensures lent { GoesOn memblock.old memblock.new }
 {
     let request = map_request(sections.len() as u64, first.node, true);
     match memblock.alloc(&request, Owner::Map(first.number)) {
-        Ok(map) => match put_spread(placed, sections, usage, map) {
-            Ok(()) => Ok(()),
-            Err(_) => Err(StageStop::Memory),
-        },
+        Ok(map) => {
+            put_spread(placed, sections, usage, map);
+            Ok(())
+        }
         Err(Refusal::NoGap) => place_each(memblock, placed, sections, usage),
         Err(Refusal::NoGapForTable { which, room }) => Err(StageStop::NoTablePlace { which, room }),
         Err(Refusal::Memory) => Err(StageStop::Memory),
@@ -66,8 +69,11 @@ pub fn place_group(
     requires begun { HasBegun memblock.old.journal.items }
     requires some { 1 ≤ length sections.now }
     requires few { length sections.now ≤ 2 ^ 32 }
+    requires room { vec_len placed.old + length sections.now ≤ vec_capacity placed.old }
     ensures ends { EndsAs stops.Memory (ok_as (λ _. placed.new.items) result) memblock.old.journal.items memblock.new.journal.items
         (group_placed placed.old.items first.now sections.now memblock.old.journal.items) }
+    ensures len { vec_len placed.new ≤ vec_len placed.old + length sections.now }
+    ensures capacity { vec_capacity placed.old ≤ vec_capacity placed.new }
     ensures lent { GoesOn memblock.old memblock.new }
 {
     let number = first.number;

@@ -9,14 +9,15 @@ ghost use Rattle.stage_calls.specs.Lent.{GoesOn};
 ghost use Rattle.section_maps.specs.Maps.{maps};
 
 use crate::group::{count_same, place_group};
-use crate::placed::Placed;
+use crate::placed::{Placed, with_room};
 use memblock_grow::Memblock;
 use stage_calls::stand_still;
 use stage_model::{Section, StageStop};
 use std::alloc::Global;
 
 /// Finds places for the usage data and the map of each section, group by group: 40 bytes and 2 MiB (`sparse_init_nid`). There
-/// are at most 2^25 sections, as many as 4 PiB have. The first that gets no place stops the boot.
+/// are at most 2^25 sections, as many as 4 PiB have. The first that gets no place stops the boot. The program's own memory is wanted before
+/// the first place, or for a step of memblock's that is left.
 pub fn place_maps(
     alloc: Global,
     memblock: &mut Memblock,
@@ -29,7 +30,7 @@ pub fn place_maps(
     ensures lent { GoesOn memblock.old memblock.new }
 {
     stand_still(memblock);
-    let mut placed = Vec::new(alloc);
+    let mut placed = with_room(alloc, sections.len())?;
     let mut rest = sections;
     while let [first, ..] = rest {
         let (group, others) = rest.split_at(count_same(rest, first.node));

@@ -1,12 +1,13 @@
 //! Where a section's map and usage data lie. It is a record a section, whether its map lies in the buffer of a
 //! group or alone: so who reads it has to know nothing of groups.
 
-ghost use Rattle.std.specs.Prelude.{◌≡◌, ◌+◌, ◌*◌, ◌^◌, ◌<◌, [], ◌∷◌, ◌++◌, length, OnOk};
+ghost use Rattle.std.specs.Prelude.{◌≡◌, ◌+◌, ◌*◌, ◌^◌, ◌<◌, ◌≤◌, [], ◌∷◌, ◌++◌, length, IfOk, vec_len, vec_capacity};
 ghost use Rattle.section_maps.specs.Maps.{spread};
 
 use crate::requests::{MAP_SIZE, USAGE_SIZE};
 use bm_base::Memory;
 use stage_model::Section;
+use std::alloc::Global;
 
 /// A section and its places.
 #[derive(Clone, Copy, Debug, PartialEq, Eq)]
@@ -21,35 +22,42 @@ pub struct Placed {
     pub usage: u64,
 }
 
-/// Appends the section with its places.
-pub fn put_placed(
-    placed: &mut Vec<Placed>,
-    section: &Section,
-    map: u64,
-    usage: u64,
-) -> Result<(), Memory>
-    ensures { OnOk result (placed.new.items ≡ placed.old.items
-        ++ record { section = section.now.number; node = section.now.node; map = map; usage = usage } ∷ []) }
+/// A list with room for so many sections.
+pub fn with_room(alloc: Global, count: usize) -> Result<Vec<Placed>, Memory>
+    ensures empty { IfOk result (λ placed. placed.items ≡ []) }
+    ensures room { IfOk result (λ placed. vec_len placed + count ≤ vec_capacity placed) }
 {
-    placed.push(Placed {
+    Ok(Vec::with_capacity(alloc, count)?)
+}
+
+/// Appends the section with its places. The list has room for it, so no memory is taken.
+pub fn put_placed(placed: &mut Vec<Placed>, section: &Section, map: u64, usage: u64)
+    requires room { vec_len placed.old < vec_capacity placed.old }
+    ensures placed { placed.new.items ≡ placed.old.items
+        ++ record { section = section.now.number; node = section.now.node; map = map; usage = usage } ∷ [] }
+    ensures len { vec_len placed.new ≤ vec_len placed.old + 1 }
+    ensures capacity { vec_capacity placed.old ≤ vec_capacity placed.new }
+{
+    let place = Placed {
         section: section.number,
         node: section.node,
         map,
         usage,
-    })?;
-    Ok(())
+    };
+    match placed.push(place) {
+        Ok(()) => (),
+        Err(_) => unreachable!(),
+    }
 }
 
 /// Appends the sections of a group, whose usage data and maps lie one behind the other from the two addresses on.
-pub fn put_spread(
-    placed: &mut Vec<Placed>,
-    sections: &[Section],
-    usage: u64,
-    map: u64,
-) -> Result<(), Memory>
+pub fn put_spread(placed: &mut Vec<Placed>, sections: &[Section], usage: u64, map: u64)
+    requires room { vec_len placed.old + length sections.now ≤ vec_capacity placed.old }
     requires usage { usage + 40 * length sections.now < 2 ^ 64 }
     requires map { map + 0x200000 * length sections.now < 2 ^ 64 }
-    ensures { OnOk result (placed.new.items ≡ placed.old.items ++ spread usage map sections.now) }
+    ensures placed { placed.new.items ≡ placed.old.items ++ spread usage map sections.now }
+    ensures len { vec_len placed.new ≤ vec_len placed.old + length sections.now }
+    ensures capacity { vec_capacity placed.old ≤ vec_capacity placed.new }
 {
     for (i, section) in sections.iter().enumerate() {
         let before = i as u64;
@@ -58,7 +66,6 @@ pub fn put_spread(
             section,
             map + MAP_SIZE * before,
             usage + USAGE_SIZE * before,
-        )?;
+        );
     }
-    Ok(())
 }

@@ -7,12 +7,12 @@ use Rattle.memblock_model.specs.declared.item.Item.{Item}
 use Rattle.memblock_model.specs.Items.{memory_of, limit_of}
 use Rattle.stage_model.specs.declared.section.Section.{Section}
 use Rattle.stage_model.specs.declared.stop.What.TheVariants as what
-use Rattle.stage_model.specs.Doing.{after, returns, ◌>>=◌, in_turn}
+use Rattle.stage_model.specs.Doing.{after, returns, listed, ◌>>=◌, in_turn}
 use Rattle.stage_model.specs.Requests.{placed}
 use Rattle.stage_model.specs.Quiet.{IsQuietStep}
-use Rattle.stage_model.proofs.QuietLaws.{quiet-returns, quiet-bind, quiet-turn, quiet-placed, quiet-appended_memory, quiet-appended_limit}
+use Rattle.stage_model.proofs.QuietLaws.{quiet-returns, quiet-listed, quiet-bind, quiet-turn, quiet-placed, quiet-appended_memory, quiet-appended_limit}
 use Rattle.sparse_sections.specs.declared.roots.RootPlace.{RootPlace}
-use Rattle.sparse_sections.specs.Roots.{root_of, firsts_behind, small_request, root_placed, roots}
+use Rattle.sparse_sections.specs.Roots.{root_of, firsts_behind, small_request, root_placed, roots, roots_listed}
 
 quiet-root : (before : List RootPlace) (s : Section) → IsQuietStep (root_placed before s)
 quiet-root before s =
@@ -25,11 +25,11 @@ pub quiet-roots : (width : Width) (sections : List Section) → IsQuietStep (roo
 unfolding roots
 quiet-roots width sections =
     quiet-bind (placed what.Roots (small_request (root_table_of width) None) owner.Roots)
-    (λ table. in_turn root_placed [] (firsts_behind None sections) >>= λ places. returns (record { table = table; roots = places }))
+    (λ table. roots_listed sections >>= λ places. returns (record { table = table; roots = places }))
     (quiet-placed what.Roots (small_request (root_table_of width) None) owner.Roots)
-    (λ table. quiet-bind (in_turn root_placed [] (firsts_behind None sections))
-    (λ places. returns (record { table = table; roots = places }))
-    (quiet-turn root_placed quiet-root [] (firsts_behind None sections))
+    (λ table. quiet-bind (roots_listed sections) (λ places. returns (record { table = table; roots = places }))
+    (quiet-bind (listed (λ items. [])) (λ none. in_turn root_placed none (firsts_behind None sections)) (quiet-listed (λ items. []))
+    (λ none. quiet-turn root_placed quiet-root none (firsts_behind None sections)))
     (λ places. quiet-returns (record { table = table; roots = places })))
 
 pub roots-memory : (width : Width) (sections : List Section) (items : List Item)

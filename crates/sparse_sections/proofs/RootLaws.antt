@@ -10,11 +10,11 @@ use Rattle.stage_model.specs.declared.section.Section.{Section}
 use Rattle.stage_model.specs.declared.stop.What.TheVariants as what
 use Rattle.stage_model.specs.declared.stop.StageStop.{StageStop}
 use Rattle.stage_model.specs.declared.stop.StageStop.TheVariants as stop
-use Rattle.stage_model.specs.Doing.{Doing, EndsAs, returns, in_turn, ◌>>=◌}
+use Rattle.stage_model.specs.Doing.{Doing, EndsAs, returns, listed, in_turn, ◌>>=◌}
 use Rattle.stage_model.specs.Requests.{placed}
-use Rattle.stage_model.proofs.DoingLaws.{ends-second, ends-first, ends-wanting, ends-returns}
+use Rattle.stage_model.proofs.DoingLaws.{ends-second, ends-first, ends-listed, ends-wanting, ends-returns}
 use Rattle.sparse_sections.specs.declared.roots.RootPlace.{RootPlace}
-use Rattle.sparse_sections.specs.Roots.{root_of, is_root, firsts_behind, small_request, root_placed, RootsPlaced, roots}
+use Rattle.sparse_sections.specs.Roots.{root_of, is_root, firsts_behind, small_request, root_placed, roots_listed, RootsPlaced, roots}
 
 -- a section whose root has a place, and one whose root gets its place now
 pub root-same : (r : Result (List RootPlace) StageStop) (last : Option ℕ) (s : Section) (ss : List Section) (before : List RootPlace)
@@ -46,14 +46,26 @@ pub record Goes (entry : List Item) (sections : List Section) (now : List Item) 
     (rest : List Section) : Type 0 where
   pub ends : (r : Result (List RootPlace) StageStop) (new : List Item)
       → EndsAs stop.Memory r now new (in_turn root_placed roots (firsts_behind last rest) now)
-      → EndsAs stop.Memory r entry new (in_turn root_placed [] (firsts_behind None sections) entry)
+      → EndsAs stop.Memory r entry new (roots_listed sections entry)
 
 pub goes-first : (entry : List Item) (sections : List Section) (roots : List RootPlace) → roots ≡ []
     → Goes entry sections entry roots None sections
 goes-first entry sections roots none = record {
-  ends = λ r new h. subst (λ (before : List RootPlace). EndsAs stop.Memory r entry new (in_turn root_placed before
-      (firsts_behind None sections) entry)) none h;
+  ends = λ r new h.
+      let firsts : List Section = firsts_behind None sections in
+      let no_roots : List Item → List RootPlace = λ items. [] in
+      ends-second [] r stop.Memory entry entry new (listed no_roots) (λ before. in_turn root_placed before firsts)
+      (ends-listed no_roots stop.Memory entry)
+      (subst (λ (before : List RootPlace). EndsAs stop.Memory r entry new (in_turn root_placed before firsts entry)) none h);
 }
+
+-- memory ran out for the list
+pub list-wanting : (entry : List Item) (sections : List Section)
+    → EndsAs {A = List RootPlace} stop.Memory (Err stop.Memory) entry entry (roots_listed sections entry)
+list-wanting entry sections =
+    let no_roots : List Item → List RootPlace = λ items. [] in
+    ends-first stop.Memory stop.Memory entry entry (listed no_roots) (λ before. in_turn root_placed before (firsts_behind None sections))
+    (ends-wanting no_roots stop.Memory entry)
 
 -- the section at the index, and those behind it
 left-at : (sections : List Section) (i : ℕ) (d : Section) → i < length sections
@@ -86,7 +98,7 @@ pub goes-fails : (e : StageStop) (entry : List Item) (sections : List Section) (
     (last : Option ℕ) (i : ℕ) (d : Section) → i < length sections → is_root last (root_of (get_or sections i d)) ≡ false
     → EndsAs {A = List RootPlace} stop.Memory (Err e) now new (root_placed before (get_or sections i d) now)
     → Goes entry sections now before last (drop i sections)
-    → EndsAs {A = List RootPlace} stop.Memory (Err e) entry new (in_turn root_placed [] (firsts_behind None sections) entry)
+    → EndsAs {A = List RootPlace} stop.Memory (Err e) entry new (roots_listed sections entry)
 goes-fails e entry sections now new before last i d few other failed goes =
     let s : Section = get_or sections i d in
     let here : Goes entry sections now before last (s ∷ drop (i + 1) sections) =
@@ -95,23 +107,10 @@ goes-fails e entry sections now new before last i d few other failed goes =
 
 pub goes-all : (entry : List Item) (sections : List Section) (now : List Item) (roots : List RootPlace) (last : Option ℕ) (i : ℕ)
     → length sections ≤ i → Goes entry sections now roots last (drop i sections)
-    → EndsAs stop.Memory (Ok roots) entry now (in_turn root_placed [] (firsts_behind None sections) entry)
+    → EndsAs stop.Memory (Ok roots) entry now (roots_listed sections entry)
 goes-all entry sections now roots last i all goes =
     let here : Goes entry sections now roots last [] = subst (Goes entry sections now roots last) (drop_all i sections all) goes in
     here.ends (Ok roots) now (ends-returns roots stop.Memory now)
-
--- a place that was found, and no memory to keep it
-pub root-wanting : (at number : ℕ) (q : Request) (before : List RootPlace) (s : Section) (old new : List Item) → number ≡ root_of s
-    → q ≡ small_request 4096 (Some s.node) → EndsAs stop.Memory (Ok at) old new (placed (what.Root number) q (owner.Root number) old)
-    → EndsAs {A = List RootPlace} stop.Memory (Err stop.Memory) old new (root_placed before s old)
-root-wanting at number q before s old new is request h =
-    let asked = small_request 4096 (Some s.node) in
-    let here : EndsAs stop.Memory (Ok at) old new (placed (what.Root (root_of s)) asked (owner.Root (root_of s)) old) =
-    subst (λ (n : ℕ). EndsAs stop.Memory (Ok at) old new (placed (what.Root n) asked (owner.Root n) old)) is
-    (subst (λ (r : Request). EndsAs stop.Memory (Ok at) old new (placed (what.Root number) r (owner.Root number) old)) request h) in
-    let next : ℕ → Doing StageStop (List RootPlace) = λ place. returns (before ++ record { number = root_of s; place = place } ∷ []) in
-    ends-second at (Err stop.Memory) stop.Memory old new new (placed (what.Root (root_of s)) asked (owner.Root (root_of s))) next here
-    (ends-wanting stop.Memory new (next at new))
 
 -- the table and then the roots
 pub roots-fail : (e : StageStop) (width : Width) (q : Request) (sections : List Section) (old new : List Item)
@@ -121,35 +120,35 @@ pub roots-fail : (e : StageStop) (width : Width) (q : Request) (sections : List 
 unfolding roots
 roots-fail e width q sections old new request h =
     ends-first e stop.Memory old new (placed what.Roots (small_request (root_table_of width) None) owner.Roots)
-    (λ table. in_turn root_placed [] (firsts_behind None sections) >>= λ places. returns (record { table = table; roots = places }))
+    (λ table. roots_listed sections >>= λ places. returns (record { table = table; roots = places }))
     (subst (λ (r : Request). EndsAs {A = ℕ} stop.Memory (Err e) old new (placed what.Roots r owner.Roots old)) request h)
 
 roots-behind : (r : Result RootsPlaced StageStop) (table : ℕ) (width : Width) (q : Request) (sections : List Section) (old mid new : List Item)
     → q ≡ small_request (root_table_of width) None → EndsAs stop.Memory (Ok table) old mid (placed what.Roots q owner.Roots old)
-    → EndsAs stop.Memory r mid new ((in_turn root_placed [] (firsts_behind None sections)
+    → EndsAs stop.Memory r mid new ((roots_listed sections
     >>= λ places. returns (record { table = table; roots = places })) mid)
     → EndsAs stop.Memory r old new (roots width sections old)
 unfolding roots
 roots-behind r table width q sections old mid new request was h =
     ends-second table r stop.Memory old mid new (placed what.Roots (small_request (root_table_of width) None) owner.Roots)
-    (λ table. in_turn root_placed [] (firsts_behind None sections) >>= λ places. returns (record { table = table; roots = places }))
+    (λ table. roots_listed sections >>= λ places. returns (record { table = table; roots = places }))
     (subst (λ (r : Request). EndsAs stop.Memory (Ok table) old mid (placed what.Roots r owner.Roots old)) request was) h
 
 pub roots-stop : (e : StageStop) (table : ℕ) (width : Width) (q : Request) (sections : List Section) (old mid new : List Item)
     → q ≡ small_request (root_table_of width) None → EndsAs stop.Memory (Ok table) old mid (placed what.Roots q owner.Roots old)
-    → EndsAs {A = List RootPlace} stop.Memory (Err e) mid new (in_turn root_placed [] (firsts_behind None sections) mid)
+    → EndsAs {A = List RootPlace} stop.Memory (Err e) mid new (roots_listed sections mid)
     → EndsAs {A = RootsPlaced} stop.Memory (Err e) old new (roots width sections old)
 roots-stop e table width q sections old mid new request was h =
     roots-behind (Err e) table width q sections old mid new request was
-    (ends-first e stop.Memory mid new (in_turn root_placed [] (firsts_behind None sections))
+    (ends-first e stop.Memory mid new (roots_listed sections)
     (λ places. returns (record { table = table; roots = places })) h)
 
 pub roots-all : (table : ℕ) (places : List RootPlace) (width : Width) (q : Request) (sections : List Section) (old mid new : List Item)
     → q ≡ small_request (root_table_of width) None → EndsAs stop.Memory (Ok table) old mid (placed what.Roots q owner.Roots old)
-    → EndsAs stop.Memory (Ok places) mid new (in_turn root_placed [] (firsts_behind None sections) mid)
+    → EndsAs stop.Memory (Ok places) mid new (roots_listed sections mid)
     → EndsAs stop.Memory (Ok (record { table = table; roots = places })) old new (roots width sections old)
 roots-all table places width q sections old mid new request was h =
     roots-behind (Ok (record { table = table; roots = places })) table width q sections old mid new request was
     (ends-second places (Ok (record { table = table; roots = places })) stop.Memory mid new new
-    (in_turn root_placed [] (firsts_behind None sections)) (λ places. returns (record { table = table; roots = places })) h
+    (roots_listed sections) (λ places. returns (record { table = table; roots = places })) h
     (ends-returns (record { table = table; roots = places }) stop.Memory new))

@@ -8,7 +8,7 @@ use Rattle.growth_model.specs.declared.request.Request.{Request}
 use Rattle.stage_model.specs.declared.section.Section.{Section}
 use Rattle.stage_model.specs.declared.stop.What.TheVariants as what
 use Rattle.stage_model.specs.declared.stop.StageStop.{StageStop}
-use Rattle.stage_model.specs.Doing.{Doing, ◌>>=◌, returns, in_turn}
+use Rattle.stage_model.specs.Doing.{Doing, ◌>>=◌, returns, listed, in_turn}
 use Rattle.stage_model.specs.Requests.{placed}
 use Rattle.sparse_sections.specs.declared.roots.RootPlace.{RootPlace}
 use Rattle.sparse_sections.specs.declared.roots.Roots.{Roots}
@@ -36,6 +36,9 @@ root_placed before s =
     placed (what.Root (root_of s)) (small_request FRAME_SIZE (Some s.node)) (owner.Root (root_of s))
     >>= λ place. returns (before ++ record { number = root_of s; place = place } ∷ [])
 
+abbrev pub roots_listed : List Section → Doing StageStop (List RootPlace)
+roots_listed sections = listed (λ items. []) >>= λ none. in_turn root_placed none (firsts_behind None sections)
+
 -- what contracts see of the roots
 pub record RootsPlaced : Type 0 where
   pub table : ℕ
@@ -44,9 +47,8 @@ pub record RootsPlaced : Type 0 where
 abbrev pub roots_view : Roots → RootsPlaced
 roots_view r = record { table = r.table; roots = r.roots.items }
 
--- the table, which has room for each root that addresses of that width can have, and then the roots in their order
+-- the table, which has room for each root that addresses of that width can have; and then the roots in their order, in a list
 unfoldable pub roots : Width → List Section → Doing StageStop RootsPlaced
 roots width sections =
     placed what.Roots (small_request (root_table_of width) None) owner.Roots
-    >>= λ table. (in_turn root_placed [] (firsts_behind None sections)
-    >>= λ places. returns (record { table = table; roots = places }))
+    >>= λ table. (roots_listed sections >>= λ places. returns (record { table = table; roots = places }))

@@ -1,16 +1,16 @@
 //! The allocations of the table of roots and of each root. The kernel makes them as it meets the sections; here
 //! these are a list by then, and since they ascend it is enough to know which root was placed last.
 
-ghost use Rattle.std.specs.Prelude.{◌≡◌, ℕ, None, [], List};
+ghost use Rattle.std.specs.Prelude.{◌≡◌, ◌≤◌, ◌<◌, ◌+◌, ℕ, None, [], List, IfOk, length, vec_len, vec_capacity};
 ghost use Rattle.bm_base.specs.Width.{root_table_of};
 ghost use Rattle.growth_model.specs.Sound.{HasBegun};
 ghost use Rattle.stage_model.specs.declared.stop.StageStop.TheVariants as stops;
-ghost use Rattle.stage_model.specs.Doing.{EndsAs, in_turn, ok_as};
+ghost use Rattle.stage_model.specs.Doing.{EndsAs, ok_as};
 ghost use Rattle.stage_calls.specs.Lent.{GoesOn};
-ghost use Rattle.sparse_sections.specs.Roots.{root_of, is_root, firsts_behind, small_request, root_placed, roots, roots_view};
+ghost use Rattle.sparse_sections.specs.Roots.{root_of, is_root, small_request, root_placed, roots, roots_listed, roots_view};
 
 use crate::roots::{RootPlace, Roots};
-use bm_base::{FRAME_SIZE, Width};
+use bm_base::{FRAME_SIZE, Memory, Width};
 use boot_journal::Owner;
 use growth_model::Request;
 use memblock_grow::Memblock;
@@ -62,15 +62,18 @@ fn is_root(last: Option<u32>, root: u32) -> bool
     }
 }
 
-/// Finds a place for the section's root, and appends it.
+/// Finds a place for the section's root, and appends it. The list has room for it, so it takes no memory.
 fn place_root(
     memblock: &mut Memblock,
     roots: &mut Vec<RootPlace>,
     section: &Section,
 ) -> Result<(), StageStop>
-    requires { HasBegun memblock.old.journal.items }
+    requires begun { HasBegun memblock.old.journal.items }
+    requires room { vec_len roots.old < vec_capacity roots.old }
     ensures ends { EndsAs stops.Memory (ok_as (λ _. roots.new.items) result) memblock.old.journal.items memblock.new.journal.items
         (root_placed roots.old.items section.now memblock.old.journal.items) }
+    ensures len { vec_len roots.new ≤ vec_len roots.old + 1 }
+    ensures capacity { vec_capacity roots.old ≤ vec_capacity roots.new }
     ensures lent { GoesOn memblock.old memblock.new }
 {
     let number = root_of(section);
@@ -78,8 +81,16 @@ fn place_root(
     let at = place(memblock, What::Root(number), &request, Owner::Root(number))?;
     match roots.push(RootPlace { number, place: at }) {
         Ok(()) => Ok(()),
-        Err(_) => Err(StageStop::Memory),
+        Err(_) => unreachable!(),
     }
+}
+
+/// A list with room for a root for each section.
+fn with_room(alloc: Global, sections: &[Section]) -> Result<Vec<RootPlace>, Memory>
+    ensures empty { IfOk result (λ roots. roots.items ≡ []) }
+    ensures room { IfOk result (λ roots. vec_len roots + length sections.now ≤ vec_capacity roots) }
+{
+    Ok(Vec::with_capacity(alloc, sections.len())?)
 }
 
 /// Finds a place for the root of each section, once for those that have it in common.
@@ -90,11 +101,11 @@ fn place_each_root(
 ) -> Result<Vec<RootPlace>, StageStop>
     requires { HasBegun memblock.old.journal.items }
     ensures ends { EndsAs stops.Memory (ok_as (λ roots. roots.items) result) memblock.old.journal.items memblock.new.journal.items
-        (in_turn root_placed [] (firsts_behind None sections.now) memblock.old.journal.items) }
+        (roots_listed sections.now memblock.old.journal.items) }
     ensures lent { GoesOn memblock.old memblock.new }
 {
     stand_still(memblock);
-    let mut roots = Vec::new(alloc);
+    let mut roots = with_room(alloc, sections)?;
     let mut last = None;
     for section in sections {
         let root = root_of(section);
@@ -108,7 +119,8 @@ fn place_each_root(
 
 /// Finds places for the table of roots and for the root of each section: 16 KiB, or 1 MiB where addresses have 52 bits, and then a page
 /// each, on the node of the root's first section if there is room (`memory_present`, `sparse_index_alloc`). Where the sections ascend each root gets one place. The
-/// first that gets none stops the boot.
+/// first that gets none stops the boot. The program's own memory is wanted behind the table's place, before the first root's, or for a step of
+/// memblock's that is left.
 pub fn place_roots(
     alloc: Global,
     memblock: &mut Memblock,

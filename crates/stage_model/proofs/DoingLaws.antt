@@ -1,11 +1,11 @@
 -- How one step after another ends: by the ends of both.
-use Rattle.std.proofs.Common.{◌≡◌, ◌⊎◌, inl, inr, ℕ, ◌+◌, ◌≤◌, List, [], ◌∷◌, ◌++◌, length, take, Result, Ok, Err, refl, sym, ◌∙◌, ap, subst, append_assoc, arith}
-use Rattle.std.proofs.lemmas.List.{append-nil, length-append, take-append-le, take_all}
+use Rattle.std.proofs.Common.{◌≡◌, ◌⊎◌, inl, inr, ℕ, ◌+◌, ◌<◌, List, [], ◌∷◌, ◌++◌, length, take, Result, Ok, Err, refl, sym, ◌∙◌, ap, subst, append_assoc, arith}
+use Rattle.std.proofs.lemmas.List.{append-nil, length-append, take-append-le}
 use Rattle.std.proofs.Math.Seq.{take-append-add}
 use Rattle.memblock_model.specs.declared.item.Item.{Item}
 use Rattle.growth_model.specs.Outcome.{joined}
 use Rattle.growth_model.specs.Sound.{HasBegun}
-use Rattle.stage_model.specs.Doing.{Done, Doing, appended, after, returns, stops, going_on, ◌>>=◌, in_turn, IsCut, EndsAs, ok_as}
+use Rattle.stage_model.specs.Doing.{Done, Doing, appended, after, returns, stops, listed, going_on, ◌>>=◌, in_turn, IsCutShort, EndsAs, ok_as}
 
 pub appended-append : (items : List Item) (a b : List (List Item)) → appended items (a ++ b) ≡ appended (appended items a) b
 appended-append items [] b = refl
@@ -16,41 +16,31 @@ appended-joined items [] = sym (append-nil items)
 appended-joined items (s ∷ ss) = appended-joined (items ++ s) ss ∙ append_assoc items s (joined ss)
 
 -- some groups of the first are some groups of both, and so are all of the first and some of the second
-pub cut-first : (old new : List Item) (a b : List (List Item)) → IsCut old new a → IsCut old new (a ++ b)
+pub cut-first : (old new : List Item) (a b : List (List Item)) → IsCutShort old new a → IsCutShort old new (a ++ b)
 cut-first old new a b cut =
-    let few : cut.count ≤ length a = cut.within in
+    let short : cut.count < length a = cut.short in
     record {
       count = cut.count;
-      within = omega (arith, length-append a b, few);
-      stands = cut.stands ∙ ap (λ (t : List (List Item)). appended old t) (sym (take-append-le cut.count a b few));
+      short = omega (arith, length-append a b, short);
+      stands = cut.stands ∙ ap (λ (t : List (List Item)). appended old t) (sym (take-append-le cut.count a b (omega (arith, short))));
     }
 
-pub cut-second : (old new : List Item) (a b : List (List Item)) → IsCut (appended old a) new b → IsCut old new (a ++ b)
+pub cut-second : (old new : List Item) (a b : List (List Item)) → IsCutShort (appended old a) new b → IsCutShort old new (a ++ b)
 cut-second old new a b cut =
-    let few : cut.count ≤ length b = cut.within in
+    let short : cut.count < length b = cut.short in
     record {
       count = length a + cut.count;
-      within = omega (arith, length-append a b, few);
+      short = omega (arith, length-append a b, short);
       stands = cut.stands ∙ sym (appended-append old a (take cut.count b))
           ∙ ap (λ (t : List (List Item)). appended old t) (sym (take-append-add a b cut.count));
     }
-
-pub cut-none : (items : List Item) (steps : List (List Item)) → IsCut items items steps
-cut-none items steps = record { count = 0; within = omega arith; stands = refl }
-
-pub cut-all : (old : List Item) (steps : List (List Item)) → IsCut old (appended old steps) steps
-cut-all old steps = record {
-  count = length steps;
-  within = omega arith;
-  stands = ap (λ (t : List (List Item)). appended old t) (sym (take_all (length steps) steps (omega arith)));
-}
 
 module _ {E A B : Type 0} where
   both : Done E A → Done E B → Done E B
   both d p = record { steps = d.steps ++ p.steps; answer = p.answer }
 
   failed_second : (e wanting : E) (old new : List Item) (d : Done E A) (p : Done E B)
-      → ((p.answer ≡ Err e) × (new ≡ after (after old d) p)) ⊎ ((e ≡ wanting) × IsCut (after old d) new p.steps)
+      → ((p.answer ≡ Err e) × (new ≡ after (after old d) p)) ⊎ ((e ≡ wanting) × IsCutShort (after old d) new p.steps)
       → EndsAs wanting (Err e) old new (record { steps = d.steps ++ p.steps; answer = p.answer })
   failed_second e wanting old new d p (inl told) = inl (told.0, told.1 ∙ sym (appended-append old d.steps p.steps))
   failed_second e wanting old new d p (inr cut) = inr (cut.0, cut-second old new d.steps p.steps cut.1)
@@ -70,13 +60,13 @@ module _ {E A B : Type 0} where
       subst (λ (answer : Result A E). EndsAs wanting r old new (going_on (f old).steps answer (λ b. next b (after old (f old)))))
       (sym was.0) (second_by r wanting old new (f old) (next a (after old (f old))) there)
 
-  cut_by : (answer : Result A E) (old new : List Item) (steps : List (List Item)) (next : A → Done E B) → IsCut old new steps
-      → IsCut old new (going_on steps answer next).steps
+  cut_by : (answer : Result A E) (old new : List Item) (steps : List (List Item)) (next : A → Done E B) → IsCutShort old new steps
+      → IsCutShort old new (going_on steps answer next).steps
   cut_by (Ok a) old new steps next cut = cut-first old new steps (next a).steps cut
   cut_by (Err e) old new steps next cut = cut
 
   first_by : (e wanting : E) (old new : List Item) (d : Done E A) (next : A → Done E B)
-      → ((d.answer ≡ Err e) × (new ≡ after old d)) ⊎ ((e ≡ wanting) × IsCut old new d.steps)
+      → ((d.answer ≡ Err e) × (new ≡ after old d)) ⊎ ((e ≡ wanting) × IsCutShort old new d.steps)
       → EndsAs wanting (Err e) old new (going_on d.steps d.answer next)
   first_by e wanting old new d next (inl told) =
       subst (λ (answer : Result A E). EndsAs {A = B} wanting (Err e) old new (going_on d.steps answer next)) (sym told.0)
@@ -89,9 +79,12 @@ module _ {E A B : Type 0} where
   ends-first e wanting old new f next h = first_by e wanting old new (f old) (λ a. next a (after old (f old))) h
 
 module _ {E A : Type 0} where
-  -- memory ran out before anything was written
-  pub ends-wanting : (wanting : E) (items : List Item) (d : Done E A) → EndsAs wanting (Err wanting) items items d
-  ends-wanting wanting items d = inr (refl, cut-none items d.steps)
+  -- memory was taken for a list, or ran out
+  pub ends-listed : (f : List Item → A) (wanting : E) (items : List Item) → EndsAs wanting (Ok (f items)) items items (listed f items)
+  ends-listed f wanting items = (refl, sym (append-nil items))
+
+  pub ends-wanting : (f : List Item → A) (wanting : E) (items : List Item) → EndsAs wanting (Err wanting) items items (listed f items)
+  ends-wanting f wanting items = inr (refl, record { count = 0; short = omega arith; stands = refl })
 
   -- an answer that is known
   pub ends-along : (r s : Result A E) (wanting : E) (old new : List Item) (d : Done E A) → r ≡ s → EndsAs wanting r old new d
@@ -100,11 +93,6 @@ module _ {E A : Type 0} where
 
   pub ends-returns : (a : A) (wanting : E) (items : List Item) → EndsAs wanting (Ok a) items items (returns {E = E} a items)
   ends-returns a wanting items = (refl, refl)
-
--- memory ran out behind a step that was done
-pub ends-late : {E A B : Type 0} (a : A) (wanting : E) (old new : List Item) (d : Done E A) → EndsAs wanting (Ok a) old new d
-    → EndsAs {A = B} wanting (Err wanting) old new (record { steps = d.steps; answer = Err wanting })
-ends-late a wanting old new d was = inl (refl, was.1)
 
 -- an error is the same whatever the answer would have been
 pub ends-err : {E A B : Type 0} (e wanting : E) (view : A → B) (r : Result A E) (old new : List Item) (d : Done E B) → r ≡ Err e
@@ -121,7 +109,7 @@ begun-appended items [] begun = begun
 begun-appended items (s ∷ ss) begun = begun-appended (items ++ s) ss (begun-append items s begun)
 
 begun_by : {E A : Type 0} (e wanting : E) (old new : List Item) (d : Done E A) → HasBegun old
-    → ((d.answer ≡ Err e) × (new ≡ after old d)) ⊎ ((e ≡ wanting) × IsCut old new d.steps) → HasBegun new
+    → ((d.answer ≡ Err e) × (new ≡ after old d)) ⊎ ((e ≡ wanting) × IsCutShort old new d.steps) → HasBegun new
 begun_by e wanting old new d begun (inl told) = subst HasBegun (sym told.1) (begun-appended old d.steps begun)
 begun_by e wanting old new d begun (inr cut) = subst HasBegun (sym cut.1.stands) (begun-appended old (take cut.1.count d.steps) begun)
 

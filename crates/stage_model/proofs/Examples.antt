@@ -1,5 +1,5 @@
 -- Worked examples: steps that answer, stop and go on; an allocation without a place; calls that were cut short.
-use Rattle.std.proofs.Common.{◌≡◌, ℕ, ◌+◌, nat_lt, if◌then◌else◌, None, Some, List, [], ◌∷◌, Ok, Err, refl, inl, inr, arith}
+use Rattle.std.proofs.Common.{◌≡◌, ℕ, ◌+◌, nat_lt, if◌then◌else◌, None, Some, List, [], ◌∷◌, Ok, Err, refl, inl, inr, arith, ◌<◌, length, zero, suc, take}
 use Rattle.std.proofs.lemmas.Option.{same_Some}
 use Rattle.memblock_model.specs.Labels.{Label, plain_label, with_node}
 use Rattle.memblock_model.specs.declared.which.Which.TheVariants as which
@@ -12,7 +12,7 @@ use Rattle.growth_model.specs.Outcome.{write, refuse}
 use Rattle.stage_model.specs.declared.stop.What.TheVariants as what
 use Rattle.stage_model.specs.declared.stop.StageStop.{StageStop}
 use Rattle.stage_model.specs.declared.stop.StageStop.TheVariants as stop
-use Rattle.stage_model.specs.Doing.{Done, Doing, appended, after, returns, stops, seen, ◌>>=◌, in_turn, IsCut, EndsAs, ok_as}
+use Rattle.stage_model.specs.Doing.{Done, Doing, appended, after, returns, stops, seen, listed, ◌>>=◌, in_turn, IsCutShort, EndsAs, ok_as}
 use Rattle.stage_model.specs.Noded.{AreOfFrames, IsNoded}
 use Rattle.stage_model.specs.Requests.{changes, claimed_at, or_stop, or_else, refusal_of}
 
@@ -73,11 +73,27 @@ wants_memory : (or_else (what.Map 3) (stops refusal.Memory) (limited 0 9) []).an
 wants_memory = refl
 
 -- memory ran out behind the first of two groups
-cut_behind_one : IsCut [] (item.Trim ∷ []) ((item.Trim ∷ []) ∷ ((item.Limit 7 ∷ []) ∷ []))
-cut_behind_one = record { count = 1; within = omega arith; stands = refl }
+cut_behind_one : IsCutShort [] (item.Trim ∷ []) ((item.Trim ∷ []) ∷ ((item.Limit 7 ∷ []) ∷ []))
+cut_behind_one = record { count = 1; short = omega arith; stands = refl }
 
 ends_cut : EndsAs {A = ℕ} stop.Memory (Err stop.Memory) [] (item.Limit 5 ∷ []) ((limited 0 5 >>= λ a. limited a 7) [])
-ends_cut = inr (refl, record { count = 1; within = omega arith; stands = refl })
+ends_cut = inr (refl, record { count = 1; short = omega arith; stands = refl })
+
+-- none is wanted where all groups stand, nor in place of a stop
+none_left : IsCutShort [] (item.Limit 5 ∷ (item.Limit 7 ∷ [])) ((item.Limit 5 ∷ []) ∷ ((item.Limit 7 ∷ []) ∷ [])) → ⊥
+none_left cut = left cut.count cut.short cut.stands where
+  left : (n : ℕ) → n < 2 → item.Limit 5 ∷ (item.Limit 7 ∷ []) ≡ appended [] (take n ((item.Limit 5 ∷ []) ∷ ((item.Limit 7 ∷ []) ∷ []))) → ⊥
+  left zero less is = cc is
+  left (suc zero) less is = cc is
+  left (suc (suc n)) less is = absurd (omega (arith, less))
+
+none_in_place : EndsAs {A = ℕ} stop.Memory (Err stop.Memory) [] [] (stops (stop.NoPlace what.Roots) []) → ⊥
+none_in_place (inl told) = let wrong = told.0 in cc wrong
+none_in_place (inr cut) = let less = cut.1.short in absurd (omega (arith, less))
+
+-- a list wants some, though it writes no item
+list_wanted : EndsAs {A = ℕ} stop.Memory (Err stop.Memory) [] [] (listed length [])
+list_wanted = inr (refl, record { count = 0; short = omega arith; stands = refl })
 
 -- which no other error may do
 other_error_cut : EndsAs {A = ℕ} stop.Memory (Err (stop.NoPlace what.Roots)) [] (item.Limit 5 ∷ [])

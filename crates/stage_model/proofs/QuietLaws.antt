@@ -15,7 +15,7 @@ use Rattle.growth_model.proofs.QuietLaws.{IsQuiet, claimed-quiet, quiet-memory_i
 use Rattle.stage_model.specs.declared.stop.What.{What}
 use Rattle.stage_model.specs.declared.stop.StageStop.{StageStop}
 use Rattle.stage_model.specs.declared.stop.StageStop.TheVariants as stop
-use Rattle.stage_model.specs.Doing.{Done, Doing, appended, after, returns, stops, seen, going_on, ◌>>=◌, in_turn}
+use Rattle.stage_model.specs.Doing.{Done, Doing, appended, after, returns, stops, seen, listed, going_on, ◌>>=◌, in_turn}
 use Rattle.stage_model.specs.Requests.{changes, claimed_at, allocated, placed, unless_gap, or_else}
 use Rattle.stage_model.specs.Quiet.{IsQuietStep}
 use Rattle.stage_model.proofs.DoingLaws.{appended-joined}
@@ -29,6 +29,9 @@ module _ {E A : Type 0} where
 
   pub quiet-seen : (f : List Item → A) → IsQuietStep (seen {E = E} f)
   quiet-seen f = record { each = λ items. tt }
+
+  pub quiet-listed : (f : List Item → A) → IsQuietStep (listed {E = E} f)
+  quiet-listed f = record { each = λ items. (refl, tt) }
 
 module _ {E A B : Type 0} where
   quiet_going : (steps : List (List Item)) (answer : Result A E) (next : A → Done E B) → AreQuiet steps

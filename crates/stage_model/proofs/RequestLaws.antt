@@ -15,7 +15,7 @@ use Rattle.growth_model.proofs.EndLaws.{Ends-error}
 use Rattle.stage_model.specs.declared.stop.What.{What}
 use Rattle.stage_model.specs.declared.stop.StageStop.{StageStop}
 use Rattle.stage_model.specs.declared.stop.StageStop.TheVariants as stop
-use Rattle.stage_model.specs.Doing.{Done, Doing, appended, after, returns, stops, ◌>>=◌, IsCut, EndsAs}
+use Rattle.stage_model.specs.Doing.{Done, Doing, appended, after, returns, stops, ◌>>=◌, IsCutShort, EndsAs}
 use Rattle.stage_model.specs.Requests.{refusal_of, changes, stop_of, carried, claimed_at, allocated, stop_for, or_stop, placed, unless_gap, or_else}
 use Rattle.stage_model.proofs.DoingLaws.{appended-joined, cut-first, ends-second, ends-first, ends-along, ends-returns}
 
@@ -31,7 +31,7 @@ ends-change (Err refusal.Memory) old new change cut =
       refl,
       record {
         count = cut.count;
-        within = omega (arith, cut.short);
+        short = cut.short;
         stands = cut.stands ∙ sym (appended-joined old (take cut.count (change old).steps));
       },
     )
@@ -53,7 +53,7 @@ carried-wanting T old new change cut =
       refl,
       record {
         count = cut.count;
-        within = omega (arith, cut.short);
+        short = cut.short;
         stands = cut.stands ∙ sym (appended-joined old (take cut.count (change old).steps));
       },
     )
@@ -84,7 +84,7 @@ ends-allocation r old new q who h = allocation_by r old new (place_for q old) q.
 
 -- an allocation that the boot can't do without
 stopped_by : (e : Refusal) (thing : What) (old new : List Item) (d : Done Refusal ℕ)
-    → ((d.answer ≡ Err e) × (new ≡ after old d)) ⊎ ((e ≡ refusal.Memory) × IsCut old new d.steps)
+    → ((d.answer ≡ Err e) × (new ≡ after old d)) ⊎ ((e ≡ refusal.Memory) × IsCutShort old new d.steps)
     → EndsAs stop.Memory (or_stop thing (Err e)) old new (record { steps = d.steps; answer = or_stop thing d.answer })
 stopped_by e thing old new d (inl told) = inl (ap (or_stop thing) told.0, told.1)
 stopped_by e thing old new d (inr cut) = inr (ap (stop_for thing) cut.0, cut.1)
@@ -105,7 +105,7 @@ module _ {A : Type 0} where
 
   table_by : (w : Which) (room : ℕ) (thing : What) (old new : List Item) (d : Done Refusal A) (other : Done StageStop A)
       → ((d.answer ≡ Err (refusal.NoGapForTable w room)) × (new ≡ after old d))
-      ⊎ ((refusal.NoGapForTable w room ≡ refusal.Memory) × IsCut old new d.steps)
+      ⊎ ((refusal.NoGapForTable w room ≡ refusal.Memory) × IsCutShort old new d.steps)
       → EndsAs stop.Memory (Err (stop.NoTablePlace w room)) old new (unless_gap thing d.steps d.answer other)
   table_by w room thing old new d other (inl told) =
       subst (λ (answer : Result A Refusal). EndsAs {A = A} stop.Memory (Err (stop.NoTablePlace w room)) old new
@@ -118,14 +118,14 @@ module _ {A : Type 0} where
   else-table w room thing old new first other h = table_by w room thing old new (first old) (other (after old (first old))) h
 
   cut_by : (answer : Result A Refusal) (thing : What) (old new : List Item) (steps : List (List Item)) (other : Done StageStop A)
-      → IsCut old new steps → IsCut old new (unless_gap thing steps answer other).steps
+      → IsCutShort old new steps → IsCutShort old new (unless_gap thing steps answer other).steps
   cut_by (Ok a) thing old new steps other cut = cut
   cut_by (Err refusal.NoGap) thing old new steps other cut = cut-first old new steps other.steps cut
   cut_by (Err (refusal.NoGapForTable w room)) thing old new steps other cut = cut
   cut_by (Err refusal.Memory) thing old new steps other cut = cut
 
   wanting_by : (thing : What) (old new : List Item) (d : Done Refusal A) (other : Done StageStop A)
-      → ((d.answer ≡ Err refusal.Memory) × (new ≡ after old d)) ⊎ ((refusal.Memory ≡ refusal.Memory) × IsCut old new d.steps)
+      → ((d.answer ≡ Err refusal.Memory) × (new ≡ after old d)) ⊎ ((refusal.Memory ≡ refusal.Memory) × IsCutShort old new d.steps)
       → EndsAs stop.Memory (Err stop.Memory) old new (unless_gap thing d.steps d.answer other)
   wanting_by thing old new d other (inl told) =
       subst (λ (answer : Result A Refusal). EndsAs {A = A} stop.Memory (Err stop.Memory) old new
@@ -138,7 +138,7 @@ module _ {A : Type 0} where
   else-wanting thing old new first other h = wanting_by thing old new (first old) (other (after old (first old))) h
 
   gap_at : (old mid : List Item) (d : Done Refusal A)
-      → ((d.answer ≡ Err refusal.NoGap) × (mid ≡ after old d)) ⊎ ((refusal.NoGap ≡ refusal.Memory) × IsCut old mid d.steps)
+      → ((d.answer ≡ Err refusal.NoGap) × (mid ≡ after old d)) ⊎ ((refusal.NoGap ≡ refusal.Memory) × IsCutShort old mid d.steps)
       → (d.answer ≡ Err refusal.NoGap) × (mid ≡ after old d)
   gap_at old mid d (inl told) = told
   gap_at old mid d (inr cut) = let clash : refusal.NoGap ≡ refusal.Memory = cut.0 in cc

@@ -1,5 +1,5 @@
 -- Steps that write items and answer something, one after another; and how a call ends that carries them out.
-use Rattle.std.specs.Prelude.{◌≡◌, ◌⊎◌, ℕ, ◌≤◌, List, [], ◌∷◌, ◌++◌, length, take, Result, Ok, Err}
+use Rattle.std.specs.Prelude.{◌≡◌, ◌⊎◌, ℕ, ◌<◌, List, [], ◌∷◌, ◌++◌, length, take, Result, Ok, Err}
 use Rattle.memblock_model.specs.declared.item.Item.{Item}
 
 -- what a step comes to: groups of items, each written whole or not at all, and an answer or an error
@@ -30,6 +30,10 @@ module _ {E A : Type 0} where
   abbrev pub seen : (List Item → A) → Doing E A
   seen f items = record { steps = []; answer = Ok (f items) }
 
+  -- and what is said so in a list, for which the program's own memory is taken: a group without an item
+  abbrev pub listed : (List Item → A) → Doing E A
+  listed f items = record { steps = [] ∷ []; answer = Ok (f items) }
+
 -- behind an answer the next step goes on; an error ends all
 abbrev pub going_on : {E A B : Type 0} → List (List Item) → Result A E → (A → Done E B) → Done E B
 going_on steps (Ok a) next = record { steps = steps ++ (next a).steps; answer = (next a).answer }
@@ -44,16 +48,16 @@ abbrev pub in_turn : {E S X : Type 0} → (S → X → Doing E S) → S → List
 in_turn f s [] = returns s
 in_turn f s (x ∷ xs) = f s x >>= λ next. in_turn f next xs
 
--- the new items are the old ones and some of the groups, from the first on
-pub record IsCut (old new : List Item) (steps : List (List Item)) : Type 0 where
+-- the new items are the old ones and some of the groups, from the first on; and one is still to come
+pub record IsCutShort (old new : List Item) (steps : List (List Item)) : Type 0 where
   pub count : ℕ
-  pub within : count ≤ length steps
+  pub short : count < length steps
   pub stands : new ≡ appended old (take count steps)
 
--- a call answers what is told, and all groups stand; or it wants memory, and the first ones do
+-- a call answers what is told, and all groups stand; or it wants memory for one that is still to come, and those before it stand
 abbrev pub EndsAs : {E A : Type 0} → E → Result A E → List Item → List Item → Done E A → Type 0
 EndsAs wanting (Ok a) old new d = (d.answer ≡ Ok a) × (new ≡ after old d)
-EndsAs wanting (Err e) old new d = ((d.answer ≡ Err e) × (new ≡ after old d)) ⊎ ((e ≡ wanting) × IsCut old new d.steps)
+EndsAs wanting (Err e) old new d = ((d.answer ≡ Err e) × (new ≡ after old d)) ⊎ ((e ≡ wanting) × IsCutShort old new d.steps)
 
 -- an answer as contracts see it
 abbrev pub ok_as : {E A B : Type 0} → (A → B) → Result A E → Result B E

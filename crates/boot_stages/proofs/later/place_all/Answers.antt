@@ -1,5 +1,5 @@
 -- The roots are placed, and behind them the maps.
-use Rattle.std.proofs.Common.{◌≡◌, ◌∙◌, ◌^◌, List, ap, sym, subst, arith}
+use Rattle.std.proofs.Common.{◌≡◌, ◌∙◌, ◌^◌, List, Err, ap, sym, subst, arith}
 use Rattle.std.proofs.lemmas.Result.{err_from_is_err_and}
 use Rattle.std.specs.List.{All}
 use Rattle.address_runs.specs.Runs.{RunOf, value_at}
@@ -10,12 +10,13 @@ use Rattle.memblock_model.specs.Labels.{Label}
 use Rattle.memblock_model.specs.Tables.{records_of}
 use Rattle.memblock_ranges.specs.Tables.{Table}
 use Rattle.stage_model.specs.declared.section.Section.{Section}
+use Rattle.stage_model.specs.declared.stop.StageStop.{StageStop}
 use Rattle.stage_calls.proofs.LentLaws.{goes-then}
 use Rattle.sparse_sections.specs.Present.{IsWholeNoded, present}
 use Rattle.sparse_sections.proofs.AscendLaws.{present-ascends}
 use Rattle.sparse_sections.proofs.NodedLaws.{noded-records, noded-runs, noded-told}
 use Rattle.sparse_sections.specs.Roots.{roots_view}
-use Rattle.boot_stages.proofs.PlaceLaws.{places-all, places-first, places-second}
+use Rattle.boot_stages.proofs.PlaceLaws.{places-all, places-first, places-second, places-wanting}
 use Rattle.boot_stages.proofs.later.place_all.Goals as goal
 
 pub present-requires : goal.present-requires
@@ -25,6 +26,11 @@ present-requires c =
     noded-records (memory_of items) (records_of which.Memory items) (noded-runs (2 ^ 52) items (omega arith) c.requires.noded)
     c.requires.noded in
     subst (λ (rs : List (RunOf Label)). All IsWholeNoded rs) (sym (ap (λ (t : Table). t.records) c.tables.ensures.memory)) told
+
+pub returns-in_err-sections-clause-ends : goal.returns-in_err-sections-clause-ends
+returns-in_err-sections-clause-ends c =
+    let p = err_from_is_err_and c.from_residual.result c.from_residual.ensures.1 in
+    places-wanting c.args.width c.from_residual.result c.args.memblock.now.journal.items (p.1 ∙ ap (λ (s : StageStop). Err s) p.2)
 
 pub returns-in_err-roots-clause-ends : goal.returns-in_err-roots-clause-ends
 returns-in_err-roots-clause-ends c =

@@ -1,5 +1,6 @@
 -- The table is judged by the memory that the memory table tells.
-use Rattle.std.proofs.Common.{◌≡◌, ℕ, Bool, List, refl, ◌∙◌, ap}
+use Rattle.std.proofs.Common.{◌≡◌, ℕ, Bool, Err, List, refl, ◌∙◌, ap}
+use Rattle.std.proofs.lemmas.Result.{err_from_is_err_and}
 use Rattle.std.specs.Option.{option_map, option_copied}
 use Rattle.address_runs.specs.Runs.{value_at}
 use Rattle.memblock_model.specs.Items.{limit_of, memory_of}
@@ -10,9 +11,24 @@ use Rattle.bm_base.specs.Extent.{Extent}
 use Rattle.node_hulls.specs.Judgement.{judged, judgement}
 use Rattle.node_hulls.specs.Kept.{in_any}
 use Rattle.numa_nodes.specs.Assigned.{is_memory, nodes_view}
+use Rattle.stage_model.specs.declared.stop.StageStop.{StageStop}
 use Rattle.stage_model.specs.Doing.{ok_as}
-use Rattle.numa_nodes.proofs.AssignLaws.{by-judgement, can-get, goes-lent, ranges-tell, records-tell}
+use Rattle.numa_nodes.proofs.AssignLaws.{all-wanting, by-judgement, can-get, goes-lent, ranges-tell, records-tell}
 use Rattle.numa_nodes.proofs.stage.assign.Goals as goal
+
+pub returns-in_err-memory-clause-ends : goal.returns-in_err-memory-clause-ends
+returns-in_err-memory-clause-ends c =
+    let r = c.from_residual.result in
+    let p = err_from_is_err_and r c.from_residual.ensures.1 in
+    all-wanting (ok_as nodes_view r) c.args.memblock.now.journal.items (option_map affinity (option_copied c.args.srat)) c.args.off
+    (ap (ok_as nodes_view) (p.1 ∙ ap (λ (s : StageStop). Err s) p.2))
+
+pub returns-in_err-found-clause-ends : goal.returns-in_err-found-clause-ends
+returns-in_err-found-clause-ends c =
+    let r = c.from_residual-in_err-found.result in
+    let p = err_from_is_err_and r c.from_residual-in_err-found.ensures.1 in
+    all-wanting (ok_as nodes_view r) c.args.memblock.now.journal.items (option_map affinity (option_copied c.args.srat)) c.args.off
+    (ap (ok_as nodes_view) (p.1 ∙ ap (λ (s : StageStop). Err s) p.2))
 
 pub returns-in_err-memory-clause-lent : goal.returns-in_err-memory-clause-lent
 returns-in_err-memory-clause-lent c =

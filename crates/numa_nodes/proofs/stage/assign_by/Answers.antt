@@ -11,8 +11,15 @@ use Rattle.stage_model.specs.declared.stop.StageStop.TheVariants as stop
 use Rattle.stage_model.specs.Doing.{in_turn, ok_as}
 use Rattle.stage_model.proofs.DoingLaws.{ends-along, ends-begun}
 use Rattle.numa_nodes.specs.Assigned.{given, noded_by, nodes_view, nodes_with_memory, with_data}
-use Rattle.numa_nodes.proofs.AssignLaws.{by-ranges, by-data, data-ends, data-fails, data-wanting, ranges-told, records-tell}
+use Rattle.numa_nodes.proofs.AssignLaws.{by-ranges, by-wanting, by-data, data-ends, data-fails, data-wanting, ranges-told, records-tell}
 use Rattle.numa_nodes.proofs.stage.assign_by.Goals as goal
+
+pub returns-in_err-ranges-clause-ends : goal.returns-in_err-ranges-clause-ends
+returns-in_err-ranges-clause-ends c =
+    let r = c.from_residual.result in
+    let p = err_from_is_err_and r c.from_residual.ensures.1 in
+    by-wanting (ok_as nodes_view r) c.args.memblock.now.journal.items (judgement c.args.found)
+    (ap (ok_as nodes_view) (p.1 ∙ ap (λ (s : StageStop). Err s) p.2))
 
 pub returns-in_err-give_nodes-clause-ends : goal.returns-in_err-give_nodes-clause-ends
 returns-in_err-give_nodes-clause-ends c =
@@ -37,9 +44,8 @@ returns-in_err-with_memory-clause-ends c =
     c.journal.ensures.journal in
     let r = c.from_residual-in_err-with_memory.result in
     let p = err_from_is_err_and r c.from_residual-in_err-with_memory.ensures.1 in
-    by-data (ok_as nodes_view r) old mid mid found c.deref.result.now ranges c.in_ok-give_nodes.ensures.ends
-    (data-wanting (ok_as nodes_view r) mid found (nodes_with_memory (memory_of mid))
-    (ap (ok_as nodes_view) (p.1 ∙ ap (λ (s : StageStop). Err s) p.2)))
+    data-wanting (ok_as nodes_view r) old mid found c.deref.result.now
+    (ap (ok_as nodes_view) (p.1 ∙ ap (λ (s : StageStop). Err s) p.2)) ranges c.in_ok-give_nodes.ensures.ends
 
 pub place_data-requires : goal.place_data-requires
 place_data-requires c =

@@ -9,7 +9,7 @@ use Rattle.stage_model.specs.Requests.{placed}
 use Rattle.stage_model.proofs.DoingLaws.{ends-begun}
 use Rattle.stage_calls.proofs.LentLaws.{goes-then}
 use Rattle.section_maps.specs.Maps.{map_request}
-use Rattle.section_maps.proofs.MapLaws.{no_section, goes-next, goes-stops, goes-wanting, goes-all}
+use Rattle.section_maps.proofs.MapLaws.{no_section, goes-next, goes-stops, goes-all}
 use Rattle.section_maps.proofs.each.place_each.Goals as goal
 
 pub returns-in_err-map-clause-ends : goal.returns-in_err-map-clause-ends
@@ -23,17 +23,6 @@ pub returns-in_err-map-clause-lent : goal.returns-in_err-map-clause-lent
 returns-in_err-map-clause-lent c =
     goes-then c.args.memblock.now c.loop-section.memblock c.place_map.new.memblock c.loop-section.invariant.lent c.in_err-map.ensures.lent
 
-pub returns-in_err-put_placed-clause-ends : goal.returns-in_err-put_placed-clause-ends
-returns-in_err-put_placed-clause-ends c =
-    let p = err_from_is_err_and c.from_residual-in_err-put_placed.result c.from_residual-in_err-put_placed.ensures.1 in
-    rw (p.1, p.2) (goes-wanting c.args.memblock.now.journal.items c.args.usage c.args.placed.now.items c.args.sections.now
-    c.loop-section.memblock.journal.items c.loop-section.at c.loop-section.placed.items c.loop-section.section-index no_section
-    c.place_map.new.memblock.journal.items c.in_ok-map.map c.loop-section-test.true c.loop-section.invariant.goes c.in_ok-map.ensures.ends)
-
-pub returns-in_err-put_placed-clause-lent : goal.returns-in_err-put_placed-clause-lent
-returns-in_err-put_placed-clause-lent c =
-    goes-then c.args.memblock.now c.loop-section.memblock c.place_map.new.memblock c.loop-section.invariant.lent c.in_ok-map.ensures.lent
-
 pub loop-section-preserved : goal.loop-section-preserved
 loop-section-preserved c =
     let s : Section = get_or c.args.sections.now c.loop-section.section-index no_section in
@@ -42,8 +31,10 @@ loop-section-preserved c =
     record {
       goes = goes-next c.args.memblock.now.journal.items c.args.usage c.args.placed.now.items c.args.sections.now now c.loop-section.at
           c.loop-section.placed.items c.loop-section.section-index no_section mid c.in_ok-map.map c.put_placed.new.placed.items
-          c.loop-section-test.true c.loop-section.invariant.goes c.in_ok-map.ensures.ends c.in_ok-put_placed.ensures;
+          c.loop-section-test.true c.loop-section.invariant.goes c.in_ok-map.ensures.ends c.put_placed.ensures.placed;
       usages = let so_far = c.loop-section.invariant.usages in omega (arith, so_far);
+      len = let one = c.put_placed.ensures.len in let so_long = c.loop-section.invariant.len in omega (arith, one, so_long);
+      capacity = let one = c.put_placed.ensures.capacity in let so_wide = c.loop-section.invariant.capacity in omega (arith, one, so_wide);
       begun = ends-begun (Ok c.in_ok-map.map) stop.Memory now mid
           (placed (what.Map s.number) (map_request 1 s.node false) (owner.Map s.number) now) c.loop-section.invariant.begun
           c.in_ok-map.ensures.ends;

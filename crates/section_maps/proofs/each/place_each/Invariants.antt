@@ -1,5 +1,5 @@
 -- As the maps that are left end, so do all.
-use Rattle.std.proofs.Common.{◌≡◌, ◌+◌, ◌*◌, drop}
+use Rattle.std.proofs.Common.{◌≡◌, ◌≤◌, ◌+◌, ◌*◌, drop, vec_len, vec_capacity}
 use Rattle.growth_model.specs.Sound.{HasBegun}
 use Rattle.stage_calls.specs.Lent.{GoesOn}
 use Rattle.section_maps.proofs.MapLaws.{Goes}
@@ -10,6 +10,8 @@ invariant-loop-section l = record {
   goes : Goes l.fn.memblock.journal.items l.usage l.fn.placed.items l.sections l.memblock.journal.items l.at l.placed.items (drop
       l.section-index l.sections);
   usages : l.at ≡ l.usage + 40 * l.section-index;
+  len : vec_len l.placed ≤ vec_len l.fn.placed + l.section-index;
+  capacity : vec_capacity l.fn.placed ≤ vec_capacity l.placed;
   begun : HasBegun l.memblock.journal.items;
   lent : GoesOn l.fn.memblock l.memblock;
 }

@@ -3,22 +3,17 @@ use Rattle.std.proofs.Common.{ap}
 use Rattle.growth_model.specs.declared.request.Request.{Request}
 use Rattle.stage_model.specs.Doing.{ok_as}
 use Rattle.stage_calls.proofs.LentLaws.{goes-then}
-use Rattle.section_maps.proofs.MapLaws.{buffer-placed, buffer-lost, buffer-table, buffer-wanting, buffer-each}
+use Rattle.section_maps.proofs.MapLaws.{buffer-placed, buffer-table, buffer-wanting, buffer-each}
 use Rattle.section_maps.proofs.group.map_group.Goals as goal
 
 pub alloc-requires-clause-aligned : goal.alloc-requires-clause-aligned
 alloc-requires-clause-aligned c = (21, ap (λ (q : Request). q.align) c.map_request-request.ensures)
 
-pub returns-in-Ok-put_spread-clause-ends : goal.returns-in-Ok-put_spread-clause-ends
-returns-in-Ok-put_spread-clause-ends c =
+pub returns-in-Ok-clause-ends : goal.returns-in-Ok-clause-ends
+returns-in-Ok-clause-ends c =
     buffer-placed c.args.usage c.args.placed.now.items c.args.first.now c.args.sections.now c.map_request-request.result
     c.args.memblock.now.journal.items c.map_request-request.ensures c.in-Ok.map c.put_spread.new.placed.items
-    c.alloc.new.self.journal.items c.in-Ok-put_spread.ensures c.in-Ok.ensures.ends
-
-pub returns-in-Err-clause-ends : goal.returns-in-Err-clause-ends
-returns-in-Err-clause-ends c =
-    buffer-lost c.args.usage c.args.placed.now.items c.args.first.now c.args.sections.now c.map_request-request.result
-    c.args.memblock.now.journal.items c.map_request-request.ensures c.in-Ok.map c.alloc.new.self.journal.items c.in-Ok.ensures.ends
+    c.alloc.new.self.journal.items c.put_spread.ensures.placed c.in-Ok.ensures.ends
 
 pub returns-in-Err-NoGap-clause-ends : goal.returns-in-Err-NoGap-clause-ends
 returns-in-Err-NoGap-clause-ends c =

@@ -10,16 +10,22 @@ use Rattle.stage_calls.proofs.LentLaws.{goes-then}
 use Rattle.section_maps.specs.declared.placed.Placed.{Placed}
 use Rattle.section_maps.specs.Maps.{group_placed}
 use Rattle.section_maps.proofs.MapLaws.{no_section}
-use Rattle.section_maps.proofs.GroupLaws.{Goes, is_of, goes-first, goes-next, goes-stops, goes-all}
+use Rattle.section_maps.proofs.GroupLaws.{Goes, is_of, goes-first, goes-next, goes-stops, goes-all, maps-wanting}
 use Rattle.section_maps.proofs.maps.place_maps.Goals as goal
 
 pub loop-rest-init : goal.loop-rest-init
 loop-rest-init c = record {
-  goes = goes-first c.args.memblock.now.journal.items c.args.sections.now c.new-placed.result.items c.new-placed.ensures.items;
+  goes = goes-first c.args.memblock.now.journal.items c.args.sections.now c.in_ok-placed.placed.items c.in_ok-placed.ensures.empty;
   few = c.requires.few;
+  room = let room = c.in_ok-placed.ensures.room in omega (arith, room);
   begun = c.requires.begun;
   lent = c.stand_still.ensures;
 }
+
+pub returns-in_err-placed-clause-ends : goal.returns-in_err-placed-clause-ends
+returns-in_err-placed-clause-ends c =
+    let p = err_from_is_err_and c.from_residual.result c.from_residual.ensures.1 in
+    rw (p.1, p.2) (maps-wanting c.args.memblock.now.journal.items c.args.sections.now)
 
 pub split_at-requires : goal.split_at-requires
 split_at-requires c =
@@ -35,7 +41,7 @@ returns-in_err-place_group-clause-ends c =
     let now = c.loop-rest.memblock.journal.items in
     let new = c.place_group.new.memblock.journal.items in
     let placed = c.loop-rest.placed.items in
-    let p = err_from_is_err_and c.from_residual.result c.from_residual.ensures.1 in
+    let p = err_from_is_err_and c.from_residual-in_err-place_group.result c.from_residual-in_err-place_group.ensures.1 in
     let failed : EndsAs {A = List Placed} stop.Memory (Err c.in_err-place_group.field-0.0) now new
     (group_placed placed (get_or rest 0 no_section) (take c.count_same.result rest) now) =
     subst (λ (ts : List Section). EndsAs {A = List Placed} stop.Memory (Err c.in_err-place_group.field-0.0) now new
@@ -67,6 +73,13 @@ loop-rest-preserved c =
           (goes-next entry sections now mid placed longer rest first no_section c.count_same.result c.in-len1-up.len_at_least refl
           c.count_same.ensures was c.loop-rest.invariant.goes);
       few = let long = c.split_at.ensures.back_len in let most = c.loop-rest.invariant.few in omega (arith, long, most);
+      room =
+          let long = c.split_at.ensures.back_len in
+          let front = c.split_at.ensures.front_len in
+          let len = c.place_group.ensures.len in
+          let capacity = c.place_group.ensures.capacity in
+          let room = c.loop-rest.invariant.room in
+          omega (arith, long, front, len, capacity, room);
       begun = ends-begun (Ok longer) stop.Memory now mid (group_placed placed first (take c.count_same.result rest) now)
           c.loop-rest.invariant.begun was;
       lent = goes-then c.args.memblock.now c.loop-rest.memblock c.place_group.new.memblock c.loop-rest.invariant.lent

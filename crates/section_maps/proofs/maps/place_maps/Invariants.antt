@@ -1,5 +1,5 @@
 -- As the groups that are left end, so do all.
-use Rattle.std.proofs.Common.{◌≤◌, ◌^◌, length}
+use Rattle.std.proofs.Common.{◌≤◌, ◌+◌, ◌^◌, length, vec_len, vec_capacity}
 use Rattle.growth_model.specs.Sound.{HasBegun}
 use Rattle.stage_calls.specs.Lent.{GoesOn}
 use Rattle.section_maps.proofs.GroupLaws.{Goes}
@@ -9,6 +9,7 @@ abbrev pub invariant-loop-rest : goal.invariant-loop-rest
 invariant-loop-rest l = record {
   goes : Goes l.fn.memblock.journal.items l.sections l.memblock.journal.items l.placed.items l.rest;
   few : length l.rest ≤ 2 ^ 25;
+  room : vec_len l.placed + length l.rest ≤ vec_capacity l.placed;
   begun : HasBegun l.memblock.journal.items;
   lent : GoesOn l.fn.memblock l.memblock;
 }

@@ -1,7 +1,11 @@
 -- The sections so far stand behind those that were there.
-use Rattle.std.proofs.Common.{◌≡◌, ◌++◌, take}
+use Rattle.std.proofs.Common.{◌≡◌, ◌≤◌, ◌+◌, ◌++◌, take, vec_len, vec_capacity}
 use Rattle.section_maps.specs.Maps.{spread}
 use Rattle.section_maps.proofs.placed.put_spread.Given as goal
 
 abbrev pub invariant-loop-i : goal.invariant-loop-i
-invariant-loop-i l = l.placed.items ≡ l.fn.placed.items ++ spread l.usage l.map (take l.i l.sections)
+invariant-loop-i l = record {
+  placed : l.placed.items ≡ l.fn.placed.items ++ spread l.usage l.map (take l.i l.sections);
+  len : vec_len l.placed ≤ vec_len l.fn.placed + l.i;
+  capacity : vec_capacity l.fn.placed ≤ vec_capacity l.placed;
+}

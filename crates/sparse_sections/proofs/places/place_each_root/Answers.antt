@@ -1,25 +1,31 @@
 -- A section whose root has no place yet is the next step.
-use Rattle.std.proofs.Common.{◌≡◌, ℕ, false, Some, Ok, get_or, sym, ◌∙◌, ap}
+use Rattle.std.proofs.Common.{◌≡◌, ℕ, false, Some, Ok, get_or, sym, ◌∙◌, ap, arith}
 use Rattle.std.proofs.lemmas.Result.{err_from_is_err_and}
 use Rattle.stage_model.specs.declared.section.Section.{Section}
 use Rattle.stage_model.specs.declared.stop.StageStop.TheVariants as stop
 use Rattle.stage_model.proofs.DoingLaws.{ends-begun}
 use Rattle.stage_calls.proofs.LentLaws.{goes-then}
 use Rattle.sparse_sections.specs.Roots.{root_of, is_root, root_placed}
-use Rattle.sparse_sections.proofs.RootLaws.{no_section, goes-first, goes-same, goes-next, goes-fails, goes-all}
+use Rattle.sparse_sections.proofs.RootLaws.{no_section, goes-first, goes-same, goes-next, goes-fails, goes-all, list-wanting}
 use Rattle.sparse_sections.proofs.places.place_each_root.Goals as goal
 use Rattle.sparse_sections.proofs.places.place_each_root.Goals.{then-not-is_root+in_ok-place_root, else-not-is_root}
 
 pub loop-section-init : goal.loop-section-init
 loop-section-init c = record {
-  goes = goes-first c.args.memblock.now.journal.items c.args.sections.now c.new-roots.result.items c.new-roots.ensures.items;
+  goes = goes-first c.args.memblock.now.journal.items c.args.sections.now c.in_ok-roots.roots.items c.in_ok-roots.ensures.empty;
+  room = let room = c.in_ok-roots.ensures.room in omega (arith, room);
   begun = c.requires;
   lent = c.stand_still.ensures;
 }
 
+pub returns-in_err-roots-clause-ends : goal.returns-in_err-roots-clause-ends
+returns-in_err-roots-clause-ends c =
+    let p = err_from_is_err_and c.from_residual.result c.from_residual.ensures.1 in
+    rw (p.1, p.2) (list-wanting c.args.memblock.now.journal.items c.args.sections.now)
+
 pub returns-in_err-place_root-clause-ends : goal.returns-in_err-place_root-clause-ends
 returns-in_err-place_root-clause-ends c =
-    let p = err_from_is_err_and c.from_residual.result c.from_residual.ensures.1 in
+    let p = err_from_is_err_and c.from_residual-in_err-place_root.result c.from_residual-in_err-place_root.ensures.1 in
     let other : is_root c.loop-section.last (root_of (get_or c.args.sections.now c.loop-section.section-index no_section)) ≡ false =
     ap (is_root c.loop-section.last) (sym c.root_of-root.ensures) ∙ sym c.is_root.ensures ∙ c.if-not-is_root.true in
     rw (p.1, p.2) (goes-fails c.in_err-place_root.field-0.0 c.args.memblock.now.journal.items c.args.sections.now
@@ -48,6 +54,11 @@ loop-section-preserved c =
           rw (w.memblock-is, w.roots-is, is) (record {
             goes = goes-next entry sections now mid before w.place_root.new.roots.items last i no_section c.loop-section-test.true
                 (told ∙ w.if-not-is_root.true) w.in_ok-place_root.ensures.ends c.loop-section.invariant.goes;
+            room =
+                let len = w.place_root.ensures.len in
+                let capacity = w.place_root.ensures.capacity in
+                let room = c.loop-section.invariant.room in
+                omega (arith, len, capacity, room);
             begun = ends-begun (Ok w.place_root.new.roots.items) stop.Memory now mid (root_placed before s now)
                 c.loop-section.invariant.begun w.in_ok-place_root.ensures.ends;
             lent = goes-then c.args.memblock.now c.loop-section.memblock w.place_root.new.memblock c.loop-section.invariant.lent
@@ -57,6 +68,7 @@ loop-section-preserved c =
           rw (w.memblock-is, w.roots-is, w.last-is) (record {
             goes = goes-same entry sections now before last i no_section c.loop-section-test.true (told ∙ w.if-not-is_root.false)
                 c.loop-section.invariant.goes;
+            room = let room = c.loop-section.invariant.room in omega (arith, room);
             begun = c.loop-section.invariant.begun;
             lent = c.loop-section.invariant.lent;
           })

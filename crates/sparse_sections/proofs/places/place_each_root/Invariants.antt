@@ -1,5 +1,5 @@
 -- As the roots of the sections that are left end, so do all.
-use Rattle.std.proofs.Common.{drop}
+use Rattle.std.proofs.Common.{◌≤◌, ◌+◌, drop, length, vec_len, vec_capacity}
 use Rattle.growth_model.specs.Sound.{HasBegun}
 use Rattle.stage_calls.specs.Lent.{GoesOn}
 use Rattle.sparse_sections.proofs.RootLaws.{Goes}
@@ -8,6 +8,7 @@ use Rattle.sparse_sections.proofs.places.place_each_root.Given as goal
 abbrev pub invariant-loop-section : goal.invariant-loop-section
 invariant-loop-section l = record {
   goes : Goes l.fn.memblock.journal.items l.sections l.memblock.journal.items l.roots.items l.last (drop l.section-index l.sections);
+  room : vec_len l.roots + length l.sections ≤ vec_capacity l.roots + l.section-index;
   begun : HasBegun l.memblock.journal.items;
   lent : GoesOn l.fn.memblock l.memblock;
 }
