@@ -8,4 +8,4 @@ pub mod ReachLaws
 pub mod StageLaws
 pub mod StopLaws
 mod RamLaws
-mod WantsLaws
+pub mod WantsLaws

@@ -7,4 +7,5 @@ pub mod MapLaws
 pub mod MemoryLaws
 pub mod PlaceLaws
 pub mod ScriptLaws
+pub mod ShortLaws
 pub mod StagesLaws

@@ -1,18 +1,20 @@
 //! The stages behind memory, in their order: nodes, the crash area, the script around the sections. Each is one call of the
 //! crate that has it, whose stop becomes the boot's.
 
-ghost use Rattle.std.specs.Prelude.{◌≡◌, ◌≢◌, ℕ, ◌^◌, ◌<◌, List, [], IfOk, IfErr, IfSome, length};
+ghost use Rattle.std.specs.Prelude.{◌≡◌, ◌≢◌, ℕ, ◌^◌, ◌<◌, List, [], Err, IfOk, IfErr, IfSome, length};
 ghost use Rattle.std.specs.List.{All};
 ghost use Rattle.memblock_model.specs.Items.{limit_of, memory_of};
 ghost use Rattle.growth_model.specs.Sound.{HasBegun};
 ghost use Rattle.memblock_grow.specs.Kept.{StayReady};
 ghost use Rattle.stage_model.specs.declared.stop.StageStop.TheVariants as stage;
-ghost use Rattle.stage_model.specs.Doing.{EndsAs, ok_as};
+ghost use Rattle.stage_model.specs.Doing.{EndsAs, IsCutShort, ok_as};
 ghost use Rattle.stage_model.specs.Noded.{IsNoded};
 ghost use Rattle.stage_calls.specs.Lent.{GoesOn};
 ghost use Rattle.script_reader.specs.Forms.{HasBounds};
 ghost use Rattle.early_script.specs.Stage.{PlaceOnce};
 ghost use Rattle.numa_nodes.specs.Assigned.{nodes_view};
+ghost use Rattle.crash_kernel.specs.Reserved.{reserved};
+ghost use Rattle.boot_model.specs.declared.stop.Stop.TheVariants as stops;
 ghost use Rattle.boot_model.specs.Boot.{Made, has_crash_area, has_nodes, has_sections, put_crash, put_nodes, put_sections, reach};
 ghost use Rattle.boot_model.specs.First.{IsFirst};
 ghost use Rattle.boot_model.specs.Sections.{places_of_sections};
@@ -81,10 +83,12 @@ fn give_nodes(alloc: Global, memblock: &mut Memblock, inputs: &Inputs) -> Result
     }
 }
 
-/// The crash area is claimed, where one is asked for (`reserve_crashkernel`).
+/// The crash area is claimed, where one is asked for (`reserve_crashkernel`). Memory is wanted only where a step of that is left.
 fn reserve_area(memblock: &mut Memblock, inputs: &Inputs) -> Result<Crash, Stop>
     requires begun { HasBegun memblock.old.journal.items }
     ensures comes { (made : Made) → Comes (has_crash_area (inputs_view inputs.now)) put_crash made memblock.old memblock.new result }
+    ensures short { result ≡ Err stops.Memory → IsCutShort memblock.old.journal.items memblock.new.journal.items
+        (reserved (inputs_view inputs.now).options.crash memblock.old.journal.items).steps }
     ensures begun { HasBegun memblock.new.journal.items }
     ensures lent { GoesOn memblock.old memblock.new }
 {
@@ -94,12 +98,15 @@ fn reserve_area(memblock: &mut Memblock, inputs: &Inputs) -> Result<Crash, Stop>
     }
 }
 
-/// The sections that have memory get their roots, and then their usage data and maps (`sparse_init`).
+/// The sections that have memory get their roots, and then their usage data and maps (`sparse_init`). Memory is wanted only where a step of that
+/// is left.
 fn place_sections(alloc: Global, memblock: &mut Memblock, inputs: &Inputs) -> Result<Sections, Stop>
     requires begun { HasBegun memblock.old.journal.items }
     requires noded { IsNoded (2 ^ 52) (memory_of memblock.old.journal.items) }
     ensures comes { (made : Made) → Comes (has_sections (inputs_view inputs.now)) put_sections made memblock.old memblock.new
         (ok_as places_view result) }
+    ensures short { result ≡ Err stops.Memory → IsCutShort memblock.old.journal.items memblock.new.journal.items
+        (places_of_sections (inputs_view inputs.now).width memblock.old.journal.items).steps }
     ensures begun { HasBegun memblock.new.journal.items }
     ensures lent { GoesOn memblock.old memblock.new }
 {
