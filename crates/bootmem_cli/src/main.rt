@@ -2,11 +2,12 @@
 //! lists.
 //!
 //! The program reads the zero page that a boot loader hands over, and where they are named the E820
-//! extension, the command line of the kernel, the firmware's table of domains and a script of early
-//! allocations; it boots with them up to the hand-over, and prints reports of it: `bootmem [--report LIST]
-//! [--e820ext F] [--cmdline F] [--srat F] [--script F] [--kernel BASE,SIZE] ZEROPAGE`, or `--make N` in place of
-//! ZEROPAGE for a table of N entries that a generator makes. [`run`] of `program_run` is the whole of it over any files,
-//! output and error output, with the contract; `main` hands it those of the system.
+//! extension, the command line of the kernel, the firmware's tables of domains and of distances, its own
+//! map of memory, and scripts of early allocations and of requests to the page allocator; it boots with
+//! them up to the hand-over, and prints reports of it: `bootmem [OPTION..] ZEROPAGE`, or `--make N` in place of
+//! ZEROPAGE for a table of N entries that a generator makes (bootmem(1) has the options). [`run`] of
+//! `program_run` is the whole of it over any files, output and error output, with the contract; `main` hands
+//! it those of the system.
 //!
 //! Exit statuses: 0 written, 2 the words are refused, 3 a file couldn't be read, 4 the output
 //! failed, 5 an input has a fault, 6 the boot stops, 7 out of memory. All but 0 put one line on the
