@@ -1,0 +1,90 @@
+-- What a fetch of lent files counts, for each name.
+use Rattle.std.proofs.Common.{◌≡◌, ℕ, ◌+◌, ◌-◌, ◌^◌, ◌<◌, ◌≤◌, List, Option, Some, None, Result, Ok, Err, Vec, Global, refl, arith, inl, inr, ap, sym, min}
+use Rattle.std.specs.Prelude.{OnOk, IsErrOf, IsNone, ◌⊎◌, is_some, if◌then◌else◌}
+use Rattle.bm_io.specs.Counts.{Rose, RoseByMoreThan}
+use Rattle.bm_io.specs.HeldFiles.{HeldFile, bytes_of}
+use Rattle.bm_io.specs.declared.reading.Fetch.{Fetch}
+use Rattle.bm_io.specs.declared.reading.Fetch.TheVariants as fetch
+use Rattle.bootmem_c.specs.Fetches.{LentState, faults_at, misses_of}
+
+-- a count at its last value counts as one that rose
+pub bytes_stay : (limit : ℕ) → RoseByMoreThan limit (2 ^ 64 - 1) (2 ^ 64 - 1)
+bytes_stay limit = omega arith
+
+pub want_stays : Rose (2 ^ 64 - 1) (2 ^ 64 - 1)
+want_stays = omega arith
+
+-- the count of a name by what it holds
+abbrev at : Option (List ℕ) → ℕ → ℕ
+at held misses = if is_some held then 2 ^ 64 - 2 else min misses (2 ^ 32)
+
+at_stays : (held : Option (List ℕ)) (old new : ℕ) → old ≤ new → at held old ≤ at held new
+at_stays None old new more = omega (arith, more)
+at_stays (Some bytes) old new more = omega arith
+
+at_fits : (held : Option (List ℕ)) (misses : ℕ) → at held misses < 2 ^ 64
+at_fits None misses = omega arith
+at_fits (Some bytes) misses = omega arith
+
+-- a miss was counted, of a name that isn't held
+at_rose : (held : Option (List ℕ)) (old new : ℕ) → IsNone held → new ≡ old + 1 → new < 2 ^ 32 → Rose (at held old) (at held new)
+at_rose None old new none grew few = omega (arith, grew, few)
+at_rose (Some bytes) old new none grew few = absurd (cc)
+
+same_held : (old new : LentState) → new.files ≡ old.files → (name : List ℕ)
+    → faults_at new name ≡ at (bytes_of old.files name) new.misses
+same_held old new kept name = ap (λ (files : List HeldFile). at (bytes_of files name) new.misses) kept
+
+pub faults_rose : (answer : Result (Vec ℕ Global) Fetch) (old new : LentState) (name : List ℕ) → answer ≡ Err fetch.Failed
+    → new.files ≡ old.files → IsNone (bytes_of old.files name) → new.misses ≡ old.misses + misses_of answer → new.misses < 2 ^ 32
+    → Rose (faults_at old name) (faults_at new name)
+faults_rose answer old new name is kept none grew few =
+    let one : misses_of answer ≡ 1 = rw is refl in
+    let grew : new.misses ≡ old.misses + 1 = rw one at grew in
+    omega (arith, at_rose (bytes_of old.files name) old.misses new.misses none grew few, same_held old new kept name)
+
+pub faults_stay : (answer : Result (Vec ℕ Global) Fetch) (old new : LentState) → new.files ≡ old.files
+    → new.misses ≡ old.misses + misses_of answer → (any : List ℕ) → faults_at old any ≤ faults_at new any
+faults_stay answer old new kept grew any =
+    omega (arith, at_stays (bytes_of old.files any) old.misses new.misses (omega (arith, grew)), same_held old new kept any)
+
+pub faults_fit : (state : LentState) (any : List ℕ) → faults_at state any < 2 ^ 64
+faults_fit state any = at_fits (bytes_of state.files any) state.misses
+
+-- where no miss was counted, no count moved
+unmoved : (old new : LentState) → new.files ≡ old.files → new.misses ≡ old.misses + 0
+    → (any : List ℕ) → faults_at new any ≡ faults_at old any
+unmoved old new kept grew any =
+    let same : new.misses ≡ old.misses = omega (arith, grew) in
+    sym (rw (← same) (sym (same_held old new kept any)))
+
+pub no_fault : (answer : Result (Vec ℕ Global) Fetch) (old new : LentState) → new.files ≡ old.files
+    → new.misses ≡ old.misses + misses_of answer
+    → IsErrOf answer fetch.Failed ⊎ ((any : List ℕ) → faults_at new any ≡ faults_at old any)
+no_fault (Ok bytes) old new kept grew = inr (unmoved old new kept grew)
+no_fault (Err fetch.Failed) old new kept grew = inl refl
+no_fault (Err fetch.TooLong) old new kept grew = inr (unmoved old new kept grew)
+no_fault (Err fetch.Memory) old new kept grew = inr (unmoved old new kept grew)
+
+pub uncounted : (answer : Result (Vec ℕ Global) Fetch) (old new : LentState) → new.files ≡ old.files
+    → new.misses ≡ old.misses + misses_of answer
+    → OnOk answer ((any : List ℕ) → faults_at new any ≡ faults_at old any)
+uncounted (Ok bytes) old new kept grew = unmoved old new kept grew
+uncounted (Err error) old new kept grew = tt
+
+pub no_want : (answer : Result (Vec ℕ Global) Fetch) → IsErrOf answer fetch.Memory ⊎ (2 ^ 64 - 1 ≡ 2 ^ 64 - 1)
+no_want answer = inr refl
+
+-- a count that rose is that of a name that isn't held
+held_not_rose : (held : Option (List ℕ)) (misses now : ℕ) → now < 2 ^ 64 - 1 → Rose (at held misses) now → held ≡ None
+held_not_rose None misses now few rose = refl
+held_not_rose (Some bytes) misses now few rose = absurd (omega (arith, few, rose))
+
+below : (held : Option (List ℕ)) (misses : ℕ) → at held misses < 2 ^ 64 - 1
+below None misses = omega arith
+below (Some bytes) misses = omega arith
+
+pub rose_unheld : (old new : LentState) (name : List ℕ) → Rose (faults_at old name) (faults_at new name)
+    → bytes_of old.files name ≡ None
+rose_unheld old new name rose =
+    held_not_rose (bytes_of old.files name) old.misses (faults_at new name) (below (bytes_of new.files name) new.misses) rose

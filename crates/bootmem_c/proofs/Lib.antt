@@ -1,0 +1,4 @@
+pub mod ExactLaws
+pub mod FetchLaws
+pub mod LentLaws
+pub mod RunLaws

@@ -1,0 +1,64 @@
+-- What the run says of the words that were taken and of the lent files is said of the call.
+use Rattle.std.proofs.Common.{◌≡◌, ◌∙◌, ℕ, List, [], Some, Option, Result, Err, ap, inl, map, string_bytes, subst, sym}
+use Rattle.std.specs.Prelude.{◌⊎◌}
+use Rattle.bm_io.specs.HeldFiles.{HeldFile, bytes_of}
+use Rattle.program_run.specs.declared.failure.Reason.{Reason}
+use Rattle.program_run.specs.Headline.{IsReported}
+use Rattle.program_run.specs.Outcome.{outcome}
+use Rattle.program_words.specs.Words.{Wanted, accepted, texts}
+use Rattle.bootmem_c.specs.declared.words.NoTexts.{NoTexts}
+use Rattle.bootmem_c.specs.Lent.{lent_files, lent_words}
+use Rattle.bootmem_c.specs.Call.{asked, line_by, line_said, outcome_of, status_said}
+use Rattle.bootmem_c.specs.Taken.{whole_text}
+use Rattle.bootmem_c.proofs.RunLaws.{line_asked, nothing_asked, ran_line, ran_reported, ran_status, reported_text, same_asked, same_outcome}
+use Rattle.bootmem_c.proofs.run.run_lent.Goals as goal
+
+-- the words that were taken ask for what the call's do
+asks : (c : goal.After-drop-texts) → accepted (texts c.deref.result.now) ≡ asked (lent_words c.args.words.now)
+asks c =
+    same_asked c.deref.result.now (lent_words c.args.words.now) (ap (map string_bytes) c.deref.ensures.value ∙ c.in-Ok.ensures.texts)
+    c.in-Ok.ensures.utf8
+
+is_outcome : (c : goal.After-drop-texts)
+    → outcome (accepted (texts c.deref.result.now)) (bytes_of c.new.result.files) ≡ outcome_of c.args.words.now c.args.files.now
+is_outcome c = same_outcome _ _ _ _ (asks c) c.new.ensures.files
+
+pub returns-in-Ok-clause-status : goal.returns-in-Ok-clause-status
+returns-in-Ok-clause-status c =
+    let ran = c.run.ensures.2 in
+    subst (λ (said : Result (List ℕ) Reason). (c.run.result ≡ status_said said) ⊎ (c.run.result ≡ 7)) (is_outcome c)
+    (ran_status c.new.result c.run.new.files (accepted (texts c.deref.result.now)) c.args.report.now c.run.new.out c.run.ensures.0
+    c.run.result c.run.ensures.1 ran.cause ran.output ran.said)
+
+pub returns-in-Ok-clause-headline : goal.returns-in-Ok-clause-headline
+returns-in-Ok-clause-headline c = λ zero.
+    let ran = c.run.ensures.2 in
+    let text = c.run.new.out.text in
+    let reported = ran_reported (accepted (texts c.deref.result.now)) (bytes_of c.new.result.files) c.args.report.now.text text
+    c.run.ensures.0 c.run.result c.run.ensures.1 c.requires.empty ran.said zero in
+    subst (λ (a : Option Wanted). IsReported a (bytes_of (lent_files c.args.files.now)) (Some []) (Some text)) (asks c)
+    (subst (λ (f : List HeldFile). IsReported (accepted (texts c.deref.result.now)) (bytes_of f) (Some []) (Some text)) c.new.ensures.files
+    reported)
+
+pub returns-in-Ok-clause-written : goal.returns-in-Ok-clause-written
+returns-in-Ok-clause-written c = λ zero.
+    reported_text (asked (lent_words c.args.words.now)) (bytes_of (lent_files c.args.files.now)) c.run.new.out.text
+    (returns-in-Ok-clause-headline c zero)
+
+pub returns-in-Ok-clause-line : goal.returns-in-Ok-clause-line
+returns-in-Ok-clause-line c = λ some other.
+    let ran = c.run.ensures.2 in
+    let was = accepted (texts c.deref.result.now) in
+    let said = outcome was (bytes_of c.new.result.files) in
+    let told = ran_line c.new.result c.run.new.files was c.args.report.now c.run.new.out c.args.line.now c.run.new.err
+    c.run.ensures.0 c.run.result c.run.ensures.1 ran.cause ran.output ran.said c.requires.no_line c.requires.not_short ran.line some
+    other in
+    let same : line_by was said ≡ line_said c.args.words.now c.args.files.now =
+    ap (λ (a : Option Wanted). line_by a said) (asks c) ∙ ap (line_by (asked (lent_words c.args.words.now))) (is_outcome c)
+    ∙ sym (line_asked (lent_words c.args.words.now) _ c.in-Ok.ensures.utf8) in
+    subst (λ (line : List ℕ). (whole_text c.run.new.err ≡ line) ⊎ (whole_text c.run.new.err ≡ [])) same told
+
+pub returns-in-Err-NotUtf8-clause-status : goal.returns-in-Err-NotUtf8-clause-status
+returns-in-Err-NotUtf8-clause-status c =
+    inl (sym (nothing_asked (lent_words c.args.words.now) (bytes_of (lent_files c.args.files.now))
+    (c.in-Err-NotUtf8.ensures.other (ap (λ (e : NoTexts). Err e) c.in-Err-NotUtf8.field-0-is))))

@@ -1,0 +1,4 @@
+pub mod Call
+pub mod Fetches
+pub mod Lent
+pub mod Taken

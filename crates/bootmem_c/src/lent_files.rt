@@ -1,0 +1,94 @@
+//! Files that the caller lends, as the program fetches them.
+
+ghost use Rattle.std.specs.Prelude.{◌≡◌, ℕ, ◌+◌, ◌-◌, ◌^◌, ◌<◌, ◌≤◌, ◌↔◌, List, length, Option, Some, OnOk, IfOk, IsErrOf, IsNone, find};
+ghost use Rattle.std.specs.Option.{option_copied};
+ghost use Rattle.bm_io.specs.HeldFiles.{bytes_of};
+ghost use Rattle.bootmem_c.specs.Lent.{lent_files};
+ghost use Rattle.bootmem_c.specs.Fetches.{faults_at, is_lent_as, misses_of, IsLonger};
+
+use crate::crossing::File;
+use bm_io::{Fetch, Files};
+use std::alloc::Global;
+use std::marker::Model;
+
+/// Files that the caller lends. Of two of one name the first counts.
+#[derive(Drop)]
+pub struct LentFiles<'a> {
+    files: &'a [File<'a>],
+    misses: u32,
+}
+
+impl<'a> Model for LentFiles<'a> {
+    ghost use Rattle.std.specs.Prelude.{◌^◌, ◌<◌};
+    ghost use Rattle.bootmem_c.specs.Fetches.{LentState};
+    ghost use Rattle.bootmem_c.specs.Lent.{lent_files};
+
+    ghost Value = { LentState };
+
+    ghost view = { λ s. record { files = lent_files s.files.now; misses = s.misses } };
+
+    ghost invariant = { λ s. s.misses < 2 ^ 32 };
+}
+
+impl<'a> LentFiles<'a> {
+    pub fn new(files: &'a [File<'a>]) -> LentFiles<'a>
+        ensures files { result.files ≡ lent_files files.now }
+        ensures misses { result.misses ≡ 0 }
+    {
+        LentFiles { files, misses: 0 }
+    }
+}
+
+impl<'a> Files for LentFiles<'a> {
+    ghost holds = { λ s. Some (bytes_of s.files) };
+
+    // Of a name that isn't held the misses are counted. A name that is held has a count that no file's can rise
+    // above, so whoever sees a count that rose knows that the name isn't held.
+    ghost faults = { λ s name. faults_at s name };
+
+    // These stand at their last value: nothing is counted.
+    ghost taken = { λ s. 2 ^ 64 - 1 };
+
+    ghost wants = { λ s. 2 ^ 64 - 1 };
+
+    /// `Failed` comes only where the name isn't held, and `TooLong` exactly where it is, with more bytes than `limit`.
+    /// Where 2^32 - 1 fetches missed, the next one that misses is told as want of memory: its count has no room.
+    fn fetch(&mut self, alloc: Global, name: &str, limit: u64) -> Result<Vec<u8>, Fetch>
+        ensures bounded { IfOk result (λ bytes. length bytes.items ≤ limit) }
+        ensures told { IfOk result (λ bytes. bytes_of self.old.files name.now ≡ Some bytes.items) }
+        ensures failed { IsErrOf result Fetch.Failed → IsNone (bytes_of self.old.files name.now) }
+        ensures too_long { IsErrOf result Fetch.TooLong ↔ IsLonger self.old.files name.now limit }
+        ensures files { self.new.files ≡ self.old.files }
+        ensures misses { self.new.misses ≡ self.old.misses + misses_of result }
+        ensures few { self.new.misses < 2 ^ 32 }
+    {
+        let Some(bytes) = bytes_named(self.files, name) else {
+            let Some(misses) = self.misses.checked_add(1) else {
+                return Err(Fetch::Memory);
+            };
+            self.misses = misses;
+            return Err(Fetch::Failed);
+        };
+        if bytes.len() as u64 > limit {
+            return Err(Fetch::TooLong);
+        }
+        let mut copy = Vec::new(alloc);
+        if copy.extend_from_slice(bytes).is_err() {
+            return Err(Fetch::Memory);
+        }
+        Ok(copy)
+    }
+}
+
+/// The bytes of the first file of the name.
+fn bytes_named<'a>(files: &'a [File<'a>], name: &str) -> Option<&'a [u8]>
+    ensures { option_copied result ≡ bytes_of (lent_files files.now) name.now }
+{
+    Some(file_named(files, name)?.bytes)
+}
+
+fn file_named<'a>(files: &'a [File<'a>], name: &str) -> Option<&'a File<'a>>
+    ensures { option_copied result ≡ find (is_lent_as name.now) files.now }
+{
+    files.iter().find(|file| file.name == name.as_bytes())
+}

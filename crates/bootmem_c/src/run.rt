@@ -1,0 +1,86 @@
+//! The program as one call, over words and files that the caller lends.
+
+ghost use Rattle.std.specs.Prelude.{◌≡◌, ◌≢◌, ◌⊎◌, ℕ, List, [], false, Some};
+ghost use Rattle.bm_io.specs.HeldFiles.{bytes_of};
+ghost use Rattle.program_run.specs.Answers.{IsText};
+ghost use Rattle.program_run.specs.Headline.{IsReported};
+ghost use Rattle.bootmem_c.specs.Lent.{lent_files, lent_words};
+ghost use Rattle.bootmem_c.specs.Call.{asked, line_said, outcome_of, status_said};
+ghost use Rattle.bootmem_c.specs.Taken.{IsTaken, whole_text};
+
+use crate::crossing::{Bytes, File, Text, hand_over};
+use crate::lent_files::LentFiles;
+use crate::text_sink::TextSink;
+use crate::words::{NoTexts, words_in};
+use program_run::run;
+use std::alloc::Global;
+
+/// The whole program: `words` are those after the program's name, and a file is what `files` has under its name. The
+/// reports go to `out`, the line of a failure to `err`. Answers the exit status, which is that of the outcome or 7.
+#[unsafe(no_mangle)]
+pub extern "C" fn bootmem_run(
+    alloc: Global,
+    words: &[Bytes<'_>],
+    files: &[File<'_>],
+    out: &mut Text<'_>,
+    err: &mut Text<'_>,
+) -> u8
+    // The status is that of the one outcome that words and files determine, or memory was wanting.
+    ensures status { (result ≡ status_said (outcome_of words.now files.now)) ⊎ (result ≡ 7) }
+
+    // After status 0 `out` has the outcome's text, which is that of the boot, with the headline's four facts; after another
+    // one it has none.
+    ensures written { result ≡ 0 → IsText (outcome_of words.now files.now) (λ text. IsTaken text out.old out.new) }
+    ensures headline { result ≡ 0 → (text : List ℕ) × IsTaken text out.old out.new
+        × IsReported (asked (lent_words words.now)) (bytes_of (lent_files files.now)) (Some []) (Some text) }
+    ensures unwritten { result ≢ 0 → IsTaken [] out.old out.new }
+
+    // After status 0 `err` has no line; after another one but 7 it has that of the outcome, or none where memory was wanting.
+    ensures silent { result ≡ 0 → IsTaken [] err.old err.new }
+    ensures line { result ≢ 0 → result ≢ 7
+        → IsTaken (line_said words.now files.now) err.old err.new ⊎ IsTaken [] err.old err.new }
+{
+    let mut report = TextSink::new(alloc);
+    let mut line = TextSink::new(alloc);
+    let status = run_lent(alloc, words, files, &mut report, &mut line);
+    hand_over(text_after(status, &report), out);
+    hand_over(line.whole(), err);
+    status
+}
+
+/// The program over the lent words and files.
+fn run_lent(
+    alloc: Global,
+    words: &[Bytes<'_>],
+    files: &[File<'_>],
+    report: &mut TextSink,
+    line: &mut TextSink,
+) -> u8
+    requires empty { report.old.text ≡ [] }
+    requires no_line { line.old.text ≡ [] }
+    requires not_short { line.old.is_short ≡ false }
+    ensures status { (result ≡ status_said (outcome_of words.now files.now)) ⊎ (result ≡ 7) }
+    ensures written { result ≡ 0 → IsText (outcome_of words.now files.now) (λ text. report.new.text ≡ text) }
+    ensures headline { result ≡ 0 → IsReported
+        (asked (lent_words words.now)) (bytes_of (lent_files files.now)) (Some []) (Some report.new.text) }
+    ensures silent { result ≡ 0 → whole_text line.new ≡ [] }
+    ensures line { result ≢ 0 → result ≢ 7
+        → (whole_text line.new ≡ line_said words.now files.now) ⊎ (whole_text line.new ≡ []) }
+{
+    match words_in(alloc, words) {
+        Ok(texts) => run(alloc, &texts, &mut LentFiles::new(files), report, line),
+        Err(NoTexts::NotUtf8) => 2,
+        Err(NoTexts::Memory) => 7,
+    }
+}
+
+/// The reports, where the status is 0.
+fn text_after(status: u8, report: &TextSink) -> &[u8]
+    ensures written { status ≡ 0 → result.now ≡ report.now.text }
+    ensures unwritten { status ≢ 0 → result.now ≡ [] }
+{
+    if status == 0 {
+        return report.text();
+    }
+    &[]
+}

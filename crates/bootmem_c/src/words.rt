@@ -1,0 +1,64 @@
+//! The words that the caller lends.
+
+ghost use Rattle.std.specs.Prelude.{◌≡◌, map, string_bytes, IsUtf8, IfOk, IfErr, IsErrOf};
+ghost use Rattle.std.specs.List.{All};
+ghost use Rattle.bootmem_c.specs.Lent.{lent_words};
+
+use crate::crossing::Bytes;
+use std::alloc::{AllocError, AllocFailed, Global};
+
+/// Why words aren't texts.
+#[derive(Clone, Copy, Debug, PartialEq, Eq)]
+pub enum NoTexts {
+    /// One of them isn't UTF-8.
+    NotUtf8,
+    /// The memory ran out.
+    Memory,
+}
+
+impl From<AllocError> for NoTexts {
+    ghost use Rattle.std.specs.Prelude.{◌≡◌};
+    ghost use Rattle.bootmem_c.specs.declared.words.NoTexts.TheVariants as errors;
+
+    ghost from_gives = { λ _ error. error ≡ errors.Memory };
+
+    fn from(_error: AllocError) -> NoTexts {
+        NoTexts::Memory
+    }
+}
+
+impl<T: Drop> From<AllocFailed<T>> for NoTexts {
+    ghost use Rattle.std.specs.Prelude.{◌≡◌};
+    ghost use Rattle.bootmem_c.specs.declared.words.NoTexts.TheVariants as errors;
+
+    ghost from_gives = { λ _ error. error ≡ errors.Memory };
+
+    fn from(_error: AllocFailed<T>) -> NoTexts {
+        NoTexts::Memory
+    }
+}
+
+/// The words as texts.
+pub fn words_in(alloc: Global, words: &[Bytes<'_>]) -> Result<Vec<String>, NoTexts>
+    ensures texts { IfOk result (λ texts. map string_bytes texts.items ≡ lent_words words.now) }
+    ensures utf8 { IfOk result (λ texts. All IsUtf8 (lent_words words.now)) }
+    ensures other { IsErrOf result NoTexts.NotUtf8 → ¬ All IsUtf8 (lent_words words.now) }
+{
+    let mut texts = Vec::new(alloc);
+    for word in words {
+        texts.push(text_in(alloc, word.bytes)?)?;
+    }
+    Ok(texts)
+}
+
+/// The word as a text.
+fn text_in(alloc: Global, word: &[u8]) -> Result<String, NoTexts>
+    ensures text { IfOk result (λ text. string_bytes text ≡ word.now) }
+    ensures utf8 { IfOk result (λ text. IsUtf8 word.now) }
+    ensures other { IsErrOf result NoTexts.NotUtf8 → ¬ IsUtf8 word.now }
+{
+    let Ok(text) = str::from_utf8(word) else {
+        return Err(NoTexts::NotUtf8);
+    };
+    Ok(String::from_str(alloc, text)?)
+}
