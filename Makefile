@@ -5,10 +5,12 @@
 #   make                      proves and builds both programs, as the next two do
 #   make bootmem              proves and builds ./bootmem: some 35 minutes of a processor, 10 of the clock at least
 #   make bootaudit            proves and builds ./bootaudit, the audit of saved reports, which takes some minutes
+#   make lib                  proves and builds the library: libbootmem.a and libbootmem.so, for C and whatever calls C
 #   make try ARGS="..."       runs the program on these words without proof, within a minute
 #   make test                 the whole gate: every proof, every test, the real machines
-#   make install PREFIX=DIR   installs both programs as they are, tools, manual pages, documents and examples, and proves
-#                             nothing: without one of them it stops, unless PROVE=1 (DESTDIR and MANDIR are honoured)
+#   make install PREFIX=DIR   installs both programs as they are, tools, manual pages, documents and examples, and the
+#                             library where it is there, and proves nothing: without a program it stops, unless PROVE=1
+#                             (DESTDIR and MANDIR are honoured)
 #   make uninstall PREFIX=DIR removes what 'make install' put there
 #   make deb                  makes a Debian package of what 'make install' installs (needs dpkg-deb)
 #   make clean                removes what was built
@@ -37,7 +39,9 @@ export RT
 
 PROGRAMS := bootmem bootaudit
 
-.PHONY: all run try test install uninstall deb clean help
+LIBRARY := libbootmem.a
+
+.PHONY: all lib run try test install uninstall deb clean help
 
 all: $(PROGRAMS)
 
@@ -46,6 +50,11 @@ bootmem: $(SOURCES)
 
 bootaudit: $(AUDIT)
 	@tools/build.sh bootaudit $@ $(addprefix "$(CURDIR)"/crates/bootaudit/data/,map owners blocks)
+
+lib: $(LIBRARY)
+
+$(LIBRARY): $(SOURCES)
+	@tools/library.sh "$(VERSION)"
 
 run:
 	@if $(MAKE) -q --no-print-directory bootmem >/dev/null 2>&1; then ./bootmem $(FIRST); else tools/try.sh e820_map examples/first/zp.bin </dev/null; fi
@@ -67,7 +76,7 @@ install:
 		elif ! $(MAKE) -q --no-print-directory $$program >/dev/null 2>&1; then \
 			echo "$$program: some sources are newer than ./$$program, which is installed as it is; 'make $$program' builds it anew" >&2; fi; \
 	done
-	@tools/install.sh install "$(DESTDIR)" "$(PREFIX)" "$(MANDIR)"
+	@VERSION="$(VERSION)" tools/install.sh install "$(DESTDIR)" "$(PREFIX)" "$(MANDIR)"
 
 uninstall:
 	@tools/install.sh uninstall "$(DESTDIR)" "$(PREFIX)" "$(MANDIR)"
@@ -76,8 +85,8 @@ deb:
 	@tools/deb.sh "$(VERSION)" "$(MAKE)"
 
 clean:
-	rm -f $(PROGRAMS) bootmem_*.deb
+	rm -f $(PROGRAMS) libbootmem.* bootmem_*.deb bootmem-dev_*.deb
 	rm -rf crates/*/out
 
 help:
-	@sed -n '3,17s/^# *//p' Makefile | sed '/^$$/d; s/^/  /'
+	@sed -n '3,19s/^# *//p' Makefile | sed '/^$$/d; s/^/  /'

@@ -1,5 +1,6 @@
 #!/bin/sh
-# deb.sh VERSION MAKE: makes bootmem_VERSION_ARCHITECTURE.deb of what 'make install PREFIX=/usr' installs, the programs stripped.
+# deb.sh VERSION MAKE: makes bootmem_VERSION_ARCHITECTURE.deb of what 'make install PREFIX=/usr' installs, the programs stripped; and of the library,
+# where libbootmem.a is there, bootmem-dev_VERSION_ARCHITECTURE.deb.
 # MAINTAINER names who is told as the package's maintainer, in place of the author of the newest commit.
 set -eu
 unset CDPATH
@@ -7,11 +8,25 @@ cd "$(dirname "$0")/.."
 version=$1
 make=$2
 architecture=$(dpkg --print-architecture)
-package=bootmem_${version}_$architecture.deb
 maintainer=${MAINTAINER:-$(git log -1 --format='%an <%ae>')}
 root=$(mktemp -d)
-trap 'rm -rf "$root"' EXIT
-chmod 755 "$root"
+dev=$(mktemp -d)
+trap 'rm -rf "$root" "$dev"' EXIT
+chmod 755 "$root" "$dev"
+
+# package ROOT NAME DEPENDS: makes the package of what lies under ROOT; standard input is its description
+package() {
+	install -d "$1/DEBIAN"
+	(cd "$1" && find usr -type f -print0 | sort -z | xargs -0 md5sum) >"$1/DEBIAN/md5sums"
+	{
+		printf 'Package: %s\nVersion: %s\nArchitecture: %s\nMaintainer: %s\nSection: %s\nPriority: optional\n' \
+			"$2" "$version" "$architecture" "$maintainer" "$(case $2 in *-dev) echo libdevel ;; *) echo admin ;; esac)"
+		printf 'Depends: %s\nInstalled-Size: %s\nDescription: ' "$3" "$(du -k -s "$1/usr" | cut -f1)"
+		cat
+	} >"$1/DEBIAN/control"
+	dpkg-deb --root-owner-group --build "$1" "$2_${version}_$architecture.deb" >&2
+	echo "$2_${version}_$architecture.deb"
+}
 
 "$make" --no-print-directory install DESTDIR="$root" PREFIX=/usr
 strip --strip-unneeded --remove-section=.comment --remove-section=.note "$root/usr/bin/bootmem" "$root/usr/bin/bootaudit"
@@ -33,18 +48,21 @@ depends=$(
 		done | sed -e 's/:.*//' -e "s/^libc6\$/libc6 (>= $library)/" | sort -u
 	! grep -q '^#!.*python3' "$root"/usr/bin/* || echo python3
 )
-install -d "$root/DEBIAN"
-(cd "$root" && find usr -type f -print0 | sort -z | xargs -0 md5sum) >"$root/DEBIAN/md5sums"
-cat >"$root/DEBIAN/control" <<END
-Package: bootmem
-Version: $version
-Architecture: $architecture
-Maintainer: $maintainer
-Section: admin
-Priority: optional
-Depends: $(printf '%s\n' "${depends:-libc6 (>= $library)}" | paste -s -d , - | sed 's/,/, /g')
-Installed-Size: $(du -k -s "$root/usr" | cut -f1)
-Description: boot-time memory set-up of x86-64 Linux 6.1, proved
+# what a program needs that calls the library goes into a package of its own
+if [ -f "$root/usr/lib/libbootmem.a" ]; then
+	mkdir -p "$dev/usr/share/bootmem" "$dev/usr/share/doc/bootmem-dev"
+	mv "$root/usr/lib" "$root/usr/include" "$dev/usr"
+	mv "$root/usr/share/bootmem/bindings" "$dev/usr/share/bootmem"
+	strip --strip-unneeded "$dev/usr/lib/libbootmem.so.$version"
+	cp "$doc/copyright" "$doc/changelog.gz" "$dev/usr/share/doc/bootmem-dev"
+	package "$dev" bootmem-dev "libc6" <<END
+libbootmem: the memory set-up of x86-64 Linux 6.1 from C
+ The program bootmem as one call over bytes in memory, proved as it is: a static
+ and a shared library, the C header, and bindings for Rust and Python.
+END
+fi
+package "$root" bootmem "$(printf '%s\n' "${depends:-libc6 (>= $library)}" | paste -s -d , - | sed 's/,/, /g')" <<END
+boot-time memory set-up of x86-64 Linux 6.1, proved
  Carries out the memory set-up of a 64-bit x86 Linux 6.1 kernel on described
  memory: from the bytes of the firmware's tables and the kernel's command line
  to the free blocks of the buddy lists. It answers which addresses are RAM,
@@ -52,5 +70,3 @@ Description: boot-time memory set-up of x86-64 Linux 6.1, proved
  holds what, and which frames are free. bootaudit says of such reports, saved
  from another machine or another program, whether memory was conserved.
 END
-dpkg-deb --root-owner-group --build "$root" "$package" >&2
-echo "$package"

@@ -7,11 +7,15 @@
 #   PREFIX/share/doc/bootmem  the documents
 #   PREFIX/share/bootmem      the machines of examples/, and what the tools share
 #   PREFIX/share/bash-completion/completions/bootmem, bootaudit
+#   PREFIX/lib, PREFIX/include  where libbootmem.a is there: the library, its header and lib/pkgconfig/bootmem.pc, and in
+#                             PREFIX/share/bootmem/bindings what calls it; VERSION is that of the library
 set -eu
 unset CDPATH
 cd "$(dirname "$0")/.."
 deed=$1
 bin=$2$3/bin
+lib=$2$3/lib
+include=$2$3/include
 share=$2$3/share
 man=$2$4
 tools="bootmem-draw bootmem-where bootmem-diff bootmem-live zp-from-log"
@@ -27,7 +31,25 @@ uninstall() {
 	done
 	rm -f "$man/man1/bootmem.1" "$man/man1/bootaudit.1" "$man/man5/bootmem.5"
 	rm -f "$share/bash-completion/completions/bootmem" "$share/bash-completion/completions/bootaudit"
+	rm -f "$lib"/libbootmem.a "$lib"/libbootmem.so* "$lib/pkgconfig/bootmem.pc" "$include/bootmem.h"
 	rm -rf "$share/doc/bootmem" "$share/bootmem"
+}
+
+# library: what a program needs that calls the library
+library() {
+	install -d "$lib/pkgconfig" "$include"
+	install -m 644 libbootmem.a "$lib"
+	install -m 644 "libbootmem.so.$VERSION" "$lib"
+	for name in libbootmem.so.0 libbootmem.so; do
+		ln -sf "libbootmem.so.$VERSION" "$lib/$name"
+	done
+	install -m 644 include/bootmem.h "$include"
+	sed "s|@PREFIX@|$1|; s|@VERSION@|$VERSION|" tools/bootmem.pc.in >"$lib/pkgconfig/bootmem.pc"
+	chmod 644 "$lib/pkgconfig/bootmem.pc"
+	find bindings \( -name target -o -name __pycache__ \) -prune -o -type f -print | while read -r file; do
+		install -d "$share/bootmem/$(dirname "$file")"
+		install -m 644 "$file" "$share/bootmem/$file"
+	done
 }
 
 # examples FOLDER: the files of the machines of examples/, and nothing else that lies there
@@ -67,10 +89,11 @@ install_all() {
 	sed 's|](docs/|](|g; s|`docs/|`|g' README.md >"$share/doc/bootmem/README.md"
 	chmod 644 "$share/doc/bootmem/README.md"
 	examples "$share/bootmem/examples"
+	[ ! -f libbootmem.a ] || library "$1"
 }
 
 case $deed in
-install) install_all ;;
+install) install_all "$3" ;;
 uninstall) uninstall ;;
 *)
 	echo "usage: install.sh install|uninstall DESTDIR PREFIX MANDIR" >&2
