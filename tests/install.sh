@@ -97,6 +97,23 @@ for page in $pages; do
 done
 is "the README has no link into docs/" "$(grep -c '](docs/' "$share/doc/bootmem/README.md")" 0
 
+# the library, where it was built: a program finds it by pkg-config
+if [ -f libbootmem.a ]; then
+	cp -r libbootmem.* include bindings "$work/tree" && rm -rf "$work/tree/bindings/rust/target"
+	ok "make install with the library" installed /opt/it
+	there "the library" "$root/lib/libbootmem.a" "$root/lib/libbootmem.so" "$root/include/bootmem.h" "$share/bootmem/bindings/c/check_table.c" \
+		"$share/bootmem/bindings/rust/src/lib.rs" "$share/bootmem/bindings/python/bootmem.py"
+	if command -v pkg-config >/dev/null 2>&1 && command -v cc >/dev/null 2>&1; then
+		flags=$(PKG_CONFIG_SYSROOT_DIR=$work/root PKG_CONFIG_PATH=$root/lib/pkgconfig pkg-config --cflags --libs bootmem)
+		# shellcheck disable=SC2086 # a word each
+		ok "a program by pkg-config" cc bindings/c/check_table.c $flags -o "$work/check_table"
+		ok "it runs" env LD_LIBRARY_PATH="$root/lib" "$work/check_table" examples/first/zp.bin
+	fi
+	is "the version of bootmem.pc" "$(sed -n 's/^Version: //p' "$root/lib/pkgconfig/bootmem.pc")" "$(sed -n 's/^VERSION := //p' Makefile)"
+else
+	echo "install.sh: no libbootmem.a: left out the library"
+fi
+
 # the tools run from where they are
 for tool in "$root"/bin/*; do
 	case $(head -n 1 "$tool" | tr -d '\0') in

@@ -1,0 +1,91 @@
+#!/bin/sh
+# library.sh [PROGRAM]: the library against the program, and from C, Rust and Python. Every report of every machine of examples/ through the
+# library is the very bytes of the program, with its status and its line; then the example in C, 'cargo test' and the unit tests of
+# Python. What lacks its tool is left out, with a line. Prints 'N passed, M failed' at its end.
+set -u
+unset CDPATH
+cd "$(dirname "$0")/.." || exit 1
+top=$PWD
+program=$(cd "$(dirname "${1:-bootmem}")" && pwd)/$(basename "${1:-bootmem}")
+[ -f libbootmem.a ] || {
+	echo "library.sh: there is no $top/libbootmem.a: 'make lib' builds it" >&2
+	exit 2
+}
+work=$(mktemp -d) || exit 1
+trap 'rm -rf "$work"' EXIT
+passed=0
+failed=0
+
+# ok WHAT COMMAND..: the command's status is 0
+ok() {
+	what=$1
+	shift
+	if "$@" >"$work/said" 2>&1; then
+		passed=$((passed + 1))
+	else
+		failed=$((failed + 1))
+		echo "$what: $(tail -n 5 "$work/said")"
+	fi
+}
+
+# is WHAT GOT WANTED: the two are the same
+is() {
+	if [ "$2" = "$3" ]; then
+		passed=$((passed + 1))
+	else
+		failed=$((failed + 1))
+		echo "$1: '$2', wanted '$3'"
+	fi
+}
+
+# has TOOL: it is there, or a line says what is left out
+has() {
+	command -v "$1" >/dev/null 2>&1 && return
+	echo "library.sh: no $1: left out $2"
+	return 1
+}
+
+# of the names in the archive the exports alone are seen, and they are those of the header
+is "names" "$(nm -g --defined-only libbootmem.a | sed -n 's/.* T //p' | sort | tr '\n' ' ')" \
+	"$(sed -n 's/^[a-z0-9_]* \(bootmem_[a-z]*\)(.*/\1/p' include/bootmem.h | sort | tr '\n' ' ')"
+
+if has "${CC:-cc}" "the program's bytes and the example in C"; then
+	cc="${CC:-cc} -Wall -Wextra -Werror -Iinclude"
+	ok "by_library.c" $cc -O1 tests/by_library.c libbootmem.a -o "$work/by_library"
+	ok "the header in C++" $cc -x c++ -fsyntax-only include/bootmem.h
+	for folder in examples/*/; do
+		[ -f "$folder/zp.bin" ] || continue
+		words=zp.bin
+		[ ! -f "$folder/words" ] || words=$(cat "$folder/words")
+		for report in map options nodes memory reserved owners journal crash sections zones script tables buddyinfo blocks pages pagesinfo zonelists summary; do
+			# shellcheck disable=SC2086 # the words are separated by blanks
+			(cd "$folder" && "$program" --report "$report" $words >"$work/out" 2>"$work/err"; echo "status $?" >>"$work/err")
+			# shellcheck disable=SC2086
+			(cd "$folder" && "$work/by_library" --report "$report" $words >"$work/got" 2>"$work/why"; echo "status $?" >>"$work/why")
+			ok "$folder: $report" cmp "$work/got" "$work/out"
+			ok "$folder: $report: the line" cmp "$work/why" "$work/err"
+		done
+	done
+	for words in --none "" zp.bin "--report map" "--make 3" "--report none zp.bin" "--make 3 --srat README.md"; do
+		# shellcheck disable=SC2086
+		(cd examples && "$program" $words >"$work/out" 2>"$work/err"; echo "status $?" >>"$work/err")
+		# shellcheck disable=SC2086
+		(cd examples && "$work/by_library" $words >"$work/got" 2>"$work/why"; echo "status $?" >>"$work/why")
+		ok "words '$words'" cmp "$work/got" "$work/out"
+		ok "words '$words': the line" cmp "$work/why" "$work/err"
+	done
+	ok "check_table.c" $cc bindings/c/check_table.c libbootmem.a -o "$work/check_table"
+	is "check_table" "$("$work/check_table" examples/first/zp.bin crashkernel=32M 2>&1 | sed -n '$s/ 0x.*//p')" "crash at"
+	is "check_table of a bad line" "$("$work/check_table" examples/first/zp.bin mem=x 2>&1)" "bootmem: cmdline: word 1: mem"
+fi
+if has cargo "the tests in Rust"; then
+	ok "cargo test" env BOOTMEM_LIB_DIR="$top" CARGO_TARGET_DIR="$work/target" cargo test --offline --quiet --manifest-path bindings/rust/Cargo.toml
+fi
+if has python3 "the tests in Python"; then
+	ok "python3 -m unittest" env BOOTMEM_LIB="$top/libbootmem.so" PYTHONDONTWRITEBYTECODE=1 python3 -m unittest discover -s bindings/python
+fi
+version=$(sed -n 's/^VERSION := //p' Makefile)
+is "the crate's version" "$(sed -n 's/^version = "\(.*\)"/\1/p' bindings/rust/Cargo.toml)" "$version"
+
+echo "$passed passed, $failed failed"
+[ "$failed" -eq 0 ]
