@@ -1,5 +1,5 @@
 #!/bin/sh
-# library.sh VERSION: proves bootmem_c and the crates below it, and makes libbootmem.a, libbootmem.so.VERSION and bootmem.pc at the top. The
+# library.sh VERSION: proves bootmem_c and the crates below it, and makes libbootmem.a and libbootmem.so.VERSION at the top. The
 # archive has one object: the crate's, with the kit's three lines over malloc, realloc and free. Of its names the exports alone are seen.
 set -eu
 unset CDPATH
