@@ -4,20 +4,18 @@ use Rattle.std.proofs.lemmas.List.{append-nil}
 use Rattle.memblock_model.specs.declared.item.Item.{Item}
 use Rattle.bm_base.specs.declared.memory.Memory.{Memory}
 use Rattle.bm_base.specs.Extent.{Extent}
-use Rattle.script_reader.specs.declared.request.Request.{Request as Asked}
 use Rattle.script_reader.specs.declared.act.Act.{Act}
 use Rattle.script_reader.specs.declared.act.Act.TheVariants as acts
-use Rattle.growth_model.specs.declared.request.Request.{Request}
+use Rattle.memblock_model.specs.declared.request.Request.{Request}
 use Rattle.growth_model.specs.Bytes.{Follows}
 use Rattle.early_script.specs.declared.outcome.Outcome.{Outcome}
-use Rattle.early_script.specs.Acted.{State, Deed, Acts, byte_by, request_of, deed, alloc_deed, reserve_deed, free_deed, trim_deed, fill_deed, peek_deed}
+use Rattle.early_script.specs.Acted.{State, Deed, Acts, byte_by, deed, alloc_deed, reserve_deed, free_deed, trim_deed, fill_deed, peek_deed}
 use Rattle.early_script.proofs.RunLaws.{bytes-quiet}
 
-pub deed-alloc : (s : State) (bytes : ℕ → ℕ) (a : Act) (id : ℕ) (asked : Asked) (r : Request) → a ≡ acts.Alloc id asked → r ≡ request_of
-    asked →
-    deed s bytes a ≡ alloc_deed s id r
+pub deed-alloc : (s : State) (bytes : ℕ → ℕ) (a : Act) (id : ℕ) (request : Request) → a ≡ acts.Alloc id request →
+    deed s bytes a ≡ alloc_deed s id request
 unfolding deed
-deed-alloc s bytes a id asked r is same = ap (λ (b : Act). deed s bytes b) is ∙ ap (λ (q : Request). alloc_deed s id q) (sym same)
+deed-alloc s bytes a id request is = ap (λ (b : Act). deed s bytes b) is
 
 pub deed-reserve : (s : State) (bytes : ℕ → ℕ) (a : Act) (id : ℕ) (range : Extent) → a ≡ acts.Reserve id range →
     deed s bytes a ≡ reserve_deed s id range

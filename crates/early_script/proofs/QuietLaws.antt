@@ -7,7 +7,7 @@ use Rattle.memblock_model.specs.declared.item.Item.{Item}
 use Rattle.memblock_model.specs.Items.{owner_of, memory_of, limit_of}
 use Rattle.script_reader.specs.declared.act.Act.{Act}
 use Rattle.script_reader.specs.declared.act.Act.TheVariants as acts
-use Rattle.growth_model.specs.declared.request.Request.{Request}
+use Rattle.memblock_model.specs.declared.request.Request.{Request}
 use Rattle.growth_model.specs.Carried.{AreQuiet}
 use Rattle.growth_model.specs.Growth.{claimed}
 use Rattle.growth_model.specs.Outcome.{Outcome as Steps, after}
@@ -18,7 +18,7 @@ use Rattle.early_script.specs.declared.outcome.Outcome.{Outcome}
 use Rattle.early_script.specs.declared.outcome.Outcome.TheVariants as outcomes
 use Rattle.early_script.specs.Ids.{range_of, is_live, with_range}
 use Rattle.early_script.specs.Owned.{is_owned, touches}
-use Rattle.early_script.specs.Acted.{State, Deed, Acts, answers, request_of, alloc_at, alloc_deed, reserve_deed, on_range, free_whole, trimmed_to, trim_whole, fill_whole, deed}
+use Rattle.early_script.specs.Acted.{State, Deed, Acts, answers, alloc_at, alloc_deed, reserve_deed, on_range, free_whole, trimmed_to, trim_whole, fill_whole, deed}
 use Rattle.early_script.proofs.RunLaws.{ran-cut}
 
 pub record IsQuietDeed (d : Deed) : Type 0 where
@@ -57,7 +57,7 @@ whole-quiet s id deed (Some range) quiet =
 
 pub deed-quiet : (s : State) (bytes : ℕ → ℕ) (a : Act) → IsQuietDeed (deed s bytes a)
 unfolding deed
-deed-quiet s bytes (acts.Alloc id asked) = alloc-quiet s id (request_of asked)
+deed-quiet s bytes (acts.Alloc id request) = alloc-quiet s id request
 deed-quiet s bytes (acts.Reserve id range) = reserve-quiet s id range
 deed-quiet s bytes (acts.Free id) =
     whole-quiet s id (free_whole s id) (range_of s.ids id) (λ range. record { change = freed-quiet range })

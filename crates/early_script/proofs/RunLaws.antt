@@ -7,7 +7,7 @@ use Rattle.bm_base.specs.Extent.{Extent}
 use Rattle.memblock_model.specs.declared.item.Item.{Item}
 use Rattle.memblock_model.specs.declared.owner.Owner.TheVariants as owner
 use Rattle.memblock_model.specs.Items.{owner_of}
-use Rattle.growth_model.specs.declared.request.Request.{Request}
+use Rattle.memblock_model.specs.declared.request.Request.{Request}
 use Rattle.growth_model.specs.Outcome as growth
 use Rattle.growth_model.specs.Outcome.{joined}
 use Rattle.growth_model.specs.Growth.{claimed}

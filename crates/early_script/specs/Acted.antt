@@ -7,10 +7,9 @@ use Rattle.phys_store.specs.Bytes.{bytes_at}
 use Rattle.memblock_model.specs.declared.item.Item.{Item}
 use Rattle.memblock_model.specs.declared.owner.Owner.TheVariants as owner
 use Rattle.memblock_model.specs.Items.{owner_of}
-use Rattle.script_reader.specs.declared.request.Request.{Request as Asked}
 use Rattle.script_reader.specs.declared.act.Act.{Act}
 use Rattle.script_reader.specs.declared.act.Act.TheVariants as acts
-use Rattle.growth_model.specs.declared.request.Request.{Request}
+use Rattle.memblock_model.specs.declared.request.Request.{Request}
 use Rattle.growth_model.specs.Outcome.{Refused, Change, after, nothing}
 use Rattle.growth_model.specs.Outcome as growth
 use Rattle.growth_model.specs.Growth.{claimed, freed}
@@ -45,10 +44,6 @@ answers s answer = record { change = nothing; answer = answer; ids = s.ids; fill
 pub record OnlyAnswers (s : State) (d : Deed) : Type 0 where
   pub unchanged : d.change s.items ≡ nothing s.items
   pub untaken : d.takes ≡ false
-
--- the same request, as memblock takes it
-abbrev pub request_of : Asked → Request
-request_of a = record { size = a.size; align = a.align; min = a.min; max = a.max; node = a.node; exact = a.exact }
 
 -- alloc: the best place is claimed for the ID
 abbrev pub alloc_at : State → ℕ → ℕ → Option ℕ → Deed
@@ -116,7 +111,7 @@ peek_deed s bytes at len = answers s (outcomes.Bytes (record { items = bytes_at 
 
 -- what an act does, in this state and with these bytes in memory. Where the sections are placed, no line does anything
 unfoldable pub deed : State → (ℕ → ℕ) → Act → Deed
-deed s bytes (acts.Alloc id asked) = alloc_deed s id (request_of asked)
+deed s bytes (acts.Alloc id request) = alloc_deed s id request
 deed s bytes (acts.Reserve id range) = reserve_deed s id range
 deed s bytes (acts.Free id) = free_deed s id
 deed s bytes (acts.Trim id keep) = trim_deed s id keep

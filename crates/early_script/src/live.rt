@@ -9,7 +9,7 @@ ghost use Rattle.growth_model.specs.Bytes.{Filled, Follows, Holds};
 ghost use Rattle.memblock_grow.specs.Kept.{StayReady};
 
 use crate::outcome::Outcome;
-use crate::steps::{asked, peek, refused, split, stand_still, touches};
+use crate::steps::{peek, refused, split, stand_still, touches};
 use bm_base::{Memory, Range};
 use memblock_grow::{Memblock, Request};
 use memblock_model::Owner;
@@ -39,7 +39,7 @@ impl Model for Live {
 
 impl Live {
     ghost use Rattle.early_script.specs.Ids.{is_live as has_range, with_range};
-    ghost use Rattle.early_script.specs.Acted.{Deed as AnyDeed, Acts, IsRun, OnlyAnswers, byte_by, fills_by, answers, request_of, on_whole, deed, alloc_deed, reserve_deed, free_deed, trim_deed, fill_deed};
+    ghost use Rattle.early_script.specs.Acted.{Deed as AnyDeed, Acts, IsRun, OnlyAnswers, byte_by, fills_by, answers, on_whole, deed, alloc_deed, reserve_deed, free_deed, trim_deed, fill_deed};
     ghost use Rattle.early_script.specs.Found.{state_of, bytes_in};
 
     /// No ID is live.
@@ -69,7 +69,7 @@ impl Live {
         ensures still_ready { StayReady mb.old.tables.store mb.new.tables.store }
     {
         match line.act {
-            Act::Alloc { id, request } => self.alloc(mb, id, &asked(&request)),
+            Act::Alloc { id, request } => self.alloc(mb, id, &request),
             Act::Reserve { id, range } => self.reserve(mb, id, range),
             Act::Free { id } => self.free(mb, id),
             Act::Trim { id, keep } => self.trim(mb, id, keep),

@@ -7,28 +7,12 @@ ghost use Rattle.growth_model.specs.Sound.{HasBegun, IsAway};
 ghost use Rattle.growth_model.specs.Bytes.{Follows};
 ghost use Rattle.early_script.specs.declared.outcome.Outcome.TheVariants as outcomes;
 ghost use Rattle.early_script.specs.Owned.{touches};
-ghost use Rattle.early_script.specs.Acted.{request_of};
 ghost use Rattle.early_script.specs.Found.{bytes_in, Refuses};
 
 use crate::outcome::Outcome;
 use arrayvec::ArrayVec;
 use bm_base::{Memory, Range};
-use memblock_grow::{Memblock, Refusal, Request};
-use script_reader::Request as Asked;
-
-/// The request of a line, as memblock takes it.
-pub fn asked(request: &Asked) -> Request
-    ensures { result ≡ request_of request.now }
-{
-    Request {
-        size: request.size,
-        align: request.align,
-        min: request.min,
-        max: request.max,
-        node: request.node,
-        exact: request.exact,
-    }
-}
+use memblock_grow::{Memblock, Refusal};
 
 /// A refusal of memblock is the answer; want of memory isn't.
 pub fn refused(refusal: Refusal) -> Result<Outcome, Memory>

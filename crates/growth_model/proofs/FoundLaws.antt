@@ -15,7 +15,7 @@ use Rattle.memblock_model.specs.Search.{top, best}
 use Rattle.memblock_model.proofs.SearchLaws.{IsPlace, top_in-fits, best_in-fits, fits_in-parts}
 use Rattle.memblock_ranges.specs.Tables.{Contents, bytes_of, bytes_in, Overlaps}
 use Rattle.growth_model.specs.Growth.{frames_of, frames_at, table_query, place_beside}
-use Rattle.growth_model.specs.declared.request.Request.{Request}
+use Rattle.memblock_model.specs.declared.request.Request.{Request}
 use Rattle.growth_model.specs.Request.{Attempt, attempt, anywhere, nodes, round, attempts, first_top, place_for}
 use Rattle.growth_model.specs.Sound.{Clear, Unclaimed, Placed, IsAway}
 use Rattle.growth_model.specs.Bytes.{table_for}

@@ -9,7 +9,7 @@ use Rattle.memblock_model.specs.declared.item.Item.TheVariants as item
 use Rattle.memblock_model.specs.Items.{owner_of, limit_of}
 use Rattle.memblock_model.specs.Tables.{room_of, moved_to, live}
 use Rattle.memblock_model.specs.Search.{best}
-use Rattle.growth_model.specs.declared.request.Request.{Request}
+use Rattle.memblock_model.specs.declared.request.Request.{Request}
 use Rattle.growth_model.specs.Outcome.{after, write, ◌>>◌}
 use Rattle.growth_model.specs.Growth.{frames_at, table_query, new_in, two, grown, claimed, old_frames, leave, memory_growth_at, memory_growth, added, noded, mirrored}
 use Rattle.growth_model.specs.Request.{place_for}

@@ -8,7 +8,7 @@ use Rattle.memblock_model.specs.declared.item.Item.{Item}
 use Rattle.memblock_model.specs.declared.item.Item.TheVariants as item
 use Rattle.growth_model.specs.declared.refusal.Refusal.{Refusal}
 use Rattle.growth_model.specs.declared.refusal.Refusal.TheVariants as refusal
-use Rattle.growth_model.specs.declared.request.Request.{Request}
+use Rattle.memblock_model.specs.declared.request.Request.{Request}
 use Rattle.growth_model.specs.Outcome.{Outcome, Change, joined, nothing, if_due}
 use Rattle.growth_model.specs.Growth.{is_full, new_in, two, grown, claimed, freed, reserved_growth, memory_growth, added, noded, mirrored}
 use Rattle.growth_model.specs.Request.{place_for}

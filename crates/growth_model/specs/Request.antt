@@ -5,7 +5,7 @@ use Rattle.memblock_model.specs.declared.query.Query.{Query}
 use Rattle.memblock_model.specs.declared.item.Item.{Item}
 use Rattle.memblock_model.specs.Items.{limit_of}
 use Rattle.memblock_model.specs.Search.{top}
-use Rattle.growth_model.specs.declared.request.Request.{Request}
+use Rattle.memblock_model.specs.declared.request.Request.{Request}
 
 -- one search: what it asks for, and whether mirrored memory alone will do
 pub record Attempt : Type 0 where

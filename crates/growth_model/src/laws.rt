@@ -16,7 +16,7 @@ ghost use Rattle.memblock_model.specs.Items.{owner_of, limit_of};
 ghost use Rattle.memblock_model.specs.Tables.{room_of, moved_to};
 ghost use Rattle.memblock_model.specs.Search.{best};
 ghost use Rattle.growth_model.specs.declared.refusal.Refusal.{Refusal};
-ghost use Rattle.growth_model.specs.declared.request.Request.{Request};
+ghost use Rattle.memblock_model.specs.declared.request.Request.{Request};
 ghost use Rattle.growth_model.specs.Outcome.{Change, ◌>>◌ as in_turn, write};
 ghost use Rattle.growth_model.specs.Growth.{frames_of, frames_at, place_beside, claimed, freed, memory_growth, added, noded, mirrored};
 ghost use Rattle.growth_model.specs.Request.{place_for};

@@ -16,16 +16,14 @@
 //! - `specs/Bytes.antt`: the byte at each address, from the items and the fills, and what a call makes of it.
 //! - `specs/Carried.antt`: items that are wanted, carried out one after another; and which items speak of memory.
 //!
-//! [`Request`] and [`Refusal`] are plain data. They stand here, below the crates that ask and answer them,
-//! because the definitions speak of them. The functions are laws over the definitions: they do nothing, and their
-//! contracts are proved.
+//! [`Refusal`] is plain data. It stands here, below the crates that answer it, because the definitions speak of it.
+//! The functions are laws over the definitions: they do nothing, and their contracts are proved.
 #![tactic(auto)]
 
 mod byte_laws;
 mod laws;
 mod memory_laws;
 mod refusal;
-mod request;
 
 pub use byte_laws::{
     bytes_follow_calls, bytes_go_by_parts, edits_are_told, newest_fill_decides, tables_are_spelled,
@@ -34,6 +32,6 @@ pub use laws::{
     allocations_keep_places, claims_keep_places, ends_add_up, first_claim_places_tables,
     found_places_are_free, memory_keeps_places,
 };
+pub use memblock_model::Request;
 pub use memory_laws::{claims_leave_memory, memory_items_decide, wanted_items_make_memory};
 pub use refusal::Refusal;
-pub use request::Request;

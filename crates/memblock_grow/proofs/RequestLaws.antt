@@ -11,7 +11,7 @@ use Rattle.boot_journal.specs.Mirrors.{mirrors_in}
 use Rattle.memblock_ranges.specs.Tables.{Contents}
 use Rattle.growth_model.specs.declared.refusal.Refusal.{Refusal}
 use Rattle.growth_model.specs.declared.refusal.Refusal.TheVariants as refusal
-use Rattle.growth_model.specs.declared.request.Request.{Request}
+use Rattle.memblock_model.specs.declared.request.Request.{Request}
 use Rattle.growth_model.specs.Growth.{claimed}
 use Rattle.growth_model.specs.Request.{Attempt, attempt, anywhere, nodes, attempts, first_top, place_for}
 use Rattle.growth_model.specs.Ends.{Ends, Allocates}

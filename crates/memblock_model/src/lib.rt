@@ -10,8 +10,8 @@
 //! (`specs/Labels.antt`): one more part of it is one more field there, in its test of sameness
 //! (`specs/Same.antt`), and in the item that sets it; every law here stays.
 //!
-//! [`Item`], [`Owner`], [`Label`], [`Marks`], [`Tag`], [`Which`], [`OwnerRun`], [`Query`] and [`Mode`] are plain data. They stand
-//! here, below the crates that keep and answer them, because the definitions speak of them.
+//! [`Item`], [`Owner`], [`Label`], [`Marks`], [`Tag`], [`Which`], [`OwnerRun`], [`Query`], [`Request`] and [`Mode`] are
+//! plain data. They stand here, below the crates that keep and answer them, because the definitions speak of them.
 //!
 //! The functions are laws over the definitions: they do nothing, and their contracts are proved.
 #![tactic(auto)]
@@ -22,6 +22,7 @@ mod laws;
 mod mode;
 mod owner;
 mod query;
+mod request;
 mod run;
 mod tag;
 mod which;
@@ -35,6 +36,7 @@ pub use laws::{
 pub use mode::Mode;
 pub use owner::Owner;
 pub use query::Query;
+pub use request::Request;
 pub use run::OwnerRun;
 pub use tag::Tag;
 pub use which::Which;

@@ -13,7 +13,7 @@ use Rattle.node_hulls.specs.declared.reasons.Why.TheVariants as why
 use Rattle.node_hulls.specs.declared.reasons.TheConstants.{MAX_NODES}
 use Rattle.node_hulls.specs.Hulls.{Block}
 use Rattle.node_hulls.specs.Judgement.{Judgement, judged}
-use Rattle.growth_model.specs.declared.request.Request.{Request}
+use Rattle.memblock_model.specs.declared.request.Request.{Request}
 use Rattle.growth_model.specs.Growth.{noded}
 use Rattle.stage_model.specs.declared.stop.What.TheVariants as what
 use Rattle.stage_model.specs.declared.stop.StageStop.{StageStop}

@@ -1,7 +1,7 @@
 //! What a line asks for: plain data, which the reader makes and the layer above runs.
 
-use crate::request::Request;
 use bm_base::Range;
+use memblock_model::Request;
 
 /// What a line asks for. An ID is the script's own name for the place that it got.
 #[derive(Clone, Copy, Debug, PartialEq, Eq)]

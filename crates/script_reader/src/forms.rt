@@ -10,11 +10,11 @@ ghost use Rattle.script_reader.specs.Script.{asked};
 
 use crate::act::Act;
 use crate::fault::Wrong;
-use crate::request::Request;
 use crate::words::{
     bounded, first_word, no_words, number, one_word, optional, optional_number, power, range_at,
     some, three_words, two_words,
 };
+use memblock_model::Request;
 use std::marker::Model;
 use text_words::{Separators, next_word};
 

@@ -20,11 +20,10 @@
 mod act;
 mod fault;
 mod forms;
-mod request;
 mod script;
 mod words;
 
 pub use act::{Act, Line};
 pub use fault::ScriptFault;
-pub use request::Request;
+pub use memblock_model::Request;
 pub use script::read_script;

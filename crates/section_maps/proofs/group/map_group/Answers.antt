@@ -1,6 +1,6 @@
 -- The maps in one buffer, or one by one.
 use Rattle.std.proofs.Common.{ap}
-use Rattle.growth_model.specs.declared.request.Request.{Request}
+use Rattle.memblock_model.specs.declared.request.Request.{Request}
 use Rattle.stage_model.specs.Doing.{ok_as}
 use Rattle.stage_calls.proofs.LentLaws.{goes-then}
 use Rattle.section_maps.proofs.MapLaws.{buffer-placed, buffer-table, buffer-wanting, buffer-each}

@@ -1,6 +1,5 @@
 -- Each act is a call of its own, whose deed is the act's.
-use Rattle.std.proofs.Common.{Ok, refl, ◌∙◌, ap, subst, sym}
-use Rattle.growth_model.specs.declared.request.Request.{Request}
+use Rattle.std.proofs.Common.{Ok, refl, subst, sym}
 use Rattle.script_reader.specs.declared.act.Act.{Act}
 use Rattle.script_reader.specs.Forms.{HasBounds}
 use Rattle.early_script.specs.Acted.{deed, alloc_deed, reserve_deed, free_deed, trim_deed, fill_deed, peek_deed}
@@ -14,25 +13,22 @@ use Rattle.early_script.proofs.live.Live.run_line.Goals as goal
 pub alloc-requires-clause-aligned : goal.alloc-requires-clause-aligned
 alloc-requires-clause-aligned c =
     let bounds = subst (λ (a : Act). HasBounds a) c.in-Alloc.is c.requires.bounds in
-    let power = power_of c.in-Alloc.request.align bounds.1 in
-    (power.0, ap (λ (r : Request). r.align) c.asked.ensures ∙ power.1)
+    power_of c.in-Alloc.request.align bounds.1
 
 pub returns-in-Alloc-clause-acts : goal.returns-in-Alloc-clause-acts
 returns-in-Alloc-clause-acts c =
     let old = state_of c.args.self.now c.args.mb.now in
     let new = state_of c.alloc.new.self c.alloc.new.mb in
-    let is = deed-alloc old (bytes_in c.args.mb.now) c.args.line.now.act c.in-Alloc.id c.in-Alloc.request c.asked.result c.in-Alloc.is
-    c.asked.ensures in
-    acts-as c.alloc.result old new _ (alloc_deed old c.in-Alloc.id c.asked.result) is c.alloc.ensures.acts
+    let is = deed-alloc old (bytes_in c.args.mb.now) c.args.line.now.act c.in-Alloc.id c.in-Alloc.request c.in-Alloc.is in
+    acts-as c.alloc.result old new _ (alloc_deed old c.in-Alloc.id c.in-Alloc.request) is c.alloc.ensures.acts
 
 pub returns-in-Alloc-clause-bytes : goal.returns-in-Alloc-clause-bytes
 returns-in-Alloc-clause-bytes c =
     let old = state_of c.args.self.now c.args.mb.now in
     let new = state_of c.alloc.new.self c.alloc.new.mb in
-    let is = deed-alloc old (bytes_in c.args.mb.now) c.args.line.now.act c.in-Alloc.id c.in-Alloc.request c.asked.result c.in-Alloc.is
-    c.asked.ensures in
-    quiet-as c.alloc.result old new _ (alloc_deed old c.in-Alloc.id c.asked.result) (bytes_in c.args.mb.now) (bytes_in c.alloc.new.mb) is
-    (alloc-quiet old c.in-Alloc.id c.asked.result) c.alloc.ensures.bytes
+    let is = deed-alloc old (bytes_in c.args.mb.now) c.args.line.now.act c.in-Alloc.id c.in-Alloc.request c.in-Alloc.is in
+    quiet-as c.alloc.result old new _ (alloc_deed old c.in-Alloc.id c.in-Alloc.request) (bytes_in c.args.mb.now) (bytes_in c.alloc.new.mb) is
+    (alloc-quiet old c.in-Alloc.id c.in-Alloc.request) c.alloc.ensures.bytes
 
 pub returns-in-Reserve-clause-acts : goal.returns-in-Reserve-clause-acts
 returns-in-Reserve-clause-acts c =
@@ -113,11 +109,10 @@ pub returns-in-Alloc-clause-holds : goal.returns-in-Alloc-clause-holds
 returns-in-Alloc-clause-holds c = λ fills holds.
     let old = state_of c.args.self.now c.args.mb.now in
     let new = state_of c.alloc.new.self c.alloc.new.mb in
-    let is = deed-alloc old (bytes_in c.args.mb.now) c.args.line.now.act c.in-Alloc.id c.in-Alloc.request c.asked.result c.in-Alloc.is
-    c.asked.ensures in
-    holds-quiet c.alloc.result old new _ (alloc_deed old c.in-Alloc.id c.asked.result) (bytes_in c.args.mb.now) (bytes_in c.alloc.new.mb)
+    let is = deed-alloc old (bytes_in c.args.mb.now) c.args.line.now.act c.in-Alloc.id c.in-Alloc.request c.in-Alloc.is in
+    holds-quiet c.alloc.result old new _ (alloc_deed old c.in-Alloc.id c.in-Alloc.request) (bytes_in c.args.mb.now) (bytes_in c.alloc.new.mb)
     fills is
-    (alloc-quiet old c.in-Alloc.id c.asked.result) c.alloc.ensures.acts c.alloc.ensures.bytes holds
+    (alloc-quiet old c.in-Alloc.id c.in-Alloc.request) c.alloc.ensures.acts c.alloc.ensures.bytes holds
 
 pub returns-in-Reserve-clause-holds : goal.returns-in-Reserve-clause-holds
 returns-in-Reserve-clause-holds c = λ fills holds.
@@ -164,9 +159,8 @@ pub returns-in-Alloc-clause-answered : goal.returns-in-Alloc-clause-answered
 returns-in-Alloc-clause-answered c = λ only.
     let old = state_of c.args.self.now c.args.mb.now in
     let new = state_of c.alloc.new.self c.alloc.new.mb in
-    let is = deed-alloc old (bytes_in c.args.mb.now) c.args.line.now.act c.in-Alloc.id c.in-Alloc.request c.asked.result c.in-Alloc.is
-    c.asked.ensures in
-    only-answers c.alloc.result old new _ only (acts-as c.alloc.result old new _ (alloc_deed old c.in-Alloc.id c.asked.result) is c.alloc.ensures.acts)
+    let is = deed-alloc old (bytes_in c.args.mb.now) c.args.line.now.act c.in-Alloc.id c.in-Alloc.request c.in-Alloc.is in
+    only-answers c.alloc.result old new _ only (acts-as c.alloc.result old new _ (alloc_deed old c.in-Alloc.id c.in-Alloc.request) is c.alloc.ensures.acts)
 
 pub returns-in-Reserve-clause-answered : goal.returns-in-Reserve-clause-answered
 returns-in-Reserve-clause-answered c = λ only.
