@@ -6,11 +6,13 @@ pub mod PlacedLaws
 pub mod PlacedReservedLaws
 pub mod PlacedMemoryLaws
 pub mod LimitLaws
+pub mod RoomLaws
 pub mod IdleLaws
 pub mod FirstLaws
 pub mod SoundLaws
 mod GrowthExamples
 mod SoundExamples
+mod RoomExamples
 pub mod BytesLaws
 pub mod FollowLaws
 pub mod ToldLaws

@@ -1,5 +1,5 @@
 -- A growth of the memory table, wherever a call of it ends, leaves that table where it lay, or in a new place below the limit.
-use Rattle.std.proofs.Common.{◌≡◌, ◌⊎◌, ℕ, ◌+◌, ◌*◌, ◌≤◌, Option, Some, None, List, [], ◌∷◌, ◌++◌, Result, refl, sym, ◌∙◌, inl, inr, arith}
+use Rattle.std.proofs.Common.{◌≡◌, ◌⊎◌, ℕ, ◌+◌, ◌*◌, ◌≤◌, Option, Some, None, List, [], ◌∷◌, ◌++◌, Result, refl, sym, ◌∙◌, ap, inl, inr, arith}
 use Rattle.std.proofs.lemmas.Option.{same_Some}
 use Rattle.bm_base.specs.Extent.{Extent}
 use Rattle.memblock_model.specs.declared.which.Which.TheVariants as which
@@ -16,52 +16,64 @@ use Rattle.growth_model.specs.Growth.{frames_of, frames_at, table_query, place_b
 use Rattle.growth_model.specs.Ends.{Ends}
 use Rattle.growth_model.proofs.CutLaws.{EachCut, cuts-last, cuts-ends, cuts-then, cuts-grown, cuts-map}
 use Rattle.growth_model.proofs.FoundLaws.{found-fits}
-use Rattle.growth_model.proofs.PlacedLaws.{moves-of}
+use Rattle.growth_model.proofs.PlacedLaws.{moves-of, rooms-of}
 
--- the memory table's newest place is that one
-abbrev LiesAt : Option ℕ → List Item → Type 0
-LiesAt m t = moved_to which.Memory t ≡ m
+-- the memory table's newest place is that one, and its room that one
+abbrev pub LiesAt : Option ℕ → ℕ → List Item → Type 0
+LiesAt m n t = (moved_to which.Memory t ≡ m) × (room_of which.Memory t ≡ n)
 
 -- no growth of the reserved table moves the other, and so no claim and no free does
-grew-stays : (m : Option ℕ) (room : ℕ) (old : Option ℕ) (place : ℕ) (t : List Item) → LiesAt m t
-    → LiesAt m (t ++ reserved_items room old place)
+grew-stays : (m : Option ℕ) (n room : ℕ) (old : Option ℕ) (place : ℕ) (t : List Item) → LiesAt m n t
+    → LiesAt m n (t ++ reserved_items room old place)
 unfolding reserved_items
-grew-stays m room None place t at = moves-of which.Memory t (reserved_items room None place) ∙ at
-grew-stays m room (Some q) place t at = moves-of which.Memory t (reserved_items room (Some q) place) ∙ at
+grew-stays m n room None place t at = (
+  moves-of which.Memory t (reserved_items room None place) ∙ at.0,
+  rooms-of which.Memory t (reserved_items room None place) ∙ at.1,
+)
+grew-stays m n room (Some q) place t at = (
+  moves-of which.Memory t (reserved_items room (Some q) place) ∙ at.0,
+  rooms-of which.Memory t (reserved_items room (Some q) place) ∙ at.1,
+)
 
-at-stays : (m : Option ℕ) (room : ℕ) (old found : Option ℕ) (t : List Item) → LiesAt m t
-    → EachCut (LiesAt m) t (reserved_growth_at room old found t).steps
+at-stays : (m : Option ℕ) (n room : ℕ) (old found : Option ℕ) (t : List Item) → LiesAt m n t
+    → EachCut (LiesAt m n) t (reserved_growth_at room old found t).steps
 unfolding reserved_growth_at
-at-stays m room old None t at = at
-at-stays m room old (Some place) t at = (at, grew-stays m room old place t at)
+at-stays m n room old None t at = at
+at-stays m n room old (Some place) t at = (at, grew-stays m n room old place t at)
 
-reserved-stays : (m : Option ℕ) (a : Extent) (t : List Item) → LiesAt m t → EachCut (LiesAt m) t (reserved_growth a t).steps
+reserved-stays : (m : Option ℕ) (n : ℕ) (a : Extent) (t : List Item) → LiesAt m n t → EachCut (LiesAt m n) t (reserved_growth a t).steps
 unfolding reserved_growth
-reserved-stays m a t at =
-    at-stays m (room_of which.Reserved t) (moved_to which.Reserved t) (place_beside a (room_of which.Reserved t) t) t at
+reserved-stays m n a t at =
+    at-stays m n (room_of which.Reserved t) (moved_to which.Reserved t) (place_beside a (room_of which.Reserved t) t) t at
 
-behind-growths : (m : Option ℕ) (a : Extent) (more : List Item → ℕ) (i : Item) (t : List Item)
-    → ((u : List Item) → LiesAt m u → LiesAt m (u ++ i ∷ [])) → LiesAt m t
-    → EachCut (LiesAt m) t ((grown which.Reserved more (reserved_growth a) >> write i) t).steps
-behind-growths m a more i t keep at =
+behind-growths : (m : Option ℕ) (n : ℕ) (a : Extent) (more : List Item → ℕ) (i : Item) (t : List Item)
+    → ((u : List Item) → LiesAt m n u → LiesAt m n (u ++ i ∷ [])) → LiesAt m n t
+    → EachCut (LiesAt m n) t ((grown which.Reserved more (reserved_growth a) >> write i) t).steps
+behind-growths m n a more i t keep at =
     let growths : Change = grown which.Reserved more (reserved_growth a) in
-    let throughout : EachCut (LiesAt m) t (growths t).steps =
-    cuts-grown (LiesAt m) which.Reserved more (reserved_growth a) t (λ u here. reserved-stays m a u here) at in
-    let here : LiesAt m (after t (growths t)) = cuts-last (LiesAt m) t (growths t).steps throughout in
-    cuts-then (LiesAt m) t growths (write i) throughout (λ _. (here, keep (after t (growths t)) here))
+    let throughout : EachCut (LiesAt m n) t (growths t).steps =
+    cuts-grown (LiesAt m n) which.Reserved more (reserved_growth a) t (λ u here. reserved-stays m n a u here) at in
+    let here : LiesAt m n (after t (growths t)) = cuts-last (LiesAt m n) t (growths t).steps throughout in
+    cuts-then (LiesAt m n) t growths (write i) throughout (λ _. (here, keep (after t (growths t)) here))
 
-claimed-stays : (m : Option ℕ) (a : Extent) (o : Owner) (t : List Item) → LiesAt m t → EachCut (LiesAt m) t (claimed a o t).steps
+pub claimed-stays : (m : Option ℕ) (n : ℕ) (a : Extent) (o : Owner) (t : List Item) → LiesAt m n t
+    → EachCut (LiesAt m n) t (claimed a o t).steps
 unfolding claimed
-claimed-stays m a o t at =
-    behind-growths m a (new_in which.Reserved a) (item.Claim a o) t (λ u here. moves-of which.Memory u (item.Claim a o ∷ []) ∙ here) at
+claimed-stays m n a o t at =
+    let i : Item = item.Claim a o in
+    behind-growths m n a (new_in which.Reserved a) i t
+    (λ u here. (moves-of which.Memory u (i ∷ []) ∙ here.0, rooms-of which.Memory u (i ∷ []) ∙ here.1)) at
 
-freed-stays : (m : Option ℕ) (a : Extent) (t : List Item) → LiesAt m t → EachCut (LiesAt m) t (freed a t).steps
+freed-stays : (m : Option ℕ) (n : ℕ) (a : Extent) (t : List Item) → LiesAt m n t → EachCut (LiesAt m n) t (freed a t).steps
 unfolding freed
-freed-stays m a t at = behind-growths m a two (item.Free a) t (λ u here. moves-of which.Memory u (item.Free a ∷ []) ∙ here) at
+freed-stays m n a t at =
+    let i : Item = item.Free a in
+    behind-growths m n a two i t
+    (λ u here. (moves-of which.Memory u (i ∷ []) ∙ here.0, rooms-of which.Memory u (i ∷ []) ∙ here.1)) at
 
-leave-stays : (m : Option ℕ) (old : Option Extent) (t : List Item) → LiesAt m t → EachCut (LiesAt m) t (leave old t).steps
-leave-stays m None t at = at
-leave-stays m (Some a) t at = freed-stays m a t at
+pub leave-stays : (m : Option ℕ) (n : ℕ) (old : Option Extent) (t : List Item) → LiesAt m n t → EachCut (LiesAt m n) t (leave old t).steps
+leave-stays m n None t at = at
+leave-stays m n (Some a) t at = freed-stays m n a t at
 
 -- its newest place is that before the growth, or one below the limit
 abbrev Limited : List Item → List Item → Type 0
@@ -80,16 +92,17 @@ growth-limited items (Some place) is =
     let moves : Item = item.Grown which.Memory place (2 * room) in
     let last : Change = leave (old_frames room old) in
     let high : place + frames_of (48 * room) ≤ limit_of items = (found-fits items (table_query room 0 (limit_of items)) place is).high in
-    let throughout : EachCut (LiesAt old) items (first items).steps =
-    claimed-stays old (frames_at place (48 * room)) (owner.Table which.Memory) items refl in
+    let throughout : EachCut (LiesAt old room) items (first items).steps =
+    claimed-stays old room (frames_at place (48 * room)) (owner.Table which.Memory) items (refl, refl) in
     let u : List Item = after items (first items) in
-    let here : LiesAt old u = cuts-last (LiesAt old) items (first items).steps throughout in
-    let moved : LiesAt (Some place) (u ++ moves ∷ []) = moves-of which.Memory u (moves ∷ []) in
+    let here : LiesAt old room u = cuts-last (LiesAt old room) items (first items).steps throughout in
+    let moved : LiesAt (Some place) (2 * room) (u ++ moves ∷ []) =
+    (moves-of which.Memory u (moves ∷ []), rooms-of which.Memory u (moves ∷ []) ∙ ap (λ (n : ℕ). 2 * n) here.1) in
     cuts-then (Limited items) items first (write moves >> last)
-    (cuts-map (LiesAt old) (Limited items) items (first items).steps (λ t at. inl at) throughout)
-    (λ _. cuts-then (Limited items) u (write moves) last (inl here, inr (place, moved, high))
-    (λ _. cuts-map (LiesAt (Some place)) (Limited items) (u ++ moves ∷ []) (last (u ++ moves ∷ [])).steps
-    (λ t at. inr (place, at, high)) (leave-stays (Some place) (old_frames room old) (u ++ moves ∷ []) moved)))
+    (cuts-map (LiesAt old room) (Limited items) items (first items).steps (λ t at. inl at.0) throughout)
+    (λ _. cuts-then (Limited items) u (write moves) last (inl here.0, inr (place, moved.0, high))
+    (λ _. cuts-map (LiesAt (Some place) (2 * room)) (Limited items) (u ++ moves ∷ []) (last (u ++ moves ∷ [])).steps
+    (λ t at. inr (place, at.0, high)) (leave-stays (Some place) (2 * room) (old_frames room old) (u ++ moves ∷ []) moved)))
 
 memory-limited : (items : List Item) → EachCut (Limited items) items (memory_growth items).steps
 unfolding memory_growth

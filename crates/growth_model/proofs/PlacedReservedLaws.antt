@@ -28,13 +28,13 @@ free-unclaimed own a r free x at =
     elim (cases_Bool (covers r x)) as (λ _. uncovered r own x ≡ None) [ inl in_r ↦ rw in_r refl | inr other ↦ rw other (free x at) ]
 
 -- the items of one growth of the reserved table, from its place before
-abbrev grew : List Item → Option ℕ → ℕ → List Item
+abbrev pub grew : List Item → Option ℕ → ℕ → List Item
 grew t old place = t ++ reserved_items (room_of which.Reserved t) old place
 
-abbrev new_place : List Item → ℕ → Extent
+abbrev pub new_place : List Item → ℕ → Extent
 new_place t place = frames_at place (48 * room_of which.Reserved t)
 
-abbrev claimed_place : List Item → ℕ → Owners
+abbrev pub claimed_place : List Item → ℕ → Owners
 claimed_place t place = replaced (new_place t place) (for_table which.Reserved) (owner_of t)
 
 grew-live : (kernel : Extent) (t : List Item) (old : Option ℕ) (place : ℕ)
@@ -57,16 +57,16 @@ unfolding reserved_items
 grew-room t None place = rooms-of which.Memory t (reserved_items (room_of which.Reserved t) None place)
 grew-room t (Some q) place = rooms-of which.Memory t (reserved_items (room_of which.Reserved t) (Some q) place)
 
-grew-limit : (t : List Item) (old : Option ℕ) (place : ℕ) → limit_of (grew t old place) ≡ limit_of t
+pub grew-limit : (t : List Item) (old : Option ℕ) (place : ℕ) → limit_of (grew t old place) ≡ limit_of t
 unfolding reserved_items
 grew-limit t None place = limits-of t (reserved_items (room_of which.Reserved t) None place)
 grew-limit t (Some q) place = limits-of t (reserved_items (room_of which.Reserved t) (Some q) place)
 
-grew-owners-first : (t : List Item) (place : ℕ) → owner_of (grew t None place) ≡ claimed_place t place
+pub grew-owners-first : (t : List Item) (place : ℕ) → owner_of (grew t None place) ≡ claimed_place t place
 unfolding reserved_items
 grew-owners-first t place = owners-of t (reserved_items (room_of which.Reserved t) None place)
 
-grew-owners-again : (t : List Item) (q place : ℕ)
+pub grew-owners-again : (t : List Item) (q place : ℕ)
     → owner_of (grew t (Some q) place) ≡ uncovered (frames_at q (24 * room_of which.Reserved t)) (claimed_place t place)
 unfolding reserved_items
 grew-owners-again t q place = owners-of t (reserved_items (room_of which.Reserved t) (Some q) place)

@@ -3,7 +3,7 @@
 //! Each change keeps both tables in good places wherever a call of it ends: at its end, at a refusal, and before a step
 //! for which memory ran out. Nothing is asked of the tables' bytes or records for that, nor of the addresses.
 
-ghost use Rattle.std.specs.Prelude.{◌≡◌, ◌⊎◌, ℕ, ◌+◌, ◌*◌, ◌%◌, ◌^◌, ◌≤◌, Bool, Option, Some, List, [], ◌∷◌, ◌++◌, Result, Ok, Err};
+ghost use Rattle.std.specs.Prelude.{◌≡◌, ◌⊎◌, ℕ, ◌+◌, ◌*◌, ◌%◌, ◌^◌, ◌≤◌, Bool, Option, Some, None, List, [], ◌∷◌, ◌++◌, Result, Ok, Err};
 ghost use Rattle.bm_base.specs.Extent.{Extent, end_of};
 ghost use Rattle.bm_base.specs.declared.frame.TheConstants.{FRAME_SIZE};
 ghost use Rattle.memblock_model.specs.declared.which.Which.TheVariants as which;
@@ -17,11 +17,12 @@ ghost use Rattle.memblock_model.specs.Tables.{room_of, moved_to};
 ghost use Rattle.memblock_model.specs.Search.{best};
 ghost use Rattle.growth_model.specs.declared.refusal.Refusal.{Refusal};
 ghost use Rattle.memblock_model.specs.declared.request.Request.{Request};
-ghost use Rattle.growth_model.specs.Outcome.{Change, ◌>>◌ as in_turn, write};
-ghost use Rattle.growth_model.specs.Growth.{frames_of, frames_at, place_beside, claimed, freed, memory_growth, added, noded, mirrored};
+ghost use Rattle.growth_model.specs.Outcome.{Change, ◌>>◌ as in_turn, after, write};
+ghost use Rattle.growth_model.specs.Growth.{frames_of, frames_at, new_in, two, place_beside, reserved_growth, claimed, freed, memory_growth, added, noded, mirrored};
 ghost use Rattle.growth_model.specs.Request.{place_for};
 ghost use Rattle.growth_model.specs.Ends.{Ends, Allocates};
-ghost use Rattle.growth_model.specs.Sound.{Clear, Unclaimed, Placed, IsImage, HasBegun, IsAway, MayClaim};
+ghost use Rattle.growth_model.specs.Sound.{Clear, Unclaimed, Placed, Fits, IsImage, HasBegun, IsAway, MayClaim};
+ghost use Rattle.growth_model.specs.Room.{IsInSpace, HasDoubled, HasRoomBehind};
 
 /// A law: one call after another ends as the one change behind the other does, by the end of the second,
 /// and by an error of the first.
@@ -90,4 +91,26 @@ pub fn found_places_are_free()
     ensures memory { (result : Result (Unit {0}) Refusal) (old new : List Item) (place : ℕ) → Ends result old new memory_growth →
         moved_to which.Memory new ≡ Some place →
         (moved_to which.Memory old ≡ Some place) ⊎ (place + frames_of (48 * room_of which.Memory old) ≤ limit_of old) }
+{}
+
+/// A law: a growth that isn't refused gives its table twice the room and two records at most: for the claim of the new
+/// place, and where the old one is freed.
+pub fn growth_doubles_room()
+    ensures reserved { (avoid : Extent) (items : List Item) → IsInSpace items → (reserved_growth avoid items).refused ≡ None →
+        HasDoubled which.Reserved items (after items (reserved_growth avoid items)) }
+    ensures memory { (items : List Item) → IsInSpace items → (memory_growth items).refused ≡ None →
+        HasDoubled which.Memory items (after items (memory_growth items)) }
+{}
+
+/// A law: two growths of a table in a row are always enough, before a claim, a free, an added range, and a range that gets a
+/// node or becomes mirrored. A range has at most one piece more than the table has records, so one growth makes room for the
+/// edit or nearly so, and one more for that and for what the first one claimed.
+pub fn two_growths_are_enough()
+    ensures claimed { (range : Extent) (items : List Item) → IsInSpace items → Fits items → end_of range ≤ 2 ^ 64 →
+        HasRoomBehind which.Reserved (new_in which.Reserved range) (reserved_growth range) items }
+    ensures freed { (range : Extent) (items : List Item) → IsInSpace items → Fits items →
+        HasRoomBehind which.Reserved two (reserved_growth range) items }
+    ensures added { (range : Extent) (items : List Item) → IsInSpace items → Fits items → end_of range ≤ 2 ^ 64 →
+        HasRoomBehind which.Memory (new_in which.Memory range) memory_growth items }
+    ensures labelled { (items : List Item) → IsInSpace items → Fits items → HasRoomBehind which.Memory two memory_growth items }
 {}

@@ -13,6 +13,7 @@
 //!   program's own memory, before one of its steps.
 //! - `specs/Sound.antt`: what holds of the items of each boot: both tables lie in claimed frames, apart from each
 //!   other, and each has room for its records.
+//! - `specs/Room.antt`: what a growth makes of a table's room, and when the room is enough. Two growths in a row always do.
 //! - `specs/Bytes.antt`: the byte at each address, from the items and the fills, and what a call makes of it.
 //! - `specs/Carried.antt`: items that are wanted, carried out one after another; and which items speak of memory.
 //!
@@ -30,7 +31,7 @@ pub use byte_laws::{
 };
 pub use laws::{
     allocations_keep_places, claims_keep_places, ends_add_up, first_claim_places_tables,
-    found_places_are_free, memory_keeps_places,
+    found_places_are_free, growth_doubles_room, memory_keeps_places, two_growths_are_enough,
 };
 pub use memblock_model::Request;
 pub use memory_laws::{claims_leave_memory, memory_items_decide, wanted_items_make_memory};

@@ -1,0 +1,53 @@
+-- Small lists of items, computed: whether a table doubled, and whether it has room.
+use Rattle.std.proofs.Common.{◌≡◌, ℕ, ◌+◌, ◌^◌, true, false, None, [], ◌∷◌, refl, sym, ◌∙◌, ap, subst, arith}
+use Rattle.std.proofs.lemmas.Bool.{true≢false}
+use Rattle.std.proofs.lemmas.Bool.Decides.{nat_tests}
+use Rattle.memblock_model.specs.declared.which.Which.{Which}
+use Rattle.memblock_model.specs.declared.which.Which.TheVariants as which
+use Rattle.memblock_model.specs.declared.item.Item.TheVariants as item
+use Rattle.memblock_model.specs.Tables.{table_of, records_of}
+use Rattle.growth_model.specs.Outcome.{Outcome, Change, after, nothing, if_due}
+use Rattle.growth_model.specs.Growth.{is_full, two, grown}
+use Rattle.growth_model.specs.Room.{IsInSpace, HasDoubled, HasRoomBehind}
+use Rattle.growth_model.proofs.EndLaws.{skips}
+
+nothing_yet : (w : Which) (x : ℕ) → table_of w [] x ≡ None
+nothing_yet which.Memory x = refl
+nothing_yet which.Reserved x = refl
+
+in_space : IsInSpace []
+in_space = record { ends = λ w x le. nothing_yet w x; limit = omega arith }
+
+limit_too_high : IsInSpace (item.Limit (2 ^ 64 + 1) ∷ []) → ⊥
+limit_too_high space = let limit = space.limit in omega (arith, limit)
+
+-- a table that moved has twice the room, and the other one hasn't
+doubled : HasDoubled which.Memory [] (item.Grown which.Memory 4096 256 ∷ [])
+unfolding records_of
+doubled = record { room = refl; few = omega arith }
+
+other_stays : HasDoubled which.Reserved [] (item.Grown which.Memory 4096 256 ∷ []) → ⊥
+other_stays doubled = let room = doubled.room in omega (arith, room)
+
+-- growths that come to nothing leave a table without room for 129 records more
+no_growth : grown which.Memory (λ items. 129) nothing [] ≡ nothing []
+no_growth =
+    let full : is_full which.Memory (λ items. 129) [] ≡ true = grind (arith, nat_tests) in
+    let once : Change = if_due (is_full which.Memory (λ items. 129)) nothing in
+    let idle : once [] ≡ nothing [] = rw full refl in
+    skips once once [] idle ∙ idle
+
+no_room : HasRoomBehind which.Memory (λ items. 129) nothing [] → ⊥
+no_room has =
+    let full : is_full which.Memory (λ items. 129) [] ≡ true = grind (arith, nat_tests) in
+    let room : is_full which.Memory (λ items. 129) [] ≡ false =
+    subst (λ (o : Outcome). is_full which.Memory (λ items. 129) (after [] o) ≡ false) no_growth
+    (has (ap (λ (o : Outcome). o.refused) no_growth)) in
+    true≢false (sym full ∙ room)
+
+-- and none is due where there is room
+has_room : (growth : Change) → is_full which.Memory two [] ≡ false → HasRoomBehind which.Memory two growth []
+has_room growth room unrefused =
+    let once : Change = if_due (is_full which.Memory two) growth in
+    let idle : once [] ≡ nothing [] = rw room refl in
+    subst (λ (o : Outcome). is_full which.Memory two (after [] o) ≡ false) (sym (skips once once [] idle ∙ idle)) room

@@ -1,0 +1,262 @@
+-- Two growths of a table in a row are enough: each gives it twice the room and adds two records at most, and a change wants at most two
+-- records more than the table has.
+use Rattle.std.proofs.Common.{◌≡◌, ℕ, ◌+◌, ◌*◌, ◌^◌, ◌≤◌, false, Option, Some, None, List, [], ◌∷◌, ◌++◌, length, refl, sym, ◌∙◌, ap, subst, inl, inr, ◌⊎◌, arith}
+use Rattle.std.proofs.lemmas.Bool.{cases_Bool}
+use Rattle.std.proofs.lemmas.Bool.Decides.{nat_tests}
+use Rattle.std.proofs.lemmas.List.{append-nil}
+use Rattle.bm_base.specs.Extent.{Extent, end_of}
+use Rattle.address_runs.specs.Edits.{covered, uncovered, NothingFrom}
+use Rattle.address_runs.proofs.EditLaws.{nothing-covered, nothing-uncovered}
+use Rattle.memblock_model.specs.declared.which.Which.{Which}
+use Rattle.memblock_model.specs.declared.which.Which.TheVariants as which
+use Rattle.memblock_model.specs.declared.owner.Owner.TheVariants as owner
+use Rattle.memblock_model.specs.declared.item.Item.{Item}
+use Rattle.memblock_model.specs.declared.item.Item.TheVariants as item
+use Rattle.memblock_model.specs.Labels.{Labels, plain_label}
+use Rattle.memblock_model.specs.Items.{owner_of, limit_of}
+use Rattle.memblock_model.specs.Search.{best}
+use Rattle.memblock_model.specs.Tables.{without_owner, reserved_of, table_of, records_for, records_of, room_of, moved_to}
+use Rattle.memblock_model.proofs.ItemLaws.{reserved_of-replaced, reserved_of-uncovered}
+use Rattle.memblock_model.proofs.TableLaws.{room_of-least}
+use Rattle.memblock_ranges.proofs.CountLaws.{length-covered, length-uncovered, few-pieces, one-piece}
+use Rattle.growth_model.specs.Outcome.{Outcome, Change, after, if_due, write, ◌>>◌}
+use Rattle.growth_model.specs.Growth.{count, is_full, new_in, two, frames_at, place_beside, table_query, reserved_items, reserved_growth_at, reserved_growth, claimed, old_frames, leave, memory_growth_at, memory_growth}
+use Rattle.growth_model.specs.Sound.{Fits}
+use Rattle.growth_model.specs.Room.{IsInSpace, HasDoubled, HasRoomBehind}
+use Rattle.growth_model.proofs.CutLaws.{cuts-last, after-then, then-unrefused}
+use Rattle.growth_model.proofs.SpotLaws.{covers-to}
+use Rattle.growth_model.proofs.FoundLaws.{IsNew, beside-new}
+use Rattle.growth_model.proofs.PlacedLaws.{moves-of, rooms-of, for_table}
+use Rattle.growth_model.proofs.PlacedReservedLaws.{grew, new_place, claimed_place, grew-limit, grew-owners-first, grew-owners-again}
+use Rattle.growth_model.proofs.QuietLaws.{memory_growth-quiet, quiet-memory, quiet-limit}
+use Rattle.growth_model.proofs.LimitLaws.{LiesAt, claimed-stays, leave-stays}
+
+-- what one table and the limit say lies in the address space
+record Bounded (w : Which) (items : List Item) : Type 0 where
+  pub ends : NothingFrom (2 ^ 64) (table_of w items)
+  pub limit : limit_of items ≤ 2 ^ 64
+
+-- the table doubled, and that stays so
+record Well (w : Which) (old new : List Item) : Type 0 where
+  pub doubled : HasDoubled w old new
+  pub bounded : Bounded w new
+
+module _ (w : Which) (more : List Item → ℕ) (growth : Change)
+    (doubles : (t : List Item) → Bounded w t → (growth t).refused ≡ None → Well w t (after t (growth t)))
+    (few : (t : List Item) → Bounded w t → more t ≤ count w t + 2) where
+  abbrev once : Change
+  once = if_due (is_full w more) growth
+
+  -- a growth that isn't due comes to nothing
+  by_due : (t : List Item) → ((is_full w more t ≡ false) × (after t (once t) ≡ t)) ⊎ (once t ≡ growth t)
+  by_due t = elim (cases_Bool (is_full w more t)) as (λ _. ((is_full w more t ≡ false) × (after t (once t) ≡ t)) ⊎ (once t ≡ growth t)) [
+    | inl due ↦ inr (rw due refl)
+    | inr idle ↦ inl (idle, rw idle (append-nil t))
+  ]
+
+  grew-well : (t : List Item) → Bounded w t → once t ≡ growth t → (once t).refused ≡ None → Well w t (after t (once t))
+  grew-well t bounded is unrefused =
+      subst (λ (o : Outcome). Well w t (after t o)) (sym is)
+      (doubles t bounded (subst (λ (o : Outcome). o.refused ≡ None) is unrefused))
+
+  enough : (t u v : List Item) → count w t ≤ room_of w t → HasDoubled w t u → HasDoubled w u v → more v ≤ count w v + 2
+      → is_full w more v ≡ false
+  enough t u v fits first second wanted =
+      let least = room_of-least w t in
+      let a = first.room in let b = second.room in let c = first.few in let d = second.few in
+      let room : count w v + more v ≤ room_of w v = omega arith in
+      grind (arith, nat_tests, room)
+
+  idle-room : (t : List Item) → is_full w more t ≡ false → after t (once t) ≡ t → is_full w more (after t (once t)) ≡ false
+  idle-room t idle is = ap (is_full w more) is ∙ idle
+
+  second-room : (t u : List Item) → count w t ≤ room_of w t → Well w t u → (once u).refused ≡ None
+      → is_full w more (after u (once u)) ≡ false
+  second-room t u fits first unrefused = elim (by_due u) as (λ _. is_full w more (after u (once u)) ≡ false) [
+    | inl idle ↦ idle-room u idle.0 idle.1
+    | inr due ↦
+        let second = grew-well u first.bounded due unrefused in
+        enough t u (after u (once u)) fits first.doubled second.doubled (few (after u (once u)) second.bounded)
+  ]
+
+  room-behind : (t : List Item) → Bounded w t → count w t ≤ room_of w t → HasRoomBehind w more growth t
+  room-behind t bounded fits unrefused =
+      let parts = then-unrefused t once once unrefused in
+      let u : List Item = after t (once t) in
+      ap (is_full w more) (after-then t once once parts.0)
+      ∙ (elim (by_due t) as (λ _. is_full w more (after u (once u)) ≡ false) [
+        | inl idle ↦
+            subst (λ (v : List Item). is_full w more (after v (once v)) ≡ false) (sym idle.1) (idle-room t idle.0 idle.1)
+        | inr due ↦ second-room t u fits (grew-well t bounded due parts.0) parts.1
+      ])
+
+-- the reserved table gets the record of its new place, and may be split where the old one is freed
+module _ (avoid : Extent) (t : List Item) (place : ℕ) (new : IsNew t avoid (room_of which.Reserved t) place)
+    (bounded : Bounded which.Reserved t) where
+  abbrev table : Labels
+  table = table_of which.Reserved t
+
+  abbrev claim : Extent
+  claim = new_place t place
+
+  claim-ends : end_of claim ≤ 2 ^ 64
+  claim-ends = let a = new.within in let b = bounded.limit in omega arith
+
+  claimed-few : length (records_for (covered claim plain_label table)) ≤ length (records_for table) + 1
+  claimed-few =
+      let least = room_of-least which.Reserved t in
+      let one = one-piece claim table claim-ends (omega arith)
+      (λ x le lt. ap without_owner (new.free x (covers-to claim x le lt))) in
+      let all = length-covered claim plain_label table claim-ends bounded.ends in
+      omega (arith, one, all)
+
+  claimed-bounded : NothingFrom (2 ^ 64) (covered claim plain_label table)
+  claimed-bounded = nothing-covered (2 ^ 64) claim plain_label table claim-ends bounded.ends
+
+  abbrev grew-table : Option ℕ → Labels
+  grew-table None = covered claim plain_label table
+  grew-table (Some q) = uncovered (frames_at q (24 * room_of which.Reserved t)) (covered claim plain_label table)
+
+  grew-table-is : (old : Option ℕ) → table_of which.Reserved (grew t old place) ≡ grew-table old
+  grew-table-is None =
+      ap reserved_of (grew-owners-first t place) ∙ reserved_of-replaced claim (for_table which.Reserved) (owner_of t)
+  grew-table-is (Some q) =
+      let left : Extent = frames_at q (24 * room_of which.Reserved t) in
+      ap reserved_of (grew-owners-again t q place) ∙ reserved_of-uncovered left (claimed_place t place)
+      ∙ ap (uncovered left) (reserved_of-replaced claim (for_table which.Reserved) (owner_of t))
+
+  grew-few : (old : Option ℕ) → length (records_for (grew-table old)) ≤ length (records_for table) + 2
+  grew-few None = let few = claimed-few in omega (arith, few)
+  grew-few (Some q) =
+      let few = claimed-few in
+      let one = length-uncovered (frames_at q (24 * room_of which.Reserved t)) (covered claim plain_label table) claimed-bounded in
+      omega (arith, few, one)
+
+  grew-bounded : (old : Option ℕ) → NothingFrom (2 ^ 64) (grew-table old)
+  grew-bounded None = claimed-bounded
+  grew-bounded (Some q) =
+      nothing-uncovered (2 ^ 64) (frames_at q (24 * room_of which.Reserved t)) (covered claim plain_label table) claimed-bounded
+
+  grew-room : (old : Option ℕ) → room_of which.Reserved (grew t old place) ≡ 2 * room_of which.Reserved t
+  unfolding reserved_items
+  grew-room None = rooms-of which.Reserved t (reserved_items (room_of which.Reserved t) None place)
+  grew-room (Some q) = rooms-of which.Reserved t (reserved_items (room_of which.Reserved t) (Some q) place)
+
+  grew-well-by : (old : Option ℕ) → Well which.Reserved t (grew t old place)
+  unfolding records_of
+  grew-well-by old = record {
+    doubled = record {
+      room = grew-room old;
+      few = subst (λ (f : Labels). length (records_for f) ≤ length (records_for table) + 2) (sym (grew-table-is old)) (grew-few old);
+    };
+    bounded = record {
+      ends = subst (λ (f : Labels). NothingFrom (2 ^ 64) f) (sym (grew-table-is old)) (grew-bounded old);
+      limit = subst (λ (n : ℕ). n ≤ 2 ^ 64) (sym (grew-limit t old place)) bounded.limit;
+    };
+  }
+
+reserved-at : (avoid : Extent) (t : List Item) (found : Option ℕ) → place_beside avoid (room_of which.Reserved t) t ≡ found
+    → Bounded which.Reserved t
+    → (reserved_growth_at (room_of which.Reserved t) (moved_to which.Reserved t) found t).refused ≡ None
+    → Well which.Reserved t (after t (reserved_growth_at (room_of which.Reserved t) (moved_to which.Reserved t) found t))
+unfolding reserved_growth_at
+reserved-at avoid t None is bounded unrefused = cc
+reserved-at avoid t (Some place) is bounded unrefused =
+    let old : Option ℕ = moved_to which.Reserved t in
+    subst (λ (s : List Item). Well which.Reserved t (t ++ s)) (sym (append-nil (reserved_items (room_of which.Reserved t) old place)))
+    (grew-well-by avoid t place (beside-new t avoid (room_of which.Reserved t) place is) bounded old)
+
+reserved-well : (avoid : Extent) (t : List Item) → Bounded which.Reserved t → (reserved_growth avoid t).refused ≡ None
+    → Well which.Reserved t (after t (reserved_growth avoid t))
+unfolding reserved_growth
+reserved-well avoid t bounded unrefused =
+    reserved-at avoid t (place_beside avoid (room_of which.Reserved t) t) refl bounded unrefused
+
+-- the memory table has twice the room, and says what it said
+memory-room_at : (t : List Item) (found : Option ℕ)
+    → (memory_growth_at (room_of which.Memory t) (moved_to which.Memory t) found t).refused ≡ None
+    → room_of which.Memory (after t (memory_growth_at (room_of which.Memory t) (moved_to which.Memory t) found t))
+    ≡ 2 * room_of which.Memory t
+unfolding memory_growth_at
+memory-room_at t None unrefused = cc
+memory-room_at t (Some place) unrefused =
+    let room : ℕ = room_of which.Memory t in
+    let old : Option ℕ = moved_to which.Memory t in
+    let first : Change = claimed (frames_at place (48 * room)) (owner.Table which.Memory) in
+    let moves : Item = item.Grown which.Memory place (2 * room) in
+    let last : Change = leave (old_frames room old) in
+    let u : List Item = after t (first t) in
+    let there : List Item = u ++ moves ∷ [] in
+    let here : LiesAt old room u = cuts-last (LiesAt old room) t (first t).steps
+    (claimed-stays old room (frames_at place (48 * room)) (owner.Table which.Memory) t (refl, refl)) in
+    let moved : LiesAt (Some place) (2 * room) there =
+    (moves-of which.Memory u (moves ∷ []), rooms-of which.Memory u (moves ∷ []) ∙ ap (λ (n : ℕ). 2 * n) here.1) in
+    let stays : LiesAt (Some place) (2 * room) (after there (last there)) =
+    cuts-last (LiesAt (Some place) (2 * room)) there (last there).steps
+    (leave-stays (Some place) (2 * room) (old_frames room old) there moved) in
+    ap (room_of which.Memory) (after-then t first (write moves >> last) (then-unrefused t first (write moves >> last) unrefused).0
+    ∙ after-then u (write moves) last refl) ∙ stays.1
+
+memory-room : (t : List Item) → (memory_growth t).refused ≡ None
+    → room_of which.Memory (after t (memory_growth t)) ≡ 2 * room_of which.Memory t
+unfolding memory_growth
+memory-room t unrefused =
+    memory-room_at t (best t (table_query (room_of which.Memory t) 0 (limit_of t))) unrefused
+
+memory-well : (t : List Item) → Bounded which.Memory t → (memory_growth t).refused ≡ None
+    → Well which.Memory t (after t (memory_growth t))
+unfolding records_of
+memory-well t bounded unrefused =
+    let same : table_of which.Memory (after t (memory_growth t)) ≡ table_of which.Memory t =
+    quiet-memory t (memory_growth t) (memory_growth-quiet.each t) in
+    let few = ap (λ (f : Labels). length (records_for f)) same in
+    record {
+      doubled = record { room = memory-room t unrefused; few = omega (arith, few) };
+      bounded = record {
+        ends = subst (λ (f : Labels). NothingFrom (2 ^ 64) f) (sym same) bounded.ends;
+        limit = subst (λ (n : ℕ). n ≤ 2 ^ 64) (sym (quiet-limit t (memory_growth t) (memory_growth-quiet.each t))) bounded.limit;
+      };
+    }
+
+-- by the items of a boot
+bounded-of : (w : Which) (items : List Item) → IsInSpace items → Bounded w items
+bounded-of w items space = record { ends = space.ends w; limit = space.limit }
+
+pub reserved-doubles : (avoid : Extent) (items : List Item) → IsInSpace items → (reserved_growth avoid items).refused ≡ None
+    → HasDoubled which.Reserved items (after items (reserved_growth avoid items))
+reserved-doubles avoid items space unrefused =
+    (reserved-well avoid items (bounded-of which.Reserved items space) unrefused).doubled
+
+pub memory-doubles : (items : List Item) → IsInSpace items → (memory_growth items).refused ≡ None
+    → HasDoubled which.Memory items (after items (memory_growth items))
+memory-doubles items space unrefused = (memory-well items (bounded-of which.Memory items space) unrefused).doubled
+
+few-new : (w : Which) (range : Extent) → end_of range ≤ 2 ^ 64 → (t : List Item) → Bounded w t → new_in w range t ≤ count w t + 2
+unfolding records_of
+few-new w range ends t bounded = let few = few-pieces range (table_of w t) ends bounded.ends in omega (arith, few)
+
+few-two : (w : Which) (t : List Item) → Bounded w t → two t ≤ count w t + 2
+few-two w t bounded = omega arith
+
+pub enough-claimed : (avoid range : Extent) (items : List Item) → IsInSpace items → Fits items → end_of range ≤ 2 ^ 64
+    → HasRoomBehind which.Reserved (new_in which.Reserved range) (reserved_growth avoid) items
+enough-claimed avoid range items space fits ends =
+    room-behind which.Reserved (new_in which.Reserved range) (reserved_growth avoid) (reserved-well avoid)
+    (few-new which.Reserved range ends) items (bounded-of which.Reserved items space) (fits which.Reserved)
+
+pub enough-freed : (avoid : Extent) (items : List Item) → IsInSpace items → Fits items
+    → HasRoomBehind which.Reserved two (reserved_growth avoid) items
+enough-freed avoid items space fits =
+    room-behind which.Reserved two (reserved_growth avoid) (reserved-well avoid) (few-two which.Reserved) items
+    (bounded-of which.Reserved items space) (fits which.Reserved)
+
+pub enough-added : (range : Extent) (items : List Item) → IsInSpace items → Fits items → end_of range ≤ 2 ^ 64
+    → HasRoomBehind which.Memory (new_in which.Memory range) memory_growth items
+enough-added range items space fits ends =
+    room-behind which.Memory (new_in which.Memory range) memory_growth memory-well (few-new which.Memory range ends) items
+    (bounded-of which.Memory items space) (fits which.Memory)
+
+pub enough-labelled : (items : List Item) → IsInSpace items → Fits items → HasRoomBehind which.Memory two memory_growth items
+enough-labelled items space fits =
+    room-behind which.Memory two memory_growth memory-well (few-two which.Memory) items (bounded-of which.Memory items space)
+    (fits which.Memory)
