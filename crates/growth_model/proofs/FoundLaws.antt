@@ -34,7 +34,8 @@ pub top-fits : (items : List Item) (q : Query) (mirror : Bool) (place : ℕ) →
 unfolding top
 top-fits items q mirror place found =
     fits_in-parts mirror (table_of which.Memory items) (table_of which.Reserved items) q place
-    (top_in-fits (record { mirror = mirror; up = upward_of items }) (table_of which.Memory items) (table_of which.Reserved items) q place found)
+    (top_in-fits (record { mirror = mirror; up = upward_of items }) (table_of which.Memory items)
+    (table_of which.Reserved items) q place found)
 
 no_owner : (o : Option Owner) → without_owner o ≡ None → o ≡ None
 no_owner None e = refl

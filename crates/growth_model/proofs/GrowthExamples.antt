@@ -532,7 +532,8 @@ place_at_the_top = second_search
 
 no_top : (q : Query) (mirror : Bool) → q.hi ≡ 0 → top small q mirror ≡ None
 unfolding top
-no_top q mirror none = top_in-fails (record { mirror = mirror; up = false }) (table_of which.Memory small) (table_of which.Reserved small) q (λ b lt.
+no_top q mirror none = top_in-fails (record { mirror = mirror; up = false }) (table_of which.Memory small)
+    (table_of which.Reserved small) q (λ b lt.
     elim (cases_Bool (fits_in mirror (table_of which.Memory small) (table_of which.Reserved small) q b))
     as (λ _. fits_in mirror (table_of which.Memory small) (table_of which.Reserved small) q b ≡ false) [
       | inl passes ↦

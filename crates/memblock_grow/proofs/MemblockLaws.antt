@@ -151,7 +151,8 @@ whole-limit kernel items longer t at to more begun m =
     subst (λ (l : List Item). IsMemblock kernel l t (aimed to at.upward)) (sym more) now
 
 -- behind a new direction
-pub follows-upward : (kernel : Extent) (items longer : List Item) (t : Contents) (at : Aim) (on : Bool) → longer ≡ items ++ item.Upward on ∷ []
+pub follows-upward : (kernel : Extent) (items longer : List Item) (t : Contents) (at : Aim) (on : Bool)
+    → longer ≡ items ++ item.Upward on ∷ []
     → IsMemblock kernel items t at → Follows kernel items longer (byte_of t.store) (byte_of t.store)
 follows-upward kernel items longer t at on more m =
     let now = kept-upward kernel items t at on m.kept in
@@ -159,7 +160,8 @@ follows-upward kernel items longer t at on more m =
     (follows-item kernel items (item.Upward on) t.memory t.reserved (byte_of t.store) (byte_of t.store) (λ x. refl) now.memory
     now.reserved m.spelled)
 
-pub whole-upward : (kernel : Extent) (items longer : List Item) (t : Contents) (at : Aim) (on : Bool) → longer ≡ items ++ item.Upward on ∷ []
+pub whole-upward : (kernel : Extent) (items longer : List Item) (t : Contents) (at : Aim) (on : Bool)
+    → longer ≡ items ++ item.Upward on ∷ []
     → HasBegun items → IsMemblock kernel items t at → IsMemblock kernel longer t (aimed at.limit on)
 whole-upward kernel items longer t at on more begun m =
     let now : IsMemblock kernel (items ++ item.Upward on ∷ []) t (aimed at.limit on) = record {

@@ -165,7 +165,8 @@ left-far w kernel items t at kept other =
     (subst (λ (m : ℕ). place_of w kernel items + frames_of (24 * m) < 2 ^ 64) (sym n) here)
 
 -- the answers of the search among frames
-pub between-none : (t : Contents) (up : Bool) (room lo hi : ℕ) → hi < 2 ^ 64 → ¬ (frames_of (48 * room) < 2 ^ 64) → None ≡ frames_between t up room lo hi
+pub between-none : (t : Contents) (up : Bool) (room lo hi : ℕ) → hi < 2 ^ 64 → ¬ (frames_of (48 * room) < 2 ^ 64)
+    → None ≡ frames_between t up room lo hi
 between-none t up room lo hi small large =
     let high : hi < frames_of (48 * room) = omega (arith, large) in
     sym (ap (λ (o : Option ℕ). option_map (λ place. frames_at place (48 * room)) o)
@@ -189,7 +190,8 @@ between-some t up room lo hi size base o is found new small =
     ∙ sym (ap (λ (o : Option ℕ). option_map (λ place. frames_at place (48 * room)) o)
     (sym (ap (λ (n : ℕ). best_of t up (sized lo hi n)) is) ∙ found))
 
-pub between-nowhere : (t : Contents) (up : Bool) (room lo hi size : ℕ) → size ≡ frames_of (48 * room) → best_of t up (sized lo hi size) ≡ None
+pub between-nowhere : (t : Contents) (up : Bool) (room lo hi size : ℕ) → size ≡ frames_of (48 * room)
+    → best_of t up (sized lo hi size) ≡ None
     → None ≡ frames_between t up room lo hi
 between-nowhere t up room lo hi size is none =
     sym (ap (λ (o : Option ℕ). option_map (λ place. frames_at place (48 * room)) o)

@@ -5,7 +5,8 @@ use Rattle.memblock_model.proofs.SearchLaws.{best_in-mirrored, best_in-other}
 use Rattle.memblock_grow.proofs.places.best.Goals as goal
 
 pub returns-in-Some : goal.returns-in-Some
-returns-in-Some c = sym (best_in-mirrored c.args.upward (value_at c.args.tables.now.memory.records) (value_at c.args.tables.now.reserved.records)
+returns-in-Some c = sym (best_in-mirrored c.args.upward (value_at c.args.tables.now.memory.records)
+    (value_at c.args.tables.now.reserved.records)
     c.args.query.now c.in-Some.place (sym c.mirrored_place.ensures ∙ c.in-Some.is))
 
 pub returns : goal.returns

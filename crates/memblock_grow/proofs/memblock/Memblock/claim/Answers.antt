@@ -10,8 +10,9 @@ use Rattle.memblock_grow.proofs.memblock.Memblock.claim.Goals as goal
 pub invariant_of-self : goal.invariant_of-self
 invariant_of-self c =
     let m = c.self.inside in
-    whole-on m.kernel m.journal.items c.claim.new.journal.items m.tables c.claim.new.tables (aimed m.limit m.upward) c.self.invariant c.claim.ensures.kept
-    c.claim.ensures.bytes
+    whole-on m.kernel m.journal.items c.claim.new.journal.items m.tables c.claim.new.tables (aimed m.limit m.upward)
+    c.self.invariant
+    c.claim.ensures.kept c.claim.ensures.bytes
     (claim-stands m.kernel c.claim.result m.journal.items c.claim.new.journal.items c.args.range c.args.owner c.self.invariant.image
     (omega arith) c.self.invariant.placed
     (subst (λ (v : Contents). MayClaim v.kernel v.journal.items c.args.range c.args.owner) (sym c.self.view_is) c.requires.may)

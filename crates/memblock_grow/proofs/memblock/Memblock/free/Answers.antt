@@ -10,8 +10,9 @@ use Rattle.memblock_grow.proofs.memblock.Memblock.free.Goals as goal
 pub invariant_of-self : goal.invariant_of-self
 invariant_of-self c =
     let m = c.self.inside in
-    whole-on m.kernel m.journal.items c.free.new.journal.items m.tables c.free.new.tables (aimed m.limit m.upward) c.self.invariant c.free.ensures.kept
-    c.free.ensures.bytes
+    whole-on m.kernel m.journal.items c.free.new.journal.items m.tables c.free.new.tables (aimed m.limit m.upward)
+    c.self.invariant
+    c.free.ensures.kept c.free.ensures.bytes
     (free-stands m.kernel c.free.result m.journal.items c.free.new.journal.items c.args.range c.self.invariant.placed
     (subst (λ (v : Contents). HasBegun v.journal.items) (sym c.self.view_is) c.requires.begun)
     (subst (λ (v : Contents). IsAway v.kernel c.args.range v.journal.items) (sym c.self.view_is) c.requires.away)

@@ -28,4 +28,5 @@ returns-clause-bytes c =
     let m = c.self.inside in
     subst (λ (v : Contents). Follows v.kernel v.journal.items c.push.new.self.items (byte_of v.tables.store) (byte_of m.tables.store))
     c.self.view_is
-    (follows-limit m.kernel m.journal.items c.push.new.self.items m.tables (aimed m.limit m.upward) c.args.at c.in_ok-push.ensures.ok c.self.invariant)
+    (follows-limit m.kernel m.journal.items c.push.new.self.items m.tables (aimed m.limit m.upward) c.args.at
+    c.in_ok-push.ensures.ok c.self.invariant)
