@@ -27,7 +27,7 @@ use Rattle.memblock_grow.specs.Contents.{Contents as Whole}
 use Rattle.memblock_grow.specs.declared.more.More.TheVariants as more
 use Rattle.memblock_grow.specs.Kept.{AreKept, IsMemblock, IsKept, AllowsClaim, AllowsFree, Keeps, AreTold, StayReady, aimed}
 use Rattle.memblock_grow.specs.Places.{KnowsMirrors, top_of, mirrored_of, best_of, frames_between, frames_beside, left_frames, first_of}
-use Rattle.memblock_grow.specs.More.{more_by, more_in, HasRoom, Grew, EndsBefore}
+use Rattle.memblock_grow.specs.More.{more_by, more_in, HasRoom, EndsBefore}
 use Rattle.memblock_grow.proofs.PlaceLaws.{best_in-large}
 
 abbrev image : Extent
@@ -91,7 +91,8 @@ no_first_claim_of_others : AllowsClaim [] at_first (aimed 0 false) image owner.C
 no_first_claim_of_others allowed = let who = allowed.2.1 in cc
 
 -- what meets a table isn't freed
-away_from_both : (range : Extent) (whole : IsMemblock image [] at_first (aimed 0 false)) → range.size ≡ 0 → AllowsFree [] at_first (aimed 0 false) range
+away_from_both : (range : Extent) (whole : IsMemblock image [] at_first (aimed 0 false))
+    → range.size ≡ 0 → AllowsFree [] at_first (aimed 0 false) range
 away_from_both range whole none = (
   image,
   whole,
@@ -153,7 +154,9 @@ no_mirror_is_known items none = none_mirrored
 
 -- a table with mirrored memory asks for an item that made it so
 abbrev mirrored : Contents
-mirrored = record plain { memory = record plain.memory { records = record { base = 0; size = 65536; value = with_mirror plain_label } ∷ [] } }
+mirrored = record plain {
+  memory = record plain.memory { records = record { base = 0; size = 65536; value = with_mirror plain_label } ∷ [] };
+}
 
 mirror_without_an_item : KnowsMirrors [] mirrored → ⊥
 mirror_without_an_item knows = true≢false (knows refl 5)
@@ -218,7 +221,8 @@ top_frame = top_at (frame_below 16384) 12288 refl (omega arith) (omega arith) (o
 -- the first search that has a place decides
 second_search : first_of plain false (record { query = frame_below 16384; mirror = true } ∷ (any_memory (frame_below 16384)
     ∷ (any_memory (frame_below 65536) ∷ []))) ≡ Some 12288
-second_search = ap (λ (o : Option ℕ). option_or o (first_of plain false (any_memory (frame_below 16384) ∷ (any_memory (frame_below 65536) ∷ []))))
+second_search = ap (λ (o : Option ℕ). option_or o (first_of plain false
+    (any_memory (frame_below 16384) ∷ (any_memory (frame_below 65536) ∷ []))))
     no_mirrored_frame
     ∙ ap (λ (o : Option ℕ). option_or o (first_of plain false (any_memory (frame_below 65536) ∷ []))) top_frame
 
@@ -250,7 +254,8 @@ none_above = best_in-fails false (value_at plain.memory.records) (value_at plain
       | inr fails ↦ fails
     ])
 
-frames_beside_a_frame : frames_beside plain (aimed 65536 false) 128 (record { base = 61440; size = 4096 }) ≡ Some (record { base = 53248; size = 8192 })
+frames_beside_a_frame : frames_beside plain (aimed 65536 false) 128 (record { base = 61440; size = 4096 })
+    ≡ Some (record { base = 53248; size = 8192 })
 frames_beside_a_frame =
     ap (λ (o : Option ℕ). option_map (λ place. frames_at place (48 * 128)) (option_or o (best_of plain false (table_query 128 0 61440))))
     none_above
@@ -288,12 +293,6 @@ room_for_two = omega arith
 
 no_room_for_two : HasRoom more.Two (record { records = []; place = 0; room = 1 }) → ⊥
 no_room_for_two has = omega arith
-
-grew_once : Grew (record { records = []; place = 0; room = 128 }) (record { records = []; place = 4096; room = 256 })
-grew_once = record { room = refl; few = omega arith }
-
-grew_by_one : Grew (record { records = []; place = 0; room = 128 }) (record { records = []; place = 4096; room = 129 }) → ⊥
-grew_by_one grew = let room = grew.room in omega arith
 
 ends_in_space : EndsBefore (more.PiecesOf (record { base = 5; size = 1 }))
 ends_in_space = omega arith

@@ -1,5 +1,5 @@
 -- The growth of the memory table: where it goes, what it writes, and what it makes of the tables and of each byte.
-use Rattle.std.proofs.Common.{◌≡◌, ℕ, ◌+◌, ◌-◌, ◌*◌, ◌^◌, ◌<◌, Option, Some, None, List, [], ◌∷◌, ◌++◌, Result, Ok, Err, refl, sym, ◌∙◌, ap, subst, arith}
+use Rattle.std.proofs.Common.{◌≡◌, ℕ, ◌+◌, ◌-◌, ◌*◌, ◌^◌, ◌<◌, Option, Some, None, List, [], ◌∷◌, ◌++◌, Result, Ok, Err, IsErrAnd, refl, sym, ◌∙◌, ap, subst, arith}
 use Rattle.std.specs.Option.{option_map, IfSome}
 use Rattle.bm_base.specs.Extent.{Extent, end_of}
 use Rattle.phys_store.specs.Bytes.{byte_of}
@@ -28,6 +28,7 @@ use Rattle.memblock_grow.specs.declared.aim.Aim.{Aim}
 use Rattle.memblock_grow.specs.Kept.{AreKept, IsMemblock, AllowsFree, Keeps, KeepsBytes}
 use Rattle.memblock_grow.specs.Places.{frames_between}
 use Rattle.memblock_grow.proofs.KeptLaws.{room-is, kept-same, kept-grown}
+use Rattle.memblock_grow.proofs.ChangeLaws.{handed}
 use Rattle.memblock_grow.proofs.PlaceLaws.{IsPlaceOf, mapped-some, mapped-none, between-is}
 use Rattle.memblock_grow.proofs.ReservedLaws.{left-size}
 
@@ -46,7 +47,8 @@ best-along kernel items t at n o kept room is =
     ∙ between-is kernel items t at 0 (limit_of items) kept
 
 pub best-found : (kernel : Extent) (items : List Item) (t : Contents) (at : Aim) (n : ℕ) (o : Option Extent) (place : Extent)
-    → AreKept kernel items t at → n ≡ room_in which.Memory t → o ≡ frames_between t at.upward n 0 at.limit → o ≡ Some place → IsBest items place
+    → AreKept kernel items t at → n ≡ room_in which.Memory t → o ≡ frames_between t at.upward n 0 at.limit → o ≡ Some place
+    → IsBest items place
 best-found kernel items t at n o place kept room is some =
     let q = table_query (room_of which.Memory items) 0 (limit_of items) in
     let known : IsPlaceOf (best items q) (48 * room_of which.Memory items) place =
@@ -90,21 +92,23 @@ by-growth : (items new : List Item) (place : Extent) (r : Result (Unit {0}) Refu
     → Ends r items new memory_growth
 by-growth items new place r known h = subst (λ (o : Outcome). EndsBy r items new o) (memory-some items place known) h
 
-pub memory-fails : (items new : List Item) (place : Extent) (e : Refusal) (r : Result (Unit {0}) Refusal) → IsBest items place → r ≡ Err e
-    → Ends {T = Unit {0}} (Err e) items new (claimed place (owner.Table which.Memory)) → Ends r items new memory_growth
+pub memory-fails : (items new : List Item) (place : Extent) (e : Refusal) (r : Result (Unit {0}) Refusal) → IsBest items place
+    → IsErrAnd r (λ (n : Refusal). n ≡ e) → Ends {T = Unit {0}} (Err e) items new (claimed place (owner.Table which.Memory))
+    → Ends r items new memory_growth
 memory-fails items new place e r known is h =
     let rest = moving place.base (2 * room_of which.Memory items) >> leaving items in
     by-growth items new place r known
-    (Ends-along (Err e) r items new (taking place >> rest) (sym is)
+    (Ends-along (Err e) r items new (taking place >> rest) (sym (handed r e is))
     (Ends-first (Unit {0}) (Unit {0}) e items new (taking place) rest h))
 
 pub memory-wants : (items mid new : List Item) (place : Extent) (r : Result (Unit {0}) Refusal) → IsBest items place
-    → r ≡ Err refusal.Memory → Ends {T = Unit {0}} (Ok tt) items mid (claimed place (owner.Table which.Memory)) → new ≡ mid
+    → IsErrAnd r (λ (n : Refusal). n ≡ refusal.Memory)
+    → Ends {T = Unit {0}} (Ok tt) items mid (claimed place (owner.Table which.Memory)) → new ≡ mid
     → Ends r items new memory_growth
 memory-wants items mid new place r known is h same =
     let rest = moving place.base (2 * room_of which.Memory items) >> leaving items in
     by-growth items new place r known
-    (Ends-along (Err refusal.Memory) r items new (taking place >> rest) (sym is)
+    (Ends-along (Err refusal.Memory) r items new (taking place >> rest) (sym (handed r refusal.Memory is))
     (subst (λ (l : List Item). Ends {T = Unit {0}} (Err refusal.Memory) items l (taking place >> rest)) (sym same)
     (Ends-second {T = Unit {0}} {U = Unit {0}} tt (Err refusal.Memory) items mid mid (taking place) rest h
     (Ends-wanting (Unit {0}) mid rest (omega arith)))))
@@ -156,7 +160,8 @@ pub room-stays : (kernel : Extent) (items mid : List Item) (t k : Contents) (at 
 room-stays kernel items mid t k at kept after same =
     sym (room-is which.Memory kernel mid k at after) ∙ ap (λ (s : Table). s.room) same ∙ room-is which.Memory kernel items t at kept
 
-pub memory-apart : (kernel : Extent) (items mid : List Item) (t k : Contents) (at : Aim) (base : ℕ) (place : Extent) → AreKept kernel items t at
+pub memory-apart : (kernel : Extent) (items mid : List Item) (t k : Contents) (at : Aim) (base : ℕ) (place : Extent)
+    → AreKept kernel items t at
     → AreKept kernel mid k at → k.memory ≡ t.memory → base ≡ place.base
     → IsTaken kernel mid (room_of which.Memory items) (moved_to which.Memory items) place.base
     → ¬ Overlaps k (record { base = base; size = 48 * room_in which.Memory k })

@@ -1,25 +1,29 @@
 -- Whether a table is full, by the tables and by the items; and two growths are enough.
-use Rattle.std.proofs.Common.{◌≡◌, ℕ, ◌+◌, ◌*◌, ◌^◌, ◌<◌, ◌≤◌, true, false, nat_lt, List, [], ◌∷◌, length, refl, sym, ◌∙◌, ap, subst, inl, inr, ◌⊎◌, arith}
+use Rattle.std.proofs.Common.{◌≡◌, ℕ, ◌+◌, ◌^◌, ◌<◌, ◌≤◌, true, false, nat_lt, List, [], ◌∷◌, length, Result, Ok, Err, OnOk, refl, sym, ◌∙◌, ap, subst, arith}
 use Rattle.std.proofs.lemmas.Bool.Decides.{nat_tests}
 use Rattle.bm_base.specs.Extent.{Extent}
-use Rattle.address_runs.specs.Runs.{RunOf, value_at}
-use Rattle.address_runs.specs.Edits.{NothingFrom}
+use Rattle.address_runs.specs.Runs.{RunOf}
 use Rattle.memblock_model.specs.declared.which.Which.{Which}
 use Rattle.memblock_model.specs.declared.which.Which.TheVariants as which
 use Rattle.memblock_model.specs.declared.item.Item.{Item}
 use Rattle.memblock_model.specs.Labels.{Labels}
-use Rattle.memblock_model.specs.Tables.{table_of, records_for, records_of, pieces, room_of}
+use Rattle.memblock_model.specs.Tables.{table_of, records_of, pieces, room_of}
 use Rattle.memblock_model.proofs.TableLaws.{records_for-is}
 use Rattle.memblock_ranges.specs.Tables.{Table, Contents, table_in, records_in, room_in}
 use Rattle.memblock_ranges.proofs.CountLaws.{few-pieces}
-use Rattle.growth_model.specs.Growth.{is_full, count}
+use Rattle.growth_model.specs.declared.refusal.Refusal.{Refusal}
+use Rattle.growth_model.specs.Outcome.{Change}
+use Rattle.growth_model.specs.Growth.{is_full, count, grown, reserved_growth, memory_growth}
+use Rattle.growth_model.specs.Ends.{Ends}
 use Rattle.growth_model.specs.Sound.{HasBegun}
+use Rattle.growth_model.specs.Room.{IsInSpace, HasRoomBehind}
+use Rattle.growth_model.proofs.RoomLaws.{enough-claimed, enough-freed, enough-added, enough-labelled}
 use Rattle.memblock_grow.specs.declared.aim.Aim.{Aim}
 use Rattle.memblock_grow.specs.declared.more.More.{More}
 use Rattle.memblock_grow.specs.declared.more.More.TheVariants as more
 use Rattle.memblock_grow.specs.Kept.{AreKept}
-use Rattle.memblock_grow.specs.More.{more_by, more_in, HasRoom, Grew, EndsBefore}
-use Rattle.memblock_grow.proofs.KeptLaws.{records-are, room-is, values-are, values-end, records-again}
+use Rattle.memblock_grow.specs.More.{more_by, more_in, HasRoom, EndsBefore}
+use Rattle.memblock_grow.proofs.KeptLaws.{records-are, room-is, values-are}
 
 more-is : (w : Which) (m : More) (kernel : Extent) (items : List Item) (t : Contents) (at : Aim) → AreKept kernel items t at
     → more_in m (table_in w t) ≡ more_by w m items
@@ -69,24 +73,25 @@ full-begun m [] ends h =
     absurd (omega (arith, none, few, full))
 full-begun m (i ∷ is) ends h = tt
 
--- two growths are enough
-twice-by : (m : More) (new : Table) → EndsBefore m → NothingFrom (2 ^ 64) (value_at new.records)
-    → records_for (value_at new.records) ≡ new.records → (n : ℕ) → 128 ≤ n → length new.records ≤ n + 6 → new.room ≡ 4 * n
-    → HasRoom m new
-twice-by (more.PiecesOf range) new ends none again n least few room =
-    let parts = few-pieces range (value_at new.records) (omega arith) none in
-    let same = ap length again in
-    omega (arith, parts, same, least, few, room)
-twice-by more.Two new ends none again n least few room = omega (arith, least, few, room)
+-- two growths are enough, as the law over items has it
+space-of : (kernel : Extent) (items : List Item) (t : Contents) (at : Aim) → AreKept kernel items t at → at.limit ≤ 2 ^ 64 → IsInSpace items
+space-of kernel items t at kept low = record { ends = kept.ends; limit = subst (λ (n : ℕ). n ≤ 2 ^ 64) (sym kept.limit) low }
 
-pub room-twice : (w : Which) (m : More) (kernel : Extent) (items : List Item) (t : Contents) (at : Aim) (old mid : Table)
-    → AreKept kernel items t at → EndsBefore m → 128 ≤ old.room → length old.records ≤ old.room
-    → HasRoom m mid ⊎ Grew old mid → (HasRoom m mid → table_in w t ≡ mid) → HasRoom m (table_in w t) ⊎ Grew mid (table_in w t)
-    → HasRoom m (table_in w t)
-room-twice w m kernel items t at old mid kept ends least few first idle (inl has) = has
-room-twice w m kernel items t at old mid kept ends least few (inl has) idle (inr second) = subst (λ (s : Table). HasRoom m s) (sym
-    (idle has)) has
-room-twice w m kernel items t at old mid kept ends least few (inr first) idle (inr second) =
-    let a = first.few in let b = second.few in let c = first.room in let d = second.room in
-    twice-by m (table_in w t) ends (values-end w kernel items t at kept) (records-again w kernel items t at kept) old.room least
-    (omega (arith, a, b, few)) (omega (arith, c, d))
+pub reserved-enough : (m : More) (avoid kernel : Extent) (items : List Item) (t : Contents) (at : Aim) → AreKept kernel items t at
+    → at.limit ≤ 2 ^ 64 → EndsBefore m → HasRoomBehind which.Reserved (more_by which.Reserved m) (reserved_growth avoid) items
+reserved-enough (more.PiecesOf range) avoid kernel items t at kept low ends =
+    enough-claimed avoid range items (space-of kernel items t at kept low) kept.fits (omega arith)
+reserved-enough more.Two avoid kernel items t at kept low ends = enough-freed avoid items (space-of kernel items t at kept low) kept.fits
+
+pub memory-enough : (m : More) (kernel : Extent) (items : List Item) (t : Contents) (at : Aim) → AreKept kernel items t at
+    → at.limit ≤ 2 ^ 64 → EndsBefore m → HasRoomBehind which.Memory (more_by which.Memory m) memory_growth items
+memory-enough (more.PiecesOf range) kernel items t at kept low ends =
+    enough-added range items (space-of kernel items t at kept low) kept.fits (omega arith)
+memory-enough more.Two kernel items t at kept low ends = enough-labelled items (space-of kernel items t at kept low) kept.fits
+
+pub room-behind : (w : Which) (m : More) (growth : Change) (kernel : Extent) (items longer : List Item) (u : Contents) (at : Aim)
+    (r : Result (Unit {0}) Refusal) → HasRoomBehind w (more_by w m) growth items → Ends r items longer (grown w (more_by w m) growth)
+    → AreKept kernel longer u at → OnOk r (HasRoom m (table_in w u))
+room-behind w m growth kernel items longer u at (Ok x) law ends kept =
+    room-of w m kernel longer u at kept (ap (is_full w (more_by w m)) ends.1 ∙ law ends.0)
+room-behind w m growth kernel items longer u at (Err e) law ends kept = tt

@@ -1,6 +1,6 @@
 -- The place that an allocation finds by the tables is the one that the items say, and how the claim of it ends.
 use Rattle.std.proofs.lemmas.Bool.{cases_Bool}
-use Rattle.std.proofs.Common.{◌≡◌, ℕ, ◌+◌, ◌^◌, ◌<◌, Bool, true, false, inl, inr, Option, Some, None, List, [], ◌∷◌, ◌++◌, Result, Ok, Err, refl, sym, ◌∙◌, ap, subst, arith}
+use Rattle.std.proofs.Common.{◌≡◌, ℕ, ◌+◌, ◌^◌, ◌<◌, Bool, true, false, inl, inr, Option, Some, None, List, [], ◌∷◌, ◌++◌, Result, Ok, Err, IsErrAnd, refl, sym, ◌∙◌, ap, subst, arith}
 use Rattle.std.specs.Option.{option_or}
 use Rattle.bm_base.specs.Extent.{Extent}
 use Rattle.memblock_model.specs.declared.owner.Owner.{Owner}
@@ -23,6 +23,7 @@ use Rattle.memblock_grow.specs.declared.aim.Aim.{Aim}
 use Rattle.memblock_grow.specs.Kept.{AreKept, IsMemblock, AllowsClaim}
 use Rattle.memblock_grow.specs.Places.{KnowsMirrors, top_of, first_of}
 use Rattle.memblock_grow.proofs.PlaceLaws.{top-is, top-mirrorless}
+use Rattle.memblock_grow.proofs.ChangeLaws.{handed}
 
 first-is : (kernel : Extent) (items : List Item) (t : Contents) (at : Aim) (all : List Attempt) → AreKept kernel items t at
     → first_of t at.upward all ≡ first_top items all
@@ -65,7 +66,8 @@ pub place-is-for : (kernel : Extent) (items : List Item) (t : Contents) (at : Ai
     → AreKept kernel items t at
     → o ≡ first_of t at.upward (attempts r at.limit) → o ≡ found → place_for r items ≡ found
 place-is-for kernel items t at r o found kept is some =
-    sym (is ∙ ap (λ (n : ℕ). first_of t at.upward (attempts r n)) (sym kept.limit) ∙ first-is kernel items t at (attempts r (limit_of items)) kept)
+    sym (is ∙ ap (λ (n : ℕ). first_of t at.upward (attempts r n)) (sym kept.limit)
+    ∙ first-is kernel items t at (attempts r (limit_of items)) kept)
     ∙ some
 
 pub place-small : (kernel : Extent) (items : List Item) (t : Contents) (at : Aim) (r : Request) (place : ℕ) → AreKept kernel items t at
@@ -91,11 +93,12 @@ pub alloc-none : (items : List Item) (o : Option ℕ) (size : ℕ) (who : Owner)
 alloc-none items o size who none = subst (λ (p : Option ℕ). Allocates (Err refusal.NoGap) items items p size who) (sym none) (refl, refl)
 
 pub alloc-fails : (items new : List Item) (o : Option ℕ) (place size : ℕ) (who : Owner) (e : Refusal) (r : Result ℕ Refusal)
-    → o ≡ Some place → r ≡ Err e → Ends {T = Unit {0}} (Err e) items new (claimed (record { base = place; size = size }) who)
+    → o ≡ Some place → IsErrAnd r (λ (n : Refusal). n ≡ e)
+    → Ends {T = Unit {0}} (Err e) items new (claimed (record { base = place; size = size }) who)
     → Allocates r items new o size who
 alloc-fails items new o place size who e r some is h =
     subst (λ (p : Option ℕ). Allocates r items new p size who) (sym some)
-    (subst (λ (s : Result ℕ Refusal). Allocates s items new (Some place) size who) (sym is)
+    (subst (λ (s : Result ℕ Refusal). Allocates s items new (Some place) size who) (sym (handed r e is))
     (tt, Ends-error (Unit {0}) ℕ e items new (claimed (record { base = place; size = size }) who) h))
 
 pub alloc-done : (items new : List Item) (o : Option ℕ) (place size : ℕ) (who : Owner) → o ≡ Some place

@@ -1,5 +1,5 @@
 -- The growth of the reserved table: where it goes, what it writes, and what it makes of the tables and of each byte.
-use Rattle.std.proofs.Common.{◌≡◌, ℕ, ◌+◌, ◌-◌, ◌*◌, ◌^◌, ◌<◌, ◌≤◌, Option, Some, None, List, [], ◌∷◌, ◌++◌, length, Result, Ok, Err, refl, sym, ◌∙◌, ap, subst, append_assoc, arith}
+use Rattle.std.proofs.Common.{◌≡◌, ℕ, ◌+◌, ◌-◌, ◌*◌, ◌^◌, ◌<◌, ◌≤◌, Option, Some, None, List, [], ◌∷◌, ◌++◌, length, Result, Ok, Err, IsErrAnd, refl, sym, ◌∙◌, ap, subst, append_assoc, arith}
 use Rattle.std.specs.Option.{option_map}
 use Rattle.bm_base.specs.Extent.{Extent, end_of}
 use Rattle.phys_store.specs.Bytes.{byte_of}
@@ -32,9 +32,9 @@ use Rattle.growth_model.proofs.FollowLaws.{follows-still, follows-item, follows-
 use Rattle.memblock_grow.specs.declared.aim.Aim.{Aim}
 use Rattle.memblock_grow.specs.Kept.{AreKept, AreTold, Keeps}
 use Rattle.memblock_grow.specs.Places.{frames_beside, left_frames}
-use Rattle.memblock_grow.specs.More.{Grew}
-use Rattle.memblock_grow.proofs.KeptLaws.{values-are, room-is, few-kept, few-covered, few-uncovered, kept-same, kept-claim, kept-free, kept-grown}
+use Rattle.memblock_grow.proofs.KeptLaws.{values-are, room-is, few-kept, few-covered, kept-same, kept-claim, kept-free, kept-grown}
 use Rattle.memblock_grow.proofs.PlaceLaws.{IsPlaceOf, mapped-some, mapped-none, beside-is, left-is}
+use Rattle.memblock_grow.proofs.ChangeLaws.{handed}
 
 pub room-least : (w : Which) (kernel : Extent) (items : List Item) (t : Contents) (at : Aim) → AreKept kernel items t at → 128 ≤ room_in w t
 room-least w kernel items t at kept =
@@ -67,7 +67,8 @@ beside-along : (kernel : Extent) (items : List Item) (t : Contents) (at : Aim) (
 beside-along kernel items t at n avoid o kept room is =
     is ∙ ap (λ (m : ℕ). frames_beside t at m avoid) room ∙ beside-is kernel items t at avoid kept
 
-pub beside-found : (kernel : Extent) (items : List Item) (t : Contents) (at : Aim) (n : ℕ) (avoid : Extent) (o : Option Extent) (place : Extent)
+pub beside-found : (kernel : Extent) (items : List Item) (t : Contents) (at : Aim) (n : ℕ) (avoid : Extent)
+    (o : Option Extent) (place : Extent)
     → AreKept kernel items t at → n ≡ room_in which.Reserved t → o ≡ frames_beside t at n avoid → o ≡ Some place
     → IsBeside items avoid place
 beside-found kernel items t at n avoid o place kept room is some =
@@ -82,7 +83,8 @@ beside-free items avoid place known =
     (beside-new items avoid (room_of which.Reserved items) place.base known.found).free
 
 -- it may be moved to
-pub beside-apart : (kernel : Extent) (items : List Item) (t p : Contents) (at : Aim) (base : ℕ) (avoid place : Extent) → AreKept kernel items t at
+pub beside-apart : (kernel : Extent) (items : List Item) (t p : Contents) (at : Aim) (base : ℕ) (avoid place : Extent)
+    → AreKept kernel items t at
     → Placed kernel items → IsBeside items avoid place → base ≡ place.base → p.memory ≡ t.memory → p.reserved ≡ t.reserved
     → ¬ Overlaps p (record { base = base; size = 48 * room_in which.Reserved p })
 beside-apart kernel items t p at base avoid place kept placed known here first second =
@@ -130,11 +132,11 @@ written-by items avoid place new known is =
 
 -- and where memory ran out before it
 pub growth-wants : (items new : List Item) (avoid place : Extent) (r : Result (Unit {0}) Refusal) → IsBeside items avoid place
-    → r ≡ Err refusal.Memory → new ≡ items → Ends r items new (reserved_growth avoid)
+    → IsErrAnd r (λ (n : Refusal). n ≡ refusal.Memory) → new ≡ items → Ends r items new (reserved_growth avoid)
 growth-wants items new avoid place r known is same =
     let all = reserved_items (room_of which.Reserved items) (moved_to which.Reserved items) place.base in
     subst (λ (o : Outcome). EndsBy r items new o) (sym (growth-some items avoid place known))
-    (Ends-along (Err refusal.Memory) r items new (step all) (sym is)
+    (Ends-along (Err refusal.Memory) r items new (step all) (sym (handed r refusal.Memory is))
     (subst (λ (l : List Item). Ends {T = Unit {0}} (Err refusal.Memory) items l (step all)) (sym same)
     (Ends-wanting (Unit {0}) items (step all) (omega arith))))
 
@@ -216,7 +218,8 @@ pub left-found : (w : Which) (kernel : Extent) (items : List Item) (t : Contents
 left-found w kernel items t at h o kept head is =
     is ∙ ap (λ (g : Head). left_frames g.place g.room) head ∙ left-is w kernel items t at kept
 
-pub twice-is : (w : Which) (kernel : Extent) (items : List Item) (t : Contents) (at : Aim) (n : ℕ) → AreKept kernel items t at → n ≡ room_in w t
+pub twice-is : (w : Which) (kernel : Extent) (items : List Item) (t : Contents) (at : Aim) (n : ℕ) → AreKept kernel items t at
+    → n ≡ room_in w t
     → 2 * n ≡ 2 * room_of w items
 twice-is w kernel items t at n kept room = ap (λ (m : ℕ). 2 * m) (room ∙ room-is w kernel items t at kept)
 
@@ -254,7 +257,8 @@ claim-room kernel items t p r at base place kept second table free some ends =
     let same = ap length rs in
     omega (arith, n, m, one, few, least, same)
 
-pub moved-kept : (kernel : Extent) (items : List Item) (t p r v : Contents) (at : Aim) (base room : ℕ) (place : Extent) → AreKept kernel items t at
+pub moved-kept : (kernel : Extent) (items : List Item) (t p r v : Contents) (at : Aim) (base room : ℕ) (place : Extent)
+    → AreKept kernel items t at
     → Moved items t p r v at base place → AreKept kernel (items ++ item.Grown which.Reserved base room ∷ []) r at
 moved-kept kernel items t p r v at base room place kept m =
     let size : place.size ≡ frames_of (48 * room_of which.Reserved items) = ap (λ (e : Extent). e.size) m.is in
@@ -320,7 +324,8 @@ pub claimed : (items longer : List Item) (t p r v : Contents) (at : Aim) (base r
 claimed items longer t p r v at base room place is m free =
     let fits : (kernel : Extent) → AreKept kernel items t at
     → length r.reserved.records + pieces place (value_at r.reserved.records) ≤ r.reserved.room =
-    λ kernel kept. claim-room kernel items t p r at base place kept m.second m.table free (frames-some which.Reserved items place m.is) m.ends
+    λ kernel kept. claim-room kernel items t p r at base place kept m.second m.table free
+    (frames-some which.Reserved items place m.is) m.ends
     in
     record {
       kept = λ kernel kept. subst (λ (l : List Item). AreKept kernel l v at) (sym is)
@@ -355,26 +360,10 @@ pub freed-room : (t v : Contents) → (v.reserved.room ≡ 2 * t.reserved.room) 
     → length t.reserved.records ≤ t.reserved.room → 128 ≤ t.reserved.room → length v.reserved.records + 2 ≤ v.reserved.room
 freed-room t v grew few least = let n = grew.0 in let m = grew.1 in omega (arith, n, m, few, least)
 
-pub claimed-grown : (t v : Contents)
-    → (v.reserved.room ≡ 2 * t.reserved.room) × (length v.reserved.records ≤ length t.reserved.records + 1)
-    → Grew t.reserved v.reserved
-claimed-grown t v grew = let m = grew.1 in record { room = grew.0; few = omega (arith, m) }
-
-pub freed-grown : (kernel : Extent) (items : List Item) (t v u : Contents) (at : Aim) (range : Extent) → AreKept kernel items v at
-    → (v.reserved.room ≡ 2 * t.reserved.room) × (length v.reserved.records ≤ length t.reserved.records + 1) → Freed v u range
-    → Grew t.reserved u.reserved
-freed-grown kernel items t v u at range kept grew f =
-    let few = few-uncovered which.Reserved kernel items v at range kept in
-    let m = grew.1 in
-    let a = ap (λ (t : Table). t.room) f.table in
-    let b = ap (λ (t : Table). length t.records) f.table in
-    record { room = a ∙ grew.0; few = omega (arith, few, m, b) }
-
 -- what stands once the old place is freed
 pub record Left (items longer : List Item) (t u : Contents) (at : Aim) : Type 0 where
   pub kept : Keeps items t longer u at
   pub bytes : (kernel : Extent) → AreKept kernel items t at → Follows kernel items longer (byte_of t.store) (byte_of u.store)
-  pub grew : (kernel : Extent) → AreKept kernel items t at → Grew t.reserved u.reserved
 
 pub claimed-room : (kernel : Extent) (items longer : List Item) (t v : Contents) (at : Aim) → AreKept kernel items t at
     → Claimed items longer t v at → length v.reserved.records + 2 ≤ v.reserved.room
@@ -390,7 +379,6 @@ left-freed items longer new t v u at range is c f = record {
       (follows-then kernel items longer (longer ++ item.Free range ∷ []) (byte_of t.store) (byte_of v.store) (byte_of u.store)
       (c.bytes kernel kept)
       (freed-bytes kernel longer v u at range (c.kept kernel kept) f (claimed-room kernel items longer t v at kept c)));
-  grew = λ kernel kept. freed-grown kernel longer t v u at range (c.kept kernel kept) (c.grew kernel kept) f;
 }
 
 -- where nothing was written

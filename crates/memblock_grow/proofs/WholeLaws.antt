@@ -1,6 +1,5 @@
 -- What holds between calls holds behind each.
-use Rattle.std.proofs.Common.{List, Result, Ok, Err}
-use Rattle.std.specs.Result.{OnOk}
+use Rattle.std.proofs.Common.{List}
 use Rattle.bm_base.specs.Extent.{Extent}
 use Rattle.phys_store.specs.Bytes.{byte_of}
 use Rattle.memblock_model.specs.declared.item.Item.{Item}
@@ -35,7 +34,3 @@ bytes-then items mid last t u v at keeps first second = λ kernel kept spelled.
     follows-then kernel items mid last (byte_of t.store) (byte_of u.store) (byte_of v.store) on
     (second kernel there (follows-stands kernel items mid u.memory u.reserved (byte_of t.store) (byte_of u.store) there.memory
     there.reserved on))
-
-pub ok-map : {T E : Type 0} (r : Result T E) (P Q : Type 0) → (P → Q) → OnOk r P → OnOk r Q
-ok-map (Ok x) P Q f h = f h
-ok-map (Err e) P Q f h = h

@@ -1,5 +1,5 @@
--- How many records an edit may add, and what growths come to.
-use Rattle.std.specs.Prelude.{◌≡◌, ℕ, ◌+◌, ◌*◌, ◌^◌, ◌<◌, ◌≤◌, List, length}
+-- How many records an edit may add, and whether a table has room for them.
+use Rattle.std.specs.Prelude.{ℕ, ◌+◌, ◌^◌, ◌<◌, ◌≤◌, List, length}
 use Rattle.bm_base.specs.Extent.{end_of}
 use Rattle.address_runs.specs.Runs.{value_at}
 use Rattle.memblock_model.specs.declared.which.Which.{Which}
@@ -22,11 +22,6 @@ more_in more.Two t = 2
 -- the table has room for them
 abbrev pub HasRoom : More → Table → Type 0
 HasRoom m t = length t.records + more_in m t ≤ t.room
-
--- a table has grown once: it has twice the room, and at most three records more
-pub record Grew (old new : Table) : Type 0 where
-  pub room : new.room ≡ 2 * old.room
-  pub few : length new.records ≤ length old.records + 3
 
 -- a range of them ends in the address space
 abbrev pub EndsBefore : More → Type 0

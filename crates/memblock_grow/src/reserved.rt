@@ -2,14 +2,14 @@
 //!
 //! The growth avoids the range that is being claimed or freed, so that the table never lands in it. Its new place is claimed
 //! like any other, and what it leaves is freed. A claim doubles the table up to twice before it writes anything.
-ghost use Rattle.std.specs.Prelude.{◌≡◌, ◌+◌, ◌-◌, ◌<◌, ◌≤◌, ◌⊎◌, false, OnOk, OnErr, IsOk, length};
+ghost use Rattle.std.specs.Prelude.{◌≡◌, ◌+◌, ◌-◌, ◌<◌, ◌≤◌, false, OnOk, OnErr, IsOk, length};
 ghost use Rattle.memblock_model.specs.declared.which.Which.TheVariants as tables_of;
 ghost use Rattle.growth_model.specs.Outcome.{if_due};
 ghost use Rattle.growth_model.specs.Growth.{reserved_growth, grown, claimed, freed, new_in, two, is_full as is_full_by};
 ghost use Rattle.growth_model.specs.Ends.{Ends};
 ghost use Rattle.growth_model.specs.Sound.{HasBegun};
 ghost use Rattle.memblock_grow.specs.Kept.{IsKept, AllowsClaim, AllowsFree, Keeps, KeepsBytes, StayReady};
-ghost use Rattle.memblock_grow.specs.More.{more_by, HasRoom, Grew, EndsBefore};
+ghost use Rattle.memblock_grow.specs.More.{more_by, HasRoom, EndsBefore};
 
 use crate::aim::Aim;
 use crate::edits::{cover, relocate, uncover};
@@ -35,7 +35,6 @@ fn grow_reserved(
     ensures bytes { KeepsBytes journal.old.items tables.old journal.new.items tables.new aim }
     ensures still_ready { StayReady tables.old.store tables.new.store }
     ensures memory { tables.new.memory ≡ tables.old.memory }
-    ensures grew { OnOk result (Grew tables.old.reserved tables.new.reserved) }
 {
     let head = tables.head(Which::Reserved);
     let Some(place) = place_beside(journal, tables, aim, head.room, avoid) else {
@@ -83,7 +82,6 @@ fn grow_reserved_once(
     ensures bytes { KeepsBytes journal.old.items tables.old journal.new.items tables.new aim }
     ensures still_ready { StayReady tables.old.store tables.new.store }
     ensures memory { tables.new.memory ≡ tables.old.memory }
-    ensures grew { OnOk result (HasRoom more.now tables.new.reserved ⊎ Grew tables.old.reserved tables.new.reserved) }
     ensures within { EndsBefore more.now }
     ensures idle { HasRoom more.now tables.old.reserved →
         IsOk result × (journal.new ≡ journal.old) × (tables.new ≡ tables.old) }

@@ -1,12 +1,10 @@
-use Rattle.std.proofs.Common.{◌≡◌, ◌≢◌, ◌+◌, ◌*◌, ◌^◌, ◌<◌, List, [], ◌∷◌, ◌++◌, Err, refl, sym, ◌∙◌, ap, subst, arith}
-use Rattle.std.proofs.lemmas.Result.{err_from_is_err_and}
+use Rattle.std.proofs.Common.{◌≡◌, ◌≢◌, ◌+◌, ◌*◌, ◌^◌, ◌<◌, List, [], ◌∷◌, ◌++◌, refl, sym, ◌∙◌, ap, subst, arith}
 use Rattle.bm_base.specs.Extent.{Extent, end_of}
 use Rattle.memblock_model.specs.declared.which.Which.TheVariants as which
 use Rattle.memblock_model.specs.declared.item.Item.{Item}
 use Rattle.memblock_model.specs.declared.item.Item.TheVariants as item
 use Rattle.memblock_model.specs.Tables.{room_of, moved_to}
 use Rattle.memblock_ranges.specs.declared.region.Head.{Head}
-use Rattle.growth_model.specs.declared.refusal.Refusal.{Refusal}
 use Rattle.growth_model.specs.Growth.{frames_of, old_frames}
 use Rattle.growth_model.proofs.PlacedMemoryLaws.{IsTaken}
 use Rattle.memblock_grow.specs.Kept.{AreKept, Keeps, KeepsBytes}
@@ -112,16 +110,14 @@ claim-requires-clause-some c =
 pub returns-in_err-claim-clause-ends : goal.returns-in_err-claim-clause-ends
 returns-in_err-claim-clause-ends c =
     let known = found (goal.at.returns-in_err-claim-clause-ends c).In-Some in
-    let p = err_from_is_err_and c.from_residual.result c.from_residual.ensures.1 in
     memory-fails c.args.journal.now.items c.claim.new.journal.items c.in-Some.place c.in_err-claim.field-0.0
-    c.from_residual.result known (p.1 ∙ ap (λ (e : Refusal). Err e) p.2) c.in_err-claim.ensures.ends
+    c.from_residual.result known c.from_residual.ensures.1 c.in_err-claim.ensures.ends
 
 pub returns-in_err-prepare-clause-ends : goal.returns-in_err-prepare-clause-ends
 returns-in_err-prepare-clause-ends c =
     let known = found (goal.at.returns-in_err-prepare-clause-ends c).In-Some in
-    let p = err_from_is_err_and c.from_residual-in_err-prepare.result c.from_residual-in_err-prepare.ensures.1 in
     memory-wants c.args.journal.now.items c.claim.new.journal.items c.claim.new.journal.items c.in-Some.place
-    c.from_residual-in_err-prepare.result known (p.1 ∙ ap (λ (e : Refusal). Err e) p.2) c.in_ok-claim.ensures.ends refl
+    c.from_residual-in_err-prepare.result known c.from_residual-in_err-prepare.ensures.1 c.in_ok-claim.ensures.ends refl
 
 pub returns-in_err-prepare-clause-kept : goal.returns-in_err-prepare-clause-kept
 returns-in_err-prepare-clause-kept c = λ kernel kept.
@@ -137,9 +133,8 @@ returns-in_err-prepare-clause-bytes c = λ kernel kept spelled.
 pub returns-in_err-ready-clause-ends : goal.returns-in_err-ready-clause-ends
 returns-in_err-ready-clause-ends c =
     let known = found (goal.at.returns-in_err-ready-clause-ends c).In-Some in
-    let p = err_from_is_err_and c.from_residual-in_err-ready.result c.from_residual-in_err-ready.ensures.1 in
     memory-wants c.args.journal.now.items c.claim.new.journal.items c.ready.new.self.items c.in-Some.place
-    c.from_residual-in_err-ready.result known (p.1 ∙ ap (λ (e : Refusal). Err e) p.2) c.in_ok-claim.ensures.ends
+    c.from_residual-in_err-ready.result known c.from_residual-in_err-ready.ensures.1 c.in_ok-claim.ensures.ends
     c.in_err-ready.ensures.items
 
 pub returns-in_err-ready-clause-kept : goal.returns-in_err-ready-clause-kept

@@ -1,15 +1,12 @@
-use Rattle.std.proofs.Common.{ap, ◌⊎◌}
+use Rattle.std.proofs.Common.{arith}
 use Rattle.memblock_model.specs.declared.which.Which.TheVariants as which
-use Rattle.memblock_ranges.specs.Tables.{Contents}
 use Rattle.growth_model.specs.Outcome.{if_due}
 use Rattle.growth_model.specs.Growth.{is_full, memory_growth}
 use Rattle.growth_model.proofs.EndLaws.{Ends-second}
 use Rattle.growth_model.proofs.SoundLaws.{memory_once-stands}
-use Rattle.memblock_grow.specs.More.{more_by, HasRoom, Grew}
-use Rattle.memblock_grow.proofs.KeptLaws.{few-kept}
-use Rattle.memblock_grow.proofs.MoreLaws.{room-twice}
-use Rattle.memblock_grow.proofs.ReservedLaws.{room-least}
-use Rattle.memblock_grow.proofs.WholeLaws.{whole-on, keeps-then, bytes-then, ok-map}
+use Rattle.memblock_grow.specs.More.{more_by}
+use Rattle.memblock_grow.proofs.MoreLaws.{memory-enough, room-behind}
+use Rattle.memblock_grow.proofs.WholeLaws.{whole-on, keeps-then, bytes-then}
 use Rattle.memblock_grow.proofs.memory.make_memory_room.Goals as goal
 
 pub grow_memory_once-requires-2-clause-kept : goal.grow_memory_once-requires-2-clause-kept
@@ -43,17 +40,11 @@ returns-clause-bytes c =
 
 pub returns-clause-room : goal.returns-clause-room
 returns-clause-room c =
-    let first = c.grow_memory_once in
     let second = c.grow_memory_once-2 in
-    let kept = c.requires.kept.1.kept in
     let kernel = c.requires.kept.0 in
-    let items = c.args.journal.now.items in
-    let t = c.args.tables.now in
-    let m = c.args.more.now in
-    ok-map second.result (HasRoom m second.new.tables.memory ⊎ Grew first.new.tables.memory second.new.tables.memory)
-    (HasRoom m second.new.tables.memory)
-    (room-twice which.Memory m kernel second.new.journal.items second.new.tables c.args.aim t.memory first.new.tables.memory
-    (second.ensures.kept kernel (first.ensures.kept kernel kept)) first.ensures.within
-    (room-least which.Memory kernel items t c.args.aim kept) (few-kept which.Memory kernel items t c.args.aim kept)
-    c.in_ok-grow_memory_once.ensures.grew
-    (λ has. ap (λ (u : Contents). u.memory) (second.ensures.idle has).2)) second.ensures.grew
+    let kept = c.requires.kept.1.kept in
+    room-behind which.Memory c.args.more.now memory_growth kernel c.args.journal.now.items second.new.journal.items second.new.tables
+    c.args.aim second.result
+    (memory-enough c.args.more.now kernel c.args.journal.now.items c.args.tables.now c.args.aim kept (omega arith)
+    c.grow_memory_once.ensures.within)
+    (returns-clause-ends c) (returns-clause-kept c kernel kept)

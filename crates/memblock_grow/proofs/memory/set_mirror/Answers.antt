@@ -1,29 +1,23 @@
-use Rattle.std.proofs.Common.{List, [], ◌∷◌, ◌++◌, Err, sym, ◌∙◌, ap, subst, refl}
+use Rattle.std.proofs.Common.{List, sym, ap, subst, refl}
 use Rattle.std.proofs.lemmas.Bool.{true≢false}
-use Rattle.std.proofs.lemmas.Result.{err_from_is_err_and}
-use Rattle.phys_store.specs.Bytes.{byte_of}
 use Rattle.memblock_model.specs.declared.which.Which.TheVariants as which
 use Rattle.memblock_model.specs.declared.item.Item.{Item}
 use Rattle.memblock_model.specs.declared.item.Item.TheVariants as item
 use Rattle.boot_journal.specs.Contents.{Contents as Journal}
-use Rattle.growth_model.specs.declared.refusal.Refusal.{Refusal}
 use Rattle.growth_model.specs.Growth.{memory_growth, two, grown, mirrored}
-use Rattle.growth_model.specs.Bytes.{Follows}
-use Rattle.growth_model.proofs.FollowLaws.{follows-item, follows-then}
 use Rattle.memblock_grow.specs.declared.more.More.TheVariants as more
 use Rattle.memblock_grow.specs.Kept.{AreKept}
 use Rattle.memblock_grow.proofs.KeptLaws.{kept-mirror}
 use Rattle.memblock_grow.proofs.MoreLaws.{room-of}
-use Rattle.memblock_grow.proofs.ChangeLaws.{change-fails, change-wants, change-done}
+use Rattle.memblock_grow.proofs.ChangeLaws.{change-fails, change-wants, change-done, change-bytes}
 use Rattle.memblock_grow.proofs.memory.set_mirror.Goals as goal
 
 pub returns-in_err-make_memory_room-clause-ends : goal.returns-in_err-make_memory_room-clause-ends
 unfolding mirrored
 returns-in_err-make_memory_room-clause-ends c =
-    let p = err_from_is_err_and c.from_residual.result c.from_residual.ensures.1 in
     change-fails (grown which.Memory two memory_growth)
     (item.Mirror c.args.range) c.in_err-make_memory_room.field-0.0 c.from_residual.result c.args.journal.now.items
-    c.make_memory_room.new.journal.items (p.1 ∙ ap (λ (e : Refusal). Err e) p.2) c.in_err-make_memory_room.ensures.ends
+    c.make_memory_room.new.journal.items c.from_residual.ensures.1 c.in_err-make_memory_room.ensures.ends
 
 pub returns-in_err-make_memory_room-clause-ready : goal.returns-in_err-make_memory_room-clause-ready
 returns-in_err-make_memory_room-clause-ready c = λ spare idle.
@@ -34,10 +28,9 @@ returns-in_err-make_memory_room-clause-ready c = λ spare idle.
 pub returns-in_err-push-clause-ends : goal.returns-in_err-push-clause-ends
 unfolding mirrored
 returns-in_err-push-clause-ends c =
-    let p = err_from_is_err_and c.from_residual-in_err-push.result c.from_residual-in_err-push.ensures.1 in
     change-wants (grown which.Memory two memory_growth)
     (item.Mirror c.args.range) c.from_residual-in_err-push.result c.args.journal.now.items
-    c.make_memory_room.new.journal.items c.push.new.self.items (p.1 ∙ ap (λ (e : Refusal). Err e) p.2)
+    c.make_memory_room.new.journal.items c.push.new.self.items c.from_residual-in_err-push.ensures.1
     c.in_ok-make_memory_room.ensures.ends (ap (λ (j : Journal). j.items) c.in_err-push.ensures.err)
 
 pub returns-clause-ends : goal.returns-clause-ends
@@ -56,15 +49,6 @@ returns-clause-kept c = λ kernel kept.
 
 pub returns-clause-bytes : goal.returns-clause-bytes
 returns-clause-bytes c = λ kernel kept spelled.
-    let mid = c.make_memory_room.new.journal.items in
-    let u = c.make_memory_room.new.tables in
-    let v = c.mirror.new.tables in
-    let after = kept-mirror kernel mid u v c.args.aim c.args.range c.mirror.ensures.within
-    c.in_ok-make_memory_room.ensures.room c.mirror.ensures.memory c.mirror.ensures.reserved
-    (c.make_memory_room.ensures.kept kernel kept) in
-    subst (λ (l : List Item). Follows kernel c.args.journal.now.items l (byte_of c.args.tables.now.store) (byte_of v.store))
-    (sym c.in_ok-push.ensures.ok)
-    (follows-then kernel c.args.journal.now.items mid (mid ++ item.Mirror c.args.range ∷ [])
-    (byte_of c.args.tables.now.store) (byte_of u.store) (byte_of v.store) (c.make_memory_room.ensures.bytes kernel kept spelled)
-    (follows-item kernel mid (item.Mirror c.args.range) v.memory v.reserved (byte_of u.store) (byte_of v.store) (λ x. refl)
-    after.memory after.reserved c.mirror.ensures.bytes))
+    change-bytes kernel c.args.journal.now.items c.make_memory_room.new.journal.items c.push.new.self.items (item.Mirror c.args.range)
+    c.args.tables.now c.make_memory_room.new.tables c.mirror.new.tables c.args.aim c.in_ok-push.ensures.ok (λ x. refl)
+    (returns-clause-kept c kernel kept) c.mirror.ensures.bytes (c.make_memory_room.ensures.bytes kernel kept spelled)

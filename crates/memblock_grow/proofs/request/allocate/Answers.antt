@@ -1,15 +1,20 @@
-use Rattle.std.proofs.Common.{◌≡◌, false, Some, None, Err, refl, sym, ◌∙◌, ap, subst, arith}
+use Rattle.std.proofs.Common.{◌≡◌, false, Some, None, refl, sym, ◌∙◌, subst, arith}
 use Rattle.std.proofs.lemmas.Bool.{true≢false}
 use Rattle.std.proofs.lemmas.Option.{none-some}
-use Rattle.std.proofs.lemmas.Result.{err_from_is_err_and}
 use Rattle.memblock_model.specs.declared.which.Which.TheVariants as which
-use Rattle.growth_model.specs.declared.refusal.Refusal.{Refusal}
 use Rattle.growth_model.specs.Growth.{is_full, new_in}
 use Rattle.growth_model.specs.Request.{place_for}
 use Rattle.memblock_grow.proofs.PlaceLaws.{knows-mirrors}
 use Rattle.memblock_grow.proofs.ReservedLaws.{still-bytes}
 use Rattle.memblock_grow.proofs.RequestLaws.{place-is-for, place-small, place-allowed, alloc-none, alloc-fails, alloc-done}
 use Rattle.memblock_grow.proofs.request.allocate.Goals as goal
+use Rattle.memblock_grow.proofs.request.allocate.Goals.{In-Some}
+
+-- the place is the one of the definition
+found : (c : In-Some) → place_for c.args.request.now c.args.journal.now.items ≡ Some c.in-Some.base
+found c =
+    place-is-for c.requires.kept.0 c.args.journal.now.items c.args.tables.now c.args.aim c.args.request.now c.place_for.result
+    (Some c.in-Some.base) c.requires.kept.1.kept c.place_for.ensures c.in-Some.is
 
 pub place_for-requires-clause-mirrors : goal.place_for-requires-clause-mirrors
 place_for-requires-clause-mirrors c =
@@ -17,10 +22,9 @@ place_for-requires-clause-mirrors c =
 
 pub returns-in_default-clause-ends : goal.returns-in_default-clause-ends
 returns-in_default-clause-ends c =
-    let found = place-is-for c.requires.kept.0 c.args.journal.now.items c.args.tables.now c.args.aim c.args.request.now
-    c.place_for.result None
-    c.requires.kept.1.kept c.place_for.ensures c.in_default.is in
-    alloc-none c.args.journal.now.items (place_for c.args.request.now c.args.journal.now.items) c.args.request.now.size c.args.owner found
+    let none = place-is-for c.requires.kept.0 c.args.journal.now.items c.args.tables.now c.args.aim c.args.request.now
+    c.place_for.result None c.requires.kept.1.kept c.place_for.ensures c.in_default.is in
+    alloc-none c.args.journal.now.items (place_for c.args.request.now c.args.journal.now.items) c.args.request.now.size c.args.owner none
 
 pub returns-in_default-clause-bytes : goal.returns-in_default-clause-bytes
 returns-in_default-clause-bytes c = λ kernel kept spelled.
@@ -29,69 +33,46 @@ returns-in_default-clause-bytes c = λ kernel kept spelled.
 
 pub invariant_of-range : goal.invariant_of-range
 invariant_of-range c =
-    let found = place-is-for c.requires.kept.0 c.args.journal.now.items c.args.tables.now c.args.aim c.args.request.now
-    c.place_for.result (Some c.in-Some.base)
-    c.requires.kept.1.kept c.place_for.ensures c.in-Some.is in
     place-small c.requires.kept.0 c.args.journal.now.items c.args.tables.now c.args.aim c.args.request.now c.in-Some.base
-    c.requires.kept.1.kept found (omega arith)
+    c.requires.kept.1.kept (found (goal.at.invariant_of-range c).In-Some) (omega arith)
 
 pub claim-requires-clause-may : goal.claim-requires-clause-may
 claim-requires-clause-may c =
-    let found = place-is-for c.requires.kept.0 c.args.journal.now.items c.args.tables.now c.args.aim c.args.request.now
-    c.place_for.result (Some c.in-Some.base)
-    c.requires.kept.1.kept c.place_for.ensures c.in-Some.is in
     place-allowed c.requires.kept.0 c.args.journal.now.items c.args.tables.now c.args.aim c.args.request.now c.in-Some.base
-    c.args.owner c.requires.kept.1 c.requires.begun found
+    c.args.owner c.requires.kept.1 c.requires.begun (found (goal.at.claim-requires-clause-may c).In-Some)
 
 pub returns-in_err-claim-clause-ends : goal.returns-in_err-claim-clause-ends
 returns-in_err-claim-clause-ends c =
-    let found = place-is-for c.requires.kept.0 c.args.journal.now.items c.args.tables.now c.args.aim c.args.request.now
-    c.place_for.result (Some c.in-Some.base)
-    c.requires.kept.1.kept c.place_for.ensures c.in-Some.is in
-    let p = err_from_is_err_and c.from_residual.result c.from_residual.ensures.1 in
     alloc-fails c.args.journal.now.items c.claim.new.journal.items (place_for c.args.request.now c.args.journal.now.items) c.in-Some.base
-    c.args.request.now.size c.args.owner c.in_err-claim.field-0.0 c.from_residual.result found
-    (p.1 ∙ ap (λ (e : Refusal). Err e) p.2) c.in_err-claim.ensures.ends
+    c.args.request.now.size c.args.owner c.in_err-claim.field-0.0 c.from_residual.result
+    (found (goal.at.returns-in_err-claim-clause-ends c).In-Some) c.from_residual.ensures.1 c.in_err-claim.ensures.ends
 
 pub returns-clause-ends : goal.returns-clause-ends
 returns-clause-ends c =
-    let found = place-is-for c.requires.kept.0 c.args.journal.now.items c.args.tables.now c.args.aim c.args.request.now
-    c.place_for.result (Some c.in-Some.base)
-    c.requires.kept.1.kept c.place_for.ensures c.in-Some.is in
     alloc-done c.args.journal.now.items c.claim.new.journal.items (place_for c.args.request.now c.args.journal.now.items) c.in-Some.base
-    c.args.request.now.size c.args.owner found c.in_ok-claim.ensures.ends
+    c.args.request.now.size c.args.owner (found (goal.at.returns-clause-ends c).In-Some) c.in_ok-claim.ensures.ends
 
 pub returns-clause-inside : goal.returns-clause-inside
 returns-clause-inside c =
-    let found = place-is-for c.requires.kept.0 c.args.journal.now.items c.args.tables.now c.args.aim c.args.request.now
-    c.place_for.result (Some c.in-Some.base)
-    c.requires.kept.1.kept c.place_for.ensures c.in-Some.is in
     place-small c.requires.kept.0 c.args.journal.now.items c.args.tables.now c.args.aim c.args.request.now c.in-Some.base
-    c.requires.kept.1.kept found (omega arith)
+    c.requires.kept.1.kept (found (goal.at.returns-clause-inside c).In-Some) (omega arith)
 
 pub returns-in_default-clause-ready : goal.returns-in_default-clause-ready
 returns-in_default-clause-ready c = λ place is spare idle.
-    let found = place-is-for c.requires.kept.0 c.args.journal.now.items c.args.tables.now c.args.aim c.args.request.now
-    c.place_for.result None
-    c.requires.kept.1.kept c.place_for.ensures c.in_default.is in
-    absurd (none-some place (sym found ∙ is))
+    let none = place-is-for c.requires.kept.0 c.args.journal.now.items c.args.tables.now c.args.aim c.args.request.now
+    c.place_for.result None c.requires.kept.1.kept c.place_for.ensures c.in_default.is in
+    absurd (none-some place (sym none ∙ is))
 
 pub returns-in_err-claim-clause-ready : goal.returns-in_err-claim-clause-ready
 returns-in_err-claim-clause-ready c = λ place is spare idle.
-    let found = place-is-for c.requires.kept.0 c.args.journal.now.items c.args.tables.now c.args.aim c.args.request.now
-    c.place_for.result (Some c.in-Some.base)
-    c.requires.kept.1.kept c.place_for.ensures c.in-Some.is in
-    let at : c.in-Some.base ≡ place = cc (sym found ∙ is) in
+    let at : c.in-Some.base ≡ place = cc (sym (found (goal.at.returns-in_err-claim-clause-ready c).In-Some) ∙ is) in
     let room = subst (λ b. is_full which.Reserved (new_in which.Reserved (record { base = b; size = c.args.request.now.size }))
     c.args.journal.now.items ≡ false) (sym at) idle in
     absurd (true≢false (sym (c.in_err-claim.ensures.ready spare room).0))
 
 pub returns-clause-ready : goal.returns-clause-ready
 returns-clause-ready c = λ place is spare idle.
-    let found = place-is-for c.requires.kept.0 c.args.journal.now.items c.args.tables.now c.args.aim c.args.request.now
-    c.place_for.result (Some c.in-Some.base)
-    c.requires.kept.1.kept c.place_for.ensures c.in-Some.is in
-    let at : c.in-Some.base ≡ place = cc (sym found ∙ is) in
+    let at : c.in-Some.base ≡ place = cc (sym (found (goal.at.returns-clause-ready c).In-Some) ∙ is) in
     let room = subst (λ b. is_full which.Reserved (new_in which.Reserved (record { base = b; size = c.args.request.now.size }))
     c.args.journal.now.items ≡ false) (sym at) idle in
     c.in_ok-claim.ensures.ready spare room

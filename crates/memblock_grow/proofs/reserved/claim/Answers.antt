@@ -1,29 +1,23 @@
-use Rattle.std.proofs.Common.{List, [], ◌∷◌, ◌++◌, Err, sym, ◌∙◌, ap, subst, refl}
+use Rattle.std.proofs.Common.{List, sym, ap, subst, refl}
 use Rattle.std.proofs.lemmas.Bool.{true≢false}
-use Rattle.std.proofs.lemmas.Result.{err_from_is_err_and}
-use Rattle.phys_store.specs.Bytes.{byte_of}
 use Rattle.memblock_model.specs.declared.which.Which.TheVariants as which
 use Rattle.memblock_model.specs.declared.item.Item.{Item}
 use Rattle.memblock_model.specs.declared.item.Item.TheVariants as item
 use Rattle.boot_journal.specs.Contents.{Contents as Journal}
-use Rattle.growth_model.specs.declared.refusal.Refusal.{Refusal}
 use Rattle.growth_model.specs.Growth.{reserved_growth, new_in, grown, claimed}
-use Rattle.growth_model.specs.Bytes.{Follows}
-use Rattle.growth_model.proofs.FollowLaws.{follows-item, follows-then}
 use Rattle.memblock_grow.specs.declared.more.More.TheVariants as more
 use Rattle.memblock_grow.specs.Kept.{AreKept}
 use Rattle.memblock_grow.proofs.KeptLaws.{kept-claim}
 use Rattle.memblock_grow.proofs.MoreLaws.{room-of}
-use Rattle.memblock_grow.proofs.ChangeLaws.{change-fails, change-wants, change-done}
+use Rattle.memblock_grow.proofs.ChangeLaws.{change-fails, change-wants, change-done, change-bytes}
 use Rattle.memblock_grow.proofs.reserved.claim.Goals as goal
 
 pub returns-in_err-make_reserved_room-clause-ends : goal.returns-in_err-make_reserved_room-clause-ends
 unfolding claimed
 returns-in_err-make_reserved_room-clause-ends c =
-    let p = err_from_is_err_and c.from_residual.result c.from_residual.ensures.1 in
     change-fails (grown which.Reserved (new_in which.Reserved c.args.range) (reserved_growth c.args.range))
     (item.Claim c.args.range c.args.owner) c.in_err-make_reserved_room.field-0.0 c.from_residual.result c.args.journal.now.items
-    c.make_reserved_room.new.journal.items (p.1 ∙ ap (λ (e : Refusal). Err e) p.2) c.in_err-make_reserved_room.ensures.ends
+    c.make_reserved_room.new.journal.items c.from_residual.ensures.1 c.in_err-make_reserved_room.ensures.ends
 
 pub returns-in_err-make_reserved_room-clause-ready : goal.returns-in_err-make_reserved_room-clause-ready
 returns-in_err-make_reserved_room-clause-ready c = λ spare idle.
@@ -34,10 +28,9 @@ returns-in_err-make_reserved_room-clause-ready c = λ spare idle.
 pub returns-in_err-push-clause-ends : goal.returns-in_err-push-clause-ends
 unfolding claimed
 returns-in_err-push-clause-ends c =
-    let p = err_from_is_err_and c.from_residual-in_err-push.result c.from_residual-in_err-push.ensures.1 in
     change-wants (grown which.Reserved (new_in which.Reserved c.args.range) (reserved_growth c.args.range))
     (item.Claim c.args.range c.args.owner) c.from_residual-in_err-push.result c.args.journal.now.items
-    c.make_reserved_room.new.journal.items c.push.new.self.items (p.1 ∙ ap (λ (e : Refusal). Err e) p.2)
+    c.make_reserved_room.new.journal.items c.push.new.self.items c.from_residual-in_err-push.ensures.1
     c.in_ok-make_reserved_room.ensures.ends (ap (λ (j : Journal). j.items) c.in_err-push.ensures.err)
 
 pub returns-clause-ends : goal.returns-clause-ends
@@ -56,14 +49,7 @@ returns-clause-kept c = λ kernel kept.
 
 pub returns-clause-bytes : goal.returns-clause-bytes
 returns-clause-bytes c = λ kernel kept spelled.
-    let mid = c.make_reserved_room.new.journal.items in
-    let u = c.make_reserved_room.new.tables in
-    let v = c.cover.new.tables in
-    let after = kept-claim kernel mid u v c.args.aim c.args.range c.args.owner c.cover.ensures.within
-    c.in_ok-make_reserved_room.ensures.room c.cover.ensures.table c.cover.ensures.other (c.make_reserved_room.ensures.kept kernel kept) in
-    subst (λ (l : List Item). Follows kernel c.args.journal.now.items l (byte_of c.args.tables.now.store) (byte_of v.store))
-    (sym c.in_ok-push.ensures.ok)
-    (follows-then kernel c.args.journal.now.items mid (mid ++ item.Claim c.args.range c.args.owner ∷ [])
-    (byte_of c.args.tables.now.store) (byte_of u.store) (byte_of v.store) (c.make_reserved_room.ensures.bytes kernel kept spelled)
-    (follows-item kernel mid (item.Claim c.args.range c.args.owner) v.memory v.reserved (byte_of u.store) (byte_of v.store) (λ x. refl)
-    after.memory after.reserved c.cover.ensures.bytes))
+    change-bytes kernel c.args.journal.now.items c.make_reserved_room.new.journal.items c.push.new.self.items
+    (item.Claim c.args.range c.args.owner)
+    c.args.tables.now c.make_reserved_room.new.tables c.cover.new.tables c.args.aim c.in_ok-push.ensures.ok (λ x. refl)
+    (returns-clause-kept c kernel kept) c.cover.ensures.bytes (c.make_reserved_room.ensures.bytes kernel kept spelled)

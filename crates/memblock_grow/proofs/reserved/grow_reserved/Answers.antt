@@ -1,16 +1,14 @@
-use Rattle.std.proofs.Common.{◌≡◌, ◌≢◌, ◌+◌, ◌*◌, ◌^◌, ◌<◌, Err, refl, sym, ◌∙◌, ap, subst, arith}
-use Rattle.std.proofs.lemmas.Result.{err_from_is_err_and}
+use Rattle.std.proofs.Common.{◌≡◌, ◌≢◌, ◌+◌, ◌*◌, ◌^◌, ◌<◌, refl, sym, ◌∙◌, ap, subst, arith}
 use Rattle.bm_base.specs.Extent.{Extent, end_of}
 use Rattle.memblock_model.specs.declared.which.Which.TheVariants as which
 use Rattle.memblock_model.specs.Tables.{room_of}
 use Rattle.boot_journal.specs.Contents.{Contents as Journal}
 use Rattle.memblock_ranges.specs.declared.region.Head.{Head}
-use Rattle.growth_model.specs.declared.refusal.Refusal.{Refusal}
 use Rattle.growth_model.specs.Growth.{frames_of}
 use Rattle.memblock_grow.proofs.reserved.grow_reserved.Goals as goal
 use Rattle.memblock_grow.proofs.reserved.grow_reserved.Goals.{In-Some, After-cover, After-uncover}
 use Rattle.memblock_grow.proofs.PlaceLaws.{knows-mirrors, left-far}
-use Rattle.memblock_grow.proofs.ReservedLaws.{room-least, frames-some, IsBeside, beside-found, beside-free, beside-apart, growth-none, growth-wants, moved_items, written-two, written-three, journal-two, journal-three, left-size, left-found, twice-is, claim-room, Claimed, claimed, claimed-room, claimed-grown, Left, left-freed, still-bytes}
+use Rattle.memblock_grow.proofs.ReservedLaws.{room-least, frames-some, IsBeside, beside-found, beside-free, beside-apart, growth-none, growth-wants, moved_items, written-two, written-three, journal-two, journal-three, left-size, left-found, twice-is, claim-room, Claimed, claimed, claimed-room, Left, left-freed, still-bytes}
 
 -- the place was found beside the range
 known : (c : In-Some) → IsBeside c.args.journal.now.items c.args.avoid c.in-Some.place
@@ -59,7 +57,8 @@ left : (c : After-uncover) → Claimed c.args.journal.now.items c.push_ready-2.n
     → Left c.args.journal.now.items c.push_ready-in-Some-left.new.self.items c.args.tables.now c.uncover.new.tables c.args.aim
 left c there =
     left-freed c.args.journal.now.items c.push_ready-2.new.self.items c.push_ready-in-Some-left.new.self.items c.args.tables.now
-    c.cover.new.tables c.uncover.new.tables c.args.aim c.in-Some-left.range (ap (λ (j : Journal). j.items) c.push_ready-in-Some-left.ensures)
+    c.cover.new.tables c.uncover.new.tables c.args.aim c.in-Some-left.range
+    (ap (λ (j : Journal). j.items) c.push_ready-in-Some-left.ensures)
     there (record {
       table = c.uncover.ensures.reserved;
       other = c.uncover.ensures.memory;
@@ -98,9 +97,8 @@ left_place-left-requires c =
 
 pub returns-in_err-prepare-clause-ends : goal.returns-in_err-prepare-clause-ends
 returns-in_err-prepare-clause-ends c =
-    let p = err_from_is_err_and c.from_residual.result c.from_residual.ensures.1 in
     growth-wants c.args.journal.now.items c.args.journal.now.items c.args.avoid c.in-Some.place c.from_residual.result
-    (known (goal.at.returns-in_err-prepare-clause-ends c).In-Some) (p.1 ∙ ap (λ (e : Refusal). Err e) p.2) refl
+    (known (goal.at.returns-in_err-prepare-clause-ends c).In-Some) c.from_residual.ensures.1 refl
 
 pub returns-in_err-prepare-clause-bytes : goal.returns-in_err-prepare-clause-bytes
 returns-in_err-prepare-clause-bytes c = λ kernel kept spelled.
@@ -109,9 +107,8 @@ returns-in_err-prepare-clause-bytes c = λ kernel kept spelled.
 
 pub returns-in_err-ready-clause-ends : goal.returns-in_err-ready-clause-ends
 returns-in_err-ready-clause-ends c =
-    let p = err_from_is_err_and c.from_residual-in_err-ready.result c.from_residual-in_err-ready.ensures.1 in
     growth-wants c.args.journal.now.items c.ready.new.self.items c.args.avoid c.in-Some.place c.from_residual-in_err-ready.result
-    (known (goal.at.returns-in_err-ready-clause-ends c).In-Some) (p.1 ∙ ap (λ (e : Refusal). Err e) p.2) c.in_err-ready.ensures.items
+    (known (goal.at.returns-in_err-ready-clause-ends c).In-Some) c.from_residual-in_err-ready.ensures.1 c.in_err-ready.ensures.items
 
 pub returns-in_err-ready-clause-bytes : goal.returns-in_err-ready-clause-bytes
 returns-in_err-ready-clause-bytes c = λ kernel kept spelled.
@@ -176,11 +173,6 @@ returns-in-Some-left-clause-bytes c = λ kernel kept spelled.
     let at = goal.at.returns-in-Some-left-clause-bytes c in
     (left at.After-uncover (stands at.After-cover (known at.In-Some)).claimed).bytes kernel kept
 
-pub returns-in-Some-left-clause-grew : goal.returns-in-Some-left-clause-grew
-returns-in-Some-left-clause-grew c =
-    let at = goal.at.returns-in-Some-left-clause-grew c in
-    (left at.After-uncover (stands at.After-cover (known at.In-Some)).claimed).grew c.requires.kept.0 c.requires.kept.1.kept
-
 pub returns-in-None-clause-ends : goal.returns-in-None-clause-ends
 returns-in-None-clause-ends c =
     let at = goal.at.returns-in-None-clause-ends c in
@@ -197,9 +189,3 @@ returns-in-None-clause-kept c =
 pub returns-in-None-clause-bytes : goal.returns-in-None-clause-bytes
 returns-in-None-clause-bytes c = λ kernel kept spelled.
     let at = goal.at.returns-in-None-clause-bytes c in (stands at.After-cover (known at.In-Some)).claimed.bytes kernel kept
-
-pub returns-in-None-clause-grew : goal.returns-in-None-clause-grew
-returns-in-None-clause-grew c =
-    let at = goal.at.returns-in-None-clause-grew c in
-    claimed-grown c.args.tables.now c.cover.new.tables
-    ((stands at.After-cover (known at.In-Some)).claimed.grew c.requires.kept.0 c.requires.kept.1.kept)

@@ -1,15 +1,12 @@
-use Rattle.std.proofs.Common.{ap, ◌⊎◌}
+use Rattle.std.proofs.Common.{arith}
 use Rattle.memblock_model.specs.declared.which.Which.TheVariants as which
-use Rattle.memblock_ranges.specs.Tables.{Contents}
 use Rattle.growth_model.specs.Outcome.{if_due}
 use Rattle.growth_model.specs.Growth.{is_full, reserved_growth}
 use Rattle.growth_model.proofs.EndLaws.{Ends-second}
 use Rattle.growth_model.proofs.SoundLaws.{once-stands}
-use Rattle.memblock_grow.specs.More.{more_by, HasRoom, Grew}
-use Rattle.memblock_grow.proofs.KeptLaws.{few-kept}
-use Rattle.memblock_grow.proofs.MoreLaws.{full-begun, room-twice}
-use Rattle.memblock_grow.proofs.ReservedLaws.{room-least}
-use Rattle.memblock_grow.proofs.WholeLaws.{whole-on, keeps-then, bytes-then, ok-map}
+use Rattle.memblock_grow.specs.More.{more_by}
+use Rattle.memblock_grow.proofs.MoreLaws.{full-begun, reserved-enough, room-behind}
+use Rattle.memblock_grow.proofs.WholeLaws.{whole-on, keeps-then, bytes-then}
 use Rattle.memblock_grow.proofs.reserved.make_reserved_room.Goals as goal
 
 pub grow_reserved_once-requires-2 : goal.grow_reserved_once-requires-2
@@ -44,17 +41,11 @@ returns-clause-bytes c =
 
 pub returns-clause-room : goal.returns-clause-room
 returns-clause-room c =
-    let first = c.grow_reserved_once in
     let second = c.grow_reserved_once-2 in
-    let kept = c.requires.1.kept in
     let kernel = c.requires.0 in
-    let items = c.args.journal.now.items in
-    let t = c.args.tables.now in
-    let m = c.args.more.now in
-    ok-map second.result (HasRoom m second.new.tables.reserved ⊎ Grew first.new.tables.reserved second.new.tables.reserved)
-    (HasRoom m second.new.tables.reserved)
-    (room-twice which.Reserved m kernel second.new.journal.items second.new.tables c.args.aim t.reserved first.new.tables.reserved
-    (second.ensures.kept kernel (first.ensures.kept kernel kept)) first.ensures.within
-    (room-least which.Reserved kernel items t c.args.aim kept) (few-kept which.Reserved kernel items t c.args.aim kept)
-    c.in_ok-grow_reserved_once.ensures.grew
-    (λ has. ap (λ (u : Contents). u.reserved) (second.ensures.idle has).2)) second.ensures.grew
+    let kept = c.requires.1.kept in
+    room-behind which.Reserved c.args.more.now (reserved_growth c.args.avoid) kernel c.args.journal.now.items second.new.journal.items
+    second.new.tables c.args.aim second.result
+    (reserved-enough c.args.more.now c.args.avoid kernel c.args.journal.now.items c.args.tables.now c.args.aim kept (omega arith)
+    c.grow_reserved_once.ensures.within)
+    (returns-clause-ends c) (returns-clause-kept c kernel kept)
