@@ -1,56 +1,52 @@
--- The deed of each act, and what a line with that deed leaves.
-use Rattle.std.proofs.Common.{◌≡◌, ℕ, None, Result, sym, ◌∙◌, ap, subst, List, [], ◌++◌}
+-- What a line leaves, by the act that it asks for.
+use Rattle.std.proofs.Common.{◌≡◌, ℕ, None, List, [], ◌++◌, Result, IsOk, sym, ap, subst}
 use Rattle.std.proofs.lemmas.List.{append-nil}
-use Rattle.memblock_model.specs.declared.item.Item.{Item}
 use Rattle.bm_base.specs.declared.memory.Memory.{Memory}
-use Rattle.bm_base.specs.Extent.{Extent}
+use Rattle.memblock_model.specs.declared.item.Item.{Item}
 use Rattle.script_reader.specs.declared.act.Act.{Act}
-use Rattle.script_reader.specs.declared.act.Act.TheVariants as acts
-use Rattle.memblock_model.specs.declared.request.Request.{Request}
-use Rattle.growth_model.specs.Bytes.{Follows}
+use Rattle.growth_model.specs.Bytes.{Filled, Follows, Holds}
+use Rattle.memblock_grow.specs.Contents.{Contents}
 use Rattle.early_script.specs.declared.outcome.Outcome.{Outcome}
-use Rattle.early_script.specs.Acted.{State, Deed, Acts, byte_by, deed, alloc_deed, reserve_deed, free_deed, trim_deed, fill_deed, peek_deed}
-use Rattle.early_script.proofs.RunLaws.{bytes-quiet}
-
-pub deed-alloc : (s : State) (bytes : ℕ → ℕ) (a : Act) (id : ℕ) (request : Request) → a ≡ acts.Alloc id request →
-    deed s bytes a ≡ alloc_deed s id request
-unfolding deed
-deed-alloc s bytes a id request is = ap (λ (b : Act). deed s bytes b) is
-
-pub deed-reserve : (s : State) (bytes : ℕ → ℕ) (a : Act) (id : ℕ) (range : Extent) → a ≡ acts.Reserve id range →
-    deed s bytes a ≡ reserve_deed s id range
-unfolding deed
-deed-reserve s bytes a id range is = ap (λ (b : Act). deed s bytes b) is
-
-pub deed-free : (s : State) (bytes : ℕ → ℕ) (a : Act) (id : ℕ) → a ≡ acts.Free id → deed s bytes a ≡ free_deed s id
-unfolding deed
-deed-free s bytes a id is = ap (λ (b : Act). deed s bytes b) is
-
-pub deed-trim : (s : State) (bytes : ℕ → ℕ) (a : Act) (id keep : ℕ) → a ≡ acts.Trim id keep → deed s bytes a ≡ trim_deed s id keep
-unfolding deed
-deed-trim s bytes a id keep is = ap (λ (b : Act). deed s bytes b) is
-
-pub deed-fill : (s : State) (bytes : ℕ → ℕ) (a : Act) (id byte : ℕ) → a ≡ acts.Fill id byte → deed s bytes a ≡ fill_deed s id byte
-unfolding deed
-deed-fill s bytes a id byte is = ap (λ (b : Act). deed s bytes b) is
-
-pub deed-peek : (s : State) (bytes : ℕ → ℕ) (a : Act) (at len : ℕ) → a ≡ acts.Peek at len → deed s bytes a ≡ peek_deed s bytes at len
-unfolding deed
-deed-peek s bytes a at len is = ap (λ (b : Act). deed s bytes b) is
+use Rattle.early_script.specs.Ids.{Ids}
+use Rattle.early_script.specs.Acted.{State, Deed, OnlyAnswers, Acts, byte_by, fills_by, deed}
+use Rattle.early_script.specs.Found.{state_of, bytes_in}
+use Rattle.early_script.proofs.RunLaws.{only-answers, bytes-quiet}
+use Rattle.early_script.proofs.HoldLaws.{holds-quiet}
 
 -- a line that only answers leaves the state as it was
 pub nothing-done : (s : State) → record { kernel = s.kernel; items = s.items ++ []; ids = s.ids } ≡ s
 nothing-done s = ap (λ (is : List Item). let t : State = record { kernel = s.kernel; items = is; ids = s.ids } in
     t) (append-nil s.items)
 
--- a line with an equal deed
-pub acts-as : (r : Result Outcome Memory) (old new : State) (d e : Deed) → d ≡ e → Acts r old new e → Acts r old new d
-acts-as r old new d e same acts = subst (λ (f : Deed). Acts r old new f) (sym same) acts
+-- a call ended as the deed says: in its answer, and in each byte
+pub record Ran (r : Result Outcome Memory) (old new : State) (f g : ℕ → ℕ) (d : Deed) : Type 0 where
+  pub acts : Acts r old new d
+  pub answered : OnlyAnswers old d → IsOk r
+  pub bytes : (x : ℕ) → g x ≡ byte_by r old new d x (f x)
+  pub holds : (fills : List Filled) → Holds old.kernel old.items fills f → Holds new.kernel new.items (fills_by r d fills) g
 
-pub bytes-as : (r : Result Outcome Memory) (old new : State) (d e : Deed) (f g : ℕ → ℕ) → d ≡ e →
-    ((x : ℕ) → g x ≡ byte_by r old new e x (f x)) → (x : ℕ) → g x ≡ byte_by r old new d x (f x)
-bytes-as r old new d e f g same each = subst (λ (h : Deed). (x : ℕ) → g x ≡ byte_by r old new h x (f x)) (sym same) each
+-- as the deed of the act, from the IDs and memblock before to those behind
+abbrev pub RanAct : Result Outcome Memory → Ids → Contents → Ids → Contents → Act → Type 0
+RanAct r ids m next n a = Ran r (state_of ids m) (state_of next n) (bytes_in m) (bytes_in n) (deed (state_of ids m) (bytes_in m) a)
 
-pub quiet-as : (r : Result Outcome Memory) (old new : State) (d e : Deed) (f g : ℕ → ℕ) → d ≡ e → e.fill ≡ None →
-    Follows old.kernel old.items new.items f g → (x : ℕ) → g x ≡ byte_by r old new d x (f x)
-quiet-as r old new d e f g same none follows = bytes-quiet r old new d f g (ap (λ (h : Deed). h.fill) same ∙ none) follows
+-- by an equal act, also where its deed fills nothing
+module _ (r : Result Outcome Memory) (ids : Ids) (m : Contents) (next : Ids) (n : Contents) (a b : Act) (is : a ≡ b) where
+  abbrev d : Deed
+  d = deed (state_of ids m) (bytes_in m) b
+
+  pub ran-as : Acts r (state_of ids m) (state_of next n) d
+      → ((x : ℕ) → bytes_in n x ≡ byte_by r (state_of ids m) (state_of next n) d x (bytes_in m x))
+      → ((fills : List Filled) → Holds m.kernel m.journal.items fills (bytes_in m)
+      → Holds n.kernel n.journal.items (fills_by r d fills) (bytes_in n)) → RanAct r ids m next n a
+  ran-as acts bytes holds = subst (RanAct r ids m next n) (sym is) (record {
+    acts = acts;
+    answered = λ only. only-answers r (state_of ids m) (state_of next n) d only acts;
+    bytes = bytes;
+    holds = holds;
+  })
+
+  pub ran-quiet : d.fill ≡ None → Acts r (state_of ids m) (state_of next n) d
+      → Follows m.kernel m.journal.items n.journal.items (bytes_in m) (bytes_in n) → RanAct r ids m next n a
+  ran-quiet none acts follows =
+      ran-as acts (bytes-quiet r (state_of ids m) (state_of next n) d (bytes_in m) (bytes_in n) none follows)
+      (λ fills holds. holds-quiet r (state_of ids m) (state_of next n) d (bytes_in m) (bytes_in n) fills none acts follows holds)

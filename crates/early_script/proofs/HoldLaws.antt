@@ -24,14 +24,13 @@ fills-quiet (Ok answer) d fills none = ap (λ (o : Option Filled). with_fill fil
 fills-quiet (Err memory) d fills none = refl
 
 -- behind a line that fills nothing
-pub holds-quiet : (r : Result Outcome Memory) (old new : State) (d e : Deed) (f g : ℕ → ℕ) (fills : List Filled) → d ≡ e → e.fill ≡ None →
-    Acts r old new e → Follows old.kernel old.items new.items f g → Holds old.kernel old.items fills f →
+pub holds-quiet : (r : Result Outcome Memory) (old new : State) (d : Deed) (f g : ℕ → ℕ) (fills : List Filled) → d.fill ≡ None →
+    Acts r old new d → Follows old.kernel old.items new.items f g → Holds old.kernel old.items fills f →
     Holds new.kernel new.items (fills_by r d fills) g
-holds-quiet r old new d e f g fills same none acts follows holds =
-    let none_too : d.fill ≡ None = ap (λ (h : Deed). h.fill) same ∙ none in
+holds-quiet r old new d f g fills none acts follows holds =
     let here : Holds old.kernel new.items fills g = holds-call old.kernel old.items new.items fills f g holds follows in
-    subst (λ (fs : List Filled). Holds new.kernel new.items fs g) (sym (fills-quiet r d fills none_too))
-    (subst (λ (k : Extent). Holds k new.items fills g) (sym (acts-kernel r old new e acts)) here)
+    subst (λ (fs : List Filled). Holds new.kernel new.items fs g) (sym (fills-quiet r d fills none))
+    (subst (λ (k : Extent). Holds k new.items fills g) (sym (acts-kernel r old new d acts)) here)
 
 -- with an equal deed
 pub holds-by : (r : Result Outcome Memory) (new : State) (d e : Deed) (g : ℕ → ℕ) (fills : List Filled) → d ≡ e →

@@ -9,16 +9,15 @@ use Rattle.script_reader.specs.declared.act.Act.{Act}
 use Rattle.script_reader.specs.declared.act.Act.TheVariants as acts
 use Rattle.memblock_model.specs.declared.request.Request.{Request}
 use Rattle.growth_model.specs.Carried.{AreQuiet}
-use Rattle.growth_model.specs.Growth.{claimed}
 use Rattle.growth_model.specs.Outcome.{Outcome as Steps, after}
 use Rattle.growth_model.specs.Request.{place_for}
 use Rattle.growth_model.proofs.MemoryItemLaws.{quiet-take}
 use Rattle.growth_model.proofs.QuietLaws.{IsQuiet, claimed-quiet, freed-quiet, quiet-memory, quiet-limit}
 use Rattle.early_script.specs.declared.outcome.Outcome.{Outcome}
 use Rattle.early_script.specs.declared.outcome.Outcome.TheVariants as outcomes
-use Rattle.early_script.specs.Ids.{range_of, is_live, with_range}
+use Rattle.early_script.specs.Ids.{range_of, is_live}
 use Rattle.early_script.specs.Owned.{is_owned, touches}
-use Rattle.early_script.specs.Acted.{State, Deed, Acts, answers, alloc_at, alloc_deed, reserve_deed, on_range, free_whole, trimmed_to, trim_whole, fill_whole, deed}
+use Rattle.early_script.specs.Acted.{State, Deed, Acts, answers, alloc_at, alloc_deed, reserved_for, reserve_deed, on_range, free_whole, trimmed_to, trim_whole, fill_whole, deed}
 use Rattle.early_script.proofs.RunLaws.{ran-cut}
 
 pub record IsQuietDeed (d : Deed) : Type 0 where
@@ -41,8 +40,7 @@ alloc-quiet s id r = either (is_live s.ids id) (answers s outcomes.Taken) (alloc
 
 reserve-quiet : (s : State) (id : ℕ) (range : Extent) → IsQuietDeed (reserve_deed s id range)
 reserve-quiet s id range =
-    let claim : Deed =
-    record { change = claimed range (owner.Script id); answer = outcomes.Done; ids = with_range s.ids id range; fill = None; takes = true } in
+    let claim : Deed = reserved_for s id range in
     either (is_live s.ids id) (answers s outcomes.Taken) (if touches s.kernel s.items range then answers s outcomes.TableInUse else claim)
     (answers-quiet s outcomes.Taken)
     (either (touches s.kernel s.items range) (answers s outcomes.TableInUse) claim (answers-quiet s outcomes.TableInUse)

@@ -17,9 +17,9 @@ use Rattle.growth_model.proofs.EndLaws.{cut-short}
 use Rattle.growth_model.specs.Bytes.{byte_after, Filled, Follows}
 use Rattle.early_script.specs.declared.outcome.Outcome.{Outcome}
 use Rattle.early_script.specs.declared.outcome.Outcome.TheVariants as outcomes
-use Rattle.early_script.specs.Ids.{range_of, is_live, with_range}
+use Rattle.early_script.specs.Ids.{range_of, is_live}
 use Rattle.early_script.specs.Owned.{is_owned, touches}
-use Rattle.early_script.specs.Acted.{State, Deed, RanOut, OnlyAnswers, Acts, answers, alloc_at, alloc_deed, reserve_deed, on_range, free_whole, free_deed, trimmed_to, trim_whole, trim_deed, byte_by, put_by}
+use Rattle.early_script.specs.Acted.{State, Deed, RanOut, OnlyAnswers, Acts, answers, alloc_at, alloc_deed, reserved_for, reserve_deed, on_range, free_whole, free_deed, trimmed_to, trim_whole, trim_deed, byte_by, put_by}
 
 -- where memory ran out, some of the steps stand, or all of them
 pub ran-cut : (takes : Bool) (old new : List Item) (o : growth.Outcome) → RanOut takes old new o → IsCut old new o
@@ -57,7 +57,8 @@ alloc_wanting r old new id q base None wants free found allocates kernel ids = l
 alloc_wanting r old new id q base (Some place) wants free found allocates kernel ids =
     let here : Acts r old new (alloc_at old id q.size (Some place)) =
     acts-wanting ℕ base r old new (alloc_at old id q.size (Some place)) wants refl allocates.1 kernel ids in
-    subst (λ (t : Bool). Acts r old new (if t then answers old outcomes.Taken else alloc_at old id q.size (place_for q old.items))) (sym free)
+    subst (λ (t : Bool). Acts r old new (if t then answers old outcomes.Taken else alloc_at old id q.size (place_for q old.items)))
+    (sym free)
     (subst (λ (o : Option ℕ). Acts r old new (alloc_at old id q.size o)) (sym found) here)
 
 pub alloc-wanting : (r : Result Outcome Memory) (old new : State) (id : ℕ) (q : Request) (base : ℕ) → IsErr r →
@@ -71,8 +72,7 @@ pub reserve-wanting : (r : Result Outcome Memory) (old new : State) (id : ℕ) (
     Ends {T = Unit {0}} (Ok u) old.items new.items (claimed range (owner.Script id)) → new.kernel ≡ old.kernel → new.ids ≡ old.ids →
     Acts r old new (reserve_deed old id range)
 reserve-wanting r old new id range u wants free away ends kernel ids =
-    let claim : Deed =
-    record { change = claimed range (owner.Script id); answer = outcomes.Done; ids = with_range old.ids id range; fill = None; takes = true } in
+    let claim : Deed = reserved_for old id range in
     let here : Acts r old new claim = acts-wanting (Unit {0}) u r old new claim wants refl ends kernel ids in
     subst (λ (t : Bool). Acts r old new (if t then answers old outcomes.Taken else
     (if touches old.kernel old.items range then answers old outcomes.TableInUse else claim))) (sym free)
@@ -99,10 +99,9 @@ alloc-quiet s id r = either (is_live s.ids id) (answers s outcomes.Taken) (alloc
 
 pub reserve-quiet : (s : State) (id : ℕ) (range : Extent) → (reserve_deed s id range).fill ≡ None
 reserve-quiet s id range =
-    let claim : Deed =
-    record { change = claimed range (owner.Script id); answer = outcomes.Done; ids = with_range s.ids id range; fill = None; takes = true } in
-    either (is_live s.ids id) (answers s outcomes.Taken) (if touches s.kernel s.items range then answers s outcomes.TableInUse else
-    claim) refl
+    let claim : Deed = reserved_for s id range in
+    either (is_live s.ids id) (answers s outcomes.Taken)
+    (if touches s.kernel s.items range then answers s outcomes.TableInUse else claim) refl
     (either (touches s.kernel s.items range) (answers s outcomes.TableInUse) claim refl refl)
 
 whole_quiet : (s : State) (id : ℕ) (deed : Extent → Deed) (range : Option Extent) → ((r : Extent) → (deed r).fill ≡ None) →

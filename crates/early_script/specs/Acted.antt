@@ -60,11 +60,19 @@ abbrev pub alloc_deed : State → ℕ → Request → Deed
 alloc_deed s id r = if is_live s.ids id then answers s outcomes.Taken else alloc_at s id r.size (place_for r s.items)
 
 -- reserve: the range is claimed for the ID, unless it meets a table
+abbrev pub reserved_for : State → ℕ → Extent → Deed
+reserved_for s id range = record {
+  change = claimed range (owner.Script id);
+  answer = outcomes.Done;
+  ids = with_range s.ids id range;
+  fill = None;
+  takes = true;
+}
+
 abbrev pub reserve_deed : State → ℕ → Extent → Deed
 reserve_deed s id range =
     if is_live s.ids id then answers s outcomes.Taken else
-    (if touches s.kernel s.items range then answers s outcomes.TableInUse else
-    record { change = claimed range (owner.Script id); answer = outcomes.Done; ids = with_range s.ids id range; fill = None; takes = true })
+    (if touches s.kernel s.items range then answers s outcomes.TableInUse else reserved_for s id range)
 
 -- an act on the range of a live ID, of which nobody else has a byte
 abbrev pub on_range : State → ℕ → (Extent → Deed) → Option Extent → Deed
@@ -137,8 +145,8 @@ answer_of s d = answer_to (d.change s.items).refused d.answer
 abbrev pub state_after : State → Deed → State
 state_after s d = state_by s d.ids (d.change s.items)
 
--- the program's own memory ran out: before a step of the change that was still to be taken; or behind all of them, where none was refused and
--- memory is taken then
+-- the program's own memory ran out: before a step of the change that was still to be taken; or behind all of them, where none was refused
+-- and memory is taken then
 abbrev pub RanOut : Bool → List Item → List Item → growth.Outcome → Type 0
 RanOut takes old new o = IsCutShort old new o ⊎ (IsTrue takes × (o.refused ≡ None) × (new ≡ after old o))
 

@@ -1,191 +1,132 @@
 -- Each act is a call of its own, whose deed is the act's.
 use Rattle.std.proofs.Common.{Ok, refl, subst, sym}
 use Rattle.script_reader.specs.declared.act.Act.{Act}
+use Rattle.script_reader.specs.declared.act.Act.TheVariants as acts
 use Rattle.script_reader.specs.Forms.{HasBounds}
-use Rattle.early_script.specs.Acted.{deed, alloc_deed, reserve_deed, free_deed, trim_deed, fill_deed, peek_deed}
-use Rattle.early_script.specs.Found.{state_of, bytes_in}
+use Rattle.early_script.specs.Acted.{deed}
+use Rattle.early_script.specs.Found.{state_of}
 use Rattle.early_script.proofs.PowerLaws.{power_of}
-use Rattle.early_script.proofs.RunLaws.{only-answers, alloc-quiet, reserve-quiet, free-quiet, trim-quiet}
-use Rattle.early_script.proofs.DeedLaws.{deed-alloc, deed-reserve, deed-free, deed-trim, deed-fill, deed-peek, nothing-done, acts-as, bytes-as, quiet-as}
-use Rattle.early_script.proofs.HoldLaws.{holds-quiet, holds-by}
+use Rattle.early_script.proofs.RunLaws.{alloc-quiet, reserve-quiet, free-quiet, trim-quiet}
+use Rattle.early_script.proofs.DeedLaws.{nothing-done, RanAct, ran-as, ran-quiet}
 use Rattle.early_script.proofs.live.Live.run_line.Goals as goal
+use Rattle.early_script.proofs.live.Live.run_line.Goals.{After-alloc, After-reserve, After-free, After-trim, After-fill, After-peek}
 
 pub alloc-requires-clause-aligned : goal.alloc-requires-clause-aligned
 alloc-requires-clause-aligned c =
     let bounds = subst (λ (a : Act). HasBounds a) c.in-Alloc.is c.requires.bounds in
     power_of c.in-Alloc.request.align bounds.1
 
+alloced : (c : After-alloc) → RanAct c.alloc.result c.args.self.now c.args.mb.now c.alloc.new.self c.alloc.new.mb c.args.line.now.act
+unfolding deed
+alloced c =
+    ran-quiet c.alloc.result c.args.self.now c.args.mb.now c.alloc.new.self c.alloc.new.mb c.args.line.now.act
+    (acts.Alloc c.in-Alloc.id c.in-Alloc.request) c.in-Alloc.is
+    (alloc-quiet (state_of c.args.self.now c.args.mb.now) c.in-Alloc.id c.in-Alloc.request)
+    c.alloc.ensures.acts c.alloc.ensures.bytes
+
+reserved : (c : After-reserve)
+    → RanAct c.reserve.result c.args.self.now c.args.mb.now c.reserve.new.self c.reserve.new.mb c.args.line.now.act
+unfolding deed
+reserved c =
+    ran-quiet c.reserve.result c.args.self.now c.args.mb.now c.reserve.new.self c.reserve.new.mb c.args.line.now.act
+    (acts.Reserve c.in-Reserve.id c.in-Reserve.range) c.in-Reserve.is
+    (reserve-quiet (state_of c.args.self.now c.args.mb.now) c.in-Reserve.id c.in-Reserve.range)
+    c.reserve.ensures.acts c.reserve.ensures.bytes
+
+freed : (c : After-free) → RanAct c.free.result c.args.self.now c.args.mb.now c.free.new.self c.free.new.mb c.args.line.now.act
+unfolding deed
+freed c =
+    ran-quiet c.free.result c.args.self.now c.args.mb.now c.free.new.self c.free.new.mb c.args.line.now.act
+    (acts.Free c.in-Free.id) c.in-Free.is
+    (free-quiet (state_of c.args.self.now c.args.mb.now) c.in-Free.id)
+    c.free.ensures.acts c.free.ensures.bytes
+
+trimmed : (c : After-trim) → RanAct c.trim.result c.args.self.now c.args.mb.now c.trim.new.self c.trim.new.mb c.args.line.now.act
+unfolding deed
+trimmed c =
+    ran-quiet c.trim.result c.args.self.now c.args.mb.now c.trim.new.self c.trim.new.mb c.args.line.now.act
+    (acts.Trim c.in-Trim.id c.in-Trim.keep) c.in-Trim.is
+    (trim-quiet (state_of c.args.self.now c.args.mb.now) c.in-Trim.id c.in-Trim.keep)
+    c.trim.ensures.acts c.trim.ensures.bytes
+
+filled : (c : After-fill) → RanAct c.fill.result c.args.self.now c.args.mb.now c.fill.new.self c.fill.new.mb c.args.line.now.act
+unfolding deed
+filled c =
+    ran-as c.fill.result c.args.self.now c.args.mb.now c.fill.new.self c.fill.new.mb c.args.line.now.act
+    (acts.Fill c.in-Fill.id c.in-Fill.byte) c.in-Fill.is c.fill.ensures.acts c.fill.ensures.bytes c.fill.ensures.holds
+
+peeked : (c : After-peek) → RanAct (Ok c.peek.result) c.args.self.now c.args.mb.now c.args.self.now c.args.mb.now c.args.line.now.act
+unfolding deed
+peeked c =
+    ran-quiet (Ok c.peek.result) c.args.self.now c.args.mb.now c.args.self.now c.args.mb.now c.args.line.now.act
+    (acts.Peek c.in-Peek.at c.in-Peek.len) c.in-Peek.is refl
+    (c.peek.ensures.told, sym (nothing-done (state_of c.args.self.now c.args.mb.now))) c.peek.ensures.still
+
 pub returns-in-Alloc-clause-acts : goal.returns-in-Alloc-clause-acts
-returns-in-Alloc-clause-acts c =
-    let old = state_of c.args.self.now c.args.mb.now in
-    let new = state_of c.alloc.new.self c.alloc.new.mb in
-    let is = deed-alloc old (bytes_in c.args.mb.now) c.args.line.now.act c.in-Alloc.id c.in-Alloc.request c.in-Alloc.is in
-    acts-as c.alloc.result old new _ (alloc_deed old c.in-Alloc.id c.in-Alloc.request) is c.alloc.ensures.acts
-
-pub returns-in-Alloc-clause-bytes : goal.returns-in-Alloc-clause-bytes
-returns-in-Alloc-clause-bytes c =
-    let old = state_of c.args.self.now c.args.mb.now in
-    let new = state_of c.alloc.new.self c.alloc.new.mb in
-    let is = deed-alloc old (bytes_in c.args.mb.now) c.args.line.now.act c.in-Alloc.id c.in-Alloc.request c.in-Alloc.is in
-    quiet-as c.alloc.result old new _ (alloc_deed old c.in-Alloc.id c.in-Alloc.request) (bytes_in c.args.mb.now) (bytes_in c.alloc.new.mb) is
-    (alloc-quiet old c.in-Alloc.id c.in-Alloc.request) c.alloc.ensures.bytes
-
-pub returns-in-Reserve-clause-acts : goal.returns-in-Reserve-clause-acts
-returns-in-Reserve-clause-acts c =
-    let old = state_of c.args.self.now c.args.mb.now in
-    let new = state_of c.reserve.new.self c.reserve.new.mb in
-    let is = deed-reserve old (bytes_in c.args.mb.now) c.args.line.now.act c.in-Reserve.id c.in-Reserve.range c.in-Reserve.is in
-    acts-as c.reserve.result old new _ (reserve_deed old c.in-Reserve.id c.in-Reserve.range) is c.reserve.ensures.acts
-
-pub returns-in-Reserve-clause-bytes : goal.returns-in-Reserve-clause-bytes
-returns-in-Reserve-clause-bytes c =
-    let old = state_of c.args.self.now c.args.mb.now in
-    let new = state_of c.reserve.new.self c.reserve.new.mb in
-    let is = deed-reserve old (bytes_in c.args.mb.now) c.args.line.now.act c.in-Reserve.id c.in-Reserve.range c.in-Reserve.is in
-    quiet-as c.reserve.result old new _ (reserve_deed old c.in-Reserve.id c.in-Reserve.range) (bytes_in c.args.mb.now) (bytes_in
-    c.reserve.new.mb) is
-    (reserve-quiet old c.in-Reserve.id c.in-Reserve.range) c.reserve.ensures.bytes
-
-pub returns-in-Free-clause-acts : goal.returns-in-Free-clause-acts
-returns-in-Free-clause-acts c =
-    let old = state_of c.args.self.now c.args.mb.now in
-    let new = state_of c.free.new.self c.free.new.mb in
-    let is = deed-free old (bytes_in c.args.mb.now) c.args.line.now.act c.in-Free.id c.in-Free.is in
-    acts-as c.free.result old new _ (free_deed old c.in-Free.id) is c.free.ensures.acts
-
-pub returns-in-Free-clause-bytes : goal.returns-in-Free-clause-bytes
-returns-in-Free-clause-bytes c =
-    let old = state_of c.args.self.now c.args.mb.now in
-    let new = state_of c.free.new.self c.free.new.mb in
-    let is = deed-free old (bytes_in c.args.mb.now) c.args.line.now.act c.in-Free.id c.in-Free.is in
-    quiet-as c.free.result old new _ (free_deed old c.in-Free.id) (bytes_in c.args.mb.now) (bytes_in c.free.new.mb) is
-    (free-quiet old c.in-Free.id) c.free.ensures.bytes
-
-pub returns-in-Trim-clause-acts : goal.returns-in-Trim-clause-acts
-returns-in-Trim-clause-acts c =
-    let old = state_of c.args.self.now c.args.mb.now in
-    let new = state_of c.trim.new.self c.trim.new.mb in
-    let is = deed-trim old (bytes_in c.args.mb.now) c.args.line.now.act c.in-Trim.id c.in-Trim.keep c.in-Trim.is in
-    acts-as c.trim.result old new _ (trim_deed old c.in-Trim.id c.in-Trim.keep) is c.trim.ensures.acts
-
-pub returns-in-Trim-clause-bytes : goal.returns-in-Trim-clause-bytes
-returns-in-Trim-clause-bytes c =
-    let old = state_of c.args.self.now c.args.mb.now in
-    let new = state_of c.trim.new.self c.trim.new.mb in
-    let is = deed-trim old (bytes_in c.args.mb.now) c.args.line.now.act c.in-Trim.id c.in-Trim.keep c.in-Trim.is in
-    quiet-as c.trim.result old new _ (trim_deed old c.in-Trim.id c.in-Trim.keep) (bytes_in c.args.mb.now) (bytes_in c.trim.new.mb) is
-    (trim-quiet old c.in-Trim.id c.in-Trim.keep) c.trim.ensures.bytes
-
-pub returns-in-Fill-clause-acts : goal.returns-in-Fill-clause-acts
-returns-in-Fill-clause-acts c =
-    let old = state_of c.args.self.now c.args.mb.now in
-    let new = state_of c.fill.new.self c.fill.new.mb in
-    let is = deed-fill old (bytes_in c.args.mb.now) c.args.line.now.act c.in-Fill.id c.in-Fill.byte c.in-Fill.is in
-    acts-as c.fill.result old new _ (fill_deed old c.in-Fill.id c.in-Fill.byte) is c.fill.ensures.acts
-
-pub returns-in-Fill-clause-bytes : goal.returns-in-Fill-clause-bytes
-returns-in-Fill-clause-bytes c =
-    let old = state_of c.args.self.now c.args.mb.now in
-    let new = state_of c.fill.new.self c.fill.new.mb in
-    let is = deed-fill old (bytes_in c.args.mb.now) c.args.line.now.act c.in-Fill.id c.in-Fill.byte c.in-Fill.is in
-    bytes-as c.fill.result old new _ (fill_deed old c.in-Fill.id c.in-Fill.byte) (bytes_in c.args.mb.now) (bytes_in c.fill.new.mb) is
-    c.fill.ensures.bytes
-
-pub returns-in-Peek-clause-acts : goal.returns-in-Peek-clause-acts
-returns-in-Peek-clause-acts c =
-    let old = state_of c.args.self.now c.args.mb.now in
-    let is = deed-peek old (bytes_in c.args.mb.now) c.args.line.now.act c.in-Peek.at c.in-Peek.len c.in-Peek.is in
-    acts-as (Ok c.peek.result) old old _ (peek_deed old (bytes_in c.args.mb.now) c.in-Peek.at c.in-Peek.len) is
-    (c.peek.ensures.told, sym (nothing-done old))
-
-pub returns-in-Peek-clause-bytes : goal.returns-in-Peek-clause-bytes
-returns-in-Peek-clause-bytes c =
-    let old = state_of c.args.self.now c.args.mb.now in
-    let is = deed-peek old (bytes_in c.args.mb.now) c.args.line.now.act c.in-Peek.at c.in-Peek.len c.in-Peek.is in
-    quiet-as (Ok c.peek.result) old old _ (peek_deed old (bytes_in c.args.mb.now) c.in-Peek.at c.in-Peek.len) (bytes_in c.args.mb.now)
-    (bytes_in c.args.mb.now) is refl c.peek.ensures.still
-
-pub returns-in-Alloc-clause-holds : goal.returns-in-Alloc-clause-holds
-returns-in-Alloc-clause-holds c = λ fills holds.
-    let old = state_of c.args.self.now c.args.mb.now in
-    let new = state_of c.alloc.new.self c.alloc.new.mb in
-    let is = deed-alloc old (bytes_in c.args.mb.now) c.args.line.now.act c.in-Alloc.id c.in-Alloc.request c.in-Alloc.is in
-    holds-quiet c.alloc.result old new _ (alloc_deed old c.in-Alloc.id c.in-Alloc.request) (bytes_in c.args.mb.now) (bytes_in c.alloc.new.mb)
-    fills is
-    (alloc-quiet old c.in-Alloc.id c.in-Alloc.request) c.alloc.ensures.acts c.alloc.ensures.bytes holds
-
-pub returns-in-Reserve-clause-holds : goal.returns-in-Reserve-clause-holds
-returns-in-Reserve-clause-holds c = λ fills holds.
-    let old = state_of c.args.self.now c.args.mb.now in
-    let new = state_of c.reserve.new.self c.reserve.new.mb in
-    let is = deed-reserve old (bytes_in c.args.mb.now) c.args.line.now.act c.in-Reserve.id c.in-Reserve.range c.in-Reserve.is in
-    holds-quiet c.reserve.result old new _ (reserve_deed old c.in-Reserve.id c.in-Reserve.range) (bytes_in c.args.mb.now) (bytes_in
-    c.reserve.new.mb) fills is
-    (reserve-quiet old c.in-Reserve.id c.in-Reserve.range) c.reserve.ensures.acts c.reserve.ensures.bytes holds
-
-pub returns-in-Free-clause-holds : goal.returns-in-Free-clause-holds
-returns-in-Free-clause-holds c = λ fills holds.
-    let old = state_of c.args.self.now c.args.mb.now in
-    let new = state_of c.free.new.self c.free.new.mb in
-    let is = deed-free old (bytes_in c.args.mb.now) c.args.line.now.act c.in-Free.id c.in-Free.is in
-    holds-quiet c.free.result old new _ (free_deed old c.in-Free.id) (bytes_in c.args.mb.now) (bytes_in c.free.new.mb) fills is
-    (free-quiet old c.in-Free.id) c.free.ensures.acts c.free.ensures.bytes holds
-
-pub returns-in-Trim-clause-holds : goal.returns-in-Trim-clause-holds
-returns-in-Trim-clause-holds c = λ fills holds.
-    let old = state_of c.args.self.now c.args.mb.now in
-    let new = state_of c.trim.new.self c.trim.new.mb in
-    let is = deed-trim old (bytes_in c.args.mb.now) c.args.line.now.act c.in-Trim.id c.in-Trim.keep c.in-Trim.is in
-    holds-quiet c.trim.result old new _ (trim_deed old c.in-Trim.id c.in-Trim.keep) (bytes_in c.args.mb.now) (bytes_in c.trim.new.mb)
-    fills is
-    (trim-quiet old c.in-Trim.id c.in-Trim.keep) c.trim.ensures.acts c.trim.ensures.bytes holds
-
-pub returns-in-Fill-clause-holds : goal.returns-in-Fill-clause-holds
-returns-in-Fill-clause-holds c = λ fills holds.
-    let old = state_of c.args.self.now c.args.mb.now in
-    let new = state_of c.fill.new.self c.fill.new.mb in
-    let is = deed-fill old (bytes_in c.args.mb.now) c.args.line.now.act c.in-Fill.id c.in-Fill.byte c.in-Fill.is in
-    holds-by c.fill.result new _ (fill_deed old c.in-Fill.id c.in-Fill.byte) (bytes_in c.fill.new.mb) fills is (c.fill.ensures.holds
-    fills holds)
-
-pub returns-in-Peek-clause-holds : goal.returns-in-Peek-clause-holds
-returns-in-Peek-clause-holds c = λ fills holds.
-    let old = state_of c.args.self.now c.args.mb.now in
-    let is = deed-peek old (bytes_in c.args.mb.now) c.args.line.now.act c.in-Peek.at c.in-Peek.len c.in-Peek.is in
-    holds-quiet (Ok c.peek.result) old old _ (peek_deed old (bytes_in c.args.mb.now) c.in-Peek.at c.in-Peek.len) (bytes_in c.args.mb.now)
-    (bytes_in c.args.mb.now) fills is refl (c.peek.ensures.told, sym (nothing-done old)) c.peek.ensures.still holds
+returns-in-Alloc-clause-acts c = (alloced (goal.at.returns-in-Alloc-clause-acts c).After-alloc).acts
 
 pub returns-in-Alloc-clause-answered : goal.returns-in-Alloc-clause-answered
-returns-in-Alloc-clause-answered c = λ only.
-    let old = state_of c.args.self.now c.args.mb.now in
-    let new = state_of c.alloc.new.self c.alloc.new.mb in
-    let is = deed-alloc old (bytes_in c.args.mb.now) c.args.line.now.act c.in-Alloc.id c.in-Alloc.request c.in-Alloc.is in
-    only-answers c.alloc.result old new _ only (acts-as c.alloc.result old new _ (alloc_deed old c.in-Alloc.id c.in-Alloc.request) is c.alloc.ensures.acts)
+returns-in-Alloc-clause-answered c = (alloced (goal.at.returns-in-Alloc-clause-answered c).After-alloc).answered
+
+pub returns-in-Alloc-clause-bytes : goal.returns-in-Alloc-clause-bytes
+returns-in-Alloc-clause-bytes c = (alloced (goal.at.returns-in-Alloc-clause-bytes c).After-alloc).bytes
+
+pub returns-in-Alloc-clause-holds : goal.returns-in-Alloc-clause-holds
+returns-in-Alloc-clause-holds c = (alloced (goal.at.returns-in-Alloc-clause-holds c).After-alloc).holds
+
+pub returns-in-Reserve-clause-acts : goal.returns-in-Reserve-clause-acts
+returns-in-Reserve-clause-acts c = (reserved (goal.at.returns-in-Reserve-clause-acts c).After-reserve).acts
 
 pub returns-in-Reserve-clause-answered : goal.returns-in-Reserve-clause-answered
-returns-in-Reserve-clause-answered c = λ only.
-    let old = state_of c.args.self.now c.args.mb.now in
-    let new = state_of c.reserve.new.self c.reserve.new.mb in
-    let is = deed-reserve old (bytes_in c.args.mb.now) c.args.line.now.act c.in-Reserve.id c.in-Reserve.range c.in-Reserve.is in
-    only-answers c.reserve.result old new _ only (acts-as c.reserve.result old new _ (reserve_deed old c.in-Reserve.id c.in-Reserve.range) is c.reserve.ensures.acts)
+returns-in-Reserve-clause-answered c = (reserved (goal.at.returns-in-Reserve-clause-answered c).After-reserve).answered
+
+pub returns-in-Reserve-clause-bytes : goal.returns-in-Reserve-clause-bytes
+returns-in-Reserve-clause-bytes c = (reserved (goal.at.returns-in-Reserve-clause-bytes c).After-reserve).bytes
+
+pub returns-in-Reserve-clause-holds : goal.returns-in-Reserve-clause-holds
+returns-in-Reserve-clause-holds c = (reserved (goal.at.returns-in-Reserve-clause-holds c).After-reserve).holds
+
+pub returns-in-Free-clause-acts : goal.returns-in-Free-clause-acts
+returns-in-Free-clause-acts c = (freed (goal.at.returns-in-Free-clause-acts c).After-free).acts
 
 pub returns-in-Free-clause-answered : goal.returns-in-Free-clause-answered
-returns-in-Free-clause-answered c = λ only.
-    let old = state_of c.args.self.now c.args.mb.now in
-    let new = state_of c.free.new.self c.free.new.mb in
-    let is = deed-free old (bytes_in c.args.mb.now) c.args.line.now.act c.in-Free.id c.in-Free.is in
-    only-answers c.free.result old new _ only (acts-as c.free.result old new _ (free_deed old c.in-Free.id) is c.free.ensures.acts)
+returns-in-Free-clause-answered c = (freed (goal.at.returns-in-Free-clause-answered c).After-free).answered
+
+pub returns-in-Free-clause-bytes : goal.returns-in-Free-clause-bytes
+returns-in-Free-clause-bytes c = (freed (goal.at.returns-in-Free-clause-bytes c).After-free).bytes
+
+pub returns-in-Free-clause-holds : goal.returns-in-Free-clause-holds
+returns-in-Free-clause-holds c = (freed (goal.at.returns-in-Free-clause-holds c).After-free).holds
+
+pub returns-in-Trim-clause-acts : goal.returns-in-Trim-clause-acts
+returns-in-Trim-clause-acts c = (trimmed (goal.at.returns-in-Trim-clause-acts c).After-trim).acts
 
 pub returns-in-Trim-clause-answered : goal.returns-in-Trim-clause-answered
-returns-in-Trim-clause-answered c = λ only.
-    let old = state_of c.args.self.now c.args.mb.now in
-    let new = state_of c.trim.new.self c.trim.new.mb in
-    let is = deed-trim old (bytes_in c.args.mb.now) c.args.line.now.act c.in-Trim.id c.in-Trim.keep c.in-Trim.is in
-    only-answers c.trim.result old new _ only (acts-as c.trim.result old new _ (trim_deed old c.in-Trim.id c.in-Trim.keep) is c.trim.ensures.acts)
+returns-in-Trim-clause-answered c = (trimmed (goal.at.returns-in-Trim-clause-answered c).After-trim).answered
+
+pub returns-in-Trim-clause-bytes : goal.returns-in-Trim-clause-bytes
+returns-in-Trim-clause-bytes c = (trimmed (goal.at.returns-in-Trim-clause-bytes c).After-trim).bytes
+
+pub returns-in-Trim-clause-holds : goal.returns-in-Trim-clause-holds
+returns-in-Trim-clause-holds c = (trimmed (goal.at.returns-in-Trim-clause-holds c).After-trim).holds
+
+pub returns-in-Fill-clause-acts : goal.returns-in-Fill-clause-acts
+returns-in-Fill-clause-acts c = (filled (goal.at.returns-in-Fill-clause-acts c).After-fill).acts
 
 pub returns-in-Fill-clause-answered : goal.returns-in-Fill-clause-answered
-returns-in-Fill-clause-answered c = λ only.
-    let old = state_of c.args.self.now c.args.mb.now in
-    let new = state_of c.fill.new.self c.fill.new.mb in
-    let is = deed-fill old (bytes_in c.args.mb.now) c.args.line.now.act c.in-Fill.id c.in-Fill.byte c.in-Fill.is in
-    only-answers c.fill.result old new _ only (acts-as c.fill.result old new _ (fill_deed old c.in-Fill.id c.in-Fill.byte) is c.fill.ensures.acts)
+returns-in-Fill-clause-answered c = (filled (goal.at.returns-in-Fill-clause-answered c).After-fill).answered
+
+pub returns-in-Fill-clause-bytes : goal.returns-in-Fill-clause-bytes
+returns-in-Fill-clause-bytes c = (filled (goal.at.returns-in-Fill-clause-bytes c).After-fill).bytes
+
+pub returns-in-Fill-clause-holds : goal.returns-in-Fill-clause-holds
+returns-in-Fill-clause-holds c = (filled (goal.at.returns-in-Fill-clause-holds c).After-fill).holds
+
+pub returns-in-Peek-clause-acts : goal.returns-in-Peek-clause-acts
+returns-in-Peek-clause-acts c = (peeked (goal.at.returns-in-Peek-clause-acts c).After-peek).acts
+
+pub returns-in-Peek-clause-bytes : goal.returns-in-Peek-clause-bytes
+returns-in-Peek-clause-bytes c = (peeked (goal.at.returns-in-Peek-clause-bytes c).After-peek).bytes
+
+pub returns-in-Peek-clause-holds : goal.returns-in-Peek-clause-holds
+returns-in-Peek-clause-holds c = (peeked (goal.at.returns-in-Peek-clause-holds c).After-peek).holds
