@@ -6,10 +6,6 @@
 # It tells how many allocations each run has: 108 to 281. Where there are more than MOST, 2000 unless it is given, it takes as many
 # numbers, evenly spaced; as many runs go at once as there are processors.
 # It isn't part of the gate: it needs a C compiler, and a program that takes malloc by LD_PRELOAD, which a sanitizer's doesn't.
-set -u
-unset CDPATH
-top=$(cd "$(dirname "$0")/.." && pwd)
-work=$(mktemp -d) || exit 1
-trap 'rm -rf "$work"' EXIT
+. "$(dirname "$0")/counted.sh"
 "${CC:-cc}" -shared -fPIC -O2 -o "$work/fail_alloc.so" "$top/tests/fail_alloc.c" || exit 1
 "$top/tests/allocations.py" "$work/fail_alloc.so" "${1:-$top/bootmem}" "${2:-2000}"

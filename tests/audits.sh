@@ -2,21 +2,9 @@
 # audits.sh [PROGRAM [AUDIT]]: the reports map, owners and blocks that PROGRAM makes of every machine of examples/ audit as sound, with
 # status 0 and nothing on standard error. Then what AUDIT says where a line of one of them is gone, where a file, the words or
 # the output are at fault, and of three empty files. Prints a line for each difference, and 'N passed, M failed' at its end.
-set -u
-unset CDPATH
-top=$(cd "$(dirname "$0")/.." && pwd)
-program=$(cd "$(dirname "${1:-$top/bootmem}")" && pwd)/$(basename "${1:-$top/bootmem}")
-audit=$(cd "$(dirname "${2:-$top/bootaudit}")" && pwd)/$(basename "${2:-$top/bootaudit}")
-work=$(mktemp -d) || exit 1
-trap 'rm -rf "$work"' EXIT
-passed=0
-failed=0
-for built in "$program" "$audit"; do
-	[ -x "$built" ] || {
-		echo "audits.sh: there is no program $built: 'make' builds both" >&2
-		exit 2
-	}
-done
+. "$(dirname "$0")/counted.sh"
+program=$(built "${1:-$top/bootmem}") || exit 2
+audit=$(built "${2:-$top/bootaudit}") || exit 2
 
 # says WHAT STATUS TEXT LINE WORD..: the audit on these words: its status, its output, and its standard error
 says() {
@@ -24,13 +12,7 @@ says() {
 	wanted=$(printf '%s|%s|%s' "$2" "$3" "$4")
 	shift 4
 	(cd "$work" && exec "$audit" "$@") >"$work/out" 2>"$work/err"
-	got=$(printf '%s|%s|%s' "$?" "$(cat "$work/out")" "$(cat "$work/err")")
-	if [ "$got" = "$wanted" ]; then
-		passed=$((passed + 1))
-	else
-		failed=$((failed + 1))
-		echo "$what: $got, wanted $wanted"
-	fi
+	is "$what" "$(printf '%s|%s|%s' "$?" "$(cat "$work/out")" "$(cat "$work/err")")" "$wanted"
 }
 
 # reports FOLDER: the three reports of the machine in the folder, as the files of their names; the words are the machine's
@@ -67,13 +49,6 @@ says "an option behind" 2 '' 'bootaudit: usage' map owners blocks --la57
 says "what isn't UTF-8" 2 '' '' map owners "$(printf '\377')"
 truncate -s 536870913 "$work/long" && says "a file of 512 MiB and a byte" 5 '' 'bootaudit: map: too long' long owners blocks
 (cd "$work" && exec "$audit" map owners blocks) >/dev/full 2>"$work/err"
-got="$? $(cat "$work/err")"
-if [ "$got" = "4 bootaudit: cannot write" ]; then
-	passed=$((passed + 1))
-else
-	failed=$((failed + 1))
-	echo "a full device: $got"
-fi
+is "a full device" "$? $(cat "$work/err")" "4 bootaudit: cannot write"
 
-echo "$passed passed, $failed failed; $machines machines"
-[ "$failed" -eq 0 ] && [ "$machines" -gt 30 ]
+counted "; $machines machines" && [ "$machines" -gt 30 ]

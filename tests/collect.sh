@@ -1,43 +1,18 @@
 #!/bin/sh
 # collect.sh: runs tools/collect.sh over folders that imitate /sys and /proc, and compares what it gathered.
 # Prints a line for each difference, and 'N passed, M failed' at its end.
-set -u
-unset CDPATH
-top=$(cd "$(dirname "$0")/.." && pwd)
-work=$(mktemp -d) || exit 1
-trap 'rm -rf "$work"' EXIT
-passed=0
-failed=0
+. "$(dirname "$0")/counted.sh"
 
 # same WHAT FILE TEXT: the file's bytes, as od prints them, are these
 same() {
-	got=$(od -An -v -tx1 "$2" 2>/dev/null | tr -d ' \n')
-	if [ "$got" = "$3" ]; then
-		passed=$((passed + 1))
-	else
-		failed=$((failed + 1))
-		echo "$1: $got, wanted $3"
-	fi
-}
-
-# is WHAT GOT WANTED: the two are the same
-is() {
-	if [ "$2" = "$3" ]; then
-		passed=$((passed + 1))
-	else
-		failed=$((failed + 1))
-		echo "$1: $2, wanted $3"
-	fi
+	is "$1" "$(od -An -v -tx1 "$2" 2>/dev/null | tr -d ' \n')" "$3"
 }
 
 # says WHAT TEXT LINE: the text has the line
 says() {
 	case $2 in
-	*"$3"*) passed=$((passed + 1)) ;;
-	*)
-		failed=$((failed + 1))
-		echo "$1: no line '$3' in '$2'"
-		;;
+	*"$3"*) right ;;
+	*) wrong "$1: no line '$3' in '$2'" ;;
 	esac
 }
 
@@ -174,5 +149,4 @@ done
 is "status of --help" "$? $(cat "$work/err")" "0 "
 says "--help" "$(cat "$work/said")" "usage: collect.sh [--sys DIR] [--proc DIR] [--cmdline FILE] FOLDER"
 
-echo "$passed passed, $failed failed"
-[ "$failed" -eq 0 ]
+counted

@@ -8,13 +8,12 @@ Prints a line for each difference, and 'N passed, M failed' at its end. It needs
 import os
 import re
 import shutil
-import struct
 import sys
-import tempfile
 
 sys.dont_write_bytecode = True
 sys.path.insert(0, os.path.dirname(os.path.abspath(__file__)))
-from tools import COUNTS, EXAMPLES, PROGRAM, TOP, bytes_of, check, example, has, last_line, program, shown_examples, stand_in, \
+from inputs import memory_of, srat, zero_page  # noqa: E402
+from tools import EXAMPLES, PROGRAM, TOP, bytes_of, check, example, has, last_line, program, run_all, shown_examples, stand_in, \
     text_of, tool, words_of, write  # noqa: E402
 
 MIB, GIB = 1 << 20, 1 << 30
@@ -23,29 +22,11 @@ ADDED = "add_efi_memmap: EFI's descriptors are added to the map (do_add_efi_memm
 NOTED = "log_buf_len=1M: passed over: a longer log buffer is claimed before the crash area (setup_log_buf)\n"
 
 
-def page_of(entries, signature=b""):
-    """A zero page with these entries (base, size, type), and the signature of EFI's information."""
-    page = bytearray(4096)
-    page[0x1C0:0x1C0 + len(signature)] = signature
-    page[0x1E8] = len(entries)
-    for index, entry in enumerate(entries):
-        struct.pack_into("<QQI", page, 0x2D0 + 20 * index, *entry)
-    return bytes(page)
-
-
 def machine_of(size):
     """The entries of a virtual machine of this size: its firmware keeps some of it, and from 3 GiB on it goes on at 4 GiB."""
     low = min(size, 3 * GIB)
     entries = [(0, 0x9FC00, 1), (0x9FC00, 0x400, 2), (0xF0000, 0x10000, 2), (MIB, low - MIB - 0x21000, 1), (low - 0x21000, 0x21000, 2)]
     return entries + ([(4 * GIB, size - low, 1)] if size > low else [])
-
-
-def srat_of(blocks):
-    """An SRAT with these blocks (domain, base, size), all enabled."""
-    entries = b"".join(struct.pack("<BBIHQQIIQ", 1, 40, domain, 0, base, size, 0, 1, 0) for domain, base, size in blocks)
-    table = bytearray(b"SRAT" + struct.pack("<IBB", 48 + len(entries), 3, 0) + bytes(26) + struct.pack("<IQ", 1, 0) + entries)
-    table[9] = -sum(table) % 256
-    return bytes(table)
 
 
 def test_boots(_):
@@ -68,7 +49,7 @@ MACHINES = ((512 * MIB, None, None), (GIB, "192M", None), (2 * GIB, "192M", "320
 def test_ranges(work):
     """The size that the kernel picks, which rounds total memory up to 128 MiB, on seven machines; the program then finds that size."""
     for size, *wanted in MACHINES:
-        write(os.path.join(work, "zp"), page_of(machine_of(size)))
+        write(os.path.join(work, "zp"), zero_page(machine_of(size)))
         for ranges, said in zip((FIRST, SECOND), wanted):
             status, out, err = tool("bootmem-line", "-", "zp", given=f"quiet crashkernel={ranges}\n", folder=work)
             write(os.path.join(work, "line"), out.encode())
@@ -81,7 +62,7 @@ def test_ranges(work):
                   (1, f"quiet crashkernel={said}\n"))
             check(f"ranges {size >> 20} MiB {ranges}: why", "(parse_crashkernel_mem)" in err, not kept)
     # a firmware's partial frame counts, with a whole one beside it: 512 MiB in whole frames, and 3 KiB more
-    write(os.path.join(work, "zp"), page_of([(0, 0x9FC00, 1), (MIB, 512 * MIB - 0x9E000, 1)]))
+    write(os.path.join(work, "zp"), zero_page([(0, 0x9FC00, 1), (MIB, 512 * MIB - 0x9E000, 1)]))
     check("ranges, trimmed bytes", tool("bootmem-line", "-", "zp", given="crashkernel=600M-:64M", folder=work)[:2], (1, "crashkernel=64M\n"))
     # mem= decides first
     check("ranges, mem=", tool("bootmem-line", "-", "zp", given="mem=256MB crashkernel=0-300M:32M,300M-:64M", folder=work)[:2],
@@ -131,7 +112,7 @@ RULES = (
 def test_rules(work):
     """Each rule by which the kernel reads a line otherwise than the program, once; the program takes each line that is printed."""
     page = os.path.join(work, "zp")
-    write(page, page_of(machine_of(4 * GIB)))
+    write(page, zero_page(machine_of(4 * GIB)))
     for line, printed, part in RULES:
         write(os.path.join(work, "given"), line.encode("latin-1"))
         status, out, err = tool("bootmem-line", "--total", "4095M", "given", folder=work)
@@ -213,18 +194,18 @@ def test_panics(work):
     for what, (entries, blocks, part) in PANICS.items():
         folder = os.path.join(work, what.replace(" ", ""))
         os.mkdir(folder)
-        write(os.path.join(folder, "zp.bin"), page_of(machine_of(GIB) + entries))
+        write(os.path.join(folder, "zp.bin"), zero_page(machine_of(GIB) + entries))
         write(os.path.join(folder, "iomem"), b"00001000-0009fbff : System RAM\n00100000-3ffdefff : System RAM\n")
         if blocks:
-            write(os.path.join(folder, "srat.bin"), srat_of(blocks))
+            write(os.path.join(folder, "srat.bin"), srat(*(memory_of(*block) for block in blocks)))
         has(f"panics, {what}: crash", tool("bootmem-crash", "--size", "1M", folder)[2], f"Linux 6.1 panics on this boot: {part}")
         has(f"panics, {what}: live", tool("bootmem-live", folder)[1], f"panics   {part}")
     for what, entries, blocks in (("covered", [], [(0, 0, 256 * MIB), (1, 256 * MIB, 800 * MIB)]),
                                   ("not covered", [], [(0, 0, 255 * MIB), (1, 256 * MIB, 800 * MIB)]),
                                   ("type 128 below", [(8 * GIB, MIB, 1), (GIB, 64 * MIB, 128)], []),
                                   ("below 2^46", [((1 << 46) - 4096, 4096, 1)], [])):
-        write(os.path.join(work, "zp"), page_of(machine_of(GIB) + entries))
-        write(os.path.join(work, "srat"), srat_of(blocks))
+        write(os.path.join(work, "zp"), zero_page(machine_of(GIB) + entries))
+        write(os.path.join(work, "srat"), srat(*(memory_of(*block) for block in blocks)))
         words = ["--srat", os.path.join(work, "srat")] if blocks else []
         status, _, err = tool("bootmem-crash", "--size", "1M", *words, os.path.join(work, "zp"))
         check(f"panics, {what}", (status, "panics" in err), (0, False))
@@ -337,17 +318,5 @@ TESTS = {"boots": test_boots, "ranges": test_ranges, "rules": test_rules, "fits"
          "folders": test_folders, "live": test_live, "examples": test_examples}
 
 
-def main():
-    """Runs every test, or the named ones."""
-    if not os.access(PROGRAM, os.X_OK):
-        print(f"crash.py: there is no program {PROGRAM}: 'make bootmem' builds it", file=sys.stderr)
-        return 2
-    for name in sys.argv[2:] or TESTS:
-        with tempfile.TemporaryDirectory() as work:
-            TESTS[name](work)
-    print(f"{COUNTS[True]} passed, {COUNTS[False]} failed")
-    return 1 if COUNTS[False] else 0
-
-
 if __name__ == "__main__":
-    sys.exit(main())
+    sys.exit(run_all(TESTS))

@@ -13,25 +13,27 @@ import os
 import re
 import sys
 
-TOP = os.path.join(os.path.dirname(os.path.abspath(__file__)), "..")
+sys.dont_write_bytecode = True
+
+from documents import TOP, end, read
+
 DEFINED = re.compile(r"^\s*(?:(?:abbrev|unfoldable) pub|pub (?:record|data)) (\S+)")
 
 
 def definitions_of(path):
     """The comment at the head of a file, by the empty name, and its definitions with the comments above them, in their order."""
     found, comment = {"": ""}, []
-    with open(path, encoding="utf-8") as file:
-        for line in file:
-            text = line.strip()
-            match = DEFINED.match(line)
-            if text.startswith("--"):
-                comment.append(text.lstrip("- "))
-            elif match:
-                found.setdefault(match.group(1), " ".join(comment))
-                comment = []
-            elif not text or text.startswith("use "):
-                found[""] = found[""] or " ".join(comment)
-                comment = []
+    for line in read(path).split("\n"):
+        text = line.strip()
+        match = DEFINED.match(line)
+        if text.startswith("--"):
+            comment.append(text.lstrip("- "))
+        elif match:
+            found.setdefault(match.group(1), " ".join(comment))
+            comment = []
+        elif not text or text.startswith("use "):
+            found[""] = found[""] or " ".join(comment)
+            comment = []
     return found
 
 
@@ -57,18 +59,14 @@ def main():
                 if not wanted or any(word in line for word in wanted):
                     print(line)
         return 0
-    with open(os.path.join(TOP, "docs/DEFINITIONS.md"), encoding="utf-8") as file:
-        page = file.read()
+    page = read("docs/DEFINITIONS.md")
     named = set(re.findall(r"`(\w+/\w+)`", page))
     wrong = [f"{file}: it doesn't stand there" for file in files if file not in named]
     wrong += [f"{file}: there is no such file" for file in sorted(named) if file not in files]
     for words, of_row in rows_of(page):
         known = {name for file in of_row for name in files.get(file, {})}
         wrong += [f"{', '.join(of_row)}: it has no {word}" for word in words if word not in known]
-    for line in wrong:
-        print(line)
-    print(f"definitions: {len(files)} files, {sum(len(found) - 1 for found in files.values())} definitions, {len(wrong)} differences")
-    return 1 if wrong else 0
+    return end(f"definitions: {len(files)} files, {sum(len(found) - 1 for found in files.values())} definitions", wrong)
 
 
 if __name__ == "__main__":

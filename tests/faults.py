@@ -11,7 +11,7 @@ import sys
 sys.dont_write_bytecode = True
 
 from fault_tables import command_line, efi, extension, inputs_in_order, pages, script, slit, srat, zero_page
-from inputs import MACHINE, Runs, zero_page as page_of
+from inputs import MACHINE, run_all, zero_page as page_of
 
 
 def words_and_files(table, held, entries=MACHINE):
@@ -46,14 +46,11 @@ def in_order(runs):
         runs.compare(name, runs.run(["--report", "map", *words], files), (status, "", line + "\n"))
 
 
-def main():
-    with Runs(sys.argv[0], sys.argv[1:]) as runs:
-        for table in (zero_page, extension, command_line, srat, script, pages, slit, efi):
-            refused(runs, table)
-            accepted(runs, table)
-        in_order(runs)
-        return runs.end()
+def each_input(runs):
+    for table in (zero_page, extension, command_line, srat, script, pages, slit, efi):
+        refused(runs, table)
+        accepted(runs, table)
 
 
 if __name__ == "__main__":
-    sys.exit(main())
+    sys.exit(run_all(each_input, in_order))

@@ -9,7 +9,7 @@ import sys
 
 sys.dont_write_bytecode = True
 
-from inputs import MACHINE, RAM, RESERVED, SOFT, Runs, machine_files
+from inputs import MACHINE, RAM, RESERVED, SOFT, machine_files, run_all
 
 LOW = (0x0, 0xA0000, RAM)
 MAIN = (0x100000, 0x7F00000, RAM)
@@ -227,12 +227,5 @@ def went_on(runs):
         runs.compare(name, (status, out if report == "tables" else numbered(out, text), line), (0, text, ""))
 
 
-def main():
-    with Runs(sys.argv[0], sys.argv[1:]) as runs:
-        stopped(runs)
-        went_on(runs)
-        return runs.end()
-
-
 if __name__ == "__main__":
-    sys.exit(main())
+    sys.exit(run_all(stopped, went_on))

@@ -43,6 +43,11 @@ def sealed(table):
     return bytes(table)
 
 
+def unsealed(table):
+    """The table with the next checksum byte, so that its bytes sum to 1."""
+    return table[:9] + bytes([(table[9] + 1) % 256]) + table[10:]
+
+
 def srat(*entries, revision=3, length=None):
     """A table of these entries that states, where it isn't its own, the length."""
     body = b"".join(entries)
@@ -53,6 +58,11 @@ def srat(*entries, revision=3, length=None):
 def memory_of(domain, base, size, flags=1, length=40):
     """A range of memory of the domain, of which the entry states the length."""
     return struct.pack("<BBIHQQIIQ", 1, length, domain, 0, base, size, 0, flags, 0)
+
+
+def encoded(rows):
+    """Cases whose second word is a text, as cases of bytes."""
+    return [(name, text.encode("latin-1"), *rest) for name, text, *rest in rows]
 
 
 def machine_files(entries):
@@ -102,6 +112,11 @@ class Runs:
         self.failed += 1
         print(f"{what}: {got}, wanted {wanted}")
 
-    def end(self):
-        print(f"{self.passed} passed, {self.failed} failed")
-        return 0 if self.passed and not self.failed else 1
+
+def run_all(*tests):
+    """Runs the tests over the program that the words name, and prints what they came to; the status."""
+    with Runs(sys.argv[0], sys.argv[1:]) as runs:
+        for test in tests:
+            test(runs)
+    print(f"{runs.passed} passed, {runs.failed} failed")
+    return 0 if runs.passed and not runs.failed else 1

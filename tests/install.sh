@@ -2,43 +2,12 @@
 # install.sh: installs ./bootmem and ./bootaudit into a folder as 'make install' does, and looks that what the manual pages and the
 # README point to is there, that the programs and the tools run from there, that an installation proves nothing, and that 'make uninstall'
 # leaves nothing. Prints a line for each difference, and 'N passed, M failed' at its end.
-set -u
-unset CDPATH
-cd "$(dirname "$0")/.." || exit 1
-top=$PWD
+. "$(dirname "$0")/counted.sh"
+cd "$top" || exit 1
 for program in bootmem bootaudit; do
-	[ -x "$program" ] || {
-		echo "install.sh: there is no program $top/$program: 'make $program' builds it" >&2
-		exit 2
-	}
+	built "$program" >/dev/null || exit 2
 done
-work=$(mktemp -d) || exit 1
-trap 'rm -rf "$work"' EXIT
-passed=0
-failed=0
 make=${MAKE:-make}
-
-# ok WHAT COMMAND..: the command's status is 0
-ok() {
-	what=$1
-	shift
-	if "$@" >"$work/out" 2>"$work/err"; then
-		passed=$((passed + 1))
-	else
-		failed=$((failed + 1))
-		echo "$what: $(head -n 3 "$work/err")"
-	fi
-}
-
-# is WHAT GOT WANTED: the two are the same
-is() {
-	if [ "$2" = "$3" ]; then
-		passed=$((passed + 1))
-	else
-		failed=$((failed + 1))
-		echo "$1: '$2', wanted '$3'"
-	fi
-}
 
 # there WHAT FILE..: each of the files is there
 there() {
@@ -64,7 +33,7 @@ root=$work/root/opt/it
 share=$root/share
 
 ok "make install" installed /opt/it
-is "make install says" "$(cat "$work/out" "$work/err")" ""
+is "make install says" "$(cat "$work/said")" ""
 there "the program" "$root/bin/bootmem" "$root/bin/bootmem-collect" "$share/man/man1/bootmem.1" "$share/man/man5/bootmem.5"
 there "the audit" "$root/bin/bootaudit" "$share/man/man1/bootaudit.1" "$share/bash-completion/completions/bootaudit"
 is "the first run" "$("$root/bin/bootmem" --report map "$share/bootmem/examples/first/zp.bin")" "$(cat examples/first/map.txt)"
@@ -157,7 +126,7 @@ ok "make uninstall MANDIR=/pages" "$make" --no-print-directory -C "$work/tree" u
 is "what make uninstall leaves with MANDIR" "$(find "$work/root" ! -type d | head -n 3)" ""
 touch -d '+1 hour' "$work/tree/crates.txt"
 ok "make install with newer sources" installed /opt/it
-is "what it says of them" "$(cat "$work/out" "$work/err")" \
+is "what it says of them" "$(cat "$work/said")" \
 	"$(for program in bootmem bootaudit; do
 		echo "$program: some sources are newer than ./$program, which is installed as it is; 'make $program' builds it anew"
 	done)"
@@ -170,5 +139,4 @@ is "what it installs" "$(find "$work/root/opt/none" 2>/dev/null)" ""
 installed /opt/none PROVE=1 >"$work/out" 2>"$work/err"
 is "make install PROVE=1 without a program or a toolchain" "$([ $? -ne 0 ] && grep -c "there is no command" "$work/err")" 1
 
-echo "$passed passed, $failed failed"
-[ "$failed" -eq 0 ]
+counted

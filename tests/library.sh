@@ -2,40 +2,12 @@
 # library.sh [PROGRAM]: the library against the program, and from C, Rust and Python. Every report of every machine of examples/ through the
 # library is the very bytes of the program, with its status and its line; then the example in C, 'cargo test' and the unit tests of
 # Python. What lacks its tool is left out, with a line. Prints 'N passed, M failed' at its end.
-set -u
-unset CDPATH
-cd "$(dirname "$0")/.." || exit 1
-top=$PWD
-program=$(cd "$(dirname "${1:-bootmem}")" && pwd)/$(basename "${1:-bootmem}")
+. "$(dirname "$0")/counted.sh"
+program=$(built "${1:-$top/bootmem}") || exit 2
+cd "$top" || exit 1
 [ -f libbootmem.a ] || {
 	echo "library.sh: there is no $top/libbootmem.a: 'make lib' builds it" >&2
 	exit 2
-}
-work=$(mktemp -d) || exit 1
-trap 'rm -rf "$work"' EXIT
-passed=0
-failed=0
-
-# ok WHAT COMMAND..: the command's status is 0
-ok() {
-	what=$1
-	shift
-	if "$@" >"$work/said" 2>&1; then
-		passed=$((passed + 1))
-	else
-		failed=$((failed + 1))
-		echo "$what: $(tail -n 5 "$work/said")"
-	fi
-}
-
-# is WHAT GOT WANTED: the two are the same
-is() {
-	if [ "$2" = "$3" ]; then
-		passed=$((passed + 1))
-	else
-		failed=$((failed + 1))
-		echo "$1: '$2', wanted '$3'"
-	fi
 }
 
 # has TOOL: it is there, or a line says what is left out
@@ -87,5 +59,4 @@ fi
 version=$(sed -n 's/^VERSION := //p' Makefile)
 is "the crate's version" "$(sed -n 's/^version = "\(.*\)"/\1/p' bindings/rust/Cargo.toml)" "$version"
 
-echo "$passed passed, $failed failed"
-[ "$failed" -eq 0 ]
+counted

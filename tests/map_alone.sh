@@ -2,20 +2,9 @@
 # map_alone.sh [PROGRAM [ALONE]]: e820_map (ALONE) prints what `bootmem --report map` (PROGRAM) does, with the same status, for the zero page
 # of every machine of examples/, and ends with the same status where a file, the words or the output are at fault. Where there is no
 # ALONE it is proved and built. Prints a line for each difference, and 'N passed, M failed' at its end.
-set -u
-unset CDPATH
-top=$(cd "$(dirname "$0")/.." && pwd)
-program=$(cd "$(dirname "${1:-$top/bootmem}")" && pwd)/$(basename "${1:-$top/bootmem}")
+. "$(dirname "$0")/counted.sh"
+program=$(built "${1:-$top/bootmem}") || exit 2
 alone=${2:-$top/crates/e820_map/out/e820_map}
-work=$(mktemp -d) || exit 1
-trap 'rm -rf "$work"' EXIT
-passed=0
-failed=0
-
-[ -x "$program" ] || {
-	echo "map_alone.sh: there is no program $program: 'make bootmem' builds it" >&2
-	exit 2
-}
 if [ ! -x "$alone" ]; then
 	alone=$work/e820_map
 	"$top/tools/build.sh" e820_map "$alone" "$top/examples/first/zp.bin" || exit $?
@@ -31,10 +20,9 @@ same() {
 	status=$?
 	if [ "$status" = "$wanted" ] && { [ "$output" ] || cmp -s "$work/got" "$work/wanted"; } &&
 		[ "$(wc -l <"$work/err")" = "$(wc -l <"$work/line")" ]; then
-		passed=$((passed + 1))
+		right
 	else
-		failed=$((failed + 1))
-		echo "$*: status $status, wanted $wanted: $(cat "$work/err")"
+		wrong "$*: status $status, wanted $wanted: $(cat "$work/err")"
 	fi
 }
 
@@ -54,5 +42,4 @@ done
 same ''
 same '' "$zp" "$zp"
 same /dev/full "$zp"
-echo "$passed passed, $failed failed"
-[ "$failed" -eq 0 ] && [ "$passed" -gt 0 ]
+counted

@@ -5,12 +5,12 @@ twice over the same bytes; those of an EFI memory map; how many ranges there may
 Each case has a name that says what it shows. Its text is the whole report, or of `journal` the lines with these words. Prints a line for
 each difference, and 'N passed, M failed' at its end.
 """
-import struct
 import sys
 
 sys.dont_write_bytecode = True
 
-from inputs import MACHINE, RAM, RESERVED, Runs, machine_files, memory_of, srat
+from fault_tables.efi import MORE_RELIABLE, WB, descriptor, efi
+from inputs import MACHINE, RAM, RESERVED, machine_files, memory_of, run_all, srat
 
 PC = MACHINE + [(0x7FE0000, 0x20000, RESERVED)]
 # the same as QEMU's firmware tells it whole
@@ -19,16 +19,14 @@ FULL = [(0x0, 0xA0000, RAM), (0x100000, 0x7F00000, RAM)]
 NODES = srat(memory_of(0, 0, 0x4000000), memory_of(1, 0x4000000, 0x4000000))
 
 
-def efi(*descriptors):
-    """An EFI memory map of descriptors of boot services' data: first address, pages, attributes."""
-    return struct.pack("<II", 48, 1) + b"".join(struct.pack("<IIQQQQQ", 4, 0, base, 0, pages, attributes, 0)
-                                               for base, pages, attributes in descriptors)
+def services(*ranges):
+    """An EFI memory map of boot services' data: first address, pages, attributes."""
+    return efi(*(descriptor(4, base, pages, attributes) for base, pages, attributes in ranges))
 
 
-# EFI_MEMORY_WB, and beside it EFI_MEMORY_MORE_RELIABLE
-PLAIN, TWICE = 0x8, 0x10008
-EFI = efi((0x4000800, 2, TWICE), (0x5000800, 1, TWICE), (0x6000000, 16, PLAIN), (0x7000000, 16, TWICE))
-EFI_16_MIB = efi((0x4000000, 4096, TWICE))
+TWICE = WB | MORE_RELIABLE
+EFI = services((0x4000800, 2, TWICE), (0x5000800, 1, TWICE), (0x6000000, 16, WB), (0x7000000, 16, TWICE))
+EFI_16_MIB = services((0x4000000, 4096, TWICE))
 
 
 def high(count):
@@ -160,12 +158,5 @@ def many(runs):
         runs.compare(name, (got[0], got[2]), (status, line))
 
 
-def main():
-    with Runs(sys.argv[0], sys.argv[1:]) as runs:
-        told(runs)
-        many(runs)
-        return runs.end()
-
-
 if __name__ == "__main__":
-    sys.exit(main())
+    sys.exit(run_all(told, many))

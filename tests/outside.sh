@@ -1,19 +1,8 @@
 #!/bin/sh
 # outside.sh [PROGRAM]: what the program answers where the outside fails: files that can't be read, an output
 # that is full or whose reader leaves. Prints a line for each difference, and 'N passed, M failed' at its end.
-set -u
-unset CDPATH
-top=$(cd "$(dirname "$0")/.." && pwd)
-program=$(cd "$(dirname "${1:-$top/bootmem}")" && pwd)/$(basename "${1:-$top/bootmem}")
-work=$(mktemp -d) || exit 1
-trap 'rm -rf "$work"' EXIT
-passed=0
-failed=0
-
-[ -x "$program" ] || {
-	echo "outside.sh: there is no program $program: 'make bootmem' builds it" >&2
-	exit 2
-}
+. "$(dirname "$0")/counted.sh"
+program=$(built "${1:-$top/bootmem}") || exit 2
 
 # expect STATUS LINE OUTPUT WORD..: the program's status, its line on standard error, byte for byte, and its
 # output: the example's map where the status is 0, and else nothing
@@ -29,10 +18,9 @@ expect() {
 	status=$?
 	if [ "$status" = "$wanted" ] && cmp -s "$work/err" "$work/line" &&
 		{ [ ! -f "$output" ] || cmp -s "$output" "$work/report"; }; then
-		passed=$((passed + 1))
+		right
 	else
-		failed=$((failed + 1))
-		echo "$*: status $status, wanted $wanted: $(cat "$work/err")"
+		wrong "$*: status $status, wanted $wanted: $(cat "$work/err")"
 	fi
 }
 
@@ -58,21 +46,9 @@ expect 2 '' "$work/out" --report map "$(printf '\377')"
 if [ -c /dev/full ]; then
 	expect 4 'bootmem: cannot write' /dev/full --report map "$zp"
 	"$program" --report map missing 2>/dev/full
-	status=$?
-	if [ "$status" -eq 3 ]; then
-		passed=$((passed + 1))
-	else
-		failed=$((failed + 1))
-		echo "a full standard error: status $status, wanted 3"
-	fi
+	is "a full standard error" "$?" 3
 	"$program" 2>/dev/full
-	status=$?
-	if [ "$status" -eq 2 ]; then
-		passed=$((passed + 1))
-	else
-		failed=$((failed + 1))
-		echo "no word, and a full standard error: status $status, wanted 2"
-	fi
+	is "no word, and a full standard error" "$?" 2
 fi
 
 # five files and two reports: each file in turn can't be read, and one that is malformed goes before one behind it that can't
@@ -109,10 +85,9 @@ room() {
 	tail -c "+$((most - room + 1))" output >part
 	head -c "$room" whole >front
 	if [ "$status" = "$wanted" ] && cmp -s "$work/err" "$work/line" && cmp -s part front; then
-		passed=$((passed + 1))
+		right
 	else
-		failed=$((failed + 1))
-		echo "room for $room bytes: status $status, wanted $wanted, $(($(wc -c <part))) bytes: $(cat "$work/err")"
+		wrong "room for $room bytes: status $status, wanted $wanted, $(($(wc -c <part))) bytes: $(cat "$work/err")"
 	fi
 }
 
@@ -147,10 +122,8 @@ room 0 "$(($(wc -c <whole)))" map,blocks "$great"
 } | head -c 100 >part
 head -c 100 whole >front
 if [ "$(cat status)" = 4 ] && cmp -s part front && [ "$(cat "$work/err")" = 'bootmem: cannot write' ]; then
-	passed=$((passed + 1))
+	right
 else
-	failed=$((failed + 1))
-	echo "a reader that leaves: status $(cat status), wanted 4: $(cat "$work/err")"
+	wrong "a reader that leaves: status $(cat status), wanted 4: $(cat "$work/err")"
 fi
-echo "$passed passed, $failed failed"
-[ "$failed" -eq 0 ]
+counted

@@ -6,23 +6,17 @@ Each case has a name that says what it shows. Where everything was given back th
 line for each difference, and 'N passed, M failed' at its end.
 """
 import random
-import struct
 import sys
 
 sys.dont_write_bytecode = True
 
-from inputs import MACHINE, RAM, Runs, memory_of, sealed, srat, zero_page
+from fault_tables.slit import slit
+from inputs import MACHINE, RAM, memory_of, run_all, srat, zero_page
 
 ZONES = ("DMA", "DMA32", "Normal")
 FOUR_GIB = 1 << 32
 TWO_NODES = [(0x0, 0x9FC00, RAM), (0x100000, 0x7F00000, RAM), (FOUR_GIB, 0x4000000, RAM)]
 DOMAINS = srat(memory_of(0, 0, 0x6000000), memory_of(1, 0x6000000, 0x2000000), memory_of(1, FOUR_GIB, 0x4000000))
-
-
-def table_of(rows):
-    """A SLIT of these rows."""
-    cells = bytes(cell for row in rows for cell in row)
-    return sealed(b"SLIT" + struct.pack("<IBB", 44 + len(cells), 1, 0) + bytes(26) + struct.pack("<Q", len(rows)) + cells)
 
 
 def reports_of(runs, entries, lines, extra=()):
@@ -89,7 +83,7 @@ def borders(runs):
 
 def near_a_node(runs):
     """A line near a node takes from the nearest zone that can serve: Normal first, and another node once its own have nothing left."""
-    extra = (("--srat", DOMAINS), ("--slit", table_of([[10, 20], [20, 10]])))
+    extra = (("--srat", DOMAINS), ("--slit", slit(2, [10, 20, 20, 10])))
     lines = ["near 1 10 1"] + [f"near {number} 10 1" for number in range(2, 60)] + ["near 1 0 1"]
     _, answers, _ = reports_of(runs, TWO_NODES, lines, extra)
     got = outcomes(answers)
@@ -103,14 +97,5 @@ def near_a_node(runs):
     runs.compare("a held ID is taken", got[-1], "taken")
 
 
-def main():
-    with Runs(sys.argv[0], sys.argv[1:]) as runs:
-        taken_and_given(runs)
-        split_and_joined(runs)
-        borders(runs)
-        near_a_node(runs)
-        return runs.end()
-
-
 if __name__ == "__main__":
-    sys.exit(main())
+    sys.exit(run_all(taken_and_given, split_and_joined, borders, near_a_node))

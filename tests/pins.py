@@ -13,15 +13,13 @@ import os
 import re
 import sys
 
-TOP = os.path.join(os.path.dirname(os.path.abspath(__file__)), "..")
+sys.dont_write_bytecode = True
+
+from documents import TOP, read
+
 FORM = re.compile(r"# pins: (?:(?:(\w+)::)?(\w+) clause (\w+)|law (\w+))(?:: (.+))?$")
 CONTRACT = re.compile(r"^([ \t]*)(?:pub(?:\(crate\))? )?(?:const )?(?:unsafe )?(?:extern \"C\" )?fn (\w+)", re.M)
 CLAUSE = re.compile(r"^\s*ensures\*?\s+(?:([a-z_]\w*)\s+)?\{", re.M)
-
-
-def read(path):
-    with open(path, encoding="utf-8") as file:
-        return file.read()
 
 
 def text_of(crate, folder):

@@ -4,20 +4,14 @@
 # boot's early allocations, each address of which is the kernel's own.
 # Prints a line for each difference, how many texts of each report agree, how many answers and addresses the replays that
 # agree have, which files no report reads, and 'N passed, M failed' at its end. A text that is missing is a failure, too.
-set -u
-unset CDPATH
-top=$(cd "$(dirname "$0")/.." && pwd)
-program=$(cd "$(dirname "${1:-$top/bootmem}")" && pwd)/$(basename "${1:-$top/bootmem}")
+. "$(dirname "$0")/counted.sh"
+program=$(built "${1:-$top/bootmem}") || exit 2
 reports="map memory nodes zones crash script"
 # so many texts there are
 all=188
-passed=0
-failed=0
 answers=0
 addresses=0
 texts=
-work=$(mktemp -d) || exit 1
-trap 'rm -rf "$work"' EXIT
 
 # words REPORT FOLDER: the words that run the report, from within the machine's folder
 words() {
@@ -35,8 +29,7 @@ words() {
 
 # differs FOLDER REPORT WHAT: one more that failed
 differs() {
-	failed=$((failed + 1))
-	echo "$1: $2: $3"
+	wrong "$1: $2: $3"
 }
 
 # check MACHINE FOLDER REPORT: the report of the machine whose files are in that folder
@@ -51,7 +44,7 @@ check() {
 	elif [ -s "$work/err" ]; then
 		differs "$1" "$3" "standard error has $(cat "$work/err")"
 	else
-		passed=$((passed + 1))
+		right
 		agree=$((agree + 1))
 		if [ "$3" = script ]; then
 			answers=$((answers + $(wc -l <"$work/got")))
@@ -67,10 +60,6 @@ each() {
 	done
 }
 
-if [ ! -x "$program" ]; then
-	echo "real_boots.sh: there is no program $program: 'make bootmem' builds it" >&2
-	exit 2
-fi
 for report in $reports; do
 	agree=0
 	each "$report" >"$work/list"
@@ -86,5 +75,4 @@ unread=$(cd "$top/examples" && find . -mindepth 2 -type f ! -name '*.txt' ! -nam
 	! -name zp.bin ! -name e820ext.bin ! -name srat.bin ! -name efi.bin ! -name script | sort | sed 's/^\.\///' | tr '\n' ' ')
 echo "no report reads: ${unread:-nothing}"
 echo "texts that agree: $texts; the replays have $answers answers, $addresses of them addresses"
-echo "$passed passed, $failed failed"
-[ "$failed" -eq 0 ] && [ "$passed" -gt 0 ]
+counted

@@ -6,16 +6,12 @@ behind `of the kit`. The two drawings above the table, of the way of the data an
 Prints a line for each difference, and how many crates there are.
 """
 
-import os
 import re
 import sys
 
-TOP = os.path.join(os.path.dirname(os.path.abspath(__file__)), "..")
+sys.dont_write_bytecode = True
 
-
-def read(name):
-    with open(os.path.join(TOP, name), encoding="utf-8") as file:
-        return file.read()
+from documents import end, read
 
 
 def main():
@@ -40,10 +36,7 @@ def main():
     drawn = "\n".join(line for line in text[:text.index("## The crates")].split("\n") if line.startswith("    "))
     wrong += [f"{name}: no drawing names it" for name in crates if not re.search(rf"\b{name}\b", drawn)]
     wrong += [f"{name}: it is drawn, and there is no such crate" for name in re.findall(r"\b[a-z]\w*_\w+\b", drawn) if name not in crates]
-    for line in wrong:
-        print(line)
-    print(f"rooms: {len(crates)} crates, {len(wrong)} differences")
-    return 1 if wrong else 0
+    return end(f"rooms: {len(crates)} crates", wrong)
 
 
 if __name__ == "__main__":

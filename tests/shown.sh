@@ -12,24 +12,12 @@
 # An example of a manual page has room within 78 columns, behind the 11 by which a page shifts it.
 # Folders of the test's own are told as a user would see them: the copy as /home/me/bootmem, the stand-ins without their front.
 # Prints a line for each difference, and 'N passed, M failed; K blocks show no command' at its end.
-set -u
-unset CDPATH
-top=$(cd "$(dirname "$0")/.." && pwd)
-program=$(cd "$(dirname "${1:-$top/bootmem}")" && pwd)/$(basename "${1:-$top/bootmem}")
+. "$(dirname "$0")/counted.sh"
+program=$(built "${1:-$top/bootmem}") || exit 2
 [ $# -eq 0 ] || shift
-audit=$(dirname "$program")/bootaudit
-for built in "$program" "$audit"; do
-	[ -x "$built" ] || {
-		echo "shown.sh: there is no program $built: 'make' builds both" >&2
-		exit 2
-	}
-done
+audit=$(built "$(dirname "$program")/bootaudit") || exit 2
 [ $# -gt 0 ] || set -- "$top/README.md" "$top/docs/RECIPES.md" "$top/bootmem.1" "$top/bootaudit.1" "$top/bootmem.5" "$top/docs/TOOLS.md" "$top/examples/README.md"
-work=$(mktemp -d) || exit 1
-trap 'rm -rf "$work"' EXIT
 machine=$work/machine
-passed=0
-failed=0
 without=0
 # a make that runs the test isn't the one that a command calls
 unset MAKEFLAGS MFLAGS MAKELEVEL
@@ -140,10 +128,9 @@ compare() {
 	command=1
 	while [ -f "$1/$2-$command.want" ]; do
 		if cmp -s "$1/$2-$command.want" "$1/$2-$command.got"; then
-			passed=$((passed + 1))
+			right
 		else
-			failed=$((failed + 1))
-			echo "$name: $(cat "$1/$2-$command.command"):"
+			wrong "$name: $(cat "$1/$2-$command.command"):"
 			diff "$1/$2-$command.want" "$1/$2-$command.got" | head -n 10
 		fi
 		command=$((command + 1))
@@ -173,8 +160,7 @@ for document; do
 	*.[0-9])
 		blocks "$document" | awk 'length > 78 - 11' >"$shown/wide"
 		while IFS= read -r line; do
-			failed=$((failed + 1))
-			echo "$name: wider than 78 columns: $line"
+			wrong "$name: wider than 78 columns: $line"
 		done <"$shown/wide"
 		;;
 	esac
@@ -182,10 +168,8 @@ for document; do
 		if plain "$line"; then
 			without=$((without + 1))
 		else
-			failed=$((failed + 1))
-			echo "$name: a block without '\$ ' isn't run: $line"
+			wrong "$name: a block without '\$ ' isn't run: $line"
 		fi
 	done <"$shown/plain"
 done
-echo "$passed passed, $failed failed; $without blocks show no command"
-[ "$failed" -eq 0 ] && [ "$passed" -gt 0 ]
+counted "; $without blocks show no command"

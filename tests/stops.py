@@ -11,7 +11,7 @@ import sys
 
 sys.dont_write_bytecode = True
 
-from inputs import MACHINE, RAM, RESERVED, Runs, machine_files
+from inputs import MACHINE, RAM, RESERVED, machine_files, run_all
 
 ACPI = 3
 LOW = (0x0, 0xA0000, RAM)
@@ -79,19 +79,20 @@ blocks 4128763
 ]
 
 
-def main():
-    with Runs(sys.argv[0], sys.argv[1:]) as runs:
-        for name, entries, extra, line in STOPPED:
-            words, files = machine_files(entries)
-            got = runs.run(["--report", "map", *extra, *words, "zp"], files)
-            runs.compare(name, got, (6, "", f"bootmem: stopped: {line}\n"))
-        for name, entries, script, report, text in WENT_ON:
-            words, files = machine_files(entries)
-            files["script"] = script.encode()
-            got = runs.run(["--script", "script", "--report", report, *words, "zp"], files)
-            runs.compare(name, got, (0, text, ""))
-        return runs.end()
+def stopped(runs):
+    for name, entries, extra, line in STOPPED:
+        words, files = machine_files(entries)
+        got = runs.run(["--report", "map", *extra, *words, "zp"], files)
+        runs.compare(name, got, (6, "", f"bootmem: stopped: {line}\n"))
+
+
+def went_on(runs):
+    for name, entries, script, report, text in WENT_ON:
+        words, files = machine_files(entries)
+        files["script"] = script.encode()
+        got = runs.run(["--script", "script", "--report", report, *words, "zp"], files)
+        runs.compare(name, got, (0, text, ""))
 
 
 if __name__ == "__main__":
-    sys.exit(main())
+    sys.exit(run_all(stopped, went_on))

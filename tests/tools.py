@@ -957,17 +957,17 @@ TESTS = {"help": test_help, "examples": test_examples, "where": test_where, "dif
          "hull": test_hull, "installed": test_installed}
 
 
-def main():
-    """Runs every test, or the named ones."""
+def run_all(tests):
+    """Runs every test, or those that the words name, each with a folder of its own, and prints what they came to; the status."""
     if not os.access(PROGRAM, os.X_OK):
-        print(f"tools.py: there is no program {PROGRAM}: 'make bootmem' builds it", file=sys.stderr)
+        print(f"{os.path.basename(sys.argv[0])}: there is no program {PROGRAM}: 'make bootmem' builds it", file=sys.stderr)
         return 2
-    for name in sys.argv[2:] or TESTS:
+    for name in sys.argv[2:] or tests:
         with tempfile.TemporaryDirectory() as work:
-            TESTS[name](work)
+            tests[name](work)
     print(f"{COUNTS[True]} passed, {COUNTS[False]} failed")
     return 1 if COUNTS[False] else 0
 
 
 if __name__ == "__main__":
-    sys.exit(main())
+    sys.exit(run_all(TESTS))

@@ -2,22 +2,13 @@
 # words.sh: the options of the program, those of its synopsis in the README, of the manual page (SYNOPSIS and OPTIONS),
 # of the grammar in FORMATS.md and of the completion for bash are the same set; so are the names of reports, and the option of
 # bootaudit. Then what the completions answer to words begun. Prints a line for each difference, and 'N passed, M failed' at its end.
-set -u
-unset CDPATH
-top=$(cd "$(dirname "$0")/.." && pwd)
-passed=0
-failed=0
+. "$(dirname "$0")/counted.sh"
 
 # same WHAT GOT WANTED: the two lists have the same members
 same() {
 	got=$(printf '%s\n' $2 | sort -u | tr '\n' ' ')
 	wanted=$(printf '%s\n' $3 | sort -u | tr '\n' ' ')
-	if [ "$got" = "$wanted" ] && [ "$got" != " " ]; then
-		passed=$((passed + 1))
-	else
-		failed=$((failed + 1))
-		echo "$1: $got, wanted $wanted"
-	fi
+	if [ "$got" = "$wanted" ] && [ "$got" != " " ]; then right; else wrong "$1: $got, wanted $wanted"; fi
 }
 
 # options: the long options in what is read
@@ -74,5 +65,4 @@ if command -v bash >/dev/null 2>&1; then
 else
 	echo "there is no bash: what the completion answers isn't tried"
 fi
-echo "$passed passed, $failed failed"
-[ "$failed" -eq 0 ]
+counted

@@ -1,9 +1,10 @@
-"""What several tools know of a machine: a folder of collect.sh, the resources that its kernel shows, the line as the kernel reads
-it, and the boots on which Linux 6.1 is known to panic. Nothing here is proved."""
+"""What several tools know of a machine: its zero page and extension, a folder of collect.sh, the resources that its kernel shows, the
+line as the kernel reads it, and the boots on which Linux 6.1 is known to panic. Nothing here is proved."""
 
 import collections
 import os
 import re
+import struct
 import subprocess
 
 import bootmem_cmdline as cmdline
@@ -14,8 +15,29 @@ REACH = 1 << 46  # of page tables of four levels
 FEW = 256  # frames: fewer that no block covers pass numa_meminfo_cover_memory
 SIGNATURE = 0x1C0  # of efi_info in the zero page: EL64 or EL32 where the firmware is UEFI
 
+LOADER = 0xFF  # a boot loader without a number of its own
+
 # A line of /proc/iomem and how deep it stands.
 Resource = collections.namedtuple("Resource", "first last depth name")
+
+
+def zero_page(entries, initrd=None):
+    """The bytes of a zero page with these entries, 128 at most, and this initrd or None."""
+    page = bytearray(4096)
+    page[0x1E8] = len(entries)
+    for index, entry in enumerate(entries):
+        struct.pack_into("<QQI", page, 0x2D0 + 20 * index, *entry)
+    if initrd:
+        base, size = initrd
+        page[0x210] = LOADER
+        struct.pack_into("<II", page, 0x0C0, base >> 32, size >> 32)
+        struct.pack_into("<II", page, 0x218, base & 0xFFFFFFFF, size & 0xFFFFFFFF)
+    return bytes(page)
+
+
+def extension(entries):
+    """The bytes of an extension with these entries."""
+    return struct.pack("<QII", 0, 1, 20 * len(entries)) + b"".join(struct.pack("<QQI", *entry) for entry in entries)
 
 
 def read_iomem(text):

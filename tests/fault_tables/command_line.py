@@ -1,6 +1,8 @@
 """The command line: its faults, in their order: too long, line too long, open quote, a word's own, of which the lowest word's is told,
 and user map."""
 
+from inputs import encoded
+
 INPUT = "cmdline"
 OPTION = "--cmdline"
 
@@ -98,10 +100,6 @@ COUNTED = [
 
 def alone(lines, fault):
     return [(line, line, f"word 1: {fault}") for line in lines]
-
-
-def encoded(rows):
-    return [(name, line.encode("latin-1"), *rest) for name, line, *rest in rows]
 
 
 REFUSED = encoded(

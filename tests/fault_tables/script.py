@@ -1,6 +1,8 @@
 """The early script: its faults; of the lowest line that has one the first of: form, number, alignment, zero size, second sections, too
 far."""
 
+from inputs import encoded
+
 INPUT = "script"
 OPTION = "--script"
 
@@ -70,10 +72,6 @@ OVER_LINES = [
     ("a file too long, of no form", "free\n".ljust(2**20 + 1), "too long"),
     ("a file too long, of a number", "free x\n".ljust(2**20 + 1), "too long"),
 ]
-
-
-def encoded(rows):
-    return [(name, text.encode("latin-1"), *rest) for name, text, *rest in rows]
 
 
 def alone(lines, fault):

@@ -1,7 +1,7 @@
 """The SLIT: its faults, in their order: too long, short, signature, length, checksum, localities."""
 import struct
 
-from inputs import sealed
+from inputs import sealed, unsealed
 
 INPUT = "slit"
 OPTION = "--slit"
@@ -11,11 +11,6 @@ def slit(count, cells, length=None, signature=b"SLIT"):
     """A table that states so many localities and, where it isn't its own, the length, with these cells."""
     stated = 44 + len(cells) if length is None else length
     return sealed(signature + struct.pack("<IBB", stated, 1, 0) + bytes(26) + struct.pack("<Q", count) + bytes(cells))
-
-
-def unsealed(table):
-    """The table with another checksum."""
-    return table[:9] + bytes([(table[9] + 1) % 256]) + table[10:]
 
 
 ONE = slit(1, [10])

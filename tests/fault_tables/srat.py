@@ -2,7 +2,7 @@
 of an entry and a range too far."""
 import struct
 
-from inputs import memory_of, sealed, srat
+from inputs import memory_of, sealed, srat, unsealed
 
 INPUT = "srat"
 OPTION = "--srat"
@@ -16,11 +16,6 @@ SHORTER = memory_of(0, 0, 0x1000, length=39)
 def other(length, stated=None):
     """An entry of a type that isn't read."""
     return bytes([9, length if stated is None else stated]) + bytes(length - 2)
-
-
-def unsealed(table):
-    """The table whose bytes sum to 1."""
-    return table[:9] + bytes([(table[9] + 1) % 256]) + table[10:]
 
 
 def signed(table, signature):
