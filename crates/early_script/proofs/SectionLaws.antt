@@ -1,7 +1,7 @@
 -- A script that was read places the sections once at most.
 use Rattle.std.proofs.Common.{◌≡◌, ℕ, ◌+◌, Bool, true, false, if◌then◌else◌, codes, Option, Some, None, List, [], ◌∷◌, Result, Ok, Err, refl, sym, subst, arith, inl, inr}
 use Rattle.std.specs.Str.{bytes_eq}
-use Rattle.std.specs.List.{All}
+use Rattle.std.specs.List.{All, cons_option}
 use Rattle.std.proofs.lemmas.Bool.{cases_Bool}
 use Rattle.std.proofs.lemmas.List.Elements.{All-cons}
 use Rattle.bm_base.specs.ResultSteps.{◌>>=◌, with_error}
@@ -14,7 +14,7 @@ use Rattle.script_reader.specs.declared.fault.Wrong.{Wrong}
 use Rattle.script_reader.specs.declared.fault.ScriptFault.{ScriptFault}
 use Rattle.script_reader.specs.Numbers.{Words, no_words, one_word, two_words, three_words, number, bounded, optional_number, power, some, range_at}
 use Rattle.script_reader.specs.Forms.{greatest_id, greatest_node, greatest_byte, greatest_len, greatest, alloc_words, alloc_line, reserve_line, free_line, trim_line, fill_line, peek_line, sections_line, by_name, is_comment, asked_by}
-use Rattle.script_reader.specs.Script.{fault_at, is_sections, seen_behind, asked, with_line, lines_from, script_of}
+use Rattle.script_reader.specs.Script.{fault_at, is_sections, seen_behind, asked, line_at, lines_from, script_of}
 use Rattle.early_script.specs.Acted.{IsRun}
 use Rattle.early_script.specs.Stage.{PlaceOnce}
 use Rattle.early_script.proofs.StageLaws.{is_run, placed_here, placed_later}
@@ -115,7 +115,7 @@ comment-clean : (comment : Bool) (r : Result (Option Act) Wrong) → IsCleanLine
 comment-clean true r clean = tt
 comment-clean false r clean = clean
 
-asked-clean : (words : Words) → IsCleanLine (asked_by true words)
+asked-clean : (words : Words) → IsCleanLine (asked_by (by_name true) words)
 asked-clean [] = tt
 asked-clean (name ∷ words) = comment-clean (is_comment name) _ (some-clean (by_name true name words) (by_name-clean name words).known)
 
@@ -125,7 +125,7 @@ AreClean (Ok lines) = All (λ l. IsRun l.act) lines
 AreClean (Err fault) = Unit {0}
 
 abbrev then_line : ℕ → Result (Option Act) Wrong → (Option Act → Result (List Line) ScriptFault) → Result (List Line) ScriptFault
-then_line number r rest = with_error (fault_at number) r >>= λ act. rest act >>= λ lines. Ok (with_line number act lines)
+then_line number r rest = with_error (fault_at number) r >>= λ act. rest act >>= λ lines. Ok (cons_option (line_at number act) lines)
 
 line-clean : (number : ℕ) (r : Result (Option Act) Wrong) (rest : Result (List Line) ScriptFault) → IsCleanLine r → AreClean rest →
     AreClean (then_line number r (λ act. rest))
@@ -147,18 +147,18 @@ IsOnce (Ok lines) = PlaceOnce lines
 IsOnce (Err fault) = Unit {0}
 
 here-once : (number : ℕ) (a : Act) (rest : Result (List Line) ScriptFault) → is_sections a ≡ true → AreClean rest →
-    IsOnce (rest >>= λ lines. Ok (with_line number (Some a) lines))
+    IsOnce (rest >>= λ lines. Ok (cons_option (line_at number (Some a)) lines))
 here-once number a (Ok lines) here clean =
     subst (λ (ls : List Line). All (λ l. IsRun l.act) ls) (sym (placed_here (record { number = number; act = a }) lines here).1) clean
 here-once number a (Err fault) here clean = tt
 
 later-once : (number : ℕ) (a : Act) (rest : Result (List Line) ScriptFault) → is_sections a ≡ false → IsOnce rest →
-    IsOnce (rest >>= λ lines. Ok (with_line number (Some a) lines))
+    IsOnce (rest >>= λ lines. Ok (cons_option (line_at number (Some a)) lines))
 later-once number a (Ok lines) later once =
     subst (λ (ls : List Line). All (λ l. IsRun l.act) ls) (sym (placed_later (record { number = number; act = a }) lines later).1) once
 later-once number a (Err fault) later once = tt
 
-none-once : (number : ℕ) (rest : Result (List Line) ScriptFault) → IsOnce rest → IsOnce (rest >>= λ lines. Ok (with_line number None lines))
+none-once : (number : ℕ) (rest : Result (List Line) ScriptFault) → IsOnce rest → IsOnce (rest >>= λ lines. Ok (cons_option (line_at number None) lines))
 none-once number (Ok lines) once = once
 none-once number (Err fault) once = tt
 
@@ -166,7 +166,7 @@ line-once : (number : ℕ) (r : Result (Option Act) Wrong) (rest : Bool → Resu
     IsOnce (rest false) → IsOnce (then_line number r (λ act. rest (seen_behind false act)))
 line-once number (Ok None) rest clean once = none-once number (rest false) once
 line-once number (Ok (Some a)) rest clean once =
-    elim (cases_Bool (is_sections a)) as (λ _. IsOnce (rest (is_sections a) >>= λ lines. Ok (with_line number (Some a) lines))) [
+    elim (cases_Bool (is_sections a)) as (λ _. IsOnce (rest (is_sections a) >>= λ lines. Ok (cons_option (line_at number (Some a)) lines))) [
       | inl here ↦ here-once number a (rest (is_sections a)) here (subst (λ (t : Bool). AreClean (rest t)) (sym here) clean)
       | inr later ↦ later-once number a (rest (is_sections a)) later (subst (λ (t : Bool). IsOnce (rest t)) (sym later) once)
     ]

@@ -16,19 +16,19 @@ use Rattle.frame_blocks.specs.Picked.{IsPicked, first_picked}
 use Rattle.frame_blocks.specs.Buddies.{without_set}
 use Rattle.frame_blocks.proofs.BuddyLaws.{one_at, without_is, in_set_or_not}
 use Rattle.frame_blocks.proofs.PickLaws.{picked_is, picked_none}
+use Rattle.script_reader.specs.declared.fault.Wrong.TheVariants as wrong
+use Rattle.script_reader.specs.Numbers.{Words, bounded}
 use Rattle.page_alloc.specs.declared.act.PageAct.TheVariants as acts
 use Rattle.page_alloc.specs.declared.act.PageLine.{PageLine}
-use Rattle.page_alloc.specs.declared.fault.Wrong.TheVariants as wrong
 use Rattle.page_alloc.specs.declared.fault.PageFault.TheVariants as faults
 use Rattle.page_alloc.specs.declared.outcome.Held.{Held}
 use Rattle.page_alloc.specs.declared.outcome.PageOutcome.{PageOutcome}
 use Rattle.page_alloc.specs.declared.outcome.PageOutcome.TheVariants as outcomes
 use Rattle.page_alloc.specs.Book.{Book, held_in, state_of}
-use Rattle.page_alloc.specs.Forms.{greatest_id, greatest_order, greatest_node, pages_line, near_line, give_line, by_name, is_comment, asked_by, asked}
+use Rattle.page_alloc.specs.Forms.{greatest_order, zone_named, pages_line, near_line, give_line, by_name, asked}
 use Rattle.page_alloc.specs.Kept.{Holds, IsInOne, IsInNone, IsKept}
 use Rattle.page_alloc.specs.Pages.{State, begun, with_held, served, asked as asked_of, given_back, step, HasOrder, HaveOrders, IsPlain, TakesMemory}
-use Rattle.page_alloc.specs.Reading.{fault_at, with_line, lines_from, pages_of}
-use Rattle.page_alloc.specs.Words.{Words, no_words, first_word, one_word, zone_named, whole, number, within, bounded}
+use Rattle.page_alloc.specs.Reading.{fault_at, line_at, lines_from, pages_of}
 use Rattle.page_alloc.proofs.KeptLaws.{Goes, in_one, in_none, begun_goes, begun_kept, step_goes, step_kept}
 
 -- frame 5 alone is free, of node 7
@@ -175,23 +175,12 @@ kept_examples = (
 abbrev in_words : List ℕ → Words
 in_words text = words_in separators.Script text
 
-word_examples : (no_words [] ≡ Ok tt) × (no_words (in_words (codes "a")) ≡ Err wrong.Form)
-    × (first_word (in_words (codes " a\tb")) ≡ Ok (codes "a", codes "b" ∷ [])) × (first_word [] ≡ Err wrong.Form)
-    × (one_word (in_words (codes "a")) ≡ Ok (codes "a")) × (one_word (in_words (codes "a b")) ≡ Err wrong.Form)
-word_examples = (refl, refl, refl, refl, refl, refl)
-
 zone_examples : (zone_named (codes "DMA") ≡ Ok zones.Dma) × (zone_named (codes "DMA32") ≡ Ok zones.Dma32)
     × (zone_named (codes "Normal") ≡ Ok zones.Normal) × (zone_named (codes "normal") ≡ Err wrong.Form)
 zone_examples = (refl, refl, refl, refl)
 
--- a size must take its whole word
-number_examples : (number (codes "1K") ≡ Ok 1024) × (number (codes "1KB") ≡ Err wrong.Number) × (number (codes "x") ≡ Err wrong.Number)
-    × (whole (codes "12") (Ok (12, 2)) ≡ Ok 12) × (whole (codes "12x") (Ok (12, 2)) ≡ Err wrong.Number)
-number_examples = (refl, refl, refl, refl, refl)
-
-bound_examples : (within 9 9 ≡ Ok 9) × (within 9 10 ≡ Err wrong.Number) × (bounded greatest_order (codes "0xa") ≡ Ok 10)
-    × (bounded greatest_order (codes "11") ≡ Err wrong.Number) × (greatest_id ≡ 2 ^ 32 - 1) × (greatest_node ≡ 1023)
-bound_examples = (refl, refl, refl, refl, refl, refl)
+bound_examples : (bounded greatest_order (codes "0xa") ≡ Ok 10) × (bounded greatest_order (codes "11") ≡ Err wrong.Number)
+bound_examples = (refl, refl)
 
 -- a request, and one with a fault of each kind: the form goes before a number, and the zone's name is of the form
 request_example : pages_line (codes "1" ∷ codes "10" ∷ codes "1023" ∷ codes "Normal" ∷ []) ≡ Ok (acts.Pages 1 10 1023 zones.Normal)
@@ -226,17 +215,13 @@ name_examples : (by_name (codes "give") (in_words (codes "1")) ≡ Ok (acts.Give
     × (by_name (codes "Give") (in_words (codes "1")) ≡ Err wrong.Form)
 name_examples = (refl, refl, refl)
 
-comment_examples : (is_comment (codes "#give") ≡ true) × (is_comment (codes "give#") ≡ false)
-comment_examples = (refl, refl)
-
-line_examples : (asked_by [] ≡ Ok None) × (asked_by (in_words (codes "# give")) ≡ Ok None) × (asked (codes "\t\r") ≡ Ok None)
-    × (asked (codes " give\t1\r") ≡ Ok (Some (acts.Give 1)))
-line_examples = (refl, refl, refl, refl)
+line_examples : (asked (codes "# give") ≡ Ok None) × (asked (codes "\t\r") ≡ Ok None) × (asked (codes " give\t1\r") ≡ Ok (Some (acts.Give 1)))
+line_examples = (refl, refl, refl)
 
 fault_examples : (fault_at 3 wrong.Form ≡ faults.BadLine 3) × (fault_at 7 wrong.Number ≡ faults.BadNumber 7)
 fault_examples = (refl, refl)
 
-kept_line_examples : (with_line 4 None [] ≡ []) × (with_line 4 (Some (acts.Give 1)) [] ≡ give 4 ∷ [])
+kept_line_examples : (line_at 4 None ≡ None) × (line_at 4 (Some (acts.Give 1)) ≡ Some (give 4))
     × (lines_from 5 (codes "" ∷ codes "give 1" ∷ []) ≡ Ok (give 6 ∷ []))
 kept_line_examples = (refl, refl, refl)
 

@@ -1,24 +1,28 @@
 -- The forms of a line of a page script: the words behind its first, and what they ask for. The form goes before all numbers.
-use Rattle.std.specs.Prelude.{ℕ, ◌-◌, ◌^◌, ◌==◌, Bool, false, if◌then◌else◌, List, [], ◌∷◌, codes, Option, Some, None, Result, Ok, Err}
+use Rattle.std.specs.Prelude.{ℕ, if◌then◌else◌, List, codes, Option, Result, Ok, Err}
 use Rattle.std.specs.Str.{bytes_eq}
+use Rattle.bm_base.specs.declared.zone.Zone.{Zone}
+use Rattle.bm_base.specs.declared.zone.Zone.TheVariants as zones
 use Rattle.bm_base.specs.ResultSteps.{◌>>=◌}
 use Rattle.text_words.specs.Words.{words_in}
 use Rattle.text_words.specs.declared.separators.Separators.TheVariants as separators
+use Rattle.script_reader.specs.declared.fault.Wrong.{Wrong}
+use Rattle.script_reader.specs.declared.fault.Wrong.TheVariants as wrong
+use Rattle.script_reader.specs.Numbers.{Words, first_word, one_word, bounded}
+use Rattle.script_reader.specs.Forms.{greatest_id, greatest_node, asked_by}
 use Rattle.page_alloc.specs.declared.act.PageAct.{PageAct}
 use Rattle.page_alloc.specs.declared.act.PageAct.TheVariants as acts
-use Rattle.page_alloc.specs.declared.fault.Wrong.{Wrong}
-use Rattle.page_alloc.specs.declared.fault.Wrong.TheVariants as wrong
-use Rattle.page_alloc.specs.Words.{Words, first_word, one_word, zone_named, bounded}
 
--- the bounds of an ID, an order and a node
-abbrev pub greatest_id : ℕ
-greatest_id = 2 ^ 32 - 1
-
+-- the bound of an order
 abbrev pub greatest_order : ℕ
 greatest_order = 10
 
-abbrev pub greatest_node : ℕ
-greatest_node = 1023
+-- a zone, by the name that the kernel gives it
+abbrev pub zone_named : List ℕ → Result Zone Wrong
+zone_named word =
+    if bytes_eq word (codes "DMA") then Ok zones.Dma else
+    (if bytes_eq word (codes "DMA32") then Ok zones.Dma32 else
+    (if bytes_eq word (codes "Normal") then Ok zones.Normal else Err wrong.Form))
 
 -- pages ID ORDER NODE ZONE
 abbrev pub pages_line : Words → Result PageAct Wrong
@@ -58,18 +62,6 @@ by_name name words =
     (if bytes_eq name (codes "near") then near_line words else
     (if bytes_eq name (codes "give") then give_line words else Err wrong.Form))
 
--- a word that begins with `#` begins a comment
-abbrev pub is_comment : List ℕ → Bool
-is_comment [] = false
-is_comment (b ∷ bs) = b == 35
-
--- what the words of a line ask for: nothing where there are none, or the first begins a comment
-abbrev pub asked_by : Words → Result (Option PageAct) Wrong
-asked_by [] = Ok None
-asked_by (name ∷ words) = if is_comment name then Ok None else (do
-  act ← by_name name words
-  Ok (Some act))
-
 -- what the text of one line asks for
 abbrev pub asked : List ℕ → Result (Option PageAct) Wrong
-asked text = asked_by (words_in separators.Script text)
+asked text = asked_by by_name (words_in separators.Script text)

@@ -3,4 +3,3 @@ pub mod Forms
 pub mod Kept
 pub mod Pages
 pub mod Reading
-pub mod Words

@@ -1,15 +1,6 @@
-//! Why a page script isn't read: what is wrong with a line, and that with the line's number.
+//! Why a page script isn't read.
 
 use bm_base::Memory;
-
-/// What is wrong with a line, in the order in which it is told.
-#[derive(Clone, Copy, Debug, PartialEq, Eq)]
-pub enum Wrong {
-    /// It has no form, whatever its numbers are.
-    Form,
-    /// A number isn't a size that takes its whole word, or is above its bound.
-    Number,
-}
 
 /// Why a page script isn't read. A `line` is the number of the lowest line that has a fault, from 1 on; of
 /// its faults the first in the order of this list is told.

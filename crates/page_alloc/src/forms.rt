@@ -1,36 +1,32 @@
 //! What one line asks for: its form by its first word, and the steps of each form in the order of the faults.
 
 ghost use Rattle.std.specs.Prelude.{◌≡◌, ◌<◌, length, IfOk, IfErr, IfSome};
+ghost use Rattle.script_reader.specs.Numbers.{IsOfWords};
 ghost use Rattle.text_words.specs.Words.{words_in};
 ghost use Rattle.text_words.specs.declared.separators.Separators.TheVariants as separators;
-ghost use Rattle.page_alloc.specs.Forms.{pages_line as pages_of, near_line as near_of, give_line as give_of, by_name as named_line, asked};
+ghost use Rattle.page_alloc.specs.Forms.{zone_named as zone_of_name, pages_line as pages_of, near_line as near_of, give_line as give_of, by_name as named_line, asked};
 ghost use Rattle.page_alloc.specs.Pages.{HasOrder};
 
 use crate::act::PageAct;
-use crate::fault::Wrong;
-use crate::words::{bounded, first_word, one_word, zone_named};
+use bm_base::Zone;
+use script_reader::{GREATEST_ID, GREATEST_NODE, Wrong, bounded, first_word, is_comment, one_word};
 use text_words::{Separators, next_word};
-
-/// The greatest ID.
-const GREATEST_ID: u64 = 0xFFFF_FFFF;
 
 /// The greatest order of a block.
 const GREATEST_ORDER: u64 = 10;
-
-/// The greatest number of a node.
-const GREATEST_NODE: u64 = 1023;
 
 /// What the line asks for, if anything.
 pub fn read_line(text: &[u8]) -> Result<Option<PageAct>, Wrong>
     ensures value { result ≡ asked text.now }
     ensures order { IfOk result (λ act. IfSome act HasOrder) }
     ensures asks { IfOk result (λ act. IfSome act (λ _. 0 < length text.now)) }
+    ensures of_words { IfErr result IsOfWords }
     ensures wrong { IfErr result (λ _. 0 < length text.now) }
 {
     let Some((name, rest)) = next_word(text, Separators::Script) else {
         return Ok(None);
     };
-    if name.first() == Some(&b'#') {
+    if is_comment(name) {
         return Ok(None);
     }
     Ok(Some(by_name(name, rest)?))
@@ -40,6 +36,7 @@ pub fn read_line(text: &[u8]) -> Result<Option<PageAct>, Wrong>
 fn by_name(name: &[u8], rest: &[u8]) -> Result<PageAct, Wrong>
     ensures value { result ≡ named_line name.now (words_in separators.Script rest.now) }
     ensures order { IfOk result HasOrder }
+    ensures of_words { IfErr result IsOfWords }
 {
     if name == b"pages".as_slice() {
         return pages_line(rest);
@@ -53,10 +50,28 @@ fn by_name(name: &[u8], rest: &[u8]) -> Result<PageAct, Wrong>
     Err(Wrong::Form)
 }
 
+/// The zone of that name.
+fn zone_named(word: &[u8]) -> Result<Zone, Wrong>
+    ensures value { result ≡ zone_of_name word.now }
+    ensures of_words { IfErr result IsOfWords }
+{
+    if word == b"DMA".as_slice() {
+        return Ok(Zone::Dma);
+    }
+    if word == b"DMA32".as_slice() {
+        return Ok(Zone::Dma32);
+    }
+    if word == b"Normal".as_slice() {
+        return Ok(Zone::Normal);
+    }
+    Err(Wrong::Form)
+}
+
 /// `ID ORDER NODE ZONE`.
 fn pages_line(text: &[u8]) -> Result<PageAct, Wrong>
     ensures value { result ≡ pages_of (words_in separators.Script text.now) }
     ensures order { IfOk result HasOrder }
+    ensures of_words { IfErr result IsOfWords }
 {
     let (id, rest) = first_word(text)?;
     let (order, rest) = first_word(rest)?;
@@ -77,6 +92,7 @@ fn pages_line(text: &[u8]) -> Result<PageAct, Wrong>
 fn near_line(text: &[u8]) -> Result<PageAct, Wrong>
     ensures value { result ≡ near_of (words_in separators.Script text.now) }
     ensures order { IfOk result HasOrder }
+    ensures of_words { IfErr result IsOfWords }
 {
     let (id, rest) = first_word(text)?;
     let (order, rest) = first_word(rest)?;
@@ -91,6 +107,7 @@ fn near_line(text: &[u8]) -> Result<PageAct, Wrong>
 fn give_line(text: &[u8]) -> Result<PageAct, Wrong>
     ensures value { result ≡ give_of (words_in separators.Script text.now) }
     ensures order { IfOk result HasOrder }
+    ensures of_words { IfErr result IsOfWords }
 {
     let id = bounded(GREATEST_ID, one_word(text)?)? as u32;
     Ok(PageAct::Give { id })

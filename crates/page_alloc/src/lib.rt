@@ -6,9 +6,10 @@
 //! lowest line that has one; [`Pages::run_line`] carries one line out. A line for the zones near a node (`near`) is read here, and
 //! carried out in the layer above, which knows the distances of nodes; so are all lines of a script, one after the other.
 //!
-//! `specs/Forms.antt` has the forms of a line, `specs/Reading.antt` goes over the lines, and `specs/Pages.antt` says what each line
-//! does to a state of free frames and held ranges. `specs/Kept.antt` has what stays true of it: the layer above proves that, whatever
-//! the lines are, each frame that was free at the beginning is in exactly one block or held by exactly one ID, and no other is in any.
+//! `specs/Forms.antt` has the forms of a line, in the words and numbers of the early script (`script_reader`), `specs/Reading.antt`
+//! goes over the lines, and `specs/Pages.antt` says what each line does to a state of free frames and held ranges. `specs/Kept.antt`
+//! has what stays true of it: the layer above proves that, whatever the lines are, each frame that was free at the beginning is in
+//! exactly one block or held by exactly one ID, and no other is in any.
 #![tactic(auto)]
 
 mod act;
@@ -17,7 +18,6 @@ mod forms;
 mod outcome;
 mod pages;
 mod reading;
-mod words;
 
 pub use act::{PageAct, PageLine};
 pub use fault::PageFault;

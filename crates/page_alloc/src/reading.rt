@@ -5,13 +5,14 @@
 
 ghost use Rattle.std.specs.Prelude.{◌≡◌, ◌<◌, ◌^◌, [], ◌++◌, length, Err, IfOk, IsErr, IsSome, IfSome, IsOkAnd, ◌⊎◌};
 ghost use Rattle.bm_base.specs.Answers.{Answers};
+ghost use Rattle.script_reader.specs.Numbers.{IsOfWords};
 ghost use Rattle.page_alloc.specs.Pages.{HasOrder, HaveOrders};
-ghost use Rattle.page_alloc.specs.Reading.{fault_at as line_fault, with_line, pages_of};
+ghost use Rattle.page_alloc.specs.Reading.{fault_at as line_fault, line_at as line_of, pages_of};
 
 use crate::act::{PageAct, PageLine};
-use crate::fault::{PageFault, Wrong};
+use crate::fault::PageFault;
 use crate::forms::read_line;
-use bm_base::Memory;
+use script_reader::{Wrong, keep};
 use std::alloc::Global;
 use text_words::{Separators, next_part};
 
@@ -36,40 +37,35 @@ pub fn read_pages(alloc: Global, bytes: &[u8]) -> Result<Vec<PageLine>, PageFaul
             Ok(act) => act,
             Err(wrong) => return Err(fault_at(number as u32, wrong)),
         };
-        lines = keep(lines, number, act);
+        lines = keep(lines, line_at(number, act));
         number += 1;
         rest = behind;
     }
     Ok(lines?)
 }
 
-/// The lines with one more, where it asks for something. Memory is wanting only where it was, or
-/// where there is one more.
-fn keep(
-    lines: Result<Vec<PageLine>, Memory>,
-    number: u64,
-    act: Option<PageAct>,
-) -> Result<Vec<PageLine>, Memory>
+/// The line of that number, where it asks for something.
+fn line_at(number: u64, act: Option<PageAct>) -> Option<PageLine>
     requires { IfSome act (λ _. number < 2 ^ 32) }
-    ensures line { IfOk result (λ kept. IsOkAnd lines (λ before. kept.items ≡ before.items ++ with_line number act [])) }
-    ensures memory { IsErr result → IsErr lines ⊎ IsSome act }
+    ensures { result ≡ line_of number act }
 {
-    let mut lines = lines?;
-    if let Some(act) = act {
-        lines.push(PageLine {
+    match act {
+        Some(act) => Some(PageLine {
             number: number as u32,
             act,
-        })?;
+        }),
+        None => None,
     }
-    Ok(lines)
 }
 
 /// What is wrong with the line of that number.
 fn fault_at(line: u32, wrong: Wrong) -> PageFault
+    requires { IsOfWords wrong }
     ensures { result ≡ line_fault line wrong }
 {
     match wrong {
         Wrong::Form => PageFault::BadLine { line },
         Wrong::Number => PageFault::BadNumber { line },
+        _ => unreachable!(),
     }
 }

@@ -1,17 +1,20 @@
 -- Small words, lines and scripts: what the definitions say of them, by computing.
-use Rattle.std.proofs.Common.{◌≡◌, ℕ, ◌-◌, ◌^◌, true, false, List, Some, None, [], ◌∷◌, Ok, Err, codes, refl, arith}
+use Rattle.std.proofs.Common.{◌≡◌, ℕ, ◌-◌, ◌^◌, true, false, List, Some, None, [], ◌∷◌, Ok, Err, codes, refl, inl, inr, arith}
 use Rattle.text_words.specs.Words.{words_in}
 use Rattle.text_words.specs.declared.separators.Separators.TheVariants as separators
 use Rattle.script_reader.specs.declared.act.Act.TheVariants as acts
 use Rattle.script_reader.specs.declared.fault.Wrong.TheVariants as wrong
 use Rattle.script_reader.specs.declared.fault.ScriptFault.TheVariants as faults
-use Rattle.script_reader.specs.Numbers.{Words, no_words, first_word, one_word, two_words, three_words, optional, whole, number, within, bounded, optional_number, power, some, range_at}
+use Rattle.script_reader.specs.Numbers.{Words, IsOfWords, no_words, first_word, one_word, two_words, three_words, optional, whole, number, within, bounded, optional_number, power, some, range_at}
 use Rattle.script_reader.specs.Forms.{greatest, greatest_id, greatest_node, greatest_byte, greatest_len, optional_exact, alloc_words, alloc_line, reserve_line, free_line, trim_line, fill_line, peek_line, sections_line, by_name, is_comment, asked_by, HasBounds}
-use Rattle.script_reader.specs.Script.{fault_at, is_sections, seen_behind, asked, with_line, lines_from, script_of}
+use Rattle.script_reader.specs.Script.{fault_at, is_sections, seen_behind, asked, line_at, lines_from, script_of}
 
 -- words of a line, and of the rest of one
 abbrev in_words : List ℕ → Words
 in_words text = words_in separators.Script text
+
+of_words_or_not : IsOfWords wrong.Number × (IsOfWords wrong.Align → ⊥)
+of_words_or_not = (inr refl, λ is. elim is [ inl form ↦ cc form | inr number ↦ cc number ])
 
 none_and_some : (no_words [] ≡ Ok tt) × (no_words (in_words (codes "a")) ≡ Err wrong.Form)
 none_and_some = (refl, refl)
@@ -128,11 +131,11 @@ names = (refl, refl)
 comments : (is_comment (codes "#free") ≡ true) × (is_comment (codes "free#") ≡ false)
 comments = (refl, refl)
 
-asks_for_nothing : (asked_by false [] ≡ Ok None) × (asked_by false (in_words (codes "# free")) ≡ Ok None)
+asks_for_nothing : (asked_by (by_name false) [] ≡ Ok None) × (asked_by (by_name false) (in_words (codes "# free")) ≡ Ok None)
     × (asked false (codes "\t\r") ≡ Ok None)
 asks_for_nothing = (refl, refl, refl)
 
-asks_for_something : (asked_by false (in_words (codes "free 1")) ≡ Ok (Some (acts.Free 1)))
+asks_for_something : (asked_by (by_name false) (in_words (codes "free 1")) ≡ Ok (Some (acts.Free 1)))
     × (asked false (codes " free\t1\r") ≡ Ok (Some (acts.Free 1)))
 asks_for_something = (refl, refl)
 
@@ -153,7 +156,7 @@ sections_or_not = (refl, refl)
 seen_or_not : (seen_behind false (Some acts.Sections) ≡ true) × (seen_behind true None ≡ true) × (seen_behind false None ≡ false)
 seen_or_not = (refl, refl, refl)
 
-one_more_line : (with_line 4 None [] ≡ []) × (with_line 4 (Some (acts.Free 1)) [] ≡ record { number = 4; act = acts.Free 1 } ∷ [])
+one_more_line : (line_at 4 None ≡ None) × (line_at 4 (Some (acts.Free 1)) ≡ Some (record { number = 4; act = acts.Free 1 }))
 one_more_line = (refl, refl)
 
 numbered_lines : lines_from false 5 (codes "" ∷ codes "free 1" ∷ []) ≡ Ok (record { number = 6; act = acts.Free 1 } ∷ [])

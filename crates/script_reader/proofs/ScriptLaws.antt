@@ -1,6 +1,8 @@
 -- Lines read one after another come to what the definition says of all of them.
-use Rattle.std.proofs.Common.{◌≡◌, ℕ, ◌+◌, ◌<◌, ◌≤◌, Bool, List, [], ◌∷◌, ◌++◌, length, length-append, Option, Some, None, Result, Ok, Err, Vec, Global, Bor, refl, sym, ◌∙◌, ap, arith, append_assoc, ◌⊎◌, inl, inr}
+use Rattle.std.proofs.Common.{◌≡◌, ℕ, ◌+◌, ◌<◌, ◌≤◌, Bool, List, [], ◌∷◌, ◌++◌, length, length-append, Option, Some, None, option_to_list, Result, Ok, Err, Vec, Global, Bor, refl, sym, ◌∙◌, ap, subst, arith, append_assoc, ◌⊎◌, inl, inr}
 use Rattle.std.specs.Prelude.{IfOk, IfErr, IfSome, IsOkAnd, IsErr, IsSome}
+use Rattle.std.specs.List.{All, cons_option}
+use Rattle.std.proofs.lemmas.List.Elements.{All-append, All-nil, All-cons}
 use Rattle.text_words.proofs.WordsLaws.{left}
 use Rattle.bm_base.specs.declared.memory.Memory.{Memory}
 use Rattle.bm_base.specs.ResultSteps.{◌>>=◌}
@@ -8,31 +10,32 @@ use Rattle.script_reader.specs.declared.act.Act.{Act}
 use Rattle.script_reader.specs.declared.act.Line.{Line}
 use Rattle.script_reader.specs.declared.fault.Wrong.{Wrong}
 use Rattle.script_reader.specs.declared.fault.ScriptFault.{ScriptFault}
-use Rattle.script_reader.specs.Script.{fault_at, seen_behind, asked, with_line, lines_from}
+use Rattle.script_reader.specs.Forms.{HasBounds}
+use Rattle.script_reader.specs.Script.{fault_at, line_at, seen_behind, asked, lines_from}
 
 -- lines behind those that are there
-abbrev pub behind : List Line → Result (List Line) ScriptFault → Result (List Line) ScriptFault
+abbrev pub behind : {L E : Type 0} → List L → Result (List L) E → Result (List L) E
 behind front (Ok lines) = Ok (front ++ lines)
 behind front (Err fault) = Err fault
 
-in_front : (number : ℕ) (act : Option Act) (lines : List Line) → with_line number act lines ≡ with_line number act [] ++ lines
-in_front number None lines = refl
-in_front number (Some act) lines = refl
+in_front : {L : Type 0} (line : Option L) (lines : List L) → cons_option line lines ≡ option_to_list line ++ lines
+in_front None lines = refl
+in_front (Some line) lines = refl
 
-with_others : (front : List Line) (number : ℕ) (act : Option Act) (others : Result (List Line) ScriptFault)
-    → behind front (others >>= λ lines. Ok (with_line number act lines)) ≡ behind (front ++ with_line number act []) others
-with_others front number act (Ok lines) =
-    ap (λ (ls : List Line). Ok ls)
-    (ap (λ (ls : List Line). front ++ ls) (in_front number act lines) ∙ sym (append_assoc front (with_line number act []) lines))
-with_others front number act (Err fault) = refl
+pub with_others : {L E : Type 0} (front : List L) (line : Option L) (others : Result (List L) E)
+    → behind front (others >>= λ lines. Ok (cons_option line lines)) ≡ behind (front ++ option_to_list line) others
+with_others {L = L} front line (Ok lines) =
+    ap (λ (ls : List L). Ok ls)
+    (ap (λ (ls : List L). front ++ ls) (in_front line lines) ∙ sym (append_assoc front (option_to_list line) lines))
+with_others front line (Err fault) = refl
 
 -- a line that was read, and those behind it
 pub line_read : (seen : Bool) (number : ℕ) (front : List Line) (text : List ℕ) (texts : List (List ℕ)) (act : Option Act)
     → asked seen text ≡ Ok act
     → behind front (lines_from seen number (text ∷ texts))
-    ≡ behind (front ++ with_line number act []) (lines_from (seen_behind seen act) (number + 1) texts)
+    ≡ behind (front ++ option_to_list (line_at number act)) (lines_from (seen_behind seen act) (number + 1) texts)
 line_read seen number front text texts act is =
-    rw is (with_others front number act (lines_from (seen_behind seen act) (number + 1) texts))
+    rw is (with_others front (line_at number act) (lines_from (seen_behind seen act) (number + 1) texts))
 
 -- a line with a fault is the script's fault
 pub line_fault : (seen : Bool) (number : ℕ) (front : List Line) (text : List ℕ) (texts : List (List ℕ)) (wrong : Wrong)
@@ -45,23 +48,42 @@ left_behind None n shorter = omega arith
 left_behind (Some text) n shorter = omega (arith, shorter)
 
 -- the lines that were kept are those that were read
-pub kept_are : (result lines : Result (Vec Line Global) Memory) (front added : List Line)
+pub kept_are : {L : Type 0} (result lines : Result (Vec L Global) Memory) (front added : List L)
     → IfOk result (λ kept. IsOkAnd lines (λ before. kept.items ≡ before.items ++ added))
     → IfOk lines (λ before. before.items ≡ front) → IfOk result (λ kept. kept.items ≡ front ++ added)
-kept_are (Ok kept) (Ok before) front added line are = line ∙ ap (λ (ls : List Line). ls ++ added) are
+kept_are {L = L} (Ok kept) (Ok before) front added line are = line ∙ ap (λ (ls : List L). ls ++ added) are
 kept_are (Ok kept) (Err memory) front added line are = absurd line
 kept_are (Err memory) lines front added line are = tt
 
-some_in_front : (front : List Line) (number : ℕ) (act : Option Act) → (0 < length front) ⊎ IsSome act
-    → 0 < length (front ++ with_line number act [])
-some_in_front front number None some = elim some [ inl more ↦ rw (length-append front []) (omega (arith, more)) | inr asks ↦ cc asks ]
-some_in_front front number (Some act) some = rw (length-append front (with_line number (Some act) [])) (omega arith)
+-- what holds of the lines so far and stays so with the one that was kept holds of all of them
+pub kept_hold : {L : Type 0} (P : List L → Type 0) (result lines : Result (Vec L Global) Memory) (added : List L)
+    → IfOk result (λ kept. IsOkAnd lines (λ before. kept.items ≡ before.items ++ added))
+    → IfOk lines (λ before. P before.items) → ((ls : List L) → P ls → P (ls ++ added)) → IfOk result (λ kept. P kept.items)
+kept_hold P (Ok kept) (Ok before) added line hold one = subst P (sym line) (one before.items hold)
+kept_hold P (Ok kept) (Err memory) added line hold one = absurd line
+kept_hold P (Err memory) lines added line hold one = tt
+
+-- and their bounds are as they must be
+abbrev IsBounded : Line → Type 0
+IsBounded line = HasBounds line.act
+
+bounded_line : (number : ℕ) (act : Option Act) → IfSome act HasBounds → All IsBounded (option_to_list (line_at number act))
+bounded_line number None bounds = All-nil IsBounded
+bounded_line number (Some act) bounds = All-cons IsBounded (record { number = number; act = act }) [] bounds (All-nil IsBounded)
+
+pub bounds_on : (number : ℕ) (act : Option Act) → IfSome act HasBounds → (ls : List Line) → All IsBounded ls
+    → All IsBounded (ls ++ option_to_list (line_at number act))
+bounds_on number act bounds ls all = All-append IsBounded ls _ all (bounded_line number act bounds)
+
+some_in_front : {L : Type 0} (front : List L) (line : Option L) → (0 < length front) ⊎ IsSome line → 0 < length (front ++ option_to_list line)
+some_in_front front None some = elim some [ inl more ↦ rw (length-append front []) (omega (arith, more)) | inr is ↦ cc is ]
+some_in_front front (Some line) some = rw (length-append front (option_to_list (Some line))) (omega arith)
 
 -- memory was wanting for a line
-pub wanting_for_some : (result lines : Result (Vec Line Global) Memory) (front : List Line) (number : ℕ) (act : Option Act)
-    → (IsErr result → IsErr lines ⊎ IsSome act) → IfErr lines (λ memory. 0 < length front)
-    → IfErr result (λ memory. 0 < length (front ++ with_line number act []))
-wanting_for_some (Ok kept) lines front number act memory some = tt
-wanting_for_some (Err wanting) (Ok before) front number act memory some =
-    elim (memory refl) [ inl was ↦ cc was | inr asks ↦ some_in_front front number act (inr asks) ]
-wanting_for_some (Err wanting) (Err was) front number act memory some = some_in_front front number act (inl some)
+pub wanting_for_some : {L : Type 0} (result lines : Result (Vec L Global) Memory) (front : List L) (line : Option L)
+    → (IsErr result → IsErr lines ⊎ IsSome line) → IfErr lines (λ memory. 0 < length front)
+    → IfErr result (λ memory. 0 < length (front ++ option_to_list line))
+wanting_for_some (Ok kept) lines front line memory some = tt
+wanting_for_some (Err wanting) (Ok before) front line memory some =
+    elim (memory refl) [ inl was ↦ cc was | inr is ↦ some_in_front front line (inr is) ]
+wanting_for_some (Err wanting) (Err was) front line memory some = some_in_front front line (inl some)

@@ -136,11 +136,11 @@ abbrev pub is_comment : List ℕ → Bool
 is_comment [] = false
 is_comment (b ∷ bs) = b == 35
 
--- what the words of a line ask for: nothing where there are none, or the first begins a comment
-abbrev pub asked_by : Bool → Words → Result (Option Act) Wrong
-asked_by seen [] = Ok None
-asked_by seen (name ∷ words) = if is_comment name then Ok None else (do
-  act ← by_name seen name words
+-- what the words of a line ask for, by the forms of its first word: nothing where there are none, or the first begins a comment
+abbrev pub asked_by : {A : Type 0} → (List ℕ → Words → Result A Wrong) → Words → Result (Option A) Wrong
+asked_by forms [] = Ok None
+asked_by forms (name ∷ words) = if is_comment name then Ok None else (do
+  act ← forms name words
   Ok (Some act))
 
 -- the bounds that running an act asks for

@@ -1,5 +1,5 @@
 -- The words of a line, and the numbers among them.
-use Rattle.std.specs.Prelude.{ℕ, ◌+◌, ◌^◌, ◌==◌, nat_le, nat_lt, if◌then◌else◌, List, [], ◌∷◌, length, Option, Some, None, Result, Ok, Err}
+use Rattle.std.specs.Prelude.{◌≡◌, ◌⊎◌, ℕ, ◌+◌, ◌^◌, ◌==◌, nat_le, nat_lt, if◌then◌else◌, List, [], ◌∷◌, length, Option, Some, None, Result, Ok, Err}
 use Rattle.std.specs.Int.{is_power_of_two}
 use Rattle.std.specs.Str.{bytes_eq}
 use Rattle.bm_base.specs.Extent.{Extent}
@@ -12,6 +12,10 @@ use Rattle.script_reader.specs.declared.fault.Wrong.TheVariants as wrong
 -- the words of a line or of its rest
 abbrev pub Words : Type 0
 Words = List (List ℕ)
+
+-- what can be wrong with words and numbers as such
+abbrev pub IsOfWords : Wrong → Type 0
+IsOfWords w = (w ≡ wrong.Form) ⊎ (w ≡ wrong.Number)
 
 -- no word, and the first word with those behind it
 abbrev pub no_words : Words → Result (Unit {0}) Wrong

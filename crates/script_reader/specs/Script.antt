@@ -1,5 +1,7 @@
 -- A script as a whole: its lines, or the fault of the lowest line that has one.
 use Rattle.std.specs.Prelude.{ℕ, ◌+◌, Bool, true, false, List, [], ◌∷◌, Option, Some, None, Result, Ok}
+use Rattle.std.specs.Option.{option_map}
+use Rattle.std.specs.List.{cons_option}
 use Rattle.bm_base.specs.ResultSteps.{◌>>=◌, with_error}
 use Rattle.text_words.specs.Parts.{parts_in}
 use Rattle.text_words.specs.Words.{words_in}
@@ -11,7 +13,7 @@ use Rattle.script_reader.specs.declared.fault.Wrong.{Wrong}
 use Rattle.script_reader.specs.declared.fault.Wrong.TheVariants as wrong
 use Rattle.script_reader.specs.declared.fault.ScriptFault.{ScriptFault}
 use Rattle.script_reader.specs.declared.fault.ScriptFault.TheVariants as faults
-use Rattle.script_reader.specs.Forms.{asked_by}
+use Rattle.script_reader.specs.Forms.{by_name, asked_by}
 
 -- what is wrong with the line of that number
 abbrev pub fault_at : ℕ → Wrong → ScriptFault
@@ -39,12 +41,11 @@ seen_behind false (Some act) = is_sections act
 
 -- what the text of one line asks for
 abbrev pub asked : Bool → List ℕ → Result (Option Act) Wrong
-asked seen text = asked_by seen (words_in separators.Script text)
+asked seen text = asked_by (by_name seen) (words_in separators.Script text)
 
--- a line before others, where it asks for something
-abbrev pub with_line : ℕ → Option Act → List Line → List Line
-with_line number None lines = lines
-with_line number (Some act) lines = record { number = number; act = act } ∷ lines
+-- the line of that number, where it asks for something
+abbrev pub line_at : ℕ → Option Act → Option Line
+line_at number act = option_map (λ act. record { number = number; act = act }) act
 
 -- the texts of lines, of which the first has that number
 abbrev pub lines_from : Bool → ℕ → List (List ℕ) → Result (List Line) ScriptFault
@@ -52,7 +53,7 @@ lines_from seen number [] = Ok []
 lines_from seen number (text ∷ texts) = do
   act ← with_error (fault_at number) (asked seen text)
   lines ← lines_from (seen_behind seen act) (number + 1) texts
-  Ok (with_line number act lines)
+  Ok (cons_option (line_at number act) lines)
 
 -- the lines of a script end with newlines, the last one maybe without: what stands behind the last newline is then a line
 -- without words

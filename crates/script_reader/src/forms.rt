@@ -11,8 +11,8 @@ ghost use Rattle.script_reader.specs.Script.{asked};
 use crate::act::Act;
 use crate::fault::Wrong;
 use crate::words::{
-    bounded, first_word, no_words, number, one_word, optional, optional_number, power, range_at,
-    some, three_words, two_words,
+    bounded, first_word, is_comment, no_words, number, one_word, optional, optional_number, power,
+    range_at, some, three_words, two_words,
 };
 use memblock_model::Request;
 use std::marker::Model;
@@ -28,7 +28,7 @@ pub fn read_line(seen: bool, text: &[u8]) -> Result<Option<Act>, Wrong>
     let Some((name, rest)) = next_word(text, Separators::Script) else {
         return Ok(None);
     };
-    if name.first() == Some(&b'#') {
+    if is_comment(name) {
         return Ok(None);
     }
     Ok(Some(by_name(seen, name, rest)?))
@@ -147,10 +147,10 @@ fn alloc_line(text: &[u8]) -> Result<Act, Wrong>
 }
 
 /// The greatest ID.
-const GREATEST_ID: u64 = 0xFFFF_FFFF;
+pub const GREATEST_ID: u64 = 0xFFFF_FFFF;
 
 /// The greatest number of a node.
-const GREATEST_NODE: u64 = 1023;
+pub const GREATEST_NODE: u64 = 1023;
 
 /// The greatest value of a byte.
 const GREATEST_BYTE: u64 = 255;

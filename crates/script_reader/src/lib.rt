@@ -12,6 +12,9 @@
 //! faults; `specs/Script.antt` goes over the lines. Words are those of `text_words`, numbers are
 //! sizes of `bm_base` that take their whole word.
 //!
+//! A page script (`page_alloc`) has other forms of the same words: what reads them here, one step each ([`one_word`], [`bounded`]
+//! and the like, [`Wrong`] where a step fails), what passes over comments, and what keeps the lines, serves both.
+//!
 //! The layer above, which runs the lines, may rest on this: each act has the bounds that running it
 //! asks for (`HasBounds`), `sections` comes at most once, and want of memory comes only where no line
 //! has a fault.
@@ -24,6 +27,8 @@ mod script;
 mod words;
 
 pub use act::{Act, Line};
-pub use fault::ScriptFault;
+pub use fault::{ScriptFault, Wrong};
+pub use forms::{GREATEST_ID, GREATEST_NODE};
 pub use memblock_model::Request;
-pub use script::read_script;
+pub use script::{keep, read_script};
+pub use words::{bounded, first_word, is_comment, one_word};

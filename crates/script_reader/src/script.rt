@@ -3,11 +3,11 @@
 //! Memory is taken here alone, for the lines. Where it runs out the script is still read on without
 //! them, so that a fault is told wherever it stands.
 
-ghost use Rattle.std.specs.Prelude.{◌≡◌, ◌≢◌, ℕ, ◌<◌, ◌≤◌, ◌^◌, List, [], ◌∷◌, ◌++◌, length, All, Option, Ok, Err, IfOk, IsErr, IsSome, IfSome, IsOkAnd, ◌⊎◌};
+ghost use Rattle.std.specs.Prelude.{◌≡◌, ◌≢◌, ℕ, ◌<◌, ◌≤◌, ◌^◌, List, [], ◌∷◌, ◌++◌, length, All, Option, option_to_list, Ok, Err, IfOk, IsErr, IsSome, IfSome, IsOkAnd, ◌⊎◌};
 ghost use Rattle.bm_base.specs.Answers.{Answers};
 ghost use Rattle.script_reader.specs.declared.act.Line.{Line as SomeLine};
 ghost use Rattle.script_reader.specs.Forms.{HasBounds};
-ghost use Rattle.script_reader.specs.Script.{fault_at as line_fault, seen_behind as sections_seen, with_line, script_of};
+ghost use Rattle.script_reader.specs.Script.{fault_at as line_fault, line_at as line_of, seen_behind as sections_seen, script_of};
 
 use crate::act::{Act, Line};
 use crate::fault::{ScriptFault, Wrong};
@@ -40,34 +40,35 @@ pub fn read_script(alloc: Global, bytes: &[u8]) -> Result<Vec<Line>, ScriptFault
             Err(wrong) => return Err(fault_at(number as u32, wrong)),
         };
         seen = seen_behind(seen, &act);
-        lines = keep(lines, number, act);
+        lines = keep(lines, line_at(number, act));
         number += 1;
         rest = behind;
     }
     Ok(lines?)
 }
 
-/// The lines with one more, where it asks for something. Memory is wanting only where it was, or
-/// where there is one more.
-fn keep(
-    lines: Result<Vec<Line>, Memory>,
-    number: u64,
-    act: Option<Act>,
-) -> Result<Vec<Line>, Memory>
+/// The line of that number, where it asks for something.
+fn line_at(number: u64, act: Option<Act>) -> Option<Line>
     requires { IfSome act (λ _. number < 2 ^ 32) }
-    ensures line { IfOk result (λ kept. IsOkAnd lines (λ before.
-        kept.items ≡ before.items ++ with_line number act [])) }
-    ensures bounds { IfOk lines (λ before. All (λ line. HasBounds line.act) before.items)
-        → IfSome act HasBounds
-        → IfOk result (λ kept. All (λ line. HasBounds line.act) kept.items) }
-    ensures memory { IsErr result → IsErr lines ⊎ IsSome act }
+    ensures { result ≡ line_of number act }
 {
-    let mut lines = lines?;
-    if let Some(act) = act {
-        lines.push(Line {
+    match act {
+        Some(act) => Some(Line {
             number: number as u32,
             act,
-        })?;
+        }),
+        None => None,
+    }
+}
+
+/// The lines with one more, where there is one. Memory is wanting only where it was, or where there is one more.
+pub fn keep<L: Copy>(lines: Result<Vec<L>, Memory>, line: Option<L>) -> Result<Vec<L>, Memory>
+    ensures line { IfOk result (λ kept. IsOkAnd lines (λ before. kept.items ≡ before.items ++ option_to_list line)) }
+    ensures memory { IsErr result → IsErr lines ⊎ IsSome line }
+{
+    let mut lines = lines?;
+    if let Some(line) = line {
+        lines.push(line)?;
     }
     Ok(lines)
 }

@@ -4,20 +4,29 @@
 //! A step that fails says what is wrong with the line; which fault goes first is the order of the
 //! steps in `crate::forms`.
 
-ghost use Rattle.std.specs.Prelude.{◌≡◌, ℕ, ◌<◌, ◌≤◌, ◌^◌, List, [], ◌∷◌, length, Option, Ok, Err, MatchResult, OnOk, IfOk, IsTrue};
+ghost use Rattle.std.specs.Prelude.{◌≡◌, ℕ, ◌<◌, ◌≤◌, ◌^◌, List, [], ◌∷◌, length, Option, Ok, Err, MatchResult, OnOk, IfOk, IfErr, IsTrue};
 ghost use Rattle.std.specs.Int.{is_power_of_two};
 ghost use Rattle.std.specs.Option.{option_map};
 ghost use Rattle.text_words.specs.Words.{words_in};
 ghost use Rattle.text_words.specs.declared.separators.Separators.TheVariants as separators;
-ghost use Rattle.script_reader.specs.Numbers.{no_words as has_no_words, first_word as front_word, one_word as single_word, two_words as pair_of_words, three_words as triple_of_words, optional as optional_word, number as number_of, bounded as bounded_number, optional_number as optional_number_of, power as power_of, some as some_of, range_at as range_of};
+ghost use Rattle.script_reader.specs.Numbers.{IsOfWords, no_words as has_no_words, first_word as front_word, one_word as single_word, two_words as pair_of_words, three_words as triple_of_words, optional as optional_word, number as number_of, bounded as bounded_number, optional_number as optional_number_of, power as power_of, some as some_of, range_at as range_of};
+ghost use Rattle.script_reader.specs.Forms.{is_comment as begins_comment};
 
 use crate::fault::Wrong;
 use bm_base::{Range, read_size};
 use text_words::{Separators, next_word};
 
+/// Whether the word begins a comment.
+pub fn is_comment(word: &[u8]) -> bool
+    ensures { result ≡ begins_comment word.now }
+{
+    word.first() == Some(&b'#')
+}
+
 /// No word is left.
 pub fn no_words(text: &[u8]) -> Result<(), Wrong>
-    ensures { result ≡ has_no_words (words_in separators.Script text.now) }
+    ensures value { result ≡ has_no_words (words_in separators.Script text.now) }
+    ensures of_words { IfErr result IsOfWords }
 {
     match next_word(text, Separators::Script) {
         Some(_) => Err(Wrong::Form),
@@ -27,19 +36,21 @@ pub fn no_words(text: &[u8]) -> Result<(), Wrong>
 
 /// The first word, and a text with the words behind it.
 pub fn first_word(text: &[u8]) -> Result<(&[u8], &[u8]), Wrong>
-    ensures { MatchResult result
+    ensures value { MatchResult result
         (λ found. front_word (words_in separators.Script text.now)
         ≡ Ok (found.0.now, words_in separators.Script found.1.now))
         (λ wrong. front_word (words_in separators.Script text.now) ≡ Err wrong) }
+    ensures of_words { IfErr result IsOfWords }
 {
     next_word(text, Separators::Script).ok_or(Wrong::Form)
 }
 
 /// The one word.
 pub fn one_word(text: &[u8]) -> Result<&[u8], Wrong>
-    ensures { MatchResult result
+    ensures value { MatchResult result
         (λ word. single_word (words_in separators.Script text.now) ≡ Ok word.now)
         (λ wrong. single_word (words_in separators.Script text.now) ≡ Err wrong) }
+    ensures of_words { IfErr result IsOfWords }
 {
     let (word, rest) = first_word(text)?;
     no_words(rest)?;
@@ -88,7 +99,8 @@ pub fn optional<'a>(key: &[u8], text: &'a [u8]) -> (Option<&'a [u8]>, &'a [u8])
 
 /// The size that takes the whole word.
 pub fn number(word: &[u8]) -> Result<u64, Wrong>
-    ensures { result ≡ number_of word.now }
+    ensures value { result ≡ number_of word.now }
+    ensures of_words { IfErr result IsOfWords }
 {
     match read_size(word) {
         Ok((value, taken)) if taken == word.len() => Ok(value),
@@ -100,6 +112,7 @@ pub fn number(word: &[u8]) -> Result<u64, Wrong>
 pub fn bounded(most: u64, word: &[u8]) -> Result<u64, Wrong>
     ensures value { result ≡ bounded_number most word.now }
     ensures bound { IfOk result (λ n. n ≤ most) }
+    ensures of_words { IfErr result IsOfWords }
 {
     let value = number(word)?;
     if value > most {

@@ -1,10 +1,12 @@
 -- One more line.
-use Rattle.std.proofs.Common.{◌++◌, [], sym, ◌∙◌, arith}
+use Rattle.std.proofs.Common.{◌++◌, option_to_list, sym, ◌∙◌, arith}
 use Rattle.std.specs.Option.{option_map}
 use Rattle.text_words.specs.Parts.{parts_behind}
 use Rattle.text_words.specs.declared.separators.Separators.TheVariants as separators
-use Rattle.page_alloc.specs.Reading.{with_line}
-use Rattle.page_alloc.proofs.ReadingLaws.{line_read, left_behind, kept_are, orders_kept, wanting_for_some}
+use Rattle.script_reader.proofs.ScriptLaws.{left_behind, kept_are, kept_hold, wanting_for_some}
+use Rattle.page_alloc.specs.Pages.{HaveOrders}
+use Rattle.page_alloc.specs.Reading.{line_at}
+use Rattle.page_alloc.proofs.ReadingLaws.{line_read, orders_on}
 use Rattle.page_alloc.proofs.reading.read_pages.Goals as goal
 
 pub loop-rest-preserved : goal.loop-rest-preserved
@@ -14,15 +16,17 @@ loop-rest-preserved c =
     let act = c.in-Ok.act in
     let shorter = left_behind c.next_part.result.1 _ c.next_part.ensures.shorter in
     let others = parts_behind (separators.Byte 10) (option_map (λ rest. rest.now) c.next_part.result.1) in
+    let kept = rw c.line_at.ensures at c.keep-lines.ensures.line in
+    let wanting = rw c.line_at.ensures at c.keep-lines.ensures.memory in
     let few = rw c.in-Some.is at l.invariant.few in
     let parts = rw c.next_part.ensures.parts at rw c.in-Some.is at l.invariant.lines.1 in
     record {
       few = omega (arith, few, shorter);
-      orders = orders_kept c.keep-lines.result l.lines l.number act c.keep-lines.ensures.line l.invariant.orders c.in-Ok.ensures.order;
+      orders = kept_hold HaveOrders c.keep-lines.result l.lines _ kept l.invariant.orders (orders_on l.number act c.in-Ok.ensures.order);
       lines = (
-        front ++ with_line l.number act [],
+        front ++ option_to_list (line_at l.number act),
         sym (line_read l.number front c.next_part.result.0.now others act (sym c.in-Ok.ensures.value)) ∙ parts,
-        kept_are c.keep-lines.result l.lines front _ c.keep-lines.ensures.line l.invariant.lines.2,
-        wanting_for_some c.keep-lines.result l.lines front _ act c.keep-lines.ensures.memory l.invariant.lines.3,
+        kept_are c.keep-lines.result l.lines front _ kept l.invariant.lines.2,
+        wanting_for_some c.keep-lines.result l.lines front _ wanting l.invariant.lines.3,
       );
     }

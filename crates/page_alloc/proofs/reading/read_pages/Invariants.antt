@@ -4,10 +4,10 @@ use Rattle.std.specs.Option.{option_map}
 use Rattle.text_words.specs.Parts.{parts_behind}
 use Rattle.text_words.specs.declared.separators.Separators.TheVariants as separators
 use Rattle.text_words.proofs.WordsLaws.{left}
+use Rattle.script_reader.proofs.ScriptLaws.{behind}
 use Rattle.page_alloc.specs.declared.act.PageLine.{PageLine}
 use Rattle.page_alloc.specs.Pages.{HaveOrders}
 use Rattle.page_alloc.specs.Reading.{lines_from, pages_of}
-use Rattle.page_alloc.proofs.ReadingLaws.{behind}
 use Rattle.page_alloc.proofs.reading.read_pages.Given as goal
 
 abbrev pub invariant-loop-rest : goal.invariant-loop-rest
