@@ -25,7 +25,7 @@ PIN = re.compile(r"# pins: (?:(?:\w+::)?(\w+) clause (\w+)|law (\w+))")
 ANSWERED = re.compile(r"proofs/(\S+?)/(?:Answers|Invariants|Proof)\.antt:\d+:\d+: error: (?:\d+ declarations? that depends? on )?`([^`]+)`")
 LEMMA = re.compile(r"proofs/\w+\.antt:\d+:\d+: error: `([^`]+)`")
 OPEN = re.compile(r"\(`([\w-]+)`\)")
-UNPROVED = re.compile(r"^(?:fn|impl) (\S+): not proved", re.M)
+UNPROVED = re.compile(r"^(?:fn|impl) (\S+): (?:not proved|no proof: expected answers)", re.M)
 NAMES = re.compile(r"proofs/\S+:\d+:\d+: error: .*(has no field|is not in scope|has no `|was not admitted|was rejected)")
 
 
