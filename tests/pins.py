@@ -20,6 +20,7 @@ from documents import TOP, read
 FORM = re.compile(r"# pins: (?:(?:(\w+)::)?(\w+) clause (\w+)|law (\w+))(?:: (.+))?$")
 CONTRACT = re.compile(r"^([ \t]*)(?:pub(?:\(crate\))? )?(?:const )?(?:unsafe )?(?:extern \"C\" )?fn (\w+)", re.M)
 CLAUSE = re.compile(r"^\s*ensures\*?\s+(?:([a-z_]\w*)\s+)?\{", re.M)
+COMMENT = re.compile(r"^[ \t]*//.*$", re.M)
 
 
 def text_of(crate, folder):
@@ -39,7 +40,8 @@ def contract_end(source, match):
 
 
 def clauses(source):
-    """The names of the clauses of each function of a text."""
+    """The names of the clauses of each function of a text. A comment between them may have a semicolon or a brace."""
+    source = COMMENT.sub("", source)
     found = {}
     for match in CONTRACT.finditer(source):
         names = [name or "1" for name in CLAUSE.findall(source[match.start():contract_end(source, match)])]
