@@ -9,7 +9,7 @@ use Rattle.bm_base.specs.Extent.{Extent, end_of}
 use Rattle.address_runs.specs.Edits.{NothingFrom}
 use Rattle.address_runs.specs.Runs.{AreRuns, RunOf, extent_of}
 use Rattle.audit_lines.specs.Blocks.{bytes_of_block}
-use Rattle.audit_lines.specs.Lines.{Ascend, StartFrom}
+use Rattle.audit_lines.specs.Lines.{AscendApart, StartFrom}
 use Rattle.audit_texts.specs.Told.{IsToldBlock, told_block}
 use Rattle.frame_blocks.specs.declared.block.Block.{Block}
 use Rattle.frame_blocks.specs.declared.run.TheConstants.{MAX_FRAMES}
@@ -19,7 +19,7 @@ use Rattle.frame_blocks.proofs.BlockLaws.{found_block, listed_ascends, listed_so
 use Rattle.memblock_model.specs.Labels.{Label}
 use Rattle.memblock_model.specs.Items.{memory_of}
 use Rattle.memblock_model.specs.declared.item.Item.{Item}
-use Rattle.table_frames.specs.Frames.{free_in, node_below, node_of_frame, node_told}
+use Rattle.table_frames.specs.Frames.{free_node_in, node_below, node_of_frame, node_told}
 use Rattle.table_frames.proofs.TakeLaws.{both_tests}
 use Rattle.boot_model.specs.Boot.{Given, Told, handed_over, told_boot}
 use Rattle.conservation.specs.Headline.{told_blocks}
@@ -27,13 +27,13 @@ use Rattle.conservation.proofs.CountLaws.{in_block}
 use Rattle.conservation.proofs.HeadlineLaws.{below, is_told}
 
 -- runs ascend
-pub runs_ascend : {X : Type 0} (rs : List (RunOf X)) → AreRuns rs → Ascend (map extent_of rs)
+pub runs_ascend : {X : Type 0} (rs : List (RunOf X)) → AreRuns rs → AscendApart (map extent_of rs)
 runs_ascend [] runs = tt
 runs_ascend (r ∷ []) runs = (tt, tt)
 runs_ascend (r ∷ (s ∷ ss)) runs = (runs.1.0, runs_ascend (s ∷ ss) runs.2)
 
 -- ranges that ascend up to an end, each of some bytes, are no more than there are bytes
-few_from : {X : Type 0} (end at : ℕ) (rs : List (RunOf X)) → at ≤ end → StartFrom at (map extent_of rs) → Ascend (map extent_of rs)
+few_from : {X : Type 0} (end at : ℕ) (rs : List (RunOf X)) → at ≤ end → StartFrom at (map extent_of rs) → AscendApart (map extent_of rs)
     → All (λ r. (0 < r.size) × (end_of (extent_of r) ≤ end)) rs → at + length rs ≤ end
 few_from end at [] low start order all = omega (arith, low)
 few_from end at (r ∷ rs) low start order all =
@@ -48,7 +48,7 @@ start_at : (es : List Extent) → StartFrom 0 es
 start_at [] = tt
 start_at (e ∷ es) = omega arith
 
-pub few_runs : {X : Type 0} (rs : List (RunOf X)) → Ascend (map extent_of rs)
+pub few_runs : {X : Type 0} (rs : List (RunOf X)) → AscendApart (map extent_of rs)
     → All (λ r. (0 < r.size) × (end_of (extent_of r) < 2 ^ 64)) rs → length rs < 2 ^ 64
 few_runs rs order all =
     let few : 0 + length rs ≤ 2 ^ 64 - 1 = few_from (2 ^ 64 - 1) 0 rs (omega arith) (start_at (map extent_of rs)) order
@@ -77,7 +77,7 @@ module _ (f : Frames) where
       ]
 
   ascend_told : (from : ℕ) (bs : List Block) → AscendFrom from bs → ((b : Block) → Lists bs b → IsBlock f b)
-      → Ascend (map bytes_of_block (map told_block bs))
+      → AscendApart (map bytes_of_block (map told_block bs))
   ascend_told from [] ascend are = tt
   ascend_told from (b ∷ []) ascend are = (tt, tt)
   ascend_told from (b ∷ (c ∷ cs)) ascend are =
@@ -85,7 +85,7 @@ module _ (f : Frames) where
       let apart : b.first + 2 ^ b.order ≤ c.first = blocks_apart b c (are b (inl refl)) (are c (inr (inl refl))) (omega (arith, next)) in
       (omega (arith, apart), ascend_told (b.first + 1) (c ∷ cs) ascend.1 (λ d listed. are d (inr listed)))
 
-  pub blocks_ascend : Ascend (map bytes_of_block (map told_block (blocks_of f)))
+  pub blocks_ascend : AscendApart (map bytes_of_block (map told_block (blocks_of f)))
   blocks_ascend = ascend_told 0 (blocks_of f) (listed_ascends f) (listed_sound f)
 
   module _ (near : NothingFrom MAX_FRAMES f) where
@@ -139,7 +139,7 @@ if_low true o n low is = low is
 if_low false o n low is = cc
 
 handed_low : (items : List Item) (frame n : ℕ) → handed_over items frame ≡ Some n → n < 1024
-unfolding free_in
+unfolding free_node_in
 handed_low items frame n is =
     if_low _ (node_of_frame (memory_of items) frame) n (label_low (memory_of items (4096 * frame)) n) is
 

@@ -7,7 +7,7 @@ use Rattle.bm_base.specs.declared.width.Width.{Width}
 use Rattle.address_runs.specs.Runs.{AreRuns, RunOf, extent_of}
 use Rattle.audit_lines.specs.Blocks.{bytes_of_block}
 use Rattle.audit_lines.specs.Forms.{block_in, map_in, owner_in}
-use Rattle.audit_lines.specs.Lines.{Ascend}
+use Rattle.audit_lines.specs.Lines.{AscendApart}
 use Rattle.audit_lines.specs.Reports.{report_of}
 use Rattle.audit_texts.specs.Told.{told_block, told_run}
 use Rattle.audit_texts.proofs.ToldLaws.{blocks_back, map_back, owners_back}
@@ -47,13 +47,13 @@ map_runs given told ends =
 module _ (given : Given) (told : Told) (ends : told_boot given ≡ Ok told) (can : CanBeTold told) where
   pub map_read : report_of map_in (λ l. l.range) (report_text reports.Map told) ≡ Ok (map told_run told.map)
   map_read =
-      let order : Ascend (map extent_of told.map) = runs_ascend told.map (map_runs given told ends) in
+      let order : AscendApart (map extent_of told.map) = runs_ascend told.map (map_runs given told ends) in
       map_back told.map (few_runs told.map order (λ k d inside. (can.map k d inside).0)) can.map order
 
   pub owners_read : report_of owner_in (λ r. r) (report_text reports.Owners told) ≡ Ok (map extent_of (owner_runs_of told.items))
   owners_read =
       let rs : List (RunOf Owner) = owner_runs_of told.items in
-      let order : Ascend (map extent_of rs) = runs_ascend rs (owner_runs told.items can.within).runs in
+      let order : AscendApart (map extent_of rs) = runs_ascend rs (owner_runs told.items can.within).runs in
       owners_back rs (few_runs rs order (λ k d inside. (can.owners k d inside).0)) can.owners order
 
   pub blocks_read : report_of block_in bytes_of_block (report_text reports.Blocks told) ≡ Ok (map told_block (told_blocks told))

@@ -5,7 +5,7 @@ use Rattle.bm_base.specs.declared.zone.Zone.TheVariants as zones
 use Rattle.audit_lines.specs.Blocks.{Block, IsBlock, bytes_of_block}
 use Rattle.audit_lines.specs.Fields.{behind, ends, is_lower_hex, number_in, range_of}
 use Rattle.audit_lines.specs.Forms.{bounded, guard, is_just, is_numbered, is_owner, kind_name, zone_in}
-use Rattle.audit_lines.specs.Lines.{Ascend, StartFrom}
+use Rattle.audit_lines.specs.Lines.{AscendApart, StartFrom}
 use Rattle.audit_lines.specs.Reports.{report_of, split_lines}
 use Rattle.audit_lines.specs.declared.report.LineFault.{LineFault}
 use Rattle.audit_lines.specs.declared.report.LineFault.TheVariants as faults
@@ -105,8 +105,8 @@ unfolding split_lines
 no_newline = refl
 
 -- ranges that touch are in order, those that share a byte aren't
-touching : Ascend (record { base = 0; size = 4 } ∷ record { base = 4; size = 4 } ∷ [])
+touching : AscendApart (record { base = 0; size = 4 } ∷ record { base = 4; size = 4 } ∷ [])
 touching = (omega arith, (tt, tt))
 
-sharing : Ascend (record { base = 0; size = 5 } ∷ record { base = 4; size = 4 } ∷ []) → ⊥
+sharing : AscendApart (record { base = 0; size = 5 } ∷ record { base = 4; size = 4 } ∷ []) → ⊥
 sharing order = let first : 5 ≤ 4 = order.0 in omega arith

@@ -4,7 +4,7 @@ use Rattle.std.proofs.lemmas.Bool.{cases_Bool}
 use Rattle.std.proofs.lemmas.Bool.Decides.{nat_tests}
 use Rattle.bm_base.specs.Extent.{Extent, end_of}
 use Rattle.bm_base.specs.ResultSteps.{◌>>=◌}
-use Rattle.audit_lines.specs.Lines.{StartFrom, Ascend}
+use Rattle.audit_lines.specs.Lines.{StartFrom, AscendApart}
 use Rattle.audit_lines.specs.declared.report.LineFault.{LineFault}
 use Rattle.audit_lines.specs.Reports.{Split, line_at, line_in, in_order, none_left, report_from}
 
@@ -68,7 +68,7 @@ module _ {L : Type 0} (form : ℕ → List ℕ → Option L) (extent : L → Ext
 
   -- what is read is ascending
   abbrev AscendFrom : ℕ → List L → Type 0
-  AscendFrom at lines = StartFrom at (map extent lines) × Ascend (map extent lines)
+  AscendFrom at lines = StartFrom at (map extent lines) × AscendApart (map extent lines)
 
   none_ascend : (index at : ℕ) (left : List ℕ) (lines : List L) → none_left form extent index left ≡ Ok lines → AscendFrom at lines
   none_ascend index at [] [] is = (tt, tt)

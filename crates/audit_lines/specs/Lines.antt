@@ -8,6 +8,6 @@ StartFrom at [] = Unit {0}
 StartFrom at (r ∷ rs) = at ≤ r.base
 
 -- the list is ascending and disjoint: each range begins at the end of the one before it or behind it
-abbrev pub Ascend : List Extent → Type 0
-Ascend [] = Unit {0}
-Ascend (r ∷ rs) = StartFrom (end_of r) rs × Ascend rs
+abbrev pub AscendApart : List Extent → Type 0
+AscendApart [] = Unit {0}
+AscendApart (r ∷ rs) = StartFrom (end_of r) rs × AscendApart rs

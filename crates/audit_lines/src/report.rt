@@ -1,7 +1,7 @@
 //! A report: lines of one form that follow one another without meeting.
 
 ghost use Rattle.std.specs.Prelude.{◌≡◌, ◌+◌, ◌<◌, ◌≤◌, ◌^◌, ℕ, List, Option, length, map, IfOk};
-ghost use Rattle.audit_lines.specs.Lines.{Ascend};
+ghost use Rattle.audit_lines.specs.Lines.{AscendApart};
 ghost use Rattle.audit_lines.specs.Reports.{line_at, report_of};
 ghost use Rattle.bm_base.specs.Answers.{Answers};
 ghost use Rattle.bm_base.specs.Extent.{Extent, end_of};
@@ -65,7 +65,7 @@ pub trait ReportLine: Copy + Drop {
 pub fn read_report<L: ReportLine>(alloc: Global, bytes: &[u8]) -> Result<Vec<L>, ReadError>
     ensures answers { Answers ReadError.Memory (λ lines. lines.items) result
         (with_error ReadError.Fault (report_of L.form L.extent bytes.now)) }
-    ensures order { IfOk result (λ lines. Ascend (map L.extent lines.items)) }
+    ensures order { IfOk result (λ lines. AscendApart (map L.extent lines.items)) }
     ensures few { IfOk result (λ lines. length lines.items ≤ length bytes.now) }
 {
     let mut lines = Vec::new(alloc);

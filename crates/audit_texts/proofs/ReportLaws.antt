@@ -2,7 +2,7 @@
 use Rattle.std.proofs.Common.{◌≡◌, ℕ, ◌+◌, ◌^◌, ◌<◌, ◌≤◌, nat_lt, false, List, [], ◌∷◌, ◌++◌, length, map, Option, Some, Ok, refl, ap, ◌∙◌, arith, append_assoc}
 use Rattle.std.proofs.lemmas.Bool.Decides.{nat_tests}
 use Rattle.bm_base.specs.Extent.{Extent, end_of}
-use Rattle.audit_lines.specs.Lines.{StartFrom, Ascend}
+use Rattle.audit_lines.specs.Lines.{StartFrom, AscendApart}
 use Rattle.audit_lines.specs.Reports.{line_at, report_from, split_lines}
 use Rattle.report_texts.specs.Lines.{lines_from}
 use Rattle.audit_texts.proofs.SplitLaws.{IsOneLine, split_first}
@@ -30,7 +30,7 @@ module _ {L X : Type 0} (form : ℕ → List ℕ → Option L) (extent : L → E
       ∙ split_first (text n x) rest (back.one n small)
 
   pub lines_read : (xs : List X) (n at : ℕ) → n + length xs ≤ 2 ^ 64 → AreReadBack xs
-      → StartFrom at (map extent (map seen xs)) → Ascend (map extent (map seen xs))
+      → StartFrom at (map extent (map seen xs)) → AscendApart (map extent (map seen xs))
       → report_from form extent n at (split_lines (lines_from line n xs)).0 (split_lines (lines_from line n xs)).1 ≡ Ok (map seen xs)
   unfolding split_lines
   lines_read [] n at few back start order = refl

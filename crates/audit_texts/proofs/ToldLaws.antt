@@ -9,7 +9,7 @@ use Rattle.bm_base.specs.declared.zone.Zone.TheVariants as zones
 use Rattle.audit_lines.specs.Blocks.{bytes_of_block}
 use Rattle.audit_lines.specs.Forms.{block_in, is_just, is_numbered, is_owner, kind_name as kind_name_in, map_in, owner_in}
 use Rattle.audit_lines.specs.Fields.{behind}
-use Rattle.audit_lines.specs.Lines.{Ascend, StartFrom}
+use Rattle.audit_lines.specs.Lines.{AscendApart, StartFrom}
 use Rattle.audit_lines.specs.Reports.{report_of}
 use Rattle.audit_texts.specs.Told.{IsToldBlock, IsToldName, IsToldOwner, IsToldRun, told_block, told_run}
 use Rattle.frame_blocks.specs.declared.block.Block.{Block}
@@ -109,7 +109,7 @@ ranges_told : (runs : List (RunOf ℕ)) → map (λ l. l.range) (map told_run ru
 ranges_told [] = refl
 ranges_told (r ∷ rs) = ap (λ (es : List Extent). extent_of r ∷ es) (ranges_told rs)
 
-pub map_back : (runs : List (RunOf ℕ)) → length runs < 2 ^ 64 → All IsToldRun runs → Ascend (map extent_of runs)
+pub map_back : (runs : List (RunOf ℕ)) → length runs < 2 ^ 64 → All IsToldRun runs → AscendApart (map extent_of runs)
     → report_of map_in (λ l. l.range) (map_text runs) ≡ Ok (map told_run runs)
 map_back runs few told order =
     lines_read map_in (λ l. l.range) map_line (λ n x. map_words (told_run x)) told_run runs 0 0 (omega (arith, few))
@@ -120,7 +120,7 @@ same_ranges : (es : List Extent) → map (λ e. e) es ≡ es
 same_ranges [] = refl
 same_ranges (e ∷ es) = ap (λ (others : List Extent). e ∷ others) (same_ranges es)
 
-pub owners_back : (runs : List (RunOf Owner)) → length runs < 2 ^ 64 → All IsToldOwner runs → Ascend (map extent_of runs)
+pub owners_back : (runs : List (RunOf Owner)) → length runs < 2 ^ 64 → All IsToldOwner runs → AscendApart (map extent_of runs)
     → report_of owner_in (λ r. r) (owners_text runs) ≡ Ok (map extent_of runs)
 owners_back runs few told order =
     lines_read owner_in (λ e. e) owner_line (λ n x. owner_words n (extent_of x) (owner_text x.value)) extent_of runs 0 0
@@ -130,7 +130,7 @@ owners_back runs few told order =
     (from_first (map (λ e. e) (map extent_of runs))) (rw (same_ranges (map extent_of runs)) order)
 
 pub blocks_back : (blocks : List Block) → length blocks < 2 ^ 64 → All IsToldBlock blocks
-    → Ascend (map bytes_of_block (map told_block blocks))
+    → AscendApart (map bytes_of_block (map told_block blocks))
     → report_of block_in bytes_of_block (lines_from block_line 0 blocks) ≡ Ok (map told_block blocks)
 blocks_back blocks few told order =
     lines_read block_in bytes_of_block block_line (λ n x. block_words (told_block x)) told_block blocks 0 0 (omega (arith, few))

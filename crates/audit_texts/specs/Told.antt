@@ -46,8 +46,8 @@ IsToldBlock b = (b.node < 2 ^ 32) × IsBlock (told_block b)
 abbrev pub run_of : MapLine → RunOf ℕ
 run_of l = record { base = l.range.base; size = l.range.size; value = l.kind }
 
-abbrev pub block_of : BlockLine → Block
-block_of b = record { node = b.node; zone = b.zone; order = b.order; first = b.at / FRAME_SIZE }
+abbrev pub block_of_line : BlockLine → Block
+block_of_line b = record { node = b.node; zone = b.zone; order = b.order; first = b.at / FRAME_SIZE }
 
 -- the block begins with a frame
 abbrev pub IsAtFrame : BlockLine → Type 0

@@ -5,10 +5,10 @@ ghost use Rattle.std.specs.List.{All};
 ghost use Rattle.address_runs.specs.Runs.{RunOf, extent_of};
 ghost use Rattle.audit_lines.specs.Blocks.{Block as BlockLine, bytes_of_block};
 ghost use Rattle.audit_lines.specs.Forms.{block_in, map_in, owner_in};
-ghost use Rattle.audit_lines.specs.Lines.{Ascend};
+ghost use Rattle.audit_lines.specs.Lines.{AscendApart};
 ghost use Rattle.audit_lines.specs.Reports.{report_of};
 ghost use Rattle.audit_lines.specs.declared.lines.MapLine.{MapLine};
-ghost use Rattle.audit_texts.specs.Told.{IsAtFrame, IsToldBlock, IsToldOwner, IsToldRun, block_of, run_of, told_block, told_run};
+ghost use Rattle.audit_texts.specs.Told.{IsAtFrame, IsToldBlock, IsToldOwner, IsToldRun, block_of_line, run_of, told_block, told_run};
 ghost use Rattle.frame_blocks.specs.declared.block.Block.{Block};
 ghost use Rattle.memblock_model.specs.declared.owner.Owner.{Owner};
 ghost use Rattle.report_texts.specs.Lines.{lines_from};
@@ -18,20 +18,20 @@ ghost use Rattle.stage_texts.specs.BlocksText.{block_line};
 
 /// A law: the text of a map is read as its runs, each with its type.
 pub fn map_is_read_back()
-    ensures { (runs : List (RunOf ℕ)) → length runs < 2 ^ 64 → All IsToldRun runs → Ascend (map extent_of runs)
+    ensures { (runs : List (RunOf ℕ)) → length runs < 2 ^ 64 → All IsToldRun runs → AscendApart (map extent_of runs)
         → report_of map_in (λ l. l.range) (map_text runs) ≡ Ok (map told_run runs) }
 {}
 
 /// A law: the text of who has what is read as the ranges that have an owner.
 pub fn owners_are_read_back()
-    ensures { (runs : List (RunOf Owner)) → length runs < 2 ^ 64 → All IsToldOwner runs → Ascend (map extent_of runs)
+    ensures { (runs : List (RunOf Owner)) → length runs < 2 ^ 64 → All IsToldOwner runs → AscendApart (map extent_of runs)
         → report_of owner_in (λ r. r) (owners_text runs) ≡ Ok (map extent_of runs) }
 {}
 
 /// A law: the lines of blocks are read as those blocks.
 pub fn blocks_are_read_back()
     ensures { (blocks : List Block) → length blocks < 2 ^ 64 → All IsToldBlock blocks
-        → Ascend (map bytes_of_block (map told_block blocks))
+        → AscendApart (map bytes_of_block (map told_block blocks))
         → report_of block_in bytes_of_block (lines_from block_line 0 blocks) ≡ Ok (map told_block blocks) }
 {}
 
@@ -44,5 +44,5 @@ pub fn read_map_is_printed()
 /// A law: bytes that are read as blocks, each of which begins with a frame, are the lines of those blocks.
 pub fn read_blocks_are_printed()
     ensures { (bytes : List ℕ) (blocks : List BlockLine) → report_of block_in bytes_of_block bytes ≡ Ok blocks
-        → All IsAtFrame blocks → bytes ≡ lines_from block_line 0 (map block_of blocks) }
+        → All IsAtFrame blocks → bytes ≡ lines_from block_line 0 (map block_of_line blocks) }
 {}

@@ -10,7 +10,7 @@ use Rattle.bm_base.specs.declared.width.Width.{Width}
 use Rattle.bm_base.specs.declared.width.Width.TheVariants as widths
 use Rattle.bm_base.proofs.EachLaws.{each_in-each}
 use Rattle.audit_lines.specs.Blocks.{Block, IsBlock}
-use Rattle.audit_lines.specs.Lines.{StartFrom, Ascend}
+use Rattle.audit_lines.specs.Lines.{StartFrom, AscendApart}
 use Rattle.audit_lines.specs.declared.lines.MapLine.{MapLine}
 use Rattle.boot_audit.specs.declared.verdict.Verdict.TheVariants as verdicts
 use Rattle.boot_audit.specs.Conserved.{AreConserved, IsTouchedOrInOne, blocks_with}
@@ -68,14 +68,14 @@ none_with (b ∷ bs) f out = by_first (covers (frames_of_block b) f) (in_a_block
     by_first true others is none rest = cc
     by_first false others is none rest = rw is (rest none)
 
-out_of_others : (at f : ℕ) (bs : List Block) → StartFrom at (map frames_of_block bs) → Ascend (map frames_of_block bs) → f < at
+out_of_others : (at f : ℕ) (bs : List Block) → StartFrom at (map frames_of_block bs) → AscendApart (map frames_of_block bs) → f < at
     → in_a_block bs f ≡ false
 out_of_others at f [] start order below = refl
 out_of_others at f (b ∷ bs) start order below =
     let out : covers (frames_of_block b) f ≡ false = covers_below (frames_of_block b) f (omega arith) in
     rw out (out_of_others (end_of (frames_of_block b)) f bs order.0 order.1 (omega arith))
 
-pub one_with : (bs : List Block) (f : ℕ) → Ascend (map frames_of_block bs) → in_a_block bs f ≡ true → blocks_with bs f ≡ 1
+pub one_with : (bs : List Block) (f : ℕ) → AscendApart (map frames_of_block bs) → in_a_block bs f ≡ true → blocks_with bs f ≡ 1
 one_with [] f order in_it = cc
 one_with (b ∷ bs) f order in_it = by_first (covers (frames_of_block b) f) refl in_it (one_with bs f order.1)
   where
@@ -130,7 +130,7 @@ not_false true is = refl
 not_false false is = cc
 
 module _ (limit : ℕ) (lines : List MapLine) (owners : List Extent) (bs : List Block) (near : limit ≤ 2 ^ 52)
-    (order : Ascend (map frames_of_block bs)) (fit : (k : ℕ) (d : Block) → k < length bs → IsBlock (get_or bs k d)) where
+    (order : AscendApart (map frames_of_block bs)) (fit : (k : ℕ) (d : Block) → k < length bs → IsBlock (get_or bs k d)) where
   -- a usable frame where none is lost, and none in a block isn't free
   touched_or_one : (f : ℕ) (untouched in_it : Bool) → is_untouched owners f ≡ untouched → in_a_block bs f ≡ in_it
       → is_usable limit lines f ≡ true → is_not_free limit lines owners bs f ≡ false → is_lost limit lines owners bs f ≡ false

@@ -11,7 +11,7 @@ use Rattle.bm_base.specs.Width.{reach_of}
 use Rattle.audit_lines.specs.Blocks.{Block, IsBlock, bytes_of_block}
 use Rattle.audit_lines.specs.Fields.{behind, ends, number_in, address_in}
 use Rattle.audit_lines.specs.Forms.{block_in, map_in, owner_in, zone_in}
-use Rattle.audit_lines.specs.Lines.{Ascend}
+use Rattle.audit_lines.specs.Lines.{AscendApart}
 use Rattle.audit_lines.specs.Reports.{in_order, line_at, line_in, report_from, report_of, split_lines}
 use Rattle.audit_lines.specs.declared.lines.MapLine.{MapLine}
 use Rattle.audit_lines.specs.declared.report.LineFault.{LineFault}
@@ -109,7 +109,7 @@ read_of form extent report (Some bytes) lines is = (bytes, by_length (nat_lt 536
 
 -- the blocks of the lines that were read are ascending, and blocks
 abbrev AreGood : List Block → Type 0
-AreGood blocks = Ascend (map bytes_of_block blocks) × All IsBlock blocks
+AreGood blocks = AscendApart (map bytes_of_block blocks) × All IsBlock blocks
 
 good_blocks : (held : Option (List ℕ)) (blocks : List Block) → lines_by block_in bytes_of_block reports.Blocks held ≡ Ok blocks
     → AreGood blocks

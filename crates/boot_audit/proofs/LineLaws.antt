@@ -2,7 +2,7 @@
 use Rattle.std.proofs.Common.{◌≡◌, ℕ, ◌<◌, ◌≤◌, ◌&&◌, ◌||◌, Bool, true, false, List, [], ◌∷◌, map, refl, sym, ap, ◌∙◌, arith}
 use Rattle.std.proofs.lemmas.Bool.Decides.{nat_tests}
 use Rattle.bm_base.specs.Extent.{Extent, covers, end_of}
-use Rattle.audit_lines.specs.Lines.{StartFrom, Ascend}
+use Rattle.audit_lines.specs.Lines.{StartFrom, AscendApart}
 use Rattle.boot_audit.specs.Sweep.{says}
 
 pub covers_below : (r : Extent) (x : ℕ) → x < r.base → covers r x ≡ false
@@ -26,7 +26,7 @@ first_false true others = refl
 first_false false others = refl
 
 module _ {L : Type 0} (counts : L → Bool) (extent : L → Extent) where
-  pub says_below : (at x : ℕ) (lines : List L) → StartFrom at (map extent lines) → Ascend (map extent lines) → x < at
+  pub says_below : (at x : ℕ) (lines : List L) → StartFrom at (map extent lines) → AscendApart (map extent lines) → x < at
       → says counts extent lines x ≡ false
   says_below at x [] start order below = refl
   says_below at x (l ∷ ls) start order below =
@@ -34,11 +34,11 @@ module _ {L : Type 0} (counts : L → Bool) (extent : L → Extent) where
       let others : says counts extent ls x ≡ false = says_below (end_of (extent l)) x ls order.0 order.1 (omega arith) in
       ap (λ (c : Bool). either (counts l) c (says counts extent ls x)) out ∙ first_false (counts l) (says counts extent ls x) ∙ others
 
-  pub says_before : (l : L) (ls : List L) (x : ℕ) → Ascend (map extent (l ∷ ls)) → x < (extent l).base
+  pub says_before : (l : L) (ls : List L) (x : ℕ) → AscendApart (map extent (l ∷ ls)) → x < (extent l).base
       → says counts extent (l ∷ ls) x ≡ false
   says_before l ls x order before = says_below (extent l).base x (l ∷ ls) (omega arith) order before
 
-  pub says_first : (l : L) (ls : List L) (x : ℕ) → Ascend (map extent (l ∷ ls)) → (extent l).base ≤ x → x < end_of (extent l)
+  pub says_first : (l : L) (ls : List L) (x : ℕ) → AscendApart (map extent (l ∷ ls)) → (extent l).base ≤ x → x < end_of (extent l)
       → says counts extent (l ∷ ls) x ≡ counts l
   says_first l ls x order above below =
       let in_it : covers (extent l) x ≡ true = covers_in (extent l) x above below in
@@ -52,15 +52,15 @@ module _ {L : Type 0} (counts : L → Bool) (extent : L → Extent) where
       ap (λ (c : Bool). either (counts l) c (says counts extent ls x)) out ∙ first_false (counts l) (says counts extent ls x)
 
   -- the same of a list that is known to begin with a line
-  pub seen_before : (lines : List L) (l : L) (ls : List L) → lines ≡ l ∷ ls → Ascend (map extent lines)
+  pub seen_before : (lines : List L) (l : L) (ls : List L) → lines ≡ l ∷ ls → AscendApart (map extent lines)
       → (x : ℕ) → x < (extent l).base → says counts extent lines x ≡ false
   seen_before lines l ls is order x before =
-      let ordered : Ascend (map extent (l ∷ ls)) = rw is at order in rw is (says_before l ls x ordered before)
+      let ordered : AscendApart (map extent (l ∷ ls)) = rw is at order in rw is (says_before l ls x ordered before)
 
-  pub seen_first : (lines : List L) (l : L) (ls : List L) → lines ≡ l ∷ ls → Ascend (map extent lines)
+  pub seen_first : (lines : List L) (l : L) (ls : List L) → lines ≡ l ∷ ls → AscendApart (map extent lines)
       → (x : ℕ) → (extent l).base ≤ x → x < end_of (extent l) → says counts extent lines x ≡ counts l
   seen_first lines l ls is order x above below =
-      let ordered : Ascend (map extent (l ∷ ls)) = rw is at order in rw is (says_first l ls x ordered above below)
+      let ordered : AscendApart (map extent (l ∷ ls)) = rw is at order in rw is (says_first l ls x ordered above below)
 
   pub seen_past : (lines : List L) (l : L) (ls : List L) → lines ≡ l ∷ ls → (x : ℕ) → end_of (extent l) ≤ x
       → says counts extent ls x ≡ says counts extent lines x

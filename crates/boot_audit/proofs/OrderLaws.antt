@@ -2,7 +2,7 @@
 use Rattle.std.proofs.Common.{ℕ, ◌+◌, ◌*◌, ◌/◌, ◌^◌, ◌≤◌, List, [], ◌∷◌, map, arith}
 use Rattle.bm_base.specs.Extent.{end_of}
 use Rattle.audit_lines.specs.Blocks.{Block, bytes_of_block}
-use Rattle.audit_lines.specs.Lines.{StartFrom, Ascend}
+use Rattle.audit_lines.specs.Lines.{StartFrom, AscendApart}
 use Rattle.boot_audit.specs.Frames.{frames_of_block}
 
 in_frames : (a n c : ℕ) → a + 4096 * n ≤ c → a / 4096 + n ≤ c / 4096
@@ -13,6 +13,6 @@ starts : (b : Block) (bs : List Block) → StartFrom (end_of (bytes_of_block b))
 starts b [] above = tt
 starts b (c ∷ cs) above = in_frames b.at (2 ^ b.order) c.at above
 
-pub frames_ascend : (bs : List Block) → Ascend (map bytes_of_block bs) → Ascend (map frames_of_block bs)
+pub frames_ascend : (bs : List Block) → AscendApart (map bytes_of_block bs) → AscendApart (map frames_of_block bs)
 frames_ascend [] order = tt
 frames_ascend (b ∷ bs) order = (starts b bs order.0, frames_ascend bs order.1)

@@ -19,9 +19,9 @@ use Rattle.boot_audit.specs.declared.failure.Report.{Report}
 use Rattle.boot_audit.specs.declared.failure.Report.TheVariants as reports
 use Rattle.boot_audit.specs.declared.verdict.Verdict.{Verdict}
 use Rattle.boot_audit.specs.declared.verdict.Verdict.TheVariants as verdicts
-use Rattle.boot_audit.specs.Answers.{AnswerHasCause, EndFits, Ends, FailureHasCause, IsVerdict, ReachesFile, RoseFor, Writes, WritingHasCause}
+use Rattle.boot_audit.specs.Answers.{AnswerHasCause, EndFits, MayEndWith, FailureHasCause, IsVerdict, ReachesFile, RoseFor, Writes, WritingHasCause}
 use Rattle.boot_audit.specs.Headline.{IsConservedBy}
-use Rattle.boot_audit.specs.Line.{Tells, failure_line, verdict_text}
+use Rattle.boot_audit.specs.Line.{PutsLine, failure_line, verdict_text}
 use Rattle.boot_audit.specs.Outcome.{Held, lines_by, lines_of, outcome}
 use Rattle.boot_audit.specs.Run.{IsTold}
 use Rattle.boot_audit.specs.Status.{End, status_of, status_of_end, verdict_status}
@@ -29,7 +29,7 @@ use Rattle.boot_audit.specs.Words.{Wanted}
 use Rattle.boot_audit.proofs.HeadlineLaws.{conserved_sound, sound_conserved}
 
 -- the statuses, by the outcome
-ends_verdict : (verdict : Verdict) → Ends (Ok verdict) (verdict_status verdict)
+ends_verdict : (verdict : Verdict) → MayEndWith (Ok verdict) (verdict_status verdict)
 ends_verdict verdicts.Sound = inl refl
 ends_verdict (verdicts.Misaligned line) = inl refl
 ends_verdict (verdicts.WrongZone line) = inl refl
@@ -41,7 +41,7 @@ ends_verdict (verdicts.NotMaximal line) = inl refl
 abbrev IsOutside : ℕ → Type 0
 IsOutside status = (status ≡ 3) ⊎ (status ≡ 4) ⊎ (status ≡ 7)
 
-ends_outside : (verdict : Verdict) (status : ℕ) → IsOutside status → Ends (Ok verdict) status
+ends_outside : (verdict : Verdict) (status : ℕ) → IsOutside status → MayEndWith (Ok verdict) status
 ends_outside verdicts.Sound status outside = inr outside
 ends_outside (verdicts.Misaligned line) status outside = inr outside
 ends_outside (verdicts.WrongZone line) status outside = inr outside
@@ -49,13 +49,13 @@ ends_outside (verdicts.NotFree frame) status outside = inr outside
 ends_outside (verdicts.Lost frame) status outside = inr outside
 ends_outside (verdicts.NotMaximal line) status outside = inr outside
 
-ends_unread : (said : Result Verdict Reason) (report : Report) → ReachesFile report said → Ends said 3
+ends_unread : (said : Result Verdict Reason) (report : Report) → ReachesFile report said → MayEndWith said 3
 ends_unread (Ok verdict) report reaches = ends_outside verdict 3 (inl refl)
 ends_unread (Err reasons.Usage) report reaches = absurd reaches
 ends_unread (Err (reasons.Unread other)) report reaches = inl refl
 ends_unread (Err (reasons.Faulty other fault)) report reaches = inr (inl refl)
 
-ends_unwritten : (said : Result Verdict Reason) (P : Verdict → Type 0) → IsVerdict said P → Ends said 4
+ends_unwritten : (said : Result Verdict Reason) (P : Verdict → Type 0) → IsVerdict said P → MayEndWith said 4
 ends_unwritten (Ok verdict) P is = ends_outside verdict 4 (inr (inl refl))
 ends_unwritten (Err reason) P is = absurd is
 
@@ -89,7 +89,7 @@ accepted_reaches wanted held =
 
 -- with refused words no memory is taken
 ends_wanting : (accepted : Option Wanted) (held : Held) → IsSome accepted → (said : Result Verdict Reason) → outcome accepted held ≡ said
-    → Ends said 7
+    → MayEndWith said 7
 ends_wanting None held some said is = cc
 ends_wanting (Some wanted) held some (Ok verdict) is = ends_outside verdict 7 (inr (inr refl))
 ends_wanting (Some wanted) held some (Err reasons.Usage) is =
@@ -99,15 +99,15 @@ ends_wanting (Some wanted) held some (Err (reasons.Faulty report fault)) is = in
 
 ends_by : (accepted : Option Wanted) (held : Held) (before now : List ℕ → ℕ) (end : End) (old new : Option (List ℕ))
     → AnswerHasCause before now accepted end → Writes old new end (outcome accepted held)
-    → Ends (outcome accepted held) (status_of_end end)
+    → MayEndWith (outcome accepted held) (status_of_end end)
 ends_by accepted held before now (Ok verdict) old new cause writes =
-    let P : Result Verdict Reason → Type 0 = λ s. Ends s (verdict_status verdict) in subst P (sym writes.0) (ends_verdict verdict)
+    let P : Result Verdict Reason → Type 0 = λ s. MayEndWith s (verdict_status verdict) in subst P (sym writes.0) (ends_verdict verdict)
 ends_by accepted held before now (Err (failures.NoVerdict reasons.Usage)) old new cause writes =
-    let P : Result Verdict Reason → Type 0 = λ s. Ends s 2 in subst P (sym writes) refl
+    let P : Result Verdict Reason → Type 0 = λ s. MayEndWith s 2 in subst P (sym writes) refl
 ends_by accepted held before now (Err (failures.NoVerdict (reasons.Unread report))) old new cause writes =
     ends_unread (outcome accepted held) report writes
 ends_by accepted held before now (Err (failures.NoVerdict (reasons.Faulty report fault))) old new cause writes =
-    let P : Result Verdict Reason → Type 0 = λ s. Ends s 5 in subst P (sym writes) (inl refl)
+    let P : Result Verdict Reason → Type 0 = λ s. MayEndWith s 5 in subst P (sym writes) (inl refl)
 ends_by accepted held before now (Err failures.Unwritten) old new cause writes =
     ends_unwritten (outcome accepted held) (λ verdict. AppendsFront old new (verdict_text verdict)) writes
 ends_by accepted held before now (Err failures.Memory) old new cause writes =
@@ -117,7 +117,7 @@ ends_by accepted held before now (Err failures.Memory) old new cause writes =
 pub ran_answers : (holds : Option Held) (accepted : Option Wanted) (before now : List ℕ → ℕ) (end : End) (status : ℕ)
     (old new : Option (List ℕ)) → status ≡ status_of_end end → AnswerHasCause before now accepted end
     → IfSome holds (λ held. Writes old new end (outcome accepted held))
-    → IfSome holds (λ held. Ends (outcome accepted held) status)
+    → IfSome holds (λ held. MayEndWith (outcome accepted held) status)
 ran_answers None accepted before now end status old new is cause writes = tt
 ran_answers (Some held) accepted before now end status old new is cause writes =
     rw is (ends_by accepted held before now end old new cause writes)
@@ -209,7 +209,7 @@ pub ran_line : {E : Type 0} (errors : SinkOf E) (holds : Option Held) (before no
     (status : ℕ) (err_old err_new : E) (old new : Option (List ℕ))
     → status ≡ status_of_end end → AnswerHasCause before now accepted end → IsTold errors accepted err_old err_new end
     → IfSome holds (λ held. Writes old new end (outcome accepted held)) → status ≢ 0 → status ≢ 8
-    → (failure : Failure) × (status ≡ status_of failure) × Tells errors err_old err_new (failure_line accepted failure)
+    → (failure : Failure) × (status ≡ status_of failure) × PutsLine errors err_old err_new (failure_line accepted failure)
     × FailureHasCause before now accepted failure × IfSome holds (λ held. EndFits failure (outcome accepted held))
 ran_line errors holds before now accepted (Ok verdict) status err_old err_new old new is cause told writes zero eight =
     absurd (verdict_ends verdict status is zero eight)

@@ -10,7 +10,7 @@ use Rattle.bm_base.proofs.EachLaws.{each_in-all, each_in-fails}
 use Rattle.bm_base.specs.declared.zone.Zone.{Zone}
 use Rattle.bm_base.specs.declared.zone.Zone.TheVariants as zones
 use Rattle.audit_lines.specs.Blocks.{Block}
-use Rattle.audit_lines.specs.Lines.{StartFrom, Ascend}
+use Rattle.audit_lines.specs.Lines.{StartFrom, AscendApart}
 use Rattle.boot_audit.specs.Frames.{are_kin, could_join, frames_of_block, in_kin, parent_of, same_zone}
 use Rattle.boot_audit.specs.Verdicts.{first_line}
 use Rattle.boot_audit.specs.Walk.{fills, goes_on, joins, run_start, walk}
@@ -63,7 +63,7 @@ kin_lists b c kin [] f = refl
 kin_lists b c kin (d ∷ ds) f = rw (kin_same b c d kin, kin_lists b c kin ds f) refl
 
 -- the others, from a frame up to another
-fills_true : (b : Block) (at until : ℕ) (cs : List Block) → StartFrom at (map frames_of_block cs) → Ascend (map frames_of_block cs)
+fills_true : (b : Block) (at until : ℕ) (cs : List Block) → StartFrom at (map frames_of_block cs) → AscendApart (map frames_of_block cs)
     → fills b at until cs ≡ true → (f : ℕ) → at ≤ f → f < until → in_kin b cs f ≡ true
 fills_true b at until [] start order is f above below = absurd (grind (arith, nat_tests))
 fills_true b at until (c ∷ cs) start order is f above below =
@@ -85,7 +85,7 @@ fills_true b at until (c ∷ cs) start order is f above below =
 abbrev IsGap : Block → ℕ → ℕ → List Block → Type 0
 IsGap b at until cs = (y : ℕ) × (at ≤ y) × (y < until) × (in_kin b cs y ≡ false)
 
-gap_here : (b c : Block) (cs : List Block) (at : ℕ) → StartFrom at (map frames_of_block (c ∷ cs)) → Ascend (map frames_of_block (c ∷ cs))
+gap_here : (b c : Block) (cs : List Block) (at : ℕ) → StartFrom at (map frames_of_block (c ∷ cs)) → AscendApart (map frames_of_block (c ∷ cs))
     → ((first c == at) && are_kin b c) ≡ false → in_kin b (c ∷ cs) at ≡ false
 gap_here b c cs at start order stops =
     elim (cases_lt at (first c)) as (λ _. in_kin b (c ∷ cs) at ≡ false) [
@@ -98,7 +98,7 @@ gap_here b c cs at start order stops =
           says_first (are_kin b) frames_of_block c cs at order (omega arith) (omega arith) ∙ other
     ]
 
-fills_false : (b : Block) (at until : ℕ) (cs : List Block) → StartFrom at (map frames_of_block cs) → Ascend (map frames_of_block cs)
+fills_false : (b : Block) (at until : ℕ) (cs : List Block) → StartFrom at (map frames_of_block cs) → AscendApart (map frames_of_block cs)
     → fills b at until cs ≡ false → IsGap b at until cs
 fills_false b at until [] start order is = (at, omega arith, grind (arith, nat_tests), refl)
 fills_false b at until (c ∷ cs) start order is =
@@ -241,7 +241,7 @@ parent_high : (b : Block) → first b < end_of (parent_of b)
 parent_high b = let some = pow_pos (b.order + 1) in let less = mod-lt (first b) some in omega arith
 
 module _ (b : Block) (front bs : List Block) (from : ℕ) (known : IsFront front b from) (start : StartFrom (end b) (map frames_of_block bs))
-    (order : Ascend (map frames_of_block bs)) where
+    (order : AscendApart (map frames_of_block bs)) where
   joined : nat_le from (parent_of b).base ≡ true → fills b (end b) (end_of (parent_of b)) bs ≡ true
       → each_in (parent_of b) (in_kin b (front ++ bs)) ≡ true
   joined low full = each_in-all (parent_of b) (in_kin b (front ++ bs)) (λ f above below.
@@ -291,7 +291,7 @@ abbrev line_by : Bool → ℕ → Option ℕ → Option ℕ
 line_by passes line others = if passes then Some line else others
 
 walked : (front rest : List Block) (last : Option Block) (from line : ℕ) → Front front last from
-    → ((b : Block) (bs : List Block) → rest ≡ b ∷ bs → StartsBehind last b) → Ascend (map frames_of_block rest)
+    → ((b : Block) (bs : List Block) → rest ≡ b ∷ bs → StartsBehind last b) → AscendApart (map frames_of_block rest)
     → walk last from line rest ≡ first_line (could_join (front ++ rest)) line rest
 walked front [] last from line known start order = refl
 walked front (b ∷ bs) last from line known start order =
@@ -309,5 +309,5 @@ walked front (b ∷ bs) last from line known start order =
     next_starts : (cs : List Block) → StartFrom (end b) (map frames_of_block cs) → (c : Block) (ds : List Block) → cs ≡ c ∷ ds → end b ≤ first c
     next_starts cs starts c ds is = let begun : StartFrom (end b) (map frames_of_block (c ∷ ds)) = rw is at starts in begun
 
-pub walk_is : (blocks : List Block) → Ascend (map frames_of_block blocks) → walk None 0 1 blocks ≡ first_line (could_join blocks) 1 blocks
+pub walk_is : (blocks : List Block) → AscendApart (map frames_of_block blocks) → walk None 0 1 blocks ≡ first_line (could_join blocks) 1 blocks
 walk_is blocks order = walked [] blocks None 0 1 refl (λ b bs is. tt) order

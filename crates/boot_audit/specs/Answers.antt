@@ -116,9 +116,9 @@ abbrev pub IsFaulty : Result Verdict Reason → Type 0
 IsFaulty said = (report : Report) × ((fault : Fault) × (said ≡ Err (reasons.Faulty report fault)))
 
 -- the statuses that an outcome may end with: what comes of it, 3 or 4 where the outside fails, or 7
-abbrev pub Ends : Result Verdict Reason → ℕ → Type 0
-Ends (Ok verdicts.Sound) status = (status ≡ 0) ⊎ (status ≡ 3) ⊎ (status ≡ 4) ⊎ (status ≡ 7)
-Ends (Ok other) status = (status ≡ 8) ⊎ (status ≡ 3) ⊎ (status ≡ 4) ⊎ (status ≡ 7)
-Ends (Err reasons.Usage) status = status ≡ 2
-Ends (Err (reasons.Unread report)) status = (status ≡ 3) ⊎ (status ≡ 7)
-Ends (Err (reasons.Faulty report fault)) status = (status ≡ 5) ⊎ (status ≡ 3) ⊎ (status ≡ 7)
+abbrev pub MayEndWith : Result Verdict Reason → ℕ → Type 0
+MayEndWith (Ok verdicts.Sound) status = (status ≡ 0) ⊎ (status ≡ 3) ⊎ (status ≡ 4) ⊎ (status ≡ 7)
+MayEndWith (Ok other) status = (status ≡ 8) ⊎ (status ≡ 3) ⊎ (status ≡ 4) ⊎ (status ≡ 7)
+MayEndWith (Err reasons.Usage) status = status ≡ 2
+MayEndWith (Err (reasons.Unread report)) status = (status ≡ 3) ⊎ (status ≡ 7)
+MayEndWith (Err (reasons.Faulty report fault)) status = (status ≡ 5) ⊎ (status ≡ 3) ⊎ (status ≡ 7)

@@ -4,7 +4,7 @@ use Rattle.bm_io.specs.declared.reading.Files.{Ghosts as FilesOf}
 use Rattle.bm_io.specs.declared.writing.Sink.{Ghosts as SinkOf}
 use Rattle.boot_audit.specs.declared.failure.Failure.TheVariants as failures
 use Rattle.boot_audit.specs.Answers.{AnswerHasCause, Writes, WritingHasCause}
-use Rattle.boot_audit.specs.Line.{Tells, failure_line}
+use Rattle.boot_audit.specs.Line.{PutsLine, failure_line}
 use Rattle.boot_audit.specs.Outcome.{outcome}
 use Rattle.boot_audit.specs.Status.{End}
 use Rattle.boot_audit.specs.Words.{Wanted}
@@ -13,7 +13,7 @@ use Rattle.boot_audit.specs.Words.{Wanted}
 -- error output itself failed
 abbrev pub IsTold : {E : Type 0} → SinkOf E → Option Wanted → (old new : E) → End → Type 0
 IsTold errors accepted old new (Ok verdict) = new ≡ old
-IsTold errors accepted old new (Err failure) = Tells errors old new (failure_line accepted failure)
+IsTold errors accepted old new (Err failure) = PutsLine errors old new (failure_line accepted failure)
 
 -- an audit to that end. `files`, `sink` and `errors` are what the objects that it was handed tell; each object is seen
 -- before and now

@@ -2,7 +2,7 @@
 
 ghost use Rattle.std.specs.Prelude.{◌≡◌, ◌<◌, ◌^◌, ℕ, List, Some, length, map, IfErr, IfOk, IfSome, IsErrOf, OnOk};
 ghost use Rattle.audit_lines.specs.Blocks.{bytes_of_block};
-ghost use Rattle.audit_lines.specs.Lines.{Ascend};
+ghost use Rattle.audit_lines.specs.Lines.{AscendApart};
 ghost use Rattle.bm_io.specs.Counts.{Rose};
 ghost use Rattle.boot_audit.specs.Answers.{FailureHasCause, IsEarly, IsOf, Makes};
 ghost use Rattle.boot_audit.specs.Outcome.{lines_by, lines_of};
@@ -32,9 +32,9 @@ pub fn fetch_saved<F: Files>(
     ensures unfailed { IsErrOf result Failure.Memory
         → ((any : List ℕ) → F.faults files.new any ≡ F.faults files.old any) }
     ensures uncounted { OnOk result ((any : List ℕ) → F.faults files.new any ≡ F.faults files.old any) }
-    ensures map_order { IfOk result (λ saved. Ascend (map (λ l. l.range) saved.map.items)) }
-    ensures owner_order { IfOk result (λ saved. Ascend (map (λ r. r) saved.owners.items)) }
-    ensures block_order { IfOk result (λ saved. Ascend (map bytes_of_block saved.blocks.items)) }
+    ensures map_order { IfOk result (λ saved. AscendApart (map (λ l. l.range) saved.map.items)) }
+    ensures owner_order { IfOk result (λ saved. AscendApart (map (λ r. r) saved.owners.items)) }
+    ensures block_order { IfOk result (λ saved. AscendApart (map bytes_of_block saved.blocks.items)) }
     ensures few { IfOk result (λ saved. length saved.blocks.items < 2 ^ 32) }
 {
     let runs: Vec<MapLine> = fetch_lines(alloc, files, names.map, Report::Map)?;
@@ -63,7 +63,7 @@ fn fetch_lines<F: Files, L: ReportLine>(
         → ((any : List ℕ) → F.faults files.new any ≡ F.faults files.old any) }
     ensures uncounted { OnOk result ((any : List ℕ) → F.faults files.new any ≡ F.faults files.old any) }
     ensures kept { F.holds files.new ≡ F.holds files.old }
-    ensures order { IfOk result (λ lines. Ascend (map L.extent lines.items)) }
+    ensures order { IfOk result (λ lines. AscendApart (map L.extent lines.items)) }
     ensures few { IfOk result (λ lines. length lines.items < 2 ^ 32) }
 {
     let bytes = match files.fetch(alloc, name, LIMIT) {

@@ -5,7 +5,7 @@
 //! follow, which are looked at up to the parent's end.
 
 ghost use Rattle.std.specs.Prelude.{◌≡◌, ◌+◌, ◌^◌, ◌<◌, length, map};
-ghost use Rattle.audit_lines.specs.Lines.{Ascend};
+ghost use Rattle.audit_lines.specs.Lines.{AscendApart};
 ghost use Rattle.boot_audit.specs.Frames.{are_kin, could_join, frames_of_block, parent_of};
 ghost use Rattle.boot_audit.specs.Verdicts.{first_line};
 ghost use Rattle.boot_audit.specs.Walk.{fills, goes_on, joins, run_start};
@@ -16,7 +16,7 @@ use audit_lines::BlockLine;
 
 /// The line of the first block of an order below 10 whose parent's frames are all in blocks of its node and zone.
 pub fn first_joinable(blocks: &[BlockLine]) -> Option<u32>
-    requires order { Ascend (map frames_of_block blocks.now) }
+    requires order { AscendApart (map frames_of_block blocks.now) }
     requires few { length blocks.now < 2 ^ 32 }
     ensures { result ≡ first_line (could_join blocks.now) 1 blocks.now }
 {

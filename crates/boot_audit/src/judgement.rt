@@ -3,7 +3,7 @@
 ghost use Rattle.std.specs.Prelude.{◌≡◌, ◌^◌, ◌<◌, ◌↔◌, length, map, Ok, IfOk};
 ghost use Rattle.std.specs.List.{All};
 ghost use Rattle.audit_lines.specs.Blocks.{IsBlock, bytes_of_block};
-ghost use Rattle.audit_lines.specs.Lines.{Ascend};
+ghost use Rattle.audit_lines.specs.Lines.{AscendApart};
 ghost use Rattle.boot_audit.specs.Conserved.{IsConserved};
 ghost use Rattle.boot_audit.specs.Verdicts.{IsNear, verdict_of};
 
@@ -17,9 +17,9 @@ use bm_base::{Memory, Width};
 /// The verdict on saved reports, where physical addresses have that width. Takes no memory, so it never answers that
 /// memory is wanting. A frame that the verdict names is below 2^40.
 pub fn judge(saved: &Saved, width: Width) -> Result<Verdict, Memory>
-    requires map_order { Ascend (map (λ l. l.range) saved.now.map.items) }
-    requires owner_order { Ascend (map (λ r. r) saved.now.owners.items) }
-    requires block_order { Ascend (map bytes_of_block saved.now.blocks.items) }
+    requires map_order { AscendApart (map (λ l. l.range) saved.now.map.items) }
+    requires owner_order { AscendApart (map (λ r. r) saved.now.owners.items) }
+    requires block_order { AscendApart (map bytes_of_block saved.now.blocks.items) }
     requires few { length saved.now.blocks.items < 2 ^ 32 }
     ensures verdict { result ≡ Ok (verdict_of saved.now width) }
     ensures near { IfOk result IsNear }
@@ -45,7 +45,7 @@ pub fn judge(saved: &Saved, width: Width) -> Result<Verdict, Memory>
 
 /// A law: the verdict is `Sound` exactly where memory was conserved.
 pub fn sound_is_conserved(saved: &Saved, width: Width)
-    requires order { Ascend (map bytes_of_block saved.now.blocks.items) }
+    requires order { AscendApart (map bytes_of_block saved.now.blocks.items) }
     requires fit { All IsBlock saved.now.blocks.items }
     ensures { (verdict_of saved.now width ≡ Verdict.Sound) ↔ IsConserved saved.now width }
 {

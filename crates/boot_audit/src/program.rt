@@ -5,12 +5,12 @@ ghost use Rattle.std.specs.Prelude.{◌≡◌, ◌≢◌, ◌↔◌, ℕ, List, 
 ghost use Rattle.std.specs.Io.KnownBytes.{Appends};
 ghost use Rattle.bm_io.specs.Counts.{Rose};
 ghost use Rattle.bm_io.specs.Told.{AppendsFront};
-ghost use Rattle.boot_audit.specs.Answers.{EndFits, Ends, FailureHasCause, IsFaulty, IsUnsound, IsVerdict, RoseFor};
+ghost use Rattle.boot_audit.specs.Answers.{EndFits, MayEndWith, FailureHasCause, IsFaulty, IsUnsound, IsVerdict, RoseFor};
 ghost use Rattle.boot_audit.specs.declared.failure.Failure.{Failure};
 ghost use Rattle.boot_audit.specs.declared.failure.Report.{Report};
 ghost use Rattle.boot_audit.specs.declared.verdict.Verdict.{Verdict};
 ghost use Rattle.boot_audit.specs.Headline.{IsConservedBy};
-ghost use Rattle.boot_audit.specs.Line.{Tells, failure_line, verdict_text};
+ghost use Rattle.boot_audit.specs.Line.{PutsLine, failure_line, verdict_text};
 ghost use Rattle.boot_audit.specs.Outcome.{outcome};
 ghost use Rattle.boot_audit.specs.Status.{status_of, verdict_status};
 ghost use Rattle.boot_audit.specs.Words.{accepted};
@@ -59,7 +59,7 @@ pub fn audit<F: Files, S: Sink, E: Sink>(
 
     // Where the files tell what they hold: the status and the output are those of the outcome.
     ensures answers { IfSome (F.holds files.old) (λ held.
-        Ends (outcome (accepted (map string_bytes words.now)) held) result) }
+        MayEndWith (outcome (accepted (map string_bytes words.now)) held) result) }
     ensures sound { result ≡ 0 → IfSome (F.holds files.old) (λ held.
         outcome (accepted (map string_bytes words.now)) held ≡ Ok Verdict.Sound) }
     ensures unsound { result ≡ 8 → IfSome (F.holds files.old) (λ held.
@@ -89,7 +89,7 @@ pub fn audit<F: Files, S: Sink, E: Sink>(
     // cause, and is that of the outcome.
     ensures silent { (result ≡ 0) ⊎ (result ≡ 8) → err.new ≡ err.old }
     ensures line { result ≢ 0 → result ≢ 8 → (failure : Failure) × (result ≡ status_of failure)
-        × Tells E.Sink err.old err.new (failure_line (accepted (map string_bytes words.now)) failure)
+        × PutsLine E.Sink err.old err.new (failure_line (accepted (map string_bytes words.now)) failure)
         × FailureHasCause (F.faults files.old) (F.faults files.new) (accepted (map string_bytes words.now)) failure
         × IfSome (F.holds files.old) (λ held.
         EndFits failure (outcome (accepted (map string_bytes words.now)) held)) }

@@ -5,7 +5,7 @@
 
 ghost use Rattle.std.specs.Prelude.{◌≡◌, ◌^◌, ◌<◌, ◌≤◌, ◌&&◌, Bool, true, not, nat_lt, ℕ, map, None, IsNone};
 ghost use Rattle.audit_lines.specs.Blocks.{bytes_of_block};
-ghost use Rattle.audit_lines.specs.Lines.{Ascend};
+ghost use Rattle.audit_lines.specs.Lines.{AscendApart};
 ghost use Rattle.bm_base.specs.Extent.{Extent, end_of};
 ghost use Rattle.boot_audit.specs.Frames.{is_aligned};
 ghost use Rattle.boot_audit.specs.Sweep.{EndsBehind, carried, first_whole, says, state_at, state_by};
@@ -128,7 +128,7 @@ struct Sight {
 }
 
 fn look<L: Line>(lines: &[L], at: u64) -> Sight
-    requires order { Ascend (map L.extent lines.now) }
+    requires order { AscendApart (map L.extent lines.now) }
     requires behind { EndsBehind at (map L.extent lines.now) }
     requires near { at < 2 ^ 52 }
     ensures forward { at < result.until }
@@ -155,8 +155,8 @@ fn look<L: Line>(lines: &[L], at: u64) -> Sight
 
 /// The lines that end behind the address.
 fn passed<L: Line>(lines: &[L], at: u64) -> &[L]
-    requires { Ascend (map L.extent lines.now) }
-    ensures order { Ascend (map L.extent result.now) }
+    requires { AscendApart (map L.extent lines.now) }
+    ensures order { AscendApart (map L.extent result.now) }
     ensures behind { EndsBehind at (map L.extent result.now) }
     ensures says { (x : ℕ) → at ≤ x → says L.counted L.extent result.now x ≡ says L.counted L.extent lines.now x }
 {
@@ -223,11 +223,11 @@ fn look_around(
     blocks: &[BlockLine],
     at: u64,
 ) -> Piece
-    requires map_order { Ascend (map (λ l. l.range) runs.now) }
+    requires map_order { AscendApart (map (λ l. l.range) runs.now) }
     requires map_behind { EndsBehind at (map (λ l. l.range) runs.now) }
-    requires owner_order { Ascend (map (λ r. r) owners.now) }
+    requires owner_order { AscendApart (map (λ r. r) owners.now) }
     requires owner_behind { EndsBehind at (map (λ r. r) owners.now) }
-    requires block_order { Ascend (map bytes_of_block blocks.now) }
+    requires block_order { AscendApart (map bytes_of_block blocks.now) }
     requires block_behind { EndsBehind at (map bytes_of_block blocks.now) }
     requires near { at < 2 ^ 52 }
     ensures forward { at < result.until }
@@ -275,9 +275,9 @@ fn carried(lost: Option<u64>, from: u64, piece: Piece) -> (Option<u64>, u64)
 
 /// Both least frames. The blocks are aligned.
 pub fn sweep(saved: &Saved, limit: u64) -> Swept
-    requires map_order { Ascend (map (λ l. l.range) saved.now.map.items) }
-    requires owner_order { Ascend (map (λ r. r) saved.now.owners.items) }
-    requires block_order { Ascend (map bytes_of_block saved.now.blocks.items) }
+    requires map_order { AscendApart (map (λ l. l.range) saved.now.map.items) }
+    requires owner_order { AscendApart (map (λ r. r) saved.now.owners.items) }
+    requires block_order { AscendApart (map bytes_of_block saved.now.blocks.items) }
     requires aligned { first_line (λ b. not (is_aligned b)) 1 saved.now.blocks.items ≡ None }
     ensures not_free { result.not_free ≡ least_frame (is_not_free limit saved.now.map.items saved.now.owners.items
         saved.now.blocks.items) }

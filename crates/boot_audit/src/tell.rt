@@ -3,7 +3,7 @@
 
 ghost use Rattle.std.specs.Prelude.{◌≡◌, flat_map};
 ghost use Rattle.std.specs.Option.{option_map};
-ghost use Rattle.boot_audit.specs.Line.{Tells, failure_line, fault_line, line_fault_line, name_text, numbered_line, reason_line};
+ghost use Rattle.boot_audit.specs.Line.{PutsLine, failure_line, fault_line, line_fault_line, name_text, numbered_line, reason_line};
 ghost use Rattle.boot_audit.specs.View.{wanted_view};
 
 use crate::failure::{Failure, Fault, Reason, Report};
@@ -15,7 +15,7 @@ use itoa::Buffer;
 /// Puts the line of a failure on the error output. What the output answers changes nothing: the line goes out chunk by
 /// chunk, up to the first that is refused.
 pub fn tell<E: Sink>(err: &mut E, names: &Option<Names<'_>>, failure: Failure)
-    ensures { Tells E.Sink err.old err.new (failure_line (option_map wanted_view names.now) failure) }
+    ensures { PutsLine E.Sink err.old err.new (failure_line (option_map wanted_view names.now) failure) }
 {
     match failure {
         Failure::NoVerdict(reason) => tell_reason(err, names, reason),
@@ -25,7 +25,7 @@ pub fn tell<E: Sink>(err: &mut E, names: &Option<Names<'_>>, failure: Failure)
 }
 
 fn tell_reason<E: Sink>(err: &mut E, names: &Option<Names<'_>>, reason: Reason)
-    ensures { Tells E.Sink err.old err.new (reason_line (option_map wanted_view names.now) reason) }
+    ensures { PutsLine E.Sink err.old err.new (reason_line (option_map wanted_view names.now) reason) }
 {
     match reason {
         Reason::Usage => put_line(err, &["bootaudit: usage\n"]),
@@ -49,7 +49,7 @@ fn name_text<'a>(names: &'a Option<Names<'_>>, report: Report) -> &'a str
 
 /// The line of a fault of the report of that word.
 fn tell_fault<'a, E: Sink>(err: &mut E, word: &'a str, fault: Fault)
-    ensures { Tells E.Sink err.old err.new (fault_line word.now fault) }
+    ensures { PutsLine E.Sink err.old err.new (fault_line word.now fault) }
 {
     match fault {
         Fault::TooLong => put_line(err, &["bootaudit: ", word, ": too long\n"]),
@@ -58,7 +58,7 @@ fn tell_fault<'a, E: Sink>(err: &mut E, word: &'a str, fault: Fault)
 }
 
 fn tell_line_fault<E: Sink>(err: &mut E, word: &str, fault: LineFault)
-    ensures { Tells E.Sink err.old err.new (line_fault_line word.now fault) }
+    ensures { PutsLine E.Sink err.old err.new (line_fault_line word.now fault) }
 {
     match fault {
         LineFault::Form { line } => tell_line(err, word, line, "form"),
@@ -68,7 +68,7 @@ fn tell_line_fault<E: Sink>(err: &mut E, word: &str, fault: LineFault)
 
 /// The line of a line of the report, numbered from 1.
 fn tell_line<'a, E: Sink>(err: &mut E, word: &'a str, line: u64, what: &'a str)
-    ensures { Tells E.Sink err.old err.new (numbered_line word.now line what.now) }
+    ensures { PutsLine E.Sink err.old err.new (numbered_line word.now line what.now) }
 {
     let mut buffer = Buffer::new();
     let line = buffer.format(line);
@@ -80,7 +80,7 @@ fn tell_line<'a, E: Sink>(err: &mut E, word: &'a str, line: u64, what: &'a str)
 
 /// Puts the chunks of a line, up to the first that is refused.
 fn put_line<E: Sink>(err: &mut E, chunks: &[&str])
-    ensures { Tells E.Sink err.old err.new (flat_map (λ chunk. chunk.now) chunks.now) }
+    ensures { PutsLine E.Sink err.old err.new (flat_map (λ chunk. chunk.now) chunks.now) }
 {
     let _put = put_all(err, chunks);
 }

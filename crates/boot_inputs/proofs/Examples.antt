@@ -27,7 +27,7 @@ use Rattle.boot_inputs.specs.declared.input.Input.TheVariants as inputs
 use Rattle.boot_inputs.specs.declared.refusal.Refusal.{Refusal}
 use Rattle.boot_inputs.specs.declared.refusal.Refusal.TheVariants as refusals
 use Rattle.boot_inputs.specs.declared.refusal.InputError.TheVariants as errors
-use Rattle.boot_inputs.specs.Answers.{ComesTo, Fits, FitsRefusal, Gives, HasCause, IsCaused, IsOf, Passes, RefusalHasCause, RoseAt, input_of}
+use Rattle.boot_inputs.specs.Answers.{ComesTo, FitsAnswer, FitsRefusal, Gives, HasCause, IsCaused, IsOf, Passes, RefusalHasCause, RoseAt, input_of}
 use Rattle.boot_inputs.specs.CommandLine.{command_line, fault_of_option, options_said, options_take, options_told, put_options}
 use Rattle.boot_inputs.specs.Extension.{entries_said, extension_file, fault_of_extension, put_extension}
 use Rattle.boot_inputs.specs.Efi.{efi_file, efi_said, efi_takes, efi_told, fault_of_efi, put_efi}
@@ -377,7 +377,7 @@ few = Err (refusals.Faulty inputs.ZeroPage (faults.ZeroPage zero.TooFew))
 refusal_fits : FitsRefusal (refusals.Faulty inputs.ZeroPage (faults.ZeroPage zero.TooFew)) few × (FitsRefusal (refusals.Unread inputs.Extension) few → ⊥)
 refusal_fits = (refl, λ comes. omega (arith, comes))
 
-error_fits : Fits errors.Memory few × (Fits (errors.Refused (refusals.Faulty inputs.ZeroPage (faults.ZeroPage zero.TooMany))) few → ⊥)
+error_fits : FitsAnswer errors.Memory few × (FitsAnswer (errors.Refused (refusals.Faulty inputs.ZeroPage (faults.ZeroPage zero.TooMany))) few → ⊥)
 error_fits = (tt, λ same. cc same)
 
 gives_examples : Gives {X = ℕ} (λ n. codes "ab") (Ok 7) (Ok (codes "ab")) × (Gives {X = ℕ} (λ n. codes "ab") (Ok 7) few → ⊥)

@@ -13,7 +13,7 @@ use Rattle.boot_inputs.specs.declared.refusal.Refusal.{Refusal}
 use Rattle.boot_inputs.specs.declared.refusal.Refusal.TheVariants as refusals
 use Rattle.boot_inputs.specs.declared.refusal.InputError.{InputError}
 use Rattle.boot_inputs.specs.declared.refusal.InputError.TheVariants as errors
-use Rattle.boot_inputs.specs.Answers.{ComesTo, Fits, Gives, HasCause, IsOf, Passes, RoseAt}
+use Rattle.boot_inputs.specs.Answers.{ComesTo, FitsAnswer, Gives, HasCause, IsOf, Passes, RoseAt}
 use Rattle.boot_inputs.specs.File.{File}
 use Rattle.boot_inputs.specs.Input.{place}
 use Rattle.boot_inputs.specs.Inputs.{Held, Named, file_step, given_in, or_faulty, or_unread, step_if, takes_memory, within}
@@ -63,7 +63,7 @@ comes_behind input (Err refusal) f comes rest = comes
 
 -- what fits the file's own step fits the whole
 first_fits : (error : InputError) (input : Input) (x : Result Given Refusal) (f : Given → Result Given Refusal)
-    → IsOf {X = Unit {0}} input (Err error) → Fits error x → ((a : Given) → Passes input (f a)) → Fits error (x >>= f)
+    → IsOf {X = Unit {0}} input (Err error) → FitsAnswer error x → ((a : Given) → Passes input (f a)) → FitsAnswer error (x >>= f)
 first_fits errors.Memory input x f own fits rest = tt
 first_fits (errors.Refused (refusals.Unread other)) input x f own fits rest =
     comes_behind other x f fits (λ a. subst (λ i. Passes i (f a)) (sym own) (rest a))
@@ -130,8 +130,8 @@ module _ {F : Type 0} (kind : FilesOf F) (names : Named) (file : File) (files : 
       let beyond : (held : Held) (a : Given) → Passes file.input (given_in held names files a) = λ held a.
       behind_passes file.input held names files parts.0 a in
       record {
-        gives = if_some (kind.holds old) (λ held. Fits error (file_step held names file before))
-            (λ held. Fits error (given_in held names (file ∷ files) before))
+        gives = if_some (kind.holds old) (λ held. FitsAnswer error (file_step held names file before))
+            (λ held. FitsAnswer error (given_in held names (file ∷ files) before))
             (λ held fits. first_fits error file.input (file_step held names file before) (given_in held names files) added.own fits
             (beyond held)) added.gives;
         cause = added.cause;

@@ -31,14 +31,14 @@ FitsRefusal (refusals.Unread input) said = ComesTo input said
 FitsRefusal (refusals.Faulty input fault) said = said ≡ Err (refusals.Faulty input fault)
 
 -- want of memory says nothing of the definition
-abbrev pub Fits : {Y : Type 0} → InputError → Result Y Refusal → Type 0
-Fits (errors.Refused refusal) said = FitsRefusal refusal said
-Fits errors.Memory said = Unit {0}
+abbrev pub FitsAnswer : {Y : Type 0} → InputError → Result Y Refusal → Type 0
+FitsAnswer (errors.Refused refusal) said = FitsRefusal refusal said
+FitsAnswer errors.Memory said = Unit {0}
 
 -- an answer is the value that the definition gives, or an error that fits it
 abbrev pub Gives : {X Y : Type 0} → (X → Y) → Result X InputError → Result Y Refusal → Type 0
 Gives view (Ok x) said = said ≡ Ok (view x)
-Gives view (Err error) said = Fits error said
+Gives view (Err error) said = FitsAnswer error said
 
 -- a refusal is that of this input
 abbrev pub IsOf : {X : Type 0} → Input → Result X InputError → Type 0

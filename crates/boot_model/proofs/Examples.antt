@@ -26,9 +26,9 @@ use Rattle.boot_model.specs.declared.stop.Stop.TheVariants as stops
 use Rattle.script_reader.specs.declared.act.Act.TheVariants as acts
 use Rattle.early_script.specs.declared.outcome.Outcome.TheVariants as outcomes
 use Rattle.early_script.specs.Acted.{deed}
-use Rattle.early_script.specs.Stage.{Stage as Script}
+use Rattle.early_script.specs.Stage.{LineStage as Script}
 use Rattle.bm_base.specs.Each.{each_from, each_in}
-use Rattle.table_frames.specs.Frames.{free_in, node_of_frame}
+use Rattle.table_frames.specs.Frames.{free_node_in, node_of_frame}
 use Rattle.zone_spans.specs.Spans.{spans_of}
 use Rattle.memblock_model.specs.declared.item.Item.{Item}
 use Rattle.memblock_model.specs.declared.owner.Owner.TheVariants as owner
@@ -196,7 +196,7 @@ two_frames =
     ∷ item.Claim (record { base = 0x1800; size = 1 }) owner.Kernel ∷ []
 
 handed_examples : (handed_over two_frames 1 ≡ None) × (handed_over two_frames 2 ≡ Some 3)
-unfolding free_in each_in each_from
+unfolding free_node_in each_in each_from
 handed_examples = (refl, refl)
 
 -- what was made is told as it is, and by its items the frames that are free and the spans of memory
@@ -207,7 +207,7 @@ told_as_made m = (refl, refl, refl, refl, refl, refl, refl)
 
 told_free : ((told of_image (record made { items = two_frames })).free 1 ≡ None)
     × ((told of_image (record made { items = two_frames })).free 2 ≡ Some 3)
-unfolding free_in each_in each_from
+unfolding free_node_in each_in each_from
 told_free = (refl, refl)
 
 told_spans : (items : List Item) → (told of_image (record made { items = items })).spans ≡ spans_of (node_of_frame (memory_of items))

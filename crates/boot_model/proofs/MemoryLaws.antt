@@ -20,7 +20,7 @@ use Rattle.early_stages.proofs.MemoryLaws.{first_limit, first_memory}
 use Rattle.early_stages.proofs.EndLaws.{memory_end-same}
 use Rattle.script_reader.specs.declared.act.Line.{Line}
 use Rattle.early_script.specs.Acted.{answer_of, state_after}
-use Rattle.early_script.specs.Stage.{Stage as Script, after_line, after_lines, before_sections, behind_sections, deed_at}
+use Rattle.early_script.specs.Stage.{LineStage as Script, after_line, after_lines, before_sections, behind_sections, deed_at}
 use Rattle.early_script.proofs.QuietLaws.{acts-limit, acts-memory, deed-quiet}
 use Rattle.boot_model.specs.Boot.{Given, Made, Stage, begin, boot, claims, early_of, has_crash_area, has_memory, has_nodes, has_sections, later_stages, map_judged, map_stages, mirrors_of, put_crash, put_nodes, put_sections, reach, runs_lines, script_at, types_in_reach}
 use Rattle.boot_model.specs.Sections.{SectionPlaces, places_of_sections, sections_placed}

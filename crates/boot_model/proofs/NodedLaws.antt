@@ -21,7 +21,7 @@ use Rattle.stage_model.specs.Noded.{AreOfFrames, IsNoded}
 use Rattle.numa_nodes.specs.Assigned.{assigned}
 use Rattle.numa_nodes.proofs.NodedLaws.{answer-noded}
 use Rattle.boot_model.specs.Boot.{Given, Made, begin, boot, claims, early_of, has_frames, has_memory, has_nodes, has_room, later_stages, map_judged, map_stages, mirrors_of, put_nodes, reach, types_in_reach}
-use Rattle.boot_model.specs.First.{IsFirst}
+use Rattle.boot_model.specs.First.{IsFirstMemory}
 use Rattle.boot_model.specs.Stages.{in_order}
 use Rattle.boot_model.specs.Stop.{cause_of_stage}
 use Rattle.boot_model.proofs.BootLaws.{frames_passed, frames_within, items_passed, map_between, room_passed}
@@ -82,7 +82,7 @@ judged_first given made ends =
     (sym (room.1 ∙ frames.1 ∙ last), frames.0)
 
 pub first_known : (given : Given) (made : Made) (items : List Item) → map_judged given ≡ Ok made
-    → carried_out (first_items (early_of given) made.map) made.items ≡ Ok items → IsFirst (reach given) items
+    → carried_out (first_items (early_of given) made.map) made.items ≡ Ok items → IsFirstMemory (reach given) items
 first_known given made items ends carried =
     let known = judged_first given made ends in
     let map : List (RunOf ℕ) = map_of (claims given) in
@@ -112,7 +112,7 @@ first_known given made items ends carried =
     record { frames = told.0; within = told.1; low = told.2; some = told.3 }
 
 -- behind its nodes
-pub nodes_known : (given : Given) (before last : Made) → IsFirst (reach given) before.items → has_nodes given before ≡ Ok last
+pub nodes_known : (given : Given) (before last : Made) → IsFirstMemory (reach given) before.items → has_nodes given before ≡ Ok last
     → IsNoded (reach given) (labels_by last)
 nodes_known given before last first ends =
     let told = steps_answered cause_of_stage put_nodes (assigned given.domains given.options.numa_off) before last ends in
@@ -128,7 +128,7 @@ noded_told given made ends =
     let behind = passes (has_memory given) (drop 1 (later_stages given)) judged_map.middle made judged_map.rest in
     let passed = items_passed (carried_out (first_items (early_of given) judged_map.middle.map)
     judged_map.middle.items) judged_map.middle behind.middle behind.first in
-    let first : IsFirst (reach given) behind.middle.items = first_known given judged_map.middle behind.middle.items judged_map.first passed.0 in
+    let first : IsFirstMemory (reach given) behind.middle.items = first_known given judged_map.middle behind.middle.items judged_map.first passed.0 in
     let nodes = passes (has_nodes given) (drop 2 (later_stages given)) behind.middle made behind.rest in
     let noded : IsNoded (reach given) (labels_by nodes.middle) = nodes_known given behind.middle nodes.middle first nodes.first in
     subst (λ (f : Labels). IsNoded (reach given) f)

@@ -24,7 +24,7 @@ use Rattle.stage_model.specs.Requests.{allocated, carried, changes, claimed_at, 
 use Rattle.address_runs.specs.Runs.{extent_of}
 use Rattle.boot_options.specs.Crash.{Crash as Asked}
 use Rattle.srat_reader.specs.Table.{Affinity}
-use Rattle.node_hulls.specs.Hulls.{Block}
+use Rattle.node_hulls.specs.Hulls.{NumaBlock}
 use Rattle.node_hulls.specs.Judgement.{Judgement, judged}
 use Rattle.numa_nodes.specs.Assigned.{Noded, assigned, assigned_by, data_placed, given, is_memory, node_data_request, noded_by, nodes_with_memory, ranges_given, with_data}
 use Rattle.crash_kernel.specs.declared.area.Area.{Area}
@@ -135,7 +135,7 @@ with_data_errs found nodes =
     tt nodes)
     (λ done items. tt)
 
-ranges_errs : (found : Judgement) (ranges : List Block)
+ranges_errs : (found : Judgement) (ranges : List NumaBlock)
     → Errs IsStop (in_turn given tt ranges
     >>= λ done. (listed (λ items. nodes_with_memory (memory_of items)) >>= λ nodes. with_data found nodes))
 ranges_errs found ranges =

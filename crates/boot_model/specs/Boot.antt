@@ -27,7 +27,7 @@ use Rattle.early_stages.specs.Wanted.{first_items}
 use Rattle.script_reader.specs.declared.act.Line.{Line}
 use Rattle.early_script.specs.declared.outcome.Answer.{Answer}
 use Rattle.early_script.specs.Ids.{Ids}
-use Rattle.early_script.specs.Stage.{Stage as Script, after_lines, before_sections, behind_sections}
+use Rattle.early_script.specs.Stage.{LineStage as Script, after_lines, before_sections, behind_sections}
 use Rattle.bm_base.specs.ResultSteps.{◌>>=◌}
 use Rattle.memblock_model.specs.Items.{memory_of, owner_of}
 use Rattle.memblock_model.specs.Tables.{reserved_of}
@@ -38,7 +38,7 @@ use Rattle.numa_nodes.specs.Assigned.{Noded, assigned}
 use Rattle.crash_kernel.specs.declared.crash.Crash.{Crash}
 use Rattle.crash_kernel.specs.declared.crash.Crash.TheVariants as crash
 use Rattle.crash_kernel.specs.Reserved.{reserved}
-use Rattle.table_frames.specs.Frames.{free_in, node_of_frame}
+use Rattle.table_frames.specs.Frames.{free_node_in, node_of_frame}
 use Rattle.frame_blocks.specs.Frames.{Frames}
 use Rattle.page_alloc.specs.declared.act.PageLine.{PageLine}
 use Rattle.page_alloc.specs.declared.outcome.PageAnswer.{PageAnswer}
@@ -183,7 +183,7 @@ heads_of kernel items = record {
 
 -- which frames go to the buddy lists: memory of which nobody has a byte, each of the node of its memory (`memblock_free_all`)
 abbrev pub handed_over : List Item → Frames
-handed_over items = free_in (memory_of items) (reserved_of (owner_of items))
+handed_over items = free_node_in (memory_of items) (reserved_of (owner_of items))
 
 -- what the memory of each node spans in each zone (`free_area_init`)
 abbrev pub spanned : List Item → List Span

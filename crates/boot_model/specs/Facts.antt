@@ -12,7 +12,7 @@ use Rattle.script_reader.specs.declared.act.Act.{Act}
 use Rattle.script_reader.specs.declared.act.Act.TheVariants as acts
 use Rattle.script_reader.specs.declared.act.Line.{Line}
 use Rattle.script_reader.specs.Forms.{HasBounds}
-use Rattle.early_script.specs.Acted.{IsRun}
+use Rattle.early_script.specs.Acted.{CanBeRun}
 use Rattle.page_alloc.specs.declared.act.PageAct.{PageAct}
 use Rattle.page_alloc.specs.declared.act.PageAct.TheVariants as pages
 use Rattle.page_alloc.specs.declared.act.PageLine.{PageLine}
@@ -55,7 +55,7 @@ HasBounds-prop acts.Sections = Unit-prop
 pub HaveBounds-prop : (lines : List Line) → IsProp (HaveBounds lines)
 HaveBounds-prop lines = Prim.hlevel HasBounds-prop
 
-IsRun-prop : (act : Act) → IsProp (IsRun act)
+IsRun-prop : (act : Act) → IsProp (CanBeRun act)
 IsRun-prop (acts.Alloc id request) = Unit-prop
 IsRun-prop (acts.Reserve id range) = Unit-prop
 IsRun-prop (acts.Free id) = Unit-prop

@@ -5,7 +5,7 @@ use Rattle.bm_base.specs.OptionSteps.{◌>>=◌}
 use Rattle.bm_base.specs.declared.memory.Memory.{Memory}
 use Rattle.boot_options.specs.declared.crash.CrashRange.{CrashRange}
 use Rattle.boot_options.specs.Crash.{crash_range_of, crash_ranges_of}
-use Rattle.boot_options.specs.Kept.{Keeps, KeepsRanges}
+use Rattle.boot_options.specs.Kept.{KeepsItems, KeepsRanges}
 
 -- these ranges in front of the others, where there are others
 abbrev pub in_front : List CrashRange → Option (List CrashRange) → Option (List CrashRange)
@@ -36,5 +36,5 @@ pub in_front-all : (kept : List CrashRange) → in_front kept (crash_ranges_of [
 in_front-all kept = ap (λ (rs : List CrashRange). Some rs) (append-nil kept)
 
 pub kept-all : (read : Result (Vec CrashRange Global) Memory) (kept : List CrashRange) (said : Option (List CrashRange))
-    → Keeps read kept → said ≡ Some kept → KeepsRanges (Some read) said
+    → KeepsItems read kept → said ≡ Some kept → KeepsRanges (Some read) said
 kept-all read kept said keeps is = rw is keeps

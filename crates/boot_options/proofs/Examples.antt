@@ -14,9 +14,9 @@ use Rattle.boot_options.specs.declared.reading.Reading.{Reading}
 use Rattle.boot_options.specs.declared.reading.UserMap.{UserMap}
 use Rattle.boot_options.specs.MapOptions.{number_and_rest, front_size, front_number, at_end, whole_size, range_at, unless_empty, range_above, ram_above, adding_option, small_kind, kind_behind, retyped_to, retyped_from, retyped, changed, by_mark, sized_map_option, map_option_of, ram_up_to, mem_of, Spell, SpellsType}
 use Rattle.boot_options.specs.Crash.{crash_view, no_crash}
-use Rattle.boot_options.specs.Kept.{Keeps}
+use Rattle.boot_options.specs.Kept.{KeepsItems}
 use Rattle.boot_options.specs.Options.{raw_line, is_closed, checked_line, line_of, Said, OfMap, NumaOff, AddEfi, map_options_of, memmap_of, of_one, numa_of, or_fault, said_by, at_cut, name_value_of, until_end, option_words, said_from, numbered, all_map_options, edit_of, edits_of, is_efi_added, is_numa_off, count_adding, or_here, last_exact, Chosen, chosen, chosen_by, unless_incomplete, with_user_map, options_of, HasRange, HaveRanges, IsNumbered}
-use Rattle.boot_options.specs.Reading.{start, one_fewer, user_map_behind, after_map_option, after_map_options, after, after_all, read_on, read_all, read_map_options, when_complete, at_line_end, IsAt, IsAtSome, ReadsAs}
+use Rattle.boot_options.specs.Reading.{start, one_fewer, user_map_behind, after_map_option, after_map_options, after, after_all, read_on, read_all, read_map_options, when_complete, at_line_end, IsReadTo, IsAtSome, ReadsAs}
 
 abbrev range : ℕ → ℕ → Extent
 range base size = record { base = base; size = size }
@@ -409,24 +409,24 @@ read_all_or_fault : (read_all start (Err (faults.BadMem 2)) ≡ Err (faults.BadM
 read_all_or_fault = (refl, refl)
 
 -- the reader keeps the edits of its state; where it ran out of memory, its state has some
-edits_are_kept : (kept : Vec Edit Global) → kept.items ≡ Clear ∷ [] → Keeps (Ok kept) (Clear ∷ [])
+edits_are_kept : (kept : Vec Edit Global) → kept.items ≡ Clear ∷ [] → KeepsItems (Ok kept) (Clear ∷ [])
 edits_are_kept kept is = is
 
-memory_ran_out : (m : Memory) → Keeps (Err m) (Clear ∷ [])
+memory_ran_out : (m : Memory) → KeepsItems (Err m) (Clear ∷ [])
 memory_ran_out m = omega arith
 
-nothing_to_keep : (m : Memory) → Keeps {A = Edit} (Err m) [] → ⊥
+nothing_to_keep : (m : Memory) → KeepsItems {A = Edit} (Err m) [] → ⊥
 nothing_to_keep m wanting = omega arith
 
 abbrev half_read : Memory → Reading
 half_read m = record { edits = Err m; crash = record { plain = None; high = None; low = None }; numa_off = true; add_efi = false; user_map = None }
 
 -- all but the edits it has, also without memory
-at_a_state_without_memory : (m : Memory) → IsAt (half_read m) (after 1 (after_map_option 1 start (Other (Some Clear))) NumaOff)
+at_a_state_without_memory : (m : Memory) → IsReadTo (half_read m) (after 1 (after_map_option 1 start (Other (Some Clear))) NumaOff)
 at_a_state_without_memory m =
     record { edits = omega arith; crash = record { plain = refl; high = refl; low = refl }; numa_off = refl; add_efi = refl; user_map = refl }
 
-other_numa_off : (m : Memory) → IsAt (half_read m) (after_map_option 1 start (Other (Some Clear))) → ⊥
+other_numa_off : (m : Memory) → IsReadTo (half_read m) (after_map_option 1 start (Other (Some Clear))) → ⊥
 other_numa_off m has = let off = has.numa_off in cc off
 
 -- a reader that goes on has no fault, and one that answers a fault has the definition's

@@ -7,7 +7,7 @@ use Rattle.bm_base.specs.ResultSteps.{◌>>=◌}
 use Rattle.boot_options.specs.declared.fault.OptionFault.{OptionFault}
 use Rattle.boot_options.specs.Options.{Said, name_value_of, said_by, said_from, option_words}
 use Rattle.boot_options.specs.declared.reading.Reading.{Reading}
-use Rattle.boot_options.specs.Reading.{State, IsAt, IsAtSome, after, read_on, read_all}
+use Rattle.boot_options.specs.Reading.{State, IsReadTo, IsAtSome, after, read_on, read_all}
 
 -- the first word in front of the words behind it, where it isn't `--`
 pub option_words-step : (line word behind : List ℕ) → words_in CommandLine line ≡ word ∷ words_in CommandLine behind
@@ -22,7 +22,7 @@ option_words-read line word behind bare dashes is unquotes marks test =
     rw unquotes (option_words-step line word behind is other)
 
 -- the state at which the reader is
-pub state_at : (r : Reading) (d : Result State OptionFault) → IsAtSome r d → (st : State) × IsAt r st × (d ≡ Ok st)
+pub state_at : (r : Reading) (d : Result State OptionFault) → IsAtSome r d → (st : State) × IsReadTo r st × (d ≡ Ok st)
 state_at r (Ok st) has = (st, has, refl)
 state_at r (Err fault) has = absurd has
 

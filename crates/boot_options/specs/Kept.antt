@@ -9,19 +9,19 @@ use Rattle.boot_options.specs.declared.crash.PlainRead.{PlainRead}
 use Rattle.boot_options.specs.Crash.{Form, PlainForm, Plain, High, Low}
 
 -- the items that are kept are these; where memory ran out for one, there are some
-abbrev pub Keeps : {A : Type 0} → Result (Vec A Global) Memory → List A → Type 0
-Keeps (Ok kept) items = kept.items ≡ items
-Keeps (Err memory) items = 0 < length items
+abbrev pub KeepsItems : {A : Type 0} → Result (Vec A Global) Memory → List A → Type 0
+KeepsItems (Ok kept) items = kept.items ≡ items
+KeepsItems (Err memory) items = 0 < length items
 
 -- the same of ranges that are read, and of texts that may be malformed
 abbrev pub KeepsRanges : Option (Result (Vec CrashRange Global) Memory) → Option (List CrashRange) → Type 0
 KeepsRanges None said = said ≡ None
 KeepsRanges (Some kept) None = ⊥
-KeepsRanges (Some kept) (Some ranges) = Keeps kept ranges
+KeepsRanges (Some kept) (Some ranges) = KeepsItems kept ranges
 
 -- the plain form that is kept is this one, but for memory for its ranges
 pub record KeepsPlain (kept : PlainRead) (form : PlainForm) : Type 0 where
-  pub ranges : Keeps kept.ranges form.ranges
+  pub ranges : KeepsItems kept.ranges form.ranges
   pub base : kept.base ≡ form.base
 
 -- the form that is kept is what a value says

@@ -13,7 +13,7 @@ use Rattle.boot_options.specs.declared.reading.CrashRead.{CrashRead}
 use Rattle.boot_options.specs.declared.reading.Reading.{Reading}
 use Rattle.boot_options.specs.declared.reading.UserMap.{UserMap}
 use Rattle.boot_options.specs.Crash.{Crash, Form, Plain, High, Low, no_crash}
-use Rattle.boot_options.specs.Kept.{Keeps, KeepsLast}
+use Rattle.boot_options.specs.Kept.{KeepsItems, KeepsLast}
 use Rattle.boot_options.specs.Options.{Said, OfMap, OfCrash, NumaOff, AddEfi, Chosen, edit_of}
 
 pub record State : Type 0 where
@@ -101,8 +101,8 @@ pub record KeepsCrash (r : CrashRead) (c : Crash) : Type 0 where
   pub low : r.low ≡ c.low
 
 -- the reader is at that state; it may have run out of memory for its edits or ranges
-pub record IsAt (r : Reading) (st : State) : Type 0 where
-  pub edits : Keeps r.edits st.edits
+pub record IsReadTo (r : Reading) (st : State) : Type 0 where
+  pub edits : KeepsItems r.edits st.edits
   pub crash : KeepsCrash r.crash st.crash
   pub numa_off : r.numa_off ≡ st.numa_off
   pub add_efi : r.add_efi ≡ st.add_efi
@@ -110,7 +110,7 @@ pub record IsAt (r : Reading) (st : State) : Type 0 where
 
 -- there is such a state, and the reader is at it
 abbrev pub IsAtSome : Reading → Result State OptionFault → Type 0
-IsAtSome r (Ok st) = IsAt r st
+IsAtSome r (Ok st) = IsReadTo r st
 IsAtSome r (Err fault) = ⊥
 
 -- the answer is the definition's: its state, at which the reader is, or its fault

@@ -13,7 +13,7 @@ ghost use Rattle.text_words.specs.declared.separators.Separators.TheVariants.{By
 ghost use Rattle.text_words.specs.Parts.{parts_in};
 ghost use Rattle.boot_options.specs.declared.crash.CrashRange.{CrashRange as AnyRange};
 ghost use Rattle.boot_options.specs.Crash.{High, Low, Plain, SpellRanges, joined, one_range, comma, crash_range_of, crash_ranges_of, end_of_range, form_of, place_of as place_at, ranges_form, simple_form, suffix_form};
-ghost use Rattle.boot_options.specs.Kept.{Keeps, KeepsForm, KeepsRanges};
+ghost use Rattle.boot_options.specs.Kept.{KeepsItems, KeepsForm, KeepsRanges};
 
 use crate::kept::keep;
 use crate::map_option::read_whole_size;
@@ -110,7 +110,7 @@ fn read_simple_form(alloc: Global, value: &[u8]) -> Option<CrashForm>
 
 /// The list of this range alone.
 fn one_range(alloc: Global, range: CrashRange) -> Result<Vec<CrashRange>, Memory>
-    ensures { Keeps result (range ∷ []) }
+    ensures { KeepsItems result (range ∷ []) }
 {
     let mut ranges = Vec::new(alloc);
     ranges.push(range)?;

@@ -3,14 +3,14 @@
 
 ghost use Rattle.std.specs.Prelude.{List, [], ◌++◌};
 ghost use Rattle.std.specs.List.{cons_option};
-ghost use Rattle.boot_options.specs.Kept.{Keeps};
+ghost use Rattle.boot_options.specs.Kept.{KeepsItems};
 
 use bm_base::Memory;
 
 /// Keeps the item, where there is one, behind the others.
 pub fn keep<T: Copy>(item: &Option<T>, items: &mut Result<Vec<T>, Memory>)
-    ensures { (before : List T) → Keeps items.old before →
-        Keeps items.new (before ++ cons_option item.now []) }
+    ensures { (before : List T) → KeepsItems items.old before →
+        KeepsItems items.new (before ++ cons_option item.now []) }
 {
     if let (Some(item), Ok(kept)) = (item, &mut *items) {
         if kept.push(*item).is_err() {

@@ -11,7 +11,7 @@ ghost use Rattle.boot_options.specs.Crash.{Crash, IsPlain, PlainForm, crash_view
 ghost use Rattle.boot_options.specs.Kept.{KeepsLast};
 ghost use Rattle.boot_options.specs.Options.{chosen, line_of, options_of, HaveRanges, IsNumbered, WantsMemory};
 ghost use Rattle.e820_model.specs.Claims.{HaveTypes};
-ghost use Rattle.boot_options.specs.Reading.{State, IsAt, KeepsCrash, LacksRanges, at_line_end};
+ghost use Rattle.boot_options.specs.Reading.{State, IsReadTo, KeepsCrash, LacksRanges, at_line_end};
 
 use crate::crash::{CrashOption, CrashPlain, PlainRead};
 use crate::fault::OptionFault;
@@ -76,10 +76,10 @@ fn read_line(bytes: &[u8]) -> Result<&[u8], OptionFault>
 /// The options, unless the user map wants further map options. It takes no memory, and tells
 /// where it was wanting for an edit.
 fn finish(reading: Reading) -> Result<Options, OptionFault>
-    ensures answers { (st : State) → IsAt reading st →
+    ensures answers { (st : State) → IsReadTo reading st →
         Answers OptionFault.Memory chosen result (at_line_end st) }
     ensures memory { result ≡ Err OptionFault.Memory → IsErr reading.edits ⊎ LacksRanges reading.crash.plain }
-    ensures complete { result ≡ Err OptionFault.Memory → (st : State) → IsAt reading st →
+    ensures complete { result ≡ Err OptionFault.Memory → (st : State) → IsReadTo reading st →
         IsOkAnd (at_line_end st) WantsMemory }
 {
     if let Some(map) = reading.user_map {

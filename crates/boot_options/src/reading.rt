@@ -13,7 +13,7 @@ ghost use Rattle.std.specs.Option.{option_map, option_and_then};
 ghost use Rattle.boot_options.specs.declared.fault.OptionFault.TheVariants as faults;
 ghost use Rattle.boot_options.specs.declared.options.TheConstants.{LONGEST_LINE};
 ghost use Rattle.boot_options.specs.Options.{name_value_of, said_by, said_from, option_words, or_fault, crash_of, memmap_of};
-ghost use Rattle.boot_options.specs.Reading.{State, start, one_fewer as one_fewer_wanted, after_map_option, read_on, read_all, IsAt, ReadsAs};
+ghost use Rattle.boot_options.specs.Reading.{State, start, one_fewer as one_fewer_wanted, after_map_option, read_on, read_all, IsReadTo, ReadsAs};
 
 use crate::crash::{CrashForm, PlainRead, read_form};
 use crate::fault::OptionFault;
@@ -91,7 +91,7 @@ fn read_word(
     number: u32,
     reading: &mut Reading,
 ) -> Result<(), OptionFault>
-    ensures { (st : State) → IsAt reading.old st →
+    ensures { (st : State) → IsReadTo reading.old st →
         ReadsAs (λ _. reading.new) result
         (read_on number st (said_by number (name_value_of word.now))) }
 {
@@ -134,7 +134,7 @@ fn name_and_value(word: &[u8]) -> (&[u8], Option<&[u8]>)
 
 /// Reads the map options of `memmap=`, one after the other.
 fn read_memmap(value: &[u8], number: u32, reading: &mut Reading) -> Result<(), OptionFault>
-    ensures { (st : State) → IsAt reading.old st →
+    ensures { (st : State) → IsReadTo reading.old st →
         ReadsAs (λ _. reading.new) result
         (read_on number st (or_fault (faults.BadMemmap number) (memmap_of value.now))) }
 {
@@ -157,7 +157,7 @@ fn read_crash(
     number: u32,
     reading: &mut Reading,
 ) -> Result<(), OptionFault>
-    ensures { (st : State) → IsAt reading.old st →
+    ensures { (st : State) → IsReadTo reading.old st →
         ReadsAs (λ _. reading.new) result
         (read_on number st (or_fault (faults.BadCrash number) (crash_of value.now))) }
 {
@@ -172,8 +172,8 @@ fn read_crash(
 
 /// Takes what one map option says.
 fn take_map_option(option: &MapOption, number: u32, reading: &mut Reading)
-    ensures { (st : State) → IsAt reading.old st →
-        IsAt reading.new (after_map_option number st option.now) }
+    ensures { (st : State) → IsReadTo reading.old st →
+        IsReadTo reading.new (after_map_option number st option.now) }
 {
     match option {
         MapOption::ExactMap => {

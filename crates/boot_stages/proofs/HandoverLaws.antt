@@ -16,7 +16,7 @@ use Rattle.memblock_ranges.specs.Tables.{Contents as Tables, StandsIn, Table, he
 use Rattle.growth_model.specs.Bytes.{table_for}
 use Rattle.sparse_sections.proofs.NodedLaws.{noded-told}
 use Rattle.stage_model.specs.Noded.{IsNoded}
-use Rattle.table_frames.specs.Frames.{free_in, node_of_frame}
+use Rattle.table_frames.specs.Frames.{free_node_in, node_of_frame}
 use Rattle.table_frames.specs.Tables.{AreWholeFrames, HasRecords}
 use Rattle.table_frames.proofs.StandLaws.{stands_ascending, stands_below, stands_free, stands_node, stands_whole}
 use Rattle.zone_spans.specs.Spans.{spans_of}
@@ -59,14 +59,14 @@ module _ (items : List Item) (store : List Stored) (memory reserved : Head) (s :
       ∙ ap (λ (f : Labels). node_of_frame f frame) s.first_says) i in
       ap spans_of nodes
 
-  pub free-told : (frame : ℕ) → free_in (value_at (list_in store memory)) (value_at (list_in store reserved)) frame ≡ handed_over items
+  pub free-told : (frame : ℕ) → free_node_in (value_at (list_in store memory)) (value_at (list_in store reserved)) frame ≡ handed_over items
       frame
   free-told frame =
-      ap (λ (h : Head). free_in (value_at (list_in store h)) (value_at (list_in store reserved)) frame) s.first_head
-      ∙ ap (λ (h : Head). free_in (value_at (list_in store (head_of s.first))) (value_at (list_in store h)) frame) s.second_head
+      ap (λ (h : Head). free_node_in (value_at (list_in store h)) (value_at (list_in store reserved)) frame) s.first_head
+      ∙ ap (λ (h : Head). free_node_in (value_at (list_in store (head_of s.first))) (value_at (list_in store h)) frame) s.second_head
       ∙ stands_free s.first s.second store frame s.first_stands s.second_stands
-      ∙ ap (λ (f : Labels). free_in f (value_at s.second.records) frame) s.first_says
-      ∙ ap (λ (f : Labels). free_in (memory_of items) f frame) s.second_says
+      ∙ ap (λ (f : Labels). free_node_in f (value_at s.second.records) frame) s.first_says
+      ∙ ap (λ (f : Labels). free_node_in (memory_of items) f frame) s.second_says
 
 -- they do stand there
 pub stand-by : (kernel : Extent) (items : List Item) (store : List Stored) (tables found : Tables) (heads : Heads)

@@ -23,7 +23,7 @@ use Rattle.growth_model.specs.Outcome.{Refused}
 use Rattle.growth_model.specs.Carried.{carried_out}
 use Rattle.early_stages.specs.Wanted.{first_items}
 use Rattle.boot_stages.specs.Carries.{or_stop}
-use Rattle.boot_model.specs.First.{IsFirst}
+use Rattle.boot_model.specs.First.{IsFirstMemory}
 use Rattle.boot_model.proofs.NodedLaws.{first_known}
 use Rattle.boot_model.specs.Stages.{in_order}
 use Rattle.boot_model.specs.Stop.{cause_of_growth, stop_of}
@@ -190,6 +190,6 @@ carried_ok (Err refused) items is = absurd (cc)
 
 -- memory as the map gives it
 pub first_made : (given : Given) (made : Made) (items : List Item) → with_error stop_of (map_judged given) ≡ Ok made
-    → or_stop (memory_said given made) ≡ Ok items → IsFirst (reach given) items
+    → or_stop (memory_said given made) ≡ Ok items → IsFirstMemory (reach given) items
 first_made given made items judged answers =
     first_known given made items (told_ok stop_of (map_judged given) made judged) (carried_ok (memory_said given made) items answers)

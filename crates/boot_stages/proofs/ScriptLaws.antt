@@ -7,7 +7,7 @@ use Rattle.script_reader.specs.declared.act.Line.{Line}
 use Rattle.early_script.specs.declared.outcome.Answer.{Answer}
 use Rattle.early_script.specs.Acted.{State}
 use Rattle.early_script.specs.Ids.{Ids}
-use Rattle.early_script.specs.Stage.{Reaches, Stage as Script, after_lines, stage_of}
+use Rattle.early_script.specs.Stage.{Reaches, LineStage as Script, after_lines, stage_of}
 use Rattle.boot_model.specs.declared.stop.Cause.{Cause}
 use Rattle.boot_model.specs.Boot.{Made, runs_lines}
 use Rattle.boot_stages.specs.Boots.{HoldsWith, made_by_lines}

@@ -14,7 +14,7 @@ use Rattle.early_script.specs.Stage.{Reaches, after_lines, before_sections, behi
 use Rattle.numa_nodes.specs.Assigned.{Noded}
 use Rattle.crash_kernel.specs.declared.crash.Crash.{Crash}
 use Rattle.boot_model.specs.Boot.{Given, Made, Stage, has_crash_area, has_nodes, has_sections, later_stages, put_crash, put_nodes, put_sections, reach, runs_lines}
-use Rattle.boot_model.specs.First.{IsFirst}
+use Rattle.boot_model.specs.First.{IsFirstMemory}
 use Rattle.boot_model.specs.Sections.{SectionPlaces}
 use Rattle.boot_model.specs.Stages.{in_order}
 use Rattle.boot_model.proofs.MemoryLaws.{crash_labels, lines_labels, section_labels}
@@ -57,7 +57,7 @@ pub record UpToLines (given : Given) (made : Made) (start mid second m : Content
 
 pub up_to_lines : (given : Given) (made : Made) (start mid second m : Contents) (nodes : Noded) (area : Crash) (live ids : Ids)
     (told answers : List Answer) (before : List Line) → start.kernel ≡ given.kernel
-    → IsFirst (reach given) start.journal.items → HoldsWith [] start
+    → IsFirstMemory (reach given) start.journal.items → HoldsWith [] start
     → ((n : Made) → Comes (has_nodes given) put_nodes n start mid (Ok nodes)) → GoesOn start mid
     → ((n : Made) → Comes (has_crash_area given) put_crash n mid second (Ok area)) → GoesOn mid second
     → live ≡ [] → told ≡ [] → before ≡ before_sections given.lines

@@ -15,7 +15,7 @@ use Rattle.memblock_model.specs.Tables.{records_of}
 use Rattle.memblock_ranges.specs.declared.region.Head.{Head}
 use Rattle.memblock_ranges.specs.declared.region.Heads.{Heads}
 use Rattle.memblock_ranges.specs.Tables.{Table, StandsIn, head_of, list_in}
-use Rattle.table_frames.specs.Frames.{free_in}
+use Rattle.table_frames.specs.Frames.{free_node_in}
 use Rattle.buddy_handover.specs.Contents.{Contents as Buddy, free}
 use Rattle.boot_model.specs.declared.stop.Cause.TheVariants as causes
 use Rattle.boot_model.specs.declared.stop.Stop.{Stop}
@@ -70,7 +70,7 @@ pub record TableStands (w : Which) (items : List Item) (store : List Stored) (he
 -- the frames that are free are those that the lists in these bytes leave, where the heads tell, and by nothing else
 abbrev pub IsSpelledFree : List Stored → Heads → Buddy → Type 0
 IsSpelledFree store heads buddy =
-    (frame : ℕ) → free buddy frame ≡ free_in (value_at (list_in store heads.memory)) (value_at (list_in store heads.reserved)) frame
+    (frame : ℕ) → free buddy frame ≡ free_node_in (value_at (list_in store heads.memory)) (value_at (list_in store heads.reserved)) frame
 
 -- each byte of memory is that of the items, and of these fills
 abbrev pub HoldsWith : List Filled → Contents → Type 0

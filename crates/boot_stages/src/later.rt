@@ -16,7 +16,7 @@ ghost use Rattle.numa_nodes.specs.Assigned.{nodes_view};
 ghost use Rattle.crash_kernel.specs.Reserved.{reserved};
 ghost use Rattle.boot_model.specs.declared.stop.Stop.TheVariants as stops;
 ghost use Rattle.boot_model.specs.Boot.{Made, has_crash_area, has_nodes, has_sections, put_crash, put_nodes, put_sections, reach};
-ghost use Rattle.boot_model.specs.First.{IsFirst};
+ghost use Rattle.boot_model.specs.First.{IsFirstMemory};
 ghost use Rattle.boot_model.specs.Sections.{places_of_sections};
 ghost use Rattle.boot_model.specs.View.{inputs_view};
 ghost use Rattle.boot_stages.specs.Boots.{AreRun, AreStopped, Comes, HoldsWith, begun_with, later_view, places_view, stop_of_stage};
@@ -133,7 +133,7 @@ fn place_all(alloc: Global, memblock: &mut Memblock, width: Width) -> Result<Sec
 /// The stages behind memory, in their order.
 pub fn run_stages(alloc: Global, memblock: &mut Memblock, inputs: &Inputs) -> Result<Later, Stop>
     requires begun { HasBegun memblock.old.journal.items }
-    requires first { IsFirst (reach (inputs_view inputs.now)) memblock.old.journal.items }
+    requires first { IsFirstMemory (reach (inputs_view inputs.now)) memblock.old.journal.items }
     requires kernel { memblock.old.kernel ≡ inputs.now.kernel }
     requires bytes { HoldsWith [] memblock.old }
     ensures run { IfOk result (λ later. (made : Made) →

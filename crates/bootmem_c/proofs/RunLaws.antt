@@ -19,7 +19,7 @@ use Rattle.program_run.specs.declared.failure.Failure.TheVariants as failures
 use Rattle.program_run.specs.declared.failure.Reason.{Reason}
 use Rattle.program_run.specs.Answers.{EndHasCause, IsText, Writes, WritingHasCause}
 use Rattle.program_run.specs.Headline.{IsReported}
-use Rattle.program_run.specs.Line.{Tells, failure_line}
+use Rattle.program_run.specs.Line.{PutsLine, failure_line}
 use Rattle.program_run.specs.Run.{IsTold}
 use Rattle.program_run.specs.Outcome.{given_by, or_refused, or_stopped, outcome, reported}
 use Rattle.program_run.specs.Status.{End, status_of, status_of_end}
@@ -111,7 +111,7 @@ appended l0 l1 line short empty not_short (inr (inr rose)) = absurd (no_rise (rw
 
 -- a line in memory is whole, unless memory was wanting for it
 whole_by : (short : Bool) (l0 l1 : Written) (line : List ℕ) → l1.is_short ≡ short → l0.text ≡ [] → l0.is_short ≡ false
-    → Tells text_sink l0 l1 line → (whole_text l1 ≡ line) ⊎ (whole_text l1 ≡ [])
+    → PutsLine text_sink l0 l1 line → (whole_text l1 ≡ line) ⊎ (whole_text l1 ≡ [])
 whole_by true l0 l1 line short empty not_short told = inr (rw short refl)
 whole_by false l0 l1 line short empty not_short told = inl (rw short (appended l0 l1 line short empty not_short told.whole))
 
@@ -120,7 +120,7 @@ line_of : (accepted : Option Wanted) (said : Result (List ℕ) Reason) (failure 
 line_of accepted said failure reason is are = ap (failure_line accepted) is ∙ sym (ap (line_by accepted) are)
 
 line_ends : (accepted : Option Wanted) (said : Result (List ℕ) Reason) (failure : Failure) (l0 l1 : Written)
-    → status_of failure ≢ 7 → l0.text ≡ [] → l0.is_short ≡ false → Tells text_sink l0 l1 (failure_line accepted failure)
+    → status_of failure ≢ 7 → l0.text ≡ [] → l0.is_short ≡ false → PutsLine text_sink l0 l1 (failure_line accepted failure)
     → ((reason : Reason) × (failure ≡ failures.NoReport reason) × (said ≡ Err reason)) ⊎ (failure ≡ failures.Memory)
     → (whole_text l1 ≡ line_by accepted said) ⊎ (whole_text l1 ≡ [])
 line_ends accepted said failure l0 l1 other empty not_short told (inl is) =

@@ -9,7 +9,7 @@ use Rattle.address_runs.specs.Edits.{replaced}
 use Rattle.memblock_model.specs.Labels.{Label, Labels}
 use Rattle.frame_blocks.specs.Frames.{Frames}
 use Rattle.table_frames.specs.declared.frames.RecordFrames.{RecordFrames}
-use Rattle.table_frames.specs.Frames.{node_told, node_of_frame, is_unclaimed, free_in, frames_of}
+use Rattle.table_frames.specs.Frames.{node_told, node_of_frame, is_unclaimed, free_node_in, frames_of}
 use Rattle.table_frames.specs.Tables.{AscendBelow, AreWholeFrames}
 use Rattle.table_frames.proofs.RecordLaws.{ascend_at, taken_none}
 use Rattle.table_frames.proofs.WholeLaws.{whole_at, first_byte, free_by_first}
@@ -119,7 +119,7 @@ record_left b ms reserved i d f ascend whole few is known x =
 
 -- after all records
 pub all_handed : (ms : List (RunOf Label)) (reserved : Labels) (i : ℕ) (f : Frames) → AreWholeFrames ms → i ≡ length ms
-    → ((x : ℕ) → f x ≡ unclaimed (value_at (take i ms)) reserved x) → (x : ℕ) → f x ≡ free_in (value_at ms) reserved x
+    → ((x : ℕ) → f x ≡ unclaimed (value_at (take i ms)) reserved x) → (x : ℕ) → f x ≡ free_node_in (value_at ms) reserved x
 all_handed ms reserved i f whole all known x =
     let taken : take i ms ≡ ms = ap (λ k. take k ms) all ∙ take-length ms in
     known x ∙ ap (λ (rs : List (RunOf Label)). unclaimed (value_at rs) reserved x) taken ∙ free_by_first ms reserved x whole

@@ -6,7 +6,7 @@
 ghost use Rattle.std.specs.Prelude.{◌≡◌, ℕ, ◌+◌, ◌*◌, ◌^◌, ◌<◌, ◌≤◌, IfOk};
 ghost use Rattle.address_runs.specs.Runs.{value_at};
 ghost use Rattle.memblock_ranges.specs.Tables.{list_in};
-ghost use Rattle.table_frames.specs.Frames.{free_in, IsPassed};
+ghost use Rattle.table_frames.specs.Frames.{free_node_in, IsPassed};
 ghost use Rattle.table_frames.specs.Tables.{HasRecords, AreWholeFrames};
 ghost use Rattle.buddy_handover.specs.Contents.{free};
 ghost use Rattle.buddy_handover.specs.Handover.{freed};
@@ -27,7 +27,7 @@ pub fn hand_over(alloc: Global, store: &Store, heads: &Heads) -> Result<Buddy, M
     requires whole { AreWholeFrames (list_in store.now heads.now.memory) }
     requires reserved { HasRecords store.now heads.now.reserved (2 ^ 64) }
     ensures { IfOk result (λ buddy. (frame : ℕ) → free buddy frame ≡
-        free_in (value_at (list_in store.now heads.now.memory)) (value_at (list_in store.now heads.now.reserved)) frame) }
+        free_node_in (value_at (list_in store.now heads.now.memory)) (value_at (list_in store.now heads.now.reserved)) frame) }
 {
     let mut buddy = Buddy::new(alloc);
     let mut next = 0;

@@ -14,7 +14,7 @@ use Rattle.memblock_model.specs.Tables.{reserved_of, without_owner}
 use Rattle.memblock_model.specs.declared.owner.Owner.{Owner}
 use Rattle.memblock_model.specs.declared.item.Item.{Item}
 use Rattle.stage_model.specs.Noded.{IsNoded}
-use Rattle.table_frames.specs.Frames.{free_in, node_below, node_of_frame, node_told}
+use Rattle.table_frames.specs.Frames.{free_node_in, node_below, node_of_frame, node_told}
 use Rattle.table_frames.specs.declared.frames.TheConstants.{MAX_NODES}
 use Rattle.frame_blocks.specs.declared.run.TheConstants.{MAX_FRAMES}
 use Rattle.boot_model.specs.Boot.{Given, handed_over, reach, types_in_reach}
@@ -85,7 +85,7 @@ module _ (given : Given) (items : List Item) (known : HasNodes given items) wher
 
   -- a frame that is handed over is usable, and no claim touches it
   pub handed_is_free : (frame node : ℕ) → handed_over items frame ≡ Some node → IsFree given items frame node
-  unfolding free_in
+  unfolding free_node_in
   handed_is_free frame node is =
       let both : ℕ → Bool = λ x. is_some (memory_of items x) && is_none (reserved_of (owner_of items) x) in
       let parts = if_some (each_in (bytes_of_frame frame) both) (node_of_frame (memory_of items) frame) node is in
@@ -112,7 +112,7 @@ module _ (given : Given) (items : List Item) (known : HasNodes given items) wher
 
   -- and the other way round
   pub free_is_handed : (frame node : ℕ) → IsFree given items frame node → handed_over items frame ≡ Some node
-  unfolding free_in
+  unfolding free_node_in
   free_is_handed frame node free =
       let both : ℕ → Bool = λ x. is_some (memory_of items x) && is_none (reserved_of (owner_of items) x) in
       let start : covers (bytes_of_frame frame) (4096 * frame) ≡ true = frame_covers frame (4096 * frame) (omega arith) (omega arith) in
@@ -141,7 +141,7 @@ module _ (given : Given) (items : List Item) (known : HasNodes given items) wher
 
   -- no frame is handed over beyond those that a list of frames may have
   pub handed_below : NothingFrom MAX_FRAMES (handed_over items)
-  unfolding free_in
+  unfolding free_node_in
   handed_below frame far =
       let small = reach-small given in
       let none : memory_of items (4096 * frame) ≡ None = known.noded.within (4096 * frame) (omega (arith, far, small)) in

@@ -2,7 +2,7 @@
 use Rattle.std.proofs.Common.{◌≡◌, ℕ, List, Option, Some, None, Result, Ok, Err, IfOk, IfSome, Vec, Global}
 use Rattle.bm_base.specs.Answers.{Answers}
 use Rattle.bm_io.specs.Told.{IsToldAs}
-use Rattle.e820_map.specs.Text.{page_text}
+use Rattle.e820_map.specs.Text.{zero_page_text}
 use Rattle.e820_map.specs.declared.failure.Failure.{Failure}
 use Rattle.e820_map.specs.declared.failure.Failure.TheVariants as failures
 
@@ -12,7 +12,7 @@ told (Some held) name bytes P is given = rw is given
 told None name bytes P is given = tt
 
 pub told_text : (holds : Option (List ℕ → Option (List ℕ))) (name bytes : List ℕ) (result : Result (Vec ℕ Global) Failure)
-    → IsToldAs holds name bytes → Answers failures.Memory (λ text. text.items) result (page_text bytes)
-    → IfOk result (λ text. IfSome holds (λ held. IfSome (held name) (λ bytes. page_text bytes ≡ Ok text.items)))
-told_text holds name bytes (Ok text) is answers = told holds name bytes (λ bytes. page_text bytes ≡ Ok text.items) is answers
+    → IsToldAs holds name bytes → Answers failures.Memory (λ text. text.items) result (zero_page_text bytes)
+    → IfOk result (λ text. IfSome holds (λ held. IfSome (held name) (λ bytes. zero_page_text bytes ≡ Ok text.items)))
+told_text holds name bytes (Ok text) is answers = told holds name bytes (λ bytes. zero_page_text bytes ≡ Ok text.items) is answers
 told_text holds name bytes (Err failure) is answers = tt

@@ -47,16 +47,16 @@ abbrev pub text_unless : Option ZeroFault → Result (List ℕ) Failure → Resu
 text_unless (Some fault) text = Err failures.NoZeroPage
 text_unless None text = text
 
-abbrev pub page_text : List ℕ → Result (List ℕ) Failure
-page_text bytes = text_unless (zero_fault bytes) (text_of_map (in_room (map_of (claims_of_page bytes))))
+abbrev pub zero_page_text : List ℕ → Result (List ℕ) Failure
+zero_page_text bytes = text_unless (zero_fault bytes) (text_of_map (in_room (map_of (claims_of_page bytes))))
 
 -- bytes that give no text, for this reason
 abbrev pub IsRefusedAs : Failure → List ℕ → Type 0
-IsRefusedAs failure bytes = page_text bytes ≡ Err failure
+IsRefusedAs failure bytes = zero_page_text bytes ≡ Err failure
 
 -- the output grew by the text of a page's map
 abbrev pub WritesPage : Option (List ℕ) → Option (List ℕ) → List ℕ → Type 0
-WritesPage old new bytes = (text : List ℕ) × (page_text bytes ≡ Ok text) × Appends old new text
+WritesPage old new bytes = (text : List ℕ) × (zero_page_text bytes ≡ Ok text) × Appends old new text
 
 -- the exit status of each way to end but for 0
 abbrev pub status_of : Failure → ℕ

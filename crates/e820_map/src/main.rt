@@ -2,7 +2,7 @@
 //! line changes it.
 //!
 //! It is the smallest use of the crates, for who wants to call them from a program of their own: one file is fetched
-//! ([`bm_io`]), its bytes are read and its entries settled ([`map::page_text`]), and the text of its map goes to the output.
+//! ([`bm_io`]), its bytes are read and its entries settled ([`map::zero_page_text`]), and the text of its map goes to the output.
 //! `make run` builds it, unproved, where `bootmem` isn't built: it is read and compiled in less than half of the time, and
 //! prints what `bootmem --report map ZEROPAGE` does.
 //!

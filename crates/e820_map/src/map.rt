@@ -7,7 +7,7 @@ ghost use Rattle.bm_io.specs.Counts.{Rose};
 ghost use Rattle.e820_model.specs.Claims.{EndInSpace, bios_trimmed, of_zero_page};
 ghost use Rattle.e820_model.specs.Map.{map_of};
 ghost use Rattle.e820_sanitise.specs.Room.{in_room};
-ghost use Rattle.e820_map.specs.Text.{page_text, IsRefusedAs, WritesPage};
+ghost use Rattle.e820_map.specs.Text.{zero_page_text, IsRefusedAs, WritesPage};
 
 use crate::failure::Failure;
 use bm_io::{Files, Sink};
@@ -47,7 +47,7 @@ pub fn print_map<F: Files, S: Sink>(
 /// The text of the map of the zero page in the file of that name.
 fn file_text<F: Files>(alloc: Global, name: &str, files: &mut F) -> Result<Vec<u8>, Failure>
     ensures text { IfOk result (λ text. IfSome (F.holds files.old) (λ held.
-        IfSome (held name.now) (λ bytes. page_text bytes ≡ Ok text.items))) }
+        IfSome (held name.now) (λ bytes. zero_page_text bytes ≡ Ok text.items))) }
     ensures no_page { IsErrOf result Failure.NoZeroPage
         → IfSome (F.holds files.old) (λ held. IfSome (held name.now) (IsRefusedAs Failure.NoZeroPage)) }
     ensures full { IsErrOf result Failure.MapFull
@@ -58,12 +58,12 @@ fn file_text<F: Files>(alloc: Global, name: &str, files: &mut F) -> Result<Vec<u
         → Rose (F.faults files.old name.now) (F.faults files.new name.now) }
 {
     let bytes = files.fetch(alloc, name, PAGE_BYTES)?;
-    page_text(alloc, &bytes)
+    zero_page_text(alloc, &bytes)
 }
 
 /// The text of the map of a zero page, a line for each run.
-pub fn page_text(alloc: Global, bytes: &[u8]) -> Result<Vec<u8>, Failure>
-    ensures answers { Answers Failure.Memory (λ text. text.items) result (page_text bytes.now) }
+pub fn zero_page_text(alloc: Global, bytes: &[u8]) -> Result<Vec<u8>, Failure>
+    ensures answers { Answers Failure.Memory (λ text. text.items) result (zero_page_text bytes.now) }
     ensures full { IsErrOf result Failure.MapFull → IsRefusedAs Failure.MapFull bytes.now }
     ensures no_page { IsErrOf result Failure.NoZeroPage → IsRefusedAs Failure.NoZeroPage bytes.now }
     ensures only { IfErr result (λ failure. (failure ≡ Failure.NoZeroPage) ⊎ (failure ≡ Failure.MapFull)

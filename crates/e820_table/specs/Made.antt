@@ -11,8 +11,8 @@ abbrev pub next_of : ℕ → ℕ
 next_of x = (1103515245 * x + 12345) % 2 ^ 31
 
 -- the frames of the entry of that number
-abbrev pub frames_of : ℕ → ℕ
-frames_of x = 1 + x / 65536 % 16
+abbrev pub frames_of_entry : ℕ → ℕ
+frames_of_entry x = 1 + x / 65536 % 16
 
 -- the first two entries
 abbrev pub low_ram : Entry
@@ -29,7 +29,7 @@ behind_ram = high_ram.addr + high_ram.size
 abbrev pub made_entry : ℕ → ℕ → ℕ → Entry
 made_entry index base x = record {
   addr = base;
-  size = FRAME_SIZE * frames_of x;
+  size = FRAME_SIZE * frames_of_entry x;
   kind = if index % 2 == 0 then E820_TYPE_RESERVED else E820_TYPE_RAM;
 }
 
@@ -37,7 +37,7 @@ made_entry index base x = record {
 unfoldable pub entries_behind : ℕ → ℕ → ℕ → ℕ → List Entry
 entries_behind zero index base x = []
 entries_behind (suc n) index base x =
-    made_entry index base (next_of x) ∷ entries_behind n (index + 1) (base + FRAME_SIZE * frames_of (next_of x)) (next_of x)
+    made_entry index base (next_of x) ∷ entries_behind n (index + 1) (base + FRAME_SIZE * frames_of_entry (next_of x)) (next_of x)
 
 -- the entries of the made input of that many: the generator begins with their number
 abbrev pub made_entries : ℕ → List Entry

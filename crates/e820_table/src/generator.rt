@@ -3,7 +3,7 @@
 
 ghost use Rattle.std.specs.Prelude.{◌≡◌, ℕ, ◌+◌, ◌*◌, ◌^◌, ◌<◌, ◌≤◌, [], ◌∷◌, ◌++◌, length, take, drop, min, None, IfOk, IsErr, OnOk};
 ghost use Rattle.e820_model.specs.Claims.{EndInSpace};
-ghost use Rattle.e820_table.specs.Made.{frames_of, made_entries, made_entry, next_of};
+ghost use Rattle.e820_table.specs.Made.{frames_of_entry, made_entries, made_entry, next_of};
 
 use crate::made_input::Made;
 use crate::zero_page::{ZERO_PAGE_ENTRIES, ZeroPage};

@@ -15,7 +15,7 @@ use Rattle.script_reader.specs.declared.fault.ScriptFault.{ScriptFault}
 use Rattle.script_reader.specs.Numbers.{Words, no_words, one_word, two_words, three_words, number, bounded, optional_number, power, some, range_at}
 use Rattle.script_reader.specs.Forms.{greatest_id, greatest_node, greatest_byte, greatest_len, greatest, alloc_words, alloc_line, reserve_line, free_line, trim_line, fill_line, peek_line, sections_line, by_name, is_comment, asked_by}
 use Rattle.script_reader.specs.Script.{fault_at, is_sections, seen_behind, asked, line_at, lines_from, script_of}
-use Rattle.early_script.specs.Acted.{IsRun}
+use Rattle.early_script.specs.Acted.{CanBeRun}
 use Rattle.early_script.specs.Stage.{PlaceOnce}
 use Rattle.early_script.proofs.StageLaws.{is_run, placed_here, placed_later}
 
@@ -121,7 +121,7 @@ asked-clean (name ∷ words) = comment-clean (is_comment name) _ (some-clean (by
 
 -- nor lines behind the one that did
 abbrev AreClean : Result (List Line) ScriptFault → Type 0
-AreClean (Ok lines) = All (λ l. IsRun l.act) lines
+AreClean (Ok lines) = All (λ l. CanBeRun l.act) lines
 AreClean (Err fault) = Unit {0}
 
 abbrev then_line : ℕ → Result (Option Act) Wrong → (Option Act → Result (List Line) ScriptFault) → Result (List Line) ScriptFault
@@ -131,7 +131,7 @@ line-clean : (number : ℕ) (r : Result (Option Act) Wrong) (rest : Result (List
     AreClean (then_line number r (λ act. rest))
 line-clean number (Ok None) (Ok lines) clean known = known
 line-clean number (Ok (Some a)) (Ok lines) clean known =
-    All-cons (λ l. IsRun l.act) (record { number = number; act = a }) lines (is_run a clean) known
+    All-cons (λ l. CanBeRun l.act) (record { number = number; act = a }) lines (is_run a clean) known
 line-clean number (Ok None) (Err fault) clean known = tt
 line-clean number (Ok (Some a)) (Err fault) clean known = tt
 line-clean number (Err w) rest clean known = tt
@@ -149,13 +149,13 @@ IsOnce (Err fault) = Unit {0}
 here-once : (number : ℕ) (a : Act) (rest : Result (List Line) ScriptFault) → is_sections a ≡ true → AreClean rest →
     IsOnce (rest >>= λ lines. Ok (cons_option (line_at number (Some a)) lines))
 here-once number a (Ok lines) here clean =
-    subst (λ (ls : List Line). All (λ l. IsRun l.act) ls) (sym (placed_here (record { number = number; act = a }) lines here).1) clean
+    subst (λ (ls : List Line). All (λ l. CanBeRun l.act) ls) (sym (placed_here (record { number = number; act = a }) lines here).1) clean
 here-once number a (Err fault) here clean = tt
 
 later-once : (number : ℕ) (a : Act) (rest : Result (List Line) ScriptFault) → is_sections a ≡ false → IsOnce rest →
     IsOnce (rest >>= λ lines. Ok (cons_option (line_at number (Some a)) lines))
 later-once number a (Ok lines) later once =
-    subst (λ (ls : List Line). All (λ l. IsRun l.act) ls) (sym (placed_later (record { number = number; act = a }) lines later).1) once
+    subst (λ (ls : List Line). All (λ l. CanBeRun l.act) ls) (sym (placed_later (record { number = number; act = a }) lines later).1) once
 later-once number a (Err fault) later once = tt
 
 none-once : (number : ℕ) (rest : Result (List Line) ScriptFault) → IsOnce rest → IsOnce (rest >>= λ lines. Ok (cons_option (line_at number None) lines))

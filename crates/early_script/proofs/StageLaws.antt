@@ -16,11 +16,11 @@ use Rattle.memblock_grow.specs.Contents.{Contents}
 use Rattle.early_script.specs.declared.outcome.Outcome.{Outcome}
 use Rattle.early_script.specs.declared.outcome.Answer.{Answer}
 use Rattle.early_script.specs.Ids.{Ids}
-use Rattle.early_script.specs.Acted.{State, IsRun, Deed, Acts, with_fill, deed, answer_of, state_after}
+use Rattle.early_script.specs.Acted.{State, CanBeRun, Deed, Acts, with_fill, deed, answer_of, state_after}
 use Rattle.early_script.specs.Found.{state_of, bytes_in}
-use Rattle.early_script.specs.Stage.{Stage, Reaches, deed_at, after_line, after_lines, before_sections, behind_sections}
+use Rattle.early_script.specs.Stage.{LineStage, Reaches, deed_at, after_line, after_lines, before_sections, behind_sections}
 
-pub after_lines-append : (s : Stage) (lines : List Line) (line : Line) → after_lines s (lines ++ line ∷ []) ≡ after_line (after_lines s
+pub after_lines-append : (s : LineStage) (lines : List Line) (line : Line) → after_lines s (lines ++ line ∷ []) ≡ after_line (after_lines s
     lines) line
 after_lines-append s [] line = refl
 after_lines-append s (l ∷ lines) line = after_lines-append (after_line s l) lines line
@@ -32,7 +32,7 @@ begun-append (i ∷ items) more begun = tt
 pub begun-along : (items more longer : List Item) → longer ≡ items ++ more → HasBegun items → HasBegun longer
 begun-along items more longer goes begun = subst (λ (is : List Item). HasBegun is) (sym goes) (begun-append items more begun)
 
-pub reaches-line : (s : Stage) (ids after_ids : Ids) (m next : Contents) (answers : List Answer) (line : Line) (outcome : Outcome) →
+pub reaches-line : (s : LineStage) (ids after_ids : Ids) (m next : Contents) (answers : List Answer) (line : Line) (outcome : Outcome) →
     Reaches s ids m answers →
     Acts (Ok outcome) (state_of ids m) (state_of after_ids next) (deed (state_of ids m) (bytes_in m) line.act) →
     ((fills : List Filled) → Holds m.kernel m.journal.items fills (bytes_in m) →
@@ -71,7 +71,7 @@ placed_later line lines later = (
   ap (λ (t : Bool). if t then lines else behind_sections lines) later,
 )
 
-pub is_run : (a : Act) → is_sections a ≡ false → IsRun a
+pub is_run : (a : Act) → is_sections a ≡ false → CanBeRun a
 is_run (acts.Alloc id request) no_sections = tt
 is_run (acts.Reserve id range) no_sections = tt
 is_run (acts.Free id) no_sections = tt
@@ -80,14 +80,14 @@ is_run (acts.Fill id byte) no_sections = tt
 is_run (acts.Peek at len) no_sections = tt
 is_run acts.Sections no_sections = true≢false no_sections
 
-pub all-before : (lines : List Line) → All (λ l. IsRun l.act) (before_sections lines)
+pub all-before : (lines : List Line) → All (λ l. CanBeRun l.act) (before_sections lines)
 all-before [] = λ k d less. absurd (omega arith)
 all-before (line ∷ lines) =
-    elim (cases_Bool (is_sections line.act)) as (λ _. All (λ l. IsRun l.act) (before_sections (line ∷ lines))) [
-      | inl here ↦ subst (λ (ls : List Line). All (λ l. IsRun l.act) ls) (sym (placed_here line lines here).0)
+    elim (cases_Bool (is_sections line.act)) as (λ _. All (λ l. CanBeRun l.act) (before_sections (line ∷ lines))) [
+      | inl here ↦ subst (λ (ls : List Line). All (λ l. CanBeRun l.act) ls) (sym (placed_here line lines here).0)
           (λ k d less. absurd (omega arith))
-      | inr later ↦ subst (λ (ls : List Line). All (λ l. IsRun l.act) ls) (sym (placed_later line lines later).0)
-          (All-cons (λ l. IsRun l.act) line (before_sections lines) (is_run line.act later) (all-before lines))
+      | inr later ↦ subst (λ (ls : List Line). All (λ l. CanBeRun l.act) ls) (sym (placed_later line lines later).0)
+          (All-cons (λ l. CanBeRun l.act) line (before_sections lines) (is_run line.act later) (all-before lines))
     ]
 
 drop_more : (lines : List Line) (i : ℕ) (line : Line) → i < length lines → line ≡ get_or lines i line →

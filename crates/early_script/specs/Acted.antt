@@ -179,6 +179,6 @@ fills_by (Ok answer) d fills = with_fill fills d.fill
 fills_by (Err memory) d fills = fills
 
 -- a line can be run: it doesn't place the sections
-abbrev pub IsRun : Act → Type 0
-IsRun acts.Sections = ⊥
-IsRun a = Unit {0}
+abbrev pub CanBeRun : Act → Type 0
+CanBeRun acts.Sections = ⊥
+CanBeRun a = Unit {0}

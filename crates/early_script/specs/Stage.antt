@@ -8,64 +8,64 @@ use Rattle.growth_model.specs.Bytes.{Filled, byte, Holds}
 use Rattle.memblock_grow.specs.Contents.{Contents}
 use Rattle.early_script.specs.declared.outcome.Answer.{Answer}
 use Rattle.early_script.specs.Ids.{Ids}
-use Rattle.early_script.specs.Acted.{State, Deed, IsAmid, IsRun, with_fill, deed, answer_of, state_after}
+use Rattle.early_script.specs.Acted.{State, Deed, IsAmid, CanBeRun, with_fill, deed, answer_of, state_after}
 use Rattle.early_script.specs.Found.{state_of, bytes_in}
 
 -- what stands before a line: the state, the fills so far, and the answers so far
-pub record Stage : Type 0 where
+pub record LineStage : Type 0 where
   pub state : State
   pub fills : List Filled
   pub answers : List Answer
 
 -- the deed of a line: it finds at each address the byte of the items and the fills
-abbrev pub deed_at : Stage → Line → Deed
+abbrev pub deed_at : LineStage → Line → Deed
 deed_at s line = deed s.state (byte s.state.kernel s.state.items s.fills) line.act
 
-abbrev pub stage_by : Stage → ℕ → Deed → Stage
+abbrev pub stage_by : LineStage → ℕ → Deed → LineStage
 stage_by s number d = record {
   state = state_after s.state d;
   fills = with_fill s.fills d.fill;
   answers = s.answers ++ record { line = number; outcome = answer_of s.state d } ∷ [];
 }
 
-abbrev pub after_line : Stage → Line → Stage
+abbrev pub after_line : LineStage → Line → LineStage
 after_line s line = stage_by s line.number (deed_at s line)
 
 -- lines in their order
-abbrev pub after_lines : Stage → List Line → Stage
+abbrev pub after_lines : LineStage → List Line → LineStage
 after_lines s [] = s
 after_lines s (line ∷ lines) = after_lines (after_line s line) lines
 
 -- where lines begin: beside memblock, after these fills, with these answers
-abbrev pub stage_of : Ids → Contents → List Filled → List Answer → Stage
+abbrev pub stage_of : Ids → Contents → List Filled → List Answer → LineStage
 stage_of ids m fills answers = record { state = state_of ids m; fills = fills; answers = answers }
 
 -- live IDs, memblock and answers are those of the stage, and each byte is that of its items and fills
-pub record Reaches (s : Stage) (ids : Ids) (m : Contents) (answers : List Answer) : Type 0 where
+pub record Reaches (s : LineStage) (ids : Ids) (m : Contents) (answers : List Answer) : Type 0 where
   pub state : state_of ids m ≡ s.state
   pub answers_are : answers ≡ s.answers
   pub holds : Holds m.kernel m.journal.items s.fills (bytes_in m)
 
 -- the program's own memory ran out amid the line: some steps of its change stand, and nothing else of it
-pub record EndsAmid (s : Stage) (line : Line) (ids : Ids) (m : Contents) : Type 0 where
+pub record EndsAmid (s : LineStage) (line : Line) (ids : Ids) (m : Contents) : Type 0 where
   pub amid : IsAmid s.state (state_of ids m) (deed_at s line)
   pub holds : Holds m.kernel m.journal.items s.fills (bytes_in m)
 
 -- or behind it, so that its answer alone isn't kept
-pub record EndsBehind (s : Stage) (line : Line) (ids : Ids) (m : Contents) : Type 0 where
+pub record EndsUnanswered (s : LineStage) (line : Line) (ids : Ids) (m : Contents) : Type 0 where
   pub state : state_of ids m ≡ (after_line s line).state
   pub holds : Holds m.kernel m.journal.items (after_line s line).fills (bytes_in m)
 
 -- where it ran out: so many lines have been run and answered, and the program's own memory ran out amid the next or behind it
-pub record RunsOut (s : Stage) (lines : List Line) (ids : Ids) (m : Contents) (answers : List Answer) : Type 0 where
+pub record RunsOut (s : LineStage) (lines : List Line) (ids : Ids) (m : Contents) (answers : List Answer) : Type 0 where
   pub count : ℕ
   pub line : Line
   pub next : take (count + 1) lines ≡ take count lines ++ line ∷ []
   pub answers_are : answers ≡ (after_lines s (take count lines)).answers
-  pub ends : EndsAmid (after_lines s (take count lines)) line ids m ⊎ EndsBehind (after_lines s (take count lines)) line ids m
+  pub ends : EndsAmid (after_lines s (take count lines)) line ids m ⊎ EndsUnanswered (after_lines s (take count lines)) line ids m
 
 -- the first list goes on to the second, and that to the third
-pub record IsBetween (first second third : List Item) : Type 0 where
+pub record GoesThrough (first second third : List Item) : Type 0 where
   pub more : List Item
   pub rest : List Item
   pub goes_on : second ≡ first ++ more
@@ -82,4 +82,4 @@ behind_sections (line ∷ lines) = if is_sections line.act then lines else behin
 
 -- no second line places the sections
 abbrev pub PlaceOnce : List Line → Type 0
-PlaceOnce lines = All (λ line. IsRun line.act) (behind_sections lines)
+PlaceOnce lines = All (λ line. CanBeRun line.act) (behind_sections lines)

@@ -39,7 +39,7 @@ impl Model for Live {
 
 impl Live {
     ghost use Rattle.early_script.specs.Ids.{is_live as has_range, with_range};
-    ghost use Rattle.early_script.specs.Acted.{Deed as AnyDeed, Acts, IsRun, OnlyAnswers, byte_by, fills_by, answers, on_whole, deed, alloc_deed, reserve_deed, free_deed, trim_deed, fill_deed};
+    ghost use Rattle.early_script.specs.Acted.{Deed as AnyDeed, Acts, CanBeRun, OnlyAnswers, byte_by, fills_by, answers, on_whole, deed, alloc_deed, reserve_deed, free_deed, trim_deed, fill_deed};
     ghost use Rattle.early_script.specs.Found.{state_of, bytes_in};
 
     /// No ID is live.
@@ -55,7 +55,7 @@ impl Live {
     /// only answers takes no memory.
     pub fn run_line(&mut self, mb: &mut Memblock, line: &Line) -> Result<Outcome, Memory>
         requires begun { HasBegun mb.old.journal.items }
-        requires run { IsRun line.now.act }
+        requires run { CanBeRun line.now.act }
         requires bounds { HasBounds line.now.act }
         ensures acts { Acts result (state_of self.old mb.old) (state_of self.new mb.new)
             (deed (state_of self.old mb.old) (bytes_in mb.old) line.now.act) }

@@ -7,9 +7,9 @@ ghost use Rattle.script_reader.specs.Forms.{HasBounds};
 ghost use Rattle.growth_model.specs.Sound.{HasBegun};
 ghost use Rattle.growth_model.specs.Bytes.{Filled, Holds};
 ghost use Rattle.memblock_grow.specs.Kept.{StayReady};
-ghost use Rattle.early_script.specs.Acted.{IsRun};
+ghost use Rattle.early_script.specs.Acted.{CanBeRun};
 ghost use Rattle.early_script.specs.Found.{bytes_in};
-ghost use Rattle.early_script.specs.Stage.{IsBetween, Reaches, RunsOut, PlaceOnce, stage_of, after_lines, before_sections, behind_sections};
+ghost use Rattle.early_script.specs.Stage.{GoesThrough, Reaches, RunsOut, PlaceOnce, stage_of, after_lines, before_sections, behind_sections};
 
 use crate::live::Live;
 use crate::outcome::Answer;
@@ -27,14 +27,14 @@ pub fn run_lines(
     answers: &mut Vec<Answer>,
 ) -> Result<(), Memory>
     requires begun { HasBegun mb.old.journal.items }
-    requires run { All (λ l. IsRun l.act) lines.now }
+    requires run { All (λ l. CanBeRun l.act) lines.now }
     requires bounds { All (λ l. HasBounds l.act) lines.now }
     ensures ok { OnOk result ((fills : List Filled) → Holds mb.old.kernel mb.old.journal.items fills (bytes_in mb.old) →
         Reaches (after_lines (stage_of live.old mb.old fills answers.old.items) lines.now) live.new mb.new answers.new.items) }
     ensures memory { OnErr result ((fills : List Filled) → Holds mb.old.kernel mb.old.journal.items fills (bytes_in mb.old) →
         RunsOut (stage_of live.old mb.old fills answers.old.items) lines.now live.new mb.new answers.new.items) }
     ensures journal { (fills : List Filled) → Holds mb.old.kernel mb.old.journal.items fills (bytes_in mb.old) →
-        IsBetween mb.old.journal.items mb.new.journal.items
+        GoesThrough mb.old.journal.items mb.new.journal.items
         (after_lines (stage_of live.old mb.old fills answers.old.items) lines.now).state.items }
     ensures kernel { mb.new.kernel ≡ mb.old.kernel }
     ensures begun { HasBegun mb.new.journal.items }
@@ -56,7 +56,7 @@ pub fn split_at_sections(lines: &[Line]) -> (&[Line], &[Line])
     requires bounds { All (λ l. HasBounds l.act) lines.now }
     ensures before { result.0.now ≡ before_sections lines.now }
     ensures behind { result.1.now ≡ behind_sections lines.now }
-    ensures run { All (λ l. IsRun l.act) result.0.now × All (λ l. IsRun l.act) result.1.now }
+    ensures run { All (λ l. CanBeRun l.act) result.0.now × All (λ l. CanBeRun l.act) result.1.now }
     ensures bounds { All (λ l. HasBounds l.act) result.0.now × All (λ l. HasBounds l.act) result.1.now }
 {
     for (i, line) in lines.iter().enumerate() {

@@ -17,7 +17,7 @@ use Rattle.frame_blocks.specs.Frames.{Frames}
 use Rattle.frame_blocks.specs.Listed.{block_of, block_for, led_by_block, blocks_from, blocks_of, order_up_to, same_zone, is_of, count_of}
 use Rattle.frame_blocks.specs.declared.run.TheConstants.{MAX_FRAMES}
 use Rattle.frame_blocks.specs.Rows.{row_from}
-use Rattle.frame_blocks.specs.Sets.{IsRun, Fits, IsGreatest, IsStart}
+use Rattle.frame_blocks.specs.Sets.{IsRun, SetFits, IsGreatest, IsStart}
 use Rattle.frame_blocks.proofs.ListLaws.{from-few}
 use Rattle.frame_blocks.proofs.RunLaws.{start_next, start_at_ten}
 use Rattle.frame_blocks.proofs.RowLaws.{row_more}
@@ -65,7 +65,7 @@ row_count (suc k) n o at order z wanted =
     ∙ ap (λ a. v + a) (row_count k n o (at + 2 ^ o) order z wanted) ∙ total
 
 pub alike_more : (f : Frames) (first end n o s at k order : ℕ) (wanted : Zone) → IsRun f first end n → first ≤ at → 0 < k → at + k * s ≤ end
-    → o ≤ 10 → s ≡ 2 ^ o → at % s ≡ 0 → Fits first end at s → IsGreatest first end at o → ((o ≡ 10) ⊎ (k ≡ 1))
+    → o ≤ 10 → s ≡ 2 ^ o → at % s ≡ 0 → SetFits first end at s → IsGreatest first end at o → ((o ≡ 10) ⊎ (k ≡ 1))
     → ((i : ℕ) → i < k → zone_of (at + i * s) ≡ zone_of at)
     → count_by (is_of n wanted order) (blocks_from f first (at + k * s - first))
     ≡ count_by (is_of n wanted order) (blocks_from f first (at - first)) + k * if_alike o (zone_of at) order wanted

@@ -15,7 +15,7 @@ use Rattle.frame_blocks.specs.declared.block.BlockRow.{BlockRow}
 use Rattle.frame_blocks.specs.Frames.{Frames, IsInSet, AreFree, IsGood, IsBlock, IsInBlock}
 use Rattle.frame_blocks.specs.Listed.{is_node, set_around, are_free, order_up_to, block_around, block_for, block_of, led_by_block, blocks_from, blocks_of, same_zone, is_of, Lists, AscendFrom}
 use Rattle.frame_blocks.specs.Rows.{row_end, CouldBeOne, AreRows}
-use Rattle.frame_blocks.specs.Sets.{IsRun, Fits, IsStart, OfLast, EndsFree}
+use Rattle.frame_blocks.specs.Sets.{IsRun, SetFits, IsStart, OfLast, EndsFree}
 use Rattle.frame_blocks.specs.declared.run.TheConstants.{MAX_FRAMES}
 use Rattle.frame_blocks.specs.Buddies.{without_set, with_set, IsWithout, other_half, buddy_first, buddy_in, IsBuddy}
 use Rattle.frame_blocks.specs.Picked.{Serves, IsPicked, NoneServes, picked_up, picked, first_picked}
@@ -118,7 +118,7 @@ pair_is_run = record {
   behind = λ same. cc same;
 }
 
-fit_examples : Fits 4 6 5 2 × (Fits 4 6 5 4 → ⊥)
+fit_examples : SetFits 4 6 5 2 × (SetFits 4 6 5 4 → ⊥)
 fit_examples = (record { above = omega arith; below = omega arith }, λ fits. let low = fits.below in absurd (omega (arith, low)))
 
 start_example : IsStart 4 6 4

@@ -6,7 +6,7 @@ use Rattle.bm_base.specs.Zones.{zone_of}
 use Rattle.frame_blocks.specs.declared.block.BlockRow.{BlockRow}
 use Rattle.frame_blocks.specs.Frames.{Frames}
 use Rattle.frame_blocks.specs.Rows.{row_end, CouldBeOne, AreRows}
-use Rattle.frame_blocks.specs.Sets.{IsRun, Fits, OfLast, EndsFree}
+use Rattle.frame_blocks.specs.Sets.{IsRun, SetFits, OfLast, EndsFree}
 
 -- no row of the node that begins at the frame, in frames up to the end, goes on with the row
 abbrev pub EndsAt : ℕ → ℕ → ℕ → BlockRow → Type 0
@@ -49,7 +49,7 @@ some_frames (suc k) s some size = let h = suc-mul k s in omega (arith, h, size)
 -- the blocks that follow one another from here on are one row more
 pub long_more : (f : Frames) (first end n o s at k : ℕ) (rs new : List BlockRow)
     → new ≡ rs ++ record { order = o; first = at; count = k; node = n; zone = zone_of at } ∷ []
-    → IsRun f first end n → first ≤ at → 0 < k → at + k * s ≤ end → s ≡ 2 ^ o → at % s ≡ 0 → Fits first end at s
+    → IsRun f first end n → first ≤ at → 0 < k → at + k * s ≤ end → s ≡ 2 ^ o → at % s ≡ 0 → SetFits first end at s
     → ((o ≡ 10) ⊎ (k ≡ 1)) → (o ≡ 10 → (end < at + (k + 1) * s) ⊎ (zone_of (at + k * s) ≢ zone_of at))
     → OfLast (EndsFree f) rs × OfLast (EndsAt at end n) rs × AreRows rs
     → OfLast (EndsFree f) new × OfLast (EndsAt (at + k * s) end n) new × AreRows new

@@ -12,7 +12,7 @@ use Rattle.frame_blocks.specs.declared.block.Block.{Block}
 use Rattle.frame_blocks.specs.Frames.{Frames}
 use Rattle.frame_blocks.specs.Listed.{block_of, block_for, block_around, blocks_from, blocks_of}
 use Rattle.frame_blocks.specs.declared.run.TheConstants.{MAX_FRAMES}
-use Rattle.frame_blocks.specs.Sets.{IsRun, Fits, IsGreatest}
+use Rattle.frame_blocks.specs.Sets.{IsRun, SetFits, IsGreatest}
 use Rattle.frame_blocks.proofs.ListLaws.{from-append, from-none, not_first-bare}
 use Rattle.frame_blocks.proofs.RunLaws.{found}
 
@@ -84,7 +84,7 @@ begins_later rs i x d few rest later =
     sym (ap (block_for (value_at rs) x) none)
 
 pub found_block : (rs : List (RunOf ℕ)) (i x o s : ℕ) (d : RunOf ℕ) → AreRuns rs → i < length rs → (get_or rs i d).base ≤ x
-    → x < run_end (get_or rs i d) → o ≤ 10 → s ≡ 2 ^ o → Fits (get_or rs i d).base (run_end (get_or rs i d)) x s
+    → x < run_end (get_or rs i d) → o ≤ 10 → s ≡ 2 ^ o → SetFits (get_or rs i d).base (run_end (get_or rs i d)) x s
     → IsGreatest (get_or rs i d).base (run_end (get_or rs i d)) x o
     → Some (record { order = o; first = x - x % s; node = (get_or rs i d).value; zone = zone_of (x - x % s) }) ≡ block_of (value_at rs) x
 found_block rs i x o s d runs few above below small size fits greatest =
@@ -92,7 +92,7 @@ found_block rs i x o s d runs few above below small size fits greatest =
     let run : IsRun (value_at rs) r.base (run_end r) r.value = run_of_list rs i d runs few in
     let is : value_at rs x ≡ Some r.value = run.inside x above below in
     let order = found (value_at rs) r.base (run_end r) r.value o x run above below small
-    (subst (λ (t : ℕ). Fits r.base (run_end r) x t) size fits) greatest in
+    (subst (λ (t : ℕ). SetFits r.base (run_end r) x t) size fits) greatest in
     sym (ap (block_for (value_at rs) x) is ∙ ap (λ p. Some (block_around p x r.value)) order
     ∙ ap (λ t. let made : Block = record { order = o; first = x - x % t; node = r.value; zone = zone_of (x - x % t) } in Some made)
     (sym size))
@@ -161,10 +161,10 @@ listed_none f rs i all = at_drop_all (listed f) rs i all
 
 -- the same of the run as code holds it
 pub found_at : (rs : List (RunOf ℕ)) (i x o s : ℕ) (d r : RunOf ℕ) → r ≡ get_or rs i d → AreRuns rs → i < length rs → r.base ≤ x
-    → IsRestFrom (value_at rs) x (drop i rs) → o ≤ 10 → s ≡ 2 ^ o → Fits r.base (run_end r) x s → IsGreatest r.base (run_end r) x o
+    → IsRestFrom (value_at rs) x (drop i rs) → o ≤ 10 → s ≡ 2 ^ o → SetFits r.base (run_end r) x s → IsGreatest r.base (run_end r) x o
     → Some (record { order = o; first = x - x % s; node = r.value; zone = zone_of (x - x % s) }) ≡ block_of (value_at rs) x
 found_at rs i x o s d r is runs few above rest small size fits greatest =
-    let Found : RunOf ℕ → Type 0 = λ q. q.base ≤ x → Fits q.base (run_end q) x s → IsGreatest q.base (run_end q) x o
+    let Found : RunOf ℕ → Type 0 = λ q. q.base ≤ x → SetFits q.base (run_end q) x s → IsGreatest q.base (run_end q) x o
     → Some (record { order = o; first = x - x % s; node = q.value; zone = zone_of (x - x % s) }) ≡ block_of (value_at rs) x in
     let there : Found (get_or rs i d) = λ above_too fits_too greatest_too.
     found_block rs i x o s d runs few above_too (looked_up rs i x d few rest) small size fits_too greatest_too in

@@ -10,7 +10,7 @@ use Rattle.frame_blocks.specs.declared.block.BlockRow.{BlockRow}
 use Rattle.frame_blocks.specs.Frames.{Frames}
 use Rattle.frame_blocks.specs.Listed.{blocks_from, order_up_to}
 use Rattle.frame_blocks.specs.Rows.{row_from, blocks_of_row, blocks_of_rows}
-use Rattle.frame_blocks.specs.Sets.{IsRun, Fits, IsGreatest}
+use Rattle.frame_blocks.specs.Sets.{IsRun, SetFits, IsGreatest}
 use Rattle.frame_blocks.proofs.GoodLaws.{up_is}
 use Rattle.frame_blocks.proofs.ListLaws.{from-append, from-block}
 use Rattle.frame_blocks.proofs.RunLaws.{found, free_inside}
@@ -48,7 +48,7 @@ row_is (suc k) f n o s at z small size whole free found zones =
 
 -- the blocks of a stretch that lies in a run: the first by the greatest set, those behind it by the greatest order
 in_a_row : (f : Frames) (first end n o s at k : ℕ) → IsRun f first end n → first ≤ at → 0 < k → at + k * s ≤ end → o ≤ 10 → s ≡ 2 ^ o
-    → at % s ≡ 0 → Fits first end at s → IsGreatest first end at o → ((o ≡ 10) ⊎ (k ≡ 1)) → (i : ℕ) → i < k
+    → at % s ≡ 0 → SetFits first end at s → IsGreatest first end at o → ((o ≡ 10) ⊎ (k ≡ 1)) → (i : ℕ) → i < k
     → (f (at + i * s) ≡ Some n) × (order_up_to f (at + i * s) n 10 ≡ o)
 in_a_row f first end n o s at k run above some room small size whole fits greatest (inr one) i lt =
     let start : at + i * s ≡ at = let zeroth : i ≡ 0 = omega arith in ap (λ j. at + j * s) zeroth ∙ omega arith in
@@ -56,7 +56,7 @@ in_a_row f first end n o s at k run above some room small size whole fits greate
     let inner : at < end = let h = suc-mul 0 s in let all = ap (λ j. j * s) one in omega (arith, room, all, h, positive) in (
       ap f start ∙ run.inside at above inner,
       ap (λ x. order_up_to f x n 10) start
-          ∙ found f first end n o at run above inner small (subst (λ (t : ℕ). Fits first end at t) size fits) greatest,
+          ∙ found f first end n o at run above inner small (subst (λ (t : ℕ). SetFits first end at t) size fits) greatest,
     )
 in_a_row f first end n o s at k run above some room small size whole fits greatest (inl ten) i lt =
     let s_is : s ≡ 1024 = size ∙ ap (λ p. 2 ^ p) ten in
@@ -67,7 +67,7 @@ in_a_row f first end n o s at k run above some room small size whole fits greate
     let at_whole : at % 1024 ≡ 0 = subst (λ (t : ℕ). at % t ≡ 0) s_is whole in
     let x_whole : x % 1024 ≡ 0 = ap (λ y. y % 1024) here ∙ add-mul-mod_self_right at i 1024 ∙ at_whole in
     let is : f x ≡ Some n = run.inside x (omega arith) (omega (arith, fits_here)) in
-    let fits_ten : Fits first end x (2 ^ 10) = record {
+    let fits_ten : SetFits first end x (2 ^ 10) = record {
       above = omega (arith, x_whole, above);
       below = omega
           (arith, x_whole, fits_here);
@@ -77,7 +77,7 @@ in_a_row f first end n o s at k run above some room small size whole fits greate
     )
 
 pub row_more : (f : Frames) (first end n o s at k : ℕ) → IsRun f first end n → first ≤ at → 0 < k → at + k * s ≤ end
-    → o ≤ 10 → s ≡ 2 ^ o → at % s ≡ 0 → Fits first end at s → IsGreatest first end at o → ((o ≡ 10) ⊎ (k ≡ 1))
+    → o ≤ 10 → s ≡ 2 ^ o → at % s ≡ 0 → SetFits first end at s → IsGreatest first end at o → ((o ≡ 10) ⊎ (k ≡ 1))
     → ((i : ℕ) → i < k → zone_of (at + i * s) ≡ zone_of at)
     → blocks_from f first (at + k * s - first) ≡ blocks_from f first (at - first) ++ row_from o at n (zone_of at) k
 row_more f first end n o s at k run above some room small size whole fits greatest single zones =

@@ -8,13 +8,13 @@ use Rattle.bm_base.specs.Zones.{zone_of}
 use Rattle.frame_blocks.specs.declared.block.Block.{Block}
 use Rattle.frame_blocks.specs.Frames.{Frames, AreFree}
 use Rattle.frame_blocks.specs.Listed.{order_up_to, blocks_from}
-use Rattle.frame_blocks.specs.Sets.{IsRun, Fits, IsGreatest, IsStart}
+use Rattle.frame_blocks.specs.Sets.{IsRun, SetFits, IsGreatest, IsStart}
 use Rattle.frame_blocks.proofs.SetLaws.{base_is, base_whole, in_set, set_from, set_until, multiple, apart}
 use Rattle.frame_blocks.proofs.GoodLaws.{up_is}
 use Rattle.frame_blocks.proofs.ListLaws.{from-append, from-none, from-block}
 
 -- a set in a run is free
-pub free_inside : (f : Frames) (first end n o x : ℕ) → IsRun f first end n → Fits first end x (2 ^ o) → AreFree f o x n
+pub free_inside : (f : Frames) (first end n o x : ℕ) → IsRun f first end n → SetFits first end x (2 ^ o) → AreFree f o x n
 free_inside f first end n o x run fits y same =
     let from = set_from (2 ^ o) x y same in
     let until = set_until (2 ^ o) x y (pow_pos o) same in
@@ -22,7 +22,7 @@ free_inside f first end n o x run fits y same =
 
 -- and a set around a frame of the run that is free lies in it
 pub inside_free : (f : Frames) (first end n o x : ℕ) → IsRun f first end n → first ≤ x → x < end → AreFree f o x n
-    → Fits first end x (2 ^ o)
+    → SetFits first end x (2 ^ o)
 inside_free f first end n o x run above below free =
     let small : x % 2 ^ o < 2 ^ o = mod-lt x (pow_pos o) in
     record {
@@ -39,7 +39,7 @@ inside_free f first end n o x run above below free =
     }
 
 -- so the greatest set that fits is the one that is found
-pub found : (f : Frames) (first end n o x : ℕ) → IsRun f first end n → first ≤ x → x < end → o ≤ 10 → Fits first end x (2 ^ o)
+pub found : (f : Frames) (first end n o x : ℕ) → IsRun f first end n → first ≤ x → x < end → o ≤ 10 → SetFits first end x (2 ^ o)
     → IsGreatest first end x o → order_up_to f x n 10 ≡ o
 found f first end n o x run above below small fits greatest =
     up_is f x n 10 o (run.inside x above below) small (free_inside f first end n o x run fits)
@@ -47,11 +47,11 @@ found f first end n o x run above below small fits greatest =
 
 -- the blocks up to here, and the one that begins here
 pub one_more : (f : Frames) (first end n o at s : ℕ) → IsRun f first end n → first ≤ at → at < end → o ≤ 10 → s ≡ 2 ^ o
-    → Fits first end at s → IsGreatest first end at o → at % s ≡ 0
+    → SetFits first end at s → IsGreatest first end at o → at % s ≡ 0
     → blocks_from f first (at + s - first) ≡ blocks_from f first
     (at - first) ++ record { order = o; first = at; node = n; zone = zone_of at } ∷ []
 one_more f first end n o at s run above below small size fits greatest whole =
-    let sized : Fits first end at (2 ^ o) = subst (λ (t : ℕ). Fits first end at t) size fits in
+    let sized : SetFits first end at (2 ^ o) = subst (λ (t : ℕ). SetFits first end at t) size fits in
     let start : at % 2 ^ o ≡ 0 = subst (λ (t : ℕ). at % t ≡ 0) size whole in
     let is = found f first end n o at run above below small sized greatest in
     let length_is : at + s - first ≡ (at - first) + 2 ^ o = omega (arith, size) in
@@ -65,9 +65,9 @@ pub start_first : (first end : ℕ) → IsStart first end first
 start_first first end o small fits = let low = fits.above in omega (arith, low)
 
 -- a block's greatest set begins at the block's first frame
-pub start_whole : (first end at o s : ℕ) → IsStart first end at → o ≤ 10 → s ≡ 2 ^ o → Fits first end at s → at % s ≡ 0
+pub start_whole : (first end at o s : ℕ) → IsStart first end at → o ≤ 10 → s ≡ 2 ^ o → SetFits first end at s → at % s ≡ 0
 start_whole first end at o s start small size fits =
-    subst (λ (t : ℕ). at % t ≡ 0) (sym size) (start o small (subst (λ (t : ℕ). Fits first end at t) size fits))
+    subst (λ (t : ℕ). at % t ≡ 0) (sym size) (start o small (subst (λ (t : ℕ). SetFits first end at t) size fits))
 
 -- and behind it the next one begins
 pub start_next : (first end at o s : ℕ) → at % s ≡ 0 → o ≤ 10 → s ≡ 2 ^ o → IsGreatest first end at o → IsStart first end (at + s)
@@ -94,7 +94,7 @@ start_next first end at o s whole few size greatest p small fits =
     ]
 
 -- a set that doesn't fit isn't the one of a single frame, and none of its size or greater fits
-pub step_down : (first end x o s : ℕ) → s ≡ 2 ^ o → first ≤ x → x < end → (Fits first end x s → ⊥) → IsGreatest first end x o
+pub step_down : (first end x o s : ℕ) → s ≡ 2 ^ o → first ≤ x → x < end → (SetFits first end x s → ⊥) → IsGreatest first end x o
     → (0 < o) × (s / 2 ≡ 2 ^ (o - 1)) × IsGreatest first end x (o - 1)
 step_down first end x zero s size above below fails greatest =
     let one : s ≡ 1 = size in
@@ -110,7 +110,7 @@ step_down first end x (suc o) s size above below fails greatest =
         | inl more ↦ greatest p more small fits
         | inr le ↦
             let same : 2 ^ p ≡ s = ap (λ q. 2 ^ q) (let here : p ≡ suc o = omega (arith, lt, less) in here) ∙ sym size in
-            fails (subst (λ (t : ℕ). Fits first end x t) same fits)
+            fails (subst (λ (t : ℕ). SetFits first end x t) same fits)
       ],
     )
 

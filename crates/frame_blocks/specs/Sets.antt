@@ -11,17 +11,17 @@ pub record IsRun (f : Frames) (first end n : ℕ) : Type 0 where
   pub behind : f end ≢ Some n
 
 -- the aligned set of s frames around the frame lies between both ends
-pub record Fits (first end frame s : ℕ) : Type 0 where
+pub record SetFits (first end frame s : ℕ) : Type 0 where
   pub above : first ≤ frame - frame % s
   pub below : frame - frame % s + s ≤ end
 
 -- no greater set does
 abbrev pub IsGreatest : ℕ → ℕ → ℕ → ℕ → Type 0
-IsGreatest first end frame order = (o : ℕ) → order < o → o ≤ 10 → Fits first end frame (2 ^ o) → ⊥
+IsGreatest first end frame order = (o : ℕ) → order < o → o ≤ 10 → SetFits first end frame (2 ^ o) → ⊥
 
 -- each set around the frame that lies between both ends begins at the frame
 abbrev pub IsStart : ℕ → ℕ → ℕ → Type 0
-IsStart first end at = (o : ℕ) → o ≤ 10 → Fits first end at (2 ^ o) → at % 2 ^ o ≡ 0
+IsStart first end at = (o : ℕ) → o ≤ 10 → SetFits first end at (2 ^ o) → at % 2 ^ o ≡ 0
 
 -- this holds of the last row of the list, if there is one
 abbrev pub OfLast : (BlockRow → Type 0) → List BlockRow → Type 0

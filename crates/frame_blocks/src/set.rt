@@ -2,7 +2,7 @@
 //! the frame is, since a set is good exactly where it lies in one run.
 
 ghost use Rattle.std.specs.Prelude.{◌≡◌, ◌^◌, ◌<◌, ◌≤◌, ◌↔◌, IsTrue};
-ghost use Rattle.frame_blocks.specs.Sets.{Fits, IsGreatest};
+ghost use Rattle.frame_blocks.specs.Sets.{SetFits, IsGreatest};
 
 use crate::block::MAX_ORDER;
 
@@ -21,7 +21,7 @@ pub struct Set {
 fn fits(first: u64, end: u64, frame: u64, size: u64) -> bool
     requires some { 0 < size }
     requires below { frame < end }
-    ensures { IsTrue result ↔ Fits first end frame size }
+    ensures { IsTrue result ↔ SetFits first end frame size }
 {
     let base = frame - frame % size;
     first <= base && size <= end - base
@@ -34,7 +34,7 @@ pub fn set_within(first: u64, end: u64, frame: u64) -> Set
     requires below { frame < end }
     ensures small { result.order ≤ 10 }
     ensures size { result.size ≡ 2 ^ result.order }
-    ensures fits { Fits first end frame result.size }
+    ensures fits { SetFits first end frame result.size }
     ensures greatest { IsGreatest first end frame result.order }
 {
     let mut order = MAX_ORDER;

@@ -15,7 +15,7 @@ use Rattle.frame_blocks.specs.Buddies.{IsWithout, buddy_in, IsBuddy}
 use Rattle.frame_blocks.proofs.SetLaws.{set_until}
 use Rattle.frame_blocks.proofs.BlockLaws.{found_block, block_found, listed_sound, listed_complete}
 use Rattle.frame_blocks.proofs.BuddyLaws.{in_set_or_not, others_stay, others_were, left_is_block, rest_is_left, buddy_inside, one_at}
-use Rattle.free_areas.specs.Areas.{Follows, AreAreas, lead, IsLike, HasBuddies, LacksBuddies}
+use Rattle.free_areas.specs.Areas.{IsRightBehind, AreAreas, lead, IsLike, HasBuddies, LacksBuddies}
 
 -- one order more
 buddy_more : (b c : Block) (low at x : ℕ) → low ≤ at → IsBuddy b low (at + 1) x c → (c ≡ buddy_in b at x) ⊎ IsBuddy b low at x c
@@ -149,12 +149,12 @@ split_areas f g low x b behind bs ms cs areas without block inner order next sou
       others_stay f g low x b c without block inner order found.0 other)
       (sound c was))
       ((buddies c).0 has);
-  complete = λ c is. elim (in_set_or_not b.order b.first c.first) as (λ _. Lists cs c ⊎ Follows g c) [
+  complete = λ c is. elim (in_set_or_not b.order b.first c.first) as (λ _. Lists cs c ⊎ IsRightBehind g c) [
     | inl within ↦ inl ((buddies c).1 (inl (rest_is_left f g low x b c without block inner order is within)))
     | inr outside ↦
         let was = others_were f g low x b c without block inner order is outside in ⊎_elim
         (λ (has : Lists bs c). inl ((buddies c).1 (inr (kept c (away b c outside) has))))
-        (λ (follows : Follows f c). elim (same_first (front c) b) as (λ _. Lists cs c ⊎ Follows g c) [
+        (λ (follows : IsRightBehind f c). elim (same_first (front c) b) as (λ _. Lists cs c ⊎ IsRightBehind g c) [
           | inl same ↦
               let one = one_at f (front c) b follows.before block same in
               let order_is : b.order ≡ 10 = sym (ap (λ (d : Block). d.order) one) ∙ follows.great in
@@ -194,7 +194,7 @@ join_areas f g low x b bs ms cs areas without block inner order lacks put = reco
       others_were f g low x b c without block inner order in_g
       (λ within. both.0 (rest_is_left f g low x b c without block inner order in_g within)))
       ((put c).0 has);
-  complete = λ c is. elim (in_set_or_not b.order b.first c.first) as (λ _. Lists cs c ⊎ Follows f c) [
+  complete = λ c is. elim (in_set_or_not b.order b.first c.first) as (λ _. Lists cs c ⊎ IsRightBehind f c) [
     | inl within ↦
         let here = found_block f c.first b block within in
         let there = found_block f c.first c is refl in
@@ -205,7 +205,7 @@ join_areas f g low x b bs ms cs areas without block inner order lacks put = reco
         (λ (has : Lists bs c).
         inl ((put c).1 (inr ((lacks c).1
         (λ it. outside (buddy_inside b low b.order x c (omega arith) inner it), has)))))
-        (λ (follows : Follows g c). elim (in_set_or_not b.order b.first (front c).first) as (λ _. Lists cs c ⊎ Follows f c) [
+        (λ (follows : IsRightBehind g c). elim (in_set_or_not b.order b.first (front c).first) as (λ _. Lists cs c ⊎ IsRightBehind f c) [
           | inl within ↦
               let it = rest_is_left f g low x b (front c) without block inner order follows.before within in
               let below = it.below in
@@ -235,11 +235,11 @@ pub record IsLed (bs : List Block) (c : Block) : Type 0 where
 led_by : (k : ℕ) (f : Frames) (bs : List Block) (c : Block) → AreAreas f bs → IsBlock f c → c.first ≤ k → IsLed bs c
 led_by zero f bs c areas is low = ⊎_elim
     (λ (has : Lists bs c). let led : IsLed bs c = record { leader = c; has = has; node = refl; zone = refl; order = refl; first = omega arith } in led)
-    (λ (follows : Follows f c). let room = follows.room in absurd (omega (arith, room, low)))
+    (λ (follows : IsRightBehind f c). let room = follows.room in absurd (omega (arith, room, low)))
     (areas.complete c is)
 led_by (suc k) f bs c areas is low = ⊎_elim
     (λ (has : Lists bs c). let led : IsLed bs c = record { leader = c; has = has; node = refl; zone = refl; order = refl; first = omega arith } in led)
-    (λ (follows : Follows f c).
+    (λ (follows : IsRightBehind f c).
     let room = follows.room in
     let less : (front c).first ≤ k = omega (arith, room, low) in
     let rest = led_by k f bs (front c) areas follows.before less in

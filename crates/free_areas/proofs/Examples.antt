@@ -8,7 +8,7 @@ use Rattle.bm_base.specs.Zones.{zone_of}
 use Rattle.frame_blocks.specs.declared.block.Block.{Block}
 use Rattle.frame_blocks.specs.Frames.{Frames, IsBlock}
 use Rattle.frame_blocks.proofs.BuddyLaws.{one_at}
-use Rattle.free_areas.specs.Areas.{Follows, AreAreas, lead, IsLike, HasBuddies, LacksBuddies}
+use Rattle.free_areas.specs.Areas.{IsRightBehind, AreAreas, lead, IsLike, HasBuddies, LacksBuddies}
 use Rattle.free_areas.proofs.AreaLaws.{has_none, lacks_none}
 
 -- frame 5 alone is free, of node 7
@@ -50,12 +50,12 @@ area_examples = (
     sound = λ b has. ⊎_elim (λ (is : lone_block ≡ b). subst (λ (c : Block). IsBlock lone c) is lone_is_block) (λ (none : ⊥). absurd none) has;
     complete = λ b is. inl (inl (lone_alone b is));
   },
-  λ areas. ⊎_elim (λ (none : ⊥). none) (λ (follows : Follows lone lone_block). let ten = follows.great in absurd (omega (arith, ten)))
+  λ areas. ⊎_elim (λ (none : ⊥). none) (λ (follows : IsRightBehind lone lone_block). let ten = follows.great in absurd (omega (arith, ten)))
       (areas.complete lone_block lone_is_block),
 )
 
 -- a block of the lowest frames follows none, and no lone frame does
-follow_examples : (Follows lone (great 0) → ⊥) × (Follows lone (record { order = 0; first = 1029; node = 7; zone = zone.Dma }) → ⊥)
+follow_examples : (IsRightBehind lone (great 0) → ⊥) × (IsRightBehind lone (record { order = 0; first = 1029; node = 7; zone = zone.Dma }) → ⊥)
 follow_examples = (
   λ follows. let room = follows.room in absurd (omega (arith, room)),
   λ follows. let ten = follows.great in absurd (omega (arith, ten)),

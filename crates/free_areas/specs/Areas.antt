@@ -8,7 +8,7 @@ use Rattle.frame_blocks.specs.Listed.{Lists}
 use Rattle.frame_blocks.specs.Buddies.{IsBuddy}
 
 -- the block is of the greatest order and lies right behind another one of its order, node and zone
-pub record Follows (f : Frames) (b : Block) : Type 0 where
+pub record IsRightBehind (f : Frames) (b : Block) : Type 0 where
   pub great : b.order ≡ 10
   pub room : 1024 ≤ b.first
   pub before : IsBlock f (record b { first = b.first - 1024 })
@@ -16,7 +16,7 @@ pub record Follows (f : Frames) (b : Block) : Type 0 where
 -- the list is an index of the blocks
 pub record AreAreas (f : Frames) (bs : List Block) : Type 0 where
   pub sound : (b : Block) → Lists bs b → IsBlock f b
-  pub complete : (b : Block) → IsBlock f b → Lists bs b ⊎ Follows f b
+  pub complete : (b : Block) → IsBlock f b → Lists bs b ⊎ IsRightBehind f b
 
 -- the first block of a row
 abbrev pub lead : BlockRow → Block

@@ -15,7 +15,7 @@ use Rattle.memblock_model.proofs.TableLaws.{records_for-is}
 use Rattle.memblock_ranges.proofs.CountLaws.{few-pieces}
 use Rattle.growth_model.specs.Outcome.{write}
 use Rattle.growth_model.specs.Growth.{count, is_full, new_in, two, claimed}
-use Rattle.growth_model.specs.Sound.{Apart, Placed, IsImage}
+use Rattle.growth_model.specs.Sound.{ShareNoFrame, Placed, IsImage}
 use Rattle.growth_model.proofs.IdleLaws.{claimed-idle}
 use Rattle.growth_model.proofs.SpotLaws.{covers-from, covers-to, Spot-new}
 
@@ -71,7 +71,7 @@ reserved-inside kernel x large at =
     let inside = covers-from (first_live which.Reserved kernel) x at in covers-to kernel x (omega arith) (omega arith)
 
 first-apart : (kernel : Extent) → end_of kernel % 4096 ≡ 0 → 8192 ≤ kernel.size
-    → Apart (first_live which.Memory kernel) (first_live which.Reserved kernel)
+    → ShareNoFrame (first_live which.Memory kernel) (first_live which.Reserved kernel)
 first-apart kernel whole large x y at_x at_y same =
     let m = covers-from (first_live which.Memory kernel) x at_x in
     let r = covers-from (first_live which.Reserved kernel) y at_y in

@@ -14,7 +14,7 @@ use Rattle.memblock_model.specs.Items.{upward_of}
 use Rattle.memblock_model.specs.Search.{top, best}
 use Rattle.memblock_model.proofs.SearchLaws.{IsPlace, top_in-fits, best_in-fits, fits_in-parts}
 use Rattle.memblock_ranges.specs.Tables.{Contents, bytes_of, bytes_in, Overlaps}
-use Rattle.growth_model.specs.Growth.{frames_of, frames_at, table_query, place_beside}
+use Rattle.growth_model.specs.Growth.{in_whole_frames, frames_at, table_query, place_beside}
 use Rattle.memblock_model.specs.declared.request.Request.{Request}
 use Rattle.growth_model.specs.Request.{Attempt, attempt, anywhere, nodes, round, attempts, first_top, place_for}
 use Rattle.growth_model.specs.Sound.{Clear, Unclaimed, Placed, IsAway}
@@ -61,7 +61,7 @@ or_cases (Some x) b place h = inl h
 pub record IsNew (items : List Item) (avoid : Extent) (room place : ℕ) : Type 0 where
   pub aligned : place % 4096 ≡ 0
   pub free : Unclaimed (owner_of items) (frames_at place (48 * room))
-  pub within : place + frames_of (48 * room) ≤ limit_of items
+  pub within : place + in_whole_frames (48 * room) ≤ limit_of items
   pub clear : Clear avoid (frames_at place (48 * room))
 
 new_above : (items : List Item) (avoid : Extent) (room place : ℕ)
@@ -80,7 +80,7 @@ new_below : (items : List Item) (avoid : Extent) (room place : ℕ)
     → best items (table_query room 0 (min avoid.base (limit_of items))) ≡ Some place → IsNew items avoid room place
 new_below items avoid room place found =
     let known = found-fits items (table_query room 0 (min avoid.base (limit_of items))) place found in
-    let high : place + frames_of (48 * room) ≤ min avoid.base (limit_of items) = known.high in
+    let high : place + in_whole_frames (48 * room) ≤ min avoid.base (limit_of items) = known.high in
     record {
       aligned = known.aligned;
       free = found-unclaimed items (table_query room 0 (min avoid.base (limit_of items))) place found;

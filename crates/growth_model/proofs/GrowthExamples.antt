@@ -21,7 +21,7 @@ use Rattle.memblock_ranges.proofs.CountLaws.{few-pieces}
 use Rattle.growth_model.specs.declared.refusal.Refusal.TheVariants as refusal
 use Rattle.memblock_model.specs.declared.request.Request.{Request}
 use Rattle.growth_model.specs.Outcome.{Outcome, Change, joined, after, nothing, step, write, refuse, followed_by, ◌>>◌, if_due, whatever_refused}
-use Rattle.growth_model.specs.Growth.{frames_of, frames_at, count, table_query, place_beside, left, reserved_items, reserved_growth_at, reserved_growth, is_full, new_in, two, grown, claimed, freed, old_frames, leave, memory_growth_at, memory_growth, added, noded, mirrored}
+use Rattle.growth_model.specs.Growth.{in_whole_frames, frames_at, count, table_query, place_beside, left, reserved_items, reserved_growth_at, reserved_growth, is_full, new_in, two, grown, claimed, freed, old_frames, leave, memory_growth_at, memory_growth, added, noded, mirrored}
 use Rattle.growth_model.specs.Request.{Attempt, attempt, anywhere, nodes, round, attempts, first_top, place_for}
 use Rattle.growth_model.specs.Ends.{IsCut, IsCutShort, EndsBy, Ends, Allocates}
 use Rattle.growth_model.proofs.EndLaws.{cut-short}
@@ -112,13 +112,13 @@ nothing_to_forget : whatever_refused (write item.Trim) small ≡ write item.Trim
 nothing_to_forget = refl
 
 -- whole frames
-a_byte : frames_of 1 ≡ 4096
+a_byte : in_whole_frames 1 ≡ 4096
 a_byte = refl
 
-two_frames : frames_of 6144 ≡ 8192
+two_frames : in_whole_frames 6144 ≡ 8192
 two_frames = refl
 
-exact_frame : frames_of 4096 ≡ 4096
+exact_frame : in_whole_frames 4096 ≡ 4096
 exact_frame = refl
 
 new_table : frames_at 65536 (48 * 128) ≡ record { base = 65536; size = 8192 }

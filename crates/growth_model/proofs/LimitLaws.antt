@@ -12,7 +12,7 @@ use Rattle.memblock_model.specs.Tables.{room_of, moved_to}
 use Rattle.memblock_model.specs.Search.{best}
 use Rattle.growth_model.specs.declared.refusal.Refusal.{Refusal}
 use Rattle.growth_model.specs.Outcome.{Change, after, write, ◌>>◌}
-use Rattle.growth_model.specs.Growth.{frames_of, frames_at, table_query, place_beside, reserved_items, reserved_growth_at, reserved_growth, new_in, two, grown, claimed, freed, old_frames, leave, memory_growth_at, memory_growth}
+use Rattle.growth_model.specs.Growth.{in_whole_frames, frames_at, table_query, place_beside, reserved_items, reserved_growth_at, reserved_growth, new_in, two, grown, claimed, freed, old_frames, leave, memory_growth_at, memory_growth}
 use Rattle.growth_model.specs.Ends.{Ends}
 use Rattle.growth_model.proofs.CutLaws.{EachCut, cuts-last, cuts-ends, cuts-then, cuts-grown, cuts-map}
 use Rattle.growth_model.proofs.FoundLaws.{found-fits}
@@ -78,7 +78,7 @@ leave-stays m n (Some a) t at = freed-stays m n a t at
 -- its newest place is that before the growth, or one below the limit
 abbrev Limited : List Item → List Item → Type 0
 Limited items t = (moved_to which.Memory t ≡ moved_to which.Memory items)
-    ⊎ ((place : ℕ) × (moved_to which.Memory t ≡ Some place) × (place + frames_of (48 * room_of which.Memory items) ≤ limit_of items))
+    ⊎ ((place : ℕ) × (moved_to which.Memory t ≡ Some place) × (place + in_whole_frames (48 * room_of which.Memory items) ≤ limit_of items))
 
 growth-limited : (items : List Item) (found : Option ℕ)
     → best items (table_query (room_of which.Memory items) 0 (limit_of items)) ≡ found
@@ -91,7 +91,7 @@ growth-limited items (Some place) is =
     let first : Change = claimed (frames_at place (48 * room)) (owner.Table which.Memory) in
     let moves : Item = item.Grown which.Memory place (2 * room) in
     let last : Change = leave (old_frames room old) in
-    let high : place + frames_of (48 * room) ≤ limit_of items = (found-fits items (table_query room 0 (limit_of items)) place is).high in
+    let high : place + in_whole_frames (48 * room) ≤ limit_of items = (found-fits items (table_query room 0 (limit_of items)) place is).high in
     let throughout : EachCut (LiesAt old room) items (first items).steps =
     claimed-stays old room (frames_at place (48 * room)) (owner.Table which.Memory) items (refl, refl) in
     let u : List Item = after items (first items) in
@@ -110,10 +110,10 @@ memory-limited items = growth-limited items (best items (table_query (room_of wh
 
 pub memory-below : {T : Type 0} (result : Result T Refusal) (old new : List Item) (place : ℕ) → Ends result old new memory_growth
     → moved_to which.Memory new ≡ Some place
-    → (moved_to which.Memory old ≡ Some place) ⊎ (place + frames_of (48 * room_of which.Memory old) ≤ limit_of old)
+    → (moved_to which.Memory old ≡ Some place) ⊎ (place + in_whole_frames (48 * room_of which.Memory old) ≤ limit_of old)
 memory-below result old new place ends at =
     elim (cuts-ends (Limited old) result old new (memory_growth old) (memory-limited old) ends) as (λ _.
-    (moved_to which.Memory old ≡ Some place) ⊎ (place + frames_of (48 * room_of which.Memory old) ≤ limit_of old)) [
+    (moved_to which.Memory old ≡ Some place) ⊎ (place + in_whole_frames (48 * room_of which.Memory old) ≤ limit_of old)) [
       | inl stays ↦ inl (sym stays ∙ at)
       | inr there ↦
           let same : there.0 ≡ place = same_Some there.0 place (sym there.1 ∙ at) in

@@ -10,7 +10,7 @@ use Rattle.memblock_model.specs.Labels.{plain_label}
 use Rattle.memblock_model.specs.Tables.{table_of, records_of, live}
 use Rattle.memblock_model.proofs.TableLaws.{records_for-is}
 use Rattle.growth_model.specs.Growth.{count}
-use Rattle.growth_model.specs.Sound.{keeps, Spot, Apart, Clear, Unclaimed, Spots, Placed, Fits, Sound, IsImage, HasBegun, IsAway, MayClaim}
+use Rattle.growth_model.specs.Sound.{keeps, Spot, ShareNoFrame, Clear, Unclaimed, Spots, Placed, Fits, Sound, IsImage, HasBegun, IsAway, MayClaim}
 use Rattle.growth_model.proofs.SpotLaws.{covers-from}
 use Rattle.growth_model.proofs.FirstLaws.{no_table_full, first-placed}
 use Rattle.growth_model.proofs.GrowthExamples.{image, frame}
@@ -50,16 +50,16 @@ not_of_script : Spot claims (record { base = 8192; size = 3072 }) → ⊥
 not_of_script spot = let kept = spot.kept 9000 refl in cc
 
 -- two frames, and one frame twice
-two_frames_apart : Apart (record { base = 0; size = 3072 }) (record { base = 4096; size = 3072 })
+two_frames_apart : ShareNoFrame (record { base = 0; size = 3072 }) (record { base = 4096; size = 3072 })
 two_frames_apart x y at_x at_y same =
     let a = covers-from (record { base = 0; size = 3072 }) x at_x in
     let b = covers-from (record { base = 4096; size = 3072 }) y at_y in
     omega arith
 
-one_frame : Apart (record { base = 0; size = 16 }) (record { base = 32; size = 16 }) → ⊥
+one_frame : ShareNoFrame (record { base = 0; size = 16 }) (record { base = 32; size = 16 }) → ⊥
 one_frame apart = apart 0 32 refl refl refl
 
-both_halves : Apart (record { base = 0; size = 16 }) (record { base = 2048; size = 16 }) → ⊥
+both_halves : ShareNoFrame (record { base = 0; size = 16 }) (record { base = 2048; size = 16 }) → ⊥
 both_halves apart = apart 0 2048 refl refl refl
 
 -- which is enough to be clear

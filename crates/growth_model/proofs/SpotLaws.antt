@@ -7,7 +7,7 @@ use Rattle.address_runs.specs.Edits.{uncovered, replaced}
 use Rattle.memblock_model.specs.declared.owner.Owner.{Owner}
 use Rattle.memblock_model.specs.Items.{Owners}
 use Rattle.growth_model.specs.Growth.{frames_at}
-use Rattle.growth_model.specs.Sound.{keeps, Spot, Apart, Clear, Unclaimed, Spots}
+use Rattle.growth_model.specs.Sound.{keeps, Spot, ShareNoFrame, Clear, Unclaimed, Spots}
 
 -- the frames of a range that begins with one
 abbrev pub frames : Extent → Extent
@@ -40,17 +40,17 @@ frames-more a x h =
 first-frame : (x : ℕ) → 4096 * (x / 4096) / 4096 ≡ x / 4096
 first-frame x = omega arith
 
-pub Apart-swap : (a b : Extent) → Apart a b → Apart b a
+pub Apart-swap : (a b : Extent) → ShareNoFrame a b → ShareNoFrame b a
 Apart-swap a b apart x y at_x at_y same = apart y x at_y at_x (sym same)
 
 pub Clear-swap : (a b : Extent) → Clear a b → Clear b a
 Clear-swap a b clear x at_b at_a = clear x at_a at_b
 
-pub Apart-clear : (a b : Extent) → Apart a b → Clear a b
+pub Apart-clear : (a b : Extent) → ShareNoFrame a b → Clear a b
 Apart-clear a b apart x at_a at_b = apart x x at_a at_b refl
 
 -- the frames of a place miss the other place
-pub apart-clear : (a b : Extent) → a.base % 4096 ≡ 0 → Apart a b → Clear (frames a) b
+pub apart-clear : (a b : Extent) → a.base % 4096 ≡ 0 → ShareNoFrame a b → Clear (frames a) b
 apart-clear a b aligned apart x at_a at_b =
     apart (4096 * (x / 4096)) x (frame-first a x aligned at_a) at_b (first-frame x)
 
@@ -62,7 +62,7 @@ pub unclaimed-clear : (own : Owners) (a b : Extent) → Unclaimed own a → Spot
 unclaimed-clear own a b free spot x at_a at_b = unkept own x (free x at_a) (spot.kept x at_b)
 
 -- a new place among bytes without an owner has no frame in common with an old one, and neither have their frames
-pub new-apart : (own : Owners) (n b : Extent) → n.base % 4096 ≡ 0 → Unclaimed own (frames n) → Spot own b → Apart n b
+pub new-apart : (own : Owners) (n b : Extent) → n.base % 4096 ≡ 0 → Unclaimed own (frames n) → Spot own b → ShareNoFrame n b
 new-apart own n b aligned free spot x y at_n at_b same =
     unkept own y (free y (frame-whole n x y aligned (frames-more n x at_n) (sym same))) (spot.kept y at_b)
 

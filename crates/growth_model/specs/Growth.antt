@@ -17,12 +17,12 @@ use Rattle.memblock_model.specs.Search.{best}
 use Rattle.growth_model.specs.Outcome.{Change, ◌>>◌, nothing, step, write, refuse, if_due, whatever_refused}
 
 -- that many bytes, rounded up to frames
-abbrev pub frames_of : ℕ → ℕ
-frames_of n = (n + (FRAME_SIZE - 1)) / FRAME_SIZE * FRAME_SIZE
+abbrev pub in_whole_frames : ℕ → ℕ
+in_whole_frames n = (n + (FRAME_SIZE - 1)) / FRAME_SIZE * FRAME_SIZE
 
 -- the frames from the address on that hold so many bytes
 abbrev pub frames_at : ℕ → ℕ → Extent
-frames_at place n = record { base = place; size = frames_of n }
+frames_at place n = record { base = place; size = in_whole_frames n }
 
 -- the number of records of a table
 abbrev pub count : Which → List Item → ℕ
@@ -30,7 +30,7 @@ count w items = length (records_of w items)
 
 -- what a table with that room looks for: the frames of twice as many records of 24 bytes, in the window, of any node
 abbrev pub table_query : ℕ → ℕ → ℕ → Query
-table_query room lo hi = record { lo = lo; hi = hi; size = frames_of (48 * room); align = FRAME_SIZE; node = None }
+table_query room lo hi = record { lo = lo; hi = hi; size = in_whole_frames (48 * room); align = FRAME_SIZE; node = None }
 
 -- the new place of the reserved table: the best one above the range that is being claimed or freed, else the best one below it; and
 -- below the limit both times

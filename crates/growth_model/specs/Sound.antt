@@ -25,8 +25,8 @@ pub record Spot (own : Owners) (a : Extent) : Type 0 where
   pub kept : (x : ℕ) → covers a x ≡ true → keeps (own x) ≡ true
 
 -- no frame has bytes of both ranges
-abbrev pub Apart : Extent → Extent → Type 0
-Apart a b = (x y : ℕ) → covers a x ≡ true → covers b y ≡ true → x / FRAME_SIZE ≢ y / FRAME_SIZE
+abbrev pub ShareNoFrame : Extent → Extent → Type 0
+ShareNoFrame a b = (x y : ℕ) → covers a x ≡ true → covers b y ≡ true → x / FRAME_SIZE ≢ y / FRAME_SIZE
 
 -- no byte lies in both ranges
 abbrev pub Clear : Extent → Extent → Type 0
@@ -40,7 +40,7 @@ Unclaimed own a = (x : ℕ) → covers a x ≡ true → own x ≡ None
 pub record Spots (own : Owners) (memory reserved : Extent) : Type 0 where
   pub first : Spot own memory
   pub second : Spot own reserved
-  pub apart : Apart memory reserved
+  pub apart : ShareNoFrame memory reserved
 
 -- the kernel's image is claimed first, and both tables lie in places of theirs
 pub record Placed (kernel : Extent) (items : List Item) : Type 0 where

@@ -18,7 +18,7 @@ ghost use Rattle.memblock_model.specs.Search.{best};
 ghost use Rattle.growth_model.specs.declared.refusal.Refusal.{Refusal};
 ghost use Rattle.memblock_model.specs.declared.request.Request.{Request};
 ghost use Rattle.growth_model.specs.Outcome.{Change, ◌>>◌ as in_turn, after, write};
-ghost use Rattle.growth_model.specs.Growth.{frames_of, frames_at, new_in, two, place_beside, reserved_growth, claimed, freed, memory_growth, added, noded, mirrored};
+ghost use Rattle.growth_model.specs.Growth.{in_whole_frames, frames_at, new_in, two, place_beside, reserved_growth, claimed, freed, memory_growth, added, noded, mirrored};
 ghost use Rattle.growth_model.specs.Request.{place_for};
 ghost use Rattle.growth_model.specs.Ends.{Ends, Allocates};
 ghost use Rattle.growth_model.specs.Sound.{Clear, Unclaimed, Placed, Fits, IsImage, HasBegun, IsAway, MayClaim};
@@ -87,10 +87,10 @@ pub fn found_places_are_free()
     ensures beside { (avoid : Extent) (room : ℕ) (items : List Item) (place : ℕ) → place_beside avoid room items ≡ Some place →
         Clear avoid (frames_at place (48 * room)) }
     ensures below { (avoid : Extent) (room : ℕ) (items : List Item) (place : ℕ) → place_beside avoid room items ≡ Some place →
-        place + frames_of (48 * room) ≤ limit_of items }
+        place + in_whole_frames (48 * room) ≤ limit_of items }
     ensures memory { (result : Result (Unit {0}) Refusal) (old new : List Item) (place : ℕ) → Ends result old new memory_growth →
         moved_to which.Memory new ≡ Some place →
-        (moved_to which.Memory old ≡ Some place) ⊎ (place + frames_of (48 * room_of which.Memory old) ≤ limit_of old) }
+        (moved_to which.Memory old ≡ Some place) ⊎ (place + in_whole_frames (48 * room_of which.Memory old) ≤ limit_of old) }
 {}
 
 /// A law: a growth that isn't refused gives its table twice the room and two records at most: for the claim of the new

@@ -1,6 +1,6 @@
 //! Each outcome once, on a machine of 128 MiB with its kernel at 16 MiB. The places are the greatest addresses by hand.
 ghost use Rattle.std.specs.Prelude.{◌≡◌, ◌+◌, ◌^◌, ◌<◌, ◌≤◌, length, IsTrue};
-ghost use Rattle.early_script.specs.Acted.{IsRun};
+ghost use Rattle.early_script.specs.Acted.{CanBeRun};
 
 use crate::machines::{bare, has_begun};
 use arrayvec::ArrayVec;
@@ -13,7 +13,7 @@ use std::process::Abort;
 use std::test::Fail;
 
 fn is_run(act: &Act) -> bool
-    ensures { IsTrue result → IsRun act.now }
+    ensures { IsTrue result → CanBeRun act.now }
 {
     match act {
         Act::Sections => false,

@@ -11,7 +11,7 @@ use Rattle.memblock_ranges.specs.Tables.{Contents}
 use Rattle.memblock_find.specs.declared.cursor.Look.{Look}
 use Rattle.memblock_find.specs.declared.cursor.Cursor.{Cursor}
 use Rattle.memblock_find.specs.Free.{unclaimed, free_in, Pass, free_of, IsDownTo, IsUpTo, IsRunBelow, IsRunFrom}
-use Rattle.memblock_find.specs.Places.{IsBetween, serves, NoPlaceEnds, NoPlaceBegins, NoneServes, IsBestBy, IsBestFrom}
+use Rattle.memblock_find.specs.Places.{IsBetween, serves, NoPlaceEnds, NoPlaceBegins, NoAddressServes, IsBestBy, IsBestFrom}
 use Rattle.memblock_find.specs.Walk.{run_at, BegunAmong, BegunBelow, EndedBy, IsLookDown, IsLookUp, label_at, IsDownAt, IsUpAt}
 use Rattle.memblock_find.proofs.DownLaws.{look_gap, look_in, among_all, all_begun}
 use Rattle.memblock_find.proofs.NodeLaws.{not_serving}
@@ -268,13 +268,13 @@ second_alone zero x less above under = absurd (omega arith)
 second_alone (suc zero) x less above under = refl
 second_alone (suc (suc i)) x less above under = absurd (omega arith)
 
-none_of_node_0 : NoneServes false (value_at memory_runs) (Some 0) 0x2000 0x4000
+none_of_node_0 : NoAddressServes false (value_at memory_runs) (Some 0) 0x2000 0x4000
 none_of_node_0 x above under = not_serving false (Some 0) x memory_runs refl (λ i less base ends. second_alone i x less above ends)
 
-some_of_node_1 : NoneServes false (value_at memory_runs) (Some 1) 0x2000 0x4000 → ⊥
+some_of_node_1 : NoAddressServes false (value_at memory_runs) (Some 1) 0x2000 0x4000 → ⊥
 some_of_node_1 none = true≢false (none 0x2000 (omega arith) (omega arith))
 
-some_of_any : NoneServes false (value_at memory_runs) None 0x3000 0x4000 → ⊥
+some_of_any : NoAddressServes false (value_at memory_runs) None 0x3000 0x4000 → ⊥
 some_of_any none = true≢false (none 0x3000 (omega arith) (omega arith))
 
 -- a walk down at 0x2800: memory of node 1 down to 0x2000, no claim down to 0x1900

@@ -7,7 +7,7 @@ use Rattle.memblock_model.specs.Labels.{Label, Labels}
 use Rattle.memblock_model.specs.declared.query.Query.{Query}
 use Rattle.memblock_model.proofs.SearchLaws.{fits_in-parts}
 use Rattle.memblock_find.specs.declared.cursor.Look.{Look}
-use Rattle.memblock_find.specs.Places.{serves, NoPlaceEnds, NoneServes}
+use Rattle.memblock_find.specs.Places.{serves, NoPlaceEnds, NoAddressServes}
 use Rattle.memblock_find.specs.Walk.{run_at, BegunBelow, IsLookDown}
 use Rattle.memblock_find.proofs.PlaceLaws.{place_serves}
 use Rattle.memblock_find.proofs.SlotLaws.{ends_before, ends_ascend, bases_ascend, size_at, value_in}
@@ -76,7 +76,7 @@ not_serving mirror node x (r ∷ rs) narrow other =
 pub passed_over : (rs : List (RunOf Label)) (mirror : Bool) (node : Option ℕ) (from count at : ℕ) (look : Look) → IsLookDown rs from look
     → serves mirror node None ≡ false → count ≤ look.slot → (0 < count → at ≡ run_end (run_at rs (count - 1)))
     → ((i : ℕ) → count ≤ i → i < look.slot → serves mirror node (Some (run_at rs i).value) ≡ false)
-    → NoneServes mirror (value_at rs) node at look.bound
+    → NoAddressServes mirror (value_at rs) node at look.bound
 passed_over rs mirror node from count at look known narrow fewer end others x above under =
     not_serving mirror node x rs narrow (λ i less base ends.
     elim (cases_lt i look.slot) as (λ _. serves mirror node (Some (run_at rs i).value) ≡ false) [
@@ -93,8 +93,8 @@ passed_over rs mirror node from count at look known narrow fewer end others x ab
 
 -- down from a look whose memory doesn't serve, and then over more of that kind, nothing serves
 pub none_serves_down : (rs : List (RunOf Label)) (mirror : Bool) (node : Option ℕ) (from at until : ℕ) (look : Look) → IsLookDown rs from look
-    → until ≤ from → serves mirror node look.label ≡ false → NoneServes mirror (value_at rs) node at look.bound
-    → NoneServes mirror (value_at rs) node at until
+    → until ≤ from → serves mirror node look.label ≡ false → NoAddressServes mirror (value_at rs) node at look.bound
+    → NoAddressServes mirror (value_at rs) node at until
 none_serves_down rs mirror node from at until look known under refused passed x above less =
     elim (cases_lt x look.bound) as (λ _. serves mirror node (value_at rs x) ≡ false) [
       | inl lt ↦ passed x above lt
@@ -103,7 +103,7 @@ none_serves_down rs mirror node from at until look known under refused passed x 
 
 -- no place ends where nothing serves
 pub past_refused : (mirror : Bool) (memory reserved : Labels) (q : Query) (at from : ℕ) → 1 ≤ q.size
-    → NoneServes mirror memory q.node at from
+    → NoAddressServes mirror memory q.node at from
     → NoPlaceEnds mirror memory reserved q from q.hi → NoPlaceEnds mirror memory reserved q at q.hi
 past_refused mirror memory reserved q at from some barred past b fits ends =
     elim (cases_lt at (b + q.size)) as (λ _. b + q.size ≤ at) [

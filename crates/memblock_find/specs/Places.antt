@@ -24,8 +24,8 @@ abbrev pub NoPlaceBegins : Bool → Labels → Labels → Query → ℕ → ℕ 
 NoPlaceBegins mirror memory reserved q from until = (b : ℕ) → fits_in mirror memory reserved q b ≡ true → from ≤ b → until ≤ b
 
 -- no address from the one up to the other is memory that such a search may be answered with
-abbrev pub NoneServes : Bool → Labels → Option ℕ → ℕ → ℕ → Type 0
-NoneServes mirror memory node from until = (x : ℕ) → from ≤ x → x < until → serves mirror node (memory x) ≡ false
+abbrev pub NoAddressServes : Bool → Labels → Option ℕ → ℕ → ℕ → Type 0
+NoAddressServes mirror memory node from until = (x : ℕ) → from ≤ x → x < until → serves mirror node (memory x) ≡ false
 
 -- the address fits, and no greater one that ends by `until` does
 pub record IsBestBy (mirror : Bool) (memory reserved : Labels) (q : Query) (until a : ℕ) : Type 0 where

@@ -3,7 +3,7 @@
 ghost use Rattle.std.specs.Prelude.{◌≡◌, ℕ, ◌-◌, ◌^◌, ◌<◌, ◌≤◌, false, max, Some, None, length};
 ghost use Rattle.address_runs.specs.Runs.{run_end, value_at};
 ghost use Rattle.memblock_model.specs.Search.{top_in};
-ghost use Rattle.memblock_find.specs.Places.{serves, NoneServes};
+ghost use Rattle.memblock_find.specs.Places.{serves, NoAddressServes};
 ghost use Rattle.memblock_find.specs.Walk.{run_at, IsDownAt};
 
 use crate::cursor::{Cursor, Lists, lists_of};
@@ -73,7 +73,7 @@ impl Cursor {
         requires narrow { serves mirror node None ≡ false }
         requires down { IsDownAt lists.now.memory lists.now.reserved self.now }
         ensures order { result.at ≤ self.now.memory.bound }
-        ensures passed { NoneServes mirror (value_at lists.now.memory) node result.at self.now.memory.bound }
+        ensures passed { NoAddressServes mirror (value_at lists.now.memory) node result.at self.now.memory.bound }
         ensures down { IsDownAt lists.now.memory lists.now.reserved result }
     {
         let count = up_to_served(&lists.memory, self.memory.slot, mirror, node);
@@ -90,7 +90,7 @@ impl Cursor {
         requires narrow { serves mirror node None ≡ false }
         requires down { IsDownAt lists.now.memory lists.now.reserved self.now }
         ensures order { result.at ≤ max self.now.memory.bound self.now.reserved.bound }
-        ensures passed { NoneServes mirror (value_at lists.now.memory) node result.at (max self.now.memory.bound self.now.reserved.bound) }
+        ensures passed { NoAddressServes mirror (value_at lists.now.memory) node result.at (max self.now.memory.bound self.now.reserved.bound) }
         ensures down { IsDownAt lists.now.memory lists.now.reserved result }
     {
         if self.is_served(mirror, node) {

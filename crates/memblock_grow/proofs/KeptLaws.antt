@@ -19,7 +19,7 @@ use Rattle.memblock_ranges.specs.Steps.{EndsInSpace}
 use Rattle.memblock_ranges.specs.Tables.{Table, Contents, table_in, other_in, records_in, room_in, place_in}
 use Rattle.memblock_ranges.proofs.CountLaws.{length-covered, length-uncovered, length-relabelled, length-trimmed}
 use Rattle.memblock_ranges.proofs.StepLaws.{edited-items, untouched-items, items-within}
-use Rattle.growth_model.specs.Growth.{frames_of}
+use Rattle.growth_model.specs.Growth.{in_whole_frames}
 use Rattle.growth_model.specs.Sound.{Fits}
 use Rattle.growth_model.specs.Bytes.{table_for}
 use Rattle.memblock_grow.specs.declared.aim.Aim.{Aim}
@@ -136,7 +136,7 @@ kept-quiet kernel items i t u at to quiet space limited directed first second fe
   upward = upward_of-push items i ∙ ap (λ (b : Bool). upward_after b i) kept.upward ∙ directed;
   ends = λ w. items-within w items i space (kept.ends w);
   fits = fits-by kernel (items ++ i ∷ []) u.memory u.reserved first second few too;
-  far = λ w place moved. subst (λ (n : ℕ). place + frames_of (24 * n) < 2 ^ 64) (sym (quiet-room w items i quiet))
+  far = λ w place moved. subst (λ (n : ℕ). place + in_whole_frames (24 * n) < 2 ^ 64) (sym (quiet-room w items i quiet))
       (kept.far w place (sym (quiet-moved w items i quiet) ∙ moved));
 }
 
@@ -321,40 +321,40 @@ table-unmoved v w kernel items place room old new same stays moved was is =
     ∙ sym (ap (λ (o : Option ℕ). unwrap_or o (built_in v kernel)) (moved_to-push v items i ∙ moved)))
     (ap (λ (t : Table). t.room) is ∙ ap (λ (t : Table). t.room) was ∙ sym (room_of-push v items i ∙ stays))
 
-far-moved : (w : Which) (items : List Item) (place room : ℕ) → place + frames_of (48 * room_of w items) < 2 ^ 64
+far-moved : (w : Which) (items : List Item) (place room : ℕ) → place + in_whole_frames (48 * room_of w items) < 2 ^ 64
     → room_after w (room_of w items) (item.Grown w place room) ≡ 2 * room_of w items
     → moved_after w (moved_to w items) (item.Grown w place room) ≡ Some place
     → (p : ℕ) → moved_to w (items ++ item.Grown w place room ∷ []) ≡ Some p
-    → p + frames_of (24 * room_of w (items ++ item.Grown w place room ∷ [])) < 2 ^ 64
+    → p + in_whole_frames (24 * room_of w (items ++ item.Grown w place room ∷ [])) < 2 ^ 64
 far-moved w items place room small twice moved p is =
     let i : Item = item.Grown w place room in
     let here : place ≡ p = same_Some place p (sym (moved_to-push w items i ∙ moved) ∙ is) in
     let wide : 24 * room_of w (items ++ i ∷ []) ≡ 48 * room_of w items =
     ap (λ (n : ℕ). 24 * n) (room_of-push w items i ∙ twice) ∙ omega arith in
-    subst (λ (n : ℕ). p + frames_of n < 2 ^ 64) (sym wide) (subst (λ (n : ℕ). n + frames_of (48 * room_of w items) < 2 ^ 64) here small)
+    subst (λ (n : ℕ). p + in_whole_frames n < 2 ^ 64) (sym wide) (subst (λ (n : ℕ). n + in_whole_frames (48 * room_of w items) < 2 ^ 64) here small)
 
 far-unmoved : (v w : Which) (kernel : Extent) (items : List Item) (place room : ℕ) (t : Contents) (at : Aim) → AreKept kernel items t at
     → room_after v (room_of v items) (item.Grown w place room) ≡ room_of v items
     → moved_after v (moved_to v items) (item.Grown w place room) ≡ moved_to v items
     → (p : ℕ) → moved_to v (items ++ item.Grown w place room ∷ []) ≡ Some p
-    → p + frames_of (24 * room_of v (items ++ item.Grown w place room ∷ [])) < 2 ^ 64
+    → p + in_whole_frames (24 * room_of v (items ++ item.Grown w place room ∷ [])) < 2 ^ 64
 far-unmoved v w kernel items place room t at kept stays moved p is =
     let i : Item = item.Grown w place room in
-    subst (λ (n : ℕ). p + frames_of (24 * n) < 2 ^ 64) (sym (room_of-push v items i ∙ stays))
+    subst (λ (n : ℕ). p + in_whole_frames (24 * n) < 2 ^ 64) (sym (room_of-push v items i ∙ stays))
     (kept.far v p (sym (moved_to-push v items i ∙ moved) ∙ is))
 
 far-memory : (kernel : Extent) (items : List Item) (place room : ℕ) (t : Contents) (at : Aim) → AreKept kernel items t at
-    → place + frames_of (48 * room_of which.Memory items) < 2 ^ 64 → (v : Which) (p : ℕ)
+    → place + in_whole_frames (48 * room_of which.Memory items) < 2 ^ 64 → (v : Which) (p : ℕ)
     → moved_to v (items ++ item.Grown which.Memory place room ∷ []) ≡ Some p
-    → p + frames_of (24 * room_of v (items ++ item.Grown which.Memory place room ∷ [])) < 2 ^ 64
+    → p + in_whole_frames (24 * room_of v (items ++ item.Grown which.Memory place room ∷ [])) < 2 ^ 64
 far-memory kernel items place room t at kept small which.Memory = far-moved which.Memory items place room small refl refl
 far-memory kernel items place room t at kept small which.Reserved =
     far-unmoved which.Reserved which.Memory kernel items place room t at kept refl refl
 
 far-reserved : (kernel : Extent) (items : List Item) (place room : ℕ) (t : Contents) (at : Aim) → AreKept kernel items t at
-    → place + frames_of (48 * room_of which.Reserved items) < 2 ^ 64 → (v : Which) (p : ℕ)
+    → place + in_whole_frames (48 * room_of which.Reserved items) < 2 ^ 64 → (v : Which) (p : ℕ)
     → moved_to v (items ++ item.Grown which.Reserved place room ∷ []) ≡ Some p
-    → p + frames_of (24 * room_of v (items ++ item.Grown which.Reserved place room ∷ [])) < 2 ^ 64
+    → p + in_whole_frames (24 * room_of v (items ++ item.Grown which.Reserved place room ∷ [])) < 2 ^ 64
 far-reserved kernel items place room t at kept small which.Memory =
     far-unmoved which.Memory which.Reserved kernel items place room t at kept refl refl
 far-reserved kernel items place room t at kept small which.Reserved = far-moved which.Reserved items place room small refl refl
@@ -367,7 +367,7 @@ twice-few old new place is few =
     omega (arith, n, m, few)
 
 pub kept-grown : (w : Which) (kernel : Extent) (items : List Item) (place room : ℕ) (t u : Contents) (at : Aim)
-    → place + frames_of (48 * room_of w items) < 2 ^ 64
+    → place + in_whole_frames (48 * room_of w items) < 2 ^ 64
     → table_in w u ≡ record (table_in w t) { place = place; room = 2 * room_in w t } → other_in w u ≡ other_in w t
     → AreKept kernel items t at → AreKept kernel (items ++ item.Grown w place room ∷ []) u at
 kept-grown which.Memory kernel items place room t u at small is same kept =

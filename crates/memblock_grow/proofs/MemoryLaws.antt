@@ -15,7 +15,7 @@ use Rattle.memblock_ranges.specs.Tables.{Table, Contents, room_in, Overlaps}
 use Rattle.growth_model.specs.declared.refusal.Refusal.{Refusal}
 use Rattle.growth_model.specs.declared.refusal.Refusal.TheVariants as refusal
 use Rattle.growth_model.specs.Outcome.{Outcome, Change, ◌>>◌, write, refuse}
-use Rattle.growth_model.specs.Growth.{frames_of, frames_at, table_query, old_frames, claimed, leave, memory_growth_at, memory_growth}
+use Rattle.growth_model.specs.Growth.{in_whole_frames, frames_at, table_query, old_frames, claimed, leave, memory_growth_at, memory_growth}
 use Rattle.growth_model.specs.Ends.{EndsBy, Ends}
 use Rattle.growth_model.specs.Sound.{Placed, IsAway}
 use Rattle.growth_model.specs.Bytes.{shown_by, left_by, AreSpelled, Follows}
@@ -181,12 +181,12 @@ pub memory-kept : (kernel : Extent) (items mid : List Item) (t k p r : Contents)
 memory-kept kernel items mid t k p r at base room place kept m keeps =
     let after = kept-same kernel mid k p at m.first m.second (keeps kernel kept) in
     let same = room-stays kernel items mid t p at kept after (m.first ∙ m.claimed) in
-    let size : place.size ≡ frames_of (48 * room_of which.Memory items) = ap (λ (e : Extent). e.size) m.is in
+    let size : place.size ≡ in_whole_frames (48 * room_of which.Memory items) = ap (λ (e : Extent). e.size) m.is in
     let ends = m.ends in
     let here = m.here in
-    let small : base + frames_of (48 * room_of which.Memory items) < 2 ^ 64 = omega (arith, size, ends, here) in
+    let small : base + in_whole_frames (48 * room_of which.Memory items) < 2 ^ 64 = omega (arith, size, ends, here) in
     kept-grown which.Memory kernel mid base room p r at
-    (subst (λ (n : ℕ). base + frames_of (48 * n) < 2 ^ 64) (sym same) small) m.table m.other after
+    (subst (λ (n : ℕ). base + in_whole_frames (48 * n) < 2 ^ 64) (sym same) small) m.table m.other after
 
 -- bytes that are prepared behind the claim stay what they are
 pub prepared-bytes : (kernel : Extent) (items mid new : List Item) (t k p : Contents) (at : Aim) → AreKept kernel items t at

@@ -21,7 +21,7 @@ use Rattle.memblock_ranges.specs.Tables.{Contents, room_in, place_in}
 use Rattle.boot_journal.specs.Mirrors.{mirrors_in}
 use Rattle.boot_journal.proofs.MirrorLaws.{unmirrored}
 use Rattle.growth_model.specs.Request.{Attempt}
-use Rattle.growth_model.specs.Growth.{frames_of, frames_at, table_query, place_beside, old_frames}
+use Rattle.growth_model.specs.Growth.{in_whole_frames, frames_at, table_query, place_beside, old_frames}
 use Rattle.memblock_grow.specs.declared.aim.Aim.{Aim}
 use Rattle.memblock_grow.specs.Kept.{AreKept, aimed}
 use Rattle.memblock_grow.specs.Places.{KnowsMirrors, top_of, mirrored_of, best_of, frames_between, frames_beside, left_frames}
@@ -150,25 +150,25 @@ left-is w kernel items t at kept =
     ∙ ap (λ (n : ℕ). left_frames (place_of w kernel items) n) (room-is w kernel items t at kept)
     ∙ left-by (room_of w items) (built_in w kernel) (moved_to w items) (moved-is w items)
 
-far-by : (n built : ℕ) (o : Option ℕ) → Moved n o → n ≢ 128 → ((p : ℕ) → o ≡ Some p → p + frames_of (24 * n) < 2 ^ 64)
-    → unwrap_or o built + frames_of (24 * n) < 2 ^ 64
+far-by : (n built : ℕ) (o : Option ℕ) → Moved n o → n ≢ 128 → ((p : ℕ) → o ≡ Some p → p + in_whole_frames (24 * n) < 2 ^ 64)
+    → unwrap_or o built + in_whole_frames (24 * n) < 2 ^ 64
 unfolding Moved
 far-by n built None h other far = absurd (other h)
 far-by n built (Some p) h other far = far p refl
 
 pub left-far : (w : Which) (kernel : Extent) (items : List Item) (t : Contents) (at : Aim) → AreKept kernel items t at
-    → room_in w t ≢ 128 → place_in w t + frames_of (24 * room_in w t) < 2 ^ 64
+    → room_in w t ≢ 128 → place_in w t + in_whole_frames (24 * room_in w t) < 2 ^ 64
 left-far w kernel items t at kept other =
     let n = room-is w kernel items t at kept in
     let here = far-by (room_of w items) (built_in w kernel) (moved_to w items) (moved-is w items) (λ e. other (n ∙ e)) (kept.far w) in
-    subst (λ (m : ℕ). m + frames_of (24 * room_in w t) < 2 ^ 64) (sym (place-is w kernel items t at kept))
-    (subst (λ (m : ℕ). place_of w kernel items + frames_of (24 * m) < 2 ^ 64) (sym n) here)
+    subst (λ (m : ℕ). m + in_whole_frames (24 * room_in w t) < 2 ^ 64) (sym (place-is w kernel items t at kept))
+    (subst (λ (m : ℕ). place_of w kernel items + in_whole_frames (24 * m) < 2 ^ 64) (sym n) here)
 
 -- the answers of the search among frames
-pub between-none : (t : Contents) (up : Bool) (room lo hi : ℕ) → hi < 2 ^ 64 → ¬ (frames_of (48 * room) < 2 ^ 64)
+pub between-none : (t : Contents) (up : Bool) (room lo hi : ℕ) → hi < 2 ^ 64 → ¬ (in_whole_frames (48 * room) < 2 ^ 64)
     → None ≡ frames_between t up room lo hi
 between-none t up room lo hi small large =
-    let high : hi < frames_of (48 * room) = omega (arith, large) in
+    let high : hi < in_whole_frames (48 * room) = omega (arith, large) in
     sym (ap (λ (o : Option ℕ). option_map (λ place. frames_at place (48 * room)) o)
     (best_in-large up (value_at t.memory.records) (value_at t.reserved.records) (table_query room lo hi) high))
 
@@ -180,7 +180,7 @@ new_some : (o : Option Extent) (base size : ℕ) → SomeIff o (base + size < 2 
 new_some None base size h small = absurd (h small)
 new_some (Some e) base size h small = ap (λ (x : Extent). Some x) h.1
 
-pub between-some : (t : Contents) (up : Bool) (room lo hi size base : ℕ) (o : Option Extent) → size ≡ frames_of (48 * room)
+pub between-some : (t : Contents) (up : Bool) (room lo hi size base : ℕ) (o : Option Extent) → size ≡ in_whole_frames (48 * room)
     → best_of t up (sized lo hi size) ≡ Some base → SomeIff o (base + size < 2 ^ 64) (record { base = base; size = size }) → hi < 2 ^ 64
     → o ≡ frames_between t up room lo hi
 between-some t up room lo hi size base o is found new small =
@@ -190,7 +190,7 @@ between-some t up room lo hi size base o is found new small =
     ∙ sym (ap (λ (o : Option ℕ). option_map (λ place. frames_at place (48 * room)) o)
     (sym (ap (λ (n : ℕ). best_of t up (sized lo hi n)) is) ∙ found))
 
-pub between-nowhere : (t : Contents) (up : Bool) (room lo hi size : ℕ) → size ≡ frames_of (48 * room)
+pub between-nowhere : (t : Contents) (up : Bool) (room lo hi size : ℕ) → size ≡ in_whole_frames (48 * room)
     → best_of t up (sized lo hi size) ≡ None
     → None ≡ frames_between t up room lo hi
 between-nowhere t up room lo hi size is none =

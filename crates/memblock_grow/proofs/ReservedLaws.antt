@@ -21,7 +21,7 @@ use Rattle.memblock_ranges.proofs.CountLaws.{one-piece}
 use Rattle.growth_model.specs.declared.refusal.Refusal.{Refusal}
 use Rattle.growth_model.specs.declared.refusal.Refusal.TheVariants as refusal
 use Rattle.growth_model.specs.Outcome.{Outcome, step, refuse}
-use Rattle.growth_model.specs.Growth.{frames_of, frames_at, place_beside, left, old_frames, reserved_items, reserved_growth_at, reserved_growth}
+use Rattle.growth_model.specs.Growth.{in_whole_frames, frames_at, place_beside, left, old_frames, reserved_items, reserved_growth_at, reserved_growth}
 use Rattle.growth_model.specs.Ends.{EndsBy, Ends}
 use Rattle.growth_model.specs.Sound.{Unclaimed, Placed}
 use Rattle.growth_model.specs.Bytes.{shown_by, left_by, AreSpelled, Follows}
@@ -44,7 +44,7 @@ room-least w kernel items t at kept =
 pub frames-some : (w : Which) (items : List Item) (place : Extent) → place ≡ frames_at place.base (48 * room_of w items) → 0 < place.size
 frames-some w items place is =
     let least = room_of-least w items in
-    let size : place.size ≡ frames_of (48 * room_of w items) = ap (λ (e : Extent). e.size) is in
+    let size : place.size ≡ in_whole_frames (48 * room_of w items) = ap (λ (e : Extent). e.size) is in
     omega (arith, least, size)
 
 -- a place that nobody has is one piece
@@ -205,7 +205,7 @@ old-size : (n : ℕ) (o : Option ℕ) (range : Extent) → 128 ≤ n → old_fra
 old-size n None range least h = cc
 old-size n (Some p) range least h =
     let is : frames_at p (24 * n) ≡ range = cc in
-    let size : frames_of (24 * n) ≡ range.size = ap (λ (e : Extent). e.size) is in
+    let size : in_whole_frames (24 * n) ≡ range.size = ap (λ (e : Extent). e.size) is in
     omega (arith, size, least)
 
 pub left-size : (w : Which) (items : List Item) (range : Extent) → old_frames (room_of w items) (moved_to w items) ≡ Some range
@@ -261,7 +261,7 @@ pub moved-kept : (kernel : Extent) (items : List Item) (t p r v : Contents) (at 
     → AreKept kernel items t at
     → Moved items t p r v at base place → AreKept kernel (items ++ item.Grown which.Reserved base room ∷ []) r at
 moved-kept kernel items t p r v at base room place kept m =
-    let size : place.size ≡ frames_of (48 * room_of which.Reserved items) = ap (λ (e : Extent). e.size) m.is in
+    let size : place.size ≡ in_whole_frames (48 * room_of which.Reserved items) = ap (λ (e : Extent). e.size) m.is in
     let ends = m.ends in
     let here = m.here in
     kept-grown which.Reserved kernel items base room p r at (omega (arith, size, ends, here)) m.table m.other

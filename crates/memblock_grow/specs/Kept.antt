@@ -10,7 +10,7 @@ use Rattle.memblock_model.specs.declared.item.Item.{Item}
 use Rattle.memblock_model.specs.Items.{limit_of, upward_of}
 use Rattle.memblock_model.specs.Tables.{table_of, room_of, moved_to}
 use Rattle.memblock_ranges.specs.Tables.{Contents}
-use Rattle.growth_model.specs.Growth.{frames_of}
+use Rattle.growth_model.specs.Growth.{in_whole_frames}
 use Rattle.growth_model.specs.Sound.{Fits, Placed, IsImage, HasBegun, IsAway, MayClaim}
 use Rattle.growth_model.specs.Bytes.{table_for, shown_by, AreSpelled, Follows}
 use Rattle.memblock_grow.specs.declared.aim.Aim.{Aim}
@@ -28,7 +28,7 @@ pub record AreKept (kernel : Extent) (items : List Item) (t : Contents) (at : Ai
   pub upward : upward_of items ≡ at.upward
   pub ends : (w : Which) → NothingFrom (2 ^ 64) (table_of w items)
   pub fits : Fits items
-  pub far : (w : Which) (place : ℕ) → moved_to w items ≡ Some place → place + frames_of (24 * room_of w items) < 2 ^ 64
+  pub far : (w : Which) (place : ℕ) → moved_to w items ≡ Some place → place + in_whole_frames (24 * room_of w items) < 2 ^ 64
 
 -- and they lie in the kernel's image or in places of their own, in the bytes that spell them
 pub record IsMemblock (kernel : Extent) (items : List Item) (t : Contents) (at : Aim) : Type 0 where

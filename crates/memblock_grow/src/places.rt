@@ -1,7 +1,7 @@
 //! The searches: in mirrored memory first (`choose_memblock_flags`); where a table that grows may go to (`memblock_double_array`), and what
 //! it leaves.
 ghost use Rattle.std.specs.Prelude.{◌≡◌, ◌≢◌, ℕ, ◌+◌, ◌*◌, ◌^◌, ◌<◌, ◌≤◌, SomeIff};
-ghost use Rattle.growth_model.specs.Growth.{frames_of};
+ghost use Rattle.growth_model.specs.Growth.{in_whole_frames};
 ghost use Rattle.memblock_grow.specs.Places.{KnowsMirrors, best_of, mirrored_of, frames_between, frames_beside, left_frames};
 
 use crate::aim::Aim;
@@ -12,7 +12,7 @@ use memblock_ranges::{FIRST_ROOM, Head, Tables};
 
 /// The bytes of the frames that so many bytes take; `None` where they exceed 2^64 - 1.
 fn frames(bytes: u64) -> Option<u64>
-    ensures { SomeIff result (frames_of bytes < 2 ^ 64) (frames_of bytes) }
+    ensures { SomeIff result (in_whole_frames bytes < 2 ^ 64) (in_whole_frames bytes) }
 {
     let behind = bytes.checked_add(FRAME_SIZE - 1)?;
     Some(behind / FRAME_SIZE * FRAME_SIZE)
@@ -99,7 +99,7 @@ pub fn place_beside(
 /// The frames that a table leaves when it moves; `None` as long as it lies where it did at first. They end in the
 /// address space.
 pub fn left_place(head: Head) -> Option<Range>
-    requires far { head.room ≢ 128 → head.place + frames_of (24 * head.room) < 2 ^ 64 }
+    requires far { head.room ≢ 128 → head.place + in_whole_frames (24 * head.room) < 2 ^ 64 }
     ensures { result ≡ left_frames head.place head.room }
 {
     if head.room == FIRST_ROOM {

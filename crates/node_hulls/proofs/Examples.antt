@@ -9,12 +9,12 @@ use Rattle.srat_reader.specs.declared.table.SratBlock.{SratBlock}
 use Rattle.node_hulls.specs.declared.kept.KeptBlock.{KeptBlock}
 use Rattle.node_hulls.specs.declared.reasons.Why.TheVariants as why
 use Rattle.node_hulls.specs.Domains.{is_named, with_name, named_once, domains_named, node_of}
-use Rattle.node_hulls.specs.Hulls.{Block, meets, is_between, is_own, holds, joins, has, first_had, node_at, same_node}
+use Rattle.node_hulls.specs.Hulls.{NumaBlock, meets, is_between, is_own, holds, joins, has, first_had, node_at, same_node}
 use Rattle.node_hulls.specs.Judgement.{left_over, frames_given, lower, lowest, unused, used, if_covering, if_apart, nodes_by, left_by, names_of, judged_kept, judged_table, judged}
 use Rattle.node_hulls.proofs.RestLaws.{frames_none, frames_step}
-use Rattle.node_hulls.specs.Kept.{in_any, frame_base, framed, has_memory, of_node, kept_one, kept_from, kept_of, blocks_of, is_node_of, any_kept, count_some, clash, first_clash}
+use Rattle.node_hulls.specs.Kept.{in_any, frame_base, framed, meets_memory, of_node, kept_one, kept_from, kept_of, numa_blocks_of, is_node_of, any_kept, count_some, clash, first_clash}
 
-abbrev block : ℕ → ℕ → ℕ → Block
+abbrev block : ℕ → ℕ → ℕ → NumaBlock
 block n base size = record { base = base; size = size; value = n }
 
 -- a stretch meets a block where some address of the block lies in it
@@ -27,11 +27,11 @@ between_examples : (is_between (block 0 1 2) (block 0 5 1) 3 ≡ true) × (is_be
 between_examples = (refl, refl, refl)
 
 -- node 0 at 1 and 2 and at 8 and 9, node 1 at 5: told in another order
-abbrev one_between : List Block
+abbrev one_between : List NumaBlock
 one_between = block 0 8 2 ∷ block 1 5 1 ∷ block 0 1 2 ∷ []
 
 -- node 0 on both sides of a hole, and node 1 behind them
-abbrev hole : List Block
+abbrev hole : List NumaBlock
 hole = block 0 1 2 ∷ block 1 9 2 ∷ block 0 5 2 ∷ []
 
 own_examples : (is_own hole 0 (block 0 1 2) (block 0 5 2) ≡ true) × (is_own one_between 0 (block 0 1 2) (block 0 8 2) ≡ false)
@@ -111,8 +111,8 @@ framed_examples : (framed (range 0x1800 0x1000) ≡ range 0x1000 0x1000) × (fra
 framed_examples = (refl, refl)
 
 -- one byte is enough, and no byte isn't
-has_memory_examples : (has_memory memory (range 0x4FFE 4) ≡ true) × (has_memory memory (range 0x4FFE 2) ≡ false)
-    × (has_memory memory (range 0x1000 0) ≡ false)
+has_memory_examples : (meets_memory memory (range 0x4FFE 4) ≡ true) × (meets_memory memory (range 0x4FFE 2) ≡ false)
+    × (meets_memory memory (range 0x1000 0) ≡ false)
 unfolding each_in each_from
 has_memory_examples = (refl, refl, refl)
 
@@ -136,10 +136,10 @@ kept_examples : (kept_of some_frames (5 ∷ 6 ∷ []) (told 5 0 0xFFF ∷ told 6
 unfolding each_in each_from
 kept_examples = (refl, refl)
 
-abbrev kept : ℕ → Block → KeptBlock
+abbrev kept : ℕ → NumaBlock → KeptBlock
 kept i b = record { number = i; block = b }
 
-blocks_examples : (blocks_of (kept 2 (block 0 1 1) ∷ kept 4 (block 1 2 2) ∷ []) ≡ block 0 1 1 ∷ block 1 2 2 ∷ []) × (blocks_of [] ≡ [])
+blocks_examples : (numa_blocks_of (kept 2 (block 0 1 1) ∷ kept 4 (block 1 2 2) ∷ []) ≡ block 0 1 1 ∷ block 1 2 2 ∷ []) × (numa_blocks_of [] ≡ [])
 blocks_examples = (refl, refl)
 
 is_node_of_examples : (is_node_of (kept 2 (block 0 1 1) ∷ kept 4 (block 1 2 2) ∷ []) 1 ≡ true) × (is_node_of [] 0 ≡ false)

@@ -7,7 +7,7 @@ use Rattle.std.proofs.lemmas.Option.{none-some, same_Some}
 use Rattle.address_runs.specs.Runs.{run_end, value_at, AreRuns, IsBefore}
 use Rattle.address_runs.specs.Sweep.{StartFrom}
 use Rattle.address_runs.proofs.RunsLaws.{none_below, rest_from, inside, below, behind}
-use Rattle.node_hulls.specs.Hulls.{Block}
+use Rattle.node_hulls.specs.Hulls.{NumaBlock}
 use Rattle.node_hulls.specs.Steps.{filled, led_by_run}
 
 -- a lower and a higher place give the node, and none between them gives another one
@@ -24,18 +24,18 @@ abbrev pub IsFilled : (ℕ → Option ℕ) → ℕ → ℕ → Type 0
 IsFilled f x n = (f x ≡ Some n) ⊎ IsAround f x n
 
 -- the second list is canonical and gives what the first gives, and what lies around
-pub record IsFilledBy (rs ts : List Block) : Type 0 where
+pub record IsFilledBy (rs ts : List NumaBlock) : Type 0 where
   pub runs : AreRuns ts
   pub sound : (x n : ℕ) → value_at ts x ≡ Some n → IsFilled (value_at rs) x n
   pub complete : (x n : ℕ) → IsFilled (value_at rs) x n → value_at ts x ≡ Some n
 
 -- where the first run of a canonical list lies against an address
-data Place (r : Block) (x : ℕ) : Type 0 where
+data Place (r : NumaBlock) (x : ℕ) : Type 0 where
   Below : x < r.base → Place r x
   Inside : r.base ≤ x → x < run_end r → Place r x
   Behind : run_end r ≤ x → Place r x
 
-place : (r : Block) (x : ℕ) → Place r x
+place : (r : NumaBlock) (x : ℕ) → Place r x
 place r x = elim (cases_lt x r.base) as (λ _. Place r x) [
   | inl lt ↦ Below lt
   | inr ge ↦ elim (cases_lt x (run_end r)) as (λ _. Place r x) [
@@ -44,24 +44,24 @@ place r x = elim (cases_lt x r.base) as (λ _. Place r x) [
   ]
 ]
 
-at_below : (r : Block) (rs : List Block) (x : ℕ) → AreRuns (r ∷ rs) → x < r.base → value_at (r ∷ rs) x ≡ None
+at_below : (r : NumaBlock) (rs : List NumaBlock) (x : ℕ) → AreRuns (r ∷ rs) → x < r.base → value_at (r ∷ rs) x ≡ None
 at_below r rs x runs lt = let start : StartFrom r.base (r ∷ rs) = omega arith in none_below r.base x (r ∷ rs) runs start lt
 
-at_inside : (r : Block) (rs : List Block) (x : ℕ) → r.base ≤ x → x < run_end r → value_at (r ∷ rs) x ≡ Some r.value
+at_inside : (r : NumaBlock) (rs : List NumaBlock) (x : ℕ) → r.base ≤ x → x < run_end r → value_at (r ∷ rs) x ≡ Some r.value
 at_inside r rs x above under = rw (inside r x above under) refl
 
-at_behind : (r : Block) (rs : List Block) (x : ℕ) → run_end r ≤ x → value_at (r ∷ rs) x ≡ value_at rs x
+at_behind : (r : NumaBlock) (rs : List NumaBlock) (x : ℕ) → run_end r ≤ x → value_at (r ∷ rs) x ≡ value_at rs x
 at_behind r rs x from = rw (behind r x from) refl
 
 -- what gives a value in the rest lies behind the first run
-rest_behind : (r : Block) (rs : List Block) (x n : ℕ) → AreRuns (r ∷ rs) → value_at rs x ≡ Some n → run_end r ≤ x
+rest_behind : (r : NumaBlock) (rs : List NumaBlock) (x n : ℕ) → AreRuns (r ∷ rs) → value_at rs x ≡ Some n → run_end r ≤ x
 rest_behind r rs x n runs some = elim (cases_lt x (run_end r)) as (λ _. run_end r ≤ x) [
   | inl lt ↦ absurd (none-some n (sym (none_below (run_end r) x rs runs.2 (rest_from r rs runs) lt) ∙ some))
   | inr ge ↦ ge
 ]
 
 -- what the rest fills the whole list fills
-lifted : (r : Block) (rs : List Block) (x n : ℕ) → AreRuns (r ∷ rs) → IsFilled (value_at rs) x n → IsFilled (value_at (r ∷ rs)) x n
+lifted : (r : NumaBlock) (rs : List NumaBlock) (x n : ℕ) → AreRuns (r ∷ rs) → IsFilled (value_at rs) x n → IsFilled (value_at (r ∷ rs)) x n
 lifted r rs x n runs (inl here) = inl (at_behind r rs x (rest_behind r rs x n runs here) ∙ here)
 lifted r rs x n runs (inr around) =
     let from : run_end r ≤ around.low = rest_behind r rs around.low n runs around.at_low in
@@ -79,7 +79,7 @@ lifted r rs x n runs (inr around) =
     })
 
 -- and what the whole list fills behind the first run, from places behind it, the rest fills
-lowered : (r : Block) (rs : List Block) (x n : ℕ) → (around : IsAround (value_at (r ∷ rs)) x n) → run_end r ≤ around.low
+lowered : (r : NumaBlock) (rs : List NumaBlock) (x n : ℕ) → (around : IsAround (value_at (r ∷ rs)) x n) → run_end r ≤ around.low
     → IsAround (value_at rs) x n
 lowered r rs x n around from =
     let under = around.under in
@@ -95,7 +95,7 @@ lowered r rs x n around from =
     }
 
 -- the base of the first joined run is that of a run
-first_value : (rs : List Block) (t : Block) (us : List Block) → IsFilledBy rs (t ∷ us) → value_at rs t.base ≡ Some t.value
+first_value : (rs : List NumaBlock) (t : NumaBlock) (us : List NumaBlock) → IsFilledBy rs (t ∷ us) → value_at rs t.base ≡ Some t.value
 first_value rs t us known =
     let some : value_at (t ∷ us) t.base ≡ Some t.value = at_inside t us t.base (omega arith) (omega (arith, known.runs.0)) in
     elim (known.sound t.base t.value some) as (λ _. value_at rs t.base ≡ Some t.value) [
@@ -106,7 +106,7 @@ first_value rs t us known =
     ]
 
 -- a value of the whole list at a place from which on the first run gives its own
-low_value : (r : Block) (rs : List Block) (x n : ℕ) → AreRuns (r ∷ rs) → value_at (r ∷ rs) x ≡ Some n → x < run_end r → r.value ≡ n
+low_value : (r : NumaBlock) (rs : List NumaBlock) (x n : ℕ) → AreRuns (r ∷ rs) → value_at (r ∷ rs) x ≡ Some n → x < run_end r → r.value ≡ n
 low_value r rs x n runs some under = elim (place r x) as (λ _. r.value ≡ n) [
   | Below lt ↦ absurd (none-some n (sym (at_below r rs x runs lt) ∙ some))
   | Inside above in_run ↦ same_Some r.value n (sym (at_inside r rs x above in_run) ∙ some)
@@ -114,7 +114,7 @@ low_value r rs x n runs some under = elim (place r x) as (λ _. r.value ≡ n) [
 ]
 
 -- from a place in the first run to one behind it: the first joined run behind it has the node too
-next_value : (r : Block) (rs : List Block) (t : Block) (us : List Block) (x n : ℕ) → AreRuns (r ∷ rs) → IsFilledBy rs (t ∷ us)
+next_value : (r : NumaBlock) (rs : List NumaBlock) (t : NumaBlock) (us : List NumaBlock) (x n : ℕ) → AreRuns (r ∷ rs) → IsFilledBy rs (t ∷ us)
     → (around : IsAround (value_at (r ∷ rs)) x n) → around.low < run_end r → run_end r ≤ x → t.value ≡ n
 next_value r rs t us x n runs known around low_in from =
     let over = around.over in
@@ -129,12 +129,12 @@ next_value r rs t us x n runs known around low_in from =
 
 -- what the whole list fills at an address: the first run's own node there, what the rest fills, or what lies between a place in
 -- the first run and one behind the address
-data Reached (r : Block) (rs : List Block) (x n : ℕ) : Type 0 where
+data Reached (r : NumaBlock) (rs : List NumaBlock) (x n : ℕ) : Type 0 where
   InFirst : r.base ≤ x → x < run_end r → r.value ≡ n → Reached r rs x n
   InRest : run_end r ≤ x → IsFilled (value_at rs) x n → Reached r rs x n
   Across : run_end r ≤ x → (around : IsAround (value_at (r ∷ rs)) x n) → around.low < run_end r → r.value ≡ n → Reached r rs x n
 
-reached_by : (r : Block) (rs : List Block) (x n : ℕ) → AreRuns (r ∷ rs) → Place r x → IsFilled (value_at (r ∷ rs)) x n → Reached r rs x n
+reached_by : (r : NumaBlock) (rs : List NumaBlock) (x n : ℕ) → AreRuns (r ∷ rs) → Place r x → IsFilled (value_at (r ∷ rs)) x n → Reached r rs x n
 reached_by r rs x n runs (Below lt) (inl here) = absurd (none-some n (sym (at_below r rs x runs lt) ∙ here))
 reached_by r rs x n runs (Below lt) (inr around) =
     let under = around.under in
@@ -150,11 +150,11 @@ reached_by r rs x n runs (Behind from) (inr around) = elim (cases_lt around.low 
   | inr behind_run ↦ InRest from (inr (lowered r rs x n around behind_run))
 ]
 
-reached : (r : Block) (rs : List Block) (x n : ℕ) → AreRuns (r ∷ rs) → IsFilled (value_at (r ∷ rs)) x n → Reached r rs x n
+reached : (r : NumaBlock) (rs : List NumaBlock) (x n : ℕ) → AreRuns (r ∷ rs) → IsFilled (value_at (r ∷ rs)) x n → Reached r rs x n
 reached r rs x n runs filling = reached_by r rs x n runs (place r x) filling
 
 -- where nothing is joined behind the first run, nothing is behind it
-last_step : (r : Block) (rs : List Block) → AreRuns (r ∷ rs) → IsFilledBy rs [] → IsFilledBy (r ∷ rs) (r ∷ [])
+last_step : (r : NumaBlock) (rs : List NumaBlock) → AreRuns (r ∷ rs) → IsFilledBy rs [] → IsFilledBy (r ∷ rs) (r ∷ [])
 last_step r rs runs known = record {
   runs = (runs.0, tt, tt);
   sound = λ x n some. elim (place r x) as (λ _. IsFilled (value_at (r ∷ rs)) x n) [
@@ -172,7 +172,7 @@ last_step r rs runs known = record {
 }
 
 -- where the next joined run has another node, the first run stands alone
-apart_step : (r : Block) (rs : List Block) (t : Block) (us : List Block) → AreRuns (r ∷ rs) → IsFilledBy rs (t ∷ us) → r.value ≢ t.value
+apart_step : (r : NumaBlock) (rs : List NumaBlock) (t : NumaBlock) (us : List NumaBlock) → AreRuns (r ∷ rs) → IsFilledBy rs (t ∷ us) → r.value ≢ t.value
     → IsFilledBy (r ∷ rs) (r ∷ (t ∷ us))
 apart_step r rs t us runs known other =
     let above : run_end r ≤ t.base = rest_behind r rs t.base t.value runs (first_value rs t us known) in
@@ -192,15 +192,15 @@ apart_step r rs t us runs known other =
     }
 
 -- where it has the same node, the first run reaches to its end
-abbrev spanning : Block → Block → Block
+abbrev spanning : NumaBlock → NumaBlock → NumaBlock
 spanning r t = record { base = r.base; size = run_end t - r.base; value = r.value }
 
-before_same : (r t : Block) (us : List Block) → r.base ≤ run_end t → r.value ≡ t.value → IsBefore t us → IsBefore (spanning r t) us
+before_same : (r t : NumaBlock) (us : List NumaBlock) → r.base ≤ run_end t → r.value ≡ t.value → IsBefore t us → IsBefore (spanning r t) us
 before_same r t [] order same before = tt
 before_same r t (u ∷ us) order same before = (omega arith, λ touch equal. before.1 (omega arith) (sym same ∙ equal))
 
 -- from the base of the next joined run on it gives what was given before
-span_same : (r t : Block) (us : List Block) (x : ℕ) → r.base ≤ t.base → r.value ≡ t.value → t.base ≤ x
+span_same : (r t : NumaBlock) (us : List NumaBlock) (x : ℕ) → r.base ≤ t.base → r.value ≡ t.value → t.base ≤ x
     → value_at (spanning r t ∷ us) x ≡ value_at (t ∷ us) x
 span_same r t us x order same from = elim (cases_lt x (run_end t)) as (λ _. value_at (spanning r t ∷ us) x ≡ value_at (t ∷ us) x) [
   | inl under ↦ at_inside (spanning r t) us x (omega arith) (omega arith) ∙ ap (λ m. Some m) same ∙ sym (at_inside t us x from under)
@@ -208,7 +208,7 @@ span_same r t us x order same from = elim (cases_lt x (run_end t)) as (λ _. val
 ]
 
 -- and between the first run and that base the node of both
-gap_around : (r : Block) (rs : List Block) (t : Block) (us : List Block) (x : ℕ) → AreRuns (r ∷ rs) → IsFilledBy rs (t ∷ us)
+gap_around : (r : NumaBlock) (rs : List NumaBlock) (t : NumaBlock) (us : List NumaBlock) (x : ℕ) → AreRuns (r ∷ rs) → IsFilledBy rs (t ∷ us)
     → r.value ≡ t.value → run_end r ≤ x → x < t.base → IsAround (value_at (r ∷ rs)) x r.value
 gap_around r rs t us x runs known same from under =
     let first : value_at rs t.base ≡ Some t.value = first_value rs t us known in
@@ -236,7 +236,7 @@ gap_around r rs t us x runs known same from under =
     }
 
 -- what lies across, from the base of the next joined run on
-across_rest : (r : Block) (rs : List Block) (t : Block) (us : List Block) (x n : ℕ) → AreRuns (r ∷ rs) → IsFilledBy rs (t ∷ us)
+across_rest : (r : NumaBlock) (rs : List NumaBlock) (t : NumaBlock) (us : List NumaBlock) (x n : ℕ) → AreRuns (r ∷ rs) → IsFilledBy rs (t ∷ us)
     → (around : IsAround (value_at (r ∷ rs)) x n) → around.low < run_end r → run_end r ≤ x → t.base ≤ x → value_at (t ∷ us) x ≡ Some n
 across_rest r rs t us x n runs known around low_in from reach =
     let node : t.value ≡ n = next_value r rs t us x n runs known around low_in from in
@@ -258,7 +258,7 @@ across_rest r rs t us x n runs known around low_in from reach =
           known.complete x n (inl (ap (value_at rs) (sym at) ∙ first ∙ ap (λ m. Some m) node))
     ]
 
-same_step : (r : Block) (rs : List Block) (t : Block) (us : List Block) → AreRuns (r ∷ rs) → IsFilledBy rs (t ∷ us) → r.value ≡ t.value
+same_step : (r : NumaBlock) (rs : List NumaBlock) (t : NumaBlock) (us : List NumaBlock) → AreRuns (r ∷ rs) → IsFilledBy rs (t ∷ us) → r.value ≡ t.value
     → IsFilledBy (r ∷ rs) (spanning r t ∷ us)
 same_step r rs t us runs known same =
     let above : run_end r ≤ t.base = rest_behind r rs t.base t.value runs (first_value rs t us known) in
@@ -295,7 +295,7 @@ same_step r rs t us runs known same =
       ];
     }
 
-led_step : (r : Block) (rs ts : List Block) → AreRuns (r ∷ rs) → IsFilledBy rs ts → IsFilledBy (r ∷ rs) (led_by_run r ts)
+led_step : (r : NumaBlock) (rs ts : List NumaBlock) → AreRuns (r ∷ rs) → IsFilledBy rs ts → IsFilledBy (r ∷ rs) (led_by_run r ts)
 led_step r rs [] runs known = last_step r rs runs known
 led_step r rs (t ∷ us) runs known = elim (cases_Bool (r.value == t.value)) as (λ _. IsFilledBy (r ∷ rs) (led_by_run r (t ∷ us))) [
   | inl equal ↦ rw equal (same_step r rs t us runs known (grind (arith, nat_tests)))
@@ -303,7 +303,7 @@ led_step r rs (t ∷ us) runs known = elim (cases_Bool (r.value == t.value)) as 
 ]
 
 -- so the joined runs give what the runs give, and what lies around
-pub filled_by : (rs : List Block) → AreRuns rs → IsFilledBy rs (filled rs)
+pub filled_by : (rs : List NumaBlock) → AreRuns rs → IsFilledBy rs (filled rs)
 filled_by [] runs = record {
   runs = tt;
   sound = λ x n some. absurd (none-some n some);

@@ -14,9 +14,9 @@ use Rattle.node_hulls.specs.declared.kept.KeptBlock.{KeptBlock}
 use Rattle.node_hulls.specs.declared.reasons.Why.{Why}
 use Rattle.node_hulls.specs.declared.reasons.Why.TheVariants as why
 use Rattle.node_hulls.specs.Domains.{node_of}
-use Rattle.node_hulls.specs.Hulls.{Block, same_node}
+use Rattle.node_hulls.specs.Hulls.{NumaBlock, same_node}
 use Rattle.node_hulls.specs.Judgement.{Judgement, frames_given, if_apart, if_covering, judged, judged_kept, judged_table, left_by, names_of, nodes_by, unused, used}
-use Rattle.node_hulls.specs.Kept.{any_kept, count_some, first_clash, frame_base, framed, has_memory, is_node_of, kept_from, kept_of, of_node}
+use Rattle.node_hulls.specs.Kept.{any_kept, count_some, first_clash, frame_base, framed, meets_memory, is_node_of, kept_from, kept_of, of_node}
 use Rattle.node_hulls.proofs.InListLaws.{IsIn, any_member}
 use Rattle.node_hulls.proofs.JudgedLaws.{tells_nodes}
 use Rattle.node_hulls.proofs.MeaningLaws.{left_frame, node_of_kept, nodes_frame}
@@ -121,8 +121,8 @@ kept-small : (memory : ℕ → Bool) (domains : List ℕ) (i : ℕ) (bs : List S
     → IsIn k (kept_from memory domains i bs) → k.block.value < 1024
 kept-small memory domains i [] k few member = absurd member
 kept-small memory domains i (b ∷ bs) k few member =
-    by (has_memory memory (extent_of (of_node domains b))) refl (kept-small memory domains (i + 1) bs k few) member where
-      by : (some : Bool) → has_memory memory (extent_of (of_node domains b)) ≡ some
+    by (meets_memory memory (extent_of (of_node domains b))) refl (kept-small memory domains (i + 1) bs k few) member where
+      by : (some : Bool) → meets_memory memory (extent_of (of_node domains b)) ≡ some
           → (IsIn k (kept_from memory domains (i + 1) bs) → k.block.value < 1024)
           → IsIn k (kept_from memory domains i (b ∷ bs)) → k.block.value < 1024
       by true some rest here = elim (rw some at here) as (λ _. k.block.value < 1024) [
@@ -143,22 +143,22 @@ some-kept : (memory : ℕ → Bool) (domains : List ℕ) (i : ℕ) (bs : List Sr
     → kept_from memory domains i bs ≢ []
 some-kept memory domains i [] any = absurd (true≢false (sym any))
 some-kept memory domains i (b ∷ bs) any =
-    elim (cases_Bool (has_memory memory (framed b.range))) as (λ _. kept_from memory domains i (b ∷ bs) ≢ []) [
-      | inl here ↦ let kept : has_memory memory (extent_of (of_node domains b)) ≡ true = here in rw kept (λ same. cc)
+    elim (cases_Bool (meets_memory memory (framed b.range))) as (λ _. kept_from memory domains i (b ∷ bs) ≢ []) [
+      | inl here ↦ let kept : meets_memory memory (extent_of (of_node domains b)) ≡ true = here in rw kept (λ same. cc)
       | inr not_here ↦
-          let not_kept : has_memory memory (extent_of (of_node domains b)) ≡ false = not_here in
+          let not_kept : meets_memory memory (extent_of (of_node domains b)) ≡ false = not_here in
           rw not_kept (some-kept memory domains (i + 1) bs (rw not_here at any))
     ]
 
 -- each run has an address and a node below 1,024
-abbrev Small : Block → Type 0
+abbrev Small : NumaBlock → Type 0
 Small b = (0 < b.size) × (b.value < 1024)
 
 small-runs : (f : ℕ → Option ℕ) → ((x n : ℕ) → f x ≡ Some n → n < 1024) → All Small (runs_of same_node f)
 small-runs f few =
     let runs : AreRuns (runs_of same_node f) = (runs-between f).runs in
-    let some : All (λ (b : Block). 0 < b.size) (runs_of same_node f) = runs-some (runs_of same_node f) runs in
-    let small : All (λ (b : Block). b.value < 1024) (runs_of same_node f) = all-values (λ (n : ℕ). n < 1024) same_node f few in
+    let some : All (λ (b : NumaBlock). 0 < b.size) (runs_of same_node f) = runs-some (runs_of same_node f) runs in
+    let small : All (λ (b : NumaBlock). b.value < 1024) (runs_of same_node f) = all-values (λ (n : ℕ). n < 1024) same_node f few in
     λ k d less. (some k d less, small k d less)
 
 pub given-small : (memory : ℕ → Bool) (off : Bool) (table : Option Affinity)

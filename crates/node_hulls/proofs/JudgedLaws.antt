@@ -7,9 +7,9 @@ use Rattle.address_runs.proofs.RunsLaws.{the_list}
 use Rattle.srat_reader.specs.Table.{Affinity}
 use Rattle.node_hulls.specs.declared.kept.KeptBlock.{KeptBlock}
 use Rattle.node_hulls.specs.declared.reasons.Why.TheVariants as why
-use Rattle.node_hulls.specs.Hulls.{Block, same_node}
+use Rattle.node_hulls.specs.Hulls.{NumaBlock, same_node}
 use Rattle.node_hulls.specs.Judgement.{left_over, frames_given, lowest, nodes_by, left_by, names_of, unused, judged_kept, judged_table}
-use Rattle.node_hulls.specs.Kept.{any_kept, blocks_of, count_some, first_clash, kept_of}
+use Rattle.node_hulls.specs.Kept.{any_kept, numa_blocks_of, count_some, first_clash, kept_of}
 use Rattle.node_hulls.specs.Steps.{EndInSpace}
 use Rattle.node_hulls.proofs.NodesLaws.{node_none}
 use Rattle.node_hulls.proofs.RestLaws.{space_none}
@@ -29,11 +29,11 @@ pub whole_domains : (domains full : List ℕ) → domains ≡ take 1025 full →
 whole_domains domains full is few = is ∙ take_all 1025 full (omega (arith, few_domains domains full is few))
 
 -- what the last steps found
-pub record Found (memory : ℕ → Bool) (kept : List KeptBlock) (joined rest : List Block) (frames : ℕ) : Type 0 where
+pub record Found (memory : ℕ → Bool) (kept : List KeptBlock) (joined rest : List NumaBlock) (frames : ℕ) : Type 0 where
   pub apart : first_clash kept ≡ None
-  pub kept_space : EndInSpace (blocks_of kept)
+  pub kept_space : EndInSpace (numa_blocks_of kept)
   pub hulls : IsRunsOf (nodes_by kept) joined
-  pub left : IsRunsOf (left_over memory (value_at joined) (lowest (blocks_of kept))) rest
+  pub left : IsRunsOf (left_over memory (value_at joined) (lowest (numa_blocks_of kept))) rest
   pub left_space : EndInSpace rest
   pub counted : frames ≡ frames_given (value_at rest)
 
@@ -41,21 +41,21 @@ pub tells_nodes : Tells same_node
 tells_nodes = record { true_is_equal = λ a b same. grind (arith, nat_tests); equal_is_true = λ a b same. grind (arith, nat_tests) }
 
 -- the same in the words of the definitions
-record Spoken (memory : ℕ → Bool) (kept : List KeptBlock) (joined rest : List Block) (frames : ℕ) : Type 0 where
+record Spoken (memory : ℕ → Bool) (kept : List KeptBlock) (joined rest : List NumaBlock) (frames : ℕ) : Type 0 where
   hulls : joined ≡ runs_of same_node (nodes_by kept)
   left : rest ≡ runs_of same_node (left_by memory kept)
   counted : frames_given (left_by memory kept) ≡ frames
 
-module _ (memory : ℕ → Bool) (kept : List KeptBlock) (joined rest : List Block) (frames : ℕ)
+module _ (memory : ℕ → Bool) (kept : List KeptBlock) (joined rest : List NumaBlock) (frames : ℕ)
     (found : Found memory kept joined rest frames) where
   spoken : Spoken memory kept joined rest frames
   spoken =
       let at_nodes : value_at joined ≡ nodes_by kept = λ i x. found.hulls.each x i in
       let left : IsRunsOf (left_by memory kept) rest =
-      subst (λ (f : ℕ → Option ℕ). IsRunsOf (left_over memory f (lowest (blocks_of kept))) rest) at_nodes found.left in
+      subst (λ (f : ℕ → Option ℕ). IsRunsOf (left_over memory f (lowest (numa_blocks_of kept))) rest) at_nodes found.left in
       let at_left : value_at rest ≡ left_by memory kept = λ i x. left.each x i in
       record {
-        hulls = the_list same_node tells_nodes (nodes_by kept) joined (λ x far. node_none (blocks_of kept) x found.kept_space far)
+        hulls = the_list same_node tells_nodes (nodes_by kept) joined (λ x far. node_none (numa_blocks_of kept) x found.kept_space far)
             found.hulls;
         left = the_list same_node tells_nodes (left_by memory kept) rest
             (λ x far. sym (left.each x) ∙ space_none rest x found.left_space far) left;

@@ -10,8 +10,8 @@ use Rattle.address_runs.specs.Overlay.{HaveAddresses}
 use Rattle.address_runs.specs.Runs.{run_end, extent_of}
 use Rattle.srat_reader.specs.declared.table.SratBlock.{SratBlock}
 use Rattle.node_hulls.specs.declared.kept.KeptBlock.{KeptBlock}
-use Rattle.node_hulls.specs.Hulls.{Block}
-use Rattle.node_hulls.specs.Kept.{blocks_of, has_memory, of_node, kept_one, kept_from, kept_of, any_kept}
+use Rattle.node_hulls.specs.Hulls.{NumaBlock}
+use Rattle.node_hulls.specs.Kept.{numa_blocks_of, meets_memory, of_node, kept_one, kept_from, kept_of, any_kept}
 use Rattle.node_hulls.specs.Steps.{EndInSpace}
 
 -- the first of several that passes, from one place on
@@ -27,20 +27,20 @@ pub kept_step : (memory : ℕ → Bool) (domains : List ℕ) (blocks : List Srat
 kept_step memory domains blocks i b lt is = rw (drop-cons blocks i b lt, ← is, add-one) refl
 
 -- with one block more, if it is kept, the kept blocks still end in the address space
-pub kept_space : (memory : ℕ → Bool) (kept : List KeptBlock) (i : ℕ) (b : Block) → EndInSpace (blocks_of kept) → run_end b < 2 ^ 64
-    → EndInSpace (blocks_of (kept ++ kept_one memory i b))
+pub kept_space : (memory : ℕ → Bool) (kept : List KeptBlock) (i : ℕ) (b : NumaBlock) → EndInSpace (numa_blocks_of kept) → run_end b < 2 ^ 64
+    → EndInSpace (numa_blocks_of (kept ++ kept_one memory i b))
 kept_space memory kept i b space ends =
-    elim (cases_Bool (has_memory memory (extent_of b))) as (λ _. EndInSpace (blocks_of (kept ++ kept_one memory i b))) [
+    elim (cases_Bool (meets_memory memory (extent_of b))) as (λ _. EndInSpace (numa_blocks_of (kept ++ kept_one memory i b))) [
       | inl some ↦ rw some (space_behind kept i b space ends)
       | inr none ↦ rw (none, append-nil kept) space
     ] where
-      space_behind : (ks : List KeptBlock) (j : ℕ) (c : Block) → EndInSpace (blocks_of ks) → run_end c < 2 ^ 64
-          → EndInSpace (blocks_of (ks ++ record { number = j; block = c } ∷ []))
+      space_behind : (ks : List KeptBlock) (j : ℕ) (c : NumaBlock) → EndInSpace (numa_blocks_of ks) → run_end c < 2 ^ 64
+          → EndInSpace (numa_blocks_of (ks ++ record { number = j; block = c } ∷ []))
       space_behind [] j c ok last = (last, tt)
       space_behind (k ∷ ks) j c ok last = (ok.0, space_behind ks j c ok.1 last)
 
 -- a block that is kept has an address: a byte of memory
-has_address : (memory : ℕ → Bool) (b : Block) → has_memory memory (extent_of b) ≡ true → 0 < b.size
+has_address : (memory : ℕ → Bool) (b : NumaBlock) → meets_memory memory (extent_of b) ≡ true → 0 < b.size
 has_address memory b some = elim (cases_lt 0 b.size) as (λ _. 0 < b.size) [
   | inl lt ↦ lt
   | inr none ↦
@@ -50,17 +50,17 @@ has_address memory b some = elim (cases_lt 0 b.size) as (λ _. 0 < b.size) [
 ]
 
 kept_addresses : (memory : ℕ → Bool) (domains : List ℕ) (i : ℕ) (bs : List SratBlock)
-    → HaveAddresses (blocks_of (kept_from memory domains i bs))
+    → HaveAddresses (numa_blocks_of (kept_from memory domains i bs))
 kept_addresses memory domains i [] = tt
-kept_addresses memory domains i (b ∷ bs) = by (has_memory memory (extent_of (of_node domains b))) refl
+kept_addresses memory domains i (b ∷ bs) = by (meets_memory memory (extent_of (of_node domains b))) refl
     (kept_addresses memory domains (i + 1) bs) where
-      by : (some : Bool) → has_memory memory (extent_of (of_node domains b)) ≡ some
-          → HaveAddresses (blocks_of (kept_from memory domains (i + 1) bs))
-          → HaveAddresses (blocks_of (kept_from memory domains i (b ∷ bs)))
+      by : (some : Bool) → meets_memory memory (extent_of (of_node domains b)) ≡ some
+          → HaveAddresses (numa_blocks_of (kept_from memory domains (i + 1) bs))
+          → HaveAddresses (numa_blocks_of (kept_from memory domains i (b ∷ bs)))
       by true some rest = rw some (has_address memory (of_node domains b) some, rest)
       by false none rest = rw none rest
 
-pub addresses_kept : (memory : ℕ → Bool) (domains : List ℕ) (bs : List SratBlock) → HaveAddresses (blocks_of (kept_of memory domains bs))
+pub addresses_kept : (memory : ℕ → Bool) (domains : List ℕ) (bs : List SratBlock) → HaveAddresses (numa_blocks_of (kept_of memory domains bs))
 addresses_kept memory domains bs = kept_addresses memory domains 0 bs
 
 -- what is memory alike keeps the same blocks

@@ -13,9 +13,9 @@ use Rattle.bm_base.specs.Each.{each_from, each_in}
 use Rattle.srat_reader.specs.declared.table.SratBlock.{SratBlock}
 use Rattle.node_hulls.specs.declared.kept.KeptBlock.{KeptBlock}
 use Rattle.node_hulls.specs.Domains.{is_named, node_of}
-use Rattle.node_hulls.specs.Hulls.{Block, is_between, holds, joins, has, first_had, node_at}
+use Rattle.node_hulls.specs.Hulls.{NumaBlock, is_between, holds, joins, has, first_had, node_at}
 use Rattle.node_hulls.specs.Judgement.{lower, lowest, nodes_by, left_by}
-use Rattle.node_hulls.specs.Kept.{blocks_of, first_clash, frame_base, has_memory, is_node_of, of_node, kept_from, kept_of}
+use Rattle.node_hulls.specs.Kept.{numa_blocks_of, first_clash, frame_base, meets_memory, is_node_of, of_node, kept_from, kept_of}
 use Rattle.node_hulls.proofs.FilledLaws.{IsAround, IsFilled}
 use Rattle.node_hulls.proofs.InListLaws.{IsIn, any_member, member_any}
 use Rattle.node_hulls.proofs.KeptLaws.{addresses_kept}
@@ -46,7 +46,7 @@ one_filled f x m n (inr around) (inl second) =
 one_filled f x m n (inr first) (inr second) = one_around f x m n first second
 
 -- so the node of an address is the one that it has
-node_had : (blocks : List Block) (x n : ℕ) → Apart blocks → HaveAddresses blocks → has blocks n x ≡ true → node_at blocks x ≡ Some n
+node_had : (blocks : List NumaBlock) (x n : ℕ) → Apart blocks → HaveAddresses blocks → has blocks n x ≡ true → node_at blocks x ≡ Some n
 unfolding node_at
 node_had blocks x n apart some had = by (first_had blocks x blocks) refl where
   by : (o : Option ℕ) → first_had blocks x blocks ≡ o → first_had blocks x blocks ≡ Some n
@@ -58,14 +58,14 @@ node_had blocks x n apart some had = by (first_had blocks x blocks) refl where
       let block = node_block blocks n x had in
       absurd (first_some blocks x blocks block.0 block.1 (subst (λ (k : ℕ). has blocks k x ≡ true) (sym block.2) had) at)
 
-node_has : (blocks : List Block) (x n : ℕ) → node_at blocks x ≡ Some n → has blocks n x ≡ true
+node_has : (blocks : List NumaBlock) (x n : ℕ) → node_at blocks x ≡ Some n → has blocks n x ≡ true
 unfolding node_at
 node_has blocks x n at = first_has blocks x n blocks at
 
-pub one_node : (kept : List KeptBlock) → first_clash kept ≡ None → HaveAddresses (blocks_of kept)
-    → (x n : ℕ) → (has (blocks_of kept) n x ≡ true) ↔ (nodes_by kept x ≡ Some n)
+pub one_node : (kept : List KeptBlock) → first_clash kept ≡ None → HaveAddresses (numa_blocks_of kept)
+    → (x n : ℕ) → (has (numa_blocks_of kept) n x ≡ true) ↔ (nodes_by kept x ≡ Some n)
 one_node kept apart some x n =
-    ((λ had. node_had (blocks_of kept) x n (apart_blocks kept apart) some had), (λ at. node_has (blocks_of kept) x n at))
+    ((λ had. node_had (numa_blocks_of kept) x n (apart_blocks kept apart) some had), (λ at. node_has (numa_blocks_of kept) x n at))
 
 -- a domain that is named has a place
 no_place : (p : ℕ → Bool) (i : ℕ) (xs : List ℕ) → position_from p i xs ≡ None → list_any p xs ≡ false
@@ -102,20 +102,20 @@ pub node_below : (domains : List ℕ) (d : ℕ) → is_named domains d ≡ true 
 node_below domains d named = (place_of domains d named).below
 
 -- blocks that begin and end at frames
-abbrev pub Framed : List Block → Type 0
-Framed blocks = (b : Block) → IsIn b blocks → (b.base % 4096 ≡ 0) × (run_end b % 4096 ≡ 0)
+abbrev pub Framed : List NumaBlock → Type 0
+Framed blocks = (b : NumaBlock) → IsIn b blocks → (b.base % 4096 ≡ 0) × (run_end b % 4096 ≡ 0)
 
-in_frame : (b : Block) (x : ℕ) → b.base % 4096 ≡ 0 → run_end b % 4096 ≡ 0 → lies_in b x ≡ lies_in b (frame_base x)
+in_frame : (b : NumaBlock) (x : ℕ) → b.base % 4096 ≡ 0 → run_end b % 4096 ≡ 0 → lies_in b x ≡ lies_in b (frame_base x)
 in_frame b x first last = grind (arith, nat_tests)
 
-between_frame : (a b : Block) (x : ℕ) → run_end a % 4096 ≡ 0 → b.base % 4096 ≡ 0 → is_between a b x ≡ is_between a b (frame_base x)
+between_frame : (a b : NumaBlock) (x : ℕ) → run_end a % 4096 ≡ 0 → b.base % 4096 ≡ 0 → is_between a b x ≡ is_between a b (frame_base x)
 between_frame a b x first last = grind (arith, nat_tests)
 
 any_same : {X : Type 0} (p q : X → Bool) (xs : List X) → ((x : X) → IsIn x xs → p x ≡ q x) → list_any p xs ≡ list_any q xs
 any_same p q [] same = refl
 any_same p q (x ∷ xs) same = rw (same x (inl refl), any_same p q xs (λ y member. same y (inr member))) refl
 
-has_frame : (blocks : List Block) (n x : ℕ) → Framed blocks → has blocks n x ≡ has blocks n (frame_base x)
+has_frame : (blocks : List NumaBlock) (n x : ℕ) → Framed blocks → has blocks n x ≡ has blocks n (frame_base x)
 has_frame blocks n x framed =
     let held : holds blocks n x ≡ holds blocks n (frame_base x) = any_same _ _ blocks (λ b member.
     rw (in_frame b x (framed b member).0 (framed b member).1) refl) in
@@ -124,26 +124,26 @@ has_frame blocks n x framed =
     rw (between_frame a b x (framed a in_a).1 (framed b in_b).0) refl))) in
     rw (held, joined) refl
 
-first_frame : (blocks : List Block) (x : ℕ) (bs : List Block) → Framed blocks → first_had blocks x bs ≡ first_had blocks (frame_base x) bs
+first_frame : (blocks : List NumaBlock) (x : ℕ) (bs : List NumaBlock) → Framed blocks → first_had blocks x bs ≡ first_had blocks (frame_base x) bs
 first_frame blocks x [] framed = refl
 first_frame blocks x (b ∷ bs) framed = rw (has_frame blocks b.value x framed, first_frame blocks x bs framed) refl
 
-node_frame : (blocks : List Block) (x : ℕ) → Framed blocks → node_at blocks x ≡ node_at blocks (frame_base x)
+node_frame : (blocks : List NumaBlock) (x : ℕ) → Framed blocks → node_at blocks x ≡ node_at blocks (frame_base x)
 unfolding node_at
 node_frame blocks x framed = first_frame blocks x blocks framed
 
 framed_one : (domains : List ℕ) (b : SratBlock) → ((of_node domains b).base % 4096 ≡ 0) × (run_end (of_node domains b) % 4096 ≡ 0)
 framed_one domains b = (omega arith, omega arith)
 
-framed_kept : (memory : ℕ → Bool) (domains : List ℕ) (i : ℕ) (bs : List SratBlock) → Framed (blocks_of (kept_from memory domains i bs))
+framed_kept : (memory : ℕ → Bool) (domains : List ℕ) (i : ℕ) (bs : List SratBlock) → Framed (numa_blocks_of (kept_from memory domains i bs))
 framed_kept memory domains i [] c member = absurd member
 framed_kept memory domains i (b ∷ bs) c member =
-    by (has_memory memory (extent_of (of_node domains b))) refl (framed_kept memory domains (i + 1) bs) member where
-      by : (some : Bool) → has_memory memory (extent_of (of_node domains b)) ≡ some
-          → Framed (blocks_of (kept_from memory domains (i + 1) bs))
-          → IsIn c (blocks_of (kept_from memory domains i (b ∷ bs))) → (c.base % 4096 ≡ 0) × (run_end c % 4096 ≡ 0)
+    by (meets_memory memory (extent_of (of_node domains b))) refl (framed_kept memory domains (i + 1) bs) member where
+      by : (some : Bool) → meets_memory memory (extent_of (of_node domains b)) ≡ some
+          → Framed (numa_blocks_of (kept_from memory domains (i + 1) bs))
+          → IsIn c (numa_blocks_of (kept_from memory domains i (b ∷ bs))) → (c.base % 4096 ≡ 0) × (run_end c % 4096 ≡ 0)
       by true some rest here = elim (rw some at here) as (λ _. (c.base % 4096 ≡ 0) × (run_end c % 4096 ≡ 0)) [
-        | inl first ↦ subst (λ (d : Block). (d.base % 4096 ≡ 0) × (run_end d % 4096 ≡ 0)) (sym first) (framed_one domains b)
+        | inl first ↦ subst (λ (d : NumaBlock). (d.base % 4096 ≡ 0) × (run_end d % 4096 ≡ 0)) (sym first) (framed_one domains b)
         | inr later ↦ rest c later
       ]
       by false none rest here = rest c (rw none at here)
@@ -152,12 +152,12 @@ pub left_frame : (memory : ℕ → Bool) → ((x : ℕ) → memory x ≡ memory 
     → left_by memory (kept_of memory domains blocks) x ≡ left_by memory (kept_of memory domains blocks) (frame_base x)
 left_frame memory whole domains blocks x =
     let node : nodes_by (kept_of memory domains blocks) x ≡ nodes_by (kept_of memory domains blocks) (frame_base x) =
-    node_frame (blocks_of (kept_of memory domains blocks)) x (framed_kept memory domains 0 blocks) in
+    node_frame (numa_blocks_of (kept_of memory domains blocks)) x (framed_kept memory domains 0 blocks) in
     rw (whole x, node) refl
 
 pub nodes_frame : (memory : ℕ → Bool) (domains : List ℕ) (blocks : List SratBlock) (x : ℕ)
     → nodes_by (kept_of memory domains blocks) x ≡ nodes_by (kept_of memory domains blocks) (frame_base x)
-nodes_frame memory domains blocks x = node_frame (blocks_of (kept_of memory domains blocks)) x (framed_kept memory domains 0 blocks)
+nodes_frame memory domains blocks x = node_frame (numa_blocks_of (kept_of memory domains blocks)) x (framed_kept memory domains 0 blocks)
 
 -- a byte of memory in a range that has memory
 pub record MemoryIn (memory : ℕ → Bool) (from n : ℕ) : Type 0 where
@@ -178,7 +178,7 @@ memory_from memory x (suc n) some = elim (cases_Bool (memory x)) as (λ _. Memor
       record { at = later.at; above = omega arith; under = omega arith; is = later.is }
 ]
 
-memory_in : (memory : ℕ → Bool) (b : Block) → has_memory memory (extent_of b) ≡ true → MemoryIn memory b.base b.size
+memory_in : (memory : ℕ → Bool) (b : NumaBlock) → meets_memory memory (extent_of b) ≡ true → MemoryIn memory b.base b.size
 unfolding each_in
 memory_in memory b some = memory_from memory b.base b.size (by (each_from (λ y. not (memory y)) b.base b.size) refl) where
   by : (t : Bool) → each_from (λ y. not (memory y)) b.base b.size ≡ t → each_from (λ y. not (memory y)) b.base b.size ≡ false
@@ -186,20 +186,20 @@ memory_in memory b some = memory_from memory b.base b.size (by (each_from (λ y.
   by false at = at
 
 kept_memory : (memory : ℕ → Bool) (domains : List ℕ) (i : ℕ) (bs : List SratBlock) (k : KeptBlock) → IsIn k (kept_from memory domains i bs)
-    → has_memory memory (extent_of k.block) ≡ true
+    → meets_memory memory (extent_of k.block) ≡ true
 kept_memory memory domains i [] k member = absurd member
 kept_memory memory domains i (b ∷ bs) k member =
-    by (has_memory memory (extent_of (of_node domains b))) refl (kept_memory memory domains (i + 1) bs k) member where
-      by : (some : Bool) → has_memory memory (extent_of (of_node domains b)) ≡ some
-          → (IsIn k (kept_from memory domains (i + 1) bs) → has_memory memory (extent_of k.block) ≡ true)
-          → IsIn k (kept_from memory domains i (b ∷ bs)) → has_memory memory (extent_of k.block) ≡ true
-      by true some rest here = elim (rw some at here) as (λ _. has_memory memory (extent_of k.block) ≡ true) [
-        | inl first ↦ ap (λ (j : KeptBlock). has_memory memory (extent_of j.block)) first ∙ some
+    by (meets_memory memory (extent_of (of_node domains b))) refl (kept_memory memory domains (i + 1) bs k) member where
+      by : (some : Bool) → meets_memory memory (extent_of (of_node domains b)) ≡ some
+          → (IsIn k (kept_from memory domains (i + 1) bs) → meets_memory memory (extent_of k.block) ≡ true)
+          → IsIn k (kept_from memory domains i (b ∷ bs)) → meets_memory memory (extent_of k.block) ≡ true
+      by true some rest here = elim (rw some at here) as (λ _. meets_memory memory (extent_of k.block) ≡ true) [
+        | inl first ↦ ap (λ (j : KeptBlock). meets_memory memory (extent_of j.block)) first ∙ some
         | inr later ↦ rest later
       ]
       by false none rest here = rest (rw none at here)
 
-block_in : (ks : List KeptBlock) (k : KeptBlock) → IsIn k ks → IsIn k.block (blocks_of ks)
+block_in : (ks : List KeptBlock) (k : KeptBlock) → IsIn k ks → IsIn k.block (numa_blocks_of ks)
 block_in [] k member = absurd member
 block_in (j ∷ js) k (inl here) = inl (ap (λ (i : KeptBlock). i.block) here)
 block_in (j ∷ js) k (inr later) = inr (block_in js k later)
@@ -217,24 +217,24 @@ node_memory memory domains blocks apart n of_block =
     let above = place.above in
     let under = place.under in
     let lies : lies_in k.block place.at ≡ true = grind (arith, nat_tests) in
-    let held : holds (blocks_of kept) n place.at ≡ true =
-    held_by (blocks_of kept) k.block n place.at (block_in kept k found.member) node lies in (
+    let held : holds (numa_blocks_of kept) n place.at ≡ true =
+    held_by (numa_blocks_of kept) k.block n place.at (block_in kept k found.member) node lies in (
       place.at,
       place.is,
-      node_had (blocks_of kept) place.at n (apart_blocks kept apart) (addresses_kept memory domains blocks) (rw held refl),
+      node_had (numa_blocks_of kept) place.at n (apart_blocks kept apart) (addresses_kept memory domains blocks) (rw held refl),
     )
 
 -- and each node that memory gets is that of a kept block
-node_kept : (ks : List KeptBlock) (b : Block) (n : ℕ) → IsIn b (blocks_of ks) → b.value ≡ n → is_node_of ks n ≡ true
+node_kept : (ks : List KeptBlock) (b : NumaBlock) (n : ℕ) → IsIn b (numa_blocks_of ks) → b.value ≡ n → is_node_of ks n ≡ true
 node_kept ks b n member node =
     let found = kept_member ks b member in
-    let same : found.0.block.value ≡ n = ap (λ (c : Block). c.value) (sym found.2) ∙ node in
+    let same : found.0.block.value ≡ n = ap (λ (c : NumaBlock). c.value) (sym found.2) ∙ node in
     member_any _ ks found.0 found.1 (grind (arith, nat_tests))
 
-abbrev IsLeast : ℕ → List Block → Type 0
-IsLeast start bs = (fold lower start bs ≡ start) ⊎ ((b : Block) × IsIn b bs × (b.value ≡ fold lower start bs))
+abbrev IsLeast : ℕ → List NumaBlock → Type 0
+IsLeast start bs = (fold lower start bs ≡ start) ⊎ ((b : NumaBlock) × IsIn b bs × (b.value ≡ fold lower start bs))
 
-least_in : (start : ℕ) (bs : List Block) → IsLeast start bs
+least_in : (start : ℕ) (bs : List NumaBlock) → IsLeast start bs
 least_in start [] = inl refl
 least_in start (b ∷ bs) = elim (least_in (lower start b) bs) as (λ _. IsLeast start (b ∷ bs)) [
   | inr later ↦ inr (later.0, inr later.1, later.2)
@@ -244,23 +244,23 @@ least_in start (b ∷ bs) = elim (least_in (lower start b) bs) as (λ _. IsLeast
   ]
 ]
 
-lowest_kept : (ks : List KeptBlock) → ks ≢ [] → is_node_of ks (lowest (blocks_of ks)) ≡ true
+lowest_kept : (ks : List KeptBlock) → ks ≢ [] → is_node_of ks (lowest (numa_blocks_of ks)) ≡ true
 lowest_kept [] some = absurd (some refl)
 lowest_kept (k ∷ ks) some =
-    elim (least_in k.block.value (blocks_of ks)) as (λ _. is_node_of (k ∷ ks) (lowest (blocks_of (k ∷ ks))) ≡ true) [
-      | inl first ↦ node_kept (k ∷ ks) k.block (lowest (blocks_of (k ∷ ks))) (inl refl) (sym first)
-      | inr later ↦ node_kept (k ∷ ks) later.0 (lowest (blocks_of (k ∷ ks))) (inr later.1) later.2
+    elim (least_in k.block.value (numa_blocks_of ks)) as (λ _. is_node_of (k ∷ ks) (lowest (numa_blocks_of (k ∷ ks))) ≡ true) [
+      | inl first ↦ node_kept (k ∷ ks) k.block (lowest (numa_blocks_of (k ∷ ks))) (inl refl) (sym first)
+      | inr later ↦ node_kept (k ∷ ks) later.0 (lowest (numa_blocks_of (k ∷ ks))) (inr later.1) later.2
     ]
 
 pub node_of_kept : (memory : ℕ → Bool) (kept : List KeptBlock) → kept ≢ [] → (x n : ℕ)
     → (nodes_by kept x ≡ Some n) ⊎ (left_by memory kept x ≡ Some n)
     → is_node_of kept n ≡ true
 node_of_kept memory kept some x n (inl at) =
-    let block = node_block (blocks_of kept) n x (node_has (blocks_of kept) x n at) in
+    let block = node_block (numa_blocks_of kept) n x (node_has (numa_blocks_of kept) x n at) in
     node_kept kept block.0 n block.1 block.2
 node_of_kept memory kept some x n (inr left) = by (memory x && is_none (nodes_by kept x)) refl where
   by : (t : Bool) → (memory x && is_none (nodes_by kept x)) ≡ t → is_node_of kept n ≡ true
   by true at =
-      let same : lowest (blocks_of kept) ≡ n = same_Some (lowest (blocks_of kept)) n (rw at at left) in
+      let same : lowest (numa_blocks_of kept) ≡ n = same_Some (lowest (numa_blocks_of kept)) n (rw at at left) in
       subst (λ (m : ℕ). is_node_of kept m ≡ true) same (lowest_kept kept some)
   by false at = absurd (none-some n (rw at at left))

@@ -12,12 +12,12 @@ use Rattle.address_runs.specs.Overlay.{all_overlaid}
 use Rattle.address_runs.specs.Runs.{RunOf, run_end, extent_of, value_at, IsRunsOf}
 use Rattle.address_runs.specs.Sweep.{IsRestFrom}
 use Rattle.address_runs.proofs.RunsLaws.{inside, none_below}
-use Rattle.node_hulls.specs.Kept.{in_any, has_memory}
-use Rattle.node_hulls.specs.Steps.{bare, in_runs}
+use Rattle.node_hulls.specs.Kept.{in_any, meets_memory}
+use Rattle.node_hulls.specs.Steps.{nodeless, in_runs}
 use Rattle.node_hulls.proofs.RestLaws.{bare_given}
 
 -- the runs of memory tell of each address whether it is memory
-pub told_memory : (memory : List Extent) (rs : List (RunOf Bool)) → IsRunsOf (all_overlaid option_or (map bare memory)) rs → (x : ℕ)
+pub told_memory : (memory : List Extent) (rs : List (RunOf Bool)) → IsRunsOf (all_overlaid option_or (map nodeless memory)) rs → (x : ℕ)
     → in_runs rs x ≡ in_any memory x
 told_memory memory rs known x = ap (λ (o : Option Bool). is_some o) (known.each x ∙ bare_given memory x) ∙ by (in_any memory x) where
   by : (m : Bool) → is_some (if m then Some false else None) ≡ m
@@ -26,14 +26,14 @@ told_memory memory rs known x = ap (λ (o : Option Bool). is_some o) (known.each
 
 -- a range with a byte of memory, and one with none
 some_in : (rs : List (RunOf Bool)) (range : Extent) (x : ℕ) (v : Bool) → range.base ≤ x → x < range.base + range.size
-    → value_at rs x ≡ Some v → has_memory (in_runs rs) range ≡ true
+    → value_at rs x ≡ Some v → meets_memory (in_runs rs) range ≡ true
 some_in rs range x v low high found =
     let missed : each_in range (λ y. not (in_runs rs y)) ≡ false =
     each_in-fails range (λ y. not (in_runs rs y)) x low high (rw found refl) in
     rw missed refl
 
 none_in : (rs : List (RunOf Bool)) (range : Extent) → ((y : ℕ) → range.base ≤ y → y < range.base + range.size → value_at rs y ≡ None)
-    → has_memory (in_runs rs) range ≡ false
+    → meets_memory (in_runs rs) range ≡ false
 none_in rs range none =
     let all : each_in range (λ y. not (in_runs rs y)) ≡ true =
     each_in-all range (λ y. not (in_runs rs y)) (λ y low high. rw (none y low high) refl) in
@@ -41,7 +41,7 @@ none_in rs range none =
 
 -- no run is left
 pub nothing_left : (rs : List (RunOf Bool)) (i : ℕ) (range : Extent) → IsRestFrom (value_at rs) range.base (drop i rs) → length rs ≤ i
-    → has_memory (in_runs rs) range ≡ false
+    → meets_memory (in_runs rs) range ≡ false
 nothing_left rs i range rest all =
     none_in rs range (λ y low high. sym (rest.each y low) ∙ at_drop_all (λ (ss : List (RunOf Bool)). value_at ss y) rs i all)
 
@@ -56,7 +56,7 @@ left_at rs i range r rest few is =
     subst (λ (ss : List (RunOf Bool)). IsRestFrom (value_at rs) range.base ss) left rest
 
 first_meets : (rs : List (RunOf Bool)) (i : ℕ) (range : Extent) (r : RunOf Bool) → IsRestFrom (value_at rs) range.base (drop i rs)
-    → i < length rs → r ≡ get_or rs i r → Meet (extent_of r) range → has_memory (in_runs rs) range ≡ true
+    → i < length rs → r ≡ get_or rs i r → Meet (extent_of r) range → meets_memory (in_runs rs) range ≡ true
 first_meets rs i range r rest few is met =
     let left = left_at rs i range r rest few is in
     let x : ℕ = met.0 in
@@ -76,7 +76,7 @@ begins_above r range y apart ends some low high = elim (cases_lt y r.base) as (�
 ]
 
 first_misses : (rs : List (RunOf Bool)) (i : ℕ) (range : Extent) (r : RunOf Bool) → IsRestFrom (value_at rs) range.base (drop i rs)
-    → i < length rs → r ≡ get_or rs i r → (Meet (extent_of r) range → ⊥) → has_memory (in_runs rs) range ≡ false
+    → i < length rs → r ≡ get_or rs i r → (Meet (extent_of r) range → ⊥) → meets_memory (in_runs rs) range ≡ false
 first_misses rs i range r rest few is apart =
     let left = left_at rs i range r rest few is in
     none_in rs range
@@ -86,7 +86,7 @@ first_misses rs i range r rest few is apart =
     (begins_above r range y apart left.ends left.runs.0 low high))
 
 pub first_tells : (rs : List (RunOf Bool)) (i : ℕ) (range : Extent) (r : RunOf Bool) → IsRestFrom (value_at rs) range.base (drop i rs)
-    → i < length rs → r ≡ get_or rs i r → (met : Bool) → (met ≡ true ↔ Meet (extent_of r) range) → met ≡ has_memory (in_runs rs) range
+    → i < length rs → r ≡ get_or rs i r → (met : Bool) → (met ≡ true ↔ Meet (extent_of r) range) → met ≡ meets_memory (in_runs rs) range
 first_tells rs i range r rest few is true tells = sym (first_meets rs i range r rest few is (tells.0 refl))
 first_tells rs i range r rest few is false tells =
     sym (first_misses rs i range r rest few is (λ met. true≢false (sym (tells.1 met))))

@@ -11,52 +11,52 @@ use Rattle.address_runs.specs.Overlay.{all_overlaid, HaveAddresses}
 use Rattle.address_runs.specs.Runs.{run_end, lies_in, value_at, IsRunsOf}
 use Rattle.address_runs.proofs.RunsLaws.{inside}
 use Rattle.node_hulls.specs.declared.kept.KeptBlock.{KeptBlock}
-use Rattle.node_hulls.specs.Hulls.{Block, meets, is_between, is_own, holds, joins, has, first_had, node_at}
-use Rattle.node_hulls.specs.Kept.{blocks_of, clash, first_clash}
+use Rattle.node_hulls.specs.Hulls.{NumaBlock, meets, is_between, is_own, holds, joins, has, first_had, node_at}
+use Rattle.node_hulls.specs.Kept.{numa_blocks_of, clash, first_clash}
 use Rattle.node_hulls.specs.Steps.{filled, EndInSpace}
 use Rattle.node_hulls.proofs.FilledLaws.{IsAround, IsFilled, IsFilledBy, filled_by}
 use Rattle.node_hulls.proofs.InListLaws.{IsIn, any_member, member_any, all_member, member_all}
 
 -- two blocks that share an address are of one node
-abbrev pub Apart : List Block → Type 0
-Apart blocks = (a b : Block) (x : ℕ) → IsIn a blocks → IsIn b blocks → lies_in a x ≡ true → lies_in b x ≡ true → a.value ≡ b.value
+abbrev pub Apart : List NumaBlock → Type 0
+Apart blocks = (a b : NumaBlock) (x : ℕ) → IsIn a blocks → IsIn b blocks → lies_in a x ≡ true → lies_in b x ≡ true → a.value ≡ b.value
 
 -- no block is empty
-some_address : (blocks : List Block) (b : Block) → HaveAddresses blocks → IsIn b blocks → 0 < b.size
+some_address : (blocks : List NumaBlock) (b : NumaBlock) → HaveAddresses blocks → IsIn b blocks → 0 < b.size
 some_address [] b some member = absurd member
-some_address (c ∷ cs) b some (inl here) = subst (λ (d : Block). 0 < d.size) (sym here) some.0
+some_address (c ∷ cs) b some (inl here) = subst (λ (d : NumaBlock). 0 < d.size) (sym here) some.0
 some_address (c ∷ cs) b some (inr later) = some_address cs b some.1 later
 
 -- the blocks laid over one another give the first one's node
-pub first_given : (blocks : List Block) (x : ℕ) → all_overlaid option_or blocks x ≡ value_at blocks x
+pub first_given : (blocks : List NumaBlock) (x : ℕ) → all_overlaid option_or blocks x ≡ value_at blocks x
 first_given [] x = refl
 first_given (b ∷ bs) x = elim (cases_Bool (lies_in b x)) as (λ _. all_overlaid option_or (b ∷ bs) x ≡ value_at (b ∷ bs) x) [
   | inl lies ↦ rw lies refl
   | inr outside ↦ rw outside (first_given bs x)
 ]
 
-pub laid_given : (blocks rs : List Block) → IsRunsOf (all_overlaid option_or blocks) rs → IsRunsOf (value_at blocks) rs
+pub laid_given : (blocks rs : List NumaBlock) → IsRunsOf (all_overlaid option_or blocks) rs → IsRunsOf (value_at blocks) rs
 laid_given blocks rs known = record { runs = known.runs; each = λ x. known.each x ∙ first_given blocks x }
 
 -- which is the node of each of them
-pub given : (blocks : List Block) (b : Block) (x : ℕ) → Apart blocks → IsIn b blocks → lies_in b x ≡ true → value_at blocks x ≡ Some b.value
+pub given : (blocks : List NumaBlock) (b : NumaBlock) (x : ℕ) → Apart blocks → IsIn b blocks → lies_in b x ≡ true → value_at blocks x ≡ Some b.value
 given [] b x apart member lies = absurd member
 given (c ∷ cs) b x apart member lies = elim (cases_Bool (lies_in c x)) as (λ _. value_at (c ∷ cs) x ≡ Some b.value) [
   | inl first ↦ rw first (ap (λ n. Some n) (apart c b x (inl refl) member first lies))
   | inr outside ↦ elim member as (λ _. value_at (c ∷ cs) x ≡ Some b.value) [
-    | inl here ↦ absurd (true≢false (sym lies ∙ ap (λ (d : Block). lies_in d x) here ∙ outside))
+    | inl here ↦ absurd (true≢false (sym lies ∙ ap (λ (d : NumaBlock). lies_in d x) here ∙ outside))
     | inr later ↦ rw outside (given cs b x (λ d e y one two. apart d e y (inr one) (inr two)) later lies)
   ]
 ]
 
 -- and the other way round
-pub record Covers (blocks : List Block) (x n : ℕ) : Type 0 where
-  pub block : Block
+pub record Covers (blocks : List NumaBlock) (x n : ℕ) : Type 0 where
+  pub block : NumaBlock
   pub member : IsIn block blocks
   pub lies : lies_in block x ≡ true
   pub node : block.value ≡ n
 
-given_by_block : (blocks : List Block) (x n : ℕ) → value_at blocks x ≡ Some n → Covers blocks x n
+given_by_block : (blocks : List NumaBlock) (x n : ℕ) → value_at blocks x ≡ Some n → Covers blocks x n
 given_by_block [] x n some = absurd (none-some n some)
 given_by_block (c ∷ cs) x n some = elim (cases_Bool (lies_in c x)) as (λ _. Covers (c ∷ cs) x n) [
   | inl lies ↦ record { block = c; member = inl refl; lies = lies; node = same_Some c.value n (rw lies at some) }
@@ -66,25 +66,25 @@ given_by_block (c ∷ cs) x n some = elim (cases_Bool (lies_in c x)) as (λ _. C
 ]
 
 -- an address in a block, by its ends
-bounds : (b : Block) (x : ℕ) → lies_in b x ≡ true → (b.base ≤ x) × (x < run_end b)
+bounds : (b : NumaBlock) (x : ℕ) → lies_in b x ≡ true → (b.base ≤ x) × (x < run_end b)
 bounds b x lies = (grind (arith, nat_tests), grind (arith, nat_tests))
 
 -- a block that a stretch meets has an address in it
-met_at : (from until : ℕ) (c : Block) (x : ℕ) → lies_in c x ≡ true → from ≤ x → x < until → meets from until c ≡ true
+met_at : (from until : ℕ) (c : NumaBlock) (x : ℕ) → lies_in c x ≡ true → from ≤ x → x < until → meets from until c ≡ true
 met_at from until c x lies above under =
     let ends : (c.base ≤ x) × (x < run_end c) = bounds c x lies in
     let low = ends.0 in
     let high = ends.1 in
     grind (arith, nat_tests)
 
-meeting_place : (from until : ℕ) (c : Block) → meets from until c ≡ true
+meeting_place : (from until : ℕ) (c : NumaBlock) → meets from until c ≡ true
     → (from ≤ max from c.base) × (max from c.base < until) × (lies_in c (max from c.base) ≡ true)
 meeting_place from until c meeting =
     let before : max from c.base < min until (run_end c) = grind (arith, nat_tests) in
     (omega arith, omega arith, inside c (max from c.base) (omega arith) (omega arith))
 
 -- each block that meets an own hull is of the node
-own_node : (blocks : List Block) (n : ℕ) (a b c : Block) → is_own blocks n a b ≡ true → IsIn c blocks → meets a.base (run_end b) c ≡ true
+own_node : (blocks : List NumaBlock) (n : ℕ) (a b c : NumaBlock) → is_own blocks n a b ≡ true → IsIn c blocks → meets a.base (run_end b) c ≡ true
     → c.value ≡ n
 own_node blocks n a b c own member meeting =
     let passes : ((c.value == n) || not (meets a.base (run_end b) c)) ≡ true = all_member _ blocks c own member in
@@ -96,7 +96,7 @@ own_node blocks n a b c own member meeting =
       either false false h meets_too = meets_too
 
 -- what an address has is given there, or lies around it
-joined_around : (blocks : List Block) (n x : ℕ) → Apart blocks → HaveAddresses blocks → joins blocks n x ≡ true
+joined_around : (blocks : List NumaBlock) (n x : ℕ) → Apart blocks → HaveAddresses blocks → joins blocks n x ≡ true
     → IsAround (value_at blocks) x n
 joined_around blocks n x apart some joined =
     let outer = any_member _ blocks joined in
@@ -126,7 +126,7 @@ joined_around blocks n x apart some joined =
           (met_at a.base (run_end b) found.block y found.lies above (omega arith));
     }
 
-pub has_filled : (blocks : List Block) (n x : ℕ) → Apart blocks → HaveAddresses blocks → has blocks n x ≡ true
+pub has_filled : (blocks : List NumaBlock) (n x : ℕ) → Apart blocks → HaveAddresses blocks → has blocks n x ≡ true
     → IsFilled (value_at blocks) x n
 has_filled blocks n x apart some had = elim (cases_Bool (holds blocks n x)) as (λ _. IsFilled (value_at blocks) x n) [
   | inl held ↦
@@ -138,11 +138,11 @@ has_filled blocks n x apart some had = elim (cases_Bool (holds blocks n x)) as (
 ]
 
 -- a block that holds the address makes it have the node
-pub held_by : (blocks : List Block) (b : Block) (n x : ℕ) → IsIn b blocks → b.value ≡ n → lies_in b x ≡ true → holds blocks n x ≡ true
+pub held_by : (blocks : List NumaBlock) (b : NumaBlock) (n x : ℕ) → IsIn b blocks → b.value ≡ n → lies_in b x ≡ true → holds blocks n x ≡ true
 held_by blocks b n x member node lies = member_any _ blocks b member (and_from (b.value == n) (lies_in b x) (grind (arith, nat_tests)) lies)
 
 -- a block that the hull of two places meets is of their node
-hull_own : (blocks : List Block) (n x : ℕ) (a b c : Block) → Apart blocks → (around : IsAround (value_at blocks) x n)
+hull_own : (blocks : List NumaBlock) (n x : ℕ) (a b c : NumaBlock) → Apart blocks → (around : IsAround (value_at blocks) x n)
     → IsIn a blocks → a.value ≡ n → lies_in a around.low ≡ true → IsIn b blocks → b.value ≡ n → lies_in b around.high ≡ true
     → IsIn c blocks → meets a.base (run_end b) c ≡ true → c.value ≡ n
 hull_own blocks n x a b c apart around in_a node_a lies_a in_b node_b lies_b in_c meeting =
@@ -167,7 +167,7 @@ or_true : (p : Bool) → (p || true) ≡ true
 or_true true = refl
 or_true false = refl
 
-around_joins : (blocks : List Block) (n x : ℕ) → Apart blocks → IsAround (value_at blocks) x n → holds blocks n x ≡ false
+around_joins : (blocks : List NumaBlock) (n x : ℕ) → Apart blocks → IsAround (value_at blocks) x n → holds blocks n x ≡ false
     → joins blocks n x ≡ true
 around_joins blocks n x apart around not_held =
     let lower = given_by_block blocks around.low n around.at_low in
@@ -190,14 +190,14 @@ around_joins blocks n x apart around not_held =
     ] in
     let own : is_own blocks n a b ≡ true = member_all _ blocks (λ c in_c. one_own c in_c) in
     let between : is_between a b x ≡ true = grind (arith, nat_tests) in
-    let inner : list_any (λ (d : Block). (d.value == n) && (is_between a d x && is_own blocks n a d)) blocks ≡ true =
+    let inner : list_any (λ (d : NumaBlock). (d.value == n) && (is_between a d x && is_own blocks n a d)) blocks ≡ true =
     member_any _ blocks b upper.member
     (and_from (b.value == n) (is_between a b x && is_own blocks n a b) (grind (arith, nat_tests, upper.node))
     (and_from (is_between a b x) (is_own blocks n a b) between own)) in
     member_any _ blocks a lower.member
-    (and_from (a.value == n) (list_any (λ (d : Block). (d.value == n) && (is_between a d x && is_own blocks n a d)) blocks)
+    (and_from (a.value == n) (list_any (λ (d : NumaBlock). (d.value == n) && (is_between a d x && is_own blocks n a d)) blocks)
     (grind (arith, nat_tests, lower.node)) inner) where
-      one_own : (c : Block) → IsIn c blocks
+      one_own : (c : NumaBlock) → IsIn c blocks
           → ((c.value == n) || not (meets (given_by_block blocks around.low n around.at_low).block.base
           (run_end (given_by_block blocks around.high n around.at_high).block) c)) ≡ true
       one_own c in_c =
@@ -214,7 +214,7 @@ around_joins blocks n x apart around not_held =
             | inr apart_from ↦ rw apart_from (or_true (c.value == n))
           ]
 
-filled_has : (blocks : List Block) (n x : ℕ) → Apart blocks → IsFilled (value_at blocks) x n → has blocks n x ≡ true
+filled_has : (blocks : List NumaBlock) (n x : ℕ) → Apart blocks → IsFilled (value_at blocks) x n → has blocks n x ≡ true
 filled_has blocks n x apart (inl here) =
     let found = given_by_block blocks x n here in
     rw (held_by blocks found.block n x found.member found.node found.lies) refl
@@ -224,27 +224,27 @@ filled_has blocks n x apart (inr around) = elim (cases_Bool (holds blocks n x)) 
 ]
 
 -- the node of an address is one that it has; where it has that of a block it has one
-pub first_has : (blocks : List Block) (x m : ℕ) (bs : List Block) → first_had blocks x bs ≡ Some m → has blocks m x ≡ true
+pub first_has : (blocks : List NumaBlock) (x m : ℕ) (bs : List NumaBlock) → first_had blocks x bs ≡ Some m → has blocks m x ≡ true
 first_has blocks x m [] some = absurd (none-some m some)
 first_has blocks x m (b ∷ bs) some = elim (cases_Bool (has blocks b.value x)) as (λ _. has blocks m x ≡ true) [
   | inl had ↦ let same : b.value ≡ m = same_Some b.value m (rw had at some) in subst (λ (k : ℕ). has blocks k x ≡ true) same had
   | inr not_had ↦ first_has blocks x m bs (rw not_had at some)
 ]
 
-pub first_some : (blocks : List Block) (x : ℕ) (bs : List Block) (b : Block) → IsIn b bs → has blocks b.value x ≡ true
+pub first_some : (blocks : List NumaBlock) (x : ℕ) (bs : List NumaBlock) (b : NumaBlock) → IsIn b bs → has blocks b.value x ≡ true
     → first_had blocks x bs ≢ None
 first_some blocks x [] b member had none = member
 first_some blocks x (c ∷ cs) b member had none = elim (cases_Bool (has blocks c.value x)) as (λ _. ⊥) [
   | inl first ↦ none-some c.value (sym none ∙ rw first refl)
   | inr not_first ↦ elim member as (λ _. ⊥) [
-    | inl here ↦ true≢false (sym had ∙ ap (λ (d : Block). has blocks d.value x) here ∙ not_first)
+    | inl here ↦ true≢false (sym had ∙ ap (λ (d : NumaBlock). has blocks d.value x) here ∙ not_first)
     | inr later ↦ first_some blocks x cs b later had (rw not_first at none)
   ]
 ]
 
 -- a node that an address has is that of a block
-pub node_block : (blocks : List Block) (n x : ℕ) → has blocks n x ≡ true → (b : Block) × IsIn b blocks × (b.value ≡ n)
-node_block blocks n x had = elim (cases_Bool (holds blocks n x)) as (λ _. (b : Block) × IsIn b blocks × (b.value ≡ n)) [
+pub node_block : (blocks : List NumaBlock) (n x : ℕ) → has blocks n x ≡ true → (b : NumaBlock) × IsIn b blocks × (b.value ≡ n)
+node_block blocks n x had = elim (cases_Bool (holds blocks n x)) as (λ _. (b : NumaBlock) × IsIn b blocks × (b.value ≡ n)) [
   | inl held ↦
       let found = any_member _ blocks held in
       let parts = and_parts (found.one.value == n) (lies_in found.one x) found.passes in
@@ -257,7 +257,7 @@ node_block blocks n x had = elim (cases_Bool (holds blocks n x)) as (λ _. (b : 
 ]
 
 -- so the joined runs give the node of each address
-node_given : (blocks rs ts : List Block) (x : ℕ) → Apart blocks → HaveAddresses blocks → IsRunsOf (value_at blocks) rs → IsFilledBy rs ts
+node_given : (blocks rs ts : List NumaBlock) (x : ℕ) → Apart blocks → HaveAddresses blocks → IsRunsOf (value_at blocks) rs → IsFilledBy rs ts
     → value_at ts x ≡ node_at blocks x
 unfolding node_at
 node_given blocks rs ts x apart some known joined = by (value_at ts x) (first_had blocks x blocks) refl refl where
@@ -276,7 +276,7 @@ node_given blocks rs ts x apart some known joined = by (value_at ts x) (first_ha
       let of_block : has blocks block.0.value x ≡ true = subst (λ (k : ℕ). has blocks k x ≡ true) (sym block.2) has_it in
       absurd (first_some blocks x blocks block.0 block.1 of_block had)
 
-pub joined_blocks : (blocks rs : List Block) → Apart blocks → HaveAddresses blocks → IsRunsOf (value_at blocks) rs
+pub joined_blocks : (blocks rs : List NumaBlock) → Apart blocks → HaveAddresses blocks → IsRunsOf (value_at blocks) rs
     → IsRunsOf (node_at blocks) (filled rs)
 joined_blocks blocks rs apart some known =
     let joined : IsFilledBy rs (filled rs) = filled_by rs known.runs in
@@ -306,7 +306,7 @@ find_none p (y ∷ ys) x none member = elim (cases_Bool (p y)) as (λ _. p x ≡
 ]
 
 -- the kept block of a block
-pub kept_member : (ks : List KeptBlock) (b : Block) → IsIn b (blocks_of ks) → (k : KeptBlock) × IsIn k ks × (b ≡ k.block)
+pub kept_member : (ks : List KeptBlock) (b : NumaBlock) → IsIn b (numa_blocks_of ks) → (k : KeptBlock) × IsIn k ks × (b ≡ k.block)
 kept_member [] b member = absurd member
 kept_member (k ∷ ks) b (inl here) = (k, inl refl, here)
 kept_member (k ∷ ks) b (inr later) = let found = kept_member ks b later in (found.0, inr found.1, found.2)
@@ -333,22 +333,22 @@ kept_apart (k ∷ ks) none a b x (inr later) (inl second) lies_a lies_b =
 kept_apart (k ∷ ks) none a b x (inr in_a) (inr in_b) lies_a lies_b =
     kept_apart ks (first_none_parts k ks none).1 a b x in_a in_b lies_a lies_b
 
-pub apart_blocks : (ks : List KeptBlock) → first_clash ks ≡ None → Apart (blocks_of ks)
+pub apart_blocks : (ks : List KeptBlock) → first_clash ks ≡ None → Apart (numa_blocks_of ks)
 apart_blocks ks none a b x in_a in_b lies_a lies_b =
     let one = kept_member ks a in_a in
     let two = kept_member ks b in_b in
-    let at_a : lies_in one.0.block x ≡ true = ap (λ (c : Block). lies_in c x) (sym one.2) ∙ lies_a in
-    let at_b : lies_in two.0.block x ≡ true = ap (λ (c : Block). lies_in c x) (sym two.2) ∙ lies_b in
-    ap (λ (c : Block). c.value) one.2 ∙ kept_apart ks none one.0 two.0 x one.1 two.1 at_a at_b ∙ ap (λ (c : Block). c.value) (sym two.2)
+    let at_a : lies_in one.0.block x ≡ true = ap (λ (c : NumaBlock). lies_in c x) (sym one.2) ∙ lies_a in
+    let at_b : lies_in two.0.block x ≡ true = ap (λ (c : NumaBlock). lies_in c x) (sym two.2) ∙ lies_b in
+    ap (λ (c : NumaBlock). c.value) one.2 ∙ kept_apart ks none one.0 two.0 x one.1 two.1 at_a at_b ∙ ap (λ (c : NumaBlock). c.value) (sym two.2)
 
 -- so the joined runs of blocks of which no two clash are the runs of what each address has
-pub joined_kept : (ks : List KeptBlock) (laid rs joined : List Block) → first_clash ks ≡ None → HaveAddresses (blocks_of ks)
-    → IsRunsOf (value_at (blocks_of ks)) laid → rs ≡ laid → joined ≡ filled rs → IsRunsOf (node_at (blocks_of ks)) joined
+pub joined_kept : (ks : List KeptBlock) (laid rs joined : List NumaBlock) → first_clash ks ≡ None → HaveAddresses (numa_blocks_of ks)
+    → IsRunsOf (value_at (numa_blocks_of ks)) laid → rs ≡ laid → joined ≡ filled rs → IsRunsOf (node_at (numa_blocks_of ks)) joined
 joined_kept ks laid rs joined none some known same is =
-    rw (is, same) (joined_blocks (blocks_of ks) laid (apart_blocks ks none) some known)
+    rw (is, same) (joined_blocks (numa_blocks_of ks) laid (apart_blocks ks none) some known)
 
 -- no two clash exactly where each address of each block has its node, by the blocks laid over one another
-abbrev pub HasOwn : (ℕ → Option ℕ) → Block → Type 0
+abbrev pub HasOwn : (ℕ → Option ℕ) → NumaBlock → Type 0
 HasOwn f b = (x : ℕ) → b.base ≤ x → x < run_end b → f x ≡ Some b.value
 
 own_none : (f : ℕ → Option ℕ) (a b : KeptBlock) → HasOwn f a.block → HasOwn f b.block → clash a b ≡ false
@@ -376,19 +376,19 @@ own_apart f (k ∷ ks) own =
     none_found (clash k) ks (λ i d lt. own_none f k (get_or ks i d) (own zero k (omega arith)) (own (suc i) d (omega arith))) in
     rw none (own_apart f ks (λ i d lt. own (suc i) d (omega arith)))
 
-block_in : (ks : List KeptBlock) (i : ℕ) (k : KeptBlock) → i < length ks → k ≡ get_or ks i k → IsIn k.block (blocks_of ks)
+block_in : (ks : List KeptBlock) (i : ℕ) (k : KeptBlock) → i < length ks → k ≡ get_or ks i k → IsIn k.block (numa_blocks_of ks)
 block_in [] i k lt is = absurd (omega arith)
 block_in (c ∷ cs) zero k lt is = inl (ap (λ (d : KeptBlock). d.block) is)
 block_in (c ∷ cs) (suc i) k lt is = inr (block_in cs i k (omega arith) is)
 
 apart_own : (ks : List KeptBlock) (i : ℕ) (k : KeptBlock) → first_clash ks ≡ None → i < length ks → k ≡ get_or ks i k
-    → HasOwn (value_at (blocks_of ks)) k.block
+    → HasOwn (value_at (numa_blocks_of ks)) k.block
 apart_own ks i k none lt is x above under =
-    given (blocks_of ks) k.block x (apart_blocks ks none) (block_in ks i k lt is) (inside k.block x above under)
+    given (numa_blocks_of ks) k.block x (apart_blocks ks none) (block_in ks i k lt is) (inside k.block x above under)
 
 -- the blocks laid over one another, as contracts of any record see them
-pub laid_own : (ks : List KeptBlock) (laid : List Block) (i : ℕ) (k : KeptBlock) → IsRunsOf (value_at (blocks_of ks)) laid
-    → first_clash ks ≡ None → i < length ks → k ≡ get_or ks i k → HasOwn (value_at (map (λ (r : Block). r) laid)) k.block
+pub laid_own : (ks : List KeptBlock) (laid : List NumaBlock) (i : ℕ) (k : KeptBlock) → IsRunsOf (value_at (numa_blocks_of ks)) laid
+    → first_clash ks ≡ None → i < length ks → k ≡ get_or ks i k → HasOwn (value_at (map (λ (r : NumaBlock). r) laid)) k.block
 laid_own ks laid i k known none lt is x above under =
     rw (map-id laid) (known.each x ∙ apart_own ks i k none lt is x above under)
 
@@ -404,8 +404,8 @@ own_more f ks i one lt is own before k d under = elim (cases_lt k i) as (λ _. H
 ]
 
 -- an address that has a node lies below the end of a block
-has_bound : (blocks : List Block) (n x : ℕ) → has blocks n x ≡ true → (b : Block) × IsIn b blocks × (x < run_end b)
-has_bound blocks n x had = elim (cases_Bool (holds blocks n x)) as (λ _. (b : Block) × IsIn b blocks × (x < run_end b)) [
+has_bound : (blocks : List NumaBlock) (n x : ℕ) → has blocks n x ≡ true → (b : NumaBlock) × IsIn b blocks × (x < run_end b)
+has_bound blocks n x had = elim (cases_Bool (holds blocks n x)) as (λ _. (b : NumaBlock) × IsIn b blocks × (x < run_end b)) [
   | inl held ↦
       let found = any_member _ blocks held in
       let parts = and_parts (found.one.value == n) (lies_in found.one x) found.passes in
@@ -422,13 +422,13 @@ has_bound blocks n x had = elim (cases_Bool (holds blocks n x)) as (λ _. (b : B
       (b, inner.member, omega arith)
 ]
 
-space_of : (blocks : List Block) (b : Block) → EndInSpace blocks → IsIn b blocks → run_end b < 2 ^ 64
+space_of : (blocks : List NumaBlock) (b : NumaBlock) → EndInSpace blocks → IsIn b blocks → run_end b < 2 ^ 64
 space_of [] b space member = absurd member
-space_of (c ∷ cs) b space (inl here) = subst (λ (d : Block). run_end d < 2 ^ 64) (sym here) space.0
+space_of (c ∷ cs) b space (inl here) = subst (λ (d : NumaBlock). run_end d < 2 ^ 64) (sym here) space.0
 space_of (c ∷ cs) b space (inr later) = space_of cs b space.1 later
 
 -- so behind the address space none has a node
-pub node_none : (blocks : List Block) (x : ℕ) → EndInSpace blocks → 2 ^ 64 ≤ x → node_at blocks x ≡ None
+pub node_none : (blocks : List NumaBlock) (x : ℕ) → EndInSpace blocks → 2 ^ 64 ≤ x → node_at blocks x ≡ None
 unfolding node_at
 node_none blocks x space far = by (first_had blocks x blocks) refl where
   by : (o : Option ℕ) → first_had blocks x blocks ≡ o → first_had blocks x blocks ≡ None

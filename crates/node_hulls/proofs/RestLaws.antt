@@ -16,22 +16,22 @@ use Rattle.e820_model.specs.Usable.{count_below}
 use Rattle.e820_model.proofs.UsableLaws.{count_same, count_none, count_either, count_interval, count_at_most}
 use Rattle.std.specs.Option.{option_or}
 use Rattle.address_runs.specs.First.{first_none, first_grouped}
-use Rattle.node_hulls.specs.Hulls.{Block}
+use Rattle.node_hulls.specs.Hulls.{NumaBlock}
 use Rattle.node_hulls.specs.Judgement.{left_over, frames_given}
 use Rattle.node_hulls.specs.Kept.{in_any, HaveBytes}
-use Rattle.node_hulls.specs.Steps.{bare, noded, bare_runs, with_node, begun_before, EndInSpace}
+use Rattle.node_hulls.specs.Steps.{nodeless, noded, bare_runs, with_node, begun_before, EndInSpace}
 
 -- what memory alone says, and what the runs with a node alone say
-pub bare_given : (memory : List Extent) (x : ℕ) → all_overlaid option_or (map bare memory) x
+pub bare_given : (memory : List Extent) (x : ℕ) → all_overlaid option_or (map nodeless memory) x
     ≡ (if in_any memory x then Some false else None)
 bare_given [] x = refl
-bare_given (r ∷ rs) x = elim (cases_Bool (covers r x)) as (λ _. all_overlaid option_or (map bare (r ∷ rs)) x
+bare_given (r ∷ rs) x = elim (cases_Bool (covers r x)) as (λ _. all_overlaid option_or (map nodeless (r ∷ rs)) x
     ≡ (if in_any (r ∷ rs) x then Some false else None)) [
       | inl here ↦ rw here refl
       | inr elsewhere ↦ rw elsewhere (bare_given rs x)
     ]
 
-noded_given : (joined : List Block) (x : ℕ) → all_overlaid option_or (map noded joined) x
+noded_given : (joined : List NumaBlock) (x : ℕ) → all_overlaid option_or (map noded joined) x
     ≡ (if is_some (value_at joined x) then Some true else None)
 noded_given [] x = refl
 noded_given (r ∷ rs) x =
@@ -42,18 +42,18 @@ noded_given (r ∷ rs) x =
     ]
 
 -- each as a stretch has an address
-pub bare_addresses : (memory : List Extent) → HaveBytes memory → HaveAddresses (map bare memory)
+pub bare_addresses : (memory : List Extent) → HaveBytes memory → HaveAddresses (map nodeless memory)
 bare_addresses [] some = tt
 bare_addresses (r ∷ rs) some = (some.0, bare_addresses rs some.1)
 
-noded_addresses : (joined : List Block) (ss : List (RunOf Bool)) → AreRuns joined → HaveAddresses ss
+noded_addresses : (joined : List NumaBlock) (ss : List (RunOf Bool)) → AreRuns joined → HaveAddresses ss
     → HaveAddresses (map noded joined ++ ss)
 noded_addresses [] ss runs behind_some = behind_some
 noded_addresses (r ∷ rs) ss runs behind_some = (runs.0, noded_addresses rs ss runs.2 behind_some)
 
-pub told_addresses : (memory : List Extent) (joined : List Block) → HaveBytes memory → AreRuns joined
-    → HaveAddresses (map noded joined ++ map bare memory)
-told_addresses memory joined some runs = noded_addresses joined (map bare memory) runs (bare_addresses memory some)
+pub told_addresses : (memory : List Extent) (joined : List NumaBlock) → HaveBytes memory → AreRuns joined
+    → HaveAddresses (map noded joined ++ map nodeless memory)
+told_addresses memory joined some runs = noded_addresses joined (map nodeless memory) runs (bare_addresses memory some)
 
 -- a run without a node gives the node, one with a node gives none
 abbrev pub bare_of : ℕ → Option Bool → Option ℕ
@@ -62,11 +62,11 @@ bare_of n (Some true) = None
 bare_of n (Some false) = Some n
 
 -- both over one another: memory without a node
-told_over : (memory : List Extent) (joined : List Block) (n x : ℕ)
-    → bare_of n (all_overlaid option_or (map noded joined ++ map bare memory) x) ≡ left_over (in_any memory) (value_at joined) n x
+told_over : (memory : List Extent) (joined : List NumaBlock) (n x : ℕ)
+    → bare_of n (all_overlaid option_or (map noded joined ++ map nodeless memory) x) ≡ left_over (in_any memory) (value_at joined) n x
 told_over memory joined n x =
     rw (
-      sym (all_append option_or first_none first_grouped (map noded joined) (map bare memory) x),
+      sym (all_append option_or first_none first_grouped (map noded joined) (map nodeless memory) x),
       noded_given joined x,
       bare_given memory x,
     )
@@ -94,7 +94,7 @@ bare_value n (c ∷ cs) x runs = by c.value (lies_in c x) refl refl (bare_value 
   by false false value lies rest = rw (value, lies, rest) refl
 
 -- they are canonical: two that touch would be one run already
-bare_start : (n at : ℕ) (cs : List (RunOf Bool)) (d : Block) (ds : List Block) → AreRuns cs → StartFrom at cs → AreRuns (bare_runs n cs)
+bare_start : (n at : ℕ) (cs : List (RunOf Bool)) (d : NumaBlock) (ds : List NumaBlock) → AreRuns cs → StartFrom at cs → AreRuns (bare_runs n cs)
     → bare_runs n cs ≡ d ∷ ds → at ≤ d.base
 bare_start n at cs d ds runs start canonical is =
     let first : value_at (d ∷ ds) d.base ≡ Some d.value = rw (inside d d.base (omega arith) (omega (arith, some))) refl in
@@ -102,26 +102,26 @@ bare_start n at cs d ds runs start canonical is =
       | inl lower ↦
           let none : value_at cs d.base ≡ None = none_below at d.base cs runs start lower in
           let given : bare_of n (value_at cs d.base) ≡ Some d.value =
-          sym (bare_value n cs d.base runs) ∙ ap (λ (es : List Block). value_at es d.base) is ∙ first in
+          sym (bare_value n cs d.base runs) ∙ ap (λ (es : List NumaBlock). value_at es d.base) is ∙ first in
           absurd (none-some d.value (ap (bare_of n) (sym none) ∙ given))
       | inr ge ↦ ge
     ] where
       some : 0 < d.size
-      some = (subst (λ (es : List Block). AreRuns es) is canonical).0
+      some = (subst (λ (es : List NumaBlock). AreRuns es) is canonical).0
 
-bare_before : (n : ℕ) (c : RunOf Bool) (cs : List (RunOf Bool)) → AreRuns (c ∷ cs) → c.value ≡ false → (es : List Block) → bare_runs n cs
+bare_before : (n : ℕ) (c : RunOf Bool) (cs : List (RunOf Bool)) → AreRuns (c ∷ cs) → c.value ≡ false → (es : List NumaBlock) → bare_runs n cs
     ≡ es → AreRuns es
     → IsBefore (record { base = c.base; size = c.size; value = n }) es
 bare_before n c cs runs value [] is canonical = tt
 bare_before n c cs runs value (d ∷ ds) is canonical =
     let start : run_end c ≤ d.base = bare_start n (run_end c) cs d ds runs.2 (rest_from c cs runs)
-    (subst (λ (es : List Block). AreRuns es) (sym is) canonical) is in (
+    (subst (λ (es : List NumaBlock). AreRuns es) (sym is) canonical) is in (
       start,
       λ touch same.
           let first : value_at (d ∷ ds) (run_end c) ≡ Some d.value = rw (inside d (run_end c) (omega arith) (omega (arith, canonical.0)))
           refl in
           let given : bare_of n (value_at cs (run_end c)) ≡ Some d.value =
-          sym (bare_value n cs (run_end c) runs.2) ∙ ap (λ (es : List Block). value_at es (run_end c)) is ∙ first in
+          sym (bare_value n cs (run_end c) runs.2) ∙ ap (λ (es : List NumaBlock). value_at es (run_end c)) is ∙ first in
           other_behind c cs runs (bare_some n d.value (value_at cs (run_end c)) given ∙ ap (λ b. Some b) (sym value)),
     ) where
       bare_some : (m k : ℕ) (o : Option Bool) → bare_of m o ≡ Some k → o ≡ Some false
@@ -136,8 +136,8 @@ bare_canonical n (c ∷ cs) runs = by c.value refl (bare_canonical n cs runs.2) 
   by true value rest = rw value rest
   by false value rest = rw value (runs.0, bare_before n c cs runs value (bare_runs n cs) refl rest, rest)
 
-pub left_runs : (memory : List Extent) (joined : List Block) (n : ℕ) (cs : List (RunOf Bool))
-    → IsRunsOf (all_overlaid option_or (map noded joined ++ map bare memory)) cs
+pub left_runs : (memory : List Extent) (joined : List NumaBlock) (n : ℕ) (cs : List (RunOf Bool))
+    → IsRunsOf (all_overlaid option_or (map noded joined ++ map nodeless memory)) cs
     → IsRunsOf (left_over (in_any memory) (value_at joined) n) (bare_runs n cs)
 left_runs memory joined n cs known = record {
   runs = bare_canonical n cs known.runs;
@@ -145,7 +145,7 @@ left_runs memory joined n cs known = record {
 }
 
 -- one run more
-pub bare_step : (n : ℕ) (before : List Block) (covered : List (RunOf Bool)) (i : ℕ) (c : RunOf Bool) → i < length covered → c
+pub bare_step : (n : ℕ) (before : List NumaBlock) (covered : List (RunOf Bool)) (i : ℕ) (c : RunOf Bool) → i < length covered → c
     ≡ get_or covered i c
     → (if c.value then before else before ++ with_node n c ∷ []) ++ bare_runs n (drop (i + 1) covered) ≡ before
     ++ bare_runs n (drop i covered)
@@ -156,11 +156,11 @@ bare_step n before covered i c lt is = rw (drop-cons covered i c lt, ← is, add
   by true value = rw value refl
   by false value = rw value (append_assoc before (with_node n c ∷ []) (bare_runs n (drop (suc i) covered)))
 
-pub space_push : (rs : List Block) (r : Block) → EndInSpace rs → run_end r < 2 ^ 64 → EndInSpace (rs ++ r ∷ [])
+pub space_push : (rs : List NumaBlock) (r : NumaBlock) → EndInSpace rs → run_end r < 2 ^ 64 → EndInSpace (rs ++ r ∷ [])
 space_push [] r space ends = (ends, tt)
 space_push (s ∷ ss) r space ends = (space.0, space_push ss r space.1 ends)
 
-pub space_given : (n : ℕ) (before : List Block) (c : RunOf Bool) → EndInSpace before → run_end c < 2 ^ 64
+pub space_given : (n : ℕ) (before : List NumaBlock) (c : RunOf Bool) → EndInSpace before → run_end c < 2 ^ 64
     → EndInSpace (if c.value then before else before ++ with_node n c ∷ [])
 space_given n before c space ends = by c.value refl where
   by : (v : Bool) → c.value ≡ v → EndInSpace (if c.value then before else before ++ with_node n c ∷ [])
@@ -168,14 +168,14 @@ space_given n before c space ends = by c.value refl where
   by false value = rw value (space_push before (with_node n c) space ends)
 
 -- runs that end in the address space give nothing behind it
-pub space_none : (rs : List Block) (x : ℕ) → EndInSpace rs → 2 ^ 64 ≤ x → value_at rs x ≡ None
+pub space_none : (rs : List NumaBlock) (x : ℕ) → EndInSpace rs → 2 ^ 64 ≤ x → value_at rs x ≡ None
 space_none [] x space far = refl
 space_none (r ∷ rs) x space far =
     let past : run_end r ≤ x = omega (arith, space.0) in
     rw (behind r x past) (space_none rs x space.1 far)
 
 -- frames that begin in a run, and in those behind it
-begun_in : (r : Block) (frame : ℕ) → lies_in r (4096 * frame) ≡ (nat_le (begun_before r.base) frame
+begun_in : (r : NumaBlock) (frame : ℕ) → lies_in r (4096 * frame) ≡ (nat_le (begun_before r.base) frame
     && nat_lt frame (begun_before (run_end r)))
 begun_in r frame = grind (arith, nat_tests)
 
@@ -183,7 +183,7 @@ pub frames_none : frames_given (value_at {X = ℕ} []) ≡ 0
 unfolding frames_given
 frames_none = count_none (λ frame. is_some (value_at {X = ℕ} [] (4096 * frame))) (2 ^ 52) (λ i lt. refl)
 
-pub frames_step : (r : Block) (rs : List Block) → AreRuns (r ∷ rs) → run_end r < 2 ^ 64
+pub frames_step : (r : NumaBlock) (rs : List NumaBlock) → AreRuns (r ∷ rs) → run_end r < 2 ^ 64
     → frames_given (value_at (r ∷ rs)) ≡ (begun_before (run_end r) - begun_before r.base) + frames_given (value_at rs)
 unfolding frames_given
 frames_step r rs runs space =
@@ -206,17 +206,17 @@ unfolding frames_given
 frames_few f = count_at_most (λ frame. is_some (f (4096 * frame))) (2 ^ 52)
 
 -- the first of the runs that are left, and those behind it
-pub frames_first : (r : Block) (rs : List Block) (n : ℕ) → 1 ≤ length rs → n ≡ length rs → r ≡ get_or rs 0 r → AreRuns rs
+pub frames_first : (r : NumaBlock) (rs : List NumaBlock) (n : ℕ) → 1 ≤ length rs → n ≡ length rs → r ≡ get_or rs 0 r → AreRuns rs
     → run_end r < 2 ^ 64
     → AreRuns (take (n - 1) (drop 1 rs))
     × (frames_given (value_at rs) ≡ (begun_before (run_end r) - begun_before r.base) + frames_given (value_at (take (n - 1) (drop 1 rs))))
 frames_first r [] n some count is runs space = absurd (omega arith)
 frames_first r (s ∷ ss) n some count is runs space =
-    let ends : run_end s < 2 ^ 64 = subst (λ (t : Block). run_end t < 2 ^ 64) is space in
+    let ends : run_end s < 2 ^ 64 = subst (λ (t : NumaBlock). run_end t < 2 ^ 64) is space in
     let all : take (n - 1) ss ≡ ss = take_all (n - 1) ss (omega arith) in
     (rw all runs.2, rw (all, is) (frames_step s ss runs ends))
 
 -- with no run left no frame is
-pub frames_last : (rs : List Block) → length rs < 1 → frames_given (value_at rs) ≡ 0
+pub frames_last : (rs : List NumaBlock) → length rs < 1 → frames_given (value_at rs) ≡ 0
 frames_last [] none = frames_none
 frames_last (r ∷ rs) none = absurd (omega arith)

@@ -4,41 +4,41 @@ use Rattle.std.specs.List.{list_any, list_all}
 use Rattle.address_runs.specs.Runs.{RunOf, run_end, lies_in}
 
 -- a block: a range of addresses, and the node that it lies in (`struct numa_memblk`)
-abbrev pub Block : Type 0
-Block = RunOf ℕ
+abbrev pub NumaBlock : Type 0
+NumaBlock = RunOf ℕ
 
 -- some address of the block lies from the one address on and below the other
-abbrev pub meets : ℕ → ℕ → Block → Bool
+abbrev pub meets : ℕ → ℕ → NumaBlock → Bool
 meets from until c = nat_lt (max from c.base) (min until (run_end c))
 
 -- the address lies between two blocks, of which the first lies lower
-abbrev pub is_between : Block → Block → ℕ → Bool
+abbrev pub is_between : NumaBlock → NumaBlock → ℕ → Bool
 is_between a b x = nat_le (run_end a) x && nat_lt x b.base
 
 -- the hull of two blocks of node n, of which the first lies lower, meets no block of another node
-abbrev pub is_own : List Block → ℕ → Block → Block → Bool
+abbrev pub is_own : List NumaBlock → ℕ → NumaBlock → NumaBlock → Bool
 is_own blocks n a b = list_all (λ c. (c.value == n) || not (meets a.base (run_end b) c)) blocks
 
 -- the address lies in a block of node n
-abbrev pub holds : List Block → ℕ → ℕ → Bool
+abbrev pub holds : List NumaBlock → ℕ → ℕ → Bool
 holds blocks n x = list_any (λ b. (b.value == n) && lies_in b x) blocks
 
 -- the address lies between two blocks of node n whose hull meets no block of another node
-abbrev pub joins : List Block → ℕ → ℕ → Bool
+abbrev pub joins : List NumaBlock → ℕ → ℕ → Bool
 joins blocks n x =
     list_any (λ a. (a.value == n) && list_any (λ b. (b.value == n) && (is_between a b x && is_own blocks n a b)) blocks) blocks
 
 -- the address has node n
-abbrev pub has : List Block → ℕ → ℕ → Bool
+abbrev pub has : List NumaBlock → ℕ → ℕ → Bool
 has blocks n x = holds blocks n x || joins blocks n x
 
 -- the node of an address: the first that it has, in the order of the blocks. Where blocks of different nodes share no
 -- address it has one at most
-abbrev pub first_had : List Block → ℕ → List Block → Option ℕ
+abbrev pub first_had : List NumaBlock → ℕ → List NumaBlock → Option ℕ
 first_had blocks x [] = None
 first_had blocks x (b ∷ bs) = if has blocks b.value x then Some b.value else first_had blocks x bs
 
-unfoldable pub node_at : List Block → ℕ → Option ℕ
+unfoldable pub node_at : List NumaBlock → ℕ → Option ℕ
 node_at blocks x = first_had blocks x blocks
 
 -- whether two nodes are the same

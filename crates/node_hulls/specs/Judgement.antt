@@ -11,8 +11,8 @@ use Rattle.node_hulls.specs.declared.reasons.Why.{Why}
 use Rattle.node_hulls.specs.declared.reasons.Why.TheVariants as why
 use Rattle.node_hulls.specs.declared.reasons.TheConstants.{MAX_NODES, MAX_BLOCKS, UNCOVERED_FRAMES}
 use Rattle.node_hulls.specs.Domains.{domains_named}
-use Rattle.node_hulls.specs.Hulls.{Block, node_at, same_node}
-use Rattle.node_hulls.specs.Kept.{any_kept, blocks_of, count_some, first_clash, kept_of}
+use Rattle.node_hulls.specs.Hulls.{NumaBlock, node_at, same_node}
+use Rattle.node_hulls.specs.Kept.{any_kept, numa_blocks_of, count_some, first_clash, kept_of}
 
 -- memory that has no node, with the node that it gets
 abbrev pub left_over : (ℕ → Bool) → (ℕ → Option ℕ) → ℕ → ℕ → Option ℕ
@@ -23,10 +23,10 @@ unfoldable pub frames_given : (ℕ → Option ℕ) → ℕ
 frames_given nodes = count_below (λ frame. is_some (nodes (FRAME_SIZE * frame))) (2 ^ 52)
 
 -- the lowest node of the blocks; 0 where there is none
-abbrev pub lower : ℕ → Block → ℕ
+abbrev pub lower : ℕ → NumaBlock → ℕ
 lower n b = min n b.value
 
-abbrev pub lowest : List Block → ℕ
+abbrev pub lowest : List NumaBlock → ℕ
 lowest [] = 0
 lowest (b ∷ bs) = fold lower b.value bs
 
@@ -34,8 +34,8 @@ lowest (b ∷ bs) = fold lower b.value bs
 pub record Judgement : Type 0 where
   pub why : Why
   pub domains : List ℕ
-  pub joined : List Block
-  pub rest : List Block
+  pub joined : List NumaBlock
+  pub rest : List NumaBlock
   pub uncovered : ℕ
 
 abbrev pub judgement : Judged → Judgement
@@ -68,10 +68,10 @@ if_apart None given = given
 
 -- the node of each address by the kept blocks, and the memory that they leave over
 abbrev pub nodes_by : List KeptBlock → ℕ → Option ℕ
-nodes_by kept = node_at (blocks_of kept)
+nodes_by kept = node_at (numa_blocks_of kept)
 
 abbrev pub left_by : (ℕ → Bool) → List KeptBlock → ℕ → Option ℕ
-left_by memory kept = left_over memory (nodes_by kept) (lowest (blocks_of kept))
+left_by memory kept = left_over memory (nodes_by kept) (lowest (numa_blocks_of kept))
 
 unfoldable pub judged_kept : (ℕ → Bool) → List ℕ → List KeptBlock → Judgement
 judged_kept memory domains kept = if_apart (first_clash kept) (if_covering domains (nodes_by kept) (left_by memory kept))

@@ -9,7 +9,7 @@ use Rattle.bm_base.specs.Frames.{frame_around}
 use Rattle.srat_reader.specs.declared.table.SratBlock.{SratBlock}
 use Rattle.node_hulls.specs.declared.kept.KeptBlock.{KeptBlock}
 use Rattle.node_hulls.specs.Domains.{node_of}
-use Rattle.node_hulls.specs.Hulls.{Block, meets}
+use Rattle.node_hulls.specs.Hulls.{NumaBlock, meets}
 
 -- memory as a list of ranges: an address is memory where it lies in one of them. None of them is empty
 abbrev pub in_any : List Extent → ℕ → Bool
@@ -28,16 +28,16 @@ abbrev pub framed : Extent → Extent
 framed r = record { base = frame_base r.base; size = frame_base (end_of r) - frame_base r.base }
 
 -- some byte of the range is memory
-abbrev pub has_memory : (ℕ → Bool) → Extent → Bool
-has_memory memory r = not (each_in r (λ y. not (memory y)))
+abbrev pub meets_memory : (ℕ → Bool) → Extent → Bool
+meets_memory memory r = not (each_in r (λ y. not (memory y)))
 
 -- a block of the table in whole frames, in the node of its domain
-abbrev pub of_node : List ℕ → SratBlock → Block
+abbrev pub of_node : List ℕ → SratBlock → NumaBlock
 of_node domains b = record { base = (framed b.range).base; size = (framed b.range).size; value = node_of domains b.domain }
 
 -- the blocks that are kept: those of which a byte is memory, each with its number in the table
-abbrev pub kept_one : (ℕ → Bool) → ℕ → Block → List KeptBlock
-kept_one memory i b = if has_memory memory (extent_of b) then record { number = i; block = b } ∷ [] else []
+abbrev pub kept_one : (ℕ → Bool) → ℕ → NumaBlock → List KeptBlock
+kept_one memory i b = if meets_memory memory (extent_of b) then record { number = i; block = b } ∷ [] else []
 
 abbrev pub kept_from : (ℕ → Bool) → List ℕ → ℕ → List SratBlock → List KeptBlock
 kept_from memory domains i [] = []
@@ -47,8 +47,8 @@ abbrev pub kept_of : (ℕ → Bool) → List ℕ → List SratBlock → List Kep
 kept_of memory domains blocks = kept_from memory domains 0 blocks
 
 -- the blocks alone
-abbrev pub blocks_of : List KeptBlock → List Block
-blocks_of kept = map (λ (k : KeptBlock). k.block) kept
+abbrev pub numa_blocks_of : List KeptBlock → List NumaBlock
+numa_blocks_of kept = map (λ (k : KeptBlock). k.block) kept
 
 -- whether a kept block is of the node
 abbrev pub is_node_of : List KeptBlock → ℕ → Bool
@@ -56,7 +56,7 @@ is_node_of kept n = list_any (λ (k : KeptBlock). k.block.value == n) kept
 
 -- whether any is kept
 abbrev pub any_kept : (ℕ → Bool) → List SratBlock → Bool
-any_kept memory blocks = list_any (λ (b : SratBlock). has_memory memory (framed b.range)) blocks
+any_kept memory blocks = list_any (λ (b : SratBlock). meets_memory memory (framed b.range)) blocks
 
 -- the blocks with an address, as the table has them before they are rounded
 abbrev pub count_some : List SratBlock → ℕ

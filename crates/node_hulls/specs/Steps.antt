@@ -5,7 +5,7 @@ use Rattle.bm_base.specs.Extent.{Extent}
 use Rattle.bm_base.specs.declared.frame.TheConstants.{FRAME_SIZE}
 use Rattle.srat_reader.specs.declared.table.SratBlock.{SratBlock}
 use Rattle.node_hulls.specs.Domains.{with_name}
-use Rattle.node_hulls.specs.Hulls.{Block}
+use Rattle.node_hulls.specs.Hulls.{NumaBlock}
 
 -- one more name where there are at most 1,024 so far
 abbrev pub with_name_in_room : List ℕ → ℕ → List ℕ
@@ -15,21 +15,21 @@ abbrev pub named_by_block : List ℕ → SratBlock → List ℕ
 named_by_block domains b = with_name_in_room domains b.domain
 
 -- a run and the runs behind it, where the first of them is joined to it if it has the same node
-abbrev pub led_by_run : Block → List Block → List Block
+abbrev pub led_by_run : NumaBlock → List NumaBlock → List NumaBlock
 led_by_run r [] = r ∷ []
 led_by_run r (s ∷ ss) =
     if r.value == s.value then record { base = r.base; size = run_end s - r.base; value = r.value } ∷ ss else r ∷ (s ∷ ss)
 
 -- runs, where each is joined with its next neighbour of the same node
-abbrev pub filled : List Block → List Block
+abbrev pub filled : List NumaBlock → List NumaBlock
 filled [] = []
 filled (r ∷ rs) = led_by_run r (filled rs)
 
 -- a range of memory, and a run with a node, as they cover their addresses: without a node, and with one
-abbrev pub bare : Extent → RunOf Bool
-bare r = record { base = r.base; size = r.size; value = false }
+abbrev pub nodeless : Extent → RunOf Bool
+nodeless r = record { base = r.base; size = r.size; value = false }
 
-abbrev pub noded : Block → RunOf Bool
+abbrev pub noded : NumaBlock → RunOf Bool
 noded r = record { base = r.base; size = r.size; value = true }
 
 -- whether an address lies in a run of memory
@@ -37,15 +37,15 @@ abbrev pub in_runs : List (RunOf Bool) → ℕ → Bool
 in_runs runs x = is_some (value_at runs x)
 
 -- the runs without a node, each with the node that it gets
-abbrev pub with_node : ℕ → RunOf Bool → Block
+abbrev pub with_node : ℕ → RunOf Bool → NumaBlock
 with_node node r = record { base = r.base; size = r.size; value = node }
 
-abbrev pub bare_runs : ℕ → List (RunOf Bool) → List Block
+abbrev pub bare_runs : ℕ → List (RunOf Bool) → List NumaBlock
 bare_runs node [] = []
 bare_runs node (r ∷ rs) = if r.value then bare_runs node rs else with_node node r ∷ bare_runs node rs
 
 -- each run ends in the address space
-abbrev pub EndInSpace : List Block → Type 0
+abbrev pub EndInSpace : List NumaBlock → Type 0
 EndInSpace [] = Unit {0}
 EndInSpace (r ∷ rs) = (run_end r < 2 ^ 64) × EndInSpace rs
 

@@ -5,7 +5,7 @@
 ghost use Rattle.std.specs.Prelude.{◌≡◌, ℕ, ◌+◌, ◌-◌, ◌<◌, ◌≤◌, OnOk, IfOk, length, map, reverse};
 ghost use Rattle.address_runs.specs.Overlay.{HaveAddresses};
 ghost use Rattle.address_runs.specs.Runs.{AreRuns, IsRunsOf, run_end, value_at};
-ghost use Rattle.node_hulls.specs.Kept.{blocks_of};
+ghost use Rattle.node_hulls.specs.Kept.{numa_blocks_of};
 ghost use Rattle.node_hulls.specs.Steps.{filled, led_by_run};
 
 use crate::kept::KeptBlock;
@@ -16,8 +16,8 @@ use std::alloc::Global;
 
 /// The blocks laid over one another, as runs, ascending: where several lie over an address the first one's node holds.
 pub fn lay_blocks(alloc: Global, kept: &[KeptBlock]) -> Result<Vec<NodeRange>, Memory>
-    requires { HaveAddresses (blocks_of kept.now) }
-    ensures { IfOk result (λ laid. IsRunsOf (value_at (blocks_of kept.now)) laid.items) }
+    requires { HaveAddresses (numa_blocks_of kept.now) }
+    ensures { IfOk result (λ laid. IsRunsOf (value_at (numa_blocks_of kept.now)) laid.items) }
 {
     let blocks = blocks_alone(alloc, kept)?;
     overlay_all(alloc, &blocks)
@@ -25,7 +25,7 @@ pub fn lay_blocks(alloc: Global, kept: &[KeptBlock]) -> Result<Vec<NodeRange>, M
 
 /// The blocks without their numbers.
 fn blocks_alone(alloc: Global, kept: &[KeptBlock]) -> Result<Vec<NodeRange>, Memory>
-    ensures { IfOk result (λ blocks. blocks.items ≡ blocks_of kept.now) }
+    ensures { IfOk result (λ blocks. blocks.items ≡ numa_blocks_of kept.now) }
 {
     let mut blocks = Vec::new(alloc);
     for one in kept {

@@ -3,11 +3,11 @@
 
 ghost use Rattle.std.specs.Prelude.{◌≡◌, ◌↔◌, ℕ, ◌+◌, ◌++◌, ◌^◌, ◌<◌, ◌≤◌, None, IsTrue, OnOk, IfOk, length, option_map, find, is_some};
 ghost use Rattle.address_runs.specs.Runs.{AreRuns, IsRunsOf, run_end, value_at};
-ghost use Rattle.node_hulls.specs.Kept.{blocks_of, framed, kept_one, of_node, kept_of, any_kept, count_some, clash, first_clash};
+ghost use Rattle.node_hulls.specs.Kept.{numa_blocks_of, framed, kept_one, of_node, kept_of, any_kept, count_some, clash, first_clash};
 ghost use Rattle.node_hulls.specs.Steps.{EndInSpace, in_runs};
 
 use crate::domains::node_of;
-use crate::memory::has_memory;
+use crate::memory::meets_memory;
 use crate::node_range::{NodeRange, overlap};
 use address_runs::RunOf;
 use bm_base::{FRAME_SIZE, Memory, Range, round_down};
@@ -42,7 +42,7 @@ pub fn is_any_kept(memory: &Vec<RunOf<bool>>, blocks: &[SratBlock]) -> bool
     ensures { result ≡ any_kept (in_runs memory.now.items) blocks.now }
 {
     for block in blocks {
-        if has_memory(memory, &framed(&block.range)) {
+        if meets_memory(memory, &framed(&block.range)) {
             return true;
         }
     }
@@ -67,7 +67,7 @@ pub fn keep_blocks(
     requires nodes { length domains.now ≤ 1024 }
     requires few { length blocks.now < 2 ^ 32 }
     ensures value { IfOk result (λ kept. kept.items ≡ kept_of (in_runs memory.now.items) domains.now blocks.now) }
-    ensures space { IfOk result (λ kept. EndInSpace (blocks_of kept.items)) }
+    ensures space { IfOk result (λ kept. EndInSpace (numa_blocks_of kept.items)) }
 {
     let mut kept = Vec::new(alloc);
     for (index, block) in blocks.iter().enumerate() {
@@ -87,7 +87,7 @@ fn keep_one(
     requires { AreRuns memory.now.items }
     ensures { OnOk result (kept.new.items ≡ kept.old.items ++ kept_one (in_runs memory.now.items) number block) }
 {
-    if has_memory(memory, &block.range) {
+    if meets_memory(memory, &block.range) {
         kept.push(KeptBlock { number, block })?;
     }
     Ok(())
@@ -108,7 +108,7 @@ fn in_frames(domains: &[u32], block: &SratBlock) -> NodeRange
 /// The numbers of the first kept block that shares an address with a later one of another node, and of the
 /// first such block. `laid` has the blocks laid over one another; the pair is looked for only where there is one.
 pub fn first_overlap(kept: &[KeptBlock], laid: &Vec<NodeRange>) -> Option<(u32, u32)>
-    requires { IsRunsOf (value_at (blocks_of kept.now)) laid.now.items }
+    requires { IsRunsOf (value_at (numa_blocks_of kept.now)) laid.now.items }
     ensures { result ≡ first_clash kept.now }
 {
     if are_apart(kept, laid) {
@@ -120,7 +120,7 @@ pub fn first_overlap(kept: &[KeptBlock], laid: &Vec<NodeRange>) -> Option<(u32, 
 /// Whether no two blocks of different nodes share an address: then each address of each block has its node, by
 /// the blocks laid over one another. A look-up for each block.
 fn are_apart(kept: &[KeptBlock], laid: &Vec<NodeRange>) -> bool
-    requires { IsRunsOf (value_at (blocks_of kept.now)) laid.now.items }
+    requires { IsRunsOf (value_at (numa_blocks_of kept.now)) laid.now.items }
     ensures { IsTrue result ↔ (first_clash kept.now ≡ None) }
 {
     for one in kept {

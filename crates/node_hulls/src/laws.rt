@@ -11,14 +11,14 @@ ghost use Rattle.node_hulls.specs.declared.kept.KeptBlock.{KeptBlock as AnyKept}
 ghost use Rattle.node_hulls.specs.declared.reasons.Why.TheVariants as why;
 ghost use Rattle.node_hulls.specs.declared.reasons.TheConstants.{MAX_NODES};
 ghost use Rattle.node_hulls.specs.Domains.{is_named, node_of};
-ghost use Rattle.node_hulls.specs.Hulls.{Block, has};
+ghost use Rattle.node_hulls.specs.Hulls.{NumaBlock, has};
 ghost use Rattle.node_hulls.specs.Judgement.{judged, left_by, nodes_by};
-ghost use Rattle.node_hulls.specs.Kept.{blocks_of, first_clash, frame_base, is_node_of, kept_of};
+ghost use Rattle.node_hulls.specs.Kept.{numa_blocks_of, first_clash, frame_base, is_node_of, kept_of};
 
 /// A law: where no two kept blocks clash, the node of an address is the one node that it has, if any.
 pub fn one_node_an_address()
-    ensures { (kept : List AnyKept) → first_clash kept ≡ None → HaveAddresses (blocks_of kept) →
-        (x n : ℕ) → (has (blocks_of kept) n x ≡ true) ↔ (nodes_by kept x ≡ Some n) }
+    ensures { (kept : List AnyKept) → first_clash kept ≡ None → HaveAddresses (numa_blocks_of kept) →
+        (x n : ℕ) → (has (numa_blocks_of kept) n x ≡ true) ↔ (nodes_by kept x ≡ Some n) }
 {}
 
 /// A law: domains that are named are one where their nodes are, and each has a node below their number. So blocks of
@@ -57,7 +57,7 @@ pub fn runs_cover_memory()
     ensures runs { (memory : ℕ → Bool) (off : Bool) (table : Option Affinity) →
         AreRuns (judged memory off table).joined × AreRuns (judged memory off table).rest }
     ensures nodes { (memory : ℕ → Bool) (off : Bool) (table : Option Affinity) →
-        All (λ (b : Block). (0 < b.size) × (b.value < MAX_NODES)) ((judged memory off table).joined ++ (judged memory off table).rest) }
+        All (λ (b : NumaBlock). (0 < b.size) × (b.value < MAX_NODES)) ((judged memory off table).joined ++ (judged memory off table).rest) }
     ensures cover { (memory : ℕ → Bool) (off : Bool) (table : Option Affinity) (x : ℕ) → (judged memory off table).why ≡ why.Used →
         memory x ≡ true → x < 2 ^ 64 →
         (is_some (value_at (judged memory off table).joined x) || is_some (value_at (judged memory off table).rest x)) ≡ true }

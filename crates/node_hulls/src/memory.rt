@@ -4,8 +4,8 @@
 ghost use Rattle.std.specs.Prelude.{◌≡◌, ℕ, ◌++◌, OnOk, IfOk, map};
 ghost use Rattle.address_runs.specs.Overlay.{HaveAddresses};
 ghost use Rattle.address_runs.specs.Runs.{AreRuns};
-ghost use Rattle.node_hulls.specs.Kept.{in_any, has_memory, HaveBytes};
-ghost use Rattle.node_hulls.specs.Steps.{bare, in_runs};
+ghost use Rattle.node_hulls.specs.Kept.{in_any, meets_memory, HaveBytes};
+ghost use Rattle.node_hulls.specs.Steps.{nodeless, in_runs};
 
 use address_runs::{RunOf, overlay_all};
 use bm_base::{Memory, Range};
@@ -25,7 +25,7 @@ pub fn memory_runs(alloc: Global, memory: &[Range]) -> Result<Vec<RunOf<bool>>, 
 
 /// Memory as it covers its addresses.
 pub fn tell_memory(told: &mut Vec<RunOf<bool>>, memory: &[Range]) -> Result<(), Memory>
-    ensures { OnOk result (told.new.items ≡ told.old.items ++ map bare memory.now) }
+    ensures { OnOk result (told.new.items ≡ told.old.items ++ map nodeless memory.now) }
 {
     for part in memory {
         let range = Range {
@@ -41,9 +41,9 @@ pub fn tell_memory(told: &mut Vec<RunOf<bool>>, memory: &[Range]) -> Result<(), 
 }
 
 /// Whether some byte of the range is memory. A look-up: the first run that ends behind the range's first address tells.
-pub fn has_memory(memory: &Vec<RunOf<bool>>, range: &Range) -> bool
+pub fn meets_memory(memory: &Vec<RunOf<bool>>, range: &Range) -> bool
     requires { AreRuns memory.now.items }
-    ensures { result ≡ has_memory (in_runs memory.now.items) range.now }
+    ensures { result ≡ meets_memory (in_runs memory.now.items) range.now }
 {
     let first = seek(memory, range.base) as usize;
     if first >= memory.len() {

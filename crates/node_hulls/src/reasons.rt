@@ -5,7 +5,7 @@ ghost use Rattle.std.specs.Option.{ForSome, option_map, option_copied};
 ghost use Rattle.address_runs.specs.Overlay.{HaveAddresses};
 ghost use Rattle.srat_reader.specs.Table.{affinity};
 ghost use Rattle.node_hulls.specs.Judgement.{lowest, judgement, judged, judged_kept, judged_table, unused};
-ghost use Rattle.node_hulls.specs.Kept.{in_any, blocks_of, HaveBytes};
+ghost use Rattle.node_hulls.specs.Kept.{in_any, numa_blocks_of, HaveBytes};
 ghost use Rattle.node_hulls.specs.Steps.{EndInSpace};
 
 use crate::domains::name_domains;
@@ -123,8 +123,8 @@ fn judge_kept(
     kept: &[KeptBlock],
 ) -> Result<Judged, Memory>
     requires memory { HaveBytes memory.now }
-    requires some { HaveAddresses (blocks_of kept.now) }
-    requires space { EndInSpace (blocks_of kept.now) }
+    requires some { HaveAddresses (numa_blocks_of kept.now) }
+    requires space { EndInSpace (numa_blocks_of kept.now) }
     ensures { IfOk result (λ found. judgement found ≡ judged_kept (in_any memory.now) domains.items kept.now) }
 {
     let laid = lay_blocks(alloc, kept)?;
@@ -161,7 +161,7 @@ fn unused(alloc: Global, why: Why) -> Judged
 
 /// The lowest node of the blocks; 0 where there is none.
 fn lowest_node(kept: &[KeptBlock]) -> u32
-    ensures { result ≡ lowest (blocks_of kept.now) }
+    ensures { result ≡ lowest (numa_blocks_of kept.now) }
 {
     let [first, others @ ..] = kept else {
         return 0;

@@ -6,7 +6,7 @@ ghost use Rattle.address_runs.specs.Overlay.{HaveAddresses};
 ghost use Rattle.address_runs.specs.Runs.{AreRuns, IsRunsOf, run_end, value_at};
 ghost use Rattle.node_hulls.specs.Judgement.{left_over, frames_given};
 ghost use Rattle.node_hulls.specs.Kept.{in_any, HaveBytes};
-ghost use Rattle.node_hulls.specs.Steps.{bare, noded, bare_runs, with_node, begun_before, EndInSpace};
+ghost use Rattle.node_hulls.specs.Steps.{nodeless, noded, bare_runs, with_node, begun_before, EndInSpace};
 
 use crate::memory::tell_memory;
 use crate::node_range::NodeRange;
@@ -34,7 +34,7 @@ pub fn left_over_runs(
 /// The runs with a node and then memory, each as it covers its addresses and whether it has a node: where both
 /// lie over an address, the first one says so.
 fn tell(alloc: Global, memory: &[Range], joined: &[NodeRange]) -> Result<Vec<RunOf<bool>>, Memory>
-    ensures { IfOk result (λ told. told.items ≡ map noded joined.now ++ map bare memory.now) }
+    ensures { IfOk result (λ told. told.items ≡ map noded joined.now ++ map nodeless memory.now) }
 {
     let mut told = Vec::new(alloc);
     tell_nodes(&mut told, joined)?;

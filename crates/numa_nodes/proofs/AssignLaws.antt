@@ -20,7 +20,7 @@ use Rattle.stage_calls.proofs.LentLaws.{goes-none}
 use Rattle.srat_reader.specs.Table.{Affinity}
 use Rattle.node_hulls.specs.declared.reasons.Why.{Why}
 use Rattle.node_hulls.specs.declared.reasons.Why.TheVariants as why
-use Rattle.node_hulls.specs.Hulls.{Block}
+use Rattle.node_hulls.specs.Hulls.{NumaBlock}
 use Rattle.node_hulls.specs.Judgement.{Judgement, judged}
 use Rattle.node_hulls.specs.Kept.{in_any}
 use Rattle.node_hulls.proofs.GivenLaws.{given-small}
@@ -32,13 +32,13 @@ use Rattle.numa_nodes.specs.Assigned.{Noded, assigned, assigned_by, data_placed,
 use Rattle.numa_nodes.specs.Steps.{CanGetNodes}
 
 -- the ranges as a list, what comes behind them, and behind the nodes of memory
-abbrev ranges_in : Judgement → List Item → List Block
+abbrev ranges_in : Judgement → List Item → List NumaBlock
 ranges_in found items = ranges_given (limit_of items) found
 
 abbrev behind : Judgement → Unit {0} → Doing StageStop Noded
 behind found done = listed (λ items. nodes_with_memory (memory_of items)) >>= λ nodes. with_data found nodes
 
-abbrev by_ranges : Judgement → List Block → Doing StageStop Noded
+abbrev by_ranges : Judgement → List NumaBlock → Doing StageStop Noded
 by_ranges found ranges = in_turn given tt ranges >>= behind found
 
 -- memory ran out before anything was written
@@ -50,7 +50,7 @@ by-wanting r items found err =
     (ends-first stop.Memory stop.Memory items items (listed (ranges_in found)) (by_ranges found)
     (ends-wanting (ranges_in found) stop.Memory items))
 
-pub by-ranges : (r : Result Noded StageStop) (e : StageStop) (old new : List Item) (found : Judgement) (ranges : List Block) → r ≡ Err e
+pub by-ranges : (r : Result Noded StageStop) (e : StageStop) (old new : List Item) (found : Judgement) (ranges : List NumaBlock) → r ≡ Err e
     → ranges ≡ ranges_given (limit_of old) found → EndsAs {A = Unit {0}} stop.Memory (Err e) old new (in_turn given tt ranges old)
     → EndsAs stop.Memory r old new (assigned_by found old)
 unfolding assigned_by
@@ -59,9 +59,9 @@ by-ranges r e old new found ranges err same was =
     (ends-second (ranges_in found old) (Err e) stop.Memory old old new (listed (ranges_in found)) (by_ranges found)
     (ends-listed (ranges_in found) stop.Memory old)
     (ends-first e stop.Memory old new (in_turn given tt (ranges_in found old)) (behind found)
-    (subst (λ (t : List Block). EndsAs {A = Unit {0}} stop.Memory (Err e) old new (in_turn given tt t old)) same was)))
+    (subst (λ (t : List NumaBlock). EndsAs {A = Unit {0}} stop.Memory (Err e) old new (in_turn given tt t old)) same was)))
 
-by-behind : (r : Result Noded StageStop) (old mid new : List Item) (found : Judgement) (ranges : List Block)
+by-behind : (r : Result Noded StageStop) (old mid new : List Item) (found : Judgement) (ranges : List NumaBlock)
     → ranges ≡ ranges_given (limit_of old) found → EndsAs stop.Memory (Ok tt) old mid (in_turn given tt ranges old)
     → EndsAs stop.Memory r mid new (behind found tt mid)
     → EndsAs stop.Memory r old new (assigned_by found old)
@@ -70,9 +70,9 @@ by-behind r old mid new found ranges same was rest =
     ends-second (ranges_in found old) r stop.Memory old old new (listed (ranges_in found)) (by_ranges found)
     (ends-listed (ranges_in found) stop.Memory old)
     (ends-second tt r stop.Memory old mid new (in_turn given tt (ranges_in found old)) (behind found)
-    (subst (λ (t : List Block). EndsAs {A = Unit {0}} stop.Memory (Ok tt) old mid (in_turn given tt t old)) same was) rest)
+    (subst (λ (t : List NumaBlock). EndsAs {A = Unit {0}} stop.Memory (Ok tt) old mid (in_turn given tt t old)) same was) rest)
 
-pub by-data : (r : Result Noded StageStop) (old mid new : List Item) (found : Judgement) (ranges : List Block)
+pub by-data : (r : Result Noded StageStop) (old mid new : List Item) (found : Judgement) (ranges : List NumaBlock)
     → ranges ≡ ranges_given (limit_of old) found → EndsAs stop.Memory (Ok tt) old mid (in_turn given tt ranges old)
     → EndsAs stop.Memory r mid new (with_data found (nodes_with_memory (memory_of mid)) mid)
     → EndsAs stop.Memory r old new (assigned_by found old)
@@ -82,7 +82,7 @@ by-data r old mid new found ranges same was rest =
     (ends-second (nodes_in mid) r stop.Memory mid mid new (listed nodes_in) (with_data found) (ends-listed nodes_in stop.Memory mid) rest)
 
 -- or behind the nodes of memory, for those that have some
-pub data-wanting : (r : Result Noded StageStop) (old mid : List Item) (found : Judgement) (ranges : List Block) → r ≡ Err stop.Memory
+pub data-wanting : (r : Result Noded StageStop) (old mid : List Item) (found : Judgement) (ranges : List NumaBlock) → r ≡ Err stop.Memory
     → ranges ≡ ranges_given (limit_of old) found → EndsAs stop.Memory (Ok tt) old mid (in_turn given tt ranges old)
     → EndsAs stop.Memory r old mid (assigned_by found old)
 data-wanting r old mid found ranges err same was =
@@ -121,7 +121,7 @@ all-wanting r items table off err =
     by-judgement r items items found table off refl (by-wanting r items found err)
 
 -- the ranges by the limit that the journal tells
-pub ranges-told : (ranges others : List Block) (limit : ℕ) (items : List Item) (journal memblock : Journal) (found : Judgement)
+pub ranges-told : (ranges others : List NumaBlock) (limit : ℕ) (items : List Item) (journal memblock : Journal) (found : Judgement)
     → ranges ≡ others → others ≡ ranges_given limit found → limit ≡ limit_of items → items ≡ journal.items → journal ≡ memblock
     → ranges ≡ ranges_given (limit_of memblock.items) found
 ranges-told ranges others limit items journal memblock found same are told listed lent =
@@ -143,7 +143,7 @@ ranges-tell items ranges records each same = λ i x. (each x ∙ ap (λ (f : Lab
 can-by : (reason : Why) (limit : ℕ) (j : Judgement) → 0 < limit → CanGetNodes (j.joined ++ j.rest) → CanGetNodes (ranges_by reason limit j)
 can-by reason limit j some can = by reason where
   below : CanGetNodes (record { base = 0; size = limit; value = 0 } ∷ [])
-  below = All-cons (λ (r : Block). (0 < r.size) × (r.value < 1024)) (record { base = 0; size = limit; value = 0 }) []
+  below = All-cons (λ (r : NumaBlock). (0 < r.size) × (r.value < 1024)) (record { base = 0; size = limit; value = 0 }) []
       (some, omega arith) (λ k d less. absurd (omega (arith, less)))
 
   by : (w : Why) → CanGetNodes (ranges_by w limit j)

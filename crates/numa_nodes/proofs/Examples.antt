@@ -6,7 +6,7 @@ use Rattle.memblock_model.specs.declared.item.Item.TheVariants as item
 use Rattle.memblock_model.specs.Labels.{Label, Labels, plain_label, with_node}
 use Rattle.memblock_model.specs.Items.{memory_of}
 use Rattle.node_hulls.specs.declared.reasons.Why.TheVariants as why
-use Rattle.node_hulls.specs.Hulls.{Block}
+use Rattle.node_hulls.specs.Hulls.{NumaBlock}
 use Rattle.node_hulls.specs.Judgement.{Judgement, unused}
 use Rattle.growth_model.specs.Outcome.{refuse}
 use Rattle.stage_model.specs.declared.stop.StageStop.TheVariants as stop
@@ -17,13 +17,13 @@ use Rattle.numa_nodes.proofs.ListedLaws.{nodes-listed, nodes-lists}
 use Rattle.numa_nodes.proofs.MemoryLaws.{noded_all}
 
 -- 16 KiB in node 1 and 16 KiB in node 0, and 4 KiB behind them that no block covers
-abbrev low : Block
+abbrev low : NumaBlock
 low = record { base = 0; size = 0x4000; value = 1 }
 
-abbrev high : Block
+abbrev high : NumaBlock
 high = record { base = 0x4000; size = 0x4000; value = 0 }
 
-abbrev last : Block
+abbrev last : NumaBlock
 last = record { base = 0x8000; size = 0x1000; value = 0 }
 
 abbrev two_nodes : Judgement

@@ -26,7 +26,7 @@ use Rattle.stage_model.specs.Requests.{placed, stop_of}
 use Rattle.stage_model.specs.Quiet.{IsQuietStep}
 use Rattle.stage_model.proofs.DoingLaws.{appended-append}
 use Rattle.stage_model.proofs.QuietLaws.{quiet-appended_limit, quiet-appended_memory, quiet-bind, quiet-placed, quiet-returns, quiet-listed, quiet-turn}
-use Rattle.node_hulls.specs.Hulls.{Block}
+use Rattle.node_hulls.specs.Hulls.{NumaBlock}
 use Rattle.node_hulls.specs.Judgement.{Judgement, judged}
 use Rattle.numa_nodes.specs.Assigned.{Noded, assigned, assigned_by, data_placed, given, is_memory, node_data_request, noded_by, nodes_with_memory, ranges_given, with_data}
 
@@ -69,11 +69,11 @@ refused-is first second none = by first.refused refl where
   by (Some r) is = is
 
 -- what a range with its node makes of memory
-unfoldable pub noded_all : List Block → Labels → Labels
+unfoldable pub noded_all : List NumaBlock → Labels → Labels
 noded_all [] f = f
 noded_all (r ∷ rs) f = noded_all rs (relabelled (extent_of r) (with_node (Some r.value)) f)
 
-given-memory : (b : Block) (items : List Item) → (given tt b items).answer ≡ Ok tt
+given-memory : (b : NumaBlock) (items : List Item) → (given tt b items).answer ≡ Ok tt
     → memory_of (after items (given tt b items)) ≡ relabelled (extent_of b) (with_node (Some b.value)) (memory_of items)
 given-memory b items answered =
     let range : Extent = extent_of b in
@@ -104,12 +104,12 @@ given-some_by first None items range node x quiet =
 given-some_by first (Some r) items range node x quiet =
     ap (λ (f : Labels). is_some (f x)) (quiet-appended_memory items first.steps quiet)
 
-given-some : (b : Block) (items : List Item) (x : ℕ) → is_some (memory_of (after items (given tt b items)) x) ≡ is_some (memory_of items x)
+given-some : (b : NumaBlock) (items : List Item) (x : ℕ) → is_some (memory_of (after items (given tt b items)) x) ≡ is_some (memory_of items x)
 given-some b items x =
     ap (λ (o : Outcome). is_some (memory_of (appended items o.steps) x)) (noded_is items (extent_of b) b.value)
     ∙ given-some_by (growth items) (growth items).refused items (extent_of b) b.value x (growth-quiet items)
 
-given-limit : (b : Block) (items : List Item) → limit_of (after items (given tt b items)) ≡ limit_of items
+given-limit : (b : NumaBlock) (items : List Item) → limit_of (after items (given tt b items)) ≡ limit_of items
 given-limit b items =
     ap (λ (o : Outcome). limit_of (appended items o.steps)) (noded_is items (extent_of b) b.value)
     ∙ limit_by (growth items) (growth items).refused items (extent_of b) b.value (growth-quiet items)
@@ -136,14 +136,14 @@ quiet-behind found done =
 -- what quiet steps and nodes leave as it is, all of it leaves
 module _ {V : Type 0} (seen_of : List Item → V)
     (quiet : (items : List Item) (steps : List (List Item)) → AreQuiet steps → seen_of (appended items steps) ≡ seen_of items)
-    (one : (b : Block) (items : List Item) → seen_of (after items (given tt b items)) ≡ seen_of items) where
+    (one : (b : NumaBlock) (items : List Item) → seen_of (after items (given tt b items)) ≡ seen_of items) where
   keeps-going : {E A B : Type 0} (items : List Item) (d : Done E A) (answer : Result A E) (next : A → Done E B)
       → seen_of (after items d) ≡ seen_of items → ((a : A) → seen_of (after (after items d) (next a)) ≡ seen_of (after items d))
       → seen_of (appended items (going_on d.steps answer next).steps) ≡ seen_of items
   keeps-going items d (Ok a) next first then = ap seen_of (appended-append items d.steps (next a).steps) ∙ then a ∙ first
   keeps-going items d (Err e) next first then = first
 
-  keeps-turn : (rs : List Block) (items : List Item) → seen_of (after items (in_turn given tt rs items)) ≡ seen_of items
+  keeps-turn : (rs : List NumaBlock) (items : List Item) → seen_of (after items (in_turn given tt rs items)) ≡ seen_of items
   keeps-turn [] items = refl
   keeps-turn (r ∷ rs) items =
       keeps-going items (given tt r items) (given tt r items).answer (λ a. in_turn given a rs (after items (given tt r items)))
@@ -154,7 +154,7 @@ module _ {V : Type 0} (seen_of : List Item → V)
   unfolding assigned assigned_by nodes_with_memory
   keeps-all table off items =
       let found : Judgement = judged (is_memory items) off table in
-      let ranges : List Block = ranges_given (limit_of items) found in
+      let ranges : List NumaBlock = ranges_given (limit_of items) found in
       let start : List Item = items ++ [] in
       let d : Done StageStop (Unit {0}) = in_turn given tt ranges start in
       keeps-going start d d.answer (λ a. behind found a (after start d)) (keeps-turn ranges start)
@@ -174,7 +174,7 @@ pub keeps-limit : (table : Option Affinity) (off : Bool) (items : List Item)
 keeps-limit table off items = keeps-all limit_of quiet-appended_limit given-limit table off items
 
 -- where all ranges got their nodes, memory has them
-next-memory : (r : Block) (rs : List Block) (items : List Item) (d : Done StageStop (Unit {0})) (answer : Result (Unit {0}) StageStop)
+next-memory : (r : NumaBlock) (rs : List NumaBlock) (items : List Item) (d : Done StageStop (Unit {0})) (answer : Result (Unit {0}) StageStop)
     → (answer ≡ Ok tt → memory_of (after items d) ≡ relabelled (extent_of r) (with_node (Some r.value)) (memory_of items))
     → ((in_turn given tt rs (after items d)).answer ≡ Ok tt
     → memory_of (after (after items d) (in_turn given tt rs (after items d))) ≡ noded_all rs (memory_of (after items d)))
@@ -187,7 +187,7 @@ next-memory r rs items d (Ok a) first rest answered =
     ap memory_of (appended-append items d.steps last) ∙ rest answered ∙ ap (noded_all rs) (first refl)
 next-memory r rs items d (Err e) first rest answered = absurd (cc)
 
-turn-memory : (rs : List Block) (items : List Item) → (in_turn given tt rs items).answer ≡ Ok tt
+turn-memory : (rs : List NumaBlock) (items : List Item) → (in_turn given tt rs items).answer ≡ Ok tt
     → memory_of (after items (in_turn given tt rs items)) ≡ noded_all rs (memory_of items)
 unfolding noded_all
 turn-memory [] items answered = refl
@@ -233,7 +233,7 @@ pub behind-answer : (table : Option Affinity) (off : Bool) (items : List Item) (
 unfolding assigned assigned_by
 behind-answer table off items noded answered =
     let found : Judgement = judged (is_memory items) off table in
-    let ranges : List Block = ranges_given (limit_of items) found in
+    let ranges : List NumaBlock = ranges_given (limit_of items) found in
     let from : List Item → Done StageStop Noded = λ start. (in_turn given tt ranges >>= behind found) start in
     subst (λ (start : List Item). (from start).answer ≡ Ok noded → IsBehind items found (after start (from start)) noded)
     (sym (append-nil items))

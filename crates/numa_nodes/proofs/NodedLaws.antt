@@ -14,7 +14,7 @@ use Rattle.memblock_model.specs.Items.{limit_of, memory_of}
 use Rattle.memblock_model.specs.Labels.{Label, Labels, with_node}
 use Rattle.node_hulls.specs.declared.reasons.Why.{Why}
 use Rattle.node_hulls.specs.declared.reasons.Why.TheVariants as why
-use Rattle.node_hulls.specs.Hulls.{Block}
+use Rattle.node_hulls.specs.Hulls.{NumaBlock}
 use Rattle.node_hulls.specs.Judgement.{Judgement, judged}
 use Rattle.node_hulls.specs.Kept.{frame_base}
 use Rattle.node_hulls.proofs.GivenLaws.{given-covers, given-frames, given-runs, given-small}
@@ -30,7 +30,7 @@ relabel None o = o
 relabel (Some n) o = option_map (with_node (Some n)) o
 
 -- runs give each byte its node
-noded-runs : (rs : List Block) (f : Labels) (x : ℕ) → AreRuns rs → noded_all rs f x ≡ relabel (value_at rs x) (f x)
+noded-runs : (rs : List NumaBlock) (f : Labels) (x : ℕ) → AreRuns rs → noded_all rs f x ≡ relabel (value_at rs x) (f x)
 unfolding noded_all
 noded-runs [] f x runs = refl
 noded-runs (r ∷ rs) f x runs =
@@ -46,12 +46,12 @@ noded-runs (r ∷ rs) f x runs =
           noded-runs rs g x runs.2 ∙ ap (relabel (value_at rs x)) given ∙ sym (rw not_here refl)
     ]
 
-noded-append : (rs ss : List Block) (f : Labels) → noded_all (rs ++ ss) f ≡ noded_all ss (noded_all rs f)
+noded-append : (rs ss : List NumaBlock) (f : Labels) → noded_all (rs ++ ss) f ≡ noded_all ss (noded_all rs f)
 unfolding noded_all
 noded-append [] ss f = refl
 noded-append (r ∷ rs) ss f = noded-append rs ss (relabelled (extent_of r) (with_node (Some r.value)) f)
 
-all-some : (rs : List Block) (f : Labels) (x : ℕ) → is_some (noded_all rs f x) ≡ is_some (f x)
+all-some : (rs : List NumaBlock) (f : Labels) (x : ℕ) → is_some (noded_all rs f x) ≡ is_some (f x)
 unfolding noded_all
 all-some [] f x = refl
 all-some (r ∷ rs) f x =
@@ -74,7 +74,7 @@ both-relabel None None None covered = refl
 both-relabel None None (Some l) covered = absurd (true≢false (sym (covered refl)))
 
 -- the node of a run is below 1,024
-value-small : (rs : List Block) (x n : ℕ) → CanGetNodes rs → value_at rs x ≡ Some n → n < 1024
+value-small : (rs : List NumaBlock) (x n : ℕ) → CanGetNodes rs → value_at rs x ≡ Some n → n < 1024
 value-small [] x n can at = absurd (none-some n at)
 value-small (r ∷ rs) x n can at = elim (cases_Bool (lies_in r x)) as (λ _. n < 1024) [
   | inl here ↦
@@ -141,12 +141,12 @@ two-some a (Some m) some = refl
 two-some (Some n) None some = refl
 two-some None None some = absurd (true≢false (sym some))
 
-first-part : (rs ss : List Block) → CanGetNodes (rs ++ ss) → CanGetNodes rs
+first-part : (rs ss : List NumaBlock) → CanGetNodes (rs ++ ss) → CanGetNodes rs
 first-part [] ss can k d less = absurd (omega (arith, less))
 first-part (r ∷ rs) ss can zero d less = can zero d (omega arith)
 first-part (r ∷ rs) ss can (suc k) d less = first-part rs ss (λ j e more. can (suc j) e (omega (arith, more))) k d (omega (arith, less))
 
-second-part : (rs ss : List Block) → CanGetNodes (rs ++ ss) → CanGetNodes ss
+second-part : (rs ss : List NumaBlock) → CanGetNodes (rs ++ ss) → CanGetNodes ss
 second-part [] ss can = can
 second-part (r ∷ rs) ss can = second-part rs ss (λ j e more. can (suc j) e (omega (arith, more)))
 

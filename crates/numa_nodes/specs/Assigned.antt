@@ -11,7 +11,7 @@ use Rattle.srat_reader.specs.Table.{Affinity}
 use Rattle.node_hulls.specs.declared.reasons.Why.{Why}
 use Rattle.node_hulls.specs.declared.reasons.Why.TheVariants as why
 use Rattle.node_hulls.specs.declared.reasons.TheConstants.{MAX_NODES}
-use Rattle.node_hulls.specs.Hulls.{Block}
+use Rattle.node_hulls.specs.Hulls.{NumaBlock}
 use Rattle.node_hulls.specs.Judgement.{Judgement, judged}
 use Rattle.memblock_model.specs.declared.request.Request.{Request}
 use Rattle.growth_model.specs.Growth.{noded}
@@ -27,15 +27,15 @@ is_memory items x = is_some (memory_of items x)
 
 -- the ranges that get a node, each with it: where the table is used, the runs of addresses of one node and then the runs of memory that
 -- is left over; else all addresses up to the limit get node 0 (`dummy_numa_init`)
-abbrev pub ranges_by : Why → ℕ → Judgement → List Block
+abbrev pub ranges_by : Why → ℕ → Judgement → List NumaBlock
 ranges_by why.Used limit found = found.joined ++ found.rest
 ranges_by reason limit found = record { base = 0; size = limit; value = 0 } ∷ []
 
-abbrev pub ranges_given : ℕ → Judgement → List Block
+abbrev pub ranges_given : ℕ → Judgement → List NumaBlock
 ranges_given limit found = ranges_by found.why limit found
 
 -- each range gets its node (`memblock_set_node`)
-abbrev pub given : Unit {0} → Block → Doing StageStop (Unit {0})
+abbrev pub given : Unit {0} → NumaBlock → Doing StageStop (Unit {0})
 given done r = carried (noded (extent_of r) r.value)
 
 -- whether the byte is memory of the node

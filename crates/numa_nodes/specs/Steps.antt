@@ -6,15 +6,15 @@ use Rattle.memblock_model.specs.Labels.{Label}
 use Rattle.memblock_model.specs.Same.{same_node}
 use Rattle.memblock_grow.specs.Contents.{Contents}
 use Rattle.stage_calls.specs.Lent.{GoesOn}
-use Rattle.node_hulls.specs.Hulls.{Block}
+use Rattle.node_hulls.specs.Hulls.{NumaBlock}
 
 -- a record of the table is of the node
 abbrev pub has_record : List (RunOf Label) → ℕ → Bool
 has_record records node = list_any (λ (r : RunOf Label). same_node r.value.node (Some node)) records
 
 -- each range has an address, and its node is below 1,024
-abbrev pub CanGetNodes : List Block → Type 0
-CanGetNodes ranges = All (λ (r : Block). (0 < r.size) × (r.value < 1024)) ranges
+abbrev pub CanGetNodes : List NumaBlock → Type 0
+CanGetNodes ranges = All (λ (r : NumaBlock). (0 < r.size) × (r.value < 1024)) ranges
 
 -- a memblock that went on to here goes on to there
 abbrev pub GoesFurther : Contents → Contents → Type 0

@@ -21,8 +21,8 @@ use Rattle.page_alloc.specs.declared.outcome.PageAnswer.{PageAnswer}
 use Rattle.page_alloc.specs.declared.outcome.PageOutcome.{PageOutcome}
 use Rattle.page_alloc.specs.declared.outcome.PageOutcome.TheVariants as outcomes
 use Rattle.page_alloc.specs.Book.{Book, held_in, state_of}
-use Rattle.page_alloc.specs.Kept.{IsKept}
-use Rattle.page_alloc.specs.Pages.{State, with_held, served, asked, step, HasOrder}
+use Rattle.page_alloc.specs.Kept.{AreHeldApart}
+use Rattle.page_alloc.specs.Pages.{State, with_held, served, unless_taken, step, HasOrder}
 use Rattle.page_alloc.proofs.KeptLaws.{step_kept}
 
 -- two states are one where they say the same of each frame and each ID
@@ -104,7 +104,7 @@ took b new id order node zone first none picked runs ids =
     (ap (λ (es : List (ℕ × Held)). held_in es q) ids ∙ put_in id q what b.ids
     ∙ ap (λ t. cond t (Some what) (held_in b.ids q)) (tests_alike id q))) in
     ap (λ (s : State). let p : PageOutcome × State = (outcomes.At (FRAME_SIZE * first), s) in p) same
-    ∙ sym (ap (asked (state_of b) id order node zone) none ∙ ap (served (state_of b) id order node) picked)
+    ∙ sym (ap (unless_taken (state_of b) id order node zone) none ∙ ap (served (state_of b) id order node) picked)
 
 -- and of one that isn't
 pub took_none : (b new : Book) (id order node : ℕ) (zone : Zone) → held_in b.ids id ≡ None
@@ -112,10 +112,10 @@ pub took_none : (b new : Book) (id order node : ℕ) (zone : Zone) → held_in b
     → (let p : PageOutcome × State = (outcomes.NoBlock, state_of new) in p) ≡ step (state_of b) (acts.Pages id order node zone)
 took_none b new id order node zone none picked is =
     ap (λ (d : Book). let p : PageOutcome × State = (outcomes.NoBlock, state_of d) in p) is
-    ∙ sym (ap (asked (state_of b) id order node zone) none ∙ ap (served (state_of b) id order node) picked)
+    ∙ sym (ap (unless_taken (state_of b) id order node zone) none ∙ ap (served (state_of b) id order node) picked)
 
 -- what a line leaves is kept
-pub kept_by : (b new : Book) (o : PageOutcome) (act : PageAct) → HasOrder act → IsKept (state_of b)
-    → (let p : PageOutcome × State = (o, state_of new) in p) ≡ step (state_of b) act → IsKept (state_of new)
+pub kept_by : (b new : Book) (o : PageOutcome) (act : PageAct) → HasOrder act → AreHeldApart (state_of b)
+    → (let p : PageOutcome × State = (o, state_of new) in p) ≡ step (state_of b) act → AreHeldApart (state_of new)
 kept_by b new o act small keeps is =
-    subst (λ (s : State). IsKept s) (sym (ap (λ (p : PageOutcome × State). p.1) is)) (step_kept (state_of b) act small keeps)
+    subst (λ (s : State). AreHeldApart s) (sym (ap (λ (p : PageOutcome × State). p.1) is)) (step_kept (state_of b) act small keeps)

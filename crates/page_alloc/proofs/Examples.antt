@@ -26,8 +26,8 @@ use Rattle.page_alloc.specs.declared.outcome.PageOutcome.{PageOutcome}
 use Rattle.page_alloc.specs.declared.outcome.PageOutcome.TheVariants as outcomes
 use Rattle.page_alloc.specs.Book.{Book, held_in, state_of}
 use Rattle.page_alloc.specs.Forms.{greatest_order, zone_named, pages_line, near_line, give_line, by_name, asked}
-use Rattle.page_alloc.specs.Kept.{Holds, IsInOne, IsInNone, IsKept}
-use Rattle.page_alloc.specs.Pages.{State, begun, with_held, served, asked as asked_of, given_back, step, HasOrder, HaveOrders, IsPlain, TakesMemory}
+use Rattle.page_alloc.specs.Kept.{HoldsFrame, IsInOne, IsInNone, AreHeldApart}
+use Rattle.page_alloc.specs.Pages.{State, begun, with_held, served, unless_taken as asked_of, given_back, step, HasOrder, HaveOrders, NamesNoNode, TakesMemory}
 use Rattle.page_alloc.specs.Reading.{fault_at, line_at, lines_from, pages_of}
 use Rattle.page_alloc.proofs.KeptLaws.{Goes, in_one, in_none, begun_goes, begun_kept, step_goes, step_kept}
 
@@ -136,7 +136,7 @@ step_examples : (step (begun lone) (acts.Pages 1 0 7 zones.Dma) ≡ at_five)
     × (step taken (acts.Pages 1 0 7 zones.Dma) ≡ (let p : PageOutcome × State = (outcomes.Taken, taken) in p))
 step_examples = (asked_examples.0, ap (served taken 2 0 7) picked_none_left, refl)
 
-plain_examples : IsPlain (acts.Pages 1 11 7 zones.Dma) × IsPlain (acts.Give 1) × (IsPlain (acts.Near 1 0 7) → ⊥)
+plain_examples : NamesNoNode (acts.Pages 1 11 7 zones.Dma) × NamesNoNode (acts.Give 1) × (NamesNoNode (acts.Near 1 0 7) → ⊥)
     × (step taken (acts.Near 2 0 7) ≡ (let p : PageOutcome × State = (outcomes.NoBlock, taken) in p))
 plain_examples = (tt, tt, λ plain. plain, refl)
 
@@ -148,7 +148,7 @@ memory_examples : TakesMemory (begun lone) (acts.Pages 1 0 7 zones.Dma) × (Take
 memory_examples = (refl, λ none. cc none, refl, λ some. cc some)
 
 -- frame 5 is in a block at first, and then held by ID 1; frame 4 is in none
-holds_examples : Holds taken 1 5 × (Holds taken 2 5 → ⊥)
+holds_examples : HoldsFrame taken 1 5 × (HoldsFrame taken 2 5 → ⊥)
 holds_examples = (record { what = five; is = refl; inside = refl }, λ holds. let is = holds.is in cc is)
 
 in_one_examples : IsInOne (begun lone) 5 × IsInOne taken 5
@@ -162,11 +162,11 @@ in_one_examples = (
 in_none_examples : IsInNone (begun lone) 4
 in_none_examples = in_none lone (begun lone) 4 (begun_goes lone lone_low) refl
 
-kept_examples : IsKept (begun lone) × IsKept taken
-    × (IsKept (record { frames = lone; held = with_held 1 (Some five) (λ id. None) }) → ⊥)
+kept_examples : AreHeldApart (begun lone) × AreHeldApart taken
+    × (AreHeldApart (record { frames = lone; held = with_held 1 (Some five) (λ id. None) }) → ⊥)
 kept_examples = (
   begun_kept lone lone_low,
-  subst (λ (p : PageOutcome × State). IsKept p.1) step_examples.0
+  subst (λ (p : PageOutcome × State). AreHeldApart p.1) step_examples.0
       (step_kept (begun lone) (acts.Pages 1 0 7 zones.Dma) (omega arith) (begun_kept lone lone_low)),
   λ kept. let none : Some 7 ≡ None = (kept.well 1 five refl).taken 5 refl in cc none,
 )

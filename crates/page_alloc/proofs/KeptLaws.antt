@@ -17,17 +17,17 @@ use Rattle.frame_blocks.proofs.PickLaws.{picked_tells}
 use Rattle.page_alloc.specs.declared.act.PageAct.{PageAct}
 use Rattle.page_alloc.specs.declared.act.PageAct.TheVariants as acts
 use Rattle.page_alloc.specs.declared.outcome.Held.{Held}
-use Rattle.page_alloc.specs.Pages.{State, begun, with_held, served, asked, given_back, step, HasOrder}
-use Rattle.page_alloc.specs.Kept.{Holds, IsInOne, IsInNone, IsWell, IsKept}
+use Rattle.page_alloc.specs.Pages.{State, begun, with_held, served, unless_taken, given_back, step, HasOrder}
+use Rattle.page_alloc.specs.Kept.{HoldsFrame, IsInOne, IsInNone, IsWell, AreHeldApart}
 
 -- what the state has was in f, with its node, and what f has the state has
 pub record Shares (f : Frames) (s : State) : Type 0 where
   pub free : (x n : ℕ) → s.frames x ≡ Some n → f x ≡ Some n
   pub held : (id : ℕ) (what : Held) → s.held id ≡ Some what → (x : ℕ) → IsInSet what.order what.first x → f x ≡ Some what.node
-  pub all : (x n : ℕ) → f x ≡ Some n → (s.frames x ≡ Some n) ⊎ ((id : ℕ) × Holds s id x)
+  pub all : (x n : ℕ) → f x ≡ Some n → (s.frames x ≡ Some n) ⊎ ((id : ℕ) × HoldsFrame s id x)
 
 pub record Goes (f : Frames) (s : State) : Type 0 where
-  pub kept : IsKept s
+  pub kept : AreHeldApart s
   pub shares : Shares f s
 
 -- so each frame of f is in one block or held by one ID, and no other frame is
@@ -48,7 +48,7 @@ in_one f s x n goes is = ⊎_elim
         λ id holds. cc (sym ((goes.kept.well id holds.what holds.is).taken x holds.inside) ∙ free),
       )
     ])
-    (λ (some : (id : ℕ) × Holds s id x). inr (
+    (λ (some : (id : ℕ) × HoldsFrame s id x). inr (
       record {
         id = some.0;
         holds = some.1;
@@ -144,8 +144,8 @@ picked_set f order first node zone low is = elim (found_or_none (picked f node z
 ]
 
 -- a set leaves, and an ID that holds nothing gets it
-taken_kept : (s : State) (id order first node : ℕ) → order ≤ 10 → IsKept s → IsFreeSet s.frames order first node
-    → IsKept (record {
+taken_kept : (s : State) (id order first node : ℕ) → order ≤ 10 → AreHeldApart s → IsFreeSet s.frames order first node
+    → AreHeldApart (record {
       frames = without_set order first s.frames;
       held = with_held id (Some (record { first = first; order = order; node = node })) s.held;
     })
@@ -214,18 +214,18 @@ taken_goes f s id order first node small goes none set =
             (λ (other : ((id == i) ≡ false) × (s.held i ≡ Some h)). goes.shares.held i h other.1 x inside)
             (had id i (Some made) s.held h is).either;
         all = λ x n is. ⊎_elim
-            (λ (was : s.frames x ≡ Some n). elim (in_set_or_not order first x) as (λ _. (new.frames x ≡ Some n) ⊎ ((i : ℕ) × Holds new i x)) [
-              | inl inside ↦ inr (id, let it : Holds new id x = record { what = made; is = with_here id (Some made) s.held; inside = inside } in it)
+            (λ (was : s.frames x ≡ Some n). elim (in_set_or_not order first x) as (λ _. (new.frames x ≡ Some n) ⊎ ((i : ℕ) × HoldsFrame new i x)) [
+              | inl inside ↦ inr (id, let it : HoldsFrame new id x = record { what = made; is = with_here id (Some made) s.held; inside = inside } in it)
               | inr other ↦ inl (without.kept x other ∙ was)
             ])
-            (λ (some : (i : ℕ) × Holds s i x). elim (with_or_not id some.0) as (λ _. (new.frames x ≡ Some n) ⊎ ((i : ℕ) × Holds new i x)) [
+            (λ (some : (i : ℕ) × HoldsFrame s i x). elim (with_or_not id some.0) as (λ _. (new.frames x ≡ Some n) ⊎ ((i : ℕ) × HoldsFrame new i x)) [
               | inl same ↦
                   let had_one = some.1.is in
                   let here : s.held id ≡ Some some.1.what = ap s.held same ∙ had_one in
                   absurd (cc (sym none ∙ here))
               | inr other ↦ inr (
                 some.0,
-                let it : Holds new some.0 x = record {
+                let it : HoldsFrame new some.0 x = record {
                   what = some.1.what;
                   is = with_there id some.0 (Some made) s.held other ∙ some.1.is;
                   inside = some.1.inside;
@@ -237,7 +237,7 @@ taken_goes f s id order first node small goes none set =
     }
 
 -- what an ID holds comes back
-given_kept : (s : State) (id : ℕ) (what : Held) → IsKept s → s.held id ≡ Some what → IsKept (record { frames = with_set what.order what.first what.node s.frames; held = with_held id None s.held })
+given_kept : (s : State) (id : ℕ) (what : Held) → AreHeldApart s → s.held id ≡ Some what → AreHeldApart (record { frames = with_set what.order what.first what.node s.frames; held = with_held id None s.held })
 given_kept s id what keeps is_held =
     let new : State = record { frames = with_set what.order what.first what.node s.frames; held = with_held id None s.held } in
     let well = keeps.well id what is_held in
@@ -292,18 +292,18 @@ given_goes f s id what goes is_held =
           | inr other ↦ goes.shares.free x n (sym (kept x other) ∙ is)
         ];
         held = λ i h is x inside. goes.shares.held i h (still i h is).1 x inside;
-        all = λ x n is. elim (in_set_or_not what.order what.first x) as (λ _. (new.frames x ≡ Some n) ⊎ ((i : ℕ) × Holds new i x)) [
+        all = λ x n is. elim (in_set_or_not what.order what.first x) as (λ _. (new.frames x ≡ Some n) ⊎ ((i : ℕ) × HoldsFrame new i x)) [
           | inl inside ↦ inl (back x inside ∙ sym (goes.shares.held id what is_held x inside) ∙ is)
           | inr other ↦ ⊎_elim
               (λ (was : s.frames x ≡ Some n). inl (kept x other ∙ was))
-              (λ (some : (i : ℕ) × Holds s i x). elim (with_or_not id some.0) as (λ _. (new.frames x ≡ Some n) ⊎ ((i : ℕ) × Holds new i x)) [
+              (λ (some : (i : ℕ) × HoldsFrame s i x). elim (with_or_not id some.0) as (λ _. (new.frames x ≡ Some n) ⊎ ((i : ℕ) × HoldsFrame new i x)) [
                 | inl same ↦
                     let here : s.held id ≡ Some some.1.what = let h = some.1.is in ap s.held same ∙ h in
                     let one : some.1.what ≡ what = let both : Some some.1.what ≡ Some what = sym here ∙ is_held in cc in
                     absurd (other (subst (λ (k : Held). IsInSet k.order k.first x) one some.1.inside))
                 | inr differs ↦ inr (
                   some.0,
-                  let it : Holds new some.0 x = record {
+                  let it : HoldsFrame new some.0 x = record {
                     what = some.1.what;
                     is = with_there id some.0 None s.held differs ∙ some.1.is;
                     inside = some.1.inside;
@@ -323,7 +323,7 @@ served_goes f s id order node zone (Some first) small goes none is =
     taken_goes f s id order first node small goes none (picked_set s.frames order first node zone goes.kept.low is)
 
 asked_goes : (f : Frames) (s : State) (id order node : ℕ) (zone : Zone) (o : Option Held) → order ≤ 10 → Goes f s → s.held id ≡ o
-    → Goes f (asked s id order node zone o).1
+    → Goes f (unless_taken s id order node zone o).1
 asked_goes f s id order node zone (Some what) small goes is = goes
 asked_goes f s id order node zone None small goes is =
     served_goes f s id order node zone (first_picked s.frames node zone order) small goes is refl
@@ -338,24 +338,24 @@ step_goes f s (acts.Near id order node) small goes = goes
 step_goes f s (acts.Give id) small goes = back_goes f s id (s.held id) goes refl
 
 -- a state by itself
-served_kept : (s : State) (id order node : ℕ) (zone : Zone) (o : Option ℕ) → order ≤ 10 → IsKept s
-    → first_picked s.frames node zone order ≡ o → IsKept (served s id order node o).1
+served_kept : (s : State) (id order node : ℕ) (zone : Zone) (o : Option ℕ) → order ≤ 10 → AreHeldApart s
+    → first_picked s.frames node zone order ≡ o → AreHeldApart (served s id order node o).1
 served_kept s id order node zone None small keeps is = keeps
 served_kept s id order node zone (Some first) small keeps is =
     taken_kept s id order first node small keeps (picked_set s.frames order first node zone keeps.low is)
 
-asked_kept : (s : State) (id order node : ℕ) (zone : Zone) (o : Option Held) → order ≤ 10 → IsKept s → IsKept (asked s id order node zone o).1
+asked_kept : (s : State) (id order node : ℕ) (zone : Zone) (o : Option Held) → order ≤ 10 → AreHeldApart s → AreHeldApart (unless_taken s id order node zone o).1
 asked_kept s id order node zone (Some what) small keeps = keeps
 asked_kept s id order node zone None small keeps = served_kept s id order node zone (first_picked s.frames node zone order) small keeps refl
 
-back_kept : (s : State) (id : ℕ) (o : Option Held) → IsKept s → s.held id ≡ o → IsKept (given_back s id o).1
+back_kept : (s : State) (id : ℕ) (o : Option Held) → AreHeldApart s → s.held id ≡ o → AreHeldApart (given_back s id o).1
 back_kept s id None keeps is = keeps
 back_kept s id (Some what) keeps is = given_kept s id what keeps is
 
-pub step_kept : (s : State) (act : PageAct) → HasOrder act → IsKept s → IsKept (step s act).1
+pub step_kept : (s : State) (act : PageAct) → HasOrder act → AreHeldApart s → AreHeldApart (step s act).1
 step_kept s (acts.Pages id order node zone) small keeps = asked_kept s id order node zone (s.held id) small keeps
 step_kept s (acts.Near id order node) small keeps = keeps
 step_kept s (acts.Give id) small keeps = back_kept s id (s.held id) keeps refl
 
-pub begun_kept : (f : Frames) → NothingFrom MAX_FRAMES f → IsKept (begun f)
+pub begun_kept : (f : Frames) → NothingFrom MAX_FRAMES f → AreHeldApart (begun f)
 begun_kept f low = (begun_goes f low).kept

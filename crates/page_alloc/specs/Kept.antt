@@ -8,7 +8,7 @@ use Rattle.page_alloc.specs.declared.outcome.Held.{Held}
 use Rattle.page_alloc.specs.Pages.{State}
 
 -- the ID holds the frame
-pub record Holds (s : State) (id x : ℕ) : Type 0 where
+pub record HoldsFrame (s : State) (id x : ℕ) : Type 0 where
   pub what : Held
   pub is : s.held id ≡ Some what
   pub inside : IsInSet what.order what.first x
@@ -26,11 +26,11 @@ IsInNoBlock s x = (b : Block) → IsBlock s.frames b → IsInBlock b x → ⊥
 -- an ID holds the frame, and no other ID does
 pub record IsHeldByOne (s : State) (x : ℕ) : Type 0 where
   pub id : ℕ
-  pub holds : Holds s id x
-  pub one : (other : ℕ) → Holds s other x → other ≡ id
+  pub holds : HoldsFrame s id x
+  pub one : (other : ℕ) → HoldsFrame s other x → other ≡ id
 
 abbrev pub IsHeldByNone : State → ℕ → Type 0
-IsHeldByNone s x = (id : ℕ) → Holds s id x → ⊥
+IsHeldByNone s x = (id : ℕ) → HoldsFrame s id x → ⊥
 
 -- the frame is in exactly one block, or held by exactly one ID
 abbrev pub IsInOne : State → ℕ → Type 0
@@ -48,7 +48,7 @@ pub record IsWell (s : State) (what : Held) : Type 0 where
   pub taken : (x : ℕ) → IsInSet what.order what.first x → s.frames x ≡ None
 
 -- so are all that are held, no two of them have a frame in common, and no frame lies too high
-pub record IsKept (s : State) : Type 0 where
+pub record AreHeldApart (s : State) : Type 0 where
   pub low : NothingFrom MAX_FRAMES s.frames
   pub well : (id : ℕ) (what : Held) → s.held id ≡ Some what → IsWell s what
   pub apart : (i j : ℕ) (g h : Held) → s.held i ≡ Some g → s.held j ≡ Some h → (x : ℕ) → IsInSet g.order g.first x

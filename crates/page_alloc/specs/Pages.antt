@@ -38,9 +38,9 @@ served s id order node (Some first) = (
 )
 
 -- by what the ID holds already
-abbrev pub asked : State → ℕ → ℕ → ℕ → Zone → Option Held → PageOutcome × State
-asked s id order node zone (Some what) = (outcomes.Taken, s)
-asked s id order node zone None = served s id order node (first_picked s.frames node zone order)
+abbrev pub unless_taken : State → ℕ → ℕ → ℕ → Zone → Option Held → PageOutcome × State
+unless_taken s id order node zone (Some what) = (outcomes.Taken, s)
+unless_taken s id order node zone None = served s id order node (first_picked s.frames node zone order)
 
 -- what an ID holds comes back, with its node, and the ID holds nothing any more
 abbrev pub given_back : State → ℕ → Option Held → PageOutcome × State
@@ -56,7 +56,7 @@ given_back s id (Some what) = (
 -- the outcome of a line that names its zone or gives back, and the state then. A line for the zones near a node is served by the
 -- layer above, which knows them, and by no block here
 abbrev pub step : State → PageAct → PageOutcome × State
-step s (acts.Pages id order node zone) = asked s id order node zone (s.held id)
+step s (acts.Pages id order node zone) = unless_taken s id order node zone (s.held id)
 step s (acts.Near id order node) = (outcomes.NoBlock, s)
 step s (acts.Give id) = given_back s id (s.held id)
 
@@ -71,10 +71,10 @@ HaveOrders [] = Unit {0}
 HaveOrders (l ∷ ls) = HasOrder l.act × HaveOrders ls
 
 -- the line names its zone or gives back
-abbrev pub IsPlain : PageAct → Type 0
-IsPlain (acts.Pages id order node zone) = Unit {0}
-IsPlain (acts.Near id order node) = ⊥
-IsPlain (acts.Give id) = Unit {0}
+abbrev pub NamesNoNode : PageAct → Type 0
+NamesNoNode (acts.Pages id order node zone) = Unit {0}
+NamesNoNode (acts.Near id order node) = ⊥
+NamesNoNode (acts.Give id) = Unit {0}
 
 -- memory is taken for a request of an ID that holds nothing, and where what an ID holds comes back
 abbrev pub TakesMemory : State → PageAct → Type 0

@@ -4,7 +4,7 @@ ghost use Rattle.std.specs.Prelude.{◌≡◌, ◌⊎◌, ◌+◌, ◌*◌, ◌^
 ghost use Rattle.buddy_handover.specs.Contents.{free};
 ghost use Rattle.page_alloc.specs.declared.act.PageAct.TheVariants as act;
 ghost use Rattle.page_alloc.specs.Book.{held_in, state_of};
-ghost use Rattle.page_alloc.specs.Pages.{begun, step, HasOrder, IsPlain, TakesMemory};
+ghost use Rattle.page_alloc.specs.Pages.{begun, step, HasOrder, NamesNoNode, TakesMemory};
 
 use crate::act::{PageAct, PageLine};
 use crate::outcome::{Held, PageOutcome};
@@ -24,13 +24,13 @@ pub struct Pages {
 
 impl Model for Pages {
     ghost use Rattle.page_alloc.specs.Book.{Book, state_of};
-    ghost use Rattle.page_alloc.specs.Kept.{IsKept};
+    ghost use Rattle.page_alloc.specs.Kept.{AreHeldApart};
 
     ghost Value = { Book };
 
     ghost view = { λ p. record { buddy = p.buddy; ids = p.ids.entries } };
 
-    ghost invariant = { λ p. IsKept (state_of (record { buddy = p.buddy; ids = p.ids.entries })) };
+    ghost invariant = { λ p. AreHeldApart (state_of (record { buddy = p.buddy; ids = p.ids.entries })) };
 }
 
 impl Pages {
@@ -107,7 +107,7 @@ impl Pages {
     /// carried out by the layer above, which knows them.
     pub fn run_line(&mut self, line: &PageLine) -> Result<PageOutcome, Memory>
         requires order { HasOrder line.now.act }
-        requires plain { IsPlain line.now.act }
+        requires plain { NamesNoNode line.now.act }
         ensures ok { IfOk result (λ outcome. (outcome, state_of self.new) ≡ step (state_of self.old) line.now.act) }
         ensures memory { OnErr result (TakesMemory (state_of self.old) line.now.act) }
         ensures err { OnErr result (self.new ≡ self.old) }

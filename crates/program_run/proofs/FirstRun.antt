@@ -26,7 +26,7 @@ use Rattle.bm_base.specs.ResultSteps.{◌>>=◌}
 use Rattle.boot_model.specs.Boot.{Given, Made, begin_with, begun, boot, claims, early_of, has_memory, map_judged, no_options, reach}
 use Rattle.boot_model.proofs.BootLaws.{goes_on}
 use Rattle.program_words.specs.Kernel.{default_kernel}
-use Rattle.program_words.specs.Spelling.{AreSpellings, Spelling, apart, given_by, named}
+use Rattle.program_words.specs.Spelling.{AreSpellings, Spelling, apart, spelled_values, named}
 use Rattle.program_words.specs.Words.{Wanted, accepted, name_in}
 use Rattle.program_words.proofs.MatchedLaws.{accepted_as_given}
 use Rattle.boot_inputs.specs.Inputs.{Held}
@@ -148,7 +148,7 @@ are_spellings : AreSpellings spellings
 are_spellings = ((refl, refl), refl, (refl, refl, tt))
 
 abbrev asked : Wanted
-asked = record { named = name_in (given_by spellings); begun = begun Bits46 default_kernel; reports = reports.Map ∷ []; made = None }
+asked = record { named = name_in (spelled_values spellings); begun = begun Bits46 default_kernel; reports = reports.Map ∷ []; made = None }
 
 words_ask : accepted (codes "--report" ∷ codes "map" ∷ codes "zp" ∷ []) ≡ Some asked
 words_ask = accepted_as_given spellings are_spellings

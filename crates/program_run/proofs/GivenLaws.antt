@@ -10,7 +10,7 @@ use Rattle.boot_inputs.specs.declared.refusal.InputError.{InputError}
 use Rattle.boot_inputs.specs.declared.refusal.InputError.TheVariants as errors
 use Rattle.boot_inputs.specs.declared.refusal.Refusal.{Refusal}
 use Rattle.boot_inputs.specs.declared.refusal.Refusal.TheVariants as refusals
-use Rattle.boot_inputs.specs.Answers.{ComesTo, Fits, Gives}
+use Rattle.boot_inputs.specs.Answers.{ComesTo, FitsAnswer, Gives}
 use Rattle.boot_inputs.specs.Inputs.{Held, inputs_of}
 use Rattle.boot_model.specs.Boot.{Given}
 use Rattle.program_words.specs.Words.{Wanted}
@@ -21,14 +21,14 @@ comes_behind : (input : Input) (said : Result Given Refusal) (next : Given → G
 comes_behind input (Ok given) next comes = tt
 comes_behind input (Err refusal) next comes = comes
 
-fits_behind : (error : InputError) (said : Result Given Refusal) (next : Given → Given) → Fits error said
-    → Fits error (said >>= λ given. Ok (next given))
+fits_behind : (error : InputError) (said : Result Given Refusal) (next : Given → Given) → FitsAnswer error said
+    → FitsAnswer error (said >>= λ given. Ok (next given))
 fits_behind (errors.Refused (refusals.Unread input)) said next fits = comes_behind input said next fits
 fits_behind (errors.Refused (refusals.Faulty input fault)) said next fits = rw fits refl
 fits_behind errors.Memory said next fits = tt
 
 pub given_none : {X : Type 0} (view : X → Given) (r : Result X InputError) (other error : InputError) (told : Option Held) (wanted : Wanted)
-    → r ≡ Err other → other ≡ error → IfSome told (λ held. Fits error (inputs_of held wanted.named wanted.begun))
+    → r ≡ Err other → other ≡ error → IfSome told (λ held. FitsAnswer error (inputs_of held wanted.named wanted.begun))
     → IfSome told (λ held. Gives view r (given_by held wanted))
 given_none view r other error None wanted is same fits = tt
 given_none view r other error (Some held) wanted is same fits =

@@ -17,7 +17,7 @@ use Rattle.debugfs_reports.specs.declared.report.Report.TheVariants as reports
 use Rattle.program_run.specs.declared.failure.Reason.{Reason}
 use Rattle.program_run.specs.declared.failure.Reason.TheVariants as reasons
 use Rattle.program_run.specs.declared.failure.Failure.TheVariants as failures
-use Rattle.program_run.specs.Answers.{EndFits, EndHasCause, Ends, FailureHasCause, FileHasCause, FitsFailure, FitsFile, FitsReason, IsFaulty, IsOfBoot, IsStopped, IsText, Makes, ReachesFile, ReasonHasCause, ReportHasCause, RoseFor, Writes, WritingHasCause}
+use Rattle.program_run.specs.Answers.{EndFits, EndHasCause, MayEndWith, FailureHasCause, FileHasCause, FitsFailure, FitsFile, FitsReason, IsFaulty, IsOfBoot, IsStopped, IsText, Makes, ReachesFile, ReasonHasCause, ReportHasCause, RoseFor, Writes, WritingHasCause}
 use Rattle.program_run.specs.Outcome.{given_by, or_refused, or_stopped, or_usage, outcome, reported, with_made}
 use Rattle.program_run.specs.Run.{IsTold}
 use Rattle.program_words.specs.Words.{Wanted}
@@ -162,13 +162,13 @@ end_fits_examples : EndFits failures.Unwritten text × (EndFits failures.Unwritt
 end_fits_examples = (tt, λ is. is)
 
 -- where the outcome is a text, the status is 0, 3, 4 or 7; refused words are status 2, or 7
-text_ends : Ends text 0 × (Ends text 5 → ⊥)
+text_ends : MayEndWith text 0 × (MayEndWith text 5 → ⊥)
 text_ends = (inl refl, λ ends. grind arith)
 
-usage_ends : Ends (Err reasons.Usage) 2 × Ends (Err reasons.Usage) 7 × (Ends (Err reasons.Usage) 3 → ⊥)
+usage_ends : MayEndWith (Err reasons.Usage) 2 × MayEndWith (Err reasons.Usage) 7 × (MayEndWith (Err reasons.Usage) 3 → ⊥)
 usage_ends = (inl refl, inr refl, λ ends. grind arith)
 
-stop_ends : Ends (Err (reasons.Stopped causes.NoRam)) 6 × (Ends (Err (reasons.Stopped causes.NoRam)) 5 → ⊥)
+stop_ends : MayEndWith (Err (reasons.Stopped causes.NoRam)) 6 × (MayEndWith (Err (reasons.Stopped causes.NoRam)) 5 → ⊥)
 stop_ends = (inl refl, λ ends. grind arith)
 
 -- written whole, in part, and not at all

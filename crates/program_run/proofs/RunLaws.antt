@@ -9,7 +9,7 @@ use Rattle.boot_inputs.specs.declared.refusal.Refusal.{Refusal}
 use Rattle.boot_inputs.specs.declared.refusal.Refusal.TheVariants as refusals
 use Rattle.boot_inputs.specs.declared.refusal.InputError.{InputError}
 use Rattle.boot_inputs.specs.declared.refusal.InputError.TheVariants as errors
-use Rattle.boot_inputs.specs.Answers.{ComesTo, Fits}
+use Rattle.boot_inputs.specs.Answers.{ComesTo, FitsAnswer}
 use Rattle.boot_inputs.specs.Inputs.{Held}
 use Rattle.boot_model.specs.declared.stop.Cause.{Cause}
 use Rattle.boot_model.specs.Boot.{Given, Told, told_boot}
@@ -19,8 +19,8 @@ use Rattle.program_run.specs.declared.failure.Reason.{Reason}
 use Rattle.program_run.specs.declared.failure.Reason.TheVariants as reasons
 use Rattle.program_run.specs.declared.failure.Failure.{Failure}
 use Rattle.program_run.specs.declared.failure.Failure.TheVariants as failures
-use Rattle.program_run.specs.Answers.{EndFits, EndHasCause, Ends, FailureHasCause, FitsFailure, IsText, Makes, ReachesFile, RoseFor, Writes}
-use Rattle.program_run.specs.Line.{Tells, failure_line}
+use Rattle.program_run.specs.Answers.{EndFits, EndHasCause, MayEndWith, FailureHasCause, FitsFailure, IsText, Makes, ReachesFile, RoseFor, Writes}
+use Rattle.program_run.specs.Line.{PutsLine, failure_line}
 use Rattle.program_run.specs.Outcome.{given_by, or_refused, or_stopped, outcome, reported}
 use Rattle.program_run.specs.Run.{IsTold}
 use Rattle.program_run.specs.Status.{End, failure_of_input, status_of, status_of_end}
@@ -38,7 +38,7 @@ reached input (Ok given) reports comes = reached_behind input (told_boot given) 
 reached input (Err refusal) reports comes = comes
 
 pub inputs_fit : (held : Held) (wanted : Wanted) (error : InputError) (failure : Failure) → failure ≡ failure_of_input error
-    → Fits error (given_by held wanted) → FitsFailure failure (outcome (Some wanted) held)
+    → FitsAnswer error (given_by held wanted) → FitsFailure failure (outcome (Some wanted) held)
 inputs_fit held wanted (errors.Refused (refusals.Unread input)) failure is fits =
     rw is (reached input (given_by held wanted) wanted.reports fits)
 inputs_fit held wanted (errors.Refused (refusals.Faulty input fault)) failure is fits =
@@ -52,47 +52,47 @@ if_told (Some a) P Q step holds = step a holds
 
 pub makes_none : {X : Type 0} (view : X → List ℕ) (r : Result X Failure) (failure : Failure) (told : Option Held)
     (accepted : Option Wanted) (wanted : Wanted) (error : InputError) → r ≡ Err failure → failure ≡ failure_of_input error
-    → accepted ≡ Some wanted → IfSome told (λ held. Fits error (given_by held wanted))
+    → accepted ≡ Some wanted → IfSome told (λ held. FitsAnswer error (given_by held wanted))
     → IfSome told (λ held. Makes view r (outcome accepted held))
 makes_none view r failure told accepted wanted error is from some fits =
     if_told told _ _ (λ held h. rw (is, some) (inputs_fit held wanted error failure from h)) fits
 
 -- the statuses, by the outcome
-ends_unread : (said : Result (List ℕ) Reason) (input : Input) → ReachesFile input said → Ends said 3
+ends_unread : (said : Result (List ℕ) Reason) (input : Input) → ReachesFile input said → MayEndWith said 3
 ends_unread (Ok text) input reaches = inr (inl refl)
 ends_unread (Err reasons.Usage) input reaches = absurd reaches
 ends_unread (Err (reasons.Refused (refusals.Unread other))) input reaches = inl refl
 ends_unread (Err (reasons.Refused (refusals.Faulty other fault))) input reaches = inr (inl refl)
 ends_unread (Err (reasons.Stopped cause)) input reaches = inr (inl refl)
 
-ends_unwritten : (said : Result (List ℕ) Reason) (P : List ℕ → Type 0) → IsText said P → Ends said 4
+ends_unwritten : (said : Result (List ℕ) Reason) (P : List ℕ → Type 0) → IsText said P → MayEndWith said 4
 ends_unwritten (Ok text) P is = inr (inr (inl refl))
 ends_unwritten (Err reason) P is = absurd is
 
-ends_wanting : (said : Result (List ℕ) Reason) → Ends said 7
+ends_wanting : (said : Result (List ℕ) Reason) → MayEndWith said 7
 ends_wanting (Ok text) = inr (inr (inr refl))
 ends_wanting (Err reasons.Usage) = inr refl
 ends_wanting (Err (reasons.Refused (refusals.Unread other))) = inr refl
 ends_wanting (Err (reasons.Refused (refusals.Faulty other fault))) = inr (inr refl)
 ends_wanting (Err (reasons.Stopped cause)) = inr (inr refl)
 
-ends_by : (said : Result (List ℕ) Reason) (end : End) (old new : Option (List ℕ)) → Writes old new end said → Ends said (status_of_end end)
+ends_by : (said : Result (List ℕ) Reason) (end : End) (old new : Option (List ℕ)) → Writes old new end said → MayEndWith said (status_of_end end)
 ends_by (Ok text) (Ok done) old new writes = inl refl
 ends_by (Err reason) (Ok done) old new writes = absurd writes
 ends_by said (Err (failures.NoReport reasons.Usage)) old new writes =
-    let P : Result (List ℕ) Reason → Type 0 = λ s. Ends s 2 in subst P (sym writes) (inl refl)
+    let P : Result (List ℕ) Reason → Type 0 = λ s. MayEndWith s 2 in subst P (sym writes) (inl refl)
 ends_by said (Err (failures.NoReport (reasons.Refused (refusals.Unread input)))) old new writes = ends_unread said input writes
 ends_by said (Err (failures.NoReport (reasons.Refused (refusals.Faulty input fault)))) old new writes =
-    let P : Result (List ℕ) Reason → Type 0 = λ s. Ends s 5 in subst P (sym writes) (inl refl)
+    let P : Result (List ℕ) Reason → Type 0 = λ s. MayEndWith s 5 in subst P (sym writes) (inl refl)
 ends_by said (Err (failures.NoReport (reasons.Stopped cause))) old new writes =
-    let P : Result (List ℕ) Reason → Type 0 = λ s. Ends s 6 in subst P (sym writes) (inl refl)
+    let P : Result (List ℕ) Reason → Type 0 = λ s. MayEndWith s 6 in subst P (sym writes) (inl refl)
 ends_by said (Err failures.Unwritten) old new writes = ends_unwritten said (λ text. AppendsFront old new text) writes
 ends_by said (Err failures.Memory) old new writes = ends_wanting said
 
 -- the status is one that the outcome may end with, where the files tell what they hold
 pub ran_answers : (holds : Option Held) (accepted : Option Wanted) (end : End) (status : ℕ) (old new : Option (List ℕ))
     → status ≡ status_of_end end → IfSome holds (λ held. Writes old new end (outcome accepted held))
-    → IfSome holds (λ held. Ends (outcome accepted held) status)
+    → IfSome holds (λ held. MayEndWith (outcome accepted held) status)
 ran_answers None accepted end status old new is writes = tt
 ran_answers (Some held) accepted end status old new is writes = rw is (ends_by (outcome accepted held) end old new writes)
 
@@ -128,7 +128,7 @@ pub ran_line : {E : Type 0} (errors : SinkOf E) (holds : Option Held) (before no
     (err_old err_new : E) (old new : Option (List ℕ))
     → status ≡ status_of_end end → EndHasCause before now accepted end → IsTold errors accepted err_old err_new end
     → IfSome holds (λ held. Writes old new end (outcome accepted held)) → status ≢ 0
-    → (failure : Failure) × (status ≡ status_of failure) × Tells errors err_old err_new (failure_line accepted failure)
+    → (failure : Failure) × (status ≡ status_of failure) × PutsLine errors err_old err_new (failure_line accepted failure)
     × FailureHasCause before now accepted failure × IfSome holds (λ held. EndFits failure (outcome accepted held))
 ran_line errors holds before now accepted (Ok done) status err_old err_new old new is cause told writes other = absurd (other is)
 ran_line errors holds before now accepted (Err failure) status err_old err_new old new is cause told writes other =

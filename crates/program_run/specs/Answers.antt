@@ -122,9 +122,9 @@ abbrev pub IsStopped : Result (List ℕ) Reason → Type 0
 IsStopped said = (cause : Cause) × (said ≡ Err (reasons.Stopped cause))
 
 -- the statuses that an outcome may end with: what comes of it, 3 or 4 where the outside fails, or 7
-abbrev pub Ends : Result (List ℕ) Reason → ℕ → Type 0
-Ends (Ok text) status = (status ≡ 0) ⊎ (status ≡ 3) ⊎ (status ≡ 4) ⊎ (status ≡ 7)
-Ends (Err reasons.Usage) status = (status ≡ 2) ⊎ (status ≡ 7)
-Ends (Err (reasons.Refused (refusals.Unread input))) status = (status ≡ 3) ⊎ (status ≡ 7)
-Ends (Err (reasons.Refused (refusals.Faulty input fault))) status = (status ≡ 5) ⊎ (status ≡ 3) ⊎ (status ≡ 7)
-Ends (Err (reasons.Stopped cause)) status = (status ≡ 6) ⊎ (status ≡ 3) ⊎ (status ≡ 7)
+abbrev pub MayEndWith : Result (List ℕ) Reason → ℕ → Type 0
+MayEndWith (Ok text) status = (status ≡ 0) ⊎ (status ≡ 3) ⊎ (status ≡ 4) ⊎ (status ≡ 7)
+MayEndWith (Err reasons.Usage) status = (status ≡ 2) ⊎ (status ≡ 7)
+MayEndWith (Err (reasons.Refused (refusals.Unread input))) status = (status ≡ 3) ⊎ (status ≡ 7)
+MayEndWith (Err (reasons.Refused (refusals.Faulty input fault))) status = (status ≡ 5) ⊎ (status ≡ 3) ⊎ (status ≡ 7)
+MayEndWith (Err (reasons.Stopped cause)) status = (status ≡ 6) ⊎ (status ≡ 3) ⊎ (status ≡ 7)

@@ -123,7 +123,7 @@ failure_line accepted failures.Memory = codes "bootmem: out of memory\n"
 
 -- the front of the line was appended to the output, and all of it unless the output itself failed; `sink` is what the
 -- output's kind tells
-pub record Tells {S : Type 0} (sink : SinkOf S) (old new : S) (line : List ℕ) : Type 0 where
+pub record PutsLine {S : Type 0} (sink : SinkOf S) (old new : S) (line : List ℕ) : Type 0 where
   pub front : AppendsFront (sink.written old) (sink.written new) line
   pub whole : Appends (sink.written old) (sink.written new) line ⊎ Rose (sink.faults old) (sink.faults new)
       ⊎ Rose (sink.wants old) (sink.wants new)

@@ -4,7 +4,7 @@ use Rattle.bm_io.specs.declared.reading.Files.{Ghosts as FilesOf}
 use Rattle.bm_io.specs.declared.writing.Sink.{Ghosts as SinkOf}
 use Rattle.program_run.specs.declared.failure.Failure.TheVariants as failures
 use Rattle.program_run.specs.Answers.{EndHasCause, Writes, WritingHasCause}
-use Rattle.program_run.specs.Line.{Tells, failure_line}
+use Rattle.program_run.specs.Line.{PutsLine, failure_line}
 use Rattle.program_run.specs.Outcome.{outcome}
 use Rattle.program_run.specs.Status.{End}
 use Rattle.program_words.specs.Words.{Wanted}
@@ -13,7 +13,7 @@ use Rattle.program_words.specs.Words.{Wanted}
 -- error output itself failed
 abbrev pub IsTold : {E : Type 0} → SinkOf E → Option Wanted → (old new : E) → End → Type 0
 IsTold errors accepted old new (Ok done) = new ≡ old
-IsTold errors accepted old new (Err failure) = Tells errors old new (failure_line accepted failure)
+IsTold errors accepted old new (Err failure) = PutsLine errors old new (failure_line accepted failure)
 
 -- a run to that end. `files`, `sink` and `errors` are what the objects that it was handed tell; each object is seen
 -- before and now

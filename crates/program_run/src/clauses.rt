@@ -7,9 +7,9 @@ ghost use Rattle.bm_io.specs.Counts.{Rose};
 ghost use Rattle.bm_io.specs.Told.{AppendsFront};
 ghost use Rattle.boot_inputs.specs.declared.input.Input.{Input};
 ghost use Rattle.program_run.specs.declared.failure.Failure.{Failure};
-ghost use Rattle.program_run.specs.Answers.{EndFits, Ends, FailureHasCause, IsFaulty, IsStopped, IsText, RoseFor};
+ghost use Rattle.program_run.specs.Answers.{EndFits, MayEndWith, FailureHasCause, IsFaulty, IsStopped, IsText, RoseFor};
 ghost use Rattle.program_run.specs.Headline.{IsReported};
-ghost use Rattle.program_run.specs.Line.{Tells, failure_line};
+ghost use Rattle.program_run.specs.Line.{PutsLine, failure_line};
 ghost use Rattle.program_run.specs.Outcome.{outcome};
 ghost use Rattle.program_run.specs.Status.{status_of};
 ghost use Rattle.program_words.specs.Words.{accepted, texts};
@@ -52,7 +52,7 @@ pub fn run_by_clauses<F: Files, S: Sink, E: Sink>(
 
     // Where the files tell what they hold: the status and the output are those of the outcome.
     ensures answers { IfSome (F.holds files.old) (λ held.
-        Ends (outcome (accepted (texts words.now)) held) result) }
+        MayEndWith (outcome (accepted (texts words.now)) held) result) }
     ensures written { result ≡ 0 → IfSome (F.holds files.old) (λ held.
         IsText (outcome (accepted (texts words.now)) held)
         (λ text. Appends (S.written out.old) (S.written out.new) text)) }
@@ -80,7 +80,7 @@ pub fn run_by_clauses<F: Files, S: Sink, E: Sink>(
     // its cause, and is that of the outcome.
     ensures silent { result ≡ 0 → err.new ≡ err.old }
     ensures line { result ≢ 0 → (failure : Failure) × (result ≡ status_of failure)
-        × Tells E.Sink err.old err.new (failure_line (accepted (texts words.now)) failure)
+        × PutsLine E.Sink err.old err.new (failure_line (accepted (texts words.now)) failure)
         × FailureHasCause (F.faults files.old) (F.faults files.new) (accepted (texts words.now)) failure
         × IfSome (F.holds files.old) (λ held.
         EndFits failure (outcome (accepted (texts words.now)) held)) }

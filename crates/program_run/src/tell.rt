@@ -4,7 +4,7 @@
 ghost use Rattle.std.specs.Prelude.{◌≡◌, Option, Some, None, flat_map};
 ghost use Rattle.program_run.specs.declared.failure.Failure.TheVariants as failures;
 ghost use Rattle.program_run.specs.declared.failure.Reason.TheVariants as reasons;
-ghost use Rattle.program_run.specs.Line.{Tells, cause_line, failure_line, far_line, fault_line, name_text, numbered_line, offset_line, place_line, reason_line, refusal_line, table_line, table_name, thing_line, whole_line, word_line, zero_line};
+ghost use Rattle.program_run.specs.Line.{PutsLine, cause_line, failure_line, far_line, fault_line, name_text, numbered_line, offset_line, place_line, reason_line, refusal_line, table_line, table_name, thing_line, whole_line, word_line, zero_line};
 ghost use Rattle.program_words.specs.View.{wanted_view};
 ghost use Rattle.program_words.specs.Words.{Wanted as AnyWanted};
 
@@ -20,14 +20,14 @@ use stage_model::What;
 
 /// Puts the line of refused words on the error output.
 pub fn tell_usage<E: Sink>(err: &mut E)
-    ensures { Tells E.Sink err.old err.new (failure_line None (failures.NoReport reasons.Usage)) }
+    ensures { PutsLine E.Sink err.old err.new (failure_line None (failures.NoReport reasons.Usage)) }
 {
     put_line(err, &["bootmem: usage\n"])
 }
 
 /// Puts the line of want of memory on the error output, whatever the words ask for.
 pub fn tell_memory<E: Sink>(err: &mut E)
-    ensures { (accepted : Option AnyWanted) → Tells E.Sink err.old err.new (failure_line accepted failures.Memory) }
+    ensures { (accepted : Option AnyWanted) → PutsLine E.Sink err.old err.new (failure_line accepted failures.Memory) }
 {
     put_line(err, &["bootmem: out of memory\n"])
 }
@@ -35,7 +35,7 @@ pub fn tell_memory<E: Sink>(err: &mut E)
 /// Puts the line of a failure on the error output. What the output answers changes nothing: the line goes out
 /// chunk by chunk, up to the first that is refused.
 pub fn tell<E: Sink>(err: &mut E, wanted: &Wanted<'_>, failure: Failure)
-    ensures { Tells E.Sink err.old err.new (failure_line (Some (wanted_view wanted.now)) failure) }
+    ensures { PutsLine E.Sink err.old err.new (failure_line (Some (wanted_view wanted.now)) failure) }
 {
     match failure {
         Failure::NoReport(reason) => tell_reason(err, wanted, reason),
@@ -45,7 +45,7 @@ pub fn tell<E: Sink>(err: &mut E, wanted: &Wanted<'_>, failure: Failure)
 }
 
 fn tell_reason<E: Sink>(err: &mut E, wanted: &Wanted<'_>, reason: Reason)
-    ensures { Tells E.Sink err.old err.new (reason_line (Some (wanted_view wanted.now)) reason) }
+    ensures { PutsLine E.Sink err.old err.new (reason_line (Some (wanted_view wanted.now)) reason) }
 {
     match reason {
         Reason::Usage => tell_usage(err),
@@ -55,7 +55,7 @@ fn tell_reason<E: Sink>(err: &mut E, wanted: &Wanted<'_>, reason: Reason)
 }
 
 fn tell_refusal<E: Sink>(err: &mut E, wanted: &Wanted<'_>, refusal: Refusal)
-    ensures { Tells E.Sink err.old err.new
+    ensures { PutsLine E.Sink err.old err.new
         (refusal_line (Some (wanted_view wanted.now)) refusal) }
 {
     match refusal {
@@ -78,7 +78,7 @@ fn name_text<'a>(wanted: &'a Wanted<'_>, input: Input) -> &'a str
 
 /// The line of a fault of the input of that name.
 fn tell_fault<E: Sink>(err: &mut E, name: &str, fault: Fault)
-    ensures { Tells E.Sink err.old err.new (fault_line name.now fault) }
+    ensures { PutsLine E.Sink err.old err.new (fault_line name.now fault) }
 {
     match fault {
         Fault::TooLong => tell_whole(err, name, "too long"),
@@ -111,7 +111,7 @@ fn tell_fault<E: Sink>(err: &mut E, name: &str, fault: Fault)
 
 /// The line of a fault of the zero page.
 fn tell_zero<E: Sink>(err: &mut E, name: &str, fault: ZeroFault)
-    ensures { Tells E.Sink err.old err.new (zero_line name.now fault) }
+    ensures { PutsLine E.Sink err.old err.new (zero_line name.now fault) }
 {
     match fault {
         ZeroFault::WrongLength => tell_whole(err, name, "wrong length"),
@@ -124,14 +124,14 @@ fn tell_zero<E: Sink>(err: &mut E, name: &str, fault: ZeroFault)
 
 /// The line of a fault of the whole file.
 fn tell_whole<'a, E: Sink>(err: &mut E, name: &'a str, what: &'a str)
-    ensures { Tells E.Sink err.old err.new (whole_line name.now what.now) }
+    ensures { PutsLine E.Sink err.old err.new (whole_line name.now what.now) }
 {
     put_line(err, &["bootmem: ", name, ": ", what, "\n"])
 }
 
 /// The line of an entry or a descriptor that ends too far, numbered from 0.
 fn tell_far<'a, E: Sink>(err: &mut E, name: &'a str, thing: &'a str, index: u32)
-    ensures { Tells E.Sink err.old err.new (far_line name.now thing.now index) }
+    ensures { PutsLine E.Sink err.old err.new (far_line name.now thing.now index) }
 {
     let mut buffer = Buffer::new();
     let index = buffer.format(index);
@@ -143,7 +143,7 @@ fn tell_far<'a, E: Sink>(err: &mut E, name: &'a str, thing: &'a str, index: u32)
 
 /// The line of a word of the file, numbered from 1.
 fn tell_word<'a, E: Sink>(err: &mut E, name: &'a str, word: u32, what: &'a str)
-    ensures { Tells E.Sink err.old err.new (word_line name.now word what.now) }
+    ensures { PutsLine E.Sink err.old err.new (word_line name.now word what.now) }
 {
     let mut buffer = Buffer::new();
     let word = buffer.format(word);
@@ -152,7 +152,7 @@ fn tell_word<'a, E: Sink>(err: &mut E, name: &'a str, word: u32, what: &'a str)
 
 /// The line of a line of the file, numbered from 1.
 fn tell_line<'a, E: Sink>(err: &mut E, name: &'a str, line: u32, what: &'a str)
-    ensures { Tells E.Sink err.old err.new (numbered_line name.now line what.now) }
+    ensures { PutsLine E.Sink err.old err.new (numbered_line name.now line what.now) }
 {
     let mut buffer = Buffer::new();
     let line = buffer.format(line);
@@ -161,7 +161,7 @@ fn tell_line<'a, E: Sink>(err: &mut E, name: &'a str, line: u32, what: &'a str)
 
 /// The line of what stands at an offset of the file, in bytes.
 fn tell_offset<'a, E: Sink>(err: &mut E, name: &'a str, what: &'a str, offset: u32)
-    ensures { Tells E.Sink err.old err.new (offset_line name.now what.now offset) }
+    ensures { PutsLine E.Sink err.old err.new (offset_line name.now what.now offset) }
 {
     let mut buffer = Buffer::new();
     let offset = buffer.format(offset);
@@ -169,7 +169,7 @@ fn tell_offset<'a, E: Sink>(err: &mut E, name: &'a str, what: &'a str, offset: u
 }
 
 fn tell_cause<E: Sink>(err: &mut E, cause: Cause)
-    ensures { Tells E.Sink err.old err.new (cause_line cause) }
+    ensures { PutsLine E.Sink err.old err.new (cause_line cause) }
 {
     match cause {
         Cause::NoRam => put_line(err, &["bootmem: stopped: no usable frame\n"]),
@@ -190,7 +190,7 @@ fn tell_cause<E: Sink>(err: &mut E, cause: Cause)
 
 /// The line of a thing that found no place.
 fn tell_place<E: Sink>(err: &mut E, what: What)
-    ensures { Tells E.Sink err.old err.new (place_line what) }
+    ensures { PutsLine E.Sink err.old err.new (place_line what) }
 {
     match what {
         What::NodeData(node) => tell_thing(err, "node-data", node),
@@ -203,7 +203,7 @@ fn tell_place<E: Sink>(err: &mut E, what: What)
 
 /// The line of a numbered thing that found no place.
 fn tell_thing<'a, E: Sink>(err: &mut E, name: &'a str, number: u32)
-    ensures { Tells E.Sink err.old err.new (thing_line name.now number) }
+    ensures { PutsLine E.Sink err.old err.new (thing_line name.now number) }
 {
     let mut buffer = Buffer::new();
     let number = buffer.format(number);
@@ -225,7 +225,7 @@ fn table_name(which: Which) -> &'static str
 
 /// The line of a table that found no place, of so many records.
 fn tell_table<'a, E: Sink>(err: &mut E, name: &'a str, room: u64)
-    ensures { Tells E.Sink err.old err.new (table_line name.now room) }
+    ensures { PutsLine E.Sink err.old err.new (table_line name.now room) }
 {
     let mut buffer = Buffer::new();
     let room = buffer.format(room);
@@ -243,7 +243,7 @@ fn tell_table<'a, E: Sink>(err: &mut E, name: &'a str, room: u64)
 
 /// Puts the chunks of a line, up to the first that is refused.
 fn put_line<E: Sink>(err: &mut E, chunks: &[&str])
-    ensures { Tells E.Sink err.old err.new (flat_map (λ chunk. chunk.now) chunks.now) }
+    ensures { PutsLine E.Sink err.old err.new (flat_map (λ chunk. chunk.now) chunks.now) }
 {
     let _put = put_all(err, chunks);
 }

@@ -15,7 +15,7 @@ use Rattle.program_words.specs.Grammar.{has_value, is_faultless, is_switch, prog
 use Rattle.program_words.specs.Kernel.{default_kernel, if_kernel, kernel_in, kernel_of}
 use Rattle.program_words.specs.Mirrors.{are_pieces, frames_by, mirrors_in, mirrors_of, pieces_in}
 use Rattle.program_words.specs.Range.{if_in_space, range_in}
-use Rattle.program_words.specs.Spelling.{Spelling, apart, argument_in, dashed, flag, given_by, is_flag, is_option, is_plain, joined, named, spelled, spelled_for, text_in, unspelled, words_of}
+use Rattle.program_words.specs.Spelling.{Spelling, apart, argument_in, dashed, flag, spelled_values, is_flag, is_option, is_plain, joined, named, spelled, spelled_for, text_in, unspelled, words_of}
 use Rattle.program_words.specs.Words.{Values, Wanted, accepted, argument_of, asked_by, begun_by, has_source, is_on, list_asked, list_in, name_in, provided, value_in, width_in}
 
 -- what words ask for, apart from the names of files by input
@@ -174,20 +174,20 @@ found_examples = (refl, refl, refl)
 
 -- values by pairs: a number and an extension, a zero page and an extension, an extension alone
 abbrev with_number : Values
-with_number = given_by (apart (codes "make") (codes "5") ∷ joined (codes "e820ext") (codes "e") ∷ [])
+with_number = spelled_values (apart (codes "make") (codes "5") ∷ joined (codes "e820ext") (codes "e") ∷ [])
 
 abbrev with_both : Values
-with_both = given_by (named (codes "zp") ∷ apart (codes "e820ext") (codes "e") ∷ apart (codes "report") (codes "map") ∷ [])
+with_both = spelled_values (named (codes "zp") ∷ apart (codes "e820ext") (codes "e") ∷ apart (codes "report") (codes "map") ∷ [])
 
 abbrev with_extension : Values
-with_extension = given_by (apart (codes "e820ext") (codes "e") ∷ [])
+with_extension = spelled_values (apart (codes "e820ext") (codes "e") ∷ [])
 
 source_examples : (has_source with_number ≡ false) × (has_source with_both ≡ true) × (has_source with_extension ≡ false)
 source_examples = (refl, refl, refl)
 
 list_examples : (list_asked with_both ≡ codes "map") × (list_in with_both ≡ Some (codes "map"))
     × (list_asked with_extension ≡ codes "buddyinfo")
-    × (list_in (given_by (joined (codes "report") (codes "Map") ∷ [])) ≡ None)
+    × (list_in (spelled_values (joined (codes "report") (codes "Map") ∷ [])) ≡ None)
 list_examples = (refl, refl, refl, refl)
 
 by_examples : (option_map (λ wanted. wanted.named inputs.Extension) (asked_by with_both) ≡ Some (Some (codes "e")))
@@ -253,9 +253,9 @@ flag_examples : (is_flag (codes "la57") ≡ true) × (is_flag (codes "bottom-up"
     × (text_in (flag (codes "la57")) ≡ codes "true")
 flag_examples = (refl, refl, refl, refl, refl, refl, refl, refl, refl)
 
-width_examples : (width_in (given_by (flag (codes "la57") ∷ [])) ≡ Bits52) × (width_in (given_by (named (codes "zp") ∷ [])) ≡ Bits46)
-    × (is_on (given_by (flag (codes "bottom-up") ∷ [])) (codes "bottom-up") ≡ true)
-    × (is_on (given_by (flag (codes "la57") ∷ [])) (codes "bottom-up") ≡ false)
+width_examples : (width_in (spelled_values (flag (codes "la57") ∷ [])) ≡ Bits52) × (width_in (spelled_values (named (codes "zp") ∷ [])) ≡ Bits46)
+    × (is_on (spelled_values (flag (codes "bottom-up") ∷ [])) (codes "bottom-up") ≡ true)
+    × (is_on (spelled_values (flag (codes "la57") ∷ [])) (codes "bottom-up") ≡ false)
 width_examples = (refl, refl, refl, refl)
 
 -- ranges: what is spelled so, up to the last address; one more isn't, nor another form
@@ -292,6 +292,6 @@ spelling_examples : (argument_in (named (codes "zp")) ≡ codes "ZEROPAGE") × (
     × (text_in (named (codes "zp")) ≡ codes "zp") × (text_in (joined (codes "make") (codes "5")) ≡ codes "5")
 spelling_examples = (refl, refl, refl, refl)
 
-value_examples : (given_by three_spellings (codes "script") ≡ Some (codes "-s")) × (given_by three_spellings (codes "kernel") ≡ None)
-    × (given_by three_spellings (codes "ZEROPAGE") ≡ Some (codes "zp"))
+value_examples : (spelled_values three_spellings (codes "script") ≡ Some (codes "-s")) × (spelled_values three_spellings (codes "kernel") ≡ None)
+    × (spelled_values three_spellings (codes "ZEROPAGE") ≡ Some (codes "zp"))
 value_examples = (refl, refl, refl)

@@ -8,7 +8,7 @@ use Rattle.clap.specs.Walk.{Row, nothing_held, with_default}
 use Rattle.clap.proofs.FaultLemmas.{leaf_fault}
 use Rattle.program_words.specs.Grammar.{is_faultless, program}
 use Rattle.program_words.specs.Words.{accepted, asked_by, value_in}
-use Rattle.program_words.specs.Spelling.{AreSpellings, Spelling, argument_in, given_by, spelled, spelled_for}
+use Rattle.program_words.specs.Spelling.{AreSpellings, Spelling, argument_in, spelled_values, spelled, spelled_for}
 use Rattle.program_words.proofs.KnownLaws.{all_words, no_names, no_subs, once, rules, shape}
 use Rattle.program_words.proofs.DefaultLaws.{are_full, as_unspelled, defaulted, no_default_fault}
 use Rattle.program_words.proofs.SpellingLaws.{Past, Stands, Walks, row_of, walks}
@@ -39,10 +39,10 @@ full_rows : (ss : List Spelling) → are_full (map row_of ss) ≡ true
 full_rows [] = refl
 full_rows (s ∷ ss) = full_rows ss
 
-same_values : (ss : List Spelling) → value_in (fold with_default (map row_of ss) rules) ≡ given_by ss
+same_values : (ss : List Spelling) → value_in (fold with_default (map row_of ss) rules) ≡ spelled_values ss
 same_values ss = λ i. λ argument. at argument i
   where
-    at : (argument : List ℕ) → value_in (fold with_default (map row_of ss) rules) argument ≡ given_by ss argument
+    at : (argument : List ℕ) → value_in (fold with_default (map row_of ss) rules) argument ≡ spelled_values ss argument
     at argument =
         defaulted rules (map row_of ss) argument (full_rows ss)
         ∙ rw (found ss argument, as_unspelled argument) refl
@@ -68,5 +68,5 @@ module _ (ss : List Spelling) (are : AreSpellings ss) where
         check_passes _,
       ) refl
 
-  pub accepted_as_given : accepted (spelled ss) ≡ asked_by (given_by ss)
+  pub accepted_as_given : accepted (spelled ss) ≡ asked_by (spelled_values ss)
   accepted_as_given = rw (faultless, rows_found) (ap asked_by (same_values ss))

@@ -51,14 +51,14 @@ is_switch SetTrue = true
 is_switch _ = false
 
 -- a command without arguments, without `--help` and `--version`, whose first word isn't the program's name
-abbrev pub bare : App
-bare = record (new_app (codes "bootmem")) {
+abbrev pub bare_app : App
+bare_app = record (new_app (codes "bootmem")) {
   top = record (new_app (codes "bootmem")).top { no_binary_name = true; disable_help_flag = true; disable_version_flag = true };
 }
 
 -- the program: its options, and the name of the zero page, none of which has to be given
 unfoldable pub program : App
-program = with_positional (fold with_option bare options) (codes "ZEROPAGE")
+program = with_positional (fold with_option bare_app options) (codes "ZEROPAGE")
 
 -- the command finds no fault in the words
 abbrev pub is_faultless : List (List ℕ) → Bool

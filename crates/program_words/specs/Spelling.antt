@@ -55,8 +55,8 @@ abbrev pub unspelled : Values
 unspelled argument = if is_flag argument then Some (codes "false") else None
 
 -- the value that the spellings give each argument
-abbrev pub given_by : List Spelling → Values
-given_by ss argument = option_or (spelled_for ss argument) (unspelled argument)
+abbrev pub spelled_values : List Spelling → Values
+spelled_values ss argument = option_or (spelled_for ss argument) (unspelled argument)
 
 -- the word doesn't begin with a hyphen
 abbrev pub is_plain : List ℕ → Bool

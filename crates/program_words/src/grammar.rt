@@ -5,7 +5,7 @@ ghost use Rattle.std.specs.Prelude.{◌≡◌, ◌≢◌, IfOk, OnOk, IsErrOf, [
 ghost use Rattle.std.specs.Option.{option_copied};
 ghost use Rattle.clap.specs.Words.{app_of, fault_of, first_of, found_of, matches_of, rows_of};
 ghost use Rattle.clap.specs.declared.error.kind.ErrorKind.TheVariants as error_kinds;
-ghost use Rattle.program_words.specs.Grammar.{bare, program, with_option, with_positional};
+ghost use Rattle.program_words.specs.Grammar.{bare_app, program, with_option, with_positional};
 ghost use Rattle.program_words.specs.Words.{is_on, texts, value_in};
 ghost use Rattle.program_words.specs.declared.error.WordError.TheVariants as errors;
 
@@ -75,14 +75,14 @@ pub fn is_on(matches: &ArgMatches<'_>, flag: &str) -> bool
 fn program<'w>(alloc: Global) -> Result<Command<'w>, Memory>
     ensures { IfOk result (λ command. app_of command ≡ program) }
 {
-    let command = with_options(alloc, bare(alloc), &OPTIONS)?;
+    let command = with_options(alloc, bare_app(alloc), &OPTIONS)?;
     with_positional(alloc, command, "ZEROPAGE")
 }
 
 /// The command without arguments, which has no `--help` and no `--version`, and whose first word isn't
 /// the program's name.
-fn bare<'w>(alloc: Global) -> Command<'w>
-    ensures { app_of result ≡ bare }
+fn bare_app<'w>(alloc: Global) -> Command<'w>
+    ensures { app_of result ≡ bare_app }
 {
     Command::new(alloc, "bootmem")
         .no_binary_name(true)

@@ -3,7 +3,7 @@ use Rattle.std.proofs.Common.{◌≡◌, ℕ, true, false, Some, None, List, [],
 use Rattle.address_runs.specs.Runs.{RunOf, value_at, AreRuns}
 use Rattle.memblock_model.specs.Labels.{Label, Labels, plain_label, with_node}
 use Rattle.stage_model.specs.declared.section.Section.{Section}
-use Rattle.sparse_sections.specs.Present.{first_label, section_for, present, sections_from, IsWholeNoded, IsLowest, IsAt, AreSections}
+use Rattle.sparse_sections.specs.Present.{first_label, section_for, present, sections_from, IsWholeNoded, IsLowest, IsSectionAt, AreSections}
 use Rattle.sparse_sections.specs.Roots.{root_of, is_root, firsts_behind, small_request}
 use Rattle.sparse_sections.proofs.PresentLaws.{IsLeft, left-all, left-next, sections-record, present-none, present-end}
 use Rattle.sparse_sections.proofs.AscendLaws.{present-ascends}
@@ -105,7 +105,7 @@ root_page : small_request 4096 (Some 1) ≡ record { size = 4096; align = 64; mi
 root_page = refl
 
 -- the second of the two sections is at index 1; they ascend; and section 0 has the node of its lowest byte
-found_at : IsAt (section 0 3 ∷ section 1 3 ∷ []) 1 1
+found_at : IsSectionAt (section 0 3 ∷ section 1 3 ∷ []) 1 1
 found_at = record { within = lit< tt; is = λ d. refl }
 
 they_ascend : AreSections (section 0 3 ∷ section 1 3 ∷ [])

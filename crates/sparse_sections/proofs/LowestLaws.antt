@@ -8,7 +8,7 @@ use Rattle.std.proofs.lemmas.List.Elements.{All-append, All-nil}
 use Rattle.memblock_model.specs.Labels.{Label, Labels}
 use Rattle.stage_model.specs.declared.section.Section.{Section}
 use Rattle.stage_model.specs.Noded.{AreOfFrames, IsNoded}
-use Rattle.sparse_sections.specs.Present.{first_label, section_label, section_of, section_for, sections_below, present, IsLowest, IsAt}
+use Rattle.sparse_sections.specs.Present.{first_label, section_label, section_of, section_for, sections_below, present, IsLowest, IsSectionAt}
 
 -- the frame whose label is found: the first of them that is memory
 record IsFirst (f : Labels) (a n : ℕ) (label : Label) : Type 0 where
@@ -110,7 +110,7 @@ unfolding present
 present-lowest limit f noded = sections-lowest f (2 ^ 25) noded.frames
 
 -- a section with memory is told
-at-left : (xs ys : List Section) (i n : ℕ) → IsAt xs i n → IsAt (xs ++ ys) i n
+at-left : (xs ys : List Section) (i n : ℕ) → IsSectionAt xs i n → IsSectionAt (xs ++ ys) i n
 at-left xs ys i n at =
     let less = at.within in
     record {
@@ -118,7 +118,7 @@ at-left xs ys i n at =
       is = λ d. ap (λ (s : Section). s.number) (get_or_append_left xs ys d i at.within) ∙ at.is d;
     }
 
-at-end : (xs : List Section) (s : Section) → IsAt (xs ++ s ∷ []) (length xs) s.number
+at-end : (xs : List Section) (s : Section) → IsSectionAt (xs ++ s ∷ []) (length xs) s.number
 at-end xs s = record {
   within = omega (arith, length-append xs (s ∷ []));
   is = λ d.
@@ -128,20 +128,20 @@ at-end xs s = record {
 }
 
 told-own : (limit : ℕ) (f : Labels) (n : ℕ) (v : Label) (xs : List Section) → IsNoded limit f → section_label f n ≡ Some v
-    → (i : ℕ) × IsAt (xs ++ section_for n (section_label f n)) i n
+    → (i : ℕ) × IsSectionAt (xs ++ section_for n (section_label f n)) i n
 told-own limit f n v xs noded is =
     let first : IsFirst f (32768 * n) 32768 v = label-first f (32768 * n) 32768 v is in
     let has = noded.nodes (4096 * (32768 * n + first.behind)) v first.told in
     let s : Section = record { number = n; node = has.0 } in
     let one : section_for n (section_label f n) ≡ s ∷ [] = ap (section_for n) is ∙ ap (section_of n) has.1 in
-    (length xs, subst (λ (ss : List Section). IsAt (xs ++ ss) (length xs) n) (sym one) (at-end xs s))
+    (length xs, subst (λ (ss : List Section). IsSectionAt (xs ++ ss) (length xs) n) (sym one) (at-end xs s))
 
 told-below : (limit : ℕ) (f : Labels) (n s k : ℕ) (label : Label) → IsNoded limit f → s < n → k < 32768
-    → f (4096 * (32768 * s + k)) ≡ Some label → (i : ℕ) × IsAt (sections_below f n) i s
+    → f (4096 * (32768 * s + k)) ≡ Some label → (i : ℕ) × IsSectionAt (sections_below f n) i s
 unfolding sections_below
 told-below limit f zero s k label noded less few told = absurd (omega arith)
 told-below limit f (suc n) s k label noded less few told =
-    elim (cases_lt s n) as (λ _. (i : ℕ) × IsAt (sections_below f n ++ section_for n (section_label f n)) i s) [
+    elim (cases_lt s n) as (λ _. (i : ℕ) × IsSectionAt (sections_below f n ++ section_for n (section_label f n)) i s) [
       | inl lt ↦
           let before = told-below limit f n s k label noded lt few told in
           (before.0, at-left (sections_below f n) (section_for n (section_label f n)) before.0 s before.1)
@@ -150,11 +150,11 @@ told-below limit f (suc n) s k label noded less few told =
           let here : f (4096 * (32768 * n + k)) ≡ Some label = ap (λ (m : ℕ). f (4096 * (32768 * m + k))) (sym e) ∙ told in
           let found = label-some f (32768 * n) 32768 k label few here in
           let own = told-own limit f n found.0 (sections_below f n) noded found.1 in
-          (own.0, subst (λ (m : ℕ). IsAt (sections_below f n ++ section_for n (section_label f n)) own.0 m) (sym e) own.1)
+          (own.0, subst (λ (m : ℕ). IsSectionAt (sections_below f n ++ section_for n (section_label f n)) own.0 m) (sym e) own.1)
     ]
 
 pub present-all : (limit x : ℕ) (f : Labels) (label : Label) → IsNoded limit f → x < 2 ^ 52 → f x ≡ Some label
-    → (i : ℕ) × IsAt (present f) i (x / 0x8000000)
+    → (i : ℕ) × IsSectionAt (present f) i (x / 0x8000000)
 unfolding present
 present-all limit x f label noded low told =
     let s : ℕ = x / 0x8000000 in

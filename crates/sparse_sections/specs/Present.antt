@@ -57,7 +57,7 @@ pub record IsLowest (f : Labels) (s : Section) : Type 0 where
   pub none : (x : ℕ) → x / 0x8000000 ≡ s.number → x < byte → f x ≡ None
 
 -- the list has a section of that number at the index
-pub record IsAt (ss : List Section) (i number : ℕ) : Type 0 where
+pub record IsSectionAt (ss : List Section) (i number : ℕ) : Type 0 where
   pub within : i < length ss
   pub is : (d : Section) → (get_or ss i d).number ≡ number
 

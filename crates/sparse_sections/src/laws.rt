@@ -15,7 +15,7 @@ ghost use Rattle.table_frames.specs.Tables.{AreWholeFrames};
 ghost use Rattle.stage_model.specs.declared.section.Section.{Section as AnySection};
 ghost use Rattle.stage_model.specs.Doing.{after};
 ghost use Rattle.stage_model.specs.Noded.{IsNoded};
-ghost use Rattle.sparse_sections.specs.Present.{present, IsWholeNoded, IsLowest, IsAt, AreSections};
+ghost use Rattle.sparse_sections.specs.Present.{present, IsWholeNoded, IsLowest, IsSectionAt, AreSections};
 ghost use Rattle.sparse_sections.specs.Roots.{roots};
 
 /// A law: behind the stage of nodes the records of memory are its runs and say of each byte what the items say; each list of
@@ -33,7 +33,7 @@ pub fn noded_memory_is_whole()
 /// section that is told has memory and the node of the lowest byte.
 pub fn present_sections_are_memory()
     ensures all { (limit x : ℕ) (f : Labels) (label : Label) → IsNoded limit f → x < 2 ^ 52 → f x ≡ Some label →
-        (i : ℕ) × IsAt (present f) i (x / 0x8000000) }
+        (i : ℕ) × IsSectionAt (present f) i (x / 0x8000000) }
     ensures each { (limit : ℕ) (f : Labels) → IsNoded limit f → All (IsLowest f) (present f) }
 {}
 

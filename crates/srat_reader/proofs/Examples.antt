@@ -4,7 +4,7 @@ use Rattle.std.specs.Prelude.{replicate, codes}
 use Rattle.srat_reader.specs.declared.entries.Said.TheVariants as said
 use Rattle.srat_reader.specs.declared.table.SratFault.TheVariants as faults
 use Rattle.srat_reader.specs.Entries.{number_at, revision_of, type_at, length_at, fits_type, is_whole, is_enabled, apic_domain, block_domain, x2apic_domain, where_enabled, memory_at, said_at, is_far}
-use Rattle.srat_reader.specs.Table.{header_fault, offsets_from, offsets_of, fault_at, first_fault, srat_fault, processor_of, block_of, processor_at, block_at, processors_of, blocks_of, unless_fault, srat_of}
+use Rattle.srat_reader.specs.Table.{header_fault, offsets_from, offsets_of, fault_at, first_fault, srat_fault, processor_of, srat_block_of, processor_at, block_at, processors_of, srat_blocks_of, unless_fault, srat_of}
 
 -- the header of a table of that length (below 256), revision and checksum byte
 abbrev header : ℕ → ℕ → ℕ → List ℕ
@@ -170,9 +170,9 @@ then_the_entries = refl
 processor_told : (processor_of (said.Processor 7) ≡ Some 7) × (processor_of (said.Block 7 0 1) ≡ None) × (processor_of said.Nothing ≡ None)
 processor_told = (refl, refl, refl)
 
-block_told : (block_of (said.Block 7 2 1) ≡ Some (record { domain = 7; range = record { base = 2; size = 1 } }))
-    × (block_of (said.Processor 7) ≡ None)
-    × (block_of said.Nothing ≡ None)
+block_told : (srat_block_of (said.Block 7 2 1) ≡ Some (record { domain = 7; range = record { base = 2; size = 1 } }))
+    × (srat_block_of (said.Processor 7) ≡ None)
+    × (srat_block_of said.Nothing ≡ None)
 block_told = (refl, refl, refl)
 
 told_by_the_entry : (processor_at (header 72 1 0 ++ x2apic 1) 48 ≡ Some 0x0C0D) × (block_at (header 72 1 0 ++ x2apic 1) 48 ≡ None)
@@ -185,12 +185,12 @@ unfolding said_at block_domain
 told_of_memory = (refl, refl)
 
 both_lists : (processors_of (header 144 2 0 ++ x2apic 1 ++ memory 1 ++ apic 1 ++ apic 0) ≡ 0x0C0D ∷ 0x04030201 ∷ [])
-    × (blocks_of (header 144 2 0 ++ x2apic 1 ++ memory 1 ++ apic 1 ++ apic 0)
+    × (srat_blocks_of (header 144 2 0 ++ x2apic 1 ++ memory 1 ++ apic 1 ++ apic 0)
     ≡ record { domain = 0x105; range = record { base = 0x2000; size = 0x1000 } } ∷ [])
 unfolding offsets_from is_whole said_at apic_domain block_domain
 both_lists = (refl, refl)
 
-disabled_alone : (processors_of (header 104 2 0 ++ memory 0 ++ apic 2) ≡ []) × (blocks_of (header 104 2 0 ++ memory 0 ++ apic 2) ≡ [])
+disabled_alone : (processors_of (header 104 2 0 ++ memory 0 ++ apic 2) ≡ []) × (srat_blocks_of (header 104 2 0 ++ memory 0 ++ apic 2) ≡ [])
 unfolding offsets_from is_whole said_at apic_domain block_domain
 disabled_alone = (refl, refl)
 

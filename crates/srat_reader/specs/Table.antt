@@ -53,23 +53,23 @@ processor_of said.Nothing = None
 processor_of (said.Processor domain) = Some domain
 processor_of (said.Block domain base size) = None
 
-abbrev pub block_of : Said → Option SratBlock
-block_of said.Nothing = None
-block_of (said.Processor domain) = None
-block_of (said.Block domain base size) = Some (record { domain = domain; range = record { base = base; size = size } })
+abbrev pub srat_block_of : Said → Option SratBlock
+srat_block_of said.Nothing = None
+srat_block_of (said.Processor domain) = None
+srat_block_of (said.Block domain base size) = Some (record { domain = domain; range = record { base = base; size = size } })
 
 abbrev pub processor_at : List ℕ → ℕ → Option ℕ
 processor_at bytes at = processor_of (said_at at bytes)
 
 abbrev pub block_at : List ℕ → ℕ → Option SratBlock
-block_at bytes at = block_of (said_at at bytes)
+block_at bytes at = srat_block_of (said_at at bytes)
 
 -- the domains of the processors, and the ranges of memory, in the order of the table
 abbrev pub processors_of : List ℕ → List ℕ
 processors_of bytes = filter_map (processor_at bytes) (offsets_of bytes)
 
-abbrev pub blocks_of : List ℕ → List SratBlock
-blocks_of bytes = filter_map (block_at bytes) (offsets_of bytes)
+abbrev pub srat_blocks_of : List ℕ → List SratBlock
+srat_blocks_of bytes = filter_map (block_at bytes) (offsets_of bytes)
 
 -- what contracts see of a table: its two lists
 pub record Affinity : Type 0 where
@@ -86,4 +86,4 @@ unless_fault (Some fault) lists = Err fault
 
 -- what the bytes say as a whole, or their first fault
 abbrev pub srat_of : List ℕ → Result Affinity SratFault
-srat_of bytes = unless_fault (srat_fault bytes) (record { processors = processors_of bytes; blocks = blocks_of bytes })
+srat_of bytes = unless_fault (srat_fault bytes) (record { processors = processors_of bytes; blocks = srat_blocks_of bytes })

@@ -3,7 +3,7 @@ ghost use Rattle.std.specs.Prelude.{◌≡◌, ◌≢◌, ℕ, None, Some, ◌^�
 ghost use Rattle.std.specs.Option.{option_to_list};
 ghost use Rattle.srat_reader.specs.Entries.{is_far};
 ghost use Rattle.bm_base.specs.Answers.{Answers};
-ghost use Rattle.srat_reader.specs.Table.{affinity, srat_of, header_fault, offsets_of, first_fault, srat_fault, processor_of, block_of, processors_of, blocks_of};
+ghost use Rattle.srat_reader.specs.Table.{affinity, srat_of, header_fault, offsets_of, first_fault, srat_fault, processor_of, srat_block_of, processors_of, srat_blocks_of};
 
 use crate::entries::{Said, entry_length, is_too_far, is_whole_entry, read_entry};
 use bm_base::{Memory, Range};
@@ -72,7 +72,7 @@ pub fn read_srat(alloc: Global, bytes: &[u8]) -> Result<Srat, SratFault>
     ensures answers { Answers SratFault.Memory affinity result (srat_of bytes.now) }
     ensures memory { IfErr result (λ fault. fault ≡ SratFault.Memory → srat_fault bytes.now ≡ None) }
     ensures some { IfErr result (λ fault. fault ≡ SratFault.Memory →
-        (0 < length (processors_of bytes.now)) ⊎ (0 < length (blocks_of bytes.now))) }
+        (0 < length (processors_of bytes.now)) ⊎ (0 < length (srat_blocks_of bytes.now))) }
     ensures few_processors { IfOk result (λ srat. length srat.cpus.items < 2 ^ 32) }
     ensures few_blocks { IfOk result (λ srat. length srat.blocks.items < 2 ^ 32) }
 {
@@ -139,8 +139,8 @@ fn find_entry_fault(bytes: &[u8]) -> Option<SratFault>
 fn read_entries(alloc: Global, bytes: &[u8]) -> Result<Srat, Memory>
     requires { first_fault bytes.now (offsets_of bytes.now) ≡ None }
     ensures processors { IfOk result (λ srat. srat.cpus.items ≡ processors_of bytes.now) }
-    ensures blocks { IfOk result (λ srat. srat.blocks.items ≡ blocks_of bytes.now) }
-    ensures some { IsErr result → (0 < length (processors_of bytes.now)) ⊎ (0 < length (blocks_of bytes.now)) }
+    ensures blocks { IfOk result (λ srat. srat.blocks.items ≡ srat_blocks_of bytes.now) }
+    ensures some { IsErr result → (0 < length (processors_of bytes.now)) ⊎ (0 < length (srat_blocks_of bytes.now)) }
 {
     let mut srat = Srat {
         cpus: Vec::new(alloc),
@@ -158,8 +158,8 @@ fn read_entries(alloc: Global, bytes: &[u8]) -> Result<Srat, Memory>
 fn keep(srat: &mut Srat, said: Said) -> Result<(), Memory>
     requires { is_far said ≡ false }
     ensures processors { OnOk result (srat.new.cpus.items ≡ srat.old.cpus.items ++ option_to_list (processor_of said)) }
-    ensures blocks { OnOk result (srat.new.blocks.items ≡ srat.old.blocks.items ++ option_to_list (block_of said)) }
-    ensures some { IsErr result → IsSome (processor_of said) ⊎ IsSome (block_of said) }
+    ensures blocks { OnOk result (srat.new.blocks.items ≡ srat.old.blocks.items ++ option_to_list (srat_block_of said)) }
+    ensures some { IsErr result → IsSome (processor_of said) ⊎ IsSome (srat_block_of said) }
 {
     match said {
         Said::Nothing => {}

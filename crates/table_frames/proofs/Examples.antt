@@ -2,7 +2,7 @@
 use Rattle.std.proofs.Common.{◌≡◌, ℕ, ◌+◌, ◌*◌, ◌<◌, ◌≤◌, true, false, Option, Some, None, List, [], ◌∷◌, if◌then◌else◌, refl, sym, ◌∙◌, arith}
 use Rattle.address_runs.specs.Runs.{RunOf, value_at}
 use Rattle.memblock_model.specs.Labels.{Label, Labels, plain_label, with_node}
-use Rattle.table_frames.specs.Frames.{node_below, node_told, frames_of, node_of_frame, is_unclaimed, free_in, IsPassed}
+use Rattle.table_frames.specs.Frames.{node_below, node_told, frames_of, node_of_frame, is_unclaimed, free_node_in, IsPassed}
 use Rattle.table_frames.specs.Tables.{AscendBelow, AreWholeFrames}
 use Rattle.table_frames.proofs.ClaimLaws.{claimed_byte, unclaimed_bare, passed_none}
 use Rattle.table_frames.proofs.WholeLaws.{free_by_first}
@@ -41,7 +41,7 @@ unclaimed_example : is_unclaimed nobody 4 ≡ true
 unclaimed_example = unclaimed_bare nobody 4 (λ y above below. refl)
 
 -- frame 2 is free where nothing is reserved
-free_example : free_in (value_at (two ∷ [])) nobody 2 ≡ Some 3
+free_example : free_node_in (value_at (two ∷ [])) nobody 2 ≡ Some 3
 free_example =
     let chosen : (if is_unclaimed nobody 2 then node_of_frame (value_at (two ∷ [])) 2 else None) ≡ Some 3 =
     rw (unclaimed_bare nobody 2 (λ y above below. refl)) refl in

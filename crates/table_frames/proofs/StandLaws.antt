@@ -15,7 +15,7 @@ use Rattle.memblock_ranges.specs.declared.region.Head.{Head}
 use Rattle.memblock_ranges.specs.declared.region.Region.{Region}
 use Rattle.memblock_ranges.specs.Spelling.{base_in, size_in, node_in, node_of_field, node_field, region_in, region_of, run_in, records_at}
 use Rattle.memblock_ranges.specs.Tables.{Table, StandsIn, head_of, list_in}
-use Rattle.table_frames.specs.Frames.{node_below, node_told, node_of_frame, free_in}
+use Rattle.table_frames.specs.Frames.{node_below, node_told, node_of_frame, free_node_in}
 use Rattle.table_frames.specs.Tables.{AscendBelow, HasRecords, AreWholeFrames}
 use Rattle.table_frames.proofs.RecordLaws.{field_below}
 use Rattle.table_frames.proofs.WholeLaws.{whole_by_value}
@@ -149,9 +149,9 @@ pub stands_node : (t : Table) (s : List Stored) (frame : ℕ) → StandsIn t s
 stands_node t s frame stands = (alike_tells (4096 * frame) (list_in s (head_of t)) t.records (alike_stands t s stands)).node
 
 pub stands_free : (memory reserved : Table) (s : List Stored) (frame : ℕ) → StandsIn memory s → StandsIn reserved s
-    → free_in (value_at (list_in s (head_of memory))) (value_at (list_in s (head_of reserved))) frame
-    ≡ free_in (value_at memory.records) (value_at reserved.records) frame
-unfolding free_in
+    → free_node_in (value_at (list_in s (head_of memory))) (value_at (list_in s (head_of reserved))) frame
+    ≡ free_node_in (value_at memory.records) (value_at reserved.records) frame
+unfolding free_node_in
 stands_free memory reserved s frame first second =
     let ms = list_in s (head_of memory) in
     let rs = list_in s (head_of reserved) in

@@ -11,7 +11,7 @@ use Rattle.address_runs.specs.Sweep.{StartFrom}
 use Rattle.address_runs.proofs.RunsLaws.{inside, behind, none_below, rest_from, other_behind}
 use Rattle.memblock_model.specs.Labels.{Label, Labels}
 use Rattle.table_frames.specs.declared.frames.RecordFrames.{RecordFrames}
-use Rattle.table_frames.specs.Frames.{node_told, node_of_frame, is_unclaimed, free_in, frames_of}
+use Rattle.table_frames.specs.Frames.{node_told, node_of_frame, is_unclaimed, free_node_in, frames_of}
 use Rattle.table_frames.specs.Tables.{AscendBelow, AreWholeFrames}
 use Rattle.table_frames.proofs.RecordLaws.{ascend_at}
 
@@ -48,8 +48,8 @@ other_byte r x some base size from until =
 
 -- in memory of whole frames a frame is free where its first byte is memory and no byte is reserved
 pub free_by_first : (ms : List (RunOf Label)) (reserved : Labels) (x : ℕ) → AreWholeFrames ms
-    → (if is_unclaimed reserved x then node_of_frame (value_at ms) x else None) ≡ free_in (value_at ms) reserved x
-unfolding free_in is_unclaimed
+    → (if is_unclaimed reserved x then node_of_frame (value_at ms) x else None) ≡ free_node_in (value_at ms) reserved x
+unfolding free_node_in is_unclaimed
 free_by_first ms reserved x whole =
     let both : ℕ → Bool = λ y. is_some (value_at ms y) && is_none (reserved y) in
     let bare : ℕ → Bool = λ y. is_none (reserved y) in

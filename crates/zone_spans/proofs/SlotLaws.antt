@@ -14,7 +14,7 @@ use Rattle.frame_blocks.proofs.CountLaws.{zone_self}
 use Rattle.table_frames.specs.declared.frames.TheConstants.{MAX_NODES}
 use Rattle.zone_spans.specs.declared.span.Span.{Span}
 use Rattle.zone_spans.specs.Spans.{is_in, with_frames, span_below, span_of, spans_of_node, spans_from, spans_of}
-use Rattle.zone_spans.specs.Slots.{place_of, IsTold, AreBounded, with_run, slot_with, somes}
+use Rattle.zone_spans.specs.Slots.{place_of, AreSpans, AreBounded, with_run, slot_with, somes}
 use Rattle.zone_spans.proofs.SpanLaws.{same_below, skip, grow}
 
 -- zones tell by their places
@@ -116,8 +116,8 @@ span_other f n k at until m z w nothing zones other =
 
 -- so the places tell it when one of them is changed
 pub told_more : (f : Frames) (k at until : ℕ) (w : Zone) (old new : List (Option Span)) → NothingFrom at f → at < until → until ≤ MAX_FRAMES
-    → ((x : ℕ) → at ≤ x → x < until → zone_of x ≡ w) → IsTold f old
-    → ((i : ℕ) → get_or new i None ≡ slot_with k w at until (get_or old i None) i) → IsTold (with_run at until k f) new
+    → ((x : ℕ) → at ≤ x → x < until → zone_of x ≡ w) → AreSpans f old
+    → ((i : ℕ) → get_or new i None ≡ slot_with k w at until (get_or old i None) i) → AreSpans (with_run at until k f) new
 unfolding span_of
 told_more f k at until w old new nothing some low zones told put n z =
     let i : ℕ = 3 * n + place_of z in
@@ -208,7 +208,7 @@ pub bounded_higher : (at higher : ℕ) (slots : List (Option Span)) → at ≤ h
 bounded_higher at higher slots order bound i s is = let low = bound i s is in omega (arith, low)
 
 -- nothing is told yet
-pub told_none : (f : Frames) → ((x : ℕ) → f x ≡ None) → IsTold f []
+pub told_none : (f : Frames) → ((x : ℕ) → f x ≡ None) → AreSpans f []
 unfolding span_of span_below
 told_none f bare n z =
     let most : ℕ = MAX_FRAMES in
@@ -229,7 +229,7 @@ nothing_left [] (suc i) few = refl
 nothing_left (x ∷ xs) zero few = absurd (omega arith)
 nothing_left (x ∷ xs) (suc i) few = nothing_left xs i (omega arith)
 
-listed_from : (f : Frames) (slots : List (Option Span)) (n k : ℕ) → IsTold f slots → length slots ≤ 3 * (n + k)
+listed_from : (f : Frames) (slots : List (Option Span)) (n k : ℕ) → AreSpans f slots → length slots ≤ 3 * (n + k)
     → somes (drop (3 * n) slots) ≡ spans_from f n k
 unfolding spans_from
 listed_from f slots n zero told few = nothing_left slots (3 * n) (omega arith)
@@ -259,6 +259,6 @@ listed_from f slots n (suc k) told few =
     ∙ ap (λ (ss : List Span). a ++ ss) middle in
     first ∙ ap (λ (ss : List Span). a ++ ss) (sym (append_assoc b c tail)) ∙ sym (append_assoc a (b ++ c) tail)
 
-pub listed : (f : Frames) (slots : List (Option Span)) → IsTold f slots → length slots ≤ 3072 → somes slots ≡ spans_of f
+pub listed : (f : Frames) (slots : List (Option Span)) → AreSpans f slots → length slots ≤ 3072 → somes slots ≡ spans_of f
 unfolding spans_of
 listed f slots told few = listed_from f slots 0 MAX_NODES told (omega (arith, few))

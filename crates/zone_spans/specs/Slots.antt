@@ -12,8 +12,8 @@ place_of zone.Dma32 = 1
 place_of zone.Normal = 2
 
 -- each place has the span of its node and zone
-abbrev pub IsTold : Frames → List (Option Span) → Type 0
-IsTold f slots = (n : ℕ) (z : Zone) → get_or slots (3 * n + place_of z) None ≡ span_of f n z
+abbrev pub AreSpans : Frames → List (Option Span) → Type 0
+AreSpans f slots = (n : ℕ) (z : Zone) → get_or slots (3 * n + place_of z) None ≡ span_of f n z
 
 -- no span has more frames than lie below this one
 abbrev pub AreBounded : ℕ → List (Option Span) → Type 0

@@ -7,7 +7,7 @@ ghost use Rattle.address_runs.specs.Edits.{NothingFrom};
 ghost use Rattle.frame_blocks.specs.declared.run.TheConstants.{MAX_FRAMES};
 ghost use Rattle.frame_blocks.specs.Frames.{Frames};
 ghost use Rattle.zone_spans.specs.Spans.{spans_of};
-ghost use Rattle.zone_spans.specs.Slots.{place_of, IsTold, AreBounded, with_run, slot_with, somes};
+ghost use Rattle.zone_spans.specs.Slots.{place_of, AreSpans, AreBounded, with_run, slot_with, somes};
 
 use crate::span::Span;
 use bm_base::{Memory, Zone, zone_of};
@@ -32,8 +32,8 @@ pub fn note(slots: &mut Vec<Option<Span>>, node: u32, first: u64, end: u64) -> R
     requires low { end ≤ MAX_FRAMES }
     requires few { vec_len slots.old ≤ 3072 }
     requires bounded { AreBounded first slots.old.items }
-    ensures told { OnOk result ((f : Frames) → NothingFrom first f → IsTold f slots.old.items →
-        IsTold (with_run first end node f) slots.new.items) }
+    ensures told { OnOk result ((f : Frames) → NothingFrom first f → AreSpans f slots.old.items →
+        AreSpans (with_run first end node f) slots.new.items) }
     ensures few { OnOk result (vec_len slots.new ≤ 3072) }
     ensures bounded { OnOk result (AreBounded end slots.new.items) }
 {

@@ -1,6 +1,6 @@
 use Rattle.std.proofs.Common.{◌≡◌, ◌≢◌, ◌-◌, ◌≤◌, ◌<◌, ◌^◌, ℕ, map}
 use Rattle.audit_lines.specs.Blocks.{bytes_of_block}
-use Rattle.audit_lines.specs.Lines.{Ascend}
+use Rattle.audit_lines.specs.Lines.{AscendApart}
 use Rattle.boot_audit.specs.declared.sweep.State.TheVariants as states
 use Rattle.boot_audit.specs.Frames.{in_memory, is_owned}
 use Rattle.boot_audit.specs.Sweep.{EndsBehind, in_block_byte, state_at}
@@ -12,13 +12,13 @@ abbrev pub invariant-loop-at : goal.invariant-loop-at
 invariant-loop-at l = record {
   near : l.at ≤ 2 ^ 52;
   from_near : l.from ≤ 2 ^ 52;
-  run_order : Ascend (map (λ r. r.range) l.runs);
+  run_order : AscendApart (map (λ r. r.range) l.runs);
   run_behind : EndsBehind l.at (map (λ r. r.range) l.runs);
   run_same : (x : ℕ) → l.at ≤ x → in_memory l.runs x ≡ in_memory l.saved.map.items x;
-  owner_order : Ascend (map (λ r. r) l.owners);
+  owner_order : AscendApart (map (λ r. r) l.owners);
   owner_behind : EndsBehind l.at (map (λ r. r) l.owners);
   owner_same : (x : ℕ) → l.at ≤ x → is_owned l.owners x ≡ is_owned l.saved.owners.items x;
-  held_order : Ascend (map bytes_of_block l.held);
+  held_order : AscendApart (map bytes_of_block l.held);
   held_behind : EndsBehind l.at (map bytes_of_block l.held);
   held_same : (x : ℕ) → l.at ≤ x → in_block_byte l.held x ≡ in_block_byte l.saved.blocks.items x;
   none_bad : (x : ℕ) → x < l.at

@@ -4,14 +4,14 @@ use Rattle.text_words.specs.Parts.{parts_behind}
 use Rattle.text_words.proofs.WordsLaws.{text_of, left}
 use Rattle.boot_options.specs.declared.crash.CrashRange.{CrashRange}
 use Rattle.boot_options.specs.Crash.{crash_ranges_of}
-use Rattle.boot_options.specs.Kept.{Keeps}
+use Rattle.boot_options.specs.Kept.{KeepsItems}
 use Rattle.boot_options.proofs.CrashLaws.{in_front}
 use Rattle.boot_options.proofs.crash.read_ranges.Given as goal
 
 -- the ranges that are kept, in front of those of the texts that are left, are those of all texts
 abbrev pub invariant-loop-rest : goal.invariant-loop-rest
 invariant-loop-rest l =
-    (kept : List CrashRange) × Keeps l.ranges kept
+    (kept : List CrashRange) × KeepsItems l.ranges kept
     × (in_front kept (crash_ranges_of (parts_behind (Byte 44) (text_of l.rest)))
     ≡ crash_ranges_of (parts_behind (Byte 44) (text_of l.initial.rest)))
 

@@ -3,13 +3,13 @@ use Rattle.text_words.specs.declared.separators.Separators.TheVariants.{Byte}
 use Rattle.text_words.specs.Parts.{parts_behind}
 use Rattle.text_words.proofs.WordsLaws.{text_of, left}
 use Rattle.boot_options.specs.Options.{map_options_of}
-use Rattle.boot_options.specs.Reading.{State, IsAt, read_map_options}
+use Rattle.boot_options.specs.Reading.{State, IsReadTo, read_map_options}
 use Rattle.boot_options.proofs.reading.read_memmap.Given as goal
 
 -- from the state at which the reader is, the texts that are left lead where all texts lead from the first one
 abbrev pub invariant-loop-rest : goal.invariant-loop-rest
 invariant-loop-rest l =
-    (st : State) → IsAt l.fn.reading st → (mid : State) × IsAt l.reading mid
+    (st : State) → IsReadTo l.fn.reading st → (mid : State) × IsReadTo l.reading mid
     × (read_map_options l.number mid (map_options_of (parts_behind (Byte 44) (text_of l.rest)))
     ≡ read_map_options l.number st (map_options_of (parts_behind (Byte 44) (text_of l.initial.rest))))
 

@@ -30,7 +30,7 @@ use Rattle.page_alloc.specs.declared.outcome.PageAnswer.{PageAnswer}
 use Rattle.page_alloc.specs.Pages.{State as Pages, begun}
 use Rattle.slit_zonelists.specs.Lists.{Known, known}
 use Rattle.slit_zonelists.specs.Near.{after_with, answers_with}
-use Rattle.boot_model.specs.First.{IsFirst}
+use Rattle.boot_model.specs.First.{IsFirstMemory}
 use Rattle.boot_stages.specs.Boots.{LaterMade, begun_with, later_view, made_behind}
 use Rattle.boot_stages.specs.Carries.{or_stop}
 use Rattle.boot_stages.proofs.MapLaws.{boot_stops, boot_told, claims-told, first_made, made_of, memory_goes_on, memory_stops, stages_stop}
@@ -64,7 +64,7 @@ returns-in_err-memblock-clause-boots c =
 -- what is known where memory was made
 record MemoryIsMade (given : Given) (map : Vec (RunOf ℕ) Global) (m : Memblock) : Type 0 where
   comes : boot given ≡ in_order (drop 1 (later_stages given)) (begun_with (made_of given map) m)
-  first : IsFirst (reach given) m.journal.items
+  first : IsFirstMemory (reach given) m.journal.items
 
 memory_is_made : (given : Given) (map : Vec (RunOf ℕ) Global) (runs : List (RunOf ℕ)) (m : Memblock) → runs ≡ map.items
     → with_error stop_of (map_judged given) ≡ Ok (made_of given map)

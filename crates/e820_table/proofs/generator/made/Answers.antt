@@ -2,7 +2,7 @@ use Rattle.std.proofs.Common.{◌≡◌, ◌+◌, ◌-◌, ◌*◌, ◌≤◌, �
 use Rattle.std.proofs.lemmas.List.{append-nil}
 use Rattle.e820_model.specs.declared.entry.Entry.{Entry}
 use Rattle.std.proofs.Common.{List}
-use Rattle.e820_table.specs.Made.{entries_behind, frames_of, made_entries}
+use Rattle.e820_table.specs.Made.{entries_behind, frames_of_entry, made_entries}
 use Rattle.e820_table.proofs.MadeLaws.{Split, none_more, one_more, page_of_all, split_more}
 use Rattle.e820_table.proofs.generator.made.Goals as goal
 
@@ -13,7 +13,7 @@ loop-index-preserved c =
     let e = c.make_entry-entry.result in
     let front = l.page.items ++ l.ext.items in
     let place : e.addr ≡ l.base = rw c.make_entry-entry.ensures refl in
-    let size : e.size ≡ 4096 * frames_of x = rw c.make_entry-entry.ensures refl in
+    let size : e.size ≡ 4096 * frames_of_entry x = rw c.make_entry-entry.ensures refl in
     let short : e.size ≤ 65536 = rw size (omega arith) in
     let split : Split c.put_entry.new.page.items c.put_entry.new.ext.items (front ++ e ∷ []) =
     split_more l.page.items l.ext.items front c.put_entry.new.page.items c.put_entry.new.ext.items e

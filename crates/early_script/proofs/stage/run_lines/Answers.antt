@@ -7,7 +7,7 @@ use Rattle.growth_model.specs.Outcome.{joined}
 use Rattle.early_script.specs.declared.outcome.Answer.{Answer}
 use Rattle.early_script.specs.Acted.{State, deed}
 use Rattle.early_script.specs.Found.{state_of, bytes_in}
-use Rattle.early_script.specs.Stage.{Stage, Reaches, stage_of, after_lines}
+use Rattle.early_script.specs.Stage.{LineStage, Reaches, stage_of, after_lines}
 use Rattle.early_script.proofs.OutLaws.{out-amid, out-behind, between-all, between-out}
 use Rattle.early_script.proofs.StageLaws.{after_lines-append, begun-along, reaches-line}
 use Rattle.early_script.proofs.stage.run_lines.Goals as goal
@@ -32,7 +32,7 @@ loop-line-preserved c =
           let next = reaches-line (after_lines start so_far) c.loop-line.live c.run_line.new.self m c.run_line.new.mb
           c.loop-line.answers.items line c.in_ok-outcome.outcome (c.loop-line.invariant.reached fills holds) acts
           c.in_ok-outcome.ensures.holds in
-          let here = subst (λ (s : Stage). Reaches s c.run_line.new.self c.run_line.new.mb (c.loop-line.answers.items
+          let here = subst (λ (s : LineStage). Reaches s c.run_line.new.self c.run_line.new.mb (c.loop-line.answers.items
           ++ record { line = line.number; outcome = c.in_ok-outcome.outcome } ∷ []))
           (sym (after_lines-append start so_far line) ∙ ap (λ (ls : List Line). after_lines start ls) (sym more)) next in
           subst (λ (told : List Answer). Reaches (after_lines start (take (i + 1) c.args.lines.now)) c.run_line.new.self

@@ -5,7 +5,7 @@ use Rattle.std.proofs.lemmas.Bool.{true≢false}
 use Rattle.std.proofs.lemmas.List.{take_rest}
 use Rattle.script_reader.specs.declared.act.Line.{Line}
 use Rattle.script_reader.specs.Script.{is_sections}
-use Rattle.early_script.specs.Acted.{IsRun}
+use Rattle.early_script.specs.Acted.{CanBeRun}
 use Rattle.early_script.proofs.StageLaws.{all-before, passed-here, passed-all}
 use Rattle.early_script.proofs.stage.split_at_sections.Goals as goal
 use Rattle.early_script.proofs.stage.split_at_sections.Goals.{in-Sections, in_default}
@@ -18,14 +18,14 @@ returns-then-matches-clause-run c =
       | in_default w ↦ absurd (true≢false (sym c.if-matches.true ∙ w.matches-is))
     ] in
     let parts = passed-here lines c.loop-i.i c.index-lines-i.result c.loop-i-test.true c.index-lines-i.is here c.loop-i.invariant in (
-      subst (λ (ls : List Line). All (λ l. IsRun l.act) ls) (sym parts.0) (all-before lines),
-      subst (λ (ls : List Line). All (λ l. IsRun l.act) ls) (sym (take_rest lines (c.loop-i.i + 1) ∙ parts.1)) c.requires.once,
+      subst (λ (ls : List Line). All (λ l. CanBeRun l.act) ls) (sym parts.0) (all-before lines),
+      subst (λ (ls : List Line). All (λ l. CanBeRun l.act) ls) (sym (take_rest lines (c.loop-i.i + 1) ∙ parts.1)) c.requires.once,
     )
 
 pub returns-clause-run : goal.returns-clause-run
 returns-clause-run c =
     let lines = c.args.lines.now in
     let parts = passed-all lines c.loop-i.i c.loop-i-test.false c.loop-i.invariant in (
-      subst (λ (ls : List Line). All (λ l. IsRun l.act) ls) (sym parts.0) (all-before lines),
+      subst (λ (ls : List Line). All (λ l. CanBeRun l.act) ls) (sym parts.0) (all-before lines),
       λ k d less. absurd (omega arith),
     )

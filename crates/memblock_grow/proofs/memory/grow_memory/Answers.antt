@@ -5,7 +5,7 @@ use Rattle.memblock_model.specs.declared.item.Item.{Item}
 use Rattle.memblock_model.specs.declared.item.Item.TheVariants as item
 use Rattle.memblock_model.specs.Tables.{room_of, moved_to}
 use Rattle.memblock_ranges.specs.declared.region.Head.{Head}
-use Rattle.growth_model.specs.Growth.{frames_of, old_frames}
+use Rattle.growth_model.specs.Growth.{in_whole_frames, old_frames}
 use Rattle.growth_model.proofs.PlacedMemoryLaws.{IsTaken}
 use Rattle.memblock_grow.specs.Kept.{AreKept, Keeps, KeepsBytes}
 use Rattle.memblock_grow.proofs.KeptLaws.{kept-same}
@@ -98,7 +98,7 @@ pub left_place-old-requires : goal.left_place-old-requires
 left_place-old-requires c =
     let head = c.head-head.ensures.head in
     record {
-      far = subst (λ (h : Head). h.room ≢ 128 → h.place + frames_of (24 * h.room) < 2 ^ 64) (sym head)
+      far = subst (λ (h : Head). h.room ≢ 128 → h.place + in_whole_frames (24 * h.room) < 2 ^ 64) (sym head)
           (left-far which.Memory c.requires.kept.0 c.args.journal.now.items c.args.tables.now c.args.aim c.requires.kept.1.kept);
     }
 

@@ -4,7 +4,7 @@ use Rattle.memblock_model.specs.declared.which.Which.TheVariants as which
 use Rattle.memblock_model.specs.Tables.{room_of}
 use Rattle.boot_journal.specs.Contents.{Contents as Journal}
 use Rattle.memblock_ranges.specs.declared.region.Head.{Head}
-use Rattle.growth_model.specs.Growth.{frames_of}
+use Rattle.growth_model.specs.Growth.{in_whole_frames}
 use Rattle.memblock_grow.proofs.reserved.grow_reserved.Goals as goal
 use Rattle.memblock_grow.proofs.reserved.grow_reserved.Goals.{In-Some, After-cover, After-uncover}
 use Rattle.memblock_grow.proofs.PlaceLaws.{knows-mirrors, left-far}
@@ -91,7 +91,7 @@ pub left_place-left-requires : goal.left_place-left-requires
 left_place-left-requires c =
     let head = c.head-head.ensures.head in
     record {
-      far = subst (λ (h : Head). h.room ≢ 128 → h.place + frames_of (24 * h.room) < 2 ^ 64) (sym head)
+      far = subst (λ (h : Head). h.room ≢ 128 → h.place + in_whole_frames (24 * h.room) < 2 ^ 64) (sym head)
           (left-far which.Reserved c.requires.kept.0 c.args.journal.now.items c.args.tables.now c.args.aim c.requires.kept.1.kept);
     }
 

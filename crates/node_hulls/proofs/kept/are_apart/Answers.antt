@@ -2,7 +2,7 @@ use Rattle.std.proofs.Common.{map, refl, sym, subst, ◌∙◌, arith}
 use Rattle.std.proofs.lemmas.Bool.{true≢false}
 use Rattle.address_runs.specs.Runs.{value_at}
 use Rattle.node_hulls.specs.declared.kept.KeptBlock.{KeptBlock}
-use Rattle.node_hulls.specs.Hulls.{Block}
+use Rattle.node_hulls.specs.Hulls.{NumaBlock}
 use Rattle.node_hulls.proofs.NodesLaws.{HasOwn, own_apart, laid_own}
 use Rattle.node_hulls.proofs.kept.are_apart.Goals as goal
 
@@ -12,7 +12,7 @@ returns-then-not-holds c = (
   λ none.
       let laid = c.args.laid.now.items in
       let own = laid_own c.args.kept.now laid c.loop-one.one-index c.one-item.result c.requires none (omega arith) c.one-item.is in
-      let here = subst (λ (k : KeptBlock). HasOwn (value_at (map (λ (r : Block). r) laid)) k.block) (sym c.one.view_is) own in
+      let here = subst (λ (k : KeptBlock). HasOwn (value_at (map (λ (r : NumaBlock). r) laid)) k.block) (sym c.one.view_is) own in
       absurd (true≢false (sym (c.holds.ensures.1 here) ∙ c.if-not-holds.true)),
 )
 

@@ -1,5 +1,5 @@
 use Rattle.std.proofs.Common.{◌≡◌, ◌++◌, drop}
-use Rattle.node_hulls.specs.Kept.{blocks_of, kept_from, kept_of}
+use Rattle.node_hulls.specs.Kept.{numa_blocks_of, kept_from, kept_of}
 use Rattle.node_hulls.specs.Steps.{EndInSpace, in_runs}
 use Rattle.node_hulls.proofs.kept.keep_blocks.Given as goal
 
@@ -7,5 +7,5 @@ abbrev pub invariant-loop-index : goal.invariant-loop-index
 invariant-loop-index l = record {
   kept_so_far : l.kept.items ++ kept_from (in_runs l.memory.items) l.domains l.index (drop l.index l.blocks)
       ≡ kept_of (in_runs l.memory.items) l.domains l.blocks;
-  space : EndInSpace (blocks_of l.kept.items);
+  space : EndInSpace (numa_blocks_of l.kept.items);
 }

@@ -4,7 +4,7 @@ use Rattle.std.specs.Option.{option_or}
 use Rattle.address_runs.specs.Overlay.{all_overlaid}
 use Rattle.address_runs.specs.Runs.{RunOf, IsRunsOf}
 use Rattle.address_runs.proofs.OverlayLaws.{plain_addresses, plain_runs}
-use Rattle.node_hulls.specs.Steps.{bare}
+use Rattle.node_hulls.specs.Steps.{nodeless}
 use Rattle.node_hulls.proofs.MemoryLaws.{told_memory}
 use Rattle.node_hulls.proofs.RestLaws.{bare_addresses}
 use Rattle.node_hulls.proofs.memory.memory_runs.Goals as goal
@@ -23,6 +23,6 @@ returns-clause-bytes c =
     IfOk-weaker c.overlay_all.result _ _ (λ runs laid.
     told_memory c.args.memory.now runs.items
     (subst (λ (ss : List (RunOf Bool)). IsRunsOf (all_overlaid option_or ss) runs.items)
-    (c.deref.ensures.value ∙ c.in_ok-tell_memory.ensures ∙ ap (λ (rs : List (RunOf Bool)). rs ++ map bare c.args.memory.now)
+    (c.deref.ensures.value ∙ c.in_ok-tell_memory.ensures ∙ ap (λ (rs : List (RunOf Bool)). rs ++ map nodeless c.args.memory.now)
     c.new-told.ensures.items) (plain_runs option_or c.deref.result.now runs.items laid)))
     c.overlay_all.ensures

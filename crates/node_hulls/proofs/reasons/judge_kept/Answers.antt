@@ -1,6 +1,6 @@
 use Rattle.std.proofs.Common.{ℕ, List, sym, ◌∙◌, ap, subst}
 use Rattle.address_runs.specs.Runs.{IsRunsOf, value_at}
-use Rattle.node_hulls.specs.Hulls.{Block}
+use Rattle.node_hulls.specs.Hulls.{NumaBlock}
 use Rattle.node_hulls.specs.Judgement.{frames_given, left_over}
 use Rattle.node_hulls.specs.Kept.{in_any}
 use Rattle.node_hulls.proofs.JudgedLaws.{Found, found_overlap, found_uncovered, found_used}
@@ -25,10 +25,10 @@ returns-then-uncovered-ge-UNCOVERED_FRAMES c =
       hulls = joined_kept kept c.in_ok-laid.laid.items c.deref.result.now joined (sym c.first_overlap.ensures ∙ c.in_default.is)
           c.requires.some c.in_ok-laid.ensures c.deref.ensures.value c.in_ok-joined.ensures;
       left = subst (λ (n : ℕ). IsRunsOf (left_over memory (value_at joined) n) rest) c.lowest_node.ensures
-          (subst (λ (js : List Block). IsRunsOf (left_over memory (value_at js) c.lowest_node.result) rest) c.deref-2.ensures.value
+          (subst (λ (js : List NumaBlock). IsRunsOf (left_over memory (value_at js) c.lowest_node.result) rest) c.deref-2.ensures.value
           c.in_ok-rest.ensures.runs);
       left_space = c.in_ok-rest.ensures.space;
-      counted = c.count_frames-uncovered.ensures ∙ ap (λ (rs : List Block). frames_given (value_at rs)) c.deref-3.ensures.value;
+      counted = c.count_frames-uncovered.ensures ∙ ap (λ (rs : List NumaBlock). frames_given (value_at rs)) c.deref-3.ensures.value;
     } in
     c.unused-then-uncovered-ge-UNCOVERED_FRAMES.ensures
     ∙ sym (found_uncovered memory kept joined rest c.count_frames-uncovered.result found c.args.domains.items
@@ -46,10 +46,10 @@ returns c =
       hulls = joined_kept kept c.in_ok-laid.laid.items c.deref.result.now joined (sym c.first_overlap.ensures ∙ c.in_default.is)
           c.requires.some c.in_ok-laid.ensures c.deref.ensures.value c.in_ok-joined.ensures;
       left = subst (λ (n : ℕ). IsRunsOf (left_over memory (value_at joined) n) rest) c.lowest_node.ensures
-          (subst (λ (js : List Block). IsRunsOf (left_over memory (value_at js) c.lowest_node.result) rest) c.deref-2.ensures.value
+          (subst (λ (js : List NumaBlock). IsRunsOf (left_over memory (value_at js) c.lowest_node.result) rest) c.deref-2.ensures.value
           c.in_ok-rest.ensures.runs);
       left_space = c.in_ok-rest.ensures.space;
-      counted = c.count_frames-uncovered.ensures ∙ ap (λ (rs : List Block). frames_given (value_at rs)) c.deref-3.ensures.value;
+      counted = c.count_frames-uncovered.ensures ∙ ap (λ (rs : List NumaBlock). frames_given (value_at rs)) c.deref-3.ensures.value;
     } in
     sym (found_used memory kept joined rest c.count_frames-uncovered.result found c.args.domains.items
     c.if-uncovered-ge-UNCOVERED_FRAMES.false)

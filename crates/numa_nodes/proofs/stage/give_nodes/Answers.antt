@@ -5,7 +5,7 @@ use Rattle.stage_model.specs.declared.stop.StageStop.{StageStop}
 use Rattle.stage_model.specs.declared.stop.StageStop.TheVariants as stop
 use Rattle.stage_model.specs.Doing.{EndsAs}
 use Rattle.stage_model.proofs.DoingLaws.{ends-begun}
-use Rattle.node_hulls.specs.Hulls.{Block}
+use Rattle.node_hulls.specs.Hulls.{NumaBlock}
 use Rattle.stage_calls.proofs.LentLaws.{goes-then}
 use Rattle.numa_nodes.specs.Assigned.{given}
 use Rattle.numa_nodes.proofs.TurnLaws.{turn-next, turn-stops, turn-done}
@@ -20,7 +20,7 @@ returns-in_err-set_node-clause-ends c =
     let p = err_from_is_err_and c.from_residual.result c.from_residual.ensures.1 in
     c.loop-run.invariant.ends c.from_residual.result new
     (turn-stops given ranges i c.run-item.result c.run-item.result here new c.in_err-set_node.field-0.0 c.loop-run-test.true c.run-item.is
-    (subst (λ (b : Block). EndsAs {A = Unit {0}} stop.Memory (Err c.in_err-set_node.field-0.0) here new (given tt b here)) c.run.view_is
+    (subst (λ (b : NumaBlock). EndsAs {A = Unit {0}} stop.Memory (Err c.in_err-set_node.field-0.0) here new (given tt b here)) c.run.view_is
     c.in_err-set_node.ensures.ends) c.from_residual.result (p.1 ∙ ap (λ (s : StageStop). Err s) p.2))
 
 pub returns-in_err-set_node-clause-lent : goal.returns-in_err-set_node-clause-lent
@@ -34,7 +34,7 @@ loop-run-preserved c =
     let here = c.loop-run.memblock.journal.items in
     let mid = c.set_node.new.memblock.journal.items in
     let was : EndsAs stop.Memory (Ok tt) here mid (given tt c.run-item.result here) =
-    subst (λ (b : Block). EndsAs {A = Unit {0}} stop.Memory (Ok tt) here mid (given tt b here)) c.run.view_is
+    subst (λ (b : NumaBlock). EndsAs {A = Unit {0}} stop.Memory (Ok tt) here mid (given tt b here)) c.run.view_is
     c.in_ok-set_node.ensures.ends in
     record {
       begun = ends-begun (Ok tt) stop.Memory here mid (given tt c.run-item.result here) c.loop-run.invariant.begun was;

@@ -3,7 +3,7 @@ use Rattle.std.specs.List.{filter_map}
 use Rattle.srat_reader.specs.declared.entries.Said.{Said}
 use Rattle.srat_reader.specs.declared.table.SratBlock.{SratBlock}
 use Rattle.srat_reader.specs.Entries.{is_whole, said_at}
-use Rattle.srat_reader.specs.Table.{processor_of, block_of, processor_at, block_at, processors_of, blocks_of}
+use Rattle.srat_reader.specs.Table.{processor_of, srat_block_of, processor_at, block_at, processors_of, srat_blocks_of}
 use Rattle.srat_reader.proofs.ChainLaws.{rest_from, whole_bounds, whole_here, near_here, sound_behind, told_here, told_end, some_told}
 use Rattle.srat_reader.proofs.table.read_entries.Goals as goal
 
@@ -49,14 +49,14 @@ loop-at-preserved c =
 one_more : (at : ℕ) (bytes cpus : List ℕ) (blocks : List SratBlock) (said : Said) → at < length bytes → is_whole at bytes ≡ true
     → said ≡ said_at at bytes
     → cpus ++ filter_map (processor_at bytes) (rest_from at bytes) ≡ processors_of bytes
-    → blocks ++ filter_map (block_at bytes) (rest_from at bytes) ≡ blocks_of bytes
-    → IsSome (processor_of said) ⊎ IsSome (block_of said) → (0 < length (processors_of bytes)) ⊎ (0 < length (blocks_of bytes))
+    → blocks ++ filter_map (block_at bytes) (rest_from at bytes) ≡ srat_blocks_of bytes
+    → IsSome (processor_of said) ⊎ IsSome (srat_block_of said) → (0 < length (processors_of bytes)) ⊎ (0 < length (srat_blocks_of bytes))
 one_more at bytes cpus blocks said here whole is processors others (inl some) =
     inl (subst (λ (told : List ℕ). 0 < length told) processors
     (some_told (processor_at bytes) at bytes cpus here whole (subst (λ (s : Said). IsSome (processor_of s)) is some)))
 one_more at bytes cpus blocks said here whole is processors others (inr some) =
     inr (subst (λ (told : List SratBlock). 0 < length told) others
-    (some_told (block_at bytes) at bytes blocks here whole (subst (λ (s : Said). IsSome (block_of s)) is some)))
+    (some_told (block_at bytes) at bytes blocks here whole (subst (λ (s : Said). IsSome (srat_block_of s)) is some)))
 
 pub returns-in_err-keep-clause-some : goal.returns-in_err-keep-clause-some
 returns-in_err-keep-clause-some c = λ err.

@@ -1,6 +1,6 @@
 use Rattle.std.proofs.Common.{◌≡◌, ◌≤◌, ◌-◌, ◌++◌, length, None}
 use Rattle.std.specs.List.{filter_map}
-use Rattle.srat_reader.specs.Table.{first_fault, processor_at, block_at, processors_of, blocks_of}
+use Rattle.srat_reader.specs.Table.{first_fault, processor_at, block_at, processors_of, srat_blocks_of}
 use Rattle.srat_reader.proofs.ChainLaws.{rest_from}
 use Rattle.srat_reader.proofs.table.read_entries.Given as goal
 
@@ -9,7 +9,7 @@ invariant-loop-at l = record {
   behind_header : 48 ≤ l.at;
   sound : first_fault l.bytes (rest_from l.at l.bytes) ≡ None;
   processors : l.srat.cpus.items ++ filter_map (processor_at l.bytes) (rest_from l.at l.bytes) ≡ processors_of l.bytes;
-  blocks : l.srat.blocks.items ++ filter_map (block_at l.bytes) (rest_from l.at l.bytes) ≡ blocks_of l.bytes;
+  blocks : l.srat.blocks.items ++ filter_map (block_at l.bytes) (rest_from l.at l.bytes) ≡ srat_blocks_of l.bytes;
 }
 
 abbrev pub decreases-loop-at : goal.decreases-loop-at

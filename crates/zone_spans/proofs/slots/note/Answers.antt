@@ -3,7 +3,7 @@ use Rattle.bm_base.specs.declared.zone.Zone.{Zone}
 use Rattle.bm_base.specs.Zones.{zone_of}
 use Rattle.address_runs.specs.Edits.{NothingFrom}
 use Rattle.frame_blocks.specs.Frames.{Frames}
-use Rattle.zone_spans.specs.Slots.{IsTold, AreBounded, with_run, slot_with}
+use Rattle.zone_spans.specs.Slots.{AreSpans, AreBounded, with_run, slot_with}
 use Rattle.zone_spans.proofs.SlotLaws.{told_more, bounded_more, run_parts, nothing_behind}
 use Rattle.zone_spans.proofs.slots.note.Goals as goal
 
@@ -27,8 +27,8 @@ loop-at-preserved c =
       bounded = bounded_more c.args.node at until (zone_of at) old new (omega (arith, some)) c.loop-at.invariant.bounded put;
       told = λ f nothing told.
           let before : Frames = with_run c.args.first at c.args.node f in
-          let more : IsTold (with_run at until c.args.node before) new =
+          let more : AreSpans (with_run at until c.args.node before) new =
           told_more before c.args.node at until (zone_of at) old new (nothing_behind c.args.first at c.args.node f above nothing) some
           (omega (arith, within, low)) e.zone (c.loop-at.invariant.told f nothing told) put in
-          subst (λ (g : Frames). IsTold g new) (run_parts c.args.first at until c.args.node f above (omega (arith, some))) more;
+          subst (λ (g : Frames). AreSpans g new) (run_parts c.args.first at until c.args.node f above (omega (arith, some))) more;
     }

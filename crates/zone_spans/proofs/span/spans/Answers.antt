@@ -11,7 +11,7 @@ use Rattle.table_frames.proofs.RecordLaws.{length_by_head, records_higher}
 use Rattle.table_frames.proofs.TakeLaws.{frames_below, frames_in_order, frames_some}
 use Rattle.zone_spans.specs.declared.span.Span.{Span}
 use Rattle.zone_spans.specs.Spans.{spans_of}
-use Rattle.zone_spans.specs.Slots.{IsTold, AreBounded, with_run, somes}
+use Rattle.zone_spans.specs.Slots.{AreSpans, AreBounded, with_run, somes}
 use Rattle.zone_spans.proofs.SlotLaws.{told_none, bounded_higher, listed}
 use Rattle.zone_spans.proofs.TableLaws.{low_node, nothing_taken, taken_run, taken_left, taken_all}
 use Rattle.zone_spans.proofs.span.spans.Goals as goal
@@ -33,7 +33,7 @@ loop-i-init c =
           let none : get_or c.new-slots.result.items i None ≡ None = ap (λ (ss : List (Option Span)). get_or ss i None) empty
           ∙ no_place i in
           absurd (cc (sym none ∙ is));
-      told = subst (λ (ss : List (Option Span)). IsTold (node_of_frame (value_at [])) ss) (sym empty)
+      told = subst (λ (ss : List (Option Span)). AreSpans (node_of_frame (value_at [])) ss) (sym empty)
           (told_none (node_of_frame (value_at [])) (λ x. refl));
     }
 
@@ -87,7 +87,7 @@ loop-i-preserved c =
           let nothing : NothingFrom c.frames_at-frames.result.first f =
           subst (λ (a : ℕ). NothingFrom a f) (sym first) (nothing_taken _ ms i nobody c.requires.memory.ascend c.requires.whole few) in
           let new = w.note.new.slots.items in
-          let told : IsTold (with_run c.frames_at-frames.result.first c.frames_at-frames.result.end n f) new =
+          let told : AreSpans (with_run c.frames_at-frames.result.first c.frames_at-frames.result.end n f) new =
           w.in_ok-note.ensures.told f nothing c.loop-i.invariant.told in
           let same : with_run c.frames_at-frames.result.first c.frames_at-frames.result.end n f ≡ node_of_frame (value_at (take
           (i + 1) ms)) =
@@ -103,8 +103,8 @@ loop-i-preserved c =
                 (omega (arith, long_too, inner)) (c.frames_at-frames.ensures d) in
                 subst (λ (ss : List (Option Span)). AreBounded (frames_of (get_or ms k d)).first ss) slots
                 (bounded_higher c.frames_at-frames.result.end (frames_of (get_or ms k d)).first new order w.in_ok-note.ensures.bounded);
-            told = subst (λ (ss : List (Option Span)). IsTold (node_of_frame (value_at (take (i + 1) ms))) ss) slots
-                (subst (λ (g : Frames). IsTold g new) same told);
+            told = subst (λ (ss : List (Option Span)). AreSpans (node_of_frame (value_at (take (i + 1) ms))) ss) slots
+                (subst (λ (g : Frames). AreSpans g new) same told);
           }
       | in_default w ↦
           let slots : c.loop-i.slots.items ≡ c.match-frames.slots.items = ap (λ (v : Vec (Option Span) Global). v.items) (sym w.slots-is) in
@@ -114,8 +114,8 @@ loop-i-preserved c =
             bounded = λ k d later inner.
                 subst (λ (ss : List (Option Span)). AreBounded (frames_of (get_or ms k d)).first ss) slots
                 (c.loop-i.invariant.bounded k d (omega (arith, later)) inner);
-            told = subst (λ (ss : List (Option Span)). IsTold (node_of_frame (value_at (take (i + 1) ms))) ss) slots
-                (subst (λ (g : Frames). IsTold g c.loop-i.slots.items) same c.loop-i.invariant.told);
+            told = subst (λ (ss : List (Option Span)). AreSpans (node_of_frame (value_at (take (i + 1) ms))) ss) slots
+                (subst (λ (g : Frames). AreSpans g c.loop-i.slots.items) same c.loop-i.invariant.told);
           }
     ]
 
@@ -126,8 +126,8 @@ returns c =
     let all : c.loop-i.i ≡ length ms = let test = c.loop-i-test.false in let most = c.loop-i.auto.i-end in omega
     (arith, long, test, most) in
     let ss = c.loop-i.slots.items in
-    let told : IsTold (node_of_frame (value_at ms)) ss =
-    subst (λ (f : Frames). IsTold f ss) (taken_all ms c.loop-i.i all) c.loop-i.invariant.told in
+    let told : AreSpans (node_of_frame (value_at ms)) ss =
+    subst (λ (f : Frames). AreSpans f ss) (taken_all ms c.loop-i.i all) c.loop-i.invariant.told in
     let few : length ss ≤ 3072 = let most = c.loop-i.invariant.few in let size = c.loop-i.slots.ok.0 in omega (arith, most, size) in
     let listed_is : somes c.deref.result.now ≡ spans_of (node_of_frame (value_at ms)) =
     ap somes c.deref.ensures.value ∙ listed (node_of_frame (value_at ms)) ss told few in

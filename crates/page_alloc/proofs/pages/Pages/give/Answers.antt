@@ -5,7 +5,7 @@ use Rattle.page_alloc.specs.declared.act.PageAct.TheVariants as acts
 use Rattle.page_alloc.specs.declared.outcome.PageOutcome.{PageOutcome}
 use Rattle.page_alloc.specs.declared.outcome.PageOutcome.TheVariants as outcomes
 use Rattle.page_alloc.specs.Book.{Book, held_in, state_of}
-use Rattle.page_alloc.specs.Kept.{IsKept}
+use Rattle.page_alloc.specs.Kept.{AreHeldApart}
 use Rattle.page_alloc.specs.Pages.{State, with_held, given_back}
 use Rattle.page_alloc.proofs.BookLaws.{state_is, changed}
 use Rattle.page_alloc.proofs.KeptLaws.{step_kept}
@@ -45,4 +45,4 @@ invariant_of-self-2 c =
     state_is (free new.buddy) (with_set what.order what.first what.node (free b.buddy)) (held_in new.ids) (with_held id None (held_in b.ids))
     c.in_ok-put_back.ensures.runs.each (λ q. changed id q None (held_in b.ids) (held_in new.ids q) (c.remove.ensures.updates.0 q)) in
     let all = step_kept (state_of b) (acts.Give id) tt c.self.invariant in
-    subst (λ (s : State). IsKept s) (sym (same ∙ sym (ap (λ o. (given_back (state_of b) id o).1) is))) all
+    subst (λ (s : State). AreHeldApart s) (sym (same ∙ sym (ap (λ o. (given_back (state_of b) id o).1) is))) all

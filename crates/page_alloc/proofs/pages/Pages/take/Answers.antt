@@ -13,7 +13,7 @@ use Rattle.page_alloc.specs.declared.outcome.Held.{Held}
 use Rattle.page_alloc.specs.declared.outcome.PageOutcome.{PageOutcome}
 use Rattle.page_alloc.specs.declared.outcome.PageOutcome.TheVariants as outcomes
 use Rattle.page_alloc.specs.Book.{Book, held_in, state_of}
-use Rattle.page_alloc.specs.Kept.{IsKept}
+use Rattle.page_alloc.specs.Kept.{AreHeldApart}
 use Rattle.page_alloc.specs.Pages.{State, step}
 use Rattle.page_alloc.proofs.BookLaws.{took, took_none, kept_by}
 use Rattle.page_alloc.proofs.KeptLaws.{picked_set}
@@ -36,12 +36,12 @@ Came c r = IfOk r (λ outcome. (let p : PageOutcome × State = (outcome, state_o
     ≡ step (state_of (before c)) (acts.Pages c.args.id c.args.order c.args.node c.args.zone))
     × IfOk r (λ outcome. (outcome ≡ outcomes.Taken) ⊎ (outcome ≡ outcomes.NoBlock) → behind c ≡ before c)
 
-came : (c : goal.Joined-take) → Came c c.match-take.result × IsKept (state_of (behind c))
+came : (c : goal.Joined-take) → Came c c.match-take.result × AreHeldApart (state_of (behind c))
 came c =
     let id = c.args.id in
     let es = c.self.inside.ids.entries in
     let none : held_in es id ≡ None = rw c.in-Vacant.is at c.in_ok-self-inside.ensures.found in
-    elim c.match-take.branch as (λ _. Came c c.match-take.result × IsKept (state_of (behind c))) [
+    elim c.match-take.branch as (λ _. Came c c.match-take.result × AreHeldApart (state_of (behind c))) [
       | in-Ok w ↦
           let first = w.in-Ok.first in
           let what : Held = record { first = first; order = c.args.order; node = c.args.node } in
@@ -67,14 +67,14 @@ came c =
           let is = took_none (before c) (behind c) id c.args.order c.args.node c.args.zone none
           (w.in-Err-NoBlock.ensures.none w.in-Err-NoBlock.field-0-is) same in (
             subst (λ (r : Result PageOutcome Memory). Came c r) (sym w.result-is) (is, λ refused. same),
-            subst (λ (d : Book). IsKept (state_of d)) (sym same) c.self.invariant,
+            subst (λ (d : Book). AreHeldApart (state_of d)) (sym same) c.self.invariant,
           )
       | in-Err-Memory w ↦
           let entries : c.match-take.self-inside.ids.entries ≡ es = search rules in
           let buddy : c.match-take.self-inside.buddy ≡ c.self.inside.buddy = search rules in
           let same : behind c ≡ before c = λ i. record { buddy = buddy i; ids = entries i } in (
             subst (λ (r : Result PageOutcome Memory). Came c r) (sym w.result-is) (tt, tt),
-            subst (λ (d : Book). IsKept (state_of d)) (sym same) c.self.invariant,
+            subst (λ (d : Book). AreHeldApart (state_of d)) (sym same) c.self.invariant,
           )
     ]
 

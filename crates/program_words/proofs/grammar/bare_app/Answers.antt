@@ -1,7 +1,7 @@
 -- Each setting is that of the definition.
 use Rattle.std.proofs.Common.{true, ap}
 use Rattle.clap.specs.Words.{App}
-use Rattle.program_words.proofs.grammar.bare.Goals as goal
+use Rattle.program_words.proofs.grammar.bare_app.Goals as goal
 
 pub returns : goal.returns
 returns c =

@@ -4,7 +4,7 @@ use Rattle.address_runs.specs.Runs.{RunOf, extent_of, value_at}
 use Rattle.address_runs.specs.Sweep.{IsRestFrom}
 use Rattle.bm_base.specs.Extent.{Extent, Meet}
 use Rattle.node_hulls.proofs.MemoryLaws.{nothing_left, first_tells}
-use Rattle.node_hulls.proofs.memory.has_memory.Goals as goal
+use Rattle.node_hulls.proofs.memory.meets_memory.Goals as goal
 
 pub returns-then-first-len : goal.returns-then-first-len
 returns-then-first-len c =
