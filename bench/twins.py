@@ -2,7 +2,7 @@
 """twins.py [CRATE..]: what refuses each wrong body, and whether the right body beside it is proved.
 
 For each crates/CRATE/must-fail/NAME.edit, in a copy of the repository: the edited crate is checked, and what the prover couldn't prove is compared with
-the clause that the first line of the edit pins. A NAME.right beside it, of the same form, is a right body of the same shape: the crate must be
+the clause that the first line of the edit pins. A NAME.right.md beside it, of the same form, is a right body of the same shape: the crate must be
 proved with it. Without one the body as it stands is its right pair, if the edit keeps all names. The last line counts the wrong bodies that were
 refused by the pinned clause, by another goal, and only because a proof names what the edit took away; then the right bodies that were refused. The
 status is 0 where the last two are 0 and each wrong body was refused.
@@ -97,7 +97,7 @@ def main():
                 status, said = check_with(folder, edit)
                 how = "proved" if status == 0 else "names" if status == 2 else refused_by(said, function, clause, law)
                 counts[how] += 1
-                right = edit[: -len(".edit")] + ".right"
+                right = edit[: -len(".edit")] + ".right.md"
                 if os.path.exists(right) and check_with(folder, right)[0]:
                     counts["right"] += 1
                     how += ", and so is the right body"
