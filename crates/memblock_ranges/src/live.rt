@@ -1,9 +1,9 @@
 //! A table in its bytes as slots for records: where the sweep of `run_edits` meets the store. The fact that
 //! a table stands at the head's place is lent with it, and holds again after each step.
-ghost use Rattle.std.specs.Prelude.{◌≡◌, ◌≤◌, ◌<◌, refl};
+ghost use Rattle.std.specs.Prelude.{◌≡◌, ◌≤◌, ◌<◌, refl, get_or};
 ghost use Rattle.std.proofs.Props.{props};
 ghost use Rattle.phys_store.specs.Bytes.{byte_of, is_ready};
-ghost use Rattle.memblock_ranges.specs.Tables.{IsTable};
+ghost use Rattle.memblock_ranges.specs.Tables.{IsTable, HasTable, list_in};
 
 use crate::record::{Record, read_record, spell};
 use crate::region::{Head, RECORD_SIZE};
@@ -27,6 +27,15 @@ pub struct Live<'a> {
     ghost table: { IsTable (byte_of store.now) (is_ready store.now) head.now.place head.now.room head.now.count } by { Prim.hlevel props },
 }
 
+/// The record in the slot at the index.
+fn read_slot(store: &Store, head: &Head, i: u64) -> Record
+    requires table { HasTable store.now head.now }
+    requires used { i < head.now.count }
+    ensures { result ≡ get_or (list_in store.now head.now) i result }
+{
+    read_record(store.slice(head.place + RECORD_SIZE * i, RECORD_SIZE))
+}
+
 impl Rows<Record> for Seen<'_> {
     ghost use Rattle.phys_store.specs.Bytes.{byte_of};
     ghost use Rattle.memblock_ranges.specs.Spelling.{records_at};
@@ -38,10 +47,7 @@ impl Rows<Record> for Seen<'_> {
     }
 
     fn get(&self, i: u64) -> Record {
-        read_record(
-            self.store
-                .slice(self.head.place + RECORD_SIZE * i, RECORD_SIZE),
-        )
+        read_slot(self.store, self.head, i)
     }
 }
 
@@ -56,10 +62,7 @@ impl Rows<Record> for Live<'_> {
     }
 
     fn get(&self, i: u64) -> Record {
-        read_record(
-            self.store
-                .slice(self.head.place + RECORD_SIZE * i, RECORD_SIZE),
-        )
+        read_slot(self.store, self.head, i)
     }
 }
 
