@@ -1,9 +1,10 @@
 -- Places in a stretch of addresses of one label, and the top one of them.
-use Rattle.std.proofs.Common.{◌≡◌, ◌≢◌, ℕ, ◌+◌, ◌-◌, ◌*◌, ◌/◌, ◌%◌, ◌^◌, ◌<◌, ◌≤◌, Bool, true, false, is_some, is_none, if◌then◌else◌, Option, Some, None, max, MatchOption, refl, sym, ◌∙◌, ap, subst, inl, inr, arith}
+use Rattle.std.proofs.Common.{◌≡◌, ◌≢◌, ℕ, ◌+◌, ◌-◌, ◌*◌, ◌/◌, ◌%◌, ◌^◌, ◌<◌, ◌≤◌, Bool, true, false, is_some, is_none, if◌then◌else◌, Option, Some, None, max, min, MatchOption, refl, sym, ◌∙◌, ap, subst, inl, inr, arith}
 use Rattle.std.proofs.Math.Nat.{mul-le-mul_right, one-le-pow}
 use Rattle.std.specs.Int.Bits.{bit_and}
 use Rattle.std.proofs.lemmas.Nat.{le-div, div-add-mod', mod-mul-add, and_mask}
 use Rattle.std.proofs.lemmas.Bool.{cases_lt, cases_Bool, true≢false, and_from, and_parts}
+use Rattle.address_runs.specs.Edits.{NothingFrom}
 use Rattle.address_runs.specs.Sweep.{Stays}
 use Rattle.memblock_model.specs.Labels.{Label, Labels}
 use Rattle.memblock_model.specs.Search.{allows, suits, fits_in, top_in}
@@ -97,6 +98,18 @@ none_served mirror memory reserved q from until label found some known is refuse
           absurd (true≢false (sym (place_serves mirror memory reserved q b place)
           ∙ ap (λ (o : Option Label). serves mirror q.node o) (lies.carries ∙ is) ∙ refused))
       | inr ge ↦ ge
+    ]
+
+-- no place ends above all memory
+pub none_above : (mirror : Bool) (memory reserved : Labels) (q : Query) (at : ℕ) → 1 ≤ q.size → NothingFrom at memory
+    → NoPlaceEnds mirror memory reserved q (min q.hi at) q.hi
+none_above mirror memory reserved q at some none b fits ends =
+    elim (cases_lt at (b + q.size)) as (λ _. b + q.size ≤ min q.hi at) [
+      | inl over ↦
+          let place = fits_in-parts mirror memory reserved q b fits in
+          let last : ℕ = b + q.size - 1 in
+          absurd (held_somewhere (memory b) place.held (sym (place.label last (omega arith) (omega arith)) ∙ none last (omega arith)))
+      | inr ge ↦ omega arith
     ]
 
 -- what is unclaimed memory is memory, and isn't claimed

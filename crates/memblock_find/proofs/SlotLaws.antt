@@ -1,7 +1,8 @@
 -- Records of a canonical list by their index: their order, and what the list gives in them, between them and beside them.
-use Rattle.std.proofs.Common.{◌≡◌, ◌≢◌, ◌⊎◌, ℕ, zero, suc, ◌+◌, ◌<◌, ◌≤◌, Some, None, List, [], ◌∷◌, length, refl, ap, inl, inr, arith}
+use Rattle.std.proofs.Common.{◌≡◌, ◌≢◌, ◌⊎◌, ℕ, zero, suc, ◌+◌, ◌-◌, ◌<◌, ◌≤◌, Some, None, List, [], ◌∷◌, length, refl, ap, inl, inr, arith}
 use Rattle.std.proofs.lemmas.Bool.{cases_lt}
 use Rattle.address_runs.specs.Runs.{RunOf, run_end, value_at, AreRuns}
+use Rattle.address_runs.specs.Edits.{NothingFrom}
 use Rattle.address_runs.specs.Sweep.{StartFrom}
 use Rattle.address_runs.proofs.RunsLaws.{inside, below, behind, none_below, rest_from, other_behind}
 use Rattle.memblock_model.specs.Labels.{Label}
@@ -63,6 +64,14 @@ none_beside x (r ∷ rs) beside =
       | inl past ↦ rw (behind r x past) rest
       | inr ahead ↦ rw (below r x ahead) rest
     ]
+
+-- from the end of the last record on it gives nothing
+pub nothing_behind : (rs : List (RunOf Label)) (at : ℕ) → AreRuns rs → (0 < length rs → at ≡ run_end (run_at rs (length rs - 1)))
+    → NothingFrom at (value_at rs)
+nothing_behind rs at runs end x from = none_beside x rs (λ i less.
+    let is = end (omega arith) in
+    let order = ends_ascend i (length rs - 1) rs runs (omega arith) (omega arith) in
+    inl (omega arith))
 
 -- right below a record the list gives another value than in it
 pub other_under : (i x : ℕ) (rs : List (RunOf Label)) → AreRuns rs → i < length rs → x + 1 ≡ (run_at rs i).base

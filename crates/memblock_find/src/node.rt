@@ -41,7 +41,7 @@ fn up_to_served(records: &Records<'_>, count: u64, mirror: bool, node: Option<u3
 }
 
 /// Where the last of the first `count` records ends; 0 where there is none.
-fn end_of(records: &Records<'_>, count: u64) -> u64
+pub fn end_of(records: &Records<'_>, count: u64) -> u64
     requires { count ≤ length records.now }
     ensures none { count ≡ 0 → result ≡ 0 }
     ensures end { 0 < count → result ≡ run_end (run_at records.now (count - 1)) }
@@ -116,7 +116,14 @@ pub fn find_served(tables: &Tables, query: &Query, mirror: bool) -> Option<u64>
     let low = query.lo.max(FRAME_SIZE);
     let mut cursor = cursor_below(&lists, query.hi);
     while cursor.at > low {
-        let place = place_in_run(query, mirror, cursor.label(), cursor.bottom(), cursor.at);
+        let place = place_in_run(
+            query,
+            low,
+            mirror,
+            cursor.label(),
+            cursor.bottom(),
+            cursor.at,
+        );
         if place.is_some() {
             return place;
         }

@@ -2,7 +2,7 @@
 //! memory is walked from the window's end down, a stretch of one label at a time, and the first stretch in
 //! which a place lies has the greatest one. A search for a node, or for mirrored memory, passes over other
 //! memory (`node.rt`); one from below is the same turned round (`bottom.rt`).
-ghost use Rattle.std.specs.Prelude.{◌≡◌, ◌≢◌, ℕ, ◌^◌, ◌≤◌, false, MatchOption, Option, Some, None};
+ghost use Rattle.std.specs.Prelude.{◌≡◌, ◌≢◌, ℕ, ◌^◌, ◌≤◌, false, max, MatchOption, Option, Some, None};
 ghost use Rattle.address_runs.specs.Runs.{value_at};
 ghost use Rattle.address_runs.specs.Sweep.{Stays};
 ghost use Rattle.memblock_model.specs.Labels.{Label as AnyLabel, Labels};
@@ -13,7 +13,7 @@ ghost use Rattle.memblock_find.specs.Places.{IsBetween, NoPlaceEnds, IsBestBy};
 use crate::bottom::find_upward;
 use crate::cursor::{Lists, lists_of};
 use crate::down::cursor_below;
-use crate::node::{find_served, serves};
+use crate::node::{end_of, find_served, serves};
 use bm_base::FRAME_SIZE;
 use memblock_model::{Label, Mode, Query};
 use memblock_ranges::Tables;
@@ -38,16 +38,26 @@ pub fn find(tables: &Tables, query: &Query, mode: Mode) -> Option<u64>
     }
 }
 
-/// The search from the top down for any memory, over the records of both tables, a stretch at a time.
+/// The search from the top down for any memory, over the records of both tables, a stretch at a time. Where the
+/// window's end lies above memory's, it begins at that.
 fn find_in(lists: &Lists<'_>, query: &Query) -> Option<u64>
     requires some { 1 ≤ query.now.size }
     requires aligned { (k : ℕ) × (query.now.align ≡ 2 ^ k) }
     ensures { result ≡ top_in (record { mirror = false; up = false }) (value_at lists.now.memory) (value_at lists.now.reserved) query.now }
 {
     let low = query.lo.max(FRAME_SIZE);
-    let mut cursor = cursor_below(lists, query.hi);
+    let end = end_of(&lists.memory, lists.memory.count());
+    let high = query.hi.min(end);
+    let mut cursor = cursor_below(lists, high);
     while cursor.at > low {
-        let place = place_in_run(query, false, cursor.label(), cursor.bottom(), cursor.at);
+        let place = place_in_run(
+            query,
+            low,
+            false,
+            cursor.label(),
+            cursor.bottom(),
+            cursor.at,
+        );
         if place.is_some() {
             return place;
         }
@@ -57,9 +67,11 @@ fn find_in(lists: &Lists<'_>, query: &Query) -> Option<u64>
 }
 
 /// The greatest place in the addresses from `from` up to `until`, where that is a stretch of unclaimed
-/// memory of one label, or of none, and unclaimed memory of that label doesn't go on below it.
+/// memory of one label, or of none, and unclaimed memory of that label doesn't go on below it. From `low` on
+/// lie the window's addresses that aren't in the first frame.
 pub fn place_in_run(
     query: &Query,
+    low: u64,
     mirror: bool,
     label: Option<Label>,
     from: u64,
@@ -67,6 +79,7 @@ pub fn place_in_run(
 ) -> Option<u64>
     requires some { 1 ≤ query.now.size }
     requires aligned { (k : ℕ) × (query.now.align ≡ 2 ^ k) }
+    requires low { low ≡ max query.now.lo FRAME_SIZE }
     requires window { until ≤ query.now.hi }
     ensures { (memory reserved : Labels) → Stays (unclaimed memory reserved) from until label →
         (label ≢ None → IsDownTo (unclaimed memory reserved) from until label) →
@@ -78,8 +91,7 @@ pub fn place_in_run(
     if !serves(mirror, query.node, found) {
         return None;
     }
-    let low = from.max(query.lo).max(FRAME_SIZE);
-    last_between(low, until, query.size, query.align)
+    last_between(from.max(low), until, query.size, query.align)
 }
 
 /// The greatest multiple of the alignment at which so many bytes lie between the two addresses.

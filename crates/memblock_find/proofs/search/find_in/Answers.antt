@@ -1,9 +1,25 @@
-use Rattle.std.proofs.Common.{◌≡◌, ◌≤◌, false, max, sym, ◌∙◌, arith}
+use Rattle.std.proofs.Common.{◌≡◌, ◌-◌, ◌≤◌, false, max, min, sym, ◌∙◌, ap, subst, arith}
 use Rattle.std.proofs.lemmas.Grind.{common_steps}
-use Rattle.address_runs.specs.Runs.{value_at}
+use Rattle.address_runs.specs.Runs.{run_end, value_at}
+use Rattle.memblock_find.specs.Places.{NoPlaceEnds}
+use Rattle.memblock_find.specs.Walk.{run_at}
 use Rattle.memblock_find.proofs.DownLaws.{stretch_stays, stretch_down}
-use Rattle.memblock_find.proofs.PlaceLaws.{best_answer, no_answer, none_found}
+use Rattle.memblock_find.proofs.PlaceLaws.{none_above, best_answer, no_answer, none_found}
+use Rattle.memblock_find.proofs.SlotLaws.{nothing_behind}
 use Rattle.memblock_find.proofs.search.find_in.Goals as goal
+
+pub loop-cursor-init : goal.loop-cursor-init
+loop-cursor-init c =
+    let t = c.args.lists.now in
+    let high : c.cursor_below-cursor.result.at ≡ min c.args.query.now.hi c.end_of-end.result = c.cursor_below-cursor.ensures.at ∙ c.min-high.ensures in
+    let behind = nothing_behind t.memory c.end_of-end.result c.count.ensures.records.runs
+    (λ some. c.end_of-end.ensures.end (omega (arith, some, c.count.ensures.count)) ∙ ap (λ n. run_end (run_at t.memory (n - 1))) c.count.ensures.count) in
+    record {
+      walk = c.cursor_below-cursor.ensures.down;
+      window = omega (arith, high);
+      past = subst (λ at. NoPlaceEnds false (value_at t.memory) (value_at t.reserved) c.args.query.now at c.args.query.now.hi) (sym high)
+          (none_above false (value_at t.memory) (value_at t.reserved) c.args.query.now c.end_of-end.result c.requires.some behind);
+    }
 
 pub returns-then-is_some : goal.returns-then-is_some
 returns-then-is_some c =
