@@ -52,7 +52,7 @@ pub boot_stopped : {X : Type 0} (view : X → List ℕ) (r : Result X Failure) (
 boot_stopped view r failure stop given reports is from stops_so =
     rw is (stop_fits stop failure (told_boot given) (text_of reports) from stops_so)
 
-told_is : (answer : Result Told Cause) (told : Told) → with_error stop_of answer ≡ Ok told → answer ≡ Ok told
+pub told_is : (answer : Result Told Cause) (told : Told) → with_error stop_of answer ≡ Ok told → answer ≡ Ok told
 told_is (Ok some) told is = let same : some ≡ told = cc in ap (λ (t : Told). Ok t) same
 told_is (Err cause) told is = cc
 

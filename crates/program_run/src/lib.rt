@@ -8,7 +8,8 @@
 //! object that was handed in. The contract is the record `RanTo` of `specs/Run.antt`; [`run_by_clauses`] has it
 //! clause by clause, the headline among them.
 //!
-//! The program on the system's files and streams is `bootmem_cli`.
+//! The program on the system's files and streams is `bootmem_cli`. [`read_given`] and [`Failure`] are for whoever boots without a report
+//! (`bootmem_c`).
 #![tactic(auto)]
 
 mod chunks;
@@ -19,4 +20,6 @@ mod program;
 mod tell;
 
 pub use clauses::run_by_clauses;
+pub use failure::{Failure, Reason};
+pub use given::read_given;
 pub use program::run;
