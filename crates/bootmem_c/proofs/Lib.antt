@@ -1,3 +1,4 @@
+pub mod BootLaws
 pub mod ExactLaws
 pub mod FetchLaws
 pub mod LentLaws

@@ -17,6 +17,7 @@ use Rattle.debugfs_reports.specs.ReportList.{text_of}
 use Rattle.program_run.specs.declared.failure.Failure.{Failure}
 use Rattle.program_run.specs.declared.failure.Failure.TheVariants as failures
 use Rattle.program_run.specs.declared.failure.Reason.{Reason}
+use Rattle.program_run.specs.declared.failure.Reason.TheVariants as reasons
 use Rattle.program_run.specs.Answers.{EndHasCause, IsText, Writes, WritingHasCause}
 use Rattle.program_run.specs.Headline.{IsReported}
 use Rattle.program_run.specs.Line.{PutsLine, failure_line}
@@ -153,8 +154,11 @@ not_utf8 : (words : List (List ℕ)) (b : Bool) → are_utf8 words ≡ b → ¬ 
 not_utf8 words true is other = absurd (other (all-utf8 words is))
 not_utf8 words false is other = is
 
+pub nothing_said : (words : List (List ℕ)) (held : Held) → ¬ All IsUtf8 words → outcome (asked words) held ≡ Err reasons.Usage
+nothing_said words held other = rw (not_utf8 words (are_utf8 words) refl other) refl
+
 pub nothing_asked : (words : List (List ℕ)) (held : Held) → ¬ All IsUtf8 words → status_said (outcome (asked words) held) ≡ 2
-nothing_asked words held other = rw (not_utf8 words (are_utf8 words) refl other) refl
+nothing_asked words held other = ap status_said (nothing_said words held other)
 
 pub line_asked : (words : List (List ℕ)) (line : List ℕ) → All IsUtf8 words → (if are_utf8 words then line else []) ≡ line
 line_asked words line all = rw (are-utf8 words all) refl

@@ -1,4 +1,6 @@
+pub mod Boots
 pub mod Call
 pub mod Fetches
 pub mod Lent
 pub mod Taken
+pub mod Values

@@ -1,0 +1,29 @@
+-- The boot of a call that hands over values, and how such a call fails.
+use Rattle.std.specs.Prelude.{◌≡◌, ℕ, List, Option, Some, Result, Ok, Err}
+use Rattle.boot_inputs.specs.Inputs.{Held}
+use Rattle.boot_model.specs.Boot.{Given, Told, told_boot}
+use Rattle.conservation.specs.Headline.{AllTouchedOrInOne, BlocksAreMaximal, BlocksAreWhole, NoOtherInABlock}
+use Rattle.program_run.specs.declared.failure.Failure.{Failure}
+use Rattle.program_run.specs.declared.failure.Failure.TheVariants as failures
+use Rattle.program_run.specs.declared.failure.Reason.{Reason}
+use Rattle.program_run.specs.Outcome.{given_by}
+use Rattle.program_words.specs.Words.{Wanted}
+
+-- what is told is of the one boot that the words and the bytes determine; and in it each usable frame is touched by a claim with a
+-- recorded owner or in exactly one block, no other frame is in any, and each block is whole and maximal
+pub record IsBoot (accepted : Option Wanted) (held : Held) (told : Told) : Type 0 where
+  pub wanted : Wanted
+  pub given : Given
+  pub words : accepted ≡ Some wanted
+  pub inputs : given_by held wanted ≡ Ok given
+  pub boots : told_boot given ≡ Ok told
+  pub each : AllTouchedOrInOne given told
+  pub others : NoOtherInABlock given told
+  pub whole : BlocksAreWhole given told
+  pub maximal : BlocksAreMaximal given told
+
+-- the failure is that of the outcome, or want of memory
+abbrev pub FailsAs : Failure → Result (List ℕ) Reason → Type 0
+FailsAs (failures.NoReport reason) said = said ≡ Err reason
+FailsAs failures.Unwritten said = ⊥
+FailsAs failures.Memory said = Unit {0}

@@ -1,0 +1,59 @@
+-- What a boot made, as values that cross to C.
+use Rattle.std.specs.Prelude.{◌≡◌, ℕ, List, ◌++◌, map, take, drop, length, Option, Some, None}
+use Rattle.address_runs.specs.Runs.{RunOf}
+use Rattle.bm_base.specs.Extent.{Extent}
+use Rattle.bm_base.specs.declared.zone.Zone.{Zone}
+use Rattle.bm_base.specs.declared.zone.Zone.TheVariants as zone
+use Rattle.boot_model.specs.Boot.{Told}
+use Rattle.conservation.specs.Headline.{told_blocks}
+use Rattle.crash_kernel.specs.declared.crash.Crash.{Crash}
+use Rattle.crash_kernel.specs.declared.crash.Crash.TheVariants as crash
+use Rattle.frame_blocks.specs.declared.block.Block.{Block}
+use Rattle.bootmem_c.specs.declared.values.CrashArea.{CrashArea}
+use Rattle.bootmem_c.specs.declared.values.FreeBlock.{FreeBlock}
+use Rattle.bootmem_c.specs.declared.values.MapRun.{MapRun}
+
+-- so many values are told; as many of them as the room has places for stand at its front, and what lies behind them is as it was
+pub record AreTaken {T : Type 0} (values old new : List T) (told : ℕ) : Type 0 where
+  pub count : told ≡ length values
+  pub front : new ≡ take (length old) values ++ drop (length values) old
+
+-- a run of the map: where it lies, in bytes, and its type
+abbrev pub run_value : RunOf ℕ → MapRun
+run_value run = record { base = run.base; size = run.size; kind = run.value }
+
+abbrev pub map_values : Told → List MapRun
+map_values told = map run_value told.map
+
+-- the crash area and its low part, in bytes; what there is none of has size 0
+abbrev pub part_value : Option Extent → Extent
+part_value None = record { base = 0; size = 0 }
+part_value (Some part) = part
+
+abbrev pub parts_value : Option Extent → Option Extent → CrashArea
+parts_value main low = record {
+  base = (part_value main).base;
+  size = (part_value main).size;
+  low_base = (part_value low).base;
+  low_size = (part_value low).size;
+}
+
+abbrev pub area_value : Crash → CrashArea
+area_value crash.Nothing = parts_value None None
+area_value (crash.At main low) = parts_value (Some main) low
+area_value crash.NoArea = parts_value None None
+area_value crash.InUse = parts_value None None
+area_value crash.LowFailed = parts_value None None
+
+-- the number of a zone (`enum zone_type`)
+abbrev pub zone_value : Zone → ℕ
+zone_value zone.Dma = 0
+zone_value zone.Dma32 = 1
+zone_value zone.Normal = 2
+
+-- a free block: its first frame, its order, its node and its zone
+abbrev pub block_value : Block → FreeBlock
+block_value b = record { first = b.first; order = b.order; node = b.node; zone = zone_value b.zone }
+
+abbrev pub block_values : Told → List FreeBlock
+block_values told = map block_value (told_blocks told)

@@ -1,0 +1,58 @@
+//! The boot of words and files that the caller lends, with no report: for whoever wants what it made as values.
+
+ghost use Rattle.std.specs.Prelude.{Some, IfOk, IfErr};
+ghost use Rattle.bm_io.specs.HeldFiles.{bytes_of};
+ghost use Rattle.boot_model.specs.View.{booted_view};
+ghost use Rattle.program_run.specs.Outcome.{outcome};
+ghost use Rattle.program_words.specs.View.{wanted_view};
+ghost use Rattle.program_words.specs.Words.{accepted, texts};
+ghost use Rattle.bootmem_c.specs.Boots.{FailsAs, IsBoot};
+ghost use Rattle.bootmem_c.specs.Call.{asked, outcome_of};
+ghost use Rattle.bootmem_c.specs.Lent.{lent_files, lent_words};
+
+use crate::crossing::{Bytes, File};
+use crate::lent_files::LentFiles;
+use crate::words::{NoTexts, words_in};
+use boot_model::Booted;
+use boot_stages::boot;
+use program_run::{Failure, Reason, read_given};
+use program_words::{Wanted, WordError, read_words};
+use std::alloc::Global;
+
+/// What the boot makes of the words and files. It fails as the whole program does, or for want of memory.
+pub fn boot_lent(alloc: Global, words: &[Bytes<'_>], files: &[File<'_>]) -> Result<Booted, Failure>
+    ensures boots { IfOk result (λ booted.
+        IsBoot (asked (lent_words words.now)) (bytes_of (lent_files files.now)) (booted_view booted)) }
+    ensures fails { IfErr result (λ failure. FailsAs failure (outcome_of words.now files.now)) }
+{
+    match words_in(alloc, words) {
+        Ok(texts) => boot_texts(alloc, &texts, files),
+        Err(NoTexts::NotUtf8) => Err(Failure::NoReport(Reason::Usage)),
+        Err(NoTexts::Memory) => Err(Failure::Memory),
+    }
+}
+
+/// The same over words that are texts.
+fn boot_texts(alloc: Global, words: &[String], files: &[File<'_>]) -> Result<Booted, Failure>
+    ensures boots { IfOk result (λ booted.
+        IsBoot (accepted (texts words.now)) (bytes_of (lent_files files.now)) (booted_view booted)) }
+    ensures fails { IfErr result (λ failure.
+        FailsAs failure (outcome (accepted (texts words.now)) (bytes_of (lent_files files.now)))) }
+{
+    match read_words(alloc, words) {
+        Ok(wanted) => boot_wanted(alloc, &wanted, files),
+        Err(WordError::Usage) => Err(Failure::NoReport(Reason::Usage)),
+        Err(WordError::Memory) => Err(Failure::Memory),
+    }
+}
+
+/// The same behind accepted words.
+fn boot_wanted(alloc: Global, wanted: &Wanted<'_>, files: &[File<'_>]) -> Result<Booted, Failure>
+    ensures boots { IfOk result (λ booted.
+        IsBoot (Some (wanted_view wanted.now)) (bytes_of (lent_files files.now)) (booted_view booted)) }
+    ensures fails { IfErr result (λ failure.
+        FailsAs failure (outcome (Some (wanted_view wanted.now)) (bytes_of (lent_files files.now)))) }
+{
+    let inputs = read_given(alloc, wanted, &mut LentFiles::new(files))?;
+    Ok(boot(alloc, inputs)?)
+}

@@ -1,0 +1,124 @@
+//! What the boot makes, as values: the map, the crash area and the free blocks, for a caller who wants no text.
+//!
+//! Each export takes the words and files of `bootmem_run`, and answers the status that this would, whatever reports the words ask for.
+
+ghost use Rattle.std.specs.Prelude.{◌≡◌, ◌≢◌, ◌⊎◌, [], None, IfOk, IfErr};
+ghost use Rattle.bm_io.specs.HeldFiles.{bytes_of};
+ghost use Rattle.boot_model.specs.Boot.{Told};
+ghost use Rattle.bootmem_c.specs.Boots.{FailsAs, IsBoot};
+ghost use Rattle.bootmem_c.specs.Call.{asked, outcome_of, status_said};
+ghost use Rattle.bootmem_c.specs.Lent.{lent_files, lent_words};
+ghost use Rattle.bootmem_c.specs.Values.{AreTaken, area_value, block_values, map_values, parts_value};
+
+use crate::boots::boot_lent;
+use crate::crossing::{Bytes, File};
+use crate::values::{
+    CrashArea, FreeBlock, FreeBlocks, MapRun, MapRuns, block_values, fill, map_values,
+};
+use program_run::Failure;
+use std::alloc::Global;
+
+/// The runs of the map, ascending.
+#[unsafe(no_mangle)]
+pub extern "C" fn bootmem_map(
+    alloc: Global,
+    words: &[Bytes<'_>],
+    files: &[File<'_>],
+    out: &mut MapRuns<'_>,
+) -> u8
+    ensures status { (result ≡ status_said (outcome_of words.now files.now)) ⊎ (result ≡ 7) }
+    ensures runs { result ≡ 0 → (told : Told)
+        × IsBoot (asked (lent_words words.now)) (bytes_of (lent_files files.now)) told
+        × AreTaken (map_values told) out.old.room.now out.new.room.now out.new.count }
+    ensures none { result ≢ 0 → AreTaken [] out.old.room.now out.new.room.now out.new.count }
+{
+    match map_lent(alloc, words, files) {
+        Ok(runs) => {
+            out.count = fill(&runs, out.room);
+            0
+        }
+        Err(failure) => {
+            out.count = 0;
+            failure.status()
+        }
+    }
+}
+
+/// The crash area, with its low part.
+#[unsafe(no_mangle)]
+pub extern "C" fn bootmem_crash(
+    alloc: Global,
+    words: &[Bytes<'_>],
+    files: &[File<'_>],
+    out: &mut CrashArea,
+) -> u8
+    ensures status { (result ≡ status_said (outcome_of words.now files.now)) ⊎ (result ≡ 7) }
+    ensures area { result ≡ 0 → (told : Told)
+        × IsBoot (asked (lent_words words.now)) (bytes_of (lent_files files.now)) told
+        × (out.new ≡ area_value told.crash) }
+    ensures none { result ≢ 0 → out.new ≡ parts_value None None }
+{
+    match boot_lent(alloc, words, files) {
+        Ok(booted) => {
+            *out = CrashArea::of(&booted.crash);
+            0
+        }
+        Err(failure) => {
+            *out = CrashArea::none();
+            failure.status()
+        }
+    }
+}
+
+/// The free blocks at the handover, ascending by their first frames.
+#[unsafe(no_mangle)]
+pub extern "C" fn bootmem_blocks(
+    alloc: Global,
+    words: &[Bytes<'_>],
+    files: &[File<'_>],
+    out: &mut FreeBlocks<'_>,
+) -> u8
+    ensures status { (result ≡ status_said (outcome_of words.now files.now)) ⊎ (result ≡ 7) }
+    ensures blocks { result ≡ 0 → (told : Told)
+        × IsBoot (asked (lent_words words.now)) (bytes_of (lent_files files.now)) told
+        × AreTaken (block_values told) out.old.room.now out.new.room.now out.new.count }
+    ensures none { result ≢ 0 → AreTaken [] out.old.room.now out.new.room.now out.new.count }
+{
+    match blocks_lent(alloc, words, files) {
+        Ok(blocks) => {
+            out.count = fill(&blocks, out.room);
+            0
+        }
+        Err(failure) => {
+            out.count = 0;
+            failure.status()
+        }
+    }
+}
+
+/// The runs of the map of the boot that words and files determine.
+fn map_lent(alloc: Global, words: &[Bytes<'_>], files: &[File<'_>]) -> Result<Vec<MapRun>, Failure>
+    ensures runs { IfOk result (λ runs. (told : Told)
+        × IsBoot (asked (lent_words words.now)) (bytes_of (lent_files files.now)) told
+        × (runs.items ≡ map_values told)) }
+    ensures fails { IfErr result (λ failure. FailsAs failure (outcome_of words.now files.now)) }
+{
+    let booted = boot_lent(alloc, words, files)?;
+    Ok(map_values(alloc, &booted.map)?)
+}
+
+/// The free blocks of the boot that words and files determine.
+fn blocks_lent(
+    alloc: Global,
+    words: &[Bytes<'_>],
+    files: &[File<'_>],
+) -> Result<Vec<FreeBlock>, Failure>
+    ensures blocks { IfOk result (λ blocks. (told : Told)
+        × IsBoot (asked (lent_words words.now)) (bytes_of (lent_files files.now)) told
+        × (blocks.items ≡ block_values told)) }
+    ensures fails { IfErr result (λ failure. FailsAs failure (outcome_of words.now files.now)) }
+{
+    let booted = boot_lent(alloc, words, files)?;
+    let blocks = booted.buddy.blocks()?;
+    Ok(block_values(alloc, &blocks)?)
+}

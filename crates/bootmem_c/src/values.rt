@@ -1,0 +1,149 @@
+//! What crosses to C as values, as `include/bootmem.h` declares it: what a boot made, and room for it.
+
+ghost use Rattle.std.specs.Prelude.{◌≡◌, IfOk, None, map};
+ghost use Rattle.bootmem_c.specs.Values.{AreTaken, area_value, block_value, parts_value, run_value, zone_value};
+
+use bm_base::{Memory, Range, Zone};
+use buddy_handover::Block;
+use crash_kernel::Crash;
+use e820_model::Run;
+use std::alloc::Global;
+
+/// A run of the map.
+#[repr(C)]
+#[derive(Clone, Copy)]
+pub struct MapRun {
+    /// The first address, in bytes.
+    pub base: u64,
+    /// The number of bytes.
+    pub size: u64,
+    /// The type (`enum e820_type`).
+    pub kind: u32,
+}
+
+/// Room that the caller lends for runs of the map, and how many there are.
+#[repr(C)]
+#[derive(Drop)]
+pub struct MapRuns<'a> {
+    pub room: &'a mut [MapRun],
+    pub count: usize,
+}
+
+/// The crash area and its low part, in bytes. What there is none of has size 0.
+#[repr(C)]
+#[derive(Clone, Copy)]
+pub struct CrashArea {
+    pub base: u64,
+    pub size: u64,
+    pub low_base: u64,
+    pub low_size: u64,
+}
+
+/// A free block: `2^order` frames of a node and in a zone.
+#[repr(C)]
+#[derive(Clone, Copy)]
+pub struct FreeBlock {
+    /// The number of its first frame.
+    pub first: u64,
+    /// From 0 to 10.
+    pub order: u32,
+    pub node: u32,
+    /// The zone's number (`enum zone_type`).
+    pub zone: u32,
+}
+
+/// Room that the caller lends for free blocks, and how many there are.
+#[repr(C)]
+#[derive(Drop)]
+pub struct FreeBlocks<'a> {
+    pub room: &'a mut [FreeBlock],
+    pub count: usize,
+}
+
+impl MapRun {
+    fn of(run: &Run) -> MapRun
+        ensures { result ≡ run_value run.now }
+    {
+        MapRun {
+            base: run.range.base,
+            size: run.range.size,
+            kind: run.kind,
+        }
+    }
+}
+
+impl CrashArea {
+    /// No area.
+    pub fn none() -> CrashArea
+        ensures { result ≡ parts_value None None }
+    {
+        CrashArea {
+            base: 0,
+            size: 0,
+            low_base: 0,
+            low_size: 0,
+        }
+    }
+
+    pub fn of(crash: &Crash) -> CrashArea
+        ensures { result ≡ area_value crash.now }
+    {
+        let Crash::At { main, low } = crash else {
+            return CrashArea::none();
+        };
+        let low = low.unwrap_or(Range { base: 0, size: 0 });
+        CrashArea {
+            base: main.base,
+            size: main.size,
+            low_base: low.base,
+            low_size: low.size,
+        }
+    }
+}
+
+/// The number of the zone.
+fn zone_number(zone: Zone) -> u32
+    ensures { result ≡ zone_value zone }
+{
+    match zone {
+        Zone::Dma => 0,
+        Zone::Dma32 => 1,
+        Zone::Normal => 2,
+    }
+}
+
+impl FreeBlock {
+    fn of(block: &Block) -> FreeBlock
+        ensures { result ≡ block_value block.now }
+    {
+        FreeBlock {
+            first: block.first,
+            order: block.order,
+            node: block.node,
+            zone: zone_number(block.zone),
+        }
+    }
+}
+
+/// The runs as values.
+pub fn map_values(alloc: Global, runs: &[Run]) -> Result<Vec<MapRun>, Memory>
+    ensures { IfOk result (λ values. values.items ≡ map run_value runs.now) }
+{
+    Ok(runs.iter().map(MapRun::of).collect(alloc)?)
+}
+
+/// The blocks as values.
+pub fn block_values(alloc: Global, blocks: &[Block]) -> Result<Vec<FreeBlock>, Memory>
+    ensures { IfOk result (λ values. values.items ≡ map block_value blocks.now) }
+{
+    Ok(blocks.iter().map(FreeBlock::of).collect(alloc)?)
+}
+
+/// Puts as many of the values at the front of the room as it has places for, and answers how many there are. What lies behind them stays.
+pub fn fill<T: Copy>(values: &[T], room: &mut [T]) -> usize
+    ensures { AreTaken values.now room.old room.new result }
+{
+    let taken = values.len().min(room.len());
+    room[..taken].copy_from_slice(&values[..taken]);
+    values.len()
+}
