@@ -1,14 +1,16 @@
 /* bootmem.h: the boot-time memory set-up of x86-64 Linux 6.1, proved, as a library.
  *
  * The library is the program bootmem (bootmem.1, bootmem.5) as one call over bytes: no file is opened, nothing is printed, no
- * process is started. What it answers is proved of the same text as the program's; its clauses are those of crates/bootmem_c/src/run.rt.
+ * process is started. bootmem_run hands over the program's reports, as text; bootmem_map, bootmem_crash and bootmem_blocks hand over what the
+ * boot made, as values. What they answer is proved of the same text as the program's; their clauses are those of crates/bootmem_c/src, run.rt
+ * and told.rt.
  *
  * Units. Addresses, sizes and lengths are in bytes, frames are 4096 bytes, numbers have the byte order of the machine.
  *
  * Ownership. Whatever a pointer names belongs to the caller, before, during and after a call. The library keeps no pointer. It takes
  * memory by malloc, realloc and free, and has given all of it back when it returns.
  *
- * What a caller owes. `at` points to `len` bytes, or to `room` bytes that may be written, and an array has as many elements as is said. No
+ * What a caller owes. `at` points to `len` bytes, or to `room` bytes or values that may be written, and an array has as many elements as is said. No
  * pointer is NULL, also where the length is 0. What is written overlaps nothing else that the call is given, and no other thread writes to
  * any of it, or reads what is written, during the call. malloc, realloc and free are one allocator, aligned as C asks. No call is made from a
  * signal handler, nor in the child of a fork of a process with threads.
@@ -17,18 +19,16 @@
  *
  * Example: does this E820 table boot, and where does the crash area go?
  *
- *	static const char *const text[] = {"--report", "crash", "--cmdline", "cmdline", "zp.bin"};
- *	struct bootmem_bytes words[5];
- *	for (int i = 0; i < 5; i++)
+ *	static const char *const text[] = {"--cmdline", "cmdline", "zp.bin"};
+ *	struct bootmem_bytes words[3];
+ *	for (int i = 0; i < 3; i++)
  *		words[i] = bootmem_word(text[i]);
  *	struct bootmem_file files[] = {
  *		{bootmem_word("zp.bin"), {zero_page, 4096}},
  *		{bootmem_word("cmdline"), bootmem_word("crashkernel=256M")},
  *	};
- *	uint8_t line[80];
- *	char err[200];
- *	struct bootmem_text out = {line, sizeof line, 0}, why = {(uint8_t *)err, sizeof err, 0};
- *	int status = bootmem_run(words, 5, files, 2, &out, &why);
+ *	struct bootmem_crash_area area;
+ *	int status = bootmem_crash(words, 3, files, 2, &area);
  */
 #ifndef BOOTMEM_H
 #define BOOTMEM_H
@@ -41,7 +41,7 @@ extern "C" {
 #endif
 
 /* What a call answers: the program's exit statuses. 4, an output that fails, never comes. */
-#define BOOTMEM_OK 0      /* the reports are in `out` */
+#define BOOTMEM_OK 0      /* the reports, or the values, are in `out` */
 #define BOOTMEM_USAGE 2   /* the words aren't those of bootmem.1, or one isn't UTF-8 */
 #define BOOTMEM_UNREAD 3  /* a file that the words name isn't among `files` */
 #define BOOTMEM_FAULTY 5  /* a file is malformed or too long */
@@ -68,6 +68,49 @@ struct bootmem_text {
 	size_t needed;
 };
 
+/* A run of the map: where it lies, in bytes, and its type (`enum e820_type`: 1 is usable memory). */
+struct bootmem_map_run {
+	uint64_t base;
+	uint64_t size;
+	uint32_t type;
+};
+
+/* Room for runs of the map, and how many there are, which the call writes. As many of them as `room` stand at `at`, the first ones, and what lies
+ * behind them is as it was. Where `count` is more than `room`, the same call with more room gives all. */
+struct bootmem_map_runs {
+	struct bootmem_map_run *at;
+	size_t room;
+	size_t count;
+};
+
+/* The crash area, and the part of it below 4 GiB: base and size in bytes, both 0 where there is none. */
+struct bootmem_crash_area {
+	uint64_t base;
+	uint64_t size;
+	uint64_t low_base;
+	uint64_t low_size;
+};
+
+/* The zones of a block (`enum zone_type`): below 16 MiB, from there to 4 GiB, and behind that. */
+#define BOOTMEM_ZONE_DMA 0
+#define BOOTMEM_ZONE_DMA32 1
+#define BOOTMEM_ZONE_NORMAL 2
+
+/* A free block: 2^order frames from `first` on, which is the number of a frame, so the block's first address is 4096 * first. */
+struct bootmem_free_block {
+	uint64_t first;
+	uint32_t order; /* 0 to 10 */
+	uint32_t node;
+	uint32_t zone;
+};
+
+/* Room for free blocks, as for runs of the map. */
+struct bootmem_free_blocks {
+	struct bootmem_free_block *at;
+	size_t room;
+	size_t count;
+};
+
 /* The program. `words` are those after its name, in their order. Answers the status: that of the one outcome that words and files determine,
  * or BOOTMEM_MEMORY.
  *
@@ -78,6 +121,22 @@ struct bootmem_text {
  * Whether a text fits changes no status, so look at `needed` too. */
 uint8_t bootmem_run(const struct bootmem_bytes *words, size_t words_len, const struct bootmem_file *files, size_t files_len,
 	struct bootmem_text *out, struct bootmem_text *err);
+
+/* What the boot makes, as values. Words and files are those of bootmem_run, and so is the status, which is that of the one outcome that they determine,
+ * or BOOTMEM_MEMORY; what `--report` names changes nothing else. No line says what is wrong: bootmem_run has it.
+ *
+ * BOOTMEM_OK: `out` has the values of the one boot that words and files determine, of which docs/HEADLINE.md holds. Any other: it has none, so
+ * `count` is 0, and of the crash area each number is.
+ *
+ * bootmem_map: the runs of the map that the kernel works with, ascending.
+ * bootmem_crash: the crash area.
+ * bootmem_blocks: the free blocks at the handover, ascending. */
+uint8_t bootmem_map(const struct bootmem_bytes *words, size_t words_len, const struct bootmem_file *files, size_t files_len,
+	struct bootmem_map_runs *out);
+uint8_t bootmem_crash(const struct bootmem_bytes *words, size_t words_len, const struct bootmem_file *files, size_t files_len,
+	struct bootmem_crash_area *out);
+uint8_t bootmem_blocks(const struct bootmem_bytes *words, size_t words_len, const struct bootmem_file *files, size_t files_len,
+	struct bootmem_free_blocks *out);
 
 /* The version of the library: major * 1000000 + minor * 1000 + patch. */
 uint32_t bootmem_version(void);

@@ -1,10 +1,19 @@
-/* by_library WORD..: the program bootmem over the library: each word that names a file is read and lent under its name, the reports go to
- * standard output, the line to standard error, and the status is the call's. Room is given in two calls: none, and as much as was needed. */
+/* by_library [--values NAME] WORD..: the program bootmem over the library: each word that names a file is read and lent under its name, the
+ * reports go to standard output, the line to standard error, and the status is the call's. Room is given in two calls: none, and as much as
+ * was needed. With --values the report NAME (map, crash, blocks) is printed of the values that the library hands over, in the form of the
+ * program's, but 'crash none' for each reason of there being no area, and no line; a call with half of the room gives the first half. */
 #include <bootmem.h>
+#include <inttypes.h>
 #include <stdio.h>
 #include <stdlib.h>
+#include <string.h>
 
 #define MOST 32
+#define UNTOUCHED 0xa5
+
+static struct bootmem_bytes words[MOST];
+static struct bootmem_file files[MOST];
+static size_t words_len, files_len;
 
 /* The bytes of a file, or none where it can't be read. */
 static struct bootmem_bytes read_file(const char *name)
@@ -22,35 +31,152 @@ static struct bootmem_bytes read_file(const char *name)
 	return held;
 }
 
-int main(int argc, char **argv)
+static void lend(char **text, int count)
 {
-	static struct bootmem_bytes words[MOST];
-	static struct bootmem_file files[MOST];
-	static uint8_t none[1];
-	struct bootmem_text out = {none, 0, 0}, err = {none, 0, 0};
-	size_t count = 0;
-	int first, status;
+	for (int i = 0; i < count; i++) {
+		struct bootmem_bytes held = read_file(text[i]);
 
-	if (argc > MOST)
-		return 1;
-	for (int i = 1; i < argc; i++) {
-		struct bootmem_bytes held = read_file(argv[i]);
-
-		words[i - 1] = bootmem_word(argv[i]);
+		words[words_len++] = bootmem_word(text[i]);
 		if (held.at) {
-			files[count].name = words[i - 1];
-			files[count++].bytes = held;
+			files[files_len].name = bootmem_word(text[i]);
+			files[files_len++].bytes = held;
 		}
 	}
-	first = bootmem_run(words, argc - 1, files, count, &out, &err);
+}
+
+static int put_reports(void)
+{
+	static uint8_t none[1];
+	struct bootmem_text out = {none, 0, 0}, err = {none, 0, 0};
+	int first, status;
+
+	first = bootmem_run(words, words_len, files, files_len, &out, &err);
 	out = (struct bootmem_text){calloc(1, out.needed + 1), out.needed, 0};
 	err = (struct bootmem_text){calloc(1, err.needed + 1), err.needed, 0};
 	if (!out.at || !err.at)
 		return BOOTMEM_MEMORY;
-	status = bootmem_run(words, argc - 1, files, count, &out, &err);
+	status = bootmem_run(words, words_len, files, files_len, &out, &err);
 	if (status != first || out.needed != out.room || err.needed != err.room)
 		return 1;
 	fwrite(out.at, 1, out.needed, stdout);
 	fwrite(err.at, 1, err.needed, stderr);
 	return status;
+}
+
+/* Whether the bytes from `at` on, up to `end`, are as they were. */
+static int is_untouched(const void *at, const void *end)
+{
+	for (const uint8_t *byte = at; byte < (const uint8_t *)end; byte++)
+		if (*byte != UNTOUCHED)
+			return 0;
+	return 1;
+}
+
+static void put_range(uint64_t base, uint64_t size)
+{
+	printf("0x%016" PRIx64 "..0x%016" PRIx64, base, base + size - 1);
+}
+
+static void put_run(const struct bootmem_map_run *run)
+{
+	static const char *const names[] = {[1] = "usable", "reserved", "ACPI data", "ACPI NVS", "unusable", [7] = "persistent", [12] = "persistent legacy"};
+	const char *name = run->type < sizeof names / sizeof *names ? names[run->type] : NULL;
+
+	if (run->type == 128)
+		name = "usable kernel";
+	if (run->type == 0xefffffff)
+		name = "soft reserved";
+	put_range(run->base, run->size);
+	printf(" %" PRIu32 " %s\n", run->type, name ? name : "other");
+}
+
+static void put_block(const struct bootmem_free_block *block)
+{
+	static const char *const names[] = {[BOOTMEM_ZONE_DMA] = "DMA", [BOOTMEM_ZONE_DMA32] = "DMA32", [BOOTMEM_ZONE_NORMAL] = "Normal"};
+
+	printf("node %" PRIu32 " zone %s order %" PRIu32 " 0x%016" PRIx64 "\n", block->node, names[block->zone], block->order, 4096 * block->first);
+}
+
+static int put_map(void)
+{
+	struct bootmem_map_run none[1];
+	struct bootmem_map_runs out = {none, 0, 7};
+	int first = bootmem_map(words, words_len, files, files_len, &out), status;
+	size_t count = out.count, half = count / 2;
+	struct bootmem_map_run *part = malloc((count + 1) * sizeof *part), *all = malloc((count + 1) * sizeof *all);
+
+	if (!part || !all)
+		return BOOTMEM_MEMORY;
+	memset(part, UNTOUCHED, (count + 1) * sizeof *part);
+	out = (struct bootmem_map_runs){part, half, 7};
+	if (bootmem_map(words, words_len, files, files_len, &out) != first || out.count != count || !is_untouched(part + half, part + count + 1))
+		return 1;
+	out = (struct bootmem_map_runs){all, count, 7};
+	status = bootmem_map(words, words_len, files, files_len, &out);
+	if (status != first || out.count != count)
+		return 1;
+	for (size_t i = 0; i < count; i++)
+		put_run(i < half ? part + i : all + i);
+	return status;
+}
+
+static int put_blocks(void)
+{
+	struct bootmem_free_block none[1];
+	struct bootmem_free_blocks out = {none, 0, 7};
+	int first = bootmem_blocks(words, words_len, files, files_len, &out), status;
+	size_t count = out.count, half = count / 2;
+	struct bootmem_free_block *part = malloc((count + 1) * sizeof *part), *all = malloc((count + 1) * sizeof *all);
+
+	if (!part || !all)
+		return BOOTMEM_MEMORY;
+	memset(part, UNTOUCHED, (count + 1) * sizeof *part);
+	out = (struct bootmem_free_blocks){part, half, 7};
+	if (bootmem_blocks(words, words_len, files, files_len, &out) != first || out.count != count || !is_untouched(part + half, part + count + 1))
+		return 1;
+	out = (struct bootmem_free_blocks){all, count, 7};
+	status = bootmem_blocks(words, words_len, files, files_len, &out);
+	if (status != first || out.count != count)
+		return 1;
+	for (size_t i = 0; i < count; i++)
+		put_block(i < half ? part + i : all + i);
+	return status;
+}
+
+static int put_crash(void)
+{
+	struct bootmem_crash_area area = {7, 7, 7, 7};
+	int status = bootmem_crash(words, words_len, files, files_len, &area);
+
+	if (status && (area.base || area.size || area.low_base || area.low_size))
+		return 1;
+	if (!status && !area.size)
+		puts("crash none");
+	if (area.size) {
+		fputs("crash at ", stdout);
+		put_range(area.base, area.size);
+		puts("");
+	}
+	if (area.low_size) {
+		fputs("crash low ", stdout);
+		put_range(area.low_base, area.low_size);
+		puts("");
+	}
+	return status;
+}
+
+int main(int argc, char **argv)
+{
+	int values = argc > 2 && !strcmp(argv[1], "--values"), front = values ? 3 : 1;
+
+	if (argc - front > MOST)
+		return 1;
+	lend(argv + front, argc - front);
+	if (!values)
+		return put_reports();
+	if (!strcmp(argv[2], "map"))
+		return put_map();
+	if (!strcmp(argv[2], "crash"))
+		return put_crash();
+	return strcmp(argv[2], "blocks") ? 1 : put_blocks();
 }

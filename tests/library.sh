@@ -1,7 +1,8 @@
 #!/bin/sh
 # library.sh [PROGRAM]: the library against the program, and from C, Rust and Python. Every report of every machine of examples/ through the
-# library is the very bytes of the program, with its status and its line; then the example in C, 'cargo test' and the unit tests of
-# Python. What lacks its tool is left out, with a line. Prints 'N passed, M failed' at its end.
+# library is the very bytes of the program, with its status and its line, and its map, its crash area and its blocks as values are what the
+# program's text says; then the example in C, 'cargo test' and the unit tests of Python. What lacks its tool is left out, with a line. Prints
+# 'N passed, M failed' at its end.
 . "$(dirname "$0")/counted.sh"
 program=$(built "${1:-$top/bootmem}") || exit 2
 cd "$top" || exit 1
@@ -15,6 +16,17 @@ has() {
 	command -v "$1" >/dev/null 2>&1 && return
 	echo "library.sh: no $1: left out $2"
 	return 1
+}
+
+# values FOLDER NAME WORD..: what the library hands over as values is what the program's report NAME says, with its status
+values() {
+	folder=$1
+	report=$2
+	shift 2
+	(cd "$folder" && "$program" --report "$report" "$@" 2>/dev/null; echo "status $?") |
+		sed -E 's/^crash (no area|in use|low failed)$/crash none/' >"$work/out"
+	(cd "$folder" && "$work/by_library" --values "$report" "$@"; echo "status $?") >"$work/got"
+	ok "$folder: the values of $report, of $*" cmp "$work/got" "$work/out"
 }
 
 # of the names in the archive the exports alone are seen, and they are those of the header
@@ -37,6 +49,10 @@ if has "${CC:-cc}" "the program's bytes and the example in C"; then
 			ok "$folder: $report" cmp "$work/got" "$work/out"
 			ok "$folder: $report: the line" cmp "$work/why" "$work/err"
 		done
+		for report in map crash blocks; do
+			# shellcheck disable=SC2086
+			values "$folder" "$report" $words
+		done
 	done
 	for words in --none "" zp.bin "--report map" "--make 3" "--report none zp.bin" "--make 3 --srat README.md"; do
 		# shellcheck disable=SC2086
@@ -46,8 +62,15 @@ if has "${CC:-cc}" "the program's bytes and the example in C"; then
 		ok "words '$words'" cmp "$work/got" "$work/out"
 		ok "words '$words': the line" cmp "$work/why" "$work/err"
 	done
+	for report in map crash blocks; do
+		values examples "$report" --none
+		values examples "$report" zp.bin
+		values examples "$report" README.md
+		values examples/first "$report" --srat zp.bin zp.bin
+		values examples/first "$report" --kernel 0x1000000,0x3400000 --la57 zp.bin
+	done
 	ok "check_table.c" $cc bindings/c/check_table.c libbootmem.a -o "$work/check_table"
-	is "check_table" "$("$work/check_table" examples/first/zp.bin crashkernel=32M 2>&1 | sed -n '$s/ 0x.*//p')" "crash at"
+	is "check_table" "$("$work/check_table" examples/first/zp.bin crashkernel=32M 2>&1 | tail -n 1)" "crash area of 33554432 bytes at 0x5000000"
 	is "check_table of a bad line" "$("$work/check_table" examples/first/zp.bin mem=x 2>&1)" "bootmem: cmdline: word 1: mem"
 fi
 if has cargo "the tests in Rust"; then

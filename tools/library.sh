@@ -9,7 +9,7 @@ version=$1
 top=$(cd "$(dirname "$0")/.." && pwd)
 crate=$top/crates/bootmem_c
 log=$crate/out/build.log
-exports="bootmem_run bootmem_version"
+exports="bootmem_run bootmem_map bootmem_crash bootmem_blocks bootmem_version"
 
 "$top/tools/toolchain.sh"
 mkdir -p "$crate/out"

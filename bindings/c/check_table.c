@@ -3,20 +3,36 @@
  *
  *	cc check_table.c $(pkg-config --cflags --libs bootmem) -o check_table */
 #include <bootmem.h>
+#include <inttypes.h>
 #include <stdio.h>
 #include <stdlib.h>
-#include <string.h>
+
+/* The most runs that the kernel's map has (E820_MAX_ENTRIES). */
+#define MOST 3200
 
 static uint8_t page[4097];
-static char err[4096];
+static struct bootmem_map_run runs[MOST];
+
+/* Prints the line of a failure. */
+static void tell(const struct bootmem_bytes *words, const struct bootmem_file *files)
+{
+	static uint8_t line[4096], none[1];
+	struct bootmem_text out = {none, 0, 0}, err = {line, sizeof line, 0};
+
+	bootmem_run(words, 3, files, 2, &out, &err);
+	if (err.needed <= err.room)
+		fwrite(line, 1, err.needed, stderr);
+}
 
 int main(int argc, char **argv)
 {
-	static const char *const text[] = {"--report", "map,crash", "--cmdline", "cmdline", "zeropage"};
+	const struct bootmem_bytes words[] = {bootmem_word("--cmdline"), bootmem_word("cmdline"), bootmem_word("zeropage")};
 	const char *line = argc > 2 ? argv[2] : "";
-	struct bootmem_bytes words[5];
+	struct bootmem_map_runs map = {runs, MOST, 0};
+	struct bootmem_crash_area crash;
 	FILE *file = argc > 1 ? fopen(argv[1], "rb") : NULL;
-	size_t length, room = 1 << 12;
+	size_t length;
+	int status;
 
 	if (!file) {
 		fprintf(stderr, "usage: check_table ZEROPAGE [CMDLINE]\n");
@@ -24,29 +40,23 @@ int main(int argc, char **argv)
 	}
 	length = fread(page, 1, sizeof page, file);
 	fclose(file);
-	for (int i = 0; i < 5; i++)
-		words[i] = bootmem_word(text[i]);
-	struct bootmem_file files[] = {
+	const struct bootmem_file files[] = {
 		{bootmem_word("zeropage"), {page, length}},
 		{bootmem_word("cmdline"), bootmem_word(line)},
 	};
-	for (;;) {
-		uint8_t *report = malloc(room);
-		struct bootmem_text out = {report, room, 0}, why = {(uint8_t *)err, sizeof err, 0};
-		int status;
 
-		if (!report)
-			return BOOTMEM_MEMORY;
-		status = bootmem_run(words, 5, files, 2, &out, &why);
-		if (out.needed > out.room) {
-			room = out.needed;
-			free(report);
-			continue;
-		}
-		fwrite(report, 1, out.needed, stdout);
-		if (why.needed <= why.room)
-			fwrite(err, 1, why.needed, stderr);
-		free(report);
+	status = bootmem_map(words, 3, files, 2, &map);
+	if (status == BOOTMEM_OK)
+		status = bootmem_crash(words, 3, files, 2, &crash);
+	if (status != BOOTMEM_OK) {
+		tell(words, files);
 		return status;
 	}
+	for (size_t i = 0; i < map.count; i++)
+		printf("%" PRIu64 " bytes of type %" PRIu32 " at 0x%" PRIx64 "\n", runs[i].size, runs[i].type, runs[i].base);
+	if (crash.size)
+		printf("crash area of %" PRIu64 " bytes at 0x%" PRIx64 "\n", crash.size, crash.base);
+	else
+		printf("no crash area\n");
+	return 0;
 }

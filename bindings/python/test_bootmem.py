@@ -22,6 +22,32 @@ class Calls(unittest.TestCase):
         out = bootmem.run(["--report", "map", "zp.bin"], {"zp.bin": PAGE})
         self.assertEqual([line for line in out.splitlines() if b"usable" in line], MAP.splitlines())
 
+    def test_values(self):
+        runs = bootmem.map_runs(["zp.bin"], {"zp.bin": PAGE})
+        self.assertEqual(
+            [run for run in runs if run.type == bootmem.RAM],
+            [(0x1000, 0x9EC00, bootmem.RAM), (0x100000, 0x3FF00000, bootmem.RAM)],
+        )
+        files = {"zp.bin": PAGE, "line": b"crashkernel=64M"}
+        self.assertEqual(bootmem.crash_area(["zp.bin"], files), (0, 0, 0, 0))
+        self.assertEqual(bootmem.crash_area(["--cmdline", "line", "zp.bin"], files).size, 64 << 20)
+        for block in bootmem.free_blocks(["zp.bin"], {"zp.bin": PAGE}):
+            base, size = 4096 * block.first, 4096 << block.order
+            self.assertTrue(any(run.base <= base and base + size <= run.base + run.size for run in runs if run.type == bootmem.RAM))
+            self.assertEqual(block.zone == bootmem.DMA, base < 16 << 20)
+
+    def test_values_with_little_room(self):
+        page = example("q35-1g", "zp.bin")
+        for values in bootmem.map_runs, bootmem.free_blocks:
+            with self.subTest(values=values):
+                self.assertEqual(values(["zp.bin"], {"zp.bin": page}, room=0), values(["zp.bin"], {"zp.bin": page}))
+
+    def test_values_of_a_refusal(self):
+        for values in bootmem.map_runs, bootmem.crash_area, bootmem.free_blocks:
+            with self.subTest(values=values), self.assertRaises(bootmem.Refused) as refused:
+                values(["zp.bin"], {"zp.bin": NO_RAM})
+            self.assertEqual((refused.exception.reason, str(refused.exception)), ("stopped", "bootmem: stopped: no usable frame"))
+
     def test_a_real_machine(self):
         page = example("first", "zp.bin")
         self.assertEqual(bootmem.run(["--report", "map", "zp.bin"], {"zp.bin": page}), example("first", "map.txt"))

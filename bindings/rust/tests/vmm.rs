@@ -1,7 +1,7 @@
 //! What a VMM's author asks of the table that their builder makes. `e820_table` builds it as `linux-loader`'s users do: RAM up to the EBDA, RAM
 //! from 1 MiB on up to the hole below 4 GiB, and what is left above 4 GiB.
 
-use bootmem::{run, zero_page, Boot, Range, Reason, E820_RAM, E820_RESERVED};
+use bootmem::{run, zero_page, Boot, Range, Reason, Zone, E820_RAM, E820_RESERVED};
 
 const EBDA_START: u64 = 0x9_fc00;
 const HIMEM_START: u64 = 0x10_0000;
@@ -79,13 +79,49 @@ fn free_blocks_lie_in_usable_memory() {
     let blocks = boot.blocks().unwrap();
     assert!(!blocks.is_empty());
     for block in blocks {
-        let last = block.base + (4096 << block.order) - 1;
+        assert_eq!(block.range.size(), 4096 << block.order);
+        assert_eq!(block.zone == Zone::Dma, block.range.last < 16 << 20);
         assert!(
             ranges
                 .iter()
-                .any(|range| range.first <= block.base && last <= range.last),
+                .any(|range| range.first <= block.range.first && block.range.last <= range.last),
             "{block:?}"
         );
+    }
+}
+
+#[test]
+fn values_are_those_of_the_reports() {
+    let boot = Boot::new(&zero_page(&e820_table(6 << 30)))
+        .cmdline("crashkernel=256M,high")
+        .kernel(0x100_0000, 0x340_0000);
+    let text = boot.report("map,crash,blocks").unwrap();
+    for run in boot.map().unwrap() {
+        let Range { first, last } = run.range;
+        assert!(text.contains(&format!("{first:#018x}..{last:#018x} {} ", run.kind)));
+    }
+    let crash = boot.crash().unwrap();
+    for (front, range) in [("at", crash.high), ("low", crash.low)] {
+        let Range { first, last } = range.unwrap();
+        assert!(text.contains(&format!("crash {front} {first:#018x}..{last:#018x}\n")));
+    }
+    let blocks = boot.blocks().unwrap();
+    assert_eq!(
+        text.lines()
+            .filter(|line| line.starts_with("node "))
+            .count(),
+        blocks.len()
+    );
+    for block in blocks {
+        let zone = match block.zone {
+            Zone::Dma => "DMA",
+            Zone::Dma32 => "DMA32",
+            Zone::Normal => "Normal",
+        };
+        let (node, order, first) = (block.node, block.order, block.range.first);
+        assert!(text.contains(&format!(
+            "node {node} zone {zone} order {order} {first:#018x}\n"
+        )));
     }
 }
 

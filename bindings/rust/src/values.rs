@@ -1,9 +1,14 @@
-//! The reports as values, and zero pages.
+//! What a boot makes, as values, and zero pages.
+
+use crate::ffi;
 
 /// Usable memory, in an E820 table.
 pub const E820_RAM: u32 = 1;
 /// Reserved addresses, in an E820 table.
 pub const E820_RESERVED: u32 = 2;
+
+/// The bytes of a frame.
+const FRAME_SIZE: u64 = 4096;
 
 /// A range of addresses, in bytes: the last address belongs to it.
 #[derive(Clone, Copy, Debug, PartialEq, Eq)]
@@ -17,16 +22,22 @@ impl Range {
     pub fn size(&self) -> u64 {
         self.last - self.first + 1
     }
+
+    /// The range, where it has a byte.
+    fn of(base: u64, size: u64) -> Option<Range> {
+        Some(Range {
+            first: base,
+            last: base + size.checked_sub(1)?,
+        })
+    }
 }
 
 /// A run of the map.
-#[derive(Clone, Debug, PartialEq, Eq)]
+#[derive(Clone, Copy, Debug, PartialEq, Eq)]
 pub struct Run {
     pub range: Range,
     /// Its E820 type.
     pub kind: u32,
-    /// The type's name.
-    pub name: String,
 }
 
 /// What came of the crash area: where it lies, and its low part.
@@ -36,62 +47,51 @@ pub struct Crash {
     pub low: Option<Range>,
 }
 
-/// A free block: 2^order frames from an address on.
-#[derive(Clone, Debug, PartialEq, Eq)]
+/// The zone of a frame.
+#[derive(Clone, Copy, Debug, PartialEq, Eq)]
+pub enum Zone {
+    /// Below 16 MiB.
+    Dma,
+    /// From there to 4 GiB.
+    Dma32,
+    /// From 4 GiB on.
+    Normal,
+}
+
+/// A free block: 2^order frames of 4,096 bytes.
+#[derive(Clone, Copy, Debug, PartialEq, Eq)]
 pub struct Block {
     pub node: u32,
-    pub zone: String,
+    pub zone: Zone,
     pub order: u32,
-    pub base: u64,
+    /// Its addresses.
+    pub range: Range,
 }
 
-fn hex(text: &str) -> Option<u64> {
-    u64::from_str_radix(text.strip_prefix("0x")?, 16).ok()
-}
-
-fn range(text: &str) -> Option<Range> {
-    let (first, last) = text.split_once("..")?;
-    Some(Range {
-        first: hex(first)?,
-        last: hex(last)?,
-    })
-}
-
-/// A line of the report `map`: `FIRST..LAST TYPE NAME`.
-pub(crate) fn run(line: &str) -> Option<Run> {
-    let mut words = line.splitn(3, ' ');
-    let range = range(words.next()?)?;
-    let kind = words.next()?.parse().ok()?;
+pub(crate) fn run(run: &ffi::MapRun) -> Option<Run> {
     Some(Run {
-        range,
-        kind,
-        name: words.next()?.to_string(),
+        range: Range::of(run.base, run.size)?,
+        kind: run.kind,
     })
 }
 
-/// The report `crash`: `crash at FIRST..LAST`, `crash low FIRST..LAST`.
-pub(crate) fn crash(text: &str) -> Crash {
-    let found = |front: &str| {
-        text.lines()
-            .find_map(|line| range(line.strip_prefix(front)?))
-    };
+pub(crate) fn crash(area: &ffi::CrashArea) -> Crash {
     Crash {
-        high: found("crash at "),
-        low: found("crash low "),
+        high: Range::of(area.base, area.size),
+        low: Range::of(area.low_base, area.low_size),
     }
 }
 
-/// A line of the report `blocks`: `node N zone NAME order K BASE`.
-pub(crate) fn block(line: &str) -> Option<Block> {
-    let words: Vec<&str> = line.split(' ').collect();
-    let ["node", node, "zone", zone, "order", order, base] = words[..] else {
-        return None;
-    };
+pub(crate) fn block(block: &ffi::FreeBlock) -> Option<Block> {
     Some(Block {
-        node: node.parse().ok()?,
-        zone: zone.to_string(),
-        order: order.parse().ok()?,
-        base: hex(base)?,
+        node: block.node,
+        zone: match block.zone {
+            0 => Zone::Dma,
+            1 => Zone::Dma32,
+            _ => Zone::Normal,
+        },
+        order: block.order,
+        range: Range::of(FRAME_SIZE * block.first, FRAME_SIZE << block.order)?,
     })
 }
 
