@@ -1,5 +1,5 @@
 -- A frame that is asked for and given back, and small page scripts: what the definitions say of them.
-use Rattle.std.proofs.Common.{◌≡◌, ℕ, ◌/◌, ◌^◌, ◌-◌, nat_le, nat_lt, true, false, ◌&&◌, Some, None, List, [], ◌∷◌, Ok, Err, codes, if◌then◌else◌, refl, sym, ◌∙◌, ap, subst, inl, inr, arith}
+use Rattle.std.proofs.Common.{◌≡◌, ℕ, ◌/◌, ◌^◌, ◌-◌, nat_le, nat_lt, false, ◌&&◌, Some, None, List, [], ◌∷◌, Ok, Err, codes, if◌then◌else◌, refl, sym, ◌∙◌, ap, subst, inl, inr, arith}
 use Rattle.std.proofs.lemmas.Bool.Decides.{nat_tests}
 use Rattle.std.proofs.Math.Nat.{div-one}
 use Rattle.std.proofs.lemmas.Bool.{cases_Bool}

@@ -1,5 +1,5 @@
 -- Lines read one after another come to what the definition says of all of them.
-use Rattle.std.proofs.Common.{◌≡◌, ℕ, ◌+◌, List, [], ◌∷◌, ◌++◌, Option, Some, None, option_to_list, Ok, refl}
+use Rattle.std.proofs.Common.{◌≡◌, ℕ, ◌+◌, List, [], ◌∷◌, ◌++◌, Option, Some, None, option_to_list, Ok}
 use Rattle.std.specs.Prelude.{IfSome}
 use Rattle.script_reader.proofs.ScriptLaws.{behind, with_others}
 use Rattle.page_alloc.specs.declared.act.PageAct.{PageAct}

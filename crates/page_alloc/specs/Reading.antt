@@ -1,5 +1,5 @@
 -- A page script as a whole: its lines, or the fault of the lowest line that has one.
-use Rattle.std.specs.Prelude.{ℕ, ◌+◌, List, [], ◌∷◌, Option, Some, None, Result, Ok}
+use Rattle.std.specs.Prelude.{ℕ, ◌+◌, List, [], ◌∷◌, Option, Result, Ok}
 use Rattle.std.specs.Option.{option_map}
 use Rattle.std.specs.List.{cons_option}
 use Rattle.bm_base.specs.ResultSteps.{◌>>=◌, with_error}

@@ -3,10 +3,10 @@
 //! Memory is taken here alone, for the lines. Where it runs out the script is still read on without
 //! them, so that a fault is told wherever it stands.
 
-ghost use Rattle.std.specs.Prelude.{◌≡◌, ◌<◌, ◌^◌, [], ◌++◌, length, Err, IfOk, IsErr, IsSome, IfSome, IsOkAnd, ◌⊎◌};
+ghost use Rattle.std.specs.Prelude.{◌≡◌, ◌<◌, ◌^◌, length, Err, IfOk, IfSome, IsOkAnd};
 ghost use Rattle.bm_base.specs.Answers.{Answers};
 ghost use Rattle.script_reader.specs.Numbers.{IsOfWords};
-ghost use Rattle.page_alloc.specs.Pages.{HasOrder, HaveOrders};
+ghost use Rattle.page_alloc.specs.Pages.{HaveOrders};
 ghost use Rattle.page_alloc.specs.Reading.{fault_at as line_fault, line_at as line_of, pages_of};
 
 use crate::act::{PageAct, PageLine};
