@@ -6,7 +6,7 @@ use Rattle.growth_model.specs.Bytes.{Filled, Follows, Holds}
 use Rattle.growth_model.proofs.FillLaws.{holds-call}
 use Rattle.memblock_grow.specs.Contents.{Contents}
 use Rattle.memblock_grow.specs.Kept.{StayReady}
-use Rattle.stage_calls.specs.Lent.{GoesOn}
+use Rattle.stage_model.specs.Lent.{GoesOn}
 use Rattle.boot_stages.specs.Boots.{HoldsWith}
 
 pub holds-on : (fills : List Filled) (old new : Contents) → new.kernel ≡ old.kernel

@@ -5,7 +5,7 @@ use Rattle.memblock_model.specs.Items.{memory_of}
 use Rattle.growth_model.specs.Bytes.{Filled, Holds}
 use Rattle.memblock_grow.specs.Contents.{Contents}
 use Rattle.stage_model.specs.Noded.{IsNoded}
-use Rattle.stage_calls.specs.Lent.{GoesOn}
+use Rattle.stage_model.specs.Lent.{GoesOn}
 use Rattle.script_reader.specs.declared.act.Line.{Line}
 use Rattle.early_script.specs.declared.outcome.Answer.{Answer}
 use Rattle.early_script.specs.Found.{bytes_in}

@@ -9,7 +9,7 @@ ghost use Rattle.memblock_grow.specs.Kept.{StayReady};
 ghost use Rattle.stage_model.specs.declared.stop.StageStop.TheVariants as stage;
 ghost use Rattle.stage_model.specs.Doing.{EndsAs, IsCutShort, ok_as};
 ghost use Rattle.stage_model.specs.Noded.{IsNoded};
-ghost use Rattle.stage_calls.specs.Lent.{GoesOn};
+ghost use Rattle.stage_model.specs.Lent.{GoesOn};
 ghost use Rattle.script_reader.specs.Forms.{HasBounds};
 ghost use Rattle.early_script.specs.Stage.{PlaceOnce};
 ghost use Rattle.numa_nodes.specs.Assigned.{nodes_view};
@@ -30,8 +30,7 @@ use memblock_grow::Memblock;
 use numa_nodes::{Nodes, assign};
 use section_maps::{Placed, place_maps};
 use sparse_sections::{Roots, place_roots, present};
-use stage_calls::stand_still;
-use stage_model::StageStop;
+use stage_model::{StageStop, stand_still};
 use std::alloc::Global;
 
 /// Where the sections have their places.

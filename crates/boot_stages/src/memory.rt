@@ -7,7 +7,7 @@ ghost use Rattle.bm_base.specs.Answers.{Answers};
 ghost use Rattle.address_runs.specs.Runs.{AreRuns};
 ghost use Rattle.growth_model.specs.Sound.{HasBegun};
 ghost use Rattle.growth_model.specs.Carried.{carried_out};
-ghost use Rattle.stage_calls.specs.Lent.{GoesOn};
+ghost use Rattle.stage_model.specs.Lent.{GoesOn};
 ghost use Rattle.early_stages.specs.Memory.{end_of_runs};
 ghost use Rattle.early_stages.specs.Wanted.{direction_items, early_claims, first_items, items_of_map, items_of_run, mirror_items, up_to};
 ghost use Rattle.boot_model.specs.Boot.{early_of, mirrors_of};
@@ -28,7 +28,7 @@ use growth_model::Refusal;
 use memblock_grow::Memblock;
 use memblock_model::Which;
 use memblock_ranges::Tables;
-use stage_calls::stand_still;
+use stage_model::stand_still;
 use std::alloc::Global;
 
 /// The bytes from 0 up to the address.

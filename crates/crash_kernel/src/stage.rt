@@ -4,7 +4,7 @@ ghost use Rattle.std.specs.Prelude.{◌≡◌, ◌≢◌, ◌<◌, IfErr, Ok};
 ghost use Rattle.growth_model.specs.Sound.{HasBegun, IsAway};
 ghost use Rattle.growth_model.specs.declared.refusal.Refusal.TheVariants as refusals;
 ghost use Rattle.stage_model.specs.Doing.{EndsAs, returns};
-ghost use Rattle.stage_calls.specs.Lent.{GoesOn};
+ghost use Rattle.stage_model.specs.Lent.{GoesOn};
 ghost use Rattle.boot_options.specs.Crash.{crash_view};
 ghost use Rattle.crash_kernel.specs.declared.crash.Crash.{Crash as AnyCrash};
 ghost use Rattle.crash_kernel.specs.Reserved.{low_part, reserved};

@@ -15,8 +15,8 @@ use Rattle.memblock_ranges.specs.Tables.{Table, Contents as Tables}
 use Rattle.boot_journal.specs.Contents.{Contents as Journal}
 use Rattle.growth_model.specs.Bytes.{AreSpelled, table_for}
 use Rattle.memblock_grow.specs.Contents.{Contents}
-use Rattle.stage_calls.specs.Lent.{GoesOn}
-use Rattle.stage_calls.proofs.LentLaws.{goes-none}
+use Rattle.stage_model.specs.Lent.{GoesOn}
+use Rattle.stage_model.proofs.LentLaws.{goes-none}
 use Rattle.srat_reader.specs.Table.{Affinity}
 use Rattle.node_hulls.specs.declared.reasons.Why.{Why}
 use Rattle.node_hulls.specs.declared.reasons.Why.TheVariants as why

@@ -7,7 +7,7 @@ ghost use Rattle.srat_reader.specs.Table.{affinity};
 ghost use Rattle.growth_model.specs.Sound.{HasBegun};
 ghost use Rattle.stage_model.specs.declared.stop.StageStop.TheVariants as stops;
 ghost use Rattle.stage_model.specs.Doing.{EndsAs, in_turn, ok_as};
-ghost use Rattle.stage_calls.specs.Lent.{GoesOn};
+ghost use Rattle.stage_model.specs.Lent.{GoesOn};
 ghost use Rattle.node_hulls.specs.Judgement.{judgement};
 ghost use Rattle.numa_nodes.specs.Assigned.{assigned, assigned_by, data_placed, given, node_data_request, nodes_view, ranges_given};
 ghost use Rattle.numa_nodes.specs.Steps.{CanGetNodes, GoesFurther};
@@ -21,8 +21,7 @@ use growth_model::Request;
 use memblock_grow::Memblock;
 use node_hulls::{Judged, NodeRange, Why, judge};
 use srat_reader::Srat;
-use stage_calls::{place, set_node};
-use stage_model::{StageStop, What};
+use stage_model::{StageStop, What, place, set_node};
 use std::alloc::Global;
 
 /// The bytes of a node's data (`pg_data_t` of x86-64, in whole pages).

@@ -8,15 +8,14 @@ ghost use Rattle.stage_model.specs.declared.stop.StageStop.TheVariants as stops;
 ghost use Rattle.stage_model.specs.declared.stop.What.TheVariants as what;
 ghost use Rattle.stage_model.specs.Doing.{EndsAs, ok_as};
 ghost use Rattle.stage_model.specs.Requests.{placed};
-ghost use Rattle.stage_calls.specs.Lent.{GoesOn};
+ghost use Rattle.stage_model.specs.Lent.{GoesOn};
 ghost use Rattle.section_maps.specs.Maps.{map_request, map_each};
 
 use crate::placed::{Placed, put_placed};
 use crate::requests::{USAGE_SIZE, map_request};
 use boot_journal::Owner;
 use memblock_grow::Memblock;
-use stage_calls::{place, stand_still};
-use stage_model::{Section, StageStop, What};
+use stage_model::{Section, StageStop, What, place, stand_still};
 
 /// Finds a place for the map of one section.
 fn place_map(memblock: &mut Memblock, section: &Section) -> Result<u64, StageStop>

@@ -7,7 +7,7 @@ ghost use Rattle.stage_model.specs.declared.stop.StageStop.TheVariants as stops;
 ghost use Rattle.stage_model.specs.Doing.{EndsAs, ok_as};
 ghost use Rattle.stage_model.specs.Requests.{or_else};
 ghost use Rattle.stage_model.specs.declared.stop.What.TheVariants as what;
-ghost use Rattle.stage_calls.specs.Lent.{GoesOn};
+ghost use Rattle.stage_model.specs.Lent.{GoesOn};
 ghost use Rattle.section_maps.specs.Maps.{map_all, map_each, group_placed};
 
 use crate::each::place_each;
@@ -16,8 +16,7 @@ use crate::requests::{map_request, usage_request};
 use boot_journal::Owner;
 use growth_model::Refusal;
 use memblock_grow::Memblock;
-use stage_calls::place;
-use stage_model::{Section, StageStop, What};
+use stage_model::{Section, StageStop, What, place};
 
 /// How many sections from the first on are of the node.
 pub fn count_same(sections: &[Section], node: u32) -> usize

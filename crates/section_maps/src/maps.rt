@@ -5,14 +5,13 @@ ghost use Rattle.std.specs.Prelude.{◌≡◌, ◌^◌, ◌≤◌, length};
 ghost use Rattle.growth_model.specs.Sound.{HasBegun};
 ghost use Rattle.stage_model.specs.declared.stop.StageStop.TheVariants as stops;
 ghost use Rattle.stage_model.specs.Doing.{EndsAs, ok_as};
-ghost use Rattle.stage_calls.specs.Lent.{GoesOn};
+ghost use Rattle.stage_model.specs.Lent.{GoesOn};
 ghost use Rattle.section_maps.specs.Maps.{maps};
 
 use crate::group::{count_same, place_group};
 use crate::placed::{Placed, with_room};
 use memblock_grow::Memblock;
-use stage_calls::stand_still;
-use stage_model::{Section, StageStop};
+use stage_model::{Section, StageStop, stand_still};
 use std::alloc::Global;
 
 /// Finds places for the usage data and the map of each section, group by group: 40 bytes and 2 MiB (`sparse_init_nid`). There

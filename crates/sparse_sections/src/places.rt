@@ -6,7 +6,7 @@ ghost use Rattle.bm_base.specs.Width.{root_table_of};
 ghost use Rattle.growth_model.specs.Sound.{HasBegun};
 ghost use Rattle.stage_model.specs.declared.stop.StageStop.TheVariants as stops;
 ghost use Rattle.stage_model.specs.Doing.{EndsAs, ok_as};
-ghost use Rattle.stage_calls.specs.Lent.{GoesOn};
+ghost use Rattle.stage_model.specs.Lent.{GoesOn};
 ghost use Rattle.sparse_sections.specs.Roots.{root_of, is_root, small_request, root_placed, roots, roots_listed, roots_view};
 
 use crate::roots::{RootPlace, Roots};
@@ -14,8 +14,7 @@ use bm_base::{FRAME_SIZE, Memory, Width};
 use boot_journal::Owner;
 use growth_model::Request;
 use memblock_grow::Memblock;
-use stage_calls::{place, stand_still};
-use stage_model::{Section, StageStop, What};
+use stage_model::{Section, StageStop, What, place, stand_still};
 use std::alloc::Global;
 
 /// The bytes of a root: a page.

@@ -1,4 +1,5 @@
 pub mod DoingLaws
 pub mod RequestLaws
 pub mod QuietLaws
+pub mod LentLaws
 mod Examples

@@ -1,4 +1,5 @@
 pub mod Doing
+pub mod Lent
 pub mod Noded
 pub mod Requests
 pub mod Quiet

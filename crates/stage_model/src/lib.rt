@@ -1,4 +1,5 @@
-//! The stages of the boot that ask for several places one after another: the words in which they are spoken of.
+//! The stages of the boot that ask for several places one after another: the words in which they are spoken of, and the calls
+//! of which they are made.
 //!
 //! Node data, the crash area, section roots and section maps are each a row of allocations; what a later one asks for may
 //! depend on what an earlier one got, and the first refusal ends the row. Such a stage is defined as a text of steps
@@ -9,16 +10,24 @@
 //! - `specs/Doing.antt`: steps, one after another.
 //! - `specs/Requests.antt`: a change as a step, an allocation, an allocation that the boot can't do without, and
 //!   one allocation in place of another that had no gap.
+//! - `specs/Lent.antt`: what every call leaves of a memblock that it was lent, `GoesOn`: the same kernel's image, bytes that
+//!   follow the items, and all that was prepared.
+//!
+//! A stage's code is a row of calls: [`place`], an allocation that the boot can't do without, and [`set_node`], a change that it
+//! can't do without, each over a memblock that was lent. Each ends as its step says. A stage's loop carries two sentences
+//! along: as what is left ends, so does all; and the memblock went on.
 //!
 //! [`What`] names what a boot places, [`StageStop`] is why a stage stops it, and [`Section`] is a piece of memory of 128 MiB
-//! with its node. They are plain data, and stand here because the definitions speak of them. The functions are
+//! with its node. They are plain data, and stand here because the definitions speak of them. The functions of `laws` are
 //! laws over the definitions: they do nothing, and their contracts are proved.
 #![tactic(auto)]
 
+mod calls;
 mod laws;
 mod section;
 mod stop;
 
+pub use calls::{place, set_node, stand_still, stop_for};
 pub use laws::{allocations_leave_memory, calls_end_as_steps};
 pub use section::Section;
 pub use stop::{StageStop, What};

@@ -11,7 +11,7 @@ use Rattle.memblock_model.specs.Tables.{records_of}
 use Rattle.memblock_ranges.specs.Tables.{Table}
 use Rattle.stage_model.specs.declared.section.Section.{Section}
 use Rattle.stage_model.specs.declared.stop.StageStop.{StageStop}
-use Rattle.stage_calls.proofs.LentLaws.{goes-then}
+use Rattle.stage_model.proofs.LentLaws.{goes-then}
 use Rattle.sparse_sections.specs.Present.{IsWholeNoded, present}
 use Rattle.sparse_sections.proofs.AscendLaws.{present-ascends}
 use Rattle.sparse_sections.proofs.NodedLaws.{noded-records, noded-runs, noded-told}

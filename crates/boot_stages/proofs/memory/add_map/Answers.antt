@@ -5,7 +5,7 @@ use Rattle.std.proofs.lemmas.Result.{err_from_is_err_and}
 use Rattle.address_runs.specs.Runs.{RunOf}
 use Rattle.memblock_model.specs.declared.item.Item.{Item}
 use Rattle.growth_model.specs.Carried.{carried_out}
-use Rattle.stage_calls.proofs.LentLaws.{goes-then}
+use Rattle.stage_model.proofs.LentLaws.{goes-then}
 use Rattle.early_stages.specs.Wanted.{items_of_map, items_of_run}
 use Rattle.boot_stages.proofs.CarriesLaws.{carried-on, carries-exit, carries-left, carries-nothing}
 use Rattle.boot_stages.proofs.MemoryLaws.{map_next, runs_next}

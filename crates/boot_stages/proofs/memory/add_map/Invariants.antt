@@ -4,7 +4,7 @@ use Rattle.address_runs.specs.Runs.{AreRuns}
 use Rattle.growth_model.specs.Sound.{HasBegun}
 use Rattle.growth_model.specs.Carried.{carried_out}
 use Rattle.early_stages.specs.Wanted.{items_of_map}
-use Rattle.stage_calls.specs.Lent.{GoesOn}
+use Rattle.stage_model.specs.Lent.{GoesOn}
 use Rattle.boot_stages.proofs.memory.add_map.Given as goal
 
 abbrev pub invariant-loop-run : goal.invariant-loop-run

@@ -8,7 +8,7 @@ use Rattle.memblock_model.specs.declared.item.Item.TheVariants as item
 use Rattle.growth_model.specs.Carried.{carried_out}
 use Rattle.growth_model.specs.Growth.{mirrored}
 use Rattle.growth_model.proofs.SoundLaws.{ends-begun}
-use Rattle.stage_calls.proofs.LentLaws.{goes-then}
+use Rattle.stage_model.proofs.LentLaws.{goes-then}
 use Rattle.early_stages.specs.Wanted.{mirror_items}
 use Rattle.boot_model.specs.Mirrors.{IsMirror, frames_in}
 use Rattle.boot_stages.proofs.BytesLaws.{goes-once}

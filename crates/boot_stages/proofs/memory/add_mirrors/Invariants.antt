@@ -3,7 +3,7 @@ use Rattle.std.proofs.Common.{◌≡◌, drop, map}
 use Rattle.growth_model.specs.Sound.{HasBegun}
 use Rattle.growth_model.specs.Carried.{carried_out}
 use Rattle.early_stages.specs.Wanted.{mirror_items}
-use Rattle.stage_calls.specs.Lent.{GoesOn}
+use Rattle.stage_model.specs.Lent.{GoesOn}
 use Rattle.boot_model.specs.Mirrors.{frames_in}
 use Rattle.boot_stages.proofs.memory.add_mirrors.Given as goal
 

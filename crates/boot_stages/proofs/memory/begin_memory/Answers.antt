@@ -5,7 +5,7 @@ use Rattle.memblock_model.specs.declared.item.Item.TheVariants as item
 use Rattle.early_stages.specs.declared.low.TheConstants.{ISA_END_ADDRESS}
 use Rattle.early_stages.specs.Early.{Early}
 use Rattle.early_stages.specs.Wanted.{direction_items, early_claims}
-use Rattle.stage_calls.proofs.LentLaws.{goes-then}
+use Rattle.stage_model.proofs.LentLaws.{goes-then}
 use Rattle.boot_model.specs.Boot.{early_of}
 use Rattle.boot_model.specs.View.{inputs_view}
 use Rattle.boot_stages.specs.Parts.{beginning}

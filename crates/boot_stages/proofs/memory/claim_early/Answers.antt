@@ -7,7 +7,7 @@ use Rattle.memblock_model.specs.declared.item.Item.TheVariants as item
 use Rattle.growth_model.specs.Growth.{claimed}
 use Rattle.growth_model.specs.Carried.{carried_out}
 use Rattle.growth_model.proofs.SoundLaws.{ends-begun, may-keep}
-use Rattle.stage_calls.proofs.LentLaws.{goes-then}
+use Rattle.stage_model.proofs.LentLaws.{goes-then}
 use Rattle.early_stages.specs.Wanted.{initrd_claims}
 use Rattle.boot_stages.specs.Carries.{Carries}
 use Rattle.boot_stages.proofs.BytesLaws.{goes-once}

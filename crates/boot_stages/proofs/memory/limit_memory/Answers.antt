@@ -3,7 +3,7 @@ use Rattle.std.proofs.Common.{[], ◌∷◌, Result, subst}
 use Rattle.bm_base.specs.Extent.{Extent}
 use Rattle.memblock_model.specs.declared.owner.Owner.TheVariants as owner
 use Rattle.memblock_model.specs.declared.item.Item.TheVariants as item
-use Rattle.stage_calls.proofs.LentLaws.{goes-then}
+use Rattle.stage_model.proofs.LentLaws.{goes-then}
 use Rattle.boot_stages.specs.Carries.{Carries}
 use Rattle.boot_stages.proofs.BytesLaws.{goes-once}
 use Rattle.boot_stages.proofs.CarriesLaws.{carries-change, carries-limit, carries-second}

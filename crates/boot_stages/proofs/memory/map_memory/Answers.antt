@@ -2,7 +2,7 @@
 use Rattle.std.proofs.Common.{ℕ, [], ◌∷◌, ◌++◌, subst}
 use Rattle.std.proofs.lemmas.Result.{err_from_is_err_and}
 use Rattle.memblock_model.specs.declared.item.Item.TheVariants as item
-use Rattle.stage_calls.proofs.LentLaws.{goes-then}
+use Rattle.stage_model.proofs.LentLaws.{goes-then}
 use Rattle.early_stages.specs.Early.{Early}
 use Rattle.early_stages.specs.Wanted.{items_of_map, mirror_items}
 use Rattle.boot_model.specs.Boot.{early_of}

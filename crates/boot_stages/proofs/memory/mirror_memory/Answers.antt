@@ -7,7 +7,7 @@ use Rattle.growth_model.specs.declared.refusal.Refusal.{Refusal}
 use Rattle.growth_model.specs.Carried.{carried_out}
 use Rattle.early_stages.specs.Early.{FrameRange}
 use Rattle.early_stages.specs.Wanted.{mirror_items}
-use Rattle.stage_calls.proofs.LentLaws.{goes-then}
+use Rattle.stage_model.proofs.LentLaws.{goes-then}
 use Rattle.boot_model.specs.Boot.{efi_mirrors}
 use Rattle.boot_model.specs.Mirrors.{frames_in}
 use Rattle.boot_model.specs.View.{inputs_view}

@@ -5,7 +5,7 @@ use Rattle.address_runs.specs.Runs.{value_at}
 use Rattle.memblock_model.specs.declared.item.Item.{Item}
 use Rattle.memblock_ranges.specs.Tables.{Table}
 use Rattle.growth_model.specs.Carried.{carried_out}
-use Rattle.stage_calls.proofs.LentLaws.{goes-then}
+use Rattle.stage_model.proofs.LentLaws.{goes-then}
 use Rattle.early_stages.specs.Early.{Early}
 use Rattle.early_stages.specs.Memory.{end_of_runs, memory_end}
 use Rattle.boot_model.specs.Boot.{early_of}

@@ -12,8 +12,8 @@ use Rattle.memblock_ranges.specs.Tables.{Contents as Tables, Table}
 use Rattle.growth_model.specs.Bytes.{table_for, AreSpelled}
 use Rattle.growth_model.specs.Sound.{IsAway}
 use Rattle.memblock_grow.specs.Contents.{Contents}
-use Rattle.stage_calls.specs.Lent.{GoesOn}
-use Rattle.stage_calls.proofs.LentLaws.{goes-none, goes-then}
+use Rattle.stage_model.specs.Lent.{GoesOn}
+use Rattle.stage_model.proofs.LentLaws.{goes-none, goes-then}
 use Rattle.boot_options.specs.Crash.{crash_view}
 use Rattle.crash_kernel.specs.declared.crash.Crash.TheVariants as crash
 use Rattle.crash_kernel.specs.Total.{memory_bytes}

@@ -6,7 +6,7 @@ use Rattle.stage_model.specs.declared.stop.StageStop.TheVariants as stop
 use Rattle.stage_model.specs.Doing.{EndsAs}
 use Rattle.stage_model.proofs.DoingLaws.{ends-begun}
 use Rattle.node_hulls.specs.Hulls.{NumaBlock}
-use Rattle.stage_calls.proofs.LentLaws.{goes-then}
+use Rattle.stage_model.proofs.LentLaws.{goes-then}
 use Rattle.numa_nodes.specs.Assigned.{given}
 use Rattle.numa_nodes.proofs.TurnLaws.{turn-next, turn-stops, turn-done}
 use Rattle.numa_nodes.proofs.stage.give_nodes.Goals as goal

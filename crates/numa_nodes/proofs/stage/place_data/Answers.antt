@@ -6,7 +6,7 @@ use Rattle.stage_model.specs.declared.stop.StageStop.{StageStop}
 use Rattle.stage_model.specs.declared.stop.StageStop.TheVariants as stop
 use Rattle.stage_model.specs.Doing.{EndsAs}
 use Rattle.stage_model.proofs.DoingLaws.{ends-begun}
-use Rattle.stage_calls.proofs.LentLaws.{goes-then}
+use Rattle.stage_model.proofs.LentLaws.{goes-then}
 use Rattle.numa_nodes.specs.Assigned.{data_placed}
 use Rattle.numa_nodes.proofs.TurnLaws.{turn-next, turn-stops, turn-done, data-placed, data-stops}
 use Rattle.numa_nodes.proofs.stage.place_data.Goals as goal

@@ -7,7 +7,7 @@ use Rattle.stage_model.specs.declared.stop.What.TheVariants as what
 use Rattle.stage_model.specs.declared.stop.StageStop.TheVariants as stop
 use Rattle.stage_model.specs.Requests.{placed}
 use Rattle.stage_model.proofs.DoingLaws.{ends-begun}
-use Rattle.stage_calls.proofs.LentLaws.{goes-then}
+use Rattle.stage_model.proofs.LentLaws.{goes-then}
 use Rattle.section_maps.specs.Maps.{map_request}
 use Rattle.section_maps.proofs.MapLaws.{no_section, goes-next, goes-stops, goes-all}
 use Rattle.section_maps.proofs.each.place_each.Goals as goal

@@ -1,7 +1,7 @@
 -- As the maps that are left end, so do all.
 use Rattle.std.proofs.Common.{◌≡◌, ◌≤◌, ◌+◌, ◌*◌, drop, vec_len, vec_capacity}
 use Rattle.growth_model.specs.Sound.{HasBegun}
-use Rattle.stage_calls.specs.Lent.{GoesOn}
+use Rattle.stage_model.specs.Lent.{GoesOn}
 use Rattle.section_maps.proofs.MapLaws.{Goes}
 use Rattle.section_maps.proofs.each.place_each.Given as goal
 

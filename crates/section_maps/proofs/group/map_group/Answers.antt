@@ -2,7 +2,7 @@
 use Rattle.std.proofs.Common.{ap}
 use Rattle.memblock_model.specs.declared.request.Request.{Request}
 use Rattle.stage_model.specs.Doing.{ok_as}
-use Rattle.stage_calls.proofs.LentLaws.{goes-then}
+use Rattle.stage_model.proofs.LentLaws.{goes-then}
 use Rattle.section_maps.proofs.MapLaws.{buffer-placed, buffer-table, buffer-wanting, buffer-each}
 use Rattle.section_maps.proofs.group.map_group.Goals as goal
 

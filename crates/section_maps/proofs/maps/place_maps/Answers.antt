@@ -6,7 +6,7 @@ use Rattle.stage_model.specs.declared.section.Section.{Section}
 use Rattle.stage_model.specs.declared.stop.StageStop.TheVariants as stop
 use Rattle.stage_model.specs.Doing.{EndsAs}
 use Rattle.stage_model.proofs.DoingLaws.{ends-begun}
-use Rattle.stage_calls.proofs.LentLaws.{goes-then}
+use Rattle.stage_model.proofs.LentLaws.{goes-then}
 use Rattle.section_maps.specs.declared.placed.Placed.{Placed}
 use Rattle.section_maps.specs.Maps.{group_placed}
 use Rattle.section_maps.proofs.MapLaws.{no_section}

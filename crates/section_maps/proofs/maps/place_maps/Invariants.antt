@@ -1,7 +1,7 @@
 -- As the groups that are left end, so do all.
 use Rattle.std.proofs.Common.{◌≤◌, ◌+◌, ◌^◌, length, vec_len, vec_capacity}
 use Rattle.growth_model.specs.Sound.{HasBegun}
-use Rattle.stage_calls.specs.Lent.{GoesOn}
+use Rattle.stage_model.specs.Lent.{GoesOn}
 use Rattle.section_maps.proofs.GroupLaws.{Goes}
 use Rattle.section_maps.proofs.maps.place_maps.Given as goal
 

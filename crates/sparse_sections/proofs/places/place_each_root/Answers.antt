@@ -4,7 +4,7 @@ use Rattle.std.proofs.lemmas.Result.{err_from_is_err_and}
 use Rattle.stage_model.specs.declared.section.Section.{Section}
 use Rattle.stage_model.specs.declared.stop.StageStop.TheVariants as stop
 use Rattle.stage_model.proofs.DoingLaws.{ends-begun}
-use Rattle.stage_calls.proofs.LentLaws.{goes-then}
+use Rattle.stage_model.proofs.LentLaws.{goes-then}
 use Rattle.sparse_sections.specs.Roots.{root_of, is_root, root_placed}
 use Rattle.sparse_sections.proofs.RootLaws.{no_section, goes-first, goes-same, goes-next, goes-fails, goes-all, list-wanting}
 use Rattle.sparse_sections.proofs.places.place_each_root.Goals as goal

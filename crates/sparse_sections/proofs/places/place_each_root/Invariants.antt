@@ -1,7 +1,7 @@
 -- As the roots of the sections that are left end, so do all.
 use Rattle.std.proofs.Common.{◌≤◌, ◌+◌, drop, length, vec_len, vec_capacity}
 use Rattle.growth_model.specs.Sound.{HasBegun}
-use Rattle.stage_calls.specs.Lent.{GoesOn}
+use Rattle.stage_model.specs.Lent.{GoesOn}
 use Rattle.sparse_sections.proofs.RootLaws.{Goes}
 use Rattle.sparse_sections.proofs.places.place_each_root.Given as goal
 

@@ -2,7 +2,7 @@
 use Rattle.std.proofs.Common.{ap}
 use Rattle.std.proofs.lemmas.Result.{err_from_is_err_and}
 use Rattle.memblock_model.specs.declared.request.Request.{Request}
-use Rattle.stage_calls.proofs.LentLaws.{goes-then}
+use Rattle.stage_model.proofs.LentLaws.{goes-then}
 use Rattle.sparse_sections.proofs.RootLaws.{roots-fail, roots-stop, roots-all}
 use Rattle.sparse_sections.proofs.places.place_roots.Goals as goal
 

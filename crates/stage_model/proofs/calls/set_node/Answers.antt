@@ -3,7 +3,7 @@ use Rattle.growth_model.specs.declared.refusal.Refusal.{Refusal}
 use Rattle.growth_model.specs.Ends.{Ends}
 use Rattle.growth_model.specs.Growth.{noded}
 use Rattle.stage_model.proofs.RequestLaws.{ends-carried, carried-table, carried-wanting}
-use Rattle.stage_calls.proofs.calls.set_node.Goals as goal
+use Rattle.stage_model.proofs.calls.set_node.Goals as goal
 
 pub returns-in-Ok-clause-ends : goal.returns-in-Ok-clause-ends
 returns-in-Ok-clause-ends c =

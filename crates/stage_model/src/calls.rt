@@ -8,13 +8,13 @@ ghost use Rattle.growth_model.specs.Sound.{HasBegun};
 ghost use Rattle.stage_model.specs.declared.stop.StageStop.TheVariants as stops;
 ghost use Rattle.stage_model.specs.Doing.{EndsAs};
 ghost use Rattle.stage_model.specs.Requests.{stop_for, placed, carried};
-ghost use Rattle.stage_calls.specs.Lent.{GoesOn};
+ghost use Rattle.stage_model.specs.Lent.{GoesOn};
 
+use crate::stop::{StageStop, What};
 use bm_base::Range;
 use boot_journal::Owner;
 use growth_model::{Refusal, Request};
 use memblock_grow::Memblock;
-use stage_model::{StageStop, What};
 
 /// Why the boot stops where the thing was refused.
 pub fn stop_for(what: What, refusal: Refusal) -> StageStop

@@ -4,7 +4,7 @@ use Rattle.stage_model.specs.declared.stop.StageStop.TheVariants as stops
 use Rattle.stage_model.specs.Doing.{EndsAs}
 use Rattle.stage_model.specs.Requests.{placed}
 use Rattle.stage_model.proofs.RequestLaws.{ends-allocation, ends-placed}
-use Rattle.stage_calls.proofs.calls.place.Goals as goal
+use Rattle.stage_model.proofs.calls.place.Goals as goal
 
 pub returns-in-Ok-clause-ends : goal.returns-in-Ok-clause-ends
 returns-in-Ok-clause-ends c =

@@ -3,8 +3,8 @@ use Rattle.std.proofs.Common.{sym, ◌∙◌, ap, subst}
 use Rattle.phys_store.specs.Bytes.{byte_of}
 use Rattle.memblock_ranges.specs.Tables.{Contents}
 use Rattle.growth_model.specs.Bytes.{AreSpelled}
-use Rattle.stage_calls.proofs.LentLaws.{goes-none}
-use Rattle.stage_calls.proofs.calls.stand_still.Goals as goal
+use Rattle.stage_model.proofs.LentLaws.{goes-none}
+use Rattle.stage_model.proofs.calls.stand_still.Goals as goal
 
 pub returns : goal.returns
 returns c =

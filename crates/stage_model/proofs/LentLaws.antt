@@ -5,7 +5,7 @@ use Rattle.memblock_model.specs.declared.which.Which.TheVariants as which
 use Rattle.growth_model.specs.Bytes.{table_for, AreSpelled}
 use Rattle.growth_model.proofs.FollowLaws.{follows-next, follows-none}
 use Rattle.memblock_grow.specs.Contents.{Contents}
-use Rattle.stage_calls.specs.Lent.{GoesOn}
+use Rattle.stage_model.specs.Lent.{GoesOn}
 
 pub goes-then : (old mid new : Contents) → GoesOn old mid → GoesOn mid new → GoesOn old new
 goes-then old mid new first second = record {
