@@ -20,7 +20,7 @@ use Rattle.stage_model.specs.declared.stop.What.TheVariants as what
 use Rattle.stage_model.specs.declared.stop.StageStop.{StageStop}
 use Rattle.stage_model.specs.declared.stop.StageStop.TheVariants as stage
 use Rattle.stage_model.specs.Doing.{Done, Doing, ◌>>=◌, after, going_on, in_turn, listed, returns, seen, stops}
-use Rattle.stage_model.specs.Requests.{allocated, carried, changes, claimed_at, or_else, or_stop, placed, refusal_of, stop_of, unless_gap}
+use Rattle.stage_model.specs.Requests.{allocated, carried, changes, claimed_at, or_else, or_stop, placed, refusal_of, refused_growth, unless_gap}
 use Rattle.address_runs.specs.Runs.{extent_of}
 use Rattle.boot_options.specs.Crash.{Crash as Asked}
 use Rattle.srat_reader.specs.Table.{Affinity}
@@ -78,7 +78,7 @@ refused_errs (Some r) = ((λ same. cc same), λ same. cc same)
 changes_errs : (change : Change) → Errs IsGrowth (changes change)
 changes_errs change = λ items. refused_errs (change items).refused
 
-stopped_errs : (refused : Option Refused) → IfErr (stop_of refused) IsStop
+stopped_errs : (refused : Option Refused) → IfErr (refused_growth refused) IsStop
 stopped_errs None = tt
 stopped_errs (Some r) = λ same. cc same
 

@@ -20,7 +20,7 @@ use Rattle.growth_model.proofs.EndLaws.{joined-append}
 use Rattle.early_stages.specs.Wanted.{direction_items}
 use Rattle.boot_model.specs.declared.stop.Stop.{Stop}
 use Rattle.boot_model.specs.declared.stop.Stop.TheVariants as stops
-use Rattle.boot_stages.specs.Carries.{Carries, or_stop, stop_for}
+use Rattle.boot_stages.specs.Carries.{Carries, or_refused_growth, stop_of_refusal}
 
 -- one item is what its change comes to
 one_carried : (i : Item) (old : List Item) → carried_out (i ∷ []) old ≡ (ended old (change i old) >>= λ next. Ok next)
@@ -156,9 +156,9 @@ carries-gap (Err (refusal.NoGapForTable w room)) wanted old new ends = λ same. 
 carries-gap (Err refusal.Memory) wanted old new ends = λ same. cc same
 
 -- the stop of a refused growth
-pub carries-stop : (e : Refusal) (wanted old new : List Item) (stop : Stop) → stop ≡ stop_for e
-    → Carries {T = Unit {0}} (Err e) wanted old new → stop ≢ stops.Memory → or_stop (carried_out wanted old) ≡ Err stop
+pub carries-stop : (e : Refusal) (wanted old new : List Item) (stop : Stop) → stop ≡ stop_of_refusal e
+    → Carries {T = Unit {0}} (Err e) wanted old new → stop ≢ stops.Memory → or_refused_growth (carried_out wanted old) ≡ Err stop
 carries-stop refusal.NoGap wanted old new stop is ends other = absurd ends
 carries-stop (refusal.NoGapForTable w room) wanted old new stop is ends other =
-    ap or_stop ends ∙ ap (λ (s : Stop). Err s) (sym is)
+    ap or_refused_growth ends ∙ ap (λ (s : Stop). Err s) (sym is)
 carries-stop refusal.Memory wanted old new stop is ends other = absurd (other is)

@@ -22,7 +22,7 @@ use Rattle.memblock_model.specs.declared.item.Item.{Item}
 use Rattle.growth_model.specs.Outcome.{Refused}
 use Rattle.growth_model.specs.Carried.{carried_out}
 use Rattle.early_stages.specs.Wanted.{first_items}
-use Rattle.boot_stages.specs.Carries.{or_stop}
+use Rattle.boot_stages.specs.Carries.{or_refused_growth}
 use Rattle.boot_model.specs.First.{IsFirstMemory}
 use Rattle.boot_model.proofs.NodedLaws.{first_known}
 use Rattle.boot_model.specs.Stages.{in_order}
@@ -126,13 +126,13 @@ unfolding boot
 boot_goes_on given made is = went_on (map_judged given) (λ m. in_order (later_stages given) m) made is
 
 -- what is carried out is what is made, and a growth that is refused is the stop
-items_made : (made : Made) (said : Result (List Item) Refused) (items : List Item) → or_stop said ≡ Ok items
+items_made : (made : Made) (said : Result (List Item) Refused) (items : List Item) → or_refused_growth said ≡ Ok items
     → with_items made said ≡ Ok (record made { items = items })
 items_made made (Ok carried) items is =
     let same : carried ≡ items = cc in ap (λ (is : List Item). Ok (record made { items = is })) same
 items_made made (Err refused) items is = absurd (cc)
 
-items_stop : (made : Made) (said : Result (List Item) Refused) (stop : Stop) → or_stop said ≡ Err stop
+items_stop : (made : Made) (said : Result (List Item) Refused) (stop : Stop) → or_refused_growth said ≡ Err stop
     → with_error stop_of (with_items made said) ≡ Err stop
 items_stop made (Ok carried) stop is = absurd (cc)
 items_stop made (Err refused) stop is =
@@ -143,7 +143,7 @@ abbrev pub memory_said : Given → Made → Result (List Item) Refused
 memory_said given made = carried_out (first_items (early_of given) made.map) made.items
 
 pub memory_stops : {X : Type 0} (view : X → Told) (given : Given) (made : Made) (answer : Result X Stop) (stop : Stop) → answer ≡ Err stop
-    → with_error stop_of (map_judged given) ≡ Ok made → (stop ≢ stops.Memory → or_stop (memory_said given made) ≡ Err stop)
+    → with_error stop_of (map_judged given) ≡ Ok made → (stop ≢ stops.Memory → or_refused_growth (memory_said given made) ≡ Err stop)
     → Answers stops.Memory view answer (with_error stop_of (told_boot given))
 memory_stops view given made answer stop is judged answers =
     told_stops view given answer stop is
@@ -152,7 +152,7 @@ memory_stops view given made answer stop is judged answers =
     (items_stop made (memory_said given made) stop (answers other)))
 
 pub memory_goes_on : (given : Given) (made : Made) (items : List Item) → with_error stop_of (map_judged given) ≡ Ok made
-    → or_stop (memory_said given made) ≡ Ok items
+    → or_refused_growth (memory_said given made) ≡ Ok items
     → boot given ≡ in_order (drop 1 (later_stages given)) (record made { items = items })
 memory_goes_on given made items judged answers =
     boot_goes_on given made judged
@@ -184,12 +184,12 @@ pub told_ok : {A E F : Type 0} (f : E → F) (said : Result A E) (a : A) → wit
 told_ok f (Ok b) a is = let same : b ≡ a = cc in ap (λ (x : _). Ok x) same
 told_ok f (Err e) a is = absurd (cc)
 
-carried_ok : (said : Result (List Item) Refused) (items : List Item) → or_stop said ≡ Ok items → said ≡ Ok items
+carried_ok : (said : Result (List Item) Refused) (items : List Item) → or_refused_growth said ≡ Ok items → said ≡ Ok items
 carried_ok (Ok carried) items is = let same : carried ≡ items = cc in ap (λ (x : List Item). Ok x) same
 carried_ok (Err refused) items is = absurd (cc)
 
 -- memory as the map gives it
 pub first_made : (given : Given) (made : Made) (items : List Item) → with_error stop_of (map_judged given) ≡ Ok made
-    → or_stop (memory_said given made) ≡ Ok items → IsFirstMemory (reach given) items
+    → or_refused_growth (memory_said given made) ≡ Ok items → IsFirstMemory (reach given) items
 first_made given made items judged answers =
     first_known given made items (told_ok stop_of (map_judged given) made judged) (carried_ok (memory_said given made) items answers)

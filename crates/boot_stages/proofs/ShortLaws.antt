@@ -8,7 +8,7 @@ use Rattle.stage_model.specs.declared.stop.StageStop.TheVariants as stage
 use Rattle.stage_model.specs.Doing.{Done, EndsAs, IsCutShort, after}
 use Rattle.boot_model.specs.declared.stop.Stop.TheVariants as stops
 use Rattle.boot_stages.specs.Boots.{stop_of_stage}
-use Rattle.boot_stages.specs.Carries.{stop_for}
+use Rattle.boot_stages.specs.Carries.{stop_of_refusal}
 
 module _ {E A : Type 0} (wanting : E) (P : E → Type 0) (never : P wanting → ⊥) where
   left : (e : E) (old new : List Item) (d : Done E A) → e ≡ wanting → IfErr d.answer P
@@ -22,7 +22,7 @@ memory_of_stage (stage.NoPlace thing) is = absurd (cc)
 memory_of_stage (stage.NoTablePlace w room) is = absurd (cc)
 memory_of_stage stage.Memory is = refl
 
-memory_of_refusal : (e : Refusal) → e ≢ refusal.NoGap → stop_for e ≡ stops.Memory → e ≡ refusal.Memory
+memory_of_refusal : (e : Refusal) → e ≢ refusal.NoGap → stop_of_refusal e ≡ stops.Memory → e ≡ refusal.Memory
 memory_of_refusal refusal.NoGap some is = absurd (some refl)
 memory_of_refusal (refusal.NoGapForTable w room) some is = absurd (cc)
 memory_of_refusal refusal.Memory some is = refl
@@ -35,7 +35,7 @@ stage-short e old new d errs ends is =
 
 pub refusal-short : {A : Type 0} (e : Refusal) (old new : List Item) (d : Done Refusal A)
     → IfErr d.answer (λ why. (why ≢ refusal.NoGap) × (why ≢ refusal.Memory)) → EndsAs {A = A} refusal.Memory (Err e) old new d
-    → e ≢ refusal.NoGap → stop_for e ≡ stops.Memory → IsCutShort old new d.steps
+    → e ≢ refusal.NoGap → stop_of_refusal e ≡ stops.Memory → IsCutShort old new d.steps
 refusal-short e old new d errs ends some is =
     left refusal.Memory (λ why. (why ≢ refusal.NoGap) × (why ≢ refusal.Memory)) (λ other. other.1 refl) e old new d
     (memory_of_refusal e some is) errs ends

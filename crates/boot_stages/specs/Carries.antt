@@ -19,11 +19,11 @@ Carries (Err (refusal.NoGapForTable w room)) wanted old new = carried_out wanted
 Carries (Err refusal.Memory) wanted old new = Unit {0}
 
 -- why a boot stops where a call was refused that looks for no gap; `NoGap` stands for nothing there
-abbrev pub stop_for : Refusal → Stop
-stop_for refusal.NoGap = stops.Memory
-stop_for (refusal.NoGapForTable w room) = stops.NoTablePlace w room
-stop_for refusal.Memory = stops.Memory
+abbrev pub stop_of_refusal : Refusal → Stop
+stop_of_refusal refusal.NoGap = stops.Memory
+stop_of_refusal (refusal.NoGapForTable w room) = stops.NoTablePlace w room
+stop_of_refusal refusal.Memory = stops.Memory
 
 -- a refused growth stops the boot
-abbrev pub or_stop : Result (List Item) Refused → Result (List Item) Stop
-or_stop said = with_error (λ refused. stop_of (cause_of_growth refused)) said
+abbrev pub or_refused_growth : Result (List Item) Refused → Result (List Item) Stop
+or_refused_growth said = with_error (λ refused. stop_of (cause_of_growth refused)) said

@@ -14,7 +14,7 @@ ghost use Rattle.boot_model.specs.Boot.{early_of, mirrors_of};
 ghost use Rattle.boot_model.specs.Mirrors.{IsMirror, frames_in};
 ghost use Rattle.boot_model.specs.View.{inputs_view};
 ghost use Rattle.boot_stages.specs.Boots.{HoldsWith};
-ghost use Rattle.boot_stages.specs.Carries.{Carries, or_stop, stop_for};
+ghost use Rattle.boot_stages.specs.Carries.{Carries, or_refused_growth, stop_of_refusal};
 ghost use Rattle.boot_stages.specs.Parts.{beginning, ending, mapping};
 
 use bm_base::{Memory, Range};
@@ -223,7 +223,7 @@ fn set_up(memblock: &mut Memblock, inputs: &Inputs, map: &[Run]) -> Result<(), R
 /// The stop of a refused growth. An allocation isn't made here, so none lacks a gap.
 pub fn stopped(refusal: Refusal) -> Stop
     requires { refusal ≢ Refusal.NoGap }
-    ensures { result ≡ stop_for refusal }
+    ensures { result ≡ stop_of_refusal refusal }
 {
     match refusal {
         Refusal::NoGap => unreachable!(),
@@ -236,7 +236,7 @@ pub fn stopped(refusal: Refusal) -> Stop
 pub fn make_memory(alloc: Global, inputs: &Inputs, map: &[Run]) -> Result<Memblock, Stop>
     requires runs { AreRuns map.now }
     ensures answers { Answers Stop.Memory (λ memblock. memblock.journal.items) result
-        (or_stop (carried_out (first_items (early_of (inputs_view inputs.now)) map.now) [])) }
+        (or_refused_growth (carried_out (first_items (early_of (inputs_view inputs.now)) map.now) [])) }
     ensures kernel { IfOk result (λ memblock. memblock.kernel ≡ inputs.now.kernel) }
     ensures begun { IfOk result (λ memblock. HasBegun memblock.journal.items) }
     ensures bytes { IfOk result (λ memblock. HoldsWith [] memblock) }

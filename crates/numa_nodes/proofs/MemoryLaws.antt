@@ -22,7 +22,7 @@ use Rattle.growth_model.proofs.QuietLaws.{memory_growth-quiet, quiet-grown}
 use Rattle.stage_model.specs.declared.stop.StageStop.{StageStop}
 use Rattle.stage_model.specs.declared.stop.What.TheVariants as what
 use Rattle.stage_model.specs.Doing.{Done, Doing, ◌>>=◌, after, appended, going_on, in_turn, returns, listed}
-use Rattle.stage_model.specs.Requests.{placed, stop_of}
+use Rattle.stage_model.specs.Requests.{placed, refused_growth}
 use Rattle.stage_model.specs.Quiet.{IsQuietStep}
 use Rattle.stage_model.proofs.DoingLaws.{appended-append}
 use Rattle.stage_model.proofs.QuietLaws.{quiet-appended_limit, quiet-appended_memory, quiet-bind, quiet-placed, quiet-returns, quiet-listed, quiet-turn}
@@ -32,7 +32,7 @@ use Rattle.numa_nodes.specs.Assigned.{Noded, assigned, assigned_by, data_placed,
 
 -- a range that gets its node: the growth before it is quiet
 given-memory_by : (first : Outcome) (r : Option Refused) (items : List Item) (range : Extent) (node : ℕ) → AreQuiet first.steps
-    → stop_of r ≡ Ok tt
+    → refused_growth r ≡ Ok tt
     → memory_of (appended items (followed_by first r (write (item.Node range node) (after_change items first))).steps)
     ≡ relabelled range (with_node (Some node)) (memory_of items)
 given-memory_by first None items range node quiet answered =
@@ -80,8 +80,8 @@ given-memory b items answered =
     let first : Outcome = growth items in
     let second : Outcome = write (item.Node range b.value) (after_change items first) in
     let is : noded range b.value items ≡ followed_by first first.refused second = noded_is items range b.value in
-    let stopped : stop_of first.refused ≡ Ok tt =
-    ap stop_of (sym (refused-is first second refl)) ∙ ap (λ (o : Outcome). stop_of o.refused) (sym is) ∙ answered in
+    let stopped : refused_growth first.refused ≡ Ok tt =
+    ap refused_growth (sym (refused-is first second refl)) ∙ ap (λ (o : Outcome). refused_growth o.refused) (sym is) ∙ answered in
     ap (λ (o : Outcome). memory_of (appended items o.steps)) is
     ∙ given-memory_by first first.refused items range b.value (growth-quiet items) stopped
 

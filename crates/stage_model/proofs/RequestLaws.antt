@@ -16,7 +16,7 @@ use Rattle.stage_model.specs.declared.stop.What.{What}
 use Rattle.stage_model.specs.declared.stop.StageStop.{StageStop}
 use Rattle.stage_model.specs.declared.stop.StageStop.TheVariants as stop
 use Rattle.stage_model.specs.Doing.{Done, Doing, appended, after, returns, stops, ◌>>=◌, IsCutShort, EndsAs}
-use Rattle.stage_model.specs.Requests.{refusal_of, changes, stop_of, carried, claimed_at, allocated, stop_for, or_stop, placed, unless_gap, or_else}
+use Rattle.stage_model.specs.Requests.{refusal_of, changes, refused_growth, carried, claimed_at, allocated, stop_for, or_stop, placed, unless_gap, or_else}
 use Rattle.stage_model.proofs.DoingLaws.{appended-joined, cut-first, ends-second, ends-first, ends-along, ends-returns}
 
 -- a change
@@ -39,12 +39,12 @@ ends-change (Err refusal.Memory) old new change cut =
 -- a change that the boot can't do without
 pub ends-carried : (old new : List Item) (change : Change) → Ends {T = Unit {0}} (Ok tt) old new change
     → EndsAs stop.Memory (Ok tt) old new (carried change old)
-ends-carried old new change h = (ap stop_of h.0, h.1 ∙ sym (appended-joined old (change old).steps))
+ends-carried old new change h = (ap refused_growth h.0, h.1 ∙ sym (appended-joined old (change old).steps))
 
 pub carried-table : (T : Type 0) (w : Which) (room : ℕ) (old new : List Item) (change : Change)
     → Ends {T = T} (Err (refusal.NoGapForTable w room)) old new change
     → EndsAs {A = Unit {0}} stop.Memory (Err (stop.NoTablePlace w room)) old new (carried change old)
-carried-table T w room old new change h = inl (ap stop_of h.0, h.1 ∙ sym (appended-joined old (change old).steps))
+carried-table T w room old new change h = inl (ap refused_growth h.0, h.1 ∙ sym (appended-joined old (change old).steps))
 
 pub carried-wanting : (T : Type 0) (old new : List Item) (change : Change) → Ends {T = T} (Err refusal.Memory) old new change
     → EndsAs {A = Unit {0}} stop.Memory (Err stop.Memory) old new (carried change old)

@@ -23,12 +23,12 @@ abbrev pub changes : Change → Doing Refusal (Unit {0})
 changes change items = record { steps = (change items).steps; answer = refusal_of (change items).refused }
 
 -- a change that the boot can't do without: where a table found no place, the boot stops
-abbrev pub stop_of : Option Refused → Result (Unit {0}) StageStop
-stop_of None = Ok tt
-stop_of (Some r) = Err (stop.NoTablePlace r.which r.room)
+abbrev pub refused_growth : Option Refused → Result (Unit {0}) StageStop
+refused_growth None = Ok tt
+refused_growth (Some r) = Err (stop.NoTablePlace r.which r.room)
 
 abbrev pub carried : Change → Doing StageStop (Unit {0})
-carried change items = record { steps = (change items).steps; answer = stop_of (change items).refused }
+carried change items = record { steps = (change items).steps; answer = refused_growth (change items).refused }
 
 -- the place is claimed; without one there is no gap
 abbrev pub claimed_at : Option ℕ → ℕ → Owner → Doing Refusal ℕ

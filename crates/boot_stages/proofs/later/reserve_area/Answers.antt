@@ -4,7 +4,7 @@ use Rattle.crash_kernel.specs.Reserved.{reserved}
 use Rattle.boot_model.specs.declared.stop.Stop.TheVariants as stops
 use Rattle.boot_model.specs.View.{inputs_view}
 use Rattle.boot_model.proofs.WantsLaws.{crash_errs}
-use Rattle.boot_stages.specs.Carries.{stop_for}
+use Rattle.boot_stages.specs.Carries.{stop_of_refusal}
 use Rattle.boot_stages.proofs.ShortLaws.{refusal-short}
 use Rattle.boot_stages.proofs.later.reserve_area.Goals as goal
 
@@ -13,6 +13,6 @@ returns-in-Err-clause-short c = λ is.
     let items = c.args.memblock.now.journal.items in
     let given = inputs_view c.args.inputs.now in
     let told = c.stopped.ensures in
-    let same : stop_for c.in-Err.refusal ≡ stops.Memory = cc in
+    let same : stop_of_refusal c.in-Err.refusal ≡ stops.Memory = cc in
     refusal-short c.in-Err.refusal items c.reserve.new.memblock.journal.items (reserved given.options.crash items)
     (crash_errs given.options.crash items) c.in-Err.ensures.ends c.in-Err.ensures.found same

@@ -8,7 +8,7 @@ use Rattle.growth_model.specs.Carried.{carried_out}
 use Rattle.early_stages.specs.Wanted.{first_items}
 use Rattle.boot_model.specs.Boot.{early_of}
 use Rattle.boot_model.specs.View.{inputs_view}
-use Rattle.boot_stages.specs.Carries.{Carries, or_stop}
+use Rattle.boot_stages.specs.Carries.{Carries, or_refused_growth}
 use Rattle.boot_stages.specs.Boots.{HoldsWith}
 use Rattle.boot_stages.proofs.BytesLaws.{holds-lent}
 use Rattle.boot_stages.proofs.CarriesLaws.{carries-stop}
@@ -18,7 +18,7 @@ pub returns-in-Ok-clause-answers : goal.returns-in-Ok-clause-answers
 returns-in-Ok-clause-answers c =
     let wanted : List Item = first_items (early_of (inputs_view c.args.inputs.now)) c.args.map.now in
     let nothing : c.in_ok-memblock.memblock.journal.items ≡ [] = ap (λ (j : Contents). j.items) c.in_ok-memblock.ensures.journal in
-    ap or_stop (ap (carried_out wanted) (sym nothing) ∙ c.in-Ok.ensures.carries)
+    ap or_refused_growth (ap (carried_out wanted) (sym nothing) ∙ c.in-Ok.ensures.carries)
 
 pub returns-in-Err-clause-answers : goal.returns-in-Err-clause-answers
 returns-in-Err-clause-answers c =

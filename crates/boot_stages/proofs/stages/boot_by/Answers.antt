@@ -32,7 +32,7 @@ use Rattle.slit_zonelists.specs.Lists.{Known, known}
 use Rattle.slit_zonelists.specs.Near.{after_with, answers_with}
 use Rattle.boot_model.specs.First.{IsFirstMemory}
 use Rattle.boot_stages.specs.Boots.{LaterMade, begun_with, later_view, made_behind}
-use Rattle.boot_stages.specs.Carries.{or_stop}
+use Rattle.boot_stages.specs.Carries.{or_refused_growth}
 use Rattle.boot_stages.proofs.MapLaws.{boot_stops, boot_told, claims-told, first_made, made_of, memory_goes_on, memory_stops, stages_stop}
 use Rattle.boot_stages.proofs.stages.boot_by.Goals as goal
 
@@ -56,7 +56,7 @@ returns-in_err-memblock-clause-boots c =
     let p = err_from_is_err_and r c.from_residual-in_err-memblock.ensures.1 in
     let stop : Stop = c.in_err-memblock.field-0.0 in
     let Stops : List (RunOf ℕ) → Type 0 = λ map. stop ≢ stops.Memory
-    → or_stop (carried_out (first_items (early_of (inputs_view c.args.inputs.now)) map) []) ≡ Err stop in
+    → or_refused_growth (carried_out (first_items (early_of (inputs_view c.args.inputs.now)) map) []) ≡ Err stop in
     memory_stops _ (inputs_view c.args.inputs.now) (made_of (inputs_view c.args.inputs.now) c.in_ok-map.map) r stop
     (p.1 ∙ ap (λ (s : Stop). Err s) p.2) (c.in_ok-map.ensures.answers (inputs_view c.args.inputs.now) same (sym c.reach-reach.ensures))
     (subst Stops c.deref-4.ensures.value c.in_err-memblock.ensures.answers)
@@ -68,9 +68,9 @@ record MemoryIsMade (given : Given) (map : Vec (RunOf ℕ) Global) (m : Memblock
 
 memory_is_made : (given : Given) (map : Vec (RunOf ℕ) Global) (runs : List (RunOf ℕ)) (m : Memblock) → runs ≡ map.items
     → with_error stop_of (map_judged given) ≡ Ok (made_of given map)
-    → or_stop (carried_out (first_items (early_of given) runs) []) ≡ Ok m.journal.items → MemoryIsMade given map m
+    → or_refused_growth (carried_out (first_items (early_of given) runs) []) ≡ Ok m.journal.items → MemoryIsMade given map m
 memory_is_made given map runs m same judged carried =
-    let Goes : List (RunOf ℕ) → Type 0 = λ rs. or_stop (carried_out (first_items (early_of given) rs) []) ≡ Ok m.journal.items in
+    let Goes : List (RunOf ℕ) → Type 0 = λ rs. or_refused_growth (carried_out (first_items (early_of given) rs) []) ≡ Ok m.journal.items in
     let told : Goes map.items = subst Goes same carried in
     record {
       comes = memory_goes_on given (made_of given map) m.journal.items judged told;
