@@ -81,7 +81,7 @@ lines-go s (line ∷ lines) =
     let next = after_line s line in
     goes-then s.state.items next.state.items (after_lines next lines).state.items (line-goes s line) (lines-go next lines)
 
-cut-goes-on : (old new : List Item) (o : growth.Outcome) → IsCut old new o → Goes new (after old o)
+cut-goes-on : (old new : List Item) (o : growth.Outcome) → IsCut old new o.steps → Goes new (after old o)
 cut-goes-on old new o cut =
     let done = take cut.count o.steps in
     let rest = drop cut.count o.steps in

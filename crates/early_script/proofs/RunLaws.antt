@@ -22,10 +22,10 @@ use Rattle.early_script.specs.Owned.{is_owned, touches}
 use Rattle.early_script.specs.Acted.{State, Deed, RanOut, OnlyAnswers, Acts, answers, alloc_at, alloc_deed, reserved_for, reserve_deed, on_range, free_whole, free_deed, trimmed_to, trim_whole, trim_deed, byte_by, put_by}
 
 -- where memory ran out, some of the steps stand, or all of them
-pub ran-cut : (takes : Bool) (old new : List Item) (o : growth.Outcome) → RanOut takes old new o → IsCut old new o
+pub ran-cut : (takes : Bool) (old new : List Item) (o : growth.Outcome) → RanOut takes old new o → IsCut old new o.steps
 ran-cut takes old new o ran =
-    elim ran as (λ _. IsCut old new o) [
-      | inl cut ↦ cut-short old new o cut
+    elim ran as (λ _. IsCut old new o.steps) [
+      | inl cut ↦ cut-short old new o.steps cut
       | inr behind ↦ record {
         count = length o.steps;
         within = omega arith;

@@ -148,7 +148,7 @@ state_after s d = state_by s d.ids (d.change s.items)
 -- the program's own memory ran out: before a step of the change that was still to be taken; or behind all of them, where none was refused
 -- and memory is taken then
 abbrev pub RanOut : Bool → List Item → List Item → growth.Outcome → Type 0
-RanOut takes old new o = IsCutShort old new o ⊎ (IsTrue takes × (o.refused ≡ None) × (new ≡ after old o))
+RanOut takes old new o = IsCutShort old new o.steps ⊎ (IsTrue takes × (o.refused ≡ None) × (new ≡ after old o))
 
 -- so it ran out amid a line, and the IDs are as they were
 abbrev pub IsAmid : State → State → Deed → Type 0

@@ -22,31 +22,30 @@ after-both items o p = append_assoc items (joined o.steps) (joined p.steps)
     ∙ ap (λ (t : List Item). items ++ t) (sym (joined-append o.steps p.steps))
 
 -- what is cut short is cut
-pub cut-short : (old new : List Item) (o : Outcome) → IsCutShort old new o → IsCut old new o
-cut-short old new o cut =
-    let short : cut.count < length o.steps = cut.short in
+pub cut-short : (old new : List Item) (steps : List (List Item)) → IsCutShort old new steps → IsCut old new steps
+cut-short old new steps cut =
+    let short : cut.count < length steps = cut.short in
     record { count = cut.count; within = omega (arith, short); stands = cut.stands }
 
--- some steps of the first change are some steps of both, and so are all of the first and some of the second
-cut_first : (old new : List Item) (o p : Outcome) → IsCutShort old new o → IsCutShort old new (both_steps o p)
-cut_first old new o p cut =
-    let short : cut.count < length o.steps = cut.short in
+-- some of the first steps are some of all, and so are all of the first and some of the others
+pub cut-first : (old new : List Item) (a b : List (List Item)) → IsCutShort old new a → IsCutShort old new (a ++ b)
+cut-first old new a b cut =
+    let short : cut.count < length a = cut.short in
     record {
       count = cut.count;
-      short = omega (arith, length-append o.steps p.steps, short);
-      stands = cut.stands
-          ∙ ap (λ (t : List (List Item)). old ++ joined t) (sym (take-append-le cut.count o.steps p.steps (omega (arith, short))));
+      short = omega (arith, length-append a b, short);
+      stands = cut.stands ∙ ap (λ (t : List (List Item)). old ++ joined t) (sym (take-append-le cut.count a b (omega (arith, short))));
     }
 
-cut_second : (old new : List Item) (o p : Outcome) → IsCutShort (after old o) new p → IsCutShort old new (both_steps o p)
-cut_second old new o p cut =
-    let short : cut.count < length p.steps = cut.short in
+pub cut-second : (old new : List Item) (a b : List (List Item)) → IsCutShort (old ++ joined a) new b → IsCutShort old new (a ++ b)
+cut-second old new a b cut =
+    let short : cut.count < length b = cut.short in
     record {
-      count = length o.steps + cut.count;
-      short = omega (arith, length-append o.steps p.steps, short);
-      stands = cut.stands ∙ append_assoc old (joined o.steps) (joined (take cut.count p.steps))
-          ∙ ap (λ (t : List Item). old ++ t) (sym (joined-append o.steps (take cut.count p.steps)))
-          ∙ ap (λ (t : List (List Item)). old ++ joined t) (sym (take-append-add o.steps p.steps cut.count));
+      count = length a + cut.count;
+      short = omega (arith, length-append a b, short);
+      stands = cut.stands ∙ append_assoc old (joined a) (joined (take cut.count b))
+          ∙ ap (λ (t : List Item). old ++ t) (sym (joined-append a (take cut.count b)))
+          ∙ ap (λ (t : List (List Item)). old ++ joined t) (sym (take-append-add a b cut.count));
     }
 
 second_by : {U : Type 0} (r : Result U Refusal) (old new : List Item) (o p : Outcome) → EndsBy r (after old o) new p
@@ -54,7 +53,7 @@ second_by : {U : Type 0} (r : Result U Refusal) (old new : List Item) (o p : Out
 second_by (Ok x) old new o p h = (h.0, h.1 ∙ after-both old o p)
 second_by (Err refusal.NoGap) old new o p h = h
 second_by (Err (refusal.NoGapForTable w room)) old new o p h = (h.0, h.1 ∙ after-both old o p)
-second_by (Err refusal.Memory) old new o p h = cut_second old new o p h
+second_by (Err refusal.Memory) old new o p h = cut-second old new o.steps p.steps h
 
 -- the first change wasn't refused: so the second followed
 pub followed : (first second : Change) (items : List Item) → (first items).refused ≡ None
@@ -75,7 +74,7 @@ first_by : (T U : Type 0) (e : Refusal) (old new : List Item) (o : Outcome) (n :
 first_by T U refusal.NoGap old new o n p is h = absurd h
 first_by T U (refusal.NoGapForTable w room) old new o None p is h = let clash : None ≡ Some _ = sym is ∙ h.0 in cc
 first_by T U (refusal.NoGapForTable w room) old new o (Some r) p is h = h
-first_by T U refusal.Memory old new o None p is h = cut_first old new o p h
+first_by T U refusal.Memory old new o None p is h = cut-first old new o.steps p.steps h
 first_by T U refusal.Memory old new o (Some r) p is h = h
 
 -- the first change was refused, or memory ran out in it: the second didn't follow

@@ -548,14 +548,14 @@ no_place_so_low : place_for (record two_frames_please { max = Some 0 }) small �
 no_place_so_low = rw (nothing_mirrored (table_query 128 0 0), no_top (table_query 128 0 0) false refl) refl
 
 -- how calls end: all of it, one step of two, nothing at all
-all_of_two : IsCut [] (joined two_steps.steps) two_steps
+all_of_two : IsCut [] (joined two_steps.steps) two_steps.steps
 all_of_two = record { count = 2; within = omega arith; stands = refl }
 
-one_of_two : IsCutShort [] (item.Trim ∷ (item.Limit 5 ∷ [])) two_steps
+one_of_two : IsCutShort [] (item.Trim ∷ (item.Limit 5 ∷ [])) two_steps.steps
 one_of_two = record { count = 1; short = omega arith; stands = refl }
 
-some_of_two : IsCut [] (item.Trim ∷ (item.Limit 5 ∷ [])) two_steps
-some_of_two = cut-short [] (item.Trim ∷ (item.Limit 5 ∷ [])) two_steps one_of_two
+some_of_two : IsCut [] (item.Trim ∷ (item.Limit 5 ∷ [])) two_steps.steps
+some_of_two = cut-short [] (item.Trim ∷ (item.Limit 5 ∷ [])) two_steps.steps one_of_two
 
 -- fewer steps than both don't write all of their items
 fewer_of_two : (n : ℕ) → n < 2 → joined two_steps.steps ≡ joined (take n two_steps.steps) → ⊥

@@ -8,16 +8,16 @@ use Rattle.growth_model.specs.Outcome.{Outcome, Change, joined, after}
 use Rattle.growth_model.specs.Growth.{claimed}
 
 -- the new items are the old ones and some of the steps, from the first on
-pub record IsCut (old new : List Item) (o : Outcome) : Type 0 where
+pub record IsCut (old new : List Item) (steps : List (List Item)) : Type 0 where
   pub count : ℕ
-  pub within : count ≤ length o.steps
-  pub stands : new ≡ old ++ joined (take count o.steps)
+  pub within : count ≤ length steps
+  pub stands : new ≡ old ++ joined (take count steps)
 
 -- and a step is still to be taken
-pub record IsCutShort (old new : List Item) (o : Outcome) : Type 0 where
+pub record IsCutShort (old new : List Item) (steps : List (List Item)) : Type 0 where
   pub count : ℕ
-  pub short : count < length o.steps
-  pub stands : new ≡ old ++ joined (take count o.steps)
+  pub short : count < length steps
+  pub stands : new ≡ old ++ joined (take count steps)
 
 -- Ok where no growth was refused, and that refusal where one was: the items are those of the change either way. Memory is wanted only for a
 -- step that is still to be taken. A change by itself looks for no gap, so it never lacks one
@@ -25,7 +25,7 @@ abbrev pub EndsBy : {T : Type 0} → Result T Refusal → List Item → List Ite
 EndsBy (Ok x) old new o = (o.refused ≡ None) × (new ≡ after old o)
 EndsBy (Err refusal.NoGap) old new o = ⊥
 EndsBy (Err (refusal.NoGapForTable w room)) old new o = (o.refused ≡ Some (record { which = w; room = room })) × (new ≡ after old o)
-EndsBy (Err refusal.Memory) old new o = IsCutShort old new o
+EndsBy (Err refusal.Memory) old new o = IsCutShort old new o.steps
 
 abbrev pub Ends : {T : Type 0} → Result T Refusal → List Item → List Item → Change → Type 0
 Ends result old new change = EndsBy result old new (change old)

@@ -1,11 +1,12 @@
 -- How one step after another ends: by the ends of both.
-use Rattle.std.proofs.Common.{◌≡◌, ◌⊎◌, inl, inr, ℕ, ◌+◌, ◌<◌, List, [], ◌∷◌, ◌++◌, length, take, Result, Ok, Err, refl, sym, ◌∙◌, ap, subst, append_assoc, arith}
-use Rattle.std.proofs.lemmas.List.{append-nil, length-append, take-append-le}
-use Rattle.std.proofs.Math.Seq.{take-append-add}
+use Rattle.std.proofs.Common.{◌≡◌, ◌⊎◌, inl, inr, List, [], ◌∷◌, ◌++◌, take, Result, Ok, Err, refl, sym, ◌∙◌, subst, append_assoc, arith}
+use Rattle.std.proofs.lemmas.List.{append-nil}
 use Rattle.memblock_model.specs.declared.item.Item.{Item}
 use Rattle.growth_model.specs.Outcome.{joined}
+use Rattle.growth_model.specs.Ends.{IsCutShort}
 use Rattle.growth_model.specs.Sound.{HasBegun}
-use Rattle.stage_model.specs.Doing.{Done, Doing, appended, after, returns, stops, listed, going_on, ◌>>=◌, in_turn, IsCutShort, EndsAs, ok_as}
+use Rattle.growth_model.proofs.EndLaws.{cut-first, cut-second}
+use Rattle.stage_model.specs.Doing.{Done, Doing, appended, after, returns, listed, going_on, ◌>>=◌, EndsAs, ok_as}
 
 pub appended-append : (items : List Item) (a b : List (List Item)) → appended items (a ++ b) ≡ appended (appended items a) b
 appended-append items [] b = refl
@@ -15,25 +16,9 @@ pub appended-joined : (items : List Item) (ss : List (List Item)) → appended i
 appended-joined items [] = sym (append-nil items)
 appended-joined items (s ∷ ss) = appended-joined (items ++ s) ss ∙ append_assoc items s (joined ss)
 
--- some groups of the first are some groups of both, and so are all of the first and some of the second
-pub cut-first : (old new : List Item) (a b : List (List Item)) → IsCutShort old new a → IsCutShort old new (a ++ b)
-cut-first old new a b cut =
-    let short : cut.count < length a = cut.short in
-    record {
-      count = cut.count;
-      short = omega (arith, length-append a b, short);
-      stands = cut.stands ∙ ap (λ (t : List (List Item)). appended old t) (sym (take-append-le cut.count a b (omega (arith, short))));
-    }
-
-pub cut-second : (old new : List Item) (a b : List (List Item)) → IsCutShort (appended old a) new b → IsCutShort old new (a ++ b)
-cut-second old new a b cut =
-    let short : cut.count < length b = cut.short in
-    record {
-      count = length a + cut.count;
-      short = omega (arith, length-append a b, short);
-      stands = cut.stands ∙ sym (appended-append old a (take cut.count b))
-          ∙ ap (λ (t : List (List Item)). appended old t) (sym (take-append-add a b cut.count));
-    }
+-- all groups of the first stand, and some of the second
+cut-behind : (old new : List Item) (a b : List (List Item)) → IsCutShort (appended old a) new b → IsCutShort old new (a ++ b)
+cut-behind old new a b cut = cut-second old new a b (subst (λ (mid : List Item). IsCutShort mid new b) (appended-joined old a) cut)
 
 module _ {E A B : Type 0} where
   both : Done E A → Done E B → Done E B
@@ -43,7 +28,7 @@ module _ {E A B : Type 0} where
       → ((p.answer ≡ Err e) × (new ≡ after (after old d) p)) ⊎ ((e ≡ wanting) × IsCutShort (after old d) new p.steps)
       → EndsAs wanting (Err e) old new (record { steps = d.steps ++ p.steps; answer = p.answer })
   failed_second e wanting old new d p (inl told) = inl (told.0, told.1 ∙ sym (appended-append old d.steps p.steps))
-  failed_second e wanting old new d p (inr cut) = inr (cut.0, cut-second old new d.steps p.steps cut.1)
+  failed_second e wanting old new d p (inr cut) = inr (cut.0, cut-behind old new d.steps p.steps cut.1)
 
   second_by : (r : Result B E) (wanting : E) (old new : List Item) (d : Done E A) (p : Done E B)
       → EndsAs wanting r (after old d) new p
@@ -84,7 +69,7 @@ module _ {E A : Type 0} where
   ends-listed f wanting items = (refl, sym (append-nil items))
 
   pub ends-wanting : (f : List Item → A) (wanting : E) (items : List Item) → EndsAs wanting (Err wanting) items items (listed f items)
-  ends-wanting f wanting items = inr (refl, record { count = 0; short = omega arith; stands = refl })
+  ends-wanting f wanting items = inr (refl, record { count = 0; short = omega arith; stands = sym (append-nil items) })
 
   -- an answer that is known
   pub ends-along : (r s : Result A E) (wanting : E) (old new : List Item) (d : Done E A) → r ≡ s → EndsAs wanting r old new d
@@ -111,7 +96,7 @@ begun-appended items (s ∷ ss) begun = begun-appended (items ++ s) ss (begun-ap
 begun_by : {E A : Type 0} (e wanting : E) (old new : List Item) (d : Done E A) → HasBegun old
     → ((d.answer ≡ Err e) × (new ≡ after old d)) ⊎ ((e ≡ wanting) × IsCutShort old new d.steps) → HasBegun new
 begun_by e wanting old new d begun (inl told) = subst HasBegun (sym told.1) (begun-appended old d.steps begun)
-begun_by e wanting old new d begun (inr cut) = subst HasBegun (sym cut.1.stands) (begun-appended old (take cut.1.count d.steps) begun)
+begun_by e wanting old new d begun (inr cut) = subst HasBegun (sym cut.1.stands) (begun-append old (joined (take cut.1.count d.steps)) begun)
 
 pub ends-begun : {E A : Type 0} (r : Result A E) (wanting : E) (old new : List Item) (d : Done E A) → HasBegun old
     → EndsAs wanting r old new d → HasBegun new

@@ -1,20 +1,18 @@
 -- Worked examples: steps that answer, stop and go on; an allocation without a place; calls that were cut short.
-use Rattle.std.proofs.Common.{◌≡◌, ℕ, ◌+◌, nat_lt, if◌then◌else◌, None, Some, List, [], ◌∷◌, Ok, Err, refl, inl, inr, arith, ◌<◌, length, zero, suc, take}
+use Rattle.std.proofs.Common.{◌≡◌, ℕ, ◌+◌, nat_lt, if◌then◌else◌, None, Some, [], ◌∷◌, Ok, Err, refl, inl, inr, arith, length}
 use Rattle.std.proofs.lemmas.Option.{same_Some}
 use Rattle.memblock_model.specs.Labels.{Label, plain_label, with_node}
 use Rattle.memblock_model.specs.declared.which.Which.TheVariants as which
 use Rattle.memblock_model.specs.declared.owner.Owner.TheVariants as owner
-use Rattle.memblock_model.specs.declared.item.Item.{Item}
 use Rattle.memblock_model.specs.declared.item.Item.TheVariants as item
-use Rattle.growth_model.specs.declared.refusal.Refusal.{Refusal}
 use Rattle.growth_model.specs.declared.refusal.Refusal.TheVariants as refusal
 use Rattle.growth_model.specs.Outcome.{write, refuse}
 use Rattle.stage_model.specs.declared.stop.What.TheVariants as what
 use Rattle.stage_model.specs.declared.stop.StageStop.{StageStop}
 use Rattle.stage_model.specs.declared.stop.StageStop.TheVariants as stop
-use Rattle.stage_model.specs.Doing.{Done, Doing, appended, after, returns, stops, seen, listed, ◌>>=◌, in_turn, IsCutShort, EndsAs, ok_as}
+use Rattle.stage_model.specs.Doing.{Doing, returns, stops, seen, listed, ◌>>=◌, in_turn, EndsAs}
 use Rattle.stage_model.specs.Noded.{AreOfFrames, IsNoded}
-use Rattle.stage_model.specs.Requests.{changes, claimed_at, or_stop, or_else, refusal_of}
+use Rattle.stage_model.specs.Requests.{changes, claimed_at, or_stop, or_else}
 
 -- a step that writes a limit and answers it
 abbrev limited : ℕ → ℕ → Doing StageStop ℕ
@@ -73,20 +71,10 @@ wants_memory : (or_else (what.Map 3) (stops refusal.Memory) (limited 0 9) []).an
 wants_memory = refl
 
 -- memory ran out behind the first of two groups
-cut_behind_one : IsCutShort [] (item.Trim ∷ []) ((item.Trim ∷ []) ∷ ((item.Limit 7 ∷ []) ∷ []))
-cut_behind_one = record { count = 1; short = omega arith; stands = refl }
-
 ends_cut : EndsAs {A = ℕ} stop.Memory (Err stop.Memory) [] (item.Limit 5 ∷ []) ((limited 0 5 >>= λ a. limited a 7) [])
 ends_cut = inr (refl, record { count = 1; short = omega arith; stands = refl })
 
--- none is wanted where all groups stand, nor in place of a stop
-none_left : IsCutShort [] (item.Limit 5 ∷ (item.Limit 7 ∷ [])) ((item.Limit 5 ∷ []) ∷ ((item.Limit 7 ∷ []) ∷ [])) → ⊥
-none_left cut = left cut.count cut.short cut.stands where
-  left : (n : ℕ) → n < 2 → item.Limit 5 ∷ (item.Limit 7 ∷ []) ≡ appended [] (take n ((item.Limit 5 ∷ []) ∷ ((item.Limit 7 ∷ []) ∷ []))) → ⊥
-  left zero less is = cc is
-  left (suc zero) less is = cc is
-  left (suc (suc n)) less is = absurd (omega (arith, less))
-
+-- none is wanted in place of a stop
 none_in_place : EndsAs {A = ℕ} stop.Memory (Err stop.Memory) [] [] (stops (stop.NoPlace what.Roots) []) → ⊥
 none_in_place (inl told) = let wrong = told.0 in cc wrong
 none_in_place (inr cut) = let less = cut.1.short in absurd (omega (arith, less))

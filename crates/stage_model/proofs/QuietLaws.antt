@@ -1,20 +1,19 @@
 -- Rows of allocations leave memory, its nodes and the limit as they are, wherever they end.
-use Rattle.std.proofs.Common.{◌≡◌, List, [], ◌∷◌, ◌++◌, take, ℕ, Option, Some, None, Result, Ok, Err, refl, sym, ◌∙◌, ap, subst}
+use Rattle.std.proofs.Common.{◌≡◌, List, [], ◌∷◌, ℕ, Option, Some, None, Result, Ok, Err, refl, ◌∙◌, ap}
 use Rattle.memblock_model.specs.declared.owner.Owner.{Owner}
 use Rattle.memblock_model.specs.declared.item.Item.{Item}
 use Rattle.memblock_model.specs.Items.{memory_of, limit_of}
 use Rattle.growth_model.specs.declared.refusal.Refusal.{Refusal}
 use Rattle.growth_model.specs.declared.refusal.Refusal.TheVariants as refusal
 use Rattle.memblock_model.specs.declared.request.Request.{Request}
-use Rattle.growth_model.specs.Outcome.{Change, Outcome}
+use Rattle.growth_model.specs.Outcome.{Change}
 use Rattle.growth_model.specs.Growth.{claimed}
 use Rattle.growth_model.specs.Request.{place_for}
 use Rattle.growth_model.specs.Carried.{AreQuiet, memory_items}
-use Rattle.growth_model.proofs.MemoryItemLaws.{quiet-append, quiet-take}
+use Rattle.growth_model.proofs.MemoryItemLaws.{quiet-append}
 use Rattle.growth_model.proofs.QuietLaws.{IsQuiet, claimed-quiet, quiet-memory_items, quiet-memory, quiet-limit}
 use Rattle.stage_model.specs.declared.stop.What.{What}
 use Rattle.stage_model.specs.declared.stop.StageStop.{StageStop}
-use Rattle.stage_model.specs.declared.stop.StageStop.TheVariants as stop
 use Rattle.stage_model.specs.Doing.{Done, Doing, appended, after, returns, stops, seen, listed, going_on, ◌>>=◌, in_turn}
 use Rattle.stage_model.specs.Requests.{changes, claimed_at, allocated, placed, unless_gap, or_else}
 use Rattle.stage_model.specs.Quiet.{IsQuietStep}

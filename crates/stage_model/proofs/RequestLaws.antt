@@ -1,5 +1,5 @@
 -- Changes and allocations as steps: how a call that carries one out ends.
-use Rattle.std.proofs.Common.{◌≡◌, ◌⊎◌, inl, inr, ℕ, Option, Some, None, List, [], ◌∷◌, ◌++◌, take, Result, Ok, Err, IfOk, refl, sym, ◌∙◌, ap, subst, arith}
+use Rattle.std.proofs.Common.{◌≡◌, ◌⊎◌, inl, inr, ℕ, Option, Some, None, List, Result, Ok, Err, IfOk, refl, sym, ◌∙◌, ap, subst}
 use Rattle.bm_base.specs.Extent.{Extent}
 use Rattle.memblock_model.specs.declared.which.Which.{Which}
 use Rattle.memblock_model.specs.declared.owner.Owner.{Owner}
@@ -10,14 +10,14 @@ use Rattle.memblock_model.specs.declared.request.Request.{Request}
 use Rattle.growth_model.specs.Outcome.{Change}
 use Rattle.growth_model.specs.Growth.{claimed}
 use Rattle.growth_model.specs.Request.{place_for}
-use Rattle.growth_model.specs.Ends.{Ends, Allocates}
-use Rattle.growth_model.proofs.EndLaws.{Ends-error}
+use Rattle.growth_model.specs.Ends.{IsCutShort, Ends, Allocates}
+use Rattle.growth_model.proofs.EndLaws.{cut-first, Ends-error}
 use Rattle.stage_model.specs.declared.stop.What.{What}
 use Rattle.stage_model.specs.declared.stop.StageStop.{StageStop}
 use Rattle.stage_model.specs.declared.stop.StageStop.TheVariants as stop
-use Rattle.stage_model.specs.Doing.{Done, Doing, appended, after, returns, stops, ◌>>=◌, IsCutShort, EndsAs}
+use Rattle.stage_model.specs.Doing.{Done, Doing, after, returns, EndsAs}
 use Rattle.stage_model.specs.Requests.{refusal_of, changes, refused_growth, carried, claimed_at, allocated, stop_for, or_stop, placed, unless_gap, or_else}
-use Rattle.stage_model.proofs.DoingLaws.{appended-joined, cut-first, ends-second, ends-first, ends-along, ends-returns}
+use Rattle.stage_model.proofs.DoingLaws.{appended-joined, ends-second, ends-first, ends-along}
 
 -- a change
 pub ends-change : (r : Result (Unit {0}) Refusal) (old new : List Item) (change : Change) → Ends r old new change
@@ -26,15 +26,7 @@ ends-change (Ok x) old new change h = (ap refusal_of h.0, h.1 ∙ sym (appended-
 ends-change (Err refusal.NoGap) old new change h = absurd h
 ends-change (Err (refusal.NoGapForTable w room)) old new change h =
     inl (ap refusal_of h.0, h.1 ∙ sym (appended-joined old (change old).steps))
-ends-change (Err refusal.Memory) old new change cut =
-    inr (
-      refl,
-      record {
-        count = cut.count;
-        short = cut.short;
-        stands = cut.stands ∙ sym (appended-joined old (take cut.count (change old).steps));
-      },
-    )
+ends-change (Err refusal.Memory) old new change cut = inr (refl, cut)
 
 -- a change that the boot can't do without
 pub ends-carried : (old new : List Item) (change : Change) → Ends {T = Unit {0}} (Ok tt) old new change
@@ -48,15 +40,7 @@ carried-table T w room old new change h = inl (ap refused_growth h.0, h.1 ∙ sy
 
 pub carried-wanting : (T : Type 0) (old new : List Item) (change : Change) → Ends {T = T} (Err refusal.Memory) old new change
     → EndsAs {A = Unit {0}} stop.Memory (Err stop.Memory) old new (carried change old)
-carried-wanting T old new change cut =
-    inr (
-      refl,
-      record {
-        count = cut.count;
-        short = cut.short;
-        stands = cut.stands ∙ sym (appended-joined old (take cut.count (change old).steps));
-      },
-    )
+carried-wanting T old new change cut = inr (refl, cut)
 
 -- an allocation
 found_by : (r : Result ℕ Refusal) (old new : List Item) (place size : ℕ) (who : Owner) → IfOk r (λ base. base ≡ place)

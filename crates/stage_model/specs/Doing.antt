@@ -1,6 +1,7 @@
 -- Steps that write items and answer something, one after another; and how a call ends that carries them out.
-use Rattle.std.specs.Prelude.{◌≡◌, ◌⊎◌, ℕ, ◌<◌, List, [], ◌∷◌, ◌++◌, length, take, Result, Ok, Err}
+use Rattle.std.specs.Prelude.{◌≡◌, ◌⊎◌, List, [], ◌∷◌, ◌++◌, Result, Ok, Err}
 use Rattle.memblock_model.specs.declared.item.Item.{Item}
+use Rattle.growth_model.specs.Ends.{IsCutShort}
 
 -- what a step comes to: groups of items, each written whole or not at all, and an answer or an error
 pub record Done (E A : Type 0) : Type 0 where
@@ -47,12 +48,6 @@ abbrev pub ◌>>=◌ : {E A B : Type 0} → Doing E A → (A → Doing E B) → 
 abbrev pub in_turn : {E S X : Type 0} → (S → X → Doing E S) → S → List X → Doing E S
 in_turn f s [] = returns s
 in_turn f s (x ∷ xs) = f s x >>= λ next. in_turn f next xs
-
--- the new items are the old ones and some of the groups, from the first on; and one is still to come
-pub record IsCutShort (old new : List Item) (steps : List (List Item)) : Type 0 where
-  pub count : ℕ
-  pub short : count < length steps
-  pub stands : new ≡ appended old (take count steps)
 
 -- a call answers what is told, and all groups stand; or it wants memory for one that is still to come, and those before it stand
 abbrev pub EndsAs : {E A : Type 0} → E → Result A E → List Item → List Item → Done E A → Type 0

@@ -1,6 +1,5 @@
 -- Allocations as steps of a stage.
-use Rattle.std.specs.Prelude.{ℕ, Option, Some, None, List, [], ◌++◌, Result, Ok, Err}
-use Rattle.bm_base.specs.Extent.{Extent}
+use Rattle.std.specs.Prelude.{ℕ, Option, Some, None, List, ◌++◌, Result, Ok, Err}
 use Rattle.memblock_model.specs.declared.item.Item.{Item}
 use Rattle.memblock_model.specs.declared.owner.Owner.{Owner}
 use Rattle.growth_model.specs.declared.refusal.Refusal.{Refusal}

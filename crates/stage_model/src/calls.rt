@@ -44,7 +44,7 @@ pub fn place(
     ensures none { place_for request.now memblock.old.journal.items ≡ None → result ≡ Err (stops.NoPlace what) }
     ensures short { (place : ℕ) → place_for request.now memblock.old.journal.items ≡ Some place → result ≡ Err stops.Memory →
         IsCutShort memblock.old.journal.items memblock.new.journal.items
-        (claimed (record { base = place; size = request.now.size }) owner memblock.old.journal.items) }
+        (claimed (record { base = place; size = request.now.size }) owner memblock.old.journal.items).steps }
     ensures inside { IfOk result (λ base. base + request.now.size < 2 ^ 64) }
     ensures ready { (place : ℕ) → place_for request.now memblock.old.journal.items ≡ Some place → 0 < memblock.old.journal.spare →
         is_full_by tables_of.Reserved (new_in tables_of.Reserved (record { base = place; size = request.now.size }))
@@ -73,7 +73,7 @@ pub fn set_node(memblock: &mut Memblock, range: Range, node: u32) -> Result<(), 
     ensures ends { EndsAs stops.Memory result memblock.old.journal.items memblock.new.journal.items
         (carried (noded range node) memblock.old.journal.items) }
     ensures short { result ≡ Err stops.Memory → IsCutShort memblock.old.journal.items memblock.new.journal.items
-        (noded range node memblock.old.journal.items) }
+        (noded range node memblock.old.journal.items).steps }
     ensures ready { 0 < memblock.old.journal.spare → is_full_by tables_of.Memory two memblock.old.journal.items ≡ false →
         IsOk result × (memblock.new.journal.spare ≡ memblock.old.journal.spare - 1) }
     ensures lent { GoesOn memblock.old memblock.new }
