@@ -1,7 +1,7 @@
 -- Calls that carry out what is wanted, one after another.
-use Rattle.std.proofs.Common.{◌≡◌, ◌≢◌, ℕ, Bool, true, false, Option, Some, None, List, [], ◌∷◌, ◌++◌, Result, Ok, Err, refl, sym, ◌∙◌, ap, subst}
+use Rattle.std.proofs.Common.{◌≡◌, ◌≢◌, ◌<◌, length, ℕ, Bool, true, false, Option, Some, None, List, [], ◌∷◌, ◌++◌, Result, Ok, Err, refl, sym, ◌∙◌, ap, subst}
 use Rattle.std.proofs.lemmas.List.{append-nil, append_assoc}
-use Rattle.std.specs.Prelude.{OnOk}
+use Rattle.std.specs.Prelude.{OnErr, OnOk}
 use Rattle.bm_base.specs.ResultSteps.{◌>>=◌}
 use Rattle.bm_base.specs.Extent.{Extent}
 use Rattle.memblock_model.specs.declared.which.Which.TheVariants as which
@@ -13,14 +13,14 @@ use Rattle.growth_model.specs.declared.refusal.Refusal.TheVariants as refusal
 use Rattle.growth_model.specs.Outcome.{Refused, Outcome, Change, after, followed_by, joined, write}
 use Rattle.growth_model.specs.Growth.{claimed, grown, new_in, reserved_growth}
 use Rattle.growth_model.specs.Sound.{HasBegun}
-use Rattle.growth_model.specs.Ends.{Ends}
+use Rattle.growth_model.specs.Ends.{Ends, IsCutShort}
 use Rattle.growth_model.specs.Carried.{carried_out, change, ended, unless_refused}
 use Rattle.growth_model.proofs.CarriedLaws.{carried-append}
 use Rattle.growth_model.proofs.EndLaws.{joined-append}
 use Rattle.early_stages.specs.Wanted.{direction_items}
 use Rattle.boot_model.specs.declared.stop.Stop.{Stop}
 use Rattle.boot_model.specs.declared.stop.Stop.TheVariants as stops
-use Rattle.boot_stages.specs.Carries.{Carries, or_refused_growth, stop_of_refusal}
+use Rattle.boot_stages.specs.Carries.{AreCutShort, Carries, or_refused_growth, stop_of_refusal}
 
 -- one item is what its change comes to
 one_carried : (i : Item) (old : List Item) → carried_out (i ∷ []) old ≡ (ended old (change i old) >>= λ next. Ok next)
@@ -34,6 +34,23 @@ answered (Err refused) = refl
 one_ends : (i : Item) (old : List Item) → carried_out (i ∷ []) old ≡ ended old (change i old)
 one_ends i old = one_carried i old ∙ answered (ended old (change i old))
 
+-- nothing
+pub carries-nothing : (items : List Item) → carried_out [] items ≡ Ok items
+unfolding carried_out
+carries-nothing items = refl
+
+-- memory was wanting amid the first item
+short_at : (i : Item) (js old new : List Item) → IsCutShort old new (change i old).steps → AreCutShort (i ∷ js) old new
+short_at i js old new short = record {
+  done = [];
+  next = i;
+  rest = js;
+  parts = refl;
+  items = old;
+  carried = carries-nothing old;
+  short = short;
+}
+
 pub carries-change : (r : Result (Unit {0}) Refusal) (i : Item) (old new : List Item) → Ends r old new (change i)
     → Carries r (i ∷ []) old new
 carries-change (Ok x) i old new ends =
@@ -42,7 +59,7 @@ carries-change (Ok x) i old new ends =
 carries-change (Err refusal.NoGap) i old new ends = ends
 carries-change (Err (refusal.NoGapForTable w room)) i old new ends =
     one_ends i old ∙ ap (λ (n : Option Refused). unless_refused n (after old (change i old))) ends.0
-carries-change (Err refusal.Memory) i old new ends = tt
+carries-change (Err refusal.Memory) i old new ends = short_at i [] old new ends
 
 -- a trim, a limit
 pub carries-trim : (old new : List Item) → new ≡ old ++ item.Trim ∷ [] → carried_out (item.Trim ∷ []) old ≡ Ok new
@@ -51,11 +68,6 @@ carries-trim old new same = one_ends item.Trim old ∙ ap (λ (items : List Item
 pub carries-limit : (at : ℕ) (old new : List Item) → new ≡ old ++ item.Limit at ∷ [] → carried_out (item.Limit at ∷ []) old ≡ Ok new
 carries-limit at old new same = one_ends (item.Limit at) old ∙ ap (λ (items : List Item). Ok items) (sym same)
 
--- nothing
-pub carries-nothing : (items : List Item) → carried_out [] items ≡ Ok items
-unfolding carried_out
-carries-nothing items = refl
-
 -- the direction, which is one item or none
 pub carries-direction : (upward : Bool) (old new : List Item) → new ≡ old ++ direction_items upward
     → carried_out (direction_items upward) old ≡ Ok new
@@ -63,24 +75,46 @@ carries-direction true old new same = one_ends (item.Upward true) old ∙ ap (λ
 carries-direction false old new same = carries-nothing old ∙ ap (λ (items : List Item). Ok items) (sym (same ∙ append-nil old))
 
 -- the first part was carried out, and the second ends so
-pub carried-on : (is js old mid : List Item) → carried_out is old ≡ Ok mid → carried_out (is ++ js) old ≡ carried_out js mid
+carried-on : (is js old mid : List Item) → carried_out is old ≡ Ok mid → carried_out (is ++ js) old ≡ carried_out js mid
 carried-on is js old mid first =
     carried-append is js old ∙ ap (λ (said : Result (List Item) Refused). said >>= λ next. carried_out js next) first
+
+short_second : (is js old mid new : List Item) → carried_out is old ≡ Ok mid → AreCutShort js mid new → AreCutShort (is ++ js) old new
+short_second is js old mid new first cut = record {
+  done = is ++ cut.done;
+  next = cut.next;
+  rest = cut.rest;
+  parts = ap (λ (t : List Item). is ++ t) cut.parts ∙ sym (append_assoc is cut.done (cut.next ∷ cut.rest));
+  items = cut.items;
+  carried = carried-on is cut.done old mid first ∙ cut.carried;
+  short = cut.short;
+}
 
 pub carries-second : (r : Result (Unit {0}) Refusal) (is js old mid new : List Item) → carried_out is old ≡ Ok mid
     → Carries r js mid new → Carries r (is ++ js) old new
 carries-second (Ok x) is js old mid new first rest = carried-on is js old mid first ∙ rest
 carries-second (Err refusal.NoGap) is js old mid new first rest = rest
 carries-second (Err (refusal.NoGapForTable w room)) is js old mid new first rest = carried-on is js old mid first ∙ rest
-carries-second (Err refusal.Memory) is js old mid new first rest = tt
+carries-second (Err refusal.Memory) is js old mid new first rest = short_second is js old mid new first rest
 
 -- the first part ended with an error
+short_first : (is js old new : List Item) → AreCutShort is old new → AreCutShort (is ++ js) old new
+short_first is js old new cut = record {
+  done = cut.done;
+  next = cut.next;
+  rest = cut.rest ++ js;
+  parts = ap (λ (t : List Item). t ++ js) cut.parts ∙ append_assoc cut.done (cut.next ∷ cut.rest) js;
+  items = cut.items;
+  carried = cut.carried;
+  short = cut.short;
+}
+
 pub carries-first : (e : Refusal) (is js old new : List Item) → Carries {T = Unit {0}} (Err e) is old new
     → Carries {T = Unit {0}} (Err e) (is ++ js) old new
 carries-first refusal.NoGap is js old new first = first
 carries-first (refusal.NoGapForTable w room) is js old new first =
     carried-append is js old ∙ ap (λ (said : Result (List Item) Refused). said >>= λ next. carried_out js next) first
-carries-first refusal.Memory is js old new first = tt
+carries-first refusal.Memory is js old new first = short_first is js old new first
 
 -- a `?` that hands the error on
 pub carries-exit : (e : Refusal) (r : Result (Unit {0}) Refusal) (is js old new : List Item) (y : Refusal) → r ≡ Err y → y ≡ e
@@ -104,6 +138,10 @@ pub on_ok : (r : Result (Unit {0}) Refusal) (P : Type 0) → P → OnOk r P
 on_ok (Ok x) P holds = holds
 on_ok (Err e) P holds = tt
 
+pub on_err : {E : Type 0} (r : Result (Unit {0}) E) (P : Type 0) → P → OnErr r P
+on_err (Ok x) P holds = tt
+on_err (Err e) P holds = holds
+
 -- something happened behind a claim
 last_begun : (items : List Item) (i : Item) → HasBegun (items ++ i ∷ [])
 last_begun [] i = tt
@@ -126,18 +164,37 @@ claim-begun x old new range who ends =
     let growth : Change = grown which.Reserved (new_in which.Reserved range) (reserved_growth range) in
     behind_begun (growth old) (growth old).refused (item.Claim range who) old new refl ends.0 ends.1
 
--- want of memory says nothing
-pub carries-wanting : (r : Result (Unit {0}) Refusal) (wanted old new : List Item) (y : Refusal) → r ≡ Err y → y ≡ refusal.Memory
-    → Carries r wanted old new
-carries-wanting r wanted old new y same is = let at : r ≡ Err refusal.Memory = same ∙ ap (λ (z : Refusal). Err z) is in rw at tt
+-- memory was wanting before the first item
+pub carries-wanting : (r : Result (Unit {0}) Refusal) (i : Item) (js old new : List Item) (y : Refusal) → r ≡ Err y → y ≡ refusal.Memory
+    → 0 < length (change i old).steps → new ≡ old → Carries r (i ∷ js) old new
+carries-wanting r i js old new y same is some stays =
+    let at : r ≡ Err refusal.Memory = same ∙ ap (λ (z : Refusal). Err z) is in
+    let cut : AreCutShort (i ∷ js) old new =
+    short_at i js old new (record { count = 0; short = some; stands = stays ∙ sym (append-nil old) }) in
+    rw at cut
+
+-- some of what is wanted was carried out, and this is left
+pub record Leaves (all left old here : List Item) : Type 0 where
+  pub done : List Item
+  pub parts : all ≡ done ++ left
+  pub carried : carried_out done old ≡ Ok here
+
+pub leaves-all : (all old : List Item) → Leaves all all old old
+leaves-all all old = record { done = []; parts = refl; carried = carries-nothing old }
+
+pub leaves-next : (all is js left old here new : List Item) → left ≡ is ++ js → carried_out is here ≡ Ok new → Leaves all left old here
+    → Leaves all js old new
+leaves-next all is js left old here new same first before = record {
+  done = before.done ++ is;
+  parts = before.parts ∙ ap (λ (t : List Item). before.done ++ t) same ∙ sym (append_assoc before.done is js);
+  carried = carried-on before.done is old here before.carried ∙ first;
+}
 
 -- as what is left ends, so does all of it
-pub carries-left : (r : Result (Unit {0}) Refusal) (all left old mid new : List Item) → carried_out left mid ≡ carried_out all old
-    → Carries r left mid new → Carries r all old new
-carries-left (Ok x) all left old mid new same ends = sym same ∙ ends
-carries-left (Err refusal.NoGap) all left old mid new same ends = ends
-carries-left (Err (refusal.NoGapForTable w room)) all left old mid new same ends = sym same ∙ ends
-carries-left (Err refusal.Memory) all left old mid new same ends = tt
+pub carries-left : (r : Result (Unit {0}) Refusal) (all left old here new : List Item) → Leaves all left old here → Carries r left here new
+    → Carries r all old new
+carries-left r all left old here new before ends =
+    subst (λ (is : List Item). Carries r is old new) (sym before.parts) (carries-second r before.done left old here new before.carried ends)
 
 -- an item behind others
 pub written-begun : (old new : List Item) (i : Item) → new ≡ old ++ i ∷ [] → HasBegun new
@@ -162,3 +219,10 @@ carries-stop refusal.NoGap wanted old new stop is ends other = absurd ends
 carries-stop (refusal.NoGapForTable w room) wanted old new stop is ends other =
     ap or_refused_growth ends ∙ ap (λ (s : Stop). Err s) (sym is)
 carries-stop refusal.Memory wanted old new stop is ends other = absurd (other is)
+
+-- and where it is that memory is wanting, it was
+pub carries-short : (e : Refusal) (wanted old new : List Item) → stop_of_refusal e ≡ stops.Memory
+    → Carries {T = Unit {0}} (Err e) wanted old new → AreCutShort wanted old new
+carries-short refusal.NoGap wanted old new is ends = absurd ends
+carries-short (refusal.NoGapForTable w room) wanted old new is ends = absurd (cc)
+carries-short refusal.Memory wanted old new is ends = ends

@@ -1,16 +1,20 @@
 -- What the boot makes of small answers of the table, and the parts of a small memory.
-use Rattle.std.proofs.Common.{◌≡◌, ℕ, true, List, [], ◌∷◌, Some, None, Ok, Err, refl}
+use Rattle.std.proofs.Common.{◌≡◌, ℕ, true, List, [], ◌∷◌, ◌++◌, Some, None, Ok, Err, refl, arith}
 use Rattle.bm_base.specs.Extent.{Extent}
 use Rattle.address_runs.specs.Runs.{RunOf}
 use Rattle.memblock_model.specs.declared.owner.Owner.TheVariants as owner
+use Rattle.memblock_model.specs.declared.item.Item.{Item}
 use Rattle.memblock_model.specs.declared.item.Item.TheVariants as item
+use Rattle.growth_model.specs.declared.refusal.Refusal.TheVariants as refusal
 use Rattle.early_stages.specs.Early.{Early}
 use Rattle.e820_sanitise.specs.declared.fault.MapFault.TheVariants as faults
 use Rattle.e820_usable.specs.declared.stop.MapStop.TheVariants as reasons
 use Rattle.boot_model.specs.declared.stop.Stop.TheVariants as stops
 use Rattle.boot_model.specs.Boot.{Given}
 use Rattle.boot_stages.specs.Boots.{IsDecided, judged_answer, stop_of_map, goes_on_with}
+use Rattle.boot_stages.specs.Carries.{Carries}
 use Rattle.boot_stages.specs.Parts.{beginning, ending, mapping}
+use Rattle.boot_stages.proofs.CarriesLaws.{carries-nothing}
 
 abbrev one_run : List (RunOf ℕ)
 one_run = record { base = 0x1000; size = 0x1000; value = 1 } ∷ []
@@ -42,3 +46,21 @@ parts : (beginning early ≡ item.Claim image owner.Kernel ∷ item.Claim (recor
     ∷ item.Mirror (record { base = 0x1000; size = 0x2000 }) ∷ [])
     × (ending 0x4000 ≡ item.Limit 0x4000 ∷ item.Claim (record { base = 0; size = 0x100000 }) owner.Low1M ∷ [])
 parts = (refl, refl, refl)
+
+-- memory may be wanting for a first item, and never where nothing is wanted
+wanting_first : Carries {T = Unit {0}} (Err refusal.Memory) (item.Trim ∷ []) [] []
+wanting_first = record {
+  done = [];
+  next = item.Trim;
+  rest = [];
+  parts = refl;
+  items = [];
+  carried = carries-nothing [];
+  short = record { count = 0; short = omega arith; stands = refl };
+}
+
+never_for_nothing : (old new : List Item) → Carries {T = Unit {0}} (Err refusal.Memory) [] old new → ⊥
+never_for_nothing old new cut = some cut.done cut.next cut.rest cut.parts where
+  some : (done : List Item) (next : Item) (rest : List Item) → [] ≡ done ++ next ∷ rest → ⊥
+  some [] next rest is = cc is
+  some (i ∷ done) next rest is = cc is

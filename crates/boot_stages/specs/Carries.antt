@@ -1,22 +1,33 @@
 -- How a call ends that carries out what is wanted.
-use Rattle.std.specs.Prelude.{◌≡◌, List, Result, Ok, Err}
+use Rattle.std.specs.Prelude.{◌≡◌, List, ◌∷◌, ◌++◌, Result, Ok, Err}
 use Rattle.bm_base.specs.ResultSteps.{with_error}
 use Rattle.memblock_model.specs.declared.item.Item.{Item}
 use Rattle.growth_model.specs.declared.refusal.Refusal.{Refusal}
 use Rattle.growth_model.specs.declared.refusal.Refusal.TheVariants as refusal
 use Rattle.growth_model.specs.Outcome.{Refused}
-use Rattle.growth_model.specs.Carried.{carried_out}
+use Rattle.growth_model.specs.Carried.{carried_out, change}
+use Rattle.growth_model.specs.Ends.{IsCutShort}
 use Rattle.boot_model.specs.declared.stop.Stop.{Stop}
 use Rattle.boot_model.specs.declared.stop.Stop.TheVariants as stops
 use Rattle.boot_model.specs.Stop.{cause_of_growth, stop_of}
 
--- with the items behind all that is wanted, or with the first growth that was refused. Where memory was wanting nothing is said of the
--- items: the boot that stops drops them
+-- memory was wanting amid what is wanted: the items before one were carried out, and of the steps of that one some, but not all. So it is told
+-- neither where all is done nor in place of a growth that was refused
+pub record AreCutShort (wanted old new : List Item) : Type 0 where
+  pub done : List Item
+  pub next : Item
+  pub rest : List Item
+  pub parts : wanted ≡ done ++ next ∷ rest
+  pub items : List Item
+  pub carried : carried_out done old ≡ Ok items
+  pub short : IsCutShort items new (change next items).steps
+
+-- with the items behind all that is wanted, or with the first growth that was refused; or memory was wanting
 abbrev pub Carries : {T : Type 0} → Result T Refusal → List Item → List Item → List Item → Type 0
 Carries (Ok x) wanted old new = carried_out wanted old ≡ Ok new
 Carries (Err refusal.NoGap) wanted old new = ⊥
 Carries (Err (refusal.NoGapForTable w room)) wanted old new = carried_out wanted old ≡ Err (record { which = w; room = room })
-Carries (Err refusal.Memory) wanted old new = Unit {0}
+Carries (Err refusal.Memory) wanted old new = AreCutShort wanted old new
 
 -- why a boot stops where a call was refused that looks for no gap; `NoGap` stands for nothing there
 abbrev pub stop_of_refusal : Refusal → Stop

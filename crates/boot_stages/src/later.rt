@@ -13,7 +13,7 @@ ghost use Rattle.stage_model.specs.Noded.{IsNoded};
 ghost use Rattle.stage_model.specs.Lent.{GoesOn};
 ghost use Rattle.script_reader.specs.Forms.{HasBounds};
 ghost use Rattle.early_script.specs.Stage.{PlaceOnce};
-ghost use Rattle.numa_nodes.specs.Assigned.{nodes_view};
+ghost use Rattle.numa_nodes.specs.Assigned.{assigned, nodes_view};
 ghost use Rattle.crash_kernel.specs.Reserved.{reserved};
 ghost use Rattle.boot_model.specs.declared.stop.Stop.TheVariants as stops;
 ghost use Rattle.boot_model.specs.Boot.{Made, has_crash_area, has_nodes, has_sections, put_crash, put_nodes, put_sections, reach};
@@ -63,24 +63,36 @@ fn stop_of_stage(stop: StageStop) -> Stop
     }
 }
 
-/// Memory gets its nodes, and each node its data (`initmem_init`).
+/// Memory gets its nodes, and each node its data (`initmem_init`). Memory is wanted only where a step of that is left.
 fn give_nodes(alloc: Global, memblock: &mut Memblock, inputs: &Inputs) -> Result<Nodes, Stop>
     requires begun { HasBegun memblock.old.journal.items }
     requires limit { 0 < limit_of memblock.old.journal.items }
     ensures comes { (made : Made) → Comes (has_nodes (inputs_view inputs.now)) put_nodes made memblock.old memblock.new
         (ok_as nodes_view result) }
+    ensures short { result ≡ Err stops.Memory → IsCutShort memblock.old.journal.items memblock.new.journal.items
+        (assigned (inputs_view inputs.now).domains (inputs_view inputs.now).options.numa_off memblock.old.journal.items).steps }
     ensures begun { HasBegun memblock.new.journal.items }
     ensures lent { GoesOn memblock.old memblock.new }
 {
-    match assign(
+    match assign_nodes(alloc, memblock, inputs) {
+        Ok(nodes) => Ok(nodes),
+        Err(stop) => Err(stop_of_stage(stop)),
+    }
+}
+
+fn assign_nodes(alloc: Global, memblock: &mut Memblock, inputs: &Inputs) -> Result<Nodes, StageStop>
+    requires begun { HasBegun memblock.old.journal.items }
+    requires limit { 0 < limit_of memblock.old.journal.items }
+    ensures ends { EndsAs stage.Memory (ok_as nodes_view result) memblock.old.journal.items memblock.new.journal.items
+        (assigned (inputs_view inputs.now).domains (inputs_view inputs.now).options.numa_off memblock.old.journal.items) }
+    ensures lent { GoesOn memblock.old memblock.new }
+{
+    assign(
         alloc,
         memblock,
         inputs.srat.as_ref(),
         inputs.options.numa_off,
-    ) {
-        Ok(nodes) => Ok(nodes),
-        Err(stop) => Err(stop_of_stage(stop)),
-    }
+    )
 }
 
 /// The crash area is claimed, where one is asked for (`reserve_crashkernel`). Memory is wanted only where a step of that is left.

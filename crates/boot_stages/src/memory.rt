@@ -1,7 +1,7 @@
 //! Memory by the map: the first claims, what the map says is memory and what of it is mirrored, and the first MiB. Each call carries out a part of
 //! the list of what a boot wants, in its order; the growth that comes between is memblock's.
 
-ghost use Rattle.std.specs.Prelude.{◌≡◌, ◌≢◌, ◌-◌, ◌+◌, ◌<◌, ◌++◌, [], min, map, IfOk, IfSome, OnOk};
+ghost use Rattle.std.specs.Prelude.{◌≡◌, ◌≢◌, ◌-◌, ◌+◌, ◌<◌, ◌++◌, [], true, min, map, Err, IfSome, OnErr, OnOk};
 ghost use Rattle.std.specs.List.{All};
 ghost use Rattle.bm_base.specs.Answers.{Answers};
 ghost use Rattle.address_runs.specs.Runs.{AreRuns};
@@ -10,11 +10,11 @@ ghost use Rattle.growth_model.specs.Carried.{carried_out};
 ghost use Rattle.stage_model.specs.Lent.{GoesOn};
 ghost use Rattle.early_stages.specs.Memory.{end_of_runs};
 ghost use Rattle.early_stages.specs.Wanted.{direction_items, early_claims, first_items, items_of_map, items_of_run, mirror_items, up_to};
+ghost use Rattle.boot_model.specs.declared.stop.Stop.TheVariants as stops;
 ghost use Rattle.boot_model.specs.Boot.{early_of, mirrors_of};
 ghost use Rattle.boot_model.specs.Mirrors.{IsMirror, frames_in};
 ghost use Rattle.boot_model.specs.View.{inputs_view};
-ghost use Rattle.boot_stages.specs.Boots.{HoldsWith};
-ghost use Rattle.boot_stages.specs.Carries.{Carries, or_refused_growth, stop_of_refusal};
+ghost use Rattle.boot_stages.specs.Carries.{AreCutShort, Carries, or_refused_growth, stop_of_refusal};
 ghost use Rattle.boot_stages.specs.Parts.{beginning, ending, mapping};
 
 use bm_base::{Memory, Range};
@@ -29,7 +29,6 @@ use memblock_grow::Memblock;
 use memblock_model::Which;
 use memblock_ranges::Tables;
 use stage_model::stand_still;
-use std::alloc::Global;
 
 /// The bytes from 0 up to the address.
 fn up_to(at: u64) -> Range
@@ -123,6 +122,8 @@ fn end_of_memory(tables: &Tables) -> u64
 fn turn_upward(memblock: &mut Memblock, upward: bool) -> Result<(), Memory>
     requires { HasBegun memblock.old.journal.items }
     ensures ok { OnOk result (memblock.new.journal.items ≡ memblock.old.journal.items ++ direction_items upward) }
+    ensures wanted { OnErr result (upward ≡ true) }
+    ensures err { OnErr result (memblock.new ≡ memblock.old) }
     ensures lent { GoesOn memblock.old memblock.new }
 {
     stand_still(memblock);
@@ -232,18 +233,21 @@ pub fn stopped(refusal: Refusal) -> Stop
     }
 }
 
-/// Memory as the map says it within reach, with what is claimed before nodes are known.
-pub fn make_memory(alloc: Global, inputs: &Inputs, map: &[Run]) -> Result<Memblock, Stop>
+/// Memory as the map says it within reach, with what is claimed before nodes are known, in a memblock to which nothing happened yet. Memory is wanted
+/// only where a step of that is left.
+pub fn make_memory(memblock: &mut Memblock, inputs: &Inputs, map: &[Run]) -> Result<(), Stop>
+    requires first { memblock.old.journal.items ≡ [] }
+    requires kernel { inputs.now.kernel ≡ memblock.old.kernel }
     requires runs { AreRuns map.now }
-    ensures answers { Answers Stop.Memory (λ memblock. memblock.journal.items) result
+    ensures answers { Answers Stop.Memory (λ done. memblock.new.journal.items) result
         (or_refused_growth (carried_out (first_items (early_of (inputs_view inputs.now)) map.now) [])) }
-    ensures kernel { IfOk result (λ memblock. memblock.kernel ≡ inputs.now.kernel) }
-    ensures begun { IfOk result (λ memblock. HasBegun memblock.journal.items) }
-    ensures bytes { IfOk result (λ memblock. HoldsWith [] memblock) }
+    ensures short { result ≡ Err stops.Memory →
+        AreCutShort (first_items (early_of (inputs_view inputs.now)) map.now) [] memblock.new.journal.items }
+    ensures begun { OnOk result (HasBegun memblock.new.journal.items) }
+    ensures lent { GoesOn memblock.old memblock.new }
 {
-    let mut memblock = Memblock::new(alloc, inputs.kernel)?;
-    match set_up(&mut memblock, inputs, map) {
-        Ok(()) => Ok(memblock),
+    match set_up(memblock, inputs, map) {
+        Ok(()) => Ok(()),
         Err(refusal) => Err(stopped(refusal)),
     }
 }

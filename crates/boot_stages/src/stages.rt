@@ -26,6 +26,7 @@ use crate::memory::make_memory;
 use crate::pages::{Paged, run_pages};
 use boot_model::{Booted, Inputs, Stop};
 use e820_sanitise::{Run, Table};
+use memblock_grow::Memblock;
 use std::alloc::Global;
 
 /// The boot (`setup_arch`), up to what it hands over (`mem_init`): the entries, the extension's and the options come into
@@ -126,7 +127,8 @@ fn boot_by(alloc: Global, inputs: &Inputs) -> Result<Ended, Stop>
     )?;
     let reach = inputs.reach();
     let map = settled_map(&table, reach)?;
-    let mut memblock = make_memory(alloc, inputs, &map)?;
+    let mut memblock = Memblock::new(alloc, inputs.kernel)?;
+    make_memory(&mut memblock, inputs, &map)?;
     let later = run_stages(alloc, &mut memblock, inputs)?;
     let end = hand_over_memory(alloc, memblock)?;
     let paged = run_pages(alloc, inputs, &later.nodes, &end)?;

@@ -1,5 +1,5 @@
 -- Each range's item is the first of those that are left.
-use Rattle.std.proofs.Common.{◌≡◌, ◌+◌, List, ◌∷◌, [], Ok, drop, map, ap, sym, subst, ◌∙◌, arith}
+use Rattle.std.proofs.Common.{◌+◌, List, ◌∷◌, [], Ok, drop, map, sym, subst, ◌∙◌, arith}
 use Rattle.std.proofs.lemmas.List.{at_drop_all}
 use Rattle.std.proofs.lemmas.Result.{err_from_is_err_and}
 use Rattle.bm_base.specs.Extent.{Extent}
@@ -12,7 +12,7 @@ use Rattle.stage_model.proofs.LentLaws.{goes-then}
 use Rattle.early_stages.specs.Wanted.{mirror_items}
 use Rattle.boot_model.specs.Mirrors.{IsMirror, frames_in}
 use Rattle.boot_stages.proofs.BytesLaws.{goes-once}
-use Rattle.boot_stages.proofs.CarriesLaws.{carried-on, carries-change, carries-left, carries-nothing, change-exit}
+use Rattle.boot_stages.proofs.CarriesLaws.{Leaves, carries-change, carries-left, carries-nothing, change-exit, leaves-all, leaves-next}
 use Rattle.boot_stages.proofs.MemoryLaws.{mirrors_next}
 use Rattle.boot_stages.proofs.memory.add_mirrors.Goals as goal
 
@@ -34,8 +34,16 @@ returns-in_err-set_mirror-clause-carries c =
     let next = mirrors_next c.args.mirrors.now c.loop-mirror.mirror-index range (omega (arith, c.loop-mirror-test.true))
     c.mirror-item.is c.requires.whole in
     carries-left r (mirror_items (map frames_in c.args.mirrors.now)) (item.Mirror range ∷ rest) c.args.memblock.now.journal.items here new
-    (ap (λ (is : List Item). carried_out is here) (sym next) ∙ c.loop-mirror.invariant.left)
+    (subst (λ (is : List Item). Leaves (mirror_items (map frames_in c.args.mirrors.now)) is c.args.memblock.now.journal.items here) next
+    c.loop-mirror.invariant.left)
     (change-exit c.in_err-set_mirror.field-0.0 r (item.Mirror range) rest here new p.0 p.1 p.2 c.in_err-set_mirror.ensures.ends)
+
+pub loop-mirror-init : goal.loop-mirror-init
+loop-mirror-init c = record {
+  left = leaves-all (mirror_items (map frames_in c.args.mirrors.now)) c.args.memblock.now.journal.items;
+  begun = c.requires.begun;
+  lent = c.stand_still.ensures;
+}
 
 pub loop-mirror-preserved : goal.loop-mirror-preserved
 loop-mirror-preserved c =
@@ -46,9 +54,9 @@ loop-mirror-preserved c =
     let next = mirrors_next c.args.mirrors.now c.loop-mirror.mirror-index range (omega (arith, c.loop-mirror-test.true))
     c.mirror-item.is c.requires.whole in
     record {
-      left = sym (carried-on (item.Mirror range ∷ []) rest here new (carries-change (Ok tt) (item.Mirror range) here new
-          c.in_ok-set_mirror.ensures.ends))
-          ∙ ap (λ (is : List Item). carried_out is here) (sym next) ∙ c.loop-mirror.invariant.left;
+      left = leaves-next (mirror_items (map frames_in c.args.mirrors.now)) (item.Mirror range ∷ []) rest _
+          c.args.memblock.now.journal.items here new next
+          (carries-change (Ok tt) (item.Mirror range) here new c.in_ok-set_mirror.ensures.ends) c.loop-mirror.invariant.left;
       begun = ends-begun {T = Unit {0}} (Ok tt) here new (mirrored range) c.loop-mirror.invariant.begun c.in_ok-set_mirror.ensures.ends;
       lent = goes-then c.args.memblock.now c.loop-mirror.memblock c.set_mirror.new.self c.loop-mirror.invariant.lent
           (goes-once c.loop-mirror.memblock c.set_mirror.new.self c.set_mirror.ensures.kernel c.set_mirror.ensures.bytes
@@ -57,12 +65,12 @@ loop-mirror-preserved c =
 
 pub returns-clause-carries : goal.returns-clause-carries
 returns-clause-carries c =
-    let left : carried_out (mirror_items (map frames_in (drop c.loop-mirror.mirror-index c.args.mirrors.now)))
-    c.loop-mirror.memblock.journal.items
-    ≡ carried_out (mirror_items (map frames_in c.args.mirrors.now)) c.args.memblock.now.journal.items = c.loop-mirror.invariant.left in
-    let rest = at_drop_all (λ (rs : List Extent). carried_out (mirror_items (map frames_in rs)) c.loop-mirror.memblock.journal.items)
-    c.args.mirrors.now c.loop-mirror.mirror-index (omega (arith, c.loop-mirror-test.false)) in
-    sym left ∙ rest ∙ carries-nothing c.loop-mirror.memblock.journal.items
+    let here = c.loop-mirror.memblock.journal.items in
+    let rest = at_drop_all (λ (rs : List Extent). carried_out (mirror_items (map frames_in rs)) here) c.args.mirrors.now
+    c.loop-mirror.mirror-index (omega (arith, c.loop-mirror-test.false)) in
+    carries-left (Ok tt) (mirror_items (map frames_in c.args.mirrors.now))
+    (mirror_items (map frames_in (drop c.loop-mirror.mirror-index c.args.mirrors.now))) c.args.memblock.now.journal.items here here
+    c.loop-mirror.invariant.left (rest ∙ carries-nothing here)
 
 pub returns-in_err-set_mirror-clause-lent : goal.returns-in_err-set_mirror-clause-lent
 returns-in_err-set_mirror-clause-lent c =

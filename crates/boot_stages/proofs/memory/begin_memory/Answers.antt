@@ -1,14 +1,15 @@
 -- The claims, a limit behind them, and the direction: those before an error were carried out.
-use Rattle.std.proofs.Common.{[], ◌∷◌, Ok}
+use Rattle.std.proofs.Common.{Bool, true, [], ◌∷◌, Ok, ap, sym, subst, arith}
 use Rattle.std.proofs.lemmas.Result.{err_from_is_err_and}
 use Rattle.memblock_model.specs.declared.item.Item.TheVariants as item
 use Rattle.early_stages.specs.declared.low.TheConstants.{ISA_END_ADDRESS}
 use Rattle.early_stages.specs.Early.{Early}
 use Rattle.early_stages.specs.Wanted.{direction_items, early_claims}
+use Rattle.memblock_grow.specs.Contents.{Contents as Memblock}
 use Rattle.stage_model.proofs.LentLaws.{goes-then}
 use Rattle.boot_model.specs.Boot.{early_of}
 use Rattle.boot_model.specs.View.{inputs_view}
-use Rattle.boot_stages.specs.Parts.{beginning}
+use Rattle.boot_stages.specs.Carries.{Carries}
 use Rattle.boot_stages.proofs.BytesLaws.{goes-once}
 use Rattle.boot_stages.proofs.CarriesLaws.{carries-direction, carries-exit, carries-limit, carries-second, carries-wanting, written-begun}
 use Rattle.boot_stages.proofs.memory.begin_memory.Goals as goal
@@ -22,9 +23,15 @@ returns-in_err-claim_early-clause-carries c =
 
 pub returns-in_err-set_limit-clause-carries : goal.returns-in_err-set_limit-clause-carries
 returns-in_err-set_limit-clause-carries c =
-    let p = err_from_is_err_and c.from_residual-in_err-set_limit.result c.from_residual-in_err-set_limit.ensures.1 in
-    carries-wanting c.from_residual-in_err-set_limit.result (beginning (early_of (inputs_view c.args.inputs.now)))
-    c.args.memblock.now.journal.items c.set_limit.new.self.journal.items p.0 p.1 p.2
+    let e : Early = early_of (inputs_view c.args.inputs.now) in
+    let r = c.from_residual-in_err-set_limit.result in
+    let p = err_from_is_err_and r c.from_residual-in_err-set_limit.ensures.1 in
+    let claimed = c.claim_early.new.memblock.journal.items in
+    let new = c.set_limit.new.self.journal.items in
+    carries-second r (early_claims e.kernel e.initrd) (item.Limit ISA_END_ADDRESS ∷ direction_items e.upward)
+    c.args.memblock.now.journal.items claimed new c.in_ok-claim_early.ensures.carries
+    (carries-wanting r (item.Limit ISA_END_ADDRESS) (direction_items e.upward) claimed new p.0 p.1 p.2 (omega arith)
+    (ap (λ (m : Memblock). m.journal.items) c.in_err-set_limit.ensures.err))
 
 pub turn_upward-requires : goal.turn_upward-requires
 turn_upward-requires c =
@@ -33,9 +40,19 @@ turn_upward-requires c =
 
 pub returns-in_err-turn_upward-clause-carries : goal.returns-in_err-turn_upward-clause-carries
 returns-in_err-turn_upward-clause-carries c =
-    let p = err_from_is_err_and c.from_residual-in_err-turn_upward.result c.from_residual-in_err-turn_upward.ensures.1 in
-    carries-wanting c.from_residual-in_err-turn_upward.result (beginning (early_of (inputs_view c.args.inputs.now)))
-    c.args.memblock.now.journal.items c.turn_upward.new.memblock.journal.items p.0 p.1 p.2
+    let e : Early = early_of (inputs_view c.args.inputs.now) in
+    let r = c.from_residual-in_err-turn_upward.result in
+    let p = err_from_is_err_and r c.from_residual-in_err-turn_upward.ensures.1 in
+    let claimed = c.claim_early.new.memblock.journal.items in
+    let limited = c.set_limit.new.self.journal.items in
+    let new = c.turn_upward.new.memblock.journal.items in
+    carries-second r (early_claims e.kernel e.initrd) (item.Limit ISA_END_ADDRESS ∷ direction_items e.upward)
+    c.args.memblock.now.journal.items claimed new c.in_ok-claim_early.ensures.carries
+    (carries-second r (item.Limit ISA_END_ADDRESS ∷ []) (direction_items e.upward) claimed limited new
+    (carries-limit ISA_END_ADDRESS claimed limited c.in_ok-set_limit.ensures.ok)
+    (subst (λ (upward : Bool). Carries r (direction_items upward) limited new) (sym c.in_err-turn_upward.ensures.wanted)
+    (carries-wanting r (item.Upward true) [] limited new p.0 p.1 p.2 (omega arith)
+    (ap (λ (m : Memblock). m.journal.items) c.in_err-turn_upward.ensures.err))))
 
 pub returns-clause-carries : goal.returns-clause-carries
 returns-clause-carries c =

@@ -1,13 +1,22 @@
 -- A limit, and a claim behind it.
-use Rattle.std.proofs.Common.{[], ◌∷◌, Result, subst}
+use Rattle.std.proofs.Common.{[], ◌∷◌, Result, ap, subst, arith}
+use Rattle.std.proofs.lemmas.Result.{err_from_is_err_and}
 use Rattle.bm_base.specs.Extent.{Extent}
 use Rattle.memblock_model.specs.declared.owner.Owner.TheVariants as owner
 use Rattle.memblock_model.specs.declared.item.Item.TheVariants as item
+use Rattle.memblock_grow.specs.Contents.{Contents as Memblock}
 use Rattle.stage_model.proofs.LentLaws.{goes-then}
 use Rattle.boot_stages.specs.Carries.{Carries}
 use Rattle.boot_stages.proofs.BytesLaws.{goes-once}
-use Rattle.boot_stages.proofs.CarriesLaws.{carries-change, carries-limit, carries-second}
+use Rattle.boot_stages.proofs.CarriesLaws.{carries-change, carries-limit, carries-second, carries-wanting}
 use Rattle.boot_stages.proofs.memory.limit_memory.Goals as goal
+
+pub returns-in_err-set_limit-clause-carries : goal.returns-in_err-set_limit-clause-carries
+returns-in_err-set_limit-clause-carries c =
+    let r = c.from_residual.result in
+    let p = err_from_is_err_and r c.from_residual.ensures.1 in
+    carries-wanting r (item.Limit c.args.end) _ c.args.memblock.now.journal.items c.set_limit.new.self.journal.items p.0 p.1 p.2 (omega arith)
+    (ap (λ (m : Memblock). m.journal.items) c.in_err-set_limit.ensures.err)
 
 pub returns-clause-carries : goal.returns-clause-carries
 returns-clause-carries c =

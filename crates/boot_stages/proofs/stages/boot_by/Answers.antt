@@ -31,8 +31,9 @@ use Rattle.page_alloc.specs.Pages.{State as Pages, begun}
 use Rattle.slit_zonelists.specs.Lists.{Known, known}
 use Rattle.slit_zonelists.specs.Near.{after_with, answers_with}
 use Rattle.boot_model.specs.First.{IsFirstMemory}
-use Rattle.boot_stages.specs.Boots.{LaterMade, begun_with, later_view, made_behind}
+use Rattle.boot_stages.specs.Boots.{HoldsWith, LaterMade, begun_with, later_view, made_behind}
 use Rattle.boot_stages.specs.Carries.{or_refused_growth}
+use Rattle.boot_stages.proofs.BytesLaws.{holds-lent}
 use Rattle.boot_stages.proofs.MapLaws.{boot_stops, boot_told, claims-told, first_made, made_of, memory_goes_on, memory_stops, stages_stop}
 use Rattle.boot_stages.proofs.stages.boot_by.Goals as goal
 
@@ -48,18 +49,18 @@ returns-in_err-map-clause-boots c =
     boot_stops _ (inputs_view c.args.inputs.now) _ c.in_err-map.field-0.0 (p.1 ∙ ap (λ (s : Stop). Err s) p.2)
     (c.in_err-map.ensures.answers (inputs_view c.args.inputs.now) same (sym c.reach-reach.ensures))
 
-pub returns-in_err-memblock-clause-boots : goal.returns-in_err-memblock-clause-boots
-returns-in_err-memblock-clause-boots c =
+pub returns-in_err-make_memory-clause-boots : goal.returns-in_err-make_memory-clause-boots
+returns-in_err-make_memory-clause-boots c =
     let same = claims-told (inputs_view c.args.inputs.now) _ _ _ _ _ c.in_ok-table.ensures c.deref.ensures.0 c.deref-2.ensures.value
     c.deref-3.ensures.value c.added_entries.ensures.value in
-    let r = c.from_residual-in_err-memblock.result in
-    let p = err_from_is_err_and r c.from_residual-in_err-memblock.ensures.1 in
-    let stop : Stop = c.in_err-memblock.field-0.0 in
+    let r = c.from_residual-in_err-make_memory.result in
+    let p = err_from_is_err_and r c.from_residual-in_err-make_memory.ensures.1 in
+    let stop : Stop = c.in_err-make_memory.field-0.0 in
     let Stops : List (RunOf ℕ) → Type 0 = λ map. stop ≢ stops.Memory
     → or_refused_growth (carried_out (first_items (early_of (inputs_view c.args.inputs.now)) map) []) ≡ Err stop in
     memory_stops _ (inputs_view c.args.inputs.now) (made_of (inputs_view c.args.inputs.now) c.in_ok-map.map) r stop
     (p.1 ∙ ap (λ (s : Stop). Err s) p.2) (c.in_ok-map.ensures.answers (inputs_view c.args.inputs.now) same (sym c.reach-reach.ensures))
-    (subst Stops c.deref-4.ensures.value c.in_err-memblock.ensures.answers)
+    (subst Stops c.deref-4.ensures.value c.in_err-make_memory.ensures.answers)
 
 -- what is known where memory was made
 record MemoryIsMade (given : Given) (map : Vec (RunOf ℕ) Global) (m : Memblock) : Type 0 where
@@ -77,13 +78,26 @@ memory_is_made given map runs m same judged carried =
       first = first_made given (made_of given map) m.journal.items judged told;
     }
 
+pub run_stages-requires-clause-kernel : goal.run_stages-requires-clause-kernel
+run_stages-requires-clause-kernel c = c.in_ok-make_memory.ensures.lent.kernel ∙ c.in_ok-memblock.ensures.kernel
+
+pub run_stages-requires-clause-bytes : goal.run_stages-requires-clause-bytes
+run_stages-requires-clause-bytes c =
+    let m : Memblock = c.in_ok-memblock.memblock in
+    let first : HoldsWith [] m = record {
+      made = tt;
+      each = λ x. c.in_ok-memblock.ensures.bytes x ∙ ap (λ (k : Extent). byte k [] [] x) (sym c.in_ok-memblock.ensures.kernel)
+          ∙ ap (λ (j : Contents). byte m.kernel j.items [] x) (sym c.in_ok-memblock.ensures.journal);
+    } in
+    holds-lent [] m c.make_memory.new.memblock c.in_ok-make_memory.ensures.lent first
+
 pub run_stages-requires-clause-first : goal.run_stages-requires-clause-first
 run_stages-requires-clause-first c =
     let given : Given = inputs_view c.args.inputs.now in
     let same = claims-told given _ _ _ _ _ c.in_ok-table.ensures c.deref.ensures.0 c.deref-2.ensures.value c.deref-3.ensures.value
     c.added_entries.ensures.value in
-    (memory_is_made given c.in_ok-map.map c.deref-4.result.now c.in_ok-memblock.memblock c.deref-4.ensures.value
-    (c.in_ok-map.ensures.answers given same (sym c.reach-reach.ensures)) c.in_ok-memblock.ensures.answers).first
+    (memory_is_made given c.in_ok-map.map c.deref-4.result.now c.make_memory.new.memblock c.deref-4.ensures.value
+    (c.in_ok-map.ensures.answers given same (sym c.reach-reach.ensures)) c.in_ok-make_memory.ensures.answers).first
 
 pub returns-in_err-later-clause-boots : goal.returns-in_err-later-clause-boots
 returns-in_err-later-clause-boots c =
@@ -91,12 +105,12 @@ returns-in_err-later-clause-boots c =
     let same = claims-told given _ _ _ _ _ c.in_ok-table.ensures c.deref.ensures.0 c.deref-2.ensures.value c.deref-3.ensures.value
     c.added_entries.ensures.value in
     let made : Made = made_of given c.in_ok-map.map in
-    let m : Memblock = c.in_ok-memblock.memblock in
+    let m : Memblock = c.make_memory.new.memblock in
     let p = err_from_is_err_and c.from_residual-in_err-later.result c.from_residual-in_err-later.ensures.1 in
     stages_stop _ given (begun_with made m) _ c.in_err-later.field-0.0 (p.1 ∙ ap (λ (s : Stop). Err s) p.2)
     (memory_is_made given c.in_ok-map.map c.deref-4.result.now m c.deref-4.ensures.value
     (c.in_ok-map.ensures.answers given same (sym c.reach-reach.ensures))
-    c.in_ok-memblock.ensures.answers).comes
+    c.in_ok-make_memory.ensures.answers).comes
     (c.in_err-later.ensures.stopped made)
 
 pub hand_over_memory-requires-clause-within : goal.hand_over_memory-requires-clause-within
@@ -131,12 +145,12 @@ returns-clause-boots c =
     c.added_entries.ensures.value in
     let made : Made = made_of given c.in_ok-map.map in
     let map : List (RunOf ℕ) = c.in_ok-map.map.items in
-    let m : Memblock = c.in_ok-memblock.memblock in
+    let m : Memblock = c.make_memory.new.memblock in
     let last : Memblock = c.run_stages.new.memblock in
     let later : LaterMade = later_view c.in_ok-later.later in
     let run = c.in_ok-later.ensures.run made in
     let comes = (memory_is_made given c.in_ok-map.map c.deref-4.result.now m c.deref-4.ensures.value
-    (c.in_ok-map.ensures.answers given same (sym c.reach-reach.ensures)) c.in_ok-memblock.ensures.answers).comes ∙ run.come in
+    (c.in_ok-map.ensures.answers given same (sym c.reach-reach.ensures)) c.in_ok-make_memory.ensures.answers).comes ∙ run.come in
     let end = c.in_ok-end.end in
     let paged = c.in_ok-paged.paged in
     let zones : List Span → Known = λ spans. known given.slit later.nodes.domains spans in
@@ -164,11 +178,11 @@ returns-clause-bytes c = λ final ends x. (
     let same = claims-told given _ _ _ _ _ c.in_ok-table.ensures c.deref.ensures.0 c.deref-2.ensures.value c.deref-3.ensures.value
     c.added_entries.ensures.value in
     let made : Made = made_of given c.in_ok-map.map in
-    let m : Memblock = c.in_ok-memblock.memblock in
+    let m : Memblock = c.make_memory.new.memblock in
     let last : Memblock = c.run_stages.new.memblock in
     let run = c.in_ok-later.ensures.run made in
     let comes = (memory_is_made given c.in_ok-map.map c.deref-4.result.now m c.deref-4.ensures.value
-    (c.in_ok-map.ensures.answers given same (sym c.reach-reach.ensures)) c.in_ok-memblock.ensures.answers).comes ∙ run.come in
+    (c.in_ok-map.ensures.answers given same (sym c.reach-reach.ensures)) c.in_ok-make_memory.ensures.answers).comes ∙ run.come in
     let behind : Made = made_behind (begun_with made m) last (later_view c.in_ok-later.later) run.ids run.fills in
     let told : Ok behind ≡ Ok final = sym comes ∙ ends in
     let is : behind ≡ final = cc in
