@@ -1,5 +1,5 @@
 -- Memory is wanted where a step of the stage is left.
-use Rattle.std.proofs.Common.{◌≡◌, Err}
+use Rattle.std.proofs.Common.{◌≡◌}
 use Rattle.numa_nodes.specs.Assigned.{assigned}
 use Rattle.boot_model.specs.declared.stop.Stop.TheVariants as stops
 use Rattle.boot_model.specs.View.{inputs_view}

@@ -115,8 +115,8 @@ returns-in_err-later-clause-boots c =
 
 pub hand_over_memory-requires-clause-within : goal.hand_over_memory-requires-clause-within
 hand_over_memory-requires-clause-within c =
-    subst (λ (m : Memblock). NothingFrom (2 ^ 64) (reserved_of (owner_of m.journal.items))) c.memblock.view_is
-    (c.memblock.invariant.kept.ends which.Reserved)
+    subst (λ (m : Memblock). NothingFrom (2 ^ 64) (reserved_of (owner_of m.journal.items))) c.memblock-2.view_is
+    (c.memblock-2.invariant.kept.ends which.Reserved)
 
 -- what is told, by its parts
 told_by : Given → List (RunOf ℕ) → LaterMade → List Item → Heads → List Span → Frames → Known → List PageAnswer → Pages → Told
