@@ -24,8 +24,8 @@ use Rattle.efi_map.specs.Map.{descriptors_from}
 use Rattle.boot_inputs.specs.declared.fault.Fault.TheVariants as faults
 use Rattle.boot_inputs.specs.declared.fault.Misread.TheVariants as misreads
 use Rattle.boot_inputs.specs.declared.input.Input.TheVariants as inputs
-use Rattle.boot_inputs.specs.declared.refusal.Refusal.{Refusal}
-use Rattle.boot_inputs.specs.declared.refusal.Refusal.TheVariants as refusals
+use Rattle.boot_inputs.specs.declared.refusal.InputRefusal.{InputRefusal}
+use Rattle.boot_inputs.specs.declared.refusal.InputRefusal.TheVariants as refusals
 use Rattle.boot_inputs.specs.declared.refusal.InputError.TheVariants as errors
 use Rattle.boot_inputs.specs.Answers.{ComesTo, FitsAnswer, FitsRefusal, Gives, HasCause, IsCaused, IsOf, Passes, RefusalHasCause, RoseAt, input_of}
 use Rattle.boot_inputs.specs.CommandLine.{command_line, fault_of_option, options_said, options_take, options_told, put_options}
@@ -371,7 +371,7 @@ never_goes_beyond_it : Passes {Y = List ℕ} inputs.Extension (Err (refusals.Fau
 never_goes_beyond_it passes = omega (arith, passes)
 
 -- how an answer fits what is said
-abbrev few : Result (List ℕ) Refusal
+abbrev few : Result (List ℕ) InputRefusal
 few = Err (refusals.Faulty inputs.ZeroPage (faults.ZeroPage zero.TooFew))
 
 refusal_fits : FitsRefusal (refusals.Faulty inputs.ZeroPage (faults.ZeroPage zero.TooFew)) few × (FitsRefusal (refusals.Unread inputs.Extension) few → ⊥)

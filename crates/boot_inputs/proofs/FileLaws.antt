@@ -9,7 +9,7 @@ use Rattle.boot_inputs.specs.declared.fault.Misread.{Misread}
 use Rattle.boot_inputs.specs.declared.fault.Misread.TheVariants as misreads
 use Rattle.boot_inputs.specs.declared.input.Input.{Input}
 use Rattle.boot_inputs.specs.declared.refusal.InputError.{InputError}
-use Rattle.boot_inputs.specs.declared.refusal.Refusal.TheVariants as refusals
+use Rattle.boot_inputs.specs.declared.refusal.InputRefusal.TheVariants as refusals
 use Rattle.boot_inputs.specs.Answers.{ComesTo, Gives}
 use Rattle.boot_inputs.specs.File.{File}
 use Rattle.boot_inputs.specs.Inputs.{Held, named_step, or_faulty, or_unread, takes_held, within}

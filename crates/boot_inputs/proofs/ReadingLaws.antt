@@ -9,8 +9,8 @@ use Rattle.bm_io.specs.declared.reading.Files.{Ghosts as FilesOf}
 use Rattle.boot_model.specs.Boot.{Given}
 use Rattle.boot_inputs.specs.declared.fault.Fault.{Fault}
 use Rattle.boot_inputs.specs.declared.input.Input.{Input}
-use Rattle.boot_inputs.specs.declared.refusal.Refusal.{Refusal}
-use Rattle.boot_inputs.specs.declared.refusal.Refusal.TheVariants as refusals
+use Rattle.boot_inputs.specs.declared.refusal.InputRefusal.{InputRefusal}
+use Rattle.boot_inputs.specs.declared.refusal.InputRefusal.TheVariants as refusals
 use Rattle.boot_inputs.specs.declared.refusal.InputError.{InputError}
 use Rattle.boot_inputs.specs.declared.refusal.InputError.TheVariants as errors
 use Rattle.boot_inputs.specs.Answers.{ComesTo, FitsAnswer, Gives, HasCause, IsOf, Passes, RoseAt}
@@ -37,7 +37,7 @@ step_passes input held file given None below = tt
 step_passes input held file given (Some name) below = file_passes input file given (held name) below
 
 -- a later step, and what comes behind it
-then_passes : (input : Input) (x : Result Given Refusal) (f : Given → Result Given Refusal) → Passes input x
+then_passes : (input : Input) (x : Result Given InputRefusal) (f : Given → Result Given InputRefusal) → Passes input x
     → ((a : Given) → Passes input (f a)) → Passes input (x >>= f)
 then_passes input (Ok a) f first rest = rest a
 then_passes input (Err refusal) f first rest = first
@@ -52,17 +52,17 @@ behind_passes input held named (file ∷ files) behind given =
     (step_passes input held file given (named file.input) (ltb-true _ _ parts.0)) (behind_passes input held named files parts.1)
 
 -- the work that goes beyond a file comes to it
-passes_comes : (input : Input) (y : Result Given Refusal) → Passes input y → ComesTo input y
+passes_comes : (input : Input) (y : Result Given InputRefusal) → Passes input y → ComesTo input y
 passes_comes input (Ok b) passes = tt
 passes_comes input (Err refusal) passes = omega (arith, passes)
 
-comes_behind : (input : Input) (x : Result Given Refusal) (f : Given → Result Given Refusal) → ComesTo input x
+comes_behind : (input : Input) (x : Result Given InputRefusal) (f : Given → Result Given InputRefusal) → ComesTo input x
     → ((a : Given) → Passes input (f a)) → ComesTo input (x >>= f)
 comes_behind input (Ok a) f comes rest = passes_comes input (f a) (rest a)
 comes_behind input (Err refusal) f comes rest = comes
 
 -- what fits the file's own step fits the whole
-first_fits : (error : InputError) (input : Input) (x : Result Given Refusal) (f : Given → Result Given Refusal)
+first_fits : (error : InputError) (input : Input) (x : Result Given InputRefusal) (f : Given → Result Given InputRefusal)
     → IsOf {X = Unit {0}} input (Err error) → FitsAnswer error x → ((a : Given) → Passes input (f a)) → FitsAnswer error (x >>= f)
 first_fits errors.Memory input x f own fits rest = tt
 first_fits (errors.Refused (refusals.Unread other)) input x f own fits rest =
@@ -70,7 +70,7 @@ first_fits (errors.Refused (refusals.Unread other)) input x f own fits rest =
 first_fits (errors.Refused (refusals.Faulty other fault)) input x f own fits rest = ap (λ y. y >>= f) fits
 
 -- the file's own step, which has no fault
-value_passes : (input : Input) (x : Result Given Refusal) (f : Given → Result Given Refusal) → IsOk x
+value_passes : (input : Input) (x : Result Given InputRefusal) (f : Given → Result Given InputRefusal) → IsOk x
     → ((a : Given) → Passes input (f a)) → Passes input (x >>= f)
 value_passes input (Ok a) f has rest = rest a
 value_passes input (Err refusal) f has rest = absurd (cc has)
@@ -157,7 +157,7 @@ module _ {F : Type 0} (kind : FilesOf F) (names : Named) (file : File) (files : 
   -- what is read behind a file that was read
   behind : (held : Held) (before between : Given) → file_step held names file before ≡ Ok between
       → given_in held names (file ∷ files) before ≡ given_in held names files between
-  behind held before between is = ap (λ (x : Result Given Refusal). x >>= given_in held names files) is
+  behind held before between is = ap (λ (x : Result Given InputRefusal). x >>= given_in held names files) is
 
   -- the first file is read, and so are those behind it
   pub gone_on : (old mid new : F) (before between after : Given) (result : Result (Unit {0}) InputError)
@@ -177,7 +177,7 @@ module _ {F : Type 0} (kind : FilesOf F) (names : Named) (file : File) (files : 
             w.0,
             inr w.1,
             w.2,
-            subst (λ (y : Result Given Refusal). Passes w.0.input y) (sym (behind held before between is)) w.3,
+            subst (λ (y : Result Given InputRefusal). Passes w.0.input y) (sym (behind held before between is)) w.3,
           )) added.gives (rw added.kept at told))
     ];
     unfailed = λ wants any. rest.unfailed wants any ∙ added.uncounted any;

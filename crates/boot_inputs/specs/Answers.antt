@@ -3,40 +3,40 @@
 use Rattle.std.specs.Prelude.{◌≡◌, ℕ, ◌<◌, ◌≤◌, List, Option, Some, None, Result, Ok, Err}
 use Rattle.bm_io.specs.Counts.{Rose}
 use Rattle.boot_inputs.specs.declared.input.Input.{Input}
-use Rattle.boot_inputs.specs.declared.refusal.Refusal.{Refusal}
-use Rattle.boot_inputs.specs.declared.refusal.Refusal.TheVariants as refusals
+use Rattle.boot_inputs.specs.declared.refusal.InputRefusal.{InputRefusal}
+use Rattle.boot_inputs.specs.declared.refusal.InputRefusal.TheVariants as refusals
 use Rattle.boot_inputs.specs.declared.refusal.InputError.{InputError}
 use Rattle.boot_inputs.specs.declared.refusal.InputError.TheVariants as errors
 use Rattle.boot_inputs.specs.Input.{place}
 use Rattle.boot_inputs.specs.Inputs.{Named}
 
 -- the input whose file is refused
-abbrev pub input_of : Refusal → Input
+abbrev pub input_of : InputRefusal → Input
 input_of (refusals.Unread input) = input
 input_of (refusals.Faulty input fault) = input
 
 -- the work comes to the input's file: each file before it is held and has no fault
-abbrev pub ComesTo : {Y : Type 0} → Input → Result Y Refusal → Type 0
+abbrev pub ComesTo : {Y : Type 0} → Input → Result Y InputRefusal → Type 0
 ComesTo input (Ok y) = Unit {0}
 ComesTo input (Err refusal) = place input ≤ place (input_of refusal)
 
 -- the work goes beyond the input's file: neither it nor one before it is refused
-abbrev pub Passes : {Y : Type 0} → Input → Result Y Refusal → Type 0
+abbrev pub Passes : {Y : Type 0} → Input → Result Y InputRefusal → Type 0
 Passes input (Ok y) = Unit {0}
 Passes input (Err refusal) = place input < place (input_of refusal)
 
 -- a refusal is the one that the definition gives; but a file may fail to be read where the work comes to it
-abbrev pub FitsRefusal : {Y : Type 0} → Refusal → Result Y Refusal → Type 0
+abbrev pub FitsRefusal : {Y : Type 0} → InputRefusal → Result Y InputRefusal → Type 0
 FitsRefusal (refusals.Unread input) said = ComesTo input said
 FitsRefusal (refusals.Faulty input fault) said = said ≡ Err (refusals.Faulty input fault)
 
 -- want of memory says nothing of the definition
-abbrev pub FitsAnswer : {Y : Type 0} → InputError → Result Y Refusal → Type 0
+abbrev pub FitsAnswer : {Y : Type 0} → InputError → Result Y InputRefusal → Type 0
 FitsAnswer (errors.Refused refusal) said = FitsRefusal refusal said
 FitsAnswer errors.Memory said = Unit {0}
 
 -- an answer is the value that the definition gives, or an error that fits it
-abbrev pub Gives : {X Y : Type 0} → (X → Y) → Result X InputError → Result Y Refusal → Type 0
+abbrev pub Gives : {X Y : Type 0} → (X → Y) → Result X InputError → Result Y InputRefusal → Type 0
 Gives view (Ok x) said = said ≡ Ok (view x)
 Gives view (Err error) said = FitsAnswer error said
 
@@ -52,7 +52,7 @@ RoseAt before now None = ⊥
 RoseAt before now (Some name) = Rose (before name) (now name)
 
 -- a file is unread only where the faults of its name rose
-abbrev pub RefusalHasCause : (before now : List ℕ → ℕ) → Named → Refusal → Type 0
+abbrev pub RefusalHasCause : (before now : List ℕ → ℕ) → Named → InputRefusal → Type 0
 RefusalHasCause before now named (refusals.Unread input) = RoseAt before now (named input)
 RefusalHasCause before now named (refusals.Faulty input fault) = Unit {0}
 

@@ -9,7 +9,7 @@ ghost use Rattle.boot_inputs.specs.Inputs.{file_step, named_step, or_faulty, tak
 use crate::fault::{Fault, Misread};
 use crate::names::Names;
 use crate::reader::Reader;
-use crate::refusal::{InputError, Refusal};
+use crate::refusal::{InputError, InputRefusal};
 use bm_io::{Fetch, Files};
 use boot_model::Inputs;
 use std::alloc::Global;
@@ -68,8 +68,8 @@ fn fetch<R: Reader, F: Files>(
 {
     match files.fetch(alloc, name, R::limit()) {
         Ok(bytes) => read::<R>(alloc, &bytes, inputs),
-        Err(Fetch::Failed) => Err(InputError::Refused(Refusal::Unread(R::input()))),
-        Err(Fetch::TooLong) => Err(InputError::Refused(Refusal::Faulty(
+        Err(Fetch::Failed) => Err(InputError::Refused(InputRefusal::Unread(R::input()))),
+        Err(Fetch::TooLong) => Err(InputError::Refused(InputRefusal::Faulty(
             R::input(),
             Fault::TooLong,
         ))),
@@ -90,7 +90,7 @@ fn read<R: Reader>(alloc: Global, bytes: &[u8], inputs: &mut Inputs) -> Result<(
     match R::read(alloc, bytes, inputs) {
         Ok(()) => Ok(()),
         Err(Misread::Fault(fault)) => {
-            Err(InputError::Refused(Refusal::Faulty(R::input(), fault)))
+            Err(InputError::Refused(InputRefusal::Faulty(R::input(), fault)))
         }
         Err(Misread::Memory) => Err(InputError::Memory),
     }

@@ -10,7 +10,7 @@
 //! The files in the order of work, zero page, extension, command line, SRAT, script, page script, SLIT, EFI map, are a list in the code
 //! (`src/inputs.rt`) and one in the definition (`input_files` of `specs/Inputs.antt`). [`Readers`] walks any list, and what
 //! is said of it (`AreRead` of `specs/Reading.antt`) is proved once. [`read_inputs`] walks this one: the first file
-//! that can't be read ([`Refusal::Unread`]) or is malformed ([`Refusal::Faulty`]) is the answer. A file that couldn't be
+//! that can't be read ([`InputRefusal::Unread`]) or is malformed ([`InputRefusal::Faulty`]) is the answer. A file that couldn't be
 //! read has its cause in the count of faults of its name; nothing else is free but want of memory, which [`InputError`]
 //! keeps apart from what is wrong with the files.
 //!
@@ -44,4 +44,4 @@ pub use inputs::read_inputs;
 pub use list::Readers;
 pub use names::Names;
 pub use reader::Reader;
-pub use refusal::{InputError, Refusal};
+pub use refusal::{InputError, InputRefusal};

@@ -5,7 +5,7 @@ use crate::input::Input;
 
 /// What is wrong with the first of the files that isn't as it has to be.
 #[derive(Clone, Copy, Debug, PartialEq, Eq)]
-pub enum Refusal {
+pub enum InputRefusal {
     /// The file of this input couldn't be read.
     Unread(Input),
     /// The file of this input could be read and has that fault.
@@ -16,7 +16,7 @@ pub enum Refusal {
 #[derive(Clone, Copy, Debug, PartialEq, Eq)]
 pub enum InputError {
     /// A file isn't as it has to be, and those before it are.
-    Refused(Refusal),
+    Refused(InputRefusal),
     /// The program's own memory ran out.
     Memory,
 }

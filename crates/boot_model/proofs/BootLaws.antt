@@ -22,7 +22,7 @@ use Rattle.e820_usable.specs.Judged.{judged}
 use Rattle.boot_model.specs.declared.stop.Cause.{Cause}
 use Rattle.script_reader.specs.declared.act.Line.{Line}
 use Rattle.early_script.specs.Stage.{after_lines, before_sections, behind_sections}
-use Rattle.boot_model.specs.Boot.{Given, Made, begin, behind_lines, boot, claims, has_frames, has_room, later_stages, lies_in_memory, map_judged, map_stages, reach, put_crash, put_nodes, put_sections, runs_lines, script_at, types_in_reach, unless_stopped, with_items}
+use Rattle.boot_model.specs.Boot.{Given, BootSoFar, begin, behind_lines, boot, claims, has_frames, has_room, later_stages, lies_in_memory, map_judged, map_stages, reach, put_crash, put_nodes, put_sections, runs_lines, script_at, types_in_reach, unless_stopped, with_items}
 use Rattle.numa_nodes.specs.Assigned.{assigned}
 use Rattle.crash_kernel.specs.Reserved.{reserved}
 use Rattle.boot_model.specs.Sections.{places_of_sections}
@@ -32,59 +32,59 @@ use Rattle.boot_model.proofs.StageLaws.{AllKeep, Keeps, chain_keeps, goes_by, pa
 use Rattle.boot_model.specs.Stages.{in_order}
 
 -- what is known where the stages come to an end
-pub record GoesOn (given : Given) (made : Made) : Type 0 where
+pub record GoesOn (given : Given) (made : BootSoFar) : Type 0 where
   pub map : made.map ≡ map_of (claims given)
   pub fits : nat_lt E820_MAX_ENTRIES (length (map_of (claims given))) ≡ false
   pub judged : judged (types_in_reach given) ≡ None
 
 -- the first two stages leave what was made as it is, and go on only where they find nothing to stop for
-pub room_passed : (full : Bool) (cause : Cause) (before after : Made) → (if full then Err cause else Ok before) ≡ Ok after → (full ≡ false)
+pub room_passed : (full : Bool) (cause : Cause) (before after : BootSoFar) → (if full then Err cause else Ok before) ≡ Ok after → (full ≡ false)
     × (before ≡ after)
 room_passed true cause before after ends = absurd (cc)
 room_passed false cause before after ends = (refl, cc)
 
-pub frames_passed : (reason : Option MapStop) (before after : Made) → unless_stopped reason before ≡ Ok after → (reason ≡ None)
+pub frames_passed : (reason : Option MapStop) (before after : BootSoFar) → unless_stopped reason before ≡ Ok after → (reason ≡ None)
     × (before ≡ after)
 frames_passed None before after ends = (refl, cc)
 frames_passed (Some reason) before after ends = absurd (cc)
 
 -- each stage leaves the map as it is: one fact a stage
-pub map_keep : (given : Given) → AllKeep (λ (made : Made). made.map) (map_stages given)
+pub map_keep : (given : Given) → AllKeep (λ (made : BootSoFar). made.map) (map_stages given)
 map_keep given = (
-  λ before after ends. ap (λ (m : Made). m.map) (sym (room_passed _ _ before after ends).1),
+  λ before after ends. ap (λ (m : BootSoFar). m.map) (sym (room_passed _ _ before after ends).1),
   (
-    λ before after ends. ap (λ (m : Made). m.map) (sym (frames_passed _ before after ends).1),
+    λ before after ends. ap (λ (m : BootSoFar). m.map) (sym (frames_passed _ before after ends).1),
     tt,
   ),
 )
 
-pub items_passed : (answer : Result (List Item) Refused) (before after : Made) → with_items before answer ≡ Ok after
+pub items_passed : (answer : Result (List Item) Refused) (before after : BootSoFar) → with_items before answer ≡ Ok after
     → (answer ≡ Ok after.items) × (after.map ≡ before.map)
 items_passed (Ok items) before after ends =
     let same : record before { items = items } ≡ after = cc in
-    (ap (λ (m : Made). Ok m.items) same, ap (λ (m : Made). m.map) (sym same))
+    (ap (λ (m : BootSoFar). Ok m.items) same, ap (λ (m : BootSoFar). m.map) (sym same))
 items_passed (Err refused) before after ends = absurd (cc)
 
 -- lines of the script leave the map
-pub lines_passed : (kernel : Extent) (lines : List Line) (before after : Made) → runs_lines kernel lines before ≡ Ok after
+pub lines_passed : (kernel : Extent) (lines : List Line) (before after : BootSoFar) → runs_lines kernel lines before ≡ Ok after
     → after ≡ behind_lines before (after_lines (script_at kernel before) lines)
 lines_passed kernel lines before after ends = cc
 
-pub lines_map : (kernel : Extent) (lines : List Line) → Keeps (λ (made : Made). made.map) (runs_lines kernel lines)
-lines_map kernel lines before after ends = ap (λ (m : Made). m.map) (lines_passed kernel lines before after ends)
+pub lines_map : (kernel : Extent) (lines : List Line) → Keeps (λ (made : BootSoFar). made.map) (runs_lines kernel lines)
+lines_map kernel lines before after ends = ap (λ (m : BootSoFar). m.map) (lines_passed kernel lines before after ends)
 
-pub later_keep : (given : Given) → AllKeep (λ (made : Made). made.map) (later_stages given)
+pub later_keep : (given : Given) → AllKeep (λ (made : BootSoFar). made.map) (later_stages given)
 later_keep given = (
   λ before after ends. (items_passed _ before after ends).1,
   (
-    steps_keep (λ (made : Made). made.map) cause_of_stage put_nodes (assigned given.domains given.options.numa_off) (λ a m. refl)
+    steps_keep (λ (made : BootSoFar). made.map) cause_of_stage put_nodes (assigned given.domains given.options.numa_off) (λ a m. refl)
         (λ before. refl),
     (
-      steps_keep (λ (made : Made). made.map) cause_of_refusal put_crash (reserved given.options.crash) (λ a m. refl) (λ before. refl),
+      steps_keep (λ (made : BootSoFar). made.map) cause_of_refusal put_crash (reserved given.options.crash) (λ a m. refl) (λ before. refl),
       (
         lines_map given.kernel (before_sections given.lines),
         (
-          steps_keep (λ (made : Made). made.map) cause_of_stage put_sections (places_of_sections given.width) (λ a m. refl) (λ before. refl),
+          steps_keep (λ (made : BootSoFar). made.map) cause_of_stage put_sections (places_of_sections given.width) (λ a m. refl) (λ before. refl),
           (lines_map given.kernel (behind_sections given.lines), tt),
         ),
       ),
@@ -92,15 +92,15 @@ later_keep given = (
   ),
 )
 
-pub goes_on : (given : Given) (made : Made) → boot given ≡ Ok made → GoesOn given made
+pub goes_on : (given : Given) (made : BootSoFar) → boot given ≡ Ok made → GoesOn given made
 unfolding boot
 goes_on given made ends =
     let judged_map = goes_by (map_judged given) (λ m. in_order (later_stages given) m) made ends in
     let behind_room = passes has_room (drop 1 (map_stages given)) (begin given) judged_map.middle judged_map.first in
     let behind_frames = passes (has_frames given) (drop 2 (map_stages given)) behind_room.middle judged_map.middle behind_room.rest in
     record {
-      map = chain_keeps (λ (m : Made). m.map) (later_stages given) (later_keep given) judged_map.middle made judged_map.rest
-          ∙ chain_keeps (λ (m : Made). m.map) (map_stages given) (map_keep given) (begin given) judged_map.middle judged_map.first;
+      map = chain_keeps (λ (m : BootSoFar). m.map) (later_stages given) (later_keep given) judged_map.middle made judged_map.rest
+          ∙ chain_keeps (λ (m : BootSoFar). m.map) (map_stages given) (map_keep given) (begin given) judged_map.middle judged_map.first;
       fits = (room_passed _ _ (begin given) behind_room.middle behind_room.first).0;
       judged = (frames_passed _ behind_room.middle behind_frames.middle behind_frames.first).0;
     }
@@ -125,7 +125,7 @@ memory_lies (r ∷ rs) x runs =
     ]
 
 -- the runs tell which frames are usable
-pub usable_lies : (given : Given) (made : Made) (frame : ℕ) → boot given ≡ Ok made → 4096 * frame + 4096 ≤ reach given
+pub usable_lies : (given : Given) (made : BootSoFar) (frame : ℕ) → boot given ≡ Ok made → 4096 * frame + 4096 ≤ reach given
     → is_usable (types_in_reach given) frame ≡ each_in (bytes_of_frame frame) (lies_in_memory made.map)
 unfolding is_usable
 usable_lies given made frame ends low =
@@ -139,7 +139,7 @@ usable_lies given made frame ends low =
     rw (low_x, (goes_on given made ends).map) told))
 
 -- each address below 2^64 has in the map the type that the claims give
-pub types_told : (given : Given) (made : Made) (x : ℕ) → boot given ≡ Ok made → x < 2 ^ 64 → value_at made.map x ≡ kinds (claims given) x
+pub types_told : (given : Given) (made : BootSoFar) (x : ℕ) → boot given ≡ Ok made → x < 2 ^ 64 → value_at made.map x ≡ kinds (claims given) x
 types_told given made x ends low = rw (goes_on given made ends).map ((map_between (claims given)).within x (omega arith) (omega arith))
 
 -- a number of frames for which no stop is due
@@ -155,12 +155,12 @@ frames_within n fine = elim (cases_Bool (n == 0)) as (λ _. (0 < n) × (n ≤ 2 
 ]
 
 -- a map that isn't refused has usable frames, and not too many
-pub frames_told : (given : Given) (made : Made) → boot given ≡ Ok made
+pub frames_told : (given : Given) (made : BootSoFar) → boot given ≡ Ok made
     → (0 < usable_frames (types_in_reach given)) × (usable_frames (types_in_reach given) ≤ 2 ^ 32)
 frames_told given made ends = frames_within (usable_frames (types_in_reach given)) (goes_on given made ends).judged
 
 -- and it is in the table's room
-pub room_told : (given : Given) (made : Made) → boot given ≡ Ok made → length made.map ≤ E820_MAX_ENTRIES
+pub room_told : (given : Given) (made : BootSoFar) → boot given ≡ Ok made → length made.map ≤ E820_MAX_ENTRIES
 room_told given made ends =
     let known : GoesOn given made = goes_on given made ends in
     rw known.map (grind (arith, nat_tests, known.fits))

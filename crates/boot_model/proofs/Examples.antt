@@ -42,7 +42,7 @@ use Rattle.sparse_sections.specs.Roots.{roots_view}
 use Rattle.growth_model.specs.declared.refusal.Refusal.TheVariants as refusal
 use Rattle.stage_model.specs.declared.stop.StageStop.TheVariants as stage
 use Rattle.stage_model.specs.declared.stop.What.TheVariants as what
-use Rattle.boot_model.specs.Boot.{Given, Made, added, begin, begin_with, begun, behind_lines, boot, claims, early_of, handed_over, has_room, lies_in_memory, mirrors_of, no_nodes, no_options, put_crash, put_nodes, put_sections, reach, reach_told, runs_lines, script_at, told, told_boot, unless_stopped, with_items}
+use Rattle.boot_model.specs.Boot.{Given, BootSoFar, added, begin, begin_with, begun, behind_lines, boot, claims, early_of, handed_over, has_room, lies_in_memory, mirrors_of, no_nodes, no_options, put_crash, put_nodes, put_sections, reach, reach_told, runs_lines, script_at, told, told_boot, unless_stopped, with_items}
 use Rattle.early_stages.specs.Early.{FrameRange}
 use Rattle.boot_model.specs.Kernel.{IsKernel, is_kernel}
 use Rattle.boot_model.specs.Mirrors.{IsMirror, frames_in}
@@ -77,7 +77,7 @@ two_runs = record { base = 0x1000; size = 0x1000; value = 1 } ∷ record { base 
 abbrev image : Extent
 image = record { base = 0x1000000; size = 0x2000000 }
 
-abbrev made : Made
+abbrev made : BootSoFar
 made = begin_with two_runs no_options
 
 abbrev empty : Entry
@@ -145,14 +145,14 @@ no_mirror_of_nothing : IsMirror (record { base = 0x4000000; size = 0 }) → ⊥
 no_mirror_of_nothing known = omega (arith, known.some)
 
 -- lists go by the table of distances, by the domains of nodes and by the spans of memory
-lists_example : (given : Given) (m : Made) → (told given m).lists ≡ known given.slit m.nodes.domains (told given m).spans
+lists_example : (given : Given) (m : BootSoFar) → (told given m).lists ≡ known given.slit m.nodes.domains (told given m).spans
 lists_example given m = refl
 
 -- the page script goes over what was handed over, of which nothing is taken at first
-no_page_line : (m : Made) → ((told of_image m).page_answers ≡ []) × ((told of_image m).after ≡ nothing_taken (told of_image m).free)
+no_page_line : (m : BootSoFar) → ((told of_image m).page_answers ≡ []) × ((told of_image m).after ≡ nothing_taken (told of_image m).free)
 no_page_line m = (refl, refl)
 
-page_line : (m : Made) → (told (record of_image { page_lines = record { number = 2; act = pages.Give 7 } ∷ [] }) m).page_answers
+page_line : (m : BootSoFar) → (told (record of_image { page_lines = record { number = 2; act = pages.Give 7 } ∷ [] }) m).page_answers
     ≡ record { line = 2; outcome = outcome.Unknown } ∷ []
 page_line m = refl
 
@@ -167,7 +167,7 @@ no_sections_yet : (no_sections.roots.table ≡ 0) × (no_sections.roots.roots �
 no_sections_yet = (refl, refl, refl)
 
 -- lines begin where those before them ended, with what these filled and were answered
-lines_begin : (m : Made) → ((script_at image m).state.kernel ≡ image) × ((script_at image m).state.items ≡ m.items)
+lines_begin : (m : BootSoFar) → ((script_at image m).state.kernel ≡ image) × ((script_at image m).state.items ≡ m.items)
     × ((script_at image m).state.ids ≡ m.ids) × ((script_at image m).fills ≡ m.fills) × ((script_at image m).answers ≡ m.answers)
 lines_begin m = (refl, refl, refl, refl, refl)
 
@@ -200,7 +200,7 @@ unfolding free_node_in each_in each_from
 handed_examples = (refl, refl)
 
 -- what was made is told as it is, and by its items the frames that are free and the spans of memory
-told_as_made : (m : Made) → ((told of_image m).map ≡ m.map) × ((told of_image m).options ≡ m.options) × ((told of_image m).items ≡ m.items)
+told_as_made : (m : BootSoFar) → ((told of_image m).map ≡ m.map) × ((told of_image m).options ≡ m.options) × ((told of_image m).items ≡ m.items)
     × ((told of_image m).nodes ≡ m.nodes) × ((told of_image m).crash ≡ m.crash) × ((told of_image m).sections ≡ m.sections)
     × ((told of_image m).answers ≡ m.answers)
 told_as_made m = (refl, refl, refl, refl, refl, refl, refl)
@@ -368,7 +368,7 @@ unfolding boot
 no_ram = rw (no_runs (claims two_empty) nothing_claimed, no_frame (reach two_empty) (claims two_empty) nothing_claimed) refl
 
 -- what a boot made is told with what it was given, and its stop is its own
-boot_tells : (given : Given) (last : Made) → boot given ≡ Ok last → told_boot given ≡ Ok (told given last)
+boot_tells : (given : Given) (last : BootSoFar) → boot given ≡ Ok last → told_boot given ≡ Ok (told given last)
 boot_tells given last ends = rw ends refl
 
 boot_stops : (given : Given) (cause : Cause) → boot given ≡ Err cause → told_boot given ≡ Err cause

@@ -22,7 +22,7 @@ use Rattle.script_reader.specs.declared.act.Line.{Line}
 use Rattle.early_script.specs.Acted.{answer_of, state_after}
 use Rattle.early_script.specs.Stage.{LineStage as Script, after_line, after_lines, before_sections, behind_sections, deed_at}
 use Rattle.early_script.proofs.QuietLaws.{acts-limit, acts-memory, deed-quiet}
-use Rattle.boot_model.specs.Boot.{Given, Made, Stage, begin, boot, claims, early_of, has_crash_area, has_memory, has_nodes, has_sections, later_stages, map_judged, map_stages, mirrors_of, put_crash, put_nodes, put_sections, reach, runs_lines, script_at, types_in_reach}
+use Rattle.boot_model.specs.Boot.{Given, BootSoFar, Stage, begin, boot, claims, early_of, has_crash_area, has_memory, has_nodes, has_sections, later_stages, map_judged, map_stages, mirrors_of, put_crash, put_nodes, put_sections, reach, runs_lines, script_at, types_in_reach}
 use Rattle.boot_model.specs.Sections.{SectionPlaces, places_of_sections, sections_placed}
 use Rattle.boot_model.specs.Stop.{cause_of_refusal, cause_of_stage}
 use Rattle.numa_nodes.specs.Assigned.{assigned}
@@ -45,22 +45,22 @@ use Rattle.boot_model.proofs.ReachLaws.{reach-small}
 use Rattle.boot_model.proofs.StageLaws.{AllKeep, Keeps, chain_keeps, goes_by, passes, steps_keep}
 
 -- whether a byte is memory, by the items
-abbrev pub held_by : Made → ℕ → Bool
+abbrev pub held_by : BootSoFar → ℕ → Bool
 held_by made x = is_some (memory_of made.items x)
 
 -- what each byte of memory carries, and the limit
-abbrev pub labels_by : Made → Labels
+abbrev pub labels_by : BootSoFar → Labels
 labels_by made = memory_of made.items
 
-abbrev pub bound_by : Made → ℕ
+abbrev pub bound_by : BootSoFar → ℕ
 bound_by made = limit_of made.items
 
 -- what judges the map does nothing to memory
-items_keep : (given : Given) → AllKeep (λ (made : Made). made.items) (map_stages given)
+items_keep : (given : Given) → AllKeep (λ (made : BootSoFar). made.items) (map_stages given)
 items_keep given = (
-  λ before after ends. ap (λ (m : Made). m.items) (sym (room_passed _ _ before after ends).1),
+  λ before after ends. ap (λ (m : BootSoFar). m.items) (sym (room_passed _ _ before after ends).1),
   (
-    λ before after ends. ap (λ (m : Made). m.items) (sym (frames_passed _ before after ends).1),
+    λ before after ends. ap (λ (m : BootSoFar). m.items) (sym (frames_passed _ before after ends).1),
     tt,
   ),
 )
@@ -177,27 +177,27 @@ labels_keep given = (
 )
 
 -- what is known where memory was made
-pub record HasMemory (given : Given) (made : Made) : Type 0 where
-  pub first : Made
+pub record HasMemory (given : Given) (made : BootSoFar) : Type 0 where
+  pub first : BootSoFar
   pub carried : carried_out (first_items (early_of given) (map_of (claims given))) [] ≡ Ok first.items
   pub memory : held_by made ≡ held_by first
   pub limit : limit_of made.items ≡ limit_of first.items
 
-pub memory_made : (given : Given) (made : Made) → boot given ≡ Ok made → HasMemory given made
+pub memory_made : (given : Given) (made : BootSoFar) → boot given ≡ Ok made → HasMemory given made
 unfolding boot
 memory_made given made ends =
     let judged = goes_by (map_judged given) (λ m. in_order (later_stages given) m) made ends in
     let behind = passes (has_memory given) (drop 1 (later_stages given)) judged.middle made judged.rest in
     let nothing : judged.middle.items ≡ [] =
-    chain_keeps (λ (m : Made). m.items) (map_stages given) (items_keep given) (begin given) judged.middle judged.first in
+    chain_keeps (λ (m : BootSoFar). m.items) (map_stages given) (items_keep given) (begin given) judged.middle judged.first in
     let map : judged.middle.map ≡ map_of (claims given) =
-    chain_keeps (λ (m : Made). m.map) (map_stages given) (map_keep given) (begin given) judged.middle judged.first in
+    chain_keeps (λ (m : BootSoFar). m.map) (map_stages given) (map_keep given) (begin given) judged.middle judged.first in
     let passed = items_passed (carried_out (first_items (early_of given) judged.middle.map) judged.middle.items) judged.middle behind.middle behind.first in
     record {
       first = behind.middle;
       carried = rw (nothing, map) at passed.0;
       memory = chain_keeps held_by (drop 1 (later_stages given)) (memory_keep given) behind.middle made behind.rest;
-      limit = chain_keeps (λ (m : Made). limit_of m.items) (drop 1 (later_stages given)) (limit_keep given) behind.middle made behind.rest;
+      limit = chain_keeps (λ (m : BootSoFar). limit_of m.items) (drop 1 (later_stages given)) (limit_keep given) behind.middle made behind.rest;
     }
 
 -- the map gives the types within reach
@@ -228,7 +228,7 @@ mirrored_some : (mirrors : List FrameRange) (f : Labels) (x : ℕ) → is_some (
 mirrored_some mirrors f x = mapped_some (is_mirrored mirrors x) (f x)
 
 -- a byte is memory exactly where its frame is usable
-pub memory_told : (given : Given) (made : Made) (x : ℕ) → boot given ≡ Ok made
+pub memory_told : (given : Given) (made : BootSoFar) (x : ℕ) → boot given ≡ Ok made
     → is_some (memory_of made.items x) ≡ is_usable (types_in_reach given) (x / 4096)
 memory_told given made x ends =
     let known : HasMemory given made = memory_made given made ends in
@@ -241,7 +241,7 @@ memory_told given made x ends =
     ∙ ap (λ (t : TypeAt). is_usable t (x / 4096)) (types_same given)
 
 -- and the limit is the end of the last usable frame
-pub limit_told : (given : Given) (made : Made) → boot given ≡ Ok made
+pub limit_told : (given : Given) (made : BootSoFar) → boot given ≡ Ok made
     → limit_of made.items ≡ memory_end (reach given) (kinds (claims given))
 limit_told given made ends =
     let known : HasMemory given made = memory_made given made ends in

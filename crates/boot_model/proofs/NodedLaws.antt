@@ -20,7 +20,7 @@ use Rattle.early_stages.proofs.MirrorLaws.{mirrored-alike}
 use Rattle.stage_model.specs.Noded.{AreOfFrames, IsNoded}
 use Rattle.numa_nodes.specs.Assigned.{assigned}
 use Rattle.numa_nodes.proofs.NodedLaws.{answer-noded}
-use Rattle.boot_model.specs.Boot.{Given, Made, begin, boot, claims, early_of, has_frames, has_memory, has_nodes, has_room, later_stages, map_judged, map_stages, mirrors_of, put_nodes, reach, types_in_reach}
+use Rattle.boot_model.specs.Boot.{Given, BootSoFar, begin, boot, claims, early_of, has_frames, has_memory, has_nodes, has_room, later_stages, map_judged, map_stages, mirrors_of, put_nodes, reach, types_in_reach}
 use Rattle.boot_model.specs.First.{IsFirstMemory}
 use Rattle.boot_model.specs.Stages.{in_order}
 use Rattle.boot_model.specs.Stop.{cause_of_stage}
@@ -71,7 +71,7 @@ end_some limit f some = elim (cases_lt 0 (memory_end limit f)) as (λ _. 0 < mem
 ]
 
 -- what the map comes to, where the boot goes on with it
-pub judged_first : (given : Given) (made : Made) → map_judged given ≡ Ok made
+pub judged_first : (given : Given) (made : BootSoFar) → map_judged given ≡ Ok made
     → (made ≡ begin given) × (judged (types_in_reach given) ≡ None)
 judged_first given made ends =
     let behind_room = passes has_room (drop 1 (map_stages given)) (begin given) made ends in
@@ -81,13 +81,13 @@ judged_first given made ends =
     let last : behind_frames.middle ≡ made = cc in
     (sym (room.1 ∙ frames.1 ∙ last), frames.0)
 
-pub first_known : (given : Given) (made : Made) (items : List Item) → map_judged given ≡ Ok made
+pub first_known : (given : Given) (made : BootSoFar) (items : List Item) → map_judged given ≡ Ok made
     → carried_out (first_items (early_of given) made.map) made.items ≡ Ok items → IsFirstMemory (reach given) items
 first_known given made items ends carried =
     let known = judged_first given made ends in
     let map : List (RunOf ℕ) = map_of (claims given) in
     let from : carried_out (first_items (early_of given) map) [] ≡ Ok items =
-    ap (λ (m : Made). carried_out (first_items (early_of given) m.map) m.items) (sym known.0) ∙ carried in
+    ap (λ (m : BootSoFar). carried_out (first_items (early_of given) m.map) m.items) (sym known.0) ∙ carried in
     let memory : memory_of items ≡ mirrored_memory (mirrors_of given) (usable_memory (reach given) (value_at map)) = λ i x.
     first_memory (early_of given) map items (map_between (claims given)).runs from x i in
     let limit : limit_of items ≡ memory_end (reach given) (value_at map) =
@@ -112,16 +112,16 @@ first_known given made items ends carried =
     record { frames = told.0; within = told.1; low = told.2; some = told.3 }
 
 -- behind its nodes
-pub nodes_known : (given : Given) (before last : Made) → IsFirstMemory (reach given) before.items → has_nodes given before ≡ Ok last
+pub nodes_known : (given : Given) (before last : BootSoFar) → IsFirstMemory (reach given) before.items → has_nodes given before ≡ Ok last
     → IsNoded (reach given) (labels_by last)
 nodes_known given before last first ends =
     let told = steps_answered cause_of_stage put_nodes (assigned given.domains given.options.numa_off) before last ends in
-    subst (λ (m : Made). IsNoded (reach given) (labels_by m)) (sym told.same)
+    subst (λ (m : BootSoFar). IsNoded (reach given) (labels_by m)) (sym told.same)
     (answer-noded (reach given) given.domains given.options.numa_off before.items told.value told.answer (reach-below given) first.frames
     first.within first.low)
 
 -- and at the end of the boot
-pub noded_told : (given : Given) (made : Made) → boot given ≡ Ok made → IsNoded (reach given) (memory_of made.items)
+pub noded_told : (given : Given) (made : BootSoFar) → boot given ≡ Ok made → IsNoded (reach given) (memory_of made.items)
 unfolding boot
 noded_told given made ends =
     let judged_map = goes_by (map_judged given) (λ m. in_order (later_stages given) m) made ends in

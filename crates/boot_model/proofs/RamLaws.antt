@@ -20,7 +20,7 @@ use Rattle.numa_nodes.specs.Assigned.{assigned}
 use Rattle.crash_kernel.specs.Reserved.{reserved}
 use Rattle.boot_model.specs.declared.stop.Cause.{Cause}
 use Rattle.boot_model.specs.declared.stop.Cause.TheVariants as causes
-use Rattle.boot_model.specs.Boot.{Given, Made, Stage, begin, boot, by_steps, early_of, has_crash_area, has_frames, has_memory, has_nodes, has_room, has_sections, later_stages, map_judged, map_stages, put_crash, put_nodes, put_sections, reach, runs_lines, types_in_reach, unless_stopped, with_answer, with_items}
+use Rattle.boot_model.specs.Boot.{Given, BootSoFar, Stage, begin, boot, by_steps, early_of, has_crash_area, has_frames, has_memory, has_nodes, has_room, has_sections, later_stages, map_judged, map_stages, put_crash, put_nodes, put_sections, reach, runs_lines, types_in_reach, unless_stopped, with_answer, with_items}
 use Rattle.boot_model.specs.Sections.{places_of_sections}
 use Rattle.boot_model.specs.Stages.{in_order}
 use Rattle.boot_model.specs.Stop.{cause_of_refusal, cause_of_stage}
@@ -33,25 +33,25 @@ IsTold frames cause = cause ≡ causes.NoRam → frames ≡ 0
 -- the errors of stages, one after another
 AllErr : (Cause → Type 0) → List Stage → Type 0
 AllErr P [] = Unit {0}
-AllErr P (one ∷ stages) = ((made : Made) → IfErr (one made) P) × AllErr P stages
+AllErr P (one ∷ stages) = ((made : BootSoFar) → IfErr (one made) P) × AllErr P stages
 
-then_errs : (P : Cause → Type 0) (said : Result Made Cause) (next : Stage) → IfErr said P → ((made : Made) → IfErr (next made) P)
+then_errs : (P : Cause → Type 0) (said : Result BootSoFar Cause) (next : Stage) → IfErr said P → ((made : BootSoFar) → IfErr (next made) P)
     → IfErr (said >>= next) P
 then_errs P (Ok made) next first rest = rest made
 then_errs P (Err cause) next first rest = first
 
-chain_errs : (P : Cause → Type 0) (stages : List Stage) → AllErr P stages → (made : Made) → IfErr (in_order stages made) P
+chain_errs : (P : Cause → Type 0) (stages : List Stage) → AllErr P stages → (made : BootSoFar) → IfErr (in_order stages made) P
 unfolding AllErr
 chain_errs P [] all made = tt
 chain_errs P (one ∷ stages) all made = then_errs P (one made) (in_order stages) (all.0 made) (chain_errs P stages all.1)
 
 -- the map is refused for its frames where it has none
-room_errs : (frames : ℕ) (full : Bool) (runs : ℕ) (made : Made)
+room_errs : (frames : ℕ) (full : Bool) (runs : ℕ) (made : BootSoFar)
     → IfErr (if full then Err (causes.MapFull runs) else Ok made) (IsTold frames)
 room_errs frames true runs made = λ same. absurd (cc same)
 room_errs frames false runs made = tt
 
-frames_errs : (frames : ℕ) (none many : Bool) (made : Made) → (frames == 0) ≡ none
+frames_errs : (frames : ℕ) (none many : Bool) (made : BootSoFar) → (frames == 0) ≡ none
     → IfErr (unless_stopped (if none then Some reasons.NoRam else (if many then Some (reasons.TooMuchRam frames) else None)) made)
     (IsTold frames)
 frames_errs frames true many made is = λ same. grind (arith, nat_tests, is)
@@ -59,12 +59,12 @@ frames_errs frames false true made is = λ same. absurd (cc same)
 frames_errs frames false false made is = tt
 
 -- a table that found no place is another cause
-items_errs : (frames : ℕ) (made : Made) (said : Result (List Item) Refused) → IfErr (with_items made said) (IsTold frames)
+items_errs : (frames : ℕ) (made : BootSoFar) (said : Result (List Item) Refused) → IfErr (with_items made said) (IsTold frames)
 items_errs frames made (Ok items) = tt
 items_errs frames made (Err refused) = λ same. absurd (cc same)
 
 -- and so is every stop of a stage
-answer_errs : {E A : Type 0} (P : Cause → Type 0) (cause : E → Cause) (put : A → Made → Made) (next : Made) (answer : Result A E)
+answer_errs : {E A : Type 0} (P : Cause → Type 0) (cause : E → Cause) (put : A → BootSoFar → BootSoFar) (next : BootSoFar) (answer : Result A E)
     → IfErr answer (λ e. P (cause e)) → IfErr (with_answer cause put next answer) P
 answer_errs P cause put next (Ok a) errs = tt
 answer_errs P cause put next (Err e) errs = errs
@@ -73,8 +73,8 @@ if_err : {A E : Type 0} (answer : Result A E) (P Q : E → Type 0) → ((e : E) 
 if_err (Ok a) P Q rest errs = tt
 if_err (Err e) P Q rest errs = rest e errs
 
-steps_errs : {E A : Type 0} (frames : ℕ) (P : E → Type 0) (cause : E → Cause) (put : A → Made → Made) (doing : Doing E A)
-    → ((e : E) → P e → IsTold frames (cause e)) → Errs P doing → (made : Made) → IfErr (by_steps cause put doing made) (IsTold frames)
+steps_errs : {E A : Type 0} (frames : ℕ) (P : E → Type 0) (cause : E → Cause) (put : A → BootSoFar → BootSoFar) (doing : Doing E A)
+    → ((e : E) → P e → IsTold frames (cause e)) → Errs P doing → (made : BootSoFar) → IfErr (by_steps cause put doing made) (IsTold frames)
 steps_errs frames P cause put doing told errs made =
     answer_errs (IsTold frames) cause put (record made { items = after made.items (doing made.items) }) (doing made.items).answer
     (if_err (doing made.items).answer P (λ e. IsTold frames (cause e)) told (errs made.items))
@@ -121,7 +121,7 @@ later_errs given =
       ),
     )
 
-told_of : (said : Result Made Cause) (frames : ℕ) → IfErr said (IsTold frames) → said ≡ Err causes.NoRam → frames ≡ 0
+told_of : (said : Result BootSoFar Cause) (frames : ℕ) → IfErr said (IsTold frames) → said ≡ Err causes.NoRam → frames ≡ 0
 told_of (Ok made) frames errs is = absurd (cc is)
 told_of (Err cause) frames errs is = errs (cc is)
 

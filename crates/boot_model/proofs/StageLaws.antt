@@ -4,7 +4,7 @@ use Rattle.bm_base.specs.ResultSteps.{◌>>=◌}
 use Rattle.boot_model.specs.Stages.{in_order}
 use Rattle.stage_model.specs.Doing.{Doing, after}
 use Rattle.boot_model.specs.declared.stop.Cause.{Cause}
-use Rattle.boot_model.specs.Boot.{Made, by_steps, with_answer}
+use Rattle.boot_model.specs.Boot.{BootSoFar, by_steps, with_answer}
 
 -- a step that went on with `middle`, behind which the others end with `made`
 pub record GoesBy {S E : Type 0} (answer : Result S E) (others : S → Result S E) (made : S) : Type 0 where
@@ -39,14 +39,14 @@ chain_keeps part (stage ∷ stages) keep before after ends =
     chain_keeps part stages keep.1 known.middle after known.rest ∙ keep.0 before known.middle known.first
 
 -- a stage of steps keeps a part that neither its items nor its answer change
-answer_keeps : {E A B : Type 0} (part : Made → B) (cause : E → Cause) (put : A → Made → Made) (next last : Made) (answer : Result A E)
-    → ((a : A) (m : Made) → part (put a m) ≡ part m) → with_answer cause put next answer ≡ Ok last → part last ≡ part next
+answer_keeps : {E A B : Type 0} (part : BootSoFar → B) (cause : E → Cause) (put : A → BootSoFar → BootSoFar) (next last : BootSoFar) (answer : Result A E)
+    → ((a : A) (m : BootSoFar) → part (put a m) ≡ part m) → with_answer cause put next answer ≡ Ok last → part last ≡ part next
 answer_keeps part cause put next last (Ok a) puts ends = let same : put a next ≡ last = cc in ap part (sym same) ∙ puts a next
 answer_keeps part cause put next last (Err error) puts ends = absurd (cc)
 
-pub steps_keep : {E A B : Type 0} (part : Made → B) (cause : E → Cause) (put : A → Made → Made) (doing : Doing E A)
-    → ((a : A) (m : Made) → part (put a m) ≡ part m)
-    → ((before : Made) → part (record before { items = after before.items (doing before.items) }) ≡ part before)
+pub steps_keep : {E A B : Type 0} (part : BootSoFar → B) (cause : E → Cause) (put : A → BootSoFar → BootSoFar) (doing : Doing E A)
+    → ((a : A) (m : BootSoFar) → part (put a m) ≡ part m)
+    → ((before : BootSoFar) → part (record before { items = after before.items (doing before.items) }) ≡ part before)
     → Keeps part (by_steps cause put doing)
 steps_keep part cause put doing puts items before last ends =
     answer_keeps part cause put (record before { items = after before.items (doing before.items) }) last (doing before.items).answer puts
@@ -54,17 +54,17 @@ steps_keep part cause put doing puts items before last ends =
     ∙ items before
 
 -- behind such a stage there is an answer
-pub record Answered {E A : Type 0} (put : A → Made → Made) (doing : Doing E A) (before last : Made) : Type 0 where
+pub record Answered {E A : Type 0} (put : A → BootSoFar → BootSoFar) (doing : Doing E A) (before last : BootSoFar) : Type 0 where
   pub value : A
   pub answer : (doing before.items).answer ≡ Ok value
   pub same : last ≡ put value (record before { items = after before.items (doing before.items) })
 
-answered : {E A : Type 0} (cause : E → Cause) (put : A → Made → Made) (next last : Made) (answer : Result A E)
+answered : {E A : Type 0} (cause : E → Cause) (put : A → BootSoFar → BootSoFar) (next last : BootSoFar) (answer : Result A E)
     → with_answer cause put next answer ≡ Ok last → (a : A) × (answer ≡ Ok a) × (last ≡ put a next)
 answered cause put next last (Ok a) ends = let same : put a next ≡ last = cc in (a, refl, sym same)
 answered cause put next last (Err error) ends = absurd (cc)
 
-pub steps_answered : {E A : Type 0} (cause : E → Cause) (put : A → Made → Made) (doing : Doing E A) (before last : Made)
+pub steps_answered : {E A : Type 0} (cause : E → Cause) (put : A → BootSoFar → BootSoFar) (doing : Doing E A) (before last : BootSoFar)
     → by_steps cause put doing before ≡ Ok last → Answered put doing before last
 steps_answered cause put doing before last ends =
     let told = answered cause put (record before { items = after before.items (doing before.items) }) last (doing before.items).answer

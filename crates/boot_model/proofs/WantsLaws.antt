@@ -22,7 +22,7 @@ use Rattle.stage_model.specs.declared.stop.StageStop.TheVariants as stage
 use Rattle.stage_model.specs.Doing.{Done, Doing, ◌>>=◌, after, going_on, in_turn, listed, returns, seen, stops}
 use Rattle.stage_model.specs.Requests.{allocated, carried, changes, claimed_at, or_else, or_stop, placed, refusal_of, refused_growth, unless_gap}
 use Rattle.address_runs.specs.Runs.{extent_of}
-use Rattle.boot_options.specs.Crash.{Crash as Asked}
+use Rattle.boot_options.specs.Crash.{CrashWords as Asked}
 use Rattle.srat_reader.specs.Table.{Affinity}
 use Rattle.node_hulls.specs.Hulls.{NumaBlock}
 use Rattle.node_hulls.specs.Judgement.{Judgement, judged}

@@ -124,7 +124,7 @@ early_of given = record {
 
 -- what a boot has made so far: the map, the options, what happened to memory, oldest first; the nodes, what came of the crash area, and
 -- the places of sections; and of the script the IDs that are live, the fills, and the answers
-pub record Made : Type 0 where
+pub record BootSoFar : Type 0 where
   pub map : List (RunOf ℕ)
   pub options : Chosen
   pub items : List Item
@@ -160,7 +160,7 @@ no_nodes = record { why = why.Absent; domains = []; uncovered = 0; with_memory =
 
 -- what a stage makes of what the stages before it made, or why the boot stops there
 abbrev pub Stage : Type 0
-Stage = Made → Result Made Cause
+Stage = BootSoFar → Result BootSoFar Cause
 
 -- the entries of the firmware's own map, where there is one; they are added where the command line asks for them (`add_efi_memmap`)
 abbrev pub efi_entries : Option EfiGiven → List Entry
@@ -194,11 +194,11 @@ abbrev pub reach_told : Told → ℕ
 reach_told told = reach_of told.width
 
 -- the zones with memory, in the order in which each node's requests look at them (`build_zonelists`)
-abbrev pub lists_told : Given → Made → Known
+abbrev pub lists_told : Given → BootSoFar → Known
 lists_told given made = known given.slit made.nodes.domains (spanned made.items)
 
 -- the page script runs on a copy of what was handed over, of which nothing is taken at first
-abbrev pub told : Given → Made → Told
+abbrev pub told : Given → BootSoFar → Told
 told given made = record {
   width = given.width;
   map = made.map;
@@ -217,7 +217,7 @@ told given made = record {
 }
 
 -- a boot begins with a map, and nothing happened to memory yet
-abbrev pub begin_with : List (RunOf ℕ) → Chosen → Made
+abbrev pub begin_with : List (RunOf ℕ) → Chosen → BootSoFar
 begin_with map options = record {
   map = map;
   options = options;
@@ -231,7 +231,7 @@ begin_with map options = record {
 }
 
 -- the map of its claims
-abbrev pub begin : Given → Made
+abbrev pub begin : Given → BootSoFar
 begin given = begin_with (map_of (claims given)) given.options
 
 -- the types of addresses, as far as the kernel's tables of memory reach
@@ -254,11 +254,11 @@ has_frames given made = unless_stopped (judged (types_in_reach given)) made
 abbrev pub map_stages : Given → List Stage
 map_stages given = has_room ∷ has_frames given ∷ []
 
-abbrev pub map_judged : Given → Result Made Cause
+abbrev pub map_judged : Given → Result BootSoFar Cause
 map_judged given = in_order (map_stages given) (begin given)
 
 -- the items behind a stage, unless a table that had to grow found no place
-abbrev pub with_items : Made → Result (List Item) Refused → Result Made Cause
+abbrev pub with_items : BootSoFar → Result (List Item) Refused → Result BootSoFar Cause
 with_items made (Ok items) = Ok (record made { items = items })
 with_items made (Err refused) = Err (cause_of_growth refused)
 
@@ -268,14 +268,14 @@ abbrev pub has_memory : Given → Stage
 has_memory given made = with_items made (carried_out (first_items (early_of given) made.map) made.items)
 
 -- where lines of the script begin, and what is made behind them
-abbrev pub script_at : Extent → Made → Script
+abbrev pub script_at : Extent → BootSoFar → Script
 script_at kernel made = record {
   state = record { kernel = kernel; items = made.items; ids = made.ids };
   fills = made.fills;
   answers = made.answers;
 }
 
-abbrev pub behind_lines : Made → Script → Made
+abbrev pub behind_lines : BootSoFar → Script → BootSoFar
 behind_lines made s = record made { items = s.state.items; ids = s.state.ids; fills = s.fills; answers = s.answers }
 
 -- lines of the early script are carried out. One that is refused is answered, and the boot goes on
@@ -283,32 +283,32 @@ abbrev pub runs_lines : Extent → List Line → Stage
 runs_lines kernel lines made = Ok (behind_lines made (after_lines (script_at kernel made) lines))
 
 -- what the steps of a stage answer is put beside what was made, and their items behind those that there were; or they stop the boot
-abbrev pub with_answer : {E A : Type 0} → (E → Cause) → (A → Made → Made) → Made → Result A E → Result Made Cause
+abbrev pub with_answer : {E A : Type 0} → (E → Cause) → (A → BootSoFar → BootSoFar) → BootSoFar → Result A E → Result BootSoFar Cause
 with_answer cause put next (Ok a) = Ok (put a next)
 with_answer cause put next (Err error) = Err (cause error)
 
-abbrev pub with_done : {E A : Type 0} → (E → Cause) → (A → Made → Made) → Made → Done E A → Result Made Cause
+abbrev pub with_done : {E A : Type 0} → (E → Cause) → (A → BootSoFar → BootSoFar) → BootSoFar → Done E A → Result BootSoFar Cause
 with_done cause put made done = with_answer cause put (record made { items = after made.items done }) done.answer
 
-abbrev pub by_steps : {E A : Type 0} → (E → Cause) → (A → Made → Made) → Doing E A → Stage
+abbrev pub by_steps : {E A : Type 0} → (E → Cause) → (A → BootSoFar → BootSoFar) → Doing E A → Stage
 by_steps cause put doing made = with_done cause put made (doing made.items)
 
 -- memory gets its nodes, and each node its data (`initmem_init`)
-abbrev pub put_nodes : Noded → Made → Made
+abbrev pub put_nodes : Noded → BootSoFar → BootSoFar
 put_nodes nodes made = record made { nodes = nodes }
 
 abbrev pub has_nodes : Given → Stage
 has_nodes given = by_steps cause_of_stage put_nodes (assigned given.domains given.options.numa_off)
 
 -- the crash area is claimed (`reserve_crashkernel`)
-abbrev pub put_crash : Crash → Made → Made
+abbrev pub put_crash : Crash → BootSoFar → BootSoFar
 put_crash area made = record made { crash = area }
 
 abbrev pub has_crash_area : Given → Stage
 has_crash_area given = by_steps cause_of_refusal put_crash (reserved given.options.crash)
 
 -- the sections that have memory get their places
-abbrev pub put_sections : SectionPlaces → Made → Made
+abbrev pub put_sections : SectionPlaces → BootSoFar → BootSoFar
 put_sections sections made = record made { sections = sections }
 
 abbrev pub has_sections : Given → Stage
@@ -321,7 +321,7 @@ later_stages given =
     ∷ runs_lines given.kernel (behind_sections given.lines) ∷ []
 
 -- the boot (`setup_arch`), up to what it hands over (`mem_init`)
-unfoldable pub boot : Given → Result Made Cause
+unfoldable pub boot : Given → Result BootSoFar Cause
 boot given = map_judged given >>= λ made. in_order (later_stages given) made
 
 -- what is told of it

@@ -19,12 +19,12 @@ ghost use Rattle.growth_model.specs.declared.refusal.Refusal.TheVariants as refu
 ghost use Rattle.stage_model.specs.declared.stop.StageStop.TheVariants as stage;
 ghost use Rattle.srat_reader.specs.Table.{Affinity};
 ghost use Rattle.numa_nodes.specs.Assigned.{assigned};
-ghost use Rattle.boot_options.specs.Crash.{Crash as Asked};
+ghost use Rattle.boot_options.specs.Crash.{CrashWords as Asked};
 ghost use Rattle.crash_kernel.specs.Reserved.{reserved};
 ghost use Rattle.boot_model.specs.declared.stop.Cause.TheVariants as causes;
 ghost use Rattle.boot_model.specs.Sections.{places_of_sections};
 ghost use Rattle.boot_model.specs.Mirrors.{IsMirror};
-ghost use Rattle.boot_model.specs.Boot.{Given, Made, boot, claims, efi_entries, lies_in_memory, reach, types_in_reach};
+ghost use Rattle.boot_model.specs.Boot.{Given, BootSoFar, boot, claims, efi_entries, lies_in_memory, reach, types_in_reach};
 
 use bm_base::FRAME_SIZE;
 
@@ -40,29 +40,29 @@ pub fn firmware_adds_what_is_asked()
 /// A law: the map of a boot gives each address below 2^64 the type of its greatest claim, and has at
 /// most as many runs as the table has room for.
 pub fn map_gives_types()
-    ensures types { (given : Given) (made : Made) (x : ℕ) → boot given ≡ Ok made → x < 2 ^ 64 →
+    ensures types { (given : Given) (made : BootSoFar) (x : ℕ) → boot given ≡ Ok made → x < 2 ^ 64 →
         value_at made.map x ≡ kinds (claims given) x }
-    ensures room { (given : Given) (made : Made) → boot given ≡ Ok made → length made.map ≤ E820_MAX_ENTRIES }
+    ensures room { (given : Given) (made : BootSoFar) → boot given ≡ Ok made → length made.map ≤ E820_MAX_ENTRIES }
 {}
 
 /// A law: a frame in reach of the kernel's tables of memory is usable exactly where each of its bytes lies in a run of RAM or of the
 /// kernel's own memory, of the map of a boot; and there are 1 to 2^32 such frames.
 pub fn map_gives_frames()
-    ensures each { (given : Given) (made : Made) (frame : ℕ) → boot given ≡ Ok made →
+    ensures each { (given : Given) (made : BootSoFar) (frame : ℕ) → boot given ≡ Ok made →
         FRAME_SIZE * frame + FRAME_SIZE ≤ reach given → is_usable (types_in_reach given) frame
         ≡ each_in (bytes_of_frame frame) (lies_in_memory made.map) }
-    ensures some { (given : Given) (made : Made) → boot given ≡ Ok made →
+    ensures some { (given : Given) (made : BootSoFar) → boot given ≡ Ok made →
         0 < usable_frames (types_in_reach given) }
-    ensures few { (given : Given) (made : Made) → boot given ≡ Ok made →
+    ensures few { (given : Given) (made : BootSoFar) → boot given ≡ Ok made →
         usable_frames (types_in_reach given) ≤ 2 ^ 32 }
 {}
 
 /// A law: at the end of a boot a byte is memory exactly where its frame is usable, whatever was claimed meanwhile and
 /// however the tables grew; and what is allocated ends by the last usable frame.
 pub fn map_gives_memory()
-    ensures memory { (given : Given) (made : Made) (x : ℕ) → boot given ≡ Ok made →
+    ensures memory { (given : Given) (made : BootSoFar) (x : ℕ) → boot given ≡ Ok made →
         is_some (memory_of made.items x) ≡ is_usable (types_in_reach given) (x / FRAME_SIZE) }
-    ensures limit { (given : Given) (made : Made) → boot given ≡ Ok made →
+    ensures limit { (given : Given) (made : BootSoFar) → boot given ≡ Ok made →
         limit_of made.items ≡ memory_end (reach given) (kinds (claims given)) }
 {}
 

@@ -11,7 +11,7 @@ use Rattle.boot_options.specs.declared.fault.OptionFault.{OptionFault}
 use Rattle.boot_options.specs.declared.map_option.MapOption.{MapOption}
 use Rattle.boot_options.specs.declared.map_option.MapOption.TheVariants.{ExactMap, Adding, Other}
 use Rattle.boot_options.specs.declared.reading.UserMap.{UserMap}
-use Rattle.boot_options.specs.Crash.{Crash, Plain, High, Low, no_crash}
+use Rattle.boot_options.specs.Crash.{CrashWords, Plain, High, Low, no_crash}
 use Rattle.boot_options.specs.Options.{Said, OfMap, OfCrash, NumaOff, AddEfi, Chosen, chosen_by, crash_by, line_of, said_from, option_words, numbered, all_map_options, edit_of, edits_of, is_efi_added, is_numa_off, count_adding, or_here, last_exact, unless_incomplete, with_user_map, options_of}
 use Rattle.boot_options.specs.Reading.{State, start, after, after_form, one_fewer, user_map_behind, after_map_option, after_map_options, after_all, read_all, when_complete, at_line_end}
 
@@ -68,7 +68,7 @@ add_efi-all st ((number, NumaOff) ∷ said) = add_efi-all (after number st NumaO
 add_efi-all st ((number, AddEfi) ∷ said) = add_efi-all (after number st AddEfi) said ∙ sym (or-true st.add_efi)
 
 -- of two values of a form the later one counts
-abbrev pub later : Crash → Crash → Crash
+abbrev pub later : CrashWords → CrashWords → CrashWords
 later c before = record {
   plain = option_or c.plain before.plain;
   high = option_or c.high before.high;
@@ -83,10 +83,10 @@ or_nothing : {A : Type 0} (a : Option A) → option_or a None ≡ a
 or_nothing None = refl
 or_nothing (Some x) = refl
 
-pub later-twice : (a b c : Crash) → later a (later b c) ≡ later (later a b) c
+pub later-twice : (a b c : CrashWords) → later a (later b c) ≡ later (later a b) c
 later-twice a b c = rw (or_twice a.plain b.plain c.plain, or_twice a.high b.high c.high, or_twice a.low b.low c.low) refl
 
-pub later-nothing : (a : Crash) → later a no_crash ≡ a
+pub later-nothing : (a : CrashWords) → later a no_crash ≡ a
 later-nothing a = rw (or_nothing a.plain, or_nothing a.high, or_nothing a.low) refl
 
 -- map options say nothing of the crash area

@@ -113,19 +113,19 @@ unfoldable pub form_of : List ℕ → Option Form
 form_of value = if is_some (cut colon value) then ranges_form value else without_colon value (cut comma value)
 
 -- what all words come to: the last value of each form, where there is one
-pub record Crash : Type 0 where
+pub record CrashWords : Type 0 where
   pub plain : Option PlainForm
   pub high : Option ℕ
   pub low : Option ℕ
 
-abbrev pub no_crash : Crash
+abbrev pub no_crash : CrashWords
 no_crash = record { plain = None; high = None; low = None }
 
 -- the same of the value that a reader makes
 abbrev pub plain_view : CrashPlain → PlainForm
 plain_view plain = record { ranges = plain.ranges.items; base = plain.base }
 
-abbrev pub crash_view : CrashOption → Crash
+abbrev pub crash_view : CrashOption → CrashWords
 crash_view crash = record { plain = option_map plain_view crash.plain; high = crash.high; low = crash.low }
 
 -- each range that ends does so above its start

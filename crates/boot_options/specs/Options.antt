@@ -17,7 +17,7 @@ use Rattle.boot_options.specs.declared.options.Options.{Options}
 use Rattle.boot_options.specs.declared.options.TheConstants.{LONGEST_LINE}
 use Rattle.boot_options.specs.declared.map_option.MapOption.{MapOption}
 use Rattle.boot_options.specs.declared.map_option.MapOption.TheVariants.{ExactMap, Adding, Other}
-use Rattle.boot_options.specs.Crash.{Crash, Form, PlainForm, Plain, High, Low, crash_view, form_of}
+use Rattle.boot_options.specs.Crash.{CrashWords, Form, PlainForm, Plain, High, Low, crash_view, form_of}
 use Rattle.boot_options.specs.MapOptions.{map_option_of, mem_of}
 
 -- the line: the bytes before the first zero byte, without a newline at its end. It has at most
@@ -170,7 +170,7 @@ last_said pick [] = None
 last_said pick (s ∷ said) = option_or (last_said pick said) (pick s.1)
 
 -- the crash area that all words ask for, form by form
-abbrev pub crash_by : List (ℕ × Said) → Crash
+abbrev pub crash_by : List (ℕ × Said) → CrashWords
 crash_by said = record { plain = last_said plain_said said; high = last_said high_said said; low = last_said low_said said }
 
 -- the number of adding map options
@@ -194,7 +194,7 @@ last_exact (p ∷ ps) = or_here (last_exact ps) p.0 p.1 (count_adding ps)
 -- what the options of a line come to
 pub record Chosen : Type 0 where
   pub edits : List Edit
-  pub crash : Crash
+  pub crash : CrashWords
   pub numa_off : Bool
   pub add_efi : Bool
 

@@ -12,13 +12,13 @@ use Rattle.boot_options.specs.declared.crash.PlainRead.{PlainRead}
 use Rattle.boot_options.specs.declared.reading.CrashRead.{CrashRead}
 use Rattle.boot_options.specs.declared.reading.Reading.{Reading}
 use Rattle.boot_options.specs.declared.reading.UserMap.{UserMap}
-use Rattle.boot_options.specs.Crash.{Crash, Form, Plain, High, Low, no_crash}
+use Rattle.boot_options.specs.Crash.{CrashWords, Form, Plain, High, Low, no_crash}
 use Rattle.boot_options.specs.Kept.{KeepsItems, KeepsLast}
 use Rattle.boot_options.specs.Options.{Said, OfMap, OfCrash, NumaOff, AddEfi, Chosen, edit_of}
 
 pub record State : Type 0 where
   pub edits : List Edit
-  pub crash : Crash
+  pub crash : CrashWords
   pub numa_off : Bool
   pub add_efi : Bool
   pub user_map : Option UserMap
@@ -49,7 +49,7 @@ after_map_options number st [] = st
 after_map_options number st (p ∷ ps) = after_map_options number (after_map_option number st p) ps
 
 -- a later value of a form takes the place of an earlier one
-abbrev pub after_form : Crash → Form → Crash
+abbrev pub after_form : CrashWords → Form → CrashWords
 after_form c (Plain form) = record { plain = Some form; high = c.high; low = c.low }
 after_form c (High size) = record { plain = c.plain; high = Some size; low = c.low }
 after_form c (Low size) = record { plain = c.plain; high = c.high; low = Some size }
@@ -95,7 +95,7 @@ at_line_end st =
     when_complete (record { edits = st.edits; crash = st.crash; numa_off = st.numa_off; add_efi = st.add_efi }) st.user_map
 
 -- what is kept of the crash area, but for memory for ranges
-pub record KeepsCrash (r : CrashRead) (c : Crash) : Type 0 where
+pub record KeepsCrash (r : CrashRead) (c : CrashWords) : Type 0 where
   pub plain : KeepsLast r.plain c.plain
   pub high : r.high ≡ c.high
   pub low : r.low ≡ c.low

@@ -7,7 +7,7 @@ ghost use Rattle.std.specs.Prelude.{◌≡◌, ℕ, ◌<◌, ◌≤◌, length, 
 ghost use Rattle.bm_base.specs.Answers.{Answers};
 ghost use Rattle.boot_options.specs.declared.options.TheConstants.{LONGEST_LINE};
 ghost use Rattle.std.specs.Option.{option_map};
-ghost use Rattle.boot_options.specs.Crash.{Crash, IsPlain, PlainForm, crash_view, plain_view};
+ghost use Rattle.boot_options.specs.Crash.{CrashWords, IsPlain, PlainForm, crash_view, plain_view};
 ghost use Rattle.boot_options.specs.Kept.{KeepsLast};
 ghost use Rattle.boot_options.specs.Options.{chosen, line_of, options_of, HaveRanges, IsNumbered, WantsMemory};
 ghost use Rattle.e820_model.specs.Claims.{HaveTypes};
@@ -97,7 +97,7 @@ fn finish(reading: Reading) -> Result<Options, OptionFault>
 
 /// What was read of the crash area, where memory didn't run out for the ranges that count.
 fn finish_crash(crash: CrashRead) -> Result<CrashOption, Memory>
-    ensures value { (said : Crash) → KeepsCrash crash said →
+    ensures value { (said : CrashWords) → KeepsCrash crash said →
         IfOk result (λ option. said ≡ crash_view option) }
     ensures lacking { OnErr result (LacksRanges crash.plain) }
 {

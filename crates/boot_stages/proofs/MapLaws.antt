@@ -17,7 +17,7 @@ use Rattle.e820_usable.specs.Judged.{judged}
 use Rattle.boot_model.specs.declared.stop.Cause.{Cause}
 use Rattle.boot_model.specs.declared.stop.Stop.{Stop}
 use Rattle.boot_model.specs.declared.stop.Stop.TheVariants as stops
-use Rattle.boot_model.specs.Boot.{Given, Made, added, begin, begin_with, boot, claims, early_of, has_frames, has_memory, later_stages, map_judged, reach, Told, told, told_boot, types_in_reach, unless_stopped, with_items}
+use Rattle.boot_model.specs.Boot.{Given, BootSoFar, added, begin, begin_with, boot, claims, early_of, has_frames, has_memory, later_stages, map_judged, reach, Told, told, told_boot, types_in_reach, unless_stopped, with_items}
 use Rattle.memblock_model.specs.declared.item.Item.{Item}
 use Rattle.growth_model.specs.Outcome.{Refused}
 use Rattle.growth_model.specs.Carried.{carried_out}
@@ -30,7 +30,7 @@ use Rattle.boot_model.specs.Stop.{cause_of_growth, stop_of}
 use Rattle.boot_stages.specs.Boots.{AreStopped, IsDecided, MapAnswer, judged_answer, goes_on_with}
 
 -- the last stage's answer is the chain's
-last_stage : (answer : Result Made Cause) → (answer >>= λ made. Ok made) ≡ answer
+last_stage : (answer : Result BootSoFar Cause) → (answer >>= λ made. Ok made) ≡ answer
 last_stage (Ok made) = refl
 last_stage (Err cause) = refl
 
@@ -60,7 +60,7 @@ decided given (Err (faults.MapFull runs)) answers =
 decided given (Err faults.Memory) answers = tt
 
 -- a judgement, as the call answers it and as the stage of the boot has it
-abbrev pub made_of : Given → Vec (RunOf ℕ) Global → Made
+abbrev pub made_of : Given → Vec (RunOf ℕ) Global → BootSoFar
 made_of given runs = begin_with runs.items given.options
 
 judged_same : (given : Given) (reason : Option MapStop) (runs : Vec (RunOf ℕ) Global) (result : Result (Vec (RunOf ℕ) Global) Stop)
@@ -95,12 +95,12 @@ map_answers given (Err faults.Memory) maps are (Err stop) answers =
     λ other. (let is : Err stops.Memory ≡ Err stop = answers other in absurd (other (cc)))
 
 -- a boot that stops at its map stops, and else goes on with memory
-stopped : {A : Type 0} (said : Result Made Cause) (later : Made → Result A Cause) (stop : Stop)
+stopped : {A : Type 0} (said : Result BootSoFar Cause) (later : BootSoFar → Result A Cause) (stop : Stop)
     → with_error stop_of said ≡ Err stop → with_error stop_of (said >>= later) ≡ Err stop
 stopped (Ok made) later stop is = absurd (cc)
 stopped (Err cause) later stop is = let same : stop_of cause ≡ stop = cc in ap (λ (s : Stop). Err s) same
 
-went_on : {A : Type 0} (said : Result Made Cause) (later : Made → Result A Cause) (made : Made) → with_error stop_of said ≡ Ok made
+went_on : {A : Type 0} (said : Result BootSoFar Cause) (later : BootSoFar → Result A Cause) (made : BootSoFar) → with_error stop_of said ≡ Ok made
     → (said >>= later) ≡ later made
 went_on (Ok before) later made is = let same : before ≡ made = cc in ap later same
 went_on (Err cause) later made is = absurd (cc)
@@ -120,29 +120,29 @@ boot_stops view given answer stop is answers =
     told_stops view given answer stop is
     (λ other. stopped (map_judged given) (λ made. in_order (later_stages given) made) stop (answers other))
 
-pub boot_goes_on : (given : Given) (made : Made) → with_error stop_of (map_judged given) ≡ Ok made
+pub boot_goes_on : (given : Given) (made : BootSoFar) → with_error stop_of (map_judged given) ≡ Ok made
     → boot given ≡ in_order (later_stages given) made
 unfolding boot
 boot_goes_on given made is = went_on (map_judged given) (λ m. in_order (later_stages given) m) made is
 
 -- what is carried out is what is made, and a growth that is refused is the stop
-items_made : (made : Made) (said : Result (List Item) Refused) (items : List Item) → or_refused_growth said ≡ Ok items
+items_made : (made : BootSoFar) (said : Result (List Item) Refused) (items : List Item) → or_refused_growth said ≡ Ok items
     → with_items made said ≡ Ok (record made { items = items })
 items_made made (Ok carried) items is =
     let same : carried ≡ items = cc in ap (λ (is : List Item). Ok (record made { items = is })) same
 items_made made (Err refused) items is = absurd (cc)
 
-items_stop : (made : Made) (said : Result (List Item) Refused) (stop : Stop) → or_refused_growth said ≡ Err stop
+items_stop : (made : BootSoFar) (said : Result (List Item) Refused) (stop : Stop) → or_refused_growth said ≡ Err stop
     → with_error stop_of (with_items made said) ≡ Err stop
 items_stop made (Ok carried) stop is = absurd (cc)
 items_stop made (Err refused) stop is =
     let same : stop_of (cause_of_growth refused) ≡ stop = cc in ap (λ (s : Stop). Err s) same
 
 -- the items that the stage of memory wants
-abbrev pub memory_said : Given → Made → Result (List Item) Refused
+abbrev pub memory_said : Given → BootSoFar → Result (List Item) Refused
 memory_said given made = carried_out (first_items (early_of given) made.map) made.items
 
-pub memory_stops : {X : Type 0} (view : X → Told) (given : Given) (made : Made) (answer : Result X Stop) (stop : Stop) → answer ≡ Err stop
+pub memory_stops : {X : Type 0} (view : X → Told) (given : Given) (made : BootSoFar) (answer : Result X Stop) (stop : Stop) → answer ≡ Err stop
     → with_error stop_of (map_judged given) ≡ Ok made → (stop ≢ stops.Memory → or_refused_growth (memory_said given made) ≡ Err stop)
     → Answers stops.Memory view answer (with_error stop_of (told_boot given))
 memory_stops view given made answer stop is judged answers =
@@ -151,7 +151,7 @@ memory_stops view given made answer stop is judged answers =
     ∙ stopped (has_memory given made) (λ next. in_order (drop 1 (later_stages given)) next) stop
     (items_stop made (memory_said given made) stop (answers other)))
 
-pub memory_goes_on : (given : Given) (made : Made) (items : List Item) → with_error stop_of (map_judged given) ≡ Ok made
+pub memory_goes_on : (given : Given) (made : BootSoFar) (items : List Item) → with_error stop_of (map_judged given) ≡ Ok made
     → or_refused_growth (memory_said given made) ≡ Ok items
     → boot given ≡ in_order (drop 1 (later_stages given)) (record made { items = items })
 memory_goes_on given made items judged answers =
@@ -160,14 +160,14 @@ memory_goes_on given made items judged answers =
     (ap (with_error stop_of) (items_made made (memory_said given made) items answers))
 
 -- the stages behind memory
-pub stages_stop : {X : Type 0} (view : X → Told) (given : Given) (made : Made) (answer : Result X Stop) (stop : Stop) → answer ≡ Err stop
+pub stages_stop : {X : Type 0} (view : X → Told) (given : Given) (made : BootSoFar) (answer : Result X Stop) (stop : Stop) → answer ≡ Err stop
     → boot given ≡ in_order (drop 1 (later_stages given)) made → AreStopped given made stop
     → Answers stops.Memory view answer (with_error stop_of (told_boot given))
 stages_stop view given made answer stop is comes stopped_so =
     told_stops view given answer stop is (λ other. ap (with_error stop_of) comes ∙ stopped_so other)
 
-pub boot_told : (given : Given) (made : Made) → boot given ≡ Ok made → told_boot given ≡ Ok (told given made)
-boot_told given made comes = ap (λ (said : Result Made Cause). said >>= λ m. Ok (told given m)) comes
+pub boot_told : (given : Given) (made : BootSoFar) → boot given ≡ Ok made → told_boot given ≡ Ok (told given made)
+boot_told given made comes = ap (λ (said : Result BootSoFar Cause). said >>= λ m. Ok (told given m)) comes
 
 -- the claims of a table that was finished
 pub claims-told : (given : Given) (c : Claims) (entries extension : List Entry) (edits : List Edit) (more : List Entry)
@@ -189,7 +189,7 @@ carried_ok (Ok carried) items is = let same : carried ≡ items = cc in ap (λ (
 carried_ok (Err refused) items is = absurd (cc)
 
 -- memory as the map gives it
-pub first_made : (given : Given) (made : Made) (items : List Item) → with_error stop_of (map_judged given) ≡ Ok made
+pub first_made : (given : Given) (made : BootSoFar) (items : List Item) → with_error stop_of (map_judged given) ≡ Ok made
     → or_refused_growth (memory_said given made) ≡ Ok items → IsFirstMemory (reach given) items
 first_made given made items judged answers =
     first_known given made items (told_ok stop_of (map_judged given) made judged) (carried_ok (memory_said given made) items answers)

@@ -13,7 +13,7 @@ use Rattle.early_script.specs.Ids.{Ids}
 use Rattle.early_script.specs.Stage.{Reaches, after_lines, before_sections, behind_sections, stage_of}
 use Rattle.numa_nodes.specs.Assigned.{Noded}
 use Rattle.crash_kernel.specs.declared.crash.Crash.{Crash}
-use Rattle.boot_model.specs.Boot.{Given, Made, Stage, has_crash_area, has_nodes, has_sections, later_stages, put_crash, put_nodes, put_sections, reach, runs_lines}
+use Rattle.boot_model.specs.Boot.{Given, BootSoFar, Stage, has_crash_area, has_nodes, has_sections, later_stages, put_crash, put_nodes, put_sections, reach, runs_lines}
 use Rattle.boot_model.specs.First.{IsFirstMemory}
 use Rattle.boot_model.specs.Sections.{SectionPlaces}
 use Rattle.boot_model.specs.Stages.{in_order}
@@ -38,14 +38,14 @@ pub lent-holds : (fills : List Filled) (old new : Contents) → GoesOn old new �
 lent-holds fills old new lent holds = holds-on fills old new lent.kernel lent.bytes holds
 
 -- what is made behind nodes, and behind the crash area
-abbrev pub behind_nodes : Made → Contents → Contents → Noded → Made
+abbrev pub behind_nodes : BootSoFar → Contents → Contents → Noded → BootSoFar
 behind_nodes made start m nodes = put_nodes nodes (at_memblock (begun_with made start) m)
 
-abbrev pub behind_crash : Made → Contents → Contents → Contents → Noded → Crash → Made
+abbrev pub behind_crash : BootSoFar → Contents → Contents → Contents → Noded → Crash → BootSoFar
 behind_crash made start mid m nodes area = put_crash area (at_memblock (behind_nodes made start mid nodes) m)
 
 -- behind the lines before the sections
-pub record UpToLines (given : Given) (made : Made) (start mid second m : Contents) (nodes : Noded) (area : Crash) (ids : Ids)
+pub record UpToLines (given : Given) (made : BootSoFar) (start mid second m : Contents) (nodes : Noded) (area : Crash) (ids : Ids)
     (answers : List Answer) : Type 0 where
   pub fills : List Filled
   pub come : in_order (drop 1 (later_stages given)) (begun_with made start)
@@ -55,26 +55,26 @@ pub record UpToLines (given : Given) (made : Made) (start mid second m : Content
   pub kernel : m.kernel ≡ given.kernel
   pub holds : HoldsWith fills m
 
-pub up_to_lines : (given : Given) (made : Made) (start mid second m : Contents) (nodes : Noded) (area : Crash) (live ids : Ids)
+pub up_to_lines : (given : Given) (made : BootSoFar) (start mid second m : Contents) (nodes : Noded) (area : Crash) (live ids : Ids)
     (told answers : List Answer) (before : List Line) → start.kernel ≡ given.kernel
     → IsFirstMemory (reach given) start.journal.items → HoldsWith [] start
-    → ((n : Made) → Comes (has_nodes given) put_nodes n start mid (Ok nodes)) → GoesOn start mid
-    → ((n : Made) → Comes (has_crash_area given) put_crash n mid second (Ok area)) → GoesOn mid second
+    → ((n : BootSoFar) → Comes (has_nodes given) put_nodes n start mid (Ok nodes)) → GoesOn start mid
+    → ((n : BootSoFar) → Comes (has_crash_area given) put_crash n mid second (Ok area)) → GoesOn mid second
     → live ≡ [] → told ≡ [] → before ≡ before_sections given.lines
     → ((fills : List Filled) → Holds second.kernel second.journal.items fills (bytes_in second)
     → Reaches (after_lines (stage_of live second fills told) before) ids m answers)
     → m.kernel ≡ second.kernel → UpToLines given made start mid second m nodes area ids answers
 up_to_lines given made start mid second m nodes area live ids told answers before kernel first holds nodes_come nodes_lent crash_come
     crash_lent no_ids none_told lines run same =
-    let s0 : Made = begun_with made start in
-    let s1 : Made = behind_nodes made start mid nodes in
-    let s2 : Made = behind_crash made start mid second nodes area in
+    let s0 : BootSoFar = begun_with made start in
+    let s1 : BootSoFar = behind_nodes made start mid nodes in
+    let s2 : BootSoFar = behind_crash made start mid second nodes area in
     let second_kernel : second.kernel ≡ given.kernel = crash_lent.kernel ∙ nodes_lent.kernel ∙ kernel in
     let here : HoldsWith [] second = lent-holds [] mid second crash_lent (lent-holds [] start mid nodes_lent holds) in
     let reached = run [] here in
     let lines_end = lines-run given.kernel before s2 second m live ids [] told answers second_kernel reached in
-    let s3 : Made = made_by_lines s2 m ids lines_end.fills answers in
-    let begins : Ids → List Answer → Made = λ l t. made_by_lines s2 second l [] t in
+    let s3 : BootSoFar = made_by_lines s2 m ids lines_end.fills answers in
+    let begins : Ids → List Answer → BootSoFar = λ l t. made_by_lines s2 second l [] t in
     let comes : runs_lines given.kernel (before_sections given.lines) s2 ≡ Ok s3 =
     ap (λ (ls : List Line). runs_lines given.kernel ls s2) (sym lines)
     ∙ ap (λ (l : Ids). runs_lines given.kernel before (begins l [])) (sym no_ids)
@@ -96,28 +96,28 @@ up_to_lines given made start mid second m nodes area live ids told answers befor
     }
 
 -- and behind all
-pub record AllRun (given : Given) (made : Made) (start last : Contents) (later : LaterMade) : Type 0 where
+pub record AllRun (given : Given) (made : BootSoFar) (start last : Contents) (later : LaterMade) : Type 0 where
   pub run : AreRun given (begun_with made start) last later
   pub noded : IsNoded (2 ^ 52) (memory_of last.journal.items)
 
-pub all_run : (given : Given) (made : Made) (start mid second m next last : Contents) (nodes : Noded) (area : Crash) (places :
+pub all_run : (given : Given) (made : BootSoFar) (start mid second m next last : Contents) (nodes : Noded) (area : Crash) (places :
     SectionPlaces)
     (ids final : Ids) (answers told : List Answer) (behind : List Line)
     → UpToLines given made start mid second m nodes area ids answers
-    → ((n : Made) → Comes (has_sections given) put_sections n m next (Ok places)) → GoesOn m next
+    → ((n : BootSoFar) → Comes (has_sections given) put_sections n m next (Ok places)) → GoesOn m next
     → behind ≡ behind_sections given.lines
     → ((fills : List Filled) → Holds next.kernel next.journal.items fills (bytes_in next)
     → Reaches (after_lines (stage_of ids next fills answers) behind) final last told)
     → last.kernel ≡ next.kernel
     → AllRun given made start last (record { nodes = nodes; crash = area; sections = places; answers = told })
 all_run given made start mid second m next last nodes area places ids final answers told behind up sections_come lent lines run same =
-    let s2 : Made = behind_crash made start mid second nodes area in
-    let s3 : Made = made_by_lines s2 m ids up.fills answers in
-    let s4 : Made = put_sections places (at_memblock s3 next) in
+    let s2 : BootSoFar = behind_crash made start mid second nodes area in
+    let s3 : BootSoFar = made_by_lines s2 m ids up.fills answers in
+    let s4 : BootSoFar = put_sections places (at_memblock s3 next) in
     let kernel : next.kernel ≡ given.kernel = lent.kernel ∙ up.kernel in
     let here : HoldsWith up.fills next = lent-holds up.fills m next lent up.holds in
     let lines_end = lines-run given.kernel behind s4 next last ids final up.fills answers told kernel (run up.fills here) in
-    let s5 : Made = made_by_lines s4 last final lines_end.fills told in
+    let s5 : BootSoFar = made_by_lines s4 last final lines_end.fills told in
     let comes : runs_lines given.kernel (behind_sections given.lines) s4 ≡ Ok s5 =
     ap (λ (ls : List Line). runs_lines given.kernel ls s4) (sym lines) ∙ lines_end.come in
     let by_sections : memory_of next.journal.items ≡ memory_of m.journal.items = section_labels given s3 s4 (sections_come s3) in

@@ -25,7 +25,7 @@ use Rattle.stage_model.specs.declared.stop.StageStop.TheVariants as stage
 use Rattle.numa_nodes.specs.Assigned.{Noded, nodes_view}
 use Rattle.crash_kernel.specs.declared.crash.Crash.{Crash}
 use Rattle.sparse_sections.specs.Roots.{roots_view}
-use Rattle.boot_model.specs.Boot.{Given, Made, Stage, begin_with, has_frames, later_stages, map_judged}
+use Rattle.boot_model.specs.Boot.{Given, BootSoFar, Stage, begin_with, has_frames, later_stages, map_judged}
 use Rattle.boot_model.specs.Sections.{SectionPlaces}
 use Rattle.boot_stages.specs.declared.later.Later.{Later}
 use Rattle.boot_stages.specs.declared.later.Sections.{Sections}
@@ -77,11 +77,11 @@ abbrev pub HoldsWith : List Filled → Contents → Type 0
 HoldsWith fills m = Holds m.kernel m.journal.items fills (byte_of m.tables.store)
 
 -- what is made where memblock is this
-abbrev pub at_memblock : Made → Contents → Made
+abbrev pub at_memblock : BootSoFar → Contents → BootSoFar
 at_memblock made m = record made { items = m.journal.items }
 
 -- a stage over memblock ends so: what it answers stands beside what was made, or the boot stops
-abbrev pub Comes : {A : Type 0} → Stage → (A → Made → Made) → Made → Contents → Contents → Result A Stop → Type 0
+abbrev pub Comes : {A : Type 0} → Stage → (A → BootSoFar → BootSoFar) → BootSoFar → Contents → Contents → Result A Stop → Type 0
 Comes stage put made old new (Ok a) = stage (at_memblock made old) ≡ Ok (put a (at_memblock made new))
 Comes stage put made old new (Err stop) = stop ≢ stops.Memory → with_error stop_of (stage (at_memblock made old)) ≡ Err stop
 
@@ -99,10 +99,10 @@ abbrev pub later_view : Later → LaterMade
 later_view l = record { nodes = nodes_view l.nodes; crash = l.crash; sections = places_view l.sections; answers = l.answers.items }
 
 -- what is made where lines of the script were run, and behind all these stages
-abbrev pub made_by_lines : Made → Contents → Ids → List Filled → List Answer → Made
+abbrev pub made_by_lines : BootSoFar → Contents → Ids → List Filled → List Answer → BootSoFar
 made_by_lines made m ids fills answers = record made { items = m.journal.items; ids = ids; fills = fills; answers = answers }
 
-abbrev pub made_behind : Made → Contents → LaterMade → Ids → List Filled → Made
+abbrev pub made_behind : BootSoFar → Contents → LaterMade → Ids → List Filled → BootSoFar
 made_behind made m later ids fills = record made {
   items = m.journal.items;
   nodes = later.nodes;
@@ -114,7 +114,7 @@ made_behind made m later ids fills = record made {
 }
 
 -- the stages behind memory came to an end
-pub record AreRun (given : Given) (made : Made) (m : Contents) (later : LaterMade) : Type 0 where
+pub record AreRun (given : Given) (made : BootSoFar) (m : Contents) (later : LaterMade) : Type 0 where
   pub ids : Ids
   pub fills : List Filled
   pub kernel : m.kernel ≡ given.kernel
@@ -122,11 +122,11 @@ pub record AreRun (given : Given) (made : Made) (m : Contents) (later : LaterMad
   pub holds : HoldsWith fills m
 
 -- or they stop the boot
-abbrev pub AreStopped : Given → Made → Stop → Type 0
+abbrev pub AreStopped : Given → BootSoFar → Stop → Type 0
 AreStopped given made stop = stop ≢ stops.Memory → with_error stop_of (in_order (drop 1 (later_stages given)) made) ≡ Err stop
 
 -- where they begin: memory was made, and nothing happened in the script
-abbrev pub begun_with : Made → Contents → Made
+abbrev pub begun_with : BootSoFar → Contents → BootSoFar
 begun_with made m = made_by_lines made m [] [] []
 
 -- why a stage stops the boot, by what it answers; `NoGap` stands for nothing where a stage looks for its places itself

@@ -16,7 +16,7 @@ ghost use Rattle.early_script.specs.Stage.{PlaceOnce};
 ghost use Rattle.numa_nodes.specs.Assigned.{assigned, nodes_view};
 ghost use Rattle.crash_kernel.specs.Reserved.{reserved};
 ghost use Rattle.boot_model.specs.declared.stop.Stop.TheVariants as stops;
-ghost use Rattle.boot_model.specs.Boot.{Made, has_crash_area, has_nodes, has_sections, put_crash, put_nodes, put_sections, reach};
+ghost use Rattle.boot_model.specs.Boot.{BootSoFar, has_crash_area, has_nodes, has_sections, put_crash, put_nodes, put_sections, reach};
 ghost use Rattle.boot_model.specs.First.{IsFirstMemory};
 ghost use Rattle.boot_model.specs.Sections.{places_of_sections};
 ghost use Rattle.boot_model.specs.View.{inputs_view};
@@ -67,7 +67,7 @@ fn stop_of_stage(stop: StageStop) -> Stop
 fn give_nodes(alloc: Global, memblock: &mut Memblock, inputs: &Inputs) -> Result<Nodes, Stop>
     requires begun { HasBegun memblock.old.journal.items }
     requires limit { 0 < limit_of memblock.old.journal.items }
-    ensures comes { (made : Made) → Comes (has_nodes (inputs_view inputs.now)) put_nodes made memblock.old memblock.new
+    ensures comes { (made : BootSoFar) → Comes (has_nodes (inputs_view inputs.now)) put_nodes made memblock.old memblock.new
         (ok_as nodes_view result) }
     ensures short { result ≡ Err stops.Memory → IsCutShort memblock.old.journal.items memblock.new.journal.items
         (assigned (inputs_view inputs.now).domains (inputs_view inputs.now).options.numa_off memblock.old.journal.items).steps }
@@ -98,7 +98,7 @@ fn assign_nodes(alloc: Global, memblock: &mut Memblock, inputs: &Inputs) -> Resu
 /// The crash area is claimed, where one is asked for (`reserve_crashkernel`). Memory is wanted only where a step of that is left.
 fn reserve_area(memblock: &mut Memblock, inputs: &Inputs) -> Result<Crash, Stop>
     requires begun { HasBegun memblock.old.journal.items }
-    ensures comes { (made : Made) → Comes (has_crash_area (inputs_view inputs.now)) put_crash made memblock.old memblock.new result }
+    ensures comes { (made : BootSoFar) → Comes (has_crash_area (inputs_view inputs.now)) put_crash made memblock.old memblock.new result }
     ensures short { result ≡ Err stops.Memory → IsCutShort memblock.old.journal.items memblock.new.journal.items
         (reserved (inputs_view inputs.now).options.crash memblock.old.journal.items).steps }
     ensures begun { HasBegun memblock.new.journal.items }
@@ -115,7 +115,7 @@ fn reserve_area(memblock: &mut Memblock, inputs: &Inputs) -> Result<Crash, Stop>
 fn place_sections(alloc: Global, memblock: &mut Memblock, inputs: &Inputs) -> Result<Sections, Stop>
     requires begun { HasBegun memblock.old.journal.items }
     requires noded { IsNoded (2 ^ 52) (memory_of memblock.old.journal.items) }
-    ensures comes { (made : Made) → Comes (has_sections (inputs_view inputs.now)) put_sections made memblock.old memblock.new
+    ensures comes { (made : BootSoFar) → Comes (has_sections (inputs_view inputs.now)) put_sections made memblock.old memblock.new
         (ok_as places_view result) }
     ensures short { result ≡ Err stops.Memory → IsCutShort memblock.old.journal.items memblock.new.journal.items
         (places_of_sections (inputs_view inputs.now).width memblock.old.journal.items).steps }
@@ -148,9 +148,9 @@ pub fn run_stages(alloc: Global, memblock: &mut Memblock, inputs: &Inputs) -> Re
     requires first { IsFirstMemory (reach (inputs_view inputs.now)) memblock.old.journal.items }
     requires kernel { memblock.old.kernel ≡ inputs.now.kernel }
     requires bytes { HoldsWith [] memblock.old }
-    ensures run { IfOk result (λ later. (made : Made) →
+    ensures run { IfOk result (λ later. (made : BootSoFar) →
         AreRun (inputs_view inputs.now) (begun_with made memblock.old) memblock.new (later_view later)) }
-    ensures stopped { IfErr result (λ stop. (made : Made) →
+    ensures stopped { IfErr result (λ stop. (made : BootSoFar) →
         AreStopped (inputs_view inputs.now) (begun_with made memblock.old) stop) }
     ensures noded { IfOk result (λ _. IsNoded (2 ^ 52) (memory_of memblock.new.journal.items)) }
     ensures still_ready { StayReady memblock.old.tables.store memblock.new.tables.store }

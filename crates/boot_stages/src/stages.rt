@@ -5,7 +5,7 @@
 ghost use Rattle.std.specs.Prelude.{◌≡◌, ◌^◌, ◌<◌, ℕ, Ok, IfOk, IfSome, length};
 ghost use Rattle.address_runs.specs.Runs.{AreRuns};
 ghost use Rattle.e820_model.specs.Map.{claims_of};
-ghost use Rattle.boot_model.specs.Boot.{Given, Made, begin_with, boot, claims, map_judged, reach, told_boot};
+ghost use Rattle.boot_model.specs.Boot.{Given, BootSoFar, begin_with, boot, claims, map_judged, reach, told_boot};
 ghost use Rattle.boot_model.specs.View.{booted_view, inputs_view};
 ghost use Rattle.conservation.specs.Headline.{AllTouchedOrInOne, BlocksAreMaximal, BlocksAreWhole, NoOtherInABlock};
 ghost use Rattle.conservation.specs.Paged.{AllInOneOrHeld, NoOtherInOneOrHeld};
@@ -43,7 +43,7 @@ use std::alloc::Global;
 pub fn boot(alloc: Global, inputs: Inputs) -> Result<Booted, Stop>
     ensures boots { Answers Stop.Memory booted_view result
         (with_error stop_of (told_boot (inputs_view inputs))) }
-    ensures bytes { IfOk result (λ booted. (made : Made) → boot (inputs_view inputs) ≡ Ok made →
+    ensures bytes { IfOk result (λ booted. (made : BootSoFar) → boot (inputs_view inputs) ≡ Ok made →
         (x : ℕ) → byte_of booted.store x ≡ byte inputs.kernel made.items made.fills x) }
     ensures runs { IfOk result (λ booted. AreRuns booted.map.items) }
     ensures memory { IfOk result (λ booted. TableStands which.Memory booted.journal.items booted.store booted.heads.memory) }
@@ -109,7 +109,7 @@ struct Ended {
 fn boot_by(alloc: Global, inputs: &Inputs) -> Result<Ended, Stop>
     ensures boots { Answers Stop.Memory (ended_view (inputs_view inputs.now)) result
         (with_error stop_of (told_boot (inputs_view inputs.now))) }
-    ensures bytes { IfOk result (λ ended. (made : Made) → boot (inputs_view inputs.now) ≡ Ok made →
+    ensures bytes { IfOk result (λ ended. (made : BootSoFar) → boot (inputs_view inputs.now) ≡ Ok made →
         (x : ℕ) → byte_of ended.end.store x ≡ byte inputs.now.kernel made.items made.fills x) }
     ensures runs { IfOk result (λ ended. AreRuns ended.map.items) }
     ensures memory { IfOk result (λ ended.

@@ -6,8 +6,8 @@ use Rattle.bm_io.specs.HeldFiles.{bytes_of}
 use Rattle.boot_inputs.specs.declared.fault.Fault.{Fault}
 use Rattle.boot_inputs.specs.declared.input.Input.{Input}
 use Rattle.boot_inputs.specs.declared.input.Input.TheVariants as inputs
-use Rattle.boot_inputs.specs.declared.refusal.Refusal.{Refusal}
-use Rattle.boot_inputs.specs.declared.refusal.Refusal.TheVariants as refusals
+use Rattle.boot_inputs.specs.declared.refusal.InputRefusal.{InputRefusal}
+use Rattle.boot_inputs.specs.declared.refusal.InputRefusal.TheVariants as refusals
 use Rattle.boot_inputs.specs.Answers.{ComesTo, RoseAt, input_of}
 use Rattle.boot_inputs.specs.File.{File as InputFile}
 use Rattle.boot_inputs.specs.Input.{place}
@@ -39,7 +39,7 @@ has inputs.Slit = inr (omega arith, inr (omega arith, inr (omega arith, inr (ome
 has inputs.Efi = inr (omega arith, inr (omega arith, inr (omega arith, inr (omega arith, inr (omega arith, inr (omega arith, inr (omega arith, inl refl)))))))
 
 -- a file's step refuses that file
-abbrev IsOfFile : Input → Result Given Refusal → Type 0
+abbrev IsOfFile : Input → Result Given InputRefusal → Type 0
 IsOfFile input (Ok given) = Unit {0}
 IsOfFile input (Err refusal) = input_of refusal ≡ input
 
@@ -47,7 +47,7 @@ faulty_is : (input : Input) (answer : Result Given Fault) → IsOfFile input (or
 faulty_is input (Ok given) = tt
 faulty_is input (Err fault) = refl
 
-unread_is : (held : Option (List ℕ)) (input : Input) (step : List ℕ → Result Given Refusal)
+unread_is : (held : Option (List ℕ)) (input : Input) (step : List ℕ → Result Given InputRefusal)
     → ((bytes : List ℕ) → IsOfFile input (step bytes)) → IsOfFile input (or_unread input held step)
 unread_is None input step is = refl
 unread_is (Some bytes) input step is = is bytes
@@ -58,9 +58,9 @@ step_is held file given (Some name) =
     unread_is (held name) file.input _ (λ bytes. faulty_is file.input (within file.limit bytes >>= λ read. file.says read given))
 
 -- the first file that can't be read is refused, where the work comes to it
-behind : (input : Input) (file : InputFile) (rest : Given → Result Given Refusal) → place file.input < place input
+behind : (input : Input) (file : InputFile) (rest : Given → Result Given InputRefusal) → place file.input < place input
     → ((given : Given) → ComesTo input (rest given) → rest given ≡ Err (refusals.Unread input))
-    → (step : Result Given Refusal) → IsOfFile file.input step → ComesTo input (step >>= rest)
+    → (step : Result Given InputRefusal) → IsOfFile file.input step → ComesTo input (step >>= rest)
     → (step >>= rest) ≡ Err (refusals.Unread input)
 behind input file rest lower goes (Ok given) is comes = goes given comes
 behind input file rest lower goes (Err refusal) is comes = absurd (omega (arith, lower, comes, ap place is))
@@ -77,13 +77,13 @@ unread_at held named input name is none (file ∷ files) given (inl same) comes 
     let own : named file.input ≡ Some name = ap named same ∙ is in
     let step : file_step held named file given ≡ Err (refusals.Unread file.input) =
     ap (step_if held file given) own ∙ named_unread held file given name none in
-    ap (λ (s : Result Given Refusal). s >>= given_in held named files) step ∙ ap (λ (i : Input). Err (refusals.Unread i)) same
+    ap (λ (s : Result Given InputRefusal). s >>= given_in held named files) step ∙ ap (λ (i : Input). Err (refusals.Unread i)) same
 unread_at held named input name is none (file ∷ files) given (inr more) comes =
     behind input file (given_in held named files) more.0 (λ given. unread_at held named input name is none files given more.1)
     (file_step held named file given) (step_is held file given (named file.input)) comes
 
 -- the same of the outcome
-comes_to : (input : Input) (wanted : Wanted) (said : Result Given Refusal)
+comes_to : (input : Input) (wanted : Wanted) (said : Result Given InputRefusal)
     → ReachesFile input (or_refused (said >>= λ given. Ok (with_made wanted.made given)) >>= reported wanted.reports)
     → ComesTo input said
 comes_to input wanted (Ok given) reaches = tt
@@ -94,7 +94,7 @@ pub unread_outcome : (held : Held) (wanted : Wanted) (input : Input) (name : Lis
 unread_outcome held wanted input name is none reaches =
     let said = unread_at held wanted.named input name is none input_files wanted.begun (has input)
     (comes_to input wanted (inputs_of held wanted.named wanted.begun) reaches) in
-    ap (λ (s : Result Given Refusal). or_refused (s >>= λ given. Ok (with_made wanted.made given)) >>= reported wanted.reports) said
+    ap (λ (s : Result Given InputRefusal). or_refused (s >>= λ given. Ok (with_made wanted.made given)) >>= reported wanted.reports) said
 
 -- a file whose count of misses rose isn't lent
 unheld : (old new : LentState) (named : Option (List ℕ)) → RoseAt (faults_at old) (faults_at new) named

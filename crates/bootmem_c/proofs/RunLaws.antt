@@ -8,7 +8,7 @@ use Rattle.std.proofs.lemmas.List.Elements.{All-cons}
 use Rattle.bm_io.specs.Counts.{Rose}
 use Rattle.bm_io.specs.HeldFiles.{HeldFile, bytes_of}
 use Rattle.bm_base.specs.ResultSteps.{◌>>=◌}
-use Rattle.boot_inputs.specs.declared.refusal.Refusal.{Refusal}
+use Rattle.boot_inputs.specs.declared.refusal.InputRefusal.{InputRefusal}
 use Rattle.boot_inputs.specs.Inputs.{Held}
 use Rattle.boot_model.specs.declared.stop.Cause.{Cause}
 use Rattle.boot_model.specs.Boot.{Given, Told, told_boot}
@@ -84,10 +84,10 @@ told_text : (reports : List Report) (answer : Result Told Cause) (told : Told) (
 told_text reports answer told P is holds =
     subst (λ (a : Result Told Cause). IsText (or_stopped a >>= λ told. Ok (text_of reports told)) P) (sym is) holds
 
-given_text : (reports : List Report) (answer : Result Given Refusal) (given : Given) (P : List ℕ → Type 0) → answer ≡ Ok given
+given_text : (reports : List Report) (answer : Result Given InputRefusal) (given : Given) (P : List ℕ → Type 0) → answer ≡ Ok given
     → IsText (reported reports given) P → IsText (or_refused answer >>= λ given. reported reports given) P
 given_text reports answer given P is holds =
-    subst (λ (a : Result Given Refusal). IsText (or_refused a >>= λ given. reported reports given) P) (sym is) holds
+    subst (λ (a : Result Given InputRefusal). IsText (or_refused a >>= λ given. reported reports given) P) (sym is) holds
 
 pub reported_text : (accepted : Option Wanted) (held : Held) (text : List ℕ) → IsReported accepted held (Some []) (Some text)
     → IsText (outcome accepted held) (λ said. text ≡ said)

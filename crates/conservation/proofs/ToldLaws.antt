@@ -2,16 +2,16 @@
 use Rattle.std.proofs.Common.{◌≡◌, Result, Ok, Err, refl}
 use Rattle.bm_base.specs.ResultSteps.{◌>>=◌}
 use Rattle.boot_model.specs.declared.stop.Cause.{Cause}
-use Rattle.boot_model.specs.Boot.{Given, Made, Told, boot, told, told_boot}
+use Rattle.boot_model.specs.Boot.{Given, BootSoFar, Told, boot, told, told_boot}
 
 -- what was made, and that this is told of it
 pub record IsToldOf (given : Given) (t : Told) : Type 0 where
-  pub made : Made
+  pub made : BootSoFar
   pub boots : boot given ≡ Ok made
   pub tells : told given made ≡ t
 
-told_of : (given : Given) (answer : Result Made Cause) (t : Told) → (answer >>= λ made. Ok (told given made)) ≡ Ok t
-    → (made : Made) × (answer ≡ Ok made) × (told given made ≡ t)
+told_of : (given : Given) (answer : Result BootSoFar Cause) (t : Told) → (answer >>= λ made. Ok (told given made)) ≡ Ok t
+    → (made : BootSoFar) × (answer ≡ Ok made) × (told given made ≡ t)
 told_of given (Ok made) t ends = (made, refl, cc ends)
 told_of given (Err cause) t ends = absurd (cc ends)
 

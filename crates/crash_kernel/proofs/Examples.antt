@@ -14,7 +14,7 @@ use Rattle.memblock_model.specs.Items.{memory_of}
 use Rattle.memblock_model.specs.Labels.{Label, plain_label, with_node}
 use Rattle.memblock_model.specs.Search.{fits, fits_in}
 use Rattle.boot_options.specs.declared.crash.CrashRange.{CrashRange}
-use Rattle.boot_options.specs.Crash.{Crash as Asked, no_crash, one_range}
+use Rattle.boot_options.specs.Crash.{CrashWords as Asked, no_crash, one_range}
 use Rattle.stage_model.specs.Doing.{returns}
 use Rattle.crash_kernel.specs.declared.area.Spot.TheVariants as spot
 use Rattle.crash_kernel.specs.declared.crash.Crash.TheVariants as crash

@@ -10,7 +10,7 @@ use Rattle.stage_model.specs.Doing.{Doing, returns, seen}
 use Rattle.stage_model.specs.Requests.{changes}
 use Rattle.stage_model.specs.Quiet.{IsQuietStep}
 use Rattle.stage_model.proofs.QuietLaws.{quiet-bind, quiet-changes, quiet-returns, quiet-seen}
-use Rattle.boot_options.specs.Crash.{Crash as Asked}
+use Rattle.boot_options.specs.Crash.{CrashWords as Asked}
 use Rattle.crash_kernel.specs.declared.area.Area.{Area}
 use Rattle.crash_kernel.specs.declared.crash.Crash.{Crash}
 use Rattle.crash_kernel.specs.declared.crash.Crash.TheVariants as crash

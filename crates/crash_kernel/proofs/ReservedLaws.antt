@@ -19,7 +19,7 @@ use Rattle.stage_model.specs.Doing.{Doing, Done, ◌>>=◌, after, going_on, ret
 use Rattle.stage_model.specs.Requests.{changes, refusal_of}
 use Rattle.stage_model.proofs.DoingLaws.{ends-second, ends-first, ends-returns}
 use Rattle.stage_model.proofs.RequestLaws.{ends-change}
-use Rattle.boot_options.specs.Crash.{Crash as Asked}
+use Rattle.boot_options.specs.Crash.{CrashWords as Asked}
 use Rattle.crash_kernel.specs.declared.area.Area.{Area}
 use Rattle.crash_kernel.specs.declared.crash.Crash.{Crash}
 use Rattle.crash_kernel.specs.declared.crash.Crash.TheVariants as crash

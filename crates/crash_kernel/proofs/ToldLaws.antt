@@ -23,7 +23,7 @@ use Rattle.growth_model.proofs.FoundLaws.{found-fits}
 use Rattle.growth_model.proofs.SpotLaws.{covers-from}
 use Rattle.stage_model.specs.Doing.{Done, going_on, returns}
 use Rattle.stage_model.specs.Requests.{refusal_of}
-use Rattle.boot_options.specs.Crash.{Crash as Asked}
+use Rattle.boot_options.specs.Crash.{CrashWords as Asked}
 use Rattle.crash_kernel.specs.declared.area.Area.{Area}
 use Rattle.crash_kernel.specs.declared.area.Spot.{Spot}
 use Rattle.crash_kernel.specs.declared.area.Spot.TheVariants as spot

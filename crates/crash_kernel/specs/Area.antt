@@ -2,7 +2,7 @@
 use Rattle.std.specs.Prelude.{ℕ, ◌==◌, Bool, ◌&&◌, nat_le, if◌then◌else◌, Option, Some, None, List, [], ◌∷◌}
 use Rattle.std.specs.Option.{option_or}
 use Rattle.boot_options.specs.declared.crash.CrashRange.{CrashRange}
-use Rattle.boot_options.specs.Crash.{Crash, PlainForm, is_above}
+use Rattle.boot_options.specs.Crash.{CrashWords, PlainForm, is_above}
 use Rattle.crash_kernel.specs.declared.area.Area.{Area}
 use Rattle.crash_kernel.specs.declared.area.Spot.{Spot}
 use Rattle.crash_kernel.specs.declared.area.Spot.TheVariants as spot
@@ -34,5 +34,5 @@ high_area None = None
 high_area (Some size) = sized size spot.High
 
 -- the plain form goes before the high one; where neither asks for a byte there is no area
-unfoldable pub area_for : ℕ → Crash → Option Area
+unfoldable pub area_for : ℕ → CrashWords → Option Area
 area_for total asked = option_or (plain_area total asked.plain) (high_area asked.high)

@@ -5,7 +5,7 @@ use Rattle.bm_base.specs.Extent.{Extent}
 use Rattle.memblock_model.specs.declared.query.Query.{Query}
 use Rattle.memblock_model.specs.declared.item.Item.{Item}
 use Rattle.memblock_model.specs.Search.{best, fits}
-use Rattle.boot_options.specs.Crash.{Crash as Asked}
+use Rattle.boot_options.specs.Crash.{CrashWords as Asked}
 use Rattle.crash_kernel.specs.declared.area.Spot.{Spot}
 use Rattle.crash_kernel.specs.declared.area.Spot.TheVariants as spot
 use Rattle.crash_kernel.specs.declared.crash.Crash.{Crash}

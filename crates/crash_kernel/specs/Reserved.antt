@@ -7,7 +7,7 @@ use Rattle.growth_model.specs.declared.refusal.Refusal.{Refusal}
 use Rattle.growth_model.specs.Growth.{claimed, freed}
 use Rattle.stage_model.specs.Doing.{Doing, ◌>>=◌, returns, seen}
 use Rattle.stage_model.specs.Requests.{changes}
-use Rattle.boot_options.specs.Crash.{Crash as Asked}
+use Rattle.boot_options.specs.Crash.{CrashWords as Asked}
 use Rattle.crash_kernel.specs.declared.area.Area.{Area}
 use Rattle.crash_kernel.specs.declared.crash.Crash.{Crash}
 use Rattle.crash_kernel.specs.declared.crash.Crash.TheVariants as crash

@@ -9,7 +9,7 @@ use Rattle.growth_model.specs.Growth.{claimed}
 use Rattle.growth_model.specs.Sound.{Unclaimed}
 use Rattle.stage_model.specs.Doing.{after}
 use Rattle.stage_model.specs.Requests.{changes}
-use Rattle.boot_options.specs.Crash.{Crash as Asked}
+use Rattle.boot_options.specs.Crash.{CrashWords as Asked}
 use Rattle.crash_kernel.specs.declared.area.Spot.{Spot}
 use Rattle.crash_kernel.specs.Total.{memory_bytes}
 use Rattle.crash_kernel.specs.Area.{area_for}

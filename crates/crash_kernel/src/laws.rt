@@ -5,7 +5,7 @@ ghost use Rattle.std.specs.Prelude.{◌≡◌, Option, List, Ok};
 ghost use Rattle.bm_base.specs.Extent.{Extent};
 ghost use Rattle.memblock_model.specs.declared.item.Item.{Item as AnyItem};
 ghost use Rattle.memblock_model.specs.Items.{limit_of, memory_of};
-ghost use Rattle.boot_options.specs.Crash.{Crash as Asked};
+ghost use Rattle.boot_options.specs.Crash.{CrashWords as Asked};
 ghost use Rattle.stage_model.specs.Doing.{after};
 ghost use Rattle.crash_kernel.specs.declared.crash.Crash.TheVariants as crash;
 ghost use Rattle.crash_kernel.specs.Reserved.{reserved};

@@ -7,7 +7,7 @@ ghost use Rattle.bm_io.specs.HeldFiles.{held_files, HaveOwnNames};
 use crate::common::{KERNEL, file};
 use bm_base::Width;
 use bm_io::{MemFile, MemFiles};
-use boot_inputs::{Fault, Input, InputError, Names, Refusal, read_inputs};
+use boot_inputs::{Fault, Input, InputError, InputRefusal, Names, read_inputs};
 use boot_model::Inputs;
 use e820_table::ZeroFault;
 use std::alloc::Global;
@@ -89,7 +89,7 @@ fn expect(
     alloc: Global,
     held: &Held<'_>,
     failing: u64,
-    want: Option<Refusal>,
+    want: Option<InputRefusal>,
 ) -> Result<(), Fail> {
     let calls = vec![in alloc; failing]?;
     let mut files = MemFiles::new(files_of(alloc, held)?, calls);
@@ -150,14 +150,14 @@ fn files_in_their_order(rt: HostRuntime) -> Result<(), Fail> {
     zp[0x1e8] = 2;
     let held = Held { zp: &zp, ..HELD };
     let rows = [
-        (1, Some(Refusal::Unread(Input::ZeroPage))),
-        (2, Some(Refusal::Unread(Input::Extension))),
-        (3, Some(Refusal::Unread(Input::CommandLine))),
-        (4, Some(Refusal::Unread(Input::Srat))),
-        (5, Some(Refusal::Unread(Input::Script))),
-        (6, Some(Refusal::Unread(Input::Pages))),
-        (7, Some(Refusal::Unread(Input::Slit))),
-        (8, Some(Refusal::Unread(Input::Efi))),
+        (1, Some(InputRefusal::Unread(Input::ZeroPage))),
+        (2, Some(InputRefusal::Unread(Input::Extension))),
+        (3, Some(InputRefusal::Unread(Input::CommandLine))),
+        (4, Some(InputRefusal::Unread(Input::Srat))),
+        (5, Some(InputRefusal::Unread(Input::Script))),
+        (6, Some(InputRefusal::Unread(Input::Pages))),
+        (7, Some(InputRefusal::Unread(Input::Slit))),
+        (8, Some(InputRefusal::Unread(Input::Efi))),
         (9, None),
     ];
     for (failing, want) in &rows {
@@ -208,7 +208,7 @@ fn refused_file_is_the_last(rt: HostRuntime) -> Result<(), Fail> {
         (Held { efi: b"", ..good }, Input::Efi, Fault::Header, 9),
     ];
     for (held, input, fault, behind) in &rows {
-        let want = Refusal::Faulty(*input, *fault);
+        let want = InputRefusal::Faulty(*input, *fault);
         expect(&rt, rt.alloc(), held, *behind, Some(want))?;
     }
     Ok(())
@@ -227,6 +227,6 @@ fn initrd_too_far(rt: HostRuntime) -> Result<(), Fail> {
     zp[0x21c] = 1;
     zp[0x21d] = 0x10;
     let held = Held { zp: &zp, ..HELD };
-    let want = Refusal::Faulty(Input::ZeroPage, Fault::ZeroPage(ZeroFault::InitrdTooFar));
+    let want = InputRefusal::Faulty(Input::ZeroPage, Fault::ZeroPage(ZeroFault::InitrdTooFar));
     expect(&rt, rt.alloc(), &held, 2, Some(want))
 }

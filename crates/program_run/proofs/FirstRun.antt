@@ -23,7 +23,7 @@ use Rattle.growth_model.specs.Carried.{carried_out}
 use Rattle.early_stages.specs.Wanted.{first_items}
 use Rattle.early_stages.proofs.FewLaws.{NeedNone, few_from_nothing}
 use Rattle.bm_base.specs.ResultSteps.{◌>>=◌}
-use Rattle.boot_model.specs.Boot.{Given, Made, begin_with, begun, boot, claims, early_of, has_memory, map_judged, no_options, reach}
+use Rattle.boot_model.specs.Boot.{Given, BootSoFar, begin_with, begun, boot, claims, early_of, has_memory, map_judged, no_options, reach}
 use Rattle.boot_model.proofs.BootLaws.{goes_on}
 use Rattle.program_words.specs.Kernel.{default_kernel}
 use Rattle.program_words.specs.Spelling.{AreSpellings, Spelling, apart, spelled_values, named}
@@ -154,7 +154,7 @@ words_ask : accepted (codes "--report" ∷ codes "map" ∷ codes "zp" ∷ []) �
 words_ask = accepted_as_given spellings are_spellings
 
 -- and where each later stage finds its places, this is what is written
-first_run : (made : Made) → boot given ≡ Ok made → outcome (accepted (codes "--report" ∷ codes "map" ∷ codes "zp" ∷ [])) held
+first_run : (made : BootSoFar) → boot given ≡ Ok made → outcome (accepted (codes "--report" ∷ codes "map" ∷ codes "zp" ∷ [])) held
     ≡ Ok (codes "0x0000000000100000..0x0000000007fdffff 1 usable\n0x0000000007fe0000..0x0000000007ffffff 2 reserved\n")
 unfolding entry_at digits initrd_of is_initrd_far
 first_run made ends =

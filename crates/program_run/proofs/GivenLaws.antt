@@ -8,20 +8,20 @@ use Rattle.e820_table.specs.Made.{made_entries}
 use Rattle.boot_inputs.specs.declared.input.Input.{Input}
 use Rattle.boot_inputs.specs.declared.refusal.InputError.{InputError}
 use Rattle.boot_inputs.specs.declared.refusal.InputError.TheVariants as errors
-use Rattle.boot_inputs.specs.declared.refusal.Refusal.{Refusal}
-use Rattle.boot_inputs.specs.declared.refusal.Refusal.TheVariants as refusals
+use Rattle.boot_inputs.specs.declared.refusal.InputRefusal.{InputRefusal}
+use Rattle.boot_inputs.specs.declared.refusal.InputRefusal.TheVariants as refusals
 use Rattle.boot_inputs.specs.Answers.{ComesTo, FitsAnswer, Gives}
 use Rattle.boot_inputs.specs.Inputs.{Held, inputs_of}
 use Rattle.boot_model.specs.Boot.{Given}
 use Rattle.program_words.specs.Words.{Wanted}
 use Rattle.program_run.specs.Outcome.{given_by, with_made}
 
-comes_behind : (input : Input) (said : Result Given Refusal) (next : Given → Given) → ComesTo input said
+comes_behind : (input : Input) (said : Result Given InputRefusal) (next : Given → Given) → ComesTo input said
     → ComesTo input (said >>= λ given. Ok (next given))
 comes_behind input (Ok given) next comes = tt
 comes_behind input (Err refusal) next comes = comes
 
-fits_behind : (error : InputError) (said : Result Given Refusal) (next : Given → Given) → FitsAnswer error said
+fits_behind : (error : InputError) (said : Result Given InputRefusal) (next : Given → Given) → FitsAnswer error said
     → FitsAnswer error (said >>= λ given. Ok (next given))
 fits_behind (errors.Refused (refusals.Unread input)) said next fits = comes_behind input said next fits
 fits_behind (errors.Refused (refusals.Faulty input fault)) said next fits = rw fits refl

@@ -2,8 +2,8 @@
 use Rattle.std.proofs.Common.{◌≡◌, ℕ, List, Option, Some, None, IfSome, Result, Ok, Err, refl, sym, ◌∙◌, arith}
 use Rattle.std.specs.Io.KnownBytes.{Appends}
 use Rattle.bm_base.specs.ResultSteps.{◌>>=◌}
-use Rattle.boot_inputs.specs.declared.refusal.Refusal.{Refusal}
-use Rattle.boot_inputs.specs.declared.refusal.Refusal.TheVariants as refusals
+use Rattle.boot_inputs.specs.declared.refusal.InputRefusal.{InputRefusal}
+use Rattle.boot_inputs.specs.declared.refusal.InputRefusal.TheVariants as refusals
 use Rattle.boot_inputs.specs.Inputs.{Held}
 use Rattle.boot_model.specs.declared.stop.Cause.{Cause}
 use Rattle.boot_model.specs.Boot.{Given, Told, told_boot}
@@ -25,7 +25,7 @@ by_told : (reports : List Report) (answer : Result Told Cause) (P : List ℕ →
 by_told reports (Ok told) P is = (told, refl, is)
 by_told reports (Err cause) P is = absurd is
 
-by_given : (reports : List Report) (answer : Result Given Refusal) (P : List ℕ → Type 0)
+by_given : (reports : List Report) (answer : Result Given InputRefusal) (P : List ℕ → Type 0)
     → IsText (or_refused answer >>= λ given. reported reports given) P
     → (given : Given) × (answer ≡ Ok given) × IsText (reported reports given) P
 by_given reports (Ok given) P is = (given, refl, is)

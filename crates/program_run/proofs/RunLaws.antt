@@ -5,8 +5,8 @@ use Rattle.bm_base.specs.ResultSteps.{◌>>=◌}
 use Rattle.bm_io.specs.Told.{AppendsFront}
 use Rattle.bm_io.specs.declared.writing.Sink.{Ghosts as SinkOf}
 use Rattle.boot_inputs.specs.declared.input.Input.{Input}
-use Rattle.boot_inputs.specs.declared.refusal.Refusal.{Refusal}
-use Rattle.boot_inputs.specs.declared.refusal.Refusal.TheVariants as refusals
+use Rattle.boot_inputs.specs.declared.refusal.InputRefusal.{InputRefusal}
+use Rattle.boot_inputs.specs.declared.refusal.InputRefusal.TheVariants as refusals
 use Rattle.boot_inputs.specs.declared.refusal.InputError.{InputError}
 use Rattle.boot_inputs.specs.declared.refusal.InputError.TheVariants as errors
 use Rattle.boot_inputs.specs.Answers.{ComesTo, FitsAnswer}
@@ -32,7 +32,7 @@ reached_behind : (input : Input) (told : Result Told Cause) (shown : Told → Li
 reached_behind input (Ok told) shown = tt
 reached_behind input (Err cause) shown = tt
 
-reached : (input : Input) (said : Result Given Refusal) (reports : List Report) → ComesTo input said
+reached : (input : Input) (said : Result Given InputRefusal) (reports : List Report) → ComesTo input said
     → ReachesFile input (or_refused said >>= reported reports)
 reached input (Ok given) reports comes = reached_behind input (told_boot given) (text_of reports)
 reached input (Err refusal) reports comes = comes
@@ -42,7 +42,7 @@ pub inputs_fit : (held : Held) (wanted : Wanted) (error : InputError) (failure :
 inputs_fit held wanted (errors.Refused (refusals.Unread input)) failure is fits =
     rw is (reached input (given_by held wanted) wanted.reports fits)
 inputs_fit held wanted (errors.Refused (refusals.Faulty input fault)) failure is fits =
-    rw is (ap (λ (said : Result Given Refusal). or_refused said >>= reported wanted.reports) fits)
+    rw is (ap (λ (said : Result Given InputRefusal). or_refused said >>= reported wanted.reports) fits)
 inputs_fit held wanted errors.Memory failure is fits = rw is tt
 
 -- whatever the files tell

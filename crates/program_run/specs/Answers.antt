@@ -6,8 +6,8 @@ use Rattle.bm_io.specs.Counts.{Rose}
 use Rattle.bm_io.specs.Told.{AppendsFront}
 use Rattle.boot_inputs.specs.declared.fault.Fault.{Fault}
 use Rattle.boot_inputs.specs.declared.input.Input.{Input}
-use Rattle.boot_inputs.specs.declared.refusal.Refusal.{Refusal}
-use Rattle.boot_inputs.specs.declared.refusal.Refusal.TheVariants as refusals
+use Rattle.boot_inputs.specs.declared.refusal.InputRefusal.{InputRefusal}
+use Rattle.boot_inputs.specs.declared.refusal.InputRefusal.TheVariants as refusals
 use Rattle.boot_inputs.specs.Answers.{RoseAt, input_of}
 use Rattle.boot_inputs.specs.Input.{place}
 use Rattle.boot_model.specs.declared.stop.Cause.{Cause}
@@ -26,7 +26,7 @@ ReachesFile input (Err (reasons.Refused refusal)) = place input ≤ place (input
 ReachesFile input (Err (reasons.Stopped cause)) = Unit {0}
 
 -- a refused file is the one that the definition gives; but a file may fail to be read where the work comes to it
-abbrev pub FitsFile : {Y : Type 0} → Refusal → Result Y Reason → Type 0
+abbrev pub FitsFile : {Y : Type 0} → InputRefusal → Result Y Reason → Type 0
 FitsFile (refusals.Unread input) said = ReachesFile input said
 FitsFile (refusals.Faulty input fault) said = said ≡ Err (reasons.Refused (refusals.Faulty input fault))
 
@@ -53,7 +53,7 @@ RoseFor before now None input = ⊥
 RoseFor before now (Some wanted) input = RoseAt before now (wanted.named input)
 
 -- the cause of a reason, whatever the files tell: refused words, or a rise of the faults of a named file
-abbrev pub FileHasCause : (before now : List ℕ → ℕ) → Option Wanted → Refusal → Type 0
+abbrev pub FileHasCause : (before now : List ℕ → ℕ) → Option Wanted → InputRefusal → Type 0
 FileHasCause before now accepted (refusals.Unread input) = RoseFor before now accepted input
 FileHasCause before now accepted (refusals.Faulty input fault) = IsSome accepted
 

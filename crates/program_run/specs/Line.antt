@@ -9,8 +9,8 @@ use Rattle.e820_table.specs.declared.zero_page.ZeroFault.TheVariants as zero
 use Rattle.boot_inputs.specs.declared.fault.Fault.{Fault}
 use Rattle.boot_inputs.specs.declared.fault.Fault.TheVariants as faults
 use Rattle.boot_inputs.specs.declared.input.Input.{Input}
-use Rattle.boot_inputs.specs.declared.refusal.Refusal.{Refusal}
-use Rattle.boot_inputs.specs.declared.refusal.Refusal.TheVariants as refusals
+use Rattle.boot_inputs.specs.declared.refusal.InputRefusal.{InputRefusal}
+use Rattle.boot_inputs.specs.declared.refusal.InputRefusal.TheVariants as refusals
 use Rattle.boot_inputs.specs.Input.{word_for}
 use Rattle.memblock_model.specs.declared.which.Which.{Which}
 use Rattle.memblock_model.specs.declared.which.Which.TheVariants as which
@@ -107,7 +107,7 @@ name_text None input = []
 name_text (Some wanted) input = unwrap_or (wanted.named input) []
 
 -- a file that couldn't be read is named so
-abbrev pub refusal_line : Option Wanted → Refusal → List ℕ
+abbrev pub refusal_line : Option Wanted → InputRefusal → List ℕ
 refusal_line accepted (refusals.Unread input) = codes "bootmem: cannot read " ++ (name_text accepted input ++ codes "\n")
 refusal_line accepted (refusals.Faulty input fault) = fault_line (word_for input) fault
 

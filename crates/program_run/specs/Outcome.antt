@@ -2,7 +2,7 @@
 use Rattle.std.specs.Prelude.{ℕ, List, drop, take, Option, Some, None, Result, Ok, Err}
 use Rattle.bm_base.specs.ResultSteps.{◌>>=◌, with_error}
 use Rattle.e820_table.specs.Made.{made_entries}
-use Rattle.boot_inputs.specs.declared.refusal.Refusal.{Refusal}
+use Rattle.boot_inputs.specs.declared.refusal.InputRefusal.{InputRefusal}
 use Rattle.boot_inputs.specs.Inputs.{Held, inputs_of}
 use Rattle.boot_model.specs.declared.stop.Cause.{Cause}
 use Rattle.boot_model.specs.Boot.{Given, told_boot}
@@ -18,7 +18,7 @@ or_usage None = Err reasons.Usage
 or_usage (Some wanted) = Ok wanted
 
 -- a file that is refused, and a boot that stops, are the reason
-abbrev pub or_refused : {A : Type 0} → Result A Refusal → Result A Reason
+abbrev pub or_refused : {A : Type 0} → Result A InputRefusal → Result A Reason
 or_refused answer = with_error reasons.Refused answer
 
 abbrev pub or_stopped : {A : Type 0} → Result A Cause → Result A Reason
@@ -35,7 +35,7 @@ with_made (Some count) given = record given {
 }
 
 -- what the boot is given, by the words and by the files that they name
-abbrev pub given_by : Held → Wanted → Result Given Refusal
+abbrev pub given_by : Held → Wanted → Result Given InputRefusal
 given_by held wanted = do
   given ← inputs_of held wanted.named wanted.begun
   Ok (with_made wanted.made given)

@@ -2,8 +2,8 @@
 use Rattle.std.specs.Prelude.{ℕ, Option, Some, None, Result, Ok, Err}
 use Rattle.boot_inputs.specs.declared.refusal.InputError.{InputError}
 use Rattle.boot_inputs.specs.declared.refusal.InputError.TheVariants as errors
-use Rattle.boot_inputs.specs.declared.refusal.Refusal.{Refusal}
-use Rattle.boot_inputs.specs.declared.refusal.Refusal.TheVariants as refusals
+use Rattle.boot_inputs.specs.declared.refusal.InputRefusal.{InputRefusal}
+use Rattle.boot_inputs.specs.declared.refusal.InputRefusal.TheVariants as refusals
 use Rattle.boot_model.specs.declared.stop.Cause.{Cause}
 use Rattle.boot_model.specs.declared.stop.Stop.{Stop}
 use Rattle.boot_model.specs.Stop.{cause_of}
@@ -12,7 +12,7 @@ use Rattle.program_run.specs.declared.failure.Reason.TheVariants as reasons
 use Rattle.program_run.specs.declared.failure.Failure.{Failure}
 use Rattle.program_run.specs.declared.failure.Failure.TheVariants as failures
 
-abbrev pub refusal_status : Refusal → ℕ
+abbrev pub refusal_status : InputRefusal → ℕ
 refusal_status (refusals.Unread input) = 3
 refusal_status (refusals.Faulty input fault) = 5
 

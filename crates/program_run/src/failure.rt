@@ -5,7 +5,7 @@ ghost use Rattle.std.specs.Prelude.{◌≡◌};
 ghost use Rattle.program_run.specs.Status.{reason_status, refusal_status, status_of};
 
 use bm_base::Memory;
-use boot_inputs::{InputError, Refusal};
+use boot_inputs::{InputError, InputRefusal};
 use boot_model::{Cause, Stop};
 
 /// Why the words and the files give no report.
@@ -14,7 +14,7 @@ pub enum Reason {
     /// The words aren't accepted.
     Usage,
     /// A file couldn't be read or has a fault, and those before it are as they have to be.
-    Refused(Refusal),
+    Refused(InputRefusal),
     /// The boot stops.
     Stopped(Cause),
 }
@@ -30,12 +30,12 @@ pub enum Failure {
     Memory,
 }
 
-fn refusal_status(refusal: Refusal) -> u8
+fn refusal_status(refusal: InputRefusal) -> u8
     ensures { result ≡ refusal_status refusal }
 {
     match refusal {
-        Refusal::Unread(_) => 3,
-        Refusal::Faulty(..) => 5,
+        InputRefusal::Unread(_) => 3,
+        InputRefusal::Faulty(..) => 5,
     }
 }
 

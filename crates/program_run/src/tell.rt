@@ -10,7 +10,7 @@ ghost use Rattle.program_words.specs.Words.{Wanted as AnyWanted};
 
 use crate::failure::{Failure, Reason};
 use bm_io::{Sink, put_all};
-use boot_inputs::{Fault, Input, Names, Refusal};
+use boot_inputs::{Fault, Input, InputRefusal, Names};
 use boot_model::Cause;
 use e820_table::ZeroFault;
 use itoa::Buffer;
@@ -54,18 +54,18 @@ fn tell_reason<E: Sink>(err: &mut E, wanted: &Wanted<'_>, reason: Reason)
     }
 }
 
-fn tell_refusal<E: Sink>(err: &mut E, wanted: &Wanted<'_>, refusal: Refusal)
+fn tell_refusal<E: Sink>(err: &mut E, wanted: &Wanted<'_>, refusal: InputRefusal)
     ensures { PutsLine E.Sink err.old err.new
         (refusal_line (Some (wanted_view wanted.now)) refusal) }
 {
     match refusal {
-        Refusal::Unread(input) => {
+        InputRefusal::Unread(input) => {
             put_line(
                 err,
                 &["bootmem: cannot read ", name_text(wanted, input), "\n"],
             )
         }
-        Refusal::Faulty(input, fault) => tell_fault(err, input.word(), fault),
+        InputRefusal::Faulty(input, fault) => tell_fault(err, input.word(), fault),
     }
 }
 

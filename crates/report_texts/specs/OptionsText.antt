@@ -5,7 +5,7 @@ use Rattle.bm_base.specs.Text.{hex_text}
 use Rattle.e820_model.specs.declared.edit.Edit.{Edit}
 use Rattle.e820_model.specs.declared.edit.Edit.TheVariants as edits
 use Rattle.boot_options.specs.declared.crash.CrashRange.{CrashRange}
-use Rattle.boot_options.specs.Crash.{Crash, PlainForm}
+use Rattle.boot_options.specs.Crash.{CrashWords, PlainForm}
 use Rattle.boot_options.specs.Options.{Chosen}
 use Rattle.report_texts.specs.Lines.{lines_from, range_text}
 
@@ -48,7 +48,7 @@ size_line word None = []
 size_line word (Some size) = word ++ hex_text size ++ codes "\n"
 
 -- the crash area that is asked for, form by form
-abbrev pub crash_lines : Crash → List ℕ
+abbrev pub crash_lines : CrashWords → List ℕ
 crash_lines crash = plain_lines crash.plain ++ size_line (codes "crash high ") crash.high ++ size_line (codes "crash low ") crash.low
 
 -- a line where the SRAT isn't to be used

@@ -5,7 +5,7 @@ use Rattle.bm_base.specs.ResultSteps.{with_error}
 use Rattle.memblock_grow.specs.Contents.{Contents}
 use Rattle.early_script.specs.Stage.{before_sections, behind_sections}
 use Rattle.numa_nodes.specs.Assigned.{nodes_view}
-use Rattle.boot_model.specs.Boot.{Given, Made, begin_with, has_crash_area, has_nodes, has_sections, later_stages, runs_lines}
+use Rattle.boot_model.specs.Boot.{Given, BootSoFar, begin_with, has_crash_area, has_nodes, has_sections, later_stages, runs_lines}
 use Rattle.boot_model.specs.Stop.{stop_of}
 use Rattle.boot_model.specs.View.{inputs_view}
 use Rattle.boot_stages.specs.Boots.{AreStopped, begun_with, made_by_lines, places_view}
@@ -22,7 +22,7 @@ returns-in_err-nodes-clause-stopped c =
     let given : Given = inputs_view c.args.inputs.now in
     let m : Contents = c.args.memblock.now in
     let p = err_from_is_err_and c.from_residual.result c.from_residual.ensures.1 in
-    if_err c.from_residual.result (λ stop. (made : Made) → AreStopped given (begun_with made m) stop) p.0 c.in_err-nodes.field-0.0 p.1 p.2
+    if_err c.from_residual.result (λ stop. (made : BootSoFar) → AreStopped given (begun_with made m) stop) p.0 c.in_err-nodes.field-0.0 p.1 p.2
     (λ made some. link-stops (has_nodes given) (drop 2 (later_stages given)) (begun_with made m) c.in_err-nodes.field-0.0
     (c.in_err-nodes.ensures.comes (begun_with made m) some))
 
@@ -30,9 +30,9 @@ pub returns-in_err-crash-clause-stopped : goal.returns-in_err-crash-clause-stopp
 returns-in_err-crash-clause-stopped c =
     let given : Given = inputs_view c.args.inputs.now in
     let m : Contents = c.args.memblock.now in
-    let behind : Made → Made = λ made. behind_nodes made m c.give_nodes.new.memblock (nodes_view c.in_ok-nodes.nodes) in
+    let behind : BootSoFar → BootSoFar = λ made. behind_nodes made m c.give_nodes.new.memblock (nodes_view c.in_ok-nodes.nodes) in
     let p = err_from_is_err_and c.from_residual-in_err-crash.result c.from_residual-in_err-crash.ensures.1 in
-    if_err c.from_residual-in_err-crash.result (λ stop. (made : Made) → AreStopped given (begun_with made m) stop) p.0
+    if_err c.from_residual-in_err-crash.result (λ stop. (made : BootSoFar) → AreStopped given (begun_with made m) stop) p.0
     c.in_err-crash.field-0.0
     p.1 p.2
     (λ made some.
@@ -58,18 +58,18 @@ returns-in_err-sections-clause-stopped c =
     let m : Contents = c.args.memblock.now in
     let lines : c.split_at_sections.result.0.now ≡ before_sections given.lines =
     c.split_at_sections.ensures.before ∙ ap before_sections c.deref.ensures.value in
-    let up : (made : Made) → UpToLines given made m c.give_nodes.new.memblock c.reserve_area.new.memblock c.run_lines.new.mb
+    let up : (made : BootSoFar) → UpToLines given made m c.give_nodes.new.memblock c.reserve_area.new.memblock c.run_lines.new.mb
     (nodes_view c.in_ok-nodes.nodes) c.in_ok-crash.crash c.run_lines.new.live c.run_lines.new.answers.items =
     λ made. up_to_lines given made m c.give_nodes.new.memblock c.reserve_area.new.memblock
     c.run_lines.new.mb (nodes_view c.in_ok-nodes.nodes) c.in_ok-crash.crash c.new-live.result c.run_lines.new.live
     c.new-answers.result.items c.run_lines.new.answers.items c.split_at_sections.result.0.now c.requires.kernel c.requires.first
     c.requires.bytes c.in_ok-nodes.ensures.comes c.in_ok-nodes.ensures.lent c.in_ok-crash.ensures.comes c.in_ok-crash.ensures.lent
     c.new-live.ensures c.new-answers.ensures.items lines c.in_ok-run_lines.ensures.ok c.in_ok-run_lines.ensures.kernel in
-    let at : Made → Made = λ made. made_by_lines (behind_crash made m c.give_nodes.new.memblock c.reserve_area.new.memblock
+    let at : BootSoFar → BootSoFar = λ made. made_by_lines (behind_crash made m c.give_nodes.new.memblock c.reserve_area.new.memblock
     (nodes_view c.in_ok-nodes.nodes) c.in_ok-crash.crash) c.run_lines.new.mb c.run_lines.new.live (up made).fills
     c.run_lines.new.answers.items in
     let p = err_from_is_err_and c.from_residual-in_err-sections.result c.from_residual-in_err-sections.ensures.1 in
-    if_err c.from_residual-in_err-sections.result (λ stop. (made : Made) → AreStopped given (begun_with made m) stop) p.0
+    if_err c.from_residual-in_err-sections.result (λ stop. (made : BootSoFar) → AreStopped given (begun_with made m) stop) p.0
     c.in_err-sections.field-0.0 p.1 p.2
     (λ made some. ap (with_error stop_of) (up made).come
     ∙ link-stops (has_sections given) (runs_lines given.kernel (behind_sections given.lines) ∷ []) (at made) c.in_err-sections.field-0.0
@@ -96,7 +96,7 @@ returns-clause-run c = λ made. (
 pub returns-clause-noded : goal.returns-clause-noded
 returns-clause-noded c =
     let given : Given = inputs_view c.args.inputs.now in
-    let made : Made = begin_with [] given.options in
+    let made : BootSoFar = begin_with [] given.options in
     let before : c.split_at_sections.result.0.now ≡ before_sections given.lines =
     c.split_at_sections.ensures.before ∙ ap before_sections c.deref.ensures.value in
     let behind : c.split_at_sections.result.1.now ≡ behind_sections given.lines =

@@ -16,7 +16,7 @@ use Rattle.growth_model.specs.Bytes.{byte}
 use Rattle.phys_store.specs.Bytes.{Stored, byte_of}
 use Rattle.memblock_grow.specs.Contents.{Contents as Memblock}
 use Rattle.bm_base.specs.ResultSteps.{with_error}
-use Rattle.boot_model.specs.Boot.{Given, Made, Told, boot, early_of, handed_over, heads_of, later_stages, map_judged, reach, spanned}
+use Rattle.boot_model.specs.Boot.{Given, BootSoFar, Told, boot, early_of, handed_over, heads_of, later_stages, map_judged, reach, spanned}
 use Rattle.boot_model.specs.Stages.{in_order}
 use Rattle.boot_model.specs.Stop.{stop_of}
 use Rattle.boot_model.specs.View.{inputs_view}
@@ -104,7 +104,7 @@ returns-in_err-later-clause-boots c =
     let given : Given = inputs_view c.args.inputs.now in
     let same = claims-told given _ _ _ _ _ c.in_ok-table.ensures c.deref.ensures.0 c.deref-2.ensures.value c.deref-3.ensures.value
     c.added_entries.ensures.value in
-    let made : Made = made_of given c.in_ok-map.map in
+    let made : BootSoFar = made_of given c.in_ok-map.map in
     let m : Memblock = c.make_memory.new.memblock in
     let p = err_from_is_err_and c.from_residual-in_err-later.result c.from_residual-in_err-later.ensures.1 in
     stages_stop _ given (begun_with made m) _ c.in_err-later.field-0.0 (p.1 ∙ ap (λ (s : Stop). Err s) p.2)
@@ -143,7 +143,7 @@ returns-clause-boots c =
     let given : Given = inputs_view c.args.inputs.now in
     let same = claims-told given _ _ _ _ _ c.in_ok-table.ensures c.deref.ensures.0 c.deref-2.ensures.value c.deref-3.ensures.value
     c.added_entries.ensures.value in
-    let made : Made = made_of given c.in_ok-map.map in
+    let made : BootSoFar = made_of given c.in_ok-map.map in
     let map : List (RunOf ℕ) = c.in_ok-map.map.items in
     let m : Memblock = c.make_memory.new.memblock in
     let last : Memblock = c.run_stages.new.memblock in
@@ -177,15 +177,15 @@ returns-clause-bytes c = λ final ends x. (
     let given : Given = inputs_view c.args.inputs.now in
     let same = claims-told given _ _ _ _ _ c.in_ok-table.ensures c.deref.ensures.0 c.deref-2.ensures.value c.deref-3.ensures.value
     c.added_entries.ensures.value in
-    let made : Made = made_of given c.in_ok-map.map in
+    let made : BootSoFar = made_of given c.in_ok-map.map in
     let m : Memblock = c.make_memory.new.memblock in
     let last : Memblock = c.run_stages.new.memblock in
     let run = c.in_ok-later.ensures.run made in
     let comes = (memory_is_made given c.in_ok-map.map c.deref-4.result.now m c.deref-4.ensures.value
     (c.in_ok-map.ensures.answers given same (sym c.reach-reach.ensures)) c.in_ok-make_memory.ensures.answers).comes ∙ run.come in
-    let behind : Made = made_behind (begun_with made m) last (later_view c.in_ok-later.later) run.ids run.fills in
+    let behind : BootSoFar = made_behind (begun_with made m) last (later_view c.in_ok-later.later) run.ids run.fills in
     let told : Ok behind ≡ Ok final = sym comes ∙ ends in
     let is : behind ≡ final = cc in
     ap (λ (s : List Stored). byte_of s x) c.in_ok-end.ensures.store ∙ run.holds.each x
     ∙ ap (λ (k : Extent). byte k last.journal.items run.fills x) run.kernel
-    ∙ ap (λ (n : Made). byte given.kernel n.items n.fills x) is)
+    ∙ ap (λ (n : BootSoFar). byte given.kernel n.items n.fills x) is)
