@@ -3,6 +3,7 @@ pub mod Each
 pub mod Extent
 pub mod Frames
 pub mod OptionSteps
+pub mod PutsText
 pub mod ResultSteps
 pub mod Size
 pub mod Text

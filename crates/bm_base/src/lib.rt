@@ -14,7 +14,8 @@
 //!
 //! The `put_` calls append numbers and text to a report, in the forms of the kernel's log:
 //! `0x` with 16 digits for an address, right-aligned decimals in tables. They take no memory but
-//! what `out` itself grows by, and leave it as it was when that fails.
+//! what `out` itself grows by, want it only where its room is too small (`specs/PutsText.antt`), and
+//! leave it as it was when that fails.
 //!
 //! [`read_size`] reads the numbers of every text input, as the kernel's `memparse` does; its values
 //! don't wrap, and what passes 2^64 - 1 is a [`NumFault`].

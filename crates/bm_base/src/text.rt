@@ -1,15 +1,16 @@
 //! Numbers and text in reports, in the forms of the kernel's log. They go to a buffer of the caller, which is as it
-//! was where it can't grow, so that a report is written whole or not at all.
+//! was where it can't grow, so that a report is written whole or not at all. They want memory only where its room is too small.
 
-ghost use Rattle.std.specs.Prelude.{◌≡◌, ℕ, ◌<◌, ◌≤◌, ◌++◌, OnOk, OnErr, false};
+ghost use Rattle.std.specs.Prelude.{◌≡◌, ℕ, ◌<◌, ◌≤◌, OnErr, false};
 ghost use Rattle.std.specs.Fmt.{digit_glyph};
+ghost use Rattle.bm_base.specs.PutsText.{PutsText};
 ghost use Rattle.bm_base.specs.Text.{hex_text, padded_decimal};
 
 use crate::memory::Memory;
 
 /// Appends the bytes of a text.
 pub fn put_text(out: &mut Vec<u8>, text: &[u8]) -> Result<(), Memory>
-    ensures ok { OnOk result (out.new.items ≡ out.old.items ++ text.now) }
+    ensures puts { PutsText out.old out.new result text.now }
     ensures err { OnErr result (out.new.items ≡ out.old.items) }
 {
     out.extend_from_slice(text)?;
@@ -18,7 +19,7 @@ pub fn put_text(out: &mut Vec<u8>, text: &[u8]) -> Result<(), Memory>
 
 /// Appends `0x` and 16 lower-case hexadecimal digits, as the kernel's log prints an address.
 pub fn put_hex(out: &mut Vec<u8>, value: u64) -> Result<(), Memory>
-    ensures ok { OnOk result (out.new.items ≡ out.old.items ++ hex_text value) }
+    ensures puts { PutsText out.old out.new result (hex_text value) }
     ensures err { OnErr result (out.new.items ≡ out.old.items) }
 {
     let mut text = *b"0x0000000000000000";
@@ -34,7 +35,7 @@ pub fn put_hex(out: &mut Vec<u8>, value: u64) -> Result<(), Memory>
 /// at most 20, the length of the longest number; a longer number takes the places that it needs.
 pub fn put_dec(out: &mut Vec<u8>, value: u64, width: u32) -> Result<(), Memory>
     requires { width ≤ 20 }
-    ensures ok { OnOk result (out.new.items ≡ out.old.items ++ padded_decimal width value) }
+    ensures puts { PutsText out.old out.new result (padded_decimal width value) }
     ensures err { OnErr result (out.new.items ≡ out.old.items) }
 {
     let mut text = [b' '; 20];

@@ -8,8 +8,8 @@ use Rattle.bm_base.proofs.text.put_dec.Goals as goal
 pub write_digits-start-requires : goal.write_digits-start-requires
 write_digits-start-requires c = search (rules, length-decimal-le 20)
 
-pub returns-clause-ok : goal.returns-clause-ok
-returns-clause-ok c =
+pub returns-clause-puts : goal.returns-clause-puts
+returns-clause-puts c =
     let w = c.write_digits-start in
     let text : drop c.min-from.result w.new.buf ≡ padded_decimal c.args.width c.args.value =
     rw c.min-from.ensures
@@ -17,4 +17,4 @@ returns-clause-ok c =
     let long : length w.new.buf ≡ 20 = w.auto.buf in
     let all : take (20 - c.min-from.result) (drop c.min-from.result w.new.buf) ≡ drop c.min-from.result w.new.buf =
     take_all (20 - c.min-from.result) (drop c.min-from.result w.new.buf) (omega (arith, length-drop c.min-from.result w.new.buf)) in
-    rw (← text, ← all) c.put_text.ensures.ok
+    rw (← text, ← all) c.put_text.ensures.puts

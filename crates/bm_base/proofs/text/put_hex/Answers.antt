@@ -13,9 +13,9 @@ loop-i-preserved c =
       digits = rw c.hex_digit.ensures (hex_step l.text l.i l.left (omega arith) l.invariant.long ∙ l.invariant.digits);
     }
 
-pub returns-clause-ok : goal.returns-clause-ok
-returns-clause-ok c =
+pub returns-clause-puts : goal.returns-clause-puts
+returns-clause-puts c =
     let l = c.loop-i in
     let text : l.text ≡ hex_text c.args.value =
     hex_end l.text l.i l.left c.args.value (omega arith) (omega arith) l.invariant.head l.invariant.digits in
-    rw (← text) c.put_text.ensures.ok
+    rw (← text) c.put_text.ensures.puts
