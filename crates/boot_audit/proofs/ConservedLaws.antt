@@ -99,7 +99,8 @@ usable_near limit lines f near usable =
 block_end : (a n : ℕ) → a + 4096 * n ≤ 2 ^ 52 → a / 4096 + n ≤ 2 ^ 40
 block_end a n near = omega arith
 
-in_block_near : (bs : List Block) (f : ℕ) → ((k : ℕ) (d : Block) → k < length bs → IsBlock (get_or bs k d)) → in_a_block bs f ≡ true → f < 2 ^ 40
+in_block_near : (bs : List Block) (f : ℕ) → ((k : ℕ) (d : Block) → k < length bs → IsBlock (get_or bs k d)) → in_a_block bs f ≡ true
+    → f < 2 ^ 40
 in_block_near [] f fit in_it = cc
 in_block_near (b ∷ bs) f fit in_it =
     by_first (covers (frames_of_block b) f) refl in_it (in_block_near bs f (λ k d inside. fit (suc k) d (omega arith)))

@@ -85,7 +85,8 @@ fills_true b at until (c ∷ cs) start order is f above below =
 abbrev IsGap : Block → ℕ → ℕ → List Block → Type 0
 IsGap b at until cs = (y : ℕ) × (at ≤ y) × (y < until) × (in_kin b cs y ≡ false)
 
-gap_here : (b c : Block) (cs : List Block) (at : ℕ) → StartFrom at (map frames_of_block (c ∷ cs)) → AscendApart (map frames_of_block (c ∷ cs))
+gap_here : (b c : Block) (cs : List Block) (at : ℕ) → StartFrom at (map frames_of_block (c ∷ cs))
+    → AscendApart (map frames_of_block (c ∷ cs))
     → ((first c == at) && are_kin b c) ≡ false → in_kin b (c ∷ cs) at ≡ false
 gap_here b c cs at start order stops =
     elim (cases_lt at (first c)) as (λ _. in_kin b (c ∷ cs) at ≡ false) [
@@ -306,8 +307,10 @@ walked front (b ∷ bs) last from line known start order =
     ap (λ (u : Bool). line_by u line (walk (Some b) (run_start last from b) (line + 1) bs)) (sym here)
     ∙ ap (line_by (could_join (front ++ (b ∷ bs)) b) line) others
   where
-    next_starts : (cs : List Block) → StartFrom (end b) (map frames_of_block cs) → (c : Block) (ds : List Block) → cs ≡ c ∷ ds → end b ≤ first c
+    next_starts : (cs : List Block) → StartFrom (end b) (map frames_of_block cs) → (c : Block) (ds : List Block) → cs ≡ c ∷ ds
+      → end b ≤ first c
     next_starts cs starts c ds is = let begun : StartFrom (end b) (map frames_of_block (c ∷ ds)) = rw is at starts in begun
 
-pub walk_is : (blocks : List Block) → AscendApart (map frames_of_block blocks) → walk None 0 1 blocks ≡ first_line (could_join blocks) 1 blocks
+pub walk_is : (blocks : List Block) → AscendApart (map frames_of_block blocks)
+    → walk None 0 1 blocks ≡ first_line (could_join blocks) 1 blocks
 walk_is blocks order = walked [] blocks None 0 1 refl (λ b bs is. tt) order

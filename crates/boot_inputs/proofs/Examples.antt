@@ -202,7 +202,8 @@ put_more_examples : ((put_pages [] start).page_lines ≡ []) × ((put_distances 
 put_more_examples = (refl, refl, refl)
 
 -- the step of one file: read, unread, too long, and not named
-step_examples : (named_step held command_line start (codes "cmd") ≡ Ok (record start { options = record no_options { numa_off = true; add_efi = false } }))
+step_examples : (named_step held command_line start (codes "cmd")
+    ≡ Ok (record start { options = record no_options { numa_off = true; add_efi = false } }))
     × (named_step held command_line start (codes "no") ≡ Err (refusals.Unread inputs.CommandLine))
     × (named_step held zero_page start (codes "long") ≡ Err (refusals.Faulty inputs.ZeroPage faults.TooLong))
 step_examples = (refl, refl, refl)
@@ -374,10 +375,12 @@ never_goes_beyond_it passes = omega (arith, passes)
 abbrev few : Result (List ℕ) InputRefusal
 few = Err (refusals.Faulty inputs.ZeroPage (faults.ZeroPage zero.TooFew))
 
-refusal_fits : FitsRefusal (refusals.Faulty inputs.ZeroPage (faults.ZeroPage zero.TooFew)) few × (FitsRefusal (refusals.Unread inputs.Extension) few → ⊥)
+refusal_fits : FitsRefusal (refusals.Faulty inputs.ZeroPage (faults.ZeroPage zero.TooFew)) few
+    × (FitsRefusal (refusals.Unread inputs.Extension) few → ⊥)
 refusal_fits = (refl, λ comes. omega (arith, comes))
 
-error_fits : FitsAnswer errors.Memory few × (FitsAnswer (errors.Refused (refusals.Faulty inputs.ZeroPage (faults.ZeroPage zero.TooMany))) few → ⊥)
+error_fits : FitsAnswer errors.Memory few
+    × (FitsAnswer (errors.Refused (refusals.Faulty inputs.ZeroPage (faults.ZeroPage zero.TooMany))) few → ⊥)
 error_fits = (tt, λ same. cc same)
 
 gives_examples : Gives {X = ℕ} (λ n. codes "ab") (Ok 7) (Ok (codes "ab")) × (Gives {X = ℕ} (λ n. codes "ab") (Ok 7) few → ⊥)

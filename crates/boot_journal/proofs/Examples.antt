@@ -76,7 +76,8 @@ middle_is_an_edge agree = plain_is_another (agree.1 (omega arith) (omega arith))
 mirror_is_another : Some plain_label ≡ Some (with_mirror plain_label) → ⊥
 mirror_is_another same = true≢false (sym (ap (λ (l : Option Label). option_map_or (λ (m : Label). m.mirror) l false) same))
 
-mirror_is_an_edge : EdgesAgree None (item.Mem (bytes 4096 4096) ∷ (item.Mirror (bytes 6144 2048) ∷ [])) 4096 (item.Mirror (bytes 6144 2048)) → ⊥
+mirror_is_an_edge : EdgesAgree None (item.Mem (bytes 4096 4096) ∷ (item.Mirror (bytes 6144 2048) ∷ [])) 4096
+    (item.Mirror (bytes 6144 2048)) → ⊥
 mirror_is_an_edge agree = mirror_is_another (sym (agree.0 (omega arith) (omega arith)))
 
 -- one range that becomes mirrored, also where it holds no memory, and none

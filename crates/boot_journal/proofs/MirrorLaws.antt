@@ -18,7 +18,8 @@ use Rattle.boot_journal.specs.Mirrors.{mirrors_after, mirrors_in}
 pub mirrors_in-push : (items : List Item) (i : Item) → mirrors_in (items ++ i ∷ []) ≡ mirrors_after (mirrors_in items) i
 mirrors_in-push items i = fold-append mirrors_after false items (i ∷ [])
 
-covered_suits : (b : Bool) (old : Option Label) → suits true old ≡ false → suits true (if b then Some (unwrap_or old plain_label) else old) ≡ false
+covered_suits : (b : Bool) (old : Option Label) → suits true old ≡ false
+    → suits true (if b then Some (unwrap_or old plain_label) else old) ≡ false
 covered_suits true None plain = refl
 covered_suits true (Some label) plain = plain
 covered_suits false old plain = plain

@@ -38,7 +38,8 @@ pub record GoesOn (given : Given) (made : BootSoFar) : Type 0 where
   pub judged : judged (types_in_reach given) ≡ None
 
 -- the first two stages leave what was made as it is, and go on only where they find nothing to stop for
-pub room_passed : (full : Bool) (cause : Cause) (before after : BootSoFar) → (if full then Err cause else Ok before) ≡ Ok after → (full ≡ false)
+pub room_passed : (full : Bool) (cause : Cause) (before after : BootSoFar) → (if full then Err cause else Ok before) ≡ Ok after
+    → (full ≡ false)
     × (before ≡ after)
 room_passed true cause before after ends = absurd (cc)
 room_passed false cause before after ends = (refl, cc)
@@ -84,7 +85,8 @@ later_keep given = (
       (
         lines_map given.kernel (before_sections given.lines),
         (
-          steps_keep (λ (made : BootSoFar). made.map) cause_of_stage put_sections (places_of_sections given.width) (λ a m. refl) (λ before. refl),
+          steps_keep (λ (made : BootSoFar). made.map) cause_of_stage put_sections (places_of_sections given.width) (λ a m. refl)
+            (λ before. refl),
           (lines_map given.kernel (behind_sections given.lines), tt),
         ),
       ),
@@ -139,7 +141,8 @@ usable_lies given made frame ends low =
     rw (low_x, (goes_on given made ends).map) told))
 
 -- each address below 2^64 has in the map the type that the claims give
-pub types_told : (given : Given) (made : BootSoFar) (x : ℕ) → boot given ≡ Ok made → x < 2 ^ 64 → value_at made.map x ≡ kinds (claims given) x
+pub types_told : (given : Given) (made : BootSoFar) (x : ℕ) → boot given ≡ Ok made → x < 2 ^ 64
+    → value_at made.map x ≡ kinds (claims given) x
 types_told given made x ends low = rw (goes_on given made ends).map ((map_between (claims given)).within x (omega arith) (omega arith))
 
 -- a number of frames for which no stop is due

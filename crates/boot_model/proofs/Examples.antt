@@ -200,7 +200,8 @@ unfolding free_node_in each_in each_from
 handed_examples = (refl, refl)
 
 -- what was made is told as it is, and by its items the frames that are free and the spans of memory
-told_as_made : (m : BootSoFar) → ((told of_image m).map ≡ m.map) × ((told of_image m).options ≡ m.options) × ((told of_image m).items ≡ m.items)
+told_as_made : (m : BootSoFar) → ((told of_image m).map ≡ m.map) × ((told of_image m).options ≡ m.options)
+    × ((told of_image m).items ≡ m.items)
     × ((told of_image m).nodes ≡ m.nodes) × ((told of_image m).crash ≡ m.crash) × ((told of_image m).sections ≡ m.sections)
     × ((told of_image m).answers ≡ m.answers)
 told_as_made m = (refl, refl, refl, refl, refl, refl, refl)
@@ -256,7 +257,8 @@ memory_examples = (refl, refl, refl, refl, refl)
 -- frame, has one frame, or ends a frame later; with 52 bits the tables reach further
 kernel_tests : (is_kernel Bits46 (record { base = 0x100000; size = 8192 }) ≡ true)
     × (is_kernel Bits46 (record { base = 0x3FFFFFFFE000; size = 0x2000 }) ≡ true)
-    × (is_kernel Bits46 (record { base = 0x100800; size = 0x2000000 }) ≡ false) × (is_kernel Bits46 (record { base = 0x100000; size = 4096 }) ≡ false)
+    × (is_kernel Bits46 (record { base = 0x100800; size = 0x2000000 }) ≡ false)
+    × (is_kernel Bits46 (record { base = 0x100000; size = 4096 }) ≡ false)
     × (is_kernel Bits46 (record { base = 0x3FFFFFFFF000; size = 0x2000 }) ≡ false)
     × (is_kernel Bits52 (record { base = 0xFFFFFFFFFE000; size = 0x2000 }) ≡ true)
     × (is_kernel Bits52 (record { base = 0xFFFFFFFFFF000; size = 0x2000 }) ≡ false)

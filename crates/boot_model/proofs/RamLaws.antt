@@ -64,7 +64,8 @@ items_errs frames made (Ok items) = tt
 items_errs frames made (Err refused) = λ same. absurd (cc same)
 
 -- and so is every stop of a stage
-answer_errs : {E A : Type 0} (P : Cause → Type 0) (cause : E → Cause) (put : A → BootSoFar → BootSoFar) (next : BootSoFar) (answer : Result A E)
+answer_errs : {E A : Type 0} (P : Cause → Type 0) (cause : E → Cause) (put : A → BootSoFar → BootSoFar) (next : BootSoFar)
+    (answer : Result A E)
     → IfErr answer (λ e. P (cause e)) → IfErr (with_answer cause put next answer) P
 answer_errs P cause put next (Ok a) errs = tt
 answer_errs P cause put next (Err e) errs = errs

@@ -39,7 +39,8 @@ chain_keeps part (stage ∷ stages) keep before after ends =
     chain_keeps part stages keep.1 known.middle after known.rest ∙ keep.0 before known.middle known.first
 
 -- a stage of steps keeps a part that neither its items nor its answer change
-answer_keeps : {E A B : Type 0} (part : BootSoFar → B) (cause : E → Cause) (put : A → BootSoFar → BootSoFar) (next last : BootSoFar) (answer : Result A E)
+answer_keeps : {E A B : Type 0} (part : BootSoFar → B) (cause : E → Cause) (put : A → BootSoFar → BootSoFar) (next last : BootSoFar)
+    (answer : Result A E)
     → ((a : A) (m : BootSoFar) → part (put a m) ≡ part m) → with_answer cause put next answer ≡ Ok last → part last ≡ part next
 answer_keeps part cause put next last (Ok a) puts ends = let same : put a next ≡ last = cc in ap part (sym same) ∙ puts a next
 answer_keeps part cause put next last (Err error) puts ends = absurd (cc)

@@ -5,7 +5,8 @@ use Rattle.memblock_model.specs.declared.item.Item.{Item}
 use Rattle.memblock_model.specs.Items.{limit_of, memory_of}
 use Rattle.stage_model.specs.Noded.{AreOfFrames}
 
--- whole frames within the reach of the kernel's tables of memory, each of one label, which end by the limit of allocations; and there are some
+-- whole frames within the reach of the kernel's tables of memory, each of one label, which end by the limit of
+-- allocations; and there are some
 pub record IsFirstMemory (reach : ℕ) (items : List Item) : Type 0 where
   pub frames : AreOfFrames (memory_of items)
   pub within : NothingFrom reach (memory_of items)

@@ -319,7 +319,8 @@ chosen_nothing : (options : Options) → options.edits.items ≡ [] → crash_vi
     → options.add_efi ≡ false → chosen options ≡ nothing_chosen
 chosen_nothing options edits none on without = rw (edits, none, on, without) refl
 
-chosen_words : (chosen_by [] ≡ nothing_chosen) × (chosen_by ((2, NumaOff) ∷ []) ≡ record { edits = []; crash = no_crash; numa_off = true; add_efi = false })
+chosen_words : (chosen_by [] ≡ nothing_chosen)
+    × (chosen_by ((2, NumaOff) ∷ []) ≡ record { edits = []; crash = no_crash; numa_off = true; add_efi = false })
 chosen_words = (refl, refl)
 
 -- whole lines
@@ -332,7 +333,8 @@ options_of_a_line : options_of (codes "quiet mem=4G memmap=1G!2G\n")
     })
 options_of_a_line = refl
 
-nothing_behind_the_end : options_of (codes "numa=off -- mem=0") ≡ Ok (record { edits = []; crash = no_crash; numa_off = true; add_efi = false })
+nothing_behind_the_end : options_of (codes "numa=off -- mem=0")
+    ≡ Ok (record { edits = []; crash = no_crash; numa_off = true; add_efi = false })
 nothing_behind_the_end = refl
 
 efi_in_a_line : (options_of (codes "quiet add_efi_memmap\n") ≡ Ok (record nothing_chosen { add_efi = true }))
@@ -419,12 +421,14 @@ nothing_to_keep : (m : Memory) → KeepsItems {A = Edit} (Err m) [] → ⊥
 nothing_to_keep m wanting = omega arith
 
 abbrev half_read : Memory → Reading
-half_read m = record { edits = Err m; crash = record { plain = None; high = None; low = None }; numa_off = true; add_efi = false; user_map = None }
+half_read m = record { edits = Err m; crash = record { plain = None; high = None; low = None }; numa_off = true; add_efi = false;
+    user_map = None }
 
 -- all but the edits it has, also without memory
 at_a_state_without_memory : (m : Memory) → IsReadTo (half_read m) (after 1 (after_map_option 1 start (Other (Some Clear))) NumaOff)
 at_a_state_without_memory m =
-    record { edits = omega arith; crash = record { plain = refl; high = refl; low = refl }; numa_off = refl; add_efi = refl; user_map = refl }
+    record { edits = omega arith; crash = record { plain = refl; high = refl; low = refl }; numa_off = refl; add_efi = refl;
+      user_map = refl }
 
 other_numa_off : (m : Memory) → IsReadTo (half_read m) (after_map_option 1 start (Other (Some Clear))) → ⊥
 other_numa_off m has = let off = has.numa_off in cc off

@@ -100,7 +100,8 @@ stopped : {A : Type 0} (said : Result BootSoFar Cause) (later : BootSoFar → Re
 stopped (Ok made) later stop is = absurd (cc)
 stopped (Err cause) later stop is = let same : stop_of cause ≡ stop = cc in ap (λ (s : Stop). Err s) same
 
-went_on : {A : Type 0} (said : Result BootSoFar Cause) (later : BootSoFar → Result A Cause) (made : BootSoFar) → with_error stop_of said ≡ Ok made
+went_on : {A : Type 0} (said : Result BootSoFar Cause) (later : BootSoFar → Result A Cause) (made : BootSoFar)
+    → with_error stop_of said ≡ Ok made
     → (said >>= later) ≡ later made
 went_on (Ok before) later made is = let same : before ≡ made = cc in ap later same
 went_on (Err cause) later made is = absurd (cc)
@@ -142,7 +143,8 @@ items_stop made (Err refused) stop is =
 abbrev pub memory_said : Given → BootSoFar → Result (List Item) Refused
 memory_said given made = carried_out (first_items (early_of given) made.map) made.items
 
-pub memory_stops : {X : Type 0} (view : X → Told) (given : Given) (made : BootSoFar) (answer : Result X Stop) (stop : Stop) → answer ≡ Err stop
+pub memory_stops : {X : Type 0} (view : X → Told) (given : Given) (made : BootSoFar) (answer : Result X Stop) (stop : Stop)
+    → answer ≡ Err stop
     → with_error stop_of (map_judged given) ≡ Ok made → (stop ≢ stops.Memory → or_refused_growth (memory_said given made) ≡ Err stop)
     → Answers stops.Memory view answer (with_error stop_of (told_boot given))
 memory_stops view given made answer stop is judged answers =
@@ -160,7 +162,8 @@ memory_goes_on given made items judged answers =
     (ap (with_error stop_of) (items_made made (memory_said given made) items answers))
 
 -- the stages behind memory
-pub stages_stop : {X : Type 0} (view : X → Told) (given : Given) (made : BootSoFar) (answer : Result X Stop) (stop : Stop) → answer ≡ Err stop
+pub stages_stop : {X : Type 0} (view : X → Told) (given : Given) (made : BootSoFar) (answer : Result X Stop) (stop : Stop)
+    → answer ≡ Err stop
     → boot given ≡ in_order (drop 1 (later_stages given)) made → AreStopped given made stop
     → Answers stops.Memory view answer (with_error stop_of (told_boot given))
 stages_stop view given made answer stop is comes stopped_so =

@@ -11,8 +11,8 @@ use Rattle.boot_model.specs.declared.stop.Stop.{Stop}
 use Rattle.boot_model.specs.declared.stop.Stop.TheVariants as stops
 use Rattle.boot_model.specs.Stop.{cause_of_growth, stop_of}
 
--- memory was wanting amid what is wanted: the items before one were carried out, and of the steps of that one some, but not all. So it is told
--- neither where all is done nor in place of a growth that was refused
+-- memory was wanting amid what is wanted: the items before one were carried out, and of the steps of that one some, but not all. So
+-- it is told neither where all is done nor in place of a growth that was refused
 pub record AreCutShort (wanted old new : List Item) : Type 0 where
   pub done : List Item
   pub next : Item

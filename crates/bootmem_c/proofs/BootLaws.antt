@@ -29,7 +29,8 @@ use Rattle.bootmem_c.proofs.ExactLaws.{unread_is_said}
 
 -- what was given, and what it boots to, is of the call
 pub is_boot : (files lent : List HeldFile) (wanted : Wanted) (given : Given) (told : Told) → files ≡ lent
-    → given_by (bytes_of files) wanted ≡ Ok given → with_error stop_of (told_boot given) ≡ Ok told → IsBoot (Some wanted) (bytes_of lent) told
+    → given_by (bytes_of files) wanted ≡ Ok given → with_error stop_of (told_boot given) ≡ Ok told
+    → IsBoot (Some wanted) (bytes_of lent) told
 is_boot files lent wanted given told same inputs boots =
     let is : told_boot given ≡ Ok told = told_is (told_boot given) told boots in
     record {
@@ -57,7 +58,8 @@ input_fails old new wanted errors.Memory fits cause = tt
 
 pub inputs_failed : (r : Result Booted Failure) (failure : Failure) (old new : LentState) (lent : List HeldFile) (wanted : Wanted)
     (error : InputError) → r ≡ Err failure → failure ≡ failure_of_input error → old.files ≡ lent
-    → FitsAnswer error (given_by (bytes_of old.files) wanted) → HasCause {X = Inputs} (faults_at old) (faults_at new) wanted.named (Err error)
+    → FitsAnswer error (given_by (bytes_of old.files) wanted)
+    → HasCause {X = Inputs} (faults_at old) (faults_at new) wanted.named (Err error)
     → IfErr r (λ f. FailsAs f (outcome (Some wanted) (bytes_of lent)))
 inputs_failed r failure old new lent wanted error is from same fits cause =
     subst (λ (s : Result Booted Failure). IfErr s (λ f. FailsAs f (outcome (Some wanted) (bytes_of lent)))) (sym is)
@@ -70,14 +72,17 @@ stop_by : (cause : Option Cause) (said : Result (List ℕ) Reason) → FitsFailu
 stop_by None said fits = tt
 stop_by (Some cause) said fits = fits
 
-pub boot_failed : (r : Result Booted Failure) (failure : Failure) (stop : Stop) (files lent : List HeldFile) (wanted : Wanted) (given : Given)
+pub boot_failed : (r : Result Booted Failure) (failure : Failure) (stop : Stop) (files lent : List HeldFile) (wanted : Wanted)
+    (given : Given)
     → r ≡ Err failure → failure ≡ failure_of_stop stop → files ≡ lent → given_by (bytes_of files) wanted ≡ Ok given
     → (stop ≢ stops.Memory → with_error stop_of (told_boot given) ≡ Err stop)
     → IfErr r (λ f. FailsAs f (outcome (Some wanted) (bytes_of lent)))
 boot_failed r failure stop files lent wanted given is from same inputs stops_so =
     let fits : FitsFailure (failure_of_stop stop) (reported wanted.reports given) =
-    boot_stopped (λ (text : List ℕ). text) (Err (failure_of_stop stop)) (failure_of_stop stop) stop given wanted.reports refl refl stops_so in
-    let fails : FailsAs (failure_of_stop stop) (reported wanted.reports given) = stop_by (cause_of stop) (reported wanted.reports given) fits in
+    boot_stopped (λ (text : List ℕ). text) (Err (failure_of_stop stop))
+      (failure_of_stop stop) stop given wanted.reports refl refl stops_so in
+    let fails : FailsAs (failure_of_stop stop) (reported wanted.reports given) =
+      stop_by (cause_of stop) (reported wanted.reports given) fits in
     let behind : given_by (bytes_of lent) wanted ≡ Ok given =
     subst (λ (f : List HeldFile). given_by (bytes_of f) wanted ≡ Ok given) same inputs in
     rw (is, from, behind) fails

@@ -36,7 +36,8 @@ has inputs.Srat = inr (omega arith, inr (omega arith, inr (omega arith, inl refl
 has inputs.Script = inr (omega arith, inr (omega arith, inr (omega arith, inr (omega arith, inl refl))))
 has inputs.Pages = inr (omega arith, inr (omega arith, inr (omega arith, inr (omega arith, inr (omega arith, inl refl)))))
 has inputs.Slit = inr (omega arith, inr (omega arith, inr (omega arith, inr (omega arith, inr (omega arith, inr (omega arith, inl refl))))))
-has inputs.Efi = inr (omega arith, inr (omega arith, inr (omega arith, inr (omega arith, inr (omega arith, inr (omega arith, inr (omega arith, inl refl)))))))
+has inputs.Efi = inr
+    (omega arith, inr (omega arith, inr (omega arith, inr (omega arith, inr (omega arith, inr (omega arith, inr (omega arith, inl refl)))))))
 
 -- a file's step refuses that file
 abbrev IsOfFile : Input → Result Given InputRefusal → Type 0
@@ -102,7 +103,8 @@ unheld : (old new : LentState) (named : Option (List ℕ)) → RoseAt (faults_at
 unheld old new None rose = absurd rose
 unheld old new (Some name) rose = (name, refl, rose_unheld old new name rose)
 
-pub unread_is_said : (old new : LentState) (accepted : Option Wanted) (input : Input) → RoseFor (faults_at old) (faults_at new) accepted input
+pub unread_is_said : (old new : LentState) (accepted : Option Wanted) (input : Input)
+    → RoseFor (faults_at old) (faults_at new) accepted input
     → ReachesFile input (outcome accepted (bytes_of old.files))
     → outcome accepted (bytes_of old.files) ≡ Err (reasons.Refused (refusals.Unread input))
 unread_is_said old new None input rose reaches = absurd rose

@@ -70,7 +70,8 @@ written_out w0 w1 failure output is =
 
 pub ran_status : (old new : LentState) (accepted : Option Wanted) (w0 w1 : Written) (end : End) (status : ℕ)
     → status ≡ status_of_end end → EndHasCause (faults_at old) (faults_at new) accepted end
-    → WritingHasCause (λ (w : Written). 0) wants_of w0 w1 end → Writes (Some w0.text) (Some w1.text) end (outcome accepted (bytes_of old.files))
+    → WritingHasCause (λ (w : Written). 0) wants_of w0 w1 end
+    → Writes (Some w0.text) (Some w1.text) end (outcome accepted (bytes_of old.files))
     → (status ≡ status_said (outcome accepted (bytes_of old.files))) ⊎ (status ≡ 7)
 ran_status old new accepted w0 w1 (Ok done) status is cause output writes =
     inl (is ∙ sym (text_is_zero (outcome accepted (bytes_of old.files)) _ writes))
@@ -131,7 +132,8 @@ line_ends accepted said failure l0 l1 other empty not_short told (inr is) = absu
 
 pub ran_line : (old new : LentState) (accepted : Option Wanted) (w0 w1 l0 l1 : Written) (end : End) (status : ℕ)
     → status ≡ status_of_end end → EndHasCause (faults_at old) (faults_at new) accepted end
-    → WritingHasCause (λ (w : Written). 0) wants_of w0 w1 end → Writes (Some w0.text) (Some w1.text) end (outcome accepted (bytes_of old.files))
+    → WritingHasCause (λ (w : Written). 0) wants_of w0 w1 end
+    → Writes (Some w0.text) (Some w1.text) end (outcome accepted (bytes_of old.files))
     → l0.text ≡ [] → l0.is_short ≡ false → IsTold text_sink accepted l0 l1 end → status ≢ 0 → status ≢ 7
     → (whole_text l1 ≡ line_by accepted (outcome accepted (bytes_of old.files))) ⊎ (whole_text l1 ≡ [])
 ran_line old new accepted w0 w1 l0 l1 (Ok done) status is cause output writes empty not_short told some other = absurd (some is)

@@ -45,7 +45,8 @@ set_fits : (f : Frames) (x n o : ℕ) (b : Block) → f x ≡ Some n → o ≤ 1
 set_fits f x n o b is small free found =
     let most = up_most f x n 10 o small free in
     let there : block_of f x ≡ Some (block_around (order_up_to f x n 10) x n) = ap (block_for f x) is in
-    let same : block_around (order_up_to f x n 10) x n ≡ b = let both : Some (block_around (order_up_to f x n 10) x n) ≡ Some b = sym there ∙ found in cc in
+    let same : block_around (order_up_to f x n 10) x n ≡ b = let both : Some (block_around (order_up_to f x n 10) x n) ≡ Some b =
+      sym there ∙ found in cc in
     let order = ap (λ (c : Block). c.order) same in
     omega (arith, most, order)
 
@@ -60,7 +61,8 @@ joined_block g rs o x n (Some b) small runs is =
     (found.0, found.1, set_fits (value_at rs) x n o b (free x refl) small free (sym is))
 
 -- the index that is left, where there is one
-pub rest_areas : (f g : Frames) (b : Block) (behind : Option Block) (o : ℕ) (before : List Block) (rest : Option (List Block)) → AreAreas f before
+pub rest_areas : (f g : Frames) (b : Block) (behind : Option Block) (o : ℕ) (before : List Block) (rest : Option (List Block))
+    → AreAreas f before
     → IsWithout f g o b.first → IsBlock f b → o ≤ b.order → behind ≡ block_of f (b.first + 2 ^ b.order)
     → IfSome rest (λ left. (f g : Frames) → AreAreas f before → IsWithout f g o b.first → IsBlock f b → o ≤ b.order
     → behind ≡ block_of f (b.first + 2 ^ b.order) → AreAreas g left)

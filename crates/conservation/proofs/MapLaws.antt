@@ -29,7 +29,8 @@ in_reach given frame usable = elim (cases_lt (4096 * frame) (reach given)) as (�
       absurd (cc none))
 ]
 
-pub usable_mapped : (given : Given) (t : Told) (frame : ℕ) → told_boot given ≡ Ok t → (IsUsable given frame ↔ IsUsableBy (reach_told t) t.map frame)
+pub usable_mapped : (given : Given) (t : Told) (frame : ℕ) → told_boot given ≡ Ok t
+    → (IsUsable given frame ↔ IsUsableBy (reach_told t) t.map frame)
 usable_mapped given t frame ends =
     let of : IsToldOf given t = is_told_of given t ends in
     let lies : ℕ → Bool = lies_in_memory of.made.map in

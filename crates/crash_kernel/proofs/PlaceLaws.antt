@@ -22,7 +22,8 @@ best_fits items q place found = best_in-fits (upward_of items) (table_of which.M
 
 best_none : (items : List Item) (q : Query) → best items q ≡ None → (place : ℕ) → place < 2 ^ 64 → fits items q false place ≡ false
 unfolding best fits
-best_none items q none place lt = best_in-none (upward_of items) (table_of which.Memory items) (table_of which.Reserved items) q none place lt
+best_none items q none place lt = best_in-none (upward_of items) (table_of which.Memory items) (table_of which.Reserved items)
+    q none place lt
 
 -- a search of exactly a range finds its base, or the range doesn't fit
 exact_base : (items : List Item) (size base place : ℕ) → best items (area_query size 1 base (base + size)) ≡ Some place → place ≡ base

@@ -45,7 +45,8 @@ free_by : (items : List Item) (r : Extent) (o : Option Label) → is_some o ≡ 
 free_by items r None held each free = absurd (true≢false (sym held))
 free_by items r (Some label) held each free = record { label = label; memory = each; free = free }
 
-place_free : (items : List Item) (q : Query) (place : ℕ) → IsPlace false (table_of which.Memory items) (table_of which.Reserved items) q place
+place_free : (items : List Item) (q : Query) (place : ℕ)
+    → IsPlace false (table_of which.Memory items) (table_of which.Reserved items) q place
     → IsFree items (record { base = place; size = q.size })
 place_free items q place known =
     let r : Extent = record { base = place; size = q.size } in

@@ -25,7 +25,7 @@ pub fn summary_of(booted: &Booted) -> Result<Summary, Memory>
     let mut free = 0;
     let mut blocks = 0;
     for row in &rows {
-        free += frames_of(row);
+        free += frames_in_row(row);
         blocks += row.count;
     }
     Ok(Summary {
@@ -39,7 +39,7 @@ pub fn summary_of(booted: &Booted) -> Result<Summary, Memory>
 }
 
 /// How many frames the blocks of a row have. A row of no block has none, whatever its order.
-fn frames_of(row: &BlockRow) -> u64
+fn frames_in_row(row: &BlockRow) -> u64
     requires { row.now.count * 2 ^ row.now.order < 2 ^ 64 }
     ensures { result ≡ row.now.count * 2 ^ row.now.order }
 {

@@ -11,7 +11,8 @@ next_numbers : (next_of 2 ≡ 59559187) × (next_of 2147483647 ≡ 1043980748)
 next_numbers = (refl, refl)
 
 -- 1 to 16 frames
-frames : (frames_of_entry 0 ≡ 1) × (frames_of_entry 65535 ≡ 1) × (frames_of_entry 65536 ≡ 2) × (frames_of_entry 983040 ≡ 16) × (frames_of_entry 1048576 ≡ 1)
+frames : (frames_of_entry 0 ≡ 1) × (frames_of_entry 65535 ≡ 1) × (frames_of_entry 65536 ≡ 2) × (frames_of_entry 983040 ≡ 16)
+    × (frames_of_entry 1048576 ≡ 1)
 frames = (refl, refl, refl, refl, refl)
 
 first_two : (low_ram ≡ entry 0 0xA0000 1) × (high_ram ≡ entry 0x100000 0x8000000 1) × (behind_ram ≡ 0x8100000)

@@ -158,7 +158,8 @@ later-once number a (Ok lines) later once =
     subst (λ (ls : List Line). All (λ l. CanBeRun l.act) ls) (sym (placed_later (record { number = number; act = a }) lines later).1) once
 later-once number a (Err fault) later once = tt
 
-none-once : (number : ℕ) (rest : Result (List Line) ScriptFault) → IsOnce rest → IsOnce (rest >>= λ lines. Ok (cons_option (line_at number None) lines))
+none-once : (number : ℕ) (rest : Result (List Line) ScriptFault) → IsOnce rest
+    → IsOnce (rest >>= λ lines. Ok (cons_option (line_at number None) lines))
 none-once number (Ok lines) once = once
 none-once number (Err fault) once = tt
 
@@ -166,7 +167,8 @@ line-once : (number : ℕ) (r : Result (Option Act) Wrong) (rest : Bool → Resu
     IsOnce (rest false) → IsOnce (then_line number r (λ act. rest (seen_behind false act)))
 line-once number (Ok None) rest clean once = none-once number (rest false) once
 line-once number (Ok (Some a)) rest clean once =
-    elim (cases_Bool (is_sections a)) as (λ _. IsOnce (rest (is_sections a) >>= λ lines. Ok (cons_option (line_at number (Some a)) lines))) [
+    elim (cases_Bool (is_sections a)) as (λ _. IsOnce
+      (rest (is_sections a) >>= λ lines. Ok (cons_option (line_at number (Some a)) lines))) [
       | inl here ↦ here-once number a (rest (is_sections a)) here (subst (λ (t : Bool). AreClean (rest t)) (sym here) clean)
       | inr later ↦ later-once number a (rest (is_sections a)) later (subst (λ (t : Bool). IsOnce (rest t)) (sym later) once)
     ]

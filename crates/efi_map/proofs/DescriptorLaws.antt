@@ -62,7 +62,8 @@ far_end stride i n bytes le = rw (none_more stride i n bytes le) refl
 -- where none of those that are left is too far, the first isn't
 pub near_now : (stride i n : ℕ) (bytes : List ℕ) → i < n → far_among i (descriptors_from stride i (n - i) bytes) ≡ None
     → is_far (nth_descriptor stride i bytes) ≡ false
-near_now stride i n bytes below none = first_near i _ (descriptors_from stride (i + 1) (n - (i + 1)) bytes) (rw (one_more stride i n bytes below) at none)
+near_now stride i n bytes below none = first_near i _ (descriptors_from stride (i + 1) (n - (i + 1)) bytes)
+    (rw (one_more stride i n bytes below) at none)
 
 pub fits : (d : Descriptor) → is_far d ≡ false → d.base + 4096 * d.pages < 2 ^ 64
 fits d near = grind (arith, nat_tests, near)

@@ -8,7 +8,8 @@ abbrev page : ℕ → ℕ → Descriptor
 page kind attributes = record { kind = kind; base = 0x300000; pages = 1; attributes = attributes }
 
 -- EfiLoaderCode to EfiBootServicesData and EfiConventionalMemory: with EFI_MEMORY_SP soft reserved, with EFI_MEMORY_WB RAM, else reserved
-free_kinds : (is_free_kind 0 ≡ false) × (is_free_kind 1 ≡ true) × (is_free_kind 2 ≡ true) × (is_free_kind 3 ≡ true) × (is_free_kind 4 ≡ true)
+free_kinds : (is_free_kind 0 ≡ false) × (is_free_kind 1 ≡ true) × (is_free_kind 2 ≡ true) × (is_free_kind 3 ≡ true)
+    × (is_free_kind 4 ≡ true)
     × (is_free_kind 5 ≡ false) × (is_free_kind 6 ≡ false) × (is_free_kind 7 ≡ true) × (is_free_kind 8 ≡ false)
 free_kinds = (refl, refl, refl, refl, refl, refl, refl, refl, refl)
 
@@ -17,8 +18,10 @@ free_types : (type_of_free (page 7 0) ≡ 2) × (type_of_free (page 7 0x8) ≡ 1
 free_types = (refl, refl, refl, refl)
 
 -- the types of UEFI's list in their order, write-back: EfiReservedMemoryType to EfiUnacceptedMemoryType, and one of a firmware's own
-types : (e820_type (page 0 8) ≡ 2) × (e820_type (page 1 8) ≡ 1) × (e820_type (page 2 8) ≡ 1) × (e820_type (page 3 8) ≡ 1) × (e820_type (page 4 8) ≡ 1)
-    × (e820_type (page 5 8) ≡ 2) × (e820_type (page 6 8) ≡ 2) × (e820_type (page 7 8) ≡ 1) × (e820_type (page 8 8) ≡ 5) × (e820_type (page 9 8) ≡ 3)
+types : (e820_type (page 0 8) ≡ 2) × (e820_type (page 1 8) ≡ 1) × (e820_type (page 2 8) ≡ 1) × (e820_type (page 3 8) ≡ 1)
+    × (e820_type (page 4 8) ≡ 1)
+    × (e820_type (page 5 8) ≡ 2) × (e820_type (page 6 8) ≡ 2) × (e820_type (page 7 8) ≡ 1) × (e820_type (page 8 8) ≡ 5)
+    × (e820_type (page 9 8) ≡ 3)
 types = (refl, refl, refl, refl, refl, refl, refl, refl, refl, refl)
 
 later_types : (e820_type (page 10 8) ≡ 4) × (e820_type (page 11 8) ≡ 2) × (e820_type (page 12 8) ≡ 2) × (e820_type (page 13 8) ≡ 2)
@@ -29,7 +32,8 @@ later_types = (refl, refl, refl, refl, refl, refl, refl, refl)
 purpose_of_acpi : (e820_type (page 9 0x40008) ≡ 3) × (e820_type (page 14 0) ≡ 7)
 purpose_of_acpi = (refl, refl)
 
-attributes : (has_attribute 0x8 (page 7 0xF) ≡ true) × (has_attribute 0x8 (page 7 0x7) ≡ false) × (has_attribute 0x10000 (page 7 0x10000) ≡ true)
+attributes : (has_attribute 0x8 (page 7 0xF) ≡ true) × (has_attribute 0x8 (page 7 0x7) ≡ false)
+    × (has_attribute 0x10000 (page 7 0x10000) ≡ true)
 attributes = (refl, refl, refl)
 
 an_entry : entry_of (page 9 8) ≡ record { addr = 0x300000; size = 0x1000; kind = 3 }
@@ -42,7 +46,8 @@ some_bytes = refl
 a_mirror : mirror_of (page 7 0x10008) ≡ Some (record { base = 0x300000; size = 0x1000 })
 a_mirror = refl
 
-part_of_a_mirror : mirror_of (record { kind = 7; base = 0x300800; pages = 2; attributes = 0x10000 }) ≡ Some (record { base = 0x301000; size = 0x1000 })
+part_of_a_mirror : mirror_of (record { kind = 7; base = 0x300800; pages = 2; attributes = 0x10000 })
+    ≡ Some (record { base = 0x301000; size = 0x1000 })
 part_of_a_mirror = refl
 
 no_whole_frame : mirror_of (record { kind = 7; base = 0x300800; pages = 1; attributes = 0x10000 }) ≡ None
@@ -51,7 +56,8 @@ no_whole_frame = refl
 no_mirror : mirror_of (page 7 0x8) ≡ None
 no_mirror = refl
 
-mirrors : mirrors_of (page 7 0x8 ∷ (page 7 0x10008 ∷ (page 4 0x10000 ∷ []))) ≡ record { base = 0x300000; size = 0x1000 } ∷ (record { base = 0x300000; size = 0x1000 } ∷ [])
+mirrors : mirrors_of (page 7 0x8 ∷ (page 7 0x10008 ∷ (page 4 0x10000 ∷ []))) ≡ record { base = 0x300000; size = 0x1000 }
+    ∷ (record { base = 0x300000; size = 0x1000 } ∷ [])
 unfolding mirrors_of
 mirrors = refl
 
@@ -79,7 +85,8 @@ far_is_told = (refl, refl)
 abbrev header : ℕ → ℕ → List ℕ
 header stride version = stride ∷ 0 ∷ 0 ∷ 0 ∷ version ∷ 0 ∷ 0 ∷ 0 ∷ []
 
-header_examples : (has_header (header 40 1) ≡ true) × (has_header (header 48 1) ≡ true) × (has_header (header 32 1) ≡ false) × (has_header (header 44 1) ≡ false)
+header_examples : (has_header (header 40 1) ≡ true) × (has_header (header 48 1) ≡ true) × (has_header (header 32 1) ≡ false)
+    × (has_header (header 44 1) ≡ false)
     × (has_header (header 40 2) ≡ false) × (has_header (40 ∷ 0 ∷ 0 ∷ 0 ∷ 1 ∷ 0 ∷ 0 ∷ []) ≡ false)
 header_examples = (refl, refl, refl, refl, refl, refl)
 
@@ -92,7 +99,8 @@ a_descriptor : nth_descriptor 40 0 (header 40 1 ++ acpi) ≡ record { kind = 9; 
 unfolding descriptor_at
 a_descriptor = refl
 
-second_of_48 : nth_descriptor 48 1 (header 48 1 ++ acpi ++ replicate 8 255 ++ acpi) ≡ record { kind = 9; base = 0x200000; pages = 16; attributes = 8 }
+second_of_48 : nth_descriptor 48 1 (header 48 1 ++ acpi ++ replicate 8 255 ++ acpi)
+    ≡ record { kind = 9; base = 0x200000; pages = 16; attributes = 8 }
 unfolding descriptor_at
 second_of_48 = refl
 
@@ -100,12 +108,14 @@ length_examples : (has_length (header 40 1) ≡ true) × (has_length (header 40 
     × (count_of (header 40 1 ++ acpi ++ acpi) ≡ 2) × (stride_of (header 48 1) ≡ 48)
 length_examples = (refl, refl, refl, refl, refl)
 
-all_of_two : descriptors_of (header 40 1 ++ acpi ++ acpi) ≡ nth_descriptor 40 0 (header 40 1 ++ acpi) ∷ (nth_descriptor 40 0 (header 40 1 ++ acpi) ∷ [])
+all_of_two : descriptors_of (header 40 1 ++ acpi ++ acpi) ≡ nth_descriptor 40 0 (header 40 1 ++ acpi)
+    ∷ (nth_descriptor 40 0 (header 40 1 ++ acpi) ∷ [])
 unfolding descriptors_from descriptor_at
 all_of_two = refl
 
 -- the header goes before the length, and no descriptor is a map, too
-faults_in_order : (efi_of [] ≡ Err faults.Header) × (efi_of (header 44 1 ++ acpi) ≡ Err faults.Header) × (efi_of (header 48 1 ++ acpi) ≡ Err faults.Length)
+faults_in_order : (efi_of [] ≡ Err faults.Header) × (efi_of (header 44 1 ++ acpi) ≡ Err faults.Header)
+    × (efi_of (header 48 1 ++ acpi) ≡ Err faults.Length)
     × (efi_of (header 40 1) ≡ Ok (record { entries = []; mirrors = [] }))
 unfolding descriptors_from far_among mirrors_of
 faults_in_order = (refl, refl, refl, refl)

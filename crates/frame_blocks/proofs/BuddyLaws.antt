@@ -211,7 +211,8 @@ rest_is_left f g low x b c without block inner order is within =
     record { order = o; from = parts.from; below = below; is = cc }
 
 -- a buddy begins in the block, and isn't the block
-pub buddy_inside : (b : Block) (low until x : ℕ) (c : Block) → until ≤ b.order → IsInBlock b x → IsBuddy b low until x c → IsInBlock b c.first
+pub buddy_inside : (b : Block) (low until x : ℕ) (c : Block) → until ≤ b.order → IsInBlock b x → IsBuddy b low until x c
+    → IsInBlock b c.first
 buddy_inside b low until x c most inner it =
     let below = it.below in
     let here = buddy_in_block b it.order x (buddy_first it.order x) (omega (arith, below, most)) inner refl in

@@ -142,7 +142,8 @@ found_up f n z order (suc k) b is =
             has = it.has;
             serves = record { node = told.0; zone = told.2; enough = omega (arith, order_is) };
             below = omega (arith, order_is);
-            least = λ c has serves. elim (cases_lt order c.order) as (λ _. (b.order < c.order) ⊎ ((b.order ≡ c.order) × (b.first ≤ c.first))) [
+            least = λ c has serves. elim (cases_lt order c.order) as (λ _. (b.order < c.order)
+              ⊎ ((b.order ≡ c.order) × (b.first ≤ c.first))) [
               | inl lt ↦ inl (omega (arith, lt, order_is))
               | inr le ↦
                   let enough = serves.enough in
@@ -158,7 +159,8 @@ found_up f n z order (suc k) b is =
             has = rest.has;
             serves = record { node = rest.serves.node; zone = rest.serves.zone; enough = omega (arith, more) };
             below = omega (arith, below);
-            least = λ c has serves. elim (cases_lt order c.order) as (λ _. (b.order < c.order) ⊎ ((b.order ≡ c.order) × (b.first ≤ c.first))) [
+            least = λ c has serves. elim (cases_lt order c.order) as (λ _. (b.order < c.order)
+              ⊎ ((b.order ≡ c.order) × (b.first ≤ c.first))) [
               | inl lt ↦ rest.least c has (record { node = serves.node; zone = serves.zone; enough = omega (arith, lt) })
               | inr le ↦
                   let enough = serves.enough in

@@ -47,7 +47,8 @@ lone_alone c block =
 area_examples : AreAreas lone (lone_block ∷ []) × (AreAreas lone [] → ⊥)
 area_examples = (
   record {
-    sound = λ b has. ⊎_elim (λ (is : lone_block ≡ b). subst (λ (c : Block). IsBlock lone c) is lone_is_block) (λ (none : ⊥). absurd none) has;
+    sound = λ b has. ⊎_elim (λ (is : lone_block ≡ b). subst (λ (c : Block). IsBlock lone c) is lone_is_block)
+      (λ (none : ⊥). absurd none) has;
     complete = λ b is. inl (inl (lone_alone b is));
   },
   λ areas. ⊎_elim (λ (none : ⊥). none) (λ (follows : IsRightBehind lone lone_block). let ten = follows.great in absurd (omega (arith, ten)))
@@ -55,7 +56,8 @@ area_examples = (
 )
 
 -- a block of the lowest frames follows none, and no lone frame does
-follow_examples : (IsRightBehind lone (great 0) → ⊥) × (IsRightBehind lone (record { order = 0; first = 1029; node = 7; zone = zone.Dma }) → ⊥)
+follow_examples : (IsRightBehind lone (great 0) → ⊥)
+    × (IsRightBehind lone (record { order = 0; first = 1029; node = 7; zone = zone.Dma }) → ⊥)
 follow_examples = (
   λ follows. let room = follows.room in absurd (omega (arith, room)),
   λ follows. let ten = follows.great in absurd (omega (arith, ten)),

@@ -92,7 +92,8 @@ passed_over rs mirror node from count at look known narrow fewer end others x ab
     ])
 
 -- down from a look whose memory doesn't serve, and then over more of that kind, nothing serves
-pub none_serves_down : (rs : List (RunOf Label)) (mirror : Bool) (node : Option ℕ) (from at until : ℕ) (look : Look) → IsLookDown rs from look
+pub none_serves_down : (rs : List (RunOf Label)) (mirror : Bool) (node : Option ℕ) (from at until : ℕ) (look : Look)
+    → IsLookDown rs from look
     → until ≤ from → serves mirror node look.label ≡ false → NoAddressServes mirror (value_at rs) node at look.bound
     → NoAddressServes mirror (value_at rs) node at until
 none_serves_down rs mirror node from at until look known under refused passed x above less =

@@ -30,7 +30,8 @@ rounded_last t n b some aligned under =
     omega arith
 
 -- each byte of a place is unclaimed memory of the place's label
-pub label_of_place : (mirror : Bool) (memory reserved : Labels) (q : Query) (b x : ℕ) → IsPlace mirror memory reserved q b → b ≤ x → x < b + q.size
+pub label_of_place : (mirror : Bool) (memory reserved : Labels) (q : Query) (b x : ℕ) → IsPlace mirror memory reserved q b → b ≤ x
+    → x < b + q.size
     → unclaimed memory reserved x ≡ memory b
 label_of_place mirror memory reserved q b x place above under =
     ap (λ (o : Option Label). if is_none o then memory x else None) (place.free x above under) ∙ place.label x above under
@@ -87,7 +88,8 @@ none_bare mirror memory reserved q from until label some known bare b fits ends 
       | inr ge ↦ ge
     ]
 
-pub none_served : (mirror : Bool) (memory reserved : Labels) (q : Query) (from until : ℕ) (label : Option Label) (found : Label) → 1 ≤ q.size
+pub none_served : (mirror : Bool) (memory reserved : Labels) (q : Query) (from until : ℕ) (label : Option Label) (found : Label)
+    → 1 ≤ q.size
     → IsStretch memory reserved from until label → label ≡ Some found
     → serves mirror q.node (Some found) ≡ false → NoPlaceEnds mirror memory reserved q from until
 none_served mirror memory reserved q from until label found some known is refused b fits ends =
@@ -138,8 +140,10 @@ best_between mirror memory reserved q from until a label found some window known
         first = omega arith;
         high = omega arith;
         held = ap is_some first;
-        allowed = ap (λ (o : Option Label). allows q.node o) first ∙ (and_parts (allows q.node (Some found)) (suits mirror (Some found)) served).0;
-        suited = ap (λ (o : Option Label). suits mirror o) first ∙ (and_parts (allows q.node (Some found)) (suits mirror (Some found)) served).1;
+        allowed = ap (λ (o : Option Label). allows q.node o) first
+          ∙ (and_parts (allows q.node (Some found)) (suits mirror (Some found)) served).0;
+        suited = ap (λ (o : Option Label). suits mirror o) first
+          ∙ (and_parts (allows q.node (Some found)) (suits mirror (Some found)) served).1;
         label = λ x above under. (there x above under).0 ∙ sym first;
         free = λ x above under. (there x above under).1;
       });
@@ -153,7 +157,8 @@ best_between mirror memory reserved q from until a label found some window known
     }
 
 -- so what is answered of a stretch of memory that serves is the best place in it, or there is none
-pub best_of_stretch : (mirror : Bool) (memory reserved : Labels) (q : Query) (from until : ℕ) (label : Option Label) (found : Label) (answer : Option ℕ)
+pub best_of_stretch : (mirror : Bool) (memory reserved : Labels) (q : Query) (from until : ℕ) (label : Option Label) (found : Label)
+    (answer : Option ℕ)
     → 1 ≤ q.size → until ≤ q.hi
     → IsStretch memory reserved from until label → label ≡ Some found → serves mirror q.node (Some found) ≡ true
     → MatchOption answer ((b : ℕ) → IsBetween (max (max from q.lo) 4096) until q.size q.align b → ⊥)
@@ -192,7 +197,8 @@ none_found mirror memory reserved q at some past low = top_in-fails (record { mi
       | inr fails ↦ fails
     ])
 
-pub best_answer : (mirror : Bool) (memory reserved : Labels) (q : Query) (from at : ℕ) (answer : Option ℕ) → NoPlaceEnds mirror memory reserved q at q.hi
+pub best_answer : (mirror : Bool) (memory reserved : Labels) (q : Query) (from at : ℕ) (answer : Option ℕ)
+    → NoPlaceEnds mirror memory reserved q at q.hi
     → MatchOption answer (NoPlaceEnds mirror memory reserved q from at) (IsBestBy mirror memory reserved q at)
     → is_some answer ≡ true → q.hi < 2 ^ 64 → answer ≡ top_in (record { mirror = mirror; up = false }) memory reserved q
 best_answer mirror memory reserved q from at None past best some small = absurd (true≢false (sym some))
@@ -201,7 +207,8 @@ best_answer mirror memory reserved q from at (Some a) past best some small =
     sym (best_found mirror memory reserved q at a past best (omega arith))
 
 -- with no place in a stretch none ends above it
-pub no_answer : (mirror : Bool) (memory reserved : Labels) (q : Query) (from at : ℕ) (answer : Option ℕ) → NoPlaceEnds mirror memory reserved q at q.hi
+pub no_answer : (mirror : Bool) (memory reserved : Labels) (q : Query) (from at : ℕ) (answer : Option ℕ)
+    → NoPlaceEnds mirror memory reserved q at q.hi
     → MatchOption answer (NoPlaceEnds mirror memory reserved q from at) (IsBestBy mirror memory reserved q at)
     → is_some answer ≡ false → NoPlaceEnds mirror memory reserved q from q.hi
 no_answer mirror memory reserved q from at None past none is = λ b fits ends. none b fits (past b fits ends)

@@ -115,7 +115,8 @@ mirror_of_nothing = refl
 mirrored_memory : tag_of (item.Mem (bytes 0 8) ∷ (item.Mirror (bytes 0 4) ∷ (item.Node (bytes 0 8) 1 ∷ []))) 3 ≡ tag.Memory (Some 1) true
 mirrored_memory = refl
 
-memory_beside_a_mirror : tag_of (item.Mem (bytes 0 8) ∷ (item.Mirror (bytes 0 4) ∷ (item.Node (bytes 0 8) 1 ∷ []))) 4 ≡ tag.Memory (Some 1) false
+memory_beside_a_mirror : tag_of (item.Mem (bytes 0 8) ∷ (item.Mirror (bytes 0 4) ∷ (item.Node (bytes 0 8) 1 ∷ []))) 4
+    ≡ tag.Memory (Some 1) false
 memory_beside_a_mirror = refl
 
 mirrored_with_its_node : memory_of (item.Mem (bytes 0 8) ∷ (item.Node (bytes 0 8) 2 ∷ (item.Mirror (bytes 4 4) ∷ []))) 4
@@ -130,7 +131,8 @@ no_mirror_of_none some = omega arith
 
 -- nothing else speaks of memory
 abbrev owners_alone : List Item
-owners_alone = item.Claim (bytes 0 8) owner.Kernel ∷ (item.Free (bytes 0 4) ∷ (item.Limit 4 ∷ (item.Upward true ∷ (item.Grown which.Memory 0 256 ∷ []))))
+owners_alone = item.Claim (bytes 0 8) owner.Kernel
+    ∷ (item.Free (bytes 0 4) ∷ (item.Limit 4 ∷ (item.Upward true ∷ (item.Grown which.Memory 0 256 ∷ []))))
 
 memory_stays : tag_of (item.Mem (bytes 0 8) ∷ owners_alone) 3 ≡ tag.Memory None false
 memory_stays = refl

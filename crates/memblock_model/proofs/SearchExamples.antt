@@ -160,7 +160,8 @@ mirrored_fits : fits_in true half_mirrored claimed (pairs 0 5000) 4098 ≡ true
 unfolding fits_in each_in each_from
 mirrored_fits = refl
 
-over_its_border_does_not_fit : fits_in false half_mirrored claimed (record { lo = 0; hi = 5000; size = 2; align = 1; node = None }) 4103 ≡ false
+over_its_border_does_not_fit : fits_in false half_mirrored claimed
+    (record { lo = 0; hi = 5000; size = 2; align = 1; node = None }) 4103 ≡ false
 unfolding fits_in each_in each_from
 over_its_border_does_not_fit = refl
 
@@ -229,7 +230,8 @@ page_fits_low : fits turned page false 0x1000 ≡ true
 unfolding fits fits_in each_in each_from
 page_fits_low = refl
 
-lowest_page : top_in (record { mirror = false; up = true }) (table_of which.Memory turned) (table_of which.Reserved turned) page ≡ Some 0x1000
+lowest_page : top_in (record { mirror = false; up = true }) (table_of which.Memory turned) (table_of which.Reserved turned) page
+    ≡ Some 0x1000
 unfolding fits
 lowest_page = top_in-first false (table_of which.Memory turned) (table_of which.Reserved turned) page 0x1000 (record {
   below = omega arith;

@@ -199,14 +199,16 @@ fits_unmirrored mirror memory reserved q a h =
 -- where it fits nowhere, or doesn't suit, it doesn't fit
 unfit : (mirror : Bool) (memory reserved : Labels) (q : Query) (a : ℕ) → fits_in false memory reserved q a ≡ false
     → fits_in mirror memory reserved q a ≡ false
-unfit mirror memory reserved q a fails = elim (cases_Bool (fits_in mirror memory reserved q a)) as (λ _. fits_in mirror memory reserved q a ≡ false) [
+unfit mirror memory reserved q a fails =
+    elim (cases_Bool (fits_in mirror memory reserved q a)) as (λ _. fits_in mirror memory reserved q a ≡ false) [
   | inl fits ↦ absurd (true≢false (sym (fits_unmirrored mirror memory reserved q a fits) ∙ fails))
   | inr none ↦ none
 ]
 
 unsuited : (mirror : Bool) (memory reserved : Labels) (q : Query) (a : ℕ) → suits mirror (memory a) ≡ false
     → fits_in mirror memory reserved q a ≡ false
-unsuited mirror memory reserved q a fails = elim (cases_Bool (fits_in mirror memory reserved q a)) as (λ _. fits_in mirror memory reserved q a ≡ false) [
+unsuited mirror memory reserved q a fails =
+    elim (cases_Bool (fits_in mirror memory reserved q a)) as (λ _. fits_in mirror memory reserved q a ≡ false) [
   | inl fits ↦ absurd (true≢false (sym (fits_in-parts mirror memory reserved q a fits).suited ∙ fails))
   | inr none ↦ none
 ]
@@ -336,7 +338,8 @@ pub top_in-last : (mirror : Bool) (memory reserved : Labels) (q : Query) (a : �
 unfolding top_in
 top_in-last mirror memory reserved q a known = last_below-last (fits_in mirror memory reserved q) (2 ^ 64) a known
 
-pub top_in-first : (mirror : Bool) (memory reserved : Labels) (q : Query) (a : ℕ) → IsFirstBelow (fits_in mirror memory reserved q) (2 ^ 64) a
+pub top_in-first : (mirror : Bool) (memory reserved : Labels) (q : Query) (a : ℕ)
+    → IsFirstBelow (fits_in mirror memory reserved q) (2 ^ 64) a
     → top_in (record { mirror = mirror; up = true }) memory reserved q ≡ Some a
 unfolding top_in
 top_in-first mirror memory reserved q a known = first_below-first (fits_in mirror memory reserved q) (2 ^ 64) a known
@@ -357,9 +360,11 @@ pub best_in-fits : (up : Bool) (memory reserved : Labels) (q : Query) (a : ℕ) 
     → fits_in false memory reserved q a ≡ true
 unfolding best_in
 best_in-fits up memory reserved q a h =
-    elim (either (top_in (record { mirror = true; up = up }) memory reserved q) (top_in (record { mirror = false; up = up }) memory reserved q) a h)
+    elim (either (top_in (record { mirror = true; up = up }) memory reserved q)
+      (top_in (record { mirror = false; up = up }) memory reserved q) a h)
     as (λ _. fits_in false memory reserved q a ≡ true) [
-      | inl mirrored ↦ fits_unmirrored true memory reserved q a (top_in-fits (record { mirror = true; up = up }) memory reserved q a mirrored)
+      | inl mirrored ↦ fits_unmirrored true memory reserved q a
+        (top_in-fits (record { mirror = true; up = up }) memory reserved q a mirrored)
       | inr other ↦ top_in-fits (record { mirror = false; up = up }) memory reserved q a other
     ]
 
@@ -367,13 +372,15 @@ pub best_in-none : (up : Bool) (memory reserved : Labels) (q : Query) → best_i
     → fits_in false memory reserved q b ≡ false
 unfolding best_in
 best_in-none up memory reserved q h b lt = top_in-none (record { mirror = false; up = up }) memory reserved q
-    (neither (top_in (record { mirror = true; up = up }) memory reserved q) (top_in (record { mirror = false; up = up }) memory reserved q) h) b lt
+    (neither (top_in (record { mirror = true; up = up }) memory reserved q)
+      (top_in (record { mirror = false; up = up }) memory reserved q) h) b lt
 
 pub best_in-fails : (up : Bool) (memory reserved : Labels) (q : Query) → ((b : ℕ) → b < 2 ^ 64 → fits_in false memory reserved q b ≡ false)
     → best_in up memory reserved q ≡ None
 unfolding best_in
 best_in-fails up memory reserved q none =
-    let mirrored : top_in (record { mirror = true; up = up }) memory reserved q ≡ None = top_in-fails (record { mirror = true; up = up }) memory reserved q
+    let mirrored : top_in (record { mirror = true; up = up }) memory reserved q ≡ None =
+      top_in-fails (record { mirror = true; up = up }) memory reserved q
     (λ b lt. unfit true memory reserved q b (none b lt)) in
     rw mirrored (top_in-fails (record { mirror = false; up = up }) memory reserved q none)
 

@@ -80,19 +80,23 @@ behind_three a b c rest first second third =
     ap (λ (l : List ℕ). drop 20 (a ++ l)) (sym (append_assoc b c rest)) ∙ ap (drop 20) (sym (append_assoc a (b ++ c) rest))
     ∙ drop_at (a ++ (b ++ c)) rest 20 (omega (arith, first, second, third, length-append a (b ++ c), length-append b c))
 
-behind_base : (base size flags node : ℕ) → drop 8 (fields_of base size flags node) ≡ little_bytes 8 size ++ (little_bytes 4 flags ++ little_bytes 4 node)
+behind_base : (base size flags node : ℕ) → drop 8 (fields_of base size flags node) ≡ little_bytes 8 size
+    ++ (little_bytes 4 flags ++ little_bytes 4 node)
 unfolding fields_of
-behind_base base size flags node = drop_at (little_bytes 8 base) (little_bytes 8 size ++ (little_bytes 4 flags ++ little_bytes 4 node)) 8 (long8 base)
+behind_base base size flags node =
+    drop_at (little_bytes 8 base) (little_bytes 8 size ++ (little_bytes 4 flags ++ little_bytes 4 node)) 8 (long8 base)
 
 behind_size : (base size flags node : ℕ) → drop 16 (fields_of base size flags node) ≡ little_bytes 4 flags ++ little_bytes 4 node
 unfolding fields_of
-behind_size base size flags node = behind_two (little_bytes 8 base) (little_bytes 8 size) (little_bytes 4 flags ++ little_bytes 4 node) (long8 base)
+behind_size base size flags node = behind_two (little_bytes 8 base) (little_bytes 8 size) (little_bytes 4 flags ++ little_bytes 4 node)
+    (long8 base)
     (long8 size)
 
 behind_flags : (base size flags node : ℕ) → drop 20 (fields_of base size flags node) ≡ little_bytes 4 node
 unfolding fields_of
 behind_flags base size flags node =
-    behind_three (little_bytes 8 base) (little_bytes 8 size) (little_bytes 4 flags) (little_bytes 4 node) (long8 base) (long8 size) (long4 flags)
+    behind_three (little_bytes 8 base) (little_bytes 8 size) (little_bytes 4 flags) (little_bytes 4 node) (long8 base) (long8 size)
+      (long4 flags)
 
 -- what was written is read back
 pub base-fields_of : (base size flags node : ℕ) → base < 2 ^ 64 → base_in (fields_of base size flags node) ≡ base
@@ -103,7 +107,8 @@ base-fields_of base size flags node small = little_number-reads_back 8 base
 pub size-fields_of : (base size flags node : ℕ) → size < 2 ^ 64 → size_in (fields_of base size flags node) ≡ size
 unfolding size_in
 size-fields_of base size flags node small =
-    ap (little_number 8) (behind_base base size flags node) ∙ little_number-reads_back 8 size (little_bytes 4 flags ++ little_bytes 4 node) small
+    ap (little_number 8) (behind_base base size flags node) ∙ little_number-reads_back 8 size
+      (little_bytes 4 flags ++ little_bytes 4 node) small
 
 pub flags-fields_of : (base size flags node : ℕ) → flags < 2 ^ 32 → flags_in (fields_of base size flags node) ≡ flags
 unfolding flags_in
@@ -145,6 +150,7 @@ is_record r fits =
     record {
       spells = sym (ap (λ (g : Region). fields_of g.base g.size g.flags g.node) is);
       within = subst (λ (g : Region). g.base + g.size < 2 ^ 64) (sym is) fits.small;
-      flags = ap (λ (g : Region). g.flags) is ∙ sym (ap (λ (l : Label). flags_field l) (ap (λ (g : Region). label_of g.flags g.node) is ∙ fits.back));
+      flags = ap (λ (g : Region). g.flags) is
+        ∙ sym (ap (λ (l : Label). flags_field l) (ap (λ (g : Region). label_of g.flags g.node) is ∙ fits.back));
       node = subst (λ (g : Region). g.node ≤ 1024) (sym is) fits.node;
     }

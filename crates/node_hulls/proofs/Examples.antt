@@ -139,7 +139,8 @@ kept_examples = (refl, refl)
 abbrev kept : ℕ → NumaBlock → KeptBlock
 kept i b = record { number = i; block = b }
 
-blocks_examples : (numa_blocks_of (kept 2 (block 0 1 1) ∷ kept 4 (block 1 2 2) ∷ []) ≡ block 0 1 1 ∷ block 1 2 2 ∷ []) × (numa_blocks_of [] ≡ [])
+blocks_examples : (numa_blocks_of (kept 2 (block 0 1 1) ∷ kept 4 (block 1 2 2) ∷ []) ≡ block 0 1 1 ∷ block 1 2 2 ∷ [])
+    × (numa_blocks_of [] ≡ [])
 blocks_examples = (refl, refl)
 
 is_node_of_examples : (is_node_of (kept 2 (block 0 1 1) ∷ kept 4 (block 1 2 2) ∷ []) 1 ≡ true) × (is_node_of [] 0 ≡ false)

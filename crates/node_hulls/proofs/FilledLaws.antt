@@ -114,7 +114,8 @@ low_value r rs x n runs some under = elim (place r x) as (λ _. r.value ≡ n) [
 ]
 
 -- from a place in the first run to one behind it: the first joined run behind it has the node too
-next_value : (r : NumaBlock) (rs : List NumaBlock) (t : NumaBlock) (us : List NumaBlock) (x n : ℕ) → AreRuns (r ∷ rs) → IsFilledBy rs (t ∷ us)
+next_value : (r : NumaBlock) (rs : List NumaBlock) (t : NumaBlock) (us : List NumaBlock) (x n : ℕ) → AreRuns (r ∷ rs)
+    → IsFilledBy rs (t ∷ us)
     → (around : IsAround (value_at (r ∷ rs)) x n) → around.low < run_end r → run_end r ≤ x → t.value ≡ n
 next_value r rs t us x n runs known around low_in from =
     let over = around.over in
@@ -134,7 +135,8 @@ data Reached (r : NumaBlock) (rs : List NumaBlock) (x n : ℕ) : Type 0 where
   InRest : run_end r ≤ x → IsFilled (value_at rs) x n → Reached r rs x n
   Across : run_end r ≤ x → (around : IsAround (value_at (r ∷ rs)) x n) → around.low < run_end r → r.value ≡ n → Reached r rs x n
 
-reached_by : (r : NumaBlock) (rs : List NumaBlock) (x n : ℕ) → AreRuns (r ∷ rs) → Place r x → IsFilled (value_at (r ∷ rs)) x n → Reached r rs x n
+reached_by : (r : NumaBlock) (rs : List NumaBlock) (x n : ℕ) → AreRuns (r ∷ rs) → Place r x → IsFilled (value_at (r ∷ rs)) x n
+    → Reached r rs x n
 reached_by r rs x n runs (Below lt) (inl here) = absurd (none-some n (sym (at_below r rs x runs lt) ∙ here))
 reached_by r rs x n runs (Below lt) (inr around) =
     let under = around.under in
@@ -172,7 +174,8 @@ last_step r rs runs known = record {
 }
 
 -- where the next joined run has another node, the first run stands alone
-apart_step : (r : NumaBlock) (rs : List NumaBlock) (t : NumaBlock) (us : List NumaBlock) → AreRuns (r ∷ rs) → IsFilledBy rs (t ∷ us) → r.value ≢ t.value
+apart_step : (r : NumaBlock) (rs : List NumaBlock) (t : NumaBlock) (us : List NumaBlock) → AreRuns (r ∷ rs) → IsFilledBy rs (t ∷ us)
+    → r.value ≢ t.value
     → IsFilledBy (r ∷ rs) (r ∷ (t ∷ us))
 apart_step r rs t us runs known other =
     let above : run_end r ≤ t.base = rest_behind r rs t.base t.value runs (first_value rs t us known) in
@@ -236,7 +239,8 @@ gap_around r rs t us x runs known same from under =
     }
 
 -- what lies across, from the base of the next joined run on
-across_rest : (r : NumaBlock) (rs : List NumaBlock) (t : NumaBlock) (us : List NumaBlock) (x n : ℕ) → AreRuns (r ∷ rs) → IsFilledBy rs (t ∷ us)
+across_rest : (r : NumaBlock) (rs : List NumaBlock) (t : NumaBlock) (us : List NumaBlock) (x n : ℕ) → AreRuns (r ∷ rs)
+    → IsFilledBy rs (t ∷ us)
     → (around : IsAround (value_at (r ∷ rs)) x n) → around.low < run_end r → run_end r ≤ x → t.base ≤ x → value_at (t ∷ us) x ≡ Some n
 across_rest r rs t us x n runs known around low_in from reach =
     let node : t.value ≡ n = next_value r rs t us x n runs known around low_in from in
@@ -258,7 +262,8 @@ across_rest r rs t us x n runs known around low_in from reach =
           known.complete x n (inl (ap (value_at rs) (sym at) ∙ first ∙ ap (λ m. Some m) node))
     ]
 
-same_step : (r : NumaBlock) (rs : List NumaBlock) (t : NumaBlock) (us : List NumaBlock) → AreRuns (r ∷ rs) → IsFilledBy rs (t ∷ us) → r.value ≡ t.value
+same_step : (r : NumaBlock) (rs : List NumaBlock) (t : NumaBlock) (us : List NumaBlock) → AreRuns (r ∷ rs) → IsFilledBy rs (t ∷ us)
+    → r.value ≡ t.value
     → IsFilledBy (r ∷ rs) (spanning r t ∷ us)
 same_step r rs t us runs known same =
     let above : run_end r ≤ t.base = rest_behind r rs t.base t.value runs (first_value rs t us known) in

@@ -60,7 +60,8 @@ kept_addresses memory domains i (b ∷ bs) = by (meets_memory memory (extent_of 
       by true some rest = rw some (has_address memory (of_node domains b) some, rest)
       by false none rest = rw none rest
 
-pub addresses_kept : (memory : ℕ → Bool) (domains : List ℕ) (bs : List SratBlock) → HaveAddresses (numa_blocks_of (kept_of memory domains bs))
+pub addresses_kept : (memory : ℕ → Bool) (domains : List ℕ) (bs : List SratBlock)
+    → HaveAddresses (numa_blocks_of (kept_of memory domains bs))
 addresses_kept memory domains bs = kept_addresses memory domains 0 bs
 
 -- what is memory alike keeps the same blocks

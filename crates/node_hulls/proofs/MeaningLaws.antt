@@ -124,7 +124,8 @@ has_frame blocks n x framed =
     rw (between_frame a b x (framed a in_a).1 (framed b in_b).0) refl))) in
     rw (held, joined) refl
 
-first_frame : (blocks : List NumaBlock) (x : ℕ) (bs : List NumaBlock) → Framed blocks → first_had blocks x bs ≡ first_had blocks (frame_base x) bs
+first_frame : (blocks : List NumaBlock) (x : ℕ) (bs : List NumaBlock) → Framed blocks
+    → first_had blocks x bs ≡ first_had blocks (frame_base x) bs
 first_frame blocks x [] framed = refl
 first_frame blocks x (b ∷ bs) framed = rw (has_frame blocks b.value x framed, first_frame blocks x bs framed) refl
 

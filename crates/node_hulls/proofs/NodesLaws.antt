@@ -39,7 +39,8 @@ pub laid_given : (blocks rs : List NumaBlock) → IsRunsOf (all_overlaid option_
 laid_given blocks rs known = record { runs = known.runs; each = λ x. known.each x ∙ first_given blocks x }
 
 -- which is the node of each of them
-pub given : (blocks : List NumaBlock) (b : NumaBlock) (x : ℕ) → Apart blocks → IsIn b blocks → lies_in b x ≡ true → value_at blocks x ≡ Some b.value
+pub given : (blocks : List NumaBlock) (b : NumaBlock) (x : ℕ) → Apart blocks → IsIn b blocks → lies_in b x ≡ true
+    → value_at blocks x ≡ Some b.value
 given [] b x apart member lies = absurd member
 given (c ∷ cs) b x apart member lies = elim (cases_Bool (lies_in c x)) as (λ _. value_at (c ∷ cs) x ≡ Some b.value) [
   | inl first ↦ rw first (ap (λ n. Some n) (apart c b x (inl refl) member first lies))
@@ -84,7 +85,8 @@ meeting_place from until c meeting =
     (omega arith, omega arith, inside c (max from c.base) (omega arith) (omega arith))
 
 -- each block that meets an own hull is of the node
-own_node : (blocks : List NumaBlock) (n : ℕ) (a b c : NumaBlock) → is_own blocks n a b ≡ true → IsIn c blocks → meets a.base (run_end b) c ≡ true
+own_node : (blocks : List NumaBlock) (n : ℕ) (a b c : NumaBlock) → is_own blocks n a b ≡ true → IsIn c blocks
+    → meets a.base (run_end b) c ≡ true
     → c.value ≡ n
 own_node blocks n a b c own member meeting =
     let passes : ((c.value == n) || not (meets a.base (run_end b) c)) ≡ true = all_member _ blocks c own member in
@@ -138,7 +140,8 @@ has_filled blocks n x apart some had = elim (cases_Bool (holds blocks n x)) as (
 ]
 
 -- a block that holds the address makes it have the node
-pub held_by : (blocks : List NumaBlock) (b : NumaBlock) (n x : ℕ) → IsIn b blocks → b.value ≡ n → lies_in b x ≡ true → holds blocks n x ≡ true
+pub held_by : (blocks : List NumaBlock) (b : NumaBlock) (n x : ℕ) → IsIn b blocks → b.value ≡ n → lies_in b x ≡ true
+    → holds blocks n x ≡ true
 held_by blocks b n x member node lies = member_any _ blocks b member (and_from (b.value == n) (lies_in b x) (grind (arith, nat_tests)) lies)
 
 -- a block that the hull of two places meets is of their node
@@ -257,7 +260,8 @@ node_block blocks n x had = elim (cases_Bool (holds blocks n x)) as (λ _. (b : 
 ]
 
 -- so the joined runs give the node of each address
-node_given : (blocks rs ts : List NumaBlock) (x : ℕ) → Apart blocks → HaveAddresses blocks → IsRunsOf (value_at blocks) rs → IsFilledBy rs ts
+node_given : (blocks rs ts : List NumaBlock) (x : ℕ) → Apart blocks → HaveAddresses blocks → IsRunsOf (value_at blocks) rs
+    → IsFilledBy rs ts
     → value_at ts x ≡ node_at blocks x
 unfolding node_at
 node_given blocks rs ts x apart some known joined = by (value_at ts x) (first_had blocks x blocks) refl refl where
@@ -339,7 +343,8 @@ apart_blocks ks none a b x in_a in_b lies_a lies_b =
     let two = kept_member ks b in_b in
     let at_a : lies_in one.0.block x ≡ true = ap (λ (c : NumaBlock). lies_in c x) (sym one.2) ∙ lies_a in
     let at_b : lies_in two.0.block x ≡ true = ap (λ (c : NumaBlock). lies_in c x) (sym two.2) ∙ lies_b in
-    ap (λ (c : NumaBlock). c.value) one.2 ∙ kept_apart ks none one.0 two.0 x one.1 two.1 at_a at_b ∙ ap (λ (c : NumaBlock). c.value) (sym two.2)
+    ap (λ (c : NumaBlock). c.value) one.2 ∙ kept_apart ks none one.0 two.0 x one.1 two.1 at_a at_b
+      ∙ ap (λ (c : NumaBlock). c.value) (sym two.2)
 
 -- so the joined runs of blocks of which no two clash are the runs of what each address has
 pub joined_kept : (ks : List KeptBlock) (laid rs joined : List NumaBlock) → first_clash ks ≡ None → HaveAddresses (numa_blocks_of ks)

@@ -94,7 +94,8 @@ bare_value n (c ∷ cs) x runs = by c.value (lies_in c x) refl refl (bare_value 
   by false false value lies rest = rw (value, lies, rest) refl
 
 -- they are canonical: two that touch would be one run already
-bare_start : (n at : ℕ) (cs : List (RunOf Bool)) (d : NumaBlock) (ds : List NumaBlock) → AreRuns cs → StartFrom at cs → AreRuns (bare_runs n cs)
+bare_start : (n at : ℕ) (cs : List (RunOf Bool)) (d : NumaBlock) (ds : List NumaBlock) → AreRuns cs → StartFrom at cs
+    → AreRuns (bare_runs n cs)
     → bare_runs n cs ≡ d ∷ ds → at ≤ d.base
 bare_start n at cs d ds runs start canonical is =
     let first : value_at (d ∷ ds) d.base ≡ Some d.value = rw (inside d d.base (omega arith) (omega (arith, some))) refl in
@@ -109,7 +110,8 @@ bare_start n at cs d ds runs start canonical is =
       some : 0 < d.size
       some = (subst (λ (es : List NumaBlock). AreRuns es) is canonical).0
 
-bare_before : (n : ℕ) (c : RunOf Bool) (cs : List (RunOf Bool)) → AreRuns (c ∷ cs) → c.value ≡ false → (es : List NumaBlock) → bare_runs n cs
+bare_before : (n : ℕ) (c : RunOf Bool) (cs : List (RunOf Bool)) → AreRuns (c ∷ cs) → c.value ≡ false → (es : List NumaBlock)
+    → bare_runs n cs
     ≡ es → AreRuns es
     → IsBefore (record { base = c.base; size = c.size; value = n }) es
 bare_before n c cs runs value [] is canonical = tt

@@ -104,7 +104,8 @@ given-some_by first None items range node x quiet =
 given-some_by first (Some r) items range node x quiet =
     ap (λ (f : Labels). is_some (f x)) (quiet-appended_memory items first.steps quiet)
 
-given-some : (b : NumaBlock) (items : List Item) (x : ℕ) → is_some (memory_of (after items (given tt b items)) x) ≡ is_some (memory_of items x)
+given-some : (b : NumaBlock) (items : List Item) (x : ℕ) → is_some (memory_of (after items (given tt b items)) x)
+    ≡ is_some (memory_of items x)
 given-some b items x =
     ap (λ (o : Outcome). is_some (memory_of (appended items o.steps) x)) (noded_is items (extent_of b) b.value)
     ∙ given-some_by (growth items) (growth items).refused items (extent_of b) b.value x (growth-quiet items)
@@ -174,7 +175,8 @@ pub keeps-limit : (table : Option Affinity) (off : Bool) (items : List Item)
 keeps-limit table off items = keeps-all limit_of quiet-appended_limit given-limit table off items
 
 -- where all ranges got their nodes, memory has them
-next-memory : (r : NumaBlock) (rs : List NumaBlock) (items : List Item) (d : Done StageStop (Unit {0})) (answer : Result (Unit {0}) StageStop)
+next-memory : (r : NumaBlock) (rs : List NumaBlock) (items : List Item) (d : Done StageStop (Unit {0}))
+    (answer : Result (Unit {0}) StageStop)
     → (answer ≡ Ok tt → memory_of (after items d) ≡ relabelled (extent_of r) (with_node (Some r.value)) (memory_of items))
     → ((in_turn given tt rs (after items d)).answer ≡ Ok tt
     → memory_of (after (after items d) (in_turn given tt rs (after items d))) ≡ noded_all rs (memory_of (after items d)))
@@ -237,5 +239,6 @@ behind-answer table off items noded answered =
     let from : List Item → Done StageStop Noded = λ start. (in_turn given tt ranges >>= behind found) start in
     subst (λ (start : List Item). (from start).answer ≡ Ok noded → IsBehind items found (after start (from start)) noded)
     (sym (append-nil items))
-    (λ told. ended-by items found noded (in_turn given tt ranges items) (in_turn given tt ranges items).answer (turn-memory ranges items) told)
+    (λ told. ended-by items found noded (in_turn given tt ranges items) (in_turn given tt ranges items).answer
+      (turn-memory ranges items) told)
     answered

@@ -215,7 +215,8 @@ name_examples : (by_name (codes "give") (in_words (codes "1")) ≡ Ok (acts.Give
     × (by_name (codes "Give") (in_words (codes "1")) ≡ Err wrong.Form)
 name_examples = (refl, refl, refl)
 
-line_examples : (asked (codes "# give") ≡ Ok None) × (asked (codes "\t\r") ≡ Ok None) × (asked (codes " give\t1\r") ≡ Ok (Some (acts.Give 1)))
+line_examples : (asked (codes "# give") ≡ Ok None) × (asked (codes "\t\r") ≡ Ok None)
+    × (asked (codes " give\t1\r") ≡ Ok (Some (acts.Give 1)))
 line_examples = (refl, refl, refl)
 
 fault_examples : (fault_at 3 wrong.Form ≡ faults.BadLine 3) × (fault_at 7 wrong.Number ≡ faults.BadNumber 7)

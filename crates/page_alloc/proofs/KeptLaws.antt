@@ -132,7 +132,8 @@ picked_set f order first node zone low is = elim (found_or_none (picked f node z
       (it.block.good x in_b).0 ∙ ap (λ n. Some n) it.serves.node in
       let some_frames = pow_pos order in
       let last : ℕ = first + 2 ^ order - 1 in
-      let last_in : IsInSet order first last = in_set (2 ^ order) first last (omega (arith, whole, some_frames)) (omega (arith, whole, some_frames)) in
+      let last_in : IsInSet order first last = in_set (2 ^ order) first last (omega (arith, whole, some_frames))
+        (omega (arith, whole, some_frames)) in
       record {
         aligned = whole;
         low = elim (cases_lt last MAX_FRAMES) as (λ _. first + 2 ^ order ≤ MAX_FRAMES) [
@@ -153,7 +154,8 @@ taken_kept s id order first node small keeps set =
     let made : Held = record { first = first; order = order; node = node } in
     let new : State = record { frames = without_set order first s.frames; held = with_held id (Some made) s.held } in
     let without = without_is order first s.frames in
-    let stays_none : (x : ℕ) → s.frames x ≡ None → new.frames x ≡ None = λ x was. elim (in_set_or_not order first x) as (λ _. new.frames x ≡ None) [
+    let stays_none : (x : ℕ) → s.frames x ≡ None → new.frames x ≡ None =
+      λ x was. elim (in_set_or_not order first x) as (λ _. new.frames x ≡ None) [
       | inl inside ↦ without.gone x inside
       | inr other ↦ without.kept x other ∙ was
     ] in
@@ -193,7 +195,8 @@ taken_kept s id order first node small keeps set =
           (had id i (Some made) s.held g is_i).either;
     }
 
-taken_goes : (f : Frames) (s : State) (id order first node : ℕ) → order ≤ 10 → Goes f s → s.held id ≡ None → IsFreeSet s.frames order first node
+taken_goes : (f : Frames) (s : State) (id order first node : ℕ) → order ≤ 10 → Goes f s → s.held id ≡ None
+    → IsFreeSet s.frames order first node
     → Goes f (record {
       frames = without_set order first s.frames;
       held = with_held id (Some (record { first = first; order = order; node = node })) s.held;
@@ -214,11 +217,14 @@ taken_goes f s id order first node small goes none set =
             (λ (other : ((id == i) ≡ false) × (s.held i ≡ Some h)). goes.shares.held i h other.1 x inside)
             (had id i (Some made) s.held h is).either;
         all = λ x n is. ⊎_elim
-            (λ (was : s.frames x ≡ Some n). elim (in_set_or_not order first x) as (λ _. (new.frames x ≡ Some n) ⊎ ((i : ℕ) × HoldsFrame new i x)) [
-              | inl inside ↦ inr (id, let it : HoldsFrame new id x = record { what = made; is = with_here id (Some made) s.held; inside = inside } in it)
+            (λ (was : s.frames x ≡ Some n). elim (in_set_or_not order first x) as (λ _. (new.frames x ≡ Some n)
+              ⊎ ((i : ℕ) × HoldsFrame new i x)) [
+              | inl inside ↦ inr (id, let it : HoldsFrame new id x = record { what = made; is = with_here id (Some made) s.held;
+                inside = inside } in it)
               | inr other ↦ inl (without.kept x other ∙ was)
             ])
-            (λ (some : (i : ℕ) × HoldsFrame s i x). elim (with_or_not id some.0) as (λ _. (new.frames x ≡ Some n) ⊎ ((i : ℕ) × HoldsFrame new i x)) [
+            (λ (some : (i : ℕ) × HoldsFrame s i x). elim (with_or_not id some.0) as (λ _. (new.frames x ≡ Some n)
+              ⊎ ((i : ℕ) × HoldsFrame new i x)) [
               | inl same ↦
                   let had_one = some.1.is in
                   let here : s.held id ≡ Some some.1.what = ap s.held same ∙ had_one in
@@ -237,7 +243,8 @@ taken_goes f s id order first node small goes none set =
     }
 
 -- what an ID holds comes back
-given_kept : (s : State) (id : ℕ) (what : Held) → AreHeldApart s → s.held id ≡ Some what → AreHeldApart (record { frames = with_set what.order what.first what.node s.frames; held = with_held id None s.held })
+given_kept : (s : State) (id : ℕ) (what : Held) → AreHeldApart s → s.held id ≡ Some what
+    → AreHeldApart (record { frames = with_set what.order what.first what.node s.frames; held = with_held id None s.held })
 given_kept s id what keeps is_held =
     let new : State = record { frames = with_set what.order what.first what.node s.frames; held = with_held id None s.held } in
     let well = keeps.well id what is_held in
@@ -273,7 +280,8 @@ given_kept s id what keeps is_held =
       apart = λ i j g h is_i is_j x in_g in_h. keeps.apart i j g h (still i g is_i).1 (still j h is_j).1 x in_g in_h;
     }
 
-given_goes : (f : Frames) (s : State) (id : ℕ) (what : Held) → Goes f s → s.held id ≡ Some what → Goes f (record { frames = with_set what.order what.first what.node s.frames; held = with_held id None s.held })
+given_goes : (f : Frames) (s : State) (id : ℕ) (what : Held) → Goes f s → s.held id ≡ Some what
+    → Goes f (record { frames = with_set what.order what.first what.node s.frames; held = with_held id None s.held })
 given_goes f s id what goes is_held =
     let new : State = record { frames = with_set what.order what.first what.node s.frames; held = with_held id None s.held } in
     let back : (x : ℕ) → IsInSet what.order what.first x → new.frames x ≡ Some what.node = λ x inside.
@@ -296,7 +304,8 @@ given_goes f s id what goes is_held =
           | inl inside ↦ inl (back x inside ∙ sym (goes.shares.held id what is_held x inside) ∙ is)
           | inr other ↦ ⊎_elim
               (λ (was : s.frames x ≡ Some n). inl (kept x other ∙ was))
-              (λ (some : (i : ℕ) × HoldsFrame s i x). elim (with_or_not id some.0) as (λ _. (new.frames x ≡ Some n) ⊎ ((i : ℕ) × HoldsFrame new i x)) [
+              (λ (some : (i : ℕ) × HoldsFrame s i x). elim (with_or_not id some.0) as (λ _. (new.frames x ≡ Some n)
+                ⊎ ((i : ℕ) × HoldsFrame new i x)) [
                 | inl same ↦
                     let here : s.held id ≡ Some some.1.what = let h = some.1.is in ap s.held same ∙ h in
                     let one : some.1.what ≡ what = let both : Some some.1.what ≡ Some what = sym here ∙ is_held in cc in
@@ -344,7 +353,8 @@ served_kept s id order node zone None small keeps is = keeps
 served_kept s id order node zone (Some first) small keeps is =
     taken_kept s id order first node small keeps (picked_set s.frames order first node zone keeps.low is)
 
-asked_kept : (s : State) (id order node : ℕ) (zone : Zone) (o : Option Held) → order ≤ 10 → AreHeldApart s → AreHeldApart (unless_taken s id order node zone o).1
+asked_kept : (s : State) (id order node : ℕ) (zone : Zone) (o : Option Held) → order ≤ 10 → AreHeldApart s
+    → AreHeldApart (unless_taken s id order node zone o).1
 asked_kept s id order node zone (Some what) small keeps = keeps
 asked_kept s id order node zone None small keeps = served_kept s id order node zone (first_picked s.frames node zone order) small keeps refl
 

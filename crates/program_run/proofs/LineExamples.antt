@@ -78,7 +78,8 @@ long_lines : (refusal_line None (refusals.Faulty inputs.CommandLine faults.TooLo
     × (refusal_line None (refusals.Faulty inputs.CommandLine faults.LineTooLong) ≡ codes "bootmem: cmdline: line too long\n")
 long_lines = (refl, refl)
 
-plain_lines : (refusal_line None (refusals.Faulty inputs.ZeroPage (faults.ZeroPage zero.TooFew)) ≡ codes "bootmem: zeropage: too few entries\n")
+plain_lines : (refusal_line None (refusals.Faulty inputs.ZeroPage (faults.ZeroPage zero.TooFew))
+    ≡ codes "bootmem: zeropage: too few entries\n")
     × (whole_line (codes "e820ext") (codes "header") ≡ codes "bootmem: e820ext: header\n")
 plain_lines = (refl, refl)
 

@@ -98,7 +98,8 @@ reaches_examples : ReachesFile inputs.Extension text × (ReachesFile inputs.Exte
     × (ReachesFile {Y = ℕ} inputs.Extension (Err reasons.Usage) → ⊥)
 reaches_examples = (tt, (λ comes. omega (arith, comes)), λ comes. comes)
 
-file_fits : FitsFile (refusals.Faulty inputs.ZeroPage (faults.ZeroPage zero.TooFew)) too_few × FitsFile (refusals.Unread inputs.CommandLine) text
+file_fits : FitsFile (refusals.Faulty inputs.ZeroPage (faults.ZeroPage zero.TooFew)) too_few
+    × FitsFile (refusals.Unread inputs.CommandLine) text
 file_fits = (refl, tt)
 
 reason_fits : FitsReason {Y = ℕ} (reasons.Stopped causes.NoRam) (Err (reasons.Stopped causes.NoRam)) × (FitsReason reasons.Usage text → ⊥)

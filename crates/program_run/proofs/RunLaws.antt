@@ -76,7 +76,8 @@ ends_wanting (Err (reasons.Refused (refusals.Unread other))) = inr refl
 ends_wanting (Err (reasons.Refused (refusals.Faulty other fault))) = inr (inr refl)
 ends_wanting (Err (reasons.Stopped cause)) = inr (inr refl)
 
-ends_by : (said : Result (List ℕ) Reason) (end : End) (old new : Option (List ℕ)) → Writes old new end said → MayEndWith said (status_of_end end)
+ends_by : (said : Result (List ℕ) Reason) (end : End) (old new : Option (List ℕ)) → Writes old new end said
+    → MayEndWith said (status_of_end end)
 ends_by (Ok text) (Ok done) old new writes = inl refl
 ends_by (Err reason) (Ok done) old new writes = absurd writes
 ends_by said (Err (failures.NoReport reasons.Usage)) old new writes =

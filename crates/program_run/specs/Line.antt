@@ -24,8 +24,8 @@ use Rattle.program_run.specs.declared.failure.Failure.{Failure}
 use Rattle.program_run.specs.declared.failure.Failure.TheVariants as failures
 use Rattle.program_words.specs.Words.{Wanted}
 
--- of the input of that name: a fault of the whole file, of an entry or a descriptor, which are numbered from 0, of a word or of a line, which are
--- numbered from 1, and of what stands at an offset in bytes
+-- of the input of that name: a fault of the whole file, of an entry or a descriptor, which are numbered from 0, of a word or of a
+-- line, which are numbered from 1, and of what stands at an offset in bytes
 abbrev pub whole_line : List ℕ → List ℕ → List ℕ
 whole_line name what = codes "bootmem: " ++ (name ++ (codes ": " ++ (what ++ codes "\n")))
 

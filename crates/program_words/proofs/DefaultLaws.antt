@@ -110,7 +110,8 @@ adds rule rows full = by_row (has_row rule.id rows) refl
         → Adds rule rows (default_rows rule.id (reading_by rule) defaults rows)
     by_default [] none is = record { full = full; values = λ argument. rw is (unset argument (bytes_eq rule.id argument)) }
       where
-        unset : (argument : List ℕ) (same : Bool) → value_in rows argument ≡ option_or (value_in rows argument) (if same then None else None)
+        unset : (argument : List ℕ) (same : Bool) → value_in rows argument ≡ option_or (value_in rows argument)
+          (if same then None else None)
         unset argument true = or_none (value_in rows argument)
         unset argument false = or_none (value_in rows argument)
     by_default (v ∷ vs) none is =

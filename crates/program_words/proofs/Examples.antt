@@ -101,7 +101,8 @@ unfolding program clap_on_literals
 all_words = refl
 
 -- both flags, and two mirrored ranges of which one is no whole frame
-flag_words : asked (codes "--bottom-up" ∷ codes "--mirror" ∷ codes "4095,8193:1,4096" ∷ codes "zp" ∷ codes "--report=map" ∷ codes "--la57" ∷ [])
+flag_words : asked (codes "--bottom-up" ∷ codes "--mirror" ∷ codes "4095,8193:1,4096" ∷ codes "zp" ∷ codes "--report=map"
+    ∷ codes "--la57" ∷ [])
     ≡ Some (record map_of_zp {
       begun = record (begun Bits52 default_kernel) { mirrors = record { first = 1; count = 2 } ∷ []; upward = true };
     })
@@ -219,17 +220,20 @@ made_examples = (refl, refl, refl)
 -- the least image, and the last one; one frame too few, half a frame, and a frame too far, which isn't too far for 52 bits
 image_examples : (kernel_in Bits46 (codes "1M,8K") ≡ Some (record { base = 0x100000; size = 8192 }))
     × (kernel_in Bits46 (codes "0x3FFFFFFFE000,8192") ≡ Some (record { base = 0x3FFFFFFFE000; size = 8192 }))
-    × (kernel_in Bits46 (codes "1M,4K") ≡ None) × (kernel_in Bits46 (codes "0x100800,32M") ≡ None) × (kernel_in Bits46 (codes "0x3FFFFFFFF000,8192") ≡ None)
+    × (kernel_in Bits46 (codes "1M,4K") ≡ None) × (kernel_in Bits46 (codes "0x100800,32M") ≡ None)
+    × (kernel_in Bits46 (codes "0x3FFFFFFFF000,8192") ≡ None)
     × (kernel_in Bits52 (codes "0x3FFFFFFFF000,8192") ≡ Some (record { base = 0x3FFFFFFFF000; size = 8192 }))
     × (kernel_in Bits52 (codes "0xFFFFFFFFFF000,8192") ≡ None)
 image_examples = (refl, refl, refl, refl, refl, refl, refl)
 
 -- one comma, and a size on each side of it that takes all that stands there
-comma_examples : (kernel_in Bits46 (codes "16M") ≡ None) × (kernel_in Bits46 (codes "16M,32M,") ≡ None) × (kernel_in Bits46 (codes " 16M,32M") ≡ None)
+comma_examples : (kernel_in Bits46 (codes "16M") ≡ None) × (kernel_in Bits46 (codes "16M,32M,") ≡ None)
+    × (kernel_in Bits46 (codes " 16M,32M") ≡ None)
     × (kernel_in Bits46 (codes "16M,") ≡ None) × (kernel_in Bits46 (codes "16E,32M") ≡ None)
 comma_examples = (refl, refl, refl, refl, refl)
 
-kernel_examples : (kernel_of Bits46 None ≡ Some default_kernel) × (kernel_of Bits46 (Some (codes "0x1000000,0x2000000")) ≡ Some default_kernel)
+kernel_examples : (kernel_of Bits46 None ≡ Some default_kernel)
+    × (kernel_of Bits46 (Some (codes "0x1000000,0x2000000")) ≡ Some default_kernel)
     × (if_kernel Bits46 (record { base = 0; size = 0x2000000 }) ≡ None)
 kernel_examples = (refl, refl, refl)
 
@@ -253,7 +257,8 @@ flag_examples : (is_flag (codes "la57") ≡ true) × (is_flag (codes "bottom-up"
     × (text_in (flag (codes "la57")) ≡ codes "true")
 flag_examples = (refl, refl, refl, refl, refl, refl, refl, refl, refl)
 
-width_examples : (width_in (spelled_values (flag (codes "la57") ∷ [])) ≡ Bits52) × (width_in (spelled_values (named (codes "zp") ∷ [])) ≡ Bits46)
+width_examples : (width_in (spelled_values (flag (codes "la57") ∷ [])) ≡ Bits52)
+    × (width_in (spelled_values (named (codes "zp") ∷ [])) ≡ Bits46)
     × (is_on (spelled_values (flag (codes "bottom-up") ∷ [])) (codes "bottom-up") ≡ true)
     × (is_on (spelled_values (flag (codes "la57") ∷ [])) (codes "bottom-up") ≡ false)
 width_examples = (refl, refl, refl, refl)
@@ -292,6 +297,7 @@ spelling_examples : (argument_in (named (codes "zp")) ≡ codes "ZEROPAGE") × (
     × (text_in (named (codes "zp")) ≡ codes "zp") × (text_in (joined (codes "make") (codes "5")) ≡ codes "5")
 spelling_examples = (refl, refl, refl, refl)
 
-value_examples : (spelled_values three_spellings (codes "script") ≡ Some (codes "-s")) × (spelled_values three_spellings (codes "kernel") ≡ None)
+value_examples : (spelled_values three_spellings (codes "script") ≡ Some (codes "-s"))
+    × (spelled_values three_spellings (codes "kernel") ≡ None)
     × (spelled_values three_spellings (codes "ZEROPAGE") ≡ Some (codes "zp"))
 value_examples = (refl, refl, refl)

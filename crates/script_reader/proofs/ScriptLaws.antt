@@ -75,7 +75,8 @@ pub bounds_on : (number : ℕ) (act : Option Act) → IfSome act HasBounds → (
     → All IsBounded (ls ++ option_to_list (line_at number act))
 bounds_on number act bounds ls all = All-append IsBounded ls _ all (bounded_line number act bounds)
 
-some_in_front : {L : Type 0} (front : List L) (line : Option L) → (0 < length front) ⊎ IsSome line → 0 < length (front ++ option_to_list line)
+some_in_front : {L : Type 0} (front : List L) (line : Option L) → (0 < length front) ⊎ IsSome line
+    → 0 < length (front ++ option_to_list line)
 some_in_front front None some = elim some [ inl more ↦ rw (length-append front []) (omega (arith, more)) | inr is ↦ cc is ]
 some_in_front front (Some line) some = rw (length-append front (option_to_list (Some line))) (omega arith)
 

@@ -76,12 +76,14 @@ zone n = record { node = n; zone = zones.Dma32 }
 abbrev low_zone : ListZone
 low_zone = record { node = 0; zone = zones.Dma }
 
-told_examples : (used_of nodes ≡ uses.Used) × (where_used (uses.NotValid 1 0) (Some three) ≡ None) × (told (Some three) (Some 1) (Some 0) ≡ Some 30)
+told_examples : (used_of nodes ≡ uses.Used) × (where_used (uses.NotValid 1 0) (Some three) ≡ None)
+    × (told (Some three) (Some 1) (Some 0) ≡ Some 30)
     × (told (Some three) (Some 1) (Some 3) ≡ None) × (told (Some three) None (Some 0) ≡ None) × (told None (Some 1) (Some 0) ≡ None)
     × (own_distance 3 3 ≡ 10) × (own_distance 3 0 ≡ 20)
 told_examples = (refl, refl, refl, refl, refl, refl, refl, refl)
 
-distance_examples : (distance_in nodes 0 2 ≡ 30) × (distance_in nodes 2 0 ≡ 40) × (distance_in nodes 0 1 ≡ 20) × (distance_in nodes 1 1 ≡ 10)
+distance_examples : (distance_in nodes 0 2 ≡ 30) × (distance_in nodes 2 0 ≡ 40) × (distance_in nodes 0 1 ≡ 20)
+    × (distance_in nodes 1 1 ≡ 10)
     × (distance_in nodes 3 0 ≡ 20)
 distance_examples = (refl, refl, refl, refl, refl)
 
@@ -94,7 +96,8 @@ order_examples : (entry_of low_span ≡ low_zone) × (put_in (zone 0) (low_zone 
     × (with_node (0 ∷ []) low_zone ≡ 0 ∷ []) × (nodes_of (zone 0 ∷ low_zone ∷ zone 2 ∷ []) ≡ 0 ∷ 2 ∷ [])
 order_examples = (refl, refl, refl, refl, refl)
 
-lower_examples : IsLower (zone 0) low_zone × IsLower low_zone (zone 1) × IsNearer nodes 2 (zone 2) (zone 0) × IsNearer nodes 0 (zone 1) (zone 2)
+lower_examples : IsLower (zone 0) low_zone × IsLower low_zone (zone 1) × IsNearer nodes 2 (zone 2) (zone 0)
+    × IsNearer nodes 0 (zone 1) (zone 2)
 lower_examples = (inr (refl, omega arith), inl (omega arith), inl (omega arith), inl (omega arith))
 
 -- node 1 is of no distance that is told, so that both others are as far

@@ -123,7 +123,8 @@ roots-fail e width q sections old new request h =
     (λ table. roots_listed sections >>= λ places. returns (record { table = table; roots = places }))
     (subst (λ (r : Request). EndsAs {A = ℕ} stop.Memory (Err e) old new (placed what.Roots r owner.Roots old)) request h)
 
-roots-behind : (r : Result RootsPlaced StageStop) (table : ℕ) (width : Width) (q : Request) (sections : List Section) (old mid new : List Item)
+roots-behind : (r : Result RootsPlaced StageStop) (table : ℕ) (width : Width) (q : Request) (sections : List Section)
+    (old mid new : List Item)
     → q ≡ small_request (root_table_of width) None → EndsAs stop.Memory (Ok table) old mid (placed what.Roots q owner.Roots old)
     → EndsAs stop.Memory r mid new ((roots_listed sections
     >>= λ places. returns (record { table = table; roots = places })) mid)

@@ -96,7 +96,8 @@ begun-appended items (s ∷ ss) begun = begun-appended (items ++ s) ss (begun-ap
 begun_by : {E A : Type 0} (e wanting : E) (old new : List Item) (d : Done E A) → HasBegun old
     → ((d.answer ≡ Err e) × (new ≡ after old d)) ⊎ ((e ≡ wanting) × IsCutShort old new d.steps) → HasBegun new
 begun_by e wanting old new d begun (inl told) = subst HasBegun (sym told.1) (begun-appended old d.steps begun)
-begun_by e wanting old new d begun (inr cut) = subst HasBegun (sym cut.1.stands) (begun-append old (joined (take cut.1.count d.steps)) begun)
+begun_by e wanting old new d begun (inr cut) =
+    subst HasBegun (sym cut.1.stands) (begun-append old (joined (take cut.1.count d.steps)) begun)
 
 pub ends-begun : {E A : Type 0} (r : Result A E) (wanting : E) (old new : List Item) (d : Done E A) → HasBegun old
     → EndsAs wanting r old new d → HasBegun new

@@ -13,8 +13,8 @@ use Rattle.debugfs_reports.proofs.summary.summary_of.Goals as goal
 abbrev no_row : BlockRow
 no_row = record { order = 0; first = 0; count = 0; node = 0; zone = zone.Dma }
 
-pub frames_of-free-requires : goal.frames_of-free-requires
-frames_of-free-requires c =
+pub frames_in_row-free-requires : goal.frames_in_row-free-requires
+frames_in_row-free-requires c =
     let rows = c.deref-row-items.result.now in
     let l = c.loop-row in
     let is : blocks_of_rows rows ≡ blocks_of (free c.args.booted.now.buddy) =
@@ -31,7 +31,7 @@ overflow_add-free c =
     ap (λ (rs : List BlockRow). blocks_of_rows rs) c.deref-row-items.ensures.value ∙ c.in_ok-rows.ensures.blocks in
     let few = (counted_few rows l.row-index l.free l.blocks (free c.args.booted.now.buddy) is l.invariant).0 in
     let left = (row_left rows l.row-index no_row c.loop-row-test.true).0 in
-    let more = c.frames_of-free.ensures in
+    let more = c.frames_in_row-free.ensures in
     omega (arith, few, left, more)
 
 pub overflow_add-blocks : goal.overflow_add-blocks
@@ -46,7 +46,7 @@ overflow_add-blocks c =
 
 pub loop-row-preserved : goal.loop-row-preserved
 loop-row-preserved c =
-    row_more c.deref-row-items.result.now c.loop-row.row-index _ _ _ no_row c.loop-row-test.true c.frames_of-free.ensures
+    row_more c.deref-row-items.result.now c.loop-row.row-index _ _ _ no_row c.loop-row-test.true c.frames_in_row-free.ensures
     c.loop-row.invariant
 
 pub returns : goal.returns

@@ -5,4 +5,5 @@ use Rattle.stage_texts.specs.ListsText.{entry_text}
 use Rattle.stage_texts.proofs.lists.put_entries.Given as goal
 
 abbrev pub invariant-loop-entry : goal.invariant-loop-entry
-invariant-loop-entry l = l.text.items ++ flat_map entry_text (drop l.entry-index l.zones) ≡ l.initial.text.items ++ flat_map entry_text l.zones
+invariant-loop-entry l = l.text.items ++ flat_map entry_text (drop l.entry-index l.zones) ≡ l.initial.text.items
+    ++ flat_map entry_text l.zones

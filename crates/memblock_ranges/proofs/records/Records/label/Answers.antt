@@ -13,4 +13,5 @@ label_of-requires c =
     omega arith
 
 pub returns : goal.returns
-returns c r = c.label_of.ensures ∙ ap (λ (g : Region). label_of g.flags g.node) (c.get-region.ensures.region r) ∙ (c.get-region.ensures.fits r).back
+returns c r = c.label_of.ensures ∙ ap (λ (g : Region). label_of g.flags g.node) (c.get-region.ensures.region r)
+    ∙ (c.get-region.ensures.fits r).back
