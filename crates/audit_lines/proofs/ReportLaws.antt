@@ -36,7 +36,7 @@ module _ {L : Type 0} (form : ℕ → List ℕ → Option L) (extent : L → Ext
 
   -- a line that has a fault
   pub line_faulty : (front : List L) (index at : ℕ) (split : Split) (text : List ℕ) (texts : List (List ℕ)) (left : List ℕ)
-    (fault : LineFault)
+      (fault : LineFault)
       (said : Result (List L) LineFault)
       → split ≡ (text ∷ texts, left) → line_at form extent index at text ≡ Err fault
       → in_front front (report_from form extent index at split.0 split.1) ≡ said → said ≡ Err fault

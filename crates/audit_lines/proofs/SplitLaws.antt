@@ -24,7 +24,7 @@ glued_end (a ∷ front) = ap (with_byte a) (glued_end front)
 -- a newline ends the bytes before it as a line
 pub newline_found : (text : List ℕ) (i : ℕ) → i < length text → get_or text i 0 ≡ 10
     → glued (take i text) (split_lines (drop i text))
-      ≡ (take i text ∷ (split_lines (drop (i + 1) text)).0, (split_lines (drop (i + 1) text)).1)
+    ≡ (take i text ∷ (split_lines (drop (i + 1) text)).0, (split_lines (drop (i + 1) text)).1)
 unfolding split_lines
 newline_found text i inside is =
     rw (add-one, drop-cons text i 0 inside, eq-eqb (get_or text i 0) 10 is)

@@ -107,7 +107,7 @@ module _ (limit : ℕ) (map_lines : List MapLine) (owners : List Extent) where
         (lost_says (is_free_byte limit map_lines owners x) (in_block_byte blocks x) (each x above below)).0) in
         let first : in_block_byte blocks (4096 * f) ≡ false =
         (lost_says (is_free_byte limit map_lines owners (4096 * f)) (in_block_byte blocks (4096 * f))
-          (each (4096 * f) (omega arith) (omega arith))).1 in
+        (each (4096 * f) (omega arith) (omega arith))).1 in
         let out : in_a_block blocks f ≡ false = sym (in_block_is f (4096 * f) (omega arith) (omega arith)) ∙ first in
         and_from (is_free limit map_lines owners f) (not (in_a_block blocks f)) free (ap not out)
 
@@ -142,7 +142,7 @@ module _ (limit : ℕ) (map_lines : List MapLine) (owners : List Extent) where
     free_by f true in_it none =
         let free : is_free limit map_lines owners f ≡ true = all_free f (λ x above below.
         free_in_block (is_free_byte limit map_lines owners x) (in_block_byte blocks x) (in_block_is f x above below ∙ in_it)
-          (none x above below)) in
+        (none x above below)) in
         ap (λ (u : Bool). in_a_block blocks f && not u) free ∙ and-false (in_a_block blocks f)
 
     pub bytes_tell : Tells (state_at limit map_lines owners blocks) (is_lost limit map_lines owners blocks)

@@ -308,7 +308,7 @@ walked front (b ∷ bs) last from line known start order =
     ∙ ap (line_by (could_join (front ++ (b ∷ bs)) b) line) others
   where
     next_starts : (cs : List Block) → StartFrom (end b) (map frames_of_block cs) → (c : Block) (ds : List Block) → cs ≡ c ∷ ds
-      → end b ≤ first c
+        → end b ≤ first c
     next_starts cs starts c ds is = let begun : StartFrom (end b) (map frames_of_block (c ∷ ds)) = rw is at starts in begun
 
 pub walk_is : (blocks : List Block) → AscendApart (map frames_of_block blocks)

@@ -86,7 +86,7 @@ later_keep given = (
         lines_map given.kernel (before_sections given.lines),
         (
           steps_keep (λ (made : BootSoFar). made.map) cause_of_stage put_sections (places_of_sections given.width) (λ a m. refl)
-            (λ before. refl),
+              (λ before. refl),
           (lines_map given.kernel (behind_sections given.lines), tt),
         ),
       ),

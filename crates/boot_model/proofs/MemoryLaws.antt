@@ -193,13 +193,13 @@ memory_made given made ends =
     let map : judged.middle.map ≡ map_of (claims given) =
     chain_keeps (λ (m : BootSoFar). m.map) (map_stages given) (map_keep given) (begin given) judged.middle judged.first in
     let passed = items_passed (carried_out (first_items (early_of given) judged.middle.map) judged.middle.items)
-      judged.middle behind.middle behind.first in
+    judged.middle behind.middle behind.first in
     record {
       first = behind.middle;
       carried = rw (nothing, map) at passed.0;
       memory = chain_keeps held_by (drop 1 (later_stages given)) (memory_keep given) behind.middle made behind.rest;
       limit = chain_keeps (λ (m : BootSoFar). limit_of m.items) (drop 1 (later_stages given))
-        (limit_keep given) behind.middle made behind.rest;
+          (limit_keep given) behind.middle made behind.rest;
     }
 
 -- the map gives the types within reach

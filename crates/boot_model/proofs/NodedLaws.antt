@@ -129,7 +129,7 @@ noded_told given made ends =
     let passed = items_passed (carried_out (first_items (early_of given) judged_map.middle.map)
     judged_map.middle.items) judged_map.middle behind.middle behind.first in
     let first : IsFirstMemory (reach given) behind.middle.items =
-      first_known given judged_map.middle behind.middle.items judged_map.first passed.0 in
+    first_known given judged_map.middle behind.middle.items judged_map.first passed.0 in
     let nodes = passes (has_nodes given) (drop 2 (later_stages given)) behind.middle made behind.rest in
     let noded : IsNoded (reach given) (labels_by nodes.middle) = nodes_known given behind.middle nodes.middle first nodes.first in
     subst (λ (f : Labels). IsNoded (reach given) f)

@@ -421,14 +421,24 @@ nothing_to_keep : (m : Memory) → KeepsItems {A = Edit} (Err m) [] → ⊥
 nothing_to_keep m wanting = omega arith
 
 abbrev half_read : Memory → Reading
-half_read m = record { edits = Err m; crash = record { plain = None; high = None; low = None }; numa_off = true; add_efi = false;
-    user_map = None }
+half_read m = record {
+  edits = Err m;
+  crash = record { plain = None; high = None; low = None };
+  numa_off = true;
+  add_efi = false;
+  user_map = None;
+}
 
 -- all but the edits it has, also without memory
 at_a_state_without_memory : (m : Memory) → IsReadTo (half_read m) (after 1 (after_map_option 1 start (Other (Some Clear))) NumaOff)
 at_a_state_without_memory m =
-    record { edits = omega arith; crash = record { plain = refl; high = refl; low = refl }; numa_off = refl; add_efi = refl;
-      user_map = refl }
+    record {
+      edits = omega arith;
+      crash = record { plain = refl; high = refl; low = refl };
+      numa_off = refl;
+      add_efi = refl;
+      user_map = refl;
+    }
 
 other_numa_off : (m : Memory) → IsReadTo (half_read m) (after_map_option 1 start (Other (Some Clear))) → ⊥
 other_numa_off m has = let off = has.numa_off in cc off

@@ -80,9 +80,9 @@ pub boot_failed : (r : Result Booted Failure) (failure : Failure) (stop : Stop) 
 boot_failed r failure stop files lent wanted given is from same inputs stops_so =
     let fits : FitsFailure (failure_of_stop stop) (reported wanted.reports given) =
     boot_stopped (λ (text : List ℕ). text) (Err (failure_of_stop stop))
-      (failure_of_stop stop) stop given wanted.reports refl refl stops_so in
+    (failure_of_stop stop) stop given wanted.reports refl refl stops_so in
     let fails : FailsAs (failure_of_stop stop) (reported wanted.reports given) =
-      stop_by (cause_of stop) (reported wanted.reports given) fits in
+    stop_by (cause_of stop) (reported wanted.reports given) fits in
     let behind : given_by (bytes_of lent) wanted ≡ Ok given =
     subst (λ (f : List HeldFile). given_by (bytes_of f) wanted ≡ Ok given) same inputs in
     rw (is, from, behind) fails

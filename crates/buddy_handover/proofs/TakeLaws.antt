@@ -46,7 +46,7 @@ set_fits f x n o b is small free found =
     let most = up_most f x n 10 o small free in
     let there : block_of f x ≡ Some (block_around (order_up_to f x n 10) x n) = ap (block_for f x) is in
     let same : block_around (order_up_to f x n 10) x n ≡ b = let both : Some (block_around (order_up_to f x n 10) x n) ≡ Some b =
-      sym there ∙ found in cc in
+    sym there ∙ found in cc in
     let order = ap (λ (c : Block). c.order) same in
     omega (arith, most, order)
 

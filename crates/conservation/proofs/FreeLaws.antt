@@ -100,7 +100,7 @@ module _ (given : Given) (items : List Item) (known : HasNodes given items) wher
             ∙ sym (known.memory (4096 * frame)) ∙ (each (4096 * frame) start).0;
         untouched = λ x inside. unowned (owner_of items x) (each x inside).1;
         tags = λ x inside. ap (λ o. node_of_tag (tag_for o)) (same_labels frame x inside)
-          ∙ told_tag (memory_of items (4096 * frame)) node parts.1;
+            ∙ told_tag (memory_of items (4096 * frame)) node parts.1;
       }
 
   -- the node of memory is below 1,024

@@ -168,7 +168,7 @@ line-once : (number : ℕ) (r : Result (Option Act) Wrong) (rest : Bool → Resu
 line-once number (Ok None) rest clean once = none-once number (rest false) once
 line-once number (Ok (Some a)) rest clean once =
     elim (cases_Bool (is_sections a)) as (λ _. IsOnce
-      (rest (is_sections a) >>= λ lines. Ok (cons_option (line_at number (Some a)) lines))) [
+    (rest (is_sections a) >>= λ lines. Ok (cons_option (line_at number (Some a)) lines))) [
       | inl here ↦ here-once number a (rest (is_sections a)) here (subst (λ (t : Bool). AreClean (rest t)) (sym here) clean)
       | inr later ↦ later-once number a (rest (is_sections a)) later (subst (λ (t : Bool). IsOnce (rest t)) (sym later) once)
     ]

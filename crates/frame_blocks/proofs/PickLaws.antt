@@ -143,13 +143,13 @@ found_up f n z order (suc k) b is =
             serves = record { node = told.0; zone = told.2; enough = omega (arith, order_is) };
             below = omega (arith, order_is);
             least = λ c has serves. elim (cases_lt order c.order) as (λ _. (b.order < c.order)
-              ⊎ ((b.order ≡ c.order) × (b.first ≤ c.first))) [
-              | inl lt ↦ inl (omega (arith, lt, order_is))
-              | inr le ↦
-                  let enough = serves.enough in
-                  let at : c.order ≡ order = omega (arith, le, enough) in
-                  inr (order_is ∙ sym at, it.first c has (is_of_told n z order c serves.node at serves.zone))
-            ];
+                ⊎ ((b.order ≡ c.order) × (b.first ≤ c.first))) [
+                  | inl lt ↦ inl (omega (arith, lt, order_is))
+                  | inr le ↦
+                      let enough = serves.enough in
+                      let at : c.order ≡ order = omega (arith, le, enough) in
+                      inr (order_is ∙ sym at, it.first c has (is_of_told n z order c serves.node at serves.zone))
+                ];
           }
       | inl none ↦
           let rest : IsFoundUp f n z (order + 1) k b = found_up f n z (order + 1) k b (rw none at is) in
@@ -160,13 +160,13 @@ found_up f n z order (suc k) b is =
             serves = record { node = rest.serves.node; zone = rest.serves.zone; enough = omega (arith, more) };
             below = omega (arith, below);
             least = λ c has serves. elim (cases_lt order c.order) as (λ _. (b.order < c.order)
-              ⊎ ((b.order ≡ c.order) × (b.first ≤ c.first))) [
-              | inl lt ↦ rest.least c has (record { node = serves.node; zone = serves.zone; enough = omega (arith, lt) })
-              | inr le ↦
-                  let enough = serves.enough in
-                  absurd (none_in (is_of n z order) (blocks_of f) c none has
-                  (is_of_told n z order c serves.node (omega (arith, le, enough)) serves.zone))
-            ];
+                ⊎ ((b.order ≡ c.order) × (b.first ≤ c.first))) [
+                  | inl lt ↦ rest.least c has (record { node = serves.node; zone = serves.zone; enough = omega (arith, lt) })
+                  | inr le ↦
+                      let enough = serves.enough in
+                      absurd (none_in (is_of n z order) (blocks_of f) c none has
+                      (is_of_told n z order c serves.node (omega (arith, le, enough)) serves.zone))
+                ];
           }
     ]
 

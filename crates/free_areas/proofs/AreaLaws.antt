@@ -36,8 +36,11 @@ no_buddy : (b c : Block) (low x : ℕ) → IsBuddy b low low x c → ⊥
 no_buddy b c low x it = let from = it.from in let below = it.below in absurd (omega (arith, from, below))
 
 pub has_none : (b : Block) (low x : ℕ) (bs : List Block) → HasBuddies b low low x bs bs
-has_none b low x bs c = (λ has. inr has, λ either. ⊎_elim (λ (it : IsBuddy b low low x c). absurd (no_buddy b c low x it))
-    (λ (has : Lists bs c). has) either)
+has_none b low x bs c = (
+  λ has. inr has,
+  λ either. ⊎_elim (λ (it : IsBuddy b low low x c). absurd (no_buddy b c low x it))
+      (λ (has : Lists bs c). has) either,
+)
 
 pub has_more : (b k : Block) (low at x : ℕ) (old now next : List Block) → low ≤ at → k ≡ buddy_in b at x → HasBuddies b low at x old now
     → ((c : Block) → Lists next c ↔ ((c ≡ k) ⊎ Lists now c)) → HasBuddies b low (at + 1) x old next
@@ -235,13 +238,25 @@ pub record IsLed (bs : List Block) (c : Block) : Type 0 where
 
 led_by : (k : ℕ) (f : Frames) (bs : List Block) (c : Block) → AreAreas f bs → IsBlock f c → c.first ≤ k → IsLed bs c
 led_by zero f bs c areas is low = ⊎_elim
-    (λ (has : Lists bs c). let led : IsLed bs c = record { leader = c; has = has; node = refl; zone = refl; order = refl;
-      first = omega arith } in led)
+    (λ (has : Lists bs c). let led : IsLed bs c = record {
+      leader = c;
+      has = has;
+      node = refl;
+      zone = refl;
+      order = refl;
+      first = omega arith;
+    } in led)
     (λ (follows : IsRightBehind f c). let room = follows.room in absurd (omega (arith, room, low)))
     (areas.complete c is)
 led_by (suc k) f bs c areas is low = ⊎_elim
-    (λ (has : Lists bs c). let led : IsLed bs c = record { leader = c; has = has; node = refl; zone = refl; order = refl;
-      first = omega arith } in led)
+    (λ (has : Lists bs c). let led : IsLed bs c = record {
+      leader = c;
+      has = has;
+      node = refl;
+      zone = refl;
+      order = refl;
+      first = omega arith;
+    } in led)
     (λ (follows : IsRightBehind f c).
     let room = follows.room in
     let less : (front c).first ≤ k = omega (arith, room, low) in
@@ -270,7 +285,7 @@ lists_append [] cs b has = inr has
 lists_append (d ∷ bs) cs b has = ⊎_elim
     (λ (is : d ≡ b). inl (inl is))
     (λ (rest : Lists (bs ++ cs) b). ⊎_elim (λ (one : Lists bs b). inl (inr one)) (λ (two : Lists cs b). inr two)
-      (lists_append bs cs b rest))
+    (lists_append bs cs b rest))
     has
 
 lists_left : (bs cs : List Block) (b : Block) → Lists bs b → Lists (bs ++ cs) b
@@ -324,7 +339,7 @@ only_lead r b rs only =
     let one : Lists (lead r ∷ row_from r.order (r.first + 2 ^ r.order) r.node r.zone 0) b = unfold row_from in only in
     ⊎_elim (λ (is : lead r ≡ b). inl is)
     (λ (none : Lists (row_from r.order (r.first + 2 ^ r.order) r.node r.zone 0) b). absurd
-      (let no_more : ⊥ = unfold row_from in none in no_more)) one
+    (let no_more : ⊥ = unfold row_from in none in no_more)) one
 
 -- a block of rows is the lead of one, or lies right behind another one of the greatest order
 in_rows : (rs : List BlockRow) (b : Block) → AreRows rs → Lists (blocks_of_rows rs) b
@@ -344,7 +359,7 @@ in_rows (r ∷ rs) b rows has = ⊎_elim
     inr (behind.1 ∙ ten, omega (arith, room, size), lists_left (blocks_of_row r) (blocks_of_rows rs) _ before))
     (λ (single : r.count ≡ 1).
     let only : Lists (row_from r.order r.first r.node r.zone 1) b =
-      subst (λ (k : ℕ). Lists (row_from r.order r.first r.node r.zone k) b) single one in
+    subst (λ (k : ℕ). Lists (row_from r.order r.first r.node r.zone k) b) single one in
     inl (only_lead r b rs only))
     rows.1)
     (in_row r.count r.order r.first r.node r.zone b one))
@@ -382,7 +397,7 @@ unfolding leads
 lead_dropped rs i d b few has =
     let next : i + 1 ≡ suc i = omega arith in
     let here : Lists (leads (get_or rs i d ∷ drop (suc i) rs)) b =
-      subst (λ (qs : List BlockRow). Lists (leads qs) b) (drop-cons rs i d few) has in
+    subst (λ (qs : List BlockRow). Lists (leads qs) b) (drop-cons rs i d few) has in
     ⊎_elim (λ (is : lead (get_or rs i d) ≡ b). inl is)
     (λ (rest : Lists (leads (drop (suc i) rs)) b). inr (subst (λ (j : ℕ). Lists (leads (drop j rs)) b) (sym next) rest)) here
 
@@ -422,4 +437,4 @@ pub leads_all : (f : Frames) (rs : List BlockRow) (i : ℕ) (bs : List Block) �
 leads_all f rs i bs low rows all end has =
     leads_done f rs bs low rows all has.sound
     (λ b leading. ⊎_elim (λ (was : Lists bs b). was) (λ (left : Lists (leads (drop i rs)) b). absurd (lead_none rs i b end left))
-      (has.complete b leading))
+    (has.complete b leading))

@@ -48,7 +48,7 @@ area_examples : AreAreas lone (lone_block ∷ []) × (AreAreas lone [] → ⊥)
 area_examples = (
   record {
     sound = λ b has. ⊎_elim (λ (is : lone_block ≡ b). subst (λ (c : Block). IsBlock lone c) is lone_is_block)
-      (λ (none : ⊥). absurd none) has;
+        (λ (none : ⊥). absurd none) has;
     complete = λ b is. inl (inl (lone_alone b is));
   },
   λ areas. ⊎_elim (λ (none : ⊥). none) (λ (follows : IsRightBehind lone lone_block). let ten = follows.great in absurd (omega (arith, ten)))

@@ -206,18 +206,18 @@ between b lo hi node_is zone_is above below =
     (λ (lt : nat_cmp lo.node b.node ≡ Less). let low = number_less lo.node b.node lt in ⊎_elim
     (λ (gt : nat_cmp b.node hi.node ≡ Less). let high = number_less b.node hi.node gt in absurd (omega (arith, low, high, node_is)))
     (λ (eq : (nat_cmp b.node hi.node ≡ Equal)
-      × (ordering_then (zone_cmp b.zone hi.zone) (ordering_then (nat_cmp b.order hi.order) (nat_cmp b.first hi.first)) ≡ Less)).
+    × (ordering_then (zone_cmp b.zone hi.zone) (ordering_then (nat_cmp b.order hi.order) (nat_cmp b.first hi.first)) ≡ Less)).
     let same = number_equal b.node hi.node eq.0 in absurd (omega (arith, low, same, node_is)))
     two)
     (λ (eq : (nat_cmp lo.node b.node ≡ Equal)
-      × (is_gt (ordering_then (zone_cmp lo.zone b.zone) (ordering_then (nat_cmp lo.order b.order) (nat_cmp lo.first b.first))) ≡ false)).
+    × (is_gt (ordering_then (zone_cmp lo.zone b.zone) (ordering_then (nat_cmp lo.order b.order) (nat_cmp lo.first b.first))) ≡ false)).
     let same = number_equal lo.node b.node eq.0 in
     (eq.0, ap (λ m. nat_cmp m hi.node) (sym same ∙ node_is) ∙ number_self hi.node))
     one in
     let in_one : is_gt (ordering_then (zone_cmp lo.zone b.zone) (ordering_then (nat_cmp lo.order b.order) (nat_cmp lo.first b.first)))
-      ≡ false = rw nodes.0 at above in
+    ≡ false = rw nodes.0 at above in
     let in_two : ordering_then (zone_cmp b.zone hi.zone) (ordering_then (nat_cmp b.order hi.order) (nat_cmp b.first hi.first)) ≡ Less =
-      rw nodes.1 at below in
+    rw nodes.1 at below in
     let node_here : b.node ≡ lo.node = sym (number_equal lo.node b.node nodes.0) in
     ⊎_elim
     (λ (lt : zone_cmp lo.zone b.zone ≡ Less).

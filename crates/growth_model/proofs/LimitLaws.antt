@@ -92,7 +92,7 @@ growth-limited items (Some place) is =
     let moves : Item = item.Grown which.Memory place (2 * room) in
     let last : Change = leave (old_frames room old) in
     let high : place + in_whole_frames (48 * room) ≤ limit_of items =
-      (found-fits items (table_query room 0 (limit_of items)) place is).high in
+    (found-fits items (table_query room 0 (limit_of items)) place is).high in
     let throughout : EachCut (LiesAt old room) items (first items).steps =
     claimed-stays old room (frames_at place (48 * room)) (owner.Table which.Memory) items (refl, refl) in
     let u : List Item = after items (first items) in

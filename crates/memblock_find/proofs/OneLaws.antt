@@ -37,7 +37,7 @@ pub top_says : (items : List Item) (t : Contents) (q : Query) (mirror : Bool)
     → NothingFrom (2 ^ 64) (table_of which.Memory items) → NothingFrom (2 ^ 64) (table_of which.Reserved items)
     → t.memory.records ≡ records_of which.Memory items → t.reserved.records ≡ records_of which.Reserved items
     → top_in (record { mirror = mirror; up = upward_of items }) (value_at t.memory.records) (value_at t.reserved.records) q
-      ≡ top items q mirror
+    ≡ top items q mirror
 unfolding top
 top_says items t q mirror memory_ends reserved_ends memory reserved =
     ap (λ (f : Labels). top_in (record { mirror = mirror; up = upward_of items }) f (value_at t.reserved.records) q)

@@ -141,9 +141,9 @@ best_between mirror memory reserved q from until a label found some window known
         high = omega arith;
         held = ap is_some first;
         allowed = ap (λ (o : Option Label). allows q.node o) first
-          ∙ (and_parts (allows q.node (Some found)) (suits mirror (Some found)) served).0;
+            ∙ (and_parts (allows q.node (Some found)) (suits mirror (Some found)) served).0;
         suited = ap (λ (o : Option Label). suits mirror o) first
-          ∙ (and_parts (allows q.node (Some found)) (suits mirror (Some found)) served).1;
+            ∙ (and_parts (allows q.node (Some found)) (suits mirror (Some found)) served).1;
         label = λ x above under. (there x above under).0 ∙ sym first;
         free = λ x above under. (there x above under).1;
       });

@@ -332,7 +332,7 @@ far-moved w items place room small twice moved p is =
     let wide : 24 * room_of w (items ++ i ∷ []) ≡ 48 * room_of w items =
     ap (λ (n : ℕ). 24 * n) (room_of-push w items i ∙ twice) ∙ omega arith in
     subst (λ (n : ℕ). p + in_whole_frames n < 2 ^ 64) (sym wide)
-      (subst (λ (n : ℕ). n + in_whole_frames (48 * room_of w items) < 2 ^ 64) here small)
+    (subst (λ (n : ℕ). n + in_whole_frames (48 * room_of w items) < 2 ^ 64) here small)
 
 far-unmoved : (v w : Which) (kernel : Extent) (items : List Item) (place room : ℕ) (t : Contents) (at : Aim) → AreKept kernel items t at
     → room_after v (room_of v items) (item.Grown w place room) ≡ room_of v items

@@ -201,17 +201,17 @@ unfit : (mirror : Bool) (memory reserved : Labels) (q : Query) (a : ℕ) → fit
     → fits_in mirror memory reserved q a ≡ false
 unfit mirror memory reserved q a fails =
     elim (cases_Bool (fits_in mirror memory reserved q a)) as (λ _. fits_in mirror memory reserved q a ≡ false) [
-  | inl fits ↦ absurd (true≢false (sym (fits_unmirrored mirror memory reserved q a fits) ∙ fails))
-  | inr none ↦ none
-]
+      | inl fits ↦ absurd (true≢false (sym (fits_unmirrored mirror memory reserved q a fits) ∙ fails))
+      | inr none ↦ none
+    ]
 
 unsuited : (mirror : Bool) (memory reserved : Labels) (q : Query) (a : ℕ) → suits mirror (memory a) ≡ false
     → fits_in mirror memory reserved q a ≡ false
 unsuited mirror memory reserved q a fails =
     elim (cases_Bool (fits_in mirror memory reserved q a)) as (λ _. fits_in mirror memory reserved q a ≡ false) [
-  | inl fits ↦ absurd (true≢false (sym (fits_in-parts mirror memory reserved q a fits).suited ∙ fails))
-  | inr none ↦ none
-]
+      | inl fits ↦ absurd (true≢false (sym (fits_in-parts mirror memory reserved q a fits).suited ∙ fails))
+      | inr none ↦ none
+    ]
 
 -- of two answers there is none, or one
 or_none : (a b : Option ℕ) → option_or a b ≡ None → a ≡ None
@@ -361,10 +361,10 @@ pub best_in-fits : (up : Bool) (memory reserved : Labels) (q : Query) (a : ℕ) 
 unfolding best_in
 best_in-fits up memory reserved q a h =
     elim (either (top_in (record { mirror = true; up = up }) memory reserved q)
-      (top_in (record { mirror = false; up = up }) memory reserved q) a h)
+    (top_in (record { mirror = false; up = up }) memory reserved q) a h)
     as (λ _. fits_in false memory reserved q a ≡ true) [
       | inl mirrored ↦ fits_unmirrored true memory reserved q a
-        (top_in-fits (record { mirror = true; up = up }) memory reserved q a mirrored)
+          (top_in-fits (record { mirror = true; up = up }) memory reserved q a mirrored)
       | inr other ↦ top_in-fits (record { mirror = false; up = up }) memory reserved q a other
     ]
 
@@ -373,14 +373,14 @@ pub best_in-none : (up : Bool) (memory reserved : Labels) (q : Query) → best_i
 unfolding best_in
 best_in-none up memory reserved q h b lt = top_in-none (record { mirror = false; up = up }) memory reserved q
     (neither (top_in (record { mirror = true; up = up }) memory reserved q)
-      (top_in (record { mirror = false; up = up }) memory reserved q) h) b lt
+    (top_in (record { mirror = false; up = up }) memory reserved q) h) b lt
 
 pub best_in-fails : (up : Bool) (memory reserved : Labels) (q : Query) → ((b : ℕ) → b < 2 ^ 64 → fits_in false memory reserved q b ≡ false)
     → best_in up memory reserved q ≡ None
 unfolding best_in
 best_in-fails up memory reserved q none =
     let mirrored : top_in (record { mirror = true; up = up }) memory reserved q ≡ None =
-      top_in-fails (record { mirror = true; up = up }) memory reserved q
+    top_in-fails (record { mirror = true; up = up }) memory reserved q
     (λ b lt. unfit true memory reserved q b (none b lt)) in
     rw mirrored (top_in-fails (record { mirror = false; up = up }) memory reserved q none)
 

@@ -96,7 +96,7 @@ behind_flags : (base size flags node : ℕ) → drop 20 (fields_of base size fla
 unfolding fields_of
 behind_flags base size flags node =
     behind_three (little_bytes 8 base) (little_bytes 8 size) (little_bytes 4 flags) (little_bytes 4 node) (long8 base) (long8 size)
-      (long4 flags)
+    (long4 flags)
 
 -- what was written is read back
 pub base-fields_of : (base size flags node : ℕ) → base < 2 ^ 64 → base_in (fields_of base size flags node) ≡ base
@@ -108,7 +108,7 @@ pub size-fields_of : (base size flags node : ℕ) → size < 2 ^ 64 → size_in 
 unfolding size_in
 size-fields_of base size flags node small =
     ap (little_number 8) (behind_base base size flags node) ∙ little_number-reads_back 8 size
-      (little_bytes 4 flags ++ little_bytes 4 node) small
+    (little_bytes 4 flags ++ little_bytes 4 node) small
 
 pub flags-fields_of : (base size flags node : ℕ) → flags < 2 ^ 32 → flags_in (fields_of base size flags node) ≡ flags
 unfolding flags_in
@@ -151,6 +151,6 @@ is_record r fits =
       spells = sym (ap (λ (g : Region). fields_of g.base g.size g.flags g.node) is);
       within = subst (λ (g : Region). g.base + g.size < 2 ^ 64) (sym is) fits.small;
       flags = ap (λ (g : Region). g.flags) is
-        ∙ sym (ap (λ (l : Label). flags_field l) (ap (λ (g : Region). label_of g.flags g.node) is ∙ fits.back));
+          ∙ sym (ap (λ (l : Label). flags_field l) (ap (λ (g : Region). label_of g.flags g.node) is ∙ fits.back));
       node = subst (λ (g : Region). g.node ≤ 1024) (sym is) fits.node;
     }

@@ -344,7 +344,7 @@ apart_blocks ks none a b x in_a in_b lies_a lies_b =
     let at_a : lies_in one.0.block x ≡ true = ap (λ (c : NumaBlock). lies_in c x) (sym one.2) ∙ lies_a in
     let at_b : lies_in two.0.block x ≡ true = ap (λ (c : NumaBlock). lies_in c x) (sym two.2) ∙ lies_b in
     ap (λ (c : NumaBlock). c.value) one.2 ∙ kept_apart ks none one.0 two.0 x one.1 two.1 at_a at_b
-      ∙ ap (λ (c : NumaBlock). c.value) (sym two.2)
+    ∙ ap (λ (c : NumaBlock). c.value) (sym two.2)
 
 -- so the joined runs of blocks of which no two clash are the runs of what each address has
 pub joined_kept : (ks : List KeptBlock) (laid rs joined : List NumaBlock) → first_clash ks ≡ None → HaveAddresses (numa_blocks_of ks)

@@ -240,5 +240,5 @@ behind-answer table off items noded answered =
     subst (λ (start : List Item). (from start).answer ≡ Ok noded → IsBehind items found (after start (from start)) noded)
     (sym (append-nil items))
     (λ told. ended-by items found noded (in_turn given tt ranges items) (in_turn given tt ranges items).answer
-      (turn-memory ranges items) told)
+    (turn-memory ranges items) told)
     answered

@@ -100,7 +100,7 @@ took b new id order node zone first none picked runs ids =
       held = with_held id (Some what) (held_in b.ids);
     } in t) =
     state_is (free new.buddy) (without_set order first (free b.buddy)) (held_in new.ids)
-      (with_held id (Some what) (held_in b.ids)) runs.each
+    (with_held id (Some what) (held_in b.ids)) runs.each
     (λ q. changed id q (Some what) (held_in b.ids) (held_in new.ids q)
     (ap (λ (es : List (ℕ × Held)). held_in es q) ids ∙ put_in id q what b.ids
     ∙ ap (λ t. cond t (Some what) (held_in b.ids q)) (tests_alike id q))) in

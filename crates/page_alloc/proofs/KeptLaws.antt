@@ -133,7 +133,7 @@ picked_set f order first node zone low is = elim (found_or_none (picked f node z
       let some_frames = pow_pos order in
       let last : ℕ = first + 2 ^ order - 1 in
       let last_in : IsInSet order first last = in_set (2 ^ order) first last (omega (arith, whole, some_frames))
-        (omega (arith, whole, some_frames)) in
+      (omega (arith, whole, some_frames)) in
       record {
         aligned = whole;
         low = elim (cases_lt last MAX_FRAMES) as (λ _. first + 2 ^ order ≤ MAX_FRAMES) [
@@ -155,7 +155,7 @@ taken_kept s id order first node small keeps set =
     let new : State = record { frames = without_set order first s.frames; held = with_held id (Some made) s.held } in
     let without = without_is order first s.frames in
     let stays_none : (x : ℕ) → s.frames x ≡ None → new.frames x ≡ None =
-      λ x was. elim (in_set_or_not order first x) as (λ _. new.frames x ≡ None) [
+    λ x was. elim (in_set_or_not order first x) as (λ _. new.frames x ≡ None) [
       | inl inside ↦ without.gone x inside
       | inr other ↦ without.kept x other ∙ was
     ] in
@@ -218,13 +218,19 @@ taken_goes f s id order first node small goes none set =
             (had id i (Some made) s.held h is).either;
         all = λ x n is. ⊎_elim
             (λ (was : s.frames x ≡ Some n). elim (in_set_or_not order first x) as (λ _. (new.frames x ≡ Some n)
-              ⊎ ((i : ℕ) × HoldsFrame new i x)) [
-              | inl inside ↦ inr (id, let it : HoldsFrame new id x = record { what = made; is = with_here id (Some made) s.held;
-                inside = inside } in it)
+            ⊎ ((i : ℕ) × HoldsFrame new i x)) [
+              | inl inside ↦ inr (
+                id,
+                let it : HoldsFrame new id x = record {
+                  what = made;
+                  is = with_here id (Some made) s.held;
+                  inside = inside;
+                } in it,
+              )
               | inr other ↦ inl (without.kept x other ∙ was)
             ])
             (λ (some : (i : ℕ) × HoldsFrame s i x). elim (with_or_not id some.0) as (λ _. (new.frames x ≡ Some n)
-              ⊎ ((i : ℕ) × HoldsFrame new i x)) [
+            ⊎ ((i : ℕ) × HoldsFrame new i x)) [
               | inl same ↦
                   let had_one = some.1.is in
                   let here : s.held id ≡ Some some.1.what = ap s.held same ∙ had_one in
@@ -305,7 +311,7 @@ given_goes f s id what goes is_held =
           | inr other ↦ ⊎_elim
               (λ (was : s.frames x ≡ Some n). inl (kept x other ∙ was))
               (λ (some : (i : ℕ) × HoldsFrame s i x). elim (with_or_not id some.0) as (λ _. (new.frames x ≡ Some n)
-                ⊎ ((i : ℕ) × HoldsFrame new i x)) [
+              ⊎ ((i : ℕ) × HoldsFrame new i x)) [
                 | inl same ↦
                     let here : s.held id ≡ Some some.1.what = let h = some.1.is in ap s.held same ∙ h in
                     let one : some.1.what ≡ what = let both : Some some.1.what ≡ Some what = sym here ∙ is_held in cc in

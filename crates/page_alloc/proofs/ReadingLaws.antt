@@ -12,7 +12,7 @@ use Rattle.page_alloc.specs.Reading.{line_at, lines_from}
 pub line_read : (number : ℕ) (front : List PageLine) (text : List ℕ) (texts : List (List ℕ)) (act : Option PageAct)
     → asked text ≡ Ok act
     → behind front (lines_from number (text ∷ texts)) ≡ behind (front ++ option_to_list (line_at number act))
-      (lines_from (number + 1) texts)
+    (lines_from (number + 1) texts)
 line_read number front text texts act is = rw is (with_others front (line_at number act) (lines_from (number + 1) texts))
 
 -- the orders of the lines so far and of one more

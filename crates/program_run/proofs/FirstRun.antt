@@ -92,7 +92,7 @@ only_trimmed c only x k = rw (only x k, only x 1) (grind (arith, nat_tests))
 only_claims : IsOnly (claims given)
 only_claims =
     only_trimmed _ (only_settled _
-      (only_gives _ (only_added _ (only_settled _ (only_gives _ (only_added _ (only_settled _ entries_give)))))))
+    (only_gives _ (only_added _ (only_settled _ (only_gives _ (only_added _ (only_settled _ entries_give)))))))
 
 -- so these are the runs of the map
 abbrev runs : List (RunOf ℕ)

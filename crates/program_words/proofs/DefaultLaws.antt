@@ -111,7 +111,7 @@ adds rule rows full = by_row (has_row rule.id rows) refl
     by_default [] none is = record { full = full; values = λ argument. rw is (unset argument (bytes_eq rule.id argument)) }
       where
         unset : (argument : List ℕ) (same : Bool) → value_in rows argument ≡ option_or (value_in rows argument)
-          (if same then None else None)
+            (if same then None else None)
         unset argument true = or_none (value_in rows argument)
         unset argument false = or_none (value_in rows argument)
     by_default (v ∷ vs) none is =

@@ -54,7 +54,7 @@ pub answers_on : (k : Known) (s t : State) (l : PageLine) (ls : List PageLine) (
 answers_on k s t l ls told o is =
     append_assoc told ((let a : PageAnswer = record { line = l.number; outcome = o } in a) ∷ []) (answers_with k t ls)
     ∙ ap (λ (p : PageOutcome × State). told ++ (let a : PageAnswer = record { line = l.number; outcome = p.0 } in a)
-      ∷ answers_with k p.1 ls) is
+    ∷ answers_with k p.1 ls) is
 
 pub after_on : (k : Known) (s t : State) (l : PageLine) (ls : List PageLine) (o : PageOutcome)
     → (let p : PageOutcome × State = (o, t) in p) ≡ step_with k s l.act → after_with k t ls ≡ after_with k s (l ∷ ls)

@@ -6,7 +6,7 @@ use Rattle.audit_lines.proofs.report.read_report.Given as goal
 abbrev pub invariant-loop-text : goal.invariant-loop-text
 invariant-loop-text g l = record {
   read : in_front l.lines.items
-    (report_from g.L.ReportLine.form g.L.ReportLine.extent l.index l.at (split_lines l.rest).0 (split_lines l.rest).1)
+      (report_from g.L.ReportLine.form g.L.ReportLine.extent l.index l.at (split_lines l.rest).0 (split_lines l.rest).1)
       ≡ report_of g.L.ReportLine.form g.L.ReportLine.extent l.bytes;
   indexed : length l.lines.items ≡ l.index;
   few : l.index + length l.rest ≤ length l.bytes;

@@ -60,7 +60,7 @@ loop-at-preserved c =
           (is_lost c.args.limit s.map.items s.owners.items s.blocks.items)
           (is_not_free c.args.limit s.map.items s.owners.items s.blocks.items)
           (bytes_tell c.args.limit s.map.items s.owners.items s.blocks.items c.requires.aligned)
-            c.loop-at.from until c.loop-at.lost c.look_around-piece.result.state inv.from_near p.near);
+          c.loop-at.from until c.loop-at.lost c.look_around-piece.result.state inv.from_near p.near);
       run_order = c.passed-runs-in-loop-at.ensures.order;
       run_behind = c.passed-runs-in-loop-at.ensures.behind;
       run_same = λ x above. c.passed-runs-in-loop-at.ensures.says x above ∙ inv.run_same x (omega (arith, p.forward));
@@ -71,10 +71,10 @@ loop-at-preserved c =
       held_behind = c.passed-held-in-loop-at.ensures.behind;
       held_same = λ x above. c.passed-held-in-loop-at.ensures.says x above ∙ inv.held_same x (omega (arith, p.forward));
       none_bad = λ x below. elim
-        (cases_lt x c.loop-at.at) as (λ _. state_at c.args.limit s.map.items s.owners.items s.blocks.items x ≢ states.NotFree) [
-        | inl early ↦ inv.none_bad x early
-        | inr late ↦ λ is. c.in_default.not-NotFree (sym (state x late below) ∙ is)
-      ];
+          (cases_lt x c.loop-at.at) as (λ _. state_at c.args.limit s.map.items s.owners.items s.blocks.items x ≢ states.NotFree) [
+            | inl early ↦ inv.none_bad x early
+            | inr late ↦ λ is. c.in_default.not-NotFree (sym (state x late below) ∙ is)
+          ];
       so_far = rw c.carried-next.ensures (carried_on (state_at c.args.limit s.map.items s.owners.items s.blocks.items)
           (is_lost c.args.limit s.map.items s.owners.items s.blocks.items)
           (is_not_free c.args.limit s.map.items s.owners.items s.blocks.items)

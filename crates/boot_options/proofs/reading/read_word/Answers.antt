@@ -69,4 +69,4 @@ returns-in-Some-off c =
     (compared _ _ _ _ c.as_slice-else-eq-2.ensures c.if-eq-3.ensures)
     (compared _ _ _ _ c.as_slice-else-eq-3.ensures c.if-eq-4.ensures))
     (rw (c.in-Some-off.is, off)
-      (record { edits = at.edits; crash = at.crash; numa_off = refl; add_efi = at.add_efi; user_map = at.user_map }))
+    (record { edits = at.edits; crash = at.crash; numa_off = refl; add_efi = at.add_efi; user_map = at.user_map }))

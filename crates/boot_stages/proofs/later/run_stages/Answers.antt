@@ -23,7 +23,7 @@ returns-in_err-nodes-clause-stopped c =
     let m : Contents = c.args.memblock.now in
     let p = err_from_is_err_and c.from_residual.result c.from_residual.ensures.1 in
     if_err c.from_residual.result (λ stop. (made : BootSoFar) → AreStopped given (begun_with made m) stop)
-      p.0 c.in_err-nodes.field-0.0 p.1 p.2
+    p.0 c.in_err-nodes.field-0.0 p.1 p.2
     (λ made some. link-stops (has_nodes given) (drop 2 (later_stages given)) (begun_with made m) c.in_err-nodes.field-0.0
     (c.in_err-nodes.ensures.comes (begun_with made m) some))
 

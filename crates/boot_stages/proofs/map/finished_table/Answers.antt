@@ -11,4 +11,4 @@ returns c =
     let second : claims_of c.append_settled-2.new.table ≡ with_extension c.args.extension.now (of_zero_page c.args.entries.now) =
     c.in_ok-append_settled-2.ensures ∙ ap (with_extension c.args.extension.now) first in
     c.in_ok-trim_bios.ensures.ok
-      ∙ ap bios_trimmed (c.in_ok-edit_settled.ensures ∙ ap (with_options c.args.edits.now c.args.added.now) second)
+    ∙ ap bios_trimmed (c.in_ok-edit_settled.ensures ∙ ap (with_options c.args.edits.now c.args.added.now) second)

@@ -22,7 +22,7 @@ returns-then-run-clause-carries c =
     let Ends : RunOf ℕ → Type 0 = λ x. Carries r (items_of_run c.args.reach x) old new in
     subst Ends c.run.view_is
     (rw (soft_run c.args.reach run c.if-run.true)
-      (carries-change r (item.Claim c.run.inside.range owner.Soft) old new c.claim.ensures.ends))
+    (carries-change r (item.Claim c.run.inside.range owner.Soft) old new c.claim.ensures.ends))
 
 pub returns-then-not-is_memory-clause-carries : goal.returns-then-not-is_memory-clause-carries
 returns-then-not-is_memory-clause-carries c =

@@ -16,7 +16,7 @@ returns-in_err-set_limit-clause-carries c =
     let r = c.from_residual.result in
     let p = err_from_is_err_and r c.from_residual.ensures.1 in
     carries-wanting r (item.Limit c.args.end) _ c.args.memblock.now.journal.items c.set_limit.new.self.journal.items p.0 p.1 p.2
-      (omega arith)
+    (omega arith)
     (ap (λ (m : Memblock). m.journal.items) c.in_err-set_limit.ensures.err)
 
 pub returns-clause-carries : goal.returns-clause-carries

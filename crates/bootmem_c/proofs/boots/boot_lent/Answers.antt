@@ -21,13 +21,13 @@ asks c =
 pub returns-in-Ok-clause-boots : goal.returns-in-Ok-clause-boots
 returns-in-Ok-clause-boots c =
     subst (λ (a : Option Wanted). IfOk c.boot_texts.result
-      (λ booted. IsBoot a (bytes_of (lent_files c.args.files.now)) (booted_view booted)))
+    (λ booted. IsBoot a (bytes_of (lent_files c.args.files.now)) (booted_view booted)))
     (asks c) c.boot_texts.ensures.boots
 
 pub returns-in-Ok-clause-fails : goal.returns-in-Ok-clause-fails
 returns-in-Ok-clause-fails c =
     subst (λ (a : Option Wanted). IfErr c.boot_texts.result
-      (λ failure. FailsAs failure (outcome a (bytes_of (lent_files c.args.files.now)))))
+    (λ failure. FailsAs failure (outcome a (bytes_of (lent_files c.args.files.now)))))
     (asks c) c.boot_texts.ensures.fails
 
 pub returns-in-Err-NotUtf8-clause-fails : goal.returns-in-Err-NotUtf8-clause-fails

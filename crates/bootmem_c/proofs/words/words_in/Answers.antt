@@ -19,7 +19,7 @@ returns-in_err-text_in-clause-other c = λ is.
 pub loop-word-preserved : goal.loop-word-preserved
 loop-word-preserved c = record {
   texts = texts_more _ _ _ c.args.words.now _ _ c.loop-word-test.true c.in_ok-text_in.ensures.text c.in_ok-push.ensures.items
-    c.loop-word.invariant.texts;
+      c.loop-word.invariant.texts;
   utf8 = utf8_more c.args.words.now _ _ c.loop-word-test.true c.in_ok-text_in.ensures.utf8 c.loop-word.invariant.utf8;
 }
 
@@ -30,4 +30,4 @@ returns-clause-texts c =
 pub returns-clause-utf8 : goal.returns-clause-utf8
 returns-clause-utf8 c =
     subst (All IsUtf8) (take_all _ _ (omega (arith, c.loop-word-test.false, length-map c.args.words.now lent_word)))
-      c.loop-word.invariant.utf8
+    c.loop-word.invariant.utf8

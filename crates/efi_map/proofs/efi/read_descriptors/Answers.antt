@@ -8,12 +8,12 @@ use Rattle.efi_map.proofs.efi.read_descriptors.Goals.{in-Some+in_ok-push-2, in_d
 pub entry-requires : goal.entry-requires
 entry-requires c = rw c.read_nth-descriptor.ensures
     (fits (nth_descriptor c.args.stride c.loop-index.index c.args.bytes.now)
-      (near_now c.args.stride c.loop-index.index c.args.count c.args.bytes.now (omega arith) c.loop-index.invariant.0))
+    (near_now c.args.stride c.loop-index.index c.args.count c.args.bytes.now (omega arith) c.loop-index.invariant.0))
 
 pub mirror-requires : goal.mirror-requires
 mirror-requires c = rw c.read_nth-descriptor.ensures
     (fits (nth_descriptor c.args.stride c.loop-index.index c.args.bytes.now)
-      (near_now c.args.stride c.loop-index.index c.args.count c.args.bytes.now (omega arith) c.loop-index.invariant.0))
+    (near_now c.args.stride c.loop-index.index c.args.count c.args.bytes.now (omega arith) c.loop-index.invariant.0))
 
 pub loop-index-preserved : goal.loop-index-preserved
 loop-index-preserved c =

@@ -21,6 +21,6 @@ returns c = λ memory reserved stays up.
     let window = c.requires.window in
     let high : c.min.result ≡ min c.args.until c.args.query.now.hi = grind (arith, common_steps) in
     first_of_stretch c.args.mirror memory reserved c.args.query.now c.args.from c.args.until c.args.label c.in-Some.found
-      c.first_between.result
+    c.first_between.result
     c.requires.some (omega arith) (omega arith) (record { stays = stays; up = up }) c.in-Some.is served
     (rw high at c.first_between.ensures)

@@ -29,7 +29,7 @@ loop-cursor-preserved c =
       walk = further.down;
       window = omega (arith, i.window, further.order);
       past = past_refused c.args.mirror (value_at t.memory) (value_at t.reserved)
-        c.args.query.now c.down_for-cursor.result.at c.bottom.result
+          c.args.query.now c.down_for-cursor.result.at c.bottom.result
           c.requires.some (rw c.bottom.ensures further.passed)
           (no_answer c.args.mirror (value_at t.memory) (value_at t.reserved) c.args.query.now c.bottom.result
           c.loop-cursor.cursor.at c.place_in_run-place.result i.past

@@ -12,10 +12,10 @@ pub loop-cursor-init : goal.loop-cursor-init
 loop-cursor-init c =
     let t = c.args.lists.now in
     let high : c.cursor_below-cursor.result.at ≡ min c.args.query.now.hi c.end_of-end.result =
-      c.cursor_below-cursor.ensures.at ∙ c.min-high.ensures in
+    c.cursor_below-cursor.ensures.at ∙ c.min-high.ensures in
     let behind = nothing_behind t.memory c.end_of-end.result c.count.ensures.records.runs
     (λ some. c.end_of-end.ensures.end (omega (arith, some, c.count.ensures.count))
-      ∙ ap (λ n. run_end (run_at t.memory (n - 1))) c.count.ensures.count) in
+    ∙ ap (λ n. run_end (run_at t.memory (n - 1))) c.count.ensures.count) in
     record {
       walk = c.cursor_below-cursor.ensures.down;
       window = omega (arith, high);

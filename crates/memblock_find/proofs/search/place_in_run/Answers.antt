@@ -20,6 +20,6 @@ returns c = λ memory reserved stays down.
     let served : serves c.args.mirror c.args.query.now.node (Some c.in-Some.found) ≡ true = grind (arith, common_steps) in
     let low : c.max.result ≡ max (max c.args.from c.args.query.now.lo) 4096 = grind (arith, common_steps) in
     best_of_stretch c.args.mirror memory reserved c.args.query.now c.args.from c.args.until c.args.label c.in-Some.found
-      c.last_between.result
+    c.last_between.result
     c.requires.some c.requires.window (record { stays = stays; down = down }) c.in-Some.is served
     (rw low at c.last_between.ensures)

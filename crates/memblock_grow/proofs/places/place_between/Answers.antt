@@ -19,7 +19,7 @@ returns-in_err-size c =
     c.from_residual-in_err-size.ensures
     ∙ between-none c.args.tables.now c.args.upward c.args.room c.args.lo c.args.hi c.ranges.hi.fits
     (λ small. let here : in_whole_frames c.in_ok-checked_mul.field-0
-      ≡ in_whole_frames (48 * c.args.room) = ap in_whole_frames bytes in large (omega arith))
+    ≡ in_whole_frames (48 * c.args.room) = ap in_whole_frames bytes in large (omega arith))
 
 pub returns : goal.returns
 returns c =

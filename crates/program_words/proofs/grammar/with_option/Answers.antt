@@ -10,5 +10,5 @@ returns c =
     let one : c.action-option.result.global ≡ false = rw (c.action-option.ensures, c.long.ensures) c.new.ensures.optional.1 in
     let rule : rule_of c.action-option.result ≡ option_rule (name, c.args.action) =
     rw (c.action-option.ensures, c.long.ensures)
-      (ap (λ (r : Rule). record r { long = Some name; action = Some c.args.action }) c.new.ensures.rule) in
+    (ap (λ (r : Rule). record r { long = Some name; action = Some c.args.action }) c.new.ensures.rule) in
     c.in_ok-arg.ensures.shape one ∙ ap (λ (r : Rule). with_rule (app_of c.args.command) r) rule

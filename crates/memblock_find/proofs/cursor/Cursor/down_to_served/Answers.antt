@@ -23,5 +23,5 @@ returns-clause-order c =
 pub returns-clause-passed : goal.returns-clause-passed
 returns-clause-passed c =
     passed_over c.args.lists.now.memory c.args.mirror c.args.node c.args.self.now.at c.up_to_served-count.result c.end_of-at.result
-      c.args.self.now.memory
+    c.args.self.now.memory
     c.requires.down.memory c.requires.narrow c.up_to_served-count.ensures.within c.end_of-at.ensures.end c.up_to_served-count.ensures.passed

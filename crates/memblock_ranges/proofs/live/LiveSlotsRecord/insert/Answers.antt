@@ -30,7 +30,7 @@ opened c =
     insert_table l.store.now c.move_bytes.new.self c.write.new.self h.place h.room h.count i (at + 24) (24 * (h.count - i)) at
     (length c.spell.result) c.args.item c.spell.result l.table (omega (arith, c.requires.within, low))
     (omega (arith, c.requires.room, low))
-      c.spell.ensures.fits c.spell.ensures.bytes c.move_bytes.ensures c.write.ensures refl refl refl refl
+    c.spell.ensures.fits c.spell.ensures.bytes c.move_bytes.ensures c.write.ensures refl refl refl refl
 
 pub invariant_of-self : goal.invariant_of-self
 invariant_of-self c = record { table = (opened (goal.at.invariant_of-self c).After-write).table }

@@ -28,10 +28,12 @@ returns-clause-ok c =
     let is = subst (λ (b : Book). held_in b.ids id ≡ Some what) (sym c.self.view_is) (sym c.held.ensures ∙ c.in-Some.is) in
     let b : Book = record { buddy = c.self.inside.buddy; ids = c.self.inside.ids.entries } in
     let new : Book = record { buddy = c.put_back.new.self; ids = c.remove.new.self.entries } in
-    let same : state_of new ≡ record { frames = with_set what.order what.first what.node (free b.buddy);
-      held = with_held id None (held_in b.ids) } =
+    let same : state_of new ≡ record {
+      frames = with_set what.order what.first what.node (free b.buddy);
+      held = with_held id None (held_in b.ids);
+    } =
     state_is (free new.buddy) (with_set what.order what.first what.node (free b.buddy)) (held_in new.ids)
-      (with_held id None (held_in b.ids))
+    (with_held id None (held_in b.ids))
     c.in_ok-put_back.ensures.runs.each (λ q. changed id q None (held_in b.ids) (held_in new.ids q) (c.remove.ensures.updates.0 q)) in
     subst (λ (d : Book). (outcomes.Done, state_of new) ≡ given_back (state_of d) id (held_in d.ids id)) c.self.view_is
     (ap (λ (s : State). let p : PageOutcome × State = (outcomes.Done, s) in p) same ∙ sym (ap (given_back (state_of b) id) is))
@@ -43,10 +45,12 @@ invariant_of-self-2 c =
     let is = subst (λ (b : Book). held_in b.ids id ≡ Some what) (sym c.self.view_is) (sym c.held.ensures ∙ c.in-Some.is) in
     let b : Book = record { buddy = c.self.inside.buddy; ids = c.self.inside.ids.entries } in
     let new : Book = record { buddy = c.put_back.new.self; ids = c.remove.new.self.entries } in
-    let same : state_of new ≡ record { frames = with_set what.order what.first what.node (free b.buddy);
-      held = with_held id None (held_in b.ids) } =
+    let same : state_of new ≡ record {
+      frames = with_set what.order what.first what.node (free b.buddy);
+      held = with_held id None (held_in b.ids);
+    } =
     state_is (free new.buddy) (with_set what.order what.first what.node (free b.buddy)) (held_in new.ids)
-      (with_held id None (held_in b.ids))
+    (with_held id None (held_in b.ids))
     c.in_ok-put_back.ensures.runs.each (λ q. changed id q None (held_in b.ids) (held_in new.ids q) (c.remove.ensures.updates.0 q)) in
     let all = step_kept (state_of b) (acts.Give id) tt c.self.invariant in
     subst (λ (s : State). AreHeldApart s) (sym (same ∙ sym (ap (λ o. (given_back (state_of b) id o).1) is))) all

@@ -12,6 +12,6 @@ invariant_of-inputs-2-clause-mirrors_fit c = rw (c.in_ok-inputs.ensures.items, c
 pub returns : goal.returns
 returns c =
     ap (λ (g : Given). record g { mirrors = map frames_in c.in_ok-inputs.field-0.items; upward = c.args.self.now.upward })
-      c.begun-inputs.ensures
+    c.begun-inputs.ensures
     ∙ ap (λ (ms : List Extent). begun_by c.args.self.now.width c.args.self.now.kernel ms c.args.self.now.upward)
     (c.in_ok-inputs.ensures.items ∙ c.deref.ensures.value)
