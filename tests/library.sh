@@ -37,7 +37,7 @@ if has "${CC:-cc}" "the program's bytes and the example in C"; then
 	cc="${CC:-cc} -Wall -Wextra -Werror -Iinclude"
 	ok "by_library.c" $cc -O1 tests/by_library.c libbootmem.a -o "$work/by_library"
 	ok "the header in C++" $cc -x c++ -fsyntax-only include/bootmem.h
-	for folder in examples/*/; do
+	for folder in examples/*/ examples/*/replay/; do
 		[ -f "$folder/zp.bin" ] || continue
 		words=zp.bin
 		[ ! -f "$folder/words" ] || words=$(cat "$folder/words")

@@ -49,5 +49,5 @@ pub fn sound_is_conserved(saved: &Saved, width: Width)
     requires fit { All IsBlock saved.now.blocks.items }
     ensures { (verdict_of saved.now width ≡ Verdict.Sound) ↔ IsConserved saved.now width }
 {
-    let _blocks = saved.blocks.len();
+    let _fact = saved.blocks.len(); // for its facts alone
 }

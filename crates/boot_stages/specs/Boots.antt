@@ -129,7 +129,7 @@ AreStopped given made stop = stop ≢ stops.Memory → with_error stop_of (in_or
 abbrev pub begun_with : BootSoFar → Contents → BootSoFar
 begun_with made m = made_by_lines made m [] [] []
 
--- why a stage stops the boot, by what it answers; `NoGap` stands for nothing where a stage looks for its places itself
+-- why a stage stops the boot, by what it answers
 abbrev pub stop_of_stage : StageStop → Stop
 stop_of_stage (stage.NoPlace thing) = stops.NoPlace thing
 stop_of_stage (stage.NoTablePlace w room) = stops.NoTablePlace w room

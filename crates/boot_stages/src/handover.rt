@@ -45,7 +45,7 @@ pub fn hand_over_memory(alloc: Global, memblock: Memblock) -> Result<End, Memory
     ensures free { IfOk result (λ end. free end.buddy ≡ handed_over memblock.journal.items) }
     ensures spelled { IfOk result (λ end. IsSpelledFree end.store end.heads end.buddy) }
 {
-    let _tables = memblock.tables();
+    let _fact = memblock.tables(); // for its facts alone
     let (store, heads, journal) = memblock.into_parts();
     let spans = spans(alloc, &store, &heads)?;
     let buddy = hand_over(alloc, &store, &heads)?;

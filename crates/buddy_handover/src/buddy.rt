@@ -80,7 +80,7 @@ impl Buddy {
     pub fn lies_low(&self)
         ensures { NothingFrom MAX_FRAMES (free self.now) }
     {
-        let _runs = &self.runs;
+        let _fact = &self.runs; // for its facts alone
     }
 
     /// Takes the memory for `n` more entries. `Memory` comes only where there was less, and nothing has

@@ -41,7 +41,7 @@ pub fn reserve(memblock: &mut Memblock, option: &CrashOption) -> Result<Crash, R
     let Some(main) = main_range(memblock, &area) else {
         return Ok(unplaced(area.spot));
     };
-    let _sound = memblock.journal();
+    let _fact = memblock.journal(); // for its facts alone
     memblock.claim(main, Owner::Crash)?;
     let low = option.low.unwrap_or(DEFAULT_LOW);
     if needs_low(&main, low) {

@@ -74,5 +74,5 @@ pub fn stand_still(mb: &Memblock)
     requires { HasBegun mb.now.journal.items }
     ensures { Follows mb.now.kernel mb.now.journal.items mb.now.journal.items (bytes_in mb.now) (bytes_in mb.now) }
 {
-    let _tables = mb.tables();
+    let _fact = mb.tables(); // for its facts alone
 }

@@ -20,8 +20,8 @@ fn look(tables: &Tables)
     ensures memory { StandsIn tables.now.memory tables.now.store }
     ensures reserved { StandsIn tables.now.reserved tables.now.store }
 {
-    let _memory = tables.head(Which::Memory);
-    let _reserved = tables.head(Which::Reserved);
+    let _fact = tables.head(Which::Memory); // for its facts alone
+    let _fact = tables.head(Which::Reserved); // for its facts alone
 }
 
 /// The table covers the range: what it didn't cover yet has no node.
@@ -37,7 +37,7 @@ pub fn cover(tables: &mut Tables, which: Which, range: Range)
     ensures still_ready { StayReady tables.old.store tables.new.store }
     ensures within { end_of range < 2 ^ 64 }
 {
-    let _end = range.end();
+    let _fact = range.end(); // for its facts alone
     tables.insert(which, range, NO_NODE);
     look(tables);
 }
@@ -53,7 +53,7 @@ pub fn uncover(tables: &mut Tables, range: Range)
     ensures still_ready { StayReady tables.old.store tables.new.store }
     ensures within { end_of range < 2 ^ 64 }
 {
-    let _end = range.end();
+    let _fact = range.end(); // for its facts alone
     tables.remove(Which::Reserved, range);
     look(tables);
 }
@@ -70,7 +70,7 @@ pub fn relabel(tables: &mut Tables, range: Range, node: u32)
     ensures still_ready { StayReady tables.old.store tables.new.store }
     ensures within { end_of range < 2 ^ 64 }
 {
-    let _end = range.end();
+    let _fact = range.end(); // for its facts alone
     tables.set_node(range, node);
     look(tables);
 }
@@ -86,7 +86,7 @@ pub fn mirror(tables: &mut Tables, range: Range)
     ensures still_ready { StayReady tables.old.store tables.new.store }
     ensures within { end_of range < 2 ^ 64 }
 {
-    let _end = range.end();
+    let _fact = range.end(); // for its facts alone
     tables.set_mirror(range);
     look(tables);
 }

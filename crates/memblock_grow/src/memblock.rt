@@ -105,7 +105,7 @@ impl Memblock {
             is_full_by tables_of.Reserved (new_in tables_of.Reserved range) self.old.journal.items ≡ false →
             IsOk result × (self.new.journal.spare ≡ self.old.journal.spare - 1) }
     {
-        let _end = range.end();
+        let _fact = range.end(); // for its facts alone
         let aim = Aim {
             limit: self.limit,
             upward: self.upward,
@@ -335,8 +335,8 @@ impl Memblock {
             (24 * room_of w self.now.journal.items)
             ≡ spelled_table (records_of w self.now.journal.items) (room_of w self.now.journal.items) }
     {
-        let _memory = self.tables.head(Which::Memory);
-        let _reserved = self.tables.head(Which::Reserved);
+        let _fact = self.tables.head(Which::Memory); // for its facts alone
+        let _fact = self.tables.head(Which::Reserved); // for its facts alone
         &self.tables
     }
 

@@ -27,7 +27,7 @@ pub fn is_full(tables: &Tables, which: Which, more: &More) -> bool
     let free = head.room - head.count;
     match more {
         More::PiecesOf(range) => {
-            let _end = range.end();
+            let _fact = range.end(); // for its facts alone
             free < tables.pieces(which, *range)
         }
         More::Two => free < 2,

@@ -59,7 +59,7 @@ pub fn cover<T: Slots<Record>>(table: &mut T, range: &Range, label: Label)
     ensures records { AreRecords (T.list table.new) }
     ensures keeps { T.keeps table.old table.new }
 {
-    let _end = range.end();
+    let _fact = range.end(); // for its facts alone
     rewrite(table, range, Cover(label));
 }
 

@@ -127,7 +127,7 @@ impl Tables {
         ensures elsewhere { (x : ℕ) → covers (bytes_in which self.old) x ≡ false → byte_of self.new.store x ≡ byte_of self.old.store x }
         ensures ready { (x : ℕ) → is_ready self.new.store x ≡ is_ready self.old.store x }
     {
-        let _end = range.end();
+        let _fact = range.end(); // for its facts alone
         let label = label_of(0, node);
         match which {
             Which::Memory => {
@@ -149,7 +149,7 @@ impl Tables {
         ensures elsewhere { (x : ℕ) → covers (bytes_in which self.old) x ≡ false → byte_of self.new.store x ≡ byte_of self.old.store x }
         ensures ready { (x : ℕ) → is_ready self.new.store x ≡ is_ready self.old.store x }
     {
-        let _end = range.end();
+        let _fact = range.end(); // for its facts alone
         match which {
             Which::Memory => {
                 lent::uncover(&mut self.store, &mut self.heads.memory, &range);

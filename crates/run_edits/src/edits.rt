@@ -190,6 +190,6 @@ pub fn amend<S: Stretch, T: Slots<S>, C: Change<S::Value>>(table: &mut T, range:
     ensures few { length (T.list table.new) ≤ length (T.list table.old) + 2 }
     ensures keeps { T.keeps table.old table.new }
 {
-    let _end = range.end();
+    let _fact = range.end(); // for its facts alone
     rewrite(table, range, change);
 }

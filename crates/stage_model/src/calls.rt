@@ -61,7 +61,7 @@ pub fn place(
 pub fn stand_still(memblock: &Memblock)
     ensures { GoesOn memblock.now memblock.now }
 {
-    let _tables = memblock.tables();
+    let _fact = memblock.tables(); // for its facts alone
 }
 
 /// Gives the memory of a range its node, or the boot stops. It doesn't where an item can be appended without memory and the

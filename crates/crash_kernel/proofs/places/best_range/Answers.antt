@@ -18,4 +18,4 @@ invariant_of-result c =
 pub returns-clause-away : goal.returns-clause-away
 returns-clause-away c =
     found-away c.args.memblock.now.kernel c.args.memblock.now.journal.items (area_query c.args.size 0x1000000 c.args.lo c.args.hi)
-    c.in_ok-base.base (c.journal-sound.ensures.sound c.requires.begun).placed (sym c.in_ok-base.ensures)
+    c.in_ok-base.base (c.journal-fact.ensures.sound c.requires.begun).placed (sym c.in_ok-base.ensures)

@@ -42,4 +42,4 @@ returns-clause-away c =
     let found : best items (area_query size 1 base (base + size)) ≡ Some place =
     subst (λ (hi : ℕ). best items (area_query size 1 base hi) ≡ Some place) end (sym c.in_ok-find.ensures) in
     subst (λ (r : Extent). IsAway c.args.memblock.now.kernel r items) (sym c.in_ok-range.ensures.1)
-    (exact-away c.args.memblock.now.kernel items size base place (c.journal-sound.ensures.sound c.requires.begun).placed found)
+    (exact-away c.args.memblock.now.kernel items size base place (c.journal-fact.ensures.sound c.requires.begun).placed found)

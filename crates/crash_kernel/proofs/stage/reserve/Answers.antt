@@ -109,7 +109,7 @@ reserve_low-requires-clause-away c =
     let new = c.claim.new.self.journal.items in
     let main = c.in-Some-main_range.main in
     subst (λ (k : Extent). IsAway k main new) (sym c.claim.ensures.kernel)
-    (claimed-away kernel main items new owner.Crash (c.journal-sound.ensures.sound c.requires.begun).placed
+    (claimed-away kernel main items new owner.Crash (c.journal-fact.ensures.sound c.requires.begun).placed
     c.in-Some-main_range.ensures.away c.in_ok-claim.ensures.ends)
 
 pub returns-then-needs_low-clause-ends : goal.returns-then-needs_low-clause-ends

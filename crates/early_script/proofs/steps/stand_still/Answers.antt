@@ -12,4 +12,4 @@ returns c =
     let m = c.args.mb.now in
     follows-none m.kernel m.journal.items (table_for which.Memory m.kernel m.journal.items) (table_for which.Reserved m.kernel
     m.journal.items)
-    (bytes_in m) refl refl (spelled-lists m.kernel m.journal.items (bytes_in m) c.tables-tables.ensures.spelled)
+    (bytes_in m) refl refl (spelled-lists m.kernel m.journal.items (bytes_in m) c.tables-fact.ensures.spelled)

@@ -11,11 +11,11 @@ rewrite-requires-clause-room g c = (
   same_label,
   label_tells,
   cover_room (g.T.Rows.list c.args.table.now) c.args.range.now c.args.label (g.T.Slots.room c.args.table.now)
-      c.requires.records (omega (arith, c.end-end.ensures.small)) c.requires.room,
+      c.requires.records (omega (arith, c.end-fact.ensures.small)) c.requires.room,
 )
 
 pub returns-clause-list : goal.returns-clause-list
 returns-clause-list g c =
     edited_list (λ (carried : Option Label). Some (unwrap_or carried c.args.label)) c.args.range.now (g.T.Rows.list c.args.table.now)
     (g.T.Rows.list c.rewrite.new.table)
-    c.requires.records (omega (arith, c.end-end.ensures.small)) c.rewrite.ensures.list
+    c.requires.records (omega (arith, c.end-fact.ensures.small)) c.rewrite.ensures.list

@@ -8,7 +8,7 @@ use Rattle.stage_model.proofs.calls.stand_still.Goals as goal
 
 pub returns : goal.returns
 returns c =
-    let same = c.tables-tables.ensures.tables in
-    goes-none c.args.memblock.now (ap (λ (t : Contents). t.memory) (sym same) ∙ c.tables-tables.ensures.memory)
-    (ap (λ (t : Contents). t.reserved) (sym same) ∙ c.tables-tables.ensures.reserved)
-    (subst (λ (t : Contents). AreSpelled t.memory t.reserved (byte_of t.store)) same c.tables-tables.ensures.bytes)
+    let same = c.tables-fact.ensures.tables in
+    goes-none c.args.memblock.now (ap (λ (t : Contents). t.memory) (sym same) ∙ c.tables-fact.ensures.memory)
+    (ap (λ (t : Contents). t.reserved) (sym same) ∙ c.tables-fact.ensures.reserved)
+    (subst (λ (t : Contents). AreSpelled t.memory t.reserved (byte_of t.store)) same c.tables-fact.ensures.bytes)

@@ -17,7 +17,7 @@ plain c =
     let none = rw c.in-Reserved.is at c.requires.node in
     let label : c.label_of-label.result ≡ plain_label = c.label_of-label.ensures ∙ ap (label_of 0) none in
     subst (λ (l : Label). HaveNoNode (records_for (covered c.args.range l (value_at rs)))) (sym label)
-    (plain_covered c.args.range rs c.self.invariant.reserved_records c.self.invariant.plain (omega (arith, c.end-end.ensures.small)))
+    (plain_covered c.args.range rs c.self.invariant.reserved_records c.self.invariant.plain (omega (arith, c.end-fact.ensures.small)))
 
 pub invariant_of-self : goal.invariant_of-self
 invariant_of-self c = (pair_memory _ _ _ _ _ _ c.self.invariant c.cover.ensures.edits c.cover.ensures.records).0
