@@ -1,5 +1,5 @@
 #!/usr/bin/env python3
-"""twins.py [CRATE..]: what refuses each wrong body, and whether the right body beside it is proved.
+"""twins.py [--said FILE] [CRATE..]: what refuses each wrong body, and whether the right body beside it is proved.
 
 For each crates/CRATE/must-fail/NAME.edit, in a copy of the repository: the edited crate is checked, and what the prover couldn't prove is compared with
 the clause that the first line of the edit pins. A NAME.right.md beside it, of the same form, is a right body of the same shape: the crate must be
@@ -7,8 +7,11 @@ proved with it. Without one the body as it stands is its right pair, if the edit
 refused by the pinned clause, by another goal, and only because a proof names what the edit took away; then the right bodies that were refused. The
 status is 0 where the last two are 0 and each wrong body was refused.
 
-It runs `rt check` some hundred times, over the work that is kept in each crate's out/ (`rt all check` first), ten to forty seconds each. By hand, not
-in the gate.
+It runs `rt check` some hundred times, over the work that is kept in each crate's out/ (`rt all check` first), ten to forty seconds each. By hand; the
+gate does it for one crate that stands on no other.
+
+With --said nothing is tried: FILE is what `rt ci` printed, which tells of each wrong body the first thing that the prover couldn't prove. What isn't
+refused there by the pinned clause may still be, further on: try it alone.
 """
 
 import glob
@@ -83,7 +86,39 @@ def refused_by(said, function, clause, law):
     return "pinned" if clause == "invariant" and any("invariant" in goal for goal in opened + [g for _, g in goals]) else "other"
 
 
+FIRST = re.compile(r"^must-fail (\w+)/(\S+)\.edit: refused, as it must be: (?:note: |error: )?(.*)$", re.M)
+OF_BODY = re.compile(r"(src/\S+\.rt):(\d+):\d+: ")
+
+
+def function_at(folder, place):
+    """The function of src/ that a place in it lies in."""
+    lines = read(f"{folder}/{place.group(1)}").split("\n")[: int(place.group(2))]
+    names = [match.group(1) for match in (re.search(r"\bfn (\w+)", line) for line in lines) if match]
+    return names[-1] if names else ""
+
+
+def told_in(path):
+    """What the gate's words in that file say of each wrong body."""
+    counts = {"pinned": 0, "other": 0, "names": 0}
+    for crate, name, text in sorted(set(FIRST.findall(read(path)))):
+        folder = f"{TOP}/crates/{crate}"
+        if not os.path.exists(f"{folder}/must-fail/{name}.edit"):
+            continue
+        function, clause, law = PIN.match(read(f"{folder}/must-fail/{name}.edit")).groups()
+        place = OF_BODY.search(text)
+        unproved = f"\nfn {function_at(folder, place)}: not proved" if place else ""
+        how = refused_by(re.sub(r"^\S*proofs/", "./proofs/", text) + unproved, function, clause, law)
+        counts[how] += 1
+        if how != "pinned":
+            print(f"{crate}/{name}: {how}: {text[:200]}")
+    print(f"twins: of {sum(counts.values())} wrong bodies the gate met first the pinned clause at {counts['pinned']}, another goal at {counts['other']}, "
+          f"a name that is gone at {counts['names']}")
+    return 1 if counts["names"] else 0
+
+
 def main():
+    if sys.argv[1:2] == ["--said"]:
+        return told_in(sys.argv[2])
     wanted = sys.argv[1:] or [line.split()[0].rstrip(":") for line in read(f"{TOP}/crates.txt").split("\n") if ":" in line and not line.startswith("#")]
     counts = {"pinned": 0, "other": 0, "names": 0, "proved": 0, "right": 0}
     with tempfile.TemporaryDirectory(prefix="bootmem-twins-") as room:
