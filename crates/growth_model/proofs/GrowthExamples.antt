@@ -8,11 +8,13 @@ use Rattle.address_runs.specs.Runs.{RunOf, value_at}
 use Rattle.address_runs.specs.Edits.{NothingFrom}
 use Rattle.memblock_model.specs.declared.which.Which.{Which}
 use Rattle.memblock_model.specs.declared.which.Which.TheVariants as which
+use Rattle.memblock_model.specs.declared.owner.Owner.{Owner}
 use Rattle.memblock_model.specs.declared.owner.Owner.TheVariants as owner
 use Rattle.memblock_model.specs.declared.item.Item.{Item}
 use Rattle.memblock_model.specs.declared.item.Item.TheVariants as item
 use Rattle.memblock_model.specs.Labels.{Label, plain_label}
-use Rattle.memblock_model.specs.Tables.{table_of, records_of, room_of}
+use Rattle.memblock_model.specs.Items.{owner_of}
+use Rattle.memblock_model.specs.Tables.{table_of, records_of, room_of, live}
 use Rattle.memblock_model.specs.declared.query.Query.{Query}
 use Rattle.memblock_model.specs.Search.{suits, fits_in, top, best}
 use Rattle.memblock_model.proofs.SearchLaws.{IsLastBelow, fits_in-parts, fits_in-whole, top_in-last, top_in-fails, top_in-mirrorless, best_in-last, best_in-fails}
@@ -217,11 +219,23 @@ first_move : reserved_items 128 None 253952
 unfolding reserved_items
 first_move = refl
 
-second_move : reserved_items 256 (Some 253952) 131072
-    ≡ item.Grown which.Reserved 131072 512 ∷ (item.Claim (record { base = 131072; size = 12288 }) (owner.Table which.Reserved)
-    ∷ (item.Free (record { base = 253952; size = 8192 }) ∷ []))
+-- the table at 248 KiB goes to 128 KiB: it has its new place before the old one is nobody's, and in the end that alone
+abbrev moving : ℕ → List Item
+moving written = small ++ (reserved_items 128 None 253952 ++ take written (reserved_items 256 (Some 253952) 131072))
+
+abbrev the_tables : Option Owner
+the_tables = Some (owner.Table which.Reserved)
+
+claimed_before_the_old_place_is_free : (owner_of (moving 1) 131072 ≡ None) × (owner_of (moving 2) 131072 ≡ the_tables)
+    × (owner_of (moving 2) 253952 ≡ the_tables) × (owner_of (moving 3) 253952 ≡ None)
+    × (owner_of (moving 3) 143359 ≡ the_tables) × (owner_of (moving 3) 143360 ≡ None)
 unfolding reserved_items
-second_move = refl
+claimed_before_the_old_place_is_free = (refl, refl, refl, refl, refl, refl)
+
+moved_with_all_its_room : (live which.Reserved image (moving 0) ≡ record { base = 253952; size = 24 * 256 })
+    × (live which.Reserved image (moving 3) ≡ record { base = 131072; size = 24 * 512 })
+unfolding reserved_items
+moved_with_all_its_room = (refl, refl)
 
 no_place_for_table : reserved_growth_at 128 None None small ≡ refuse which.Reserved 128 small
 unfolding reserved_growth_at

@@ -1,11 +1,12 @@
 -- Small places and owners, computed: where a table may lie, what meets it, and what may be claimed.
-use Rattle.std.proofs.Common.{◌≡◌, true, false, nat_lt, if◌then◌else◌, Some, None, List, [], ◌∷◌, length, refl, sym, ap, inl, inr, arith}
+use Rattle.std.proofs.Common.{◌≡◌, true, false, nat_lt, if◌then◌else◌, Some, None, List, [], ◌∷◌, ◌++◌, length, refl, sym, ap, inl, inr, arith}
 use Rattle.std.proofs.lemmas.Bool.Decides.{nat_tests}
 use Rattle.memblock_model.specs.declared.which.Which.TheVariants as which
 use Rattle.memblock_model.specs.declared.owner.Owner.TheVariants as owner
 use Rattle.memblock_model.specs.declared.item.Item.{Item}
 use Rattle.memblock_model.specs.declared.item.Item.TheVariants as item
-use Rattle.memblock_model.specs.Items.{Owners}
+use Rattle.bm_base.specs.Extent.{covers}
+use Rattle.memblock_model.specs.Items.{Owners, owner_of}
 use Rattle.memblock_model.specs.Labels.{plain_label}
 use Rattle.memblock_model.specs.Tables.{table_of, records_of, live}
 use Rattle.memblock_model.proofs.TableLaws.{records_for-is}
@@ -15,15 +16,12 @@ use Rattle.growth_model.proofs.SpotLaws.{covers-from}
 use Rattle.growth_model.proofs.FirstLaws.{no_table_full, first-placed}
 use Rattle.growth_model.proofs.GrowthExamples.{image, frame}
 
--- tables lie in anyone's bytes but the script's
+-- a table may lie in the kernel's bytes and in a table's, not in nobody's
 kernel_keeps : keeps (Some owner.Kernel) ≡ true
 kernel_keeps = refl
 
 table_keeps : keeps (Some (owner.Table which.Reserved)) ≡ true
 table_keeps = refl
-
-script_may_not : keeps (Some (owner.Script 1)) ≡ false
-script_may_not = refl
 
 nobody_may_not : keeps None ≡ false
 nobody_may_not = refl
@@ -136,6 +134,21 @@ has_begun = tt
 
 has_not_begun : HasBegun [] → ⊥
 has_not_begun h = h
+
+-- where the script claimed a frame of the image no table may lie any more, and in the next frame one may
+abbrev scripted : Owners
+scripted = owner_of (begun ++ item.Claim (frame 16) (owner.Script 1) ∷ [])
+
+not_where_the_script_claimed : Spot scripted (record { base = 65536; size = 3072 }) → ⊥
+not_where_the_script_claimed spot = let kept = spot.kept 65536 refl in cc
+
+beside_the_scripts_frame : Spot scripted (record { base = 69632; size = 3072 })
+beside_the_scripts_frame = record {
+  aligned = refl;
+  kept = λ x at. let inside = covers-from (record { base = 69632; size = 3072 }) x at in
+      let behind : covers (frame 16) x ≡ false = grind (arith, nat_tests) in
+      let among : covers image x ≡ true = grind (arith, nat_tests) in rw (behind, among) refl;
+}
 
 -- the first frames of the image meet neither table, its last two do
 away : IsAway image (frame 16) begun
