@@ -1,13 +1,17 @@
 -- Small maps: what is wanted of them, and the memory that they come to.
-use Rattle.std.proofs.Common.{◌≡◌, ℕ, ◌^◌, ◌≤◌, Bool, true, false, ◌&&◌, nat_le, nat_lt, Option, Some, None, List, [], ◌∷◌, refl, sym, ◌∙◌, ap, inl, inr, arith}
+use Rattle.std.proofs.Common.{◌≡◌, ℕ, ◌^◌, ◌≤◌, Bool, true, false, ◌&&◌, nat_le, nat_lt, Option, Some, None, List, [], ◌∷◌, take, refl, sym, ◌∙◌, ap, inl, inr, arith}
 use Rattle.std.proofs.lemmas.Bool.Decides.{nat_tests}
 use Rattle.std.proofs.lemmas.Bool.{cases_Bool}
+use Rattle.bm_base.specs.Each.{each_from, each_in}
 use Rattle.bm_base.specs.Extent.{Extent}
 use Rattle.address_runs.specs.Runs.{RunOf, lies_in, value_at}
 use Rattle.e820_model.specs.Map.{TypeAt}
 use Rattle.e820_model.specs.Usable.{is_memory, is_usable, reachable}
 use Rattle.e820_model.proofs.UsableLaws.{all_bytes, interval_frame, memory_reached, usable_whole}
-use Rattle.memblock_model.specs.Labels.{plain_label}
+use Rattle.memblock_model.specs.Labels.{Labels, plain_label, with_mirror}
+use Rattle.memblock_model.specs.Items.{limit_of, memory_of, owner_of, trimmed, upward_of}
+use Rattle.memblock_model.specs.declared.owner.Owner.{Owner}
+use Rattle.memblock_model.specs.declared.item.Item.{Item}
 use Rattle.memblock_model.specs.declared.owner.Owner.TheVariants as owner
 use Rattle.memblock_model.specs.declared.item.Item.TheVariants as item
 use Rattle.early_stages.specs.Early.{Early, FrameRange, bytes_of_frames}
@@ -24,16 +28,25 @@ run base size type = record { base = base; size = size; value = type }
 abbrev limit : ℕ
 limit = 2 ^ 46
 
--- claims before memory is known
-with_initrd : early_claims (bytes 0x1000000 0x2000000) (Some (bytes 0x7000000 0x3000))
-    ≡ item.Claim (bytes 0x1000000 0x2000000) owner.Kernel ∷ item.Claim (bytes 0 0x10000) owner.Low64K
-    ∷ item.Claim (bytes 0x7000000 0x3000) owner.Initrd ∷ []
-with_initrd = refl
+-- who has a byte before memory is known: an image of 32 MiB from 16 MiB on, and an initrd of 12 KiB or none
+abbrev owned : Option Extent → ℕ → Option Owner
+owned initrd x = owner_of (early_claims (bytes 0x1000000 0x2000000) initrd) x
 
-without_initrd : (early_claims (bytes 0x1000000 0x2000000) None
-    ≡ item.Claim (bytes 0x1000000 0x2000000) owner.Kernel ∷ item.Claim (bytes 0 0x10000) owner.Low64K ∷ [])
-    × (initrd_claims None ≡ []) × (up_to 0x10000 ≡ bytes 0 0x10000)
-without_initrd = (refl, refl, refl)
+abbrev initrd_range : Option Extent
+initrd_range = Some (bytes 0x7000000 0x3000)
+
+initrd_has_its_bytes : (owned initrd_range 0x6FFFFFF ≡ None) × (owned initrd_range 0x7000000 ≡ Some owner.Initrd)
+    × (owned initrd_range 0x7002FFF ≡ Some owner.Initrd) × (owned initrd_range 0x7003000 ≡ None)
+initrd_has_its_bytes = (refl, refl, refl, refl)
+
+image_and_first_frames : (owned None 0xFFFF ≡ Some owner.Low64K) × (owned None 0x10000 ≡ None) × (owned None 0xFFFFFF ≡ None)
+    × (owned None 0x1000000 ≡ Some owner.Kernel) × (owned None 0x2FFFFFF ≡ Some owner.Kernel) × (owned None 0x7000000 ≡ None)
+image_and_first_frames = (refl, refl, refl, refl, refl, refl)
+
+-- an initrd that begins within the first 64 KiB has its bytes there, too
+low_initrd_keeps_its_bytes : (owned (Some (bytes 0xF000 0x3000)) 0xEFFF ≡ Some owner.Low64K)
+    × (owned (Some (bytes 0xF000 0x3000)) 0xF000 ≡ Some owner.Initrd) × (initrd_claims None ≡ []) × (up_to 0x10000 ≡ bytes 0 0x10000)
+low_initrd_keeps_its_bytes = (refl, refl, refl, refl)
 
 -- RAM is added, a reserved run isn't, a driver's is claimed; what passes the limit is cut, what begins there is left out
 runs_of_types : (items_of_run limit (run 0x1000 0x9F000 1) ≡ item.Mem (bytes 0x1000 0x9F000) ∷ [])
@@ -50,35 +63,54 @@ two_runs : items_of_map limit (run 0x1000 0x9F000 1 ∷ run 0xF0000 0x10000 2 �
     ≡ item.Mem (bytes 0x1000 0x9F000) ∷ item.Claim (bytes 0x100000 0x100000) owner.Soft ∷ []
 two_runs = refl
 
--- two ranges of mirrored frames, 1 to 2 and 8: what is trimmed is mirrored, range by range
+-- two ranges of mirrored frames, 1 to 2 and 8
 abbrev some_frames : List FrameRange
 some_frames = record { first = 1; count = 2 } ∷ record { first = 8; count = 1 } ∷ []
 
-closes : closing_items some_frames 0x4000
-    ≡ item.Trim ∷ item.Mirror (bytes 0x1000 0x2000) ∷ item.Mirror (bytes 0x8000 0x1000) ∷ item.Limit 0x4000
-    ∷ item.Claim (bytes 0 0x100000) owner.Low1M ∷ []
-closes = refl
+-- of RAM from frame 1 to the middle of frame 2 the half frame is gone before anything is mirrored, and frame 1 is mirrored next
+abbrev ram_and_a_half : ℕ → Labels
+ram_and_a_half steps = memory_of (item.Mem (bytes 0x1000 0x1800) ∷ take steps (closing_items some_frames 0x4000))
+
+only_whole_frames_are_mirrored : (ram_and_a_half 0 0x27FF ≡ Some plain_label) × (ram_and_a_half 1 0x27FF ≡ None)
+    × (ram_and_a_half 1 0x1FFF ≡ Some plain_label) × (ram_and_a_half 2 0x1FFF ≡ Some (with_mirror plain_label))
+unfolding trimmed each_in each_from
+only_whole_frames_are_mirrored = (refl, refl, refl, refl)
+
+-- behind all of it an allocation stays below the end, and the first MiB has its owner
+closed : (limit_of (item.Limit 0x100000 ∷ closing_items some_frames 0x4000) ≡ 0x4000)
+    × (owner_of (closing_items some_frames 0x4000) 0xFFFFF ≡ Some owner.Low1M)
+    × (owner_of (closing_items some_frames 0x4000) 0x100000 ≡ None)
+closed = (refl, refl, refl)
 
 mirrors_and_direction : (mirror_items [] ≡ []) × (bytes_of_frames (record { first = 8; count = 1 }) ≡ bytes 0x8000 0x1000)
     × (direction_items true ≡ item.Upward true ∷ []) × (direction_items false ≡ [])
 mirrors_and_direction = (refl, refl, refl, refl)
 
--- without a map there is a limit of 0
+-- a boot with 127 MiB of RAM from 1 MiB on
 abbrev given : Option Extent → Bool → Early
 given initrd upward =
     record { limit = limit; kernel = bytes 0x1000000 0x2000000; initrd = initrd; mirrors = some_frames; upward = upward }
 
-nothing_wanted_of_no_map : first_items (given None false) []
-    ≡ item.Claim (bytes 0x1000000 0x2000000) owner.Kernel ∷ item.Claim (bytes 0 0x10000) owner.Low64K ∷ item.Limit 0x100000
-    ∷ closing_items some_frames (memory_end limit (value_at []))
-nothing_wanted_of_no_map = refl
+abbrev wanted : Option Extent → Bool → ℕ → List Item
+wanted initrd upward steps = take steps (first_items (given initrd upward) (run 0x100000 0x7F00000 1 ∷ []))
 
--- an initrd is claimed before that limit, and the direction is said behind it
-wanted_with_an_initrd : first_items (given (Some (bytes 0x7000000 0x3000)) true) []
-    ≡ item.Claim (bytes 0x1000000 0x2000000) owner.Kernel ∷ item.Claim (bytes 0 0x10000) owner.Low64K
-    ∷ item.Claim (bytes 0x7000000 0x3000) owner.Initrd ∷ item.Limit 0x100000 ∷ item.Upward true
-    ∷ closing_items some_frames (memory_end limit (value_at []))
-wanted_with_an_initrd = refl
+-- an allocation stays in the first MiB when the first byte becomes memory, which is the fourth thing to happen
+limited_when_memory_comes : (memory_of (wanted None false 3) 0x100000 ≡ None) × (limit_of (wanted None false 3) ≡ 0x100000)
+    × (memory_of (wanted None false 4) 0x100000 ≡ Some plain_label) × (upward_of (wanted None false 4) ≡ false)
+limited_when_memory_comes = (refl, refl, refl, refl)
+
+-- with an initrd and a search from below: the initrd has its bytes, then the limit is there, then the direction, and memory behind it
+direction_behind_the_limit : (owner_of (wanted initrd_range true 3) 0x7000000 ≡ Some owner.Initrd)
+    × (limit_of (wanted initrd_range true 4) ≡ 0x100000) × (upward_of (wanted initrd_range true 4) ≡ false)
+    × (upward_of (wanted initrd_range true 5) ≡ true) × (memory_of (wanted initrd_range true 5) 0x100000 ≡ None)
+    × (memory_of (wanted initrd_range true 6) 0x100000 ≡ Some plain_label)
+direction_behind_the_limit = (refl, refl, refl, refl, refl, refl)
+
+-- without a map nothing becomes memory, whatever is mirrored, and the first MiB is claimed all the same
+no_map_no_memory : (memory_of (first_items (given None false) []) 0x1000 ≡ None)
+    × (owner_of (first_items (given None false) []) 0xFFFFF ≡ Some owner.Low1M)
+unfolding trimmed each_in each_from
+no_map_no_memory = (refl, refl)
 
 -- what is mirrored and what isn't: bytes of those frames that are memory
 mirrored_bytes : (is_mirrored some_frames 0xFFF ≡ false) × (is_mirrored some_frames 0x1000 ≡ true) × (is_mirrored some_frames 0x2FFF ≡ true)
