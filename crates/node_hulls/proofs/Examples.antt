@@ -6,13 +6,14 @@ use Rattle.address_runs.specs.Runs.{AreRuns, runs_from, value_at}
 use Rattle.bm_base.specs.Each.{each_from, each_in}
 use Rattle.bm_base.specs.Extent.{Extent}
 use Rattle.srat_reader.specs.declared.table.SratBlock.{SratBlock}
+use Rattle.srat_reader.specs.Table.{Affinity}
 use Rattle.node_hulls.specs.declared.kept.KeptBlock.{KeptBlock}
 use Rattle.node_hulls.specs.declared.reasons.Why.TheVariants as why
 use Rattle.node_hulls.specs.Domains.{is_named, with_name, named_once, domains_named, node_of}
 use Rattle.node_hulls.specs.Hulls.{NumaBlock, meets, is_between, is_own, holds, joins, has, first_had, node_at, same_node}
 use Rattle.node_hulls.specs.Judgement.{left_over, frames_given, lower, lowest, unused, used, if_covering, if_apart, nodes_by, left_by, names_of, judged_kept, judged_table, judged}
 use Rattle.node_hulls.proofs.RestLaws.{frames_none, frames_step}
-use Rattle.node_hulls.specs.Kept.{in_any, frame_base, framed, meets_memory, of_node, kept_one, kept_from, kept_of, numa_blocks_of, is_node_of, any_kept, count_some, clash, first_clash}
+use Rattle.node_hulls.specs.Kept.{in_any, frame_base, framed, meets_memory, of_node, kept_one, kept_from, kept_of, numa_blocks_of, is_node_of, any_kept, count_some, clash, overlap_at, first_clash}
 
 abbrev block : ℕ → ℕ → ℕ → NumaBlock
 block n base size = record { base = base; size = size; value = n }
@@ -161,6 +162,12 @@ clash_examples : (clash (kept 0 (block 0 1 2)) (kept 1 (block 1 2 2)) ≡ true)
     × (clash (kept 0 (block 0 1 2)) (kept 1 (block 0 2 2)) ≡ false)
 clash_examples = (refl, refl, refl)
 
+-- by their numbers, the lower one first
+overlap_examples : (overlap_at (kept 3 (block 0 1 2) ∷ kept 7 (block 1 2 2) ∷ []) 3 7 ≡ true)
+    × (overlap_at (kept 3 (block 0 1 2) ∷ kept 7 (block 1 2 2) ∷ []) 7 3 ≡ false)
+    × (overlap_at (kept 3 (block 0 1 2) ∷ kept 7 (block 1 3 2) ∷ []) 3 7 ≡ false)
+overlap_examples = (refl, refl, refl)
+
 -- the least pair by the first number and then by the second
 least_pair : first_clash (kept 1 (block 0 9 1) ∷ kept 2 (block 0 1 4) ∷ kept 5 (block 1 7 1) ∷ kept 6 (block 1 3 1) ∷ kept 8 (block 2 2 1)
     ∷ []) ≡ Some (2, 6)
@@ -223,9 +230,16 @@ frames_of_runs =
 one_mebibyte : frames_given (value_at (block 0 0 0x100000 ∷ [])) ≡ 256
 one_mebibyte = frames_step (block 0 0 0x100000) [] (lit< tt, tt, tt) (lit< tt) ∙ rw frames_none refl
 
--- 256 frames are too many, none is few enough
+one_frame_less : frames_given (value_at (block 0 0 0xFF000 ∷ [])) ≡ 255
+one_frame_less = frames_step (block 0 0 0xFF000) [] (lit< tt, tt, tt) (lit< tt) ∙ rw frames_none refl
+
+-- 256 frames are too many; 255 and none are few enough
 too_much_left : if_covering (5 ∷ []) (value_at []) (value_at (block 0 0 0x100000 ∷ [])) ≡ unused (why.NotCovered 256)
 too_much_left = rw one_mebibyte refl
+
+few_enough_left : if_covering (5 ∷ []) (value_at []) (value_at (block 0 0 0xFF000 ∷ []))
+    ≡ used (5 ∷ []) (value_at []) (value_at (block 0 0 0xFF000 ∷ []))
+few_enough_left = rw one_frame_less refl
 
 nothing_left : if_covering (5 ∷ []) (value_at (block 0 0 1 ∷ [])) (value_at []) ≡ used (5 ∷ []) (value_at (block 0 0 1 ∷ [])) (value_at [])
 nothing_left = rw frames_none refl
@@ -238,14 +252,28 @@ used_gives = (one_mebibyte, refl)
 unused_gives : ((unused why.NoBlocks).domains ≡ []) × ((unused (why.Overlap 1 2)).why ≡ why.Overlap 1 2)
 unused_gives = (refl, refl)
 
--- 2,048 blocks with an address aren't too many, as one without an address doesn't count; 2,049 are
-many_blocks : judged_table some_frames (record { processors = []; blocks = replicate 2049 (told 5 0x1000 0x1000) })
-    ≡ unused why.TooManyBlocks
+-- 2,048 blocks with an address aren't too many, whatever is said of the kept ones, as one without an address doesn't count; 2,049 are
+abbrev told_often : ℕ → Affinity
+told_often n = record { processors = []; blocks = told 5 0 0 ∷ replicate n (told 5 0x1000 0x1000) }
+
+enough_blocks : judged_table some_frames (told_often 2048) ≡ judged_kept some_frames (5 ∷ []) (kept_of some_frames (5 ∷ [])
+    (told_often 2048).blocks)
+unfolding judged_table named_once each_in each_from
+enough_blocks = refl
+
+many_blocks : judged_table some_frames (told_often 2049) ≡ unused why.TooManyBlocks
 unfolding judged_table named_once each_in each_from
 many_blocks = refl
 
--- 1,025 domains are too many
-many_domains : judged_table some_frames (record { processors = range_with_len 0 1025; blocks = told 5 0x1000 0x1000 ∷ [] })
-    ≡ unused why.TooManyDomains
+-- 1,024 domains aren't too many, 1,025 are
+abbrev told_domains : ℕ → Affinity
+told_domains n = record { processors = range_with_len 0 n; blocks = told 5 0x1000 0x1000 ∷ [] }
+
+enough_domains : judged_table some_frames (told_domains 1024)
+    ≡ judged_kept some_frames (range_with_len 0 1024) (kept_of some_frames (range_with_len 0 1024) (told_domains 1024).blocks)
+unfolding judged_table named_once each_in each_from
+enough_domains = refl
+
+many_domains : judged_table some_frames (told_domains 1025) ≡ unused why.TooManyDomains
 unfolding judged_table named_once each_in each_from
 many_domains = refl

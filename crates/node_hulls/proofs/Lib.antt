@@ -7,6 +7,8 @@ pub mod JudgedLaws
 pub mod KeptLaws
 pub mod MeaningLaws
 pub mod MemoryLaws
+pub mod NamingLaws
 pub mod NodesLaws
 mod NumberExamples
+pub mod OverlapLaws
 pub mod RestLaws

@@ -78,8 +78,9 @@ no_place p i (x ∷ xs) none = elim (cases_Bool (p x)) as (λ _. list_any p (x �
 pub record HasPlace (domains : List ℕ) (d : ℕ) : Type 0 where
   pub below : node_of domains d < length domains
   pub there : get_or domains (node_of domains d) 0 ≡ d
+  pub first : (k : ℕ) → k < node_of domains d → (get_or domains k 0 == d) ≡ false
 
-place_of : (domains : List ℕ) (d : ℕ) → is_named domains d ≡ true → HasPlace domains d
+pub place_of : (domains : List ℕ) (d : ℕ) → is_named domains d ≡ true → HasPlace domains d
 place_of domains d named = by (position (λ e. e == d) domains) refl where
   by : (o : Option ℕ) → position (λ e. e == d) domains ≡ o → HasPlace domains d
   by None at =
@@ -91,6 +92,7 @@ place_of domains d named = by (position (λ e. e == d) domains) refl where
       record {
         below = rw node found.0;
         there = rw node (grind (arith, nat_tests, found.1));
+        first = rw node found.2;
       }
 
 pub one_domain : (domains : List ℕ) (d e : ℕ) → is_named domains d ≡ true → is_named domains e ≡ true

@@ -299,7 +299,7 @@ no_clash a b x none lies_a lies_b =
       | inr other ↦ absurd (true≢false (sym (rw (other, meeting) refl) ∙ none))
     ]
 
-find_none : {X : Type 0} (p : X → Bool) (xs : List X) (x : X) → find p xs ≡ None → IsIn x xs → p x ≡ false
+pub find_none : {X : Type 0} (p : X → Bool) (xs : List X) (x : X) → find p xs ≡ None → IsIn x xs → p x ≡ false
 find_none p [] x none member = absurd member
 find_none p (y ∷ ys) x none member = elim (cases_Bool (p y)) as (λ _. p x ≡ false) [
   | inl here ↦ absurd (none-some y (sym none ∙ rw here refl))
@@ -315,7 +315,7 @@ kept_member [] b member = absurd member
 kept_member (k ∷ ks) b (inl here) = (k, inl refl, here)
 kept_member (k ∷ ks) b (inr later) = let found = kept_member ks b later in (found.0, inr found.1, found.2)
 
-first_none_parts : (a : KeptBlock) (rest : List KeptBlock) → first_clash (a ∷ rest) ≡ None → (find (clash a) rest ≡ None)
+pub first_none_parts : (a : KeptBlock) (rest : List KeptBlock) → first_clash (a ∷ rest) ≡ None → (find (clash a) rest ≡ None)
     × (first_clash rest ≡ None)
 first_none_parts a rest none = by (find (clash a) rest) refl where
   by : (o : Option KeptBlock) → find (clash a) rest ≡ o → (find (clash a) rest ≡ None) × (first_clash rest ≡ None)

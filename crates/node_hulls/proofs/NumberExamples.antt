@@ -1,5 +1,5 @@
 -- The numbers of the kernel that definitions cite by their names, and what they decide from both sides.
-use Rattle.std.proofs.Common.{◌≡◌, ℕ, ◌*◌, ◌^◌, List, [], None, refl}
+use Rattle.std.proofs.Common.{◌≡◌, ◌*◌, ◌^◌, refl}
 use Rattle.node_hulls.specs.declared.reasons.TheConstants.{MAX_NODES, MAX_BLOCKS, UNCOVERED_FRAMES}
 
 -- `MAX_NUMNODES` by `NODES_SHIFT` 10; `NR_NODE_MEMBLKS`, two for each node; the frames of 1 MiB (`numa_meminfo_cover_memory`)

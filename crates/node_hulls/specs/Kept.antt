@@ -66,6 +66,10 @@ count_some blocks = count_by (λ (b : SratBlock). nat_lt 0 b.range.size) blocks
 abbrev pub clash : KeptBlock → KeptBlock → Bool
 clash a b = not (a.block.value == b.block.value) && meets a.block.base (run_end a.block) b.block
 
+-- kept blocks of two numbers, the lower one first, are of different nodes and share an address
+abbrev pub overlap_at : List KeptBlock → ℕ → ℕ → Bool
+overlap_at kept i j = nat_lt i j && list_any (λ a. (a.number == i) && list_any (λ b. (b.number == j) && clash a b) kept) kept
+
 -- the numbers of the first kept block that clashes with a later one, and of the first that it clashes with
 abbrev pub first_clash : List KeptBlock → Option (ℕ × ℕ)
 first_clash [] = None

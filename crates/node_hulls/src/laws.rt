@@ -1,7 +1,8 @@
 //! What holds of the words themselves, as calls that the crates above may cite: an address has one node at most, nodes
-//! are domains by other numbers, the addresses of a frame have one node, and each node of a kept block has memory.
+//! are domains by other numbers in the order of first naming, the pair of blocks that is told is the least that overlaps, the
+//! addresses of a frame have one node, and each node of a kept block has memory.
 
-ghost use Rattle.std.specs.Prelude.{◌≡◌, ◌≢◌, ◌↔◌, ◌⊎◌, ℕ, ◌^◌, ◌<◌, ◌++◌, ◌||◌, Bool, true, None, Some, is_some, Option, List, [], length};
+ghost use Rattle.std.specs.Prelude.{◌≡◌, ◌≢◌, ◌↔◌, ◌⊎◌, ℕ, ◌^◌, ◌<◌, ◌≤◌, ◌++◌, ◌||◌, Bool, true, false, None, Some, is_some, Option, List, [], ◌∷◌, length, get_or};
 ghost use Rattle.std.specs.List.{All};
 ghost use Rattle.address_runs.specs.Overlay.{HaveAddresses};
 ghost use Rattle.address_runs.specs.Runs.{AreRuns, value_at};
@@ -10,10 +11,10 @@ ghost use Rattle.srat_reader.specs.Table.{Affinity};
 ghost use Rattle.node_hulls.specs.declared.kept.KeptBlock.{KeptBlock as AnyKept};
 ghost use Rattle.node_hulls.specs.declared.reasons.Why.TheVariants as why;
 ghost use Rattle.node_hulls.specs.declared.reasons.TheConstants.{MAX_NODES};
-ghost use Rattle.node_hulls.specs.Domains.{is_named, node_of};
+ghost use Rattle.node_hulls.specs.Domains.{is_named, named_once, node_of};
 ghost use Rattle.node_hulls.specs.Hulls.{NumaBlock, has};
 ghost use Rattle.node_hulls.specs.Judgement.{judged, left_by, nodes_by};
-ghost use Rattle.node_hulls.specs.Kept.{numa_blocks_of, first_clash, frame_base, is_node_of, kept_of};
+ghost use Rattle.node_hulls.specs.Kept.{numa_blocks_of, overlap_at, first_clash, frame_base, is_node_of, kept_of};
 
 /// A law: where no two kept blocks clash, the node of an address is the one node that it has, if any.
 pub fn one_node_an_address()
@@ -27,6 +28,27 @@ pub fn one_node_a_domain()
     ensures one { (domains : List ℕ) (d e : ℕ) → is_named domains d ≡ true → is_named domains e ≡ true →
         node_of domains d ≡ node_of domains e → d ≡ e }
     ensures below { (domains : List ℕ) (d : ℕ) → is_named domains d ≡ true → node_of domains d < length domains }
+{}
+
+/// A law: nodes count the domains in the order in which they are first named, whatever is named. The domains are those that are
+/// named; the one at place n has node n, so each stands there once; and one that is named where another isn't yet has the lower node.
+pub fn nodes_by_first_naming()
+    ensures named { (names : List ℕ) (d : ℕ) → is_named (named_once names) d ≡ is_named names d }
+    ensures place { (names : List ℕ) (n : ℕ) → n < length (named_once names) → node_of (named_once names) (get_or (named_once names) n 0) ≡ n }
+    ensures order { (before after : List ℕ) (d e : ℕ) → is_named before e ≡ false → d ≢ e → is_named after e ≡ true →
+        node_of (named_once (before ++ d ∷ after)) d < node_of (named_once (before ++ d ∷ after)) e }
+{}
+
+/// A law: where kept blocks overlap, the pair that is told is one that does, and the least, by its first number and then by its
+/// second; and none is told only where no two overlap.
+pub fn least_overlap()
+    ensures pair { (memory : ℕ → Bool) (domains : List ℕ) (blocks : List AnyBlock) (i j : ℕ) →
+        first_clash (kept_of memory domains blocks) ≡ Some (i, j) → overlap_at (kept_of memory domains blocks) i j ≡ true }
+    ensures least { (memory : ℕ → Bool) (domains : List ℕ) (blocks : List AnyBlock) (i j k l : ℕ) →
+        first_clash (kept_of memory domains blocks) ≡ Some (i, j) → overlap_at (kept_of memory domains blocks) k l ≡ true →
+        (i < k) ⊎ ((i ≡ k) × (j ≤ l)) }
+    ensures none { (memory : ℕ → Bool) (domains : List ℕ) (blocks : List AnyBlock) (k l : ℕ) →
+        first_clash (kept_of memory domains blocks) ≡ None → overlap_at (kept_of memory domains blocks) k l ≡ false }
 {}
 
 /// A law: an address has the node of its frame's first one; and where memory is whole frames, it is left over where that

@@ -15,7 +15,8 @@
 //! the same node. Memory is laid out as runs too, for a look-up of each block. That this is the same is proved in `proofs/`.
 //!
 //! The laws say what the words mean to each other: an address has one node at most ([`one_node_an_address`]), nodes are domains by
-//! other numbers ([`one_node_a_domain`]), whole frames have one node ([`one_node_a_frame`]), a node has memory exactly where a
+//! other numbers ([`one_node_a_domain`]), in the order in which these are first named ([`nodes_by_first_naming`]), the pair of
+//! blocks that is told is the least that overlaps ([`least_overlap`]), whole frames have one node ([`one_node_a_frame`]), a node has memory exactly where a
 //! kept block is of it ([`nodes_with_memory`]), and the runs of a table that is used cover memory ([`runs_cover_memory`]).
 //!
 //! The layer above hands in memory as a list of ranges, in any order, and carries out what is answered: it
@@ -33,7 +34,8 @@ mod rest;
 
 pub use kept::KeptBlock;
 pub use laws::{
-    nodes_with_memory, one_node_a_domain, one_node_a_frame, one_node_an_address, runs_cover_memory,
+    least_overlap, nodes_by_first_naming, nodes_with_memory, one_node_a_domain, one_node_a_frame,
+    one_node_an_address, runs_cover_memory,
 };
 pub use node_range::NodeRange;
 pub use reasons::{Judged, MAX_BLOCKS, MAX_NODES, UNCOVERED_FRAMES, Why, judge};

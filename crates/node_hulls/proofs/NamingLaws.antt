@@ -1,0 +1,136 @@
+-- Nodes count domains in the order in which these are first named.
+use Rattle.std.proofs.Common.{◌≡◌, ◌≢◌, ℕ, zero, suc, ◌+◌, ◌<◌, ◌≤◌, ◌==◌, true, false, ◌||◌, List, [], ◌∷◌, ◌++◌, fold, length, get_or, length-append, append_assoc, refl, sym, ◌∙◌, ap, subst, inl, inr, arith}
+use Rattle.std.proofs.lemmas.Bool.{cases_lt, cases_Bool, true≢false}
+use Rattle.std.proofs.lemmas.Bool.Decides.{nat_tests}
+use Rattle.std.proofs.lemmas.List.{append-nil, get_or_append_left}
+use Rattle.std.proofs.lemmas.List.Folds.{list_any-append}
+use Rattle.std.proofs.lemmas.List.Sums.{fold-append}
+use Rattle.std.proofs.Math.Seq.{get_or-append_seam}
+use Rattle.node_hulls.specs.Domains.{is_named, with_name, named_once, node_of}
+use Rattle.node_hulls.proofs.MeaningLaws.{HasPlace, place_of, node_below}
+
+-- names that come later stand behind those that stand already
+abbrev IsExtended : List ℕ → List ℕ → Type 0
+IsExtended domains names = (more : List ℕ) × (fold with_name domains names ≡ domains ++ more)
+
+extended : (domains names : List ℕ) → IsExtended domains names
+extended domains [] = ([], sym (append-nil domains))
+extended domains (d ∷ ds) = elim (cases_Bool (is_named domains d)) as (λ _. IsExtended domains (d ∷ ds)) [
+  | inl named ↦ rw named (extended domains ds)
+  | inr new ↦
+      let later = extended (domains ++ d ∷ []) ds in
+      (d ∷ later.0, rw new (later.1 ∙ append_assoc domains (d ∷ []) later.0))
+]
+
+-- each name is there, and no other
+named_with : (domains : List ℕ) (d e : ℕ) → is_named (with_name domains d) e ≡ (is_named domains e || (d == e))
+named_with domains d e = elim (cases_Bool (is_named domains d)) as
+    (λ _. is_named (with_name domains d) e ≡ (is_named domains e || (d == e))) [
+      | inl named ↦ rw named (elim (cases_Bool (d == e)) as (λ _. is_named domains e ≡ (is_named domains e || (d == e))) [
+        | inl same ↦
+            let is : d ≡ e = grind (arith, nat_tests) in
+            rw (same, subst (λ (c : ℕ). is_named domains c ≡ true) is named) refl
+        | inr other ↦ grind arith
+      ])
+      | inr new ↦ rw (new, list_any-append (λ (c : ℕ). c == e) domains (d ∷ [])) (grind arith)
+    ]
+
+named_all : (domains names : List ℕ) (e : ℕ) → is_named (fold with_name domains names) e ≡ (is_named domains e || is_named names e)
+named_all domains [] e = grind arith
+named_all domains (d ∷ ds) e = rw (named_all (with_name domains d) ds e, named_with domains d e) (grind arith)
+
+pub named_exactly : (names : List ℕ) (d : ℕ) → is_named (named_once names) d ≡ is_named names d
+unfolding named_once
+named_exactly names d = named_all [] names d
+
+-- a domain keeps its node where more stand behind, and one that is new stands behind all
+is_named_at : (domains : List ℕ) (i d : ℕ) → i < length domains → get_or domains i 0 ≡ d → is_named domains d ≡ true
+is_named_at [] i d within is = absurd (omega arith)
+is_named_at (c ∷ cs) zero d within is = let here : (c == d) ≡ true = grind (arith, nat_tests) in rw here refl
+is_named_at (c ∷ cs) (suc i) d within is = let later : is_named cs d ≡ true = is_named_at cs i d (omega arith) is in grind (arith, later)
+
+first_place : (domains : List ℕ) (i d : ℕ) → i < length domains → get_or domains i 0 ≡ d
+    → ((k : ℕ) → k < i → (get_or domains k 0 == d) ≡ false) → node_of domains d ≡ i
+first_place domains i d within is none =
+    let place : HasPlace domains d = place_of domains d (is_named_at domains i d within is) in
+    let test : (k : ℕ) → get_or domains k 0 ≡ d → (get_or domains k 0 == d) ≡ false → ⊥ = λ k there no. grind (arith, nat_tests) in
+    elim (cases_lt (node_of domains d) i) as (λ _. node_of domains d ≡ i) [
+      | inl before ↦ absurd (test (node_of domains d) place.there (none (node_of domains d) before))
+      | inr behind ↦ elim (cases_lt i (node_of domains d)) as (λ _. node_of domains d ≡ i) [
+        | inl before ↦ absurd (test i is (place.first i before))
+        | inr after ↦ omega (arith, behind, after)
+      ]
+    ]
+
+node_stays : (domains more : List ℕ) (d : ℕ) → is_named domains d ≡ true → node_of (domains ++ more) d ≡ node_of domains d
+node_stays domains more d named =
+    let place : HasPlace domains d = place_of domains d named in
+    let below : node_of domains d < length domains = place.below in
+    first_place (domains ++ more) (node_of domains d) d (omega (arith, below, length-append domains more))
+    (get_or_append_left domains more 0 (node_of domains d) below ∙ place.there)
+    (λ k less. ap (λ (c : ℕ). c == d) (get_or_append_left domains more 0 k (omega (arith, less, below))) ∙ place.first k less)
+
+node_behind : (domains more : List ℕ) (d : ℕ) → is_named domains d ≡ false → is_named (domains ++ more) d ≡ true
+    → length domains ≤ node_of (domains ++ more) d
+node_behind domains more d new named =
+    let node : ℕ = node_of (domains ++ more) d in
+    elim (cases_lt node (length domains)) as (λ _. length domains ≤ node) [
+      | inl before ↦ absurd (true≢false (sym (is_named_at domains node d before
+          (sym (get_or_append_left domains more 0 node before) ∙ (place_of (domains ++ more) d named).there)) ∙ new))
+      | inr behind ↦ behind
+    ]
+
+-- so each domain's node is its place
+abbrev ArePlaces : List ℕ → Type 0
+ArePlaces domains = (n : ℕ) → n < length domains → node_of domains (get_or domains n 0) ≡ n
+
+places_with : (domains : List ℕ) (d : ℕ) → ArePlaces domains → ArePlaces (with_name domains d)
+places_with domains d places = elim (cases_Bool (is_named domains d)) as (λ _. ArePlaces (with_name domains d)) [
+  | inl named ↦ rw named places
+  | inr new ↦ rw new (λ n within. elim (cases_lt n (length domains)) as
+      (λ _. node_of (domains ++ d ∷ []) (get_or (domains ++ d ∷ []) n 0) ≡ n) [
+        | inl before ↦
+            rw (get_or_append_left domains (d ∷ []) 0 n before)
+            (node_stays domains (d ∷ []) (get_or domains n 0) (is_named_at domains n (get_or domains n 0) before refl) ∙ places n before)
+        | inr behind ↦
+            let long : length (domains ++ d ∷ []) ≡ length domains + 1 = length-append domains (d ∷ []) in
+            let last : n ≡ length domains = omega (arith, within, behind, long) in
+            let is : get_or (domains ++ d ∷ []) n 0 ≡ d =
+            ap (λ (k : ℕ). get_or (domains ++ d ∷ []) k 0) last ∙ get_or-append_seam domains d [] 0 in
+            let named : is_named (domains ++ d ∷ []) d ≡ true = is_named_at (domains ++ d ∷ []) n d within is in
+            let low = node_behind domains (d ∷ []) d new named in
+            let high = node_below (domains ++ d ∷ []) d named in
+            rw is (omega (arith, last, low, high, long))
+      ])
+]
+
+places_all : (domains names : List ℕ) → ArePlaces domains → ArePlaces (fold with_name domains names)
+places_all domains [] places = places
+places_all domains (d ∷ ds) places = places_all (with_name domains d) ds (places_with domains d places)
+
+pub node_at_place : (names : List ℕ) → ArePlaces (named_once names)
+unfolding named_once
+node_at_place names = places_all [] names (λ n within. absurd (omega arith))
+
+-- and one that is named before another has the lower node
+order_behind : (domains names : List ℕ) (d e : ℕ) → is_named domains d ≡ true → is_named domains e ≡ false → is_named names e ≡ true
+    → node_of (fold with_name domains names) d < node_of (fold with_name domains names) e
+order_behind domains names d e named new later =
+    let behind = extended domains names in
+    let there : is_named (domains ++ behind.0) e ≡ true =
+    subst (λ (ds : List ℕ). is_named ds e ≡ true) behind.1 (named_all domains names e ∙ rw (new, later) refl) in
+    let stays = node_stays domains behind.0 d named in
+    let below = node_below domains d named in
+    let high = node_behind domains behind.0 e new there in
+    rw behind.1 (omega (arith, stays, below, high))
+
+pub order_of_naming : (before after : List ℕ) (d e : ℕ) → is_named before e ≡ false → d ≢ e → is_named after e ≡ true
+    → node_of (named_once (before ++ d ∷ after)) d < node_of (named_once (before ++ d ∷ after)) e
+unfolding named_once
+order_of_naming before after d e new other later =
+    let so_far : List ℕ = fold with_name [] before in
+    let same : (d == d) ≡ true = grind (arith, nat_tests) in
+    let differ : (d == e) ≡ false = grind (arith, nat_tests, other) in
+    let named : is_named (with_name so_far d) d ≡ true = named_with so_far d d ∙ rw same (grind arith) in
+    let not_yet : is_named (with_name so_far d) e ≡ false = named_with so_far d e ∙ rw (differ, named_all [] before e, new) refl in
+    rw (fold-append with_name [] before (d ∷ after)) (order_behind (with_name so_far d) after d e named not_yet later)

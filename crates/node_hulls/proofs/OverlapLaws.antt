@@ -1,0 +1,239 @@
+-- The pair of kept blocks that is told is the least that overlaps.
+use Rattle.std.proofs.Common.{◌≡◌, ℕ, ◌+◌, ◌<◌, ◌≤◌, ◌==◌, ◌⊎◌, Bool, true, false, ◌&&◌, nat_lt, Option, Some, None, List, [], ◌∷◌, refl, sym, ◌∙◌, ap, inl, inr, arith}
+use Rattle.std.proofs.lemmas.Bool.{cases_Bool, and_parts, true≢false}
+use Rattle.std.proofs.lemmas.Bool.Decides.{nat_tests}
+use Rattle.std.proofs.lemmas.Option.{none-some, same_Some}
+use Rattle.std.specs.Prelude.{find}
+use Rattle.address_runs.specs.Runs.{extent_of}
+use Rattle.srat_reader.specs.declared.table.SratBlock.{SratBlock}
+use Rattle.node_hulls.specs.declared.kept.KeptBlock.{KeptBlock}
+use Rattle.node_hulls.specs.Kept.{meets_memory, of_node, kept_from, kept_of, clash, overlap_at, first_clash}
+use Rattle.node_hulls.proofs.InListLaws.{IsIn, any_member, member_any}
+use Rattle.node_hulls.proofs.NodesLaws.{find_none, first_none_parts}
+
+-- kept blocks stand in the order of their numbers, which aren't below the one
+abbrev Numbered : ℕ → List KeptBlock → Type 0
+Numbered n [] = Unit {0}
+Numbered n (k ∷ ks) = (n ≤ k.number) × Numbered (k.number + 1) ks
+
+from_lower : (n : ℕ) (ks : List KeptBlock) → Numbered (n + 1) ks → Numbered n ks
+from_lower n [] numbered = tt
+from_lower n (k ∷ ks) numbered = let low = numbered.0 in (omega (arith, low), numbered.1)
+
+kept_numbered : (memory : ℕ → Bool) (domains : List ℕ) (n : ℕ) (bs : List SratBlock) → Numbered n (kept_from memory domains n bs)
+kept_numbered memory domains n [] = tt
+kept_numbered memory domains n (b ∷ bs) = elim (cases_Bool (meets_memory memory (extent_of (of_node domains b)))) as
+    (λ _. Numbered n (kept_from memory domains n (b ∷ bs))) [
+      | inl some ↦ rw some (omega arith, kept_numbered memory domains (n + 1) bs)
+      | inr none ↦ rw none (from_lower n (kept_from memory domains (n + 1) bs) (kept_numbered memory domains (n + 1) bs))
+    ]
+
+number_from : (n : ℕ) (ks : List KeptBlock) (k : KeptBlock) → Numbered n ks → IsIn k ks → n ≤ k.number
+number_from n [] k numbered member = absurd member
+number_from n (j ∷ js) k numbered (inl here) =
+    let same : k.number ≡ j.number = ap (λ (i : KeptBlock). i.number) here in
+    let low = numbered.0 in
+    omega (arith, same, low)
+number_from n (j ∷ js) k numbered (inr later) =
+    let low = numbered.0 in
+    let high = number_from (j.number + 1) js k numbered.1 later in
+    omega (arith, low, high)
+
+-- the first that passes, and that those of lower numbers don't
+record IsFirst (p : KeptBlock → Bool) (ks : List KeptBlock) (k : KeptBlock) : Type 0 where
+  member : IsIn k ks
+  passes : p k ≡ true
+  least : (j : KeptBlock) → IsIn j ks → p j ≡ true → k.number ≤ j.number
+
+find_first : (p : KeptBlock → Bool) (n : ℕ) (ks : List KeptBlock) (k : KeptBlock) → Numbered n ks → find p ks ≡ Some k → IsFirst p ks k
+find_first p n [] k numbered found = absurd (none-some k found)
+find_first p n (c ∷ cs) k numbered found = elim (cases_Bool (p c)) as (λ _. IsFirst p (c ∷ cs) k) [
+  | inl here ↦
+      let same : c ≡ k = same_Some c k (rw here at found) in
+      let number : c.number ≡ k.number = ap (λ (i : KeptBlock). i.number) same in
+      record {
+        member = inl (sym same);
+        passes = ap p (sym same) ∙ here;
+        least = λ j member passes. elim member as (λ _. k.number ≤ j.number) [
+          | inl first ↦ let is : j.number ≡ c.number = ap (λ (i : KeptBlock). i.number) first in omega (arith, is, number)
+          | inr later ↦ let high = number_from (c.number + 1) cs j numbered.1 later in omega (arith, high, number)
+        ];
+      }
+  | inr not_here ↦
+      let rest = find_first p (c.number + 1) cs k numbered.1 (rw not_here at found) in
+      record {
+        member = inr rest.member;
+        passes = rest.passes;
+        least = λ j member passes. elim member as (λ _. k.number ≤ j.number) [
+          | inl first ↦ absurd (true≢false (sym passes ∙ ap p first ∙ not_here))
+          | inr later ↦ rest.least j later passes
+        ];
+      }
+]
+
+-- two kept blocks of these numbers clash
+record Overlap (ks : List KeptBlock) (i j : ℕ) : Type 0 where
+  one : KeptBlock
+  other : KeptBlock
+  in_one : IsIn one ks
+  in_other : IsIn other ks
+  first : one.number ≡ i
+  second : other.number ≡ j
+  order : i < j
+  clashes : clash one other ≡ true
+
+overlap_from : (ks : List KeptBlock) (i j : ℕ) → overlap_at ks i j ≡ true → Overlap ks i j
+overlap_from ks i j test =
+    let parts = and_parts (nat_lt i j) _ test in
+    let a = any_member _ ks parts.1 in
+    let of_a = and_parts (a.one.number == i) _ a.passes in
+    let b = any_member _ ks of_a.1 in
+    let of_b = and_parts (b.one.number == j) _ b.passes in
+    record {
+      one = a.one;
+      other = b.one;
+      in_one = a.member;
+      in_other = b.member;
+      first = let is = of_a.0 in grind (arith, nat_tests, is);
+      second = let is = of_b.0 in grind (arith, nat_tests, is);
+      order = let less = parts.0 in grind (arith, nat_tests, less);
+      clashes = of_b.1;
+    }
+
+overlap_test : (ks : List KeptBlock) (i j : ℕ) → Overlap ks i j → overlap_at ks i j ≡ true
+overlap_test ks i j o =
+    let first : (o.one.number == i) ≡ true = let is = o.first in grind (arith, nat_tests, is) in
+    let second : (o.other.number == j) ≡ true = let is = o.second in grind (arith, nat_tests, is) in
+    let less : nat_lt i j ≡ true = let order = o.order in grind (arith, nat_tests, order) in
+    let in_other = member_any (λ (b : KeptBlock). (b.number == j) && clash o.one b) ks o.other o.in_other (rw (second, o.clashes) refl) in
+    rw less (member_any _ ks o.one o.in_one (rw (first, in_other) refl))
+
+-- the first block is the lower one of two, or neither
+record WithFirst (c : KeptBlock) (cs : List KeptBlock) (i j : ℕ) : Type 0 where
+  other : KeptBlock
+  in_other : IsIn other cs
+  first : c.number ≡ i
+  second : other.number ≡ j
+  clashes : clash c other ≡ true
+
+with_first : (n : ℕ) (c : KeptBlock) (cs : List KeptBlock) (i j : ℕ) → Numbered n (c ∷ cs) → Overlap (c ∷ cs) i j
+    → WithFirst c cs i j ⊎ Overlap cs i j
+with_first n c cs i j numbered o =
+    let number : (a b : KeptBlock) → a ≡ b → a.number ≡ b.number = λ a b same. ap (λ (k : KeptBlock). k.number) same in
+    let behind : (k : KeptBlock) → IsIn k cs → c.number + 1 ≤ k.number = λ k member. number_from (c.number + 1) cs k numbered.1 member in
+    let first = o.first in
+    let second = o.second in
+    let order = o.order in
+    elim o.in_one as (λ _. WithFirst c cs i j ⊎ Overlap cs i j) [
+      | inl here ↦ elim o.in_other as (λ _. WithFirst c cs i j ⊎ Overlap cs i j) [
+        | inl too ↦ let one = number o.one c here in let two = number o.other c too in absurd (omega (arith, first, second, order, one, two))
+        | inr later ↦ inl (record {
+          other = o.other;
+          in_other = later;
+          first = sym (number o.one c here) ∙ first;
+          second = second;
+          clashes = ap (λ (k : KeptBlock). clash k o.other) (sym here) ∙ o.clashes;
+        })
+      ]
+      | inr later ↦ elim o.in_other as (λ _. WithFirst c cs i j ⊎ Overlap cs i j) [
+        | inl here ↦
+            let one = behind o.one later in
+            let two = number o.other c here in
+            absurd (omega (arith, first, second, order, one, two))
+        | inr too ↦ inr (record {
+          one = o.one;
+          other = o.other;
+          in_one = later;
+          in_other = too;
+          first = first;
+          second = second;
+          order = order;
+          clashes = o.clashes;
+        })
+      ]
+    ]
+
+-- the pair that is told is one, and the least
+record IsTold (ks : List KeptBlock) (i j : ℕ) : Type 0 where
+  pair : Overlap ks i j
+  least : (k l : ℕ) → Overlap ks k l → (i < k) ⊎ ((i ≡ k) × (j ≤ l))
+
+told : (n : ℕ) (ks : List KeptBlock) (i j : ℕ) → Numbered n ks → first_clash ks ≡ Some (i, j) → IsTold ks i j
+told n [] i j numbered is = absurd (none-some (i, j) is)
+told n (c ∷ cs) i j numbered is = by (find (clash c) cs) refl (told (c.number + 1) cs i j numbered.1) is where
+  by : (o : Option KeptBlock) → find (clash c) cs ≡ o → (first_clash cs ≡ Some (i, j) → IsTold cs i j)
+      → first_clash (c ∷ cs) ≡ Some (i, j) → IsTold (c ∷ cs) i j
+  by (Some d) at rest told_at =
+      let one : ℕ × ℕ = (c.number, d.number) in
+      let other : ℕ × ℕ = (i, j) in
+      let same : one ≡ other = same_Some one other (rw at at told_at) in
+      let first : c.number ≡ i = ap (λ (p : ℕ × ℕ). p.0) same in
+      let second : d.number ≡ j = ap (λ (p : ℕ × ℕ). p.1) same in
+      let found = find_first (clash c) (c.number + 1) cs d numbered.1 at in
+      record {
+        pair = record {
+          one = c;
+          other = d;
+          in_one = inl refl;
+          in_other = inr found.member;
+          first = first;
+          second = second;
+          order = let high = number_from (c.number + 1) cs d numbered.1 found.member in omega (arith, first, second, high);
+          clashes = found.passes;
+        };
+        least = λ k l o. elim (with_first n c cs k l numbered o) as (λ _. (i < k) ⊎ ((i ≡ k) × (j ≤ l))) [
+          | inl w ↦
+              let is_l = w.second in
+              let low = found.least w.other w.in_other w.clashes in
+              inr (sym first ∙ w.first, omega (arith, second, is_l, low))
+          | inr later ↦
+              let is_k = later.first in
+              let high = number_from (c.number + 1) cs later.one numbered.1 later.in_one in
+              inl (omega (arith, first, is_k, high))
+        ];
+      }
+  by None at rest told_at =
+      let later = rest (rw at at told_at) in
+      record {
+        pair = record {
+          one = later.pair.one;
+          other = later.pair.other;
+          in_one = inr later.pair.in_one;
+          in_other = inr later.pair.in_other;
+          first = later.pair.first;
+          second = later.pair.second;
+          order = later.pair.order;
+          clashes = later.pair.clashes;
+        };
+        least = λ k l o. elim (with_first n c cs k l numbered o) as (λ _. (i < k) ⊎ ((i ≡ k) × (j ≤ l))) [
+          | inl w ↦ absurd (true≢false (sym w.clashes ∙ find_none (clash c) cs w.other at w.in_other))
+          | inr o_later ↦ later.least k l o_later
+        ];
+      }
+
+-- and none is told only where there is none
+no_overlap : (n : ℕ) (ks : List KeptBlock) (i j : ℕ) → Numbered n ks → first_clash ks ≡ None → Overlap ks i j → ⊥
+no_overlap n [] i j numbered none o = absurd o.in_one
+no_overlap n (c ∷ cs) i j numbered none o =
+    let parts = first_none_parts c cs none in
+    elim (with_first n c cs i j numbered o) as (λ _. ⊥) [
+      | inl w ↦ true≢false (sym w.clashes ∙ find_none (clash c) cs w.other parts.0 w.in_other)
+      | inr later ↦ no_overlap (c.number + 1) cs i j numbered.1 parts.1 later
+    ]
+
+-- the same of the blocks that are kept of a table
+module _ (memory : ℕ → Bool) (domains : List ℕ) (blocks : List SratBlock) where
+  abbrev ks : List KeptBlock
+  ks = kept_of memory domains blocks
+
+  pub pair_overlaps : (i j : ℕ) → first_clash ks ≡ Some (i, j) → overlap_at ks i j ≡ true
+  pair_overlaps i j is = overlap_test ks i j (told 0 ks i j (kept_numbered memory domains 0 blocks) is).pair
+
+  pub pair_least : (i j k l : ℕ) → first_clash ks ≡ Some (i, j) → overlap_at ks k l ≡ true → (i < k) ⊎ ((i ≡ k) × (j ≤ l))
+  pair_least i j k l is test = (told 0 ks i j (kept_numbered memory domains 0 blocks) is).least k l (overlap_from ks k l test)
+
+  pub none_overlap : (k l : ℕ) → first_clash ks ≡ None → overlap_at ks k l ≡ false
+  none_overlap k l none = elim (cases_Bool (overlap_at ks k l)) as (λ _. overlap_at ks k l ≡ false) [
+    | inl test ↦ absurd (no_overlap 0 ks k l (kept_numbered memory domains 0 blocks) none (overlap_from ks k l test))
+    | inr apart ↦ apart
+  ]
