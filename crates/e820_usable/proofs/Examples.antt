@@ -1,8 +1,9 @@
 -- Small maps and large ones, judged: what the definitions say of them.
 use Rattle.std.proofs.Common.{◌≡◌, ℕ, ◌+◌, ◌^◌, ◌<◌, ◌∙◌, Some, None, List, [], ◌∷◌, min, refl, sym, arith}
-use Rattle.address_runs.specs.Runs.{RunOf, value_at, AreRuns}
+use Rattle.address_runs.specs.Runs.{RunOf, value_at}
 use Rattle.e820_model.specs.Usable.{reachable, usable_frames}
 use Rattle.e820_usable.specs.declared.stop.MapStop.TheVariants as stops
+use Rattle.e820_usable.specs.Ascend.{Ascend}
 use Rattle.e820_usable.specs.Frames.{whole_frames}
 use Rattle.e820_usable.specs.Judged.{judged}
 use Rattle.e820_usable.proofs.FramesLaws.{whole_by_division, frames_usable}
@@ -22,7 +23,7 @@ limit = 2 ^ 52
 abbrev ram : ℕ → List (RunOf ℕ)
 ram size = record { base = 0; size = size; value = 1 } ∷ []
 
-one_run : (size : ℕ) → 0 < size → AreRuns (ram size)
+one_run : (size : ℕ) → 0 < size → Ascend (ram size)
 one_run size some = (some, tt, tt)
 
 -- its usable frames are the whole ones up to its end
@@ -74,3 +75,12 @@ limit_in_a_frame : usable_frames (reachable 0x2800 (value_at (ram 0x4000))) ≡ 
 limit_in_a_frame =
     sym (frames_usable 0x2800 (omega arith) (ram 0x4000) (one_run 0x4000 (omega arith)))
     ∙ whole_by_division 0 0x2800 (omega arith)
+
+-- three pages in two runs of RAM, the second of which begins inside a page: it counts once
+abbrev two_runs : List (RunOf ℕ)
+two_runs = record { base = 0; size = 0x1800; value = 1 } ∷ record { base = 0x1800; size = 0x1800; value = 1 } ∷ []
+
+touching_runs : usable_frames (reachable limit (value_at two_runs)) ≡ 3
+touching_runs =
+    sym (frames_usable limit (omega arith) two_runs (omega arith, omega arith, (omega arith, tt, tt)))
+    ∙ whole_by_division 0 0x3000 (omega arith)

@@ -4,9 +4,10 @@ use Rattle.std.proofs.lemmas.Bool.{cases_Bool, cases_eq}
 use Rattle.std.proofs.lemmas.Bool.Decides.{nat_tests}
 use Rattle.address_runs.specs.Runs.{RunOf, run_end, lies_in, value_at, AreRuns}
 use Rattle.address_runs.specs.Sweep.{StartFrom}
-use Rattle.address_runs.proofs.RunsLaws.{none_below, rest_from}
+use Rattle.address_runs.proofs.RunsLaws.{below, rest_from}
 use Rattle.e820_model.specs.Usable.{is_memory, count_below, reachable, usable_frames}
 use Rattle.e820_model.proofs.UsableLaws.{all_bytes, count_same, count_interval, count_frames_between, IsGap, count_split, usable_count, memory_reached}
+use Rattle.e820_usable.specs.Ascend.{Ascend}
 use Rattle.e820_usable.specs.Frames.{whole_frames}
 
 -- the whole frames between two addresses, by division
@@ -47,18 +48,29 @@ pub start_first : (rs : List (RunOf ℕ)) → StartFrom 0 rs
 start_first [] = tt
 start_first (r ∷ rs) = omega arith
 
+-- a canonical list ascends
+pub runs_ascend : {X : Type 0} (rs : List (RunOf X)) → AreRuns rs → Ascend rs
+runs_ascend [] runs = tt
+runs_ascend (r ∷ rs) runs = (runs.0, rest_from r rs runs, runs_ascend rs runs.2)
+
+-- below the address from which the runs start they give nothing
+none_before : (at x : ℕ) (rs : List (RunOf ℕ)) → Ascend rs → StartFrom at rs → x < at → value_at rs x ≡ None
+none_before at x [] order start low = refl
+none_before at x (r ∷ rs) order start low =
+    rw (below r x (omega arith)) (none_before (run_end r) x rs order.2 order.1 (omega arith))
+
 -- a run that touches the stretch lengthens it
-pub memory_touching : (from until : ℕ) (r : RunOf ℕ) (rs : List (RunOf ℕ)) → from ≤ until → AreRuns (r ∷ rs)
+pub memory_touching : (from until : ℕ) (r : RunOf ℕ) (rs : List (RunOf ℕ)) → from ≤ until → Ascend (r ∷ rs)
     → is_memory (Some r.value) ≡ true → r.base ≡ until
     → (x : ℕ) → memory_after from until (r ∷ rs) x ≡ memory_after from (run_end r) rs x
 memory_touching from until r rs order runs memory touches x = grind (arith, nat_tests)
 
 -- a run that isn't memory changes nothing
-pub memory_other : (from until : ℕ) (r : RunOf ℕ) (rs : List (RunOf ℕ)) → AreRuns (r ∷ rs)
+pub memory_other : (from until : ℕ) (r : RunOf ℕ) (rs : List (RunOf ℕ)) → Ascend (r ∷ rs)
     → is_memory (Some r.value) ≡ false
     → (x : ℕ) → memory_after from until (r ∷ rs) x ≡ memory_after from until rs x
 memory_other from until r rs runs other x =
-    let none : x < run_end r → value_at rs x ≡ None = λ lt. none_below (run_end r) x rs runs.2 (rest_from r rs runs) lt in
+    let none : x < run_end r → value_at rs x ≡ None = λ lt. none_before (run_end r) x rs runs.2 runs.1 lt in
     elim (cases_Bool (lies_in r x)) as (λ _. memory_after from until (r ∷ rs) x ≡ memory_after from until rs x) [
       | inl inside ↦
           (let low : x < run_end r = grind (arith, nat_tests) in
@@ -79,12 +91,12 @@ memory_apart from until r rs memory x =
     ]
 
 -- the address behind the stretch is a gap between it and the runs
-pub stretch_gap : (from until : ℕ) (r : RunOf ℕ) (rs : List (RunOf ℕ)) → AreRuns (r ∷ rs) → until < r.base
+pub stretch_gap : (from until : ℕ) (r : RunOf ℕ) (rs : List (RunOf ℕ)) → Ascend (r ∷ rs) → until < r.base
     → IsGap (λ x. nat_le from x && nat_lt x until) (memory_after r.base (run_end r) rs) until
 stretch_gap from until r rs runs behind = record {
   below = λ x high. grind (arith, nat_tests);
   above = λ x low.
-      let nothing : value_at rs x ≡ None = none_below (run_end r) x rs runs.2 (rest_from r rs runs) (omega arith) in
+      let nothing : value_at rs x ≡ None = none_before (run_end r) x rs runs.2 runs.1 (omega arith) in
       grind (arith, nat_tests, nothing);
 }
 
@@ -126,14 +138,14 @@ both_frames limit p q gap apart =
     ap (λ t. count_below (all_bytes t) (2 ^ 52)) (λ i x. either x i) ∙ count_split near far gap (2 ^ 52) still
 
 -- the frames counted along the runs are the whole frames of memory
-pub frames_counted : (limit : ℕ) → limit < 2 ^ 64 → (rs : List (RunOf ℕ)) (from until : ℕ) → from ≤ until → StartFrom until rs → AreRuns rs
+pub frames_counted : (limit : ℕ) → limit < 2 ^ 64 → (rs : List (RunOf ℕ)) (from until : ℕ) → from ≤ until → StartFrom until rs → Ascend rs
     → frames_from limit from until rs ≡ frames_of limit (memory_after from until rs)
 frames_counted limit space [] from until order start runs =
     stretch_frames limit from until space
     ∙ frames_same limit (λ x. nat_le from x && nat_lt x until) (memory_after from until []) (memory_last from until)
 frames_counted limit space (r ∷ rs) from until order start runs =
     let goal : Type 0 = frames_from limit from until (r ∷ rs) ≡ frames_of limit (memory_after from until (r ∷ rs)) in
-    let behind : StartFrom (run_end r) rs = rest_from r rs runs in
+    let behind : StartFrom (run_end r) rs = runs.1 in
     elim (cases_Bool (is_memory (Some r.value))) as (λ _. goal) [
       | inr other ↦
           (let rest : frames_from limit from until rs ≡ frames_of limit (memory_after from until rs) =
@@ -165,8 +177,8 @@ frames_counted limit space (r ∷ rs) from until order start runs =
       ])
     ]
 
--- along a canonical list of runs, from no stretch at all: its usable frames
-pub frames_usable : (limit : ℕ) → limit < 2 ^ 64 → (rs : List (RunOf ℕ)) → AreRuns rs
+-- along runs that ascend, from no stretch at all: its usable frames
+pub frames_usable : (limit : ℕ) → limit < 2 ^ 64 → (rs : List (RunOf ℕ)) → Ascend rs
     → frames_from limit 0 0 rs ≡ usable_frames (reachable limit (value_at rs))
 frames_usable limit space rs runs =
     let reached : (x : ℕ) → (is_memory (value_at rs x) && nat_lt x limit) ≡ is_memory (reachable limit (value_at rs) x) =

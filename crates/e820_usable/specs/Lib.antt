@@ -1,2 +1,3 @@
+pub mod Ascend
 pub mod Frames
 pub mod Judged

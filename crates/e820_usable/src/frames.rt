@@ -2,8 +2,9 @@
 //! whole frames count. One pass over the runs is enough, however many frames they have.
 
 ghost use Rattle.std.specs.Prelude.{◌≡◌, ℕ, ◌+◌, ◌-◌, ◌*◌, ◌^◌, ◌<◌, ◌≤◌};
-ghost use Rattle.address_runs.specs.Runs.{AreRuns, value_at};
+ghost use Rattle.address_runs.specs.Runs.{value_at};
 ghost use Rattle.e820_model.specs.Usable.{is_memory, reachable, usable_frames};
+ghost use Rattle.e820_usable.specs.Ascend.{Ascend};
 ghost use Rattle.e820_usable.specs.Frames.{whole_frames};
 
 use bm_base::FRAME_SIZE;
@@ -28,9 +29,9 @@ fn whole_frames(from: u64, until: u64) -> u64
 
 /// The number of usable frames of the map that these runs are: frames of 4,096 bytes of which each byte is
 /// memory (`e820__memblock_setup`, `memblock_trim_memory`) and within reach. `limit` is the first address out of
-/// reach, in bytes, and may lie inside a frame.
+/// reach, in bytes, and may lie inside a frame. The runs ascend; those that touch may be of one type.
 pub fn usable_frames(runs: &[Run], limit: u64) -> u64
-    requires { AreRuns runs.now }
+    requires { Ascend runs.now }
     ensures { result ≡ usable_frames (reachable limit (value_at runs.now)) }
 {
     let mut frames = 0;

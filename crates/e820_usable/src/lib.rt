@@ -13,8 +13,8 @@
 //! than 2^32 of them ([`MapStop::TooMuchRam`]). The definition is `judged` of `specs/Judged.antt`. That a
 //! map has too many runs is told before, by whoever makes the runs.
 //!
-//! The layer above may rest on both answers for every canonical list of runs and every limit: there is no other condition,
-//! and neither call takes memory.
+//! The layer above may rest on both answers for every limit: for runs that ascend (`specs/Ascend.antt`) the number, for a canonical
+//! list of them the judgement. There is no other condition, and neither call takes memory.
 #![tactic(auto)]
 
 mod frames;

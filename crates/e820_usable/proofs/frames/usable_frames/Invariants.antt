@@ -1,6 +1,6 @@
 use Rattle.std.proofs.Common.{◌≡◌, ◌+◌, ◌*◌, ◌^◌, ◌<◌, ◌≤◌, drop}
-use Rattle.address_runs.specs.Runs.{AreRuns}
 use Rattle.address_runs.specs.Sweep.{StartFrom}
+use Rattle.e820_usable.specs.Ascend.{Ascend}
 use Rattle.e820_usable.proofs.FramesLaws.{frames_from}
 use Rattle.e820_usable.proofs.frames.usable_frames.Given as goal
 
@@ -11,5 +11,5 @@ invariant-loop-run l = record {
   fits : l.until < 2 ^ 64;
   order : l.from ≤ l.until;
   start : StartFrom l.until (drop l.run-index l.runs);
-  runs : AreRuns (drop l.run-index l.runs);
+  runs : Ascend (drop l.run-index l.runs);
 }
