@@ -1,2 +1,4 @@
 mod Examples
+pub mod LineLaws
+pub mod PutLaws
 pub mod RecordLaws

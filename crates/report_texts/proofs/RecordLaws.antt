@@ -1,5 +1,5 @@
 -- The records of a table, one by one: each has an address, none from 2^64 on, and a line.
-use Rattle.std.proofs.Common.{◌≡◌, ℕ, zero, suc, ◌+◌, ◌-◌, ◌*◌, ◌^◌, ◌<◌, ◌≤◌, true, List, [], ◌∷◌, ◌++◌, length, drop, get_or, is_some, None, refl, ap, ◌∙◌, arith, inl, inr, add-one, append_assoc, drop-cons}
+use Rattle.std.proofs.Common.{◌≡◌, ℕ, zero, suc, ◌+◌, ◌-◌, ◌*◌, ◌^◌, ◌<◌, ◌≤◌, true, List, [], ◌∷◌, ◌++◌, length, drop, get_or, is_some, None, refl, ap, ◌∙◌, arith, inl, inr}
 use Rattle.std.proofs.lemmas.Bool.{cases_Bool, cases_lt}
 use Rattle.std.proofs.lemmas.Bool.Decides.{nat_tests}
 use Rattle.phys_store.specs.Bytes.{Stored, byte_of, bytes_at}
@@ -11,6 +11,7 @@ use Rattle.memblock_ranges.specs.Spelling.{region_in, region_of}
 use Rattle.memblock_ranges.specs.Tables.{AreRecords, Table}
 use Rattle.report_texts.specs.Lines.{lines_from}
 use Rattle.report_texts.specs.RecordsText.{IsTableAt, record_line, region_line}
+use Rattle.report_texts.proofs.LineLaws.{lines_at}
 
 -- some run, where a list has none
 abbrev pub no_run : RunOf Label
@@ -68,18 +69,13 @@ region_in_space table store head i region at within is =
     let count : head.count ≡ length table.records = ap (λ (h : Head). h.count) at.told in
     rw (is ∙ region_is table store head i at within) (record_in_space table.records i at.stands.records (omega arith))
 
--- the line of one more record
-pub one_more_line : (table : Table) (store : List Stored) (head : Head) (i : ℕ) (region : Region) (before after whole : List ℕ)
-    → IsTableAt table store head → i < head.count → region ≡ region_in (bytes_at (byte_of store) (head.place + 24 * i) 24)
-    → after ≡ before ++ region_line i region → before ++ lines_from record_line i (drop i table.records) ≡ whole
-    → after ++ lines_from record_line (i + 1) (drop (i + 1) table.records) ≡ whole
-one_more_line table store head i region before after whole at within is put so_far =
+-- the line of one more record is the next one
+pub next_line : (table : Table) (store : List Stored) (head : Head) (i : ℕ) (region : Region) → IsTableAt table store head
+    → i < head.count → region ≡ region_in (bytes_at (byte_of store) (head.place + 24 * i) 24)
+    → lines_from record_line i (drop i table.records)
+    ≡ region_line i region ++ lines_from record_line (i + 1) (drop (i + 1) table.records)
+next_line table store head i region at within is =
     let count : head.count ≡ length table.records = ap (λ (h : Head). h.count) at.told in
-    let rest : drop i table.records ≡ get_or table.records i no_run ∷ drop (i + 1) table.records =
-    rw (add-one i) (drop-cons table.records i no_run (omega arith)) in
     let line : region_line i region ≡ record_line i (get_or table.records i no_run) =
     ap (region_line i) (is ∙ region_is table store head i at within) in
-    let lines : lines_from record_line i (drop i table.records)
-    ≡ region_line i region ++ lines_from record_line (i + 1) (drop (i + 1) table.records) =
-    rw (rest, line) refl in
-    rw (put, append_assoc) (rw lines at so_far)
+    rw line (lines_at record_line table.records i (get_or table.records i no_run) no_run refl (omega arith))

@@ -1,7 +1,8 @@
 //! The text of the journal: what happened to memory, item by item. What an item is stands apart from its number
 //! (`put_item`), since the report of nodes has the same words of some items without it.
 
-ghost use Rattle.std.specs.Prelude.{◌≡◌, ◌+◌, ◌^◌, ◌<◌, ◌++◌, OnOk};
+ghost use Rattle.std.specs.Prelude.{◌+◌, ◌^◌, ◌<◌};
+ghost use Rattle.bm_base.specs.PutsText.{PutsText};
 ghost use Rattle.report_texts.specs.JournalText.{item_line, item_text, journal_text};
 
 use crate::lines::put_lines;
@@ -12,7 +13,7 @@ use boot_journal::{Item, Journal, Owner, Which};
 
 /// Appends the text of the journal: a line for each item, oldest first.
 pub fn put_journal(text: &mut Vec<u8>, journal: &Journal) -> Result<(), Memory>
-    ensures { OnOk result (text.new.items ≡ text.old.items ++ journal_text journal.now.items) }
+    ensures { PutsText text.old text.new result (journal_text journal.now.items) }
 {
     put_lines(text, journal.items(), put_item_line)
 }
@@ -20,7 +21,7 @@ pub fn put_journal(text: &mut Vec<u8>, journal: &Journal) -> Result<(), Memory>
 /// Appends the line of an item. Items are numbered from 1.
 fn put_item_line(text: &mut Vec<u8>, index: u64, item: &Item) -> Result<(), Memory>
     requires { index + 1 < 2 ^ 64 }
-    ensures { OnOk result (text.new.items ≡ text.old.items ++ item_line index item.now) }
+    ensures { PutsText text.old text.new result (item_line index item.now) }
 {
     put_dec(text, index + 1, 0)?;
     put_text(text, b": ")?;
@@ -30,7 +31,7 @@ fn put_item_line(text: &mut Vec<u8>, index: u64, item: &Item) -> Result<(), Memo
 
 /// Appends what an item is, with its parts.
 pub fn put_item(text: &mut Vec<u8>, item: &Item) -> Result<(), Memory>
-    ensures { OnOk result (text.new.items ≡ text.old.items ++ item_text item.now) }
+    ensures { PutsText text.old text.new result (item_text item.now) }
 {
     match item {
         Item::Mem { range } => put_word_range(text, b"mem ", range),
@@ -55,7 +56,7 @@ pub fn put_item(text: &mut Vec<u8>, item: &Item) -> Result<(), Memory>
 
 /// Appends a claim: whose it is, and of which bytes.
 fn put_claim(text: &mut Vec<u8>, range: &Range, owner: Owner) -> Result<(), Memory>
-    ensures { OnOk result (text.new.items ≡ text.old.items ++ item_text (Item.Claim range.now owner)) }
+    ensures { PutsText text.old text.new result (item_text (Item.Claim range.now owner)) }
 {
     put_text(text, b"claim ")?;
     put_owner(text, owner)?;
@@ -65,7 +66,7 @@ fn put_claim(text: &mut Vec<u8>, range: &Range, owner: Owner) -> Result<(), Memo
 
 /// Appends whether searches go upward from now on.
 fn put_upward(text: &mut Vec<u8>, on: bool) -> Result<(), Memory>
-    ensures { OnOk result (text.new.items ≡ text.old.items ++ item_text (Item.Upward on)) }
+    ensures { PutsText text.old text.new result (item_text (Item.Upward on)) }
 {
     put_text(text, b"upward ")?;
     if on {
@@ -77,7 +78,7 @@ fn put_upward(text: &mut Vec<u8>, on: bool) -> Result<(), Memory>
 
 /// Appends a growth: which table, where to, and its room there.
 fn put_grown(text: &mut Vec<u8>, which: Which, place: u64, room: u64) -> Result<(), Memory>
-    ensures { OnOk result (text.new.items ≡ text.old.items ++ item_text (Item.Grown which place room)) }
+    ensures { PutsText text.old text.new result (item_text (Item.Grown which place room)) }
 {
     put_text(text, b"grown ")?;
     put_text(text, which_name(which).as_bytes())?;

@@ -10,8 +10,9 @@
 //! What several texts have alike stands once: a range is its first and its last byte, an index is
 //! right-aligned in four places, an owner and a table have one name each. Numbers are put by `bm_base`.
 //!
-//! Nothing but the text grows, and nothing but want of memory comes in its place; the text is then
-//! of no use, and whoever asked for it drops it.
+//! Nothing but the text grows, and nothing but want of memory comes in its place, and that only where
+//! the text's room is too small (`PutsText` of `bm_base`); the text is then of no use, and whoever
+//! asked for it drops it.
 #![tactic(auto)]
 
 mod journal;

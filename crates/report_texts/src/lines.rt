@@ -1,28 +1,29 @@
 //! Lines, one for each element of a list. The call takes the function that puts one line, so the loop over a list
-//! is proved here, once for all reports; and memory for the lines is taken before the first of them.
+//! is proved here, once for all reports.
 
 ghost use Rattle.std.specs.Prelude.{◌≡◌, ℕ, ◌<◌, ◌++◌, List, OnOk, length};
+ghost use Rattle.bm_base.specs.PutsText.{PutsText};
 ghost use Rattle.report_texts.specs.Lines.{lines_from};
 
 use bm_base::Memory;
 
-/// The bytes that most lines take at most, the map's among them.
-pub const LINE_ROOM: usize = 56;
-
 /// Appends the line of each element, in their order. `put` appends the line of one, which it is handed
-/// with its index, from 0. Room for [`LINE_ROOM`] bytes a line is taken in advance.
+/// with its index, from 0. `lines` is for a `put` that takes memory beside the text's, `puts` for one that takes none.
 pub fn put_lines<T, F: Fn(&mut Vec<u8>, u64, &T) -> Result<(), Memory>>(
     text: &mut Vec<u8>,
     items: &[T],
     put: F,
 ) -> Result<(), Memory>
     requires { (t : _) (i : _) (x : _) → i < length items.now → F.pre put t i x }
-    ensures { (line : ℕ → T → List ℕ)
+    ensures lines { (line : ℕ → T → List ℕ)
         → ((t : _) (i : _) (x : _) (answer : _) (u : _) → F.post put t i x answer u
         → OnOk answer (u.now.items ≡ t.now.items ++ line i x.now))
         → OnOk result (text.new.items ≡ text.old.items ++ lines_from line 0 items.now) }
+    ensures puts { (line : ℕ → T → List ℕ)
+        → ((t : _) (i : _) (x : _) (answer : _) (u : _) → F.post put t i x answer u
+        → PutsText t.now u.now answer (line i x.now))
+        → PutsText text.old text.new result (lines_from line 0 items.now) }
 {
-    text.reserve(items.len().saturating_mul(LINE_ROOM))?;
     for (index, item) in items.iter().enumerate() {
         put(text, index as u64, item)?;
     }

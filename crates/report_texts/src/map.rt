@@ -1,7 +1,8 @@
 //! The report of the map: a line for each run. The names of types stand here and not beside their numbers
 //! (`e820_model`), since a report alone has them.
 
-ghost use Rattle.std.specs.Prelude.{◌≡◌, ◌++◌, OnOk};
+ghost use Rattle.std.specs.Prelude.{◌≡◌};
+ghost use Rattle.bm_base.specs.PutsText.{PutsText};
 ghost use Rattle.report_texts.specs.MapText.{kind_name, map_line, map_text};
 
 use crate::lines::put_lines;
@@ -32,14 +33,14 @@ fn kind_name(kind: u32) -> &'static str
 
 /// Appends the text of the map: a line for each run.
 pub fn put_map(text: &mut Vec<u8>, runs: &[Run]) -> Result<(), Memory>
-    ensures { OnOk result (text.new.items ≡ text.old.items ++ map_text runs.now) }
+    ensures { PutsText text.old text.new result (map_text runs.now) }
 {
     put_lines(text, runs, put_map_line)
 }
 
 /// Appends the line of a run.
 fn put_map_line(text: &mut Vec<u8>, index: u64, run: &Run) -> Result<(), Memory>
-    ensures { OnOk result (text.new.items ≡ text.old.items ++ map_line index run.now) }
+    ensures { PutsText text.old text.new result (map_line index run.now) }
 {
     put_range(text, &run.range)?;
     put_text(text, b" ")?;

@@ -1,8 +1,9 @@
 //! The text of the options: what the command line asks of the memory set-up. They are told as they were read,
 //! before anything comes of them; that the reports of the map, the nodes and the crash area tell.
 
-ghost use Rattle.std.specs.Prelude.{◌≡◌, ◌++◌, OnOk, codes};
+ghost use Rattle.std.specs.Prelude.{◌++◌, codes};
 ghost use Rattle.std.specs.Option.{option_map};
+ghost use Rattle.bm_base.specs.PutsText.{PutsText};
 ghost use Rattle.bm_base.specs.Text.{hex_text};
 ghost use Rattle.boot_options.specs.Crash.{crash_view, plain_view};
 ghost use Rattle.boot_options.specs.Options.{chosen};
@@ -16,7 +17,7 @@ use boot_options::{CrashOption, CrashPlain, CrashRange, Edit, Options};
 /// Appends the text of the options: a line for each edit in the order of the command line, then those
 /// of the crash area, and one each where `numa=off` and `add_efi_memmap` stand in it.
 pub fn put_options(text: &mut Vec<u8>, options: &Options) -> Result<(), Memory>
-    ensures { OnOk result (text.new.items ≡ text.old.items ++ options_text (chosen options.now)) }
+    ensures { PutsText text.old text.new result (options_text (chosen options.now)) }
 {
     put_lines(text, &options.edits, put_edit_line)?;
     put_crash_lines(text, &options.crash)?;
@@ -26,7 +27,7 @@ pub fn put_options(text: &mut Vec<u8>, options: &Options) -> Result<(), Memory>
 
 /// Appends the line of an edit.
 fn put_edit_line(text: &mut Vec<u8>, index: u64, edit: &Edit) -> Result<(), Memory>
-    ensures { OnOk result (text.new.items ≡ text.old.items ++ edit_line index edit.now) }
+    ensures { PutsText text.old text.new result (edit_line index edit.now) }
 {
     put_edit(text, edit)?;
     put_text(text, b"\n")
@@ -34,7 +35,7 @@ fn put_edit_line(text: &mut Vec<u8>, index: u64, edit: &Edit) -> Result<(), Memo
 
 /// Appends what an edit does, with its types and its range.
 fn put_edit(text: &mut Vec<u8>, edit: &Edit) -> Result<(), Memory>
-    ensures { OnOk result (text.new.items ≡ text.old.items ++ edit_text edit.now) }
+    ensures { PutsText text.old text.new result (edit_text edit.now) }
 {
     match edit {
         Edit::Add { range, kind } => {
@@ -60,7 +61,7 @@ fn put_edit(text: &mut Vec<u8>, edit: &Edit) -> Result<(), Memory>
 
 /// Appends the number of a type, and a space.
 fn put_kind(text: &mut Vec<u8>, kind: u32) -> Result<(), Memory>
-    ensures { OnOk result (text.new.items ≡ text.old.items ++ kind_text kind) }
+    ensures { PutsText text.old text.new result (kind_text kind) }
 {
     put_dec(text, u64::from(kind), 0)?;
     put_text(text, b" ")
@@ -69,7 +70,7 @@ fn put_kind(text: &mut Vec<u8>, kind: u32) -> Result<(), Memory>
 /// Appends the lines of the crash area that is asked for: a line for each range of the plain form, and
 /// one for each other form that is there.
 fn put_crash_lines(text: &mut Vec<u8>, crash: &CrashOption) -> Result<(), Memory>
-    ensures { OnOk result (text.new.items ≡ text.old.items ++ crash_lines (crash_view crash.now)) }
+    ensures { PutsText text.old text.new result (crash_lines (crash_view crash.now)) }
 {
     put_plain_lines(text, &crash.plain)?;
     put_size_line(text, b"crash high ", crash.high)?;
@@ -78,8 +79,7 @@ fn put_crash_lines(text: &mut Vec<u8>, crash: &CrashOption) -> Result<(), Memory
 
 /// Appends a line for each range of the plain form, if there is one.
 fn put_plain_lines(text: &mut Vec<u8>, plain: &Option<CrashPlain>) -> Result<(), Memory>
-    ensures { OnOk result (text.new.items
-        ≡ text.old.items ++ plain_lines (option_map plain_view plain.now)) }
+    ensures { PutsText text.old text.new result (plain_lines (option_map plain_view plain.now)) }
 {
     match plain {
         Some(plain) => {
@@ -103,8 +103,7 @@ fn put_crash_range(
     range: &CrashRange,
     base: u64,
 ) -> Result<(), Memory>
-    ensures { OnOk result (text.new.items ≡ text.old.items
-        ++ (word.now ++ crash_range_text range.now ++ codes " base " ++ hex_text base ++ codes "\n")) }
+    ensures { PutsText text.old text.new result (word.now ++ crash_range_text range.now ++ codes " base " ++ hex_text base ++ codes "\n") }
 {
     put_text(text, word)?;
     put_crash_bounds(text, range)?;
@@ -116,7 +115,7 @@ fn put_crash_range(
 /// Appends the bounds of a range of total memory, and the size that is kept there.
 #[tactic(auto, unfolding(crate::specs::OptionsText::crash_range_text))]
 fn put_crash_bounds(text: &mut Vec<u8>, range: &CrashRange) -> Result<(), Memory>
-    ensures { OnOk result (text.new.items ≡ text.old.items ++ crash_range_text range.now) }
+    ensures { PutsText text.old text.new result (crash_range_text range.now) }
 {
     put_hex(text, range.start)?;
     put_text(text, b" ")?;
@@ -127,7 +126,7 @@ fn put_crash_bounds(text: &mut Vec<u8>, range: &CrashRange) -> Result<(), Memory
 
 /// Appends where a range of total memory ends, if it does.
 fn put_end(text: &mut Vec<u8>, end: Option<u64>) -> Result<(), Memory>
-    ensures { OnOk result (text.new.items ≡ text.old.items ++ end_text end) }
+    ensures { PutsText text.old text.new result (end_text end) }
 {
     match end {
         Some(end) => put_hex(text, end),
@@ -137,7 +136,7 @@ fn put_end(text: &mut Vec<u8>, end: Option<u64>) -> Result<(), Memory>
 
 /// Appends a line of the word and the size, if there is one.
 fn put_size_line(text: &mut Vec<u8>, word: &[u8], size: Option<u64>) -> Result<(), Memory>
-    ensures { OnOk result (text.new.items ≡ text.old.items ++ size_line word.now size) }
+    ensures { PutsText text.old text.new result (size_line word.now size) }
 {
     let Some(size) = size else {
         return Ok(());
@@ -149,7 +148,7 @@ fn put_size_line(text: &mut Vec<u8>, word: &[u8], size: Option<u64>) -> Result<(
 
 /// Appends the line of `numa=off`, where it stands in the command line.
 fn put_numa_line(text: &mut Vec<u8>, numa_off: bool) -> Result<(), Memory>
-    ensures { OnOk result (text.new.items ≡ text.old.items ++ numa_line numa_off) }
+    ensures { PutsText text.old text.new result (numa_line numa_off) }
 {
     if !numa_off {
         return Ok(());
@@ -159,7 +158,7 @@ fn put_numa_line(text: &mut Vec<u8>, numa_off: bool) -> Result<(), Memory>
 
 /// Appends the line of `add_efi_memmap`, where it stands in the command line.
 fn put_efi_line(text: &mut Vec<u8>, add_efi: bool) -> Result<(), Memory>
-    ensures { OnOk result (text.new.items ≡ text.old.items ++ efi_line add_efi) }
+    ensures { PutsText text.old text.new result (efi_line add_efi) }
 {
     if !add_efi {
         return Ok(());

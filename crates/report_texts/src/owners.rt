@@ -1,6 +1,7 @@
 //! Owners and tables by name, and the text of who has which bytes.
 
-ghost use Rattle.std.specs.Prelude.{◌≡◌, ◌++◌, OnOk, decimal};
+ghost use Rattle.std.specs.Prelude.{◌≡◌, ◌++◌, decimal};
+ghost use Rattle.bm_base.specs.PutsText.{PutsText};
 ghost use Rattle.memblock_model.specs.Items.{owner_runs_of};
 ghost use Rattle.report_texts.specs.OwnersText.{owner_line, owner_text, owners_text, which_name};
 
@@ -11,15 +12,14 @@ use boot_journal::{Journal, Owner, OwnerRun, Which};
 
 /// Appends the text of who has which bytes at the end of the journal: a line for each run of one owner.
 pub fn put_owners(text: &mut Vec<u8>, journal: &Journal) -> Result<(), Memory>
-    ensures { OnOk result (text.new.items
-        ≡ text.old.items ++ owners_text (owner_runs_of journal.now.items)) }
+    ensures { PutsText text.old text.new result (owners_text (owner_runs_of journal.now.items)) }
 {
     put_lines(text, journal.owners(), put_owner_line)
 }
 
 /// Appends the line of a run of one owner.
 fn put_owner_line(text: &mut Vec<u8>, index: u64, run: &OwnerRun) -> Result<(), Memory>
-    ensures { OnOk result (text.new.items ≡ text.old.items ++ owner_line index run.now) }
+    ensures { PutsText text.old text.new result (owner_line index run.now) }
 {
     put_index(text, index)?;
     put_range(text, &run.range)?;
@@ -30,7 +30,7 @@ fn put_owner_line(text: &mut Vec<u8>, index: u64, run: &OwnerRun) -> Result<(), 
 
 /// Appends the name of an owner, with its number where it has one.
 pub fn put_owner(text: &mut Vec<u8>, owner: Owner) -> Result<(), Memory>
-    ensures { OnOk result (text.new.items ≡ text.old.items ++ owner_text owner) }
+    ensures { PutsText text.old text.new result (owner_text owner) }
 {
     match owner {
         Owner::Kernel => put_text(text, b"kernel"),
@@ -55,7 +55,7 @@ pub fn put_owner(text: &mut Vec<u8>, owner: Owner) -> Result<(), Memory>
 
 /// Appends a word and the number behind it.
 fn put_numbered(text: &mut Vec<u8>, word: &[u8], number: u32) -> Result<(), Memory>
-    ensures { OnOk result (text.new.items ≡ text.old.items ++ (word.now ++ decimal number)) }
+    ensures { PutsText text.old text.new result (word.now ++ decimal number) }
 {
     put_text(text, word)?;
     put_dec(text, u64::from(number), 0)

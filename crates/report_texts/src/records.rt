@@ -1,11 +1,11 @@
 //! The text of a table's records, as the bytes at its place have them. There is no list of records to hand to
 //! `put_lines`: each is read from the store when its line is put, so what is told is what stands in memory.
 
-ghost use Rattle.std.specs.Prelude.{◌≡◌, ◌+◌, ◌^◌, ◌<◌, ◌≤◌, ◌++◌, OnOk};
+ghost use Rattle.std.specs.Prelude.{◌+◌, ◌^◌, ◌<◌, ◌≤◌};
+ghost use Rattle.bm_base.specs.PutsText.{PutsText};
 ghost use Rattle.memblock_ranges.specs.Tables.{Table};
 ghost use Rattle.report_texts.specs.RecordsText.{IsTableAt, region_line, records_text};
 
-use crate::lines::LINE_ROOM;
 use crate::ranges::put_index;
 use bm_base::{Memory, put_hex, put_text};
 use memblock_ranges::{Head, Region, region_at};
@@ -16,9 +16,8 @@ use phys_store::Store;
 pub fn put_records(text: &mut Vec<u8>, store: &Store, head: &Head) -> Result<(), Memory>
     requires { (table : Table) × IsTableAt table store.now head.now }
     ensures { (table : Table) → IsTableAt table store.now head.now
-        → OnOk result (text.new.items ≡ text.old.items ++ records_text table.records) }
+        → PutsText text.old text.new result (records_text table.records) }
 {
-    text.reserve((head.count as usize).saturating_mul(LINE_ROOM))?;
     for index in 0..head.count {
         put_record_line(text, index, &region_at(store, head, index))?;
     }
@@ -29,7 +28,7 @@ pub fn put_records(text: &mut Vec<u8>, store: &Store, head: &Head) -> Result<(),
 fn put_record_line(text: &mut Vec<u8>, index: u64, region: &Region) -> Result<(), Memory>
     requires some { 0 < region.now.size }
     requires within { region.now.base + region.now.size ≤ 2 ^ 64 }
-    ensures { OnOk result (text.new.items ≡ text.old.items ++ region_line index region.now) }
+    ensures { PutsText text.old text.new result (region_line index region.now) }
 {
     put_index(text, index)?;
     put_hex(text, region.base)?;

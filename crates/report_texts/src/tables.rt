@@ -1,7 +1,7 @@
 //! The text of the two heads: where each table lies, and how full it is. A table that grows moves and doubles,
 //! which its records don't tell: so the heads are a report beside them.
 
-ghost use Rattle.std.specs.Prelude.{◌≡◌, ◌++◌, OnOk};
+ghost use Rattle.bm_base.specs.PutsText.{PutsText};
 ghost use Rattle.report_texts.specs.TablesText.{table_line, tables_text};
 
 use crate::owners::which_name;
@@ -11,7 +11,7 @@ use memblock_ranges::{Head, Heads};
 
 /// Appends the text of both heads: a line for each table.
 pub fn put_tables(text: &mut Vec<u8>, heads: &Heads) -> Result<(), Memory>
-    ensures { OnOk result (text.new.items ≡ text.old.items ++ tables_text heads.now) }
+    ensures { PutsText text.old text.new result (tables_text heads.now) }
 {
     put_table_line(text, Which::Memory, &heads.memory)?;
     put_table_line(text, Which::Reserved, &heads.reserved)
@@ -19,7 +19,7 @@ pub fn put_tables(text: &mut Vec<u8>, heads: &Heads) -> Result<(), Memory>
 
 /// Appends the line of a table.
 fn put_table_line(text: &mut Vec<u8>, which: Which, head: &Head) -> Result<(), Memory>
-    ensures { OnOk result (text.new.items ≡ text.old.items ++ table_line which head.now) }
+    ensures { PutsText text.old text.new result (table_line which head.now) }
 {
     put_text(text, which_name(which).as_bytes())?;
     put_text(text, b" place ")?;

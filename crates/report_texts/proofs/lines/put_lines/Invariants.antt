@@ -1,11 +1,20 @@
--- The text so far and the lines of the elements that are left are the text of all, whatever line each one has.
-use Rattle.std.proofs.Common.{◌≡◌, ℕ, List, ◌++◌, drop}
+-- The text so far and the lines of the elements that are left are the text of all, whatever line each one has. Where no call
+-- takes other memory than the text's, the text has no less room than before, either.
+use Rattle.std.proofs.Common.{◌≡◌, ℕ, ◌≤◌, List, ◌++◌, drop, vec_capacity}
 use Rattle.std.specs.Prelude.{OnOk}
+use Rattle.bm_base.specs.PutsText.{PutsText}
 use Rattle.report_texts.specs.Lines.{lines_from}
 use Rattle.report_texts.proofs.lines.put_lines.Given as goal
 
 abbrev pub invariant-loop-index : goal.invariant-loop-index
-invariant-loop-index g l = (line : ℕ → g.row.T.Denot → List ℕ)
-    → ((t : _) (i : _) (x : _) (answer : _) (u : _) → goal.F-post g l.put t i x answer u
-    → OnOk answer (u.now.items ≡ t.now.items ++ line i x.now))
-    → l.text.items ++ lines_from line l.index (drop l.index l.items) ≡ l.fn.text.items ++ lines_from line 0 l.items
+invariant-loop-index g l = record {
+  lines : (line : ℕ → g.row.T.Denot → List ℕ)
+      → ((t : _) (i : _) (x : _) (answer : _) (u : _) → goal.F-post g l.put t i x answer u
+      → OnOk answer (u.now.items ≡ t.now.items ++ line i x.now))
+      → l.text.items ++ lines_from line l.index (drop l.index l.items) ≡ l.fn.text.items ++ lines_from line 0 l.items;
+  puts : (line : ℕ → g.row.T.Denot → List ℕ)
+      → ((t : _) (i : _) (x : _) (answer : _) (u : _) → goal.F-post g l.put t i x answer u
+      → PutsText t.now u.now answer (line i x.now))
+      → (l.text.items ++ lines_from line l.index (drop l.index l.items) ≡ l.fn.text.items ++ lines_from line 0 l.items)
+      × (vec_capacity l.fn.text ≤ vec_capacity l.text);
+}

@@ -1,6 +1,9 @@
 -- Each record is read where the table has it, and its line is the next one.
-use Rattle.std.proofs.Common.{arith}
-use Rattle.report_texts.proofs.RecordLaws.{region_in_space, one_more_line}
+use Rattle.std.proofs.Common.{◌≡◌, Result, Err, arith}
+use Rattle.std.proofs.lemmas.Grind.{common_steps}
+use Rattle.bm_base.specs.declared.memory.Memory.{Memory}
+use Rattle.report_texts.proofs.PutLaws.{text_more, too_small}
+use Rattle.report_texts.proofs.RecordLaws.{next_line, region_in_space}
 use Rattle.report_texts.proofs.records.put_records.Goals as goal
 
 pub put_record_line-requires-clause-some : goal.put_record_line-requires-clause-some
@@ -11,7 +14,20 @@ pub put_record_line-requires-clause-within : goal.put_record_line-requires-claus
 put_record_line-requires-clause-within c =
     (region_in_space c.requires.0 _ _ c.loop-index.index _ c.requires.1 (omega arith) c.region_at.ensures).within
 
+pub returns-in_err-put_record_line : goal.returns-in_err-put_record_line
+returns-in_err-put_record_line c = λ table at.
+    let told : ◌≡◌ {A = Result (Unit {0}) Memory} c.from_residual.result (Err c.in_err-put_record_line.field-0.0) =
+    grind (arith, common_steps) in
+    rw told (too_small _ _ _ _ _ _ _ _ (next_line table _ _ c.loop-index.index _ at (omega arith) c.region_at.ensures)
+    (c.loop-index.invariant.lines table at) c.loop-index.invariant.room c.in_err-put_record_line.ensures)
+
 pub loop-index-preserved : goal.loop-index-preserved
-loop-index-preserved c = λ table at.
-    one_more_line table _ _ c.loop-index.index _ _ _ _ at (omega arith) c.region_at.ensures c.in_ok-put_record_line.ensures
-    (c.loop-index.invariant table at)
+loop-index-preserved c =
+    let put = c.in_ok-put_record_line.ensures in
+    let before = c.loop-index.invariant.room in
+    let more = put.1 in
+    record {
+      lines = λ table at. text_more _ _ _ _ _ _ (next_line table _ _ c.loop-index.index _ at (omega arith) c.region_at.ensures)
+          (c.loop-index.invariant.lines table at) put.0;
+      room = omega (arith, before, more);
+    }

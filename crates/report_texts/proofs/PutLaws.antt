@@ -1,0 +1,39 @@
+-- Calls that append to a text, one behind another, by what each says (`PutsText`).
+use Rattle.std.proofs.Common.{◌≡◌, ℕ, ◌+◌, ◌<◌, ◌≤◌, List, [], ◌++◌, length, Result, Ok, Err, Vec, Global, vec_capacity, sym, ap, ◌∙◌, append_assoc, append-nil, length-append, arith}
+use Rattle.std.specs.Prelude.{OnOk}
+use Rattle.bm_base.specs.declared.memory.Memory.{Memory}
+use Rattle.bm_base.specs.PutsText.{PutsText}
+
+-- what the last of them says is said of all, where those before it appended their bytes
+pub goes_on : (old mid new : Vec ℕ Global) (answer : Result (Unit {0}) Memory) (xs ys : List ℕ) → PutsText mid new answer ys
+    → mid.items ≡ old.items ++ xs → vec_capacity old ≤ vec_capacity mid → PutsText old new answer (xs ++ ys)
+goes_on old mid new (Ok done) xs ys last put room =
+    (last.0 ∙ ap (λ t. t ++ ys) put ∙ append_assoc old.items xs ys, let more = last.1 in omega (arith, room, more))
+goes_on old mid new (Err error) xs ys last put room =
+    let long : length mid.items ≡ length old.items + length xs = ap (λ (t : List ℕ). length t) put ∙ length-append old.items xs in
+    let both = length-append xs ys in
+    omega (arith, last, long, both, room)
+
+-- after Ok the bytes stand behind those of the text
+pub puts_ok : (old new : Vec ℕ Global) (answer : Result (Unit {0}) Memory) (xs : List ℕ)
+    → PutsText old new answer xs → OnOk answer (new.items ≡ old.items ++ xs)
+puts_ok old new (Ok done) xs puts = puts.0
+puts_ok old new (Err error) xs puts = tt
+
+-- amid a text, where what stands and what is left are the whole: one call more, of what is left
+pub text_more : (mid new xs left rest whole : List ℕ) → left ≡ xs ++ rest → mid ++ left ≡ whole → new ≡ mid ++ xs → new ++ rest ≡ whole
+text_more mid new xs left rest whole is so_far put =
+    ap (λ t. t ++ rest) put ∙ append_assoc mid xs rest ∙ ap (λ t. mid ++ t) (sym is) ∙ so_far
+
+-- one that wants memory: the room was too small for the whole
+pub too_small : (old mid xs left rest whole : List ℕ) (before room : ℕ) → left ≡ xs ++ rest → mid ++ left ≡ old ++ whole
+    → before ≤ room → room < length mid + length xs → before < length old + length whole
+too_small old mid xs left rest whole before room is so_far less wants =
+    let parts : length mid + (length xs + length rest) ≡ length old + length whole =
+    sym (length-append mid (xs ++ rest) ∙ ap (λ n. length mid + n) (length-append xs rest))
+    ∙ ap (λ (t : List ℕ). length (mid ++ t)) (sym is) ∙ ap (λ (t : List ℕ). length t) so_far ∙ length-append old whole in
+    omega (arith, parts, wants, less)
+
+-- nothing is left
+pub text_end : (text left whole : List ℕ) → left ≡ [] → text ++ left ≡ whole → text ≡ whole
+text_end text left whole none so_far = sym (append-nil text) ∙ ap (λ t. text ++ t) (sym none) ∙ so_far
