@@ -52,6 +52,20 @@ STOPPED = [
     ("ACPI's tables over half of 1 MiB", [(0x100000, 0x80000, ACPI), (0x0, 0x200000, RAM)], [], "no place for map 0"),
 ]
 
+# What a script may be refused for, and the bytes of a claim that begins in a frame of another and of a record of the table.
+REFUSALS = """\
+reserve 1 0x2fff000 0x10
+alloc 2 0x1000 0x1000
+reserve 3 0x7fb4800 0x10
+free 2
+fill 3 0xab
+peek 0x7fb47fe 4
+peek 0x2ffe000 24
+free 9
+trim 3 16
+alloc 3 1 1
+"""
+
 WENT_ON = [
     ("2 MiB at a multiple of 2 MiB", above(0x331000), "", "summary", """\
 runs 3
@@ -72,6 +86,18 @@ blocks 4128763
     ("the bytes of the first record of memory, and zeros behind the last one", PC, "peek 0x2ffe000 24\npeek 0x2ffe030 24\n", "script", f"""\
 1: bytes 001000000000000000e00900000000000000000000000000
 2: bytes {"00" * 24}
+"""),
+    ("the script of refusals and bytes", PC, REFUSALS, "script", """\
+1: table in use
+2: at 0x0000000007fb4000
+3: done
+4: not whole
+5: done
+6: bytes 0000abab
+7: bytes 001000000000000000e00900000000000000000000000000
+8: unknown
+9: keep too large
+10: taken
 """),
     ("a place that a table left has zeros alone", [(0x0, 0x9F000, RAM), MACHINE[1], *((0x8000000 + place * 0x2000, 0x1000, RAM) for place in range(1, 254))],
      "sections\n" + "".join(f"peek 0x{0x9d000 + 64 * place:x} 64\n" for place in range(96)), "script",

@@ -6,7 +6,9 @@ use boot_journal::{Item, Journal, Owner, Which};
 use boot_options::{CrashOption, CrashPlain, CrashRange, Edit, Options};
 use e820_model::Run;
 use memblock_ranges::{Head, Heads, Tables};
-use report_texts::{put_journal, put_map, put_options, put_owners, put_records, put_tables};
+use report_texts::{
+    put_item, put_journal, put_map, put_options, put_owners, put_records, put_tables,
+};
 use std::test::Fail;
 
 const RAM: Range = Range {
@@ -69,6 +71,165 @@ fn map_and_options(rt: HostRuntime) -> Result<(), Fail> {
     let want =
         b"clear\nchange 2 1 0x0000000000000000..0x00000000000fffff\ncrash range 0x0000000000000000 0x0000000004000000 0x0000000000800000 base 0x0000000001000000\ncrash range 0x0000000004000000 - 0x0000000001000000 base 0x0000000001000000\ncrash high 0x0000000020000000\nnuma off\nefi add\n";
     assert!(rt; text.as_slice() == want.as_slice());
+    Ok(())
+}
+
+fn page_of(kind: u32) -> Run {
+    Run {
+        range: Range {
+            base: 0,
+            size: 0x1000,
+        },
+        kind,
+    }
+}
+
+// Each type that has a name, and numbers between and beyond them, which have none.
+#[test]
+fn each_type(rt: HostRuntime) -> Result<(), Fail> {
+    let runs = [
+        page_of(1),
+        page_of(2),
+        page_of(3),
+        page_of(4),
+        page_of(5),
+        page_of(6),
+        page_of(7),
+        page_of(12),
+        page_of(128),
+        page_of(0xEFFF_FFFF),
+        page_of(0xFFFF_FFFF),
+    ];
+    let mut text = Vec::new(rt.alloc());
+    put_map(&mut text, &runs)?;
+    let want = b"\
+        0x0000000000000000..0x0000000000000fff 1 usable\n\
+        0x0000000000000000..0x0000000000000fff 2 reserved\n\
+        0x0000000000000000..0x0000000000000fff 3 ACPI data\n\
+        0x0000000000000000..0x0000000000000fff 4 ACPI NVS\n\
+        0x0000000000000000..0x0000000000000fff 5 unusable\n\
+        0x0000000000000000..0x0000000000000fff 6 other\n\
+        0x0000000000000000..0x0000000000000fff 7 persistent\n\
+        0x0000000000000000..0x0000000000000fff 12 persistent legacy\n\
+        0x0000000000000000..0x0000000000000fff 128 usable kernel\n\
+        0x0000000000000000..0x0000000000000fff 4026531839 soft reserved\n\
+        0x0000000000000000..0x0000000000000fff 4294967295 other\n";
+    assert!(rt; text.as_slice() == want.as_slice());
+    Ok(())
+}
+
+// The edits and the form of a crash area that `map_and_options` lacks.
+#[test]
+fn each_edit(rt: HostRuntime) -> Result<(), Fail> {
+    let add = Edit::Add {
+        range: RAM,
+        kind: 12,
+    };
+    let remove = Edit::Remove {
+        range: FIRST_MIB,
+        kind: 1,
+    };
+    let all = Edit::RemoveAll { range: FIRST_MIB };
+    let options = Options {
+        edits: vec![in rt.alloc(); add, remove, all]?,
+        crash: CrashOption {
+            plain: None,
+            high: None,
+            low: Some(0x1000_0000),
+        },
+        numa_off: false,
+        add_efi: false,
+    };
+    let mut text = Vec::new(rt.alloc());
+    put_options(&mut text, &options)?;
+    let want = b"\
+        add 12 0x0000000000100000..0x0000000007fdffff\n\
+        remove 1 0x0000000000000000..0x00000000000fffff\n\
+        remove-all 0x0000000000000000..0x00000000000fffff\n\
+        crash low 0x0000000010000000\n";
+    assert!(rt; text.as_slice() == want.as_slice());
+    Ok(())
+}
+
+fn grown(which: Which) -> Item {
+    Item::Grown {
+        which,
+        place: 0x9_D000,
+        room: 256,
+    }
+}
+
+// Each item of a journal but a claim.
+#[test]
+fn each_item(rt: HostRuntime) -> Result<(), Fail> {
+    let range = FIRST_MIB;
+    let rows = [
+        (
+            Item::Mem { range },
+            "mem 0x0000000000000000..0x00000000000fffff",
+        ),
+        (Item::Trim, "trim"),
+        (
+            Item::Node { range, node: 1023 },
+            "node 1023 0x0000000000000000..0x00000000000fffff",
+        ),
+        (
+            Item::Mirror { range },
+            "mirror 0x0000000000000000..0x00000000000fffff",
+        ),
+        (Item::Upward { on: true }, "upward on"),
+        (Item::Upward { on: false }, "upward off"),
+        (
+            Item::Free { range },
+            "free 0x0000000000000000..0x00000000000fffff",
+        ),
+        (Item::Limit { at: 0x7FE_0000 }, "limit 0x0000000007fe0000"),
+        (
+            grown(Which::Memory),
+            "grown memory 0x000000000009d000 room 256",
+        ),
+        (
+            grown(Which::Reserved),
+            "grown reserved 0x000000000009d000 room 256",
+        ),
+    ];
+    for (item, want) in &rows {
+        let mut text = Vec::new(rt.alloc());
+        put_item(&mut text, item)?;
+        assert!(rt; text.as_slice() == want.as_bytes(), "{want}");
+    }
+    Ok(())
+}
+
+// Each owner of a claim, of which those with a number have the greatest.
+#[test]
+fn each_owner(rt: HostRuntime) -> Result<(), Fail> {
+    let rows = [
+        (Owner::Kernel, "claim kernel 0x"),
+        (Owner::Low64K, "claim low-64k 0x"),
+        (Owner::Initrd, "claim initrd 0x"),
+        (Owner::Low1M, "claim low-1m 0x"),
+        (Owner::Soft, "claim soft-reserved 0x"),
+        (Owner::Table(Which::Memory), "claim table-memory 0x"),
+        (Owner::Table(Which::Reserved), "claim table-reserved 0x"),
+        (Owner::NodeData(1023), "claim node-data 1023 0x"),
+        (Owner::Crash, "claim crash 0x"),
+        (Owner::CrashLow, "claim crash-low 0x"),
+        (Owner::Roots, "claim roots 0x"),
+        (Owner::Root(2047), "claim root 2047 0x"),
+        (Owner::Usage(524_287), "claim usage 524287 0x"),
+        (Owner::Map(524_287), "claim map 524287 0x"),
+        (Owner::Script(0xFFFF_FFFF), "claim script 4294967295 0x"),
+    ];
+    for (owner, want) in &rows {
+        let claim = Item::Claim {
+            range: FIRST_MIB,
+            owner: *owner,
+        };
+        let mut text = Vec::new(rt.alloc());
+        put_item(&mut text, &claim)?;
+        assert!(rt; text.starts_with(want.as_bytes()), "{want}");
+    }
     Ok(())
 }
 

@@ -15,38 +15,51 @@ use stage_texts::{
     Chunk, Draft, Fullness, Summary, put_blocks, put_buddyinfo, put_crash, put_nodes, put_script,
     put_sections, put_summary, put_zones,
 };
+use std::alloc::Global;
 use std::test::Fail;
 use zone_spans::Span;
 
+fn no_gap(which: Which) -> Outcome {
+    Outcome::NoGapForTable { which, room: 256 }
+}
+
+fn answer(line: u32, outcome: Outcome) -> Answer {
+    Answer { line, outcome }
+}
+
+// Each outcome, in no order.
 #[test]
 fn script(rt: HostRuntime) -> Result<(), Fail> {
     let told = bytes_told(&[0, 0xAB]).ok_or("no room")?;
-    let no_gap = Outcome::NoGapForTable {
-        which: Which::Memory,
-        room: 256,
-    };
-    let answers = vec![in rt.alloc();
-        Answer {
-            line: 1,
-            outcome: Outcome::At(0x7FF_0000)
-        },
-        Answer {
-            line: 3,
-            outcome: Outcome::Bytes(told)
-        },
-        Answer {
-            line: 12,
-            outcome: no_gap
-        },
-        Answer {
-            line: 13,
-            outcome: Outcome::NotWhole
-        },
-    ]?;
+    let answers = [
+        answer(1, Outcome::At(0x7FF_0000)),
+        answer(3, Outcome::Bytes(told)),
+        answer(12, no_gap(Which::Memory)),
+        answer(13, Outcome::NotWhole),
+        answer(14, no_gap(Which::Reserved)),
+        answer(15, Outcome::NoGap),
+        answer(16, Outcome::Done),
+        answer(17, Outcome::Taken),
+        answer(18, Outcome::Unknown),
+        answer(19, Outcome::TableInUse),
+        answer(20, Outcome::TooLargeKeep),
+        answer(4_294_967_295, Outcome::TooLargeFill),
+    ];
     let mut text = Vec::new(rt.alloc());
     put_script(&mut text, &answers)?;
-    let want =
-        b"1: at 0x0000000007ff0000\n3: bytes 00ab\n12: no gap for table memory room 256\n13: not whole\n";
+    let want = b"\
+        1: at 0x0000000007ff0000\n\
+        3: bytes 00ab\n\
+        12: no gap for table memory room 256\n\
+        13: not whole\n\
+        14: no gap for table reserved room 256\n\
+        15: no gap\n\
+        16: done\n\
+        17: taken\n\
+        18: unknown\n\
+        19: table in use\n\
+        20: keep too large\n\
+        4294967295: fill too large\n";
     assert!(rt; text.as_slice() == want.as_slice());
     Ok(())
 }
@@ -73,7 +86,42 @@ fn nodes(rt: HostRuntime) -> Result<(), Fail> {
     Ok(())
 }
 
-// A machine of 8 GiB: 512 MiB above 4 GiB, and 64 MiB below.
+/// The nodes of a machine whose table of domains isn't used for that reason.
+fn by_no_table(alloc: Global, why: Why) -> Nodes {
+    Nodes {
+        why,
+        domains: Vec::new(alloc),
+        uncovered: 0,
+        with_memory: Vec::new(alloc),
+    }
+}
+
+// Each reason but that of `nodes`.
+#[test]
+fn each_reason(rt: HostRuntime) -> Result<(), Fail> {
+    let journal = Journal::new(rt.alloc());
+    let rows = [
+        (Why::Used, "numa used\nuncovered 0\n"),
+        (Why::Off, "numa off\nuncovered 0\n"),
+        (Why::Absent, "numa absent\nuncovered 0\n"),
+        (Why::NoBlocks, "numa no blocks\nuncovered 0\n"),
+        (Why::TooManyDomains, "numa too many domains\nuncovered 0\n"),
+        (Why::TooManyBlocks, "numa too many blocks\nuncovered 0\n"),
+        (
+            Why::Overlap { i: 9, j: 2047 },
+            "numa overlap 9 2047\nuncovered 0\n",
+        ),
+    ];
+    for (why, want) in &rows {
+        let nodes = by_no_table(rt.alloc(), *why);
+        let mut text = Vec::new(rt.alloc());
+        put_nodes(&mut text, &nodes, &journal)?;
+        assert!(rt; text.as_slice() == want.as_bytes(), "{want}");
+    }
+    Ok(())
+}
+
+// A machine of 8 GiB: 512 MiB above 4 GiB, and 64 MiB below or nothing; and each answer without an area.
 #[test]
 fn crash(rt: HostRuntime) -> Result<(), Fail> {
     let main = Range {
@@ -84,15 +132,26 @@ fn crash(rt: HostRuntime) -> Result<(), Fail> {
         base: 0x7B00_0000,
         size: 0x400_0000,
     };
-    let crash = Crash::At {
-        main,
-        low: Some(low),
-    };
-    let mut text = Vec::new(rt.alloc());
-    put_crash(&mut text, &crash)?;
-    let want =
-        b"crash at 0x000000025f000000..0x000000027effffff\ncrash low 0x000000007b000000..0x000000007effffff\n";
-    assert!(rt; text.as_slice() == want.as_slice());
+    let low = Some(low);
+    let rows = [
+        (
+            Crash::At { main, low },
+            "crash at 0x000000025f000000..0x000000027effffff\ncrash low 0x000000007b000000..0x000000007effffff\n",
+        ),
+        (
+            Crash::At { main, low: None },
+            "crash at 0x000000025f000000..0x000000027effffff\n",
+        ),
+        (Crash::Nothing, "crash none\n"),
+        (Crash::NoArea, "crash no area\n"),
+        (Crash::InUse, "crash in use\n"),
+        (Crash::LowFailed, "crash low failed\n"),
+    ];
+    for (crash, want) in &rows {
+        let mut text = Vec::new(rt.alloc());
+        put_crash(&mut text, crash)?;
+        assert!(rt; text.as_slice() == want.as_bytes(), "{want}");
+    }
     Ok(())
 }
 

@@ -1,7 +1,9 @@
-//! Worked cases of the page allocator after the handover, and of the lists of zones: tests alone.
+//! Worked cases of the page allocator after the handover, of the lists of zones, and of the texts of both: tests alone.
 #![tactic(auto)]
 
 #[cfg(test)]
 mod of_page_alloc;
 #[cfg(test)]
 mod of_slit_zonelists;
+#[cfg(test)]
+mod of_stage_texts;
