@@ -117,7 +117,7 @@ mirrored_bytes : (is_mirrored some_frames 0xFFF ≡ false) × (is_mirrored some_
     × (is_mirrored some_frames 0x3000 ≡ false) × (is_mirrored some_frames 0x8000 ≡ true) × (is_mirrored [] 0x8000 ≡ false)
 mirrored_bytes = (refl, refl, refl, refl, refl, refl)
 
-memory_is_mirrored : (mirrored_memory some_frames (λ x. Some plain_label) 0x2FFF ≡ Some (record { node = None; mirror = true }))
+memory_is_mirrored : (mirrored_memory some_frames (λ x. Some plain_label) 0x2FFF ≡ Some (with_mirror plain_label))
     × (mirrored_memory some_frames (λ x. Some plain_label) 0x3000 ≡ Some plain_label)
     × (mirrored_memory some_frames (λ x. None) 0x1000 ≡ None)
 memory_is_mirrored = (refl, refl, refl)
