@@ -126,7 +126,10 @@ with_first n c cs i j numbered o =
     let order = o.order in
     elim o.in_one as (λ _. WithFirst c cs i j ⊎ Overlap cs i j) [
       | inl here ↦ elim o.in_other as (λ _. WithFirst c cs i j ⊎ Overlap cs i j) [
-        | inl too ↦ let one = number o.one c here in let two = number o.other c too in absurd (omega (arith, first, second, order, one, two))
+        | inl too ↦
+            let one = number o.one c here in
+            let two = number o.other c too in
+            absurd (omega (arith, first, second, order, one, two))
         | inr later ↦ inl (record {
           other = o.other;
           in_other = later;

@@ -34,7 +34,8 @@ pub fn one_node_a_domain()
 /// named; the one at place n has node n, so each stands there once; and one that is named where another isn't yet has the lower node.
 pub fn nodes_by_first_naming()
     ensures named { (names : List ℕ) (d : ℕ) → is_named (named_once names) d ≡ is_named names d }
-    ensures place { (names : List ℕ) (n : ℕ) → n < length (named_once names) → node_of (named_once names) (get_or (named_once names) n 0) ≡ n }
+    ensures place { (names : List ℕ) (n : ℕ) → n < length (named_once names) →
+        node_of (named_once names) (get_or (named_once names) n 0) ≡ n }
     ensures order { (before after : List ℕ) (d e : ℕ) → is_named before e ≡ false → d ≢ e → is_named after e ≡ true →
         node_of (named_once (before ++ d ∷ after)) d < node_of (named_once (before ++ d ∷ after)) e }
 {}

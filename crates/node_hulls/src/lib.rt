@@ -16,8 +16,9 @@
 //!
 //! The laws say what the words mean to each other: an address has one node at most ([`one_node_an_address`]), nodes are domains by
 //! other numbers ([`one_node_a_domain`]), in the order in which these are first named ([`nodes_by_first_naming`]), the pair of
-//! blocks that is told is the least that overlaps ([`least_overlap`]), whole frames have one node ([`one_node_a_frame`]), a node has memory exactly where a
-//! kept block is of it ([`nodes_with_memory`]), and the runs of a table that is used cover memory ([`runs_cover_memory`]).
+//! blocks that is told is the least that overlaps ([`least_overlap`]), whole frames have one node ([`one_node_a_frame`]), a node
+//! has memory exactly where a kept block is of it ([`nodes_with_memory`]), and the runs of a table that is used cover memory
+//! ([`runs_cover_memory`]).
 //!
 //! The layer above hands in memory as a list of ranges, in any order, and carries out what is answered: it
 //! records the nodes of memory, and finds places for the nodes' own data.

@@ -2,7 +2,7 @@
 //! whole frames with a node; that the stage of nodes leaves such is said here, since that stage knows nothing of
 //! sections.
 
-ghost use Rattle.std.specs.Prelude.{◌≡◌, ℕ, ◌/◌, ◌^◌, ◌<◌, ◌≤◌, Some, List};
+ghost use Rattle.std.specs.Prelude.{◌≡◌, ℕ, ◌/◌, ◌^◌, ◌<◌, ◌≤◌, ◌==◌, Some, None, List, length, get_or, find};
 ghost use Rattle.std.specs.List.{All};
 ghost use Rattle.bm_base.specs.declared.width.Width.{Width as AnyWidth};
 ghost use Rattle.address_runs.specs.Runs.{RunOf, IsRunsOf, value_at};
@@ -16,7 +16,7 @@ ghost use Rattle.stage_model.specs.declared.section.Section.{Section as AnySecti
 ghost use Rattle.stage_model.specs.Doing.{after};
 ghost use Rattle.stage_model.specs.Noded.{IsNoded};
 ghost use Rattle.sparse_sections.specs.Present.{present, IsWholeNoded, IsLowest, IsSectionAt, AreSections};
-ghost use Rattle.sparse_sections.specs.Roots.{roots};
+ghost use Rattle.sparse_sections.specs.Roots.{root_of, firsts_behind, roots};
 
 /// A law: behind the stage of nodes the records of memory are its runs and say of each byte what the items say; each list of
 /// its runs is of whole frames, and below 4 PiB of records in which sections are found.
@@ -41,6 +41,17 @@ pub fn present_sections_are_memory()
 pub fn present_sections_ascend()
     ensures ascend { (f : Labels) → AreSections (present f) }
     ensures nodes { (limit : ℕ) (f : Labels) → IsNoded limit f → All (λ s. s.node < 1024) (present f) }
+{}
+
+/// A law: of sections that ascend, as those that are told do, the roots that get a place ascend, each once, by the first section
+/// of each, that with its node; and the first section that has a place for its root is the first of all sections of that root, so
+/// they are exactly the roots of the sections.
+pub fn roots_ascend()
+    ensures ascend { (sections : List AnySection) → AreSections sections →
+        (i j : ℕ) (d : AnySection) → i < j → j < length (firsts_behind None sections) →
+        root_of (get_or (firsts_behind None sections) i d) < root_of (get_or (firsts_behind None sections) j d) }
+    ensures first { (sections : List AnySection) (root : ℕ) →
+        find (λ s. root_of s == root) (firsts_behind None sections) ≡ find (λ s. root_of s == root) sections }
 {}
 
 /// A law: the places of roots leave memory and the limit as they are, whether each finds one or not.
