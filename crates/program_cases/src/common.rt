@@ -40,6 +40,13 @@ pub const FIRST_640K: Run = Run {
     kind: 1,
 };
 
+/// An SRAT of no entries, of revision 1.
+pub const SMALLEST_SRAT: [u8; 48] = [
+    b'S', b'R', b'A', b'T', 48, 0, 0, 0, 1, 0x95, // signature, length, revision, checksum
+    0, 0, 0, 0, 0, 0, 0, 0, 0, 0, 0, 0, 0, 0, 0, 0, 0, 0, 0, 0, 0, 0, 0, 0, 0, 0, 0, 0, 0, 0, 0, 0,
+    0, 0, 0, 0, 0, 0,
+];
+
 pub fn entry(addr: u64, size: u64, kind: u32) -> Entry
     ensures { result ≡ record { addr = addr; size = size; kind = kind } }
 {

@@ -4,9 +4,9 @@
 ghost use Rattle.std.specs.Prelude.{IfOk};
 ghost use Rattle.bm_io.specs.HeldFiles.{held_files, HaveOwnNames};
 
-use crate::common::{KERNEL, file};
+use crate::common::{KERNEL, SMALLEST_SRAT, file};
 use bm_base::Width;
-use bm_io::{MemFile, MemFiles};
+use bm_io::{Fetch, Files, MemFile, MemFiles};
 use boot_inputs::{Fault, Input, InputError, InputRefusal, Names, read_inputs};
 use boot_model::Inputs;
 use e820_table::ZeroFault;
@@ -83,16 +83,16 @@ fn files_of(alloc: Global, held: &Held<'_>) -> Result<Vec<MemFile>, Fail>
     Ok(vec![in alloc; zp, ext, cmd, srat, script, pages, slit, efi]?)
 }
 
-/// Reads the files, where the fetch of that number fails, and compares the refusal.
+/// Reads the files, where the fetches of those numbers fail, and compares the refusal. One fetch more fails then: its number is the last of
+/// those, so as many were made as go before it.
 fn expect(
     rt: &impl Abort,
     alloc: Global,
     held: &Held<'_>,
-    failing: u64,
+    failing: &[u64],
     want: Option<InputRefusal>,
 ) -> Result<(), Fail> {
-    let calls = vec![in alloc; failing]?;
-    let mut files = MemFiles::new(files_of(alloc, held)?, calls);
+    let mut files = MemFiles::new(files_of(alloc, held)?, Vec::from_slice(alloc, failing)?);
     let answer = read_inputs(
         alloc,
         &mut files,
@@ -101,17 +101,15 @@ fn expect(
     );
     assert!(rt;
         answer.err() == want.map(InputError::Refused),
-        "fetch {failing}"
+        "fetch {failing:?}"
+    );
+    let further = files.fetch(alloc, "zp", 4096);
+    assert!(rt;
+        further.err() == Some(Fetch::Failed),
+        "behind fetch {failing:?}"
     );
     Ok(())
 }
-
-/// An SRAT of no entries, of revision 1.
-const SMALLEST_SRAT: [u8; 48] = [
-    b'S', b'R', b'A', b'T', 48, 0, 0, 0, 1, 0x95, // signature, length, revision, checksum
-    0, 0, 0, 0, 0, 0, 0, 0, 0, 0, 0, 0, 0, 0, 0, 0, 0, 0, 0, 0, 0, 0, 0, 0, 0, 0, 0, 0, 0, 0, 0, 0,
-    0, 0, 0, 0, 0, 0,
-];
 
 /// A SLIT of one locality.
 const SMALLEST_SLIT: [u8; 45] = [
@@ -143,22 +141,22 @@ const ALL: Eight<'static> = Eight {
     efi: "efi",
 };
 
-/// Each file is fetched once, in this order: where that fetch fails its file is unread, and a ninth would change nothing.
+/// Each file is fetched once, in this order: where that fetch fails its file is unread and none further is fetched, and there is no ninth.
 #[test]
 fn files_in_their_order(rt: HostRuntime) -> Result<(), Fail> {
     let mut zp = [0; 4096];
     zp[0x1e8] = 2;
     let held = Held { zp: &zp, ..HELD };
-    let rows = [
-        (1, Some(InputRefusal::Unread(Input::ZeroPage))),
-        (2, Some(InputRefusal::Unread(Input::Extension))),
-        (3, Some(InputRefusal::Unread(Input::CommandLine))),
-        (4, Some(InputRefusal::Unread(Input::Srat))),
-        (5, Some(InputRefusal::Unread(Input::Script))),
-        (6, Some(InputRefusal::Unread(Input::Pages))),
-        (7, Some(InputRefusal::Unread(Input::Slit))),
-        (8, Some(InputRefusal::Unread(Input::Efi))),
-        (9, None),
+    let rows: [(&[u64], Option<InputRefusal>); 9] = [
+        (&[1, 2], Some(InputRefusal::Unread(Input::ZeroPage))),
+        (&[2, 3], Some(InputRefusal::Unread(Input::Extension))),
+        (&[3, 4], Some(InputRefusal::Unread(Input::CommandLine))),
+        (&[4, 5], Some(InputRefusal::Unread(Input::Srat))),
+        (&[5, 6], Some(InputRefusal::Unread(Input::Script))),
+        (&[6, 7], Some(InputRefusal::Unread(Input::Pages))),
+        (&[7, 8], Some(InputRefusal::Unread(Input::Slit))),
+        (&[8, 9], Some(InputRefusal::Unread(Input::Efi))),
+        (&[9], None),
     ];
     for (failing, want) in &rows {
         expect(&rt, rt.alloc(), &held, *failing, *want)?;
@@ -166,7 +164,7 @@ fn files_in_their_order(rt: HostRuntime) -> Result<(), Fail> {
     Ok(())
 }
 
-/// Behind a file that is refused none is fetched: where that fetch would fail nothing changes.
+/// Behind a file that is refused none is fetched: that number is the next fetch's.
 #[test]
 fn refused_file_is_the_last(rt: HostRuntime) -> Result<(), Fail> {
     let mut zp = [0; 4096];
@@ -197,6 +195,15 @@ fn refused_file_is_the_last(rt: HostRuntime) -> Result<(), Fail> {
         (Held { srat: b"", ..good }, Input::Srat, Fault::Short, 5),
         (
             Held {
+                script: b"free",
+                ..good
+            },
+            Input::Script,
+            Fault::BadLine { line: 1 },
+            6,
+        ),
+        (
+            Held {
                 pages: b"give",
                 ..good
             },
@@ -209,7 +216,7 @@ fn refused_file_is_the_last(rt: HostRuntime) -> Result<(), Fail> {
     ];
     for (held, input, fault, behind) in &rows {
         let want = InputRefusal::Faulty(*input, *fault);
-        expect(&rt, rt.alloc(), held, *behind, Some(want))?;
+        expect(&rt, rt.alloc(), held, &[*behind], Some(want))?;
     }
     Ok(())
 }
@@ -228,5 +235,5 @@ fn initrd_too_far(rt: HostRuntime) -> Result<(), Fail> {
     zp[0x21d] = 0x10;
     let held = Held { zp: &zp, ..HELD };
     let want = InputRefusal::Faulty(Input::ZeroPage, Fault::ZeroPage(ZeroFault::InitrdTooFar));
-    expect(&rt, rt.alloc(), &held, 2, Some(want))
+    expect(&rt, rt.alloc(), &held, &[2], Some(want))
 }

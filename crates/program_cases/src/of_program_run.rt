@@ -4,8 +4,8 @@
 ghost use Rattle.std.specs.Prelude.{IfOk};
 ghost use Rattle.bm_io.specs.HeldFiles.{held_files, HaveOwnNames};
 
-use crate::common::{RAM, file, page};
-use bm_io::{MemFile, MemFiles, MemSink};
+use crate::common::{RAM, SMALLEST_SRAT, entry, file, page, put_entry};
+use bm_io::{Fetch, Files, MemFile, MemFiles, MemSink};
 use e820_model::Entry;
 use program_run::run_by_clauses;
 use std::alloc::Global;
@@ -58,18 +58,29 @@ fn files_of(alloc: Global, line: &[u8]) -> Result<Vec<MemFile>, Fail>
     Ok(vec![in alloc; zp, ext, cmd]?)
 }
 
-/// Runs on these words and files, where the numbered fetches and the numbered calls of the two outputs
+/// Runs on these words and a command line of these bytes, where the numbered fetches and the numbered calls of the two outputs
 /// fail.
 fn run_on(alloc: Global, words: &[&str], line: &[u8], failing: [&[u64]; 3]) -> Result<Ended, Fail> {
+    let [fetches, puts, lines] = failing;
+    let mut files = MemFiles::new(files_of(alloc, line)?, Vec::from_slice(alloc, fetches)?);
+    run_over(alloc, words, &mut files, puts, lines)
+}
+
+/// Runs on these words and files, where the numbered calls of the two outputs fail.
+fn run_over(
+    alloc: Global,
+    words: &[&str],
+    files: &mut MemFiles,
+    puts: &[u64],
+    lines: &[u64],
+) -> Result<Ended, Fail> {
     let mut owned = Vec::new(alloc);
     for word in words {
         owned.push(String::from_str(alloc, word)?)?;
     }
-    let [fetches, puts, lines] = failing;
-    let mut files = MemFiles::new(files_of(alloc, line)?, Vec::from_slice(alloc, fetches)?);
     let mut out = MemSink::new(Vec::from_slice(alloc, puts)?);
     let mut err = MemSink::new(Vec::from_slice(alloc, lines)?);
-    let status = run_by_clauses(alloc, &owned, &mut files, &mut out, &mut err);
+    let status = run_by_clauses(alloc, &owned, files, &mut out, &mut err);
     Ok(Ended { status, out, err })
 }
 
@@ -231,4 +242,225 @@ fn sheets_of_blocks(rt: HostRuntime) -> Result<(), Fail> {
     assert!(rt; text.len() == LOW_LINES + 1536 * 47);
     assert!(rt; text.ends_with(b"node 0 zone Normal order 10 0x000000027fc00000\n"));
     Ok(())
+}
+
+/// The zero page of a virtual machine of 128 MiB.
+fn machine() -> [u8; 4096] {
+    let mut bytes = page(6, entry(0, 0x9_FC00, 1), entry(0x9_FC00, 0x400, 2));
+    put_entry(&mut bytes, 0x2f8, entry(0xF_0000, 0x1_0000, 2));
+    put_entry(&mut bytes, 0x30c, entry(0x10_0000, 0x7EE_0000, 1));
+    put_entry(&mut bytes, 0x320, RESERVED);
+    put_entry(&mut bytes, 0x334, entry(0xFFFC_0000, 0x4_0000, 2));
+    bytes
+}
+
+/// Its map.
+const MACHINE_MAP: &str = "0x0000000000000000..0x0000000000000fff 2 reserved\n\
+                           0x0000000000001000..0x000000000009fbff 1 usable\n\
+                           0x000000000009fc00..0x000000000009ffff 2 reserved\n\
+                           0x00000000000f0000..0x00000000000fffff 2 reserved\n\
+                           0x0000000000100000..0x0000000007fdffff 1 usable\n\
+                           0x0000000007fe0000..0x0000000007ffffff 2 reserved\n\
+                           0x00000000fffc0000..0x00000000ffffffff 2 reserved\n";
+
+/// An extension without entries.
+const NO_ENTRIES: [u8; 16] = [0, 0, 0, 0, 0, 0, 0, 0, 1, 0, 0, 0, 0, 0, 0, 0];
+
+/// The zero page `zp`, the extension `ext` and the command line `cl` of these bytes, an SRAT `sr` without entries, an empty script `sc`.
+fn five_files(alloc: Global, held: [&[u8]; 3]) -> Result<Vec<MemFile>, Fail>
+    ensures { IfOk result (λ files. HaveOwnNames (held_files files.items)) }
+{
+    let [zp, ext, cl] = held;
+    let zp = file(alloc, "zp", zp)?;
+    let ext = file(alloc, "ext", ext)?;
+    let cl = file(alloc, "cl", cl)?;
+    let sr = file(alloc, "sr", &SMALLEST_SRAT)?;
+    let sc = file(alloc, "sc", b"")?;
+    Ok(vec![in alloc; zp, ext, cl, sr, sc]?)
+}
+
+/// Whether one fetch more fails. The file is there, so it fails where its number is one of those that are to fail.
+fn fails(files: &mut MemFiles, alloc: Global) -> bool {
+    files.fetch(alloc, "zp", 4096).err() == Some(Fetch::Failed)
+}
+
+/// Compares a run for each row, over five files. One fetch more fails then: its number is the last of the row's, so the run made as many
+/// fetches as go before it.
+fn compare_fetches(
+    rt: &impl Abort,
+    alloc: Global,
+    held: [&[u8]; 3],
+    rows: &[Row<'_>],
+) -> Result<(), Fail> {
+    for (words, failing, status, text, error) in rows {
+        let [fetches, puts, lines] = *failing;
+        let mut files = MemFiles::new(five_files(alloc, held)?, Vec::from_slice(alloc, fetches)?);
+        let ended = run_over(alloc, words, &mut files, puts, lines)?;
+        assert!(rt; ended.is(*status, text, error), "{words:?} {failing:?}");
+        assert!(rt; fails(&mut files, alloc), "behind {words:?} {failing:?}");
+    }
+    Ok(())
+}
+
+/// The words of a run on all five files.
+const FIVE: &[&str] = &[
+    "--e820ext",
+    "ext",
+    "--cmdline",
+    "cl",
+    "--srat",
+    "sr",
+    "--script",
+    "sc",
+    "--report",
+    "map,buddyinfo",
+    "zp",
+];
+
+/// What both reports of it are.
+const BOTH: &str = "== map\n\
+                    0x0000000000000000..0x0000000000000fff 2 reserved\n\
+                    0x0000000000001000..0x000000000009fbff 1 usable\n\
+                    0x000000000009fc00..0x000000000009ffff 2 reserved\n\
+                    0x00000000000f0000..0x00000000000fffff 2 reserved\n\
+                    0x0000000000100000..0x0000000007fdffff 1 usable\n\
+                    0x0000000007fe0000..0x0000000007ffffff 2 reserved\n\
+                    0x00000000fffc0000..0x00000000ffffffff 2 reserved\n\
+                    == buddyinfo\n\
+                    Node 0, zone      DMA      0      0      0      0      0      0      0      0      1      1      3 \n\
+                    Node 0, zone    DMA32      1      1      1      1      0      1      0      1      1      0     19 \n";
+
+/// The first 176 of the 353 bytes of its first report.
+const HALF_A_MAP: &str = "== map\n\
+                          0x0000000000000000..0x0000000000000fff 2 reserved\n\
+                          0x0000000000001000..0x000000000009fbff 1 usable\n\
+                          0x000000000009fc00..0x000000000009ffff 2 reserved\n\
+                          0x00000000000f0000..0";
+
+/// That report, and the first 106 of the 213 bytes of the second.
+const MAP_AND_HALF: &str = "== map\n\
+                            0x0000000000000000..0x0000000000000fff 2 reserved\n\
+                            0x0000000000001000..0x000000000009fbff 1 usable\n\
+                            0x000000000009fc00..0x000000000009ffff 2 reserved\n\
+                            0x00000000000f0000..0x00000000000fffff 2 reserved\n\
+                            0x0000000000100000..0x0000000007fdffff 1 usable\n\
+                            0x0000000007fe0000..0x0000000007ffffff 2 reserved\n\
+                            0x00000000fffc0000..0x00000000ffffffff 2 reserved\n\
+                            == buddyinfo\n\
+                            Node 0, zone      DMA      0      0      0      0      0      0      0      0      1      1  ";
+
+#[test]
+fn each_call_that_fails(rt: HostRuntime) -> Result<(), Fail> {
+    let unwritten = "bootmem: cannot write\n";
+    let rows: [Row<'_>; 9] = [
+        (FIVE, [&[6], &[], &[]], 0, BOTH, ""),
+        (
+            FIVE,
+            [&[1, 2], &[], &[]],
+            3,
+            "",
+            "bootmem: cannot read zp\n",
+        ),
+        (
+            FIVE,
+            [&[2, 3], &[], &[]],
+            3,
+            "",
+            "bootmem: cannot read ext\n",
+        ),
+        (
+            FIVE,
+            [&[3, 4], &[], &[]],
+            3,
+            "",
+            "bootmem: cannot read cl\n",
+        ),
+        (
+            FIVE,
+            [&[4, 5], &[], &[]],
+            3,
+            "",
+            "bootmem: cannot read sr\n",
+        ),
+        (
+            FIVE,
+            [&[5, 6], &[], &[]],
+            3,
+            "",
+            "bootmem: cannot read sc\n",
+        ),
+        (FIVE, [&[6], &[1], &[]], 4, HALF_A_MAP, unwritten),
+        (FIVE, [&[6], &[2], &[]], 4, MAP_AND_HALF, unwritten),
+        (&[], [&[1], &[], &[1]], 2, "", "bootmem"),
+    ];
+    compare_fetches(&rt, rt.alloc(), [&machine(), &NO_ENTRIES, b""], &rows)
+}
+
+// A zero page of 4,095 bytes, behind which no file is fetched, and an extension of 15.
+#[test]
+fn malformed_files(rt: HostRuntime) -> Result<(), Fail> {
+    let zp = machine();
+    let line = "bootmem: zeropage: wrong length\n";
+    let rows: [Row<'_>; 1] = [(FIVE, [&[2], &[], &[]], 5, "", line)];
+    compare_fetches(&rt, rt.alloc(), [&zp[..4095], &NO_ENTRIES, b""], &rows)?;
+    let line = "bootmem: e820ext: header\n";
+    let rows: [Row<'_>; 1] = [(FIVE, [&[3], &[], &[]], 5, "", line)];
+    compare_fetches(&rt, rt.alloc(), [&zp, &NO_ENTRIES[..15], b""], &rows)
+}
+
+// No file is fetched that the words don't name, whatever comes of the run.
+#[test]
+fn files_that_no_word_names(rt: HostRuntime) -> Result<(), Fail> {
+    let zp = machine();
+    let rows: [Row<'_>; 5] = [
+        (
+            &["--report", "map", "zp"],
+            [&[2], &[], &[]],
+            0,
+            MACHINE_MAP,
+            "",
+        ),
+        (
+            &["--make", "2", "--report=summary"],
+            [&[1], &[], &[]],
+            0,
+            SUMMARY,
+            "",
+        ),
+        (
+            &["--report", "nope", "zp"],
+            [&[1], &[], &[]],
+            2,
+            "",
+            "bootmem: usage\n",
+        ),
+        (
+            &["--report", "map", "other"],
+            [&[2], &[], &[]],
+            3,
+            "",
+            "bootmem: cannot read other\n",
+        ),
+        // the extension in place of a zero page
+        (
+            &["--report", "map", "ext"],
+            [&[2], &[], &[]],
+            5,
+            "",
+            "bootmem: zeropage: wrong length\n",
+        ),
+    ];
+    compare_fetches(&rt, rt.alloc(), [&zp, &NO_ENTRIES, b""], &rows)?;
+    let words: &[&str] = &["--cmdline", "cl", "--report", "map", "zp"];
+    let line = "bootmem: cmdline: word 1: numa\n";
+    let faulty: [Row<'_>; 1] = [(words, [&[3], &[], &[]], 5, "", line)];
+    compare_fetches(&rt, rt.alloc(), [&zp, &NO_ENTRIES, b"numa=on"], &faulty)?;
+    let held: [&[u8]; 3] = [
+        &zp,
+        &NO_ENTRIES,
+        b"memmap=exactmap memmap=4K$8K memmap=4K$16K",
+    ];
+    let line = "bootmem: stopped: no usable frame\n";
+    let stopped: [Row<'_>; 1] = [(words, [&[3], &[], &[]], 6, "", line)];
+    compare_fetches(&rt, rt.alloc(), held, &stopped)
 }
