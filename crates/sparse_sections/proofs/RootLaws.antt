@@ -1,5 +1,5 @@
 -- One root after another: as what is left ends, so do all.
-use Rattle.std.proofs.Common.{◌≡◌, ℕ, ◌+◌, ◌<◌, ◌≤◌, true, false, Option, Some, None, List, [], ◌∷◌, ◌++◌, length, drop, get_or, Result, Ok, Err, sym, ◌∙◌, ap, subst, add-one, drop-cons}
+use Rattle.std.proofs.Common.{◌≡◌, ℕ, ◌+◌, ◌<◌, ◌≤◌, true, false, Option, Some, None, List, [], ◌∷◌, length, drop, get_or, Result, Ok, Err, sym, ◌∙◌, ap, subst, add-one, drop-cons}
 use Rattle.std.proofs.lemmas.List.{drop_all}
 use Rattle.bm_base.specs.declared.width.Width.{Width}
 use Rattle.bm_base.specs.Width.{root_table_of}
@@ -10,7 +10,7 @@ use Rattle.stage_model.specs.declared.section.Section.{Section}
 use Rattle.stage_model.specs.declared.stop.What.TheVariants as what
 use Rattle.stage_model.specs.declared.stop.StageStop.{StageStop}
 use Rattle.stage_model.specs.declared.stop.StageStop.TheVariants as stop
-use Rattle.stage_model.specs.Doing.{Doing, EndsAs, returns, listed, in_turn, ◌>>=◌}
+use Rattle.stage_model.specs.Doing.{EndsAs, returns, listed, in_turn, ◌>>=◌}
 use Rattle.stage_model.specs.Requests.{placed}
 use Rattle.stage_model.proofs.DoingLaws.{ends-second, ends-first, ends-listed, ends-wanting, ends-returns}
 use Rattle.sparse_sections.specs.declared.roots.RootPlace.{RootPlace}

@@ -43,9 +43,9 @@ pub fn present_sections_ascend()
     ensures nodes { (limit : ℕ) (f : Labels) → IsNoded limit f → All (λ s. s.node < 1024) (present f) }
 {}
 
-/// A law: of sections that ascend, as those that are told do, the roots that get a place ascend, each once, by the first section
-/// of each, that with its node; and the first section that has a place for its root is the first of all sections of that root, so
-/// they are exactly the roots of the sections.
+/// A law: of sections that ascend, as those that are told do, the roots that get a place ascend, so each comes once; and for any
+/// root the section by which it gets one is the first of the sections of that root. So they are exactly the roots of the sections,
+/// each with the node of its lowest one.
 pub fn roots_ascend()
     ensures ascend { (sections : List AnySection) → AreSections sections →
         (i j : ℕ) (d : AnySection) → i < j → j < length (firsts_behind None sections) →

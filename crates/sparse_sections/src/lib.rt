@@ -9,8 +9,8 @@
 //! at. [`place_roots`] carries out the allocations of the roots as `roots` says them, wherever memory runs out.
 //!
 //! The functions of `src/laws.rt` do nothing: their contracts are what the layers above may rest on. Behind the stage of nodes
-//! the records are whole frames with nodes; the sections that are told are those of memory, and ascend; the roots of
-//! sections ascend, each once; and they leave memory as it is.
+//! the records are whole frames with nodes; the sections that are told are those of memory, and ascend; their roots ascend,
+//! each by its first section; and the roots leave memory as it is.
 #![tactic(auto)]
 
 mod laws;
