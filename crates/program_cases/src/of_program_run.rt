@@ -263,17 +263,28 @@ const MACHINE_MAP: &str = "0x0000000000000000..0x0000000000000fff 2 reserved\n\
                            0x0000000007fe0000..0x0000000007ffffff 2 reserved\n\
                            0x00000000fffc0000..0x00000000ffffffff 2 reserved\n";
 
-/// An extension without entries.
-const NO_ENTRIES: [u8; 16] = [0, 0, 0, 0, 0, 0, 0, 0, 1, 0, 0, 0, 0, 0, 0, 0];
+/// The bytes of the files `zp`, `ext` and `cl`.
+#[derive(Clone, Copy)]
+struct Held<'a> {
+    zp: &'a [u8],
+    ext: &'a [u8],
+    cl: &'a [u8],
+}
 
-/// The zero page `zp`, the extension `ext` and the command line `cl` of these bytes, an SRAT `sr` without entries, an empty script `sc`.
-fn five_files(alloc: Global, held: [&[u8]; 3]) -> Result<Vec<MemFile>, Fail>
+/// An extension without entries, and an empty command line. The zero page is malformed.
+const HELD: Held<'static> = Held {
+    zp: b"",
+    ext: &[0, 0, 0, 0, 0, 0, 0, 0, 1, 0, 0, 0, 0, 0, 0, 0],
+    cl: b"",
+};
+
+/// These files, an SRAT `sr` without entries, and an empty script `sc`.
+fn five_files(alloc: Global, held: &Held<'_>) -> Result<Vec<MemFile>, Fail>
     ensures { IfOk result (λ files. HaveOwnNames (held_files files.items)) }
 {
-    let [zp, ext, cl] = held;
-    let zp = file(alloc, "zp", zp)?;
-    let ext = file(alloc, "ext", ext)?;
-    let cl = file(alloc, "cl", cl)?;
+    let zp = file(alloc, "zp", held.zp)?;
+    let ext = file(alloc, "ext", held.ext)?;
+    let cl = file(alloc, "cl", held.cl)?;
     let sr = file(alloc, "sr", &SMALLEST_SRAT)?;
     let sc = file(alloc, "sc", b"")?;
     Ok(vec![in alloc; zp, ext, cl, sr, sc]?)
@@ -289,7 +300,7 @@ fn fails(files: &mut MemFiles, alloc: Global) -> bool {
 fn compare_fetches(
     rt: &impl Abort,
     alloc: Global,
-    held: [&[u8]; 3],
+    held: &Held<'_>,
     rows: &[Row<'_>],
 ) -> Result<(), Fail> {
     for (words, failing, status, text, error) in rows {
@@ -393,25 +404,34 @@ fn each_call_that_fails(rt: HostRuntime) -> Result<(), Fail> {
         (FIVE, [&[6], &[2], &[]], 4, MAP_AND_HALF, unwritten),
         (&[], [&[1], &[], &[1]], 2, "", "bootmem"),
     ];
-    compare_fetches(&rt, rt.alloc(), [&machine(), &NO_ENTRIES, b""], &rows)
+    let zp = machine();
+    compare_fetches(&rt, rt.alloc(), &Held { zp: &zp, ..HELD }, &rows)
 }
 
 // A zero page of 4,095 bytes, behind which no file is fetched, and an extension of 15.
 #[test]
 fn malformed_files(rt: HostRuntime) -> Result<(), Fail> {
-    let zp = machine();
+    let short = Held {
+        zp: &[0; 4095],
+        ..HELD
+    };
     let line = "bootmem: zeropage: wrong length\n";
     let rows: [Row<'_>; 1] = [(FIVE, [&[2], &[], &[]], 5, "", line)];
-    compare_fetches(&rt, rt.alloc(), [&zp[..4095], &NO_ENTRIES, b""], &rows)?;
+    compare_fetches(&rt, rt.alloc(), &short, &rows)?;
+    let zp = machine();
+    let short = Held {
+        zp: &zp,
+        ext: &[0; 15],
+        ..HELD
+    };
     let line = "bootmem: e820ext: header\n";
     let rows: [Row<'_>; 1] = [(FIVE, [&[3], &[], &[]], 5, "", line)];
-    compare_fetches(&rt, rt.alloc(), [&zp, &NO_ENTRIES[..15], b""], &rows)
+    compare_fetches(&rt, rt.alloc(), &short, &rows)
 }
 
 // No file is fetched that the words don't name, whatever comes of the run.
 #[test]
 fn files_that_no_word_names(rt: HostRuntime) -> Result<(), Fail> {
-    let zp = machine();
     let rows: [Row<'_>; 5] = [
         (
             &["--report", "map", "zp"],
@@ -450,17 +470,22 @@ fn files_that_no_word_names(rt: HostRuntime) -> Result<(), Fail> {
             "bootmem: zeropage: wrong length\n",
         ),
     ];
-    compare_fetches(&rt, rt.alloc(), [&zp, &NO_ENTRIES, b""], &rows)?;
+    let zp = machine();
+    let held = Held { zp: &zp, ..HELD };
+    compare_fetches(&rt, rt.alloc(), &held, &rows)?;
     let words: &[&str] = &["--cmdline", "cl", "--report", "map", "zp"];
+    let faulty = Held {
+        cl: b"numa=on",
+        ..held
+    };
     let line = "bootmem: cmdline: word 1: numa\n";
-    let faulty: [Row<'_>; 1] = [(words, [&[3], &[], &[]], 5, "", line)];
-    compare_fetches(&rt, rt.alloc(), [&zp, &NO_ENTRIES, b"numa=on"], &faulty)?;
-    let held: [&[u8]; 3] = [
-        &zp,
-        &NO_ENTRIES,
-        b"memmap=exactmap memmap=4K$8K memmap=4K$16K",
-    ];
+    let rows: [Row<'_>; 1] = [(words, [&[3], &[], &[]], 5, "", line)];
+    compare_fetches(&rt, rt.alloc(), &faulty, &rows)?;
+    let stopped = Held {
+        cl: b"memmap=exactmap memmap=4K$8K memmap=4K$16K",
+        ..held
+    };
     let line = "bootmem: stopped: no usable frame\n";
-    let stopped: [Row<'_>; 1] = [(words, [&[3], &[], &[]], 6, "", line)];
-    compare_fetches(&rt, rt.alloc(), held, &stopped)
+    let rows: [Row<'_>; 1] = [(words, [&[3], &[], &[]], 6, "", line)];
+    compare_fetches(&rt, rt.alloc(), &stopped, &rows)
 }
