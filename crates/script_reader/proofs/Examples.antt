@@ -1,12 +1,13 @@
 -- Small words, lines and scripts: what the definitions say of them, by computing.
-use Rattle.std.proofs.Common.{◌≡◌, ℕ, ◌-◌, ◌^◌, true, false, List, Some, None, [], ◌∷◌, Ok, Err, codes, refl, inl, inr, arith}
-use Rattle.text_words.specs.Words.{words_in}
+use Rattle.std.proofs.Common.{◌≡◌, ℕ, ◌-◌, ◌^◌, true, false, List, Some, None, [], ◌∷◌, Ok, Err, codes, refl, inl, inr, lit<, lit≤, arith}
+use Rattle.text_words.specs.Words.{words_in, IsWord}
 use Rattle.text_words.specs.declared.separators.Separators.TheVariants as separators
 use Rattle.script_reader.specs.declared.act.Act.TheVariants as acts
 use Rattle.script_reader.specs.declared.fault.Wrong.TheVariants as wrong
 use Rattle.script_reader.specs.declared.fault.ScriptFault.TheVariants as faults
 use Rattle.script_reader.specs.Numbers.{Words, IsOfWords, no_words, first_word, one_word, two_words, three_words, optional, whole, number, within, bounded, optional_number, power, some, range_at}
 use Rattle.script_reader.specs.Forms.{greatest, greatest_id, greatest_node, greatest_byte, greatest_len, optional_exact, alloc_words, alloc_line, reserve_line, free_line, trim_line, fill_line, peek_line, sections_line, by_name, is_comment, asked_by, HasBounds}
+use Rattle.script_reader.specs.Spelling.{HasWords, no_byte, blank_first, word_alone, word_first, SpellsMin, no_min, a_min, SpellsMax, no_max, a_max, SpellsNode, no_node, a_node, exact_node, SpellsAct, peek}
 use Rattle.script_reader.specs.Script.{fault_at, is_sections, seen_behind, asked, line_at, lines_from, script_of}
 
 -- words of a line, and of the rest of one
@@ -175,3 +176,31 @@ lowest_fault = refl
 
 sections_twice : script_of (codes "sections\n#\nsections\n") ≡ Err (faults.SecondSections 3)
 sections_twice = refl
+
+-- a line with blanks around its words, and one that begins with a word
+spelled_words : HasWords (codes " free\t7 ") (codes "free" ∷ codes "7" ∷ []) × HasWords (codes "free 7") (codes "free" ∷ codes "7" ∷ [])
+spelled_words =
+    let name : IsWord separators.Script (codes "free") = record { some = lit< tt; closed = (refl, (refl, (refl, (refl, refl)))) } in
+    let id : IsWord separators.Script (codes "7") = record { some = lit< tt; closed = (refl, refl) } in (
+      blank_first 32 (codes "free\t7 ") (codes "free" ∷ codes "7" ∷ []) refl
+          (word_first (codes "free") 9 (codes "7 ") (codes "7" ∷ []) name refl (word_first (codes "7") 32 [] [] id refl no_byte)),
+      word_first (codes "free") 32 (codes "7") (codes "7" ∷ []) name refl (word_alone (codes "7") id),
+    )
+
+-- what may be left out of an `alloc`
+spelled_options : SpellsMin [] 0 × SpellsMin (codes "min" ∷ codes "1M" ∷ []) 1048576 × SpellsMax [] None
+    × SpellsMax (codes "max" ∷ codes "9" ∷ []) (Some 9) × SpellsNode [] None false
+    × SpellsNode (codes "node" ∷ codes "1023" ∷ []) (Some 1023) false
+    × SpellsNode (codes "node" ∷ codes "0" ∷ codes "exact" ∷ []) (Some 0) true
+spelled_options = (
+  no_min,
+  a_min (codes "1M") 1048576 refl,
+  no_max,
+  a_max (codes "9") 9 refl,
+  no_node,
+  a_node (codes "1023") 1023 refl (lit< tt),
+  exact_node (codes "0") 0 refl (lit< tt),
+)
+
+spelled_peek : SpellsAct (codes "peek" ∷ codes "0x10" ∷ codes "64" ∷ []) (acts.Peek 16 64)
+spelled_peek = peek (codes "0x10") (codes "64") 16 64 refl refl (lit< tt) (lit≤ tt) (lit< tt)
