@@ -1,7 +1,8 @@
 //! Lists of reports: names with a comma between each two, and the texts of all of them.
 
-ghost use Rattle.std.specs.Prelude.{◌≡◌, ◌++◌, IfOk, OnOk, length, map, nat_lt};
+ghost use Rattle.std.specs.Prelude.{◌≡◌, IfOk, length, map, nat_lt};
 ghost use Rattle.std.specs.List.{flat_map};
+ghost use Rattle.bm_base.specs.PutsText.{PutsText};
 ghost use Rattle.address_runs.specs.Runs.{AreRuns};
 ghost use Rattle.boot_model.specs.View.{booted_view};
 ghost use Rattle.debugfs_reports.specs.Stand.{TablesStand};
@@ -87,7 +88,7 @@ fn render_part(
 
 /// Appends the line that says whose the text behind it is, where there are several.
 fn put_title(text: &mut Vec<u8>, several: bool, report: Report) -> Result<(), Memory>
-    ensures { OnOk result (text.new.items ≡ text.old.items ++ title several report) }
+    ensures { PutsText text.old text.new result (title several report) }
 {
     if !several {
         return Ok(());

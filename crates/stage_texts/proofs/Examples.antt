@@ -25,7 +25,7 @@ use Rattle.stage_texts.specs.PagesText.{page_text, pages_text}
 use Rattle.stage_texts.specs.ScriptText.{answer_line, outcome_text, script_text}
 use Rattle.stage_texts.specs.SectionsText.{root_line, roots_line, section_line, sections_text}
 use Rattle.stage_texts.specs.SummaryText.{fullness_line, number_line, summary_text}
-use Rattle.stage_texts.specs.ZonesText.{buddy_line, buddyinfo_text, count_text, frames_there, padded_zone, zone_line, zones_text}
+use Rattle.stage_texts.specs.ZonesText.{buddy_line, buddyinfo_text, count_text, counts_text, frames_there, padded_zone, zone_line, zones_text}
 
 -- the script
 outcome_examples : (outcome_text (outcomes.At 0x7FF0000) ≡ codes "at 0x0000000007ff0000") × (outcome_text outcomes.Done ≡ codes "done")
@@ -193,7 +193,7 @@ count_examples = (refl, refl)
 
 buddy_lines : buddy_line (one_frame ∷ two_frames ∷ far_block ∷ []) 0 low_span
     ≡ codes "Node 0, zone      DMA      1      1      0      0      0      0      0      0      0      0      0 \n"
-unfolding one_frame two_frames far_block low_span buddy_line digits
+unfolding one_frame two_frames far_block low_span buddy_line counts_text digits
 buddy_lines = refl
 
 no_span : (f : Frames) → (zones_text f [] ≡ []) × (buddyinfo_text f [] ≡ [])

@@ -74,16 +74,13 @@ pub rest_placed : (o x n k : ℕ) (z : Zone) → ArePlaced (row_from o x n z k) 
 rest_placed o x n k z all some =
     let parts = subst (λ (bs : List Block). ArePlaced bs) (some_first o x n k z some) all in parts.3
 
--- the line of one of them more, and none left
-pub next_block : (o x n k y : ℕ) (z : Zone) (before after whole : List ℕ) → 0 < k → y ≡ x + 2 ^ o
-    → after ≡ before ++ block_line 0 (record { order = o; first = x; node = n; zone = z })
-    → before ++ lines (row_from o x n z k) ≡ whole → after ++ lines (row_from o y n z (k - 1)) ≡ whole
-next_block o x n k y z before after whole some next put so_far =
+-- the line of the first of them and those of the others, and none left
+pub next_line : (o x n k y : ℕ) (z : Zone) → 0 < k → y ≡ x + 2 ^ o
+    → lines (row_from o x n z k) ≡ block_line 0 (record { order = o; first = x; node = n; zone = z }) ++ lines (row_from o y n z (k - 1))
+next_line o x n k y z some next =
     let b : Block = record { order = o; first = x; node = n; zone = z } in
-    let rest : List Block = row_from o (x + 2 ^ o) n z (k - 1) in
-    ap (λ i. after ++ lines (row_from o i n z (k - 1))) next ∙ ap (λ t. t ++ lines rest) put
-    ∙ append_assoc before (block_line 0 b) (lines rest)
-    ∙ ap (λ t. before ++ t) (sym (ap lines (some_first o x n k z some) ∙ lines_first b rest)) ∙ so_far
+    ap lines (some_first o x n k z some) ∙ lines_first b (row_from o (x + 2 ^ o) n z (k - 1))
+    ∙ ap (λ i. block_line 0 b ++ lines (row_from o i n z (k - 1))) (sym next)
 
 pub none_more : (o x n k : ℕ) (z : Zone) (text whole : List ℕ) → k ≡ 0 → text ++ lines (row_from o x n z k) ≡ whole → text ≡ whole
 none_more o x n k z text whole none so_far =

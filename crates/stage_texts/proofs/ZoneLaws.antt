@@ -1,5 +1,5 @@
 -- How many frames the blocks of a node and a zone have, order by order.
-use Rattle.std.proofs.Common.{◌≡◌, ℕ, suc, ◌+◌, ◌-◌, ◌*◌, ◌%◌, ◌^◌, ◌<◌, ◌≤◌, ◌==◌, Bool, true, false, ◌&&◌, cond, List, [], ◌∷◌, length, ◌++◌, codes, refl, sym, ◌∙◌, ap, append_assoc, arith, inl, inr}
+use Rattle.std.proofs.Common.{◌≡◌, ℕ, suc, ◌+◌, ◌-◌, ◌*◌, ◌%◌, ◌^◌, ◌<◌, ◌≤◌, ◌==◌, Bool, true, false, ◌&&◌, cond, List, [], ◌∷◌, length, ◌++◌, codes, refl, sym, ◌∙◌, ap, arith, inl, inr}
 use Rattle.std.specs.Prelude.{nat_lt}
 use Rattle.std.specs.List.{count_by, filter, flat_map, range_with_len, sum_by}
 use Rattle.std.proofs.Math.Nat.{mod-eq_of_lt}
@@ -138,15 +138,10 @@ counts_more count order less =
     let left : 11 - order ≡ suc (11 - (order + 1)) = omega arith in
     ap (λ n. flat_map count (range_with_len order n)) left
 
-pub count_put : (f : Frames) (node : ℕ) (z : Zone) (order count : ℕ) (before middle after whole : List ℕ) → order < 11
-    → count ≡ count_of f node z order → middle ≡ before ++ padded_decimal 6 count → after ≡ middle ++ codes " "
-    → before ++ flat_map (count_text (blocks_of f) node z) (range_with_len order (11 - order)) ≡ whole
-    → after ++ flat_map (count_text (blocks_of f) node z) (range_with_len (order + 1) (11 - (order + 1))) ≡ whole
-count_put f node z order count before middle after whole less is number space so_far =
-    let text : List ℕ = count_text (blocks_of f) node z order in
+pub next_number : (f : Frames) (node : ℕ) (z : Zone) (order count : ℕ) → order < 11 → count ≡ count_of f node z order
+    → flat_map (count_text (blocks_of f) node z) (range_with_len order (11 - order))
+    ≡ (padded_decimal 6 count ++ codes " ") ++ flat_map (count_text (blocks_of f) node z) (range_with_len (order + 1) (11 - (order + 1)))
+next_number f node z order count less is =
     let rest : List ℕ = flat_map (count_text (blocks_of f) node z) (range_with_len (order + 1) (11 - (order + 1))) in
-    let one : after ≡ before ++ text =
-    space ∙ ap (λ t. t ++ codes " ") (number ∙ ap (λ n. before ++ padded_decimal 6 n) (is ∙ count_is f node z order))
-    ∙ append_assoc before (padded_decimal 6 (count_by (is_of node z order) (blocks_of f))) (codes " ") in
-    ap (λ t. t ++ rest) one ∙ append_assoc before text rest
-    ∙ ap (λ t. before ++ t) (sym (counts_more (count_text (blocks_of f) node z) order less)) ∙ so_far
+    counts_more (count_text (blocks_of f) node z) order less
+    ∙ ap (λ n. (padded_decimal 6 n ++ codes " ") ++ rest) (sym (is ∙ count_is f node z order))

@@ -46,7 +46,7 @@ zones_text f spans = lines_from (zone_line (blocks_of f)) 0 spans
 abbrev pub count_text : List Block → ℕ → Zone → ℕ → List ℕ
 count_text blocks node z order = padded_decimal 6 (count_by (is_of node z order) blocks) ++ codes " "
 
-abbrev pub counts_text : List Block → ℕ → Zone → List ℕ
+unfoldable pub counts_text : List Block → ℕ → Zone → List ℕ
 counts_text blocks node z = flat_map (count_text blocks node z) (range_with_len 0 (MAX_ORDER + 1))
 
 -- the line of a span: the number of blocks of each order, from 0 on; the index isn't in it

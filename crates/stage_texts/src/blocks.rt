@@ -3,7 +3,8 @@
 //! There may be millions, nearly all of the greatest order and one behind another. The lines of those go by sheets
 //! and are never all in memory ([`Sheets`]); the others, and those at the ends of great rows, are text.
 
-ghost use Rattle.std.specs.Prelude.{◌≡◌, ◌+◌, ◌*◌, ◌<◌, ◌≤◌, ◌%◌, ◌^◌, ◌++◌, OnOk};
+ghost use Rattle.std.specs.Prelude.{◌≡◌, ◌+◌, ◌*◌, ◌<◌, ◌≤◌, ◌%◌, ◌++◌, OnOk};
+ghost use Rattle.bm_base.specs.PutsText.{PutsText};
 ghost use Rattle.frame_blocks.specs.declared.run.TheConstants.{MAX_FRAMES};
 ghost use Rattle.frame_blocks.specs.Rows.{blocks_of_row, blocks_of_rows};
 ghost use Rattle.buddy_handover.specs.Contents.{free};
@@ -95,7 +96,7 @@ fn put_sheets(draft: &mut Draft, row: &BlockRow) -> Result<(), Memory>
 /// Appends the line of each block of a row, one after another.
 pub(crate) fn put_each(text: &mut Vec<u8>, row: &BlockRow) -> Result<(), Memory>
     requires { ArePlaced (blocks_of_row row.now) }
-    ensures { OnOk result (text.new.items ≡ text.old.items ++ row_text row.now) }
+    ensures { PutsText text.old text.new result (row_text row.now) }
 {
     let mut first = row.first;
     let mut left = row.count;
@@ -118,7 +119,7 @@ pub(crate) fn put_each(text: &mut Vec<u8>, row: &BlockRow) -> Result<(), Memory>
 /// Appends the line of a block, whose frames have addresses.
 fn put_block_line(text: &mut Vec<u8>, block: &Block) -> Result<(), Memory>
     requires { block.now.first < MAX_FRAMES }
-    ensures { OnOk result (text.new.items ≡ text.old.items ++ block_line 0 block.now) }
+    ensures { PutsText text.old text.new result (block_line 0 block.now) }
 {
     put_word_dec(text, b"node ", u64::from(block.node))?;
     put_text(text, b" zone ")?;

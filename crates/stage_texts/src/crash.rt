@@ -1,7 +1,7 @@
 //! The text of the crash area: where it lies, or why it doesn't. A boot goes on without the area, so no stop tells
 //! that reason: this text alone does.
 
-ghost use Rattle.std.specs.Prelude.{◌≡◌, ◌++◌, OnOk};
+ghost use Rattle.bm_base.specs.PutsText.{PutsText};
 ghost use Rattle.stage_texts.specs.CrashText.{crash_text, low_line};
 
 use bm_base::{Memory, Range, put_text};
@@ -10,7 +10,7 @@ use report_texts::put_word_range;
 
 /// Appends the text of the crash area: one line, and a second one for the low part where there is one.
 pub fn put_crash(text: &mut Vec<u8>, crash: &Crash) -> Result<(), Memory>
-    ensures { OnOk result (text.new.items ≡ text.old.items ++ crash_text crash.now) }
+    ensures { PutsText text.old text.new result (crash_text crash.now) }
 {
     match crash {
         Crash::Nothing => put_text(text, b"crash none\n"),
@@ -27,7 +27,7 @@ pub fn put_crash(text: &mut Vec<u8>, crash: &Crash) -> Result<(), Memory>
 
 /// Appends the line of the low part, if there is one.
 fn put_low_line(text: &mut Vec<u8>, low: &Option<Range>) -> Result<(), Memory>
-    ensures { OnOk result (text.new.items ≡ text.old.items ++ low_line low.now) }
+    ensures { PutsText text.old text.new result (low_line low.now) }
 {
     match low {
         Some(low) => {

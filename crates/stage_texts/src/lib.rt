@@ -10,12 +10,14 @@
 //! [`put_nodes`] of the table of domains and the nodes that memory got, [`put_crash`] of the crash area,
 //! [`put_sections`] of the places that sections have, [`put_zones`], [`put_buddyinfo`] and [`put_blocks`] of
 //! the zones and the free blocks at the handover, [`put_pages`] of what came of each line of the page script,
-//! [`put_zonelists`] of the zones in the order in which a request near a node asks them, [`put_summary`] of how much there is of everything.
+//! [`put_zonelists`] of the zones in the order in which a request near a node asks them, [`put_summary`] of how much there is
+//! of everything.
 //!
 //! A text stands in a `Vec<u8>`, but that of the blocks, which may have millions of lines: it goes to a [`Draft`], whose
 //! chunks are texts and [`Sheets`], the lines of great rows, of which no more than some thousand are ever in memory.
 //!
-//! Nothing but the text grows, and nothing but want of memory comes in its place; the text is then of no
+//! Nothing but want of memory comes in a text's place, and that only where its room is too small (`PutsText` of
+//! `bm_base`): [`put_blocks`] and [`put_zonelists`] alone take other memory, for lists and sheets. The text is then of no
 //! use, and whoever asked for it drops it.
 #![tactic(auto)]
 

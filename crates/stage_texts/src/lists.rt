@@ -3,6 +3,7 @@
 
 ghost use Rattle.std.specs.Prelude.{◌≡◌, ◌++◌, OnOk};
 ghost use Rattle.std.specs.List.{flat_map};
+ghost use Rattle.bm_base.specs.PutsText.{PutsText};
 ghost use Rattle.report_texts.specs.Lines.{lines_from};
 ghost use Rattle.stage_texts.specs.ListsText.{entry_text, list_line, use_line, use_text, zonelists_text};
 
@@ -12,7 +13,8 @@ use bm_base::{Memory, put_text};
 use report_texts::put_lines;
 use slit_zonelists::{ListZone, Lists, SlitUse};
 
-/// Appends the text of the zone lists: whether the SLIT is used, and a line for each node that has memory.
+/// Appends the text of the zone lists: whether the SLIT is used, and a line for each node that has memory. The list of those nodes
+/// takes memory beside the text's, and so does the list of each node in its line.
 pub fn put_zonelists(text: &mut Vec<u8>, lists: &Lists) -> Result<(), Memory>
     ensures { OnOk result (text.new.items ≡ text.old.items ++ zonelists_text lists.now) }
 {
@@ -21,7 +23,7 @@ pub fn put_zonelists(text: &mut Vec<u8>, lists: &Lists) -> Result<(), Memory>
     put_list_lines(text, &nodes, lists)
 }
 
-/// Appends the line of each of the nodes.
+/// Appends the line of each of the nodes, which takes memory beside the text's.
 fn put_list_lines(text: &mut Vec<u8>, nodes: &[u32], lists: &Lists) -> Result<(), Memory>
     ensures { OnOk result (text.new.items ≡ text.old.items ++ lines_from (list_line lists.now) 0 nodes.now) }
 {
@@ -32,7 +34,7 @@ fn put_list_lines(text: &mut Vec<u8>, nodes: &[u32], lists: &Lists) -> Result<()
 
 /// Appends the line of the use.
 fn put_use_line(text: &mut Vec<u8>, used: SlitUse) -> Result<(), Memory>
-    ensures { OnOk result (text.new.items ≡ text.old.items ++ use_line used) }
+    ensures { PutsText text.old text.new result (use_line used) }
 {
     put_text(text, b"slit ")?;
     put_use(text, used)?;
@@ -41,7 +43,7 @@ fn put_use_line(text: &mut Vec<u8>, used: SlitUse) -> Result<(), Memory>
 
 /// Appends whether the SLIT is used, and why not.
 fn put_use(text: &mut Vec<u8>, used: SlitUse) -> Result<(), Memory>
-    ensures { OnOk result (text.new.items ≡ text.old.items ++ use_text used) }
+    ensures { PutsText text.old text.new result (use_text used) }
 {
     match used {
         SlitUse::Used => put_text(text, b"used"),
@@ -54,7 +56,7 @@ fn put_use(text: &mut Vec<u8>, used: SlitUse) -> Result<(), Memory>
     }
 }
 
-/// Appends the line of a node: its number, and the zones of its list.
+/// Appends the line of a node: its number, and the zones of its list, which is made anew and takes memory beside the text's.
 fn put_list_line(text: &mut Vec<u8>, index: u64, node: &u32, lists: &Lists) -> Result<(), Memory>
     ensures { OnOk result (text.new.items ≡ text.old.items ++ list_line lists.now index node.now) }
 {
@@ -67,7 +69,7 @@ fn put_list_line(text: &mut Vec<u8>, index: u64, node: &u32, lists: &Lists) -> R
 
 /// Appends the zones of a list, in their order.
 fn put_entries(text: &mut Vec<u8>, zones: &[ListZone]) -> Result<(), Memory>
-    ensures { OnOk result (text.new.items ≡ text.old.items ++ flat_map entry_text zones.now) }
+    ensures { PutsText text.old text.new result (flat_map entry_text zones.now) }
 {
     for entry in zones {
         put_entry(text, entry)?;
@@ -77,7 +79,7 @@ fn put_entries(text: &mut Vec<u8>, zones: &[ListZone]) -> Result<(), Memory>
 
 /// Appends an entry of a list.
 fn put_entry(text: &mut Vec<u8>, entry: &ListZone) -> Result<(), Memory>
-    ensures { OnOk result (text.new.items ≡ text.old.items ++ entry_text entry.now) }
+    ensures { PutsText text.old text.new result (entry_text entry.now) }
 {
     put_word_dec(text, b" ", u64::from(entry.node))?;
     put_text(text, b"/")?;

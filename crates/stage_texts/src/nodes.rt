@@ -1,7 +1,7 @@
 //! The text of the nodes: why the table of domains is or isn't used, and which memory is of which node. The ranges
 //! are the Node items of the journal, in its own words (`put_item`), since what the stage answers has none.
 
-ghost use Rattle.std.specs.Prelude.{◌≡◌, ◌++◌, OnOk};
+ghost use Rattle.bm_base.specs.PutsText.{PutsText};
 ghost use Rattle.numa_nodes.specs.Assigned.{nodes_view};
 ghost use Rattle.stage_texts.specs.NodesText.{domain_line, node_line, nodes_text, uncovered_line, why_line, why_text};
 
@@ -14,8 +14,7 @@ use report_texts::{put_item, put_lines};
 /// Appends the text of the nodes: why the table of domains is or isn't used, the domain of each node, the
 /// frames that no block covers, and a line for each item of the journal that gives a range its node.
 pub fn put_nodes(text: &mut Vec<u8>, nodes: &Nodes, journal: &Journal) -> Result<(), Memory>
-    ensures { OnOk result (text.new.items
-        ≡ text.old.items ++ nodes_text (nodes_view nodes.now) journal.now.items) }
+    ensures { PutsText text.old text.new result (nodes_text (nodes_view nodes.now) journal.now.items) }
 {
     put_why_line(text, &nodes.why)?;
     put_lines(text, &nodes.domains, put_domain_line)?;
@@ -26,7 +25,7 @@ pub fn put_nodes(text: &mut Vec<u8>, nodes: &Nodes, journal: &Journal) -> Result
 
 /// Appends the line that says whether the table of domains is used, and why not.
 fn put_why_line(text: &mut Vec<u8>, why: &Why) -> Result<(), Memory>
-    ensures { OnOk result (text.new.items ≡ text.old.items ++ why_line why.now) }
+    ensures { PutsText text.old text.new result (why_line why.now) }
 {
     put_text(text, b"numa ")?;
     put_why(text, why)?;
@@ -35,7 +34,7 @@ fn put_why_line(text: &mut Vec<u8>, why: &Why) -> Result<(), Memory>
 
 /// Appends the reason, with its numbers.
 fn put_why(text: &mut Vec<u8>, why: &Why) -> Result<(), Memory>
-    ensures { OnOk result (text.new.items ≡ text.old.items ++ why_text why.now) }
+    ensures { PutsText text.old text.new result (why_text why.now) }
 {
     match why {
         Why::Used => put_text(text, b"used"),
@@ -54,7 +53,7 @@ fn put_why(text: &mut Vec<u8>, why: &Why) -> Result<(), Memory>
 
 /// Appends the line of a node, whose number is the index: its domain, and that number.
 fn put_domain_line(text: &mut Vec<u8>, index: u64, domain: &u32) -> Result<(), Memory>
-    ensures { OnOk result (text.new.items ≡ text.old.items ++ domain_line index domain.now) }
+    ensures { PutsText text.old text.new result (domain_line index domain.now) }
 {
     put_word_dec(text, b"domain ", u64::from(*domain))?;
     put_word_dec(text, b" node ", index)?;
@@ -63,7 +62,7 @@ fn put_domain_line(text: &mut Vec<u8>, index: u64, domain: &u32) -> Result<(), M
 
 /// Appends how many frames no block covers.
 fn put_uncovered_line(text: &mut Vec<u8>, frames: u64) -> Result<(), Memory>
-    ensures { OnOk result (text.new.items ≡ text.old.items ++ uncovered_line frames) }
+    ensures { PutsText text.old text.new result (uncovered_line frames) }
 {
     put_word_dec(text, b"uncovered ", frames)?;
     put_text(text, b"\n")
@@ -71,7 +70,7 @@ fn put_uncovered_line(text: &mut Vec<u8>, frames: u64) -> Result<(), Memory>
 
 /// Appends the line of an item, if it gives a range its node.
 fn put_node_line(text: &mut Vec<u8>, index: u64, item: &Item) -> Result<(), Memory>
-    ensures { OnOk result (text.new.items ≡ text.old.items ++ node_line index item.now) }
+    ensures { PutsText text.old text.new result (node_line index item.now) }
 {
     match item {
         Item::Node { .. } => {

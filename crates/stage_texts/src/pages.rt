@@ -1,6 +1,6 @@
 //! The text of the page script: what came of each of its lines.
 
-ghost use Rattle.std.specs.Prelude.{◌≡◌, ◌++◌, OnOk};
+ghost use Rattle.bm_base.specs.PutsText.{PutsText};
 ghost use Rattle.stage_texts.specs.PagesText.{page_line, page_text, pages_text};
 
 use crate::words::put_word_hex;
@@ -10,14 +10,14 @@ use report_texts::put_lines;
 
 /// Appends the text of the answers: a line for each, in their order.
 pub fn put_pages(text: &mut Vec<u8>, answers: &[PageAnswer]) -> Result<(), Memory>
-    ensures { OnOk result (text.new.items ≡ text.old.items ++ pages_text answers.now) }
+    ensures { PutsText text.old text.new result (pages_text answers.now) }
 {
     put_lines(text, answers, put_page_line)
 }
 
 /// Appends the line of an answer: the number of the script's line, and what came of it.
 fn put_page_line(text: &mut Vec<u8>, index: u64, answer: &PageAnswer) -> Result<(), Memory>
-    ensures { OnOk result (text.new.items ≡ text.old.items ++ page_line index answer.now) }
+    ensures { PutsText text.old text.new result (page_line index answer.now) }
 {
     put_dec(text, u64::from(answer.line), 0)?;
     put_text(text, b": ")?;
@@ -27,7 +27,7 @@ fn put_page_line(text: &mut Vec<u8>, index: u64, answer: &PageAnswer) -> Result<
 
 /// Appends what came of a line.
 fn put_page_outcome(text: &mut Vec<u8>, outcome: PageOutcome) -> Result<(), Memory>
-    ensures { OnOk result (text.new.items ≡ text.old.items ++ page_text outcome) }
+    ensures { PutsText text.old text.new result (page_text outcome) }
 {
     match outcome {
         PageOutcome::At(address) => put_word_hex(text, b"at ", address),

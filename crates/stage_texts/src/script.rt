@@ -1,7 +1,8 @@
 //! The text of the early script: what came of each of its lines. A refused line stops no boot, so its refusal is
 //! told here, by the number that the line has in the script.
 
-ghost use Rattle.std.specs.Prelude.{◌≡◌, ◌≤◌, ◌++◌, OnOk, length};
+ghost use Rattle.std.specs.Prelude.{◌≤◌, length};
+ghost use Rattle.bm_base.specs.PutsText.{PutsText};
 ghost use Rattle.hex.specs.Hex.{encode_lower};
 ghost use Rattle.stage_texts.specs.ScriptText.{answer_line, outcome_text, script_text};
 
@@ -16,14 +17,14 @@ const MOST_BYTES: usize = 64;
 
 /// Appends the text of the answers: a line for each, in their order.
 pub fn put_script(text: &mut Vec<u8>, answers: &[Answer]) -> Result<(), Memory>
-    ensures { OnOk result (text.new.items ≡ text.old.items ++ script_text answers.now) }
+    ensures { PutsText text.old text.new result (script_text answers.now) }
 {
     put_lines(text, answers, put_answer_line)
 }
 
 /// Appends the line of an answer: the number of the script's line, and what came of it.
 fn put_answer_line(text: &mut Vec<u8>, index: u64, answer: &Answer) -> Result<(), Memory>
-    ensures { OnOk result (text.new.items ≡ text.old.items ++ answer_line index answer.now) }
+    ensures { PutsText text.old text.new result (answer_line index answer.now) }
 {
     put_dec(text, u64::from(answer.line), 0)?;
     put_text(text, b": ")?;
@@ -33,7 +34,7 @@ fn put_answer_line(text: &mut Vec<u8>, index: u64, answer: &Answer) -> Result<()
 
 /// Appends what came of a line.
 fn put_outcome(text: &mut Vec<u8>, outcome: &Outcome) -> Result<(), Memory>
-    ensures { OnOk result (text.new.items ≡ text.old.items ++ outcome_text outcome.now) }
+    ensures { PutsText text.old text.new result (outcome_text outcome.now) }
 {
     match outcome {
         Outcome::At(address) => put_word_hex(text, b"at ", *address),
@@ -55,8 +56,7 @@ fn put_outcome(text: &mut Vec<u8>, outcome: &Outcome) -> Result<(), Memory>
 
 /// Appends which table found no place to grow to, and the room that was too small.
 fn put_no_gap(text: &mut Vec<u8>, which: Which, room: u64) -> Result<(), Memory>
-    ensures { OnOk result (text.new.items
-        ≡ text.old.items ++ outcome_text (Outcome.NoGapForTable which room)) }
+    ensures { PutsText text.old text.new result (outcome_text (Outcome.NoGapForTable which room)) }
 {
     put_text(text, b"no gap for table ")?;
     put_text(text, which_name(which).as_bytes())?;
@@ -66,7 +66,7 @@ fn put_no_gap(text: &mut Vec<u8>, which: Which, room: u64) -> Result<(), Memory>
 /// Appends bytes as two lower-case hexadecimal digits each. There are at most as many as a line tells.
 fn put_bytes(text: &mut Vec<u8>, bytes: &[u8]) -> Result<(), Memory>
     requires { length bytes.now ≤ MOST_BYTES }
-    ensures { OnOk result (text.new.items ≡ text.old.items ++ encode_lower bytes.now) }
+    ensures { PutsText text.old text.new result (encode_lower bytes.now) }
 {
     let mut room = [0u8; 2 * MOST_BYTES];
     let digits = &mut room[..2 * bytes.len()];

@@ -1,7 +1,7 @@
 //! The text of the sections: where the table of roots, the roots, and what belongs to each section lie. The roots
 //! are those of `sparse_sections`, the rest is of `section_maps`: here both come into one report.
 
-ghost use Rattle.std.specs.Prelude.{◌≡◌, ◌++◌, OnOk};
+ghost use Rattle.bm_base.specs.PutsText.{PutsText};
 ghost use Rattle.stage_texts.specs.SectionsText.{root_line, roots_text, section_line, sections_text};
 
 use crate::words::{put_word_dec, put_word_hex};
@@ -13,8 +13,8 @@ use sparse_sections::{RootPlace, Roots};
 /// Appends the text of the sections: a line for the table of roots, one for each root, and one for each
 /// section with memory.
 pub fn put_sections(text: &mut Vec<u8>, roots: &Roots, placed: &[Placed]) -> Result<(), Memory>
-    ensures { OnOk result (text.new.items ≡ text.old.items
-        ++ sections_text (record { table = roots.now.table; roots = roots.now.roots.items }) placed.now) }
+    ensures { PutsText text.old text.new result
+        (sections_text (record { table = roots.now.table; roots = roots.now.roots.items }) placed.now) }
 {
     put_roots(text, roots)?;
     put_lines(text, placed, put_section_line)?;
@@ -23,8 +23,7 @@ pub fn put_sections(text: &mut Vec<u8>, roots: &Roots, placed: &[Placed]) -> Res
 
 /// Appends the line of the table of roots, and one for each root.
 fn put_roots(text: &mut Vec<u8>, roots: &Roots) -> Result<(), Memory>
-    ensures { OnOk result (text.new.items ≡ text.old.items
-        ++ roots_text (record { table = roots.now.table; roots = roots.now.roots.items })) }
+    ensures { PutsText text.old text.new result (roots_text (record { table = roots.now.table; roots = roots.now.roots.items })) }
 {
     put_word_hex(text, b"roots ", roots.table)?;
     put_text(text, b"\n")?;
@@ -34,7 +33,7 @@ fn put_roots(text: &mut Vec<u8>, roots: &Roots) -> Result<(), Memory>
 
 /// Appends the line of a root.
 fn put_root_line(text: &mut Vec<u8>, index: u64, root: &RootPlace) -> Result<(), Memory>
-    ensures { OnOk result (text.new.items ≡ text.old.items ++ root_line index root.now) }
+    ensures { PutsText text.old text.new result (root_line index root.now) }
 {
     put_word_dec(text, b"root ", u64::from(root.number))?;
     put_word_hex(text, b" ", root.place)?;
@@ -43,7 +42,7 @@ fn put_root_line(text: &mut Vec<u8>, index: u64, root: &RootPlace) -> Result<(),
 
 /// Appends the line of a section.
 fn put_section_line(text: &mut Vec<u8>, index: u64, placed: &Placed) -> Result<(), Memory>
-    ensures { OnOk result (text.new.items ≡ text.old.items ++ section_line index placed.now) }
+    ensures { PutsText text.old text.new result (section_line index placed.now) }
 {
     put_word_dec(text, b"section ", u64::from(placed.section))?;
     put_word_dec(text, b" node ", u64::from(placed.node))?;

@@ -1,7 +1,7 @@
 //! The text of the summary: how much there is of everything at the end of a boot. The numbers are counted above,
 //! where a whole boot is known (`debugfs_reports`); their record stands here, since the lines are defined over it.
 
-ghost use Rattle.std.specs.Prelude.{◌≡◌, ◌++◌, OnOk};
+ghost use Rattle.bm_base.specs.PutsText.{PutsText};
 ghost use Rattle.stage_texts.specs.SummaryText.{fullness_line, number_line, summary_text};
 
 use crate::words::put_word_dec;
@@ -35,7 +35,7 @@ pub struct Summary {
 
 /// Appends the text of the summary: six lines.
 pub fn put_summary(text: &mut Vec<u8>, summary: &Summary) -> Result<(), Memory>
-    ensures { OnOk result (text.new.items ≡ text.old.items ++ summary_text summary.now) }
+    ensures { PutsText text.old text.new result (summary_text summary.now) }
 {
     put_number_line(text, b"runs ", summary.runs)?;
     put_number_line(text, b"usable ", summary.usable)?;
@@ -47,7 +47,7 @@ pub fn put_summary(text: &mut Vec<u8>, summary: &Summary) -> Result<(), Memory>
 
 /// Appends the line of a word and a number.
 fn put_number_line(text: &mut Vec<u8>, word: &[u8], number: u64) -> Result<(), Memory>
-    ensures { OnOk result (text.new.items ≡ text.old.items ++ number_line word.now number) }
+    ensures { PutsText text.old text.new result (number_line word.now number) }
 {
     put_word_dec(text, word, number)?;
     put_text(text, b"\n")
@@ -55,7 +55,7 @@ fn put_number_line(text: &mut Vec<u8>, word: &[u8], number: u64) -> Result<(), M
 
 /// Appends the line of a table: its records and its room.
 fn put_fullness_line(text: &mut Vec<u8>, which: Which, full: &Fullness) -> Result<(), Memory>
-    ensures { OnOk result (text.new.items ≡ text.old.items ++ fullness_line which full.now) }
+    ensures { PutsText text.old text.new result (fullness_line which full.now) }
 {
     put_text(text, which_name(which).as_bytes())?;
     put_word_dec(text, b" records ", full.records)?;

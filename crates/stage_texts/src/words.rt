@@ -1,14 +1,15 @@
 //! A word and what stands behind it, the same in every text. Most lines of this crate are a few such pairs, so a
 //! line is put by a call for each, in the order of its definition.
 
-ghost use Rattle.std.specs.Prelude.{◌≡◌, ◌++◌, OnOk, decimal};
+ghost use Rattle.std.specs.Prelude.{◌++◌, decimal};
+ghost use Rattle.bm_base.specs.PutsText.{PutsText};
 ghost use Rattle.bm_base.specs.Text.{hex_text};
 
 use bm_base::{Memory, put_dec, put_hex, put_text};
 
 /// Appends a word and the number behind it.
 pub fn put_word_dec(text: &mut Vec<u8>, word: &[u8], number: u64) -> Result<(), Memory>
-    ensures { OnOk result (text.new.items ≡ text.old.items ++ (word.now ++ decimal number)) }
+    ensures { PutsText text.old text.new result (word.now ++ decimal number) }
 {
     put_text(text, word)?;
     put_dec(text, number, 0)
@@ -16,7 +17,7 @@ pub fn put_word_dec(text: &mut Vec<u8>, word: &[u8], number: u64) -> Result<(), 
 
 /// Appends a word and the address behind it.
 pub fn put_word_hex(text: &mut Vec<u8>, word: &[u8], address: u64) -> Result<(), Memory>
-    ensures { OnOk result (text.new.items ≡ text.old.items ++ (word.now ++ hex_text address)) }
+    ensures { PutsText text.old text.new result (word.now ++ hex_text address) }
 {
     put_text(text, word)?;
     put_hex(text, address)

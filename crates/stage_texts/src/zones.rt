@@ -1,7 +1,9 @@
 //! The texts of the zones: what the memory of each node spans, and how many free blocks there are. Both have a
 //! line for each span, and count where the free frames are (`Buddy::count`), without a list of blocks.
 
-ghost use Rattle.std.specs.Prelude.{◌≡◌, ◌++◌, OnOk, codes, decimal};
+ghost use Rattle.std.specs.Prelude.{◌≡◌, ◌++◌, codes, decimal};
+ghost use Rattle.bm_base.specs.PutsText.{PutsText};
+ghost use Rattle.bm_base.specs.Text.{padded_decimal};
 ghost use Rattle.frame_blocks.specs.Listed.{blocks_of};
 ghost use Rattle.buddy_handover.specs.Contents.{free};
 ghost use Rattle.stage_texts.specs.ZonesText.{buddy_line, buddyinfo_text, counts_text, frames_there, padded_zone, zone_line, zone_name, zones_text};
@@ -14,7 +16,7 @@ use zone_spans::Span;
 
 /// Appends the text of the zones: a line for each span, with the frames of it that are free.
 pub fn put_zones(text: &mut Vec<u8>, spans: &[Span], buddy: &Buddy) -> Result<(), Memory>
-    ensures { OnOk result (text.new.items ≡ text.old.items ++ zones_text (free buddy.now) spans.now) }
+    ensures { PutsText text.old text.new result (zones_text (free buddy.now) spans.now) }
 {
     put_lines(text, spans, |text: &mut Vec<u8>, index: u64, span: &Span| {
         put_zone_line(text, index, span, buddy)
@@ -23,8 +25,7 @@ pub fn put_zones(text: &mut Vec<u8>, spans: &[Span], buddy: &Buddy) -> Result<()
 
 /// Appends the numbers of free blocks by order (`/proc/buddyinfo`): a line for each span.
 pub fn put_buddyinfo(text: &mut Vec<u8>, spans: &[Span], buddy: &Buddy) -> Result<(), Memory>
-    ensures { OnOk result (text.new.items
-        ≡ text.old.items ++ buddyinfo_text (free buddy.now) spans.now) }
+    ensures { PutsText text.old text.new result (buddyinfo_text (free buddy.now) spans.now) }
 {
     put_lines(text, spans, |text: &mut Vec<u8>, index: u64, span: &Span| {
         put_buddy_line(text, index, span, buddy)
@@ -44,8 +45,7 @@ pub fn zone_name(zone: Zone) -> &'static str
 
 /// Appends the line of a span: its bounds, how many frames there are, and how many are free.
 fn put_zone_line(text: &mut Vec<u8>, index: u64, span: &Span, buddy: &Buddy) -> Result<(), Memory>
-    ensures { OnOk result (text.new.items
-        ≡ text.old.items ++ zone_line (blocks_of (free buddy.now)) index span.now) }
+    ensures { PutsText text.old text.new result (zone_line (blocks_of (free buddy.now)) index span.now) }
 {
     put_node_zone(text, span.node)?;
     put_text(text, zone_name(span.zone).as_bytes())?;
@@ -59,8 +59,7 @@ fn put_zone_line(text: &mut Vec<u8>, index: u64, span: &Span, buddy: &Buddy) -> 
 /// Appends the line of a span: the number of free blocks of each order.
 #[tactic(auto, unfolding(crate::specs::ZonesText::buddy_line))]
 fn put_buddy_line(text: &mut Vec<u8>, index: u64, span: &Span, buddy: &Buddy) -> Result<(), Memory>
-    ensures { OnOk result (text.new.items
-        ≡ text.old.items ++ buddy_line (blocks_of (free buddy.now)) index span.now) }
+    ensures { PutsText text.old text.new result (buddy_line (blocks_of (free buddy.now)) index span.now) }
 {
     put_node_zone(text, span.node)?;
     put_padded_zone(text, span.zone)?;
@@ -71,8 +70,7 @@ fn put_buddy_line(text: &mut Vec<u8>, index: u64, span: &Span, buddy: &Buddy) ->
 
 /// Appends the number of a node, and the word before a zone's name.
 fn put_node_zone(text: &mut Vec<u8>, node: u32) -> Result<(), Memory>
-    ensures { OnOk result (text.new.items
-        ≡ text.old.items ++ (codes "Node " ++ decimal node ++ codes ", zone ")) }
+    ensures { PutsText text.old text.new result (codes "Node " ++ decimal node ++ codes ", zone ") }
 {
     put_word_dec(text, b"Node ", u64::from(node))?;
     put_text(text, b", zone ")
@@ -80,7 +78,7 @@ fn put_node_zone(text: &mut Vec<u8>, node: u32) -> Result<(), Memory>
 
 /// Appends the name of a zone, right-aligned with spaces in eight places.
 fn put_padded_zone(text: &mut Vec<u8>, zone: Zone) -> Result<(), Memory>
-    ensures { OnOk result (text.new.items ≡ text.old.items ++ padded_zone zone) }
+    ensures { PutsText text.old text.new result (padded_zone zone) }
 {
     let name = zone_name(zone);
     let spaces = [b' '; 8];
@@ -88,17 +86,23 @@ fn put_padded_zone(text: &mut Vec<u8>, zone: Zone) -> Result<(), Memory>
     put_text(text, name.as_bytes())
 }
 
-/// Appends the number of free blocks of each order that the node has in the zone, each right-aligned in
-/// six places and with a space behind it.
+/// Appends the number of free blocks of each order that the node has in the zone.
+#[tactic(auto, unfolding(crate::specs::ZonesText::counts_text))]
 fn put_counts(text: &mut Vec<u8>, span: &Span, buddy: &Buddy) -> Result<(), Memory>
-    ensures { OnOk result (text.new.items ≡ text.old.items
-        ++ counts_text (blocks_of (free buddy.now)) span.now.node span.now.zone) }
+    ensures { PutsText text.old text.new result (counts_text (blocks_of (free buddy.now)) span.now.node span.now.zone) }
 {
     for order in 0..=MAX_ORDER {
-        put_dec(text, buddy.count(span.node, span.zone, order), 6)?;
-        put_text(text, b" ")?;
+        put_count(text, buddy.count(span.node, span.zone, order))?;
     }
     Ok(())
+}
+
+/// Appends a number of free blocks, right-aligned in six places and with a space behind it.
+fn put_count(text: &mut Vec<u8>, count: u64) -> Result<(), Memory>
+    ensures { PutsText text.old text.new result (padded_decimal 6 count ++ codes " ") }
+{
+    put_dec(text, count, 6)?;
+    put_text(text, b" ")
 }
 
 /// How many frames the free blocks of the node in the zone have. Takes no memory.

@@ -1,13 +1,28 @@
-use Rattle.std.proofs.Common.{◌≡◌, ◌+◌, ◌-◌, ◌*◌, ◌%◌, ◌^◌, ℕ, sym, ap, subst, arith}
+use Rattle.std.proofs.Common.{◌≡◌, ◌+◌, ◌-◌, ◌*◌, ◌%◌, ◌^◌, ℕ, Result, Err, refl, sym, ap, subst, arith}
+use Rattle.std.proofs.lemmas.Grind.{common_steps}
+use Rattle.bm_base.specs.declared.memory.Memory.{Memory}
 use Rattle.frame_blocks.specs.Rows.{row_from}
+use Rattle.report_texts.proofs.PutLaws.{text_more, too_small}
+use Rattle.stage_texts.specs.BlocksText.{block_line}
 use Rattle.stage_texts.specs.Sheets.{ArePlaced}
-use Rattle.stage_texts.proofs.RowLaws.{first_placed, next_block, none_more, rest_placed, size_is}
+use Rattle.stage_texts.proofs.RowLaws.{first_placed, lines, next_line, none_more, rest_placed, size_is}
 use Rattle.stage_texts.proofs.blocks.put_each.Goals as goal
 
 pub put_block_line-requires : goal.put_block_line-requires
 put_block_line-requires c =
     (first_placed c.args.row.now.order c.loop-left.first c.args.row.now.node c.loop-left.left c.args.row.now.zone c.loop-left.invariant.low
     (omega arith)).1
+
+pub returns-in_err-put_block_line : goal.returns-in_err-put_block_line
+returns-in_err-put_block_line c =
+    let told : ◌≡◌ {A = Result (Unit {0}) Memory} c.from_residual.result (Err c.in_err-put_block_line.field-0.0) =
+    grind (arith, common_steps) in
+    let r = c.args.row.now in
+    let l = c.loop-left in
+    rw told (too_small _ _ (block_line 0 (record { order = r.order; first = l.first; node = r.node; zone = r.zone })) _
+    (lines (row_from r.order (l.first + 2 ^ r.order) r.node r.zone (l.left - 1))) _ _ _
+    (next_line r.order l.first r.node l.left (l.first + 2 ^ r.order) r.zone (omega arith) refl) l.invariant.text l.invariant.room
+    c.in_err-put_block_line.ensures)
 
 pub overflow_shl-first : goal.overflow_shl-first
 overflow_shl-first c =
@@ -29,13 +44,20 @@ loop-left-preserved c =
     let l = c.loop-left in
     let at = first_placed r.order l.first r.node l.left r.zone l.invariant.low (omega arith) in
     let next : l.first + 1 * 2 ^ r.order % 18446744073709551616 ≡ l.first + 2 ^ r.order = ap (λ s. l.first + s) (size_is r.order at.0).0 in
+    let put = c.in_ok-put_block_line.ensures in
+    let more = put.1 in
+    let before = l.invariant.room in
     record {
       low = subst (λ (x : ℕ). ArePlaced (row_from r.order x r.node r.zone (l.left - 1))) (sym next)
           (rest_placed r.order l.first r.node l.left r.zone l.invariant.low (omega arith));
-      text = next_block r.order l.first r.node l.left (l.first + 1 * 2 ^ r.order % 18446744073709551616) r.zone _ _ _ (omega arith) next
-          c.in_ok-put_block_line.ensures l.invariant.text;
+      text = text_more _ _ _ _ _ _
+          (next_line r.order l.first r.node l.left (l.first + 1 * 2 ^ r.order % 18446744073709551616) r.zone (omega arith) next)
+          l.invariant.text put.0;
+      room = omega (arith, more, before);
     }
 
 pub returns : goal.returns
-returns c = none_more c.args.row.now.order c.loop-left.first c.args.row.now.node c.loop-left.left c.args.row.now.zone _ _ (omega arith)
-    c.loop-left.invariant.text
+returns c =
+    let r = c.args.row.now in
+    let l = c.loop-left in
+    (none_more r.order l.first r.node l.left r.zone _ _ (omega arith) l.invariant.text, l.invariant.room)

@@ -1,5 +1,5 @@
--- The text so far and the lines of the blocks that are left are those of all blocks.
-use Rattle.std.proofs.Common.{◌≡◌, ◌++◌}
+-- The text so far and the lines of the blocks that are left are those of all blocks, and the text has no less room than before.
+use Rattle.std.proofs.Common.{◌≡◌, ◌≤◌, ◌++◌, vec_capacity}
 use Rattle.frame_blocks.specs.Rows.{row_from, blocks_of_row}
 use Rattle.stage_texts.specs.Sheets.{ArePlaced}
 use Rattle.stage_texts.proofs.RowLaws.{lines}
@@ -10,6 +10,7 @@ invariant-loop-left l = record {
   low : ArePlaced (row_from l.row.order l.first l.row.node l.row.zone l.left);
   text : l.text.items ++ lines (row_from l.row.order l.first l.row.node l.row.zone l.left)
       ≡ l.fn.text.items ++ lines (blocks_of_row l.row);
+  room : vec_capacity l.fn.text ≤ vec_capacity l.text;
 }
 
 abbrev pub decreases-loop-left : goal.decreases-loop-left

@@ -7,6 +7,7 @@ use Rattle.stage_texts.specs.declared.chunks.Draft.{Draft}
 use Rattle.stage_texts.specs.Chunks.{draft_text}
 use Rattle.stage_texts.specs.Sheets.{ArePlaced, FillSheets}
 use Rattle.stage_texts.proofs.ChunkLaws.{great_parts, on_ok, parts_put, text_more}
+use Rattle.report_texts.proofs.PutLaws.{puts_ok}
 use Rattle.stage_texts.proofs.blocks.put_great_row.Goals as goal
 
 pub part_of-requires : goal.part_of-requires
@@ -47,9 +48,9 @@ returns c =
     let first : Draft = record { chunks = c.args.draft.now.chunks; text = c.put_each.new.text } in
     on_ok c.put_each-2.result
     (λ third. parts_put row _ _ _ _ _ _ parts
-    (text_more c.args.draft.now.chunks.items _ _ _ c.in_ok-put_each.ensures
+    (text_more c.args.draft.now.chunks.items _ _ _ c.in_ok-put_each.ensures.0
     ∙ ap (λ (r : BlockRow). draft_text c.args.draft.now ++ row_text r) c.part_of.ensures)
     (c.in_ok-put_sheets.ensures
     ∙ ap (λ (r : BlockRow). draft_text first ++ row_text r) c.part_of-2.ensures)
     (text_more chunks _ _ _ third ∙ ap (λ (r : BlockRow). draft_text c.put_sheets.new.draft ++ row_text r) c.part_of-3.ensures))
-    c.put_each-2.ensures
+    (puts_ok c.put_sheets.new.draft.text c.put_each-2.new.text c.put_each-2.result (row_text c.part_of-3.result) c.put_each-2.ensures)

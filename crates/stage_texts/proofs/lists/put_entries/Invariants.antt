@@ -1,9 +1,11 @@
--- The entries so far stand behind the text.
-use Rattle.std.proofs.Common.{◌≡◌, ◌++◌, drop}
+-- The entries so far stand behind the text, which has no less room than before.
+use Rattle.std.proofs.Common.{◌≡◌, ◌≤◌, ◌++◌, drop, vec_capacity}
 use Rattle.std.specs.List.{flat_map}
 use Rattle.stage_texts.specs.ListsText.{entry_text}
 use Rattle.stage_texts.proofs.lists.put_entries.Given as goal
 
 abbrev pub invariant-loop-entry : goal.invariant-loop-entry
-invariant-loop-entry l = l.text.items ++ flat_map entry_text (drop l.entry-index l.zones) ≡ l.initial.text.items
-    ++ flat_map entry_text l.zones
+invariant-loop-entry l = record {
+  text : l.text.items ++ flat_map entry_text (drop l.entry-index l.zones) ≡ l.initial.text.items ++ flat_map entry_text l.zones;
+  room : vec_capacity l.initial.text ≤ vec_capacity l.text;
+}

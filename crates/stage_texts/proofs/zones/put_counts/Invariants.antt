@@ -1,5 +1,5 @@
--- The text so far and the numbers of the orders that are left are those of all orders.
-use Rattle.std.proofs.Common.{◌≡◌, ◌-◌, ◌++◌}
+-- The text so far and the numbers of the orders that are left are those of all orders, and the text has no less room than before.
+use Rattle.std.proofs.Common.{◌≡◌, ◌≤◌, ◌-◌, ◌++◌, vec_capacity}
 use Rattle.std.specs.List.{flat_map, range_with_len}
 use Rattle.buddy_handover.specs.Contents.{free}
 use Rattle.frame_blocks.specs.Listed.{blocks_of}
@@ -9,4 +9,8 @@ use Rattle.stage_texts.proofs.zones.put_counts.Given as goal
 abbrev pub invariant-loop-order : goal.invariant-loop-order
 invariant-loop-order l =
     let counts = count_text (blocks_of (free l.buddy)) l.span.node l.span.zone in
-    l.text.items ++ flat_map counts (range_with_len l.order (11 - l.order)) ≡ l.fn.text.items ++ flat_map counts (range_with_len 0 11)
+    record {
+      text : l.text.items ++ flat_map counts (range_with_len l.order (11 - l.order))
+          ≡ l.fn.text.items ++ flat_map counts (range_with_len 0 11);
+      room : vec_capacity l.fn.text ≤ vec_capacity l.text;
+    }

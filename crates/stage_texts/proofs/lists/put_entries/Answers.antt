@@ -1,0 +1,26 @@
+-- An entry for which memory is wanting: the room was too small for all of them.
+use Rattle.std.proofs.Common.{◌≡◌, ℕ, suc, ◌+◌, ◌<◌, ◌≤◌, List, ◌++◌, length, drop, get_or, Result, Err, ap, ◌∙◌, drop-cons, arith}
+use Rattle.std.proofs.lemmas.Grind.{common_steps}
+use Rattle.std.specs.List.{flat_map}
+use Rattle.bm_base.specs.declared.memory.Memory.{Memory}
+use Rattle.slit_zonelists.specs.declared.entry.ListZone.{ListZone}
+use Rattle.report_texts.proofs.PutLaws.{too_small}
+use Rattle.stage_texts.specs.ListsText.{entry_text}
+use Rattle.stage_texts.proofs.lists.put_entries.Goals as goal
+
+no_room : (zones : List ListZone) (i : ℕ) (d : ListZone) (old mid : List ℕ) (before room : ℕ) → i < length zones
+    → mid ++ flat_map entry_text (drop i zones) ≡ old ++ flat_map entry_text zones → before ≤ room
+    → room < length mid + length (entry_text (get_or zones i d)) → before < length old + length (flat_map entry_text zones)
+no_room zones i d old mid before room within so_far less wants =
+    let next : suc i ≡ i + 1 = omega arith in
+    too_small old mid (entry_text (get_or zones i d)) (flat_map entry_text (drop i zones)) (flat_map entry_text (drop (i + 1) zones))
+    (flat_map entry_text zones) before room
+    (ap (λ (zs : List ListZone). flat_map entry_text zs) (drop-cons zones i d within)
+    ∙ ap (λ k. entry_text (get_or zones i d) ++ flat_map entry_text (drop k zones)) next) so_far less wants
+
+pub returns-in_err-put_entry : goal.returns-in_err-put_entry
+returns-in_err-put_entry c =
+    let told : ◌≡◌ {A = Result (Unit {0}) Memory} c.from_residual.result (Err c.in_err-put_entry.field-0.0) = grind (arith, common_steps) in
+    let l = c.loop-entry in
+    rw told (no_room c.args.zones.now l.entry-index _ _ _ _ _ c.loop-entry-test.true l.invariant.text l.invariant.room
+    c.in_err-put_entry.ensures)
