@@ -45,8 +45,11 @@ image_and_first_frames = (refl, refl, refl, refl, refl, refl)
 
 -- an initrd that begins within the first 64 KiB has its bytes there, too
 low_initrd_keeps_its_bytes : (owned (Some (bytes 0xF000 0x3000)) 0xEFFF ≡ Some owner.Low64K)
-    × (owned (Some (bytes 0xF000 0x3000)) 0xF000 ≡ Some owner.Initrd) × (initrd_claims None ≡ []) × (up_to 0x10000 ≡ bytes 0 0x10000)
-low_initrd_keeps_its_bytes = (refl, refl, refl, refl)
+    × (owned (Some (bytes 0xF000 0x3000)) 0xF000 ≡ Some owner.Initrd)
+low_initrd_keeps_its_bytes = (refl, refl)
+
+none_without_an_initrd : (initrd_claims None ≡ []) × (up_to 0x10000 ≡ bytes 0 0x10000)
+none_without_an_initrd = (refl, refl)
 
 -- RAM is added, a reserved run isn't, a driver's is claimed; what passes the limit is cut, what begins there is left out
 runs_of_types : (items_of_run limit (run 0x1000 0x9F000 1) ≡ item.Mem (bytes 0x1000 0x9F000) ∷ [])
