@@ -4,8 +4,7 @@
 
 ghost use Rattle.std.specs.Prelude.{◌≡◌, ◌^◌, ◌<◌, ℕ, Ok, IfOk, IfSome, length};
 ghost use Rattle.address_runs.specs.Runs.{AreRuns};
-ghost use Rattle.e820_model.specs.Map.{claims_of};
-ghost use Rattle.boot_model.specs.Boot.{Given, BootSoFar, begin_with, boot, claims, map_judged, reach, told_boot};
+ghost use Rattle.boot_model.specs.Boot.{BootSoFar, begin_with, boot, map_judged, told_boot};
 ghost use Rattle.boot_model.specs.View.{booted_view, inputs_view};
 ghost use Rattle.conservation.specs.Headline.{AllTouchedOrInOne, BlocksAreMaximal, BlocksAreWhole, NoOtherInABlock};
 ghost use Rattle.conservation.specs.Paged.{AllInOneOrHeld, NoOtherInOneOrHeld};
@@ -16,7 +15,7 @@ ghost use Rattle.memblock_model.specs.declared.which.Which.TheVariants as which;
 ghost use Rattle.phys_store.specs.Bytes.{byte_of};
 ghost use Rattle.growth_model.specs.Sound.{HasBegun};
 ghost use Rattle.growth_model.specs.Bytes.{byte};
-ghost use Rattle.boot_stages.specs.Boots.{IsSpelledFree, TableStands};
+ghost use Rattle.boot_stages.specs.Boots.{IsSpelledFree, TableStands, later_view};
 ghost use Rattle.boot_stages.specs.Ended.{ended_view};
 
 use crate::handover::{End, hand_over_memory};
@@ -25,7 +24,7 @@ use crate::map::{added_entries, finished_table, judged_map};
 use crate::memory::make_memory;
 use crate::pages::{Paged, run_pages};
 use boot_model::{Booted, Inputs, Stop};
-use e820_sanitise::{Run, Table};
+use e820_sanitise::Run;
 use memblock_grow::Memblock;
 use std::alloc::Global;
 
@@ -56,67 +55,20 @@ pub fn boot(alloc: Global, inputs: Inputs) -> Result<Booted, Stop>
     ensures paged { IfOk result (λ booted. AllInOneOrHeld (booted_view booted)) }
     ensures none_paged { IfOk result (λ booted. NoOtherInOneOrHeld (booted_view booted)) }
 {
-    let Ended {
-        map,
-        later,
-        end,
-        paged,
-    } = boot_by(alloc, &inputs)?;
-    let Later {
-        nodes,
-        crash,
-        sections,
-        answers,
-    } = later;
-    let Sections { roots, placed } = sections;
-    let End {
-        journal,
-        store,
-        heads,
-        spans,
-        buddy,
-    } = end;
-    Ok(Booted {
-        width: inputs.width,
-        map,
-        options: inputs.options,
-        journal,
-        store,
-        heads,
-        nodes,
-        crash,
-        roots,
-        placed,
-        answers,
-        spans,
-        buddy,
-        lists: paged.lists,
-        page_answers: paged.answers,
-        after: paged.after,
-    })
+    let map = settled_map(alloc, &inputs)?;
+    let mut memblock = Memblock::new(alloc, inputs.kernel)?;
+    make_memory(&mut memblock, &inputs, &map)?;
+    let later = run_stages(alloc, &mut memblock, &inputs)?;
+    let end = hand_over_memory(alloc, memblock)?;
+    let paged = run_pages(alloc, &inputs, &later.nodes, &end)?;
+    Ok(booted(inputs, map, later, end, paged))
 }
 
-/// What the stages made, and what is handed over. The page script ran on a copy of that.
-#[derive(Drop)]
-struct Ended {
-    map: Vec<Run>,
-    later: Later,
-    end: End,
-    paged: Paged,
-}
-
-/// The stages in their order. The inputs are lent, since the options stand in what the boot makes.
-fn boot_by(alloc: Global, inputs: &Inputs) -> Result<Ended, Stop>
-    ensures boots { Answers Stop.Memory (ended_view (inputs_view inputs.now)) result
-        (with_error stop_of (told_boot (inputs_view inputs.now))) }
-    ensures bytes { IfOk result (λ ended. (made : BootSoFar) → boot (inputs_view inputs.now) ≡ Ok made →
-        (x : ℕ) → byte_of ended.end.store x ≡ byte inputs.now.kernel made.items made.fills x) }
-    ensures runs { IfOk result (λ ended. AreRuns ended.map.items) }
-    ensures memory { IfOk result (λ ended.
-        TableStands which.Memory ended.end.journal.items ended.end.store ended.end.heads.memory) }
-    ensures reserved { IfOk result (λ ended.
-        TableStands which.Reserved ended.end.journal.items ended.end.store ended.end.heads.reserved) }
-    ensures spelled { IfOk result (λ ended. IsSpelledFree ended.end.store ended.end.heads ended.end.buddy) }
+/// The map of the finished table's claims, where the boot goes on with it.
+fn settled_map(alloc: Global, inputs: &Inputs) -> Result<Vec<Run>, Stop>
+    ensures answers { Answers Stop.Memory (λ map. begin_with map.items (inputs_view inputs.now).options) result
+        (with_error stop_of (map_judged (inputs_view inputs.now))) }
+    ensures runs { IfOk result (λ map. AreRuns map.items) }
 {
     let table = finished_table(
         alloc,
@@ -125,27 +77,35 @@ fn boot_by(alloc: Global, inputs: &Inputs) -> Result<Ended, Stop>
         &inputs.options.edits,
         added_entries(inputs),
     )?;
-    let reach = inputs.reach();
-    let map = settled_map(&table, reach)?;
-    let mut memblock = Memblock::new(alloc, inputs.kernel)?;
-    make_memory(&mut memblock, inputs, &map)?;
-    let later = run_stages(alloc, &mut memblock, inputs)?;
-    let end = hand_over_memory(alloc, memblock)?;
-    let paged = run_pages(alloc, inputs, &later.nodes, &end)?;
-    Ok(Ended {
-        map,
-        later,
-        end,
-        paged,
-    })
+    judged_map(table.runs(), inputs.reach())
 }
 
-/// The map of the table's claims, where the boot goes on with it.
-fn settled_map(table: &Table, limit: u64) -> Result<Vec<Run>, Stop>
-    ensures answers { (given : Given) → claims given ≡ claims_of table.now → reach given ≡ limit →
-        Answers Stop.Memory (λ map. begin_with map.items given.options) result
-        (with_error stop_of (map_judged given)) }
-    ensures runs { IfOk result (λ map. AreRuns map.items) }
+/// What the boot made, put together.
+fn booted(inputs: Inputs, map: Vec<Run>, later: Later, end: End, paged: Paged) -> Booted
+    ensures view { booted_view result ≡ ended_view (inputs_view inputs) map.items (later_view later) end paged }
+    ensures map { result.map ≡ map }
+    ensures journal { result.journal ≡ end.journal }
+    ensures store { result.store ≡ end.store }
+    ensures heads { result.heads ≡ end.heads }
+    ensures buddy { result.buddy ≡ end.buddy }
 {
-    judged_map(table.runs(), limit)
+    let Sections { roots, placed } = later.sections;
+    Booted {
+        width: inputs.width,
+        map,
+        options: inputs.options,
+        journal: end.journal,
+        store: end.store,
+        heads: end.heads,
+        nodes: later.nodes,
+        crash: later.crash,
+        roots,
+        placed,
+        answers: later.answers,
+        spans: end.spans,
+        buddy: end.buddy,
+        lists: paged.lists,
+        page_answers: paged.answers,
+        after: paged.after,
+    }
 }

@@ -11,6 +11,7 @@ ghost use Rattle.stage_texts.specs.Chunks.{text_of_chunks};
 ghost use Rattle.program_words.specs.View.{wanted_view};
 ghost use Rattle.program_words.specs.Words.{accepted, texts};
 ghost use Rattle.program_run.specs.Answers.{FailureHasCause, IsOfBoot, Makes, ReportHasCause, Writes, WritingHasCause};
+ghost use Rattle.program_run.specs.Headline.{IsReported};
 ghost use Rattle.program_run.specs.Outcome.{outcome, reported};
 ghost use Rattle.program_run.specs.Run.{RanTo};
 ghost use Rattle.program_run.specs.Status.{End, status_of_end};
@@ -41,8 +42,10 @@ pub fn run<F: Files, S: Sink, E: Sink>(
     out: &mut S,
     err: &mut E,
 ) -> u8
-    ensures { (end : End) × (result ≡ status_of_end end) × RanTo F.Files S.Sink E.Sink
+    ensures ran { (end : End) × (result ≡ status_of_end end) × RanTo F.Files S.Sink E.Sink
         (accepted (texts words.now)) files.old files.new out.old out.new err.old err.new end }
+    ensures headline { result ≡ 0 → IfSome (F.holds files.old) (λ held.
+        IsReported (accepted (texts words.now)) held (S.written out.old) (S.written out.new)) }
 {
     match read_words(alloc, words) {
         Ok(wanted) => run_wanted(alloc, &wanted, files, out, err),

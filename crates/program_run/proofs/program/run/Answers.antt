@@ -3,14 +3,15 @@ use Rattle.std.proofs.Common.{◌≡◌, None, Err, refl, inl}
 use Rattle.program_words.specs.Words.{accepted, texts}
 use Rattle.program_run.specs.declared.failure.Failure.TheVariants as failures
 use Rattle.program_run.specs.declared.failure.Reason.TheVariants as reasons
+use Rattle.program_run.proofs.HeadlineLaws.{ran_headline}
 use Rattle.program_run.proofs.RunLaws.{usage_fits, wanting_fits}
 use Rattle.program_run.proofs.program.run.Goals as goal
 
-pub returns-in-Ok : goal.returns-in-Ok
-returns-in-Ok g c = rw c.in-Ok.ensures c.run_wanted.ensures
+pub returns-in-Ok-clause-ran : goal.returns-in-Ok-clause-ran
+returns-in-Ok-clause-ran g c = rw c.in-Ok.ensures c.run_wanted.ensures
 
-pub returns-in-Err-Usage : goal.returns-in-Err-Usage
-returns-in-Err-Usage g c =
+pub returns-in-Err-Usage-clause-ran : goal.returns-in-Err-Usage-clause-ran
+returns-in-Err-Usage-clause-ran g c =
     let none : accepted (texts c.args.words.now) ≡ None = rw c.in-Err-Usage.field-0-is at c.in-Err-Usage.ensures in (
       Err (failures.NoReport reasons.Usage),
       c.status.ensures,
@@ -27,8 +28,8 @@ returns-in-Err-Usage g c =
       },
     )
 
-pub returns-in-Err-Memory : goal.returns-in-Err-Memory
-returns-in-Err-Memory g c = (
+pub returns-in-Err-Memory-clause-ran : goal.returns-in-Err-Memory-clause-ran
+returns-in-Err-Memory-clause-ran g c = (
   Err failures.Memory,
   c.status-in-Err-Memory.ensures,
   record {
@@ -42,3 +43,15 @@ returns-in-Err-Memory g c = (
     line = c.tell_memory.ensures (accepted (texts c.args.words.now));
   },
 )
+
+pub returns-in-Ok-clause-headline : goal.returns-in-Ok-clause-headline
+returns-in-Ok-clause-headline g c =
+    let ran = returns-in-Ok-clause-ran g c in ran_headline _ _ ran.0 _ _ _ ran.1 ran.2.said
+
+pub returns-in-Err-Usage-clause-headline : goal.returns-in-Err-Usage-clause-headline
+returns-in-Err-Usage-clause-headline g c =
+    let ran = returns-in-Err-Usage-clause-ran g c in ran_headline _ _ ran.0 _ _ _ ran.1 ran.2.said
+
+pub returns-in-Err-Memory-clause-headline : goal.returns-in-Err-Memory-clause-headline
+returns-in-Err-Memory-clause-headline g c =
+    let ran = returns-in-Err-Memory-clause-ran g c in ran_headline _ _ ran.0 _ _ _ ran.1 ran.2.said
