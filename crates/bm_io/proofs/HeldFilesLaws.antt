@@ -1,9 +1,8 @@
 -- The list of files as the program has it, and as contracts see it.
-use Rattle.std.proofs.Common.{◌≡◌, ℕ, Bool, true, false, cond, List, [], ◌∷◌, Some, find, refl, inl, inr}
-use Rattle.std.specs.Prelude.{Contains}
+use Rattle.std.proofs.Common.{◌≡◌, ℕ, Bool, true, false, cond, List, [], ◌∷◌, Some, find, refl}
 use Rattle.std.specs.Option.{option_map}
 use Rattle.bm_io.specs.declared.mem_files.MemFile.{MemFile}
-use Rattle.bm_io.specs.HeldFiles.{HeldFiles, held_files, bytes_of, is_named, IsRefused}
+use Rattle.bm_io.specs.HeldFiles.{held_files, bytes_of, is_named}
 
 -- one more file in front of those of which it is known
 file_in_front : (f : MemFile) (fs : List MemFile) (name : List ℕ) (named : Bool)
@@ -18,9 +17,3 @@ pub bytes_of_found : (files : List MemFile) (name : List ℕ)
     → option_map (λ f. f.bytes.items) (find (is_named name) files) ≡ bytes_of (held_files files) name
 bytes_of_found [] name = refl
 bytes_of_found (f ∷ fs) name = file_in_front f fs name (is_named name f) (bytes_of_found fs name)
-
--- a call that isn't told to fail isn't refused where the name is held
-pub not_refused : (held : HeldFiles) (number : ℕ) (name bytes : List ℕ)
-    → ¬ Contains held.failing number → bytes_of held.files name ≡ Some bytes → ¬ IsRefused held number name
-not_refused held number name bytes passed is (inl told) = passed told
-not_refused held number name bytes passed is (inr none) = let never = rw is at none in cc

@@ -1,4 +1,3 @@
-pub mod CountLaws
 pub mod HeldFilesLaws
 pub mod StreamLaws
 pub mod PutsLaws

@@ -1,10 +1,6 @@
 -- Known bytes that grow chunk by chunk.
-use Rattle.std.proofs.Common.{◌≡◌, ℕ, ◌+◌, ◌-◌, ◌/◌, ◌≤◌, List, ◌++◌, length, take, drop, Option, Some, None, refl, sym, ◌∙◌, ap, arith, length-drop, append_assoc, append-nil, take_all, take-add, drop-drop, Result, Ok, Err}
-use Rattle.std.specs.Prelude.{OnErr, IsErrOf}
+use Rattle.std.proofs.Common.{◌≡◌, ℕ, ◌+◌, ◌-◌, ◌≤◌, List, ◌++◌, length, take, drop, Option, Some, None, sym, ◌∙◌, ap, arith, length-drop, append_assoc, take_all, take-add, drop-drop}
 use Rattle.std.specs.Io.KnownBytes.{Appends, Consumes}
-use Rattle.bm_io.specs.Told.{AppendsFront}
-use Rattle.bm_io.specs.declared.writing.Put.{Put}
-use Rattle.bm_io.specs.declared.writing.Put.TheVariants as put
 
 -- two chunks that follow one another
 pub appends_twice : (old mid new : Option (List ℕ)) (first second : List ℕ)
@@ -58,12 +54,3 @@ front_more old mid new chunk rest k before left small more =
     ap (λ (t : List ℕ). take n chunk ++ take k t) left ∙ sym (take-add n k chunk)
     ∙ sym (ap (λ (m : ℕ). take m chunk) (gone_more chunk rest k left small)) in
     rw (← whole) (appends_twice old mid new (take n chunk) (take k rest) before more)
-
--- a put that failed appended the half, and one with no memory nothing: either is a front of the chunk
-pub front_of_failure : (answer : Result (Unit {0}) Put) (old new chunk : List ℕ)
-    → (IsErrOf answer put.Failed → new ≡ old ++ take (length chunk / 2) chunk)
-    → (IsErrOf answer put.Memory → new ≡ old)
-    → OnErr answer (AppendsFront (Some old) (Some new) chunk)
-front_of_failure (Ok done) old new chunk half none = tt
-front_of_failure (Err put.Failed) old new chunk half none = (length chunk / 2, omega arith, half refl)
-front_of_failure (Err put.Memory) old new chunk half none = (0, omega arith, none refl ∙ sym (append-nil old))

@@ -12,21 +12,6 @@ loop-count-init g c = let before = c.args.file.now in
     let given : HasGiven g.F.RawReader.reads before (vec_items c.new-bytes.result) before =
     rw c.new-bytes.ensures.items nothing_given in search rules
 
-pub returns-in_default-clause-calls : goal.returns-in_default-clause-calls
-returns-in_default-clause-calls g c =
-    let l = c.loop-count in
-    let so_far : vec_len l.bytes ≡ length (vec_items l.bytes) = l.bytes.ok.0 in (
-      vec_len l.bytes,
-      (vec_items l.bytes, l.file, l.invariant.given, omega (arith, so_far), c.in_default.ensures.call, so_far),
-      l.invariant.taken,
-    )
-
-pub returns-in_default-clause-whole : goal.returns-in_default-clause-whole
-returns-in_default-clause-whole g c = tt
-
-pub returns-in_default-clause-faults : goal.returns-in_default-clause-faults
-returns-in_default-clause-faults g c = omega (arith, c.saturating_add-self-inside.ensures, c.loop-count.invariant.faults)
-
 pub returns-then-count-limit-clause-calls : goal.returns-then-count-limit-clause-calls
 returns-then-count-limit-clause-calls g c =
     let l = c.loop-count in

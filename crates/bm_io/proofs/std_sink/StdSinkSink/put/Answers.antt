@@ -14,12 +14,3 @@ loop-rest-preserved g c = let l = c.loop-rest in record {
   left = left_more _ _ _ l.invariant.left c.in-Some.ensures.bound;
   faults = l.invariant.faults;
 }
-
-pub returns-in_default-clause-faults : goal.returns-in_default-clause-faults
-returns-in_default-clause-faults g c = search rules
-
-pub returns-in_default-clause-calls : goal.returns-in_default-clause-calls
-returns-in_default-clause-calls g c = search rules
-
-pub returns-in_default-clause-front : goal.returns-in_default-clause-front
-returns-in_default-clause-front g c = search rules
