@@ -1,6 +1,6 @@
 //! A report: lines of one form that follow one another without meeting.
 
-ghost use Rattle.std.specs.Prelude.{◌≡◌, ◌+◌, ◌<◌, ◌≤◌, ◌^◌, ℕ, List, Option, length, map, IfOk};
+ghost use Rattle.std.specs.Prelude.{◌≡◌, ◌+◌, ◌<◌, ◌≤◌, ◌^◌, ℕ, List, Option, length, map, IfOk, IsErrOf};
 ghost use Rattle.audit_lines.specs.Lines.{AscendApart};
 ghost use Rattle.audit_lines.specs.Reports.{line_at, report_of};
 ghost use Rattle.bm_base.specs.Answers.{Answers};
@@ -61,10 +61,11 @@ pub trait ReportLine: Copy + Drop {
 }
 
 /// The lines of a report, or the fault of its lowest line that has one. They are ascending and disjoint, and no more
-/// than the report has bytes.
+/// than the report has bytes. `Memory` comes only where there are some.
 pub fn read_report<L: ReportLine>(alloc: Global, bytes: &[u8]) -> Result<Vec<L>, ReadError>
     ensures answers { Answers ReadError.Memory (λ lines. lines.items) result
         (with_error ReadError.Fault (report_of L.form L.extent bytes.now)) }
+    ensures memory { IsErrOf result ReadError.Memory → 0 < length bytes.now }
     ensures order { IfOk result (λ lines. AscendApart (map L.extent lines.items)) }
     ensures few { IfOk result (λ lines. length lines.items ≤ length bytes.now) }
 {
