@@ -12,6 +12,7 @@ use Rattle.e820_model.proofs.UsableLaws.{count_frames_between, count_same, memor
 use Rattle.boot_options.specs.Crash.{no_crash}
 use Rattle.e820_model.specs.declared.edit.Edit.TheVariants as edits
 use Rattle.memblock_ranges.specs.declared.region.Heads.{Heads}
+use Rattle.memblock_model.specs.Labels.{Label, plain_label}
 use Rattle.early_script.specs.declared.outcome.Outcome.TheVariants as outcomes
 use Rattle.crash_kernel.specs.declared.crash.Crash.TheVariants as crash
 use Rattle.frame_blocks.specs.declared.block.Block.{Block}
@@ -25,7 +26,7 @@ use Rattle.boot_model.specs.Boot.{Told, no_nodes}
 use Rattle.boot_model.specs.Sections.{no_sections}
 use Rattle.stage_texts.specs.SummaryText.{summary_text}
 use Rattle.debugfs_reports.specs.declared.report.Report.TheVariants as reports
-use Rattle.debugfs_reports.specs.Report.{first_named, name_of, report_named, report_text}
+use Rattle.debugfs_reports.specs.Report.{TableRecords, first_named, name_of, report_named, report_text, shown_text}
 use Rattle.debugfs_reports.specs.ReportList.{are_reports, names_in, part, reports_in, text_of, title}
 use Rattle.debugfs_reports.specs.Summary.{frames_in, fullness_of, summary_of}
 
@@ -89,6 +90,19 @@ text_examples : (report_text reports.Map made ≡ codes "0x0000000007fe0000..0x0
     × (report_text reports.Sections made ≡ codes "roots 0x0000000000000000\n") × (report_text reports.Buddyinfo made ≡ [])
 unfolding made nothing reserved digits
 text_examples = (refl, refl, refl, refl, refl, refl, refl, refl)
+
+-- tables of which no item tells: each is told from the records at its own head
+abbrev page_at : ℕ → RunOf Label
+page_at base = record { base = base; size = 0x1000; value = plain_label }
+
+abbrev standing : TableRecords
+standing = record { memory = page_at 0x1000 ∷ page_at 0x2000 ∷ []; reserved = page_at 0x2000 ∷ [] }
+
+table_examples : (shown_text reports.Memory made standing
+    ≡ codes "   0: 0x0000000000001000..0x0000000000001fff\n   1: 0x0000000000002000..0x0000000000002fff\n")
+    × (shown_text reports.Reserved made standing ≡ codes "   0: 0x0000000000002000..0x0000000000002fff\n")
+unfolding made reserved digits
+table_examples = (refl, refl)
 
 name_examples : (name_of reports.Map ≡ codes "map") × (report_named (codes "map") ≡ Some reports.Map)
     × (report_named (codes "options") ≡ Some reports.Options) × (report_named (codes "Map") ≡ None) × (report_named [] ≡ None)

@@ -1,3 +1,4 @@
 mod Examples
 pub mod ListLaws
 pub mod SummaryLaws
+mod WholeLaws

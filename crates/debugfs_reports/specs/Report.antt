@@ -1,12 +1,14 @@
 -- The reports that there are: the name and the text of each.
 use Rattle.std.specs.Prelude.{ℕ, List, [], ◌∷◌, codes, Option, find}
 use Rattle.std.specs.Str.{bytes_eq}
+use Rattle.address_runs.specs.Runs.{RunOf}
 use Rattle.boot_model.specs.Boot.{Told}
 use Rattle.debugfs_reports.specs.declared.report.Report.{Report}
 use Rattle.debugfs_reports.specs.declared.report.Report.TheVariants as reports
 use Rattle.debugfs_reports.specs.Summary.{summary_of}
 use Rattle.memblock_model.specs.declared.which.Which.TheVariants as which
 use Rattle.memblock_model.specs.Items.{owner_runs_of}
+use Rattle.memblock_model.specs.Labels.{Label}
 use Rattle.memblock_model.specs.Tables.{records_of}
 use Rattle.report_texts.specs.JournalText.{journal_text}
 use Rattle.report_texts.specs.MapText.{map_text}
@@ -57,23 +59,36 @@ first_named reports name = find (λ report. bytes_eq name (name_of report)) repo
 abbrev pub report_named : List ℕ → Option Report
 report_named name = first_named all_reports name
 
--- the text of a report, from what is told of a boot
+-- the records of memblock's two tables
+pub record TableRecords : Type 0 where
+  pub memory : List (RunOf Label)
+  pub reserved : List (RunOf Label)
+
+-- the text of a report, from what is told of a boot and from the records that stand at the heads of its tables
+abbrev pub shown_text : Report → Told → TableRecords → List ℕ
+shown_text reports.Map told records = map_text told.map
+shown_text reports.Options told records = options_text told.options
+shown_text reports.Nodes told records = nodes_text told.nodes told.items
+shown_text reports.Memory told records = records_text records.memory
+shown_text reports.Reserved told records = records_text records.reserved
+shown_text reports.Owners told records = owners_text (owner_runs_of told.items)
+shown_text reports.Journal told records = journal_text told.items
+shown_text reports.Crash told records = crash_text told.crash
+shown_text reports.Sections told records = sections_text told.sections.roots told.sections.placed
+shown_text reports.Zones told records = zones_text told.free told.spans
+shown_text reports.Script told records = script_text told.answers
+shown_text reports.Tables told records = tables_text told.heads
+shown_text reports.Buddyinfo told records = buddyinfo_text told.free told.spans
+shown_text reports.Blocks told records = blocks_text told.free
+shown_text reports.Pages told records = pages_text told.page_answers
+shown_text reports.Pagesinfo told records = buddyinfo_text told.after.frames told.spans
+shown_text reports.Zonelists told records = zonelists_text told.lists
+shown_text reports.Summary told records = summary_text (summary_of told)
+
+-- what the items of a boot come to in both tables
+abbrev pub records_told : Told → TableRecords
+records_told told = record { memory = records_of which.Memory told.items; reserved = records_of which.Reserved told.items }
+
+-- the text where those stand at the heads
 abbrev pub report_text : Report → Told → List ℕ
-report_text reports.Map told = map_text told.map
-report_text reports.Options told = options_text told.options
-report_text reports.Nodes told = nodes_text told.nodes told.items
-report_text reports.Memory told = records_text (records_of which.Memory told.items)
-report_text reports.Reserved told = records_text (records_of which.Reserved told.items)
-report_text reports.Owners told = owners_text (owner_runs_of told.items)
-report_text reports.Journal told = journal_text told.items
-report_text reports.Crash told = crash_text told.crash
-report_text reports.Sections told = sections_text told.sections.roots told.sections.placed
-report_text reports.Zones told = zones_text told.free told.spans
-report_text reports.Script told = script_text told.answers
-report_text reports.Tables told = tables_text told.heads
-report_text reports.Buddyinfo told = buddyinfo_text told.free told.spans
-report_text reports.Blocks told = blocks_text told.free
-report_text reports.Pages told = pages_text told.page_answers
-report_text reports.Pagesinfo told = buddyinfo_text told.after.frames told.spans
-report_text reports.Zonelists told = zonelists_text told.lists
-report_text reports.Summary told = summary_text (summary_of told)
+report_text report told = shown_text report told (records_told told)

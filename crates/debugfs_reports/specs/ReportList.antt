@@ -5,7 +5,7 @@ use Rattle.text_words.specs.declared.separators.Separators.TheVariants.{Byte}
 use Rattle.text_words.specs.Parts.{parts_in}
 use Rattle.boot_model.specs.Boot.{Told}
 use Rattle.debugfs_reports.specs.declared.report.Report.{Report}
-use Rattle.debugfs_reports.specs.Report.{name_of, report_named, report_text}
+use Rattle.debugfs_reports.specs.Report.{TableRecords, name_of, records_told, report_named, shown_text}
 
 -- the names that are spelled with a comma between each two; the empty text is one empty name
 abbrev pub names_in : List ℕ → List (List ℕ)
@@ -23,10 +23,16 @@ reports_in list = filter_map report_named (names_in list)
 abbrev pub title : Bool → Report → List ℕ
 title several report = if several then codes "== " ++ name_of report ++ codes "\n" else []
 
--- a report's part of the whole text
+-- a report's part of the whole text, by the records at the heads, and where those are what the items come to
+abbrev pub shown_part : Bool → Told → TableRecords → Report → List ℕ
+shown_part several told records report = title several report ++ shown_text report told records
+
 abbrev pub part : Bool → Told → Report → List ℕ
-part several told report = title several report ++ report_text report told
+part several told report = shown_part several told (records_told told) report
 
 -- the whole text of a list of reports: the parts one after another, in the order of the list
+abbrev pub shown_list : List Report → Told → TableRecords → List ℕ
+shown_list reports told records = flat_map (shown_part (nat_lt 1 (length reports)) told records) reports
+
 abbrev pub text_of : List Report → Told → List ℕ
-text_of reports told = flat_map (part (nat_lt 1 (length reports)) told) reports
+text_of reports told = shown_list reports told (records_told told)

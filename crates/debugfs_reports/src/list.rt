@@ -3,10 +3,11 @@
 ghost use Rattle.std.specs.Prelude.{◌≡◌, IfOk, length, map, nat_lt};
 ghost use Rattle.std.specs.List.{flat_map};
 ghost use Rattle.bm_base.specs.PutsText.{PutsText};
-ghost use Rattle.address_runs.specs.Runs.{AreRuns};
 ghost use Rattle.boot_model.specs.View.{booted_view};
+ghost use Rattle.debugfs_reports.specs.Report.{TableRecords};
+ghost use Rattle.debugfs_reports.specs.ReportList.{are_reports, reports_in, shown_list, shown_part, title};
 ghost use Rattle.debugfs_reports.specs.Stand.{TablesStand};
-ghost use Rattle.debugfs_reports.specs.ReportList.{are_reports, part, reports_in, text_of, title};
+ghost use Rattle.e820_usable.specs.Ascend.{Ascend};
 ghost use Rattle.stage_texts.specs.Chunks.{text_of_chunks};
 
 use crate::report::{Report, put_report, report_named};
@@ -48,18 +49,20 @@ pub fn reports_in(alloc: Global, list: &[u8]) -> Result<Vec<Report>, Memory>
 }
 
 /// The texts of all reports of a list in chunks, each with the line that says whose it is where there are two or
-/// more. Together they are the whole text.
+/// more. Together they are the whole text: `text_of`, where what the boot's items come to stands at the heads.
 pub fn render_all(
     alloc: Global,
     reports: &[Report],
     booted: &Booted,
 ) -> Result<Vec<Vec<Chunk>>, Memory>
-    requires tables { TablesStand booted.now }
-    requires runs { AreRuns booted.now.map.items }
-    ensures each { IfOk result (λ texts. map (λ chunks. text_of_chunks chunks.items) texts.items
-        ≡ map (part (nat_lt 1 (length reports.now)) (booted_view booted.now)) reports.now) }
-    ensures whole { IfOk result (λ texts. flat_map (λ chunks. text_of_chunks chunks.items) texts.items
-        ≡ text_of reports.now (booted_view booted.now)) }
+    requires tables { (records : TableRecords) × TablesStand records booted.now }
+    requires map { Ascend booted.now.map.items }
+    ensures each { (records : TableRecords) → TablesStand records booted.now
+        → IfOk result (λ texts. map (λ chunks. text_of_chunks chunks.items) texts.items
+        ≡ map (shown_part (nat_lt 1 (length reports.now)) (booted_view booted.now) records) reports.now) }
+    ensures whole { (records : TableRecords) → TablesStand records booted.now
+        → IfOk result (λ texts. flat_map (λ chunks. text_of_chunks chunks.items) texts.items
+        ≡ shown_list reports.now (booted_view booted.now) records) }
 {
     let several = reports.len() > 1;
     let mut texts = Vec::new(alloc);
@@ -76,9 +79,10 @@ fn render_part(
     several: bool,
     booted: &Booted,
 ) -> Result<Vec<Chunk>, Memory>
-    requires tables { TablesStand booted.now }
-    requires runs { AreRuns booted.now.map.items }
-    ensures { IfOk result (λ chunks. text_of_chunks chunks.items ≡ part several (booted_view booted.now) report) }
+    requires tables { (records : TableRecords) × TablesStand records booted.now }
+    requires map { Ascend booted.now.map.items }
+    ensures { (records : TableRecords) → TablesStand records booted.now
+        → IfOk result (λ chunks. text_of_chunks chunks.items ≡ shown_part several (booted_view booted.now) records report) }
 {
     let mut draft = Draft::new(alloc);
     put_title(&mut draft.text, several, report)?;

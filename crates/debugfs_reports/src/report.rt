@@ -3,13 +3,14 @@
 
 ghost use Rattle.std.specs.Prelude.{◌≡◌, ◌++◌, IfOk, OnOk};
 ghost use Rattle.std.specs.Str.{bytes_eq};
-ghost use Rattle.address_runs.specs.Runs.{AreRuns};
 ghost use Rattle.boot_model.specs.View.{booted_view};
-ghost use Rattle.debugfs_reports.specs.Report.{name_of, report_named, report_text};
+ghost use Rattle.debugfs_reports.specs.Report.{TableRecords, name_of, report_named, report_text, shown_text};
 ghost use Rattle.debugfs_reports.specs.Stand.{TablesStand};
+ghost use Rattle.e820_usable.specs.Ascend.{Ascend};
 ghost use Rattle.stage_texts.specs.Chunks.{draft_text, text_of_chunks};
 
 use crate::summary::summary_of;
+use crate::whole::whole_text;
 use bm_base::Memory;
 use boot_model::Booted;
 use report_texts::{put_journal, put_map, put_options, put_owners, put_records, put_tables};
@@ -131,12 +132,26 @@ pub fn report_named(name: &[u8]) -> Option<Report>
     None
 }
 
-/// The text of a report, in chunks. The records of both tables stand in the boot's bytes, where its heads tell, and
-/// the runs of its map ascend, as [`summary_of`] asks.
-pub fn render(alloc: Global, report: Report, booted: &Booted) -> Result<Vec<Chunk>, Memory>
-    requires tables { TablesStand booted.now }
-    requires runs { AreRuns booted.now.map.items }
-    ensures { IfOk result (λ chunks. text_of_chunks chunks.items ≡ report_text report (booted_view booted.now)) }
+/// The text of a report. `memory` and `reserved` are told from the records that stand at the heads of the two tables,
+/// whatever the boot's items say. Takes the memory of the whole text, which for `blocks` may be hundreds of MB:
+/// [`render_chunks`] takes that of a sheet.
+pub fn render(alloc: Global, report: Report, booted: &Booted) -> Result<Vec<u8>, Memory>
+    requires tables { (records : TableRecords) × TablesStand records booted.now }
+    requires map { Ascend booted.now.map.items }
+    ensures { (records : TableRecords) → TablesStand records booted.now
+        → IfOk result (λ text. text.items ≡ shown_text report (booted_view booted.now) records) }
+{
+    let mut draft = Draft::new(alloc);
+    put_report(&mut draft, report, booted)?;
+    whole_text(draft)
+}
+
+/// The same text in chunks, to be put one after another.
+pub fn render_chunks(alloc: Global, report: Report, booted: &Booted) -> Result<Vec<Chunk>, Memory>
+    requires tables { (records : TableRecords) × TablesStand records booted.now }
+    requires map { Ascend booted.now.map.items }
+    ensures { (records : TableRecords) → TablesStand records booted.now
+        → IfOk result (λ chunks. text_of_chunks chunks.items ≡ shown_text report (booted_view booted.now) records) }
 {
     let mut draft = Draft::new(alloc);
     put_report(&mut draft, report, booted)?;
@@ -145,10 +160,11 @@ pub fn render(alloc: Global, report: Report, booted: &Booted) -> Result<Vec<Chun
 
 /// Appends the text of a report.
 pub fn put_report(draft: &mut Draft, report: Report, booted: &Booted) -> Result<(), Memory>
-    requires tables { TablesStand booted.now }
-    requires runs { AreRuns booted.now.map.items }
-    ensures { OnOk result (draft_text draft.new
-        ≡ draft_text draft.old ++ report_text report (booted_view booted.now)) }
+    requires tables { (records : TableRecords) × TablesStand records booted.now }
+    requires map { Ascend booted.now.map.items }
+    ensures { (records : TableRecords) → TablesStand records booted.now
+        → OnOk result (draft_text draft.new
+        ≡ draft_text draft.old ++ shown_text report (booted_view booted.now) records) }
 {
     let text = &mut draft.text;
     match report {
@@ -175,7 +191,7 @@ pub fn put_report(draft: &mut Draft, report: Report, booted: &Booted) -> Result<
 
 /// Appends the text of the summary.
 fn put_numbers(text: &mut Vec<u8>, booted: &Booted) -> Result<(), Memory>
-    requires { AreRuns booted.now.map.items }
+    requires { Ascend booted.now.map.items }
     ensures { OnOk result (text.new.items ≡ text.old.items ++ report_text Report.Summary (booted_view booted.now)) }
 {
     put_summary(text, &summary_of(booted)?)

@@ -4,9 +4,9 @@
 //! the free ones along the rows of the free blocks.
 
 ghost use Rattle.std.specs.Prelude.{◌≡◌, ◌*◌, ◌^◌, ◌<◌, IfOk};
-ghost use Rattle.address_runs.specs.Runs.{AreRuns};
 ghost use Rattle.boot_model.specs.View.{booted_view};
 ghost use Rattle.debugfs_reports.specs.Summary.{fullness_of, summary_of};
+ghost use Rattle.e820_usable.specs.Ascend.{Ascend};
 
 use bm_base::Memory;
 use boot_model::Booted;
@@ -15,10 +15,10 @@ use e820_usable::usable_frames;
 use memblock_ranges::Head;
 use stage_texts::{Fullness, Summary};
 
-/// How much there is of everything at the end of a boot. The runs of its map ascend, and no two that touch
-/// are of one type. Takes memory for the rows of the free blocks.
+/// How much there is of everything at the end of a boot. The runs of its map ascend; those that touch
+/// may be of one type. Takes memory for the rows of the free blocks.
 pub fn summary_of(booted: &Booted) -> Result<Summary, Memory>
-    requires { AreRuns booted.now.map.items }
+    requires { Ascend booted.now.map.items }
     ensures { IfOk result (λ summary. summary ≡ summary_of (booted_view booted.now)) }
 {
     let rows = booted.buddy.rows()?;

@@ -9,8 +9,14 @@ use Rattle.boot_model.specs.declared.stop.Stop.{Stop}
 use Rattle.boot_model.specs.declared.stop.Stop.TheVariants as stops
 use Rattle.boot_model.specs.Boot.{Given, Told, told_boot}
 use Rattle.boot_model.specs.Stop.{cause_of, stop_of}
+use Rattle.boot_model.specs.View.{booted_view}
+use Rattle.boot_model.specs.declared.booted.Booted.{Booted}
+use Rattle.boot_stages.specs.Boots.{TableStands}
 use Rattle.debugfs_reports.specs.declared.report.Report.{Report}
+use Rattle.debugfs_reports.specs.Report.{records_told}
 use Rattle.debugfs_reports.specs.ReportList.{text_of}
+use Rattle.debugfs_reports.specs.Stand.{TablesStand}
+use Rattle.memblock_model.specs.declared.which.Which.TheVariants as which
 use Rattle.program_run.specs.declared.failure.Failure.{Failure}
 use Rattle.program_run.specs.declared.failure.Reason.TheVariants as reasons
 use Rattle.program_run.specs.Answers.{FitsFailure, Makes}
@@ -59,6 +65,14 @@ told_is (Err cause) told is = cc
 pub boot_told : (given : Given) (told : Told) (reports asked : List Report) (text : List ℕ) → with_error stop_of (told_boot given) ≡ Ok told
     → reports ≡ asked → text ≡ text_of reports told → reported asked given ≡ Ok text
 boot_told given told reports asked text boots same whole = rw (told_is (told_boot given) told boots, whole, same) refl
+
+-- what the items of a boot come to stands at the heads of its tables
+pub items_stand : (b : Booted) → TableStands which.Memory b.journal.items b.store b.heads.memory
+    → TableStands which.Reserved b.journal.items b.store b.heads.reserved → TablesStand (records_told (booted_view b)) b
+items_stand b memory reserved = record {
+  memory = record { table = memory.table; at = record { stands = memory.stands; told = memory.told }; told = memory.records };
+  reserved = record { table = reserved.table; at = record { stands = reserved.stands; told = reserved.told }; told = reserved.records };
+}
 
 -- what is made of the inputs is what the outcome has of them
 made_of : {X : Type 0} (view : X → List ℕ) (r : Result X Failure) (accepted : Option Wanted) (wanted : Wanted) (held : Held) (given : Given)

@@ -1,5 +1,5 @@
 -- The blocks of the rows are those of the free frames, so the frames of one more row fit; and behind the last row all are counted.
-use Rattle.std.proofs.Common.{◌≡◌, ◌∙◌, List, ap, arith, length, refl}
+use Rattle.std.proofs.Common.{◌≡◌, ◌∙◌, List, ap, arith, length}
 use Rattle.bm_base.specs.declared.zone.Zone.TheVariants as zone
 use Rattle.boot_model.specs.View.{booted_view}
 use Rattle.frame_blocks.specs.declared.block.BlockRow.{BlockRow}
