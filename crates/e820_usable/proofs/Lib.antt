@@ -1,2 +1,2 @@
-mod FramesLaws
+pub mod FramesLaws
 mod Examples
