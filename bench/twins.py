@@ -92,8 +92,11 @@ OF_BODY = re.compile(r"(src/\S+\.rt):(\d+):\d+: ")
 
 def function_at(folder, place):
     """The function of src/ that a place in it lies in."""
-    lines = read(f"{folder}/{place.group(1)}").split("\n")[: int(place.group(2))]
-    names = [match.group(1) for match in (re.search(r"\bfn (\w+)", line) for line in lines) if match]
+    lines = read(f"{folder}/{place.group(1)}").split("\n")
+    at = int(place.group(2))
+    while lines[at - 1].lstrip().startswith("#["):
+        at += 1
+    names = [match.group(1) for match in (re.search(r"\bfn (\w+)", line) for line in lines[:at]) if match]
     return names[-1] if names else ""
 
 
