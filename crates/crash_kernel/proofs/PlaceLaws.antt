@@ -9,7 +9,7 @@ use Rattle.memblock_model.specs.Items.{upward_of}
 use Rattle.memblock_model.specs.Tables.{table_of}
 use Rattle.memblock_model.specs.Search.{best, fits}
 use Rattle.memblock_model.proofs.SearchLaws.{best_in-fits, best_in-none}
-use Rattle.growth_model.specs.Sound.{Placed, IsAway}
+use Rattle.growth_model.specs.Sound.{Seated, IsAway}
 use Rattle.growth_model.proofs.FoundLaws.{found-fits, found-away}
 use Rattle.crash_kernel.specs.Places.{area_query, fixed_range}
 
@@ -39,7 +39,7 @@ exact-fits items size base place found =
     subst (λ (p : ℕ). fits items (area_query size 1 base (base + size)) false p ≡ true) (exact_base items size base place found)
     (best_fits items (area_query size 1 base (base + size)) place found)
 
-pub exact-away : (kernel : Extent) (items : List Item) (size base place : ℕ) → Placed kernel items
+pub exact-away : (kernel : Extent) (items : List Item) (size base place : ℕ) → Seated kernel items
     → best items (area_query size 1 base (base + size)) ≡ Some place → IsAway kernel (record { base = base; size = size }) items
 exact-away kernel items size base place placed found =
     subst (λ (p : ℕ). IsAway kernel (record { base = p; size = size }) items) (exact_base items size base place found)

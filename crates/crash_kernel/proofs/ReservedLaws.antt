@@ -12,7 +12,7 @@ use Rattle.growth_model.specs.declared.refusal.Refusal.TheVariants as refusal
 use Rattle.growth_model.specs.Outcome.{Change, Outcome, Refused, followed_by, write}
 use Rattle.growth_model.specs.Growth.{claimed, grown, new_in, reserved_growth}
 use Rattle.growth_model.specs.Ends.{Ends}
-use Rattle.growth_model.specs.Sound.{Clear, Placed, IsAway}
+use Rattle.growth_model.specs.Sound.{Clear, Seated, IsAway}
 use Rattle.growth_model.proofs.PlacedLaws.{live-same, moves-of, rooms-of, away-still}
 use Rattle.growth_model.proofs.PlacedReservedLaws.{roomy, room-going, claimed-after}
 use Rattle.stage_model.specs.Doing.{Doing, Done, ◌>>=◌, after, going_on, returns, EndsAs}
@@ -92,7 +92,7 @@ main-fails e old new low area main h =
     (λ done. if needs_low main low then low_part main low else returns (crash.At main None)) h
 
 -- a range that met no table meets none once it is claimed: what grew for the claim keeps beside it
-pub claimed-away : (kernel r : Extent) (items new : List Item) (who : Owner) → Placed kernel items → IsAway kernel r items
+pub claimed-away : (kernel r : Extent) (items new : List Item) (who : Owner) → Seated kernel items → IsAway kernel r items
     → Ends {T = Unit {0}} (Ok tt) items new (claimed r who) → IsAway kernel r new
 claimed-away kernel r items new who placed away ends =
     let t : List Item = roomy r (new_in which.Reserved r) items in

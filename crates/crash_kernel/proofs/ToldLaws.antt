@@ -20,7 +20,7 @@ use Rattle.growth_model.specs.Outcome.{Refused}
 use Rattle.growth_model.specs.Growth.{claimed, freed}
 use Rattle.growth_model.specs.Sound.{Unclaimed}
 use Rattle.growth_model.proofs.FoundLaws.{found-fits}
-use Rattle.growth_model.proofs.SpotLaws.{covers-from}
+use Rattle.growth_model.proofs.SeatLaws.{covers-from}
 use Rattle.stage_model.specs.Doing.{Done, going_on, returns}
 use Rattle.stage_model.specs.Requests.{refusal_of}
 use Rattle.boot_options.specs.Crash.{CrashWords as Asked}

@@ -15,9 +15,9 @@ use Rattle.memblock_model.proofs.TableLaws.{records_for-is}
 use Rattle.memblock_ranges.proofs.CountLaws.{few-pieces}
 use Rattle.growth_model.specs.Outcome.{write}
 use Rattle.growth_model.specs.Growth.{count, is_full, new_in, two, claimed}
-use Rattle.growth_model.specs.Sound.{ShareNoFrame, Placed, IsImage}
+use Rattle.growth_model.specs.Sound.{ShareNoFrame, Seated, IsImage}
 use Rattle.growth_model.proofs.IdleLaws.{claimed-idle}
-use Rattle.growth_model.proofs.SpotLaws.{covers-from, covers-to, Spot-new}
+use Rattle.growth_model.proofs.SeatLaws.{covers-from, covers-to, Seat-new}
 
 -- a table that says nothing has no records
 pub no_records : (f : Labels) → ((x : ℕ) → f x ≡ None) → length (records_for f) ≡ 0
@@ -77,17 +77,17 @@ first-apart kernel whole large x y at_x at_y same =
     let r = covers-from (first_live which.Reserved kernel) y at_y in
     omega arith
 
-pub first-placed : (kernel : Extent) → IsImage kernel → Placed kernel (item.Claim kernel owner.Kernel ∷ [])
+pub first-placed : (kernel : Extent) → IsImage kernel → Seated kernel (item.Claim kernel owner.Kernel ∷ [])
 first-placed kernel image =
     let whole : end_of kernel % 4096 ≡ 0 = image.whole in
     let large : 8192 ≤ kernel.size = image.large in
     record {
       rest = [];
       first = refl;
-      spots = record {
-        first = Spot-new no_owners (first_live which.Memory kernel) kernel owner.Kernel (omega arith) refl
+      seats = record {
+        first = Seat-new no_owners (first_live which.Memory kernel) kernel owner.Kernel (omega arith) refl
             (λ x at. memory-inside kernel x large at);
-        second = Spot-new no_owners (first_live which.Reserved kernel) kernel owner.Kernel (omega arith) refl
+        second = Seat-new no_owners (first_live which.Reserved kernel) kernel owner.Kernel (omega arith) refl
             (λ x at. reserved-inside kernel x large at);
         apart = first-apart kernel whole large;
       };

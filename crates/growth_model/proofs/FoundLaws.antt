@@ -17,9 +17,9 @@ use Rattle.memblock_ranges.specs.Tables.{Contents, bytes_of, bytes_in, Overlaps}
 use Rattle.growth_model.specs.Growth.{in_whole_frames, frames_at, table_query, place_beside}
 use Rattle.memblock_model.specs.declared.request.Request.{Request}
 use Rattle.growth_model.specs.Request.{Attempt, attempt, anywhere, nodes, round, attempts, first_top, place_for}
-use Rattle.growth_model.specs.Sound.{Clear, Unclaimed, Placed, IsAway}
+use Rattle.growth_model.specs.Sound.{Clear, Unclaimed, Seated, IsAway}
 use Rattle.growth_model.specs.Bytes.{table_for}
-use Rattle.growth_model.proofs.SpotLaws.{covers-from, frames-more, unclaimed-clear}
+use Rattle.growth_model.proofs.SeatLaws.{covers-from, frames-more, unclaimed-clear}
 
 -- a best place fits, and so does a top one
 pub found-fits : (items : List Item) (q : Query) (place : ℕ) → best items q ≡ Some place
@@ -171,13 +171,13 @@ place-within r items place h =
     omega arith
 
 -- bytes without an owner meet no table
-pub unclaimed-away : (kernel a : Extent) (items : List Item) → Placed kernel items → Unclaimed (owner_of items) a → IsAway kernel a items
+pub unclaimed-away : (kernel a : Extent) (items : List Item) → Seated kernel items → Unclaimed (owner_of items) a → IsAway kernel a items
 unclaimed-away kernel a items placed free = (
-  unclaimed-clear (owner_of items) a (live which.Memory kernel items) free placed.spots.first,
-  unclaimed-clear (owner_of items) a (live which.Reserved kernel items) free placed.spots.second,
+  unclaimed-clear (owner_of items) a (live which.Memory kernel items) free placed.seats.first,
+  unclaimed-clear (owner_of items) a (live which.Reserved kernel items) free placed.seats.second,
 )
 
-pub found-away : (kernel : Extent) (items : List Item) (q : Query) (place : ℕ) → Placed kernel items → best items q ≡ Some place
+pub found-away : (kernel : Extent) (items : List Item) (q : Query) (place : ℕ) → Seated kernel items → best items q ≡ Some place
     → IsAway kernel (record { base = place; size = q.size }) items
 found-away kernel items q place placed found =
     unclaimed-away kernel (record { base = place; size = q.size }) items placed (found-unclaimed items q place found)
@@ -224,7 +224,7 @@ apart-away kernel a items t memory reserved apart = (
 
 -- a place that was found, for a table with twice the room: what `Tables::relocate` wants
 pub found-apart : (kernel : Extent) (items : List Item) (t : Contents) (room place : ℕ) → t.memory ≡ table_for which.Memory kernel items
-    → t.reserved ≡ table_for which.Reserved kernel items → Placed kernel items
+    → t.reserved ≡ table_for which.Reserved kernel items → Seated kernel items
     → Unclaimed (owner_of items) (frames_at place (48 * room)) → ¬ Overlaps t (record { base = place; size = 48 * room })
 found-apart kernel items t room place memory reserved placed free =
     away-apart kernel (record { base = place; size = 48 * room }) items t memory reserved

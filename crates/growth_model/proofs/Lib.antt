@@ -1,6 +1,6 @@
 pub mod EndLaws
 pub mod CutLaws
-pub mod SpotLaws
+pub mod SeatLaws
 pub mod FoundLaws
 pub mod PlacedLaws
 pub mod PlacedReservedLaws

@@ -14,8 +14,8 @@ use Rattle.memblock_model.specs.declared.item.Item.TheVariants as item
 use Rattle.memblock_model.specs.Items.{Owners, owners_after, no_owners, owner_of, limit_after, limit_of}
 use Rattle.memblock_model.specs.Tables.{room_after, room_of, moved_after, moved_to, built_in, live}
 use Rattle.growth_model.specs.Growth.{frames_at}
-use Rattle.growth_model.specs.Sound.{keeps, Clear, Unclaimed, Spots, Placed, IsAway}
-use Rattle.growth_model.proofs.SpotLaws.{frames, Spots-claim, Spots-clear, Spots-free, Spots-move, Spots-leave}
+use Rattle.growth_model.specs.Sound.{keeps, Clear, Unclaimed, Seats, Seated, IsAway}
+use Rattle.growth_model.proofs.SeatLaws.{frames, Seats-claim, Seats-clear, Seats-free, Seats-move, Seats-leave}
 
 -- where a table lies, by its newest place and its room
 abbrev pub live_by : Which → Extent → Option ℕ → ℕ → Extent
@@ -30,21 +30,21 @@ pub live-same : (w : Which) (kernel : Extent) (items t : List Item) → moved_to
     → live w kernel t ≡ live w kernel items
 live-same w kernel items t at wide = live-is w kernel t (moved_to w items) (room_of w items) at wide
 
-pub Spots-same : (own now : Owners) (m n r s : Extent) → now ≡ own → n ≡ m → s ≡ r → Spots own m r → Spots now n s
-Spots-same own now m n r s owners memory reserved known =
-    subst (λ (e : Extent). Spots now n e) (sym reserved)
-    (subst (λ (e : Extent). Spots now e r) (sym memory)
-    (subst (λ (f : Owners). Spots f m r) (sym owners) known))
+pub Seats-same : (own now : Owners) (m n r s : Extent) → now ≡ own → n ≡ m → s ≡ r → Seats own m r → Seats now n s
+Seats-same own now m n r s owners memory reserved known =
+    subst (λ (e : Extent). Seats now n e) (sym reserved)
+    (subst (λ (e : Extent). Seats now e r) (sym memory)
+    (subst (λ (f : Owners). Seats f m r) (sym owners) known))
 
 -- further items, and what becomes of the places
-pub placed-more : (kernel : Extent) (items more : List Item) (own : Owners) (m r : Extent) → Placed kernel items
+pub placed-more : (kernel : Extent) (items more : List Item) (own : Owners) (m r : Extent) → Seated kernel items
     → owner_of (items ++ more) ≡ own → live which.Memory kernel (items ++ more) ≡ m → live which.Reserved kernel (items ++ more) ≡ r
-    → Spots own m r → Placed kernel (items ++ more)
-placed-more kernel items more own m r placed owners memory reserved spots = record {
+    → Seats own m r → Seated kernel (items ++ more)
+placed-more kernel items more own m r placed owners memory reserved seats = record {
   rest = placed.rest ++ more;
   first = ap (λ (t : List Item). t ++ more) placed.first;
-  spots = Spots-same own (owner_of (items ++ more)) m (live which.Memory kernel (items ++ more)) r
-      (live which.Reserved kernel (items ++ more)) owners memory reserved spots;
+  seats = Seats-same own (owner_of (items ++ more)) m (live which.Memory kernel (items ++ more)) r
+      (live which.Reserved kernel (items ++ more)) owners memory reserved seats;
 }
 
 -- what further items make of owners, places and rooms
@@ -69,53 +69,53 @@ stays w kernel items i at wide = live-same w kernel items (items ++ i ∷ []) (m
 -- such an item that makes these owners of those before, among which the places are still good
 still-placed : (kernel : Extent) (items : List Item) (i : Item)
     → ((w : Which) → moved_after w (moved_to w items) i ≡ moved_to w items)
-    → ((w : Which) → room_after w (room_of w items) i ≡ room_of w items) → Placed kernel items
-    → Spots (owners_after (owner_of items) i) (live which.Memory kernel items) (live which.Reserved kernel items)
-    → Placed kernel (items ++ i ∷ [])
-still-placed kernel items i at wide placed spots =
+    → ((w : Which) → room_after w (room_of w items) i ≡ room_of w items) → Seated kernel items
+    → Seats (owners_after (owner_of items) i) (live which.Memory kernel items) (live which.Reserved kernel items)
+    → Seated kernel (items ++ i ∷ [])
+still-placed kernel items i at wide placed seats =
     placed-more kernel items (i ∷ []) (owners_after (owner_of items) i) (live which.Memory kernel items)
     (live which.Reserved kernel items) placed (owners-of items (i ∷ []))
     (stays which.Memory kernel items i (at which.Memory) (wide which.Memory))
-    (stays which.Reserved kernel items i (at which.Reserved) (wide which.Reserved)) spots
+    (stays which.Reserved kernel items i (at which.Reserved) (wide which.Reserved)) seats
 
 -- a claim may be made by an owner in whose bytes a table may lie, or of bytes that meet neither table
 abbrev pub MayTake : Extent → List Item → Extent → Owner → Type 0
 MayTake kernel items range who = (keeps (Some who) ≡ true) ⊎ IsAway kernel range items
 
-pub claim-placed : (kernel : Extent) (items : List Item) (r : Extent) (o : Owner) → MayTake kernel items r o → Placed kernel items
-    → Placed kernel (items ++ item.Claim r o ∷ [])
+pub claim-placed : (kernel : Extent) (items : List Item) (r : Extent) (o : Owner) → MayTake kernel items r o → Seated kernel items
+    → Seated kernel (items ++ item.Claim r o ∷ [])
 claim-placed kernel items r o may placed =
     still-placed kernel items (item.Claim r o) (λ w. refl) (λ w. refl) placed
-    (elim may as (λ _. Spots (replaced r o (owner_of items)) (live which.Memory kernel items) (live which.Reserved kernel items)) [
-      | inl kept ↦ Spots-claim (owner_of items) (live which.Memory kernel items) (live which.Reserved kernel items) r o kept placed.spots
-      | inr away ↦ Spots-clear (owner_of items) (live which.Memory kernel items) (live which.Reserved kernel items) r o away.0 away.1
-          placed.spots
+    (elim may as (λ _. Seats (replaced r o (owner_of items)) (live which.Memory kernel items) (live which.Reserved kernel items)) [
+      | inl kept ↦ Seats-claim (owner_of items) (live which.Memory kernel items) (live which.Reserved kernel items) r o kept placed.seats
+      | inr away ↦ Seats-clear (owner_of items) (live which.Memory kernel items) (live which.Reserved kernel items) r o away.0 away.1
+          placed.seats
     ])
 
-pub free-placed : (kernel : Extent) (items : List Item) (r : Extent) → IsAway kernel r items → Placed kernel items
-    → Placed kernel (items ++ item.Free r ∷ [])
+pub free-placed : (kernel : Extent) (items : List Item) (r : Extent) → IsAway kernel r items → Seated kernel items
+    → Seated kernel (items ++ item.Free r ∷ [])
 free-placed kernel items r away placed =
     still-placed kernel items (item.Free r) (λ w. refl) (λ w. refl) placed
-    (Spots-free (owner_of items) (live which.Memory kernel items) (live which.Reserved kernel items) r away.0 away.1 placed.spots)
+    (Seats-free (owner_of items) (live which.Memory kernel items) (live which.Reserved kernel items) r away.0 away.1 placed.seats)
 
-pub mem-placed : (kernel : Extent) (items : List Item) (r : Extent) → Placed kernel items → Placed kernel (items ++ item.Mem r ∷ [])
-mem-placed kernel items r placed = still-placed kernel items (item.Mem r) (λ w. refl) (λ w. refl) placed placed.spots
+pub mem-placed : (kernel : Extent) (items : List Item) (r : Extent) → Seated kernel items → Seated kernel (items ++ item.Mem r ∷ [])
+mem-placed kernel items r placed = still-placed kernel items (item.Mem r) (λ w. refl) (λ w. refl) placed placed.seats
 
-pub node-placed : (kernel : Extent) (items : List Item) (r : Extent) (node : ℕ) → Placed kernel items
-    → Placed kernel (items ++ item.Node r node ∷ [])
-node-placed kernel items r node placed = still-placed kernel items (item.Node r node) (λ w. refl) (λ w. refl) placed placed.spots
+pub node-placed : (kernel : Extent) (items : List Item) (r : Extent) (node : ℕ) → Seated kernel items
+    → Seated kernel (items ++ item.Node r node ∷ [])
+node-placed kernel items r node placed = still-placed kernel items (item.Node r node) (λ w. refl) (λ w. refl) placed placed.seats
 
-pub mirror-placed : (kernel : Extent) (items : List Item) (r : Extent) → Placed kernel items → Placed kernel (items ++ item.Mirror r ∷ [])
-mirror-placed kernel items r placed = still-placed kernel items (item.Mirror r) (λ w. refl) (λ w. refl) placed placed.spots
+pub mirror-placed : (kernel : Extent) (items : List Item) (r : Extent) → Seated kernel items → Seated kernel (items ++ item.Mirror r ∷ [])
+mirror-placed kernel items r placed = still-placed kernel items (item.Mirror r) (λ w. refl) (λ w. refl) placed placed.seats
 
-pub trim-placed : (kernel : Extent) (items : List Item) → Placed kernel items → Placed kernel (items ++ item.Trim ∷ [])
-trim-placed kernel items placed = still-placed kernel items item.Trim (λ w. refl) (λ w. refl) placed placed.spots
+pub trim-placed : (kernel : Extent) (items : List Item) → Seated kernel items → Seated kernel (items ++ item.Trim ∷ [])
+trim-placed kernel items placed = still-placed kernel items item.Trim (λ w. refl) (λ w. refl) placed placed.seats
 
-pub limit-placed : (kernel : Extent) (items : List Item) (at : ℕ) → Placed kernel items → Placed kernel (items ++ item.Limit at ∷ [])
-limit-placed kernel items at placed = still-placed kernel items (item.Limit at) (λ w. refl) (λ w. refl) placed placed.spots
+pub limit-placed : (kernel : Extent) (items : List Item) (at : ℕ) → Seated kernel items → Seated kernel (items ++ item.Limit at ∷ [])
+limit-placed kernel items at placed = still-placed kernel items (item.Limit at) (λ w. refl) (λ w. refl) placed placed.seats
 
-pub upward-placed : (kernel : Extent) (items : List Item) (on : Bool) → Placed kernel items → Placed kernel (items ++ item.Upward on ∷ [])
-upward-placed kernel items on placed = still-placed kernel items (item.Upward on) (λ w. refl) (λ w. refl) placed placed.spots
+pub upward-placed : (kernel : Extent) (items : List Item) (on : Bool) → Seated kernel items → Seated kernel (items ++ item.Upward on ∷ [])
+upward-placed kernel items on placed = still-placed kernel items (item.Upward on) (λ w. refl) (λ w. refl) placed placed.seats
 
 -- from the items on the reserved table grew beside the range: the memory table and the limit are as they were, and what the range was
 -- clear of it still is
@@ -139,7 +139,7 @@ aside-on kernel a items t u h k = record {
 }
 
 pub record Going (kernel a : Extent) (items t : List Item) : Type 0 where
-  pub placed : Placed kernel t
+  pub placed : Seated kernel t
   pub aside : Aside kernel a items t
 
 -- the range is away still, and may be taken still
@@ -166,15 +166,15 @@ module _ (own : Owners) (m r : Extent) (w : Which) (room place : ℕ) where
   free-frames : Unclaimed own (frames_at place (48 * room)) → Unclaimed own (frames (place_for_twice room place))
   free-frames free = subst (λ (e : Extent). Unclaimed own e) (sym (same-frames room place)) free
 
-  pub move-spots : place % 4096 ≡ 0 → Unclaimed own (frames_at place (48 * room)) → Spots own m r
-      → Spots (replaced (frames_at place (48 * room)) (for_table w) own) m (place_for_twice room place)
-  move-spots aligned free spots =
-      subst (λ (e : Extent). Spots (replaced e (for_table w) own) m (place_for_twice room place)) (same-frames room place)
-      (Spots-move own m r (place_for_twice room place) (for_table w) refl aligned (free-frames free) spots)
+  pub move-seats : place % 4096 ≡ 0 → Unclaimed own (frames_at place (48 * room)) → Seats own m r
+      → Seats (replaced (frames_at place (48 * room)) (for_table w) own) m (place_for_twice room place)
+  move-seats aligned free seats =
+      subst (λ (e : Extent). Seats (replaced e (for_table w) own) m (place_for_twice room place)) (same-frames room place)
+      (Seats-move own m r (place_for_twice room place) (for_table w) refl aligned (free-frames free) seats)
 
-  pub leave-spots : place % 4096 ≡ 0 → Unclaimed own (frames_at place (48 * room)) → Spots own m r
-      → Spots (uncovered (frames r) (replaced (frames_at place (48 * room)) (for_table w) own)) m (place_for_twice room place)
-  leave-spots aligned free spots =
-      subst (λ (e : Extent). Spots (uncovered (frames r) (replaced e (for_table w) own)) m (place_for_twice room place))
+  pub leave-seats : place % 4096 ≡ 0 → Unclaimed own (frames_at place (48 * room)) → Seats own m r
+      → Seats (uncovered (frames r) (replaced (frames_at place (48 * room)) (for_table w) own)) m (place_for_twice room place)
+  leave-seats aligned free seats =
+      subst (λ (e : Extent). Seats (uncovered (frames r) (replaced e (for_table w) own)) m (place_for_twice room place))
       (same-frames room place)
-      (Spots-leave own m r (place_for_twice room place) (for_table w) refl aligned (free-frames free) spots)
+      (Seats-leave own m r (place_for_twice room place) (for_table w) refl aligned (free-frames free) seats)

@@ -14,11 +14,11 @@ use Rattle.growth_model.specs.Outcome.{after, write, ◌>>◌}
 use Rattle.growth_model.specs.Growth.{frames_at, table_query, new_in, two, grown, claimed, old_frames, leave, memory_growth_at, memory_growth, added, noded, mirrored}
 use Rattle.growth_model.specs.Request.{place_for}
 use Rattle.growth_model.specs.Ends.{Ends}
-use Rattle.growth_model.specs.Sound.{Clear, Unclaimed, Spots, Placed, IsAway}
+use Rattle.growth_model.specs.Sound.{Clear, Unclaimed, Seats, Seated, IsAway}
 use Rattle.growth_model.proofs.CutLaws.{EachCut, cuts-last, cuts-then, cuts-grown}
-use Rattle.growth_model.proofs.SpotLaws.{frames, apart-clear, old-clear, Spots-swap}
+use Rattle.growth_model.proofs.SeatLaws.{frames, apart-clear, old-clear, Seats-swap}
 use Rattle.growth_model.proofs.FoundLaws.{found-fits, found-unclaimed, place-unclaimed, unclaimed-away}
-use Rattle.growth_model.proofs.PlacedLaws.{live_by, live-is, live-same, placed-more, owners-of, moves-of, rooms-of, claim-placed, mem-placed, node-placed, mirror-placed, for_table, move-spots}
+use Rattle.growth_model.proofs.PlacedLaws.{live_by, live-is, live-same, placed-more, owners-of, moves-of, rooms-of, claim-placed, mem-placed, node-placed, mirror-placed, for_table, move-seats}
 use Rattle.growth_model.proofs.PlacedReservedLaws.{roomy, room-going, claimed-cuts, freed-cuts, claimed-after, place-inside}
 
 -- a place for the memory table, whose room is that at the items: aligned, and nobody's
@@ -59,11 +59,11 @@ module _ (kernel : Extent) (t : List Item) (place : ℕ) where
       (moves-of which.Reserved u (grows ∷ []) ∙ moves-of which.Reserved t (item.Claim a (for_table which.Memory) ∷ []))
       (rooms-of which.Reserved u (grows ∷ []) ∙ rooms-of which.Reserved t (item.Claim a (for_table which.Memory) ∷ []))
 
-  pub taken-placed : Placed kernel t → Placed kernel u
+  pub taken-placed : Seated kernel t → Seated kernel u
   taken-placed placed = claim-placed kernel t a (for_table which.Memory) (inl refl) placed
 
   -- the new place meets neither table yet
-  taken-away : IsFree t place → Placed kernel t → IsAway kernel a u
+  taken-away : IsFree t place → Seated kernel t → IsAway kernel a u
   taken-away new placed =
       let away = unclaimed-away kernel a t placed new.free in (
         subst (λ (e : Extent). Clear a e) (sym (live-same which.Memory kernel t u
@@ -74,47 +74,47 @@ module _ (kernel : Extent) (t : List Item) (place : ℕ) where
             (rooms-of which.Reserved t (item.Claim a (for_table which.Memory) ∷ [])))) away.1,
       )
 
-  pub moved-placed : IsFree t place → Placed kernel t → Placed kernel (moved t place)
+  pub moved-placed : IsFree t place → Seated kernel t → Seated kernel (moved t place)
   moved-placed new placed =
       placed-more kernel u (grows ∷ []) (replaced a (for_table which.Memory) (owner_of t)) (new_live t place)
       (live which.Reserved kernel t) (taken-placed placed) moved-owners moved-memory moved-reserved
-      (Spots-swap (replaced a (for_table which.Memory) (owner_of t)) (live which.Reserved kernel t) (new_live t place)
-      (move-spots (owner_of t) (live which.Reserved kernel t) (live which.Memory kernel t) which.Memory (room_of which.Memory t) place
+      (Seats-swap (replaced a (for_table which.Memory) (owner_of t)) (live which.Reserved kernel t) (new_live t place)
+      (move-seats (owner_of t) (live which.Reserved kernel t) (live which.Memory kernel t) which.Memory (room_of which.Memory t) place
       new.aligned new.free
-      (Spots-swap (owner_of t) (live which.Memory kernel t) (live which.Reserved kernel t) placed.spots)))
+      (Seats-swap (owner_of t) (live which.Memory kernel t) (live which.Reserved kernel t) placed.seats)))
 
   -- the frames of the old place meet neither table then
-  pub old-away : (q : ℕ) → moved_to which.Memory t ≡ Some q → IsFree t place → Placed kernel t
+  pub old-away : (q : ℕ) → moved_to which.Memory t ≡ Some q → IsFree t place → Seated kernel t
       → IsAway kernel (frames_at q (24 * room_of which.Memory t)) (moved t place)
   old-away q was new placed =
       let room = room_of which.Memory t in
       let before : Extent = live_by which.Memory kernel (Some q) room in
       let is : live which.Memory kernel t ≡ before = live-is which.Memory kernel t (Some q) room was refl in
-      let spots : Spots (owner_of t) before (live which.Reserved kernel t) =
-      subst (λ (e : Extent). Spots (owner_of t) e (live which.Reserved kernel t)) is placed.spots in
+      let seats : Seats (owner_of t) before (live which.Reserved kernel t) =
+      subst (λ (e : Extent). Seats (owner_of t) e (live which.Reserved kernel t)) is placed.seats in
       let twice : Extent = new_live t place in
       let e : 48 * room ≡ 24 * (2 * room) = omega arith in
       let free : Unclaimed (owner_of t) (frames twice) = subst (λ (n : ℕ). Unclaimed (owner_of t) (frames_at place n)) e new.free in
       let first : Clear (frames before) twice = λ x at_b at_n.
-      old-clear (owner_of t) before twice new.aligned free spots.first x at_b
+      old-clear (owner_of t) before twice new.aligned free seats.first x at_b
       (subst (λ (n : ℕ). covers (frames_at place n) x ≡ true) e (place-inside room place x at_n)) in
       let second : Clear (frames before) (live which.Reserved kernel t) =
-      apart-clear before (live which.Reserved kernel t) spots.first.aligned spots.apart in (
+      apart-clear before (live which.Reserved kernel t) seats.first.aligned seats.apart in (
         subst (λ (n : Extent). Clear (frames before) n) (sym moved-memory) first,
         subst (λ (n : Extent). Clear (frames before) n) (sym moved-reserved) second,
       )
 
-  leave-cuts : (old : Option ℕ) → moved_to which.Memory t ≡ old → IsFree t place → Placed kernel t
-      → EachCut (Placed kernel) (moved t place) (leave (old_frames (room_of which.Memory t) old) (moved t place)).steps
+  leave-cuts : (old : Option ℕ) → moved_to which.Memory t ≡ old → IsFree t place → Seated kernel t
+      → EachCut (Seated kernel) (moved t place) (leave (old_frames (room_of which.Memory t) old) (moved t place)).steps
   leave-cuts None was new placed = moved-placed new placed
   leave-cuts (Some q) was new placed =
       freed-cuts kernel (moved t place) (frames_at q (24 * room_of which.Memory t)) (old-away q was new placed) (moved-placed new placed)
 
   -- the move behind the claim, and what follows it
-  move-cuts : IsFree t place → Placed kernel t → EachCut (Placed kernel) u
+  move-cuts : IsFree t place → Seated kernel t → EachCut (Seated kernel) u
       ((write grows >> leave (old_frames (room_of which.Memory t) (moved_to which.Memory t))) u).steps
   move-cuts new placed =
-      cuts-then (Placed kernel) u (write grows) (leave (old_frames (room_of which.Memory t) (moved_to which.Memory t)))
+      cuts-then (Seated kernel) u (write grows) (leave (old_frames (room_of which.Memory t) (moved_to which.Memory t)))
       (taken-placed placed, moved-placed new placed)
       (λ _. leave-cuts (moved_to which.Memory t) refl new placed)
 
@@ -124,31 +124,31 @@ rest_of room old place v = ((write (item.Grown which.Memory place (2 * room)) >>
 
 -- at the room and the place of other items, which are the same
 along : (kernel : Extent) (t : List Item) (room : ℕ) (old : Option ℕ) (place : ℕ) → room_of which.Memory t ≡ room
-    → moved_to which.Memory t ≡ old → place % 4096 ≡ 0 → Unclaimed (owner_of t) (frames_at place (48 * room)) → Placed kernel t
-    → EachCut (Placed kernel) (t ++ item.Claim (frames_at place (48 * room)) (for_table which.Memory) ∷ [])
+    → moved_to which.Memory t ≡ old → place % 4096 ≡ 0 → Unclaimed (owner_of t) (frames_at place (48 * room)) → Seated kernel t
+    → EachCut (Seated kernel) (t ++ item.Claim (frames_at place (48 * room)) (for_table which.Memory) ∷ [])
     (rest_of room old place (t ++ item.Claim (frames_at place (48 * room)) (for_table which.Memory) ∷ []))
 along kernel t room old place wide was aligned free placed =
     let new : IsFree t place = record {
       aligned = aligned;
       free = subst (λ (n : ℕ). Unclaimed (owner_of t) (frames_at place (48 * n))) (sym wide) free;
     } in
-    subst (λ (o : Option ℕ). EachCut (Placed kernel) (t ++ item.Claim (frames_at place (48 * room)) (for_table which.Memory) ∷ [])
+    subst (λ (o : Option ℕ). EachCut (Seated kernel) (t ++ item.Claim (frames_at place (48 * room)) (for_table which.Memory) ∷ [])
     (rest_of room o place (t ++ item.Claim (frames_at place (48 * room)) (for_table which.Memory) ∷ []))) was
-    (subst (λ (n : ℕ). EachCut (Placed kernel) (t ++ item.Claim (frames_at place (48 * n)) (for_table which.Memory) ∷ [])
+    (subst (λ (n : ℕ). EachCut (Seated kernel) (t ++ item.Claim (frames_at place (48 * n)) (for_table which.Memory) ∷ [])
     (rest_of n (moved_to which.Memory t) place (t ++ item.Claim (frames_at place (48 * n)) (for_table which.Memory) ∷ []))) wide
     (move-cuts kernel t place new placed))
 
 -- behind the claim of the new place of the memory table, whose room and place were these: what the move and the freeing of the old place
 -- ask for
 pub record IsTaken (kernel : Extent) (u : List Item) (room : ℕ) (old : Option ℕ) (place : ℕ) : Type 0 where
-  pub placed : Placed kernel u
+  pub placed : Seated kernel u
   pub wide : room_of which.Memory u ≡ room
   pub was : moved_to which.Memory u ≡ old
   pub away : IsAway kernel (frames_at place (48 * room)) u
-  pub next : Placed kernel (u ++ item.Grown which.Memory place (2 * room) ∷ [])
+  pub next : Seated kernel (u ++ item.Grown which.Memory place (2 * room) ∷ [])
   pub left : (q : ℕ) → old ≡ Some q → IsAway kernel (frames_at q (24 * room)) (u ++ item.Grown which.Memory place (2 * room) ∷ [])
 
-taken-is : (kernel : Extent) (t : List Item) (place : ℕ) → IsFree t place → Placed kernel t
+taken-is : (kernel : Extent) (t : List Item) (place : ℕ) → IsFree t place → Seated kernel t
     → IsTaken kernel (taken t place) (room_of which.Memory t) (moved_to which.Memory t) place
 taken-is kernel t place new placed = record {
   placed = taken-placed kernel t place placed;
@@ -160,7 +160,7 @@ taken-is kernel t place new placed = record {
 }
 
 taken-along : (kernel : Extent) (t : List Item) (room : ℕ) (old : Option ℕ) (place : ℕ) → room_of which.Memory t ≡ room
-    → moved_to which.Memory t ≡ old → place % 4096 ≡ 0 → Unclaimed (owner_of t) (frames_at place (48 * room)) → Placed kernel t
+    → moved_to which.Memory t ≡ old → place % 4096 ≡ 0 → Unclaimed (owner_of t) (frames_at place (48 * room)) → Seated kernel t
     → IsTaken kernel (t ++ item.Claim (frames_at place (48 * room)) (for_table which.Memory) ∷ []) room old place
 taken-along kernel t room old place wide was aligned free placed =
     let new : IsFree t place = record {
@@ -172,7 +172,7 @@ taken-along kernel t room old place wide was aligned free placed =
     (moved_to which.Memory t) place) wide
     (taken-is kernel t place new placed))
 
-pub claimed-taken : {T : Type 0} (x : T) (kernel : Extent) (items u : List Item) (place : ℕ) → Placed kernel items
+pub claimed-taken : {T : Type 0} (x : T) (kernel : Extent) (items u : List Item) (place : ℕ) → Seated kernel items
     → best items (table_query (room_of which.Memory items) 0 (limit_of items)) ≡ Some place
     → Ends (Ok x) items u (claimed (frames_at place (48 * room_of which.Memory items)) (for_table which.Memory))
     → IsTaken kernel u (room_of which.Memory items) (moved_to which.Memory items) place
@@ -190,8 +190,8 @@ claimed-taken x kernel items u place placed is ends =
     (going.aside.free (found-unclaimed items q place is)) going.placed)
 
 growth-at : (kernel : Extent) (items : List Item) (found : Option ℕ)
-    → best items (table_query (room_of which.Memory items) 0 (limit_of items)) ≡ found → Placed kernel items
-    → EachCut (Placed kernel) items (memory_growth_at (room_of which.Memory items) (moved_to which.Memory items) found items).steps
+    → best items (table_query (room_of which.Memory items) 0 (limit_of items)) ≡ found → Seated kernel items
+    → EachCut (Seated kernel) items (memory_growth_at (room_of which.Memory items) (moved_to which.Memory items) found items).steps
 unfolding memory_growth_at
 growth-at kernel items None is placed = placed
 growth-at kernel items (Some place) is placed =
@@ -202,59 +202,59 @@ growth-at kernel items (Some place) is placed =
     let t = roomy a (new_in which.Reserved a) items in
     let going = room-going kernel a (new_in which.Reserved a) items placed in
     let fits = found-fits items q place is in
-    cuts-then (Placed kernel) items (claimed a (for_table which.Memory))
+    cuts-then (Seated kernel) items (claimed a (for_table which.Memory))
     (write (item.Grown which.Memory place (2 * room)) >> leave (old_frames room old))
     (claimed-cuts kernel items a (for_table which.Memory) (inl refl) placed)
-    (λ unrefused. subst (λ (v : List Item). EachCut (Placed kernel) v (rest_of room old place v))
+    (λ unrefused. subst (λ (v : List Item). EachCut (Seated kernel) v (rest_of room old place v))
     (sym (claimed-after items a (for_table which.Memory) unrefused))
     (along kernel t room old place going.aside.wide going.aside.place fits.aligned
     (going.aside.free (found-unclaimed items q place is)) going.placed))
 
 -- throughout one growth
-pub memory-cuts : (kernel : Extent) (items : List Item) → Placed kernel items → EachCut (Placed kernel) items (memory_growth items).steps
+pub memory-cuts : (kernel : Extent) (items : List Item) → Seated kernel items → EachCut (Seated kernel) items (memory_growth items).steps
 unfolding memory_growth
 memory-cuts kernel items placed =
     growth-at kernel items (best items (table_query (room_of which.Memory items) 0 (limit_of items))) refl placed
 
 -- the items as growths of the memory table leave them
-grown-placed : (kernel : Extent) (items : List Item) (more : List Item → ℕ) → Placed kernel items
-    → Placed kernel (after items (grown which.Memory more memory_growth items))
-grown-placed kernel items more placed = cuts-last (Placed kernel) items (grown which.Memory more memory_growth items).steps
-    (cuts-grown (Placed kernel) which.Memory more memory_growth items (λ t here. memory-cuts kernel t here) placed)
+grown-placed : (kernel : Extent) (items : List Item) (more : List Item → ℕ) → Seated kernel items
+    → Seated kernel (after items (grown which.Memory more memory_growth items))
+grown-placed kernel items more placed = cuts-last (Seated kernel) items (grown which.Memory more memory_growth items).steps
+    (cuts-grown (Seated kernel) which.Memory more memory_growth items (λ t here. memory-cuts kernel t here) placed)
 
 -- throughout the changes of memory
-pub added-cuts : (kernel : Extent) (items : List Item) (r : Extent) → Placed kernel items
-    → EachCut (Placed kernel) items (added r items).steps
+pub added-cuts : (kernel : Extent) (items : List Item) (r : Extent) → Seated kernel items
+    → EachCut (Seated kernel) items (added r items).steps
 unfolding added
 added-cuts kernel items r placed =
     let more = new_in which.Memory r in
     let here = grown-placed kernel items more placed in
-    cuts-then (Placed kernel) items (grown which.Memory more memory_growth) (write (item.Mem r))
-    (cuts-grown (Placed kernel) which.Memory more memory_growth items (λ t was. memory-cuts kernel t was) placed)
+    cuts-then (Seated kernel) items (grown which.Memory more memory_growth) (write (item.Mem r))
+    (cuts-grown (Seated kernel) which.Memory more memory_growth items (λ t was. memory-cuts kernel t was) placed)
     (λ _. (here, mem-placed kernel (after items (grown which.Memory more memory_growth items)) r here))
 
 -- so does each item that is written behind room for two records, and keeps the places
-marked-cuts : (kernel : Extent) (items : List Item) (i : Item) → ((t : List Item) → Placed kernel t → Placed kernel (t ++ i ∷ []))
-    → Placed kernel items → EachCut (Placed kernel) items ((grown which.Memory two memory_growth >> write i) items).steps
+marked-cuts : (kernel : Extent) (items : List Item) (i : Item) → ((t : List Item) → Seated kernel t → Seated kernel (t ++ i ∷ []))
+    → Seated kernel items → EachCut (Seated kernel) items ((grown which.Memory two memory_growth >> write i) items).steps
 marked-cuts kernel items i keeps placed =
     let here = grown-placed kernel items two placed in
-    cuts-then (Placed kernel) items (grown which.Memory two memory_growth) (write i)
-    (cuts-grown (Placed kernel) which.Memory two memory_growth items (λ t was. memory-cuts kernel t was) placed)
+    cuts-then (Seated kernel) items (grown which.Memory two memory_growth) (write i)
+    (cuts-grown (Seated kernel) which.Memory two memory_growth items (λ t was. memory-cuts kernel t was) placed)
     (λ _. (here, keeps (after items (grown which.Memory two memory_growth items)) here))
 
-pub noded-cuts : (kernel : Extent) (items : List Item) (r : Extent) (node : ℕ) → Placed kernel items
-    → EachCut (Placed kernel) items (noded r node items).steps
+pub noded-cuts : (kernel : Extent) (items : List Item) (r : Extent) (node : ℕ) → Seated kernel items
+    → EachCut (Seated kernel) items (noded r node items).steps
 unfolding noded
 noded-cuts kernel items r node placed = marked-cuts kernel items (item.Node r node) (λ t here. node-placed kernel t r node here) placed
 
-pub mirrored-cuts : (kernel : Extent) (items : List Item) (r : Extent) → Placed kernel items
-    → EachCut (Placed kernel) items (mirrored r items).steps
+pub mirrored-cuts : (kernel : Extent) (items : List Item) (r : Extent) → Seated kernel items
+    → EachCut (Seated kernel) items (mirrored r items).steps
 unfolding mirrored
 mirrored-cuts kernel items r placed = marked-cuts kernel items (item.Mirror r) (λ t here. mirror-placed kernel t r here) placed
 
 -- throughout the claim of a place that an allocation found, whoever it is for
 pub allocated-cuts : (kernel : Extent) (items : List Item) (r : Request) (place : ℕ) (o : Owner) → place_for r items ≡ Some place
-    → Placed kernel items → EachCut (Placed kernel) items (claimed (record { base = place; size = r.size }) o items).steps
+    → Seated kernel items → EachCut (Seated kernel) items (claimed (record { base = place; size = r.size }) o items).steps
 allocated-cuts kernel items r place o found placed =
     claimed-cuts kernel items (record { base = place; size = r.size }) o
     (inr (unclaimed-away kernel (record { base = place; size = r.size }) items placed (place-unclaimed r items place found))) placed

@@ -11,11 +11,11 @@ use Rattle.memblock_model.specs.Items.{Owners, owner_of, limit_of}
 use Rattle.memblock_model.specs.Tables.{room_of, moved_to, live}
 use Rattle.growth_model.specs.Outcome.{after, write}
 use Rattle.growth_model.specs.Growth.{frames_at, place_beside, reserved_items, reserved_growth_at, reserved_growth, new_in, two, grown, claimed, freed}
-use Rattle.growth_model.specs.Sound.{Clear, Unclaimed, Spots, Placed, IsAway}
+use Rattle.growth_model.specs.Sound.{Clear, Unclaimed, Seats, Seated, IsAway}
 use Rattle.growth_model.proofs.CutLaws.{EachCut, cuts-last, cuts-then, cuts-grown, cuts-map, after-then, then-unrefused}
-use Rattle.growth_model.proofs.SpotLaws.{frames-more}
+use Rattle.growth_model.proofs.SeatLaws.{frames-more}
 use Rattle.growth_model.proofs.FoundLaws.{IsNew, beside-new}
-use Rattle.growth_model.proofs.PlacedLaws.{live_by, live-is, live-same, placed-more, owners-of, moves-of, rooms-of, limits-of, MayTake, claim-placed, free-placed, Aside, aside-same, aside-on, Going, away-still, take-still, for_table, move-spots, leave-spots}
+use Rattle.growth_model.proofs.PlacedLaws.{live_by, live-is, live-same, placed-more, owners-of, moves-of, rooms-of, limits-of, MayTake, claim-placed, free-placed, Aside, aside-same, aside-on, Going, away-still, take-still, for_table, move-seats, leave-seats}
 
 -- bytes without an owner stay so when others are claimed, and when any are freed
 claim-unclaimed : (own : Owners) (a r : Extent) (o : Owner) → Clear a r → Unclaimed own a → Unclaimed (replaced r o own) a
@@ -91,7 +91,7 @@ grew-aside kernel a t old place new free = record {
 
 -- one growth of the reserved table beside the range, from where it lay
 grew-going : (kernel a : Extent) (t : List Item) (old : Option ℕ) (place : ℕ) → moved_to which.Reserved t ≡ old
-    → IsNew t a (room_of which.Reserved t) place → Placed kernel t → Going kernel a t (grew t old place)
+    → IsNew t a (room_of which.Reserved t) place → Seated kernel t → Going kernel a t (grew t old place)
 grew-going kernel a t None place was new placed =
     let room = room_of which.Reserved t in
     let memory = live which.Memory kernel t in
@@ -100,7 +100,7 @@ grew-going kernel a t None place was new placed =
       placed = placed-more kernel t more (claimed_place t place) memory (live_by which.Reserved kernel (Some place) (2 * room)) placed
           (grew-owners-first t place) (live-same which.Memory kernel t (t ++ more) (grew-moved t None place) (grew-room t None place))
           (grew-live kernel t None place)
-          (move-spots (owner_of t) memory (live which.Reserved kernel t) which.Reserved room place new.aligned new.free placed.spots);
+          (move-seats (owner_of t) memory (live which.Reserved kernel t) which.Reserved room place new.aligned new.free placed.seats);
       aside = grew-aside kernel a t None place new (λ free.
           subst (λ (f : Owners). Unclaimed f a) (sym (grew-owners-first t place))
           (claim-unclaimed (owner_of t) a (new_place t place) (for_table which.Reserved) new.clear free));
@@ -111,16 +111,16 @@ grew-going kernel a t (Some q) place was new placed =
     let more = reserved_items room (Some q) place in
     let before : live which.Reserved kernel t ≡ live_by which.Reserved kernel (Some q) room =
     live-is which.Reserved kernel t (Some q) room was refl in
-    let spots : Spots (owner_of t) memory (live_by which.Reserved kernel (Some q) room) =
-    subst (λ (e : Extent). Spots (owner_of t) memory e) before placed.spots in
+    let seats : Seats (owner_of t) memory (live_by which.Reserved kernel (Some q) room) =
+    subst (λ (e : Extent). Seats (owner_of t) memory e) before placed.seats in
     record {
       placed = placed-more kernel t more (uncovered (frames_at q (24 * room)) (claimed_place t place)) memory
           (live_by which.Reserved kernel (Some place) (2 * room)) placed
           (grew-owners-again t q place) (live-same which.Memory kernel t (t ++ more) (grew-moved t (Some q) place)
           (grew-room t (Some q) place))
           (grew-live kernel t (Some q) place)
-          (leave-spots (owner_of t) memory (live_by which.Reserved kernel (Some q) room) which.Reserved room place new.aligned new.free
-          spots);
+          (leave-seats (owner_of t) memory (live_by which.Reserved kernel (Some q) room) which.Reserved room place new.aligned new.free
+          seats);
       aside = grew-aside kernel a t (Some q) place new (λ free.
           subst (λ (f : Owners). Unclaimed f a) (sym (grew-owners-again t q place))
           (free-unclaimed (claimed_place t place) a (frames_at q (24 * room))
@@ -148,7 +148,7 @@ unfolding reserved_growth
 reserved-cuts kernel a items t going = growth-at kernel a items t (place_beside a (room_of which.Reserved t) t) refl going
 
 -- and throughout the growths before a claim or a free
-pub room-cuts : (kernel a : Extent) (more : List Item → ℕ) (items : List Item) → Placed kernel items
+pub room-cuts : (kernel a : Extent) (more : List Item → ℕ) (items : List Item) → Seated kernel items
     → EachCut (Going kernel a items) items (grown which.Reserved more (reserved_growth a) items).steps
 room-cuts kernel a more items placed =
     cuts-grown (Going kernel a items) which.Reserved more (reserved_growth a) items (λ t going. reserved-cuts kernel a items t going)
@@ -158,38 +158,38 @@ room-cuts kernel a more items placed =
 abbrev pub roomy : Extent → (List Item → ℕ) → List Item → List Item
 roomy a more items = after items (grown which.Reserved more (reserved_growth a) items)
 
-pub room-going : (kernel a : Extent) (more : List Item → ℕ) (items : List Item) → Placed kernel items
+pub room-going : (kernel a : Extent) (more : List Item → ℕ) (items : List Item) → Seated kernel items
     → Going kernel a items (roomy a more items)
 room-going kernel a more items placed =
     cuts-last (Going kernel a items) items (grown which.Reserved more (reserved_growth a) items).steps
     (room-cuts kernel a more items placed)
 
-room-placed : (kernel a : Extent) (more : List Item → ℕ) (items : List Item) → Placed kernel items
-    → EachCut (Placed kernel) items (grown which.Reserved more (reserved_growth a) items).steps
+room-placed : (kernel a : Extent) (more : List Item → ℕ) (items : List Item) → Seated kernel items
+    → EachCut (Seated kernel) items (grown which.Reserved more (reserved_growth a) items).steps
 room-placed kernel a more items placed =
-    cuts-map (Going kernel a items) (Placed kernel) items (grown which.Reserved more (reserved_growth a) items).steps
+    cuts-map (Going kernel a items) (Seated kernel) items (grown which.Reserved more (reserved_growth a) items).steps
     (λ t going. going.placed) (room-cuts kernel a more items placed)
 
 -- throughout a claim
-pub claimed-cuts : (kernel : Extent) (items : List Item) (r : Extent) (o : Owner) → MayTake kernel items r o → Placed kernel items
-    → EachCut (Placed kernel) items (claimed r o items).steps
+pub claimed-cuts : (kernel : Extent) (items : List Item) (r : Extent) (o : Owner) → MayTake kernel items r o → Seated kernel items
+    → EachCut (Seated kernel) items (claimed r o items).steps
 unfolding claimed
 claimed-cuts kernel items r o may placed =
     let more = new_in which.Reserved r in
     let t = roomy r more items in
     let going = room-going kernel r more items placed in
-    cuts-then (Placed kernel) items (grown which.Reserved more (reserved_growth r)) (write (item.Claim r o))
+    cuts-then (Seated kernel) items (grown which.Reserved more (reserved_growth r)) (write (item.Claim r o))
     (room-placed kernel r more items placed)
     (λ _. (going.placed, claim-placed kernel t r o (take-still kernel r o items t going.aside may) going.placed))
 
 -- throughout a free
-pub freed-cuts : (kernel : Extent) (items : List Item) (r : Extent) → IsAway kernel r items → Placed kernel items
-    → EachCut (Placed kernel) items (freed r items).steps
+pub freed-cuts : (kernel : Extent) (items : List Item) (r : Extent) → IsAway kernel r items → Seated kernel items
+    → EachCut (Seated kernel) items (freed r items).steps
 unfolding freed
 freed-cuts kernel items r away placed =
     let t = roomy r two items in
     let going = room-going kernel r two items placed in
-    cuts-then (Placed kernel) items (grown which.Reserved two (reserved_growth r)) (write (item.Free r))
+    cuts-then (Seated kernel) items (grown which.Reserved two (reserved_growth r)) (write (item.Free r))
     (room-placed kernel r two items placed)
     (λ _. (going.placed, free-placed kernel t r (away-still kernel r items t going.aside away) going.placed))
 

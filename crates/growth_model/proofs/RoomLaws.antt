@@ -24,7 +24,7 @@ use Rattle.growth_model.specs.Growth.{count, is_full, new_in, two, frames_at, pl
 use Rattle.growth_model.specs.Sound.{Fits}
 use Rattle.growth_model.specs.Room.{IsInSpace, HasDoubled, HasRoomBehind}
 use Rattle.growth_model.proofs.CutLaws.{cuts-last, after-then, then-unrefused}
-use Rattle.growth_model.proofs.SpotLaws.{covers-to}
+use Rattle.growth_model.proofs.SeatLaws.{covers-to}
 use Rattle.growth_model.proofs.FoundLaws.{IsNew, beside-new}
 use Rattle.growth_model.proofs.PlacedLaws.{moves-of, rooms-of, for_table}
 use Rattle.growth_model.proofs.PlacedReservedLaws.{grew, new_place, claimed_place, grew-limit, grew-owners-first, grew-owners-again}

@@ -11,8 +11,8 @@ use Rattle.memblock_model.specs.Labels.{plain_label}
 use Rattle.memblock_model.specs.Tables.{table_of, records_of, live}
 use Rattle.memblock_model.proofs.TableLaws.{records_for-is}
 use Rattle.growth_model.specs.Growth.{count}
-use Rattle.growth_model.specs.Sound.{keeps, Spot, ShareNoFrame, Clear, Unclaimed, Spots, Placed, Fits, Sound, IsImage, HasBegun, IsAway, MayClaim}
-use Rattle.growth_model.proofs.SpotLaws.{covers-from}
+use Rattle.growth_model.specs.Sound.{keeps, Seat, ShareNoFrame, Clear, Unclaimed, Seats, Seated, Fits, Sound, IsImage, HasBegun, IsAway, MayClaim}
+use Rattle.growth_model.proofs.SeatLaws.{covers-from}
 use Rattle.growth_model.proofs.FirstLaws.{no_table_full, first-placed}
 use Rattle.growth_model.proofs.GrowthExamples.{image, frame}
 
@@ -31,21 +31,21 @@ abbrev claims : Owners
 claims x = if nat_lt x 9000 then Some owner.Kernel else (if nat_lt x 9001 then Some (owner.Script 1) else
     (if nat_lt x 16384 then Some owner.Kernel else None))
 
-a_spot : Spot claims (record { base = 4096; size = 3072 })
+a_spot : Seat claims (record { base = 4096; size = 3072 })
 a_spot = record {
   aligned = refl;
   kept = λ x at. let inside = covers-from (record { base = 4096; size = 3072 }) x at in
       let low : nat_lt x 9000 ≡ true = grind (arith, nat_tests) in rw low refl;
 }
 
-not_aligned : Spot claims (record { base = 4097; size = 16 }) → ⊥
-not_aligned spot = let aligned = spot.aligned in cc
+not_aligned : Seat claims (record { base = 4097; size = 16 }) → ⊥
+not_aligned seat = let aligned = seat.aligned in cc
 
-amid_a_frame : Spot claims (record { base = 2048; size = 16 }) → ⊥
-amid_a_frame spot = let aligned = spot.aligned in cc
+amid_a_frame : Seat claims (record { base = 2048; size = 16 }) → ⊥
+amid_a_frame seat = let aligned = seat.aligned in cc
 
-not_of_script : Spot claims (record { base = 8192; size = 3072 }) → ⊥
-not_of_script spot = let kept = spot.kept 9000 refl in cc
+not_of_script : Seat claims (record { base = 8192; size = 3072 }) → ⊥
+not_of_script seat = let kept = seat.kept 9000 refl in cc
 
 -- two frames, and one frame twice
 two_frames_apart : ShareNoFrame (record { base = 0; size = 3072 }) (record { base = 4096; size = 3072 })
@@ -76,7 +76,7 @@ nobodys x at = let inside = covers-from (record { base = 16384; size = 4096 }) x
 one_byte_claimed : Unclaimed claims (record { base = 16383; size = 4096 }) → ⊥
 one_byte_claimed free = let first = free 16383 refl in cc
 
-both_spots : Spots claims (record { base = 0; size = 3072 }) (record { base = 4096; size = 3072 })
+both_spots : Seats claims (record { base = 0; size = 3072 }) (record { base = 4096; size = 3072 })
 both_spots = record {
   first = record {
     aligned = refl;
@@ -87,8 +87,8 @@ both_spots = record {
   apart = two_frames_apart;
 }
 
-not_one_spot_twice : Spots claims (record { base = 0; size = 3072 }) (record { base = 0; size = 3072 }) → ⊥
-not_one_spot_twice spots = spots.apart 0 0 refl refl refl
+not_one_spot_twice : Seats claims (record { base = 0; size = 3072 }) (record { base = 0; size = 3072 }) → ⊥
+not_one_spot_twice seats = seats.apart 0 0 refl refl refl
 
 -- the kernel's image: its last two frames hold the tables at first
 is_image : IsImage image
@@ -103,10 +103,10 @@ ends_amid_a_frame known = let whole = known.whole in cc
 abbrev begun : List Item
 begun = item.Claim image owner.Kernel ∷ []
 
-placed_at_first : Placed image begun
+placed_at_first : Seated image begun
 placed_at_first = first-placed image is_image
 
-nothing_placed : Placed image [] → ⊥
+nothing_placed : Seated image [] → ⊥
 nothing_placed placed = let first = placed.first in cc
 
 fits_at_first : Fits []
@@ -139,10 +139,10 @@ has_not_begun h = h
 abbrev scripted : Owners
 scripted = owner_of (begun ++ item.Claim (frame 16) (owner.Script 1) ∷ [])
 
-not_where_the_script_claimed : Spot scripted (record { base = 65536; size = 3072 }) → ⊥
-not_where_the_script_claimed spot = let kept = spot.kept 65536 refl in cc
+not_where_the_script_claimed : Seat scripted (record { base = 65536; size = 3072 }) → ⊥
+not_where_the_script_claimed seat = let kept = seat.kept 65536 refl in cc
 
-beside_the_scripts_frame : Spot scripted (record { base = 69632; size = 3072 })
+beside_the_scripts_frame : Seat scripted (record { base = 69632; size = 3072 })
 beside_the_scripts_frame = record {
   aligned = refl;
   kept = λ x at. let inside = covers-from (record { base = 69632; size = 3072 }) x at in

@@ -13,7 +13,7 @@ use Rattle.growth_model.specs.Outcome.{Outcome, Change, joined, nothing, if_due}
 use Rattle.growth_model.specs.Growth.{is_full, new_in, two, grown, claimed, freed, reserved_growth, memory_growth, added, noded, mirrored}
 use Rattle.growth_model.specs.Request.{place_for}
 use Rattle.growth_model.specs.Ends.{EndsBy, Ends, Allocates}
-use Rattle.growth_model.specs.Sound.{keeps, Placed, IsImage, HasBegun, IsAway, MayClaim}
+use Rattle.growth_model.specs.Sound.{keeps, Seated, IsImage, HasBegun, IsAway, MayClaim}
 use Rattle.growth_model.proofs.CutLaws.{EachCut, cuts-ends, cuts-map, cuts-due, cuts-grown}
 use Rattle.growth_model.proofs.PlacedLaws.{aside-same, Going, trim-placed, limit-placed, upward-placed}
 use Rattle.growth_model.proofs.PlacedReservedLaws.{reserved-cuts, room-cuts, claimed-cuts, freed-cuts}
@@ -22,25 +22,25 @@ use Rattle.growth_model.proofs.FirstLaws.{first-full, first-full_by_two, first-c
 
 -- from the first claim on
 abbrev pub Stands : Extent → List Item → Type 0
-Stands kernel items = HasBegun items → Placed kernel items
+Stands kernel items = HasBegun items → Seated kernel items
 
-pub placed-begun : (kernel : Extent) (items : List Item) → Placed kernel items → HasBegun items
+pub placed-begun : (kernel : Extent) (items : List Item) → Seated kernel items → HasBegun items
 placed-begun kernel items placed = subst HasBegun (sym placed.first) tt
 
 -- a change that keeps the places throughout, with something claimed already
 stands-by : {T : Type 0} (kernel : Extent) (r : Result T Refusal) (old new : List Item) (o : Outcome)
-    → (Placed kernel old → EachCut (Placed kernel) old o.steps) → Stands kernel old → HasBegun old → EndsBy r old new o → Stands kernel new
-stands-by kernel r old new o keeps stands begun ends = λ _. cuts-ends (Placed kernel) r old new o (keeps (stands begun)) ends
+    → (Seated kernel old → EachCut (Seated kernel) old o.steps) → Stands kernel old → HasBegun old → EndsBy r old new o → Stands kernel new
+stands-by kernel r old new o keeps stands begun ends = λ _. cuts-ends (Seated kernel) r old new o (keeps (stands begun)) ends
 
 claim-cuts : (kernel : Extent) (items : List Item) (r : Extent) (o : Owner) → IsImage kernel → end_of r ≤ 2 ^ 64
     → Stands kernel items → MayClaim kernel items r o → EachCut (Stands kernel) items (claimed r o items).steps
 claim-cuts kernel [] r o image small stands may =
-    let first : Placed kernel (item.Claim r o ∷ []) =
-    subst (λ (e : Extent). Placed kernel (item.Claim e o ∷ [])) (sym may.0)
-    (subst (λ (w : Owner). Placed kernel (item.Claim kernel w ∷ [])) (sym may.1) (first-placed kernel image)) in
+    let first : Seated kernel (item.Claim r o ∷ []) =
+    subst (λ (e : Extent). Seated kernel (item.Claim e o ∷ [])) (sym may.0)
+    (subst (λ (w : Owner). Seated kernel (item.Claim kernel w ∷ [])) (sym may.1) (first-placed kernel image)) in
     subst (λ (c : Outcome). EachCut (Stands kernel) [] c.steps) (sym (first-claimed r o small)) (stands, λ _. first)
 claim-cuts kernel (i ∷ is) r o image small stands may =
-    cuts-map (Placed kernel) (Stands kernel) (i ∷ is) (claimed r o (i ∷ is)).steps (λ t placed _. placed)
+    cuts-map (Seated kernel) (Stands kernel) (i ∷ is) (claimed r o (i ∷ is)).steps (λ t placed _. placed)
     (claimed-cuts kernel (i ∷ is) r o may (stands tt))
 
 -- the calls, one by one
@@ -75,7 +75,7 @@ pub reserved-stands : {T : Type 0} (kernel : Extent) (r : Result T Refusal) (old
     → Stands kernel old → HasBegun old → Ends r old new (reserved_growth range) → Stands kernel new
 reserved-stands kernel r old new range stands begun ends =
     stands-by kernel r old new (reserved_growth range old)
-    (λ placed. cuts-map (Going kernel range old) (Placed kernel) old (reserved_growth range old).steps (λ t going. going.placed)
+    (λ placed. cuts-map (Going kernel range old) (Seated kernel) old (reserved_growth range old).steps (λ t going. going.placed)
     (reserved-cuts kernel range old old (record { placed = placed; aside = aside-same kernel range old }))) stands begun ends
 
 pub memory-stands : {T : Type 0} (kernel : Extent) (r : Result T Refusal) (old new : List Item)
@@ -85,10 +85,10 @@ memory-stands kernel r old new stands begun ends =
 
 -- an allocation, whoever it is for
 pub alloc-placed : (kernel : Extent) (r : Result ℕ Refusal) (old new : List Item) (q : Request) (who : Owner)
-    → Placed kernel old → (found : Option ℕ) → place_for q old ≡ found → Allocates r old new found q.size who → Placed kernel new
-alloc-placed kernel r old new q who placed None is ends = subst (Placed kernel) (sym ends.1) placed
+    → Seated kernel old → (found : Option ℕ) → place_for q old ≡ found → Allocates r old new found q.size who → Seated kernel new
+alloc-placed kernel r old new q who placed None is ends = subst (Seated kernel) (sym ends.1) placed
 alloc-placed kernel r old new q who placed (Some place) is ends =
-    cuts-ends (Placed kernel) r old new (claimed (record { base = place; size = q.size }) who old)
+    cuts-ends (Seated kernel) r old new (claimed (record { base = place; size = q.size }) who old)
     (allocated-cuts kernel old q place who is placed) ends.1
 
 pub alloc-stands : (kernel : Extent) (r : Result ℕ Refusal) (old new : List Item) (q : Request) (who : Owner)
@@ -100,15 +100,15 @@ alloc-stands kernel r old new q who stands begun found is ends =
 -- items that are written alone
 pub trim-stands : (kernel : Extent) (old new : List Item) → Stands kernel old → HasBegun old → new ≡ old ++ item.Trim ∷ []
     → Stands kernel new
-trim-stands kernel old new stands begun is = λ _. subst (Placed kernel) (sym is) (trim-placed kernel old (stands begun))
+trim-stands kernel old new stands begun is = λ _. subst (Seated kernel) (sym is) (trim-placed kernel old (stands begun))
 
 pub limit-stands : (kernel : Extent) (old new : List Item) (at : ℕ) → Stands kernel old → HasBegun old
     → new ≡ old ++ item.Limit at ∷ [] → Stands kernel new
-limit-stands kernel old new at stands begun is = λ _. subst (Placed kernel) (sym is) (limit-placed kernel old at (stands begun))
+limit-stands kernel old new at stands begun is = λ _. subst (Seated kernel) (sym is) (limit-placed kernel old at (stands begun))
 
 pub upward-stands : (kernel : Extent) (old new : List Item) (on : Bool) → Stands kernel old → HasBegun old
     → new ≡ old ++ item.Upward on ∷ [] → Stands kernel new
-upward-stands kernel old new on stands begun is = λ _. subst (Placed kernel) (sym is) (upward-placed kernel old on (stands begun))
+upward-stands kernel old new on stands begun is = λ _. subst (Seated kernel) (sym is) (upward-placed kernel old on (stands begun))
 
 pub same-stands : (kernel : Extent) (old new : List Item) → Stands kernel old → new ≡ old → Stands kernel new
 same-stands kernel old new stands is = subst (Stands kernel) (sym is) stands
@@ -153,7 +153,7 @@ full-begun_by_two [] full = absurd (true≢false (sym full ∙ first-full_by_two
 full-begun_by_two (i ∷ is) full = tt
 
 -- growths where they are due
-pub once-cuts : (kernel range : Extent) (more : List Item → ℕ) (items : List Item) → Placed kernel items
+pub once-cuts : (kernel range : Extent) (more : List Item → ℕ) (items : List Item) → Seated kernel items
     → EachCut (Going kernel range items) items (if_due (is_full which.Reserved more) (reserved_growth range) items).steps
 once-cuts kernel range more items placed =
     let here : Going kernel range items items = record { placed = placed; aside = aside-same kernel range items } in
@@ -161,13 +161,13 @@ once-cuts kernel range more items placed =
     (reserved-cuts kernel range items items here)
 
 pub once-going : {T : Type 0} (kernel range : Extent) (r : Result T Refusal) (old new : List Item) (more : List Item → ℕ)
-    → Placed kernel old → Ends r old new (if_due (is_full which.Reserved more) (reserved_growth range)) → Going kernel range old new
+    → Seated kernel old → Ends r old new (if_due (is_full which.Reserved more) (reserved_growth range)) → Going kernel range old new
 once-going kernel range r old new more placed ends =
     cuts-ends (Going kernel range old) r old new (if_due (is_full which.Reserved more) (reserved_growth range) old)
     (once-cuts kernel range more old placed) ends
 
 pub grown-going : {T : Type 0} (kernel range : Extent) (r : Result T Refusal) (old new : List Item) (more : List Item → ℕ)
-    → Placed kernel old → Ends r old new (grown which.Reserved more (reserved_growth range)) → Going kernel range old new
+    → Seated kernel old → Ends r old new (grown which.Reserved more (reserved_growth range)) → Going kernel range old new
 grown-going kernel range r old new more placed ends =
     cuts-ends (Going kernel range old) r old new (grown which.Reserved more (reserved_growth range) old)
     (room-cuts kernel range more old placed) ends
@@ -192,11 +192,11 @@ pub memory_once-stands : {T : Type 0} (kernel : Extent) (r : Result T Refusal) (
     → Stands kernel old → HasBegun old → Ends r old new (if_due due memory_growth) → Stands kernel new
 memory_once-stands kernel r old new due stands begun ends =
     stands-by kernel r old new (if_due due memory_growth old)
-    (λ placed. cuts-due (Placed kernel) old due memory_growth placed (memory-cuts kernel old placed)) stands begun ends
+    (λ placed. cuts-due (Seated kernel) old due memory_growth placed (memory-cuts kernel old placed)) stands begun ends
 
 pub memory_grown-stands : {T : Type 0} (kernel : Extent) (r : Result T Refusal) (old new : List Item) (more : List Item → ℕ)
     → Stands kernel old → HasBegun old → Ends r old new (grown which.Memory more memory_growth) → Stands kernel new
 memory_grown-stands kernel r old new more stands begun ends =
     stands-by kernel r old new (grown which.Memory more memory_growth old)
-    (λ placed. cuts-grown (Placed kernel) which.Memory more memory_growth old (λ t was. memory-cuts kernel t was) placed)
+    (λ placed. cuts-grown (Seated kernel) which.Memory more memory_growth old (λ t was. memory-cuts kernel t was) placed)
     stands begun ends

@@ -15,7 +15,7 @@ use Rattle.memblock_model.specs.Tables.{records_of, room_of, place_of, live}
 use Rattle.memblock_ranges.specs.Spelling.{spelled_table, spelling_of, flags_field, node_field}
 use Rattle.memblock_ranges.specs.Tables.{bytes_of}
 use Rattle.memblock_ranges.proofs.SpellLaws.{length-fields_of}
-use Rattle.growth_model.specs.Sound.{Placed, Fits, Clear}
+use Rattle.growth_model.specs.Sound.{Seated, Fits, Clear}
 use Rattle.growth_model.proofs.ToldLaws.{listed-told, chosen}
 use Rattle.growth_model.specs.Bytes.{table_for, spelled_at, AreSpelled}
 
@@ -29,11 +29,11 @@ reserved_next false true a b c out here = refl
 reserved_next false false a b c out here = cc
 
 -- no byte lies in both tables
-pub live-clear : (kernel : Extent) (items : List Item) → Placed kernel items →
+pub live-clear : (kernel : Extent) (items : List Item) → Seated kernel items →
     Clear (live which.Memory kernel items) (live which.Reserved kernel items)
-live-clear kernel items placed = λ x here too. placed.spots.apart x x here too refl
+live-clear kernel items placed = λ x here too. placed.seats.apart x x here too refl
 
-beside_memory : (kernel : Extent) (items : List Item) (x : ℕ) → Placed kernel items →
+beside_memory : (kernel : Extent) (items : List Item) (x : ℕ) → Seated kernel items →
     covers (live which.Reserved kernel items) x ≡ true → covers (live which.Memory kernel items) x ≡ false
 beside_memory kernel items x placed here =
     elim (cases_Bool (covers (live which.Memory kernel items) x)) as (λ _. covers (live which.Memory kernel items) x ≡ false) [
@@ -42,7 +42,7 @@ beside_memory kernel items x placed here =
     ]
 
 -- the byte at an address of a table's place is that of the spelling
-pub journal-stands : (w : Which) (kernel : Extent) (items : List Item) (f : ℕ → ℕ) (x : ℕ) → Placed kernel items →
+pub journal-stands : (w : Which) (kernel : Extent) (items : List Item) (f : ℕ → ℕ) (x : ℕ) → Seated kernel items →
     AreSpelled (table_for which.Memory kernel items) (table_for which.Reserved kernel items) f → covers (live w kernel items) x ≡ true →
     f x ≡ spelled_at (table_for w kernel items) x
 journal-stands which.Memory kernel items f x placed spelled here =
@@ -87,7 +87,7 @@ length-spelled_table (r ∷ rs) (suc n) few =
 lies : (a n k : ℕ) → k < n → covers (record { base = a; size = n }) (a + k) ≡ true
 lies a n k below = grind (arith, nat_tests)
 
-spelled_here : (w : Which) (kernel : Extent) (items : List Item) (f : ℕ → ℕ) (k : ℕ) → Placed kernel items →
+spelled_here : (w : Which) (kernel : Extent) (items : List Item) (f : ℕ → ℕ) (k : ℕ) → Seated kernel items →
     AreSpelled (table_for which.Memory kernel items) (table_for which.Reserved kernel items) f → k < 24 * room_of w items →
     get_or (spelled_table (records_of w items) (room_of w items)) k 0 ≡ f (place_of w kernel items + k)
 spelled_here w kernel items f k placed spelled below =
@@ -97,7 +97,7 @@ spelled_here w kernel items f k placed spelled below =
     ∙ ap (λ (i : ℕ). get_or (spelled_table (records_of w items) (room_of w items)) i 0) back)
 
 -- the same as one list: the bytes at the place of a table are the spelling of its records
-pub list-stands : (w : Which) (kernel : Extent) (items : List Item) (f : ℕ → ℕ) → Placed kernel items → Fits items →
+pub list-stands : (w : Which) (kernel : Extent) (items : List Item) (f : ℕ → ℕ) → Seated kernel items → Fits items →
     AreSpelled (table_for which.Memory kernel items) (table_for which.Reserved kernel items) f →
     bytes_at f (place_of w kernel items) (24 * room_of w items) ≡ spelled_table (records_of w items) (room_of w items)
 list-stands w kernel items f placed fits spelled =

@@ -19,8 +19,8 @@ keeps None = false
 keeps (Some (owner.Script id)) = false
 keeps (Some o) = true
 
--- a place of a table: it begins with a frame, and each of its bytes has such an owner
-pub record Spot (own : Owners) (a : Extent) : Type 0 where
+-- a seat of a table: a place that begins with a frame, and each of whose bytes has such an owner
+pub record Seat (own : Owners) (a : Extent) : Type 0 where
   pub aligned : a.base % FRAME_SIZE ≡ 0
   pub kept : (x : ℕ) → covers a x ≡ true → keeps (own x) ≡ true
 
@@ -36,17 +36,17 @@ Clear a b = (x : ℕ) → covers a x ≡ true → covers b x ≡ true → ⊥
 abbrev pub Unclaimed : Owners → Extent → Type 0
 Unclaimed own a = (x : ℕ) → covers a x ≡ true → own x ≡ None
 
--- the places of both tables
-pub record Spots (own : Owners) (memory reserved : Extent) : Type 0 where
-  pub first : Spot own memory
-  pub second : Spot own reserved
+-- the seats of both tables
+pub record Seats (own : Owners) (memory reserved : Extent) : Type 0 where
+  pub first : Seat own memory
+  pub second : Seat own reserved
   pub apart : ShareNoFrame memory reserved
 
--- the kernel's image is claimed first, and both tables lie in places of theirs
-pub record Placed (kernel : Extent) (items : List Item) : Type 0 where
+-- the kernel's image is claimed first, and both tables lie in seats of theirs
+pub record Seated (kernel : Extent) (items : List Item) : Type 0 where
   pub rest : List Item
   pub first : items ≡ item.Claim kernel owner.Kernel ∷ rest
-  pub spots : Spots (owner_of items) (live which.Memory kernel items) (live which.Reserved kernel items)
+  pub seats : Seats (owner_of items) (live which.Memory kernel items) (live which.Reserved kernel items)
 
 -- each table has room for its records
 abbrev pub Fits : List Item → Type 0
@@ -54,7 +54,7 @@ Fits items = (w : Which) → count w items ≤ room_of w items
 
 -- both of these hold
 pub record Sound (kernel : Extent) (items : List Item) : Type 0 where
-  pub placed : Placed kernel items
+  pub placed : Seated kernel items
   pub fits : Fits items
 
 -- the image holds both built-in places: it ends with a frame, and has two frames at least

@@ -18,7 +18,7 @@ ghost use Rattle.memblock_model.specs.declared.item.Item.{Item};
 ghost use Rattle.memblock_model.specs.Tables.{records_of, room_of, place_of, live};
 ghost use Rattle.memblock_ranges.specs.Spelling.{spelled_table};
 ghost use Rattle.memblock_ranges.specs.Tables.{Contents, table_in, bytes_in, StandsIn};
-ghost use Rattle.growth_model.specs.Sound.{Placed, Fits, IsAway};
+ghost use Rattle.growth_model.specs.Sound.{Seated, Fits, IsAway};
 ghost use Rattle.growth_model.specs.Bytes.{table_for, spelled_at, shown_by, AreSpelled, left_by, byte_after, byte, Filled, put, AreMadeBy, Follows, Holds};
 
 /// A law: what items and further ones make of a byte is what the further ones make of what the first made;
@@ -54,10 +54,10 @@ pub fn bytes_follow_calls()
 
 /// A law: the bytes at the place of each table are the spelling of its records, one by one and as a list.
 pub fn tables_are_spelled()
-    ensures each { (w : Which) (kernel : Extent) (items : List Item) (f : ℕ → ℕ) (x : ℕ) → Placed kernel items →
+    ensures each { (w : Which) (kernel : Extent) (items : List Item) (f : ℕ → ℕ) (x : ℕ) → Seated kernel items →
         AreSpelled (table_for which.Memory kernel items) (table_for which.Reserved kernel items) f →
         covers (live w kernel items) x ≡ true → f x ≡ spelled_at (table_for w kernel items) x }
-    ensures list { (w : Which) (kernel : Extent) (items : List Item) (f : ℕ → ℕ) → Placed kernel items → Fits items →
+    ensures list { (w : Which) (kernel : Extent) (items : List Item) (f : ℕ → ℕ) → Seated kernel items → Fits items →
         AreSpelled (table_for which.Memory kernel items) (table_for which.Reserved kernel items) f →
         bytes_at f (place_of w kernel items) (24 * room_of w items) ≡ spelled_table (records_of w items) (room_of w items) }
 {}

@@ -21,7 +21,7 @@ ghost use Rattle.growth_model.specs.Outcome.{Change, ◌>>◌ as in_turn, after,
 ghost use Rattle.growth_model.specs.Growth.{in_whole_frames, frames_at, new_in, two, place_beside, reserved_growth, claimed, freed, memory_growth, added, noded, mirrored};
 ghost use Rattle.growth_model.specs.Request.{place_for};
 ghost use Rattle.growth_model.specs.Ends.{Ends, Allocates};
-ghost use Rattle.growth_model.specs.Sound.{Clear, Unclaimed, Placed, Fits, IsImage, HasBegun, IsAway, MayClaim};
+ghost use Rattle.growth_model.specs.Sound.{Clear, Unclaimed, Seated, Fits, IsImage, HasBegun, IsAway, MayClaim};
 ghost use Rattle.growth_model.specs.Room.{IsInSpace, HasDoubled, HasRoomBehind};
 
 /// A law: one call after another ends as the one change behind the other does, by the end of the second,
@@ -38,36 +38,36 @@ pub fn ends_add_up()
 pub fn first_claim_places_tables()
     ensures alone { (kernel : Extent) → end_of kernel ≤ 2 ^ 64 →
         claimed kernel owner.Kernel [] ≡ write (item.Claim kernel owner.Kernel) [] }
-    ensures placed { (kernel : Extent) → IsImage kernel → Placed kernel (item.Claim kernel owner.Kernel ∷ []) }
+    ensures placed { (kernel : Extent) → IsImage kernel → Seated kernel (item.Claim kernel owner.Kernel ∷ []) }
 {}
 
 /// A law: however a claim or a free ends, both tables lie in good places from the first claim on.
 pub fn claims_keep_places()
     ensures claimed { (kernel : Extent) (result : Result (Unit {0}) Refusal) (old new : List Item) (range : Extent) (who : Owner) →
-        IsImage kernel → end_of range ≤ 2 ^ 64 → (HasBegun old → Placed kernel old) → MayClaim kernel old range who →
-        Ends result old new (claimed range who) → HasBegun new → Placed kernel new }
+        IsImage kernel → end_of range ≤ 2 ^ 64 → (HasBegun old → Seated kernel old) → MayClaim kernel old range who →
+        Ends result old new (claimed range who) → HasBegun new → Seated kernel new }
     ensures freed { (kernel : Extent) (result : Result (Unit {0}) Refusal) (old new : List Item) (range : Extent) →
-        Placed kernel old → IsAway kernel range old → Ends result old new (freed range) → Placed kernel new }
+        Seated kernel old → IsAway kernel range old → Ends result old new (freed range) → Seated kernel new }
 {}
 
 /// A law: so they do however memory is added to, given a node or mirrored, and behind a trim, a new limit and a new direction.
 pub fn memory_keeps_places()
     ensures added { (kernel : Extent) (result : Result (Unit {0}) Refusal) (old new : List Item) (range : Extent) →
-        Placed kernel old → Ends result old new (added range) → Placed kernel new }
+        Seated kernel old → Ends result old new (added range) → Seated kernel new }
     ensures noded { (kernel : Extent) (result : Result (Unit {0}) Refusal) (old new : List Item) (range : Extent) (node : ℕ) →
-        Placed kernel old → Ends result old new (noded range node) → Placed kernel new }
+        Seated kernel old → Ends result old new (noded range node) → Seated kernel new }
     ensures mirrored { (kernel : Extent) (result : Result (Unit {0}) Refusal) (old new : List Item) (range : Extent) →
-        Placed kernel old → Ends result old new (mirrored range) → Placed kernel new }
-    ensures trim { (kernel : Extent) (items : List Item) → Placed kernel items → Placed kernel (items ++ item.Trim ∷ []) }
-    ensures limit { (kernel : Extent) (items : List Item) (at : ℕ) → Placed kernel items → Placed kernel (items ++ item.Limit at ∷ []) }
-    ensures upward { (kernel : Extent) (items : List Item) (on : Bool) → Placed kernel items →
-        Placed kernel (items ++ item.Upward on ∷ []) }
+        Seated kernel old → Ends result old new (mirrored range) → Seated kernel new }
+    ensures trim { (kernel : Extent) (items : List Item) → Seated kernel items → Seated kernel (items ++ item.Trim ∷ []) }
+    ensures limit { (kernel : Extent) (items : List Item) (at : ℕ) → Seated kernel items → Seated kernel (items ++ item.Limit at ∷ []) }
+    ensures upward { (kernel : Extent) (items : List Item) (on : Bool) → Seated kernel items →
+        Seated kernel (items ++ item.Upward on ∷ []) }
 {}
 
 /// A law: so they do however an allocation ends, whoever it is for.
 pub fn allocations_keep_places()
     ensures { (kernel : Extent) (result : Result ℕ Refusal) (old new : List Item) (request : Request) (who : Owner) →
-        Placed kernel old → Allocates result old new (place_for request old) request.size who → Placed kernel new }
+        Seated kernel old → Allocates result old new (place_for request old) request.size who → Seated kernel new }
 {}
 
 /// A law: nobody has a byte of a place that a search finds, so it meets neither table. A new place for the
@@ -76,7 +76,7 @@ pub fn allocations_keep_places()
 pub fn found_places_are_free()
     ensures unclaimed { (items : List Item) (query : Query) (place : ℕ) → best items query ≡ Some place →
         Unclaimed (owner_of items) (record { base = place; size = query.size }) }
-    ensures away { (kernel : Extent) (items : List Item) (query : Query) (place : ℕ) → Placed kernel items → best items query ≡ Some place →
+    ensures away { (kernel : Extent) (items : List Item) (query : Query) (place : ℕ) → Seated kernel items → best items query ≡ Some place →
         IsAway kernel (record { base = place; size = query.size }) items }
     ensures allocated { (items : List Item) (request : Request) (place : ℕ) → place_for request items ≡ Some place →
         Unclaimed (owner_of items) (record { base = place; size = request.size }) }

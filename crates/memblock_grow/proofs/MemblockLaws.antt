@@ -18,7 +18,7 @@ use Rattle.memblock_ranges.specs.Spelling.{spelled_table}
 use Rattle.memblock_ranges.specs.Tables.{Table, Contents, bytes_of}
 use Rattle.growth_model.specs.Sound.{IsImage, HasBegun, IsAway, Clear}
 use Rattle.growth_model.specs.Bytes.{table_for, spelled_at, shown_by, AreSpelled, byte, Filled, put, Follows}
-use Rattle.growth_model.proofs.SpotLaws.{covers-from}
+use Rattle.growth_model.proofs.SeatLaws.{covers-from}
 use Rattle.growth_model.proofs.FirstLaws.{no_table_full}
 use Rattle.growth_model.proofs.SoundLaws.{trim-stands, limit-stands, upward-stands}
 use Rattle.growth_model.proofs.FollowLaws.{follows-item, follows-still}

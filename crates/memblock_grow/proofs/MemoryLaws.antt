@@ -17,10 +17,10 @@ use Rattle.growth_model.specs.declared.refusal.Refusal.TheVariants as refusal
 use Rattle.growth_model.specs.Outcome.{Outcome, Change, ◌>>◌, write, refuse}
 use Rattle.growth_model.specs.Growth.{in_whole_frames, frames_at, table_query, old_frames, claimed, leave, memory_growth_at, memory_growth}
 use Rattle.growth_model.specs.Ends.{EndsBy, Ends}
-use Rattle.growth_model.specs.Sound.{Placed, IsAway}
+use Rattle.growth_model.specs.Sound.{Seated, IsAway}
 use Rattle.growth_model.specs.Bytes.{shown_by, left_by, AreSpelled, Follows}
 use Rattle.growth_model.proofs.EndLaws.{Ends-second, Ends-first, Ends-step, Ends-wanting, Ends-refused, Ends-along}
-use Rattle.growth_model.proofs.SpotLaws.{frames-more}
+use Rattle.growth_model.proofs.SeatLaws.{frames-more}
 use Rattle.growth_model.proofs.FoundLaws.{away-within, away-apart}
 use Rattle.growth_model.proofs.PlacedMemoryLaws.{IsTaken, claimed-taken}
 use Rattle.growth_model.proofs.FollowLaws.{follows-still, follows-grown, follows-then, follows-stands}
@@ -135,7 +135,7 @@ pub pushed-items : (a b j : Journal) (i : Item) → b.items ≡ a.items → j �
 pushed-items a b j i ready is = ap (λ (j : Journal). j.items) is ∙ ap (λ (l : List Item). l ++ i ∷ []) ready
 
 -- behind the claim of the new place
-pub best-taken : (kernel : Extent) (items mid : List Item) (place : Extent) → Placed kernel items → IsBest items place
+pub best-taken : (kernel : Extent) (items mid : List Item) (place : Extent) → Seated kernel items → IsBest items place
     → Ends {T = Unit {0}} (Ok tt) items mid (claimed place (owner.Table which.Memory))
     → IsTaken kernel mid (room_of which.Memory items) (moved_to which.Memory items) place.base
 best-taken kernel items mid place placed known was =
@@ -238,8 +238,8 @@ memory-stands kernel items mid t k p r at base room place whole m keeps bytes tw
     record {
       image = whole.image;
       kept = moved;
-      placed = λ _. subst (λ (n : ℕ). Placed kernel (mid ++ item.Grown which.Memory base n ∷ [])) (sym twice)
-          (subst (λ (b : ℕ). Placed kernel (mid ++ item.Grown which.Memory b (2 * room_of which.Memory items) ∷ []))
+      placed = λ _. subst (λ (n : ℕ). Seated kernel (mid ++ item.Grown which.Memory base n ∷ [])) (sym twice)
+          (subst (λ (b : ℕ). Seated kernel (mid ++ item.Grown which.Memory b (2 * room_of which.Memory items) ∷ []))
           (sym m.here) taken.next);
       spelled = follows-stands kernel items (mid ++ item.Grown which.Memory base room ∷ []) r.memory r.reserved (byte_of t.store)
           (byte_of r.store) moved.memory moved.reserved

@@ -23,10 +23,10 @@ use Rattle.growth_model.specs.declared.refusal.Refusal.TheVariants as refusal
 use Rattle.growth_model.specs.Outcome.{Outcome, step, refuse}
 use Rattle.growth_model.specs.Growth.{in_whole_frames, frames_at, place_beside, left, old_frames, reserved_items, reserved_growth_at, reserved_growth}
 use Rattle.growth_model.specs.Ends.{EndsBy, Ends}
-use Rattle.growth_model.specs.Sound.{Unclaimed, Placed}
+use Rattle.growth_model.specs.Sound.{Unclaimed, Seated}
 use Rattle.growth_model.specs.Bytes.{shown_by, left_by, AreSpelled, Follows}
 use Rattle.growth_model.proofs.EndLaws.{Ends-step, Ends-refused, Ends-along, Ends-wanting}
-use Rattle.growth_model.proofs.SpotLaws.{covers-to}
+use Rattle.growth_model.proofs.SeatLaws.{covers-to}
 use Rattle.growth_model.proofs.FoundLaws.{beside-new, found-apart}
 use Rattle.growth_model.proofs.FollowLaws.{follows-still, follows-item, follows-grown, follows-then}
 use Rattle.memblock_grow.specs.declared.aim.Aim.{Aim}
@@ -85,7 +85,7 @@ beside-free items avoid place known =
 -- it may be moved to
 pub beside-apart : (kernel : Extent) (items : List Item) (t p : Contents) (at : Aim) (base : ℕ) (avoid place : Extent)
     → AreKept kernel items t at
-    → Placed kernel items → IsBeside items avoid place → base ≡ place.base → p.memory ≡ t.memory → p.reserved ≡ t.reserved
+    → Seated kernel items → IsBeside items avoid place → base ≡ place.base → p.memory ≡ t.memory → p.reserved ≡ t.reserved
     → ¬ Overlaps p (record { base = base; size = 48 * room_in which.Reserved p })
 beside-apart kernel items t p at base avoid place kept placed known here first second =
     let same = kept-same kernel items t p at first second kept in

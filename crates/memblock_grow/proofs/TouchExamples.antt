@@ -7,7 +7,7 @@ use Rattle.memblock_model.specs.declared.which.Which.TheVariants as which
 use Rattle.memblock_model.specs.declared.item.Item.{Item}
 use Rattle.memblock_model.specs.declared.item.Item.TheVariants as item
 use Rattle.memblock_model.specs.Tables.{live}
-use Rattle.growth_model.proofs.SpotLaws.{covers-from}
+use Rattle.growth_model.proofs.SeatLaws.{covers-from}
 use Rattle.memblock_grow.specs.Touch.{TouchesTable}
 
 -- four frames from 64 KiB on, of which the tables have the last two

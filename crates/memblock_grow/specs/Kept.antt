@@ -11,7 +11,7 @@ use Rattle.memblock_model.specs.Items.{limit_of, upward_of}
 use Rattle.memblock_model.specs.Tables.{table_of, room_of, moved_to}
 use Rattle.memblock_ranges.specs.Tables.{Contents}
 use Rattle.growth_model.specs.Growth.{in_whole_frames}
-use Rattle.growth_model.specs.Sound.{Fits, Placed, IsImage, HasBegun, IsAway, MayClaim}
+use Rattle.growth_model.specs.Sound.{Fits, Seated, IsImage, HasBegun, IsAway, MayClaim}
 use Rattle.growth_model.specs.Bytes.{table_for, shown_by, AreSpelled, Follows}
 use Rattle.memblock_grow.specs.declared.aim.Aim.{Aim}
 
@@ -34,7 +34,7 @@ pub record AreKept (kernel : Extent) (items : List Item) (t : Contents) (at : Ai
 pub record IsMemblock (kernel : Extent) (items : List Item) (t : Contents) (at : Aim) : Type 0 where
   pub image : IsImage kernel
   pub kept : AreKept kernel items t at
-  pub placed : HasBegun items → Placed kernel items
+  pub placed : HasBegun items → Seated kernel items
   pub spelled : AreSpelled t.memory t.reserved (byte_of t.store)
 
 -- this holds of some range as the kernel's image; of one by which the claim, or the freeing, is allowed

@@ -1,5 +1,5 @@
 use Rattle.growth_model.specs.Growth.{freed}
-use Rattle.growth_model.specs.Sound.{Placed}
+use Rattle.growth_model.specs.Sound.{Seated}
 use Rattle.growth_model.proofs.CutLaws.{cuts-ends}
 use Rattle.growth_model.proofs.PlacedReservedLaws.{freed-cuts}
 use Rattle.growth_model.proofs.SoundLaws.{claim-stands}
@@ -11,4 +11,4 @@ returns-clause-claimed c = λ kernel result old new range who image small stands
 
 pub returns-clause-freed : goal.returns-clause-freed
 returns-clause-freed c = λ kernel result old new range placed away ends.
-    cuts-ends (Placed kernel) result old new (freed range old) (freed-cuts kernel old range away placed) ends
+    cuts-ends (Seated kernel) result old new (freed range old) (freed-cuts kernel old range away placed) ends

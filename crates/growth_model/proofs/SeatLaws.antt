@@ -7,7 +7,7 @@ use Rattle.address_runs.specs.Edits.{uncovered, replaced}
 use Rattle.memblock_model.specs.declared.owner.Owner.{Owner}
 use Rattle.memblock_model.specs.Items.{Owners}
 use Rattle.growth_model.specs.Growth.{frames_at}
-use Rattle.growth_model.specs.Sound.{keeps, Spot, ShareNoFrame, Clear, Unclaimed, Spots}
+use Rattle.growth_model.specs.Sound.{keeps, Seat, ShareNoFrame, Clear, Unclaimed, Seats}
 
 -- the frames of a range that begins with one
 abbrev pub frames : Extent → Extent
@@ -58,19 +58,19 @@ apart-clear a b aligned apart x at_a at_b =
 unkept : (own : Owners) (x : ℕ) → own x ≡ None → keeps (own x) ≡ true → ⊥
 unkept own x none kept = true≢false (sym kept ∙ ap keeps none)
 
-pub unclaimed-clear : (own : Owners) (a b : Extent) → Unclaimed own a → Spot own b → Clear a b
-unclaimed-clear own a b free spot x at_a at_b = unkept own x (free x at_a) (spot.kept x at_b)
+pub unclaimed-clear : (own : Owners) (a b : Extent) → Unclaimed own a → Seat own b → Clear a b
+unclaimed-clear own a b free seat x at_a at_b = unkept own x (free x at_a) (seat.kept x at_b)
 
 -- a new place among bytes without an owner has no frame in common with an old one, and neither have their frames
-pub new-apart : (own : Owners) (n b : Extent) → n.base % 4096 ≡ 0 → Unclaimed own (frames n) → Spot own b → ShareNoFrame n b
-new-apart own n b aligned free spot x y at_n at_b same =
-    unkept own y (free y (frame-whole n x y aligned (frames-more n x at_n) (sym same))) (spot.kept y at_b)
+pub new-apart : (own : Owners) (n b : Extent) → n.base % 4096 ≡ 0 → Unclaimed own (frames n) → Seat own b → ShareNoFrame n b
+new-apart own n b aligned free seat x y at_n at_b same =
+    unkept own y (free y (frame-whole n x y aligned (frames-more n x at_n) (sym same))) (seat.kept y at_b)
 
-pub old-clear : (own : Owners) (a n : Extent) → n.base % 4096 ≡ 0 → Unclaimed own (frames n) → Spot own a → Clear (frames a) (frames n)
-old-clear own a n aligned free spot x at_a at_n =
+pub old-clear : (own : Owners) (a n : Extent) → n.base % 4096 ≡ 0 → Unclaimed own (frames n) → Seat own a → Clear (frames a) (frames n)
+old-clear own a n aligned free seat x at_a at_n =
     unkept own (4096 * (x / 4096))
     (free (4096 * (x / 4096)) (frame-whole n x (4096 * (x / 4096)) aligned at_n (first-frame x)))
-    (spot.kept (4096 * (x / 4096)) (frame-first a x spot.aligned at_a))
+    (seat.kept (4096 * (x / 4096)) (frame-first a x seat.aligned at_a))
 
 -- a claim by an owner in whose bytes a table may lie
 kept-claim : (b : Bool) (o : Owner) (old : Option Owner) → keeps (Some o) ≡ true → keeps old ≡ true
@@ -78,73 +78,73 @@ kept-claim : (b : Bool) (o : Owner) (old : Option Owner) → keeps (Some o) ≡ 
 kept-claim true o old new was = new
 kept-claim false o old new was = was
 
-pub Spot-claim : (own : Owners) (a r : Extent) (o : Owner) → keeps (Some o) ≡ true → Spot own a → Spot (replaced r o own) a
-Spot-claim own a r o new spot = record {
-  aligned = spot.aligned;
-  kept = λ x at. kept-claim (covers r x) o (own x) new (spot.kept x at);
+pub Seat-claim : (own : Owners) (a r : Extent) (o : Owner) → keeps (Some o) ≡ true → Seat own a → Seat (replaced r o own) a
+Seat-claim own a r o new seat = record {
+  aligned = seat.aligned;
+  kept = λ x at. kept-claim (covers r x) o (own x) new (seat.kept x at);
 }
 
 -- a claim by anyone, and a free, of other bytes
-pub Spot-clear : (own : Owners) (a r : Extent) (o : Owner) → Clear r a → Spot own a → Spot (replaced r o own) a
-Spot-clear own a r o clear spot = record {
-  aligned = spot.aligned;
+pub Seat-clear : (own : Owners) (a r : Extent) (o : Owner) → Clear r a → Seat own a → Seat (replaced r o own) a
+Seat-clear own a r o clear seat = record {
+  aligned = seat.aligned;
   kept = λ x at. elim (cases_Bool (covers r x)) as (λ _. keeps (replaced r o own x) ≡ true)
-      [ inl in_r ↦ absurd (clear x in_r at) | inr other ↦ rw other (spot.kept x at) ];
+      [ inl in_r ↦ absurd (clear x in_r at) | inr other ↦ rw other (seat.kept x at) ];
 }
 
-pub Spot-free : (own : Owners) (a r : Extent) → Clear r a → Spot own a → Spot (uncovered r own) a
-Spot-free own a r clear spot = record {
-  aligned = spot.aligned;
+pub Seat-free : (own : Owners) (a r : Extent) → Clear r a → Seat own a → Seat (uncovered r own) a
+Seat-free own a r clear seat = record {
+  aligned = seat.aligned;
   kept = λ x at. elim (cases_Bool (covers r x)) as (λ _. keeps (uncovered r own x) ≡ true)
-      [ inl in_r ↦ absurd (clear x in_r at) | inr other ↦ rw other (spot.kept x at) ];
+      [ inl in_r ↦ absurd (clear x in_r at) | inr other ↦ rw other (seat.kept x at) ];
 }
 
 -- a claim makes a place
-pub Spot-new : (own : Owners) (n r : Extent) (o : Owner) → n.base % 4096 ≡ 0 → keeps (Some o) ≡ true
-    → ((x : ℕ) → covers n x ≡ true → covers r x ≡ true) → Spot (replaced r o own) n
-Spot-new own n r o aligned new inside = record {
+pub Seat-new : (own : Owners) (n r : Extent) (o : Owner) → n.base % 4096 ≡ 0 → keeps (Some o) ≡ true
+    → ((x : ℕ) → covers n x ≡ true → covers r x ≡ true) → Seat (replaced r o own) n
+Seat-new own n r o aligned new inside = record {
   aligned = aligned;
   kept = λ x at. let here : covers r x ≡ true = inside x at in rw here new;
 }
 
-pub Spots-swap : (own : Owners) (m r : Extent) → Spots own m r → Spots own r m
-Spots-swap own m r both = record { first = both.second; second = both.first; apart = Apart-swap m r both.apart }
+pub Seats-swap : (own : Owners) (m r : Extent) → Seats own m r → Seats own r m
+Seats-swap own m r both = record { first = both.second; second = both.first; apart = Apart-swap m r both.apart }
 
-pub Spots-claim : (own : Owners) (m r a : Extent) (o : Owner) → keeps (Some o) ≡ true → Spots own m r → Spots (replaced a o own) m r
-Spots-claim own m r a o new both = record {
-  first = Spot-claim own m a o new both.first;
-  second = Spot-claim own r a o new both.second;
+pub Seats-claim : (own : Owners) (m r a : Extent) (o : Owner) → keeps (Some o) ≡ true → Seats own m r → Seats (replaced a o own) m r
+Seats-claim own m r a o new both = record {
+  first = Seat-claim own m a o new both.first;
+  second = Seat-claim own r a o new both.second;
   apart = both.apart;
 }
 
-pub Spots-clear : (own : Owners) (m r a : Extent) (o : Owner) → Clear a m → Clear a r → Spots own m r → Spots (replaced a o own) m r
-Spots-clear own m r a o first second both = record {
-  first = Spot-clear own m a o first both.first;
-  second = Spot-clear own r a o second both.second;
+pub Seats-clear : (own : Owners) (m r a : Extent) (o : Owner) → Clear a m → Clear a r → Seats own m r → Seats (replaced a o own) m r
+Seats-clear own m r a o first second both = record {
+  first = Seat-clear own m a o first both.first;
+  second = Seat-clear own r a o second both.second;
   apart = both.apart;
 }
 
-pub Spots-free : (own : Owners) (m r a : Extent) → Clear a m → Clear a r → Spots own m r → Spots (uncovered a own) m r
-Spots-free own m r a first second both = record {
-  first = Spot-free own m a first both.first;
-  second = Spot-free own r a second both.second;
+pub Seats-free : (own : Owners) (m r a : Extent) → Clear a m → Clear a r → Seats own m r → Seats (uncovered a own) m r
+Seats-free own m r a first second both = record {
+  first = Seat-free own m a first both.first;
+  second = Seat-free own r a second both.second;
   apart = both.apart;
 }
 
 -- the second table moves to a new place, whose frames are claimed
-pub Spots-move : (own : Owners) (m r n : Extent) (o : Owner) → keeps (Some o) ≡ true → n.base % 4096 ≡ 0 → Unclaimed own (frames n)
-    → Spots own m r → Spots (replaced (frames n) o own) m n
-Spots-move own m r n o new aligned free both = record {
-  first = Spot-claim own m (frames n) o new both.first;
-  second = Spot-new own n (frames n) o aligned new (frames-more n);
+pub Seats-move : (own : Owners) (m r n : Extent) (o : Owner) → keeps (Some o) ≡ true → n.base % 4096 ≡ 0 → Unclaimed own (frames n)
+    → Seats own m r → Seats (replaced (frames n) o own) m n
+Seats-move own m r n o new aligned free both = record {
+  first = Seat-claim own m (frames n) o new both.first;
+  second = Seat-new own n (frames n) o aligned new (frames-more n);
   apart = Apart-swap n m (new-apart own n m aligned free both.first);
 }
 
 -- and the frames that it left are freed
-pub Spots-leave : (own : Owners) (m r n : Extent) (o : Owner) → keeps (Some o) ≡ true → n.base % 4096 ≡ 0 → Unclaimed own (frames n)
-    → Spots own m r → Spots (uncovered (frames r) (replaced (frames n) o own)) m n
-Spots-leave own m r n o new aligned free both =
-    Spots-free (replaced (frames n) o own) m n (frames r)
+pub Seats-leave : (own : Owners) (m r n : Extent) (o : Owner) → keeps (Some o) ≡ true → n.base % 4096 ≡ 0 → Unclaimed own (frames n)
+    → Seats own m r → Seats (uncovered (frames r) (replaced (frames n) o own)) m n
+Seats-leave own m r n o new aligned free both =
+    Seats-free (replaced (frames n) o own) m n (frames r)
     (apart-clear r m both.second.aligned (Apart-swap m r both.apart))
     (λ x at_r at_n. old-clear own r n aligned free both.second x at_r (frames-more n x at_n))
-    (Spots-move own m r n o new aligned free both)
+    (Seats-move own m r n o new aligned free both)
