@@ -20,13 +20,6 @@ text_put answer chunks old new report named told records is put =
     (λ more. text_more chunks old new _ more
     ∙ ap (λ (r : Report). (text_of_chunks chunks ++ old) ++ shown_text r told records) (sym is)) put
 
-pub returns-in-Options : goal.returns-in-Options
-returns-in-Options c = λ records stand.
-    let draft = c.args.draft.now in
-    text_put c.put_options.result draft.chunks.items draft.text.items c.put_options.new.text.items c.args.report reports.Options
-    (booted_view c.args.booted.now) records c.in-Options.is
-    (puts_ok draft.text c.put_options.new.text c.put_options.result _ c.put_options.ensures)
-
 pub returns-in-Summary : goal.returns-in-Summary
 returns-in-Summary c = λ records stand.
     let draft = c.args.draft.now in

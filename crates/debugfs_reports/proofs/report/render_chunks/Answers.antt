@@ -7,5 +7,6 @@ use Rattle.debugfs_reports.proofs.report.render_chunks.Goals as goal
 
 pub returns : goal.returns
 returns c = λ records stand.
-    drafted c.into_chunks.result (λ chunks. text_of_chunks chunks.items) _ _ _ [] (shown_text c.args.report (booted_view c.args.booted.now) records)
+    drafted c.into_chunks.result (λ chunks. text_of_chunks chunks.items) _ _ _ []
+    (shown_text c.args.report (booted_view c.args.booted.now) records)
     c.into_chunks.ensures c.new-draft.ensures.chunks c.new-draft.ensures.text (c.in_ok-put_report.ensures records stand)
