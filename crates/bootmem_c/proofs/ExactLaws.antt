@@ -29,15 +29,7 @@ Has input [] = ⊥
 Has input (file ∷ files) = (file.input ≡ input) ⊎ ((place file.input < place input) × Has input files)
 
 has : (input : Input) → Has input input_files
-has inputs.ZeroPage = inl refl
-has inputs.Extension = inr (omega arith, inl refl)
-has inputs.CommandLine = inr (omega arith, inr (omega arith, inl refl))
-has inputs.Srat = inr (omega arith, inr (omega arith, inr (omega arith, inl refl)))
-has inputs.Script = inr (omega arith, inr (omega arith, inr (omega arith, inr (omega arith, inl refl))))
-has inputs.Pages = inr (omega arith, inr (omega arith, inr (omega arith, inr (omega arith, inr (omega arith, inl refl)))))
-has inputs.Slit = inr (omega arith, inr (omega arith, inr (omega arith, inr (omega arith, inr (omega arith, inr (omega arith, inl refl))))))
-has inputs.Efi = inr
-    (omega arith, inr (omega arith, inr (omega arith, inr (omega arith, inr (omega arith, inr (omega arith, inr (omega arith, inl refl)))))))
+has = grind arith
 
 -- a file's step refuses that file
 abbrev IsOfFile : Input → Result Given InputRefusal → Type 0
