@@ -1,5 +1,5 @@
 -- Lines of which a part was run, since the program's own memory ran out; and what all of them write, in parts.
-use Rattle.std.proofs.Common.{◌≡◌, ℕ, ◌+◌, List, [], ◌∷◌, ◌++◌, take, drop, Ok, refl, sym, ◌∙◌, ap, subst, append_assoc, inl, inr}
+use Rattle.std.proofs.Common.{◌≡◌, ℕ, ◌+◌, List, [], ◌∷◌, ◌++◌, take, drop, refl, sym, ◌∙◌, ap, subst, append_assoc}
 use Rattle.std.proofs.lemmas.List.{append-nil, take-append-drop}
 use Rattle.memblock_model.specs.declared.item.Item.{Item}
 use Rattle.script_reader.specs.declared.act.Line.{Line}
@@ -9,24 +9,22 @@ use Rattle.growth_model.specs.Ends.{IsCut}
 use Rattle.growth_model.specs.Bytes.{Filled, byte, Holds}
 use Rattle.growth_model.proofs.EndLaws.{joined-append}
 use Rattle.memblock_grow.specs.Contents.{Contents}
-use Rattle.early_script.specs.declared.outcome.Outcome.{Outcome}
 use Rattle.early_script.specs.declared.outcome.Answer.{Answer}
 use Rattle.early_script.specs.Ids.{Ids}
-use Rattle.early_script.specs.Acted.{State, Deed, IsAmid, Acts, with_fill, deed}
+use Rattle.early_script.specs.Acted.{State, Deed, IsAmid, deed}
 use Rattle.early_script.specs.Found.{state_of, bytes_in}
-use Rattle.early_script.specs.Stage.{LineStage, Reaches, EndsAmid, EndsUnanswered, RunsOut, GoesThrough, deed_at, after_line, after_lines}
+use Rattle.early_script.specs.Stage.{LineStage, Reaches, EndsAmid, GoesThrough, deed_at, after_line, after_lines}
 use Rattle.early_script.proofs.RunLaws.{ran-cut}
-use Rattle.early_script.proofs.StageLaws.{after_lines-append, reaches-line}
+use Rattle.early_script.proofs.StageLaws.{after_lines-append}
 
 -- amid the next line
 pub out-amid : (start : LineStage) (lines : List Line) (i : ℕ) (line : Line) (ids later : Ids) (m next : Contents)
-    (answers told : List Answer) → take (i + 1) lines ≡ take i lines ++ line ∷ [] →
+    (answers : List Answer) → take (i + 1) lines ≡ take i lines ++ line ∷ [] →
     Reaches (after_lines start (take i lines)) ids m answers →
     IsAmid (state_of ids m) (state_of later next) (deed (state_of ids m) (bytes_in m) line.act) →
     ((fills : List Filled) → Holds m.kernel m.journal.items fills (bytes_in m) →
-    Holds next.kernel next.journal.items fills (bytes_in next)) → told ≡ answers →
-    RunsOut start lines later next told
-out-amid start lines i line ids later m next answers told more reached amid holds same_told =
+    Holds next.kernel next.journal.items fills (bytes_in next)) → EndsAmid start lines later next answers
+out-amid start lines i line ids later m next answers more reached amid holds =
     let s : LineStage = after_lines start (take i lines) in
     let found : State = state_of ids m in
     let bytes : bytes_in m ≡ byte s.state.kernel s.state.items s.fills = λ j x.
@@ -35,25 +33,14 @@ out-amid start lines i line ids later m next answers told more reached amid hold
     ap (λ (t : State). deed t (bytes_in m) line.act) reached.state ∙ ap (λ (f : ℕ → ℕ). deed s.state f line.act) bytes in
     let here : IsAmid s.state (state_of later next) (deed found (bytes_in m) line.act) =
     subst (λ (t : State). IsAmid t (state_of later next) (deed found (bytes_in m) line.act)) reached.state amid in
-    let ends : EndsAmid s line later next = record {
+    record {
+      count = i;
+      line = line;
+      next = more;
+      answers_are = reached.answers_are;
       amid = subst (λ (d : Deed). IsAmid s.state (state_of later next) d) same here;
       holds = holds s.fills reached.holds;
-    } in
-    record { count = i; line = line; next = more; answers_are = same_told ∙ reached.answers_are; ends = inl ends }
-
--- behind it
-pub out-behind : (start : LineStage) (lines : List Line) (i : ℕ) (line : Line) (ids later : Ids) (m next : Contents)
-    (answers told : List Answer) (outcome : Outcome) → take (i + 1) lines ≡ take i lines ++ line ∷ [] →
-    Reaches (after_lines start (take i lines)) ids m answers →
-    Acts (Ok outcome) (state_of ids m) (state_of later next) (deed (state_of ids m) (bytes_in m) line.act) →
-    ((fills : List Filled) → Holds m.kernel m.journal.items fills (bytes_in m) →
-    Holds next.kernel next.journal.items (with_fill fills (deed (state_of ids m) (bytes_in m) line.act).fill) (bytes_in next)) →
-    told ≡ answers → RunsOut start lines later next told
-out-behind start lines i line ids later m next answers told outcome more reached acts holds same_told =
-    let s : LineStage = after_lines start (take i lines) in
-    let behind = reaches-line s ids later m next answers line outcome reached acts holds in
-    let ends : EndsUnanswered s line later next = record { state = behind.state; holds = behind.holds } in
-    record { count = i; line = line; next = more; answers_are = same_told ∙ reached.answers_are; ends = inr ends }
+    }
 
 -- one list goes on to another
 record Goes (first second : List Item) : Type 0 where
@@ -118,9 +105,9 @@ between-all start lines ids m answers reached =
     (goes-then start.state.items whole m.journal.items (lines-go start lines) (goes-same whole m.journal.items same))
     (goes-same m.journal.items whole (sym same))
 
--- and those of which a part was
+-- those of which a part was
 pub between-out : (start : LineStage) (lines : List Line) (ids : Ids) (m : Contents) (answers : List Answer) →
-    RunsOut start lines ids m answers →
+    EndsAmid start lines ids m answers →
     GoesThrough start.state.items m.journal.items (after_lines start lines).state.items
 between-out start lines ids m answers out =
     let so_far : LineStage = after_lines start (take out.count lines) in
@@ -130,21 +117,17 @@ between-out start lines ids m answers out =
     let goes_further : Goes next.state.items whole =
     subst (λ (s : LineStage). Goes next.state.items s.state.items) (sym (all-lines start lines out.count out.line out.next))
     (lines-go next (drop (out.count + 1) lines)) in
-    elim out.ends as (λ _. GoesThrough start.state.items m.journal.items whole) [
-      | inl ends ↦
-          let d = deed_at so_far out.line in
-          let change = d.change so_far.state.items in
-          let cut = ran-cut d.takes so_far.state.items m.journal.items change ends.amid.0 in
-          between start.state.items m.journal.items whole
-          (goes-then start.state.items so_far.state.items m.journal.items goes
-          (record { more = joined (take cut.count change.steps); on = cut.stands }))
-          (goes-then m.journal.items next.state.items whole (cut-goes-on so_far.state.items m.journal.items change cut)
-          goes_further)
-      | inr ends ↦
-          let same : m.journal.items ≡ next.state.items = ap (λ (s : State). s.items) ends.state in
-          between start.state.items m.journal.items whole
-          (goes-then start.state.items next.state.items m.journal.items
-          (goes-then start.state.items so_far.state.items next.state.items goes (line-goes so_far out.line))
-          (goes-same next.state.items m.journal.items same))
-          (goes-then m.journal.items next.state.items whole (goes-same m.journal.items next.state.items (sym same)) goes_further)
-    ]
+    let d = deed_at so_far out.line in
+    let change = d.change so_far.state.items in
+    let cut = ran-cut d.takes so_far.state.items m.journal.items change out.amid.0 in
+    between start.state.items m.journal.items whole
+    (goes-then start.state.items so_far.state.items m.journal.items goes
+    (record { more = joined (take cut.count change.steps); on = cut.stands }))
+    (goes-then m.journal.items next.state.items whole (cut-goes-on so_far.state.items m.journal.items change cut) goes_further)
+
+-- and those of which none was
+pub between-none : (start : LineStage) (lines : List Line) →
+    GoesThrough start.state.items start.state.items (after_lines start lines).state.items
+between-none start lines =
+    let items = start.state.items in
+    between items items (after_lines start lines).state.items (goes-same items items refl) (lines-go start lines)

@@ -1,6 +1,7 @@
 -- Lines one behind another, each with its answer.
-use Rattle.std.specs.Prelude.{◌≡◌, ◌⊎◌, ℕ, ◌+◌, if◌then◌else◌, List, [], ◌∷◌, ◌++◌, take}
+use Rattle.std.specs.Prelude.{◌≡◌, ◌⊎◌, ℕ, ◌+◌, ◌<◌, if◌then◌else◌, List, [], ◌∷◌, ◌++◌, length, take, Vec, vec_capacity}
 use Rattle.std.specs.List.{All}
+use Rattle.std.specs.declared.alloc.Global.{Global}
 use Rattle.memblock_model.specs.declared.item.Item.{Item}
 use Rattle.script_reader.specs.Script.{is_sections}
 use Rattle.script_reader.specs.declared.act.Line.{Line}
@@ -46,23 +47,29 @@ pub record Reaches (s : LineStage) (ids : Ids) (m : Contents) (answers : List An
   pub answers_are : answers ≡ s.answers
   pub holds : Holds m.kernel m.journal.items s.fills (bytes_in m)
 
--- the program's own memory ran out amid the line: some steps of its change stand, and nothing else of it
-pub record EndsAmid (s : LineStage) (line : Line) (ids : Ids) (m : Contents) : Type 0 where
-  pub amid : IsAmid s.state (state_of ids m) (deed_at s line)
-  pub holds : Holds m.kernel m.journal.items s.fills (bytes_in m)
+-- the program's own memory ran out before the first line: the answers had no room for those of all lines, and nothing has changed
+pub record EndsBefore (ids : Ids) (m : Contents) (answers : Vec Answer Global) (lines : List Line)
+    (later : Ids) (next : Contents) (told : Vec Answer Global) : Type 0 where
+  pub no_room : vec_capacity answers < length answers.items + length lines
+  pub ids_stay : later ≡ ids
+  pub memblock_stays : next ≡ m
+  pub answers_stay : told.items ≡ answers.items
 
--- or behind it, so that its answer alone isn't kept
-pub record EndsUnanswered (s : LineStage) (line : Line) (ids : Ids) (m : Contents) : Type 0 where
-  pub state : state_of ids m ≡ (after_line s line).state
-  pub holds : Holds m.kernel m.journal.items (after_line s line).fills (bytes_in m)
-
--- where it ran out: so many lines have been run and answered, and the program's own memory ran out amid the next or behind it
-pub record RunsOut (s : LineStage) (lines : List Line) (ids : Ids) (m : Contents) (answers : List Answer) : Type 0 where
+-- or amid a line, in the way of that line alone (`Acts`): so many lines before it have been run and answered
+pub record EndsAmid (s : LineStage) (lines : List Line) (ids : Ids) (m : Contents) (answers : List Answer) : Type 0 where
   pub count : ℕ
   pub line : Line
   pub next : take (count + 1) lines ≡ take count lines ++ line ∷ []
   pub answers_are : answers ≡ (after_lines s (take count lines)).answers
-  pub ends : EndsAmid (after_lines s (take count lines)) line ids m ⊎ EndsUnanswered (after_lines s (take count lines)) line ids m
+  pub amid : IsAmid (after_lines s (take count lines)).state (state_of ids m) (deed_at (after_lines s (take count lines)) line)
+  pub holds : Holds m.kernel m.journal.items (after_lines s (take count lines)).fills (bytes_in m)
+
+-- where it ran out among lines: before the first, or amid one of them, after whatever fills
+abbrev pub RunsOut : Ids → Contents → Vec Answer Global → List Line → Ids → Contents → Vec Answer Global → Type 0
+RunsOut ids m answers lines later next told =
+    EndsBefore ids m answers lines later next told
+    ⊎ ((fills : List Filled) → Holds m.kernel m.journal.items fills (bytes_in m) →
+    EndsAmid (stage_of ids m fills answers.items) lines later next told.items)
 
 -- the first list goes on to the second, and that to the third
 pub record GoesThrough (first second third : List Item) : Type 0 where

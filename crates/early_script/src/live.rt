@@ -9,7 +9,7 @@ ghost use Rattle.growth_model.specs.Bytes.{Filled, Follows, Holds};
 ghost use Rattle.memblock_grow.specs.Kept.{StayReady};
 
 use crate::outcome::Outcome;
-use crate::steps::{peek, refused, split, stand_still, touches};
+use crate::steps::{bytes_stand, peek, refused, split, touches};
 use bm_base::{Memory, Range};
 use memblock_grow::{Memblock, Request};
 use memblock_model::Owner;
@@ -88,7 +88,7 @@ impl Live {
         ensures bytes { Follows mb.old.kernel mb.old.journal.items mb.new.journal.items (bytes_in mb.old) (bytes_in mb.new) }
         ensures still_ready { StayReady mb.old.tables.store mb.new.tables.store }
     {
-        stand_still(mb);
+        bytes_stand(mb);
         // A live ID is taken, whether or not a place fits.
         if self.is_live(id) {
             return Ok(Outcome::Taken);
@@ -114,7 +114,7 @@ impl Live {
         ensures bytes { Follows mb.old.kernel mb.old.journal.items mb.new.journal.items (bytes_in mb.old) (bytes_in mb.new) }
         ensures still_ready { StayReady mb.old.tables.store mb.new.tables.store }
     {
-        stand_still(mb);
+        bytes_stand(mb);
         if self.is_live(id) {
             return Ok(Outcome::Taken);
         }
@@ -137,7 +137,7 @@ impl Live {
         ensures bytes { Follows mb.old.kernel mb.old.journal.items mb.new.journal.items (bytes_in mb.old) (bytes_in mb.new) }
         ensures still_ready { StayReady mb.old.tables.store mb.new.tables.store }
     {
-        stand_still(mb);
+        bytes_stand(mb);
         let range = match self.whole(mb, id) {
             Ok(range) => range,
             Err(outcome) => return Ok(outcome),
@@ -157,7 +157,7 @@ impl Live {
         ensures bytes { Follows mb.old.kernel mb.old.journal.items mb.new.journal.items (bytes_in mb.old) (bytes_in mb.new) }
         ensures still_ready { StayReady mb.old.tables.store mb.new.tables.store }
     {
-        stand_still(mb);
+        bytes_stand(mb);
         let range = match self.whole(mb, id) {
             Ok(range) => range,
             Err(outcome) => return Ok(outcome),
@@ -185,7 +185,7 @@ impl Live {
             (fills_by result (fill_deed (state_of self.old mb.old) id byte) fills) (bytes_in mb.new) }
         ensures still_ready { StayReady mb.old.tables.store mb.new.tables.store }
     {
-        stand_still(mb);
+        bytes_stand(mb);
         let range = match self.whole(mb, id) {
             Ok(range) => range,
             Err(outcome) => return Ok(outcome),

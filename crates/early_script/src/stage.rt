@@ -1,7 +1,7 @@
 //! The lines of a script one behind another, each with its answer. Where the sections are placed is one of the
 //! lines, but the crates that place them stand beside this one: so lines are split at it, and the boot runs both
 //! parts.
-ghost use Rattle.std.specs.Prelude.{◌≡◌, ℕ, List, OnOk, OnErr};
+ghost use Rattle.std.specs.Prelude.{◌≡◌, ℕ, ◌+◌, ◌<◌, ◌≤◌, List, [], ◌∷◌, ◌++◌, OnOk, OnErr, vec_len, vec_capacity};
 ghost use Rattle.std.specs.List.{All};
 ghost use Rattle.script_reader.specs.Forms.{HasBounds};
 ghost use Rattle.growth_model.specs.Sound.{HasBegun};
@@ -12,14 +12,14 @@ ghost use Rattle.early_script.specs.Found.{bytes_in};
 ghost use Rattle.early_script.specs.Stage.{GoesThrough, Reaches, RunsOut, PlaceOnce, stage_of, after_lines, before_sections, behind_sections};
 
 use crate::live::Live;
-use crate::outcome::Answer;
+use crate::outcome::{Answer, Outcome};
 use bm_base::Memory;
 use memblock_grow::Memblock;
 use script_reader::{Act, Line};
 
 /// Runs the lines in their order and appends what came of each. A refused line is answered like any
-/// other. For want of memory some of the lines, from the first on, have been run, and maybe a part of
-/// the next.
+/// other. The memory for all answers is taken before the first line, and where it is wanted nothing has
+/// changed; behind it `Memory` comes only as the answer of a line's own run, and those before are answered.
 pub fn run_lines(
     live: &mut Live,
     mb: &mut Memblock,
@@ -31,8 +31,7 @@ pub fn run_lines(
     requires bounds { All (λ l. HasBounds l.act) lines.now }
     ensures ok { OnOk result ((fills : List Filled) → Holds mb.old.kernel mb.old.journal.items fills (bytes_in mb.old) →
         Reaches (after_lines (stage_of live.old mb.old fills answers.old.items) lines.now) live.new mb.new answers.new.items) }
-    ensures memory { OnErr result ((fills : List Filled) → Holds mb.old.kernel mb.old.journal.items fills (bytes_in mb.old) →
-        RunsOut (stage_of live.old mb.old fills answers.old.items) lines.now live.new mb.new answers.new.items) }
+    ensures memory { OnErr result (RunsOut live.old mb.old answers.old lines.now live.new mb.new answers.new) }
     ensures journal { (fills : List Filled) → Holds mb.old.kernel mb.old.journal.items fills (bytes_in mb.old) →
         GoesThrough mb.old.journal.items mb.new.journal.items
         (after_lines (stage_of live.old mb.old fills answers.old.items) lines.now).state.items }
@@ -40,14 +39,25 @@ pub fn run_lines(
     ensures begun { HasBegun mb.new.journal.items }
     ensures still_ready { StayReady mb.old.tables.store mb.new.tables.store }
 {
+    answers.reserve(lines.len())?;
     for line in lines {
         let outcome = live.run_line(mb, line)?;
-        answers.push(Answer {
-            line: line.number,
-            outcome,
-        })?;
+        push_within_capacity(answers, line.number, outcome);
     }
     Ok(())
+}
+
+/// Appends what came of the line of that number. The list has room for it, so no memory is taken.
+fn push_within_capacity(answers: &mut Vec<Answer>, line: u32, outcome: Outcome)
+    requires { vec_len answers.old < vec_capacity answers.old }
+    ensures items { answers.new.items ≡ answers.old.items ++ record { line = line; outcome = outcome } ∷ [] }
+    ensures len { vec_len answers.new ≡ vec_len answers.old + 1 }
+    ensures capacity { vec_capacity answers.old ≤ vec_capacity answers.new }
+{
+    match answers.push(Answer { line, outcome }) {
+        Ok(()) => (),
+        Err(_) => unreachable!(),
+    }
 }
 
 /// The lines before the one that places the sections, or all where there is none, and those behind it.

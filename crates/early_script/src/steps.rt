@@ -61,7 +61,7 @@ pub fn peek(mb: &Memblock, at: u64, len: u32) -> Outcome
     ensures told { result ≡ outcomes.Bytes (record { items = bytes_at (bytes_in mb.now) at len }) }
     ensures still { Follows mb.now.kernel mb.now.journal.items mb.now.journal.items (bytes_in mb.now) (bytes_in mb.now) }
 {
-    stand_still(mb);
+    bytes_stand(mb);
     let mut room = [0u8; 64];
     mb.peek(at, &mut room[..len as usize]);
     let mut told = ArrayVec::from(room);
@@ -70,7 +70,7 @@ pub fn peek(mb: &Memblock, at: u64, len: u32) -> Outcome
 }
 
 /// A law: while nothing happens, each byte is as it was, and that is what the items say of it.
-pub fn stand_still(mb: &Memblock)
+pub fn bytes_stand(mb: &Memblock)
     requires { HasBegun mb.now.journal.items }
     ensures { Follows mb.now.kernel mb.now.journal.items mb.now.journal.items (bytes_in mb.now) (bytes_in mb.now) }
 {

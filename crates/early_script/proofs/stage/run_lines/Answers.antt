@@ -1,5 +1,5 @@
 -- The next line goes on from the stage that the lines before it reached.
-use Rattle.std.proofs.Common.{◌≡◌, ◌+◌, ◌<◌, List, [], ◌∷◌, ◌++◌, length, take, Result, Ok, Err, OnErr, refl, sym, ◌∙◌, ap, subst, arith}
+use Rattle.std.proofs.Common.{◌≡◌, ◌+◌, ◌<◌, List, [], ◌∷◌, ◌++◌, length, take, Result, Ok, Err, OnErr, sym, ◌∙◌, ap, subst, arith, inr}
 use Rattle.std.proofs.lemmas.List.{take_all, take_more}
 use Rattle.bm_base.specs.declared.memory.Memory.{Memory}
 use Rattle.script_reader.specs.declared.act.Line.{Line}
@@ -8,7 +8,7 @@ use Rattle.early_script.specs.declared.outcome.Answer.{Answer}
 use Rattle.early_script.specs.Acted.{State, deed}
 use Rattle.early_script.specs.Found.{state_of, bytes_in}
 use Rattle.early_script.specs.Stage.{LineStage, Reaches, stage_of, after_lines}
-use Rattle.early_script.proofs.OutLaws.{out-amid, out-behind, between-all, between-out}
+use Rattle.early_script.proofs.OutLaws.{out-amid, between-all, between-none, between-out}
 use Rattle.early_script.proofs.StageLaws.{after_lines-append, begun-along, reaches-line}
 use Rattle.early_script.proofs.stage.run_lines.Goals as goal
 
@@ -37,7 +37,12 @@ loop-line-preserved c =
           (sym (after_lines-append start so_far line) ∙ ap (λ (ls : List Line). after_lines start ls) (sym more)) next in
           subst (λ (told : List Answer). Reaches (after_lines start (take (i + 1) c.args.lines.now)) c.run_line.new.self
           c.run_line.new.mb told)
-          (sym c.in_ok-push.ensures.items) here;
+          (sym c.push_within_capacity.ensures.items) here;
+      room =
+          let room = c.loop-line.invariant.room in
+          let len = c.push_within_capacity.ensures.len in
+          let capacity = c.push_within_capacity.ensures.capacity in
+          omega (arith, room, len, capacity);
       ready = λ x h. c.run_line.ensures.still_ready x (c.loop-line.invariant.ready x h);
     }
 
@@ -46,6 +51,10 @@ on_err : (r : Result (Unit {0}) Memory) (P : Type 0) → P → OnErr r P
 on_err (Ok x) P holds = tt
 on_err (Err memory) P holds = holds
 
+pub returns-in_err-reserve-clause-journal : goal.returns-in_err-reserve-clause-journal
+returns-in_err-reserve-clause-journal c =
+    λ fills holds. between-none (stage_of c.args.live.now c.args.mb.now fills c.args.answers.now.items) c.args.lines.now
+
 pub returns-in_err-outcome-clause-memory : goal.returns-in_err-outcome-clause-memory
 returns-in_err-outcome-clause-memory c =
     let line = c.line-item.result in
@@ -53,10 +62,10 @@ returns-in_err-outcome-clause-memory c =
     let below : i < length c.args.lines.now = omega arith in
     let more = take_more c.args.lines.now i line below
     ∙ ap (λ (l : Line). take i c.args.lines.now ++ l ∷ []) (sym c.line-item.is) in
-    on_err c.from_residual.result _ (λ fills holds. out-amid (stage_of c.args.live.now c.args.mb.now fills c.args.answers.now.items)
-    c.args.lines.now i line c.loop-line.live c.run_line.new.self c.loop-line.mb c.run_line.new.mb c.loop-line.answers.items
+    on_err c.from_residual-in_err-outcome.result _ (inr (λ fills holds. out-amid (stage_of c.args.live.now c.args.mb.now fills
+    c.args.answers.now.items) c.args.lines.now i line c.loop-line.live c.run_line.new.self c.loop-line.mb c.run_line.new.mb
     c.loop-line.answers.items more (c.loop-line.invariant.reached fills holds) c.in_err-outcome.ensures.acts
-    c.in_err-outcome.ensures.holds refl)
+    c.in_err-outcome.ensures.holds))
 
 pub returns-in_err-outcome-clause-journal : goal.returns-in_err-outcome-clause-journal
 returns-in_err-outcome-clause-journal c =
@@ -69,34 +78,8 @@ returns-in_err-outcome-clause-journal c =
     let start = stage_of c.args.live.now c.args.mb.now fills c.args.answers.now.items in
     between-out start c.args.lines.now c.run_line.new.self c.run_line.new.mb c.loop-line.answers.items
     (out-amid start c.args.lines.now i line c.loop-line.live c.run_line.new.self c.loop-line.mb c.run_line.new.mb
-    c.loop-line.answers.items c.loop-line.answers.items more (c.loop-line.invariant.reached fills holds) c.in_err-outcome.ensures.acts
-    c.in_err-outcome.ensures.holds refl))
-
-pub returns-in_err-push-clause-memory : goal.returns-in_err-push-clause-memory
-returns-in_err-push-clause-memory c =
-    let line = c.line-item.result in
-    let i = c.loop-line.line-index in
-    let below : i < length c.args.lines.now = omega arith in
-    let more = take_more c.args.lines.now i line below
-    ∙ ap (λ (l : Line). take i c.args.lines.now ++ l ∷ []) (sym c.line-item.is) in
-    on_err c.from_residual-in_err-push.result _ (λ fills holds. out-behind (stage_of c.args.live.now c.args.mb.now fills
-    c.args.answers.now.items) c.args.lines.now i line c.loop-line.live c.run_line.new.self c.loop-line.mb c.run_line.new.mb
-    c.loop-line.answers.items c.push.new.self.items c.in_ok-outcome.outcome more (c.loop-line.invariant.reached fills holds)
-    c.in_ok-outcome.ensures.acts c.in_ok-outcome.ensures.holds c.in_err-push.ensures.items)
-
-pub returns-in_err-push-clause-journal : goal.returns-in_err-push-clause-journal
-returns-in_err-push-clause-journal c =
-    let line = c.line-item.result in
-    let i = c.loop-line.line-index in
-    let below : i < length c.args.lines.now = omega arith in
-    let more = take_more c.args.lines.now i line below
-    ∙ ap (λ (l : Line). take i c.args.lines.now ++ l ∷ []) (sym c.line-item.is) in
-    λ fills holds. (
-    let start = stage_of c.args.live.now c.args.mb.now fills c.args.answers.now.items in
-    between-out start c.args.lines.now c.run_line.new.self c.run_line.new.mb c.push.new.self.items
-    (out-behind start c.args.lines.now i line c.loop-line.live c.run_line.new.self c.loop-line.mb c.run_line.new.mb
-    c.loop-line.answers.items c.push.new.self.items c.in_ok-outcome.outcome more (c.loop-line.invariant.reached fills holds)
-    c.in_ok-outcome.ensures.acts c.in_ok-outcome.ensures.holds c.in_err-push.ensures.items))
+    c.loop-line.answers.items more (c.loop-line.invariant.reached fills holds) c.in_err-outcome.ensures.acts
+    c.in_err-outcome.ensures.holds))
 
 pub returns-clause-journal : goal.returns-clause-journal
 returns-clause-journal c =

@@ -1,5 +1,5 @@
 -- The lines so far have been run.
-use Rattle.std.proofs.Common.{◌≡◌, List, take}
+use Rattle.std.proofs.Common.{◌≡◌, ◌+◌, ◌≤◌, List, length, take, vec_len, vec_capacity}
 use Rattle.growth_model.specs.Sound.{HasBegun}
 use Rattle.growth_model.specs.Bytes.{Filled, Holds}
 use Rattle.memblock_grow.specs.Kept.{StayReady}
@@ -13,5 +13,6 @@ invariant-loop-line l = record {
   kernel : l.mb.kernel ≡ l.fn.mb.kernel;
   reached : (fills : List Filled) → Holds l.fn.mb.kernel l.fn.mb.journal.items fills (bytes_in l.fn.mb) →
       Reaches (after_lines (stage_of l.fn.live l.fn.mb fills l.fn.answers.items) (take l.line-index l.lines)) l.live l.mb l.answers.items;
+  room : vec_len l.answers + length l.lines ≤ vec_capacity l.answers + l.line-index;
   ready : StayReady l.fn.mb.tables.store l.mb.tables.store;
 }

@@ -5,7 +5,7 @@ use Rattle.growth_model.specs.Bytes.{table_for}
 use Rattle.growth_model.proofs.FollowLaws.{follows-none}
 use Rattle.growth_model.proofs.StandLaws.{spelled-lists}
 use Rattle.early_script.specs.Found.{bytes_in}
-use Rattle.early_script.proofs.steps.stand_still.Goals as goal
+use Rattle.early_script.proofs.steps.bytes_stand.Goals as goal
 
 pub returns : goal.returns
 returns c =
