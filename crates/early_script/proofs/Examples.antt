@@ -1,5 +1,7 @@
 -- Two live IDs in a small machine, and what each act makes of them.
-use Rattle.std.proofs.Common.{◌≡◌, ℕ, ◌<◌, ◌++◌, true, false, Some, None, List, [], ◌∷◌, refl, arith, lit<}
+use Rattle.std.proofs.Common.{◌≡◌, ℕ, suc, zero, ◌+◌, ◌<◌, ◌++◌, true, false, Some, None, List, [], ◌∷◌, length, take, get_or, refl, sym, ◌∙◌, ap, subst, arith, lit<, inl, inr}
+use Rattle.std.proofs.lemmas.Bool.{true≢false}
+use Rattle.std.proofs.lemmas.List.{take_all}
 use Rattle.bm_base.specs.Extent.{Extent}
 use Rattle.bm_base.specs.Each.{each_from, each_in}
 use Rattle.memblock_model.specs.declared.which.Which.TheVariants as which
@@ -10,13 +12,16 @@ use Rattle.memblock_model.specs.Items.{owner_of}
 use Rattle.script_reader.specs.declared.act.Act.TheVariants as acts
 use Rattle.script_reader.specs.declared.act.Line.{Line}
 use Rattle.growth_model.specs.Outcome.{Refused}
-use Rattle.growth_model.specs.Bytes.{Filled}
+use Rattle.growth_model.specs.Bytes.{Filled, Holds}
+use Rattle.memblock_grow.specs.Contents.{Contents}
 use Rattle.phys_store.specs.Bytes.{bytes_at}
+use Rattle.early_script.specs.declared.outcome.Answer.{Answer}
 use Rattle.early_script.specs.declared.outcome.Outcome.TheVariants as outcomes
 use Rattle.early_script.specs.Ids.{Ids, range_of, is_live, with_range, without, HaveBytes}
 use Rattle.early_script.specs.Owned.{is_owned, meets, touches}
-use Rattle.early_script.specs.Acted.{State, answers, alloc_at, reserve_deed, free_whole, free_deed, trim_deed, fill_whole, fill_deed, peek_deed, deed, answer_to, ids_to, state_by, answer_of, state_after, put_by, with_fill}
-use Rattle.early_script.specs.Stage.{after_lines}
+use Rattle.early_script.specs.Acted.{State, IsAmid, answers, alloc_at, reserve_deed, free_whole, free_deed, trim_deed, fill_whole, fill_deed, peek_deed, deed, answer_to, ids_to, state_by, answer_of, state_after, put_by, with_fill}
+use Rattle.early_script.specs.Found.{state_of, bytes_in}
+use Rattle.early_script.specs.Stage.{LineStage, EndsAmid, deed_at, after_lines}
 
 abbrev at_base : ℕ → ℕ → Extent
 at_base base size = record { base = base; size = size }
@@ -147,3 +152,41 @@ lines_example : after_lines (record { state = found; fills = []; answers = [] })
     }
 unfolding deed is_owned each_in each_from
 lines_example = refl
+
+-- memory may run out amid the one that fills, which takes some, and never amid the other, which only answers
+abbrev begun : LineStage
+begun = record { state = found; fills = []; answers = [] }
+
+fill_wants : (m : Contents) → state_of ids m ≡ found → Holds m.kernel m.journal.items [] (bytes_in m) →
+    EndsAmid begun (frees_none ∷ fills_first ∷ []) ids m (record { line = 8; outcome = outcomes.Unknown } ∷ [])
+unfolding deed is_owned each_in each_from
+fill_wants m same holds = record {
+  count = 1;
+  line = fills_first;
+  next = refl;
+  answers_are = refl;
+  amid = subst (λ (t : State). IsAmid found t (fill_deed found 1 7)) (sym same) (inr (refl, refl, refl), refl, refl);
+  holds = holds;
+}
+
+free_out : (later : State) (count : ℕ) (line : Line) → take (count + 1) (frees_none ∷ []) ≡ take count (frees_none ∷ []) ++ line ∷ [] →
+    IsAmid (after_lines begun (take count (frees_none ∷ []))).state later
+    (deed_at (after_lines begun (take count (frees_none ∷ []))) line) → ⊥
+unfolding deed
+free_out later zero line next amid =
+    let same : line ≡ frees_none = sym (ap (λ (ls : List Line). get_or ls 0 line) next) in
+    let here : IsAmid found later (answers found outcomes.Unknown) =
+    subst (λ (l : Line). IsAmid found later (deed_at begun l)) same amid in
+    elim here.0 as (λ _. ⊥) [
+      | inl cut ↦ let short : cut.count < 0 = cut.short in absurd (omega (arith, short))
+      | inr behind ↦ true≢false (sym behind.0)
+    ]
+free_out later (suc k) line next amid =
+    let all : take (suc k + 1) (frees_none ∷ []) ≡ frees_none ∷ [] = take_all (suc k + 1) (frees_none ∷ []) (omega arith) in
+    let before : take (suc k) (frees_none ∷ []) ≡ frees_none ∷ [] = take_all (suc k) (frees_none ∷ []) (omega arith) in
+    let two : 1 ≡ 2 = ap length (sym all ∙ next ∙ ap (λ (ls : List Line). ls ++ line ∷ []) before) in
+    absurd (omega (arith, two))
+
+free_wants_none : (m : Contents) (later : Ids) (answers : List Answer) → ¬ EndsAmid begun (frees_none ∷ []) later m answers
+unfolding deed
+free_wants_none m later answers ends = free_out (state_of later m) ends.count ends.line ends.next ends.amid

@@ -55,7 +55,7 @@ pub record EndsBefore (ids : Ids) (m : Contents) (answers : Vec Answer Global) (
   pub memblock_stays : next ≡ m
   pub answers_stay : told.items ≡ answers.items
 
--- or amid a line, in the way of that line alone (`Acts`): so many lines before it have been run and answered
+-- or amid a line, as running that line alone may end (`Acts`); so many lines before it have been run and answered
 pub record EndsAmid (s : LineStage) (lines : List Line) (ids : Ids) (m : Contents) (answers : List Answer) : Type 0 where
   pub count : ℕ
   pub line : Line
