@@ -1,10 +1,11 @@
 -- Small tables, computed: what is kept, where a table may go, and whether it is full.
-use Rattle.std.proofs.Common.{◌≡◌, ℕ, ◌+◌, ◌*◌, ◌^◌, ◌<◌, ◌≤◌, ◌%◌, Bool, true, false, if◌then◌else◌, Option, Some, None, List, [], ◌∷◌, refl, sym, ◌∙◌, ap, inl, inr, arith}
+use Rattle.std.proofs.Common.{◌≡◌, ℕ, ◌+◌, ◌*◌, ◌^◌, ◌<◌, ◌≤◌, ◌%◌, Bool, true, false, ◌||◌, if◌then◌else◌, Option, Some, None, List, [], ◌∷◌, length, refl, sym, ◌∙◌, ap, inl, inr, arith}
 use Rattle.std.proofs.lemmas.Bool.{cases_Bool, true≢false}
+use Rattle.std.proofs.Math.Bool.{or-false}
 use Rattle.std.proofs.lemmas.Bool.Decides.{nat_tests}
 use Rattle.std.specs.Option.{option_map, option_or}
 use Rattle.bm_base.specs.Extent.{Extent, covers}
-use Rattle.phys_store.specs.Bytes.{Stored, byte_of}
+use Rattle.phys_store.specs.Bytes.{Stored, byte_of, is_ready}
 use Rattle.address_runs.specs.Runs.{value_at}
 use Rattle.memblock_model.specs.declared.which.Which.{Which}
 use Rattle.memblock_model.specs.declared.which.Which.TheVariants as which
@@ -26,6 +27,7 @@ use Rattle.memblock_grow.specs.declared.aim.Aim.{Aim}
 use Rattle.memblock_grow.specs.Contents.{Contents as Whole}
 use Rattle.memblock_grow.specs.declared.more.More.TheVariants as more
 use Rattle.memblock_grow.specs.Kept.{AreKept, IsMemblock, IsKept, AllowsClaim, AllowsFree, Keeps, AreTold, StayReady, aimed}
+use Rattle.memblock_grow.specs.Prepared.{is_grown_over, Prepares}
 use Rattle.memblock_grow.specs.Places.{KnowsMirrors, top_of, mirrored_of, best_of, frames_between, frames_beside, left_frames, first_of}
 use Rattle.memblock_grow.specs.More.{more_by, more_in, HasRoom, EndsBefore}
 use Rattle.memblock_grow.proofs.PlaceLaws.{best_in-large}
@@ -132,6 +134,25 @@ nothing_was_ready x ready = cc
 
 ready_no_more : StayReady (record { base = 5; bytes = 7 ∷ [] } ∷ []) [] → ⊥
 ready_no_more stays = let ready = stays 5 refl in cc
+
+-- a growth to room for 256 records prepares two whole frames, and no byte beside them
+abbrev a_growth : List Item
+a_growth = item.Grown which.Reserved 8192 256 ∷ []
+
+frames_are_prepared : (bytes : List ℕ) → length bytes ≡ 8192 → Prepares [] a_growth [] (record { base = 8192; bytes = bytes } ∷ [])
+frames_are_prepared bytes long = record {
+  more = a_growth;
+  goes_on = refl;
+  each = λ x. ap (λ (n : ℕ). covers (record { base = 8192; size = n }) x || false) long
+      ∙ sym (or-false (covers (record { base = 8192; size = 8192 }) x || false));
+}
+
+no_byte_beside_them : (t : List Stored) → Prepares [] a_growth [] t → is_ready t 16384 ≡ false
+no_byte_beside_them t p = p.each 16384 ∙ ap (λ (is : List Item). is_grown_over is 16384 || false) (sym p.goes_on)
+
+-- a claim alone prepares nothing
+nothing_by_a_claim : (s t : List Stored) (x : ℕ) → Prepares [] (item.Claim image owner.Kernel ∷ []) s t → is_ready t x ≡ is_ready s x
+nothing_by_a_claim s t x p = p.each x ∙ ap (λ (is : List Item). is_grown_over is x || is_ready s x) (sym p.goes_on)
 
 -- 64 KiB of memory, nothing claimed
 abbrev plain : Contents

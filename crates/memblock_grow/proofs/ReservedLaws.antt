@@ -1,8 +1,8 @@
 -- The growth of the reserved table: where it goes, what it writes, and what it makes of the tables and of each byte.
-use Rattle.std.proofs.Common.{◌≡◌, ℕ, ◌+◌, ◌-◌, ◌*◌, ◌^◌, ◌<◌, ◌≤◌, Option, Some, None, List, [], ◌∷◌, ◌++◌, length, Result, Ok, Err, IsErrAnd, refl, sym, ◌∙◌, ap, subst, append_assoc, arith}
+use Rattle.std.proofs.Common.{◌≡◌, ℕ, ◌+◌, ◌-◌, ◌*◌, ◌^◌, ◌<◌, ◌≤◌, ◌||◌, Option, Some, None, List, [], ◌∷◌, ◌++◌, length, Result, Ok, Err, IsErrAnd, refl, sym, ◌∙◌, ap, subst, append_assoc, arith}
 use Rattle.std.specs.Option.{option_map}
-use Rattle.bm_base.specs.Extent.{Extent, end_of}
-use Rattle.phys_store.specs.Bytes.{byte_of}
+use Rattle.bm_base.specs.Extent.{Extent, end_of, covers}
+use Rattle.phys_store.specs.Bytes.{Stored, byte_of, is_ready}
 use Rattle.address_runs.specs.Runs.{value_at}
 use Rattle.address_runs.specs.Edits.{covered, uncovered}
 use Rattle.memblock_model.specs.declared.which.Which.{Which}
@@ -31,10 +31,12 @@ use Rattle.growth_model.proofs.FoundLaws.{beside-new, found-apart}
 use Rattle.growth_model.proofs.FollowLaws.{follows-still, follows-item, follows-grown, follows-then}
 use Rattle.memblock_grow.specs.declared.aim.Aim.{Aim}
 use Rattle.memblock_grow.specs.Kept.{AreKept, AreTold, Keeps}
+use Rattle.memblock_grow.specs.Prepared.{Prepares}
 use Rattle.memblock_grow.specs.Places.{frames_beside, left_frames}
 use Rattle.memblock_grow.proofs.KeptLaws.{values-are, room-is, few-kept, few-covered, kept-same, kept-claim, kept-free, kept-grown}
 use Rattle.memblock_grow.proofs.PlaceLaws.{IsPlaceOf, mapped-some, mapped-none, beside-is, left-is}
 use Rattle.memblock_grow.proofs.ChangeLaws.{handed}
+use Rattle.memblock_grow.proofs.PreparedLaws.{prepares-growth, prepares-item}
 
 pub room-least : (w : Which) (kernel : Extent) (items : List Item) (t : Contents) (at : Aim) → AreKept kernel items t at → 128 ≤ room_in w t
 room-least w kernel items t at kept =
@@ -388,3 +390,14 @@ pub still-bytes : (kernel : Extent) (items longer : List Item) (t p : Contents) 
 still-bytes kernel items longer t p at none same kept spelled =
     subst (λ (l : List Item). Follows kernel items l (byte_of t.store) (byte_of p.store)) (sym none)
     (follows-still kernel items t.memory t.reserved (byte_of t.store) (byte_of p.store) kept.memory kept.reserved spelled same)
+
+-- the move prepares the frames of the place, and the claim of them nothing
+pub prepares-moved : (items longer : List Item) (base room : ℕ) (place : Extent) (s t : List Stored)
+    → longer ≡ moved_items items base room place → base ≡ place.base → room ≡ 2 * room_of which.Reserved items
+    → place ≡ frames_at place.base (48 * room_of which.Reserved items)
+    → ((x : ℕ) → is_ready t x ≡ (covers place x || is_ready s x)) → Prepares items longer s t
+prepares-moved items longer base room place s t is here twice frames each =
+    let g : Item = item.Grown which.Reserved base room in
+    prepares-item items (items ++ g ∷ []) longer (item.Claim place (owner.Table which.Reserved)) s t t
+    (prepares-growth items (items ++ g ∷ []) which.Reserved (room_of which.Reserved items) base room place s t refl here twice frames each)
+    is (λ x. refl) (λ x. refl)

@@ -2,14 +2,14 @@
 ghost use Rattle.std.specs.Prelude.{◌≡◌, ℕ, ◌+◌, ◌*◌, ◌^◌, ◌<◌, ◌≤◌, Some, length};
 ghost use Rattle.address_runs.specs.Runs.{value_at};
 ghost use Rattle.address_runs.specs.Edits.{covered, uncovered, relabelled};
-ghost use Rattle.phys_store.specs.Bytes.{byte_of, AreReady};
+ghost use Rattle.phys_store.specs.Bytes.{byte_of, is_ready, AreReady};
 ghost use Rattle.memblock_model.specs.Labels.{plain_label, with_node, with_mirror};
 ghost use Rattle.memblock_model.specs.Items.{trimmed};
 ghost use Rattle.memblock_model.specs.Tables.{records_for, pieces};
 ghost use Rattle.bm_base.specs.Extent.{end_of};
 ghost use Rattle.memblock_ranges.specs.Tables.{table_in, other_in, records_in, room_in, Overlaps, StandsIn};
 ghost use Rattle.growth_model.specs.Bytes.{shown_by, left_by};
-ghost use Rattle.memblock_grow.specs.Kept.{AreTold, StayReady};
+ghost use Rattle.memblock_grow.specs.Kept.{AreTold};
 
 use bm_base::Range;
 use memblock_model::Which;
@@ -34,7 +34,7 @@ pub fn cover(tables: &mut Tables, which: Which, range: Range)
     } }
     ensures other { other_in which tables.new ≡ other_in which tables.old }
     ensures bytes { AreTold tables.old tables.new }
-    ensures still_ready { StayReady tables.old.store tables.new.store }
+    ensures ready { (x : ℕ) → is_ready tables.new.store x ≡ is_ready tables.old.store x }
     ensures within { end_of range < 2 ^ 64 }
 {
     let _fact = range.end(); // for its facts alone
@@ -50,7 +50,7 @@ pub fn uncover(tables: &mut Tables, range: Range)
     } }
     ensures memory { tables.new.memory ≡ tables.old.memory }
     ensures bytes { AreTold tables.old tables.new }
-    ensures still_ready { StayReady tables.old.store tables.new.store }
+    ensures ready { (x : ℕ) → is_ready tables.new.store x ≡ is_ready tables.old.store x }
     ensures within { end_of range < 2 ^ 64 }
 {
     let _fact = range.end(); // for its facts alone
@@ -67,7 +67,7 @@ pub fn relabel(tables: &mut Tables, range: Range, node: u32)
     } }
     ensures reserved { tables.new.reserved ≡ tables.old.reserved }
     ensures bytes { AreTold tables.old tables.new }
-    ensures still_ready { StayReady tables.old.store tables.new.store }
+    ensures ready { (x : ℕ) → is_ready tables.new.store x ≡ is_ready tables.old.store x }
     ensures within { end_of range < 2 ^ 64 }
 {
     let _fact = range.end(); // for its facts alone
@@ -83,7 +83,7 @@ pub fn mirror(tables: &mut Tables, range: Range)
     } }
     ensures reserved { tables.new.reserved ≡ tables.old.reserved }
     ensures bytes { AreTold tables.old tables.new }
-    ensures still_ready { StayReady tables.old.store tables.new.store }
+    ensures ready { (x : ℕ) → is_ready tables.new.store x ≡ is_ready tables.old.store x }
     ensures within { end_of range < 2 ^ 64 }
 {
     let _fact = range.end(); // for its facts alone
@@ -96,7 +96,7 @@ pub fn trim(tables: &mut Tables)
     ensures memory { tables.new.memory ≡ record tables.old.memory { records = records_for (trimmed (value_at tables.old.memory.records)) } }
     ensures reserved { tables.new.reserved ≡ tables.old.reserved }
     ensures bytes { AreTold tables.old tables.new }
-    ensures still_ready { StayReady tables.old.store tables.new.store }
+    ensures ready { (x : ℕ) → is_ready tables.new.store x ≡ is_ready tables.old.store x }
 {
     tables.trim();
     look(tables);
@@ -111,7 +111,7 @@ pub fn relocate(tables: &mut Tables, which: Which, place: u64)
     ensures other { other_in which tables.new ≡ other_in which tables.old }
     ensures bytes { (x : ℕ) → byte_of tables.new.store x ≡
         shown_by tables.new.memory tables.new.reserved x (left_by (table_in which tables.old) x (byte_of tables.old.store x)) }
-    ensures still_ready { StayReady tables.old.store tables.new.store }
+    ensures ready { (x : ℕ) → is_ready tables.new.store x ≡ is_ready tables.old.store x }
 {
     tables.relocate(which, place);
     look(tables);

@@ -6,14 +6,15 @@
 //!
 //! A call that takes memory of the program's own may want it for any of its steps. It ends then before that step, with all of
 //! that true.
-ghost use Rattle.std.specs.Prelude.{◌≡◌, ℕ, ◌+◌, ◌-◌, ◌*◌, ◌^◌, ◌<◌, ◌≤◌, ◌↔◌, Bool, false, max, Some, [], ◌∷◌, ◌++◌, length, OnOk, OnErr, IfOk, IsOk, IsTrue};
+ghost use Rattle.std.specs.Prelude.{◌≡◌, ℕ, ◌+◌, ◌-◌, ◌*◌, ◌^◌, ◌<◌, ◌≤◌, ◌↔◌, ◌||◌, Bool, false, max, Some, [], ◌∷◌, ◌++◌, length, OnOk, OnErr, IfOk, IsOk, IsTrue};
+ghost use Rattle.bm_base.specs.Extent.{covers};
 ghost use Rattle.address_runs.specs.Edits.{NothingFrom};
-ghost use Rattle.phys_store.specs.Bytes.{AreReady, byte_of, bytes_at};
+ghost use Rattle.phys_store.specs.Bytes.{AreReady, byte_of, is_ready, bytes_at};
 ghost use Rattle.memblock_model.specs.declared.which.Which.{Which as AnyWhich};
 ghost use Rattle.memblock_model.specs.declared.which.Which.TheVariants as tables_of;
 ghost use Rattle.memblock_model.specs.declared.item.Item.TheVariants as item;
 ghost use Rattle.memblock_model.specs.Items.{memory_of};
-ghost use Rattle.memblock_model.specs.Tables.{records_of, room_of, place_of};
+ghost use Rattle.memblock_model.specs.Tables.{records_of, room_of, place_of, live};
 ghost use Rattle.memblock_model.specs.Search.{best};
 ghost use Rattle.memblock_ranges.specs.Spelling.{spelled_table};
 ghost use Rattle.memblock_ranges.specs.Tables.{head_of, StandsIn, HaveNoNode};
@@ -23,6 +24,7 @@ ghost use Rattle.growth_model.specs.Request.{place_for};
 ghost use Rattle.growth_model.specs.Sound.{Sound, IsImage, HasBegun, IsAway, MayClaim};
 ghost use Rattle.growth_model.specs.Bytes.{table_for, AreSpelled, byte as byte_by, put, Follows};
 ghost use Rattle.memblock_grow.specs.Kept.{StayReady};
+ghost use Rattle.memblock_grow.specs.Prepared.{Prepares};
 ghost use Rattle.memblock_grow.specs.Touch.{TouchesTable};
 
 use crate::aim::Aim;
@@ -60,12 +62,14 @@ impl Model for Memblock {
 
 impl Memblock {
     /// A machine of which nothing is known yet but where the kernel's image lies: both tables are empty, in the image's last
-    /// two frames, the limit is 0, and a search goes from the highest address down.
+    /// two frames, and no byte beside theirs is prepared; the limit is 0, and a search goes from the highest address down.
     pub fn new(alloc: Global, kernel: Range) -> Result<Memblock, Memory>
         requires { IsImage kernel }
         ensures kernel { IfOk result (λ m. m.kernel ≡ kernel) }
         ensures journal { IfOk result (λ m. m.journal ≡ record { items = []; spare = 0 }) }
         ensures bytes { IfOk result (λ m. (x : ℕ) → byte_of m.tables.store x ≡ byte_by kernel [] [] x) }
+        ensures prepared { IfOk result (λ m. (x : ℕ) → is_ready m.tables.store x
+            ≡ (covers (live tables_of.Reserved kernel []) x || covers (live tables_of.Memory kernel []) x)) }
     {
         let journal = Journal::new(alloc);
         let tables = Tables::new(alloc, kernel)?;
@@ -100,6 +104,7 @@ impl Memblock {
         ensures kernel { self.new.kernel ≡ self.old.kernel }
         ensures bytes { Follows self.old.kernel self.old.journal.items self.new.journal.items
             (byte_of self.old.tables.store) (byte_of self.new.tables.store) }
+        ensures prepared { Prepares self.old.journal.items self.new.journal.items self.old.tables.store self.new.tables.store }
         ensures still_ready { StayReady self.old.tables.store self.new.tables.store }
         ensures ready { 0 < self.old.journal.spare →
             is_full_by tables_of.Reserved (new_in tables_of.Reserved range) self.old.journal.items ≡ false →
@@ -123,6 +128,7 @@ impl Memblock {
         ensures kernel { self.new.kernel ≡ self.old.kernel }
         ensures bytes { Follows self.old.kernel self.old.journal.items self.new.journal.items
             (byte_of self.old.tables.store) (byte_of self.new.tables.store) }
+        ensures prepared { Prepares self.old.journal.items self.new.journal.items self.old.tables.store self.new.tables.store }
         ensures still_ready { StayReady self.old.tables.store self.new.tables.store }
         ensures ready { 0 < self.old.journal.spare → is_full_by tables_of.Reserved two self.old.journal.items ≡ false →
             IsOk result × (self.new.journal.spare ≡ self.old.journal.spare - 1) }
@@ -143,6 +149,7 @@ impl Memblock {
         ensures kernel { self.new.kernel ≡ self.old.kernel }
         ensures bytes { Follows self.old.kernel self.old.journal.items self.new.journal.items
             (byte_of self.old.tables.store) (byte_of self.new.tables.store) }
+        ensures prepared { Prepares self.old.journal.items self.new.journal.items self.old.tables.store self.new.tables.store }
         ensures still_ready { StayReady self.old.tables.store self.new.tables.store }
         ensures ready { 0 < self.old.journal.spare →
             is_full_by tables_of.Memory (new_in tables_of.Memory range) self.old.journal.items ≡ false →
@@ -165,6 +172,7 @@ impl Memblock {
         ensures kernel { self.new.kernel ≡ self.old.kernel }
         ensures bytes { Follows self.old.kernel self.old.journal.items self.new.journal.items
             (byte_of self.old.tables.store) (byte_of self.new.tables.store) }
+        ensures prepared { Prepares self.old.journal.items self.new.journal.items self.old.tables.store self.new.tables.store }
         ensures still_ready { StayReady self.old.tables.store self.new.tables.store }
         ensures ready { 0 < self.old.journal.spare → is_full_by tables_of.Memory two self.old.journal.items ≡ false →
             IsOk result × (self.new.journal.spare ≡ self.old.journal.spare - 1) }
@@ -185,6 +193,7 @@ impl Memblock {
         ensures kernel { self.new.kernel ≡ self.old.kernel }
         ensures bytes { Follows self.old.kernel self.old.journal.items self.new.journal.items
             (byte_of self.old.tables.store) (byte_of self.new.tables.store) }
+        ensures prepared { Prepares self.old.journal.items self.new.journal.items self.old.tables.store self.new.tables.store }
         ensures still_ready { StayReady self.old.tables.store self.new.tables.store }
         ensures ready { 0 < self.old.journal.spare → is_full_by tables_of.Memory two self.old.journal.items ≡ false →
             IsOk result × (self.new.journal.spare ≡ self.old.journal.spare - 1) }
@@ -206,6 +215,7 @@ impl Memblock {
         ensures kernel { self.new.kernel ≡ self.old.kernel }
         ensures bytes { Follows self.old.kernel self.old.journal.items self.new.journal.items
             (byte_of self.old.tables.store) (byte_of self.new.tables.store) }
+        ensures prepared { (x : ℕ) → is_ready self.new.tables.store x ≡ is_ready self.old.tables.store x }
         ensures still_ready { StayReady self.old.tables.store self.new.tables.store }
     {
         self.journal.push(Item::Trim)?;
@@ -221,6 +231,7 @@ impl Memblock {
         ensures err { OnErr result (self.new ≡ self.old) }
         ensures memory { OnErr result (self.old.journal.spare ≡ 0) }
         ensures kernel { self.new.kernel ≡ self.old.kernel }
+        ensures tables { self.new.tables ≡ self.old.tables }
         ensures bytes { Follows self.old.kernel self.old.journal.items self.new.journal.items
             (byte_of self.old.tables.store) (byte_of self.new.tables.store) }
         ensures still_ready { StayReady self.old.tables.store self.new.tables.store }
@@ -238,6 +249,7 @@ impl Memblock {
         ensures err { OnErr result (self.new ≡ self.old) }
         ensures memory { OnErr result (self.old.journal.spare ≡ 0) }
         ensures kernel { self.new.kernel ≡ self.old.kernel }
+        ensures tables { self.new.tables ≡ self.old.tables }
         ensures bytes { Follows self.old.kernel self.old.journal.items self.new.journal.items
             (byte_of self.old.tables.store) (byte_of self.new.tables.store) }
         ensures still_ready { StayReady self.old.tables.store self.new.tables.store }
@@ -271,6 +283,7 @@ impl Memblock {
         ensures kernel { self.new.kernel ≡ self.old.kernel }
         ensures bytes { Follows self.old.kernel self.old.journal.items self.new.journal.items
             (byte_of self.old.tables.store) (byte_of self.new.tables.store) }
+        ensures prepared { Prepares self.old.journal.items self.new.journal.items self.old.tables.store self.new.tables.store }
         ensures still_ready { StayReady self.old.tables.store self.new.tables.store }
         ensures ready { (place : ℕ) → place_for request.now self.old.journal.items ≡ Some place → 0 < self.old.journal.spare →
             is_full_by tables_of.Reserved (new_in tables_of.Reserved (record { base = place; size = request.now.size }))
@@ -283,7 +296,7 @@ impl Memblock {
         request::allocate(&mut self.journal, &mut self.tables, aim, request, owner)
     }
 
-    /// Writes the byte to each address of the range, which meets no table. After `Memory` each byte is as before, and some
+    /// Writes the byte to each address of the range, which meets no table. After `Memory` all is as before, and some
     /// address of the range wasn't prepared.
     pub fn fill(&mut self, range: Range, byte: u8) -> Result<(), Memory>
         requires { IsAway self.old.kernel range self.old.journal.items }
@@ -291,7 +304,8 @@ impl Memblock {
         ensures journal { self.new.journal ≡ self.old.journal }
         ensures ok { OnOk result ((x : ℕ) → byte_of self.new.tables.store x ≡
             put (record { range = range; byte = byte; at = length self.old.journal.items }) x (byte_of self.old.tables.store x)) }
-        ensures err { OnErr result ((x : ℕ) → byte_of self.new.tables.store x ≡ byte_of self.old.tables.store x) }
+        ensures err { OnErr result (self.new ≡ self.old) }
+        ensures prepared { OnOk result ((x : ℕ) → is_ready self.new.tables.store x ≡ (covers range x || is_ready self.old.tables.store x)) }
         ensures still_ready { StayReady self.old.tables.store self.new.tables.store }
         ensures memory { OnErr result (AreReady self.old.tables.store range.base range.size → ⊥) }
     {

@@ -8,7 +8,8 @@ ghost use Rattle.growth_model.specs.Outcome.{if_due};
 ghost use Rattle.growth_model.specs.Growth.{memory_growth, grown, added, noded, mirrored, new_in, two, leave as left_by, is_full as is_full_by};
 ghost use Rattle.growth_model.specs.Ends.{Ends};
 ghost use Rattle.growth_model.specs.Sound.{HasBegun};
-ghost use Rattle.memblock_grow.specs.Kept.{IsKept, AllowsFree, Keeps, KeepsBytes, StayReady};
+ghost use Rattle.memblock_grow.specs.Kept.{IsKept, AllowsFree, Keeps, KeepsBytes};
+ghost use Rattle.memblock_grow.specs.Prepared.{Prepares};
 ghost use Rattle.memblock_grow.specs.More.{more_by, HasRoom, EndsBefore};
 
 use crate::aim::Aim;
@@ -34,7 +35,7 @@ fn leave(
     ensures ends { Ends result journal.old.items journal.new.items (left_by old) }
     ensures kept { Keeps journal.old.items tables.old journal.new.items tables.new aim }
     ensures bytes { KeepsBytes journal.old.items tables.old journal.new.items tables.new aim }
-    ensures still_ready { StayReady tables.old.store tables.new.store }
+    ensures prepared { Prepares journal.old.items journal.new.items tables.old.store tables.new.store }
     ensures memory { tables.new.memory ≡ tables.old.memory }
 {
     let Some(range) = old else { return Ok(()) };
@@ -51,7 +52,7 @@ fn grow_memory(journal: &mut Journal, tables: &mut Tables, aim: Aim) -> Result<(
     ensures ends { Ends result journal.old.items journal.new.items memory_growth }
     ensures kept { Keeps journal.old.items tables.old journal.new.items tables.new aim }
     ensures bytes { KeepsBytes journal.old.items tables.old journal.new.items tables.new aim }
-    ensures still_ready { StayReady tables.old.store tables.new.store }
+    ensures prepared { Prepares journal.old.items journal.new.items tables.old.store tables.new.store }
 {
     let head = tables.head(Which::Memory);
     let Some(place) = place_between(journal, tables, aim.upward, head.room, 0, aim.limit) else {
@@ -62,9 +63,9 @@ fn grow_memory(journal: &mut Journal, tables: &mut Tables, aim: Aim) -> Result<(
     };
     let old = left_place(head);
     claim(journal, tables, aim, place, Owner::Table(Which::Memory))?;
-    // Behind the claim: where that is refused at once, no step is left that may want memory.
-    tables.prepare(place)?;
+    // Behind the claim: where that is refused at once, no step is left that may want memory. Nothing is prepared that no item will tell of.
     journal.ready(1)?;
+    tables.prepare(place)?;
     relocate(tables, Which::Memory, place.base);
     journal.push_ready(Item::Grown {
         which: Which::Memory,
@@ -87,7 +88,7 @@ fn grow_memory_once(
         (if_due (is_full_by tables_of.Memory (more_by tables_of.Memory more.now)) memory_growth) }
     ensures kept { Keeps journal.old.items tables.old journal.new.items tables.new aim }
     ensures bytes { KeepsBytes journal.old.items tables.old journal.new.items tables.new aim }
-    ensures still_ready { StayReady tables.old.store tables.new.store }
+    ensures prepared { Prepares journal.old.items journal.new.items tables.old.store tables.new.store }
     ensures within { EndsBefore more.now }
     ensures idle { HasRoom more.now tables.old.memory →
         IsOk result × (journal.new ≡ journal.old) × (tables.new ≡ tables.old) }
@@ -112,7 +113,7 @@ fn make_memory_room(
         (grown tables_of.Memory (more_by tables_of.Memory more.now) memory_growth) }
     ensures kept { Keeps journal.old.items tables.old journal.new.items tables.new aim }
     ensures bytes { KeepsBytes journal.old.items tables.old journal.new.items tables.new aim }
-    ensures still_ready { StayReady tables.old.store tables.new.store }
+    ensures prepared { Prepares journal.old.items journal.new.items tables.old.store tables.new.store }
     ensures room { OnOk result (HasRoom more.now tables.new.memory) }
     ensures idle { HasRoom more.now tables.old.memory →
         IsOk result × (journal.new ≡ journal.old) × (tables.new ≡ tables.old) }
@@ -135,7 +136,7 @@ pub fn add(
     ensures ends { Ends result journal.old.items journal.new.items (added range) }
     ensures kept { Keeps journal.old.items tables.old journal.new.items tables.new aim }
     ensures bytes { KeepsBytes journal.old.items tables.old journal.new.items tables.new aim }
-    ensures still_ready { StayReady tables.old.store tables.new.store }
+    ensures prepared { Prepares journal.old.items journal.new.items tables.old.store tables.new.store }
     ensures ready { 0 < journal.old.spare → is_full_by tables_of.Memory (new_in tables_of.Memory range) journal.old.items ≡ false →
         IsOk result × (journal.new.spare ≡ journal.old.spare - 1) }
 {
@@ -160,7 +161,7 @@ pub fn set_node(
     ensures ends { Ends result journal.old.items journal.new.items (noded range node) }
     ensures kept { Keeps journal.old.items tables.old journal.new.items tables.new aim }
     ensures bytes { KeepsBytes journal.old.items tables.old journal.new.items tables.new aim }
-    ensures still_ready { StayReady tables.old.store tables.new.store }
+    ensures prepared { Prepares journal.old.items journal.new.items tables.old.store tables.new.store }
     ensures ready { 0 < journal.old.spare → is_full_by tables_of.Memory two journal.old.items ≡ false →
         IsOk result × (journal.new.spare ≡ journal.old.spare - 1) }
 {
@@ -183,7 +184,7 @@ pub fn set_mirror(
     ensures ends { Ends result journal.old.items journal.new.items (mirrored range) }
     ensures kept { Keeps journal.old.items tables.old journal.new.items tables.new aim }
     ensures bytes { KeepsBytes journal.old.items tables.old journal.new.items tables.new aim }
-    ensures still_ready { StayReady tables.old.store tables.new.store }
+    ensures prepared { Prepares journal.old.items journal.new.items tables.old.store tables.new.store }
     ensures ready { 0 < journal.old.spare → is_full_by tables_of.Memory two journal.old.items ≡ false →
         IsOk result × (journal.new.spare ≡ journal.old.spare - 1) }
 {

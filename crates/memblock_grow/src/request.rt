@@ -9,7 +9,8 @@ ghost use Rattle.growth_model.specs.Growth.{new_in, is_full as is_full_by};
 ghost use Rattle.growth_model.specs.Request.{attempt as attempt_by, nodes, round, attempts, place_for as place_by};
 ghost use Rattle.growth_model.specs.Ends.{Allocates};
 ghost use Rattle.growth_model.specs.Sound.{HasBegun};
-ghost use Rattle.memblock_grow.specs.Kept.{IsKept, Keeps, KeepsBytes, StayReady};
+ghost use Rattle.memblock_grow.specs.Kept.{IsKept, Keeps, KeepsBytes};
+ghost use Rattle.memblock_grow.specs.Prepared.{Prepares};
 ghost use Rattle.memblock_grow.specs.Places.{KnowsMirrors, top_of, first_of};
 
 use crate::aim::Aim;
@@ -127,7 +128,7 @@ pub fn allocate(
     ensures inside { IfOk result (λ base. base + request.now.size < 2 ^ 64) }
     ensures kept { Keeps journal.old.items tables.old journal.new.items tables.new aim }
     ensures bytes { KeepsBytes journal.old.items tables.old journal.new.items tables.new aim }
-    ensures still_ready { StayReady tables.old.store tables.new.store }
+    ensures prepared { Prepares journal.old.items journal.new.items tables.old.store tables.new.store }
     ensures ready { (place : ℕ) → place_by request.now journal.old.items ≡ Some place → 0 < journal.old.spare →
         is_full_by tables_of.Reserved (new_in tables_of.Reserved (record { base = place; size = request.now.size })) journal.old.items ≡ false →
         IsOk result × (journal.new.spare ≡ journal.old.spare - 1) }

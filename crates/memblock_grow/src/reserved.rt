@@ -8,7 +8,8 @@ ghost use Rattle.growth_model.specs.Outcome.{if_due};
 ghost use Rattle.growth_model.specs.Growth.{reserved_growth, grown, claimed, freed, new_in, two, is_full as is_full_by};
 ghost use Rattle.growth_model.specs.Ends.{Ends};
 ghost use Rattle.growth_model.specs.Sound.{HasBegun};
-ghost use Rattle.memblock_grow.specs.Kept.{IsKept, AllowsClaim, AllowsFree, Keeps, KeepsBytes, StayReady};
+ghost use Rattle.memblock_grow.specs.Kept.{IsKept, AllowsClaim, AllowsFree, Keeps, KeepsBytes};
+ghost use Rattle.memblock_grow.specs.Prepared.{Prepares};
 ghost use Rattle.memblock_grow.specs.More.{more_by, HasRoom, EndsBefore};
 
 use crate::aim::Aim;
@@ -21,7 +22,7 @@ use growth_model::Refusal;
 use memblock_ranges::Tables;
 
 /// The table doubles, at a place beside the range (`memblock_double_array`): one step of three items, or of two where it
-/// lay in the kernel's image. Nothing is written where it finds no place, or where memory runs out.
+/// lay in the kernel's image. Nothing is written or prepared where it finds no place, or where memory runs out.
 fn grow_reserved(
     journal: &mut Journal,
     tables: &mut Tables,
@@ -33,7 +34,7 @@ fn grow_reserved(
     ensures ends { Ends result journal.old.items journal.new.items (reserved_growth avoid) }
     ensures kept { Keeps journal.old.items tables.old journal.new.items tables.new aim }
     ensures bytes { KeepsBytes journal.old.items tables.old journal.new.items tables.new aim }
-    ensures still_ready { StayReady tables.old.store tables.new.store }
+    ensures prepared { Prepares journal.old.items journal.new.items tables.old.store tables.new.store }
     ensures memory { tables.new.memory ≡ tables.old.memory }
 {
     let head = tables.head(Which::Reserved);
@@ -44,8 +45,8 @@ fn grow_reserved(
         });
     };
     let left = left_place(head);
-    tables.prepare(place)?;
     journal.ready(3)?;
+    tables.prepare(place)?;
     relocate(tables, Which::Reserved, place.base);
     journal.push_ready(Item::Grown {
         which: Which::Reserved,
@@ -80,7 +81,7 @@ fn grow_reserved_once(
         (if_due (is_full_by tables_of.Reserved (more_by tables_of.Reserved more.now)) (reserved_growth avoid)) }
     ensures kept { Keeps journal.old.items tables.old journal.new.items tables.new aim }
     ensures bytes { KeepsBytes journal.old.items tables.old journal.new.items tables.new aim }
-    ensures still_ready { StayReady tables.old.store tables.new.store }
+    ensures prepared { Prepares journal.old.items journal.new.items tables.old.store tables.new.store }
     ensures memory { tables.new.memory ≡ tables.old.memory }
     ensures within { EndsBefore more.now }
     ensures idle { HasRoom more.now tables.old.reserved →
@@ -106,7 +107,7 @@ fn make_reserved_room(
         (grown tables_of.Reserved (more_by tables_of.Reserved more.now) (reserved_growth avoid)) }
     ensures kept { Keeps journal.old.items tables.old journal.new.items tables.new aim }
     ensures bytes { KeepsBytes journal.old.items tables.old journal.new.items tables.new aim }
-    ensures still_ready { StayReady tables.old.store tables.new.store }
+    ensures prepared { Prepares journal.old.items journal.new.items tables.old.store tables.new.store }
     ensures memory { tables.new.memory ≡ tables.old.memory }
     ensures room { OnOk result (HasRoom more.now tables.new.reserved) }
     ensures idle { HasRoom more.now tables.old.reserved →
@@ -130,7 +131,7 @@ pub fn claim(
     ensures ends { Ends result journal.old.items journal.new.items (claimed range owner) }
     ensures kept { Keeps journal.old.items tables.old journal.new.items tables.new aim }
     ensures bytes { KeepsBytes journal.old.items tables.old journal.new.items tables.new aim }
-    ensures still_ready { StayReady tables.old.store tables.new.store }
+    ensures prepared { Prepares journal.old.items journal.new.items tables.old.store tables.new.store }
     ensures memory { tables.new.memory ≡ tables.old.memory }
     ensures ready { 0 < journal.old.spare → is_full_by tables_of.Reserved (new_in tables_of.Reserved range) journal.old.items ≡ false →
         IsOk result × (journal.new.spare ≡ journal.old.spare - 1) }
@@ -154,7 +155,7 @@ pub fn free(
     ensures ends { Ends result journal.old.items journal.new.items (freed range) }
     ensures kept { Keeps journal.old.items tables.old journal.new.items tables.new aim }
     ensures bytes { KeepsBytes journal.old.items tables.old journal.new.items tables.new aim }
-    ensures still_ready { StayReady tables.old.store tables.new.store }
+    ensures prepared { Prepares journal.old.items journal.new.items tables.old.store tables.new.store }
     ensures memory { tables.new.memory ≡ tables.old.memory }
     ensures ready { 0 < journal.old.spare → is_full_by tables_of.Reserved two journal.old.items ≡ false →
         IsOk result × (journal.new.spare ≡ journal.old.spare - 1) }

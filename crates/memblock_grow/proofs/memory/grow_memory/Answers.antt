@@ -10,6 +10,7 @@ use Rattle.growth_model.proofs.PlacedMemoryLaws.{IsTaken}
 use Rattle.memblock_grow.specs.Kept.{AreKept, Keeps, KeepsBytes}
 use Rattle.memblock_grow.proofs.KeptLaws.{kept-same}
 use Rattle.memblock_grow.proofs.WholeLaws.{keeps-then, bytes-then}
+use Rattle.memblock_grow.proofs.PreparedLaws.{prepares-growth, prepares-then}
 use Rattle.memblock_grow.proofs.PlaceLaws.{knows-mirrors, left-far}
 use Rattle.memblock_grow.proofs.ReservedLaws.{room-least, frames-some, left-found, twice-is, still-bytes}
 use Rattle.memblock_grow.proofs.MemoryLaws.{IsBest, best-found, memory-none, memory-fails, memory-wants, memory-done, pushed-items, best-taken, MovedMemory, memory-apart, memory-keeps, memory-tells, prepared-bytes, memory-free, left-some}
@@ -113,23 +114,6 @@ returns-in_err-claim-clause-ends c =
     memory-fails c.args.journal.now.items c.claim.new.journal.items c.in-Some.place c.in_err-claim.field-0.0
     c.from_residual.result known c.from_residual.ensures.1 c.in_err-claim.ensures.ends
 
-pub returns-in_err-prepare-clause-ends : goal.returns-in_err-prepare-clause-ends
-returns-in_err-prepare-clause-ends c =
-    let known = found (goal.at.returns-in_err-prepare-clause-ends c).In-Some in
-    memory-wants c.args.journal.now.items c.claim.new.journal.items c.claim.new.journal.items c.in-Some.place
-    c.from_residual-in_err-prepare.result known c.from_residual-in_err-prepare.ensures.1 c.in_ok-claim.ensures.ends refl
-
-pub returns-in_err-prepare-clause-kept : goal.returns-in_err-prepare-clause-kept
-returns-in_err-prepare-clause-kept c = λ kernel kept.
-    kept-same kernel c.claim.new.journal.items c.claim.new.tables c.prepare.new.self c.args.aim c.in_err-prepare.ensures.memory
-    c.in_err-prepare.ensures.reserved (c.claim.ensures.kept kernel kept)
-
-pub returns-in_err-prepare-clause-bytes : goal.returns-in_err-prepare-clause-bytes
-returns-in_err-prepare-clause-bytes c = λ kernel kept spelled.
-    prepared-bytes kernel c.args.journal.now.items c.claim.new.journal.items c.claim.new.journal.items c.args.tables.now
-    c.claim.new.tables c.prepare.new.self c.args.aim kept spelled c.claim.ensures.kept c.claim.ensures.bytes refl
-    c.in_err-prepare.ensures.bytes
-
 pub returns-in_err-ready-clause-ends : goal.returns-in_err-ready-clause-ends
 returns-in_err-ready-clause-ends c =
     let known = found (goal.at.returns-in_err-ready-clause-ends c).In-Some in
@@ -137,17 +121,30 @@ returns-in_err-ready-clause-ends c =
     c.from_residual-in_err-ready.result known c.from_residual-in_err-ready.ensures.1 c.in_ok-claim.ensures.ends
     c.in_err-ready.ensures.items
 
-pub returns-in_err-ready-clause-kept : goal.returns-in_err-ready-clause-kept
-returns-in_err-ready-clause-kept c = λ kernel kept.
-    subst (λ (l : List Item). AreKept kernel l c.prepare.new.self c.args.aim) (sym c.in_err-ready.ensures.items)
-    (kept-same kernel c.claim.new.journal.items c.claim.new.tables c.prepare.new.self c.args.aim c.in_ok-prepare.ensures.memory
-    c.in_ok-prepare.ensures.reserved (c.claim.ensures.kept kernel kept))
-
 pub returns-in_err-ready-clause-bytes : goal.returns-in_err-ready-clause-bytes
 returns-in_err-ready-clause-bytes c = λ kernel kept spelled.
     prepared-bytes kernel c.args.journal.now.items c.claim.new.journal.items c.ready.new.self.items c.args.tables.now
+    c.claim.new.tables c.claim.new.tables c.args.aim kept spelled c.claim.ensures.kept c.claim.ensures.bytes
+    c.in_err-ready.ensures.items (λ x. refl)
+
+pub returns-in_err-prepare-clause-ends : goal.returns-in_err-prepare-clause-ends
+returns-in_err-prepare-clause-ends c =
+    let known = found (goal.at.returns-in_err-prepare-clause-ends c).In-Some in
+    memory-wants c.args.journal.now.items c.claim.new.journal.items c.ready.new.self.items c.in-Some.place
+    c.from_residual-in_err-prepare.result known c.from_residual-in_err-prepare.ensures.1 c.in_ok-claim.ensures.ends
+    c.in_ok-ready.ensures.items
+
+pub returns-in_err-prepare-clause-kept : goal.returns-in_err-prepare-clause-kept
+returns-in_err-prepare-clause-kept c = λ kernel kept.
+    subst (λ (l : List Item). AreKept kernel l c.prepare.new.self c.args.aim) (sym c.in_ok-ready.ensures.items)
+    (kept-same kernel c.claim.new.journal.items c.claim.new.tables c.prepare.new.self c.args.aim c.in_err-prepare.ensures.memory
+    c.in_err-prepare.ensures.reserved (c.claim.ensures.kept kernel kept))
+
+pub returns-in_err-prepare-clause-bytes : goal.returns-in_err-prepare-clause-bytes
+returns-in_err-prepare-clause-bytes c = λ kernel kept spelled.
+    prepared-bytes kernel c.args.journal.now.items c.claim.new.journal.items c.ready.new.self.items c.args.tables.now
     c.claim.new.tables c.prepare.new.self c.args.aim kept spelled c.claim.ensures.kept c.claim.ensures.bytes
-    c.in_err-ready.ensures.items c.in_ok-prepare.ensures.bytes
+    c.in_ok-ready.ensures.items c.in_err-prepare.ensures.bytes
 
 pub relocate-requires-clause-apart : goal.relocate-requires-clause-apart
 relocate-requires-clause-apart c =
@@ -193,3 +190,16 @@ returns-clause-bytes c =
     let m = moved at.After-push_ready (found at.In-Some) in
     bytes-then c.args.journal.now.items c.push_ready.new.self.items c.leave.new.journal.items c.args.tables.now c.relocate.new.tables
     c.leave.new.tables c.args.aim m.kept m.bytes c.leave.ensures.bytes
+
+pub returns-clause-prepared : goal.returns-clause-prepared
+returns-clause-prepared c =
+    let at = goal.at.returns-clause-prepared c in
+    let known = found at.In-Some in
+    let m = moved at.After-push_ready known in
+    prepares-then c.args.journal.now.items c.claim.new.journal.items c.leave.new.journal.items c.args.tables.now.store
+    c.claim.new.tables.store c.leave.new.tables.store c.claim.ensures.prepared
+    (prepares-then c.claim.new.journal.items c.push_ready.new.self.items c.leave.new.journal.items c.claim.new.tables.store
+    c.relocate.new.tables.store c.leave.new.tables.store
+    (prepares-growth c.claim.new.journal.items c.push_ready.new.self.items which.Memory (room_of which.Memory c.args.journal.now.items)
+    c.place.inside.base (2 * c.head-head.result.room) c.in-Some.place c.claim.new.tables.store c.relocate.new.tables.store m.next
+    m.tables.here m.twice known.is (λ x. c.relocate.ensures.ready x ∙ c.in_ok-prepare.ensures.ready x)) c.leave.ensures.prepared)

@@ -9,6 +9,7 @@ use Rattle.memblock_grow.specs.declared.more.More.TheVariants as more
 use Rattle.memblock_grow.specs.Kept.{AreKept}
 use Rattle.memblock_grow.proofs.KeptLaws.{kept-mirror}
 use Rattle.memblock_grow.proofs.MoreLaws.{room-of}
+use Rattle.memblock_grow.proofs.PreparedLaws.{prepares-item}
 use Rattle.memblock_grow.proofs.ChangeLaws.{change-fails, change-wants, change-done, change-bytes}
 use Rattle.memblock_grow.proofs.memory.set_mirror.Goals as goal
 
@@ -52,3 +53,10 @@ returns-clause-bytes c = λ kernel kept spelled.
     change-bytes kernel c.args.journal.now.items c.make_memory_room.new.journal.items c.push.new.self.items (item.Mirror c.args.range)
     c.args.tables.now c.make_memory_room.new.tables c.mirror.new.tables c.args.aim c.in_ok-push.ensures.ok (λ x. refl)
     (returns-clause-kept c kernel kept) c.mirror.ensures.bytes (c.make_memory_room.ensures.bytes kernel kept spelled)
+
+pub returns-clause-prepared : goal.returns-clause-prepared
+returns-clause-prepared c =
+    let room = c.make_memory_room in
+    prepares-item c.args.journal.now.items room.new.journal.items c.push.new.self.items (item.Mirror c.args.range)
+    c.args.tables.now.store room.new.tables.store c.mirror.new.tables.store room.ensures.prepared c.in_ok-push.ensures.ok (λ x. refl)
+    c.mirror.ensures.ready

@@ -6,6 +6,7 @@ use Rattle.boot_journal.specs.Contents.{Contents as Journal}
 use Rattle.growth_model.specs.Growth.{reserved_growth, two, grown, freed}
 use Rattle.memblock_grow.specs.Kept.{AreKept}
 use Rattle.memblock_grow.proofs.KeptLaws.{kept-free}
+use Rattle.memblock_grow.proofs.PreparedLaws.{prepares-item}
 use Rattle.memblock_grow.proofs.ChangeLaws.{change-fails, change-wants, change-done, change-bytes}
 use Rattle.memblock_grow.proofs.reserved.free.Goals as goal
 
@@ -43,3 +44,10 @@ returns-clause-bytes c = λ kernel kept spelled.
     change-bytes kernel c.args.journal.now.items c.make_reserved_room.new.journal.items c.push.new.self.items (item.Free c.args.range)
     c.args.tables.now c.make_reserved_room.new.tables c.uncover.new.tables c.args.aim c.in_ok-push.ensures.ok (λ x. refl)
     (returns-clause-kept c kernel kept) c.uncover.ensures.bytes (c.make_reserved_room.ensures.bytes kernel kept spelled)
+
+pub returns-clause-prepared : goal.returns-clause-prepared
+returns-clause-prepared c =
+    let room = c.make_reserved_room in
+    prepares-item c.args.journal.now.items room.new.journal.items c.push.new.self.items (item.Free c.args.range)
+    c.args.tables.now.store room.new.tables.store c.uncover.new.tables.store room.ensures.prepared c.in_ok-push.ensures.ok (λ x. refl)
+    c.uncover.ensures.ready

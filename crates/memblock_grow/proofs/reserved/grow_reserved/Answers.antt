@@ -1,14 +1,20 @@
-use Rattle.std.proofs.Common.{◌≡◌, ◌≢◌, ◌+◌, ◌*◌, ◌^◌, ◌<◌, refl, sym, ◌∙◌, ap, subst, arith}
+use Rattle.std.proofs.Common.{◌≡◌, ◌≢◌, ◌+◌, ◌*◌, ◌^◌, ◌<◌, List, refl, sym, ◌∙◌, ap, subst, arith}
 use Rattle.bm_base.specs.Extent.{Extent, end_of}
 use Rattle.memblock_model.specs.declared.which.Which.TheVariants as which
+use Rattle.memblock_model.specs.declared.item.Item.{Item}
+use Rattle.memblock_model.specs.declared.item.Item.TheVariants as item
 use Rattle.memblock_model.specs.Tables.{room_of}
 use Rattle.boot_journal.specs.Contents.{Contents as Journal}
 use Rattle.memblock_ranges.specs.declared.region.Head.{Head}
 use Rattle.growth_model.specs.Growth.{in_whole_frames}
+use Rattle.memblock_grow.specs.Kept.{AreKept}
+use Rattle.memblock_grow.specs.Prepared.{Prepares}
 use Rattle.memblock_grow.proofs.reserved.grow_reserved.Goals as goal
 use Rattle.memblock_grow.proofs.reserved.grow_reserved.Goals.{In-Some, After-cover, After-uncover}
+use Rattle.memblock_grow.proofs.KeptLaws.{kept-same}
 use Rattle.memblock_grow.proofs.PlaceLaws.{knows-mirrors, left-far}
-use Rattle.memblock_grow.proofs.ReservedLaws.{room-least, frames-some, IsBeside, beside-found, beside-free, beside-apart, growth-none, growth-wants, moved_items, written-two, written-three, journal-two, journal-three, left-size, left-found, twice-is, claim-room, Claimed, claimed, claimed-room, Left, left-freed, still-bytes}
+use Rattle.memblock_grow.proofs.PreparedLaws.{prepares-item}
+use Rattle.memblock_grow.proofs.ReservedLaws.{room-least, frames-some, IsBeside, beside-found, beside-free, beside-apart, growth-none, growth-wants, moved_items, written-two, written-three, journal-two, journal-three, left-size, left-found, twice-is, claim-room, Claimed, claimed, claimed-room, Left, left-freed, prepares-moved, still-bytes}
 
 -- the place was found beside the range
 known : (c : In-Some) → IsBeside c.args.journal.now.items c.args.avoid c.in-Some.place
@@ -51,6 +57,14 @@ stands c at =
             ends = c.cover.ensures.within;
           }) (beside-free c.args.journal.now.items c.args.avoid c.in-Some.place at);
     }
+
+prepared : (c : After-cover) → IsBeside c.args.journal.now.items c.args.avoid c.in-Some.place
+    → Prepares c.args.journal.now.items c.push_ready-2.new.self.items c.args.tables.now.store c.cover.new.tables.store
+prepared c at =
+    let s = stands c at in
+    prepares-moved c.args.journal.now.items c.push_ready-2.new.self.items c.place.inside.base (2 * c.head-head.result.room)
+    c.in-Some.place c.args.tables.now.store c.cover.new.tables.store s.two s.here s.twice at.is
+    (λ x. c.cover.ensures.ready x ∙ c.relocate.ensures.ready x ∙ c.in_ok-prepare.ensures.ready x)
 
 -- and once the old place is freed
 left : (c : After-uncover) → Claimed c.args.journal.now.items c.push_ready-2.new.self.items c.args.tables.now c.cover.new.tables c.args.aim
@@ -95,25 +109,31 @@ left_place-left-requires c =
           (left-far which.Reserved c.requires.kept.0 c.args.journal.now.items c.args.tables.now c.args.aim c.requires.kept.1.kept);
     }
 
-pub returns-in_err-prepare-clause-ends : goal.returns-in_err-prepare-clause-ends
-returns-in_err-prepare-clause-ends c =
-    growth-wants c.args.journal.now.items c.args.journal.now.items c.args.avoid c.in-Some.place c.from_residual.result
-    (known (goal.at.returns-in_err-prepare-clause-ends c).In-Some) c.from_residual.ensures.1 refl
-
-pub returns-in_err-prepare-clause-bytes : goal.returns-in_err-prepare-clause-bytes
-returns-in_err-prepare-clause-bytes c = λ kernel kept spelled.
-    still-bytes kernel c.args.journal.now.items c.args.journal.now.items c.args.tables.now c.prepare.new.self c.args.aim refl
-    c.in_err-prepare.ensures.bytes kept spelled
-
 pub returns-in_err-ready-clause-ends : goal.returns-in_err-ready-clause-ends
 returns-in_err-ready-clause-ends c =
-    growth-wants c.args.journal.now.items c.ready.new.self.items c.args.avoid c.in-Some.place c.from_residual-in_err-ready.result
-    (known (goal.at.returns-in_err-ready-clause-ends c).In-Some) c.from_residual-in_err-ready.ensures.1 c.in_err-ready.ensures.items
+    growth-wants c.args.journal.now.items c.ready.new.self.items c.args.avoid c.in-Some.place c.from_residual.result
+    (known (goal.at.returns-in_err-ready-clause-ends c).In-Some) c.from_residual.ensures.1 c.in_err-ready.ensures.items
 
 pub returns-in_err-ready-clause-bytes : goal.returns-in_err-ready-clause-bytes
 returns-in_err-ready-clause-bytes c = λ kernel kept spelled.
+    still-bytes kernel c.args.journal.now.items c.ready.new.self.items c.args.tables.now c.args.tables.now c.args.aim
+    c.in_err-ready.ensures.items (λ x. refl) kept spelled
+
+pub returns-in_err-prepare-clause-ends : goal.returns-in_err-prepare-clause-ends
+returns-in_err-prepare-clause-ends c =
+    growth-wants c.args.journal.now.items c.ready.new.self.items c.args.avoid c.in-Some.place c.from_residual-in_err-prepare.result
+    (known (goal.at.returns-in_err-prepare-clause-ends c).In-Some) c.from_residual-in_err-prepare.ensures.1 c.in_ok-ready.ensures.items
+
+pub returns-in_err-prepare-clause-kept : goal.returns-in_err-prepare-clause-kept
+returns-in_err-prepare-clause-kept c = λ kernel kept.
+    subst (λ (l : List Item). AreKept kernel l c.prepare.new.self c.args.aim) (sym c.in_ok-ready.ensures.items)
+    (kept-same kernel c.args.journal.now.items c.args.tables.now c.prepare.new.self c.args.aim c.in_err-prepare.ensures.memory
+    c.in_err-prepare.ensures.reserved kept)
+
+pub returns-in_err-prepare-clause-bytes : goal.returns-in_err-prepare-clause-bytes
+returns-in_err-prepare-clause-bytes c = λ kernel kept spelled.
     still-bytes kernel c.args.journal.now.items c.ready.new.self.items c.args.tables.now c.prepare.new.self c.args.aim
-    c.in_err-ready.ensures.items c.in_ok-prepare.ensures.bytes kept spelled
+    c.in_ok-ready.ensures.items c.in_err-prepare.ensures.bytes kept spelled
 
 pub relocate-requires-clause-apart : goal.relocate-requires-clause-apart
 relocate-requires-clause-apart c =
@@ -173,6 +193,14 @@ returns-in-Some-left-clause-bytes c = λ kernel kept spelled.
     let at = goal.at.returns-in-Some-left-clause-bytes c in
     (left at.After-uncover (stands at.After-cover (known at.In-Some)).claimed).bytes kernel kept
 
+pub returns-in-Some-left-clause-prepared : goal.returns-in-Some-left-clause-prepared
+returns-in-Some-left-clause-prepared c =
+    let at = goal.at.returns-in-Some-left-clause-prepared c in
+    prepares-item c.args.journal.now.items c.push_ready-2.new.self.items c.push_ready-in-Some-left.new.self.items
+    (item.Free c.in-Some-left.range) c.args.tables.now.store c.cover.new.tables.store c.uncover.new.tables.store
+    (prepared at.After-cover (known at.In-Some)) (ap (λ (j : Journal). j.items) c.push_ready-in-Some-left.ensures) (λ x. refl)
+    c.uncover.ensures.ready
+
 pub returns-in-None-clause-ends : goal.returns-in-None-clause-ends
 returns-in-None-clause-ends c =
     let at = goal.at.returns-in-None-clause-ends c in
@@ -189,3 +217,7 @@ returns-in-None-clause-kept c =
 pub returns-in-None-clause-bytes : goal.returns-in-None-clause-bytes
 returns-in-None-clause-bytes c = λ kernel kept spelled.
     let at = goal.at.returns-in-None-clause-bytes c in (stands at.After-cover (known at.In-Some)).claimed.bytes kernel kept
+
+pub returns-in-None-clause-prepared : goal.returns-in-None-clause-prepared
+returns-in-None-clause-prepared c =
+    let at = goal.at.returns-in-None-clause-prepared c in prepared at.After-cover (known at.In-Some)

@@ -6,6 +6,7 @@ use Rattle.growth_model.proofs.EndLaws.{Ends-second}
 use Rattle.growth_model.proofs.SoundLaws.{once-stands}
 use Rattle.memblock_grow.specs.More.{more_by}
 use Rattle.memblock_grow.proofs.MoreLaws.{full-begun, reserved-enough, room-behind}
+use Rattle.memblock_grow.proofs.PreparedLaws.{prepares-then}
 use Rattle.memblock_grow.proofs.WholeLaws.{whole-on, keeps-then, bytes-then}
 use Rattle.memblock_grow.proofs.reserved.make_reserved_room.Goals as goal
 
@@ -38,6 +39,13 @@ returns-clause-bytes c =
     bytes-then c.args.journal.now.items c.grow_reserved_once.new.journal.items c.grow_reserved_once-2.new.journal.items c.args.tables.now
     c.grow_reserved_once.new.tables c.grow_reserved_once-2.new.tables c.args.aim c.grow_reserved_once.ensures.kept
     c.grow_reserved_once.ensures.bytes c.grow_reserved_once-2.ensures.bytes
+
+pub returns-clause-prepared : goal.returns-clause-prepared
+returns-clause-prepared c =
+    let first = c.grow_reserved_once in
+    let second = c.grow_reserved_once-2 in
+    prepares-then c.args.journal.now.items first.new.journal.items second.new.journal.items c.args.tables.now.store
+    first.new.tables.store second.new.tables.store first.ensures.prepared second.ensures.prepared
 
 pub returns-clause-room : goal.returns-clause-room
 returns-clause-room c =
