@@ -34,7 +34,7 @@ pub record Stand (items : List Item) (store : List Stored) (memory reserved : He
   pub second_says : value_at second.records ≡ reserved_of (owner_of items)
   pub noded : IsNoded (2 ^ 52) (memory_of items)
 
-module _ (items : List Item) (store : List Stored) (memory reserved : Head) (s : Stand items store memory reserved) where
+module _ {items : List Item} {store : List Stored} {memory reserved : Head} (s : Stand items store memory reserved) where
   pub memory-records : HasRecords store memory 4503599627370496
   memory-records =
       let none : NothingFrom 4503599627370496 (value_at s.first.records) =

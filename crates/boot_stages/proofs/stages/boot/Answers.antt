@@ -1,4 +1,5 @@
--- What is decided for the map is decided for the boot, and behind it what memory comes to; what the definition makes of each frame, the answer does.
+-- What is decided for the map is decided for the boot, and behind it what memory comes to; what the definition makes of each frame,
+-- the answer does.
 use Rattle.std.proofs.Common.{◌≡◌, ◌≢◌, ℕ, List, [], drop, Vec, Global, ◌^◌, Result, Ok, Err, ap, sym, ◌∙◌, subst}
 use Rattle.std.proofs.lemmas.Result.{err_from_is_err_and}
 use Rattle.address_runs.specs.Runs.{RunOf}
