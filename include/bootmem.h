@@ -116,7 +116,8 @@ struct bootmem_free_blocks {
  *
  * BOOTMEM_OK: `out` is given the reports that the words ask for, and the boot is one of which docs/HEADLINE.md holds; `err` is empty.
  * Any other: `out` is empty, and `err` is given one line, with its line feed, that says what is wrong, as the program prints it on
- * standard error. With a word that isn't UTF-8, or where memory is wanting for the line, it is empty, too.
+ * standard error. With a word that isn't UTF-8, or where memory is wanting for the line, it is empty, too; what it has after BOOTMEM_MEMORY no
+ * clause says.
  *
  * Whether a text fits changes no status, so look at `needed` too. */
 uint8_t bootmem_run(const struct bootmem_bytes *words, size_t words_len, const struct bootmem_file *files, size_t files_len,
