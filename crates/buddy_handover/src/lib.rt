@@ -14,7 +14,7 @@
 //! [`Buddy::take`].
 //!
 //! The layer above may rest on this: contracts see the runs (`specs/Contents.antt`), `free` is the node of a
-//! frame, and after a handover it is what both tables say of each frame (`free_in` of `table_frames`).
+//! frame, and after a handover it is what both tables say of each frame (`free_node_in` of `table_frames`).
 #![tactic(auto)]
 
 mod buddy;
