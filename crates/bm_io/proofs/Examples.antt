@@ -12,6 +12,7 @@ use Rattle.bm_io.specs.Puts.{Puts}
 use Rattle.bm_io.specs.Known.{TakesKnown, GivesKnown}
 use Rattle.bm_io.specs.Calls.{HasTaken, nothing_taken, took, HasGiven, nothing_given, gave, IsPutBy, IsReadBy, IsFetchedBy}
 use Rattle.bm_io.specs.HeldOutput.{HeldOutput, failures as put_failures, wants_of_memory}
+use Rattle.bm_io.proofs.PutsLaws.{unwanted}
 
 -- a count goes up, and stands still at 2^64 - 1
 counts : (counted 5 3 ≡ 8) × (counted (2 ^ 64 - 2) 3 ≡ 2 ^ 64 - 1)
@@ -93,6 +94,13 @@ named_zp f is = (rw is refl, rw is refl)
 failed_fetches : (failures (Err fetch.Failed) ≡ 1) × (failures (Err fetch.TooLong) ≡ 0) × (failures (Err fetch.Memory) ≡ 0)
 failed_fetches = (refl, refl, refl)
 
+-- a failed fetch is counted as one that failed, and one that lacked memory isn't
+failed_fetch_rose : Rose two_files.faults (counted two_files.faults (failures (Err fetch.Failed)))
+failed_fetch_rose = omega arith
+
+wanting_isnt_failed : Rose two_files.faults (counted two_files.faults (failures (Err fetch.Memory))) → ⊥
+wanting_isnt_failed rose = omega (arith, rose)
+
 taken_bytes : (bytes_taken (Err fetch.TooLong) (Some (codes "abc")) ≡ 3)
     × (bytes_taken (Err fetch.Failed) (Some (codes "abc")) ≡ 0) × (bytes_taken (Err fetch.Failed) None ≡ 0)
 taken_bytes = (refl, refl, refl)
@@ -128,15 +136,13 @@ counted_failure = (refl, omega arith)
 abbrev held_sink : SinkOf HeldOutput
 held_sink = record { written = λ s. Some s.written; faults = λ s. s.faults; wants = λ s. s.wants }
 
--- that call refused two bytes with a cause; with no fault counted it couldn't, and with one it couldn't answer Ok
+-- that call refused two bytes with a cause; with no fault counted it couldn't
 failed_put : Puts held_sink before_failure behind_failure (Err put.Failed) (codes "cd")
 failed_put = record {
   whole = tt;
   front = half_of_a_chunk;
   failed = λ is. omega arith;
   wanting = λ is. cc;
-  uncounted = tt;
-  no_fault = inl refl;
   no_want = inr refl;
   faults_stay = omega arith;
   wants_stay = omega arith;
@@ -145,8 +151,20 @@ failed_put = record {
 no_cause : Puts held_sink before_failure before_failure (Err put.Failed) (codes "cd") → ⊥
 no_cause puts = let rose = puts.failed refl in omega (arith, rose)
 
-fault_unheard : Puts held_sink before_failure behind_failure (Ok tt) (codes "c") → ⊥
-fault_unheard puts = let still = puts.uncounted.0 in omega (arith, still)
+-- an output that counted a fault, tried again, and appended the whole: its answer may be Ok. A want that was counted is told
+tried_again : Puts held_sink before_failure behind_failure (Ok tt) (codes "c")
+tried_again = record {
+  whole = refl;
+  front = tt;
+  failed = λ is. cc;
+  wanting = λ is. cc;
+  no_want = inr refl;
+  faults_stay = omega arith;
+  wants_stay = omega arith;
+}
+
+want_unheard : Puts held_sink before_failure (record behind_failure { wants = 1 }) (Ok tt) (codes "c") → ⊥
+want_unheard puts = let still = unwanted puts in omega (arith, still)
 
 -- a stream that tells its bytes took two of those that it was offered; a write that failed took none
 two_taken : TakesKnown (Some (codes "x")) (Some (codes "xab")) (codes "abc") (Some 2)

@@ -1,5 +1,5 @@
 -- Bytes that go out one chunk after another.
-use Rattle.std.proofs.Common.{◌≡◌, ℕ, ◌+◌, ◌<◌, List, [], ◌∷◌, ◌++◌, length, take, drop, get_or, Option, Result, Err, refl, sym, ◌∙◌, ap, arith, append-nil, length-append, take-append-drop, drop-cons, add-one}
+use Rattle.std.proofs.Common.{◌≡◌, ℕ, ◌+◌, ◌<◌, ◌≤◌, List, [], ◌∷◌, ◌++◌, length, take, drop, get_or, Option, Result, Ok, Err, inl, inr, refl, sym, ◌∙◌, ap, arith, append-nil, length-append, take-append-drop, drop-cons, add-one}
 use Rattle.std.proofs.lemmas.List.{take-append-le, take_more}
 use Rattle.std.proofs.lemmas.Grind.{flat_map-append}
 use Rattle.std.proofs.Math.Seq.{take-append-add}
@@ -47,20 +47,26 @@ front_then old mid new first bytes rest before front =
       rw (← out) (appends_twice old mid new first (take n bytes) before front.2),
     )
 
+-- bytes that went out whole wanted no memory
+pub unwanted : {S : Type 0} {sink : SinkOf S} {old new : S} {done : Unit {0}} {bytes : List ℕ} → Puts sink old new (Ok done) bytes
+    → sink.wants new ≡ sink.wants old
+unwanted puts = elim puts.no_want [
+  | inl wanting ↦ cc
+  | inr same ↦ same
+]
+
 -- a refusal behind bytes that went out whole is the refusal of all
 pub puts_refused : {S : Type 0} (sink : SinkOf S) (old mid new : S) (answer : Result (Unit {0}) Put) (error : Put)
     (first bytes rest all : List ℕ)
     → answer ≡ Err error → first ++ (bytes ++ rest) ≡ all → Appends (sink.written old) (sink.written mid) first
-    → sink.faults mid ≡ sink.faults old → sink.wants mid ≡ sink.wants old
+    → sink.faults old ≤ sink.faults mid → sink.wants mid ≡ sink.wants old
     → Puts sink mid new (Err error) bytes → Puts sink old new answer all
 puts_refused sink old mid new answer error first bytes rest all is joined before faults wants refused = rw (is, ← joined) record {
   whole = tt;
   front = front_then (sink.written old) (sink.written mid) (sink.written new) first bytes rest before refused.front;
-  failed = rw (← faults) refused.failed;
+  failed = λ is. let rose = refused.failed is in omega (arith, faults, rose);
   wanting = rw (← wants) refused.wanting;
-  uncounted = tt;
-  no_fault = rw (← faults) refused.no_fault;
   no_want = rw (← wants) refused.no_want;
-  faults_stay = rw (← faults) refused.faults_stay;
+  faults_stay = omega (arith, faults, refused.faults_stay);
   wants_stay = rw (← wants) refused.wants_stay;
 }

@@ -16,9 +16,7 @@ pub record Puts {S : Type 0} (sink : SinkOf S) (old new : S) (answer : Result (U
   -- each refusal has its cause
   pub failed : IsErrOf answer put.Failed → Rose (sink.faults old) (sink.faults new)
   pub wanting : IsErrOf answer put.Memory → Rose (sink.wants old) (sink.wants new)
-  -- a fault is counted only at Failed, a want only at Memory, so neither after Ok; and no count falls
-  pub uncounted : OnOk answer ((sink.faults new ≡ sink.faults old) × (sink.wants new ≡ sink.wants old))
-  pub no_fault : IsErrOf answer put.Failed ⊎ (sink.faults new ≡ sink.faults old)
+  -- a want is counted only at Memory, and no count falls
   pub no_want : IsErrOf answer put.Memory ⊎ (sink.wants new ≡ sink.wants old)
   pub faults_stay : sink.faults old ≤ sink.faults new
   pub wants_stay : sink.wants old ≤ sink.wants new

@@ -8,8 +8,9 @@
 //! holds and those that were written, where the object tells them, and counts of what happened. A
 //! count never falls. It is a `u64` that stands still at its last value, 2^64 - 1; that it rose in
 //! a call means that it is greater afterwards, or stands there. Each refusal has its cause in such
-//! a count, and no other answer moves it, so a caller can tell a refusal of the outside from a
-//! mistake of the program.
+//! a count, so a caller can tell a refusal of the outside from a mistake of the program. The counts
+//! of answers, of fetches that failed and of wants of memory, are moved by no other answer; one of
+//! faults may be, by an object that got over a fault by itself.
 //!
 //! [`MemFiles`] and [`MemSink`] live in memory, tell everything, and fail at the calls that they
 //! were told to fail at: tests and proofs use them. [`RealFiles`] and [`StdSink`] are for the files

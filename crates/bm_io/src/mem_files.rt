@@ -78,6 +78,8 @@ impl Files for MemFiles {
 
     ghost taken = { λ s. s.taken };
 
+    ghost failures = { λ s. s.faults };
+
     ghost wants = { λ s. s.wants };
 
     /// `Failed` comes exactly where the number of the call is one that is to fail or the name isn't

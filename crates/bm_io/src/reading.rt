@@ -3,7 +3,7 @@
 //! A boot's inputs are small (a zero page has 4,096 bytes), so a file is one value and there are no
 //! streams above this crate. The trait stands apart from what implements it: a layer that is
 //! generic over `Files` knows this contract and nothing else.
-ghost use Rattle.std.specs.Prelude.{◌≡◌, ℕ, ◌^◌, ◌<◌, ◌≤◌, List, length, Option, OnOk, IfOk, IsErrOf, ◌⊎◌};
+ghost use Rattle.std.specs.Prelude.{◌≡◌, ℕ, ◌^◌, ◌<◌, ◌≤◌, List, length, Option, IfOk, IsErrOf, ◌⊎◌};
 ghost use Rattle.bm_io.specs.Counts.{Rose, RoseByMoreThan};
 ghost use Rattle.bm_io.specs.Told.{IsToldAs, IsToldLonger};
 
@@ -25,11 +25,15 @@ pub trait Files {
     // What each name holds, where the object tells it.
     ghost holds: { Self → Option (List ℕ → Option (List ℕ)) };
 
-    // How many fetches of a name failed. An object may keep one count for all names.
+    // How many faults of a name there were. An object may keep one count for all names, and may count a fault that
+    // it got over by itself.
     ghost faults: { Self → List ℕ → ℕ };
 
     // How many bytes were taken from files.
     ghost taken: { Self → ℕ };
+
+    // How many fetches answered that they failed.
+    ghost failures: { Self → ℕ };
 
     // How many fetches answered that memory is wanting.
     ghost wants: { Self → ℕ };
@@ -46,21 +50,21 @@ pub trait Files {
             → RoseByMoreThan limit (taken self.old) (taken self.new) }
         ensures longer { IsErrOf result Fetch.TooLong → IsToldLonger (holds self.old) name.now limit }
 
+        // The answers that are counted, and what a call leaves as it was: a failure is counted only at `Failed`, a want
+        // only at `Memory`, so neither after `Ok`.
+        ensures failure { IsErrOf result Fetch.Failed → Rose (failures self.old) (failures self.new) }
         ensures wanting { IsErrOf result Fetch.Memory → Rose (wants self.old) (wants self.new) }
-
-        // What a call leaves as it was: a fault of any name is counted only at `Failed`, a want only at
-        // `Memory`, so neither after `Ok`.
-        ensures kept { holds self.new ≡ holds self.old }
-        ensures uncounted { OnOk result ((any : List ℕ) → faults self.new any ≡ faults self.old any) }
-        ensures no_fault { IsErrOf result Fetch.Failed
-            ⊎ ((any : List ℕ) → faults self.new any ≡ faults self.old any) }
+        ensures no_failure { IsErrOf result Fetch.Failed ⊎ (failures self.new ≡ failures self.old) }
         ensures no_want { IsErrOf result Fetch.Memory ⊎ (wants self.new ≡ wants self.old) }
+        ensures kept { holds self.new ≡ holds self.old }
 
         // No count falls or passes its last value.
         ensures faults_stay { (any : List ℕ) → faults self.old any ≤ faults self.new any }
         ensures faults_fit { (any : List ℕ) → faults self.new any < 2 ^ 64 }
         ensures taken_stays { taken self.old ≤ taken self.new }
         ensures taken_fits { taken self.new < 2 ^ 64 }
+        ensures failures_stay { failures self.old ≤ failures self.new }
+        ensures failures_fit { failures self.new < 2 ^ 64 }
         ensures wants_stay { wants self.old ≤ wants self.new }
         ensures wants_fit { wants self.new < 2 ^ 64 };
 }

@@ -104,6 +104,8 @@ impl<D: RawFiles + Drop> Files for RealFiles<D> {
 
     ghost taken = { λ s. s.taken };
 
+    ghost failures = { λ s. s.faults };
+
     ghost wants = { λ s. s.wants };
 
     /// Opens the file and reads it. `Failed` comes exactly where it couldn't be opened or a read failed; that

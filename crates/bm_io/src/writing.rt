@@ -21,7 +21,7 @@ pub trait Sink {
     // The bytes so far, where the object tells them.
     ghost written: { Self → Option (List ℕ) };
 
-    // How many puts failed.
+    // How many faults there were. An object may count one that it got over by itself.
     ghost faults: { Self → ℕ };
 
     // How many puts answered that memory is wanting.
@@ -36,10 +36,7 @@ pub trait Sink {
         ensures failed { IsErrOf result Put.Failed → Rose (faults self.old) (faults self.new) }
         ensures wanting { IsErrOf result Put.Memory → Rose (wants self.old) (wants self.new) }
 
-        // A fault is counted only at `Failed`, a want only at `Memory`, so neither after `Ok`.
-        ensures uncounted { OnOk result
-            ((faults self.new ≡ faults self.old) × (wants self.new ≡ wants self.old)) }
-        ensures no_fault { IsErrOf result Put.Failed ⊎ (faults self.new ≡ faults self.old) }
+        // A want is counted only at `Memory`.
         ensures no_want { IsErrOf result Put.Memory ⊎ (wants self.new ≡ wants self.old) }
 
         // No count falls or passes its last value.

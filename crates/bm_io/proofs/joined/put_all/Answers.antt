@@ -1,9 +1,9 @@
 -- One more chunk went out, or was refused: what went out is then a front of all.
-use Rattle.std.proofs.Common.{◌≡◌, ◌∙◌, Err, ap, get_or, sym}
+use Rattle.std.proofs.Common.{◌≡◌, ◌∙◌, Err, ap, arith, get_or, sym}
 use Rattle.std.proofs.lemmas.Result.{err_from_is_err_and}
 use Rattle.bm_io.specs.declared.writing.Put.{Put}
 use Rattle.bm_io.proofs.StreamLaws.{appends_twice}
-use Rattle.bm_io.proofs.PutsLaws.{joined_more, joined_at, none_first, none_behind, puts_refused}
+use Rattle.bm_io.proofs.PutsLaws.{joined_more, joined_at, none_first, none_behind, puts_refused, unwanted}
 use Rattle.bm_io.proofs.joined.put_all.Goals as goal
 
 pub returns-in_err-put_some-clause-puts : goal.returns-in_err-put_some-clause-puts
@@ -37,8 +37,8 @@ loop-chunk-preserved g c =
     let more = joined_more g.P.AsSlice.items c.args.chunks.now l.chunk-index item.result c.loop-chunk-test.true in
     record {
       written = rw (more, ← bytes) (appends_twice _ _ _ _ _ l.invariant.written puts.whole);
-      faults = puts.uncounted.0 ∙ l.invariant.faults;
-      wants = puts.uncounted.1 ∙ l.invariant.wants;
+      faults = omega (arith, l.invariant.faults, puts.faults_stay);
+      wants = unwanted puts ∙ l.invariant.wants;
       untouched = λ none. let parts = sym more ∙ none in
           c.put_some.ensures.untouched (bytes ∙ none_behind _ _ parts) ∙ l.invariant.untouched (none_first _ _ parts);
     }

@@ -1,5 +1,5 @@
--- The chunks so far stand in the output, no count moved, and nothing was touched where they had no byte.
-use Rattle.std.proofs.Common.{◌≡◌, [], take}
+-- The chunks so far stand in the output, no want was counted, and nothing was touched where they had no byte.
+use Rattle.std.proofs.Common.{◌≡◌, ◌≤◌, [], take}
 use Rattle.std.specs.List.{flat_map}
 use Rattle.std.specs.Io.KnownBytes.{Appends}
 use Rattle.bm_io.proofs.joined.put_all.Given as goal
@@ -7,7 +7,7 @@ use Rattle.bm_io.proofs.joined.put_all.Given as goal
 abbrev pub invariant-loop-chunk : goal.invariant-loop-chunk
 invariant-loop-chunk g l = record {
   written : Appends (g.S.Sink.written l.fn.out) (g.S.Sink.written l.out) (flat_map g.P.AsSlice.items (take l.chunk-index l.chunks));
-  faults : g.S.Sink.faults l.out ≡ g.S.Sink.faults l.fn.out;
+  faults : g.S.Sink.faults l.fn.out ≤ g.S.Sink.faults l.out;
   wants : g.S.Sink.wants l.out ≡ g.S.Sink.wants l.fn.out;
   untouched : flat_map g.P.AsSlice.items (take l.chunk-index l.chunks) ≡ [] → l.out ≡ l.fn.out;
 }
