@@ -1,6 +1,6 @@
 -- What is said of a list of files, from what is said of its first and of those behind it. The work behind a file goes beyond it,
 -- whatever it comes to, since the files ascend.
-use Rattle.std.proofs.Common.{◌≡◌, ℕ, ◌<◌, ◌⊎◌, inl, inr, Bool, true, ◌&&◌, nat_lt, List, [], ◌∷◌, Option, Some, None, Result, Ok, Err, refl, ap, sym, ◌∙◌, subst, arith}
+use Rattle.std.proofs.Common.{◌≡◌, ℕ, ◌<◌, ◌≤◌, ◌⊎◌, inl, inr, Bool, true, ◌&&◌, nat_lt, List, [], ◌∷◌, Option, Some, None, Result, Ok, Err, refl, ap, sym, ◌∙◌, subst, arith}
 use Rattle.std.specs.Prelude.{IfSome, IsErrOf, IsErrAnd, IsNone, IsOk, IsTrue, OnOk}
 use Rattle.std.proofs.lemmas.Bool.{and_parts, ltb-true}
 use Rattle.bm_base.specs.ResultSteps.{◌>>=◌}
@@ -89,19 +89,19 @@ pub error_is : {T E : Type 0} → (answer : Result T E) → (error : E) → IsEr
 error_is (Ok value) error told = absurd told
 error_is {E = E} (Err first) error told = ap (λ (e : E). Err e) told
 
--- a file is unread only where the faults of its name rose, before which none was counted
-rose_behind : (before mid now : List ℕ → ℕ) (name : Option (List ℕ)) → ((any : List ℕ) → mid any ≡ before any)
+-- a file is unread only where the faults of its name rose, before which none fell
+rose_behind : (before mid now : List ℕ → ℕ) (name : Option (List ℕ)) → ((any : List ℕ) → before any ≤ mid any)
     → RoseAt mid now name → RoseAt before now name
-rose_behind before mid now None uncounted rose = rose
-rose_behind before mid now (Some name) uncounted rose = rw (uncounted name) at rose
+rose_behind before mid now None stay rose = rose
+rose_behind before mid now (Some name) stay rose = let less = stay name in omega (arith, less, rose)
 
 cause_behind : (before mid now : List ℕ → ℕ) (named : Named) (answer : Result (Unit {0}) InputError)
-    → ((any : List ℕ) → mid any ≡ before any) → HasCause mid now named answer → HasCause before now named answer
-cause_behind before mid now named (Ok done) uncounted cause = tt
-cause_behind before mid now named (Err (errors.Refused (refusals.Unread input))) uncounted cause =
-    rose_behind before mid now (named input) uncounted cause
-cause_behind before mid now named (Err (errors.Refused (refusals.Faulty input fault))) uncounted cause = tt
-cause_behind before mid now named (Err errors.Memory) uncounted cause = tt
+    → ((any : List ℕ) → before any ≤ mid any) → HasCause mid now named answer → HasCause before now named answer
+cause_behind before mid now named (Ok done) stay cause = tt
+cause_behind before mid now named (Err (errors.Refused (refusals.Unread input))) stay cause =
+    rose_behind before mid now (named input) stay cause
+cause_behind before mid now named (Err (errors.Refused (refusals.Faulty input fault))) stay cause = tt
+cause_behind before mid now named (Err errors.Memory) stay cause = tt
 
 on_ok : (answer : Result (Unit {0}) InputError) (P Q : Type 0) → (P → Q) → OnOk answer P → OnOk answer Q
 on_ok (Ok done) P Q then is = then is
@@ -114,12 +114,13 @@ pub record IsAdded {F : Type 0} (kind : FilesOf F) (names : Named) (file : File)
   pub cause : HasCause (kind.faults old) (kind.faults new) names result
   pub memory : IsErrOf result errors.Memory → Rose (kind.wants old) (kind.wants new) ⊎ IfSome (kind.holds old)
       (λ held. IsTrue (takes_memory held names file) × IsOk (file_step held names file before))
-  pub unfailed : IsErrOf result errors.Memory → (any : List ℕ) → kind.faults new any ≡ kind.faults old any
+  pub unfailed : IsErrOf result errors.Memory → kind.failures new ≡ kind.failures old
   pub unwanted : OnOk result (kind.wants new ≡ kind.wants old)
   pub own : IsOf file.input result
   pub unnamed : IsNone (names file.input) → IsOk result
   pub kept : kind.holds new ≡ kind.holds old
-  pub uncounted : OnOk result ((any : List ℕ) → kind.faults new any ≡ kind.faults old any)
+  pub uncounted : OnOk result (kind.failures new ≡ kind.failures old)
+  pub faults_stay : (any : List ℕ) → kind.faults old any ≤ kind.faults new any
 
 module _ {F : Type 0} (kind : FilesOf F) (names : Named) (file : File) (files : List File) where
   -- the first file is refused, or wants memory
@@ -168,7 +169,7 @@ module _ {F : Type 0} (kind : FilesOf F) (names : Named) (file : File) (files : 
         (λ held. Gives (λ done. after) result (given_in held names files between))
         (λ held. Gives (λ done. after) result (given_in held names (file ∷ files) before))
         (λ held is gives. rw (behind held before between is) gives) added.gives (rw added.kept at rest.gives);
-    cause = cause_behind (kind.faults old) (kind.faults mid) (kind.faults new) names result added.uncounted rest.cause;
+    cause = cause_behind (kind.faults old) (kind.faults mid) (kind.faults new) names result added.faults_stay rest.cause;
     memory = λ wants. elim (rest.memory wants) [
       | inl rose ↦ inl (rw added.unwanted at rose)
       | inr told ↦ inr (if_both (kind.holds old) (λ held. file_step held names file before ≡ Ok between)
@@ -180,10 +181,10 @@ module _ {F : Type 0} (kind : FilesOf F) (names : Named) (file : File) (files : 
             subst (λ (y : Result Given InputRefusal). Passes w.0.input y) (sym (behind held before between is)) w.3,
           )) added.gives (rw added.kept at told))
     ];
-    unfailed = λ wants any. rest.unfailed wants any ∙ added.uncounted any;
+    unfailed = λ wants. rest.unfailed wants ∙ added.uncounted;
     unnamed = rest.unnamed;
-    uncounted = on_ok result ((any : List ℕ) → kind.faults new any ≡ kind.faults mid any)
-        ((any : List ℕ) → kind.faults new any ≡ kind.faults old any) (λ same any. same any ∙ added.uncounted any) rest.uncounted;
+    uncounted = on_ok result (kind.failures new ≡ kind.failures mid) (kind.failures new ≡ kind.failures old)
+        (λ same. same ∙ added.uncounted) rest.uncounted;
     unwanted = on_ok result (kind.wants new ≡ kind.wants mid) (kind.wants new ≡ kind.wants old) (λ same. same ∙ added.unwanted)
         rest.unwanted;
     kept = rest.kept ∙ added.kept;

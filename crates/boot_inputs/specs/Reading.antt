@@ -1,5 +1,5 @@
 -- What is said of files that are read one after another, of any list of them.
-use Rattle.std.specs.Prelude.{◌≡◌, ℕ, Bool, true, ◌&&◌, ◌⊎◌, nat_lt, List, [], ◌∷◌, Result, IfSome, IsErrOf, IsNone, IsOk, IsTrue, OnOk}
+use Rattle.std.specs.Prelude.{◌≡◌, Bool, true, ◌&&◌, ◌⊎◌, nat_lt, List, [], ◌∷◌, Result, IfSome, IsErrOf, IsNone, IsOk, IsTrue, OnOk}
 use Rattle.bm_io.specs.Counts.{Rose}
 use Rattle.bm_io.specs.declared.reading.Files.{Ghosts as FilesOf}
 use Rattle.boot_model.specs.Boot.{Given}
@@ -37,8 +37,8 @@ pub record AreRead {F : Type 0} (kind : FilesOf F) (named : Named) (files : List
   pub cause : HasCause (kind.faults old) (kind.faults new) named result
   pub memory : IsErrOf result errors.Memory
       → Rose (kind.wants old) (kind.wants new) ⊎ IfSome (kind.holds old) (λ held. WantsMemory held named files before)
-  pub unfailed : IsErrOf result errors.Memory → (any : List ℕ) → kind.faults new any ≡ kind.faults old any
+  pub unfailed : IsErrOf result errors.Memory → kind.failures new ≡ kind.failures old
   pub unnamed : ((input : Input) → IsNone (named input)) → IsOk result
-  pub uncounted : OnOk result ((any : List ℕ) → kind.faults new any ≡ kind.faults old any)
+  pub uncounted : OnOk result (kind.failures new ≡ kind.failures old)
   pub unwanted : OnOk result (kind.wants new ≡ kind.wants old)
   pub kept : kind.holds new ≡ kind.holds old

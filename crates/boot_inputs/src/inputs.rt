@@ -1,6 +1,6 @@
 //! All files, in the order of work.
 
-ghost use Rattle.std.specs.Prelude.{◌≡◌, ℕ, List, IfSome, IsErrOf, IsNone, IsOk, OnOk, ◌⊎◌};
+ghost use Rattle.std.specs.Prelude.{◌≡◌, IfSome, IsErrOf, IsNone, IsOk, OnOk, ◌⊎◌};
 ghost use Rattle.boot_model.specs.View.{inputs_view};
 ghost use Rattle.bm_io.specs.Counts.{Rose};
 ghost use Rattle.boot_inputs.specs.Answers.{Gives, HasCause};
@@ -55,10 +55,9 @@ pub fn read_inputs<F: Files, N: Names>(
     ensures cause { HasCause (F.faults files.old) (F.faults files.new) (N.named names.now) result }
     ensures memory { IsErrOf result InputError.Memory → Rose (F.wants files.old) (F.wants files.new)
         ⊎ IfSome (F.holds files.old) (λ held. WantsMemory held (N.named names.now) input_files (inputs_view begun)) }
-    ensures unfailed { IsErrOf result InputError.Memory
-        → ((any : List ℕ) → F.faults files.new any ≡ F.faults files.old any) }
+    ensures unfailed { IsErrOf result InputError.Memory → F.failures files.new ≡ F.failures files.old }
     ensures unnamed { ((input : AnyInput) → IsNone (N.named names.now input)) → IsOk result }
-    ensures uncounted { OnOk result ((any : List ℕ) → F.faults files.new any ≡ F.faults files.old any) }
+    ensures uncounted { OnOk result (F.failures files.new ≡ F.failures files.old) }
 {
     let mut inputs = begun;
     match FromZeroPage::add_files::<F, N>(alloc, files, names, &mut inputs) {

@@ -29,10 +29,16 @@ returns-in-Ok-clause-gives g c =
     c.in-Ok.ensures.told fits (rw c.deref.ensures.value at c.read.ensures.gives)
 
 pub returns-in-Ok-clause-unfailed : goal.returns-in-Ok-clause-unfailed
-returns-in-Ok-clause-unfailed g c = λ wanting. c.in-Ok.ensures.uncounted
+returns-in-Ok-clause-unfailed g c = λ wanting. elim c.in-Ok.ensures.no_failure [
+  | inl failed ↦ cc
+  | inr same ↦ same
+]
 
 pub returns-in-Ok-clause-uncounted : goal.returns-in-Ok-clause-uncounted
-returns-in-Ok-clause-uncounted g c = on_ok c.read.result _ c.in-Ok.ensures.uncounted
+returns-in-Ok-clause-uncounted g c = elim c.in-Ok.ensures.no_failure [
+  | inl failed ↦ cc
+  | inr same ↦ on_ok c.read.result _ same
+]
 
 pub returns-in-Ok-clause-unwanted : goal.returns-in-Ok-clause-unwanted
 returns-in-Ok-clause-unwanted g c = elim c.in-Ok.ensures.no_want [

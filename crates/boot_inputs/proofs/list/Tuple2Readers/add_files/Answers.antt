@@ -20,6 +20,7 @@ returns-in_err-add_file g c =
       unnamed = added.unnamed;
       kept = added.kept;
       uncounted = added.uncounted;
+      faults_stay = added.faults_stay;
     }))
 
 pub returns : goal.returns
@@ -38,5 +39,6 @@ returns g c =
       unnamed = added.unnamed;
       kept = added.kept;
       uncounted = added.uncounted;
+      faults_stay = added.faults_stay;
     })
     c.add_files.ensures
