@@ -1,6 +1,6 @@
 //! The whole audit over any files and outputs, with its contract in one record.
 
-ghost use Rattle.std.specs.Prelude.{◌≡◌, ℕ, List, IfSome, IfErr, IfOk, IsNone, IsErrOf, OnOk, OnErr, ◌⊎◌, map, string_bytes};
+ghost use Rattle.std.specs.Prelude.{◌≡◌, IfSome, IfErr, IfOk, IsNone, IsErrOf, OnOk, OnErr, ◌⊎◌, map, string_bytes};
 ghost use Rattle.std.specs.Option.{option_map};
 ghost use Rattle.std.specs.Io.KnownBytes.{Appends};
 ghost use Rattle.bm_io.specs.Counts.{Rose};
@@ -56,11 +56,9 @@ fn write_verdict<F: Files, S: Sink>(
     ensures cause { AnswerHasCause (F.faults files.old) (F.faults files.new) (option_map wanted_view names.now) result }
     ensures unfetched { IsNone (option_map wanted_view names.now) → files.new ≡ files.old }
     ensures unput { IsNone (option_map wanted_view names.now) → out.new ≡ out.old }
-    ensures unfailed { IsErrOf result Failure.Memory
-        → ((any : List ℕ) → F.faults files.new any ≡ F.faults files.old any) }
+    ensures unfailed { IsErrOf result Failure.Memory → F.failures files.new ≡ F.failures files.old }
     ensures output { WritingHasCause S.faults S.wants out.old out.new result }
-    ensures uncounted { OnOk result (((any : List ℕ) → F.faults files.new any ≡ F.faults files.old any)
-        × (S.faults out.new ≡ S.faults out.old)) }
+    ensures uncounted { OnOk result (F.failures files.new ≡ F.failures files.old) }
 {
     let verdict = find_verdict(alloc, names, files)?;
     let text = verdict_text(alloc, verdict)?;
@@ -75,7 +73,6 @@ fn put_whole<S: Sink>(out: &mut S, text: &[u8]) -> Result<(), Failure>
     ensures only { IfErr result (λ failure. (failure ≡ Failure.Unwritten) ⊎ (failure ≡ Failure.Memory)) }
     ensures failed { IsErrOf result Failure.Unwritten → Rose (S.faults out.old) (S.faults out.new) }
     ensures wanting { IsErrOf result Failure.Memory → Rose (S.wants out.old) (S.wants out.new) }
-    ensures uncounted { OnOk result (S.faults out.new ≡ S.faults out.old) }
 {
     match out.put(text) {
         Ok(()) => Ok(()),
@@ -96,9 +93,8 @@ fn find_verdict<F: Files>(
     ensures early { IfErr result IsEarly }
     ensures near { IfOk result IsNear }
     ensures unfetched { IsNone (option_map wanted_view names.now) → files.new ≡ files.old }
-    ensures unfailed { IsErrOf result Failure.Memory
-        → ((any : List ℕ) → F.faults files.new any ≡ F.faults files.old any) }
-    ensures uncounted { OnOk result ((any : List ℕ) → F.faults files.new any ≡ F.faults files.old any) }
+    ensures unfailed { IsErrOf result Failure.Memory → F.failures files.new ≡ F.failures files.old }
+    ensures uncounted { OnOk result (F.failures files.new ≡ F.failures files.old) }
 {
     let Some(names) = names else {
         return Err(Failure::NoVerdict(Reason::Usage));

@@ -1,7 +1,7 @@
 //! The audit as a program over any files and outputs, with its contract in clauses. They follow from the record of
 //! [`run_audit`].
 
-ghost use Rattle.std.specs.Prelude.{◌≡◌, ◌≢◌, ◌↔◌, ℕ, List, Ok, IfSome, IsNone, ◌⊎◌, map, string_bytes};
+ghost use Rattle.std.specs.Prelude.{◌≡◌, ◌≢◌, ◌↔◌, Ok, IfSome, IsNone, ◌⊎◌, map, string_bytes};
 ghost use Rattle.std.specs.Io.KnownBytes.{Appends};
 ghost use Rattle.bm_io.specs.Counts.{Rose};
 ghost use Rattle.bm_io.specs.Told.{AppendsFront};
@@ -37,14 +37,13 @@ pub fn audit<F: Files, S: Sink, E: Sink>(
     ensures unwritten { result ≡ 4 → Rose (S.faults out.old) (S.faults out.new) }
 
     // What stays as it was, whatever the files tell: the files and the output with refused words, the output where no
-    // verdict came to be, after a verdict each count of faults, and after status 7 those of files: a file that couldn't
-    // be read isn't told as want of memory.
+    // verdict came to be, and after a verdict and after status 7 the count of failed fetches: a file that couldn't be
+    // read isn't told as want of memory.
     ensures unfetched { IsNone (accepted (map string_bytes words.now)) → files.new ≡ files.old }
     ensures early { (result ≡ 2) ⊎ (result ≡ 3) ⊎ (result ≡ 5) → out.new ≡ out.old }
     ensures wanting { result ≡ 7 → (out.new ≡ out.old) ⊎ Rose (S.wants out.old) (S.wants out.new) }
-    ensures unfailed { result ≡ 7 → (any : List ℕ) → F.faults files.new any ≡ F.faults files.old any }
-    ensures uncounted { (result ≡ 0) ⊎ (result ≡ 8) → ((any : List ℕ) → F.faults files.new any ≡ F.faults files.old any)
-        × (S.faults out.new ≡ S.faults out.old) }
+    ensures unfailed { result ≡ 7 → F.failures files.new ≡ F.failures files.old }
+    ensures uncounted { (result ≡ 0) ⊎ (result ≡ 8) → F.failures files.new ≡ F.failures files.old }
 
     // The headline, where the files tell what they hold: 0 comes exactly where the words have their form, the three texts
     // are well-formed, each usable frame is touched or in exactly one block and not both, each frame of a block is usable
