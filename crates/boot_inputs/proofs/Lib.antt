@@ -2,3 +2,4 @@ mod Examples
 mod FileLaws
 mod ReadingLaws
 mod TakeLaws
+mod WantLaws
