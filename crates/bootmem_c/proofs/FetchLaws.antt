@@ -1,6 +1,6 @@
 -- What a fetch of lent files counts, for each name.
-use Rattle.std.proofs.Common.{◌≡◌, ℕ, ◌+◌, ◌-◌, ◌^◌, ◌<◌, ◌≤◌, List, Option, Some, None, Result, Ok, Err, Vec, Global, refl, arith, inl, inr, ap, sym, min}
-use Rattle.std.specs.Prelude.{OnOk, IsErrOf, IsNone, ◌⊎◌, is_some, if◌then◌else◌}
+use Rattle.std.proofs.Common.{◌≡◌, ℕ, ◌+◌, ◌-◌, ◌^◌, ◌<◌, ◌≤◌, List, Option, Some, None, Result, Ok, Err, Vec, Global, refl, arith, inl, inr, ap, min}
+use Rattle.std.specs.Prelude.{IsErrOf, IsNone, ◌⊎◌, is_some, if◌then◌else◌}
 use Rattle.bm_io.specs.Counts.{Rose, RoseByMoreThan}
 use Rattle.bm_io.specs.HeldFiles.{HeldFile, bytes_of}
 use Rattle.bm_io.specs.declared.reading.Fetch.{Fetch}
@@ -51,26 +51,18 @@ faults_stay answer old new kept grew any =
 pub faults_fit : (state : LentState) (any : List ℕ) → faults_at state any < 2 ^ 64
 faults_fit state any = at_fits (bytes_of state.files any) state.misses
 
--- where no miss was counted, no count moved
-unmoved : (old new : LentState) → new.files ≡ old.files → new.misses ≡ old.misses + 0
-    → (any : List ℕ) → faults_at new any ≡ faults_at old any
-unmoved old new kept grew any =
-    let same : new.misses ≡ old.misses = omega (arith, grew) in
-    sym (rw (← same) (sym (same_held old new kept any)))
+-- a miss is a failed fetch, and nothing else is
+pub failure : (answer : Result (Vec ℕ Global) Fetch) (old new : ℕ) → new ≡ old + misses_of answer → IsErrOf answer fetch.Failed
+    → Rose old new
+failure answer old new grew failed =
+    let one : misses_of answer ≡ 1 = rw failed refl in omega (arith, grew, one)
 
-pub no_fault : (answer : Result (Vec ℕ Global) Fetch) (old new : LentState) → new.files ≡ old.files
-    → new.misses ≡ old.misses + misses_of answer
-    → IsErrOf answer fetch.Failed ⊎ ((any : List ℕ) → faults_at new any ≡ faults_at old any)
-no_fault (Ok bytes) old new kept grew = inr (unmoved old new kept grew)
-no_fault (Err fetch.Failed) old new kept grew = inl refl
-no_fault (Err fetch.TooLong) old new kept grew = inr (unmoved old new kept grew)
-no_fault (Err fetch.Memory) old new kept grew = inr (unmoved old new kept grew)
-
-pub uncounted : (answer : Result (Vec ℕ Global) Fetch) (old new : LentState) → new.files ≡ old.files
-    → new.misses ≡ old.misses + misses_of answer
-    → OnOk answer ((any : List ℕ) → faults_at new any ≡ faults_at old any)
-uncounted (Ok bytes) old new kept grew = unmoved old new kept grew
-uncounted (Err error) old new kept grew = tt
+pub no_failure : (answer : Result (Vec ℕ Global) Fetch) (old new : ℕ) → new ≡ old + misses_of answer
+    → IsErrOf answer fetch.Failed ⊎ (new ≡ old)
+no_failure (Ok bytes) old new grew = inr (omega (arith, grew))
+no_failure (Err fetch.Failed) old new grew = inl refl
+no_failure (Err fetch.TooLong) old new grew = inr (omega (arith, grew))
+no_failure (Err fetch.Memory) old new grew = inr (omega (arith, grew))
 
 pub no_want : (answer : Result (Vec ℕ Global) Fetch) → IsErrOf answer fetch.Memory ⊎ (2 ^ 64 - 1 ≡ 2 ^ 64 - 1)
 no_want answer = inr refl

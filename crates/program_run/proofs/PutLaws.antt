@@ -1,18 +1,18 @@
 -- Bytes that go out part by part: those that went out, and those that are left.
-use Rattle.std.proofs.Common.{◌≡◌, ℕ, List, [], ◌++◌, Option, Some, None, Result, Ok, Err, refl, sym, ap, ◌∙◌, append_assoc, append-nil, arith, inr}
+use Rattle.std.proofs.Common.{◌≡◌, ℕ, ◌≤◌, List, [], ◌++◌, Option, Some, None, Result, Ok, Err, refl, sym, ap, ◌∙◌, append_assoc, append-nil, arith, inr}
 use Rattle.std.specs.Io.KnownBytes.{Appends}
 use Rattle.bm_io.specs.Puts.{Puts}
 use Rattle.bm_io.specs.declared.writing.Put.{Put}
 use Rattle.bm_io.specs.declared.writing.Sink.{Ghosts as SinkOf}
-use Rattle.bm_io.proofs.PutsLaws.{puts_refused}
+use Rattle.bm_io.proofs.PutsLaws.{puts_refused, unwanted}
 use Rattle.bm_io.proofs.StreamLaws.{appends_twice}
 
--- of all bytes those up to the rest went out, and no count moved
+-- of all bytes those up to the rest went out, and no want was counted
 pub record WentOut {S : Type 0} (sink : SinkOf S) (old now : S) (rest all : List ℕ) : Type 0 where
   pub out : List ℕ
   pub written : Appends (sink.written old) (sink.written now) out
   pub joined : out ++ rest ≡ all
-  pub faults : sink.faults now ≡ sink.faults old
+  pub faults : sink.faults old ≤ sink.faults now
   pub wants : sink.wants now ≡ sink.wants old
 
 appends_none : (written : Option (List ℕ)) → Appends written written []
@@ -20,7 +20,7 @@ appends_none None = tt
 appends_none (Some bytes) = sym (append-nil bytes)
 
 pub none_out : {S : Type 0} (sink : SinkOf S) (old : S) (all : List ℕ) → WentOut sink old old all all
-none_out sink old all = record { out = []; written = appends_none (sink.written old); joined = refl; faults = refl; wants = refl }
+none_out sink old all = record { out = []; written = appends_none (sink.written old); joined = refl; faults = omega arith; wants = refl }
 
 -- a part more, where the rest begins with it
 pub more_out : {S : Type 0} (sink : SinkOf S) (old mid new : S) (rest part left all : List ℕ) → WentOut sink old mid rest all
@@ -29,8 +29,8 @@ more_out sink old mid new rest part left all before split puts = record {
   out = before.out ++ part;
   written = appends_twice (sink.written old) (sink.written mid) (sink.written new) before.out part before.written puts.whole;
   joined = append_assoc before.out part left ∙ ap (λ t. before.out ++ t) (sym split) ∙ before.joined;
-  faults = puts.uncounted.0 ∙ before.faults;
-  wants = puts.uncounted.1 ∙ before.wants;
+  faults = omega (arith, before.faults, puts.faults_stay);
+  wants = unwanted puts ∙ before.wants;
 }
 
 -- a part that is refused: that is the answer to all
@@ -51,9 +51,7 @@ all_out sink old new rest all before none =
       front = tt;
       failed = λ never. cc;
       wanting = λ never. cc;
-      uncounted = (before.faults, before.wants);
-      no_fault = inr before.faults;
       no_want = inr before.wants;
-      faults_stay = omega (arith, before.faults);
+      faults_stay = before.faults;
       wants_stay = omega (arith, before.wants);
     }

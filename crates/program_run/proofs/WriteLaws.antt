@@ -68,7 +68,6 @@ put_some faults wants old new (Err (failures.NoReport reason)) only failed wanti
 put_some faults wants old new (Err failures.Unwritten) only failed wanting = failed refl
 put_some faults wants old new (Err failures.Memory) only failed wanting = inr (wanting refl)
 
-pub counted_none : (end : End) (before now : List ℕ → ℕ) (old new : ℕ) → ((any : List ℕ) → now any ≡ before any) → OnOk end (new ≡ old)
-    → OnOk end (((any : List ℕ) → now any ≡ before any) × (new ≡ old))
-counted_none (Ok done) before now old new files sink = (files, sink)
-counted_none (Err failure) before now old new files sink = tt
+pub on_ok : (end : End) {P : Type 0} → P → OnOk end P
+on_ok (Ok done) is = is
+on_ok (Err failure) is = tt

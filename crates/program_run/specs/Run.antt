@@ -1,5 +1,5 @@
 -- What is said of a run, whole.
-use Rattle.std.specs.Prelude.{◌≡◌, ℕ, List, Option, IfSome, IsErrOf, IsNone, OnOk, Ok, Err}
+use Rattle.std.specs.Prelude.{◌≡◌, Option, IfSome, IsErrOf, IsNone, OnOk, Ok, Err}
 use Rattle.bm_io.specs.declared.reading.Files.{Ghosts as FilesOf}
 use Rattle.bm_io.specs.declared.writing.Sink.{Ghosts as SinkOf}
 use Rattle.program_run.specs.declared.failure.Failure.TheVariants as failures
@@ -26,11 +26,10 @@ pub record RanTo {F S E : Type 0} (files : FilesOf F) (sink : SinkOf S) (errors 
   pub unput : IsNone accepted → out_now ≡ out_before
   -- the output is as it was, or has the cause of what became of it
   pub output : WritingHasCause sink.faults sink.wants out_before out_now end
-  -- after status 0 no fault was counted, of any file or of the output
-  pub uncounted : OnOk end (((any : List ℕ) → files.faults held_now any ≡ files.faults held_before any)
-      × (sink.faults out_now ≡ sink.faults out_before))
+  -- after status 0 no fetch failed
+  pub uncounted : OnOk end (files.failures held_now ≡ files.failures held_before)
   -- a file that couldn't be read isn't told as want of memory
-  pub unfailed : IsErrOf end failures.Memory → (any : List ℕ) → files.faults held_now any ≡ files.faults held_before any
+  pub unfailed : IsErrOf end failures.Memory → files.failures held_now ≡ files.failures held_before
   -- where the files tell what they hold, the end and the output are those of the outcome
   pub said : IfSome (files.holds held_before) (λ held. Writes (sink.written out_before) (sink.written out_now) end (outcome accepted held))
   -- the line of a failure goes to the error output

@@ -1,7 +1,7 @@
 //! The contract of [`run`] clause by clause, for a reader who asks when a status comes or what stays as it was.
 //! They follow from its record, so the function that has them does nothing else.
 
-ghost use Rattle.std.specs.Prelude.{◌≡◌, ◌≢◌, ℕ, List, IfSome, IsNone, ◌⊎◌};
+ghost use Rattle.std.specs.Prelude.{◌≡◌, ◌≢◌, IfSome, IsNone, ◌⊎◌};
 ghost use Rattle.std.specs.Io.KnownBytes.{Appends};
 ghost use Rattle.bm_io.specs.Counts.{Rose};
 ghost use Rattle.bm_io.specs.Told.{AppendsFront};
@@ -35,15 +35,14 @@ pub fn run_by_clauses<F: Files, S: Sink, E: Sink>(
     ensures unwritten { result ≡ 4 → Rose (S.faults out.old) (S.faults out.new) }
 
     // What stays as it was, whatever the files tell: the files and the output with refused words, the output
-    // where no text came to be, after status 0 each count of faults, and after status 7 those of files: a file that
-    // couldn't be read isn't told as want of memory.
+    // where no text came to be, and after status 0 and status 7 the count of failed fetches: a file that couldn't be
+    // read isn't told as want of memory.
     ensures unfetched { IsNone (accepted (texts words.now)) → files.new ≡ files.old }
     ensures unput { IsNone (accepted (texts words.now)) → out.new ≡ out.old }
     ensures early { (result ≡ 2) ⊎ (result ≡ 3) ⊎ (result ≡ 5) ⊎ (result ≡ 6) → out.new ≡ out.old }
     ensures wanting { result ≡ 7 → (out.new ≡ out.old) ⊎ Rose (S.wants out.old) (S.wants out.new) }
-    ensures unfailed { result ≡ 7 → (any : List ℕ) → F.faults files.new any ≡ F.faults files.old any }
-    ensures uncounted { result ≡ 0 → ((any : List ℕ) → F.faults files.new any ≡ F.faults files.old any)
-        × (S.faults out.new ≡ S.faults out.old) }
+    ensures unfailed { result ≡ 7 → F.failures files.new ≡ F.failures files.old }
+    ensures uncounted { result ≡ 0 → F.failures files.new ≡ F.failures files.old }
 
     // The headline: after status 0 the text of the one boot that the bytes determine was written, and in it each
     // usable frame is touched by a claim with a recorded owner or in exactly one block, and no other frame is in any.

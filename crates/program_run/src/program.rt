@@ -1,7 +1,7 @@
 //! The whole program over any files and outputs. It is generic over them, so one contract speaks of those in
 //! memory, with which tests run it, and of the system's, which `main` hands in (`bootmem_cli`).
 
-ghost use Rattle.std.specs.Prelude.{◌≡◌, ℕ, List, Some, IfSome, IfErr, IsErrOf, OnOk, OnErr, ◌⊎◌, flat_map};
+ghost use Rattle.std.specs.Prelude.{◌≡◌, Some, IfSome, IfErr, IsErrOf, OnOk, OnErr, ◌⊎◌, flat_map};
 ghost use Rattle.std.specs.Io.KnownBytes.{Appends};
 ghost use Rattle.bm_io.specs.Counts.{Rose};
 ghost use Rattle.bm_io.specs.Told.{AppendsFront};
@@ -90,11 +90,9 @@ fn write_reports<F: Files, S: Sink>(
         (outcome (Some (wanted_view wanted.now)) held)) }
     ensures cause { IfErr result (λ failure. FailureHasCause (F.faults files.old)
         (F.faults files.new) (Some (wanted_view wanted.now)) failure) }
-    ensures unfailed { IsErrOf result Failure.Memory
-        → ((any : List ℕ) → F.faults files.new any ≡ F.faults files.old any) }
+    ensures unfailed { IsErrOf result Failure.Memory → F.failures files.new ≡ F.failures files.old }
     ensures output { WritingHasCause S.faults S.wants out.old out.new result }
-    ensures uncounted { OnOk result (((any : List ℕ) →
-        F.faults files.new any ≡ F.faults files.old any) × (S.faults out.new ≡ S.faults out.old)) }
+    ensures uncounted { OnOk result (F.failures files.new ≡ F.failures files.old) }
 {
     let texts = make_texts(alloc, wanted, files)?;
     put_texts(out, texts)
@@ -110,7 +108,6 @@ fn put_texts<S: Sink>(out: &mut S, texts: Vec<Vec<Chunk>>) -> Result<(), Failure
         ⊎ (failure ≡ Failure.Memory)) }
     ensures failed { IsErrOf result Failure.Unwritten → Rose (S.faults out.old) (S.faults out.new) }
     ensures wanting { IsErrOf result Failure.Memory → Rose (S.wants out.old) (S.wants out.new) }
-    ensures uncounted { OnOk result (S.faults out.new ≡ S.faults out.old) }
 {
     match put_reports(out, texts) {
         Ok(()) => Ok(()),
@@ -130,9 +127,8 @@ fn make_texts<F: Files>(
         (outcome (Some (wanted_view wanted.now)) held)) }
     ensures cause { ReportHasCause (F.faults files.old) (F.faults files.new)
         (Some (wanted_view wanted.now)) result }
-    ensures unfailed { IsErrOf result Failure.Memory
-        → ((any : List ℕ) → F.faults files.new any ≡ F.faults files.old any) }
-    ensures uncounted { OnOk result ((any : List ℕ) → F.faults files.new any ≡ F.faults files.old any) }
+    ensures unfailed { IsErrOf result Failure.Memory → F.failures files.new ≡ F.failures files.old }
+    ensures uncounted { OnOk result (F.failures files.new ≡ F.failures files.old) }
 {
     let inputs = read_given(alloc, wanted, files)?;
     boot_texts(alloc, inputs, wanted.list)

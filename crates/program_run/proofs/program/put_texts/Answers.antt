@@ -3,6 +3,3 @@ use Rattle.program_run.proofs.program.put_texts.Goals as goal
 
 pub returns-in-Err-Failed-clause-failed : goal.returns-in-Err-Failed-clause-failed
 returns-in-Err-Failed-clause-failed g c = search rules
-
-pub returns-in-Ok-clause-uncounted : goal.returns-in-Ok-clause-uncounted
-returns-in-Ok-clause-uncounted g c = search rules

@@ -21,7 +21,7 @@ returns-in-Err-Usage-clause-ran g c =
         unput = λ none. refl;
         output = refl;
         uncounted = tt;
-        unfailed = λ wanting any. refl;
+        unfailed = λ wanting. refl;
         said = usage_fits (g.F.Files.holds c.args.files.now) (accepted (texts c.args.words.now)) (g.S.Sink.written c.args.out.now)
             none;
         line = c.tell_usage.ensures;
@@ -38,7 +38,7 @@ returns-in-Err-Memory-clause-ran g c = (
     unput = λ none. refl;
     output = inl refl;
     uncounted = tt;
-    unfailed = λ wanting any. refl;
+    unfailed = λ wanting. refl;
     said = wanting_fits (g.F.Files.holds c.args.files.now) (accepted (texts c.args.words.now)) (g.S.Sink.written c.args.out.now);
     line = c.tell_memory.ensures (accepted (texts c.args.words.now));
   },

@@ -3,7 +3,7 @@ use Rattle.std.proofs.Common.{◌∙◌, Some, Err, ap}
 use Rattle.std.proofs.lemmas.Result.{err_from_is_err_and}
 use Rattle.program_words.specs.View.{wanted_view}
 use Rattle.program_run.specs.declared.failure.Failure.{Failure}
-use Rattle.program_run.proofs.WriteLaws.{counted_none, put_none, put_some, wrote, wrote_none}
+use Rattle.program_run.proofs.WriteLaws.{on_ok, put_none, put_some, wrote, wrote_none}
 use Rattle.program_run.proofs.program.write_reports.Goals as goal
 
 pub returns-in_err-texts-clause-writes : goal.returns-in_err-texts-clause-writes
@@ -30,5 +30,4 @@ returns-clause-output g c =
 
 pub returns-clause-uncounted : goal.returns-clause-uncounted
 returns-clause-uncounted g c =
-    counted_none c.put_texts.result (g.F.Files.faults c.args.files.now) (g.F.Files.faults c.make_texts.new.files)
-    (g.S.Sink.faults c.args.out.now) (g.S.Sink.faults c.put_texts.new.out) c.in_ok-texts.ensures.uncounted c.put_texts.ensures.uncounted
+    on_ok c.put_texts.result c.in_ok-texts.ensures.uncounted
