@@ -11,5 +11,5 @@ returns c =
     let front : List ℕ = codes "no gap for table " ++ which_name c.args.which in
     subst (λ (t : List ℕ). PutsText c.args.text.now c.put_word_dec.new.text c.put_word_dec.result t)
     (sym (append_assoc front (codes " room ") (decimal c.args.room)))
-    (goes_on c.args.text.now c.put_text-2.new.out c.put_word_dec.new.text c.put_word_dec.result front (codes " room " ++ decimal c.args.room)
-    c.put_word_dec.ensures (grind (arith, common_steps)) (grind (arith, common_steps)))
+    (goes_on c.args.text.now c.put_text-2.new.out c.put_word_dec.new.text c.put_word_dec.result front
+    (codes " room " ++ decimal c.args.room) c.put_word_dec.ensures (grind (arith, common_steps)) (grind (arith, common_steps)))
