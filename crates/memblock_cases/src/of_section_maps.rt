@@ -1,5 +1,7 @@
 //! The maps of two groups, the second of which has no piece for all of its maps. The places are the greatest addresses by hand.
 
+ghost use Rattle.std.specs.Prelude.{◌<◌, AllPairs};
+
 use crate::machines::{has_begun, limit, machine};
 use crate::ranges::{KERNEL, Part};
 use section_maps::{Placed, place_maps};
@@ -13,17 +15,23 @@ const MEMORY: [Part; 3] = [
     (0x1800_0000, 0x1830_0000, 1),
 ];
 
+fn four_sections() -> [Section; 4]
+    ensures { AllPairs (λ s t. s.number < t.number) result }
+{
+    [
+        Section { number: 0, node: 0 },
+        Section { number: 1, node: 0 },
+        Section { number: 2, node: 1 },
+        Section { number: 3, node: 1 },
+    ]
+}
+
 #[test]
 fn one_piece_and_one_by_one(rt: HostRuntime) -> Result<(), Fail> {
     let alloc = rt.alloc();
     let mut memblock = machine(alloc, KERNEL, &MEMORY)?;
     limit(&mut memblock, 0x1830_0000)?;
-    let sections = [
-        Section { number: 0, node: 0 },
-        Section { number: 1, node: 0 },
-        Section { number: 2, node: 1 },
-        Section { number: 3, node: 1 },
-    ];
+    let sections = four_sections();
     if !has_begun(&memblock) {
         return Err("nothing has happened".into());
     }

@@ -1,7 +1,7 @@
 //! The groups of sections, one after another. Each is cut off the front of the list when its turn comes, as the
 //! kernel does (`sparse_init`), so no list of groups is made that could want memory.
 
-ghost use Rattle.std.specs.Prelude.{◌≡◌, ◌^◌, ◌≤◌, length};
+ghost use Rattle.std.specs.Prelude.{◌≡◌, ◌^◌, ◌<◌, ◌≤◌, AllPairs, length};
 ghost use Rattle.growth_model.specs.Sound.{HasBegun};
 ghost use Rattle.stage_model.specs.declared.stop.StageStop.TheVariants as stops;
 ghost use Rattle.stage_model.specs.Doing.{EndsAs, ok_as};
@@ -14,8 +14,28 @@ use memblock_grow::Memblock;
 use stage_model::{Section, StageStop, stand_still};
 use std::alloc::Global;
 
-/// Finds places for the usage data and the map of each section, group by group: 40 bytes and 2 MiB (`sparse_init_nid`). There
-/// are at most 2^25 sections, as many as 4 PiB have. The first that gets no place stops the boot. The program's own memory is wanted before
+/// A law: the number of a section is of 32 bits.
+fn number_fits(section: &Section)
+    ensures { section.now.number < 2 ^ 32 }
+{
+    let _fact = section.number; // for its facts alone
+}
+
+/// How many sections there are: at most 2^32, since their numbers ascend.
+fn count_all(sections: &[Section]) -> usize
+    requires ascend { AllPairs (λ s t. s.number < t.number) sections.now }
+    ensures count { result ≡ length sections.now }
+    ensures few { length sections.now ≤ 2 ^ 32 }
+{
+    let [.., last] = sections else {
+        return 0;
+    };
+    number_fits(last);
+    sections.len()
+}
+
+/// Finds places for the usage data and the map of each section, group by group: 40 bytes and 2 MiB (`sparse_init_nid`). The
+/// numbers of the sections ascend. The first that gets no place stops the boot. The program's own memory is wanted before
 /// the first place, or for a step of memblock's that is left.
 pub fn place_maps(
     alloc: Global,
@@ -23,13 +43,13 @@ pub fn place_maps(
     sections: &[Section],
 ) -> Result<Vec<Placed>, StageStop>
     requires begun { HasBegun memblock.old.journal.items }
-    requires few { length sections.now ≤ 2 ^ 25 }
+    requires ascend { AllPairs (λ s t. s.number < t.number) sections.now }
     ensures ends { EndsAs stops.Memory (ok_as (λ placed. placed.items) result) memblock.old.journal.items memblock.new.journal.items
         (maps sections.now memblock.old.journal.items) }
     ensures lent { GoesOn memblock.old memblock.new }
 {
     stand_still(memblock);
-    let mut placed = with_room(alloc, sections.len())?;
+    let mut placed = with_room(alloc, count_all(sections))?;
     let mut rest = sections;
     while let [first, ..] = rest {
         let (group, others) = rest.split_at(count_same(rest, first.node));

@@ -44,12 +44,11 @@ returns-in_err-roots-clause-ends c =
     places-first c.args.width c.in_err-roots.field-0.0 c.from_residual-in_err-roots.result p.0 items
     c.place_roots.new.memblock.journal.items sections p.1 p.2 is c.in_err-roots.ensures.ends
 
-pub place_maps-requires-clause-few : goal.place_maps-requires-clause-few
-place_maps-requires-clause-few c =
-    let items : List Item = c.args.memblock.now.journal.items in
+pub place_maps-requires-clause-ascend : goal.place_maps-requires-clause-ascend
+place_maps-requires-clause-ascend c =
     let is : c.deref-2.result.now ≡ present (value_at c.tables.result.now.memory.records) =
     c.deref-2.ensures.value ∙ c.in_ok-sections.ensures in
-    rw is (present-ascends (value_at c.tables.result.now.memory.records)).few
+    rw is (present-ascends (value_at c.tables.result.now.memory.records)).ascend
 
 pub returns-in_err-placed-clause-ends : goal.returns-in_err-placed-clause-ends
 returns-in_err-placed-clause-ends c =

@@ -16,8 +16,8 @@ use Rattle.section_maps.proofs.maps.place_maps.Goals as goal
 pub loop-rest-init : goal.loop-rest-init
 loop-rest-init c = record {
   goes = goes-first c.args.memblock.now.journal.items c.args.sections.now c.in_ok-placed.placed.items c.in_ok-placed.ensures.empty;
-  few = c.requires.few;
-  room = let room = c.in_ok-placed.ensures.room in omega (arith, room);
+  few = c.count_all.ensures.few;
+  room = let room = c.in_ok-placed.ensures.room in let count = c.count_all.ensures.count in omega (arith, room, count);
   begun = c.requires.begun;
   lent = c.stand_still.ensures;
 }

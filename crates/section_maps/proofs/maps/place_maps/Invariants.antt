@@ -8,7 +8,7 @@ use Rattle.section_maps.proofs.maps.place_maps.Given as goal
 abbrev pub invariant-loop-rest : goal.invariant-loop-rest
 invariant-loop-rest l = record {
   goes : Goes l.fn.memblock.journal.items l.sections l.memblock.journal.items l.placed.items l.rest;
-  few : length l.rest ≤ 2 ^ 25;
+  few : length l.rest ≤ 2 ^ 32;
   room : vec_len l.placed + length l.rest ≤ vec_capacity l.placed;
   begun : HasBegun l.memblock.journal.items;
   lent : GoesOn l.fn.memblock l.memblock;
