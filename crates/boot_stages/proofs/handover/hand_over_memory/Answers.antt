@@ -5,7 +5,8 @@ use Rattle.boot_stages.proofs.handover.hand_over_memory.Goals as goal
 use Rattle.boot_stages.proofs.handover.hand_over_memory.Goals.{After-into_parts-store}
 
 stood : (c : After-into_parts-store)
-    → Stand c.args.memblock.journal.items c.into_parts-store.result.0 c.into_parts-store.result.1.memory c.into_parts-store.result.1.reserved
+    → Stand c.args.memblock.journal.items c.into_parts-store.result.0 c.into_parts-store.result.1.memory
+    c.into_parts-store.result.1.reserved
 stood c =
     stand-by c.args.memblock.kernel c.args.memblock.journal.items c.into_parts-store.result.0 c.tables-fact.result.now
     c.args.memblock.tables c.into_parts-store.result.1 c.into_parts-store.ensures.heads c.tables-fact.ensures.tables
