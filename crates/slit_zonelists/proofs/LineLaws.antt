@@ -56,6 +56,8 @@ answers_on k s t l ls told o is =
     ∙ ap (λ (p : PageOutcome × State). told ++ (let a : PageAnswer = record { line = l.number; outcome = p.0 } in a)
     ∷ answers_with k p.1 ls) is
 
-pub after_on : (k : Known) (s t : State) (l : PageLine) (ls : List PageLine) (o : PageOutcome)
-    → (let p : PageOutcome × State = (o, t) in p) ≡ step_with k s l.act → after_with k t ls ≡ after_with k s (l ∷ ls)
-after_on k s t l ls o is = ap (λ (p : PageOutcome × State). after_with k p.1 ls) is
+-- and the lines before it
+pub after_more : (k : Known) (s t : State) (ls : List PageLine) (l : PageLine) (o : PageOutcome)
+    → (let p : PageOutcome × State = (o, t) in p) ≡ step_with k (after_with k s ls) l.act → t ≡ after_with k s (ls ++ l ∷ [])
+after_more k s t [] l o is = ap (λ (p : PageOutcome × State). p.1) is
+after_more k s t (x ∷ xs) l o is = after_more k (step_with k s x.act).1 t xs l o is

@@ -1,5 +1,5 @@
 -- What a line for the zones near a node does, and all lines of a page script.
-use Rattle.std.specs.Prelude.{◌≡◌, ℕ, Bool, true, false, is_some, Option, Some, None, List, [], ◌∷◌, ◌++◌}
+use Rattle.std.specs.Prelude.{◌≡◌, ◌⊎◌, ℕ, ◌<◌, Bool, true, false, is_some, Option, Some, None, List, [], ◌∷◌, ◌++◌, length}
 use Rattle.std.specs.List.{find, All}
 use Rattle.frame_blocks.specs.Picked.{first_picked}
 use Rattle.page_alloc.specs.declared.act.PageAct.{PageAct}
@@ -9,7 +9,8 @@ use Rattle.page_alloc.specs.declared.outcome.Held.{Held}
 use Rattle.page_alloc.specs.declared.outcome.PageOutcome.{PageOutcome}
 use Rattle.page_alloc.specs.declared.outcome.PageOutcome.TheVariants as outcomes
 use Rattle.page_alloc.specs.declared.outcome.PageAnswer.{PageAnswer}
-use Rattle.page_alloc.specs.Pages.{State, step}
+use Rattle.page_alloc.specs.Book.{Book, state_of}
+use Rattle.page_alloc.specs.Pages.{State, step, TakesMemory}
 use Rattle.slit_zonelists.specs.declared.entry.ListZone.{ListZone}
 use Rattle.slit_zonelists.specs.Lists.{Known, zones_of}
 
@@ -46,6 +47,24 @@ answers_with k s (l ∷ ls) =
 abbrev pub after_with : Known → State → List PageLine → State
 after_with k s [] = s
 after_with k s (l ∷ ls) = after_with k (step_with k s l.act).1 ls
+
+-- the program's own memory ran out before the first line: there is at least one, and nothing has changed
+pub record EndsBefore (b : Book) (lines : List PageLine) (later : Book) : Type 0 where
+  pub some : 0 < length lines
+  pub pages_stay : later ≡ b
+
+-- or amid a line that takes memory: those before it have been run, and nothing has changed since
+pub record EndsAmid (k : Known) (s : State) (lines : List PageLine) (later : State) : Type 0 where
+  pub before : List PageLine
+  pub line : PageLine
+  pub behind : List PageLine
+  pub is : lines ≡ before ++ line ∷ behind
+  pub takes : TakesMemory (after_with k s before) line.act
+  pub state : later ≡ after_with k s before
+
+-- where it ran out among lines
+abbrev pub RunsOut : Known → Book → List PageLine → Book → Type 0
+RunsOut k b lines later = EndsBefore b lines later ⊎ EndsAmid k (state_of b) lines (state_of later)
 
 -- the zone is of the list, it has a block of the order or a greater one, and none before it has
 pub record IsFirst (s : State) (order : ℕ) (zs : List ListZone) (z : ListZone) : Type 0 where

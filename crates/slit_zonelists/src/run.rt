@@ -1,11 +1,11 @@
 //! All lines of a page script, one after the other. The list of a node is made at the first line that asks for it, and kept.
 
-ghost use Rattle.std.specs.Prelude.{◌≡◌, ◌<◌, length, IfOk, IfErr, OnOk, IsSome};
+ghost use Rattle.std.specs.Prelude.{◌≡◌, ◌+◌, ◌<◌, ◌≤◌, [], ◌∷◌, ◌++◌, IfOk, OnOk, OnErr, IsSome, vec_len, vec_capacity};
 ghost use Rattle.std.specs.BTreeMap.{get};
 ghost use Rattle.std.specs.Ordering.{nat_cmp};
 ghost use Rattle.page_alloc.specs.Book.{state_of};
-ghost use Rattle.page_alloc.specs.Pages.{HasOrder, HaveOrders};
-ghost use Rattle.slit_zonelists.specs.Near.{step_with, answers_with, after_with};
+ghost use Rattle.page_alloc.specs.Pages.{HasOrder, HaveOrders, TakesMemory};
+ghost use Rattle.slit_zonelists.specs.Near.{step_with, answers_with, after_with, RunsOut};
 ghost use Rattle.slit_zonelists.specs.Made.{AreMade};
 
 use crate::asking::take_first;
@@ -16,7 +16,8 @@ use page_alloc::{PageAct, PageAnswer, PageLine, PageOutcome, Pages};
 use std::alloc::Global;
 use std::collections::BTreeMap;
 
-/// Carries the lines out in order, and answers what came of each. `Memory` comes only where there is a line.
+/// Carries the lines out in order, and answers what came of each. The memory for all answers is taken before the first line, and where
+/// it is wanted nothing has changed; behind it `Memory` comes only of a line that takes some, and those before it have been carried out.
 pub fn run_lines(
     alloc: Global,
     pages: &mut Pages,
@@ -25,22 +26,32 @@ pub fn run_lines(
 ) -> Result<Vec<PageAnswer>, Memory>
     requires { HaveOrders lines.now }
     ensures answers { IfOk result (λ answers. answers.items ≡ answers_with lists.now (state_of pages.old) lines.now) }
-    ensures memory { IfErr result (λ _. 0 < length lines.now) }
+    ensures memory { OnErr result (RunsOut lists.now pages.old lines.now pages.new) }
     ensures after { OnOk result (state_of pages.new ≡ after_with lists.now (state_of pages.old) lines.now) }
 {
+    let mut answers = Vec::with_capacity(alloc, lines.len())?;
     let mut made = BTreeMap::new(alloc);
-    let mut answers = Vec::new(alloc);
     for line in lines {
         let outcome = run_line(pages, lists, &mut made, line)?;
-        answers.push(PageAnswer {
-            line: line.number,
-            outcome,
-        })?;
+        push_within_capacity(&mut answers, line.number, outcome);
     }
     Ok(answers)
 }
 
-/// Carries one line out.
+/// Appends what came of the line of that number. The list has room for it, so no memory is taken.
+fn push_within_capacity(answers: &mut Vec<PageAnswer>, line: u32, outcome: PageOutcome)
+    requires { vec_len answers.old < vec_capacity answers.old }
+    ensures items { answers.new.items ≡ answers.old.items ++ record { line = line; outcome = outcome } ∷ [] }
+    ensures len { vec_len answers.new ≡ vec_len answers.old + 1 }
+    ensures capacity { vec_capacity answers.old ≤ vec_capacity answers.new }
+{
+    match answers.push(PageAnswer { line, outcome }) {
+        Ok(()) => (),
+        Err(_) => unreachable!(),
+    }
+}
+
+/// Carries one line out. Nothing of the pages has changed after `Memory`, which comes only of a line that takes some.
 fn run_line(
     pages: &mut Pages,
     lists: &Lists,
@@ -51,6 +62,8 @@ fn run_line(
     requires made { AreMade lists.now made.old }
     ensures ok { IfOk result (λ outcome. (outcome, state_of pages.new) ≡ step_with lists.now (state_of pages.old) line.now.act) }
     ensures made { OnOk result (AreMade lists.now made.new) }
+    ensures memory { OnErr result (TakesMemory (state_of pages.old) line.now.act) }
+    ensures err { OnErr result (pages.new ≡ pages.old) }
 {
     let PageAct::Near { id, order, node } = line.act else {
         return pages.run_line(line);

@@ -1,14 +1,16 @@
 -- The next line goes on from where the lines before it came to.
-use Rattle.std.proofs.Common.{◌≡◌, ◌+◌, List, ◌∷◌, ◌++◌, drop, get_or, sym, ◌∙◌, ap, subst}
-use Rattle.std.proofs.lemmas.List.{drop_more}
+use Rattle.std.proofs.Common.{◌≡◌, ◌+◌, List, ◌∷◌, ◌++◌, take, drop, get_or, Result, Ok, Err, OnErr, sym, ◌∙◌, ap, subst, arith, inr}
+use Rattle.std.proofs.lemmas.List.{drop_more, take_more, take-append-drop}
+use Rattle.bm_base.specs.declared.memory.Memory.{Memory}
 use Rattle.bm_base.specs.declared.zone.Zone.TheVariants as zones
 use Rattle.page_alloc.specs.declared.act.PageAct.TheVariants as acts
 use Rattle.page_alloc.specs.declared.act.PageLine.{PageLine}
 use Rattle.page_alloc.specs.declared.outcome.PageAnswer.{PageAnswer}
+use Rattle.page_alloc.specs.declared.outcome.PageOutcome.{PageOutcome}
 use Rattle.page_alloc.specs.Book.{state_of}
-use Rattle.page_alloc.specs.Pages.{HaveOrders}
-use Rattle.slit_zonelists.specs.Near.{answers_with, after_with}
-use Rattle.slit_zonelists.proofs.LineLaws.{answers_on, after_on}
+use Rattle.page_alloc.specs.Pages.{State, HaveOrders, TakesMemory}
+use Rattle.slit_zonelists.specs.Near.{step_with, answers_with, after_with}
+use Rattle.slit_zonelists.proofs.LineLaws.{answers_on, after_more}
 use Rattle.slit_zonelists.proofs.run.run_lines.Goals as goal
 
 abbrev nothing : PageLine
@@ -35,11 +37,40 @@ loop-line-preserved c =
     let o = c.in_ok-outcome.outcome in
     let told = c.loop-line.answers.items in
     let is = c.in_ok-outcome.ensures.ok in
+    let old = state_of c.args.pages.now in
     record {
       orders = (subst (λ (ls : List PageLine). HaveOrders ls) more c.loop-line.invariant.orders).1;
       made = c.in_ok-outcome.ensures.made;
-      told = ap (λ (now : List PageAnswer). now ++ answers_with k t rest) c.in_ok-push.ensures.items
+      told = ap (λ (now : List PageAnswer). now ++ answers_with k t rest) c.push_within_capacity.ensures.items
           ∙ answers_on k s t line rest told o is
           ∙ ap (λ (ls : List PageLine). told ++ answers_with k s ls) (sym more) ∙ c.loop-line.invariant.told;
-      ends = after_on k s t line rest o is ∙ ap (λ (ls : List PageLine). after_with k s ls) (sym more) ∙ c.loop-line.invariant.ends;
+      so_far = after_more k old t (take i lines) line o
+          (subst (λ (u : State). (let p : PageOutcome × State = (o, t) in p) ≡ step_with k u line.act) c.loop-line.invariant.so_far is)
+          ∙ ap (λ (ls : List PageLine). after_with k old ls) (sym (take_more lines i nothing c.loop-line-test.true));
+      room =
+          let room = c.loop-line.invariant.room in
+          let len = c.push_within_capacity.ensures.len in
+          let capacity = c.push_within_capacity.ensures.capacity in
+          omega (arith, room, len, capacity);
     }
+
+-- what holds anyway
+on_err : {X : Type 0} → (r : Result X Memory) (P : Type 0) → P → OnErr r P
+on_err (Ok x) P holds = tt
+on_err (Err memory) P holds = holds
+
+pub returns-in_err-outcome-clause-memory : goal.returns-in_err-outcome-clause-memory
+returns-in_err-outcome-clause-memory c =
+    let i = c.loop-line.line-index in
+    let lines = c.args.lines.now in
+    let line = get_or lines i nothing in
+    let so_far = c.loop-line.invariant.so_far in
+    let more = drop_more lines i nothing c.loop-line-test.true in
+    on_err c.from_residual-in_err-outcome.result _ (inr (record {
+      before = take i lines;
+      line = line;
+      behind = drop (i + 1) lines;
+      is = sym (take-append-drop i lines) ∙ ap (λ (ls : List PageLine). take i lines ++ ls) more;
+      takes = subst (λ (u : State). TakesMemory u line.act) so_far c.in_err-outcome.ensures.memory;
+      state = ap state_of c.in_err-outcome.ensures.err ∙ so_far;
+    }))

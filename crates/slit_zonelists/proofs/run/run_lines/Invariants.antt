@@ -1,5 +1,5 @@
--- The lines so far have been carried out: those behind them answer as they would have.
-use Rattle.std.proofs.Common.{◌≡◌, ◌++◌, drop}
+-- The lines so far have been carried out: those behind them answer as they would have, and there is room for that.
+use Rattle.std.proofs.Common.{◌≡◌, ◌+◌, ◌≤◌, ◌++◌, length, take, drop, vec_len, vec_capacity}
 use Rattle.page_alloc.specs.Book.{state_of}
 use Rattle.page_alloc.specs.Pages.{HaveOrders}
 use Rattle.slit_zonelists.specs.Near.{answers_with, after_with}
@@ -12,5 +12,6 @@ invariant-loop-line l = record {
   made : AreMade l.lists l.made;
   told : l.answers.items ++ answers_with l.lists (state_of l.pages) (drop l.line-index l.lines)
       ≡ answers_with l.lists (state_of l.fn.pages) l.lines;
-  ends : after_with l.lists (state_of l.pages) (drop l.line-index l.lines) ≡ after_with l.lists (state_of l.fn.pages) l.lines;
+  so_far : state_of l.pages ≡ after_with l.lists (state_of l.fn.pages) (take l.line-index l.lines);
+  room : vec_len l.answers + length l.lines ≤ vec_capacity l.answers + l.line-index;
 }
