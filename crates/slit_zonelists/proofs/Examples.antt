@@ -1,5 +1,5 @@
 -- Three domains whose distances aren't the same both ways, and their lists: what the definitions say of them.
-use Rattle.std.proofs.Common.{◌≡◌, ℕ, ◌<◌, true, false, Some, None, List, [], ◌∷◌, ◌++◌, Ok, Err, codes, replicate, refl, inl, inr, arith}
+use Rattle.std.proofs.Common.{◌≡◌, ℕ, ◌+◌, ◌<◌, true, false, Some, None, List, [], ◌∷◌, ◌++◌, length, drop, get_or, Ok, Err, codes, replicate, refl, sym, ◌∙◌, ap, subst, length-append, inl, inr, arith}
 use Rattle.bm_base.specs.declared.zone.Zone.TheVariants as zones
 use Rattle.zone_spans.specs.declared.span.Span.{Span}
 use Rattle.page_alloc.specs.declared.act.PageAct.TheVariants as acts
@@ -8,14 +8,15 @@ use Rattle.page_alloc.specs.declared.outcome.Held.{Held}
 use Rattle.page_alloc.specs.declared.outcome.PageAnswer.{PageAnswer}
 use Rattle.page_alloc.specs.declared.outcome.PageOutcome.{PageOutcome}
 use Rattle.page_alloc.specs.declared.outcome.PageOutcome.TheVariants as outcomes
-use Rattle.page_alloc.specs.Pages.{State, begun}
+use Rattle.page_alloc.specs.Book.{Book}
+use Rattle.page_alloc.specs.Pages.{State, begun, TakesMemory}
 use Rattle.slit_zonelists.specs.declared.entry.ListZone.{ListZone}
 use Rattle.slit_zonelists.specs.declared.table.SlitFault.TheVariants as faults
 use Rattle.slit_zonelists.specs.declared.uses.SlitUse.TheVariants as uses
 use Rattle.slit_zonelists.specs.Buckets.{in_bucket, bucket_at, all_in}
 use Rattle.slit_zonelists.specs.Lists.{Known, used_of, where_used, told, own_distance, distance_in, rank, goes_before, put_in, by_node, entry_of, known, with_node, nodes_of, at_distance, zones_of}
 use Rattle.slit_zonelists.specs.Matrix.{Matrix, cell_of, HasBytes, IsSquare}
-use Rattle.slit_zonelists.specs.Near.{first_zone, near_by, asked_near, step_with, answers_with, after_with}
+use Rattle.slit_zonelists.specs.Near.{first_zone, near_by, asked_near, step_with, answers_with, after_with, EndsBefore, EndsAmid}
 use Rattle.slit_zonelists.specs.Order.{IsLower, IsNearer}
 use Rattle.slit_zonelists.specs.Table.{localities, fills, slit_fault, unless_fault, slit_of}
 use Rattle.slit_zonelists.specs.Uses.{is_bad, bad_column, bad_in_row, first_of, bad_cell, by_cells, slit_use}
@@ -131,3 +132,30 @@ line_examples : (answers_with nodes empty [] ≡ [])
     × (answers_with nodes empty (give 4 ∷ []) ≡ (let a : PageAnswer = record { line = 4; outcome = outcomes.Unknown } in a) ∷ [])
     × (after_with nodes empty (give 4 ∷ []) ≡ empty)
 line_examples = (refl, refl, refl)
+
+-- memory may run out amid a line that asks for a free ID, behind one that was answered, and never amid one that is refused for its ID
+abbrev near : ℕ → PageLine
+near n = record { number = n; act = acts.Near 1 0 0 }
+
+amid_example : EndsAmid nodes empty (give 4 ∷ near 5 ∷ []) empty
+amid_example = record { before = give 4 ∷ []; line = near 5; behind = []; is = refl; takes = refl; state = refl }
+
+abbrev holding : State
+holding = record { frames = λ x. None; held = λ id. Some five }
+
+refused_out : (before : List PageLine) (line : PageLine) (behind : List PageLine) → near 5 ∷ [] ≡ before ++ line ∷ behind →
+    TakesMemory (after_with nodes holding before) line.act → ⊥
+refused_out [] line behind is takes =
+    let same : line ≡ near 5 = sym (ap (λ (ls : List PageLine). get_or ls 0 line) is) in
+    let none : Some five ≡ None = subst (λ (l : PageLine). TakesMemory holding l.act) same takes in
+    cc none
+refused_out (x ∷ xs) line behind is takes =
+    let many : 0 ≡ length xs + length (line ∷ behind) =
+    ap (λ (ls : List PageLine). length (drop 1 ls)) is ∙ length-append xs (line ∷ behind) in
+    absurd (omega (arith, many))
+
+refused_wants_none : (later : State) → EndsAmid nodes holding (near 5 ∷ []) later → ⊥
+refused_wants_none later ends = refused_out ends.before ends.line ends.behind ends.is ends.takes
+
+no_line_wants_none : (b later : Book) → EndsBefore b [] later → ⊥
+no_line_wants_none b later ends = let some : 0 < 0 = ends.some in absurd (omega (arith, some))
