@@ -201,7 +201,25 @@ fn each_item(rt: HostRuntime) -> Result<(), Fail> {
     Ok(())
 }
 
-// Each owner of a claim, of which those with a number have the greatest.
+// Each owner of a claim with a page of its own.
+const OWNERS: &[u8] = b"\
+    \x20  0: 0x0000000000000000..0x0000000000000fff kernel\n\
+    \x20  1: 0x0000000000001000..0x0000000000001fff low-64k\n\
+    \x20  2: 0x0000000000002000..0x0000000000002fff initrd\n\
+    \x20  3: 0x0000000000003000..0x0000000000003fff low-1m\n\
+    \x20  4: 0x0000000000004000..0x0000000000004fff soft-reserved\n\
+    \x20  5: 0x0000000000005000..0x0000000000005fff table-memory\n\
+    \x20  6: 0x0000000000006000..0x0000000000006fff table-reserved\n\
+    \x20  7: 0x0000000000007000..0x0000000000007fff node-data 1023\n\
+    \x20  8: 0x0000000000008000..0x0000000000008fff crash\n\
+    \x20  9: 0x0000000000009000..0x0000000000009fff crash-low\n\
+    \x20 10: 0x000000000000a000..0x000000000000afff roots\n\
+    \x20 11: 0x000000000000b000..0x000000000000bfff root 2047\n\
+    \x20 12: 0x000000000000c000..0x000000000000cfff usage 524287\n\
+    \x20 13: 0x000000000000d000..0x000000000000dfff map 524287\n\
+    \x20 14: 0x000000000000e000..0x000000000000efff script 4294967295\n";
+
+// Each owner of a claim, of which those with a number have the greatest; and all of them in one text.
 #[test]
 fn each_owner(rt: HostRuntime) -> Result<(), Fail> {
     let rows = [
@@ -221,15 +239,23 @@ fn each_owner(rt: HostRuntime) -> Result<(), Fail> {
         (Owner::Map(524_287), "claim map 524287 0x"),
         (Owner::Script(0xFFFF_FFFF), "claim script 4294967295 0x"),
     ];
-    for (owner, want) in &rows {
+    let mut journal = Journal::new(rt.alloc());
+    for (i, (owner, want)) in rows.iter().enumerate() {
         let claim = Item::Claim {
-            range: FIRST_MIB,
+            range: Range {
+                base: 0x1000 * i as u64,
+                size: 0x1000,
+            },
             owner: *owner,
         };
         let mut text = Vec::new(rt.alloc());
         put_item(&mut text, &claim)?;
         assert!(rt; text.starts_with(want.as_bytes()), "{want}");
+        journal.push(claim)?;
     }
+    let mut text = Vec::new(rt.alloc());
+    put_owners(&mut text, &journal)?;
+    assert!(rt; text.as_slice() == OWNERS);
     Ok(())
 }
 
