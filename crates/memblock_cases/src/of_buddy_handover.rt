@@ -5,7 +5,7 @@ ghost use Rattle.buddy_handover.specs.Contents.{free};
 use crate::ranges::{IN_TURN, MACHINE};
 use crate::tables::{cover, tables_of};
 use bm_base::{FRAME_SIZE, Memory, Zone};
-use buddy_handover::{Block, Buddy, MAX_FRAMES, hand_over};
+use buddy_handover::{Block, BlockRow, Buddy, MAX_FRAMES, hand_over};
 use memblock_model::Which;
 use memblock_ranges::Heads;
 use phys_store::Store;
@@ -218,5 +218,44 @@ fn borders_of_zones(rt: HostRuntime) -> Result<(), Fail> {
         (0x100000, Zone::Normal),
     ];
     compare_zones(&rt, &buddy, &expected);
+    Ok(())
+}
+
+// Gives the frame back to node 0, if it isn't free.
+fn give_back(buddy: &mut Buddy, frame: u64) -> Result<bool, Memory> {
+    if frame >= MAX_FRAMES || buddy.block_of(frame).is_some() {
+        return Ok(false);
+    }
+    buddy.put_back(frame, 0, 0)?;
+    Ok(true)
+}
+
+// So many blocks of node 0 in DMA, one behind another.
+fn row(order: u32, first: u64, count: u64) -> BlockRow {
+    BlockRow {
+        order,
+        first,
+        count,
+        node: 0,
+        zone: Zone::Dma,
+    }
+}
+
+// A frame that comes back is joined with what is free beside it; blocks of the greatest order that follow one another are one row.
+#[test]
+fn frames_that_come_back(rt: HostRuntime) -> Result<(), Fail> {
+    let mut buddy = Buddy::new(rt.alloc());
+    assert!(rt; free(&mut buddy, 0x400, 0x800, 0)?);
+    let great = row(10, 0x400, 2);
+    let cases: [(u64, &[BlockRow]); 4] = [
+        (0x101, &[row(0, 0x101, 1), great]),
+        (0x103, &[row(0, 0x101, 1), row(0, 0x103, 1), great]),
+        (0x102, &[row(0, 0x101, 1), row(1, 0x102, 1), great]),
+        (0x100, &[row(2, 0x100, 1), great]),
+    ];
+    for (frame, rows) in cases {
+        assert!(rt; give_back(&mut buddy, frame)?);
+        assert!(rt; buddy.rows()?.as_slice() == rows, "frame {frame:#x}");
+    }
     Ok(())
 }
