@@ -1,6 +1,8 @@
-//! Worked cases of the page allocator after the handover, of the lists of zones, and of the texts of both: tests alone.
+//! Worked cases of the page allocator after the handover with its index, of the lists of zones, and of the texts of both: tests alone.
 #![tactic(auto)]
 
+#[cfg(test)]
+mod of_free_areas;
 #[cfg(test)]
 mod of_page_alloc;
 #[cfg(test)]

@@ -1,0 +1,65 @@
+//! The index of two blocks, where a frame leaves the first one and comes back; by hand as `expand` and `__free_one_page` do it.
+
+use bm_base::{Memory, Zone};
+use frame_blocks::{Block, FrameRun};
+use free_areas::Areas;
+use std::alloc::Global;
+use std::test::Fail;
+
+// The frames from 1 MiB to 4 MiB are free: a block of order 8, and one of order 9.
+fn three_mebibytes(alloc: Global) -> Result<Areas, Memory> {
+    let run = FrameRun {
+        first: 0x100,
+        count: 0x300,
+        node: 0,
+    };
+    Areas::of(alloc, &[run])
+}
+
+// The order and the first frame of the block that serves a request of each order.
+fn served(areas: &Areas) -> [Option<(u32, u64)>; 11] {
+    let mut served = [None; 11];
+    for order in 0..11 {
+        let block = areas.least(0, Zone::Dma, order as u32);
+        served[order] = block.map(|block| (block.order, block.first));
+    }
+    served
+}
+
+#[test]
+fn a_frame_leaves_and_comes_back(rt: HostRuntime) -> Result<(), Fail> {
+    let mut areas = three_mebibytes(rt.alloc())?;
+    let low = Some((8, 0x100));
+    let high = Some((9, 0x200));
+    let whole = [low, low, low, low, low, low, low, low, low, high, None];
+    assert!(rt; served(&areas) == whole);
+    let first = Block {
+        node: 0,
+        zone: Zone::Dma,
+        order: 8,
+        first: 0x100,
+    };
+    let second = Block {
+        order: 9,
+        first: 0x200,
+        ..first
+    };
+    areas.split(&first, Some(second), 0, 0x100)?;
+    let buddies = [
+        Some((0, 0x101)),
+        Some((1, 0x102)),
+        Some((2, 0x104)),
+        Some((3, 0x108)),
+        Some((4, 0x110)),
+        Some((5, 0x120)),
+        Some((6, 0x140)),
+        Some((7, 0x180)),
+        high,
+        high,
+        None,
+    ];
+    assert!(rt; served(&areas) == buddies);
+    areas.join(&first, 0, 0x100)?;
+    assert!(rt; served(&areas) == whole);
+    Ok(())
+}
