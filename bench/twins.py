@@ -86,7 +86,7 @@ def refused_by(said, function, clause, law):
     return "pinned" if clause == "invariant" and any("invariant" in goal for goal in opened + [g for _, g in goals]) else "other"
 
 
-FIRST = re.compile(r"^must-fail (\w+)/(\S+)\.edit: refused, as it must be: (?:note: |error: )?(.*)$", re.M)
+FIRST = re.compile(r"^(?:rt: )?must-fail (\w+)/(\S+)\.edit: refused, as it must be: (?:note: |error: )?(.*)$", re.M)
 OF_BODY = re.compile(r"(src/\S+\.rt):(\d+):\d+: ")
 
 
