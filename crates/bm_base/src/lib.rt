@@ -34,7 +34,7 @@ mod width;
 mod zone;
 
 pub use frame::FRAME_SIZE;
-pub use memory::Memory;
+pub use memory::{Memory, push_within_capacity};
 pub use range::Range;
 pub use rounding::{round_down, round_up};
 pub use size::{NumFault, read_number, read_size, sizes_of_spelling};

@@ -11,7 +11,7 @@ ghost use Rattle.memblock_model.specs.Items.{IsItem, AreItems, owner_of, tag_of,
 ghost use Rattle.boot_journal.specs.Mirrors.{mirrors_after, mirrors_in};
 
 use crate::{owners, tags};
-use bm_base::{Memory, Range};
+use bm_base::{Memory, Range, push_within_capacity};
 use memblock_model::{Item, Owner, OwnerRun, Tag};
 use run_edits::{holds, value_of};
 use std::alloc::Global;
@@ -176,14 +176,4 @@ fn mirrors_after(before: bool, item: &Item) -> bool
     ensures { result ≡ mirrors_after before item.now }
 {
     before || matches!(item, Item::Mirror { .. })
-}
-
-/// Appends the item to a list that has memory for it.
-fn push_within_capacity(items: &mut Vec<Item>, item: Item)
-    requires { vec_len items.old < vec_capacity items.old }
-    ensures items { items.new.items ≡ items.old.items ++ item ∷ [] }
-    ensures len { vec_len items.new ≡ vec_len items.old + 1 }
-    ensures capacity { vec_capacity items.old ≤ vec_capacity items.new }
-{
-    let _ = items.push(item);
 }

@@ -12,8 +12,8 @@ ghost use Rattle.early_script.specs.Found.{bytes_in};
 ghost use Rattle.early_script.specs.Stage.{GoesThrough, Reaches, RunsOut, PlaceOnce, stage_of, after_lines, before_sections, behind_sections};
 
 use crate::live::Live;
-use crate::outcome::{Answer, Outcome};
-use bm_base::Memory;
+use crate::outcome::Answer;
+use bm_base::{Memory, push_within_capacity};
 use memblock_grow::Memblock;
 use script_reader::{Act, Line};
 
@@ -42,22 +42,13 @@ pub fn run_lines(
     answers.reserve(lines.len())?;
     for line in lines {
         let outcome = live.run_line(mb, line)?;
-        push_within_capacity(answers, line.number, outcome);
+        let answer = Answer {
+            line: line.number,
+            outcome,
+        };
+        push_within_capacity(answers, answer); // the list has room for it
     }
     Ok(())
-}
-
-/// Appends what came of the line of that number. The list has room for it, so no memory is taken.
-fn push_within_capacity(answers: &mut Vec<Answer>, line: u32, outcome: Outcome)
-    requires { vec_len answers.old < vec_capacity answers.old }
-    ensures items { answers.new.items ≡ answers.old.items ++ record { line = line; outcome = outcome } ∷ [] }
-    ensures len { vec_len answers.new ≡ vec_len answers.old + 1 }
-    ensures capacity { vec_capacity answers.old ≤ vec_capacity answers.new }
-{
-    match answers.push(Answer { line, outcome }) {
-        Ok(()) => (),
-        Err(_) => unreachable!(),
-    }
 }
 
 /// The lines before the one that places the sections, or all where there is none, and those behind it.

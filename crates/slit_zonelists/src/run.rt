@@ -11,7 +11,7 @@ ghost use Rattle.slit_zonelists.specs.Made.{AreMade};
 use crate::asking::take_first;
 use crate::entry::ListZone;
 use crate::lists::Lists;
-use bm_base::Memory;
+use bm_base::{Memory, push_within_capacity};
 use page_alloc::{PageAct, PageAnswer, PageLine, PageOutcome, Pages};
 use std::alloc::Global;
 use std::collections::BTreeMap;
@@ -33,22 +33,13 @@ pub fn run_lines(
     let mut made = BTreeMap::new(alloc);
     for line in lines {
         let outcome = run_line(pages, lists, &mut made, line)?;
-        push_within_capacity(&mut answers, line.number, outcome);
+        let answer = PageAnswer {
+            line: line.number,
+            outcome,
+        };
+        push_within_capacity(&mut answers, answer); // the list has room for it
     }
     Ok(answers)
-}
-
-/// Appends what came of the line of that number. The list has room for it, so no memory is taken.
-fn push_within_capacity(answers: &mut Vec<PageAnswer>, line: u32, outcome: PageOutcome)
-    requires { vec_len answers.old < vec_capacity answers.old }
-    ensures items { answers.new.items ≡ answers.old.items ++ record { line = line; outcome = outcome } ∷ [] }
-    ensures len { vec_len answers.new ≡ vec_len answers.old + 1 }
-    ensures capacity { vec_capacity answers.old ≤ vec_capacity answers.new }
-{
-    match answers.push(PageAnswer { line, outcome }) {
-        Ok(()) => (),
-        Err(_) => unreachable!(),
-    }
 }
 
 /// Carries one line out. Nothing of the pages has changed after `Memory`, which comes only of a line that takes some.
