@@ -1,6 +1,7 @@
 -- Two growths of a table in a row are enough: each gives it twice the room and adds two records at most, and a change wants at most two
 -- records more than the table has.
-use Rattle.std.proofs.Common.{◌≡◌, ℕ, ◌+◌, ◌*◌, ◌^◌, ◌≤◌, false, Option, Some, None, List, [], ◌∷◌, ◌++◌, length, refl, sym, ◌∙◌, ap, subst, inl, inr, ◌⊎◌, arith}
+use Rattle.std.proofs.Common.{◌≡◌, ℕ, ◌+◌, ◌*◌, ◌^◌, ◌<◌, ◌≤◌, false, Option, Some, None, List, [], ◌∷◌, ◌++◌, length, refl, sym, ◌∙◌, ap, subst, inl, inr, ◌⊎◌, arith}
+use Rattle.std.specs.Option.{IsSome}
 use Rattle.std.proofs.lemmas.Bool.{cases_Bool}
 use Rattle.std.proofs.lemmas.Bool.Decides.{nat_tests}
 use Rattle.std.proofs.lemmas.List.{append-nil}
@@ -9,6 +10,7 @@ use Rattle.address_runs.specs.Edits.{covered, uncovered, NothingFrom}
 use Rattle.address_runs.proofs.EditLaws.{nothing-covered, nothing-uncovered}
 use Rattle.memblock_model.specs.declared.which.Which.{Which}
 use Rattle.memblock_model.specs.declared.which.Which.TheVariants as which
+use Rattle.memblock_model.specs.declared.owner.Owner.{Owner}
 use Rattle.memblock_model.specs.declared.owner.Owner.TheVariants as owner
 use Rattle.memblock_model.specs.declared.item.Item.{Item}
 use Rattle.memblock_model.specs.declared.item.Item.TheVariants as item
@@ -21,13 +23,13 @@ use Rattle.memblock_model.proofs.TableLaws.{room_of-least}
 use Rattle.memblock_ranges.proofs.CountLaws.{length-covered, length-uncovered, few-pieces, one-piece}
 use Rattle.growth_model.specs.Outcome.{Outcome, Change, after, if_due, write, ◌>>◌}
 use Rattle.growth_model.specs.Growth.{count, is_full, new_in, two, frames_at, place_beside, table_query, reserved_items, reserved_growth_at, reserved_growth, claimed, old_frames, leave, memory_growth_at, memory_growth}
-use Rattle.growth_model.specs.Sound.{Fits}
+use Rattle.growth_model.specs.Sound.{Unclaimed, Seated, Fits}
 use Rattle.growth_model.specs.Room.{IsInSpace, HasDoubled, HasRoomBehind}
 use Rattle.growth_model.proofs.CutLaws.{cuts-last, after-then, then-unrefused}
 use Rattle.growth_model.proofs.SeatLaws.{covers-to}
 use Rattle.growth_model.proofs.FoundLaws.{IsNew, beside-new}
-use Rattle.growth_model.proofs.PlacedLaws.{moves-of, rooms-of, for_table}
-use Rattle.growth_model.proofs.PlacedReservedLaws.{grew, new_place, claimed_place, grew-limit, grew-owners-first, grew-owners-again}
+use Rattle.growth_model.proofs.PlacedLaws.{moves-of, rooms-of, for_table, Going, aside-same}
+use Rattle.growth_model.proofs.PlacedReservedLaws.{grew, new_place, claimed_place, grew-limit, grew-owners-first, grew-owners-again, reserved-cuts}
 use Rattle.growth_model.proofs.QuietLaws.{memory_growth-quiet, quiet-memory, quiet-limit}
 use Rattle.growth_model.proofs.LimitLaws.{LiesAt, claimed-stays, leave-stays}
 
@@ -260,3 +262,42 @@ pub enough-labelled : (items : List Item) → IsInSpace items → Fits items →
 enough-labelled items space fits =
     room-behind which.Memory two memory_growth memory-well (few-two which.Memory) items (bounded-of which.Memory items space)
     (fits which.Memory)
+
+-- behind one growth beside a range of which nobody has a byte, the table has room for it, since it is one piece
+room-for-free : (kernel range : Extent) (items : List Item) → IsInSpace items → Fits items → Seated kernel items → 0 < range.size
+    → end_of range ≤ 2 ^ 64 → Unclaimed (owner_of items) range → (reserved_growth range items).refused ≡ None
+    → is_full which.Reserved (new_in which.Reserved range) (after items (reserved_growth range items)) ≡ false
+unfolding records_of
+room-for-free kernel range items space fits placed some ends free unrefused =
+    let u : List Item = after items (reserved_growth range items) in
+    let well = (reserved-well range items (bounded-of which.Reserved items space) unrefused).doubled in
+    let going : Going kernel range items u = cuts-last (Going kernel range items) items (reserved_growth range items).steps
+    (reserved-cuts kernel range items items (record { placed = placed; aside = aside-same kernel range items })) in
+    let one = one-piece range (table_of which.Reserved u) ends some
+    (λ x le lt. ap without_owner (going.aside.free free x (covers-to range x le lt))) in
+    let room = well.room in let few = well.few in let least = room_of-least which.Reserved items in let fit = fits which.Reserved in
+    let all : count which.Reserved u + new_in which.Reserved range u ≤ room_of which.Reserved u = omega (arith, one, room, few, least, fit) in
+    grind (arith, nat_tests, all)
+
+found-unrefused : (range : Extent) (items : List Item) (found : Option ℕ) → place_beside range (room_of which.Reserved items) items ≡ found
+    → IsSome found → (reserved_growth range items).refused ≡ None
+unfolding reserved_growth reserved_growth_at
+found-unrefused range items None is some = cc
+found-unrefused range items (Some place) is some = rw is refl
+
+-- so it is claimed, unless the table is full for it and finds no place
+pub free-claimed : (kernel range : Extent) (who : Owner) (items : List Item) → IsInSpace items → Fits items → Seated kernel items
+    → 0 < range.size → end_of range ≤ 2 ^ 64 → Unclaimed (owner_of items) range
+    → (is_full which.Reserved (new_in which.Reserved range) items ≡ false)
+    ⊎ IsSome (place_beside range (room_of which.Reserved items) items)
+    → (claimed range who items).refused ≡ None
+unfolding claimed
+free-claimed kernel range who items space fits placed some ends free (inl idle) =
+    rw (idle, append-nil items, idle) refl
+free-claimed kernel range who items space fits placed some ends free (inr found) =
+    elim (cases_Bool (is_full which.Reserved (new_in which.Reserved range) items)) as (λ _. (claimed range who items).refused ≡ None) [
+      | inl full ↦
+          let unrefused = found-unrefused range items (place_beside range (room_of which.Reserved items) items) refl found in
+          rw (full, unrefused, room-for-free kernel range items space fits placed some ends free unrefused) refl
+      | inr idle ↦ rw (idle, append-nil items, idle) refl
+    ]

@@ -3,7 +3,7 @@
 //! Each change keeps both tables in good places wherever a call of it ends: at its end, at a refusal, and before a step
 //! for which memory ran out. Nothing is asked of the tables' bytes or records for that, nor of the addresses.
 
-ghost use Rattle.std.specs.Prelude.{◌≡◌, ◌⊎◌, ℕ, ◌+◌, ◌*◌, ◌%◌, ◌^◌, ◌≤◌, Bool, Option, Some, None, List, [], ◌∷◌, ◌++◌, Result, Ok, Err};
+ghost use Rattle.std.specs.Prelude.{◌≡◌, ◌⊎◌, ℕ, ◌+◌, ◌*◌, ◌%◌, ◌^◌, ◌<◌, ◌≤◌, Bool, false, Option, Some, None, IsSome, List, [], ◌∷◌, ◌++◌, Result, Ok, Err};
 ghost use Rattle.bm_base.specs.Extent.{Extent, end_of};
 ghost use Rattle.bm_base.specs.declared.frame.TheConstants.{FRAME_SIZE};
 ghost use Rattle.memblock_model.specs.declared.which.Which.TheVariants as which;
@@ -18,7 +18,7 @@ ghost use Rattle.memblock_model.specs.Search.{best};
 ghost use Rattle.growth_model.specs.declared.refusal.Refusal.{Refusal};
 ghost use Rattle.memblock_model.specs.declared.request.Request.{Request};
 ghost use Rattle.growth_model.specs.Outcome.{Change, ◌>>◌ as in_turn, after, write};
-ghost use Rattle.growth_model.specs.Growth.{in_whole_frames, frames_at, new_in, two, place_beside, reserved_growth, claimed, freed, memory_growth, added, noded, mirrored};
+ghost use Rattle.growth_model.specs.Growth.{in_whole_frames, frames_at, is_full, new_in, two, place_beside, reserved_growth, claimed, freed, memory_growth, added, noded, mirrored};
 ghost use Rattle.growth_model.specs.Request.{place_for};
 ghost use Rattle.growth_model.specs.Ends.{Ends, Allocates};
 ghost use Rattle.growth_model.specs.Sound.{Clear, Unclaimed, Seated, Fits, IsImage, HasBegun, IsAway, MayClaim};
@@ -104,7 +104,8 @@ pub fn growth_doubles_room()
 
 /// A law: two growths of a table in a row are always enough, before a claim, a free, an added range, and a range that gets a
 /// node or becomes mirrored. A range has at most one piece more than the table has records, so one growth makes room for the
-/// edit or nearly so, and one more for that and for what the first one claimed.
+/// edit or nearly so, and one more for that and for what the first one claimed. Before a claim of bytes that nobody has, which are
+/// one piece, one is enough: it is refused only where the table is full for them and finds no place.
 pub fn two_growths_are_enough()
     ensures claimed { (range : Extent) (items : List Item) → IsInSpace items → Fits items → end_of range ≤ 2 ^ 64 →
         HasRoomBehind which.Reserved (new_in which.Reserved range) (reserved_growth range) items }
@@ -113,4 +114,9 @@ pub fn two_growths_are_enough()
     ensures added { (range : Extent) (items : List Item) → IsInSpace items → Fits items → end_of range ≤ 2 ^ 64 →
         HasRoomBehind which.Memory (new_in which.Memory range) memory_growth items }
     ensures labelled { (items : List Item) → IsInSpace items → Fits items → HasRoomBehind which.Memory two memory_growth items }
+    ensures free { (kernel range : Extent) (who : Owner) (items : List Item) → IsInSpace items → Fits items → Seated kernel items →
+        0 < range.size → end_of range ≤ 2 ^ 64 → Unclaimed (owner_of items) range →
+        (is_full which.Reserved (new_in which.Reserved range) items ≡ false)
+        ⊎ IsSome (place_beside range (room_of which.Reserved items) items) →
+        (claimed range who items).refused ≡ None }
 {}

@@ -1,4 +1,4 @@
-use Rattle.growth_model.proofs.RoomLaws.{enough-claimed, enough-freed, enough-added, enough-labelled}
+use Rattle.growth_model.proofs.RoomLaws.{enough-claimed, enough-freed, enough-added, enough-labelled, free-claimed}
 use Rattle.growth_model.proofs.laws.two_growths_are_enough.Goals as goal
 
 pub returns-clause-claimed : goal.returns-clause-claimed
@@ -12,3 +12,6 @@ returns-clause-added c = enough-added
 
 pub returns-clause-labelled : goal.returns-clause-labelled
 returns-clause-labelled c = enough-labelled
+
+pub returns-clause-free : goal.returns-clause-free
+returns-clause-free c = free-claimed
