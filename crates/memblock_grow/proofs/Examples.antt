@@ -1,5 +1,5 @@
 -- Small tables, computed: what is kept, where a table may go, and whether it is full.
-use Rattle.std.proofs.Common.{◌≡◌, ℕ, ◌+◌, ◌*◌, ◌^◌, ◌<◌, ◌≤◌, ◌%◌, Bool, true, false, ◌||◌, if◌then◌else◌, Option, Some, None, List, [], ◌∷◌, length, refl, sym, ◌∙◌, ap, inl, inr, arith}
+use Rattle.std.proofs.Common.{◌≡◌, ℕ, ◌+◌, ◌*◌, ◌^◌, ◌<◌, ◌≤◌, ◌%◌, Bool, true, false, ◌||◌, if◌then◌else◌, Option, Some, None, List, [], ◌∷◌, length, Err, refl, sym, ◌∙◌, ap, inl, inr, arith}
 use Rattle.std.proofs.lemmas.Bool.{cases_Bool, true≢false}
 use Rattle.std.proofs.Math.Bool.{or-false}
 use Rattle.std.proofs.lemmas.Bool.Decides.{nat_tests}
@@ -19,6 +19,7 @@ use Rattle.memblock_model.specs.Search.{suits, fits_in}
 use Rattle.memblock_model.proofs.SearchLaws.{IsLastBelow, fits_in-parts, fits_in-whole, top_in-last, top_in-mirrorless, best_in-last, best_in-fails}
 use Rattle.memblock_ranges.specs.Tables.{Table, Contents}
 use Rattle.memblock_ranges.proofs.CountLaws.{one-piece}
+use Rattle.growth_model.specs.declared.refusal.Refusal.TheVariants as refusal
 use Rattle.growth_model.specs.Growth.{table_query, frames_at}
 use Rattle.growth_model.specs.Request.{Attempt}
 use Rattle.growth_model.specs.Bytes.{table_for, spelled_at}
@@ -27,7 +28,7 @@ use Rattle.memblock_grow.specs.declared.aim.Aim.{Aim}
 use Rattle.memblock_grow.specs.Contents.{Contents as Whole}
 use Rattle.memblock_grow.specs.declared.more.More.TheVariants as more
 use Rattle.memblock_grow.specs.Kept.{AreKept, IsMemblock, IsKept, AllowsClaim, AllowsFree, Keeps, AreTold, StayReady, aimed}
-use Rattle.memblock_grow.specs.Prepared.{is_grown_over, Prepares}
+use Rattle.memblock_grow.specs.Prepared.{is_grown_over, Prepares, PreparesBy}
 use Rattle.memblock_grow.specs.Places.{KnowsMirrors, top_of, mirrored_of, best_of, frames_between, frames_beside, left_frames, first_of}
 use Rattle.memblock_grow.specs.More.{more_by, more_in, HasRoom, EndsBefore}
 use Rattle.memblock_grow.proofs.PlaceLaws.{best_in-large}
@@ -153,6 +154,22 @@ no_byte_beside_them t p = p.each 16384 ∙ ap (λ (is : List Item). is_grown_ove
 -- a claim alone prepares nothing
 nothing_by_a_claim : (s t : List Stored) (x : ℕ) → Prepares [] (item.Claim image owner.Kernel ∷ []) s t → is_ready t x ≡ is_ready s x
 nothing_by_a_claim s t x p = p.each x ∙ ap (λ (is : List Item). is_grown_over is x || is_ready s x) (sym p.goes_on)
+
+-- where memory was wanted, one place may be prepared that no item tells of; behind a refusal there is none
+a_place_more : (bytes : List ℕ) → length bytes ≡ 8192
+    → PreparesBy {T = Unit {0}} (Err refusal.Memory) [] [] [] (record { base = 8192; bytes = bytes } ∷ [])
+a_place_more bytes long = (
+  record { base = 8192; size = 8192 },
+  record {
+    more = [];
+    goes_on = refl;
+    each = λ x. ap (λ (n : ℕ). covers (record { base = 8192; size = n }) x || false) long;
+  },
+)
+
+none_behind_a_refusal : (t : List Stored) → PreparesBy {T = Unit {0}} (Err (refusal.NoGapForTable which.Reserved 128)) [] [] [] t
+    → is_ready t 8192 ≡ false
+none_behind_a_refusal t p = p.each 8192 ∙ ap (λ (is : List Item). is_grown_over is 8192 || false) (sym p.goes_on)
 
 -- 64 KiB of memory, nothing claimed
 abbrev plain : Contents

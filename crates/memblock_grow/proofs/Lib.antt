@@ -6,6 +6,7 @@ pub mod MoreLaws
 pub mod ReservedLaws
 pub mod WholeLaws
 pub mod ChangeLaws
+pub mod ClaimLaws
 pub mod MemblockLaws
 pub mod MemoryLaws
 pub mod RequestLaws

@@ -1,34 +1,35 @@
 -- The growth of the memory table: where it goes, what it writes, and what it makes of the tables and of each byte.
-use Rattle.std.proofs.Common.{◌≡◌, ℕ, ◌+◌, ◌-◌, ◌*◌, ◌^◌, ◌<◌, Option, Some, None, List, [], ◌∷◌, ◌++◌, Result, Ok, Err, IsErrAnd, refl, sym, ◌∙◌, ap, subst, arith}
+use Rattle.std.proofs.Common.{◌≡◌, ℕ, ◌+◌, ◌*◌, ◌^◌, ◌<◌, Option, Some, None, List, [], ◌∷◌, ◌++◌, Result, Ok, Err, IsErrAnd, refl, sym, ◌∙◌, ap, subst, arith}
 use Rattle.std.specs.Option.{option_map, IfSome}
 use Rattle.bm_base.specs.Extent.{Extent, end_of}
-use Rattle.phys_store.specs.Bytes.{byte_of}
+use Rattle.phys_store.specs.Bytes.{Stored, byte_of, AreReady}
 use Rattle.memblock_model.specs.declared.which.Which.TheVariants as which
 use Rattle.memblock_model.specs.declared.owner.Owner.TheVariants as owner
 use Rattle.memblock_model.specs.declared.item.Item.{Item}
 use Rattle.memblock_model.specs.declared.item.Item.TheVariants as item
-use Rattle.memblock_model.specs.Items.{limit_of}
+use Rattle.memblock_model.specs.Items.{owner_of, limit_of}
 use Rattle.memblock_model.specs.Tables.{room_of, moved_to}
 use Rattle.memblock_model.specs.Search.{best}
-use Rattle.boot_journal.specs.Contents.{Contents as Journal}
 use Rattle.memblock_ranges.specs.Tables.{Table, Contents, room_in, Overlaps}
 use Rattle.growth_model.specs.declared.refusal.Refusal.{Refusal}
 use Rattle.growth_model.specs.declared.refusal.Refusal.TheVariants as refusal
 use Rattle.growth_model.specs.Outcome.{Outcome, Change, ◌>>◌, write, refuse}
 use Rattle.growth_model.specs.Growth.{in_whole_frames, frames_at, table_query, old_frames, claimed, leave, memory_growth_at, memory_growth}
 use Rattle.growth_model.specs.Ends.{EndsBy, Ends}
-use Rattle.growth_model.specs.Sound.{Seated, IsAway}
+use Rattle.growth_model.specs.Sound.{Unclaimed, Seated, IsAway}
 use Rattle.growth_model.specs.Bytes.{shown_by, left_by, AreSpelled, Follows}
 use Rattle.growth_model.proofs.EndLaws.{Ends-second, Ends-first, Ends-step, Ends-wanting, Ends-refused, Ends-along}
 use Rattle.growth_model.proofs.SeatLaws.{frames-more}
-use Rattle.growth_model.proofs.FoundLaws.{away-within, away-apart}
+use Rattle.growth_model.proofs.FoundLaws.{found-unclaimed, away-within, away-apart}
 use Rattle.growth_model.proofs.PlacedMemoryLaws.{IsTaken, claimed-taken}
-use Rattle.growth_model.proofs.FollowLaws.{follows-still, follows-grown, follows-then, follows-stands}
+use Rattle.growth_model.proofs.FollowLaws.{follows-grown, follows-then, follows-stands}
 use Rattle.memblock_grow.specs.declared.aim.Aim.{Aim}
 use Rattle.memblock_grow.specs.Kept.{AreKept, IsMemblock, AllowsFree, Keeps, KeepsBytes}
 use Rattle.memblock_grow.specs.Places.{frames_between}
-use Rattle.memblock_grow.proofs.KeptLaws.{room-is, kept-same, kept-grown}
+use Rattle.memblock_grow.specs.Prepared.{PreparesWith}
+use Rattle.memblock_grow.proofs.KeptLaws.{room-is, kept-grown}
 use Rattle.memblock_grow.proofs.ChangeLaws.{handed}
+use Rattle.memblock_grow.proofs.PreparedLaws.{place-ready}
 use Rattle.memblock_grow.proofs.PlaceLaws.{IsPlaceOf, mapped-some, mapped-none, between-is}
 use Rattle.memblock_grow.proofs.ReservedLaws.{left-size}
 
@@ -54,6 +55,11 @@ best-found kernel items t at n o place kept room is some =
     let known : IsPlaceOf (best items q) (48 * room_of which.Memory items) place =
     mapped-some (best items q) (48 * room_of which.Memory items) place (sym (best-along kernel items t at n o kept room is) ∙ some) in
     record { found = known.found; is = known.is }
+
+pub best-free : (items : List Item) (place : Extent) → IsBest items place → Unclaimed (owner_of items) place
+best-free items place known =
+    subst (λ (e : Extent). Unclaimed (owner_of items) e) (sym known.is)
+    (found-unclaimed items (table_query (room_of which.Memory items) 0 (limit_of items)) place.base known.found)
 
 pub memory-none : (kernel : Extent) (items : List Item) (t : Contents) (at : Aim) (n : ℕ) (o : Option Extent) → AreKept kernel items t at
     → n ≡ room_in which.Memory t → o ≡ frames_between t at.upward n 0 at.limit → o ≡ None
@@ -130,10 +136,6 @@ memory-done items mid next new place base room old r known here twice left was i
     (Ends-second {T = Unit {0}} {U = Unit {0}} tt r mid (mid ++ i ∷ []) new (moving place.base (2 * n)) (leaving items)
     (Ends-step {T = Unit {0}} tt mid (i ∷ [])) last))
 
-pub pushed-items : (a b j : Journal) (i : Item) → b.items ≡ a.items → j ≡ record { items = b.items ++ i ∷ []; spare = b.spare - 1 }
-    → j.items ≡ a.items ++ i ∷ []
-pushed-items a b j i ready is = ap (λ (j : Journal). j.items) is ∙ ap (λ (l : List Item). l ++ i ∷ []) ready
-
 -- behind the claim of the new place
 pub best-taken : (kernel : Extent) (items mid : List Item) (place : Extent) → Seated kernel items → IsBest items place
     → Ends {T = Unit {0}} (Ok tt) items mid (claimed place (owner.Table which.Memory))
@@ -142,20 +144,17 @@ best-taken kernel items mid place placed known was =
     claimed-taken {T = Unit {0}} tt kernel items mid place.base placed known.found
     (subst (λ (e : Extent). Ends {T = Unit {0}} (Ok tt) items mid (claimed e (owner.Table which.Memory))) known.is was)
 
--- the tables behind the claim of the place, once its bytes are prepared, and behind the move
-pub record MovedMemory (items : List Item) (t k p r : Contents) (base : ℕ) (place : Extent) : Type 0 where
+-- the tables behind the claim of the place, and behind the move
+pub record MovedMemory (items : List Item) (t k r : Contents) (base : ℕ) (place : Extent) : Type 0 where
   pub claimed : k.memory ≡ t.memory
-  pub first : p.memory ≡ k.memory
-  pub second : p.reserved ≡ k.reserved
-  pub same : (x : ℕ) → byte_of p.store x ≡ byte_of k.store x
-  pub table : r.memory ≡ record p.memory { place = base; room = 2 * p.memory.room }
-  pub other : r.reserved ≡ p.reserved
-  pub told : (x : ℕ) → byte_of r.store x ≡ shown_by r.memory r.reserved x (left_by p.memory x (byte_of p.store x))
+  pub table : r.memory ≡ record k.memory { place = base; room = 2 * k.memory.room }
+  pub other : r.reserved ≡ k.reserved
+  pub told : (x : ℕ) → byte_of r.store x ≡ shown_by r.memory r.reserved x (left_by k.memory x (byte_of k.store x))
   pub here : base ≡ place.base
   pub is : place ≡ frames_at place.base (48 * room_of which.Memory items)
   pub ends : end_of place < 2 ^ 64
 
-pub room-stays : (kernel : Extent) (items mid : List Item) (t k : Contents) (at : Aim) → AreKept kernel items t at → AreKept kernel mid k at
+room-stays : (kernel : Extent) (items mid : List Item) (t k : Contents) (at : Aim) → AreKept kernel items t at → AreKept kernel mid k at
     → k.memory ≡ t.memory → room_of which.Memory mid ≡ room_of which.Memory items
 room-stays kernel items mid t k at kept after same =
     sym (room-is which.Memory kernel mid k at after) ∙ ap (λ (s : Table). s.room) same ∙ room-is which.Memory kernel items t at kept
@@ -175,66 +174,62 @@ memory-apart kernel items mid t k at base place kept after same here taken =
     subst (λ (m : ℕ). ¬ Overlaps k (record { base = base; size = 48 * m })) (sym room)
     (subst (λ (b : ℕ). ¬ Overlaps k (record { base = b; size = 48 * n })) (sym here) apart)
 
-pub memory-kept : (kernel : Extent) (items mid : List Item) (t k p r : Contents) (at : Aim) (base room : ℕ) (place : Extent)
-    → AreKept kernel items t at → MovedMemory items t k p r base place → Keeps items t mid k at
+-- the bytes of the move are prepared, where those of the place are
+pub memory-ready : (kernel : Extent) (items mid : List Item) (t k : Contents) (at : Aim) (base : ℕ) (place : Extent) (s : List Stored)
+    → AreKept kernel items t at → k.memory ≡ t.memory → base ≡ place.base → place ≡ frames_at place.base (48 * room_of which.Memory items)
+    → PreparesWith place items mid s k.store → AreReady k.store base (48 * room_in which.Memory k)
+memory-ready kernel items mid t k at base place s kept same here is h =
+    let room = ap (λ (s : Table). s.room) same ∙ room-is which.Memory kernel items t at kept in
+    let size = ap (λ (e : Extent). e.size) is in
+    λ x low high. place-ready place items mid s k.store h x (omega (arith, low, here)) (omega (arith, high, here, room, size))
+
+memory-kept : (kernel : Extent) (items mid : List Item) (t k r : Contents) (at : Aim) (base room : ℕ) (place : Extent)
+    → AreKept kernel items t at → MovedMemory items t k r base place → Keeps items t mid k at
     → AreKept kernel (mid ++ item.Grown which.Memory base room ∷ []) r at
-memory-kept kernel items mid t k p r at base room place kept m keeps =
-    let after = kept-same kernel mid k p at m.first m.second (keeps kernel kept) in
-    let same = room-stays kernel items mid t p at kept after (m.first ∙ m.claimed) in
+memory-kept kernel items mid t k r at base room place kept m keeps =
+    let after = keeps kernel kept in
+    let same = room-stays kernel items mid t k at kept after m.claimed in
     let size : place.size ≡ in_whole_frames (48 * room_of which.Memory items) = ap (λ (e : Extent). e.size) m.is in
     let ends = m.ends in
     let here = m.here in
     let small : base + in_whole_frames (48 * room_of which.Memory items) < 2 ^ 64 = omega (arith, size, ends, here) in
-    kept-grown which.Memory kernel mid base room p r at
+    kept-grown which.Memory kernel mid base room k r at
     (subst (λ (n : ℕ). base + in_whole_frames (48 * n) < 2 ^ 64) (sym same) small) m.table m.other after
 
--- bytes that are prepared behind the claim stay what they are
-pub prepared-bytes : (kernel : Extent) (items mid new : List Item) (t k p : Contents) (at : Aim) → AreKept kernel items t at
-    → AreSpelled t.memory t.reserved (byte_of t.store) → Keeps items t mid k at → KeepsBytes items t mid k at → new ≡ mid
-    → ((x : ℕ) → byte_of p.store x ≡ byte_of k.store x) → Follows kernel items new (byte_of t.store) (byte_of p.store)
-prepared-bytes kernel items mid new t k p at kept spelled keeps bytes is same =
-    let after = keeps kernel kept in
-    let path = bytes kernel kept spelled in
-    let stands = follows-stands kernel items mid k.memory k.reserved (byte_of t.store) (byte_of k.store) after.memory after.reserved path in
-    subst (λ (l : List Item). Follows kernel items l (byte_of t.store) (byte_of p.store)) (sym is)
-    (follows-then kernel items mid mid (byte_of t.store) (byte_of k.store) (byte_of p.store) path
-    (follows-still kernel mid k.memory k.reserved (byte_of k.store) (byte_of p.store) after.memory after.reserved stands same))
-
-pub memory-bytes : (kernel : Extent) (items mid : List Item) (t k p r : Contents) (at : Aim) (base room : ℕ) (place : Extent)
-    → AreKept kernel items t at → AreSpelled t.memory t.reserved (byte_of t.store) → MovedMemory items t k p r base place
+memory-bytes : (kernel : Extent) (items mid : List Item) (t k r : Contents) (at : Aim) (base room : ℕ) (place : Extent)
+    → AreKept kernel items t at → AreSpelled t.memory t.reserved (byte_of t.store) → MovedMemory items t k r base place
     → Keeps items t mid k at → KeepsBytes items t mid k at
     → Follows kernel items (mid ++ item.Grown which.Memory base room ∷ []) (byte_of t.store) (byte_of r.store)
-memory-bytes kernel items mid t k p r at base room place kept spelled m keeps bytes =
-    let after = kept-same kernel mid k p at m.first m.second (keeps kernel kept) in
-    let moved = memory-kept kernel items mid t k p r at base room place kept m keeps in
+memory-bytes kernel items mid t k r at base room place kept spelled m keeps bytes =
+    let after = keeps kernel kept in
+    let moved = memory-kept kernel items mid t k r at base room place kept m keeps in
     let i : Item = item.Grown which.Memory base room in
-    follows-then kernel items mid (mid ++ i ∷ []) (byte_of t.store) (byte_of p.store) (byte_of r.store)
-    (prepared-bytes kernel items mid mid t k p at kept spelled keeps bytes refl m.same)
-    (follows-grown kernel mid which.Memory base room p.memory r.memory r.reserved (byte_of p.store) (byte_of r.store) after.memory
+    follows-then kernel items mid (mid ++ i ∷ []) (byte_of t.store) (byte_of k.store) (byte_of r.store) (bytes kernel kept spelled)
+    (follows-grown kernel mid which.Memory base room k.memory r.memory r.reserved (byte_of k.store) (byte_of r.store) after.memory
     moved.memory moved.reserved m.told)
 
 -- the same where the items are told by an equation
-pub memory-keeps : (items mid next : List Item) (t k p r : Contents) (at : Aim) (base room : ℕ) (place : Extent)
-    → MovedMemory items t k p r base place → Keeps items t mid k at → next ≡ mid ++ item.Grown which.Memory base room ∷ []
+pub memory-keeps : (items mid next : List Item) (t k r : Contents) (at : Aim) (base room : ℕ) (place : Extent)
+    → MovedMemory items t k r base place → Keeps items t mid k at → next ≡ mid ++ item.Grown which.Memory base room ∷ []
     → Keeps items t next r at
-memory-keeps items mid next t k p r at base room place m keeps is = λ kernel kept.
+memory-keeps items mid next t k r at base room place m keeps is = λ kernel kept.
     subst (λ (l : List Item). AreKept kernel l r at) (sym is)
-    (memory-kept kernel items mid t k p r at base room place kept m keeps)
+    (memory-kept kernel items mid t k r at base room place kept m keeps)
 
-pub memory-tells : (items mid next : List Item) (t k p r : Contents) (at : Aim) (base room : ℕ) (place : Extent)
-    → MovedMemory items t k p r base place → Keeps items t mid k at → KeepsBytes items t mid k at
+pub memory-tells : (items mid next : List Item) (t k r : Contents) (at : Aim) (base room : ℕ) (place : Extent)
+    → MovedMemory items t k r base place → Keeps items t mid k at → KeepsBytes items t mid k at
     → next ≡ mid ++ item.Grown which.Memory base room ∷ [] → KeepsBytes items t next r at
-memory-tells items mid next t k p r at base room place m keeps bytes is = λ kernel kept spelled.
+memory-tells items mid next t k r at base room place m keeps bytes is = λ kernel kept spelled.
     subst (λ (l : List Item). Follows kernel items l (byte_of t.store) (byte_of r.store)) (sym is)
-    (memory-bytes kernel items mid t k p r at base room place kept spelled m keeps bytes)
+    (memory-bytes kernel items mid t k r at base room place kept spelled m keeps bytes)
 
 -- what stands before the old place is freed
-pub memory-stands : (kernel : Extent) (items mid : List Item) (t k p r : Contents) (at : Aim) (base room : ℕ) (place : Extent)
-    → IsMemblock kernel items t at → MovedMemory items t k p r base place → Keeps items t mid k at → KeepsBytes items t mid k at
+memory-stands : (kernel : Extent) (items mid : List Item) (t k r : Contents) (at : Aim) (base room : ℕ) (place : Extent)
+    → IsMemblock kernel items t at → MovedMemory items t k r base place → Keeps items t mid k at → KeepsBytes items t mid k at
     → room ≡ 2 * room_of which.Memory items → IsTaken kernel mid (room_of which.Memory items) (moved_to which.Memory items) place.base
     → IsMemblock kernel (mid ++ item.Grown which.Memory base room ∷ []) r at
-memory-stands kernel items mid t k p r at base room place whole m keeps bytes twice taken =
-    let moved = memory-kept kernel items mid t k p r at base room place whole.kept m keeps in
+memory-stands kernel items mid t k r at base room place whole m keeps bytes twice taken =
+    let moved = memory-kept kernel items mid t k r at base room place whole.kept m keeps in
     record {
       image = whole.image;
       kept = moved;
@@ -243,7 +238,7 @@ memory-stands kernel items mid t k p r at base room place whole m keeps bytes tw
           (sym m.here) taken.next);
       spelled = follows-stands kernel items (mid ++ item.Grown which.Memory base room ∷ []) r.memory r.reserved (byte_of t.store)
           (byte_of r.store) moved.memory moved.reserved
-          (memory-bytes kernel items mid t k p r at base room place whole.kept whole.spelled m keeps bytes);
+          (memory-bytes kernel items mid t k r at base room place whole.kept whole.spelled m keeps bytes);
     }
 
 away-by : (kernel : Extent) (is : List Item) (n : ℕ) (o : Option ℕ) (range : Extent)
@@ -258,13 +253,13 @@ free-by : (kernel : Extent) (is : List Item) (t : Contents) (at : Aim) (n : ℕ)
 free-by kernel is t at n o None whole away h = tt
 free-by kernel is t at n o (Some range) whole away h = (kernel, whole, away-by kernel is n o range away (sym h))
 
-pub memory-free : (kernel : Extent) (items mid next : List Item) (t k p r : Contents) (at : Aim) (base room : ℕ) (place : Extent)
-    (left : Option Extent) → IsMemblock kernel items t at → MovedMemory items t k p r base place → Keeps items t mid k at
+pub memory-free : (kernel : Extent) (items mid next : List Item) (t k r : Contents) (at : Aim) (base room : ℕ) (place : Extent)
+    (left : Option Extent) → IsMemblock kernel items t at → MovedMemory items t k r base place → Keeps items t mid k at
     → KeepsBytes items t mid k at → room ≡ 2 * room_of which.Memory items
     → IsTaken kernel mid (room_of which.Memory items) (moved_to which.Memory items) place.base
     → left ≡ old_frames (room_of which.Memory items) (moved_to which.Memory items)
     → next ≡ mid ++ item.Grown which.Memory base room ∷ [] → IfSome left (λ range. AllowsFree next r at range)
-memory-free kernel items mid next t k p r at base room place left whole m keeps bytes twice taken old is =
+memory-free kernel items mid next t k r at base room place left whole m keeps bytes twice taken old is =
     let n = room_of which.Memory items in
     let here : (q : ℕ) → moved_to which.Memory items ≡ Some q
     → IsAway kernel (frames_at q (24 * n)) (mid ++ item.Grown which.Memory base room ∷ []) =
@@ -273,7 +268,7 @@ memory-free kernel items mid next t k p r at base room place left whole m keeps 
     (taken.left q was)) in
     subst (λ (l : List Item). IfSome left (λ range. AllowsFree l r at range)) (sym is)
     (free-by kernel (mid ++ item.Grown which.Memory base room ∷ []) r at n (moved_to which.Memory items) left
-    (memory-stands kernel items mid t k p r at base room place whole m keeps bytes twice taken) here old)
+    (memory-stands kernel items mid t k r at base room place whole m keeps bytes twice taken) here old)
 
 pub left-some : (items : List Item) (left : Option Extent) → left ≡ old_frames (room_of which.Memory items) (moved_to which.Memory items)
     → IfSome left (λ range. 0 < range.size)

@@ -1,6 +1,6 @@
 -- The growth of the reserved table: where it goes, what it writes, and what it makes of the tables and of each byte.
 use Rattle.std.proofs.Common.{◌≡◌, ℕ, ◌+◌, ◌-◌, ◌*◌, ◌^◌, ◌<◌, ◌≤◌, ◌||◌, Option, Some, None, List, [], ◌∷◌, ◌++◌, length, Result, Ok, Err, IsErrAnd, refl, sym, ◌∙◌, ap, subst, append_assoc, arith}
-use Rattle.std.specs.Option.{option_map}
+use Rattle.std.specs.Option.{option_map, is_some, IsSome}
 use Rattle.bm_base.specs.Extent.{Extent, end_of, covers}
 use Rattle.phys_store.specs.Bytes.{Stored, byte_of, is_ready}
 use Rattle.address_runs.specs.Runs.{value_at}
@@ -62,6 +62,10 @@ pub record IsBeside (items : List Item) (avoid place : Extent) : Type 0 where
   pub found : place_beside avoid (room_of which.Reserved items) items ≡ Some place.base
   pub is : place ≡ frames_at place.base (48 * room_of which.Reserved items)
 
+mapped : (f : ℕ → Extent) (o : Option ℕ) → is_some (option_map f o) ≡ is_some o
+mapped f None = refl
+mapped f (Some x) = refl
+
 beside-along : (kernel : Extent) (items : List Item) (t : Contents) (at : Aim) (n : ℕ) (avoid : Extent) (o : Option Extent)
     → AreKept kernel items t at → n ≡ room_in which.Reserved t → o ≡ frames_beside t at n avoid
     → o ≡ option_map (λ place. frames_at place (48 * room_of which.Reserved items)) (place_beside avoid
@@ -78,6 +82,14 @@ beside-found kernel items t at n avoid o place kept room is some =
     mapped-some (place_beside avoid (room_of which.Reserved items) items) (48 * room_of which.Reserved items) place
     (sym (beside-along kernel items t at n avoid o kept room is) ∙ some) in
     record { found = known.found; is = known.is }
+
+pub beside-some : (kernel : Extent) (items : List Item) (t : Contents) (at : Aim) (n : ℕ) (avoid : Extent) (o : Option Extent)
+    → AreKept kernel items t at → n ≡ room_in which.Reserved t → o ≡ frames_beside t at n avoid → IsSome o
+    → IsSome (place_beside avoid (room_of which.Reserved items) items)
+beside-some kernel items t at n avoid o kept room is some =
+    let m = room_of which.Reserved items in
+    sym (mapped (λ place. frames_at place (48 * m)) (place_beside avoid m items))
+    ∙ ap is_some (sym (beside-along kernel items t at n avoid o kept room is)) ∙ some
 
 pub beside-free : (items : List Item) (avoid place : Extent) → IsBeside items avoid place → Unclaimed (owner_of items) place
 beside-free items avoid place known =

@@ -10,8 +10,9 @@
 //! The functions go over the journal, the tables and the aim of searches as three values, since inside a growth the tables are those
 //! of no list of items. What holds between calls is `IsMemblock` (`specs/Kept.antt`): the tables are those of the items, in
 //! the bytes that spell them, and, once something happened, each lies in claimed frames of its own. Each call keeps that, wherever
-//! the kernel's image lies (`kept`, `bytes`). However it ends, it has prepared the frames that tables grew into, and no byte more
-//! (`prepared`, `specs/Prepared.antt`); `new` prepares both tables, and `fill` its range.
+//! the kernel's image lies (`kept`, `bytes`). It prepares the frames that tables grew into, and no byte more, but that after want of memory
+//! one place may be prepared that the memory table was to grow into (`prepared`, `specs/Prepared.antt`); `new` prepares both tables, and
+//! `fill` its range.
 //!
 //! - `src/reserved.rt`: growth of the reserved table, claims and freeings.
 //! - `src/memory.rt`: growth of the memory table, added ranges, nodes and mirrors.

@@ -24,7 +24,7 @@ ghost use Rattle.growth_model.specs.Request.{place_for};
 ghost use Rattle.growth_model.specs.Sound.{Sound, IsImage, HasBegun, IsAway, MayClaim};
 ghost use Rattle.growth_model.specs.Bytes.{table_for, AreSpelled, byte as byte_by, put, Follows};
 ghost use Rattle.memblock_grow.specs.Kept.{StayReady};
-ghost use Rattle.memblock_grow.specs.Prepared.{Prepares};
+ghost use Rattle.memblock_grow.specs.Prepared.{Prepares, PreparesBy};
 ghost use Rattle.memblock_grow.specs.Touch.{TouchesTable};
 
 use crate::aim::Aim;
@@ -149,7 +149,7 @@ impl Memblock {
         ensures kernel { self.new.kernel ≡ self.old.kernel }
         ensures bytes { Follows self.old.kernel self.old.journal.items self.new.journal.items
             (byte_of self.old.tables.store) (byte_of self.new.tables.store) }
-        ensures prepared { Prepares self.old.journal.items self.new.journal.items self.old.tables.store self.new.tables.store }
+        ensures prepared { PreparesBy result self.old.journal.items self.new.journal.items self.old.tables.store self.new.tables.store }
         ensures still_ready { StayReady self.old.tables.store self.new.tables.store }
         ensures ready { 0 < self.old.journal.spare →
             is_full_by tables_of.Memory (new_in tables_of.Memory range) self.old.journal.items ≡ false →
@@ -172,7 +172,7 @@ impl Memblock {
         ensures kernel { self.new.kernel ≡ self.old.kernel }
         ensures bytes { Follows self.old.kernel self.old.journal.items self.new.journal.items
             (byte_of self.old.tables.store) (byte_of self.new.tables.store) }
-        ensures prepared { Prepares self.old.journal.items self.new.journal.items self.old.tables.store self.new.tables.store }
+        ensures prepared { PreparesBy result self.old.journal.items self.new.journal.items self.old.tables.store self.new.tables.store }
         ensures still_ready { StayReady self.old.tables.store self.new.tables.store }
         ensures ready { 0 < self.old.journal.spare → is_full_by tables_of.Memory two self.old.journal.items ≡ false →
             IsOk result × (self.new.journal.spare ≡ self.old.journal.spare - 1) }
@@ -193,7 +193,7 @@ impl Memblock {
         ensures kernel { self.new.kernel ≡ self.old.kernel }
         ensures bytes { Follows self.old.kernel self.old.journal.items self.new.journal.items
             (byte_of self.old.tables.store) (byte_of self.new.tables.store) }
-        ensures prepared { Prepares self.old.journal.items self.new.journal.items self.old.tables.store self.new.tables.store }
+        ensures prepared { PreparesBy result self.old.journal.items self.new.journal.items self.old.tables.store self.new.tables.store }
         ensures still_ready { StayReady self.old.tables.store self.new.tables.store }
         ensures ready { 0 < self.old.journal.spare → is_full_by tables_of.Memory two self.old.journal.items ≡ false →
             IsOk result × (self.new.journal.spare ≡ self.old.journal.spare - 1) }

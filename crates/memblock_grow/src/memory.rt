@@ -2,21 +2,24 @@
 //!
 //! Its new place is claimed as anything is, so the reserved table may grow first; and so it may when the old place is freed.
 //! Where that last growth is refused the old place stays claimed, and the call goes on (`memblock_double_array` ignores it).
-ghost use Rattle.std.specs.Prelude.{◌≡◌, ◌+◌, ◌-◌, ◌<◌, ◌≤◌, false, OnOk, OnErr, IsOk, IfSome, length};
+ghost use Rattle.std.specs.Prelude.{◌≡◌, ◌⊎◌, ◌+◌, ◌-◌, ◌<◌, ◌≤◌, false, OnOk, OnErr, IsOk, IfSome, length};
+ghost use Rattle.phys_store.specs.Bytes.{AreReady};
 ghost use Rattle.memblock_model.specs.declared.which.Which.TheVariants as tables_of;
+ghost use Rattle.memblock_model.specs.declared.owner.Owner.TheVariants as owners;
+ghost use Rattle.memblock_model.specs.Items.{owner_of};
 ghost use Rattle.growth_model.specs.Outcome.{if_due};
-ghost use Rattle.growth_model.specs.Growth.{memory_growth, grown, added, noded, mirrored, new_in, two, leave as left_by, is_full as is_full_by};
+ghost use Rattle.growth_model.specs.Growth.{memory_growth, grown, claimed, added, noded, mirrored, new_in, two, leave as left_by, is_full as is_full_by};
 ghost use Rattle.growth_model.specs.Ends.{Ends};
-ghost use Rattle.growth_model.specs.Sound.{HasBegun};
+ghost use Rattle.growth_model.specs.Sound.{HasBegun, Unclaimed};
 ghost use Rattle.memblock_grow.specs.Kept.{IsKept, AllowsFree, Keeps, KeepsBytes};
-ghost use Rattle.memblock_grow.specs.Prepared.{Prepares};
+ghost use Rattle.memblock_grow.specs.Prepared.{Prepares, PreparesWith, PreparesBy};
 ghost use Rattle.memblock_grow.specs.More.{more_by, HasRoom, EndsBefore};
 
 use crate::aim::Aim;
 use crate::edits::{cover, mirror, relabel, relocate};
 use crate::more::{More, is_full};
 use crate::places::{left_place, place_between};
-use crate::reserved::{claim, free};
+use crate::reserved::{claim, free, may_claim};
 use bm_base::Range;
 use boot_journal::{Item, Journal, Owner, Which};
 use growth_model::Refusal;
@@ -45,6 +48,31 @@ fn leave(
     }
 }
 
+/// The new place is prepared, and claimed for the table. What refuses the claim is looked for first, so that no memory is taken for one
+/// that is refused. Nothing is written before the place is prepared.
+fn take_place(
+    journal: &mut Journal,
+    tables: &mut Tables,
+    aim: Aim,
+    place: Range,
+) -> Result<(), Refusal>
+    requires some { 0 < place.size }
+    requires kept { IsKept journal.old.items tables.old aim }
+    requires begun { HasBegun journal.old.items }
+    requires free { Unclaimed (owner_of journal.old.items) place }
+    ensures ends { Ends result journal.old.items journal.new.items (claimed place (owners.Table tables_of.Memory)) }
+    ensures kept { Keeps journal.old.items tables.old journal.new.items tables.new aim }
+    ensures bytes { KeepsBytes journal.old.items tables.old journal.new.items tables.new aim }
+    ensures memory { tables.new.memory ≡ tables.old.memory }
+    ensures prepared { OnOk result (PreparesWith place journal.old.items journal.new.items tables.old.store tables.new.store) }
+    ensures err { OnErr result (PreparesBy result journal.old.items journal.new.items tables.old.store tables.new.store) }
+    ensures first { (journal.new.items ≡ journal.old.items) ⊎ AreReady tables.new.store place.base place.size }
+{
+    may_claim(journal, tables, aim, place)?;
+    tables.prepare(place)?;
+    claim(journal, tables, aim, place, Owner::Table(Which::Memory))
+}
+
 /// The table doubles, at the best place below the limit (`memblock_double_array`).
 fn grow_memory(journal: &mut Journal, tables: &mut Tables, aim: Aim) -> Result<(), Refusal>
     requires kept { IsKept journal.old.items tables.old aim }
@@ -52,7 +80,7 @@ fn grow_memory(journal: &mut Journal, tables: &mut Tables, aim: Aim) -> Result<(
     ensures ends { Ends result journal.old.items journal.new.items memory_growth }
     ensures kept { Keeps journal.old.items tables.old journal.new.items tables.new aim }
     ensures bytes { KeepsBytes journal.old.items tables.old journal.new.items tables.new aim }
-    ensures prepared { Prepares journal.old.items journal.new.items tables.old.store tables.new.store }
+    ensures prepared { PreparesBy result journal.old.items journal.new.items tables.old.store tables.new.store }
 {
     let head = tables.head(Which::Memory);
     let Some(place) = place_between(journal, tables, aim.upward, head.room, 0, aim.limit) else {
@@ -62,16 +90,13 @@ fn grow_memory(journal: &mut Journal, tables: &mut Tables, aim: Aim) -> Result<(
         });
     };
     let old = left_place(head);
-    claim(journal, tables, aim, place, Owner::Table(Which::Memory))?;
-    // Behind the claim: where that is refused at once, no step is left that may want memory. Nothing is prepared that no item will tell of.
-    journal.ready(1)?;
-    tables.prepare(place)?;
-    relocate(tables, Which::Memory, place.base);
-    journal.push_ready(Item::Grown {
+    take_place(journal, tables, aim, place)?;
+    journal.push(Item::Grown {
         which: Which::Memory,
         place: place.base,
         room: 2 * head.room,
-    });
+    })?;
+    relocate(tables, Which::Memory, place.base);
     leave(journal, tables, aim, old)
 }
 
@@ -88,7 +113,7 @@ fn grow_memory_once(
         (if_due (is_full_by tables_of.Memory (more_by tables_of.Memory more.now)) memory_growth) }
     ensures kept { Keeps journal.old.items tables.old journal.new.items tables.new aim }
     ensures bytes { KeepsBytes journal.old.items tables.old journal.new.items tables.new aim }
-    ensures prepared { Prepares journal.old.items journal.new.items tables.old.store tables.new.store }
+    ensures prepared { PreparesBy result journal.old.items journal.new.items tables.old.store tables.new.store }
     ensures within { EndsBefore more.now }
     ensures idle { HasRoom more.now tables.old.memory →
         IsOk result × (journal.new ≡ journal.old) × (tables.new ≡ tables.old) }
@@ -113,7 +138,7 @@ fn make_memory_room(
         (grown tables_of.Memory (more_by tables_of.Memory more.now) memory_growth) }
     ensures kept { Keeps journal.old.items tables.old journal.new.items tables.new aim }
     ensures bytes { KeepsBytes journal.old.items tables.old journal.new.items tables.new aim }
-    ensures prepared { Prepares journal.old.items journal.new.items tables.old.store tables.new.store }
+    ensures prepared { PreparesBy result journal.old.items journal.new.items tables.old.store tables.new.store }
     ensures room { OnOk result (HasRoom more.now tables.new.memory) }
     ensures idle { HasRoom more.now tables.old.memory →
         IsOk result × (journal.new ≡ journal.old) × (tables.new ≡ tables.old) }
@@ -136,7 +161,7 @@ pub fn add(
     ensures ends { Ends result journal.old.items journal.new.items (added range) }
     ensures kept { Keeps journal.old.items tables.old journal.new.items tables.new aim }
     ensures bytes { KeepsBytes journal.old.items tables.old journal.new.items tables.new aim }
-    ensures prepared { Prepares journal.old.items journal.new.items tables.old.store tables.new.store }
+    ensures prepared { PreparesBy result journal.old.items journal.new.items tables.old.store tables.new.store }
     ensures ready { 0 < journal.old.spare → is_full_by tables_of.Memory (new_in tables_of.Memory range) journal.old.items ≡ false →
         IsOk result × (journal.new.spare ≡ journal.old.spare - 1) }
 {
@@ -161,7 +186,7 @@ pub fn set_node(
     ensures ends { Ends result journal.old.items journal.new.items (noded range node) }
     ensures kept { Keeps journal.old.items tables.old journal.new.items tables.new aim }
     ensures bytes { KeepsBytes journal.old.items tables.old journal.new.items tables.new aim }
-    ensures prepared { Prepares journal.old.items journal.new.items tables.old.store tables.new.store }
+    ensures prepared { PreparesBy result journal.old.items journal.new.items tables.old.store tables.new.store }
     ensures ready { 0 < journal.old.spare → is_full_by tables_of.Memory two journal.old.items ≡ false →
         IsOk result × (journal.new.spare ≡ journal.old.spare - 1) }
 {
@@ -184,7 +209,7 @@ pub fn set_mirror(
     ensures ends { Ends result journal.old.items journal.new.items (mirrored range) }
     ensures kept { Keeps journal.old.items tables.old journal.new.items tables.new aim }
     ensures bytes { KeepsBytes journal.old.items tables.old journal.new.items tables.new aim }
-    ensures prepared { Prepares journal.old.items journal.new.items tables.old.store tables.new.store }
+    ensures prepared { PreparesBy result journal.old.items journal.new.items tables.old.store tables.new.store }
     ensures ready { 0 < journal.old.spare → is_full_by tables_of.Memory two journal.old.items ≡ false →
         IsOk result × (journal.new.spare ≡ journal.old.spare - 1) }
 {

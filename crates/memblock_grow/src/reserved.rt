@@ -2,12 +2,14 @@
 //!
 //! The growth avoids the range that is being claimed or freed, so that the table never lands in it. Its new place is claimed
 //! like any other, and what it leaves is freed. A claim doubles the table up to twice before it writes anything.
-ghost use Rattle.std.specs.Prelude.{◌≡◌, ◌+◌, ◌-◌, ◌<◌, ◌≤◌, false, OnOk, OnErr, IsOk, length};
+ghost use Rattle.std.specs.Prelude.{◌≡◌, ◌+◌, ◌-◌, ◌<◌, ◌≤◌, false, None, OnOk, OnErr, IsOk, length};
+ghost use Rattle.memblock_model.specs.declared.owner.Owner.{Owner as ModelOwner};
+ghost use Rattle.memblock_model.specs.Items.{owner_of};
 ghost use Rattle.memblock_model.specs.declared.which.Which.TheVariants as tables_of;
 ghost use Rattle.growth_model.specs.Outcome.{if_due};
 ghost use Rattle.growth_model.specs.Growth.{reserved_growth, grown, claimed, freed, new_in, two, is_full as is_full_by};
 ghost use Rattle.growth_model.specs.Ends.{Ends};
-ghost use Rattle.growth_model.specs.Sound.{HasBegun};
+ghost use Rattle.growth_model.specs.Sound.{HasBegun, Unclaimed};
 ghost use Rattle.memblock_grow.specs.Kept.{IsKept, AllowsClaim, AllowsFree, Keeps, KeepsBytes};
 ghost use Rattle.memblock_grow.specs.Prepared.{Prepares};
 ghost use Rattle.memblock_grow.specs.More.{more_by, HasRoom, EndsBefore};
@@ -115,6 +117,29 @@ fn make_reserved_room(
 {
     grow_reserved_once(journal, tables, aim, avoid, more)?;
     grow_reserved_once(journal, tables, aim, avoid, more)
+}
+
+/// Whether a claim of the range, of which nobody has a byte, goes through: it is refused where the table is full for it and finds no
+/// place beside it. One growth is enough, since the range is one piece.
+pub fn may_claim(journal: &Journal, tables: &Tables, aim: Aim, range: Range) -> Result<(), Refusal>
+    requires some { 0 < range.size }
+    requires kept { IsKept journal.now.items tables.now aim }
+    requires begun { HasBegun journal.now.items }
+    requires free { Unclaimed (owner_of journal.now.items) range }
+    ensures ok { (who : ModelOwner) → OnOk result ((claimed range who journal.now.items).refused ≡ None) }
+    ensures refused { (who : ModelOwner) → OnErr result (Ends result journal.now.items journal.now.items (claimed range who)) }
+{
+    if !is_full(tables, Which::Reserved, &More::PiecesOf(range)) {
+        return Ok(());
+    }
+    let head = tables.head(Which::Reserved);
+    match place_beside(journal, tables, aim, head.room, range) {
+        Some(_) => Ok(()),
+        None => Err(Refusal::NoGapForTable {
+            which: Which::Reserved,
+            room: head.room,
+        }),
+    }
 }
 
 /// The range is claimed for the owner (`memblock_reserve`). Where an item can be appended without wanting memory and the

@@ -6,7 +6,7 @@ use Rattle.growth_model.proofs.EndLaws.{Ends-second}
 use Rattle.growth_model.proofs.SoundLaws.{memory_once-stands}
 use Rattle.memblock_grow.specs.More.{more_by}
 use Rattle.memblock_grow.proofs.MoreLaws.{memory-enough, room-behind}
-use Rattle.memblock_grow.proofs.PreparedLaws.{prepares-then}
+use Rattle.memblock_grow.proofs.PreparedLaws.{by-then}
 use Rattle.memblock_grow.proofs.WholeLaws.{whole-on, keeps-then, bytes-then}
 use Rattle.memblock_grow.proofs.memory.make_memory_room.Goals as goal
 
@@ -43,8 +43,8 @@ pub returns-clause-prepared : goal.returns-clause-prepared
 returns-clause-prepared c =
     let first = c.grow_memory_once in
     let second = c.grow_memory_once-2 in
-    prepares-then c.args.journal.now.items first.new.journal.items second.new.journal.items c.args.tables.now.store
-    first.new.tables.store second.new.tables.store first.ensures.prepared second.ensures.prepared
+    by-then second.result c.args.journal.now.items first.new.journal.items second.new.journal.items c.args.tables.now.store
+    first.new.tables.store second.new.tables.store c.in_ok-grow_memory_once.ensures.prepared second.ensures.prepared
 
 pub returns-clause-room : goal.returns-clause-room
 returns-clause-room c =

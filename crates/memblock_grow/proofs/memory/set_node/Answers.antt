@@ -9,7 +9,7 @@ use Rattle.memblock_grow.specs.declared.more.More.TheVariants as more
 use Rattle.memblock_grow.specs.Kept.{AreKept}
 use Rattle.memblock_grow.proofs.KeptLaws.{kept-node}
 use Rattle.memblock_grow.proofs.MoreLaws.{room-of}
-use Rattle.memblock_grow.proofs.PreparedLaws.{prepares-item}
+use Rattle.memblock_grow.proofs.PreparedLaws.{prepares-item, by-item}
 use Rattle.memblock_grow.proofs.ChangeLaws.{change-fails, change-wants, change-done, change-bytes}
 use Rattle.memblock_grow.proofs.memory.set_node.Goals as goal
 
@@ -33,6 +33,12 @@ returns-in_err-push-clause-ends c =
     (item.Node c.args.range c.args.node) c.from_residual-in_err-push.result c.args.journal.now.items
     c.make_memory_room.new.journal.items c.push.new.self.items c.from_residual-in_err-push.ensures.1
     c.in_ok-make_memory_room.ensures.ends (ap (λ (j : Journal). j.items) c.in_err-push.ensures.err)
+
+pub returns-in_err-push-clause-prepared : goal.returns-in_err-push-clause-prepared
+returns-in_err-push-clause-prepared c =
+    by-item c.from_residual-in_err-push.result c.args.journal.now.items c.make_memory_room.new.journal.items c.push.new.self.items
+    c.args.tables.now.store c.make_memory_room.new.tables.store (ap (λ (j : Journal). j.items) c.in_err-push.ensures.err)
+    c.in_ok-make_memory_room.ensures.prepared
 
 pub returns-clause-ends : goal.returns-clause-ends
 unfolding noded
@@ -59,5 +65,5 @@ pub returns-clause-prepared : goal.returns-clause-prepared
 returns-clause-prepared c =
     let room = c.make_memory_room in
     prepares-item c.args.journal.now.items room.new.journal.items c.push.new.self.items (item.Node c.args.range c.args.node)
-    c.args.tables.now.store room.new.tables.store c.relabel.new.tables.store room.ensures.prepared c.in_ok-push.ensures.ok (λ x. refl)
+    c.args.tables.now.store room.new.tables.store c.relabel.new.tables.store c.in_ok-make_memory_room.ensures.prepared c.in_ok-push.ensures.ok (λ x. refl)
     c.relabel.ensures.ready

@@ -1,0 +1,47 @@
+-- A claim that is refused at once, and one that isn't refused: what it prepares, with a place that was prepared before it.
+use Rattle.std.proofs.Common.{◌≡◌, ◌<◌, true, None, List, length, Result, Ok, Err, OnErr, sym, ◌∙◌, subst, arith}
+use Rattle.std.proofs.lemmas.List.{length-append}
+use Rattle.bm_base.specs.Extent.{Extent}
+use Rattle.phys_store.specs.Bytes.{Stored}
+use Rattle.memblock_model.specs.declared.which.Which.TheVariants as which
+use Rattle.memblock_model.specs.declared.owner.Owner.{Owner}
+use Rattle.memblock_model.specs.declared.item.Item.{Item}
+use Rattle.memblock_model.specs.declared.item.Item.TheVariants as item
+use Rattle.growth_model.specs.declared.refusal.Refusal.{Refusal}
+use Rattle.growth_model.specs.declared.refusal.Refusal.TheVariants as refusal
+use Rattle.growth_model.specs.Outcome.{Outcome, Change, after, if_due, write, ◌>>◌}
+use Rattle.growth_model.specs.Growth.{is_full, new_in, reserved_growth, grown, claimed}
+use Rattle.growth_model.specs.Ends.{Ends}
+use Rattle.growth_model.proofs.EndLaws.{followed, Ends-first, Ends-due}
+use Rattle.growth_model.proofs.CutLaws.{then-unrefused}
+use Rattle.memblock_grow.specs.Prepared.{PreparesWith, PreparesBy}
+
+pub claim-refused : (e : Refusal) (range : Extent) (who : Owner) (items : List Item)
+    → is_full which.Reserved (new_in which.Reserved range) items ≡ true
+    → Ends {T = Unit {0}} (Err e) items items (reserved_growth range) → Ends {T = Unit {0}} (Err e) items items (claimed range who)
+unfolding claimed
+claim-refused e range who items full h =
+    let once : Change = if_due (is_full which.Reserved (new_in which.Reserved range)) (reserved_growth range) in
+    Ends-first (Unit {0}) (Unit {0}) e items items (once >> once) (write (item.Claim range who))
+    (Ends-first (Unit {0}) (Unit {0}) e items items once once
+    (Ends-due {T = Unit {0}} (Err e) items items (is_full which.Reserved (new_in which.Reserved range)) (reserved_growth range) full h))
+
+pub claim-begins : (range : Extent) (who : Owner) (items : List Item) → (claimed range who items).refused ≡ None
+    → 0 < length (claimed range who items).steps
+unfolding claimed
+claim-begins range who items unrefused =
+    let growths : Change = grown which.Reserved (new_in which.Reserved range) (reserved_growth range) in
+    let last : Change = write (item.Claim range who) in
+    let o : Outcome = growths items in
+    let more = length-append o.steps (last (after items o)).steps in
+    subst (λ (o : Outcome). 0 < length o.steps) (sym (followed growths last items (then-unrefused items growths last unrefused).0))
+    (omega (arith, more))
+
+pub claim-prepares : (r : Result (Unit {0}) Refusal) (place : Extent) (who : Owner) (items longer : List Item) (s t : List Stored)
+    → (claimed place who items).refused ≡ None → Ends r items longer (claimed place who) → PreparesWith place items longer s t
+    → OnErr r (PreparesBy r items longer s t)
+claim-prepares (Ok x) place who items longer s t unrefused ends h = tt
+claim-prepares (Err refusal.NoGap) place who items longer s t unrefused ends h = absurd ends
+claim-prepares (Err (refusal.NoGapForTable w room)) place who items longer s t unrefused ends h =
+    let clash = sym unrefused ∙ ends.0 in cc
+claim-prepares (Err refusal.Memory) place who items longer s t unrefused ends h = (place, h)

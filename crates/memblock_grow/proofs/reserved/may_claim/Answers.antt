@@ -1,0 +1,56 @@
+use Rattle.std.proofs.Common.{sym, ◌∙◌, ap, inl, inr, arith}
+use Rattle.std.specs.Option.{is_some}
+use Rattle.memblock_model.specs.declared.which.Which.TheVariants as which
+use Rattle.memblock_ranges.specs.declared.region.Head.{Head}
+use Rattle.growth_model.specs.declared.refusal.Refusal.TheVariants as refusal
+use Rattle.growth_model.proofs.RoomLaws.{free-claimed}
+use Rattle.memblock_grow.specs.declared.more.More.TheVariants as more
+use Rattle.memblock_grow.proofs.PlaceLaws.{knows-mirrors}
+use Rattle.memblock_grow.proofs.MoreLaws.{full-is, space-of}
+use Rattle.memblock_grow.proofs.ReservedLaws.{room-least, growth-none, beside-some}
+use Rattle.memblock_grow.proofs.ClaimLaws.{claim-refused}
+use Rattle.memblock_grow.proofs.reserved.may_claim.Goals as goal
+
+pub place_beside-requires-clause-some : goal.place_beside-requires-clause-some
+place_beside-requires-clause-some c =
+    let n = ap (λ (h : Head). h.room) c.head-head.ensures.head in
+    let least = room-least which.Reserved c.requires.kept.0 c.args.journal.now.items c.args.tables.now c.args.aim c.requires.kept.1.kept
+    in
+    omega (arith, n, least)
+
+pub place_beside-requires-clause-mirrors : goal.place_beside-requires-clause-mirrors
+place_beside-requires-clause-mirrors c =
+    knows-mirrors c.requires.kept.0 c.args.journal.now.items c.args.tables.now c.args.aim c.requires.kept.1.kept
+
+pub returns-then-not-is_full-clause-ok : goal.returns-then-not-is_full-clause-ok
+returns-then-not-is_full-clause-ok c = λ who.
+    let kernel = c.requires.kept.0 in
+    let kept = c.requires.kept.1.kept in
+    let within = c.is_full.ensures.within in
+    free-claimed kernel c.args.range who c.args.journal.now.items
+    (space-of kernel c.args.journal.now.items c.args.tables.now c.args.aim kept (omega arith)) kept.fits
+    (c.requires.kept.1.placed c.requires.begun) c.requires.some (omega (arith, within)) c.requires.free
+    (inl (sym (full-is which.Reserved (more.PiecesOf c.args.range) kernel c.args.journal.now.items c.args.tables.now c.args.aim kept)
+    ∙ sym c.if-not-is_full.ensures.full))
+
+pub returns-in-Some-clause-ok : goal.returns-in-Some-clause-ok
+returns-in-Some-clause-ok c = λ who.
+    let kernel = c.requires.kept.0 in
+    let kept = c.requires.kept.1.kept in
+    let within = c.is_full.ensures.within in
+    free-claimed kernel c.args.range who c.args.journal.now.items
+    (space-of kernel c.args.journal.now.items c.args.tables.now c.args.aim kept (omega arith)) kept.fits
+    (c.requires.kept.1.placed c.requires.begun) c.requires.some (omega (arith, within)) c.requires.free
+    (inr (beside-some kernel c.args.journal.now.items c.args.tables.now c.args.aim c.head-head.result.room c.args.range
+    c.place_beside.result kept (ap (λ (h : Head). h.room) c.head-head.ensures.head) c.place_beside.ensures
+    (ap is_some c.in-Some.is)))
+
+pub returns-in-None-clause-refused : goal.returns-in-None-clause-refused
+returns-in-None-clause-refused c = λ who.
+    let kernel = c.requires.kept.0 in
+    let kept = c.requires.kept.1.kept in
+    claim-refused (refusal.NoGapForTable which.Reserved c.head-head.result.room) c.args.range who c.args.journal.now.items
+    (sym (full-is which.Reserved (more.PiecesOf c.args.range) kernel c.args.journal.now.items c.args.tables.now c.args.aim kept)
+    ∙ sym c.if-not-is_full.ensures.full)
+    (growth-none kernel c.args.journal.now.items c.args.tables.now c.args.aim c.head-head.result.room c.args.range
+    c.place_beside.result kept (ap (λ (h : Head). h.room) c.head-head.ensures.head) c.place_beside.ensures c.in-None.is)
