@@ -124,7 +124,7 @@ fn place_sections(alloc: Global, memblock: &mut Memblock, inputs: &Inputs) -> Re
 {
     match place_all(alloc, memblock, inputs.width) {
         Ok(sections) => Ok(sections),
-        Err(stop) => Err(stop_of_stage(stop)),
+        Err(unplaced) => Err(stop_of_stage(unplaced)),
     }
 }
 

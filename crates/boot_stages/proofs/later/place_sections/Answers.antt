@@ -13,6 +13,6 @@ returns-in-Err-clause-short c = λ is.
     let items = c.args.memblock.now.journal.items in
     let width = (inputs_view c.args.inputs.now).width in
     let told = c.stop_of_stage.ensures in
-    let same : stop_of_stage c.in-Err.stop ≡ stops.Memory = cc in
-    stage-short c.in-Err.stop items c.place_all.new.memblock.journal.items (places_of_sections width items)
+    let same : stop_of_stage c.in-Err.unplaced ≡ stops.Memory = cc in
+    stage-short c.in-Err.unplaced items c.place_all.new.memblock.journal.items (places_of_sections width items)
     (sections_errs width items) c.in-Err.ensures.ends same
