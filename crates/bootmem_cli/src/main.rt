@@ -4,7 +4,7 @@
 //! The program reads the zero page that a boot loader hands over, and where they are named the E820
 //! extension, the command line of the kernel, the firmware's tables of domains and of distances, its own
 //! map of memory, and scripts of early allocations and of requests to the page allocator; it boots with
-//! them up to the hand-over, and prints reports of it: `bootmem [OPTION..] ZEROPAGE`, or `--make N` in place of
+//! them up to the handover, and prints reports of it: `bootmem [OPTION..] ZEROPAGE`, or `--make N` in place of
 //! ZEROPAGE for a table of N entries that a generator makes (bootmem(1) has the options). [`run`] of
 //! `program_run` is the whole of it over any files, output and error output, with the contract; `main` hands
 //! it those of the system.

@@ -30,7 +30,7 @@ use Rattle.memblock_grow.specs.declared.more.More.TheVariants as more
 use Rattle.memblock_grow.specs.Kept.{AreKept, IsMemblock, IsKept, AllowsClaim, AllowsFree, Keeps, AreTold, StayReady, aimed}
 use Rattle.memblock_grow.specs.Prepared.{is_grown_over, Prepares, PreparesBy}
 use Rattle.memblock_grow.specs.Places.{KnowsMirrors, top_of, mirrored_of, best_of, frames_between, frames_beside, left_frames, first_of}
-use Rattle.memblock_grow.specs.More.{more_by, more_in, HasRoom, EndsBefore}
+use Rattle.memblock_grow.specs.More.{more_by, more_in, HasRoom, EndsInSpace}
 use Rattle.memblock_grow.proofs.PlaceLaws.{best_in-large}
 
 abbrev image : Extent
@@ -332,10 +332,10 @@ room_for_two = omega arith
 no_room_for_two : HasRoom more.Two (record { records = []; place = 0; room = 1 }) → ⊥
 no_room_for_two has = omega arith
 
-ends_in_space : EndsBefore (more.PiecesOf (record { base = 5; size = 1 }))
+ends_in_space : EndsInSpace (more.PiecesOf (record { base = 5; size = 1 }))
 ends_in_space = omega arith
 
-ends_behind : EndsBefore (more.PiecesOf (record { base = 5; size = 2 ^ 64 })) → ⊥
+ends_behind : EndsInSpace (more.PiecesOf (record { base = 5; size = 2 ^ 64 })) → ⊥
 ends_behind ends = omega arith
 
 -- what contracts see of a memblock

@@ -22,7 +22,7 @@ use Rattle.memblock_grow.specs.declared.aim.Aim.{Aim}
 use Rattle.memblock_grow.specs.declared.more.More.{More}
 use Rattle.memblock_grow.specs.declared.more.More.TheVariants as more
 use Rattle.memblock_grow.specs.Kept.{AreKept}
-use Rattle.memblock_grow.specs.More.{more_by, more_in, HasRoom, EndsBefore}
+use Rattle.memblock_grow.specs.More.{more_by, more_in, HasRoom, EndsInSpace}
 use Rattle.memblock_grow.proofs.KeptLaws.{records-are, room-is, values-are}
 
 more-is : (w : Which) (m : More) (kernel : Extent) (items : List Item) (t : Contents) (at : Aim) → AreKept kernel items t at
@@ -57,7 +57,7 @@ no-records which.Memory = sym (ap length (records_for-is (table_of which.Memory 
 no-records which.Reserved =
     sym (ap length (records_for-is (table_of which.Reserved []) [] (λ x le. refl) (record { runs = tt; each = λ x. refl })))
 
-few-more : (m : More) → EndsBefore m → more_by which.Reserved m [] ≤ 2
+few-more : (m : More) → EndsInSpace m → more_by which.Reserved m [] ≤ 2
 unfolding records_of
 few-more (more.PiecesOf range) ends =
     let few = few-pieces range (table_of which.Reserved []) (omega arith) (λ x le. refl) in
@@ -65,7 +65,7 @@ few-more (more.PiecesOf range) ends =
     omega (arith, few, none)
 few-more more.Two ends = omega arith
 
-pub full-begun : (m : More) (items : List Item) → EndsBefore m → is_full which.Reserved (more_by which.Reserved m) items ≡ true
+pub full-begun : (m : More) (items : List Item) → EndsInSpace m → is_full which.Reserved (more_by which.Reserved m) items ≡ true
     → HasBegun items
 full-begun m [] ends h =
     let none = no-records which.Reserved in let few = few-more m ends in
@@ -78,13 +78,13 @@ pub space-of : (kernel : Extent) (items : List Item) (t : Contents) (at : Aim) �
 space-of kernel items t at kept low = record { ends = kept.ends; limit = subst (λ (n : ℕ). n ≤ 2 ^ 64) (sym kept.limit) low }
 
 pub reserved-enough : (m : More) (avoid kernel : Extent) (items : List Item) (t : Contents) (at : Aim) → AreKept kernel items t at
-    → at.limit ≤ 2 ^ 64 → EndsBefore m → HasRoomBehind which.Reserved (more_by which.Reserved m) (reserved_growth avoid) items
+    → at.limit ≤ 2 ^ 64 → EndsInSpace m → HasRoomBehind which.Reserved (more_by which.Reserved m) (reserved_growth avoid) items
 reserved-enough (more.PiecesOf range) avoid kernel items t at kept low ends =
     enough-claimed avoid range items (space-of kernel items t at kept low) kept.fits (omega arith)
 reserved-enough more.Two avoid kernel items t at kept low ends = enough-freed avoid items (space-of kernel items t at kept low) kept.fits
 
 pub memory-enough : (m : More) (kernel : Extent) (items : List Item) (t : Contents) (at : Aim) → AreKept kernel items t at
-    → at.limit ≤ 2 ^ 64 → EndsBefore m → HasRoomBehind which.Memory (more_by which.Memory m) memory_growth items
+    → at.limit ≤ 2 ^ 64 → EndsInSpace m → HasRoomBehind which.Memory (more_by which.Memory m) memory_growth items
 memory-enough (more.PiecesOf range) kernel items t at kept low ends =
     enough-added range items (space-of kernel items t at kept low) kept.fits (omega arith)
 memory-enough more.Two kernel items t at kept low ends = enough-labelled items (space-of kernel items t at kept low) kept.fits

@@ -24,6 +24,6 @@ abbrev pub HasRoom : More → Table → Type 0
 HasRoom m t = length t.records + more_in m t ≤ t.room
 
 -- a range of them ends in the address space
-abbrev pub EndsBefore : More → Type 0
-EndsBefore (more.PiecesOf range) = end_of range < 2 ^ 64
-EndsBefore more.Two = Unit {0}
+abbrev pub EndsInSpace : More → Type 0
+EndsInSpace (more.PiecesOf range) = end_of range < 2 ^ 64
+EndsInSpace more.Two = Unit {0}

@@ -13,7 +13,7 @@ ghost use Rattle.growth_model.specs.Ends.{Ends};
 ghost use Rattle.growth_model.specs.Sound.{HasBegun, Unclaimed};
 ghost use Rattle.memblock_grow.specs.Kept.{IsKept, AllowsFree, Keeps, KeepsBytes};
 ghost use Rattle.memblock_grow.specs.Prepared.{Prepares, PreparesWith, PreparesBy};
-ghost use Rattle.memblock_grow.specs.More.{more_by, HasRoom, EndsBefore};
+ghost use Rattle.memblock_grow.specs.More.{more_by, HasRoom, EndsInSpace};
 
 use crate::aim::Aim;
 use crate::edits::{cover, mirror, relabel, relocate};
@@ -114,7 +114,7 @@ fn grow_memory_once(
     ensures kept { Keeps journal.old.items tables.old journal.new.items tables.new aim }
     ensures bytes { KeepsBytes journal.old.items tables.old journal.new.items tables.new aim }
     ensures prepared { PreparesBy result journal.old.items journal.new.items tables.old.store tables.new.store }
-    ensures within { EndsBefore more.now }
+    ensures within { EndsInSpace more.now }
     ensures idle { HasRoom more.now tables.old.memory →
         IsOk result × (journal.new ≡ journal.old) × (tables.new ≡ tables.old) }
 {

@@ -2,7 +2,7 @@
 //! one that covers a range adds a record for each piece of it that isn't covered yet (`memblock_add_range`, its count).
 ghost use Rattle.std.specs.Prelude.{◌≡◌, ◌+◌, nat_lt, length};
 ghost use Rattle.memblock_ranges.specs.Tables.{table_in, records_in, room_in};
-ghost use Rattle.memblock_grow.specs.More.{more_in, EndsBefore};
+ghost use Rattle.memblock_grow.specs.More.{more_in, EndsInSpace};
 
 use bm_base::Range;
 use memblock_model::Which;
@@ -21,7 +21,7 @@ pub enum More {
 pub fn is_full(tables: &Tables, which: Which, more: &More) -> bool
     ensures full { result ≡
         nat_lt (room_in which tables.now) (length (records_in which tables.now) + more_in more.now (table_in which tables.now)) }
-    ensures within { EndsBefore more.now }
+    ensures within { EndsInSpace more.now }
 {
     let head = tables.head(which);
     let free = head.room - head.count;

@@ -12,7 +12,7 @@ ghost use Rattle.growth_model.specs.Ends.{Ends};
 ghost use Rattle.growth_model.specs.Sound.{HasBegun, Unclaimed};
 ghost use Rattle.memblock_grow.specs.Kept.{IsKept, AllowsClaim, AllowsFree, Keeps, KeepsBytes};
 ghost use Rattle.memblock_grow.specs.Prepared.{Prepares};
-ghost use Rattle.memblock_grow.specs.More.{more_by, HasRoom, EndsBefore};
+ghost use Rattle.memblock_grow.specs.More.{more_by, HasRoom, EndsInSpace};
 
 use crate::aim::Aim;
 use crate::edits::{cover, relocate, uncover};
@@ -85,7 +85,7 @@ fn grow_reserved_once(
     ensures bytes { KeepsBytes journal.old.items tables.old journal.new.items tables.new aim }
     ensures prepared { Prepares journal.old.items journal.new.items tables.old.store tables.new.store }
     ensures memory { tables.new.memory ≡ tables.old.memory }
-    ensures within { EndsBefore more.now }
+    ensures within { EndsInSpace more.now }
     ensures idle { HasRoom more.now tables.old.reserved →
         IsOk result × (journal.new ≡ journal.old) × (tables.new ≡ tables.old) }
 {

@@ -1,6 +1,6 @@
 //! The words in which memblock is spoken of: what happens to memory, and what then holds of a byte.
 //!
-//! From the finished map to the hand-over to the buddy allocator the kernel keeps memory in two
+//! From the finished map to the handover to the buddy allocator the kernel keeps memory in two
 //! tables, `memblock.memory` and `memblock.reserved`. Here what happens to memory is a list of
 //! [`Item`]s, oldest first, and everything else is asked of that list: who owns a byte and which
 //! node it has (`specs/Items.antt`), what the two tables hold, how much room they have and where

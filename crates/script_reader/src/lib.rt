@@ -1,4 +1,4 @@
-//! The early script: which allocations a user wants made behind the boot's own, before hand-over.
+//! The early script: which allocations a user wants made behind the boot's own, before the handover.
 //!
 //! In the kernel, drivers and architecture code call memblock between the set-up of its tables and
 //! the buddy allocator's start. Here a text says what such callers would ask for: a line claims a
