@@ -78,7 +78,7 @@ impl Files for MemFiles {
 
     ghost taken = { λ s. s.taken };
 
-    ghost failures = { λ s. s.faults };
+    ghost misses = { λ s. s.faults };
 
     ghost wants = { λ s. s.wants };
 

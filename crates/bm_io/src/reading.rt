@@ -33,7 +33,7 @@ pub trait Files {
     ghost taken: { Self → ℕ };
 
     // How many fetches answered that they failed.
-    ghost failures: { Self → ℕ };
+    ghost misses: { Self → ℕ };
 
     // How many fetches answered that memory is wanting.
     ghost wants: { Self → ℕ };
@@ -52,9 +52,9 @@ pub trait Files {
 
         // The answers that are counted, and what a call leaves as it was: a failure is counted only at `Failed`, a want
         // only at `Memory`, so neither after `Ok`.
-        ensures failure { IsErrOf result Fetch.Failed → Rose (failures self.old) (failures self.new) }
+        ensures miss { IsErrOf result Fetch.Failed → Rose (misses self.old) (misses self.new) }
         ensures wanting { IsErrOf result Fetch.Memory → Rose (wants self.old) (wants self.new) }
-        ensures no_failure { IsErrOf result Fetch.Failed ⊎ (failures self.new ≡ failures self.old) }
+        ensures no_miss { IsErrOf result Fetch.Failed ⊎ (misses self.new ≡ misses self.old) }
         ensures no_want { IsErrOf result Fetch.Memory ⊎ (wants self.new ≡ wants self.old) }
         ensures kept { holds self.new ≡ holds self.old }
 
@@ -63,8 +63,8 @@ pub trait Files {
         ensures faults_fit { (any : List ℕ) → faults self.new any < 2 ^ 64 }
         ensures taken_stays { taken self.old ≤ taken self.new }
         ensures taken_fits { taken self.new < 2 ^ 64 }
-        ensures failures_stay { failures self.old ≤ failures self.new }
-        ensures failures_fit { failures self.new < 2 ^ 64 }
+        ensures misses_stay { misses self.old ≤ misses self.new }
+        ensures misses_fit { misses self.new < 2 ^ 64 }
         ensures wants_stay { wants self.old ≤ wants self.new }
         ensures wants_fit { wants self.new < 2 ^ 64 };
 }

@@ -104,7 +104,7 @@ impl<D: RawFiles + Drop> Files for RealFiles<D> {
 
     ghost taken = { λ s. s.taken };
 
-    ghost failures = { λ s. s.faults };
+    ghost misses = { λ s. s.faults };
 
     ghost wants = { λ s. s.wants };
 

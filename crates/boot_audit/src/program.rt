@@ -42,8 +42,8 @@ pub fn audit<F: Files, S: Sink, E: Sink>(
     ensures unfetched { IsNone (accepted (map string_bytes words.now)) → files.new ≡ files.old }
     ensures early { (result ≡ 2) ⊎ (result ≡ 3) ⊎ (result ≡ 5) → out.new ≡ out.old }
     ensures wanting { result ≡ 7 → (out.new ≡ out.old) ⊎ Rose (S.wants out.old) (S.wants out.new) }
-    ensures unfailed { result ≡ 7 → F.failures files.new ≡ F.failures files.old }
-    ensures uncounted { (result ≡ 0) ⊎ (result ≡ 8) → F.failures files.new ≡ F.failures files.old }
+    ensures unfailed { result ≡ 7 → F.misses files.new ≡ F.misses files.old }
+    ensures none_missed { (result ≡ 0) ⊎ (result ≡ 8) → F.misses files.new ≡ F.misses files.old }
 
     // The headline, where the files tell what they hold: 0 comes exactly where the words have their form, the three texts
     // are well-formed, each usable frame is touched or in exactly one block and not both, each frame of a block is usable

@@ -114,12 +114,12 @@ pub record IsAdded {F : Type 0} (kind : FilesOf F) (names : Named) (file : File)
   pub cause : HasCause (kind.faults old) (kind.faults new) names result
   pub memory : IsErrOf result errors.Memory → Rose (kind.wants old) (kind.wants new) ⊎ IfSome (kind.holds old)
       (λ held. IsTrue (takes_memory held names file) × IsOk (file_step held names file before))
-  pub unfailed : IsErrOf result errors.Memory → kind.failures new ≡ kind.failures old
+  pub unfailed : IsErrOf result errors.Memory → kind.misses new ≡ kind.misses old
   pub unwanted : OnOk result (kind.wants new ≡ kind.wants old)
   pub own : IsOf file.input result
   pub unnamed : IsNone (names file.input) → IsOk result
   pub kept : kind.holds new ≡ kind.holds old
-  pub uncounted : OnOk result (kind.failures new ≡ kind.failures old)
+  pub none_missed : OnOk result (kind.misses new ≡ kind.misses old)
   pub faults_stay : (any : List ℕ) → kind.faults old any ≤ kind.faults new any
 
 module _ {F : Type 0} (kind : FilesOf F) (names : Named) (file : File) (files : List File) where
@@ -150,7 +150,7 @@ module _ {F : Type 0} (kind : FilesOf F) (names : Named) (file : File) (files : 
         ];
         unfailed = added.unfailed;
         unnamed = λ none. added.unnamed (none file.input);
-        uncounted = tt;
+        none_missed = tt;
         unwanted = tt;
         kept = added.kept;
       }
@@ -181,10 +181,10 @@ module _ {F : Type 0} (kind : FilesOf F) (names : Named) (file : File) (files : 
             subst (λ (y : Result Given InputRefusal). Passes w.0.input y) (sym (behind held before between is)) w.3,
           )) added.gives (rw added.kept at told))
     ];
-    unfailed = λ wants. rest.unfailed wants ∙ added.uncounted;
+    unfailed = λ wants. rest.unfailed wants ∙ added.none_missed;
     unnamed = rest.unnamed;
-    uncounted = on_ok result (kind.failures new ≡ kind.failures mid) (kind.failures new ≡ kind.failures old)
-        (λ same. same ∙ added.uncounted) rest.uncounted;
+    none_missed = on_ok result (kind.misses new ≡ kind.misses mid) (kind.misses new ≡ kind.misses old)
+        (λ same. same ∙ added.none_missed) rest.none_missed;
     unwanted = on_ok result (kind.wants new ≡ kind.wants mid) (kind.wants new ≡ kind.wants old) (λ same. same ∙ added.unwanted)
         rest.unwanted;
     kept = rest.kept ∙ added.kept;

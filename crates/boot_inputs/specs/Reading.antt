@@ -37,8 +37,8 @@ pub record AreRead {F : Type 0} (kind : FilesOf F) (named : Named) (files : List
   pub cause : HasCause (kind.faults old) (kind.faults new) named result
   pub memory : IsErrOf result errors.Memory
       → Rose (kind.wants old) (kind.wants new) ⊎ IfSome (kind.holds old) (λ held. WantsMemory held named files before)
-  pub unfailed : IsErrOf result errors.Memory → kind.failures new ≡ kind.failures old
+  pub unfailed : IsErrOf result errors.Memory → kind.misses new ≡ kind.misses old
   pub unnamed : ((input : Input) → IsNone (named input)) → IsOk result
-  pub uncounted : OnOk result (kind.failures new ≡ kind.failures old)
+  pub none_missed : OnOk result (kind.misses new ≡ kind.misses old)
   pub unwanted : OnOk result (kind.wants new ≡ kind.wants old)
   pub kept : kind.holds new ≡ kind.holds old

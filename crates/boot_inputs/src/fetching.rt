@@ -29,13 +29,13 @@ pub fn add_file<R: Reader, F: Files, N: Names>(
     ensures memory { IsErrOf result InputError.Memory → Rose (F.wants files.old) (F.wants files.new)
         ⊎ IfSome (F.holds files.old) (λ held. IsTrue (takes_memory held (N.named names.now) R.file)
         × IsOk (file_step held (N.named names.now) R.file (inputs_view inputs.old))) }
-    ensures unfailed { IsErrOf result InputError.Memory → F.failures files.new ≡ F.failures files.old }
+    ensures unfailed { IsErrOf result InputError.Memory → F.misses files.new ≡ F.misses files.old }
     ensures unwanted { OnOk result (F.wants files.new ≡ F.wants files.old) }
     ensures own { IsOf R.file.input result }
     ensures unnamed { IsNone (N.named names.now R.file.input) → IsOk result }
     ensures unfetched { IsNone (N.named names.now R.file.input) → files.new ≡ files.old }
     ensures kept { F.holds files.new ≡ F.holds files.old }
-    ensures uncounted { OnOk result (F.failures files.new ≡ F.failures files.old) }
+    ensures none_missed { OnOk result (F.misses files.new ≡ F.misses files.old) }
     ensures faults_stay { (any : List ℕ) → F.faults files.old any ≤ F.faults files.new any }
 {
     match names.of(R::input()) {
@@ -57,11 +57,11 @@ fn fetch<R: Reader, F: Files>(
     ensures memory { IsErrOf result InputError.Memory → Rose (F.wants files.old) (F.wants files.new)
         ⊎ IfSome (F.holds files.old) (λ held. IsTrue (takes_held R.file (held name.now))
         × IsOk (named_step held R.file (inputs_view inputs.old) name.now)) }
-    ensures unfailed { IsErrOf result InputError.Memory → F.failures files.new ≡ F.failures files.old }
+    ensures unfailed { IsErrOf result InputError.Memory → F.misses files.new ≡ F.misses files.old }
     ensures unwanted { OnOk result (F.wants files.new ≡ F.wants files.old) }
     ensures own { IsOf R.file.input result }
     ensures kept { F.holds files.new ≡ F.holds files.old }
-    ensures uncounted { OnOk result (F.failures files.new ≡ F.failures files.old) }
+    ensures none_missed { OnOk result (F.misses files.new ≡ F.misses files.old) }
     ensures faults_stay { (any : List ℕ) → F.faults files.old any ≤ F.faults files.new any }
 {
     match files.fetch(alloc, name, R::limit()) {

@@ -55,9 +55,9 @@ pub fn read_inputs<F: Files, N: Names>(
     ensures cause { HasCause (F.faults files.old) (F.faults files.new) (N.named names.now) result }
     ensures memory { IsErrOf result InputError.Memory → Rose (F.wants files.old) (F.wants files.new)
         ⊎ IfSome (F.holds files.old) (λ held. WantsMemory held (N.named names.now) input_files (inputs_view begun)) }
-    ensures unfailed { IsErrOf result InputError.Memory → F.failures files.new ≡ F.failures files.old }
+    ensures unfailed { IsErrOf result InputError.Memory → F.misses files.new ≡ F.misses files.old }
     ensures unnamed { ((input : AnyInput) → IsNone (N.named names.now input)) → IsOk result }
-    ensures uncounted { OnOk result (F.failures files.new ≡ F.failures files.old) }
+    ensures none_missed { OnOk result (F.misses files.new ≡ F.misses files.old) }
 {
     let mut inputs = begun;
     match FromZeroPage::add_files::<F, N>(alloc, files, names, &mut inputs) {

@@ -52,17 +52,17 @@ pub faults_fit : (state : LentState) (any : List ℕ) → faults_at state any < 
 faults_fit state any = at_fits (bytes_of state.files any) state.misses
 
 -- a miss is a failed fetch, and nothing else is
-pub failure : (answer : Result (Vec ℕ Global) Fetch) (old new : ℕ) → new ≡ old + misses_of answer → IsErrOf answer fetch.Failed
+pub miss : (answer : Result (Vec ℕ Global) Fetch) (old new : ℕ) → new ≡ old + misses_of answer → IsErrOf answer fetch.Failed
     → Rose old new
-failure answer old new grew failed =
+miss answer old new grew failed =
     let one : misses_of answer ≡ 1 = rw failed refl in omega (arith, grew, one)
 
-pub no_failure : (answer : Result (Vec ℕ Global) Fetch) (old new : ℕ) → new ≡ old + misses_of answer
+pub no_miss : (answer : Result (Vec ℕ Global) Fetch) (old new : ℕ) → new ≡ old + misses_of answer
     → IsErrOf answer fetch.Failed ⊎ (new ≡ old)
-no_failure (Ok bytes) old new grew = inr (omega (arith, grew))
-no_failure (Err fetch.Failed) old new grew = inl refl
-no_failure (Err fetch.TooLong) old new grew = inr (omega (arith, grew))
-no_failure (Err fetch.Memory) old new grew = inr (omega (arith, grew))
+no_miss (Ok bytes) old new grew = inr (omega (arith, grew))
+no_miss (Err fetch.Failed) old new grew = inl refl
+no_miss (Err fetch.TooLong) old new grew = inr (omega (arith, grew))
+no_miss (Err fetch.Memory) old new grew = inr (omega (arith, grew))
 
 pub no_want : (answer : Result (Vec ℕ Global) Fetch) → IsErrOf answer fetch.Memory ⊎ (2 ^ 64 - 1 ≡ 2 ^ 64 - 1)
 no_want answer = inr refl

@@ -46,7 +46,7 @@ impl<'a> Files for LentFiles<'a> {
     // above, so whoever sees a count that rose knows that the name isn't held.
     ghost faults = { λ s name. faults_at s name };
 
-    ghost failures = { λ s. s.misses };
+    ghost misses = { λ s. s.misses };
 
     // These stand at their last value: nothing is counted.
     ghost taken = { λ s. 2 ^ 64 - 1 };

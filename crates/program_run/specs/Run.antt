@@ -27,9 +27,9 @@ pub record RanTo {F S E : Type 0} (files : FilesOf F) (sink : SinkOf S) (errors 
   -- the output is as it was, or has the cause of what became of it
   pub output : WritingHasCause sink.faults sink.wants out_before out_now end
   -- after status 0 no fetch failed
-  pub uncounted : OnOk end (files.failures held_now ≡ files.failures held_before)
+  pub none_missed : OnOk end (files.misses held_now ≡ files.misses held_before)
   -- a file that couldn't be read isn't told as want of memory
-  pub unfailed : IsErrOf end failures.Memory → files.failures held_now ≡ files.failures held_before
+  pub unfailed : IsErrOf end failures.Memory → files.misses held_now ≡ files.misses held_before
   -- where the files tell what they hold, the end and the output are those of the outcome
   pub said : IfSome (files.holds held_before) (λ held. Writes (sink.written out_before) (sink.written out_now) end (outcome accepted held))
   -- the line of a failure goes to the error output

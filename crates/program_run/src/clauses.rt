@@ -41,8 +41,8 @@ pub fn run_by_clauses<F: Files, S: Sink, E: Sink>(
     ensures unput { IsNone (accepted (texts words.now)) → out.new ≡ out.old }
     ensures early { (result ≡ 2) ⊎ (result ≡ 3) ⊎ (result ≡ 5) ⊎ (result ≡ 6) → out.new ≡ out.old }
     ensures wanting { result ≡ 7 → (out.new ≡ out.old) ⊎ Rose (S.wants out.old) (S.wants out.new) }
-    ensures unfailed { result ≡ 7 → F.failures files.new ≡ F.failures files.old }
-    ensures uncounted { result ≡ 0 → F.failures files.new ≡ F.failures files.old }
+    ensures unfailed { result ≡ 7 → F.misses files.new ≡ F.misses files.old }
+    ensures none_missed { result ≡ 0 → F.misses files.new ≡ F.misses files.old }
 
     // The headline: after status 0 the text of the one boot that the bytes determine was written, and in it each
     // usable frame is touched by a claim with a recorded owner or in exactly one block, and no other frame is in any.

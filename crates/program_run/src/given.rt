@@ -25,8 +25,8 @@ pub fn read_given<F: Files>(
     ensures gives { IfSome (F.holds files.old) (λ held.
         Gives inputs_view result (given_by held (wanted_view wanted.now))) }
     ensures cause { HasCause (F.faults files.old) (F.faults files.new) (wanted_view wanted.now).named result }
-    ensures unfailed { IsErrOf result InputError.Memory → F.failures files.new ≡ F.failures files.old }
-    ensures uncounted { OnOk result (F.failures files.new ≡ F.failures files.old) }
+    ensures unfailed { IsErrOf result InputError.Memory → F.misses files.new ≡ F.misses files.old }
+    ensures none_missed { OnOk result (F.misses files.new ≡ F.misses files.old) }
 {
     let begun = begun_by(alloc, wanted)?;
     let inputs = read_inputs::<F, Wanted<'_>>(alloc, files, wanted, begun)?;

@@ -16,8 +16,8 @@ returns-in-Err-Failed-clause-gives g c =
     comes_to_own (g.F.Files.holds c.args.files.now) _ g.R.Reader.file (inputs_view c.args.inputs.now) c.args.name.now
     c.input.ensures
 
-pub returns-in-Err-Failed-clause-uncounted : goal.returns-in-Err-Failed-clause-uncounted
-returns-in-Err-Failed-clause-uncounted g c = tt
+pub returns-in-Err-Failed-clause-none_missed : goal.returns-in-Err-Failed-clause-none_missed
+returns-in-Err-Failed-clause-none_missed g c = tt
 
 pub returns-in-Err-TooLong-clause-gives : goal.returns-in-Err-TooLong-clause-gives
 returns-in-Err-TooLong-clause-gives g c = search rules
@@ -29,13 +29,13 @@ returns-in-Ok-clause-gives g c =
     c.in-Ok.ensures.told fits (rw c.deref.ensures.value at c.read.ensures.gives)
 
 pub returns-in-Ok-clause-unfailed : goal.returns-in-Ok-clause-unfailed
-returns-in-Ok-clause-unfailed g c = λ wanting. elim c.in-Ok.ensures.no_failure [
+returns-in-Ok-clause-unfailed g c = λ wanting. elim c.in-Ok.ensures.no_miss [
   | inl failed ↦ cc
   | inr same ↦ same
 ]
 
-pub returns-in-Ok-clause-uncounted : goal.returns-in-Ok-clause-uncounted
-returns-in-Ok-clause-uncounted g c = elim c.in-Ok.ensures.no_failure [
+pub returns-in-Ok-clause-none_missed : goal.returns-in-Ok-clause-none_missed
+returns-in-Ok-clause-none_missed g c = elim c.in-Ok.ensures.no_miss [
   | inl failed ↦ cc
   | inr same ↦ on_ok c.read.result _ same
 ]

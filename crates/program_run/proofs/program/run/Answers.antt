@@ -20,7 +20,7 @@ returns-in-Err-Usage-clause-ran g c =
         unfetched = λ none. refl;
         unput = λ none. refl;
         output = refl;
-        uncounted = tt;
+        none_missed = tt;
         unfailed = λ wanting. refl;
         said = usage_fits (g.F.Files.holds c.args.files.now) (accepted (texts c.args.words.now)) (g.S.Sink.written c.args.out.now)
             none;
@@ -37,7 +37,7 @@ returns-in-Err-Memory-clause-ran g c = (
     unfetched = λ none. refl;
     unput = λ none. refl;
     output = inl refl;
-    uncounted = tt;
+    none_missed = tt;
     unfailed = λ wanting. refl;
     said = wanting_fits (g.F.Files.holds c.args.files.now) (accepted (texts c.args.words.now)) (g.S.Sink.written c.args.out.now);
     line = c.tell_memory.ensures (accepted (texts c.args.words.now));

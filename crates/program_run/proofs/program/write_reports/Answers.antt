@@ -28,6 +28,6 @@ returns-clause-output g c =
     put_some g.S.Sink.faults g.S.Sink.wants c.args.out.now _ c.put_texts.result c.put_texts.ensures.only c.put_texts.ensures.failed
     c.put_texts.ensures.wanting
 
-pub returns-clause-uncounted : goal.returns-clause-uncounted
-returns-clause-uncounted g c =
-    on_ok c.put_texts.result c.in_ok-texts.ensures.uncounted
+pub returns-clause-none_missed : goal.returns-clause-none_missed
+returns-clause-none_missed g c =
+    on_ok c.put_texts.result c.in_ok-texts.ensures.none_missed

@@ -19,7 +19,7 @@ returns-in_err-add_file g c =
       own = added.own;
       unnamed = added.unnamed;
       kept = added.kept;
-      uncounted = added.uncounted;
+      none_missed = added.none_missed;
       faults_stay = added.faults_stay;
     }))
 
@@ -38,7 +38,7 @@ returns g c =
       own = added.own;
       unnamed = added.unnamed;
       kept = added.kept;
-      uncounted = added.uncounted;
+      none_missed = added.none_missed;
       faults_stay = added.faults_stay;
     })
     c.add_files.ensures

@@ -1,7 +1,7 @@
 -- A name that is held never fails, and a miss is a failed fetch.
 use Rattle.std.proofs.Common.{Some, ap, arith}
 use Rattle.bm_io.specs.HeldFiles.{bytes_of}
-use Rattle.bootmem_c.proofs.FetchLaws.{bytes_stay, want_stays, faults_fit, faults_rose, faults_stay, failure, no_failure, no_want}
+use Rattle.bootmem_c.proofs.FetchLaws.{bytes_stay, want_stays, faults_fit, faults_rose, faults_stay, miss, no_miss, no_want}
 use Rattle.bootmem_c.proofs.lent_files.LentFilesFiles.TheImpl.Goals as goal
 
 pub fetch-tells : goal.fetch-tells
@@ -13,15 +13,15 @@ fetch-tells _ c = record {
   longer = c.ensures.too_long.0;
   wanting = λ is. want_stays;
   kept = ap (λ files. Some (bytes_of files)) c.ensures.files;
-  failure = failure c.result _ _ c.ensures.misses;
-  no_failure = no_failure c.result _ _ c.ensures.misses;
+  miss = miss c.result _ _ c.ensures.misses;
+  no_miss = no_miss c.result _ _ c.ensures.misses;
   no_want = no_want c.result;
   faults_stay = faults_stay c.result _ _ c.ensures.files c.ensures.misses;
   faults_fit = faults_fit _;
   taken_stays = omega arith;
   taken_fits = omega arith;
-  failures_stay = omega (arith, c.ensures.misses);
-  failures_fit = omega (arith, c.ensures.few);
+  misses_stay = omega (arith, c.ensures.misses);
+  misses_fit = omega (arith, c.ensures.few);
   wants_stay = omega arith;
   wants_fit = omega arith;
 }
