@@ -24,12 +24,6 @@ rewrite-requires-clause-room g c =
           (amended_edges same tells change c.requires.change r f) (λ at le. spikes_two r at) (omega (arith, count, c.requires.room)),
     )
 
-pub returns-clause-within : goal.returns-clause-within
-returns-clause-within g c = λ x le.
-    c.rewrite.ensures.list.each x
-    ∙ amended_ends (g.C.Change.makes c.args.change) c.args.range.now (value_at (g.T.Rows.list c.args.table.now)) (2 ^ 64)
-    (grind (arith, common_steps)) c.requires.within x le
-
 pub returns-clause-few : goal.returns-clause-few
 returns-clause-few g c =
     let f : ℕ → Option g.row.S-Value.Denot = value_at (g.T.Rows.list c.args.table.now) in
@@ -37,7 +31,8 @@ returns-clause-few g c =
     let r : Extent = c.args.range.now in
     let same = c.requires.tells.0 in
     let tells = c.requires.tells.1 in
-    let now : NothingFrom (2 ^ 64) (value_at (g.T.Rows.list c.rewrite.new.table)) = returns-clause-within g c in
+    let now : NothingFrom (2 ^ 64) (value_at (g.T.Rows.list c.rewrite.new.table)) = λ x le. c.rewrite.ensures.list.each x
+    ∙ amended_ends change r f (2 ^ 64) (grind (arith, common_steps)) c.requires.within x le in
     length_by same tells (g.T.Rows.list c.args.table.now) (g.T.Rows.list c.rewrite.new.table)
     (λ x. spike r.base x + spike (r.base + r.size) x) 2
     c.requires.runs c.requires.within c.rewrite.ensures.list.runs now
