@@ -61,24 +61,19 @@ pub edited_at : (s t : List Stored) (g h : Head) (list : List (RunOf Label)) →
     covers (bytes_by g) x ≡ false → byte_of t x ≡ byte_of s x
 edited_at s t g h list e x out = rw out at (ap (λ (o : ℕ → ℕ). o x) e.others)
 
-ready_at : (s t : List Stored) (g h : Head) (list : List (RunOf Label)) → Edits s t g h list → (x : ℕ) → is_ready t x ≡ is_ready s x
-ready_at s t g h list e x = ap (λ (o : ℕ → Bool). o x) e.ready
+pub edited_ready : (s t : List Stored) (g h : Head) (list : List (RunOf Label)) → Edits s t g h list → (x : ℕ) → is_ready t x ≡ is_ready s x
+edited_ready s t g h list e x = ap (λ (o : ℕ → Bool). o x) e.ready
 
 same_bytes_by : (s t : List Stored) (g h : Head) (list : List (RunOf Label)) → Edits s t g h list → bytes_by h ≡ bytes_by g
 same_bytes_by s t g h list e =
     rw (e.place_is, e.room_is) refl
-
--- the table that was edited, as contracts see it
-pub edited_table : (s t : List Stored) (g h : Head) (list : List (RunOf Label)) → Edits s t g h list →
-    table_by t h ≡ record { records = list; place = g.place; room = g.room }
-edited_table s t g h list e = rw (e.list_is, e.place_is, e.room_is) refl
 
 pub pair_memory : (s t : List Stored) (m r h : Head) (list : List (RunOf Label)) → AreTables s m r → Edits s t m h list →
     AreRecords (list_in t h) →
     AreTables t h r × (table_by t r ≡ table_by s r)
 pair_memory s t m r h list both e known =
     let other = stays s t r (λ x lies. edited_at s t m h list e x (beside (bytes_by m) (bytes_by r) x both.apart lies))
-    (λ x was. ready_at s t m h list e x ∙ was) both.reserved in
+    (λ x was. edited_ready s t m h list e x ∙ was) both.reserved in
     let same : list_in t r ≡ list_in s r = ap (λ (q : Table). q.records) other.1 in (
       record {
         memory = e.table;
@@ -97,7 +92,7 @@ pub pair_reserved : (s t : List Stored) (m r h : Head) (list : List (RunOf Label
 pair_reserved s t m r h list both e known plain =
     let other = stays s t m (λ x lies. edited_at s t r h list e x
     (beside (bytes_by r) (bytes_by m) x (turned (bytes_by m) (bytes_by r) both.apart) lies))
-    (λ x was. ready_at s t r h list e x ∙ was) both.memory in
+    (λ x was. edited_ready s t r h list e x ∙ was) both.memory in
     let same : list_in t m ≡ list_in s m = ap (λ (q : Table). q.records) other.1 in (
       record {
         memory = other.0;
@@ -109,9 +104,6 @@ pair_reserved s t m r h list both e known plain =
       },
       other.1,
     )
-
-pub edited_ready : (s t : List Stored) (g h : Head) (list : List (RunOf Label)) → Edits s t g h list → (x : ℕ) → is_ready t x ≡ is_ready s x
-edited_ready s t g h list e x = ready_at s t g h list e x
 
 -- no edit of the reserved table gives a record a node
 plain_list : (g : Labels) → NothingFrom (2 ^ 64) g → ((x : ℕ) (label : Label) → g x ≡ Some label → label ≡ plain_label) →
@@ -158,10 +150,6 @@ moved_other s t g h o place e old new table =
     let new_too = moved_apart s t g h o place e new in
     stays s t o (λ x lies. e.elsewhere x (beside (bytes_by h) (bytes_by o) x (turned (bytes_by o) (bytes_by h) new_too) lies)
     (beside (bytes_by g) (bytes_by o) x (turned (bytes_by o) (bytes_by g) old) lies)) (λ x was. e.ready x ∙ was) table
-
-pub moved_table : (s t : List Stored) (g h : Head) (place : ℕ) → Moves s t g h place →
-    table_by t h ≡ record { records = list_in s g; place = place; room = 2 * g.room }
-moved_table s t g h place e = rw (e.list_is, e.place_is, e.room_is) refl
 
 pub move_memory : (s t : List Stored) (m r h : Head) (place : ℕ) → AreTables s m r → Moves s t m h place →
     ¬ Meet (bytes_by r) (record { base = place; size = 48 * m.room }) → AreTables t h r × (table_by t r ≡ table_by s r)

@@ -36,6 +36,7 @@ fn read_slot(store: &Store, head: &Head, i: u64) -> Record
     read_record(store.slice(head.place + RECORD_SIZE * i, RECORD_SIZE))
 }
 
+#[tactic(auto, using(crate::proofs::LentLaws::count_is))]
 impl Rows<Record> for Seen<'_> {
     ghost use Rattle.phys_store.specs.Bytes.{byte_of};
     ghost use Rattle.memblock_ranges.specs.Spelling.{records_at};
@@ -51,6 +52,7 @@ impl Rows<Record> for Seen<'_> {
     }
 }
 
+#[tactic(auto, using(crate::proofs::LentLaws::count_is))]
 impl Rows<Record> for Live<'_> {
     ghost use Rattle.phys_store.specs.Bytes.{byte_of};
     ghost use Rattle.memblock_ranges.specs.Spelling.{records_at};
@@ -66,6 +68,7 @@ impl Rows<Record> for Live<'_> {
     }
 }
 
+#[tactic(auto, using(crate::proofs::LentLaws::count_is))]
 impl Slots<Record> for Live<'_> {
     ghost use Rattle.std.specs.Prelude.{◌≡◌, ◌≤◌, List, [], ◌∷◌, ℕ};
     ghost use Rattle.std.proofs.Common.{refl, sym, ◌∙◌, subst, ap};

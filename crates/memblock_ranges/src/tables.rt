@@ -49,6 +49,7 @@ impl Model for Tables {
 impl Tables {
     /// Both tables empty, in the last two frames of the kernel's image, which is at least 8,192 bytes
     /// long. Their bytes are prepared.
+    #[tactic(auto, using(crate::proofs::NewLaws::first_table))]
     pub fn new(alloc: Global, kernel: Range) -> Result<Tables, Memory>
         requires { 8192 ≤ kernel.size }
         ensures memory { IfOk result (λ t. t.memory ≡ record { records = []; place = built_in which.Memory kernel; room = 128 }) }
@@ -68,6 +69,7 @@ impl Tables {
     }
 
     /// Where the table lies, and how full it is.
+    #[tactic(auto, using(crate::proofs::TableSpelling::head_is))]
     pub fn head(&self, which: Which) -> Head
         ensures head { result ≡ head_of (table_in which self.now) }
         ensures table { StandsIn (table_in which self.now) self.now.store }
@@ -116,6 +118,7 @@ impl Tables {
 
     /// The bytes of the range that the table doesn't cover get the node, and no flag; 1,024 means no node, and
     /// the reserved table knows no other (`memblock_add_range`).
+    #[tactic(auto, using(crate::proofs::PairLaws::edited_at, crate::proofs::PairLaws::edited_ready))]
     pub fn insert(&mut self, which: Which, range: Range, node: u32)
         requires some { 0 < range.size }
         requires node { IsNodeOf which node }
@@ -140,6 +143,7 @@ impl Tables {
     }
 
     /// The table doesn't cover the bytes of the range any more (`memblock_remove_range`).
+    #[tactic(auto, using(crate::proofs::PairLaws::edited_at, crate::proofs::PairLaws::edited_ready))]
     pub fn remove(&mut self, which: Which, range: Range)
         requires { length (records_in which self.old) + 2 ≤ room_in which self.old }
         ensures table { table_in which self.new ≡ record (table_in which self.old) {
@@ -161,6 +165,7 @@ impl Tables {
     }
 
     /// The memory bytes of the range get the node, and keep their flags (`memblock_set_node`).
+    #[tactic(auto, using(crate::proofs::PairLaws::edited_at, crate::proofs::PairLaws::edited_ready))]
     pub fn set_node(&mut self, range: Range, node: u32)
         requires node { node < 1024 }
         requires room { length self.old.memory.records + 2 ≤ self.old.memory.room }
@@ -175,6 +180,7 @@ impl Tables {
     }
 
     /// The memory bytes of the range become mirrored, and keep their node (`memblock_mark_mirror`).
+    #[tactic(auto, using(crate::proofs::PairLaws::edited_at, crate::proofs::PairLaws::edited_ready))]
     pub fn set_mirror(&mut self, range: Range)
         requires { length self.old.memory.records + 2 ≤ self.old.memory.room }
         ensures memory { self.new.memory ≡ record self.old.memory {
@@ -189,6 +195,7 @@ impl Tables {
 
     /// Memory is cut to whole frames: a byte keeps its label where all bytes of its frame have it, and
     /// else is memory no more (`memblock_trim_memory`).
+    #[tactic(auto, using(crate::proofs::PairLaws::edited_at, crate::proofs::PairLaws::edited_ready))]
     pub fn trim(&mut self)
         ensures memory { self.new.memory ≡ record self.old.memory { records = records_for (trimmed (value_at self.old.memory.records)) } }
         ensures reserved { self.new.reserved ≡ self.old.reserved }
@@ -263,6 +270,7 @@ impl Tables {
     }
 
     /// The store and the heads: whoever has both has the tables.
+    #[tactic(auto, using(crate::proofs::TableSpelling::head_is))]
     pub fn into_parts(self) -> (Store, Heads)
         ensures store { result.0 ≡ self.store }
         ensures heads { result.1 ≡ record { memory = head_of self.memory; reserved = head_of self.reserved } }

@@ -1,19 +1,9 @@
-use Rattle.std.proofs.Common.{◌+◌, ◌*◌, length, sym, ◌∙◌, ap, subst, arith}
+use Rattle.std.proofs.Common.{◌+◌, ◌*◌, length, sym, ◌∙◌, ap, subst}
 use Rattle.phys_store.specs.Bytes.{byte_of}
 use Rattle.phys_store.proofs.ByteLists.{length-bytes_at}
 use Rattle.memblock_ranges.specs.Spelling.{run_in, IsRecord}
 use Rattle.memblock_ranges.proofs.SpellLaws.{get-records_at}
 use Rattle.memblock_ranges.proofs.live.read_slot.Goals as goal
-
-pub overflow_mul-i : goal.overflow_mul-i
-overflow_mul-i c = let t = c.requires.table in omega (arith, t.few, t.fits, c.requires.used)
-
-pub overflow_add-head : goal.overflow_add-head
-overflow_add-head c = let t = c.requires.table in omega (arith, t.few, t.fits, c.requires.used)
-
-pub slice-requires : goal.slice-requires
-slice-requires c =
-    let t = c.requires.table in λ x from to. t.prepared x (omega (arith, from)) (omega (arith, to, t.few, c.requires.used))
 
 pub read_record-requires-clause-long : goal.read_record-requires-clause-long
 read_record-requires-clause-long c =

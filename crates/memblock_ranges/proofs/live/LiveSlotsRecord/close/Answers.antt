@@ -23,20 +23,8 @@ overflow_add-place-2 c = let l = c.args.self.now in omega (arith, l.table.few, l
 pub overflow_add-i-2 : goal.overflow_add-i-2
 overflow_add-i-2 c = let l = c.args.self.now in omega (arith, l.table.few, l.table.fits, c.requires, count_is l.store.now l.head.now)
 
-pub overflow_sub-count : goal.overflow_sub-count
-overflow_sub-count c = let l = c.args.self.now in omega (arith, l.table.few, l.table.fits, c.requires, count_is l.store.now l.head.now)
-
-pub overflow_sub-freed : goal.overflow_sub-freed
-overflow_sub-freed c = let l = c.args.self.now in omega (arith, l.table.few, l.table.fits, c.requires, count_is l.store.now l.head.now)
-
 pub overflow_mul-freed-2 : goal.overflow_mul-freed-2
 overflow_mul-freed-2 c = let l = c.args.self.now in omega (arith, l.table.few, l.table.fits, c.requires, count_is l.store.now l.head.now)
-
-pub invariant_of-freed : goal.invariant_of-freed
-invariant_of-freed c = let l = c.args.self.now in omega (arith, l.table.few, l.table.fits, c.requires, count_is l.store.now l.head.now)
-
-pub overflow_sub-self : goal.overflow_sub-self
-overflow_sub-self c = let l = c.args.self.now in omega (arith, l.table.few, l.table.fits, c.requires, count_is l.store.now l.head.now)
 
 pub move_bytes-requires : goal.move_bytes-requires
 move_bytes-requires c =

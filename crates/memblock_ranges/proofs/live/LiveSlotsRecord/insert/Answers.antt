@@ -7,10 +7,6 @@ use Rattle.memblock_ranges.proofs.ByteEdits.{Edited, insert_table}
 use Rattle.memblock_ranges.proofs.live.LiveSlotsRecord.insert.Goals as goal
 use Rattle.memblock_ranges.proofs.live.LiveSlotsRecord.insert.Goals.{After-write}
 
-pub overflow_sub-rest : goal.overflow_sub-rest
-overflow_sub-rest c =
-    let low = count_is c.args.self.now.store.now c.args.self.now.head.now in omega (arith, c.requires.within, low)
-
 pub move_bytes-requires : goal.move_bytes-requires
 move_bytes-requires c =
     let low = count_is c.args.self.now.store.now c.args.self.now.head.now in

@@ -1,8 +1,8 @@
-use Rattle.std.proofs.Common.{◌≡◌, ◌≤◌, get_or, ◌∙◌, ap, arith}
+use Rattle.std.proofs.Common.{◌≡◌, ◌≤◌, get_or, ap, arith}
 use Rattle.address_runs.specs.Runs.{RunOf}
 use Rattle.memblock_model.specs.Labels.{Label, plain_label}
 use Rattle.memblock_ranges.specs.declared.region.Region.{Region}
-use Rattle.memblock_ranges.specs.Spelling.{label_of, node_field}
+use Rattle.memblock_ranges.specs.Spelling.{node_field}
 use Rattle.memblock_ranges.proofs.records.Records.label.Goals as goal
 
 pub label_of-requires : goal.label_of-requires
@@ -11,7 +11,3 @@ label_of-requires c =
     let is : c.get-region.result.node ≡ node_field r.value = ap (λ (g : Region). g.node) (c.get-region.ensures.region _) in
     let node : node_field r.value ≤ 1024 = (c.get-region.ensures.fits _).node in
     omega arith
-
-pub returns : goal.returns
-returns c r = c.label_of.ensures ∙ ap (λ (g : Region). label_of g.flags g.node) (c.get-region.ensures.region r)
-    ∙ (c.get-region.ensures.fits r).back

@@ -3,8 +3,8 @@ use Rattle.std.proofs.Math.Bool.{or-false}
 use Rattle.bm_base.specs.Extent.{Extent, covers, end_of}
 use Rattle.phys_store.specs.Bytes.{Stored, byte_of, is_ready}
 use Rattle.memblock_ranges.specs.declared.region.Head.{Head}
-use Rattle.memblock_ranges.specs.Tables.{bytes_by, table_by, AreTables}
-use Rattle.memblock_ranges.proofs.NewLaws.{first_head, new_tables, first_table}
+use Rattle.memblock_ranges.specs.Tables.{bytes_by, AreTables}
+use Rattle.memblock_ranges.proofs.NewLaws.{first_head, new_tables}
 use Rattle.memblock_ranges.proofs.tables.Tables.new.Goals as goal
 
 pub invariant_of-result : goal.invariant_of-result
@@ -30,19 +30,3 @@ invariant_of-result c =
     new_tables s end (omega (arith, c.requires)) c.built_in.ensures.small zeros two in
     subst (λ (h : Head). AreTables s h c.built_in-2.result) (sym m)
     (subst (λ (h : Head). AreTables s (first_head (end - 8192)) h) (sym r) known)
-
-pub returns-clause-memory : goal.returns-clause-memory
-returns-clause-memory c =
-    let end : ℕ = end_of c.args.kernel in
-    let s = c.prepare-2.new.self in
-    let m : c.built_in.result ≡ first_head (end - 8192) = c.built_in.ensures.head in
-    let r : c.built_in-2.result ≡ first_head (end - 4096) = c.built_in-2.ensures.head in
-    ap (table_by s) m ∙ first_table s (end - 8192)
-
-pub returns-clause-reserved : goal.returns-clause-reserved
-returns-clause-reserved c =
-    let end : ℕ = end_of c.args.kernel in
-    let s = c.prepare-2.new.self in
-    let m : c.built_in.result ≡ first_head (end - 8192) = c.built_in.ensures.head in
-    let r : c.built_in-2.result ≡ first_head (end - 4096) = c.built_in-2.ensures.head in
-    ap (table_by s) r ∙ first_table s (end - 4096)
