@@ -1,5 +1,5 @@
 -- The claims of the parts of a claim, and what cutting makes of a whole list.
-use Rattle.std.proofs.Common.{◌≡◌, ℕ, ◌+◌, ◌-◌, ◌^◌, ◌<◌, ◌==◌, Bool, true, false, ◌&&◌, ◌||◌, not, nat_le, nat_lt, if◌then◌else◌, min, max, Option, Some, None, Result, Ok, Err, OnOk, OnErr, List, [], ◌∷◌, ◌++◌, length, get_or, drop, add-one, drop-cons, append_assoc, refl, sym, ◌∙◌, ap, inl, inr, arith}
+use Rattle.std.proofs.Common.{◌≡◌, ℕ, ◌+◌, ◌-◌, ◌^◌, ◌<◌, ◌==◌, Bool, true, false, ◌&&◌, ◌||◌, not, nat_le, nat_lt, if◌then◌else◌, min, max, Option, Some, None, Result, Ok, Err, OnOk, OnErr, List, [], ◌∷◌, ◌++◌, refl, sym, ◌∙◌, ap, inl, inr, arith}
 use Rattle.std.specs.List.{flat_map}
 use Rattle.std.proofs.lemmas.Bool.Decides.{nat_tests}
 use Rattle.std.proofs.lemmas.Bool.{cases_Bool}
@@ -186,24 +186,3 @@ pub are_either : {T E : Type 0} (r : Result T E) (new changed old : List (RunOf 
     → AreClaims changed → AreClaims old → AreClaims new
 are_either (Ok x) new changed old ok err after before = rw ok after
 are_either (Err e) new changed old ok err after before = rw err before
-
--- the item of a list at an index, and those behind it
-pub drop_more : {A : Type 0} → (xs : List A) (i : ℕ) (d : A) → i < length xs → drop i xs ≡ get_or xs i d ∷ drop (i + 1) xs
-drop_more xs i d within = rw add-one (drop-cons xs i d within)
-
--- one claim of a list that is cut
-pub cut_more : (range : Extent) (meant instead : Option ℕ) (rs : List (RunOf ℕ)) (i : ℕ) (r : RunOf ℕ) → i < length rs → r ≡ get_or rs i r
-    → cut_out range meant instead (drop i rs)
-    ≡ parts range (left_inside meant instead r.value) r ++ cut_out range meant instead (drop (i + 1) rs)
-cut_more range meant instead rs i r within is =
-    ap (λ (all : List (RunOf ℕ)). cut_out range meant instead all)
-    (drop_more rs i r within ∙ ap (λ (s : RunOf ℕ). s ∷ drop (i + 1) rs) (sym is))
-
--- the three parts of a claim behind other claims, one after the other
-pub parts_put : (old one two new : List (RunOf ℕ)) (range : Extent) (inner : Option ℕ) (r : RunOf ℕ)
-    (start end first from until last kind : ℕ) → one ≡ old ++ between start first kind → two ≡ one ++ between_if from until inner
-    → new ≡ two ++ between last end kind → start ≡ r.base → end ≡ run_end r → kind ≡ r.value → first ≡ min range.base end
-    → from ≡ max range.base start → until ≡ min (end_of range) end → last ≡ max (end_of range) start → new ≡ old ++ parts range inner r
-parts_put old one two new range inner r start end first from until last kind is_one is_two is_new is_start is_end is_kind is_first is_from
-    is_until is_last =
-    rw (is_new, is_two, is_one, is_first, is_from, is_until, is_last, is_start, is_end, is_kind) (simp append_assoc refl)
