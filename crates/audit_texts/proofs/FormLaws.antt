@@ -222,7 +222,3 @@ map_owner n small = rw (numbered (codes "map ") n small) refl
 pub script_owner : (n : ℕ) → n < 2 ^ 32 → is_owner (codes "script " ++ decimal n) ≡ true
 unfolding is_owner is_just is_numbered behind
 script_owner n small = rw (numbered (codes "script ") n small) refl
-
-pub plain_owner : is_owner (codes "kernel") ≡ true
-unfolding is_owner is_just behind
-plain_owner = refl

@@ -1,10 +1,6 @@
 -- A text of lines falls apart into them.
-use Rattle.std.proofs.Common.{◌≡◌, ℕ, ◌==◌, Bool, false, not, List, [], ◌∷◌, ◌++◌, refl, ap}
+use Rattle.std.proofs.Common.{◌≡◌, ℕ, ◌==◌, false, List, [], ◌∷◌, ◌++◌, refl, ap}
 use Rattle.audit_lines.specs.Reports.{split_lines, with_byte}
-
--- no byte of the text is a newline
-abbrev pub is_other : ℕ → Bool
-is_other b = not (b == 10)
 
 abbrev pub IsOneLine : List ℕ → Type 0
 IsOneLine [] = Unit {0}

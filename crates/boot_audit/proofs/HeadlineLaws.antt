@@ -138,9 +138,6 @@ good_lines held wanted lines is =
         let blocks : b ≡ lines.blocks = cc in
         rw (← blocks) (good_blocks (held wanted.blocks_name) b reads)
 
-abbrev IsSoundFor : Option Wanted → Held → Type 0
-IsSoundFor accepted held = outcome accepted held ≡ Ok verdicts.Sound
-
 pub sound_conserved : (accepted : Option Wanted) (held : Held) → outcome accepted held ≡ Ok verdicts.Sound → IsConservedBy accepted held
 sound_conserved None held is = cc
 sound_conserved (Some wanted) held is = by_lines (lines_of held wanted) refl is

@@ -1,5 +1,5 @@
 -- What ascending lines say of a byte below, in and behind the first of them.
-use Rattle.std.proofs.Common.{◌≡◌, ℕ, ◌<◌, ◌≤◌, ◌&&◌, ◌||◌, Bool, true, false, List, [], ◌∷◌, map, refl, sym, ap, ◌∙◌, arith}
+use Rattle.std.proofs.Common.{◌≡◌, ℕ, ◌<◌, ◌≤◌, ◌&&◌, ◌||◌, Bool, true, false, List, [], ◌∷◌, map, refl, ap, ◌∙◌, arith}
 use Rattle.std.proofs.lemmas.Bool.Decides.{nat_tests}
 use Rattle.bm_base.specs.Extent.{Extent, covers, end_of}
 use Rattle.audit_lines.specs.Lines.{StartFrom, AscendApart}
@@ -61,7 +61,3 @@ module _ {L : Type 0} (counts : L → Bool) (extent : L → Extent) where
       → (x : ℕ) → (extent l).base ≤ x → x < end_of (extent l) → says counts extent lines x ≡ counts l
   seen_first lines l ls is order x above below =
       let ordered : AscendApart (map extent (l ∷ ls)) = rw is at order in rw is (says_first l ls x ordered above below)
-
-  pub seen_past : (lines : List L) (l : L) (ls : List L) → lines ≡ l ∷ ls → (x : ℕ) → end_of (extent l) ≤ x
-      → says counts extent ls x ≡ says counts extent lines x
-  seen_past lines l ls is x past = rw is (sym (says_past l ls x past))

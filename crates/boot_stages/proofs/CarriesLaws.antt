@@ -200,18 +200,6 @@ carries-left r all left old here new before ends =
 pub written-begun : (old new : List Item) (i : Item) → new ≡ old ++ i ∷ [] → HasBegun new
 written-begun old new i same = subst HasBegun (sym same) (last_begun old i)
 
--- along equal answers
-pub carries-along : (r s : Result (Unit {0}) Refusal) (wanted old new : List Item) → s ≡ r → Carries r wanted old new
-    → Carries s wanted old new
-carries-along r s wanted old new same ends = rw same ends
-
--- no gap is never the answer
-pub carries-gap : (r : Result (Unit {0}) Refusal) (wanted old new : List Item) → Carries r wanted old new → r ≢ Err refusal.NoGap
-carries-gap (Ok x) wanted old new ends = λ same. cc same
-carries-gap (Err refusal.NoGap) wanted old new ends = absurd ends
-carries-gap (Err (refusal.NoGapForTable w room)) wanted old new ends = λ same. cc same
-carries-gap (Err refusal.Memory) wanted old new ends = λ same. cc same
-
 -- the stop of a refused growth
 pub carries-stop : (e : Refusal) (wanted old new : List Item) (stop : Stop) → stop ≡ stop_of_refusal e
     → Carries {T = Unit {0}} (Err e) wanted old new → stop ≢ stops.Memory → or_refused_growth (carried_out wanted old) ≡ Err stop

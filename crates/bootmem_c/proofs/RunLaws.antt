@@ -26,10 +26,9 @@ use Rattle.program_run.specs.Outcome.{given_by, or_refused, or_stopped, outcome,
 use Rattle.program_run.specs.Status.{End, status_of, status_of_end}
 use Rattle.program_run.proofs.HeadlineLaws.{ran_headline}
 use Rattle.program_words.specs.Words.{Wanted, accepted, texts}
-use Rattle.bootmem_c.specs.declared.crossing.Text.{Text}
 use Rattle.bootmem_c.specs.Call.{are_utf8, asked, line_by, status_said}
 use Rattle.bootmem_c.specs.Fetches.{LentState, faults_at}
-use Rattle.bootmem_c.specs.Taken.{IsTaken, Written, wants_of, whole_text}
+use Rattle.bootmem_c.specs.Taken.{Written, wants_of, whole_text}
 use Rattle.bootmem_c.specs.contracts.text_sink.TextSinkSink.TheImpl.{ghosts as text_sink}
 use Rattle.bootmem_c.proofs.ExactLaws.{ends_as_said}
 
@@ -164,9 +163,3 @@ nothing_asked words held other = ap status_said (nothing_said words held other)
 
 pub line_asked : (words : List (List ℕ)) (line : List ℕ) → All IsUtf8 words → (if are_utf8 words then line else []) ≡ line
 line_asked words line all = rw (are-utf8 words all) refl
-
--- a text that is handed over is the outcome's
-pub text_taken : (said : Result (List ℕ) Reason) (text : List ℕ) (old new : Text) → IsText said (λ t. text ≡ t) → IsTaken text old new
-    → IsText said (λ t. IsTaken t old new)
-text_taken (Ok t) text old new is taken = subst (λ (u : List ℕ). IsTaken u old new) is taken
-text_taken (Err reason) text old new is taken = absurd is

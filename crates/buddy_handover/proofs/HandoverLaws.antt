@@ -58,13 +58,6 @@ freed_more first at from until end cut next node reserved f g h cut_is next_is a
       ]
     ]
 
--- before any record nothing is free
-pub unclaimed_none : (ms : List (RunOf Label)) (reserved : Labels) (x : ℕ) → None ≡ unclaimed (value_at (take 0 ms)) reserved x
-unclaimed_none ms reserved x = elim (cases_Bool (is_unclaimed reserved x)) as (λ _. None ≡ unclaimed (value_at (take 0 ms)) reserved x) [
-  | inl bare ↦ rw bare refl
-  | inr held ↦ rw held refl
-]
-
 -- so the frames of one record more, where it has a node, and where it has none
 pub record_freed : (b : ℕ) (ms : List (RunOf Label)) (reserved : Labels) (i n : ℕ) (d : RunOf Label) (f g : Frames) → AscendBelow b ms
     → AreWholeFrames ms → i < length ms → (frames_of (get_or ms i d)).node ≡ Some n

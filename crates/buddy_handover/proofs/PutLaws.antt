@@ -1,23 +1,11 @@
 -- Runs of free frames after some more became free.
-use Rattle.std.proofs.Common.{◌≡◌, ℕ, ◌+◌, ◌^◌, ◌≤◌, false, None, List, refl, inl, inr, ◌∙◌, arith}
-use Rattle.std.proofs.lemmas.Bool.Decides.{nat_tests}
+use Rattle.std.proofs.Common.{◌≡◌, ℕ, ◌+◌, ◌^◌, ◌≤◌, None, List, refl, inl, inr, ◌∙◌, arith}
 use Rattle.bm_base.specs.Extent.{Extent, covers}
-use Rattle.address_runs.specs.Runs.{RunOf, AreRuns, IsRunsOf, value_at}
+use Rattle.address_runs.specs.Runs.{RunOf, IsRunsOf, value_at}
 use Rattle.address_runs.specs.Edits.{replaced, uncovered, NothingFrom}
 use Rattle.std.proofs.lemmas.Bool.{cases_Bool}
 use Rattle.address_runs.proofs.EditLaws.{nothing-replaced}
 use Rattle.frame_blocks.specs.declared.run.TheConstants.{MAX_FRAMES}
-
--- no frame, no change
-pub nothing_put : (first n node : ℕ) (rs : List (RunOf ℕ)) → n ≡ 0 → AreRuns rs
-    → IsRunsOf (replaced (let r : Extent = record { base = first; size = n } in r) node (value_at rs)) rs
-nothing_put first n node rs none runs = record {
-  runs = runs;
-  each = λ x.
-      let r : Extent = record { base = first; size = n } in
-      let off : covers r x ≡ false = grind (arith, nat_tests) in
-      rw off refl;
-}
 
 pub low_put : (r : Extent) (node : ℕ) (rs new : List (RunOf ℕ)) → r.base + r.size ≤ MAX_FRAMES → NothingFrom MAX_FRAMES (value_at rs)
     → IsRunsOf (replaced r node (value_at rs)) new → NothingFrom MAX_FRAMES (value_at new)

@@ -45,12 +45,6 @@ pub exits : (r : Result Crash Refusal) (y e : Refusal) (old new : List Item) (d 
 exits r y e old new d is same h =
     subst (λ (t : Result Crash Refusal). EndsAs refusal.Memory t old new d) (sym (is ∙ ap (λ (x : Refusal). Err x) same)) h
 
--- a change looks for no gap
-pub never-gap : (e : Refusal) (old new : List Item) (change : Change) → Ends {T = Unit {0}} (Err e) old new change → e ≢ refusal.NoGap
-never-gap refusal.NoGap old new change h = absurd h
-never-gap (refusal.NoGapForTable w room) old new change h = λ is. cc
-never-gap refusal.Memory old new change h = λ is. cc
-
 -- the low part, by the place that was found
 pub low-by : (r : Result Crash Refusal) (old new : List Item) (main : Extent) (size : ℕ) (low : Option Extent) → low ≡ low_range size old
     → EndsAs refusal.Memory r old new (with_low main low old) → EndsAs refusal.Memory r old new (low_part main size old)

@@ -1,9 +1,9 @@
 -- One line more of a stage.
-use Rattle.std.proofs.Common.{◌≡◌, ℕ, suc, ◌+◌, ◌<◌, ◌≤◌, Bool, true, false, if◌then◌else◌, List, [], ◌∷◌, ◌++◌, length, take, drop, get_or, Ok, refl, sym, ◌∙◌, ap, subst, append_assoc, add-one, arith, inl, inr}
+use Rattle.std.proofs.Common.{◌≡◌, ℕ, suc, ◌+◌, ◌<◌, ◌≤◌, Bool, true, false, if◌then◌else◌, List, [], ◌∷◌, ◌++◌, length, take, drop, get_or, Ok, refl, sym, ◌∙◌, ap, subst, add-one, arith, inl, inr}
 use Rattle.std.specs.List.{All}
 use Rattle.std.proofs.Math.Seq.{drop-cons}
 use Rattle.std.proofs.lemmas.Bool.{cases_Bool, true≢false}
-use Rattle.std.proofs.lemmas.List.{append-nil, take_more, take_all, drop_all}
+use Rattle.std.proofs.lemmas.List.{append-nil, take_all, drop_all}
 use Rattle.std.proofs.lemmas.List.Elements.{All-cons}
 use Rattle.memblock_model.specs.declared.item.Item.{Item}
 use Rattle.script_reader.specs.declared.act.Act.{Act}
@@ -100,24 +100,6 @@ drop_more lines i line below is =
 pub record Passed (lines : List Line) (i : ℕ) : Type 0 where
   pub before : before_sections lines ≡ take i lines ++ before_sections (drop i lines)
   pub behind : behind_sections lines ≡ behind_sections (drop i lines)
-
-pub passed-none : (lines : List Line) → Passed lines 0
-passed-none lines = record { before = refl; behind = refl }
-
-pub passed-more : (lines : List Line) (i : ℕ) (line : Line) → i < length lines → line ≡ get_or lines i line →
-    is_sections line.act ≡ false → Passed lines i → Passed lines (i + 1)
-passed-more lines i line below is later passed =
-    let whole : drop i lines ≡ line ∷ drop (i + 1) lines = drop_more lines i line below is in
-    let taken : take (i + 1) lines ≡ take i lines ++ line ∷ [] =
-    take_more lines i line below ∙ ap (λ (l : Line). take i lines ++ l ∷ []) (sym is) in
-    let parts = placed_later line (drop (i + 1) lines) later in
-    record {
-      before = passed.before ∙ ap (λ (ls : List Line). take i lines ++ before_sections ls) whole
-          ∙ ap (λ (ls : List Line). take i lines ++ ls) parts.0
-          ∙ sym (append_assoc (take i lines) (line ∷ []) (before_sections (drop (i + 1) lines)))
-          ∙ ap (λ (ls : List Line). ls ++ before_sections (drop (i + 1) lines)) (sym taken);
-      behind = passed.behind ∙ ap behind_sections whole ∙ parts.1;
-    }
 
 -- and the one that finds it
 pub passed-here : (lines : List Line) (i : ℕ) (line : Line) → i < length lines → line ≡ get_or lines i line →

@@ -22,10 +22,6 @@ use Rattle.early_stages.specs.Wanted.{items_of_map, items_of_run, part_below}
 abbrev pub becomes : Bool → Option Label → Option Label
 becomes held old = if held then Some (unwrap_or old plain_label) else old
 
--- the part of a run below the limit has the addresses of both
-part_covers : (limit : ℕ) (r : RunOf ℕ) (x : ℕ) → r.base < limit → covers (part_below limit r) x ≡ (lies_in r x && nat_lt x limit)
-part_covers limit r x low = grind (arith, nat_tests)
-
 pub one_run : (limit : ℕ) (r : RunOf ℕ) (f : Labels) (x : ℕ)
     → fold memory_after f (items_of_run limit r) x ≡ becomes (lies_in r x && (is_memory (Some r.value) && nat_lt x limit)) (f x)
 one_run limit r f x =

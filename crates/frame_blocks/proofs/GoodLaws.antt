@@ -1,5 +1,5 @@
 -- Free sets around a frame, and the greatest of them.
-use Rattle.std.proofs.Common.{◌≡◌, ℕ, zero, suc, ◌^◌, ◌<◌, ◌≤◌, true, false, Option, Some, None, refl, sym, ◌∙◌, ap, subst, inl, inr, arith}
+use Rattle.std.proofs.Common.{◌≡◌, ℕ, zero, suc, ◌^◌, ◌<◌, ◌≤◌, true, Option, Some, None, refl, sym, ◌∙◌, ap, subst, inl, inr, arith}
 use Rattle.std.proofs.lemmas.Bool.{cases_lt, cases_Bool, eqb-true, eq-eqb}
 use Rattle.std.proofs.lemmas.Nat.{pow_pos}
 use Rattle.std.proofs.Math.Nat.{div-one}
@@ -35,18 +35,6 @@ unfolding are_free
 free_test f o x n free =
     each_in-all (set_around o x) (λ z. is_node (f z) n)
     (λ y above below. is_the_node (f y) n (free y (in_set (2 ^ o) x y above below)))
-
-pub not_free_test : (f : Frames) (o x n : ℕ) → (AreFree f o x n → ⊥) → are_free f o x n ≡ false
-not_free_test f o x n not_free =
-    elim (cases_Bool (are_free f o x n)) as (λ _. are_free f o x n ≡ false) [
-      | inl holds ↦ absurd (not_free (test_free f o x n holds))
-      | inr fails ↦ fails
-    ]
-
--- one step down from an order whose set isn't free, and none from one whose set is
-pub up_less : (f : Frames) (x n m : ℕ) → (AreFree f (suc m) x n → ⊥) → order_up_to f x n (suc m) ≡ order_up_to f x n m
-unfolding order_up_to
-up_less f x n m not_free = rw (not_free_test f (suc m) x n not_free) refl
 
 pub up_here : (f : Frames) (x n m : ℕ) → AreFree f m x n → order_up_to f x n m ≡ m
 unfolding order_up_to

@@ -174,10 +174,6 @@ pub begins_later_at : (rs : List (RunOf ℕ)) (i x : ℕ) (d r : RunOf ℕ) → 
     → IsRestFrom (value_at rs) x (drop i rs) → x < r.base → None ≡ block_of (value_at rs) x
 begins_later_at rs i x d r is few rest later = begins_later rs i x d few rest (subst (λ (q : RunOf ℕ). x < q.base) is later)
 
-pub ends_behind_at : (rs : List (RunOf ℕ)) (i x : ℕ) (d r : RunOf ℕ) → r ≡ get_or rs i d → i < length rs
-    → IsRestFrom (value_at rs) x (drop i rs) → x < run_end r
-ends_behind_at rs i x d r is few rest = subst (λ (q : RunOf ℕ). x < run_end q) (sym is) (looked_up rs i x d few rest)
-
 pub run_at : (rs : List (RunOf ℕ)) (i : ℕ) (d r : RunOf ℕ) → r ≡ get_or rs i d → AreRuns rs → i < length rs
     → IsRun (value_at rs) r.base (run_end r) r.value
 run_at rs i d r is runs few =

@@ -1,6 +1,6 @@
 -- An index of blocks where a set leaves a block, where it comes back, and where it is made from rows.
 use Rattle.std.proofs.Common.{◌≡◌, ◌≢◌, ◌⊎◌, ◌↔◌, ℕ, zero, suc, ◌+◌, ◌-◌, ◌/◌, ◌^◌, ◌<◌, ◌≤◌, ◌==◌, Option, Some, List, [], ◌∷◌, ◌++◌, length, get_or, drop, drop-cons, refl, sym, ◌∙◌, ap, subst, inl, inr, ⊎_elim, arith}
-use Rattle.std.proofs.lemmas.Bool.{cases_lt, cases_Bool, eqb-true, eq-eqb}
+use Rattle.std.proofs.lemmas.Bool.{cases_Bool, eqb-true, eq-eqb}
 use Rattle.std.proofs.lemmas.List.{at_drop_all}
 use Rattle.std.proofs.lemmas.Nat.{pow_pos}
 use Rattle.bm_base.specs.declared.zone.Zone.{Zone}
@@ -11,26 +11,11 @@ use Rattle.frame_blocks.specs.declared.run.TheConstants.{MAX_FRAMES}
 use Rattle.frame_blocks.specs.Frames.{Frames, IsBlock, IsInBlock}
 use Rattle.frame_blocks.specs.Listed.{block_of, blocks_of, Lists}
 use Rattle.frame_blocks.specs.Rows.{row_from, blocks_of_row, blocks_of_rows, AreRows}
-use Rattle.frame_blocks.specs.Buddies.{IsWithout, buddy_in, IsBuddy}
+use Rattle.frame_blocks.specs.Buddies.{IsWithout, IsBuddy}
 use Rattle.frame_blocks.proofs.SetLaws.{set_until}
 use Rattle.frame_blocks.proofs.BlockLaws.{found_block, block_found, listed_sound, listed_complete}
 use Rattle.frame_blocks.proofs.BuddyLaws.{in_set_or_not, others_stay, others_were, left_is_block, rest_is_left, buddy_inside, one_at}
 use Rattle.free_areas.specs.Areas.{IsRightBehind, AreAreas, lead, IsLike, HasBuddies, LacksBuddies}
-
--- one order more
-buddy_more : (b c : Block) (low at x : ℕ) → low ≤ at → IsBuddy b low (at + 1) x c → (c ≡ buddy_in b at x) ⊎ IsBuddy b low at x c
-buddy_more b c low at x from it = elim (cases_lt it.order at) as (λ _. (c ≡ buddy_in b at x) ⊎ IsBuddy b low at x c) [
-  | inl lt ↦ inr (record { order = it.order; from = it.from; below = lt; is = it.is })
-  | inr ge ↦
-      let below = it.below in
-      let last : it.order ≡ at = omega (arith, ge, below) in
-      inl (it.is ∙ ap (λ o. buddy_in b o x) last)
-]
-
-more_buddy : (b c : Block) (low at x : ℕ) → low ≤ at → (c ≡ buddy_in b at x) ⊎ IsBuddy b low at x c → IsBuddy b low (at + 1) x c
-more_buddy b c low at x from (inl is) = record { order = at; from = from; below = omega arith; is = is }
-more_buddy b c low at x from (inr it) =
-    let below = it.below in record { order = it.order; from = it.from; below = omega (arith, below); is = it.is }
 
 no_buddy : (b c : Block) (low x : ℕ) → IsBuddy b low low x c → ⊥
 no_buddy b c low x it = let from = it.from in let below = it.below in absurd (omega (arith, from, below))
@@ -42,43 +27,8 @@ has_none b low x bs c = (
       (λ (has : Lists bs c). has) either,
 )
 
-pub has_more : (b k : Block) (low at x : ℕ) (old now next : List Block) → low ≤ at → k ≡ buddy_in b at x → HasBuddies b low at x old now
-    → ((c : Block) → Lists next c ↔ ((c ≡ k) ⊎ Lists now c)) → HasBuddies b low (at + 1) x old next
-has_more b k low at x old now next from key done put c = (
-  λ has. ⊎_elim
-      (λ (is : c ≡ k). inl (more_buddy b c low at x from (inl (is ∙ key))))
-      (λ (was : Lists now c). ⊎_elim
-      (λ (it : IsBuddy b low at x c). inl (more_buddy b c low at x from (inr it)))
-      (λ (had : Lists old c). inr had)
-      ((done c).0 was))
-      ((put c).0 has),
-  λ either. (put c).1 (⊎_elim
-      (λ (it : IsBuddy b low (at + 1) x c). ⊎_elim
-      (λ (is : c ≡ buddy_in b at x). inl (is ∙ sym key))
-      (λ (less : IsBuddy b low at x c). inr ((done c).1 (inl less)))
-      (buddy_more b c low at x from it))
-      (λ (had : Lists old c). inr ((done c).1 (inr had)))
-      either),
-)
-
 pub lacks_none : (b : Block) (low x : ℕ) (bs : List Block) → LacksBuddies b low low x bs bs
 lacks_none b low x bs c = (λ has. (λ it. no_buddy b c low x it, has), λ both. both.1)
-
-pub lacks_more : (b k : Block) (low at x : ℕ) (old now next : List Block) → low ≤ at → k ≡ buddy_in b at x → LacksBuddies b low at x old now
-    → ((c : Block) → Lists next c ↔ ((c ≢ k) × Lists now c)) → LacksBuddies b low (at + 1) x old next
-lacks_more b k low at x old now next from key done put c = (
-  λ has.
-      let both = (put c).0 has in
-      let was = (done c).0 both.1 in (
-        λ it. ⊎_elim (λ (is : c ≡ buddy_in b at x). both.0 (is ∙ sym key)) (λ (less : IsBuddy b low at x c). was.0 less)
-            (buddy_more b c low at x from it),
-        was.1,
-      ),
-  λ both. (put c).1 (
-    λ is. both.0 (more_buddy b c low at x from (inl (is ∙ key))),
-    (done c).1 (λ it. both.0 (more_buddy b c low at x from (inr it)), both.1),
-  ),
-)
 
 -- where the loop over the orders has ended
 pub has_all : (b : Block) (low at x : ℕ) (old new : List Block) → (at ≤ b.order) ⊎ (at ≡ low) → b.order ≤ at → HasBuddies b low at x old new

@@ -1,9 +1,8 @@
 -- Which blocks are kept, and which overlap: what one look at a block tells.
-use Rattle.std.proofs.Common.{◌≡◌, ℕ, ◌+◌, ◌^◌, ◌<◌, Bool, true, false, not, List, [], ◌∷◌, length, get_or, drop, add-one, if◌then◌else◌, ◌++◌, Some, refl, subst, sym, ◌∙◌, ap, inl, inr, arith}
+use Rattle.std.proofs.Common.{◌≡◌, ℕ, ◌+◌, ◌^◌, ◌<◌, Bool, true, false, not, List, [], ◌∷◌, length, get_or, drop, add-one, if◌then◌else◌, ◌++◌, refl, subst, sym, ◌∙◌, ap, inl, inr, arith}
 use Rattle.std.proofs.lemmas.Bool.{cases_lt, cases_Bool, true≢false}
 use Rattle.std.proofs.lemmas.List.{append-nil}
 use Rattle.std.proofs.Math.Seq.{drop-cons}
-use Rattle.std.specs.Prelude.{find}
 use Rattle.bm_base.specs.Each.{each_in}
 use Rattle.bm_base.proofs.EachLaws.{each_in-all}
 use Rattle.address_runs.specs.Overlay.{HaveAddresses}
@@ -13,11 +12,6 @@ use Rattle.node_hulls.specs.declared.kept.KeptBlock.{KeptBlock}
 use Rattle.node_hulls.specs.Hulls.{NumaBlock}
 use Rattle.node_hulls.specs.Kept.{numa_blocks_of, meets_memory, of_node, kept_one, kept_from, kept_of, any_kept}
 use Rattle.node_hulls.specs.Steps.{EndInSpace}
-
--- the first of several that passes, from one place on
-pub find_from : {X : Type 0} (p : X → Bool) (xs : List X) (i : ℕ) (x : X) → i < length xs → x ≡ get_or xs i x
-    → find p (drop i xs) ≡ (if p x then Some x else find p (drop (i + 1) xs))
-find_from p xs i x lt is = rw (drop-cons xs i x lt, ← is, add-one) refl
 
 -- the blocks that are kept, from one place on
 pub kept_step : (memory : ℕ → Bool) (domains : List ℕ) (blocks : List SratBlock) (i : ℕ) (b : SratBlock) → i < length blocks

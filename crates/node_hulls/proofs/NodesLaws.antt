@@ -2,7 +2,7 @@
 use Rattle.std.proofs.Common.{◌≡◌, ◌≢◌, ℕ, zero, suc, ◌+◌, ◌^◌, ◌<◌, ◌≤◌, ◌==◌, Bool, true, false, ◌&&◌, ◌||◌, not, nat_le, nat_lt, max, min, Option, Some, None, List, [], ◌∷◌, map, length, get_or, refl, sym, ◌∙◌, ap, subst, inl, inr, arith}
 use Rattle.std.proofs.lemmas.Bool.{cases_lt, cases_Bool, and_parts, and_from, true≢false}
 use Rattle.std.proofs.lemmas.Bool.Decides.{nat_tests}
-use Rattle.std.proofs.lemmas.List.{get_or_default, map-id}
+use Rattle.std.proofs.lemmas.List.{map-id}
 use Rattle.std.proofs.lemmas.Option.{none-some, same_Some}
 use Rattle.std.specs.List.{list_any}
 use Rattle.std.specs.Option.{option_or}
@@ -396,17 +396,6 @@ pub laid_own : (ks : List KeptBlock) (laid : List NumaBlock) (i : ℕ) (k : Kept
     → first_clash ks ≡ None → i < length ks → k ≡ get_or ks i k → HasOwn (value_at (map (λ (r : NumaBlock). r) laid)) k.block
 laid_own ks laid i k known none lt is x above under =
     rw (map-id laid) (known.each x ∙ apart_own ks i k none lt is x above under)
-
-pub own_more : (f : ℕ → Option ℕ) (ks : List KeptBlock) (i : ℕ) (one : KeptBlock) → i < length ks → one ≡ get_or ks i one
-    → HasOwn f one.block → ((k : ℕ) (d : KeptBlock) → k < i → HasOwn f (get_or ks k d).block)
-    → (k : ℕ) (d : KeptBlock) → k < i + 1 → HasOwn f (get_or ks k d).block
-own_more f ks i one lt is own before k d under = elim (cases_lt k i) as (λ _. HasOwn f (get_or ks k d).block) [
-  | inl earlier ↦ before k d earlier
-  | inr here ↦
-      let at : k ≡ i = omega arith in
-      let same : get_or ks k d ≡ one = ap (λ (n : ℕ). get_or ks n d) at ∙ get_or_default ks i d one lt ∙ sym is in
-      subst (λ (c : KeptBlock). HasOwn f c.block) (sym same) own
-]
 
 -- an address that has a node lies below the end of a block
 has_bound : (blocks : List NumaBlock) (n x : ℕ) → has blocks n x ≡ true → (b : NumaBlock) × IsIn b blocks × (x < run_end b)

@@ -1,5 +1,5 @@
 -- Bytes that go out part by part: those that went out, and those that are left.
-use Rattle.std.proofs.Common.{◌≡◌, ℕ, ◌≤◌, List, [], ◌++◌, Option, Some, None, Result, Ok, Err, refl, sym, ap, ◌∙◌, append_assoc, append-nil, arith, inr}
+use Rattle.std.proofs.Common.{◌≡◌, ℕ, ◌≤◌, List, [], ◌++◌, Result, Ok, Err, sym, ap, ◌∙◌, append_assoc, append-nil, arith, inr}
 use Rattle.std.specs.Io.KnownBytes.{Appends}
 use Rattle.bm_io.specs.Puts.{Puts}
 use Rattle.bm_io.specs.declared.writing.Put.{Put}
@@ -14,13 +14,6 @@ pub record WentOut {S : Type 0} (sink : SinkOf S) (old now : S) (rest all : List
   pub joined : out ++ rest ≡ all
   pub faults : sink.faults old ≤ sink.faults now
   pub wants : sink.wants now ≡ sink.wants old
-
-appends_none : (written : Option (List ℕ)) → Appends written written []
-appends_none None = tt
-appends_none (Some bytes) = sym (append-nil bytes)
-
-pub none_out : {S : Type 0} (sink : SinkOf S) (old : S) (all : List ℕ) → WentOut sink old old all all
-none_out sink old all = record { out = []; written = appends_none (sink.written old); joined = refl; faults = omega arith; wants = refl }
 
 -- a part more, where the rest begins with it
 pub more_out : {S : Type 0} (sink : SinkOf S) (old mid new : S) (rest part left all : List ℕ) → WentOut sink old mid rest all

@@ -94,15 +94,6 @@ pub goes-all : (entry : List Item) (sections : List Section) (now : List Item) (
 goes-all entry sections now placed [] none goes = goes.ends (Ok placed) now (ends-returns placed stop.Memory now)
 goes-all entry sections now placed (s ∷ ss) none goes = absurd (omega arith)
 
--- how many sections the next group has
-pub next-group : (rest : List Section) (first : Section) (d : Section) → 0 < length rest → first ≡ get_or rest 0 d
-    → (n : ℕ) → n ≡ prefix_len (is_of first.node) rest → 1 ≤ n
-next-group [] first d some is n long = absurd (omega arith)
-next-group (s ∷ ss) first d some is n long =
-    let own : n ≡ suc (prefix_len (is_of s.node) ss) =
-    long ∙ ap (λ (t : Section). prefix_len (is_of t.node) (s ∷ ss)) is ∙ own-length s ss in
-    omega (arith, own)
-
 -- the group in front of what is left
 group-in : (s : Section) (ss : List Section) → take (prefix_len (is_of s.node) (s ∷ ss)) (s ∷ ss) ≡ sections_in (group_at s ss)
 group-in s ss = ap (λ (n : ℕ). take n (s ∷ ss)) (own-length s ss)

@@ -13,7 +13,7 @@ use Rattle.stage_model.specs.declared.section.Section.{Section}
 use Rattle.stage_model.specs.declared.stop.What.TheVariants as what
 use Rattle.stage_model.specs.declared.stop.StageStop.{StageStop}
 use Rattle.stage_model.specs.declared.stop.StageStop.TheVariants as stop
-use Rattle.stage_model.specs.Doing.{Doing, EndsAs, returns}
+use Rattle.stage_model.specs.Doing.{EndsAs, returns}
 use Rattle.stage_model.specs.Requests.{allocated, placed, or_else}
 use Rattle.stage_model.proofs.DoingLaws.{ends-second, ends-first, ends-returns}
 use Rattle.stage_model.proofs.RequestLaws.{ends-allocation, else-first, else-table, else-wanting, else-second}
@@ -72,9 +72,6 @@ module _ (entry : List Item) (usage : ℕ) (first : List Placed) (sections : Lis
   left-at i d few goes =
       subst (Goes entry usage first sections now at before)
       (drop-cons sections i d few ∙ ap (λ (n : ℕ). get_or sections i d ∷ drop n sections) (sym (add-one i))) goes
-
-  next-map : Section → List Section → ℕ → Doing StageStop (List Placed)
-  next-map s rest map = map_each (at + 40) (before ++ placed_at at map s ∷ []) rest
 
   pub goes-next : (i : ℕ) (d : Section) (mid : List Item) (map : ℕ) (longer : List Placed) → i < length sections
       → Goes entry usage first sections now at before (drop i sections)

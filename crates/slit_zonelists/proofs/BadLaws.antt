@@ -65,13 +65,6 @@ row_skipped m c n lt off =
     ∙ ap (λ (o : Option ℕ). first_of (cons_option (option_map (λ column. (let at : ℕ × ℕ = (c, column) in at)) o)
     (filter_map (bad_in_row m) (range_with_len (c + 1) (n - (c + 1)))))) off)
 
-pub row_taken : (m : Matrix) (c n column : ℕ) → c < n → bad_column m c ≡ Some column
-    → first_of (filter_map (bad_in_row m) (range_with_len c (n - c))) ≡ Some (c, column)
-row_taken m c n column lt on =
-    ap (λ (xs : List ℕ). first_of (filter_map (bad_in_row m) xs)) (range_more c n lt)
-    ∙ ap (λ (o : Option ℕ). first_of (cons_option (option_map (λ column. (let at : ℕ × ℕ = (c, column) in at)) o)
-    (filter_map (bad_in_row m) (range_with_len (c + 1) (n - (c + 1)))))) on
-
 -- the first row that has a bad cell
 pub record IsRow (m : Matrix) (a n row column : ℕ) : Type 0 where
   pub from : a ≤ row

@@ -1,5 +1,5 @@
 -- Where memory is whole frames and each of its bytes has a node, so is each record of it.
-use Rattle.std.proofs.Common.{◌≡◌, ℕ, zero, suc, ◌-◌, ◌*◌, ◌/◌, ◌%◌, ◌^◌, ◌<◌, ◌≤◌, Some, None, List, [], ◌∷◌, length, get_or, refl, sym, ◌∙◌, ap, inl, inr, arith}
+use Rattle.std.proofs.Common.{◌≡◌, ℕ, zero, suc, ◌-◌, ◌*◌, ◌/◌, ◌%◌, ◌^◌, ◌<◌, ◌≤◌, Some, None, List, [], ◌∷◌, length, get_or, refl, sym, ◌∙◌, inl, inr, arith}
 use Rattle.std.specs.List.{All}
 use Rattle.std.proofs.lemmas.Bool.{cases_lt}
 use Rattle.address_runs.specs.Runs.{RunOf, run_end, value_at, AreRuns, IsRunsOf}
@@ -15,7 +15,7 @@ use Rattle.memblock_model.proofs.TableLaws.{records_for-runs, value_at-records}
 use Rattle.table_frames.specs.Tables.{AreWholeFrames}
 use Rattle.table_frames.proofs.WholeLaws.{whole_at, whole_by_value}
 use Rattle.stage_model.specs.Noded.{IsNoded}
-use Rattle.sparse_sections.specs.Present.{present, IsWholeNoded}
+use Rattle.sparse_sections.specs.Present.{IsWholeNoded}
 
 -- a canonical list gives at the addresses of each record what it says
 some-at : (rs : List (RunOf Label)) (k : ℕ) (d : RunOf Label) → AreRuns rs → k < length rs → 0 < (get_or rs k d).size
@@ -88,7 +88,3 @@ pub noded-told : (limit : ℕ) (items : List Item) → limit ≤ 2 ^ 64 → IsNo
     → value_at (records_of which.Memory items) ≡ memory_of items
 unfolding records_of
 noded-told limit items less noded = value_at-records (memory_of items) (far limit (memory_of items) less noded.within)
-
-pub noded-present : (limit : ℕ) (items : List Item) → limit ≤ 2 ^ 64 → IsNoded limit (memory_of items)
-    → present (value_at (records_of which.Memory items)) ≡ present (memory_of items)
-noded-present limit items less noded = ap present (noded-told limit items less noded)

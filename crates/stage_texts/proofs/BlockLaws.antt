@@ -1,5 +1,5 @@
 -- The listed blocks are in bounds: their orders, their first frames, and how many they are.
-use Rattle.std.proofs.Common.{◌≡◌, ℕ, zero, suc, ◌+◌, ◌%◌, ◌^◌, ◌<◌, ◌≤◌, ◌==◌, Option, Some, None, List, [], ◌∷◌, length, get_or, arith, inl, inr}
+use Rattle.std.proofs.Common.{◌≡◌, ℕ, zero, suc, ◌+◌, ◌%◌, ◌^◌, ◌<◌, ◌≤◌, ◌==◌, Option, Some, None, List, [], ◌∷◌, length, arith, inl, inr}
 use Rattle.std.proofs.lemmas.Bool.{cases_Bool}
 use Rattle.frame_blocks.specs.declared.block.Block.{Block}
 use Rattle.frame_blocks.specs.declared.run.TheConstants.{MAX_FRAMES}
@@ -51,9 +51,3 @@ listed_in_bounds f = from_in_bounds f 0 MAX_FRAMES (omega arith)
 pub listed_few : (f : Frames) → length (blocks_of f) ≤ 2 ^ 40
 unfolding blocks_of
 listed_few f = from-few f 0 MAX_FRAMES
-
--- so each of them is
-pub at_in_bounds : (bs : List Block) (i : ℕ) (d : Block) → AreInBounds bs → i < length bs → InBounds (get_or bs i d)
-at_in_bounds [] i d all within = absurd (omega arith)
-at_in_bounds (b ∷ bs) zero d all within = all.0
-at_in_bounds (b ∷ bs) (suc i) d all within = at_in_bounds bs i d all.1 (omega arith)

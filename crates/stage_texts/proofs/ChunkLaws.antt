@@ -1,13 +1,12 @@
 -- The text of a draft: what is appended to its text, and chunks behind it.
-use Rattle.std.proofs.Common.{◌≡◌, ℕ, ◌+◌, ◌-◌, ◌*◌, ◌/◌, ◌%◌, ◌^◌, ◌<◌, ◌≤◌, List, [], ◌∷◌, ◌++◌, sym, ap, ◌∙◌, subst, append_assoc, append-nil, Result, Ok, Err, arith}
+use Rattle.std.proofs.Common.{◌≡◌, ℕ, ◌+◌, ◌-◌, ◌*◌, ◌/◌, ◌%◌, ◌^◌, ◌<◌, ◌≤◌, List, ◌∷◌, ◌++◌, sym, ap, ◌∙◌, subst, append_assoc, Result, Ok, Err, arith}
 use Rattle.std.specs.Prelude.{OnOk}
-use Rattle.std.proofs.lemmas.Grind.{flat_map-append}
 use Rattle.frame_blocks.specs.declared.block.BlockRow.{BlockRow}
 use Rattle.frame_blocks.specs.declared.block.Block.{Block}
 use Rattle.frame_blocks.specs.Rows.{row_from, blocks_of_row}
 use Rattle.stage_texts.specs.declared.chunks.Chunk.{Chunk}
 use Rattle.stage_texts.specs.BlocksText.{row_text}
-use Rattle.stage_texts.specs.Chunks.{chunk_text, text_of_chunks}
+use Rattle.stage_texts.specs.Chunks.{text_of_chunks}
 use Rattle.stage_texts.specs.Sheets.{ArePlaced, FillSheets}
 use Rattle.stage_texts.proofs.RowLaws.{first_placed, lines, lines_append, part, placed_before, placed_behind, row_end, three_parts}
 
@@ -16,22 +15,10 @@ pub on_ok : {E A B : Type 0} (answer : Result (Unit {0}) E) → (A → B) → On
 on_ok (Ok done) step holds = step holds
 on_ok (Err error) step holds = tt
 
--- one chunk more
-pub chunks_more : (chunks : List Chunk) (chunk : Chunk) → text_of_chunks (chunks ++ chunk ∷ []) ≡ text_of_chunks chunks ++ chunk_text chunk
-chunks_more chunks chunk =
-    flat_map-append chunk_text chunks (chunk ∷ []) ∙ ap (λ t. text_of_chunks chunks ++ t) (append-nil (chunk_text chunk))
-
 -- text behind the text that is begun
 pub text_more : (chunks : List Chunk) (old new more : List ℕ) → new ≡ old ++ more
     → text_of_chunks chunks ++ new ≡ (text_of_chunks chunks ++ old) ++ more
 text_more chunks old new more is = ap (λ t. text_of_chunks chunks ++ t) is ∙ sym (append_assoc (text_of_chunks chunks) old more)
-
--- where the text that is begun becomes a chunk, and another one follows
-pub two_chunks : (old new : List Chunk) (first second : Chunk) (text : List ℕ) → new ≡ (old ++ first ∷ []) ++ second ∷ [] → text ≡ []
-    → text_of_chunks new ++ text ≡ (text_of_chunks old ++ chunk_text first) ++ chunk_text second
-two_chunks old new first second text is none =
-    ap (λ t. text_of_chunks new ++ t) none ∙ append-nil (text_of_chunks new) ∙ ap text_of_chunks is ∙ chunks_more (old ++ first ∷ []) second
-    ∙ ap (λ t. t ++ chunk_text second) (chunks_more old first)
 
 -- how many blocks stand before the first multiple of 4 GiB
 abbrev pub before : ℕ → ℕ

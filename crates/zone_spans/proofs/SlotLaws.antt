@@ -1,5 +1,5 @@
 -- The places of spans: what one stretch of frames of a node and a zone changes, and the list of what they hold.
-use Rattle.std.proofs.Common.{◌≡◌, ◌≢◌, ℕ, zero, suc, ◌+◌, ◌-◌, ◌*◌, ◌<◌, ◌≤◌, ◌==◌, nat_le, nat_lt, Bool, true, false, ◌&&◌, Option, Some, None, List, [], ◌∷◌, ◌++◌, length, get_or, drop, if◌then◌else◌, refl, sym, ◌∙◌, ap, subst, inl, inr, arith, append_assoc}
+use Rattle.std.proofs.Common.{◌≡◌, ◌≢◌, ℕ, zero, suc, ◌+◌, ◌-◌, ◌*◌, ◌<◌, ◌≤◌, ◌==◌, nat_le, nat_lt, Bool, true, false, ◌&&◌, Option, Some, None, List, [], ◌∷◌, ◌++◌, length, get_or, drop, if◌then◌else◌, refl, sym, ◌∙◌, ap, inl, inr, arith, append_assoc}
 use Rattle.std.specs.Option.{option_to_list}
 use Rattle.std.proofs.lemmas.Bool.Decides.{nat_tests}
 use Rattle.std.proofs.lemmas.Bool.{cases_lt, cases_Bool, eqb-true, eq-eqb, true≢false}
@@ -13,7 +13,7 @@ use Rattle.frame_blocks.specs.Listed.{is_node, same_zone}
 use Rattle.frame_blocks.proofs.CountLaws.{zone_self}
 use Rattle.table_frames.specs.declared.frames.TheConstants.{MAX_NODES}
 use Rattle.zone_spans.specs.declared.span.Span.{Span}
-use Rattle.zone_spans.specs.Spans.{is_in, with_frames, span_below, span_of, spans_of_node, spans_from, spans_of}
+use Rattle.zone_spans.specs.Spans.{is_in, with_frames, span_below, span_of, spans_from, spans_of}
 use Rattle.zone_spans.specs.Slots.{place_of, AreSpans, AreBounded, with_run, slot_with, somes}
 use Rattle.zone_spans.proofs.SpanLaws.{same_below, skip, grow}
 
@@ -166,13 +166,6 @@ run_parts first at until n f order order_too =
             run_behind at until n x (with_run first at n f) after ∙ run_behind first at n x f above
             ∙ sym (run_behind first until n x f after)
       ]
-    ] in λ j x. same x j
-
-pub run_none : (first n : ℕ) (f : Frames) → f ≡ with_run first first n f
-run_none first n f =
-    let same : (x : ℕ) → f x ≡ with_run first first n f x = λ x. elim (cases_lt x first) as (λ _. f x ≡ with_run first first n f x) [
-      | inl before ↦ sym (run_below first first n x f before)
-      | inr after ↦ sym (run_behind first first n x f after)
     ] in λ j x. same x j
 
 pub nothing_behind : (first at n : ℕ) (f : Frames) → first ≤ at → NothingFrom first f → NothingFrom at (with_run first at n f)

@@ -12,7 +12,6 @@ use Rattle.bm_base.specs.Extent.{Extent}
 use Rattle.memblock_model.specs.declared.item.Item.{Item}
 use Rattle.memblock_model.specs.declared.which.Which.TheVariants as which
 use Rattle.memblock_ranges.specs.declared.region.Heads.{Heads}
-use Rattle.memblock_ranges.specs.Tables.{Table, head_of}
 use Rattle.growth_model.specs.Bytes.{byte}
 use Rattle.phys_store.specs.Bytes.{Stored, byte_of}
 use Rattle.memblock_grow.specs.Contents.{Contents as Memblock}
@@ -39,10 +38,6 @@ use Rattle.boot_stages.specs.Carries.{or_refused_growth}
 use Rattle.boot_stages.proofs.BytesLaws.{holds-lent}
 use Rattle.boot_stages.proofs.MapLaws.{boot_stops, boot_told, first_made, made_of, memory_goes_on, memory_stops, stages_stop, told_ok}
 use Rattle.boot_stages.proofs.stages.boot.Goals as goal
-
--- the heads of two tables
-abbrev heads_in : Table → Table → Heads
-heads_in memory reserved = record { memory = head_of memory; reserved = head_of reserved }
 
 pub returns-in_err-map-clause-boots : goal.returns-in_err-map-clause-boots
 returns-in_err-map-clause-boots c =
