@@ -1,12 +1,15 @@
 -- A list of bytes told by a function of the address.
 use Rattle.std.proofs.Common.{◌≡◌, ℕ, zero, suc, ◌+◌, ◌<◌, List, length, get_or, refl, sym, ◌∙◌, ap, arith}
-use Rattle.std.proofs.lemmas.List.{ext_get_or}
+use Rattle.std.proofs.lemmas.List.{ext_get_or, length-take}
 use Rattle.phys_store.specs.Bytes.{bytes_at}
 
 pub length-bytes_at : (f : ℕ → ℕ) (a n : ℕ) → length (bytes_at f a n) ≡ n
 unfolding bytes_at
 length-bytes_at f a zero = refl
 length-bytes_at f a (suc n) = let rest = length-bytes_at f (a + 1) n in omega (arith, rest)
+
+-- how many bytes a list of them has, and a part of it
+pub ruleset byte_counts = (length-bytes_at, length-take)
 
 pub get-bytes_at : (f : ℕ → ℕ) (a n k : ℕ) → k < n → get_or (bytes_at f a n) k 0 ≡ f (a + k)
 unfolding bytes_at

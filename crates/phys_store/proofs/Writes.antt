@@ -6,7 +6,7 @@ use Rattle.std.proofs.lemmas.List.{get_or-set_same, get_or-replicate, length-rep
 use Rattle.std.specs.Vec.{with_items}
 use Rattle.std.specs.List.{CopiedTo, SameBelow, SameFrom}
 use borrow.Rule.Slice.PartMut.{put_mid}
-use Rattle.phys_store.specs.Bytes.{Stored, past, inside, byte_of, is_ready, AreReady, Wrote}
+use Rattle.phys_store.specs.Bytes.{Stored, past, inside, byte_of, is_ready, Wrote}
 use Rattle.phys_store.specs.declared.extents.Held.{Held}
 use Rattle.phys_store.specs.Extents.{stored, Apart}
 use Rattle.phys_store.proofs.Lookup.{Holds, inside-low, inside-high, byte-at}
@@ -162,10 +162,6 @@ wrote-more s t u a n m g first second = record {
   outside = λ x off. second.outside x (grind (arith, nat_tests)) ∙ first.outside x (grind (arith, nat_tests));
   ready = λ x. second.ready x ∙ first.ready x;
 }
-
--- what was prepared before a write is prepared behind it
-pub ready_kept : (s t : List Stored) (a n : ℕ) → ((x : ℕ) → is_ready t x ≡ is_ready s x) → AreReady s a n → AreReady t a n
-ready_kept s t a n same ready = λ x low high. same x ∙ ready x low high
 
 -- a write told by another function that gives the same bytes
 pub wrote-like : (s t : List Stored) (a n m : ℕ) (f g : ℕ → ℕ) → Wrote s t a n f → n ≡ m → ((k : ℕ) → k < m → f k ≡ g k) → Wrote s t a m g

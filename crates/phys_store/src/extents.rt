@@ -212,6 +212,7 @@ const CHUNK: usize = 256;
 
 /// The `count` bytes from `from` on are written from `to` on as well, where the two ranges have no
 /// address in common. Both are prepared.
+#[tactic(auto, using(crate::proofs::ByteLists::byte_counts))]
 pub fn copy(extents: &mut [Held], from: u64, to: u64, count: u64)
     requires apart { Apart 0 (map stored extents.old) }
     requires read { AreReady (map stored extents.old) from count }
@@ -232,6 +233,7 @@ pub fn copy(extents: &mut [Held], from: u64, to: u64, count: u64)
 }
 
 /// Reads the bytes from the address on; what isn't prepared is 0.
+#[tactic(auto, using(crate::proofs::ByteLists::byte_counts))]
 pub fn read(extents: &[Held], at: u64, into: &mut [u8])
     requires apart { Apart 0 (map stored extents.now) }
     requires small { at + length into.old < 2 ^ 64 }

@@ -1,5 +1,4 @@
-use Rattle.std.proofs.Common.{◌≡◌, ℕ, ◌+◌, ◌≤◌, List, length, get_or, map, ◌∙◌, ap, arith}
-use Rattle.std.proofs.lemmas.List.{length-take}
+use Rattle.std.proofs.Common.{ℕ, ◌+◌, ◌≤◌, List, length, get_or, map, ◌∙◌, ap, arith}
 use Rattle.phys_store.specs.Bytes.{byte_of}
 use Rattle.phys_store.specs.Extents.{stored}
 use Rattle.phys_store.proofs.Lookup.{prepared-small}
@@ -20,14 +19,6 @@ overflow_add-to c =
     let small = prepared-small (map stored c.args.extents.now) c.args.to c.args.count c.requires.apart c.requires.written
     (omega (arith, test)) in
     omega (arith, test, small)
-
-pub copy_from_slice-requires : goal.copy_from_slice-requires
-copy_from_slice-requires c =
-    let n = c.min-n.result in
-    let part = length-take n c.loop-done.chunk in
-    let long = length-bytes_at (byte_of (map stored c.loop-done.extents)) (c.args.from + c.loop-done.done) n in
-    let same : length c.slice.result.now ≡ n = ap length c.slice.ensures ∙ long in
-    omega (arith, part, same, c.min-n.array_long, c.min-n.ensures)
 
 pub loop-done-preserved : goal.loop-done-preserved
 loop-done-preserved c =

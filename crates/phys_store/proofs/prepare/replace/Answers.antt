@@ -1,23 +1,7 @@
-use Rattle.std.proofs.Common.{◌≡◌, ℕ, suc, ◌+◌, ◌∙◌, ◌++◌, ◌∷◌, length, take, drop, ap, arith, length-append}
-use Rattle.std.proofs.lemmas.List.{length-take, length-drop, set_split}
+use Rattle.std.proofs.Common.{◌≡◌, ℕ, suc, ◌+◌, ◌∙◌, ◌++◌, ◌∷◌, take, drop, ap, arith}
+use Rattle.std.proofs.lemmas.List.{set_split}
 use Rattle.phys_store.proofs.Joining.{removed_behind}
 use Rattle.phys_store.proofs.prepare.replace.Goals as goal
-
-pub remove-requires : goal.remove-requires
-remove-requires c =
-    let es = c.args.extents.now.items in
-    let rest = drop c.loop-gone._gone es in
-    omega (
-      arith,
-      ap length c.loop-gone.invariant,
-      length-append (take c.args.first es) (c.args.extent ∷ rest),
-      length-take c.args.first es,
-      length-drop c.loop-gone._gone es,
-      c.loop-gone.extents.ok.0,
-      c.requires.most,
-      c.requires.some,
-      c.loop-gone-test.true,
-    )
 
 pub loop-gone-preserved : goal.loop-gone-preserved
 loop-gone-preserved c =
