@@ -4,7 +4,6 @@ use Rattle.std.proofs.lemmas.Bool.{cases_lt}
 use Rattle.address_runs.specs.Runs.{RunOf, run_end, value_at, AreRuns}
 use Rattle.address_runs.specs.Sweep.{Stays}
 use Rattle.memblock_model.specs.Labels.{Label, Labels}
-use Rattle.memblock_find.specs.declared.cursor.Look.{Look}
 use Rattle.memblock_find.specs.declared.cursor.Cursor.{Cursor}
 use Rattle.memblock_find.specs.Free.{unclaimed, IsDownTo}
 use Rattle.memblock_find.specs.Walk.{run_at, BegunAmong, BegunBelow, IsLookDown, IsDownAt, label_at}
@@ -76,16 +75,6 @@ look_in rs slot at some begun at_end =
       order = omega arith;
       below = λ _. base;
     }
-
--- a look is good for the addresses above its bound
-pub look_lower : (rs : List (RunOf Label)) (from at : ℕ) (look : Look) → IsLookDown rs from look → look.bound ≤ at → at ≤ from
-    → look.bound ≢ at → IsLookDown rs at look
-look_lower rs from at look known above under other = record {
-  down = record { stays = λ x low high. known.down.stays x low (omega arith); another = known.down.another };
-  next = known.next;
-  order = above;
-  below = λ some. omega arith;
-}
 
 -- what is unclaimed follows from what both tables say
 pub unclaimed_is : (memory reserved : Labels) (x : ℕ) (a b : Option Label) → memory x ≡ a → reserved x ≡ b

@@ -91,17 +91,6 @@ passed_over rs mirror node from count at look known narrow fewer end others x ab
       | inr ge ↦ let order = known.next.behind i ge less in absurd (omega arith)
     ])
 
--- down from a look whose memory doesn't serve, and then over more of that kind, nothing serves
-pub none_serves_down : (rs : List (RunOf Label)) (mirror : Bool) (node : Option ℕ) (from at until : ℕ) (look : Look)
-    → IsLookDown rs from look
-    → until ≤ from → serves mirror node look.label ≡ false → NoAddressServes mirror (value_at rs) node at look.bound
-    → NoAddressServes mirror (value_at rs) node at until
-none_serves_down rs mirror node from at until look known under refused passed x above less =
-    elim (cases_lt x look.bound) as (λ _. serves mirror node (value_at rs x) ≡ false) [
-      | inl lt ↦ passed x above lt
-      | inr ge ↦ ap (λ (o : Option Label). serves mirror node o) (known.down.stays x ge (omega arith)) ∙ refused
-    ]
-
 -- no place ends where nothing serves
 pub past_refused : (mirror : Bool) (memory reserved : Labels) (q : Query) (at from : ℕ) → 1 ≤ q.size
     → NoAddressServes mirror memory q.node at from

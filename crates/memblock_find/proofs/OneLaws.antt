@@ -14,7 +14,7 @@ use Rattle.memblock_model.specs.Tables.{table_of, records_of}
 use Rattle.memblock_model.specs.Search.{top_in, top, best_in, best}
 use Rattle.memblock_model.proofs.TableLaws.{value_at-records}
 use Rattle.memblock_ranges.specs.Tables.{Contents}
-use Rattle.memblock_find.specs.Free.{unclaimed, free_in, IsRunBelow, IsRunFrom}
+use Rattle.memblock_find.specs.Free.{unclaimed, free_in, IsRunBelow}
 
 -- records that are those of the items say what the items say
 says : (w : Which) (items : List Item) (rs : List (RunOf Label)) → NothingFrom (2 ^ 64) (table_of w items) → rs ≡ records_of w items
@@ -99,40 +99,3 @@ one_below f below r s one two =
     let left = no_higher_base f below r s one two ends values in
     let right = no_higher_base f below s r two one (sym ends) (sym values) in
     same_run r s (omega arith) ends values
-
--- the same upward
-no_higher_start : (f : Labels) (from : ℕ) (r s : RunOf Label) → IsRunFrom f from r → IsRunFrom f from s → s.base ≤ r.base
-no_higher_start f from r s one two =
-    elim (cases_lt r.base s.base) as (λ _. s.base ≤ r.base) [
-      | inl lt ↦
-          let some = one.some in
-          let none : f r.base ≡ None = two.before r.base one.starts lt in
-          let here : f r.base ≡ Some r.value = one.run.stays r.base (omega arith) (omega arith) in
-          absurd (cc (sym none ∙ here))
-      | inr ge ↦ ge
-    ]
-
-no_lower_stop : (f : Labels) (from : ℕ) (r s : RunOf Label) → IsRunFrom f from r → IsRunFrom f from s → r.base ≡ s.base
-    → r.value ≡ s.value → run_end s ≤ run_end r
-no_lower_stop f from r s one two bases values =
-    elim (cases_lt (run_end r) (run_end s)) as (λ _. run_end s ≤ run_end r) [
-      | inl lt ↦
-          let some = one.some in
-          let here : f (run_end r) ≡ Some s.value = two.run.stays (run_end r) (omega arith) lt in
-          absurd (one.run.another (here ∙ ap (λ (v : Label). Some v) (sym values)))
-      | inr ge ↦ ge
-    ]
-
-pub one_from : (f : Labels) (from : ℕ) (r s : RunOf Label) → IsRunFrom f from r → IsRunFrom f from s → r ≡ s
-one_from f from r s one two =
-    let upper = no_higher_start f from r s one two in
-    let lower = no_higher_start f from s r two one in
-    let bases : r.base ≡ s.base = omega arith in
-    let some_r = one.some in
-    let some_s = two.some in
-    let first : f r.base ≡ Some r.value = one.run.stays r.base (omega arith) (omega arith) in
-    let second : f r.base ≡ Some s.value = two.run.stays r.base (omega arith) (omega arith) in
-    let values : r.value ≡ s.value = same_Some r.value s.value (sym first ∙ second) in
-    let left = no_lower_stop f from r s one two bases values in
-    let right = no_lower_stop f from s r two one (sym bases) (sym values) in
-    same_run r s bases (omega arith) values

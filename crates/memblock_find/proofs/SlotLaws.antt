@@ -6,7 +6,13 @@ use Rattle.address_runs.specs.Edits.{NothingFrom}
 use Rattle.address_runs.specs.Sweep.{StartFrom}
 use Rattle.address_runs.proofs.RunsLaws.{inside, below, behind, none_below, rest_from, other_behind}
 use Rattle.memblock_model.specs.Labels.{Label}
+use Rattle.memblock_ranges.specs.declared.region.Region.{Region}
+use Rattle.memblock_ranges.specs.Spelling.{region_of}
 use Rattle.memblock_find.specs.Walk.{run_at}
+
+-- what is read of a record
+pub read_of : (g : Region) (r : RunOf Label) → g ≡ region_of r → (g.base ≡ r.base) × (g.size ≡ r.size)
+read_of g r is = (ap (λ (h : Region). h.base) is, ap (λ (h : Region). h.size) is)
 
 start_sooner : (at from : ℕ) (rs : List (RunOf Label)) → at ≤ from → StartFrom from rs → StartFrom at rs
 start_sooner at from [] le start = tt

@@ -95,20 +95,6 @@ look_over rs slot at within ended from_base end_small =
       left = λ is. absurd (omega arith);
     }
 
--- a look is good for the addresses under its bound
-pub look_higher : (rs : List (RunOf Label)) (from at : ℕ) (look : Look) → IsLookUp rs from look → from ≤ at → at ≤ look.bound
-    → look.bound ≢ at → IsLookUp rs at look
-look_higher rs from at look known above under other = record {
-  stays = λ x low high. known.stays x (omega arith) high;
-  another = known.another;
-  other = known.other;
-  next = known.next;
-  small = known.small;
-  order = under;
-  ahead = λ _. omega arith;
-  left = λ is. absurd (other (sym is));
-}
-
 -- the records of a table that is searched for those that end by an address
 pub ended_so_far : (rs : List (RunOf Label)) (at middle : ℕ) → AreRuns rs → middle < length rs → run_end (run_at rs middle) ≤ at
     → (i : ℕ) → i < middle + 1 → run_end (run_at rs i) ≤ at

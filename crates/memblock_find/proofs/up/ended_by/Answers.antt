@@ -1,9 +1,8 @@
-use Rattle.std.proofs.Common.{◌≡◌, ℕ, ◌+◌, ◌-◌, ◌/◌, ◌<◌, ◌^◌, List, ap, arith}
+use Rattle.std.proofs.Common.{ℕ, ◌+◌, ◌-◌, ◌/◌, ◌<◌, ◌^◌, List, arith}
 use Rattle.address_runs.specs.Runs.{RunOf, run_end}
 use Rattle.memblock_model.specs.Labels.{Label}
-use Rattle.memblock_ranges.specs.declared.region.Region.{Region}
-use Rattle.memblock_ranges.specs.Spelling.{region_of}
 use Rattle.memblock_find.specs.Walk.{run_at}
+use Rattle.memblock_find.proofs.SlotLaws.{read_of}
 use Rattle.memblock_find.proofs.UpLaws.{ended_so_far, not_ended_from}
 use Rattle.memblock_find.proofs.up.ended_by.Goals as goal
 
@@ -11,19 +10,15 @@ pub overflow_add-region : goal.overflow_add-region
 overflow_add-region c =
     let rs : List (RunOf Label) = c.args.records.now in
     let r : RunOf Label = run_at rs (c.loop-low.low + (c.loop-low.high - c.loop-low.low) / 2) in
-    let is : c.get-region.result ≡ region_of r = c.get-region.ensures.region _ in
-    let bases : c.get-region.result.base ≡ r.base = ap (λ (g : Region). g.base) is in
-    let sizes : c.get-region.result.size ≡ r.size = ap (λ (g : Region). g.size) is in
+    let read = read_of c.get-region.result r (c.get-region.ensures.region _) in
     let small : run_end r < 2 ^ 64 = (c.get-region.ensures.fits _).small in
-    omega arith
+    omega (arith, read.0, read.1)
 
 pub loop-low-preserved-then-region-at : goal.loop-low-preserved-then-region-at
 loop-low-preserved-then-region-at c =
     let rs : List (RunOf Label) = c.args.records.now in
     let middle : ℕ = c.loop-low.low + (c.loop-low.high - c.loop-low.low) / 2 in
-    let is : c.get-region.result ≡ region_of (run_at rs middle) = c.get-region.ensures.region _ in
-    let bases : c.get-region.result.base ≡ (run_at rs middle).base = ap (λ (g : Region). g.base) is in
-    let sizes : c.get-region.result.size ≡ (run_at rs middle).size = ap (λ (g : Region). g.size) is in
+    let read = read_of c.get-region.result (run_at rs middle) (c.get-region.ensures.region _) in
     let i = c.loop-low.invariant in
     let within = i.within in
     let test = c.loop-low-test.true in
@@ -32,7 +27,7 @@ loop-low-preserved-then-region-at c =
       runs = i.runs;
       order = omega arith;
       within = within;
-      before = ended_so_far rs c.args.at middle i.runs (omega arith) (omega arith);
+      before = ended_so_far rs c.args.at middle i.runs (omega arith) (omega (arith, read.0, read.1));
       behind = i.behind;
     }
 
@@ -40,9 +35,7 @@ pub loop-low-preserved : goal.loop-low-preserved
 loop-low-preserved c =
     let rs : List (RunOf Label) = c.args.records.now in
     let middle : ℕ = c.loop-low.low + (c.loop-low.high - c.loop-low.low) / 2 in
-    let is : c.get-region.result ≡ region_of (run_at rs middle) = c.get-region.ensures.region _ in
-    let bases : c.get-region.result.base ≡ (run_at rs middle).base = ap (λ (g : Region). g.base) is in
-    let sizes : c.get-region.result.size ≡ (run_at rs middle).size = ap (λ (g : Region). g.size) is in
+    let read = read_of c.get-region.result (run_at rs middle) (c.get-region.ensures.region _) in
     let i = c.loop-low.invariant in
     let within = i.within in
     let test = c.loop-low-test.true in
@@ -52,5 +45,5 @@ loop-low-preserved c =
       order = omega arith;
       within = omega arith;
       before = i.before;
-      behind = not_ended_from rs c.args.at middle i.runs (omega arith);
+      behind = not_ended_from rs c.args.at middle i.runs (omega (arith, read.0, read.1));
     }
