@@ -1,7 +1,6 @@
 -- Laws of the entries at an offset: none too far means that all end in the address space.
-use Rattle.std.proofs.Common.{◌≡◌, ℕ, zero, suc, ◌+◌, ◌-◌, ◌^◌, ◌<◌, ◌≤◌, Bool, true, false, Some, None, List, [], ◌∷◌, ◌++◌, length, take, drop, add-one, length-append, length-drop, refl, sym, ◌∙◌, arith, ⊎_elim}
+use Rattle.std.proofs.Common.{◌≡◌, ℕ, zero, suc, ◌+◌, ◌^◌, ◌<◌, ◌≤◌, Bool, true, false, Some, None, List, [], ◌∷◌, ◌++◌, length, length-append, refl, sym, ◌∙◌, arith, ⊎_elim}
 use Rattle.std.proofs.lemmas.Bool.{cases_lt}
-use Rattle.std.proofs.lemmas.List.{take_all}
 use Rattle.std.proofs.lemmas.Bool.Decides.{nat_tests}
 use Rattle.e820_model.specs.declared.entry.Entry.{Entry}
 use Rattle.e820_model.specs.Claims.{EndInSpace}
@@ -58,12 +57,3 @@ count_first start zero bytes = refl
 count_first start (suc n) bytes =
     let before = count_first start n bytes in
     simp length-append (omega arith)
-
--- one entry more is read behind the others
-pub first_more : (start n : ℕ) (bytes : List ℕ)
-    → first_entries start (n + 1) bytes ≡ first_entries start n bytes ++ nth_entry start n bytes ∷ []
-first_more start n bytes = rw add-one refl
-
--- all bytes from the offset on
-pub from_offset : (bytes : List ℕ) (offset : ℕ) → take (length bytes - offset) (drop offset bytes) ≡ drop offset bytes
-from_offset bytes offset = take_all (length bytes - offset) (drop offset bytes) (omega (arith, length-drop offset bytes))

@@ -1,8 +1,8 @@
-use Rattle.std.proofs.Common.{◌≡◌, ◌+◌, ◌-◌, suc, true, false, arith, sym, ◌∙◌}
+use Rattle.std.proofs.Common.{◌≡◌, ◌+◌, ◌-◌, suc, false, arith, sym, ◌∙◌}
 use Rattle.std.proofs.lemmas.Bool.Decides.{nat_tests}
 use Rattle.std.proofs.lemmas.Grind.{common_steps}
 use Rattle.e820_table.specs.Entries.{nth_entry, is_too_far}
-use Rattle.e820_table.proofs.EntryLaws.{far_here, far_later}
+use Rattle.e820_table.proofs.EntryLaws.{far_later}
 use Rattle.e820_table.proofs.entries.find_far.Goals as goal
 
 pub loop-index-preserved : goal.loop-index-preserved
@@ -12,11 +12,3 @@ loop-index-preserved c =
     let near : is_too_far (nth_entry c.args.start l.index c.args.bytes.now) ≡ false =
     rw (← c.read_nth-entry.ensures) (grind (arith, nat_tests, common_steps)) in
     sym (far_later c.args.start l.index (c.args.count - (l.index + 1)) c.args.bytes.now near) ∙ rw left at l.invariant
-
-pub returns-then-is_none : goal.returns-then-is_none
-returns-then-is_none c =
-    let l = c.loop-index in
-    let left : c.args.count - l.index ≡ suc (c.args.count - (l.index + 1)) = omega arith in
-    let far : is_too_far (nth_entry c.args.start l.index c.args.bytes.now) ≡ true =
-    rw (← c.read_nth-entry.ensures) (grind (arith, nat_tests, common_steps)) in
-    sym (far_here c.args.start l.index (c.args.count - (l.index + 1)) c.args.bytes.now far) ∙ rw left at l.invariant

@@ -3,12 +3,6 @@ use Rattle.e820_table.specs.Entries.{first_far}
 use Rattle.e820_table.proofs.EntryLaws.{space_of_none, count_first}
 use Rattle.e820_table.proofs.extension.read_ext.Goals as goal
 
-pub returns-then-not-is_extension-clause-memory : goal.returns-then-not-is_extension-clause-memory
-returns-then-not-is_extension-clause-memory c = λ told. cc
-
-pub returns-then-not-is_extension-clause-some : goal.returns-then-not-is_extension-clause-some
-returns-then-not-is_extension-clause-some c = λ told. cc
-
 pub returns-in_err-read_entries-clause-some : goal.returns-in_err-read_entries-clause-some
 returns-in_err-read_entries-clause-some c =
     let count = c.in_ok-count.count in
