@@ -1,14 +1,17 @@
 -- Frames that leave the free ones, and frames that come back: what the index of blocks is told of them.
-use Rattle.std.proofs.Common.{◌≡◌, ℕ, ◌+◌, ◌^◌, ◌≤◌, Option, Some, None, IfSome, List, refl, sym, ◌∙◌, ap, arith}
-use Rattle.std.specs.Option.{option_map}
+use Rattle.std.proofs.Common.{◌≡◌, ℕ, suc, ◌+◌, ◌-◌, ◌^◌, ◌<◌, ◌≤◌, Bool, is_some, Option, Some, None, IsSome, IfSome, List, [], ◌∷◌, length, refl, sym, ◌∙◌, ap, subst, inl, inr, arith}
+use Rattle.std.proofs.lemmas.Bool.{cases_Bool}
+use Rattle.std.proofs.lemmas.List.Sums.{length-filter}
+use Rattle.std.specs.List.{find, filter}
+use Rattle.std.specs.Option.{option_or, option_map}
 use Rattle.bm_base.specs.declared.zone.Zone.{Zone}
 use Rattle.address_runs.specs.Runs.{RunOf, value_at, IsRunsOf}
 use Rattle.address_runs.specs.Edits.{NothingFrom}
 use Rattle.frame_blocks.specs.declared.block.Block.{Block}
 use Rattle.frame_blocks.specs.declared.run.TheConstants.{MAX_FRAMES}
 use Rattle.frame_blocks.specs.Frames.{Frames, IsInSet, AreFree, IsBlock, IsInBlock}
-use Rattle.frame_blocks.specs.Listed.{order_up_to, block_around, block_for, block_of}
-use Rattle.frame_blocks.specs.Picked.{IsPicked, NoneServes, first_picked}
+use Rattle.frame_blocks.specs.Listed.{order_up_to, block_around, block_for, block_of, blocks_of, is_of, count_of}
+use Rattle.frame_blocks.specs.Picked.{IsPicked, NoneServes, picked_up, picked, first_picked}
 use Rattle.frame_blocks.specs.Buddies.{without_set, with_set, IsWithout}
 use Rattle.frame_blocks.proofs.GoodLaws.{up_most}
 use Rattle.frame_blocks.proofs.BlockLaws.{block_found}
@@ -23,6 +26,43 @@ first_is f n z o b low is = ap (option_map (λ (c : Block). c.first)) (picked_is
 
 pub first_none : (f : Frames) (n : ℕ) (z : Zone) (o : ℕ) → NothingFrom MAX_FRAMES f → NoneServes f n z o → first_picked f n z o ≡ None
 first_none f n z o low none = ap (option_map (λ (c : Block). c.first)) (picked_none f n z o low none)
+
+-- by how many blocks there are of each order: one that has none is passed over, and one that has some serves
+none_left : (p : Block → Bool) (bs : List Block) → length (filter p bs) ≡ 0 → find p bs ≡ None
+none_left p [] is = refl
+none_left p (b ∷ bs) is = elim (cases_Bool (p b)) as (λ _. find p (b ∷ bs) ≡ None) [
+  | inl on ↦ let many : length (b ∷ filter p bs) ≡ 0 = rw on at is in absurd (omega (arith, many))
+  | inr off ↦ rw off (none_left p bs (rw off at is))
+]
+
+some_left : (p : Block → Bool) (bs : List Block) → 0 < length (filter p bs) → IsSome (find p bs)
+some_left p [] some = absurd (omega (arith, some))
+some_left p (b ∷ bs) some = elim (cases_Bool (p b)) as (λ _. IsSome (find p (b ∷ bs))) [
+  | inl on ↦ rw on refl
+  | inr off ↦ rw off (some_left p bs (rw off at some))
+]
+
+some_or : (o other : Option Block) → IsSome o → IsSome (option_or o other)
+some_or None other some = cc some
+some_or (Some b) other some = refl
+
+pub passed_by : (f : Frames) (n : ℕ) (z : Zone) (o k : ℕ) → count_of f n z o ≡ 0 → picked_up f n z o (suc k) ≡ picked_up f n z (o + 1) k
+unfolding count_of
+passed_by f n z o k none = rw (none_left (is_of n z o) (blocks_of f) (length-filter (is_of n z o) (blocks_of f) ∙ none)) refl
+
+pub serves_at : (f : Frames) (n : ℕ) (z : Zone) (o k : ℕ) → 0 < count_of f n z o → IsSome (picked_up f n z o (suc k))
+unfolding count_of
+serves_at f n z o k some =
+    some_or (find (is_of n z o) (blocks_of f)) (picked_up f n z (o + 1) k) (some_left (is_of n z o) (blocks_of f)
+    (subst (λ (m : ℕ). 0 < m) (sym (length-filter (is_of n z o) (blocks_of f))) some))
+
+first_there : (o : Option Block) → is_some (option_map (λ (c : Block). c.first) o) ≡ is_some o
+first_there None = refl
+first_there (Some b) = refl
+
+pub serves_is : (f : Frames) (n : ℕ) (z : Zone) (o : ℕ) → is_some (first_picked f n z o) ≡ is_some (picked_up f n z o (11 - o))
+unfolding picked
+serves_is f n z o = first_there (picked_up f n z o (11 - o))
 
 -- what both lists of runs give, where a set leaves, and where it comes back
 same_without : (f g h : Frames) (o x : ℕ) → IsWithout f g o x → ((y : ℕ) → h y ≡ g y) → IsWithout f h o x

@@ -4,7 +4,7 @@
 //! The index of the blocks (`free_areas`) is a cache, which contracts don't see: the first `take` makes it, `take` and `put_back`
 //! keep it up, and frames that become free otherwise drop it, as does want of memory for it. Nothing that is answered depends on it.
 
-ghost use Rattle.std.specs.Prelude.{◌≡◌, ℕ, ◌+◌, ◌-◌, ◌%◌, ◌^◌, ◌<◌, ◌≤◌, max, Some, None, [], IsOk, OnOk, OnErr, IfOk, IfErr, vec_len, vec_capacity};
+ghost use Rattle.std.specs.Prelude.{◌≡◌, ℕ, ◌+◌, ◌-◌, ◌%◌, ◌^◌, ◌<◌, ◌≤◌, max, is_some, Some, None, IsSome, [], IsOk, OnOk, OnErr, IfOk, IfErr, vec_len, vec_capacity};
 ghost use Rattle.address_runs.specs.Runs.{IsRunsOf};
 ghost use Rattle.address_runs.specs.Edits.{replaced, NothingFrom};
 ghost use Rattle.frame_blocks.specs.Listed.{block_of, blocks_of, count_of};
@@ -19,7 +19,7 @@ use crate::cache::{join, split};
 use crate::runs::{cut, put, set_around};
 use crate::taking::Take;
 use bm_base::{Memory, Range, Zone};
-use frame_blocks::{Block, BlockRow, FrameRun, MAX_FRAMES};
+use frame_blocks::{Block, BlockRow, FrameRun, MAX_FRAMES, MAX_ORDER};
 use free_areas::Areas;
 use std::alloc::Global;
 use std::marker::Model;
@@ -136,15 +136,22 @@ impl Buddy {
 
     /// `2^order` frames of the node and in the zone leave, and the number of the first one is answered (`__rmqueue_smallest`):
     /// they are the first ones of the block that is picked, of the least order that is enough and of those blocks the lowest one.
-    /// `NoBlock` comes exactly where there is none, and nothing has changed then, nor after `Memory`.
+    /// `NoBlock` comes exactly where there is none, so `Memory` only where there is one. Nothing has changed after either.
     pub fn take(&mut self, node: u32, zone: Zone, order: u32) -> Result<u64, Take>
         requires { order ≤ 10 }
         ensures first { IfOk result (λ first. first_picked (free self.old) node zone order ≡ Some first) }
         ensures runs { IfOk result (λ first. IsRunsOf (without_set order first (free self.old)) self.new.runs) }
         ensures none { IfErr result (λ refusal. refusal ≡ Take.NoBlock → first_picked (free self.old) node zone order ≡ None) }
+        ensures memory { IfErr result (λ refusal. refusal ≡ Take.Memory → IsSome (first_picked (free self.old) node zone order)) }
         ensures err { OnErr result (self.new ≡ self.old) }
     {
-        let areas = self.sorted()?;
+        let Ok(areas) = self.sorted() else {
+            return Err(if self.serves(node, zone, order) {
+                Take::Memory
+            } else {
+                Take::NoBlock
+            });
+        };
         let Some(block) = areas.least(node, zone, order) else {
             self.areas = Some(areas);
             return Err(Take::NoBlock);
@@ -156,6 +163,20 @@ impl Buddy {
         self.spare -= ENTRIES;
         self.areas = rest;
         Ok(block.first)
+    }
+
+    /// Whether a block of the node and in the zone is of the order or a greater one. Takes no memory, and goes over all runs for each order,
+    /// so it is for what a call answers where memory is wanting.
+    pub fn serves(&self, node: u32, zone: Zone, order: u32) -> bool
+        requires { order ≤ 10 }
+        ensures { result ≡ is_some (first_picked (free self.now) node zone order) }
+    {
+        for at in order..MAX_ORDER + 1 {
+            if self.count(node, zone, at) > 0 {
+                return true;
+            }
+        }
+        false
     }
 
     /// `2^order` frames from `first` on come back, and are of the node (`__free_one_page`): they are joined with what is free

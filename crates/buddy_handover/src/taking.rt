@@ -7,7 +7,7 @@ use bm_base::Memory;
 pub enum Take {
     /// No block of the node and the zone is of the order or a greater one.
     NoBlock,
-    /// The program's own memory ran out.
+    /// The program's own memory ran out; only where there is such a block.
     Memory,
 }
 

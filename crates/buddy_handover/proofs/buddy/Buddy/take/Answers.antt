@@ -1,4 +1,4 @@
-use Rattle.std.proofs.Common.{◌≡◌, ℕ, ◌+◌, ◌^◌, List, ◌∙◌, ap, subst, arith}
+use Rattle.std.proofs.Common.{◌≡◌, ℕ, ◌+◌, ◌^◌, is_some, List, Result, Ok, Err, IfErr, ◌∙◌, ap, subst, arith}
 use Rattle.bm_base.specs.Extent.{Extent}
 use Rattle.address_runs.specs.Runs.{RunOf, value_at, IsRunsOf}
 use Rattle.address_runs.specs.Edits.{uncovered, NothingFrom}
@@ -9,11 +9,11 @@ use Rattle.buddy_handover.specs.Contents.{Contents, free}
 use Rattle.buddy_handover.proofs.TakeLaws.{first_is, first_none, runs_without, rest_areas}
 use Rattle.buddy_handover.proofs.buddy.Buddy.take.Goals as goal
 
-pub returns-in_default-clause-none : goal.returns-in_default-clause-none
-returns-in_default-clause-none c =
-    let low = subst (λ (b : Contents). NothingFrom MAX_FRAMES (free b)) (c.self.view_is ∙ c.in_ok-areas.ensures.stays) c.self.invariant.2 in
+pub returns-in_default-least-clause-none : goal.returns-in_default-least-clause-none
+returns-in_default-least-clause-none c =
+    let low = subst (λ (b : Contents). NothingFrom MAX_FRAMES (free b)) (c.self.view_is ∙ c.in-Ok.ensures.stays) c.self.invariant.2 in
     λ same. first_none (free c.args.self.now) c.args.node c.args.zone c.args.order low
-    (c.in_default.ensures (free c.args.self.now) c.in_ok-areas.ensures.areas)
+    (c.in_default-least.ensures (free c.args.self.now) c.in-Ok.ensures.areas)
 
 pub invariant_of-self-2 : goal.invariant_of-self-2
 invariant_of-self-2 c =
@@ -24,7 +24,7 @@ invariant_of-self-2 c =
     let f = free c.args.self.now in
     let view = ap (λ (d : Contents). d.runs) c.self-2.view_is in
     let ready = c.in_ok-ready.ensures.runs in
-    let stays = ap (λ (d : Contents). d.runs) c.in_ok-areas.ensures.stays in
+    let stays = ap (λ (d : Contents). d.runs) c.in-Ok.ensures.stays in
     let same : rs ≡ c.args.self.now.runs = view ∙ ready ∙ stays in
     let spare = ap (λ (d : Contents). d.spare) c.self-2.view_is in
     let enough = c.in_ok-ready.ensures.enough in
@@ -34,7 +34,7 @@ invariant_of-self-2 c =
     let runs : IsRunsOf (without_set o b.first f) new =
     subst (λ (qs : List (RunOf ℕ)). IsRunsOf (without_set o b.first (value_at qs)) new) same
     (subst (λ (r : Extent). IsRunsOf (uncovered r (value_at rs)) new) c.set_around-2.ensures.frames c.cut.ensures.runs) in
-    let is = c.in-Some.ensures f c.in_ok-areas.ensures.areas in
+    let is = c.in-Some.ensures f c.in-Ok.ensures.areas in
     let aligned = is.block.aligned in
     let base = ap (λ (r : Extent). r.base) c.set_around.ensures.frames in
     let size = ap (λ (r : Extent). r.size) c.set_around.ensures.frames in
@@ -45,12 +45,24 @@ invariant_of-self-2 c =
       omega (arith, spare, enough, room, len, capacity),
       runs.runs,
       c.cut.ensures.within,
-      rest_areas f (value_at new) b c.block_of-behind.result o c.in_ok-areas.areas c.split-rest.result c.in_ok-areas.ensures.areas
+      rest_areas f (value_at new) b c.block_of-behind.result o c.in-Ok.areas c.split-rest.result c.in-Ok.ensures.areas
           (runs_without f new o b.first runs) is.block is.serves.enough behind c.split-rest.ensures,
     )
 
 pub returns-clause-first : goal.returns-clause-first
 returns-clause-first c =
-    let low = subst (λ (b : Contents). NothingFrom MAX_FRAMES (free b)) (c.self.view_is ∙ c.in_ok-areas.ensures.stays) c.self.invariant.2 in
+    let low = subst (λ (b : Contents). NothingFrom MAX_FRAMES (free b)) (c.self.view_is ∙ c.in-Ok.ensures.stays) c.self.invariant.2 in
     first_is (free c.args.self.now) c.args.node c.args.zone c.args.order c.in-Some.block low
-    (c.in-Some.ensures (free c.args.self.now) c.in_ok-areas.ensures.areas)
+    (c.in-Some.ensures (free c.args.self.now) c.in-Ok.ensures.areas)
+
+-- what holds of each error
+any_err : {X E : Type 0} → (r : Result X E) (P : E → Type 0) → ((e : E) → P e) → IfErr r P
+any_err (Ok x) P holds = tt
+any_err (Err e) P holds = holds e
+
+pub returns-in_err-ready-clause-memory : goal.returns-in_err-ready-clause-memory
+returns-in_err-ready-clause-memory c =
+    let low = subst (λ (b : Contents). NothingFrom MAX_FRAMES (free b)) (c.self.view_is ∙ c.in-Ok.ensures.stays) c.self.invariant.2 in
+    let first = first_is (free c.args.self.now) c.args.node c.args.zone c.args.order c.in-Some.block low
+    (c.in-Some.ensures (free c.args.self.now) c.in-Ok.ensures.areas) in
+    any_err c.from_residual.result _ (λ refusal wanted. ap is_some first)

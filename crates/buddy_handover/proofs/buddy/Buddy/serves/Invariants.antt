@@ -1,0 +1,11 @@
+-- No block is of one of the orders so far.
+use Rattle.std.proofs.Common.{◌≡◌, ◌-◌, ◌≤◌}
+use Rattle.frame_blocks.specs.Picked.{picked_up}
+use Rattle.buddy_handover.specs.Contents.{free}
+use Rattle.buddy_handover.proofs.buddy.Buddy.serves.Given as goal
+
+abbrev pub invariant-loop-at : goal.invariant-loop-at
+invariant-loop-at l = record {
+  until : l.at ≤ 11;
+  passed : picked_up (free l.self) l.node l.zone l.at (11 - l.at) ≡ picked_up (free l.self) l.node l.zone l.order (11 - l.order);
+}
