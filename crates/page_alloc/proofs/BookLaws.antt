@@ -1,5 +1,5 @@
 -- What contracts see of the page allocator, as a state.
-use Rattle.std.proofs.Common.{◌≡◌, ℕ, ◌*◌, ◌==◌, Bool, true, false, cond, Option, Some, None, List, [], ◌∷◌, ◌++◌, refl, sym, ◌∙◌, ap, subst, inl, inr, arith, append_assoc}
+use Rattle.std.proofs.Common.{◌≡◌, ℕ, ◌*◌, ◌==◌, Bool, true, false, cond, is_some, Option, Some, None, IsSome, List, [], ◌∷◌, refl, sym, ◌∙◌, ap, subst, inl, inr, arith}
 use Rattle.std.proofs.lemmas.Bool.{cases_lt, eqb-true}
 use Rattle.std.proofs.lemmas.Bool.Decides.{nat_tests}
 use Rattle.std.specs.declared.cmp.Ordering.{Ordering}
@@ -15,14 +15,12 @@ use Rattle.frame_blocks.specs.Picked.{first_picked}
 use Rattle.frame_blocks.specs.Buddies.{without_set}
 use Rattle.page_alloc.specs.declared.act.PageAct.{PageAct}
 use Rattle.page_alloc.specs.declared.act.PageAct.TheVariants as acts
-use Rattle.page_alloc.specs.declared.act.PageLine.{PageLine}
 use Rattle.page_alloc.specs.declared.outcome.Held.{Held}
-use Rattle.page_alloc.specs.declared.outcome.PageAnswer.{PageAnswer}
 use Rattle.page_alloc.specs.declared.outcome.PageOutcome.{PageOutcome}
 use Rattle.page_alloc.specs.declared.outcome.PageOutcome.TheVariants as outcomes
 use Rattle.page_alloc.specs.Book.{Book, held_in, state_of}
 use Rattle.page_alloc.specs.Kept.{AreHeldApart}
-use Rattle.page_alloc.specs.Pages.{State, with_held, served, unless_taken, step, HasOrder}
+use Rattle.page_alloc.specs.Pages.{State, with_held, served, unless_taken, step, HasOrder, TakesMemory}
 use Rattle.page_alloc.proofs.KeptLaws.{step_kept}
 
 -- two states are one where they say the same of each frame and each ID
@@ -114,6 +112,21 @@ pub took_none : (b new : Book) (id order node : ℕ) (zone : Zone) → held_in b
 took_none b new id order node zone none picked is =
     ap (λ (d : Book). let p : PageOutcome × State = (outcomes.NoBlock, state_of d) in p) is
     ∙ sym (ap (unless_taken (state_of b) id order node zone) none ∙ ap (served (state_of b) id order node) picked)
+
+-- memory is taken for a request that is served
+takes_by : (s : State) (id order node : ℕ) (o : Option ℕ) → IsSome o → TakesMemory (served s id order node o).0
+takes_by s id order node None some = cc some
+takes_by s id order node (Some first) some = tt
+
+pub served_takes : (s : State) (id order node : ℕ) (zone : Zone) → s.held id ≡ None → IsSome (first_picked s.frames node zone order)
+    → TakesMemory (step s (acts.Pages id order node zone)).0
+served_takes s id order node zone none some =
+    subst (λ (o : Option Held). TakesMemory (unless_taken s id order node zone o).0) (sym none)
+    (takes_by s id order node (first_picked s.frames node zone order) some)
+
+pub nothing_is : (o : Option ℕ) → is_some o ≡ false → o ≡ None
+nothing_is None is = refl
+nothing_is (Some first) is = cc is
 
 -- what a line leaves is kept
 pub kept_by : (b new : Book) (o : PageOutcome) (act : PageAct) → HasOrder act → AreHeldApart (state_of b)

@@ -1,5 +1,5 @@
 -- A frame that is asked for and given back, and small page scripts: what the definitions say of them.
-use Rattle.std.proofs.Common.{◌≡◌, ℕ, ◌/◌, ◌^◌, ◌-◌, nat_le, nat_lt, false, ◌&&◌, Some, None, List, [], ◌∷◌, Ok, Err, codes, if◌then◌else◌, refl, sym, ◌∙◌, ap, subst, inl, inr, arith}
+use Rattle.std.proofs.Common.{◌≡◌, ℕ, ◌/◌, ◌^◌, nat_le, nat_lt, false, ◌&&◌, Some, None, List, [], ◌∷◌, Ok, Err, codes, if◌then◌else◌, refl, sym, ◌∙◌, ap, subst, inl, inr, arith}
 use Rattle.std.proofs.lemmas.Bool.Decides.{nat_tests}
 use Rattle.std.proofs.Math.Nat.{div-one}
 use Rattle.std.proofs.lemmas.Bool.{cases_Bool}
@@ -143,9 +143,16 @@ plain_examples = (tt, tt, λ plain. plain, refl)
 order_examples : HasOrder (acts.Pages 1 10 7 zones.Dma) × (HasOrder (acts.Pages 1 11 7 zones.Dma) → ⊥) × HaveOrders (line 1 ∷ give 2 ∷ [])
 order_examples = (omega arith, λ small. absurd (omega (arith, small)), (omega arith, (tt, tt)))
 
-memory_examples : TakesMemory (begun lone) (acts.Pages 1 0 7 zones.Dma) × (TakesMemory taken (acts.Pages 1 0 7 zones.Dma) → ⊥)
-    × TakesMemory taken (acts.Give 1) × (TakesMemory (begun lone) (acts.Give 1) → ⊥)
-memory_examples = (refl, λ none. cc none, refl, λ some. cc some)
+memory_examples : TakesMemory (step (begun lone) (acts.Pages 1 0 7 zones.Dma)).0
+    × (TakesMemory (step taken (acts.Pages 2 0 7 zones.Dma)).0 → ⊥) × (TakesMemory (step taken (acts.Pages 1 0 7 zones.Dma)).0 → ⊥)
+    × TakesMemory (step taken (acts.Give 1)).0 × (TakesMemory (step (begun lone) (acts.Give 1)).0 → ⊥)
+memory_examples = (
+  subst (λ (p : PageOutcome × State). TakesMemory p.0) (sym step_examples.0) tt,
+  λ takes. subst (λ (p : PageOutcome × State). TakesMemory p.0) step_examples.1 takes,
+  λ takes. takes,
+  tt,
+  λ takes. takes,
+)
 
 -- frame 5 is in a block at first, and then held by ID 1; frame 4 is in none
 holds_examples : HoldsFrame taken 1 5 × (HoldsFrame taken 2 5 → ⊥)

@@ -1,5 +1,5 @@
 -- The page allocator after the handover as a state of free frames and held ranges, and what each line of a page script does to it.
-use Rattle.std.specs.Prelude.{◌≡◌, IsSome, ℕ, ◌*◌, ◌≤◌, ◌==◌, if◌then◌else◌, Option, Some, None, List, [], ◌∷◌}
+use Rattle.std.specs.Prelude.{ℕ, ◌*◌, ◌≤◌, ◌==◌, if◌then◌else◌, Option, Some, None, List, [], ◌∷◌}
 use Rattle.bm_base.specs.declared.frame.TheConstants.{FRAME_SIZE}
 use Rattle.bm_base.specs.declared.zone.Zone.{Zone}
 use Rattle.frame_blocks.specs.Frames.{Frames}
@@ -76,8 +76,10 @@ NamesNoNode (acts.Pages id order node zone) = Unit {0}
 NamesNoNode (acts.Near id order node) = ⊥
 NamesNoNode (acts.Give id) = Unit {0}
 
--- memory is taken for a request of an ID that holds nothing, and where what an ID holds comes back
-abbrev pub TakesMemory : State → PageAct → Type 0
-TakesMemory s (acts.Pages id order node zone) = s.held id ≡ None
-TakesMemory s (acts.Near id order node) = s.held id ≡ None
-TakesMemory s (acts.Give id) = IsSome (s.held id)
+-- memory is taken for a line whose outcome it is that frames leave or come back, and for none that is refused
+abbrev pub TakesMemory : PageOutcome → Type 0
+TakesMemory (outcomes.At address) = Unit {0}
+TakesMemory outcomes.Done = Unit {0}
+TakesMemory outcomes.NoBlock = ⊥
+TakesMemory outcomes.Taken = ⊥
+TakesMemory outcomes.Unknown = ⊥

@@ -61,7 +61,7 @@ impl Pages {
 
     /// `2^order` frames of the node and in the zone for the ID: `Taken` exactly where it holds something already, else `NoBlock` exactly
     /// where no block there is of the order or a greater one, else `At` with the address of the first frame. Nothing has changed
-    /// after an answer other than `At`, nor after `Memory`, which comes only where the ID holds nothing.
+    /// after an answer other than `At`, nor after `Memory`, which comes only in place of `At`.
     pub fn take(
         &mut self,
         id: u32,
@@ -71,11 +71,18 @@ impl Pages {
     ) -> Result<PageOutcome, Memory>
         requires { order ≤ 10 }
         ensures ok { IfOk result (λ outcome. (outcome, state_of self.new) ≡ step (state_of self.old) (act.Pages id order node zone)) }
-        ensures memory { OnErr result (TakesMemory (state_of self.old) (act.Pages id order node zone)) }
+        ensures memory { OnErr result (TakesMemory (step (state_of self.old) (act.Pages id order node zone)).0) }
         ensures refused { IfOk result (λ outcome. (outcome ≡ PageOutcome.Taken) ⊎ (outcome ≡ PageOutcome.NoBlock) → self.new ≡ self.old) }
         ensures err { OnErr result (self.new ≡ self.old) }
     {
-        match self.ids.entry(id)? {
+        let Ok(entry) = self.ids.entry(id) else {
+            return if self.buddy.serves(node, zone, order) {
+                Err(Memory)
+            } else {
+                Ok(PageOutcome::NoBlock)
+            };
+        };
+        match entry {
             Entry::Occupied(_) => Ok(PageOutcome::Taken),
             Entry::Vacant(place) => match self.buddy.take(node, zone, order) {
                 Ok(first) => {
@@ -92,7 +99,7 @@ impl Pages {
     /// comes only where it holds something.
     fn give(&mut self, id: u32) -> Result<PageOutcome, Memory>
         ensures ok { IfOk result (λ outcome. (outcome, state_of self.new) ≡ step (state_of self.old) (act.Give id)) }
-        ensures memory { OnErr result (TakesMemory (state_of self.old) (act.Give id)) }
+        ensures memory { OnErr result (TakesMemory (step (state_of self.old) (act.Give id)).0) }
         ensures err { OnErr result (self.new ≡ self.old) }
     {
         let Some(held) = self.held(id) else {
@@ -103,13 +110,13 @@ impl Pages {
         Ok(PageOutcome::Done)
     }
 
-    /// Carries one line out that names its zone or gives back. Nothing has changed after `Memory`. A line for the zones near a node is
-    /// carried out by the layer above, which knows them.
+    /// Carries one line out that names its zone or gives back. Nothing has changed after `Memory`, which comes of no line that is refused. A
+    /// line for the zones near a node is carried out by the layer above, which knows them.
     pub fn run_line(&mut self, line: &PageLine) -> Result<PageOutcome, Memory>
         requires order { HasOrder line.now.act }
         requires plain { NamesNoNode line.now.act }
         ensures ok { IfOk result (λ outcome. (outcome, state_of self.new) ≡ step (state_of self.old) line.now.act) }
-        ensures memory { OnErr result (TakesMemory (state_of self.old) line.now.act) }
+        ensures memory { OnErr result (TakesMemory (step (state_of self.old) line.now.act).0) }
         ensures err { OnErr result (self.new ≡ self.old) }
     {
         match line.act {

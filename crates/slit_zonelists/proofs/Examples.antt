@@ -1,6 +1,9 @@
 -- Three domains whose distances aren't the same both ways, and their lists: what the definitions say of them.
-use Rattle.std.proofs.Common.{◌≡◌, ℕ, ◌+◌, ◌<◌, true, false, Some, None, List, [], ◌∷◌, ◌++◌, length, drop, get_or, Ok, Err, codes, replicate, refl, sym, ◌∙◌, ap, subst, length-append, inl, inr, arith}
+use Rattle.std.proofs.Common.{◌≡◌, ℕ, ◌+◌, ◌<◌, true, false, is_some, Option, Some, None, List, [], ◌∷◌, ◌++◌, length, drop, get_or, Ok, Err, codes, replicate, refl, sym, ◌∙◌, ap, subst, length-append, inl, inr, arith}
+use Rattle.std.specs.Option.{option_map}
 use Rattle.bm_base.specs.declared.zone.Zone.TheVariants as zones
+use Rattle.frame_blocks.specs.declared.block.Block.{Block}
+use Rattle.frame_blocks.proofs.PickLaws.{picked_none}
 use Rattle.zone_spans.specs.declared.span.Span.{Span}
 use Rattle.page_alloc.specs.declared.act.PageAct.TheVariants as acts
 use Rattle.page_alloc.specs.declared.act.PageLine.{PageLine}
@@ -16,8 +19,9 @@ use Rattle.slit_zonelists.specs.declared.uses.SlitUse.TheVariants as uses
 use Rattle.slit_zonelists.specs.Buckets.{in_bucket, bucket_at, all_in}
 use Rattle.slit_zonelists.specs.Lists.{Known, used_of, where_used, told, own_distance, distance_in, rank, goes_before, put_in, by_node, entry_of, known, with_node, nodes_of, at_distance, zones_of}
 use Rattle.slit_zonelists.specs.Matrix.{Matrix, cell_of, HasBytes, IsSquare}
-use Rattle.slit_zonelists.specs.Near.{first_zone, near_by, asked_near, step_with, answers_with, after_with, EndsBefore, EndsAmid}
+use Rattle.slit_zonelists.specs.Near.{has_block, first_zone, near_by, asked_near, step_with, answers_with, after_with, EndsBefore, EndsAmid}
 use Rattle.slit_zonelists.specs.Order.{IsLower, IsNearer}
+use Rattle.slit_zonelists.proofs.LineLaws.{first_none}
 use Rattle.slit_zonelists.specs.Table.{localities, fills, slit_fault, unless_fault, slit_of}
 use Rattle.slit_zonelists.specs.Uses.{is_bad, bad_column, bad_in_row, first_of, bad_cell, by_cells, slit_use}
 
@@ -133,29 +137,43 @@ line_examples : (answers_with nodes empty [] ≡ [])
     × (after_with nodes empty (give 4 ∷ []) ≡ empty)
 line_examples = (refl, refl, refl)
 
--- memory may run out amid a line that asks for a free ID, behind one that was answered, and never amid one that is refused for its ID
+-- memory may run out amid a line that gives back, behind one that was answered, and never amid one that is refused, for its ID or since
+-- no zone has a block
 abbrev near : ℕ → PageLine
 near n = record { number = n; act = acts.Near 1 0 0 }
-
-amid_example : EndsAmid nodes empty (give 4 ∷ near 5 ∷ []) empty
-amid_example = record { before = give 4 ∷ []; line = near 5; behind = []; is = refl; takes = refl; state = refl }
 
 abbrev holding : State
 holding = record { frames = λ x. None; held = λ id. Some five }
 
-refused_out : (before : List PageLine) (line : PageLine) (behind : List PageLine) → near 5 ∷ [] ≡ before ++ line ∷ behind →
-    TakesMemory (after_with nodes holding before) line.act → ⊥
-refused_out [] line behind is takes =
+amid_example : EndsAmid nodes holding (near 5 ∷ give 6 ∷ []) holding
+amid_example = record { before = near 5 ∷ []; line = give 6; behind = []; is = refl; takes = tt; state = refl }
+
+refused_out : (s : State) (before : List PageLine) (line : PageLine) (behind : List PageLine) → near 5 ∷ [] ≡ before ++ line ∷ behind
+    → (TakesMemory (step_with nodes s (acts.Near 1 0 0)).0 → ⊥) → TakesMemory (step_with nodes (after_with nodes s before) line.act).0 → ⊥
+refused_out s [] line behind is refused takes =
     let same : line ≡ near 5 = sym (ap (λ (ls : List PageLine). get_or ls 0 line) is) in
-    let none : Some five ≡ None = subst (λ (l : PageLine). TakesMemory holding l.act) same takes in
-    cc none
-refused_out (x ∷ xs) line behind is takes =
+    refused (subst (λ (l : PageLine). TakesMemory (step_with nodes s l.act).0) same takes)
+refused_out s (x ∷ xs) line behind is refused takes =
     let many : 0 ≡ length xs + length (line ∷ behind) =
     ap (λ (ls : List PageLine). length (drop 1 ls)) is ∙ length-append xs (line ∷ behind) in
     absurd (omega (arith, many))
 
-refused_wants_none : (later : State) → EndsAmid nodes holding (near 5 ∷ []) later → ⊥
-refused_wants_none later ends = refused_out ends.before ends.line ends.behind ends.is ends.takes
+held_wants_none : (later : State) → EndsAmid nodes holding (near 5 ∷ []) later → ⊥
+held_wants_none later ends = refused_out holding ends.before ends.line ends.behind ends.is (λ takes. takes) ends.takes
+
+nothing_has : (z : ListZone) → has_block empty 0 z ≡ false
+nothing_has z =
+    ap (λ (b : Option Block). is_some (option_map (λ (c : Block). c.first) b))
+    (picked_none (λ x. None) z.node z.zone 0 (λ x high. refl)
+    (λ b is serves. let none : None ≡ Some b.node = (is.good b.first refl).0 in cc none))
+
+nothing_near : first_zone empty 0 (zones_of nodes 0) ≡ None
+nothing_near = first_none empty 0 (zones_of nodes 0) (λ i z within. nothing_has (get_or (zones_of nodes 0) i z))
+
+full_wants_none : (later : State) → EndsAmid nodes empty (near 5 ∷ []) later → ⊥
+full_wants_none later ends =
+    refused_out empty ends.before ends.line ends.behind ends.is
+    (λ takes. subst (λ (o : Option ListZone). TakesMemory (near_by empty 1 0 o).0) nothing_near takes) ends.takes
 
 no_line_wants_none : (b later : Book) → EndsBefore b [] later → ⊥
 no_line_wants_none b later ends = let some : 0 < 0 = ends.some in absurd (omega (arith, some))

@@ -1,5 +1,5 @@
 -- A request near a node is a request of one zone, or nothing; and lines go on from where those before them came to.
-use Rattle.std.proofs.Common.{◌≡◌, ℕ, ◌≤◌, true, false, Option, Some, None, List, [], ◌∷◌, ◌++◌, refl, ◌∙◌, ap, append_assoc, arith}
+use Rattle.std.proofs.Common.{◌≡◌, ℕ, ◌≤◌, true, false, Option, Some, None, IsSome, Result, Ok, Err, OnErr, List, [], ◌∷◌, ◌++◌, refl, sym, ◌∙◌, ap, subst, append_assoc, arith}
 use Rattle.std.specs.List.{All}
 use Rattle.std.proofs.lemmas.List.Elements.{All-tail}
 use Rattle.frame_blocks.specs.Frames.{Frames}
@@ -9,11 +9,13 @@ use Rattle.page_alloc.specs.declared.act.PageLine.{PageLine}
 use Rattle.page_alloc.specs.declared.outcome.Held.{Held}
 use Rattle.page_alloc.specs.declared.outcome.PageOutcome.{PageOutcome}
 use Rattle.page_alloc.specs.declared.outcome.PageAnswer.{PageAnswer}
-use Rattle.page_alloc.specs.Pages.{State, HasOrder, HaveOrders}
+use Rattle.page_alloc.specs.Pages.{State, HasOrder, HaveOrders, TakesMemory}
+use Rattle.page_alloc.proofs.BookLaws.{served_takes}
 use Rattle.page_alloc.proofs.KeptLaws.{Goes, step_goes}
 use Rattle.slit_zonelists.specs.declared.entry.ListZone.{ListZone}
 use Rattle.slit_zonelists.specs.Lists.{Known, zones_of}
 use Rattle.slit_zonelists.specs.Near.{has_block, first_zone, near_by, asked_near, step_with, answers_with, after_with}
+use Rattle.slit_zonelists.proofs.ListLaws.{found_passes}
 
 -- the first zone that has a block
 pub first_is : (s : State) (order : ℕ) (before : List ListZone) (z : ListZone) (behind : List ListZone) → has_block s order z ≡ true
@@ -26,6 +28,24 @@ pub first_none : (s : State) (order : ℕ) (zs : List ListZone) → All (λ y. h
 first_none s order [] none = refl
 first_none s order (y ∷ ys) none =
     rw (none 0 y (omega arith)) (first_none s order ys (All-tail (λ y. has_block s order y ≡ false) y ys none))
+
+-- memory is taken for a request that a zone serves
+zone_takes : (s : State) (id order : ℕ) (zs : List ListZone) (o : Option ListZone) → first_zone s order zs ≡ o → s.held id ≡ None → IsSome o
+    → TakesMemory (near_by s id order o).0
+zone_takes s id order zs None is none some = cc some
+zone_takes s id order zs (Some z) is none some =
+    served_takes s id order z.node z.zone none (found_passes (has_block s order) zs z is)
+
+pub near_takes : (k : Known) (s : State) (id order node : ℕ) → s.held id ≡ None → IsSome (first_zone s order (zones_of k node))
+    → TakesMemory (step_with k s (acts.Near id order node)).0
+near_takes k s id order node none some =
+    subst (λ (o : Option Held). TakesMemory (asked_near s id order (zones_of k node) o).0) (sym none)
+    (zone_takes s id order (zones_of k node) (first_zone s order (zones_of k node)) refl none some)
+
+-- what holds where there is an error, by what follows from it
+pub err_then : {X E : Type 0} → (r : Result X E) (P Q : Type 0) → (P → Q) → OnErr r P → OnErr r Q
+err_then (Ok x) P Q then holds = tt
+err_then (Err e) P Q then holds = then holds
 
 -- what is free stays apart from what is held
 near_goes : (f : Frames) (s : State) (id order : ℕ) (o : Option ListZone) → order ≤ 10 → Goes f s → Goes f (near_by s id order o).1

@@ -53,13 +53,13 @@ pub record EndsBefore (b : Book) (lines : List PageLine) (later : Book) : Type 0
   pub some : 0 < length lines
   pub pages_stay : later ≡ b
 
--- or amid a line that takes memory: those before it have been run, and nothing has changed since
+-- or amid a line that isn't refused: those before it have been run, and nothing has changed since
 pub record EndsAmid (k : Known) (s : State) (lines : List PageLine) (later : State) : Type 0 where
   pub before : List PageLine
   pub line : PageLine
   pub behind : List PageLine
   pub is : lines ≡ before ++ line ∷ behind
-  pub takes : TakesMemory (after_with k s before) line.act
+  pub takes : TakesMemory (step_with k (after_with k s before) line.act).0
   pub state : later ≡ after_with k s before
 
 -- where it ran out among lines

@@ -8,7 +8,7 @@ ghost use Rattle.page_alloc.specs.Pages.{HasOrder, HaveOrders, TakesMemory};
 ghost use Rattle.slit_zonelists.specs.Near.{step_with, answers_with, after_with, RunsOut};
 ghost use Rattle.slit_zonelists.specs.Made.{AreMade};
 
-use crate::asking::take_first;
+use crate::asking::{take_first, unlisted};
 use crate::entry::ListZone;
 use crate::lists::Lists;
 use bm_base::{Memory, push_within_capacity};
@@ -17,7 +17,7 @@ use std::alloc::Global;
 use std::collections::BTreeMap;
 
 /// Carries the lines out in order, and answers what came of each. The memory for all answers is taken before the first line, and where
-/// it is wanted nothing has changed; behind it `Memory` comes only of a line that takes some, and those before it have been carried out.
+/// it is wanted nothing has changed; behind it `Memory` comes of no line that is refused, and those before have been carried out.
 pub fn run_lines(
     alloc: Global,
     pages: &mut Pages,
@@ -42,7 +42,7 @@ pub fn run_lines(
     Ok(answers)
 }
 
-/// Carries one line out. Nothing of the pages has changed after `Memory`, which comes only of a line that takes some.
+/// Carries one line out. Nothing of the pages has changed after `Memory`, which comes of no line that is refused.
 fn run_line(
     pages: &mut Pages,
     lists: &Lists,
@@ -52,8 +52,8 @@ fn run_line(
     requires order { HasOrder line.now.act }
     requires made { AreMade lists.now made.old }
     ensures ok { IfOk result (λ outcome. (outcome, state_of pages.new) ≡ step_with lists.now (state_of pages.old) line.now.act) }
-    ensures made { OnOk result (AreMade lists.now made.new) }
-    ensures memory { OnErr result (TakesMemory (state_of pages.old) line.now.act) }
+    ensures made { AreMade lists.now made.new }
+    ensures memory { OnErr result (TakesMemory (step_with lists.now (state_of pages.old) line.now.act).0) }
     ensures err { OnErr result (pages.new ≡ pages.old) }
 {
     let PageAct::Near { id, order, node } = line.act else {
@@ -62,7 +62,9 @@ fn run_line(
     if pages.held(id).is_some() {
         return Ok(PageOutcome::Taken);
     }
-    make(lists, made, node)?;
+    if make(lists, made, node).is_err() {
+        return unlisted(pages, lists, order, node);
+    }
     match made.get(&node) {
         Some(zones) => take_first(pages, zones, id, order),
         None => unreachable!(),
@@ -72,7 +74,7 @@ fn run_line(
 /// Makes the list of the node, unless it is there.
 fn make(lists: &Lists, made: &mut BTreeMap<u32, Vec<ListZone>>, node: u32) -> Result<(), Memory>
     requires { AreMade lists.now made.old }
-    ensures made { OnOk result (AreMade lists.now made.new) }
+    ensures made { AreMade lists.now made.new }
     ensures here { OnOk result (IsSome (get nat_cmp made.new node)) }
 {
     if made.contains_key(&node) {

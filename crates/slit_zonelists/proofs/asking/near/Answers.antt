@@ -1,10 +1,21 @@
--- A list that isn't empty has zones.
-use Rattle.std.proofs.Common.{◌∙◌, ◌<◌, List, length, subst}
+-- A zone of the list serves, so the request is no refused one.
+use Rattle.std.proofs.Common.{◌≡◌, None, IsSome, OnErr, List, ◌∙◌, subst, rules}
+use Rattle.page_alloc.specs.Book.{held_in, state_of}
 use Rattle.slit_zonelists.specs.declared.entry.ListZone.{ListZone}
-use Rattle.slit_zonelists.proofs.ListLaws.{some_zones}
+use Rattle.slit_zonelists.specs.Near.{first_zone}
+use Rattle.slit_zonelists.proofs.LineLaws.{near_takes, err_then}
 use Rattle.slit_zonelists.proofs.asking.near.Goals as goal
 
-pub returns-clause-zones : goal.returns-clause-zones
-returns-clause-zones c failed =
-    some_zones c.args.lists.now c.args.node (subst (λ (zs : List ListZone). 0 < length zs)
-    (c.deref.ensures.value ∙ c.in_ok-zones.ensures.list) (c.take_first.ensures.zones failed))
+pub returns-in_default-clause-memory : goal.returns-in_default-clause-memory
+returns-in_default-clause-memory c =
+    let none : held_in c.args.pages.now.ids c.args.id ≡ None = search rules in
+    err_then c.unlisted.result _ _
+    (near_takes c.args.lists.now (state_of c.args.pages.now) c.args.id c.args.order c.args.node none) c.unlisted.ensures.memory
+
+pub returns-clause-memory : goal.returns-clause-memory
+returns-clause-memory c =
+    let none : held_in c.args.pages.now.ids c.args.id ≡ None = search rules in
+    err_then c.take_first.result _ _
+    (near_takes c.args.lists.now (state_of c.args.pages.now) c.args.id c.args.order c.args.node none)
+    (subst (λ (zs : List ListZone). OnErr c.take_first.result (IsSome (first_zone (state_of c.args.pages.now) c.args.order zs)))
+    (c.deref.ensures.value ∙ c.in-Ok.ensures.list) c.take_first.ensures.memory)

@@ -71,6 +71,6 @@ returns-in_err-outcome-clause-memory c =
       line = line;
       behind = drop (i + 1) lines;
       is = sym (take-append-drop i lines) ∙ ap (λ (ls : List PageLine). take i lines ++ ls) more;
-      takes = subst (λ (u : State). TakesMemory u line.act) so_far c.in_err-outcome.ensures.memory;
+      takes = subst (λ (u : State). TakesMemory (step_with c.args.lists.now u line.act).0) so_far c.in_err-outcome.ensures.memory;
       state = ap state_of c.in_err-outcome.ensures.err ∙ so_far;
     }))

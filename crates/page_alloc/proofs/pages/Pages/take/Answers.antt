@@ -1,5 +1,5 @@
 -- What comes of the block that was picked, or of none.
-use Rattle.std.proofs.Common.{◌≡◌, ◌⊎◌, ◌*◌, None, Result, inl, inr, sym, subst, arith, rules}
+use Rattle.std.proofs.Common.{◌≡◌, ◌⊎◌, ◌*◌, None, Result, inl, inr, sym, ◌∙◌, subst, arith, rules}
 use Rattle.std.specs.Prelude.{IfOk}
 use Rattle.std.specs.Ordering.{nat_cmp}
 use Rattle.std.specs.BTreeMap.{insert_entry}
@@ -8,6 +8,7 @@ use Rattle.bm_base.specs.declared.memory.Memory.{Memory}
 use Rattle.address_runs.specs.Runs.{IsRunsOf}
 use Rattle.buddy_handover.specs.Contents.{Contents, free}
 use Rattle.frame_blocks.specs.Buddies.{without_set}
+use Rattle.frame_blocks.specs.Picked.{first_picked}
 use Rattle.page_alloc.specs.declared.act.PageAct.TheVariants as acts
 use Rattle.page_alloc.specs.declared.outcome.Held.{Held}
 use Rattle.page_alloc.specs.declared.outcome.PageOutcome.{PageOutcome}
@@ -15,14 +16,14 @@ use Rattle.page_alloc.specs.declared.outcome.PageOutcome.TheVariants as outcomes
 use Rattle.page_alloc.specs.Book.{Book, held_in, state_of}
 use Rattle.page_alloc.specs.Kept.{AreHeldApart}
 use Rattle.page_alloc.specs.Pages.{State, step}
-use Rattle.page_alloc.proofs.BookLaws.{took, took_none, kept_by}
+use Rattle.page_alloc.proofs.BookLaws.{took, took_none, nothing_is, kept_by}
 use Rattle.page_alloc.proofs.KeptLaws.{picked_set}
-use Rattle.page_alloc.proofs.pages.Pages.take.Goals.{in-Ok, in-Err-NoBlock, in-Err-Memory}
+use Rattle.page_alloc.proofs.pages.Pages.take.Goals.{in-Ok-take, in-Err-NoBlock, in-Err-Memory, then-serves, else-serves}
 use Rattle.page_alloc.proofs.pages.Pages.take.Goals as goal
 
 pub overflow_mul-result : goal.overflow_mul-result
 overflow_mul-result c =
-    let low = (picked_set (free c.self.inside.buddy) _ c.in-Ok.first _ _ c.self.invariant.low c.in-Ok.ensures.first).low in
+    let low = (picked_set (free c.self.inside.buddy) _ c.in-Ok-take.first _ _ c.self.invariant.low c.in-Ok-take.ensures.first).low in
     omega (arith, low)
 
 abbrev before : goal.Joined-take → Book
@@ -40,16 +41,16 @@ came : (c : goal.Joined-take) → Came c c.match-take.result × AreHeldApart (st
 came c =
     let id = c.args.id in
     let es = c.self.inside.ids.entries in
-    let none : held_in es id ≡ None = rw c.in-Vacant.is at c.in_ok-self-inside.ensures.found in
+    let none : held_in es id ≡ None = rw c.in-Vacant.is at c.in-Ok.ensures.found in
     elim c.match-take.branch as (λ _. Came c c.match-take.result × AreHeldApart (state_of (behind c))) [
-      | in-Ok w ↦
-          let first = w.in-Ok.first in
+      | in-Ok-take w ↦
+          let first = w.in-Ok-take.first in
           let what : Held = record { first = first; order = c.args.order; node = c.args.node } in
           let entries : c.match-take.self-inside.ids.entries ≡ insert_entry nat_cmp es id what = search rules in
           let buddy : c.match-take.self-inside.buddy ≡ c.take.new.self = search rules in
           let runs = subst (λ (d : Contents). IsRunsOf (without_set c.args.order first (free c.self.inside.buddy)) d.runs) (sym buddy)
-          w.in-Ok.ensures.runs in
-          let is = took (before c) (behind c) id c.args.order c.args.node c.args.zone first none w.in-Ok.ensures.first runs entries in (
+          w.in-Ok-take.ensures.runs in
+          let is = took (before c) (behind c) id c.args.order c.args.node c.args.zone first none w.in-Ok-take.ensures.first runs entries in (
             subst (λ (r : Result PageOutcome Memory). Came c r) (sym w.result-is) (
               is,
               λ refused. elim refused [
@@ -91,3 +92,28 @@ pub returns-after-take-clause-refused : goal.returns-after-take-clause-refused
 returns-after-take-clause-refused c =
     subst (λ (d : Book). IfOk c.match-take.result (λ outcome. (outcome ≡ outcomes.Taken) ⊎ (outcome ≡ outcomes.NoBlock) → behind c ≡ d))
     c.self.view_is (came c).0.1
+
+-- memory for the ID is wanting, and no block serves anyway
+pub returns-in_default-clause-ok : goal.returns-in_default-clause-ok
+returns-in_default-clause-ok c =
+    let id = c.args.id in
+    let es = c.self.inside.ids.entries in
+    let b : Book = record { buddy = c.self.inside.buddy; ids = es } in
+    let after : Book = record { buddy = c.self.inside.buddy; ids = c.entry.follows.lender-at-none.entries } in
+    let entries : c.entry.follows.lender-at-none.entries ≡ es = search rules in
+    let same : after ≡ b = λ i. record { buddy = c.self.inside.buddy; ids = entries i } in
+    let none : held_in es id ≡ None = c.in_default.ensures.absent in
+    let act = acts.Pages id c.args.order c.args.node c.args.zone in
+    elim c.if-serves.branch as (λ _. IfOk c.if-serves.result (λ outcome. (let p : PageOutcome × State = (outcome, state_of after) in p)
+    ≡ step (state_of c.args.self.now) act)) [
+      | then-serves w ↦
+          subst (λ (r : Result PageOutcome Memory). IfOk r (λ outcome. (let p : PageOutcome × State = (outcome, state_of after) in p)
+          ≡ step (state_of c.args.self.now) act)) (sym w.result-is) tt
+      | else-serves w ↦
+          let picked = nothing_is (first_picked (free b.buddy) c.args.node c.args.zone c.args.order)
+          (sym c.serves.ensures ∙ w.if-serves.false) in
+          subst (λ (r : Result PageOutcome Memory). IfOk r (λ outcome. (let p : PageOutcome × State = (outcome, state_of after) in p)
+          ≡ step (state_of c.args.self.now) act)) (sym w.result-is)
+          (subst (λ (d : Book). (let p : PageOutcome × State = (outcomes.NoBlock, state_of after) in p) ≡ step (state_of d) act) c.self.view_is
+          (took_none b after id c.args.order c.args.node c.args.zone none picked same))
+    ]

@@ -1,0 +1,58 @@
+-- The first zone that has a block is in the list, too; where none has one, none of the list has.
+use Rattle.std.proofs.Common.{◌≡◌, ◌<◌, Bool, true, false, is_some, List, get_or, length, refl, sym, ◌∙◌, ap, subst, arith}
+use Rattle.std.proofs.lemmas.List.{take_all}
+use Rattle.std.proofs.lemmas.List.Folds.{list_any_more}
+use Rattle.std.specs.List.{list_any}
+use Rattle.bm_base.specs.declared.zone.Zone.TheVariants as zones
+use Rattle.buddy_handover.specs.Contents.{Contents, free}
+use Rattle.frame_blocks.specs.Picked.{first_picked}
+use Rattle.page_alloc.specs.Book.{state_of}
+use Rattle.slit_zonelists.specs.declared.entry.ListZone.{ListZone}
+use Rattle.slit_zonelists.specs.Lists.{distance_in, zones_of}
+use Rattle.slit_zonelists.specs.Near.{has_block}
+use Rattle.slit_zonelists.proofs.ListLaws.{none_of, some_of, found_any, found_none}
+use Rattle.slit_zonelists.proofs.asking.unlisted.Goals as goal
+
+abbrev nothing : ListZone
+nothing = record { node = 0; zone = zones.Dma }
+
+pub returns-then-serves-clause-memory : goal.returns-then-serves-clause-memory
+returns-then-serves-clause-memory c =
+    let k = c.args.lists.now in
+    let node = c.args.node in
+    let items = c.zones-entry-items.result.now in
+    let i = c.loop-entry.entry-index in
+    let z = get_or items i nothing in
+    let p : ListZone → Bool = has_block (state_of c.args.pages.now) c.args.order in
+    let on : p z ≡ true =
+    sym (subst (λ (d : Contents). c.serves.result ≡ is_some (first_picked (free d) z.node z.zone c.args.order)) c.buddy.ensures c.serves.ensures)
+    ∙ c.if-serves.true in
+    let at : c.distance-fact.result ≡ distance_in k node z.node = c.distance-fact.ensures in
+    let low : distance_in k node z.node < 256 = omega (arith, at) in
+    let there = subst (λ (zs : List ListZone). (i < length zs) × (p (get_or zs i nothing) ≡ true)
+    × (distance_in k node (get_or zs i nothing).node < 256)) c.loop-entry.invariant.same (c.loop-entry-test.true, on, low) in
+    found_any p (zones_of k node) (some_of k p node i nothing there.0 there.1 there.2)
+
+pub loop-entry-preserved : goal.loop-entry-preserved
+loop-entry-preserved c =
+    let items = c.zones-entry-items.result.now in
+    let i = c.loop-entry.entry-index in
+    let z = get_or items i nothing in
+    let p : ListZone → Bool = has_block (state_of c.args.pages.now) c.args.order in
+    let off : p z ≡ false =
+    sym (subst (λ (d : Contents). c.serves.result ≡ is_some (first_picked (free d) z.node z.zone c.args.order)) c.buddy.ensures c.serves.ensures)
+    ∙ c.if-serves.false in
+    record {
+      same = c.loop-entry.invariant.same;
+      none = list_any_more p items i nothing c.loop-entry-test.true ∙ rw (c.loop-entry.invariant.none, off) refl;
+    }
+
+pub returns-clause-none : goal.returns-clause-none
+returns-clause-none c =
+    let k = c.args.lists.now in
+    let items = c.zones-entry-items.result.now in
+    let p : ListZone → Bool = has_block (state_of c.args.pages.now) c.args.order in
+    let none : list_any p k.zones ≡ false =
+    ap (list_any p) (sym (take_all c.loop-entry.entry-index items c.loop-entry-test.false ∙ c.loop-entry.invariant.same))
+    ∙ c.loop-entry.invariant.none in
+    (refl, found_none p (zones_of k c.args.node) (none_of k p c.args.node none))
