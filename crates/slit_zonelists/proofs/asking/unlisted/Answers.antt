@@ -25,7 +25,8 @@ returns-then-serves-clause-memory c =
     let z = get_or items i nothing in
     let p : ListZone → Bool = has_block (state_of c.args.pages.now) c.args.order in
     let on : p z ≡ true =
-    sym (subst (λ (d : Contents). c.serves.result ≡ is_some (first_picked (free d) z.node z.zone c.args.order)) c.buddy.ensures c.serves.ensures)
+    sym (subst (λ (d : Contents). c.serves.result ≡ is_some (first_picked (free d) z.node z.zone c.args.order))
+    c.buddy.ensures c.serves.ensures)
     ∙ c.if-serves.true in
     let at : c.distance-fact.result ≡ distance_in k node z.node = c.distance-fact.ensures in
     let low : distance_in k node z.node < 256 = omega (arith, at) in
@@ -40,7 +41,8 @@ loop-entry-preserved c =
     let z = get_or items i nothing in
     let p : ListZone → Bool = has_block (state_of c.args.pages.now) c.args.order in
     let off : p z ≡ false =
-    sym (subst (λ (d : Contents). c.serves.result ≡ is_some (first_picked (free d) z.node z.zone c.args.order)) c.buddy.ensures c.serves.ensures)
+    sym (subst (λ (d : Contents). c.serves.result ≡ is_some (first_picked (free d) z.node z.zone c.args.order))
+    c.buddy.ensures c.serves.ensures)
     ∙ c.if-serves.false in
     record {
       same = c.loop-entry.invariant.same;

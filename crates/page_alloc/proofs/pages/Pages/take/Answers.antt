@@ -50,7 +50,8 @@ came c =
           let buddy : c.match-take.self-inside.buddy ≡ c.take.new.self = search rules in
           let runs = subst (λ (d : Contents). IsRunsOf (without_set c.args.order first (free c.self.inside.buddy)) d.runs) (sym buddy)
           w.in-Ok-take.ensures.runs in
-          let is = took (before c) (behind c) id c.args.order c.args.node c.args.zone first none w.in-Ok-take.ensures.first runs entries in (
+          let picked = w.in-Ok-take.ensures.first in
+          let is = took (before c) (behind c) id c.args.order c.args.node c.args.zone first none picked runs entries in (
             subst (λ (r : Result PageOutcome Memory). Came c r) (sym w.result-is) (
               is,
               λ refused. elim refused [
@@ -114,6 +115,7 @@ returns-in_default-clause-ok c =
           (sym c.serves.ensures ∙ w.if-serves.false) in
           subst (λ (r : Result PageOutcome Memory). IfOk r (λ outcome. (let p : PageOutcome × State = (outcome, state_of after) in p)
           ≡ step (state_of c.args.self.now) act)) (sym w.result-is)
-          (subst (λ (d : Book). (let p : PageOutcome × State = (outcomes.NoBlock, state_of after) in p) ≡ step (state_of d) act) c.self.view_is
+          (subst (λ (d : Book). (let p : PageOutcome × State = (outcomes.NoBlock, state_of after) in p) ≡ step (state_of d) act)
+          c.self.view_is
           (took_none b after id c.args.order c.args.node c.args.zone none picked same))
     ]
