@@ -1,5 +1,5 @@
 -- The places of spans: what one stretch of frames of a node and a zone changes, and the list of what they hold.
-use Rattle.std.proofs.Common.{◌≡◌, ◌≢◌, ℕ, zero, suc, ◌+◌, ◌-◌, ◌*◌, ◌<◌, ◌≤◌, ◌==◌, nat_le, nat_lt, Bool, true, false, ◌&&◌, Option, Some, None, List, [], ◌∷◌, ◌++◌, length, get_or, drop, if◌then◌else◌, refl, sym, ◌∙◌, ap, inl, inr, arith, append_assoc}
+use Rattle.std.proofs.Common.{◌≡◌, ◌^◌, ◌≢◌, ℕ, zero, suc, ◌+◌, ◌-◌, ◌*◌, ◌<◌, ◌≤◌, ◌==◌, nat_le, nat_lt, Bool, true, false, ◌&&◌, Option, Some, None, List, [], ◌∷◌, ◌++◌, length, get_or, drop, if◌then◌else◌, refl, sym, ◌∙◌, ap, inl, inr, arith, append_assoc}
 use Rattle.std.specs.Option.{option_to_list}
 use Rattle.std.proofs.lemmas.Bool.Decides.{nat_tests}
 use Rattle.std.proofs.lemmas.Bool.{cases_lt, cases_Bool, eqb-true, eq-eqb, true≢false}
@@ -7,7 +7,6 @@ use Rattle.bm_base.specs.declared.zone.Zone.{Zone}
 use Rattle.bm_base.specs.declared.zone.Zone.TheVariants as zone
 use Rattle.bm_base.specs.Zones.{zone_of}
 use Rattle.address_runs.specs.Edits.{NothingFrom}
-use Rattle.frame_blocks.specs.declared.run.TheConstants.{MAX_FRAMES}
 use Rattle.frame_blocks.specs.Frames.{Frames}
 use Rattle.frame_blocks.specs.Listed.{is_node, same_zone}
 use Rattle.frame_blocks.proofs.CountLaws.{zone_self}
@@ -115,37 +114,37 @@ span_other f n k at until m z w nothing zones other =
     ])
 
 -- so the places tell it when one of them is changed
-pub told_more : (f : Frames) (k at until : ℕ) (w : Zone) (old new : List (Option Span)) → NothingFrom at f → at < until → until ≤ MAX_FRAMES
+pub told_more : (f : Frames) (k at until : ℕ) (w : Zone) (old new : List (Option Span)) → NothingFrom at f → at < until → until ≤ 2 ^ 52
     → ((x : ℕ) → at ≤ x → x < until → zone_of x ≡ w) → AreSpans f old
     → ((i : ℕ) → get_or new i None ≡ slot_with k w at until (get_or old i None) i) → AreSpans (with_run at until k f) new
 unfolding span_of
 told_more f k at until w old new nothing some low zones told put n z =
     let i : ℕ = 3 * n + place_of z in
-    let held : get_or old i None ≡ span_below f n z MAX_FRAMES = told n z in
+    let held : get_or old i None ≡ span_below f n z (2 ^ 52) = told n z in
     let one = low_place z in
     let two = low_place w in
-    elim (cases_Bool (i == 3 * k + place_of w)) as (λ _. get_or new i None ≡ span_below (with_run at until k f) n z MAX_FRAMES) [
+    elim (cases_Bool (i == 3 * k + place_of w)) as (λ _. get_or new i None ≡ span_below (with_run at until k f) n z (2 ^ 52)) [
       | inl here ↦
           let equal : 3 * n + place_of z ≡ 3 * k + place_of w = eqb-true i (3 * k + place_of w) here in
           let nodes : k ≡ n = omega (arith, equal, one, two) in
           let zones_too : w ≡ z = zone_by_place w z (omega (arith, equal, one, two)) in
-          let grown : span_below (with_run at until k f) k w MAX_FRAMES ≡ Some (with_frames k w at (until - at)
-          (span_below f k w MAX_FRAMES)) =
-          span_grown f k at until MAX_FRAMES w nothing some low zones in
-          let held_too : get_or old i None ≡ span_below f k w MAX_FRAMES =
-          held ∙ sym (ap (λ (m : ℕ). span_below f m z MAX_FRAMES) nodes) ∙ sym (ap (λ (v : Zone). span_below f k v MAX_FRAMES) zones_too) in
+          let grown : span_below (with_run at until k f) k w (2 ^ 52) ≡ Some (with_frames k w at (until - at)
+          (span_below f k w (2 ^ 52))) =
+          span_grown f k at until (2 ^ 52) w nothing some low zones in
+          let held_too : get_or old i None ≡ span_below f k w (2 ^ 52) =
+          held ∙ sym (ap (λ (m : ℕ). span_below f m z (2 ^ 52)) nodes) ∙ sym (ap (λ (v : Zone). span_below f k v (2 ^ 52)) zones_too) in
           let change : slot_with k w at until (get_or old i None) i ≡ Some (with_frames k w at (until - at)
           (get_or old i None)) = rw here refl in
           put i ∙ change ∙ ap (λ (o : Option Span). Some (with_frames k w at (until - at) o)) held_too ∙ sym grown
-          ∙ ap (λ (v : Zone). span_below (with_run at until k f) k v MAX_FRAMES) zones_too
-          ∙ ap (λ (m : ℕ). span_below (with_run at until k f) m z MAX_FRAMES) nodes
+          ∙ ap (λ (v : Zone). span_below (with_run at until k f) k v (2 ^ 52)) zones_too
+          ∙ ap (λ (m : ℕ). span_below (with_run at until k f) m z (2 ^ 52)) nodes
       | inr away ↦
           let other : (k ≡ n) → (w ≡ z) → ⊥ = λ nodes zones_too.
           let places : place_of w ≡ place_of z = ap place_of zones_too in
           let equal : i ≡ 3 * k + place_of w = omega (arith, nodes, places) in
           true≢false (sym (eq-eqb i (3 * k + place_of w) equal) ∙ away) in
           let change : slot_with k w at until (get_or old i None) i ≡ get_or old i None = rw away refl in
-          put i ∙ change ∙ held ∙ sym (span_other f n k at until MAX_FRAMES z w nothing zones other)
+          put i ∙ change ∙ held ∙ sym (span_other f n k at until (2 ^ 52) z w nothing zones other)
     ]
 
 -- a run in two parts
@@ -204,7 +203,7 @@ bounded_higher at higher slots order bound i s is = let low = bound i s is in om
 pub told_none : (f : Frames) → ((x : ℕ) → f x ≡ None) → AreSpans f []
 unfolding span_of span_below
 told_none f bare n z =
-    let most : ℕ = MAX_FRAMES in
+    let most : ℕ = 2 ^ 52 in
     let all : most ≡ 0 + most = omega arith in
     let none : span_below f n z 0 ≡ None = refl in
     sym (ap (span_below f n z) all ∙ skip f n z 0 most (λ x above below. bare_out f n x z (bare x)) ∙ none)

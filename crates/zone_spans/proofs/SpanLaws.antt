@@ -1,10 +1,9 @@
 -- The span of the frames below one, step by step and as a whole.
-use Rattle.std.proofs.Common.{◌≡◌, ℕ, zero, suc, ◌+◌, ◌-◌, ◌*◌, ◌<◌, ◌≤◌, ◌==◌, nat_le, nat_lt, Bool, true, false, ◌&&◌, Option, Some, None, if◌then◌else◌, refl, sym, ◌∙◌, ap, subst, inl, inr, arith}
+use Rattle.std.proofs.Common.{◌≡◌, ◌^◌, ℕ, zero, suc, ◌+◌, ◌-◌, ◌*◌, ◌<◌, ◌≤◌, ◌==◌, nat_le, nat_lt, Bool, true, false, ◌&&◌, Option, Some, None, if◌then◌else◌, refl, sym, ◌∙◌, ap, subst, inl, inr, arith}
 use Rattle.std.specs.Option.{MatchOption}
 use Rattle.std.proofs.lemmas.Bool.Decides.{nat_tests}
 use Rattle.std.proofs.lemmas.Bool.{cases_lt, cases_Bool, true≢false}
 use Rattle.bm_base.specs.declared.zone.Zone.{Zone}
-use Rattle.frame_blocks.specs.declared.run.TheConstants.{MAX_FRAMES}
 use Rattle.frame_blocks.specs.Frames.{Frames}
 use Rattle.zone_spans.specs.declared.span.Span.{Span}
 use Rattle.zone_spans.specs.Spans.{is_in, with_frames, span_below, span_of, number_below, IsSpan}
@@ -137,10 +136,10 @@ told_below f n z (suc m) =
           (told_below f n z m))
     ]
 
-pub is_span : (f : Frames) (n : ℕ) (z : Zone) (s : Span) → span_of f n z ≡ Some s → IsSpan f n z MAX_FRAMES s
+pub is_span : (f : Frames) (n : ℕ) (z : Zone) (s : Span) → span_of f n z ≡ Some s → IsSpan f n z (2 ^ 52) s
 unfolding span_of
-is_span f n z s is = subst (λ (o : Option Span). IsToldBelow f n z MAX_FRAMES o) is (told_below f n z MAX_FRAMES)
+is_span f n z s is = subst (λ (o : Option Span). IsToldBelow f n z (2 ^ 52) o) is (told_below f n z (2 ^ 52))
 
-pub no_span : (f : Frames) (n : ℕ) (z : Zone) (x : ℕ) → span_of f n z ≡ None → x < MAX_FRAMES → is_in f n z x ≡ false
+pub no_span : (f : Frames) (n : ℕ) (z : Zone) (x : ℕ) → span_of f n z ≡ None → x < 2 ^ 52 → is_in f n z x ≡ false
 unfolding span_of
-no_span f n z x is low = (subst (λ (o : Option Span). IsToldBelow f n z MAX_FRAMES o) is (told_below f n z MAX_FRAMES)).0 x low
+no_span f n z x is low = (subst (λ (o : Option Span). IsToldBelow f n z (2 ^ 52) o) is (told_below f n z (2 ^ 52))).0 x low

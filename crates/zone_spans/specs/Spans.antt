@@ -1,9 +1,8 @@
 -- What the memory of a node spans in a zone, frame by frame (`zone_spanned_pages_in_node`, `zone_absent_pages_in_node`).
-use Rattle.std.specs.Prelude.{◌≡◌, ℕ, zero, suc, ◌+◌, ◌-◌, ◌<◌, ◌≤◌, Bool, true, ◌&&◌, if◌then◌else◌, Option, Some, None, List, [], ◌++◌, option_to_list}
+use Rattle.std.specs.Prelude.{◌≡◌, ◌^◌, ℕ, zero, suc, ◌+◌, ◌-◌, ◌<◌, ◌≤◌, Bool, true, ◌&&◌, if◌then◌else◌, Option, Some, None, List, [], ◌++◌, option_to_list}
 use Rattle.bm_base.specs.declared.zone.Zone.{Zone}
 use Rattle.bm_base.specs.declared.zone.Zone.TheVariants as zone
 use Rattle.bm_base.specs.Zones.{zone_of}
-use Rattle.frame_blocks.specs.declared.run.TheConstants.{MAX_FRAMES}
 use Rattle.frame_blocks.specs.Frames.{Frames}
 use Rattle.frame_blocks.specs.Listed.{is_node, same_zone}
 use Rattle.table_frames.specs.declared.frames.TheConstants.{MAX_NODES}
@@ -23,8 +22,9 @@ unfoldable pub span_below : Frames → ℕ → Zone → ℕ → Option Span
 span_below f n z zero = None
 span_below f n z (suc m) = if is_in f n z m then Some (with_frames n z m 1 (span_below f n z m)) else span_below f n z m
 
+-- each address of 64 bits lies in a frame below 2 ^ 52
 unfoldable pub span_of : Frames → ℕ → Zone → Option Span
-span_of f n z = span_below f n z MAX_FRAMES
+span_of f n z = span_below f n z (2 ^ 52)
 
 -- those of a node, by zone
 abbrev pub spans_of_node : Frames → ℕ → List Span

@@ -1,10 +1,9 @@
 //! A place for the span of each node and zone, up to the highest node that has come: three for a node.
 //! A record of memory finds its place by its node and zone, so one pass over the records is enough.
 
-ghost use Rattle.std.specs.Prelude.{◌≡◌, ℕ, ◌+◌, ◌*◌, ◌<◌, ◌≤◌, None, get_or, max, OnOk, IfOk, vec_len};
+ghost use Rattle.std.specs.Prelude.{◌≡◌, ◌^◌, ℕ, ◌+◌, ◌*◌, ◌<◌, ◌≤◌, None, get_or, max, OnOk, IfOk, vec_len};
 ghost use Rattle.bm_base.specs.Zones.{zone_of};
 ghost use Rattle.address_runs.specs.Edits.{NothingFrom};
-ghost use Rattle.frame_blocks.specs.declared.run.TheConstants.{MAX_FRAMES};
 ghost use Rattle.frame_blocks.specs.Frames.{Frames};
 ghost use Rattle.zone_spans.specs.Spans.{spans_of};
 ghost use Rattle.zone_spans.specs.Slots.{place_of, AreSpans, AreBounded, with_run, slot_with, somes};
@@ -29,7 +28,7 @@ fn place_of(zone: Zone) -> u64
 pub fn note(slots: &mut Vec<Option<Span>>, node: u32, first: u64, end: u64) -> Result<(), Memory>
     requires node { node < 1024 }
     requires order { first ≤ end }
-    requires low { end ≤ MAX_FRAMES }
+    requires low { end ≤ 2 ^ 52 }
     requires few { vec_len slots.old ≤ 3072 }
     requires bounded { AreBounded first slots.old.items }
     ensures told { OnOk result ((f : Frames) → NothingFrom first f → AreSpans f slots.old.items →
@@ -56,7 +55,7 @@ fn add(
 ) -> Result<(), Memory>
     requires node { node < 1024 }
     requires order { start < end }
-    requires low { end ≤ MAX_FRAMES }
+    requires low { end ≤ 2 ^ 52 }
     requires few { vec_len slots.old ≤ 3072 }
     requires bounded { AreBounded start slots.old.items }
     ensures slots { OnOk result ((i : ℕ) → get_or slots.new.items i None ≡

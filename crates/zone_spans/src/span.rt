@@ -1,16 +1,15 @@
 //! The spans by the memory table. Its records are read by frames as the handover reads them (`frames_at`), so a
 //! frame is in the span of the node under which it becomes free.
 
-ghost use Rattle.std.specs.Prelude.{◌≡◌, ◌*◌, IfOk};
+ghost use Rattle.std.specs.Prelude.{◌≡◌, ◌^◌, ◌*◌, IfOk};
 ghost use Rattle.address_runs.specs.Runs.{value_at};
-ghost use Rattle.frame_blocks.specs.declared.run.TheConstants.{MAX_FRAMES};
 ghost use Rattle.memblock_ranges.specs.Tables.{list_in};
 ghost use Rattle.table_frames.specs.Frames.{node_of_frame};
 ghost use Rattle.table_frames.specs.Tables.{HasRecords, AreWholeFrames};
 ghost use Rattle.zone_spans.specs.Spans.{spans_of};
 
 use crate::slots::{all_of, note};
-use bm_base::{FRAME_SIZE, Memory, Zone};
+use bm_base::{Memory, Zone};
 use memblock_ranges::Heads;
 use phys_store::Store;
 use std::alloc::Global;
@@ -32,7 +31,7 @@ pub struct Span {
 /// One span for each node and zone with memory, by node, then by zone. The memory records are whole
 /// frames.
 pub fn spans(alloc: Global, store: &Store, heads: &Heads) -> Result<Vec<Span>, Memory>
-    requires memory { HasRecords store.now heads.now.memory (FRAME_SIZE * MAX_FRAMES) }
+    requires memory { HasRecords store.now heads.now.memory (2 ^ 64) }
     requires whole { AreWholeFrames (list_in store.now heads.now.memory) }
     ensures { IfOk result (λ spans. spans.items ≡
         spans_of (node_of_frame (value_at (list_in store.now heads.now.memory)))) }

@@ -1,5 +1,6 @@
 -- Both tables stand in the bytes, and behind the nodes the table of memory is whole frames.
-use Rattle.std.proofs.Common.{◌∙◌}
+use Rattle.std.proofs.Common.{◌∙◌, arith}
+use Rattle.table_frames.proofs.RecordLaws.{records_higher}
 use Rattle.boot_stages.proofs.HandoverLaws.{Stand, free-told, memory-records, memory-whole, reserved-records, spans-told, stand-by}
 use Rattle.boot_stages.proofs.handover.hand_over_memory.Goals as goal
 use Rattle.boot_stages.proofs.handover.hand_over_memory.Goals.{After-into_parts-store}
@@ -14,7 +15,9 @@ stood c =
     c.requires.noded c.requires.within
 
 pub spans-requires-clause-memory : goal.spans-requires-clause-memory
-spans-requires-clause-memory c = memory-records (stood (goal.at.spans-requires-clause-memory c).After-into_parts-store)
+spans-requires-clause-memory c =
+    records_higher c.into_parts-store.result.0 c.into_parts-store.result.1.memory _ _ (omega arith)
+    (memory-records (stood (goal.at.spans-requires-clause-memory c).After-into_parts-store))
 
 pub spans-requires-clause-whole : goal.spans-requires-clause-whole
 spans-requires-clause-whole c = memory-whole (stood (goal.at.spans-requires-clause-whole c).After-into_parts-store)

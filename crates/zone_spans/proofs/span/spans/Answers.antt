@@ -7,7 +7,7 @@ use Rattle.memblock_ranges.specs.Tables.{list_in}
 use Rattle.frame_blocks.specs.Frames.{Frames}
 use Rattle.table_frames.specs.declared.frames.RecordFrames.{RecordFrames}
 use Rattle.table_frames.specs.Frames.{node_of_frame, frames_of}
-use Rattle.table_frames.proofs.RecordLaws.{length_by_head, records_higher}
+use Rattle.table_frames.proofs.RecordLaws.{length_by_head}
 use Rattle.table_frames.proofs.TakeLaws.{frames_below, frames_in_order, frames_some}
 use Rattle.zone_spans.specs.declared.span.Span.{Span}
 use Rattle.zone_spans.specs.Spans.{spans_of}
@@ -36,9 +36,6 @@ loop-i-init c =
       told = subst (λ (ss : List (Option Span)). AreSpans (node_of_frame (value_at [])) ss) (sym empty)
           (told_none (node_of_frame (value_at [])) (λ x. refl));
     }
-
-pub frames_at-frames-requires-clause-table : goal.frames_at-frames-requires-clause-table
-frames_at-frames-requires-clause-table c = records_higher c.args.store.now c.args.heads.now.memory _ _ (omega arith) c.requires.memory
 
 pub note-requires-clause-node : goal.note-requires-clause-node
 note-requires-clause-node c =
