@@ -1,17 +1,12 @@
 -- Laws of descriptors that follow one another.
-use Rattle.std.proofs.Common.{◌≡◌, ℕ, zero, suc, ◌+◌, ◌-◌, ◌*◌, ◌^◌, ◌<◌, ◌≤◌, true, false, Option, Some, None, List, [], ◌∷◌, ◌++◌, map, length, take, drop, length-drop, append_assoc, refl, sym, ◌∙◌, ap, inl, inr, arith}
+use Rattle.std.proofs.Common.{◌≡◌, ℕ, zero, suc, ◌+◌, ◌-◌, ◌*◌, ◌^◌, ◌<◌, ◌≤◌, true, false, Option, Some, None, List, [], ◌∷◌, ◌++◌, map, length, append_assoc, refl, sym, ◌∙◌, ap, inl, inr, arith}
 use Rattle.std.proofs.lemmas.Bool.Decides.{nat_tests}
 use Rattle.std.proofs.lemmas.Bool.{cases_Bool}
-use Rattle.std.proofs.lemmas.List.{take_all}
 use Rattle.bm_base.specs.Extent.{Extent}
 use Rattle.e820_model.specs.declared.entry.Entry.{Entry}
 use Rattle.e820_model.specs.Claims.{EndInSpace}
 use Rattle.efi_map.specs.Descriptors.{Descriptor, is_far, entry_of, mirror_of}
 use Rattle.efi_map.specs.Map.{nth_descriptor, descriptors_from, far_among, mirror_in_front, mirrors_of}
-
--- all bytes from the offset on
-pub from_offset : (bytes : List ℕ) (offset : ℕ) → take (length bytes - offset) (drop offset bytes) ≡ drop offset bytes
-from_offset bytes offset = take_all (length bytes - offset) (drop offset bytes) (omega (arith, length-drop offset bytes))
 
 -- the first of those that are left, and the others
 pub one_more : (stride i n : ℕ) (bytes : List ℕ) → i < n
