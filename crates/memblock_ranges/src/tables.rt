@@ -118,7 +118,6 @@ impl Tables {
 
     /// The bytes of the range that the table doesn't cover get the node, and no flag; 1,024 means no node, and
     /// the reserved table knows no other (`memblock_add_range`).
-    #[tactic(auto, using(crate::proofs::PairLaws::edited_at, crate::proofs::PairLaws::edited_ready))]
     pub fn insert(&mut self, which: Which, range: Range, node: u32)
         requires some { 0 < range.size }
         requires node { IsNodeOf which node }
@@ -143,7 +142,6 @@ impl Tables {
     }
 
     /// The table doesn't cover the bytes of the range any more (`memblock_remove_range`).
-    #[tactic(auto, using(crate::proofs::PairLaws::edited_at, crate::proofs::PairLaws::edited_ready))]
     pub fn remove(&mut self, which: Which, range: Range)
         requires { length (records_in which self.old) + 2 ≤ room_in which self.old }
         ensures table { table_in which self.new ≡ record (table_in which self.old) {
@@ -165,7 +163,6 @@ impl Tables {
     }
 
     /// The memory bytes of the range get the node, and keep their flags (`memblock_set_node`).
-    #[tactic(auto, using(crate::proofs::PairLaws::edited_at, crate::proofs::PairLaws::edited_ready))]
     pub fn set_node(&mut self, range: Range, node: u32)
         requires node { node < 1024 }
         requires room { length self.old.memory.records + 2 ≤ self.old.memory.room }
@@ -180,7 +177,6 @@ impl Tables {
     }
 
     /// The memory bytes of the range become mirrored, and keep their node (`memblock_mark_mirror`).
-    #[tactic(auto, using(crate::proofs::PairLaws::edited_at, crate::proofs::PairLaws::edited_ready))]
     pub fn set_mirror(&mut self, range: Range)
         requires { length self.old.memory.records + 2 ≤ self.old.memory.room }
         ensures memory { self.new.memory ≡ record self.old.memory {
@@ -195,7 +191,6 @@ impl Tables {
 
     /// Memory is cut to whole frames: a byte keeps its label where all bytes of its frame have it, and
     /// else is memory no more (`memblock_trim_memory`).
-    #[tactic(auto, using(crate::proofs::PairLaws::edited_at, crate::proofs::PairLaws::edited_ready))]
     pub fn trim(&mut self)
         ensures memory { self.new.memory ≡ record self.old.memory { records = records_for (trimmed (value_at self.old.memory.records)) } }
         ensures reserved { self.new.reserved ≡ self.old.reserved }

@@ -27,13 +27,6 @@ spikes_two r n =
     let other = spikes_few (r.base + r.size) 0 n in
     omega (arith, both, one, other)
 
--- the sum up to an address is at most that of all
-total_start : (g : ℕ → ℕ) (at few : ℕ) → at ≤ 2 ^ 64 → total g 0 (2 ^ 64) ≤ few → total g 0 at ≤ few
-total_start g at few le all =
-    let parts : total g 0 (2 ^ 64) ≡ total g 0 at + total g at (2 ^ 64 - at) = total-split g 0 at (2 ^ 64 - at) (2 ^ 64) at (omega arith)
-    (omega arith) in
-    omega (arith, all, parts)
-
 module _ {X : Type 0} where
   -- a function that ends few more runs than another at each address has so many more runs
   total-more : (same : X → X → Bool) (f g : ℕ → Option X) (s : ℕ → ℕ) (few x n : ℕ) → ((y : ℕ) → edges same g y ≤ edges same f y + s y)
@@ -142,28 +135,6 @@ module _ {X : Type 0} where
       let told : value_at (runs_of same (bare r w f)) ≡ bare r w f = λ k x. known.each x k in
       all_ends same tells (runs_of same (bare r w f)) known.runs (λ x le. known.each x ∙ none x le)
       ∙ ap (λ (h : ℕ → Option X). total (edges same h) 0 (2 ^ 64)) told
-
-  -- there is room on the way where there is room for the runs and for those that the edit may add
-  pub covered_room : (same : X → X → Bool) → Tells same → (r : Extent) (v w : X) (rs : List (RunOf X)) (room : ℕ)
-      → r.base + r.size ≤ 2 ^ 64 → AreRuns rs → NothingFrom (2 ^ 64) (value_at rs)
-      → length rs + length (runs_of same (bare r w (value_at rs))) ≤ room → HasRoom same (value_at rs) (covered r v (value_at rs)) room
-  covered_room same tells r v w rs room ends runs none fits =
-      let f : ℕ → Option X = value_at rs in
-      let count : length rs ≡ total (edges same f) 0 (2 ^ 64) = all_ends same tells rs runs none in
-      let pieces : length (runs_of same (bare r w f)) ≡ total (edges same (bare r w f)) 0 (2 ^ 64) = pieces_ends same tells r w f ends in
-      room_by same tells f (covered r v f) (edges same (bare r w f)) (length (runs_of same (bare r w f))) room
-      (covered_edges same tells r v w f)
-      (λ at le. total_start (edges same (bare r w f)) at (length (runs_of same (bare r w f))) le (omega (arith, pieces)))
-      (omega (arith, count, fits))
-
-  pub uncovered_room : (same : X → X → Bool) → Tells same → (r : Extent) (rs : List (RunOf X)) (room : ℕ) → AreRuns rs
-      → NothingFrom (2 ^ 64) (value_at rs)
-      → length rs + 1 ≤ room → HasRoom same (value_at rs) (uncovered r (value_at rs)) room
-  uncovered_room same tells r rs room runs none fits =
-      let f : ℕ → Option X = value_at rs in
-      let count : length rs ≡ total (edges same f) 0 (2 ^ 64) = all_ends same tells rs runs none in
-      room_by same tells f (uncovered r f) (spike r.base) 1 room (uncovered_edges same r f) (λ at le. spikes_few r.base 0 at)
-      (omega (arith, count, fits))
 
   -- how many runs there are after an edit
   runs_told : (same : X → X → Bool) → Tells same → (f : ℕ → Option X) → NothingFrom (2 ^ 64) f → length (runs_of same f)

@@ -7,7 +7,7 @@ use Rattle.std.specs.Prelude.{is_some}
 use Rattle.address_runs.specs.Runs.{RunOf, Tells, run_end, value_at, IsBefore, AreRuns, IsRunsOf}
 use Rattle.address_runs.specs.Edits.{NothingFrom}
 use Rattle.address_runs.specs.Sweep.{Stays, StartFrom, EndBy, EndsBehind, EndsFrom, IsSweptTo, IsRestFrom, IsBuiltTo}
-use Rattle.address_runs.proofs.RunsLaws.{inside, behind, none_below, rest_from}
+use Rattle.address_runs.proofs.RunsLaws.{inside, behind, none_below}
 use Rattle.address_runs.proofs.SweepLaws.{none_behind, value_append_none, value_append_left, swept_over, swept_push}
 use Rattle.run_edits.specs.Records.{stretch, EndBefore}
 use Rattle.run_edits.specs.Ends.{total, edges, HasRoom}
@@ -79,19 +79,6 @@ module _ {X : Type 0} where
     begun = order;
     swept = swept_stretch g start from v xs built.swept built.begun built.stays (λ same. absurd (other (sym same ∙ is)));
     stays = stays;
-  }
-
-  pub built_further : (g : ℕ → Option X) (start from until : ℕ) (v w : Option X) (xs : List (RunOf X)) → IsBuiltTo g from xs start v → v
-      ≡ w → from ≤ until
-      → Stays g from until w → IsBuiltTo g until xs start v
-  built_further g start from until v w xs built is order stays = record {
-    begun = let begun = built.begun in omega arith;
-    swept = built.swept;
-    stays = λ x above under. elim (cases_lt x from) as (λ _. g x ≡ v) [
-      | inl lt ↦ built.stays x above lt
-      | inr ge ↦ stays x ge under
-          ∙ sym is
-    ];
   }
 
   -- what stands in a list before a run ends by its base, with another value where it touches
@@ -208,14 +195,6 @@ module _ {X : Type 0} where
       let parts : take i rs ++ s ∷ drop (i + 1) rs ≡ rs = ap (λ l. take i rs ++ l) back ∙ take-append-drop i rs in
       let more : take (i + 1) rs ≡ take i rs ++ s ∷ [] = take_more rs i s lt ∙ ap (λ (r : RunOf X). take i rs ++ r ∷ []) (sym is) in
       rw more (before_more at (take i rs) (drop (i + 1) rs) s (rw parts runs) under)
-
-  -- a run that ends right at the address is passed
-  pub passed_starts : (f : ℕ → Option X) (before at : ℕ) (r : RunOf X) (rs : List (RunOf X)) → IsRestFrom f before (r ∷ rs)
-      → run_end r ≤ at → EndsFrom at (r ∷ rs)
-      → StartFrom at rs
-  passed_starts f before at r rs rest by from =
-      let end : run_end r ≡ at = omega arith in
-      subst (λ (n : ℕ). StartFrom n rs) end (rest_from r rs rest.runs)
 
   length_stretch : (start until : ℕ) (v : Option X) → start < until → is_some v ≡ true → length (stretch start until v) ≡ 1
   length_stretch start until None lt some = cc

@@ -3,7 +3,7 @@ use Rattle.address_runs.specs.Runs.{value_at}
 use Rattle.address_runs.specs.Edits.{uncovered}
 use Rattle.memblock_model.specs.Tables.{records_for}
 use Rattle.memblock_ranges.specs.Tables.{list_in, HaveNoNode}
-use Rattle.memblock_ranges.proofs.PairLaws.{pair_memory, pair_reserved, plain_uncovered}
+use Rattle.memblock_ranges.proofs.PairLaws.{pair_memory, pair_reserved, edited_at, edited_ready, plain_uncovered}
 use Rattle.memblock_ranges.proofs.tables.Tables.remove.Goals as goal
 use Rattle.memblock_ranges.proofs.tables.Tables.remove.Goals.{In-Reserved}
 
@@ -21,6 +21,12 @@ pub returns-in-Memory-clause-other : goal.returns-in-Memory-clause-other
 returns-in-Memory-clause-other c =
     rw (← c.self.view_is, c.in-Memory.is) (pair_memory _ _ _ _ _ _ c.self.invariant c.uncover.ensures.edits c.uncover.ensures.records).1
 
+pub returns-in-Memory-clause-elsewhere : goal.returns-in-Memory-clause-elsewhere
+returns-in-Memory-clause-elsewhere c = rw (← c.self.view_is, c.in-Memory.is) (edited_at _ _ _ _ _ c.uncover.ensures.edits)
+
+pub returns-in-Memory-clause-ready : goal.returns-in-Memory-clause-ready
+returns-in-Memory-clause-ready c = rw (← c.self.view_is) (edited_ready _ _ _ _ _ c.uncover.ensures.edits)
+
 pub invariant_of-self-in-Reserved : goal.invariant_of-self-in-Reserved
 invariant_of-self-in-Reserved c =
     (pair_reserved _ _ _ _ _ _ c.self.invariant c.uncover-in-Reserved.ensures.edits c.uncover-in-Reserved.ensures.records
@@ -31,3 +37,10 @@ returns-in-Reserved-clause-other c =
     rw (← c.self.view_is, c.in-Reserved.is)
     (pair_reserved _ _ _ _ _ _ c.self.invariant c.uncover-in-Reserved.ensures.edits c.uncover-in-Reserved.ensures.records
     (plain (goal.at.returns-in-Reserved-clause-other c).In-Reserved)).1
+
+pub returns-in-Reserved-clause-elsewhere : goal.returns-in-Reserved-clause-elsewhere
+returns-in-Reserved-clause-elsewhere c =
+    rw (← c.self.view_is, c.in-Reserved.is) (edited_at _ _ _ _ _ c.uncover-in-Reserved.ensures.edits)
+
+pub returns-in-Reserved-clause-ready : goal.returns-in-Reserved-clause-ready
+returns-in-Reserved-clause-ready c = rw (← c.self.view_is) (edited_ready _ _ _ _ _ c.uncover-in-Reserved.ensures.edits)

@@ -1,4 +1,4 @@
-use Rattle.memblock_ranges.proofs.PairLaws.{pair_memory}
+use Rattle.memblock_ranges.proofs.PairLaws.{pair_memory, edited_at, edited_ready}
 use Rattle.memblock_ranges.proofs.tables.Tables.set_node.Goals as goal
 
 pub invariant_of-self : goal.invariant_of-self
@@ -7,3 +7,9 @@ invariant_of-self c = (pair_memory _ _ _ _ _ _ c.self.invariant c.set_node.ensur
 pub returns-clause-reserved : goal.returns-clause-reserved
 returns-clause-reserved c =
     rw (← c.self.view_is) (pair_memory _ _ _ _ _ _ c.self.invariant c.set_node.ensures.edits c.set_node.ensures.records).1
+
+pub returns-clause-elsewhere : goal.returns-clause-elsewhere
+returns-clause-elsewhere c = rw (← c.self.view_is) (edited_at _ _ _ _ _ c.set_node.ensures.edits)
+
+pub returns-clause-ready : goal.returns-clause-ready
+returns-clause-ready c = rw (← c.self.view_is) (edited_ready _ _ _ _ _ c.set_node.ensures.edits)
