@@ -22,24 +22,23 @@ use Rattle.slit_zonelists.specs.declared.table.SlitFault.TheVariants as slit
 use Rattle.efi_map.specs.declared.efi.EfiFault.TheVariants as efi
 use Rattle.efi_map.specs.Map.{descriptors_from}
 use Rattle.boot_inputs.specs.declared.fault.Fault.TheVariants as faults
-use Rattle.boot_inputs.specs.declared.fault.Misread.TheVariants as misreads
 use Rattle.boot_inputs.specs.declared.input.Input.TheVariants as inputs
 use Rattle.boot_inputs.specs.declared.refusal.InputRefusal.{InputRefusal}
 use Rattle.boot_inputs.specs.declared.refusal.InputRefusal.TheVariants as refusals
 use Rattle.boot_inputs.specs.declared.refusal.InputError.TheVariants as errors
 use Rattle.boot_inputs.specs.Answers.{ComesTo, FitsAnswer, FitsRefusal, Gives, HasCause, IsCaused, IsOf, Passes, RefusalHasCause, RoseAt, input_of}
-use Rattle.boot_inputs.specs.CommandLine.{command_line, fault_of_option, options_said, options_take, options_told, put_options}
-use Rattle.boot_inputs.specs.Extension.{entries_said, extension_file, fault_of_extension, put_extension}
-use Rattle.boot_inputs.specs.Efi.{efi_file, efi_said, efi_takes, efi_told, fault_of_efi, put_efi}
-use Rattle.boot_inputs.specs.Faults.{misread_of}
-use Rattle.boot_inputs.specs.File.{File, unless_fault, with_value}
+use Rattle.boot_inputs.specs.CommandLine.{command_line, options_said, options_take, put_options}
+use Rattle.boot_inputs.specs.Extension.{entries_said, extension_file, put_extension}
+use Rattle.boot_inputs.specs.Efi.{efi_file, efi_given, efi_said, efi_takes, put_efi}
+use Rattle.boot_inputs.specs.Faults.{IsOfBytes}
+use Rattle.boot_inputs.specs.File.{unless_fault, with_value}
 use Rattle.boot_inputs.specs.Input.{place, word_for}
 use Rattle.boot_inputs.specs.Inputs.{Held, Named, file_step, given_in, input_files, inputs_of, named_step, or_faulty, or_unread, step_if, takes_held, takes_memory, within}
-use Rattle.boot_inputs.specs.Pages.{fault_of_pages, pages_file, pages_said, pages_take, pages_told, put_pages}
+use Rattle.boot_inputs.specs.Pages.{pages_file, pages_said, pages_take, put_pages}
 use Rattle.boot_inputs.specs.Reading.{IsIn, WantsMemory, are_behind, ascend}
-use Rattle.boot_inputs.specs.Script.{fault_of_script, lines_said, lines_take, lines_told, put_lines, script_file}
-use Rattle.boot_inputs.specs.Slit.{distances_said, distances_take, distances_told, fault_of_slit, put_distances, slit_file}
-use Rattle.boot_inputs.specs.Srat.{fault_of_srat, put_domains, srat_file, table_said, table_takes, table_told}
+use Rattle.boot_inputs.specs.Script.{lines_said, lines_take, put_lines, script_file}
+use Rattle.boot_inputs.specs.Slit.{distances_said, distances_take, put_distances, slit_file}
+use Rattle.boot_inputs.specs.Srat.{put_domains, srat_file, table_said, table_takes}
 use Rattle.boot_inputs.specs.ZeroPage.{page_said, put_page, zero_page}
 
 -- a zero page of so many entries, of which these 40 bytes are the first two
@@ -111,62 +110,33 @@ extension_is_said : entries_said one_entry ≡ Ok (acpi ∷ [])
 unfolding entry_at
 extension_is_said = refl
 
-bad_extension_said : entries_said (replicate 15 0) ≡ Err faults.Header
+bad_extension_said : entries_said (replicate 15 0) ≡ Err (faults.Extension extension.ExtHeader)
 bad_extension_said = refl
 
 line_said : (options_said (codes "quiet numa=off\n") ≡ Ok (record { edits = []; crash = no_crash; numa_off = true; add_efi = false }))
-    × (options_said (codes "numa=on") ≡ Err (faults.BadNuma 1))
+    × (options_said (codes "numa=on") ≡ Err (faults.CommandLine (options.BadNuma 1)))
 line_said = (refl, refl)
 
 -- the parts of those definitions
-unless_examples : (unless_fault {A = ℕ} None 7 ≡ Ok 7) × (unless_fault {A = ℕ} (Some faults.Header) 7 ≡ Err faults.Header)
+unless_examples : (unless_fault {A = ℕ} None 7 ≡ Ok 7) × (unless_fault {A = ℕ} (Some faults.TooLong) 7 ≡ Err faults.TooLong)
 unless_examples = (refl, refl)
 
-told_examples : (options_told (Ok no_options) ≡ Ok no_options) × (options_told (Err options.OpenQuote) ≡ Err faults.OpenQuote)
-told_examples = (refl, refl)
+lines_are_said : (lines_said [] ≡ Ok []) × (lines_said (codes "free") ≡ Err (faults.Script (script.BadLine 1)))
+    × (pages_said [] ≡ Ok []) × (pages_said (codes "give x") ≡ Err (faults.Pages (pages.BadNumber 1)))
+lines_are_said = (refl, refl, refl, refl)
 
-ext_examples : (fault_of_extension extension.ExtHeader ≡ Some faults.Header) × (fault_of_extension extension.Memory ≡ None)
-ext_examples = (refl, refl)
-
-script_examples : (fault_of_script script.Memory ≡ None) × (fault_of_script (script.TooFar 9) ≡ Some (faults.LineTooFar 9))
-    × (fault_of_script (script.ZeroSize 2) ≡ Some (faults.ZeroSize 2))
-script_examples = (refl, refl, refl)
-
-srat_examples : (fault_of_srat srat.Memory ≡ None) × (fault_of_srat srat.Length ≡ Some faults.Length)
-    × (fault_of_srat (srat.BlockTooFar 48) ≡ Some (faults.BlockTooFar 48))
-srat_examples = (refl, refl, refl)
-
-pages_examples : (fault_of_pages pages.Memory ≡ None) × (fault_of_pages (pages.BadNumber 9) ≡ Some (faults.BadNumber 9))
-    × (pages_told (Err (pages.BadLine 4)) ≡ Err (faults.BadLine 4)) × (pages_said [] ≡ Ok [])
-pages_examples = (refl, refl, refl, refl)
-
-distances_examples : (fault_of_slit slit.Memory ≡ None) × (fault_of_slit slit.Localities ≡ Some faults.Localities)
-    × (distances_told (Err slit.Checksum) ≡ Err faults.Checksum) × (distances_said [] ≡ Err faults.Short)
-    × (distances_told (Ok (record { count = 0; cells = [] })) ≡ Ok (Some (record { count = 0; cells = [] })))
-distances_examples = (refl, refl, refl, refl, refl)
-
-efi_examples : (fault_of_efi efi.Memory ≡ None) × (fault_of_efi (efi.TooFar 3) ≡ Some (faults.DescriptorTooFar 3))
-    × (efi_told (Err efi.Length) ≡ Err faults.Length) × (efi_said [] ≡ Err faults.Header)
-    × (efi_told (Ok (record { entries = []; mirrors = record { base = 0x4000; size = 0x1000 } ∷ [] }))
-    ≡ Ok (Some (record { entries = []; mirrors = record { first = 4; count = 1 } ∷ [] })))
-efi_examples = (refl, refl, refl, refl, refl)
-
-table_examples : (table_told (Ok processor_alone) ≡ Ok (Some processor_alone))
-    × (table_told (Err (srat.EntryLength 88)) ≡ Err (faults.EntryLength 88))
-table_examples = (refl, refl)
-
-table_is_said : (table_said one_processor ≡ Ok (Some processor_alone)) × (table_said [] ≡ Err faults.Short)
+tables_are_said : (table_said one_processor ≡ Ok processor_alone) × (table_said [] ≡ Err (faults.Srat srat.Short))
+    × (distances_said [] ≡ Err (faults.Slit slit.Short)) × (efi_said [] ≡ Err (faults.Efi efi.Header))
 unfolding offsets_from is_whole said_at
-table_is_said = (refl, refl)
+tables_are_said = (refl, refl, refl, refl)
 
-lines_examples : (lines_told (Err (script.BadNumber 4)) ≡ Err (faults.BadNumber 4)) × (lines_said [] ≡ Ok [])
-lines_examples = (refl, refl)
+efi_gives : efi_given (record { entries = []; mirrors = record { base = 0x4000; size = 0x1000 } ∷ [] })
+    ≡ record { entries = []; mirrors = record { first = 4; count = 1 } ∷ [] }
+efi_gives = refl
 
-option_examples : (fault_of_option (options.BadMem 2) ≡ Some (faults.BadMem 2)) × (fault_of_option options.Memory ≡ None)
-option_examples = (refl, refl)
-
-misread_examples : (misread_of None ≡ misreads.Memory) × (misread_of (Some faults.Length) ≡ misreads.Fault faults.Length)
-misread_examples = (refl, refl)
+-- a reader's want of memory isn't of the bytes
+of_bytes : IsOfBytes (faults.Srat srat.Short) × IsOfBytes faults.TooLong × (IsOfBytes (faults.Srat srat.Memory) → ⊥)
+of_bytes = (λ is. cc is, tt, λ of. of refl)
 
 -- a file is within its limit, held, and of its input
 limit_examples : (within 3 (1 ∷ 2 ∷ 3 ∷ []) ≡ Ok (1 ∷ 2 ∷ 3 ∷ [])) × (within 2 (1 ∷ 2 ∷ 3 ∷ []) ≡ Err faults.TooLong)
@@ -177,7 +147,7 @@ limits : (zero_page.limit ≡ 4096) × (extension_file.limit ≡ 16 + 20 * 3072)
 limits = (refl, refl, refl, refl, refl, refl, refl, refl)
 
 faulty_examples : (or_faulty {A = ℕ} inputs.Extension (Ok 7) ≡ Ok 7)
-    × (or_faulty {A = ℕ} inputs.Extension (Err faults.Length) ≡ Err (refusals.Faulty inputs.Extension faults.Length))
+    × (or_faulty {A = ℕ} inputs.Extension (Err faults.TooLong) ≡ Err (refusals.Faulty inputs.Extension faults.TooLong))
 faulty_examples = (refl, refl)
 
 unread_examples : (or_unread {A = List ℕ} inputs.ZeroPage None (λ bytes. Ok bytes) ≡ Err (refusals.Unread inputs.ZeroPage))
@@ -192,13 +162,15 @@ abbrev start : Given
 start = begun Bits46 image
 
 -- what is said is put where it belongs, and nothing else changes; a fault is handed on
-put_examples : (with_value put_lines start (Ok []) ≡ Ok start) × (with_value put_extension start (Err faults.Header) ≡ Err faults.Header)
+put_examples : (with_value put_lines start (Ok []) ≡ Ok start) × (with_value put_extension start (Err faults.TooLong) ≡ Err faults.TooLong)
     × ((put_extension (acpi ∷ []) start).extension ≡ acpi ∷ []) × ((put_page (record { entries = ram ∷ []; initrd = None }) start).extension
     ≡ [])
-    × ((put_options no_options start).entries ≡ []) × ((put_domains (Some processor_alone) start).domains ≡ Some processor_alone)
+    × ((put_options no_options start).entries ≡ []) × ((put_domains processor_alone start).domains ≡ Some processor_alone)
 put_examples = (refl, refl, refl, refl, refl, refl)
 
-put_more_examples : ((put_pages [] start).page_lines ≡ []) × ((put_distances None start).slit ≡ None) × ((put_efi None start).efi ≡ None)
+put_more_examples : ((put_pages [] start).page_lines ≡ [])
+    × ((put_distances (record { count = 0; cells = [] }) start).slit ≡ Some (record { count = 0; cells = [] }))
+    × ((put_efi (record { entries = []; mirrors = [] }) start).efi ≡ Some (record { entries = []; mirrors = [] }))
 put_more_examples = (refl, refl, refl)
 
 -- the step of one file: read, unread, too long, and not named
@@ -209,7 +181,8 @@ step_examples : (named_step held command_line start (codes "cmd")
 step_examples = (refl, refl, refl)
 
 if_examples : (step_if held extension_file start None ≡ Ok start)
-    × (step_if held extension_file start (Some (codes "bad")) ≡ Err (refusals.Faulty inputs.Extension faults.Header))
+    × (step_if held extension_file start (Some (codes "bad"))
+    ≡ Err (refusals.Faulty inputs.Extension (faults.Extension extension.ExtHeader)))
 if_examples = (refl, refl)
 
 named_examples : (file_step held (naming (codes "zp") None None) extension_file start ≡ Ok start)
@@ -295,7 +268,8 @@ lines_are_given : inputs_of held (with_script (codes "free")) start
 unfolding entry_at initrd_of is_initrd_far
 lines_are_given = refl
 
-script_is_faulty : inputs_of held (with_script (codes "line")) start ≡ Err (refusals.Faulty inputs.Script (faults.BadLine 1))
+script_is_faulty : inputs_of held (with_script (codes "line")) start
+    ≡ Err (refusals.Faulty inputs.Script (faults.Script (script.BadLine 1)))
 unfolding entry_at is_initrd_far
 script_is_faulty = refl
 
@@ -320,7 +294,7 @@ unfolding entry_at initrd_of is_initrd_far offsets_from is_whole said_at
 both_are_given = refl
 
 srat_goes_before_the_script : inputs_of held (with_both (codes "bad") (codes "no")) start
-    ≡ Err (refusals.Faulty inputs.Srat faults.Short)
+    ≡ Err (refusals.Faulty inputs.Srat (faults.Srat srat.Short))
 unfolding entry_at is_initrd_far
 srat_goes_before_the_script = refl
 
@@ -333,7 +307,7 @@ fault_goes_before_a_missing_file : inputs_of held (naming (codes "short") (Some 
 fault_goes_before_a_missing_file = refl
 
 extension_goes_second : inputs_of held (naming (codes "zp") (Some (codes "bad")) (Some (codes "no"))) start
-    ≡ Err (refusals.Faulty inputs.Extension faults.Header)
+    ≡ Err (refusals.Faulty inputs.Extension (faults.Extension extension.ExtHeader))
 unfolding entry_at is_initrd_far
 extension_goes_second = refl
 
@@ -368,7 +342,8 @@ goes_beyond_it : Passes {Y = List ℕ} inputs.Extension (Err (refusals.Unread in
     × Passes {Y = List ℕ} inputs.Script (Ok [])
 goes_beyond_it = (omega arith, tt)
 
-never_goes_beyond_it : Passes {Y = List ℕ} inputs.Extension (Err (refusals.Faulty inputs.Extension faults.Header)) → ⊥
+never_goes_beyond_it : Passes {Y = List ℕ} inputs.Extension
+    (Err (refusals.Faulty inputs.Extension (faults.Extension extension.ExtHeader))) → ⊥
 never_goes_beyond_it passes = omega (arith, passes)
 
 -- how an answer fits what is said

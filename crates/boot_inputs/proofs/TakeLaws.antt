@@ -1,16 +1,18 @@
 -- Where memory is taken for a file it has no fault.
-use Rattle.std.proofs.Common.{◌≡◌, ℕ, ◌<◌, nat_lt, List, length, None, Ok, Err, refl, arith}
+use Rattle.std.proofs.Common.{◌≡◌, ℕ, ◌<◌, List, length, None, Ok, Err, refl, arith}
 use Rattle.std.specs.Prelude.{IsOk, IsTrue, Result}
 use Rattle.std.proofs.lemmas.Bool.Decides.{nat_tests}
+use Rattle.bm_base.specs.ResultSteps.{with_error}
 use Rattle.efi_map.specs.declared.efi.EfiFault.{EfiFault}
 use Rattle.efi_map.specs.Map.{Efi, descriptors_of, efi_of}
 use Rattle.slit_zonelists.specs.Table.{localities, slit_fault, slit_of}
 use Rattle.boot_model.specs.Boot.{Given}
-use Rattle.boot_inputs.specs.Efi.{efi_said, efi_takes, efi_told, put_efi}
+use Rattle.boot_inputs.specs.declared.fault.Fault.TheVariants as faults
+use Rattle.boot_inputs.specs.Efi.{efi_said, efi_takes, put_efi}
 use Rattle.boot_inputs.specs.File.{with_value}
 use Rattle.boot_inputs.specs.Slit.{distances_said, distances_take, put_distances}
 
-told_ok : (given : Given) (said : Result Efi EfiFault) → IsOk said → IsOk (with_value put_efi given (efi_told said))
+told_ok : (given : Given) (said : Result Efi EfiFault) → IsOk said → IsOk (with_value put_efi given (with_error faults.Efi said))
 told_ok given (Ok m) ok = refl
 told_ok given (Err fault) ok = absurd (cc ok)
 

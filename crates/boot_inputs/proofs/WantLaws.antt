@@ -1,8 +1,9 @@
 -- No bytes are judged to want memory: each fault that the definitions give is another one.
-use Rattle.std.proofs.Common.{◌≡◌, ◌≢◌, ℕ, ◌+◌, Bool, true, false, List, [], ◌∷◌, Option, Some, None, Result, Ok, Err, codes, refl}
-use Rattle.std.specs.Prelude.{IsErrOf, if◌then◌else◌}
+use Rattle.std.proofs.Common.{◌≡◌, ◌≢◌, ℕ, ◌+◌, Bool, true, false, nat_lt, List, [], ◌∷◌, length, Option, Some, None, Result, Ok, Err, codes, refl}
+use Rattle.std.specs.Prelude.{All, IfErr, IsErrOf, if◌then◌else◌}
 use Rattle.std.specs.Option.{option_and_then, option_map, option_or}
 use Rattle.std.specs.Str.{bytes_eq}
+use Rattle.std.proofs.lemmas.List.Elements.{All-from_recursion, All-head, All-tail}
 use Rattle.boot_options.specs.MapOptions.{mem_of}
 use Rattle.bm_base.specs.ResultSteps.{◌>>=◌, with_error}
 use Rattle.text_words.specs.Parts.{parts_in}
@@ -30,6 +31,24 @@ use Rattle.slit_zonelists.specs.Table.{slit_fault, slit_of, unless_fault as unle
 use Rattle.srat_reader.specs.declared.table.SratFault.{SratFault}
 use Rattle.srat_reader.specs.declared.table.SratFault.TheVariants as srat
 use Rattle.srat_reader.specs.Table.{Affinity, fault_at as entry_fault, first_fault, header_fault, offsets_of, srat_fault, srat_of, unless_fault as unless_srat}
+use Rattle.e820_table.specs.ZeroPage.{zero_fault}
+use Rattle.boot_model.specs.Boot.{Given}
+use Rattle.boot_inputs.specs.declared.fault.Fault.{Fault}
+use Rattle.boot_inputs.specs.declared.fault.Fault.TheVariants as faults
+use Rattle.boot_inputs.specs.declared.input.Input.{Input}
+use Rattle.boot_inputs.specs.declared.refusal.InputRefusal.{InputRefusal}
+use Rattle.boot_inputs.specs.declared.refusal.InputRefusal.TheVariants as refusals
+use Rattle.boot_inputs.specs.CommandLine.{put_options}
+use Rattle.boot_inputs.specs.Efi.{put_efi}
+use Rattle.boot_inputs.specs.Extension.{put_extension}
+use Rattle.boot_inputs.specs.Faults.{IsOfBytes}
+use Rattle.boot_inputs.specs.File.{File, unless_fault, with_value}
+use Rattle.boot_inputs.specs.Inputs.{Held, Named, file_step, given_in, input_files, inputs_of, or_faulty, or_unread, step_if, within}
+use Rattle.boot_inputs.specs.Pages.{put_pages}
+use Rattle.boot_inputs.specs.Script.{put_lines}
+use Rattle.boot_inputs.specs.Slit.{put_distances}
+use Rattle.boot_inputs.specs.Srat.{put_domains}
+use Rattle.boot_inputs.specs.ZeroPage.{put_page}
 
 -- an answer, an error, or none, that isn't that want
 ok_other : {A E : Type 0} (want : E) (a : A) → ¬ IsErrOf {T = A} (Ok a) want
@@ -213,3 +232,94 @@ options_other bytes =
     then_other options.Memory (line_of bytes) _ (line_other bytes)
     (λ line. then_other options.Memory (said_from 1 (option_words line)) _ (words_other 1 (option_words line))
     (λ said. map_other (chosen_by said) (last_exact (all_map_options said))))
+
+-- files: what one says is of its bytes
+said_of_bytes : {A E : Type 0} (turn : E → Fault) (want : E) (put : A → Given → Given) (given : Given) (x : Result A E)
+    → ((fault : E) → fault ≢ want → IsOfBytes (turn fault)) → ¬ IsErrOf x want → IfErr (with_value put given (with_error turn x)) IsOfBytes
+said_of_bytes turn want put given (Ok a) turned other = tt
+said_of_bytes turn want put given (Err fault) turned other = turned fault (λ same. other (rw same refl))
+
+says_of_bytes : {A E : Type 0} (turn : E → Fault) (want : E) (put : A → Given → Given) (of : List ℕ → Result A E)
+    → ((fault : E) → fault ≢ want → IsOfBytes (turn fault)) → ((bytes : List ℕ) → ¬ IsErrOf (of bytes) want)
+    → (bytes : List ℕ) (given : Given) → IfErr (with_value put given (with_error turn (of bytes))) IsOfBytes
+says_of_bytes turn want put of turned other bytes given = said_of_bytes turn want put given (of bytes) turned (other bytes)
+
+fault_of_bytes : {A E : Type 0} (turn : E → Fault) (put : A → Given → Given) (given : Given) (x : Option E) (value : A)
+    → ((fault : E) → x ≡ Some fault → IsOfBytes (turn fault))
+    → IfErr (with_value put given (unless_fault (option_map turn x) value)) IsOfBytes
+fault_of_bytes turn put given None value turned = tt
+fault_of_bytes turn put given (Some fault) value turned = turned fault refl
+
+abbrev SaysOfBytes : File → Type 0
+SaysOfBytes file = (bytes : List ℕ) (given : Given) → IfErr (file.says bytes given) IsOfBytes
+
+pub files_other : All SaysOfBytes input_files
+files_other = All-from_recursion SaysOfBytes input_files (
+  λ bytes given. fault_of_bytes faults.ZeroPage put_page given (zero_fault bytes) _ (λ fault is. tt),
+  (
+    λ bytes given. fault_of_bytes faults.Extension put_extension given (ext_fault bytes) _
+        (λ fault is same. extension_other bytes (cc (is, same))),
+    (
+      says_of_bytes faults.CommandLine options.Memory put_options options_of (λ fault other. other) options_other,
+      (
+        says_of_bytes faults.Srat srat.Memory put_domains srat_of (λ fault other. other) srat_other,
+        (
+          says_of_bytes faults.Script script.Memory put_lines script_of (λ fault other. other) script_other,
+          (
+            says_of_bytes faults.Pages pages.Memory put_pages pages_of (λ fault other. other) pages_other,
+            (
+              says_of_bytes faults.Slit slit.Memory put_distances slit_of (λ fault other. other) slit_other,
+              (
+                says_of_bytes faults.Efi efi.Memory put_efi efi_of (λ fault other. other) efi_other,
+                tt,
+              ),
+            ),
+          ),
+        ),
+      ),
+    ),
+  ),
+)
+
+-- and so is what one of several is refused for
+abbrev RefusedOfBytes : InputRefusal → Type 0
+RefusedOfBytes (refusals.Unread input) = Unit {0}
+RefusedOfBytes (refusals.Faulty input fault) = IsOfBytes fault
+
+then_if : {A B E : Type 0} (P : E → Type 0) (x : Result A E) (f : A → Result B E) → IfErr x P → ((a : A) → IfErr (f a) P)
+    → IfErr (x >>= f) P
+then_if P (Ok a) f first rest = rest a
+then_if P (Err error) f first rest = first
+
+within_other : (long : Bool) (bytes : List ℕ) → IfErr (if long then Err faults.TooLong else Ok bytes) IsOfBytes
+within_other true bytes = tt
+within_other false bytes = tt
+
+faulty_other : (input : Input) (x : Result Given Fault) → IfErr x IsOfBytes → IfErr (or_faulty input x) RefusedOfBytes
+faulty_other input (Ok given) other = tt
+faulty_other input (Err fault) other = other
+
+found_other : (file : File) (given : Given) (found : Option (List ℕ)) → SaysOfBytes file
+    → IfErr (or_unread file.input found (λ bytes. or_faulty file.input (within file.limit bytes >>= λ read. file.says read given)))
+    RefusedOfBytes
+found_other file given None says = tt
+found_other file given (Some bytes) says = faulty_other file.input _
+    (then_if IsOfBytes (within file.limit bytes) _ (within_other (nat_lt file.limit (length bytes)) bytes) (λ read. says read given))
+
+step_other : (held : Held) (file : File) (given : Given) (name : Option (List ℕ)) → SaysOfBytes file
+    → IfErr (step_if held file given name) RefusedOfBytes
+step_other held file given None says = tt
+step_other held file given (Some name) says = found_other file given (held name) says
+
+given_other : (held : Held) (named : Named) (files : List File) → All SaysOfBytes files → (given : Given)
+    → IfErr (given_in held named files given) RefusedOfBytes
+given_other held named [] say given = tt
+given_other held named (file ∷ files) say given =
+    then_if RefusedOfBytes (file_step held named file given) _
+    (step_other held file given (named file.input) (All-head SaysOfBytes file files say))
+    (given_other held named files (All-tail SaysOfBytes file files say))
+
+pub refused_other : (held : Held) (named : Named) (begun : Given) (input : Input) (fault : Fault)
+    → inputs_of held named begun ≡ Err (refusals.Faulty input fault) → IsOfBytes fault
+refused_other held named begun input fault is =
+    rw is at (given_other held named input_files files_other begun)

@@ -1,28 +1,17 @@
 -- The page script.
-use Rattle.std.specs.Prelude.{ℕ, Bool, false, nat_lt, List, [], length, Option, Some, None, Result, Ok, Err}
+use Rattle.std.specs.Prelude.{ℕ, Bool, false, nat_lt, List, length, Result, Ok, Err}
+use Rattle.bm_base.specs.ResultSteps.{with_error}
 use Rattle.page_alloc.specs.declared.act.PageLine.{PageLine}
 use Rattle.page_alloc.specs.declared.fault.PageFault.{PageFault}
-use Rattle.page_alloc.specs.declared.fault.PageFault.TheVariants as pages
 use Rattle.page_alloc.specs.Reading.{pages_of}
 use Rattle.boot_model.specs.Boot.{Given}
 use Rattle.boot_inputs.specs.declared.fault.Fault.{Fault}
 use Rattle.boot_inputs.specs.declared.fault.Fault.TheVariants as faults
 use Rattle.boot_inputs.specs.declared.input.Input.TheVariants as inputs
-use Rattle.boot_inputs.specs.File.{File, unless_fault, with_value}
-
--- the fault; none for want of memory
-abbrev pub fault_of_pages : PageFault → Option Fault
-fault_of_pages (pages.BadLine line) = Some (faults.BadLine line)
-fault_of_pages (pages.BadNumber line) = Some (faults.BadNumber line)
-fault_of_pages pages.Memory = None
-
--- bytes never say that memory is wanting, so what stands there for it is of no account
-abbrev pub pages_told : Result (List PageLine) PageFault → Result (List PageLine) Fault
-pages_told (Ok lines) = Ok lines
-pages_told (Err fault) = unless_fault (fault_of_pages fault) []
+use Rattle.boot_inputs.specs.File.{File, with_value}
 
 abbrev pub pages_said : List ℕ → Result (List PageLine) Fault
-pages_said bytes = pages_told (pages_of bytes)
+pages_said bytes = with_error faults.Pages (pages_of bytes)
 
 -- each line that asks for something takes memory
 abbrev pub pages_take : Result (List PageLine) PageFault → Bool

@@ -4,7 +4,7 @@ ghost use Rattle.std.specs.Prelude.{◌≡◌, ◌≤◌, length, IsErrOf, IsOk,
 ghost use Rattle.bm_base.specs.Answers.{Answers};
 ghost use Rattle.bm_base.specs.ResultSteps.{with_error};
 ghost use Rattle.boot_model.specs.View.{inputs_view};
-ghost use Rattle.boot_inputs.specs.CommandLine.{command_line, fault_of_option};
+ghost use Rattle.boot_inputs.specs.CommandLine.{command_line};
 
 use crate::fault::{Fault, Misread};
 use crate::input::Input;
@@ -33,23 +33,8 @@ impl Reader for CommandLines {
                 inputs.options = options;
                 Ok(())
             }
-            Err(fault) => Err(Misread::of(fault_of_option(fault))),
+            Err(OptionFault::Memory) => Err(Misread::Memory),
+            Err(fault) => Err(Misread::Fault(Fault::CommandLine(fault))),
         }
-    }
-}
-
-/// The fault of a command line; none for want of memory.
-fn fault_of_option(fault: OptionFault) -> Option<Fault>
-    ensures { result ≡ fault_of_option fault }
-{
-    match fault {
-        OptionFault::TooLong => Some(Fault::LineTooLong),
-        OptionFault::OpenQuote => Some(Fault::OpenQuote),
-        OptionFault::BadMem { word } => Some(Fault::BadMem { word }),
-        OptionFault::BadMemmap { word } => Some(Fault::BadMemmap { word }),
-        OptionFault::BadCrash { word } => Some(Fault::BadCrash { word }),
-        OptionFault::UserMapInvalid { word } => Some(Fault::UserMapInvalid { word }),
-        OptionFault::BadNuma { word } => Some(Fault::BadNuma { word }),
-        OptionFault::Memory => None,
     }
 }

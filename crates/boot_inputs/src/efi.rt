@@ -4,7 +4,7 @@ ghost use Rattle.std.specs.Prelude.{◌≡◌, ◌≤◌, length, IsErrOf, IsOk,
 ghost use Rattle.bm_base.specs.Answers.{Answers};
 ghost use Rattle.bm_base.specs.ResultSteps.{with_error};
 ghost use Rattle.boot_model.specs.View.{inputs_view};
-ghost use Rattle.boot_inputs.specs.Efi.{efi_file, fault_of_efi};
+ghost use Rattle.boot_inputs.specs.Efi.{efi_file};
 
 use crate::fault::{Fault, Misread};
 use crate::input::Input;
@@ -34,19 +34,8 @@ impl Reader for EfiMaps {
                 inputs.efi = Some(map);
                 Ok(())
             }
-            Err(fault) => Err(Misread::of(fault_of_efi(fault))),
+            Err(EfiFault::Memory) => Err(Misread::Memory),
+            Err(fault) => Err(Misread::Fault(Fault::Efi(fault))),
         }
-    }
-}
-
-/// The fault of an EFI memory map; none for want of memory.
-fn fault_of_efi(fault: EfiFault) -> Option<Fault>
-    ensures { result ≡ fault_of_efi fault }
-{
-    match fault {
-        EfiFault::Header => Some(Fault::Header),
-        EfiFault::Length => Some(Fault::Length),
-        EfiFault::TooFar { index } => Some(Fault::DescriptorTooFar { index }),
-        EfiFault::Memory => None,
     }
 }

@@ -5,7 +5,7 @@ ghost use Rattle.std.specs.Prelude.{◌≡◌, ◌≤◌, length, IsErrOf, IsOk,
 ghost use Rattle.bm_base.specs.Answers.{Answers};
 ghost use Rattle.bm_base.specs.ResultSteps.{with_error};
 ghost use Rattle.boot_model.specs.View.{inputs_view};
-ghost use Rattle.boot_inputs.specs.Extension.{extension_file, fault_of_extension};
+ghost use Rattle.boot_inputs.specs.Extension.{extension_file};
 
 use crate::fault::{Fault, Misread};
 use crate::input::Input;
@@ -36,19 +36,8 @@ impl Reader for Extensions {
                 inputs.ext = entries;
                 Ok(())
             }
-            Err(fault) => Err(Misread::of(fault_of_extension(fault))),
+            Err(ExtFault::Memory) => Err(Misread::Memory),
+            Err(fault) => Err(Misread::Fault(Fault::Extension(fault))),
         }
-    }
-}
-
-/// The fault of an extension; none for want of memory.
-fn fault_of_extension(fault: ExtFault) -> Option<Fault>
-    ensures { result ≡ fault_of_extension fault }
-{
-    match fault {
-        ExtFault::EntryTooFar { index } => Some(Fault::EntryTooFar { index }),
-        ExtFault::ExtHeader => Some(Fault::Header),
-        ExtFault::ExtLength => Some(Fault::Length),
-        ExtFault::Memory => None,
     }
 }

@@ -4,7 +4,7 @@ ghost use Rattle.std.specs.Prelude.{◌≡◌, ◌≤◌, length, IsErrOf, IsOk,
 ghost use Rattle.bm_base.specs.Answers.{Answers};
 ghost use Rattle.bm_base.specs.ResultSteps.{with_error};
 ghost use Rattle.boot_model.specs.View.{inputs_view};
-ghost use Rattle.boot_inputs.specs.Pages.{fault_of_pages, pages_file};
+ghost use Rattle.boot_inputs.specs.Pages.{pages_file};
 
 use crate::fault::{Fault, Misread};
 use crate::input::Input;
@@ -33,18 +33,8 @@ impl Reader for PageScripts {
                 inputs.page_lines = lines;
                 Ok(())
             }
-            Err(fault) => Err(Misread::of(fault_of_pages(fault))),
+            Err(PageFault::Memory) => Err(Misread::Memory),
+            Err(fault) => Err(Misread::Fault(Fault::Pages(fault))),
         }
-    }
-}
-
-/// The fault of a page script; none for want of memory.
-fn fault_of_pages(fault: PageFault) -> Option<Fault>
-    ensures { result ≡ fault_of_pages fault }
-{
-    match fault {
-        PageFault::BadLine { line } => Some(Fault::BadLine { line }),
-        PageFault::BadNumber { line } => Some(Fault::BadNumber { line }),
-        PageFault::Memory => None,
     }
 }

@@ -5,7 +5,7 @@ ghost use Rattle.std.specs.Prelude.{◌≡◌, ◌≤◌, length, IsErrOf, IsOk,
 ghost use Rattle.bm_base.specs.Answers.{Answers};
 ghost use Rattle.bm_base.specs.ResultSteps.{with_error};
 ghost use Rattle.boot_model.specs.View.{inputs_view};
-ghost use Rattle.boot_inputs.specs.Script.{fault_of_script, script_file};
+ghost use Rattle.boot_inputs.specs.Script.{script_file};
 
 use crate::fault::{Fault, Misread};
 use crate::input::Input;
@@ -36,22 +36,8 @@ impl Reader for Scripts {
                 inputs.lines = lines;
                 Ok(())
             }
-            Err(fault) => Err(Misread::of(fault_of_script(fault))),
+            Err(ScriptFault::Memory) => Err(Misread::Memory),
+            Err(fault) => Err(Misread::Fault(Fault::Script(fault))),
         }
-    }
-}
-
-/// The fault of a script; none for want of memory.
-fn fault_of_script(fault: ScriptFault) -> Option<Fault>
-    ensures { result ≡ fault_of_script fault }
-{
-    match fault {
-        ScriptFault::BadLine { line } => Some(Fault::BadLine { line }),
-        ScriptFault::BadNumber { line } => Some(Fault::BadNumber { line }),
-        ScriptFault::BadAlign { line } => Some(Fault::BadAlign { line }),
-        ScriptFault::ZeroSize { line } => Some(Fault::ZeroSize { line }),
-        ScriptFault::SecondSections { line } => Some(Fault::SecondSections { line }),
-        ScriptFault::TooFar { line } => Some(Fault::LineTooFar { line }),
-        ScriptFault::Memory => None,
     }
 }

@@ -4,7 +4,7 @@ ghost use Rattle.std.specs.Prelude.{◌≡◌, ◌≤◌, length, IsErrOf, IsOk,
 ghost use Rattle.bm_base.specs.Answers.{Answers};
 ghost use Rattle.bm_base.specs.ResultSteps.{with_error};
 ghost use Rattle.boot_model.specs.View.{inputs_view};
-ghost use Rattle.boot_inputs.specs.Slit.{fault_of_slit, slit_file};
+ghost use Rattle.boot_inputs.specs.Slit.{slit_file};
 
 use crate::fault::{Fault, Misread};
 use crate::input::Input;
@@ -33,21 +33,8 @@ impl Reader for Slits {
                 inputs.slit = Some(slit);
                 Ok(())
             }
-            Err(fault) => Err(Misread::of(fault_of_slit(fault))),
+            Err(SlitFault::Memory) => Err(Misread::Memory),
+            Err(fault) => Err(Misread::Fault(Fault::Slit(fault))),
         }
-    }
-}
-
-/// The fault of a table of distances; none for want of memory.
-fn fault_of_slit(fault: SlitFault) -> Option<Fault>
-    ensures { result ≡ fault_of_slit fault }
-{
-    match fault {
-        SlitFault::Short => Some(Fault::Short),
-        SlitFault::Signature => Some(Fault::Signature),
-        SlitFault::Length => Some(Fault::Length),
-        SlitFault::Checksum => Some(Fault::Checksum),
-        SlitFault::Localities => Some(Fault::Localities),
-        SlitFault::Memory => None,
     }
 }

@@ -5,7 +5,7 @@ ghost use Rattle.std.specs.Prelude.{◌≡◌, ◌≤◌, length, IsErrOf, IsOk,
 ghost use Rattle.bm_base.specs.Answers.{Answers};
 ghost use Rattle.bm_base.specs.ResultSteps.{with_error};
 ghost use Rattle.boot_model.specs.View.{inputs_view};
-ghost use Rattle.boot_inputs.specs.Srat.{fault_of_srat, srat_file};
+ghost use Rattle.boot_inputs.specs.Srat.{srat_file};
 
 use crate::fault::{Fault, Misread};
 use crate::input::Input;
@@ -34,22 +34,8 @@ impl Reader for Srats {
                 inputs.srat = Some(srat);
                 Ok(())
             }
-            Err(fault) => Err(Misread::of(fault_of_srat(fault))),
+            Err(SratFault::Memory) => Err(Misread::Memory),
+            Err(fault) => Err(Misread::Fault(Fault::Srat(fault))),
         }
-    }
-}
-
-/// The fault of an SRAT; none for want of memory.
-fn fault_of_srat(fault: SratFault) -> Option<Fault>
-    ensures { result ≡ fault_of_srat fault }
-{
-    match fault {
-        SratFault::Short => Some(Fault::Short),
-        SratFault::Signature => Some(Fault::Signature),
-        SratFault::Length => Some(Fault::Length),
-        SratFault::Checksum => Some(Fault::Checksum),
-        SratFault::EntryLength { offset } => Some(Fault::EntryLength { offset }),
-        SratFault::BlockTooFar { offset } => Some(Fault::BlockTooFar { offset }),
-        SratFault::Memory => None,
     }
 }

@@ -1,4 +1,4 @@
-use Rattle.boot_inputs.proofs.WantLaws.{efi_other, extension_other, options_other, pages_other, script_other, slit_other, srat_other}
+use Rattle.boot_inputs.proofs.WantLaws.{efi_other, extension_other, files_other, options_other, pages_other, refused_other, script_other, slit_other, srat_other}
 use Rattle.boot_inputs.proofs.laws.bytes_want_no_memory.Goals as goal
 
 pub returns-clause-extension : goal.returns-clause-extension
@@ -21,3 +21,9 @@ returns-clause-slit c = slit_other
 
 pub returns-clause-efi : goal.returns-clause-efi
 returns-clause-efi c = efi_other
+
+pub returns-clause-files : goal.returns-clause-files
+returns-clause-files c = files_other
+
+pub returns-clause-refused : goal.returns-clause-refused
+returns-clause-refused c = refused_other
