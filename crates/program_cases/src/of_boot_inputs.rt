@@ -9,7 +9,13 @@ use bm_base::Width;
 use bm_io::{Fetch, Files, MemFile, MemFiles};
 use boot_inputs::{Fault, Input, InputError, InputRefusal, Names, read_inputs};
 use boot_model::Inputs;
-use e820_table::ZeroFault;
+use boot_options::OptionFault;
+use e820_table::{ExtFault, ZeroFault};
+use efi_map::EfiFault;
+use page_alloc::PageFault;
+use script_reader::ScriptFault;
+use slit_zonelists::SlitFault;
+use srat_reader::SratFault;
 use std::alloc::Global;
 use std::process::Abort;
 use std::test::Fail;
@@ -180,7 +186,7 @@ fn refused_file_is_the_last(rt: HostRuntime) -> Result<(), Fail> {
         (
             Held { ext: b"", ..good },
             Input::Extension,
-            Fault::Header,
+            Fault::Extension(ExtFault::ExtHeader),
             3,
         ),
         (
@@ -189,17 +195,22 @@ fn refused_file_is_the_last(rt: HostRuntime) -> Result<(), Fail> {
                 ..good
             },
             Input::CommandLine,
-            Fault::BadNuma { word: 1 },
+            Fault::CommandLine(OptionFault::BadNuma { word: 1 }),
             4,
         ),
-        (Held { srat: b"", ..good }, Input::Srat, Fault::Short, 5),
+        (
+            Held { srat: b"", ..good },
+            Input::Srat,
+            Fault::Srat(SratFault::Short),
+            5,
+        ),
         (
             Held {
                 script: b"free",
                 ..good
             },
             Input::Script,
-            Fault::BadLine { line: 1 },
+            Fault::Script(ScriptFault::BadLine { line: 1 }),
             6,
         ),
         (
@@ -208,11 +219,21 @@ fn refused_file_is_the_last(rt: HostRuntime) -> Result<(), Fail> {
                 ..good
             },
             Input::Pages,
-            Fault::BadLine { line: 1 },
+            Fault::Pages(PageFault::BadLine { line: 1 }),
             7,
         ),
-        (Held { slit: b"", ..good }, Input::Slit, Fault::Short, 8),
-        (Held { efi: b"", ..good }, Input::Efi, Fault::Header, 9),
+        (
+            Held { slit: b"", ..good },
+            Input::Slit,
+            Fault::Slit(SlitFault::Short),
+            8,
+        ),
+        (
+            Held { efi: b"", ..good },
+            Input::Efi,
+            Fault::Efi(EfiFault::Header),
+            9,
+        ),
     ];
     for (held, input, fault, behind) in &rows {
         let want = InputRefusal::Faulty(*input, *fault);

@@ -1,7 +1,14 @@
 -- The ways in which the program ends, and the line of each, computed.
 use Rattle.std.proofs.Common.{◌≡◌, codes, [], Some, None, Ok, Err, refl}
 use Rattle.std.specs.Fmt.{digits}
+use Rattle.boot_options.specs.declared.fault.OptionFault.TheVariants as options
+use Rattle.e820_table.specs.declared.extension.ExtFault.TheVariants as extension
 use Rattle.e820_table.specs.declared.zero_page.ZeroFault.TheVariants as zero
+use Rattle.efi_map.specs.declared.efi.EfiFault.TheVariants as efi
+use Rattle.page_alloc.specs.declared.fault.PageFault.TheVariants as pages
+use Rattle.script_reader.specs.declared.fault.ScriptFault.TheVariants as script
+use Rattle.slit_zonelists.specs.declared.table.SlitFault.TheVariants as slit
+use Rattle.srat_reader.specs.declared.table.SratFault.TheVariants as srat
 use Rattle.boot_inputs.specs.declared.fault.Fault.TheVariants as faults
 use Rattle.boot_inputs.specs.declared.input.Input.TheVariants as inputs
 use Rattle.boot_inputs.specs.declared.refusal.InputError.TheVariants as errors
@@ -13,7 +20,7 @@ use Rattle.boot_model.specs.declared.stop.Stop.TheVariants as stops
 use Rattle.program_run.specs.declared.failure.Reason.TheVariants as reasons
 use Rattle.program_run.specs.declared.failure.Failure.TheVariants as failures
 use Rattle.program_run.specs.Status.{refusal_status, reason_status, status_of, status_of_end, failure_by, failure_of_input, failure_of_stop}
-use Rattle.program_run.specs.Line.{whole_line, far_line, word_line, numbered_line, offset_line, fault_line, thing_line, place_line, table_line, table_name, cause_line, refusal_line, reason_line, failure_line, name_text}
+use Rattle.program_run.specs.Line.{memory_line, zero_fault_line, extension_fault_line, option_fault_line, srat_fault_line, script_fault_line, page_fault_line, slit_fault_line, efi_fault_line, fault_line, thing_line, place_line, table_line, table_name, cause_line, refusal_line, reason_line, failure_line, name_text}
 use Rattle.program_run.proofs.OutcomeExamples.{wanting}
 
 -- the status of each way to end
@@ -46,42 +53,48 @@ input_error_examples = (refl, refl)
 
 -- the line of each way to end
 entry_lines : (fault_line (codes "zeropage") (faults.ZeroPage (zero.EntryTooFar 3)) ≡ codes "bootmem: zeropage: entry 3 too far\n")
-    × (far_line (codes "e820ext") (codes "entry") 3071 ≡ codes "bootmem: e820ext: entry 3071 too far\n")
-    × (fault_line (codes "zeropage") (faults.ZeroPage zero.InitrdTooFar) ≡ codes "bootmem: zeropage: initrd too far\n")
+    × (extension_fault_line (codes "e820ext") (extension.EntryTooFar 3071) ≡ codes "bootmem: e820ext: entry 3071 too far\n")
+    × (zero_fault_line (codes "zeropage") zero.InitrdTooFar ≡ codes "bootmem: zeropage: initrd too far\n")
 unfolding digits
 entry_lines = (refl, refl, refl)
 
-word_lines : (fault_line (codes "cmdline") (faults.UserMapInvalid 12) ≡ codes "bootmem: cmdline: word 12: user map\n")
-    × (word_line (codes "cmdline") 1 (codes "mem") ≡ codes "bootmem: cmdline: word 1: mem\n")
-    × (fault_line (codes "cmdline") (faults.BadCrash 1) ≡ codes "bootmem: cmdline: word 1: crashkernel\n")
+word_lines : (fault_line (codes "cmdline") (faults.CommandLine (options.UserMapInvalid 12)) ≡ codes "bootmem: cmdline: word 12: user map\n")
+    × (option_fault_line (codes "cmdline") (options.BadMem 1) ≡ codes "bootmem: cmdline: word 1: mem\n")
+    × (fault_line (codes "cmdline") (faults.CommandLine (options.BadCrash 1)) ≡ codes "bootmem: cmdline: word 1: crashkernel\n")
 unfolding digits
 word_lines = (refl, refl, refl)
 
-script_lines : (fault_line (codes "script") (faults.ZeroSize 12) ≡ codes "bootmem: script: line 12: zero size\n")
-    × (numbered_line (codes "script") 1 (codes "form") ≡ codes "bootmem: script: line 1: form\n")
+script_lines : (fault_line (codes "script") (faults.Script (script.ZeroSize 12)) ≡ codes "bootmem: script: line 12: zero size\n")
+    × (script_fault_line (codes "script") (script.BadLine 1) ≡ codes "bootmem: script: line 1: form\n")
+    × (fault_line (codes "pages") (faults.Pages (pages.BadNumber 2)) ≡ codes "bootmem: pages: line 2: number\n")
 unfolding digits
-script_lines = (refl, refl)
+script_lines = (refl, refl, refl)
 
-efi_lines : (fault_line (codes "efi") (faults.DescriptorTooFar 3) ≡ codes "bootmem: efi: descriptor 3 too far\n")
-    × (fault_line (codes "slit") faults.Localities ≡ codes "bootmem: slit: localities\n")
+efi_lines : (fault_line (codes "efi") (faults.Efi (efi.TooFar 3)) ≡ codes "bootmem: efi: descriptor 3 too far\n")
+    × (fault_line (codes "slit") (faults.Slit slit.Localities) ≡ codes "bootmem: slit: localities\n")
 unfolding digits
 efi_lines = (refl, refl)
 
-srat_lines : (refusal_line None (refusals.Faulty inputs.Srat (faults.EntryLength 48)) ≡ codes "bootmem: srat: entry length at 48\n")
-    × (offset_line (codes "srat") (codes "block too far") 1048 ≡ codes "bootmem: srat: block too far at 1048\n")
-    × (fault_line (codes "srat") faults.Checksum ≡ codes "bootmem: srat: checksum\n")
+srat_lines : (refusal_line None (refusals.Faulty inputs.Srat (faults.Srat (srat.EntryLength 48)))
+    ≡ codes "bootmem: srat: entry length at 48\n")
+    × (srat_fault_line (codes "srat") (srat.BlockTooFar 1048) ≡ codes "bootmem: srat: block too far at 1048\n")
+    × (fault_line (codes "srat") (faults.Srat srat.Checksum) ≡ codes "bootmem: srat: checksum\n")
 unfolding digits
 srat_lines = (refl, refl, refl)
 
 -- a file of too many bytes, and a line of too many
 long_lines : (refusal_line None (refusals.Faulty inputs.CommandLine faults.TooLong) ≡ codes "bootmem: cmdline: too long\n")
-    × (refusal_line None (refusals.Faulty inputs.CommandLine faults.LineTooLong) ≡ codes "bootmem: cmdline: line too long\n")
+    × (refusal_line None (refusals.Faulty inputs.CommandLine (faults.CommandLine options.TooLong))
+    ≡ codes "bootmem: cmdline: line too long\n")
 long_lines = (refl, refl)
 
 plain_lines : (refusal_line None (refusals.Faulty inputs.ZeroPage (faults.ZeroPage zero.TooFew))
     ≡ codes "bootmem: zeropage: too few entries\n")
-    × (whole_line (codes "e820ext") (codes "header") ≡ codes "bootmem: e820ext: header\n")
-plain_lines = (refl, refl)
+    × (fault_line (codes "e820ext") (faults.Extension extension.ExtHeader) ≡ codes "bootmem: e820ext: header\n")
+    × (slit_fault_line (codes "slit") slit.Short ≡ codes "bootmem: slit: short\n")
+    × (efi_fault_line (codes "efi") efi.Length ≡ codes "bootmem: efi: length\n")
+    × (page_fault_line (codes "pages") pages.Memory ≡ memory_line)
+plain_lines = (refl, refl, refl, refl, refl)
 
 cause_lines : (cause_line (causes.MapFull 3201) ≡ codes "bootmem: stopped: 3201 map runs\n")
     × (cause_line causes.NoRam ≡ codes "bootmem: stopped: no usable frame\n")

@@ -4,8 +4,22 @@ use Rattle.std.specs.Io.KnownBytes.{Appends}
 use Rattle.bm_io.specs.Counts.{Rose}
 use Rattle.bm_io.specs.Told.{AppendsFront}
 use Rattle.bm_io.specs.declared.writing.Sink.{Ghosts as SinkOf}
+use Rattle.boot_options.specs.declared.fault.OptionFault.{OptionFault}
+use Rattle.boot_options.specs.declared.fault.OptionFault.TheVariants as options
+use Rattle.e820_table.specs.declared.extension.ExtFault.{ExtFault}
+use Rattle.e820_table.specs.declared.extension.ExtFault.TheVariants as extension
 use Rattle.e820_table.specs.declared.zero_page.ZeroFault.{ZeroFault}
 use Rattle.e820_table.specs.declared.zero_page.ZeroFault.TheVariants as zero
+use Rattle.efi_map.specs.declared.efi.EfiFault.{EfiFault}
+use Rattle.efi_map.specs.declared.efi.EfiFault.TheVariants as efi
+use Rattle.page_alloc.specs.declared.fault.PageFault.{PageFault}
+use Rattle.page_alloc.specs.declared.fault.PageFault.TheVariants as pages
+use Rattle.script_reader.specs.declared.fault.ScriptFault.{ScriptFault}
+use Rattle.script_reader.specs.declared.fault.ScriptFault.TheVariants as script
+use Rattle.slit_zonelists.specs.declared.table.SlitFault.{SlitFault}
+use Rattle.slit_zonelists.specs.declared.table.SlitFault.TheVariants as slit
+use Rattle.srat_reader.specs.declared.table.SratFault.{SratFault}
+use Rattle.srat_reader.specs.declared.table.SratFault.TheVariants as srat
 use Rattle.boot_inputs.specs.declared.fault.Fault.{Fault}
 use Rattle.boot_inputs.specs.declared.fault.Fault.TheVariants as faults
 use Rattle.boot_inputs.specs.declared.input.Input.{Input}
@@ -41,39 +55,80 @@ numbered_line name line what = codes "bootmem: " ++ (name ++ (codes ": line " ++
 abbrev pub offset_line : List ℕ → List ℕ → ℕ → List ℕ
 offset_line name what offset = codes "bootmem: " ++ (name ++ (codes ": " ++ (what ++ (codes " at " ++ (decimal offset ++ codes "\n")))))
 
-abbrev pub zero_line : List ℕ → ZeroFault → List ℕ
-zero_line name zero.WrongLength = whole_line name (codes "wrong length")
-zero_line name zero.TooFew = whole_line name (codes "too few entries")
-zero_line name zero.TooMany = whole_line name (codes "too many entries")
-zero_line name (zero.EntryTooFar index) = far_line name (codes "entry") index
-zero_line name zero.InitrdTooFar = whole_line name (codes "initrd too far")
+abbrev pub memory_line : List ℕ
+memory_line = codes "bootmem: out of memory\n"
+
+-- of what is wrong with the bytes of a file, which is never a reader's want of memory (`IsOfBytes`)
+abbrev pub zero_fault_line : List ℕ → ZeroFault → List ℕ
+zero_fault_line name zero.WrongLength = whole_line name (codes "wrong length")
+zero_fault_line name zero.TooFew = whole_line name (codes "too few entries")
+zero_fault_line name zero.TooMany = whole_line name (codes "too many entries")
+zero_fault_line name (zero.EntryTooFar index) = far_line name (codes "entry") index
+zero_fault_line name zero.InitrdTooFar = whole_line name (codes "initrd too far")
+
+abbrev pub extension_fault_line : List ℕ → ExtFault → List ℕ
+extension_fault_line name (extension.EntryTooFar index) = far_line name (codes "entry") index
+extension_fault_line name extension.ExtHeader = whole_line name (codes "header")
+extension_fault_line name extension.ExtLength = whole_line name (codes "length")
+extension_fault_line name extension.Memory = memory_line
+
+abbrev pub option_fault_line : List ℕ → OptionFault → List ℕ
+option_fault_line name options.TooLong = whole_line name (codes "line too long")
+option_fault_line name options.OpenQuote = whole_line name (codes "open quote")
+option_fault_line name (options.BadMem word) = word_line name word (codes "mem")
+option_fault_line name (options.BadMemmap word) = word_line name word (codes "memmap")
+option_fault_line name (options.BadCrash word) = word_line name word (codes "crashkernel")
+option_fault_line name (options.UserMapInvalid word) = word_line name word (codes "user map")
+option_fault_line name (options.BadNuma word) = word_line name word (codes "numa")
+option_fault_line name options.Memory = memory_line
+
+abbrev pub srat_fault_line : List ℕ → SratFault → List ℕ
+srat_fault_line name srat.Short = whole_line name (codes "short")
+srat_fault_line name srat.Signature = whole_line name (codes "signature")
+srat_fault_line name srat.Length = whole_line name (codes "length")
+srat_fault_line name srat.Checksum = whole_line name (codes "checksum")
+srat_fault_line name (srat.EntryLength offset) = offset_line name (codes "entry length") offset
+srat_fault_line name (srat.BlockTooFar offset) = offset_line name (codes "block too far") offset
+srat_fault_line name srat.Memory = memory_line
+
+abbrev pub script_fault_line : List ℕ → ScriptFault → List ℕ
+script_fault_line name (script.BadLine line) = numbered_line name line (codes "form")
+script_fault_line name (script.BadNumber line) = numbered_line name line (codes "number")
+script_fault_line name (script.BadAlign line) = numbered_line name line (codes "alignment")
+script_fault_line name (script.ZeroSize line) = numbered_line name line (codes "zero size")
+script_fault_line name (script.SecondSections line) = numbered_line name line (codes "second sections")
+script_fault_line name (script.TooFar line) = numbered_line name line (codes "too far")
+script_fault_line name script.Memory = memory_line
+
+abbrev pub page_fault_line : List ℕ → PageFault → List ℕ
+page_fault_line name (pages.BadLine line) = numbered_line name line (codes "form")
+page_fault_line name (pages.BadNumber line) = numbered_line name line (codes "number")
+page_fault_line name pages.Memory = memory_line
+
+abbrev pub slit_fault_line : List ℕ → SlitFault → List ℕ
+slit_fault_line name slit.Short = whole_line name (codes "short")
+slit_fault_line name slit.Signature = whole_line name (codes "signature")
+slit_fault_line name slit.Length = whole_line name (codes "length")
+slit_fault_line name slit.Checksum = whole_line name (codes "checksum")
+slit_fault_line name slit.Localities = whole_line name (codes "localities")
+slit_fault_line name slit.Memory = memory_line
+
+abbrev pub efi_fault_line : List ℕ → EfiFault → List ℕ
+efi_fault_line name efi.Header = whole_line name (codes "header")
+efi_fault_line name efi.Length = whole_line name (codes "length")
+efi_fault_line name (efi.TooFar index) = far_line name (codes "descriptor") index
+efi_fault_line name efi.Memory = memory_line
 
 abbrev pub fault_line : List ℕ → Fault → List ℕ
 fault_line name faults.TooLong = whole_line name (codes "too long")
-fault_line name (faults.ZeroPage fault) = zero_line name fault
-fault_line name (faults.EntryTooFar index) = far_line name (codes "entry") index
-fault_line name faults.Header = whole_line name (codes "header")
-fault_line name faults.Length = whole_line name (codes "length")
-fault_line name faults.LineTooLong = whole_line name (codes "line too long")
-fault_line name faults.OpenQuote = whole_line name (codes "open quote")
-fault_line name (faults.BadMem word) = word_line name word (codes "mem")
-fault_line name (faults.BadMemmap word) = word_line name word (codes "memmap")
-fault_line name (faults.BadCrash word) = word_line name word (codes "crashkernel")
-fault_line name (faults.UserMapInvalid word) = word_line name word (codes "user map")
-fault_line name (faults.BadNuma word) = word_line name word (codes "numa")
-fault_line name faults.Short = whole_line name (codes "short")
-fault_line name faults.Signature = whole_line name (codes "signature")
-fault_line name faults.Checksum = whole_line name (codes "checksum")
-fault_line name faults.Localities = whole_line name (codes "localities")
-fault_line name (faults.EntryLength offset) = offset_line name (codes "entry length") offset
-fault_line name (faults.BlockTooFar offset) = offset_line name (codes "block too far") offset
-fault_line name (faults.BadLine line) = numbered_line name line (codes "form")
-fault_line name (faults.BadNumber line) = numbered_line name line (codes "number")
-fault_line name (faults.BadAlign line) = numbered_line name line (codes "alignment")
-fault_line name (faults.ZeroSize line) = numbered_line name line (codes "zero size")
-fault_line name (faults.SecondSections line) = numbered_line name line (codes "second sections")
-fault_line name (faults.LineTooFar line) = numbered_line name line (codes "too far")
-fault_line name (faults.DescriptorTooFar index) = far_line name (codes "descriptor") index
+fault_line name (faults.ZeroPage fault) = zero_fault_line name fault
+fault_line name (faults.Extension fault) = extension_fault_line name fault
+fault_line name (faults.CommandLine fault) = option_fault_line name fault
+fault_line name (faults.Srat fault) = srat_fault_line name fault
+fault_line name (faults.Script fault) = script_fault_line name fault
+fault_line name (faults.Pages fault) = page_fault_line name fault
+fault_line name (faults.Slit fault) = slit_fault_line name fault
+fault_line name (faults.Efi fault) = efi_fault_line name fault
 
 -- the name of a table of memblock
 abbrev pub table_name : Which → List ℕ
@@ -119,7 +174,7 @@ reason_line accepted (reasons.Stopped cause) = cause_line cause
 abbrev pub failure_line : Option Wanted → Failure → List ℕ
 failure_line accepted (failures.NoReport reason) = reason_line accepted reason
 failure_line accepted failures.Unwritten = codes "bootmem: cannot write\n"
-failure_line accepted failures.Memory = codes "bootmem: out of memory\n"
+failure_line accepted failures.Memory = memory_line
 
 -- the front of the line was appended to the output, and all of it unless the output itself failed; `sink` is what the
 -- output's kind tells

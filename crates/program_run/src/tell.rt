@@ -1,21 +1,25 @@
-//! The line of a failure, chunk by chunk: it takes no memory, and no kind of failure that comes here can be
-//! want of memory under another name.
+//! The line of a failure, chunk by chunk: it takes no memory.
 
-ghost use Rattle.std.specs.Prelude.{◌≡◌, Option, Some, None, flat_map};
+ghost use Rattle.std.specs.Prelude.{◌≡◌, Some, None, flat_map};
 ghost use Rattle.program_run.specs.declared.failure.Failure.TheVariants as failures;
 ghost use Rattle.program_run.specs.declared.failure.Reason.TheVariants as reasons;
-ghost use Rattle.program_run.specs.Line.{PutsLine, cause_line, failure_line, far_line, fault_line, name_text, numbered_line, offset_line, place_line, reason_line, refusal_line, table_line, table_name, thing_line, whole_line, word_line, zero_line};
+ghost use Rattle.program_run.specs.Line.{PutsLine, cause_line, efi_fault_line, extension_fault_line, failure_line, far_line, fault_line, memory_line, name_text, numbered_line, offset_line, option_fault_line, page_fault_line, place_line, reason_line, refusal_line, script_fault_line, slit_fault_line, srat_fault_line, table_line, table_name, thing_line, whole_line, word_line, zero_fault_line};
 ghost use Rattle.program_words.specs.View.{wanted_view};
-ghost use Rattle.program_words.specs.Words.{Wanted as AnyWanted};
 
 use crate::failure::{Failure, Reason};
 use bm_io::{Sink, put_all};
 use boot_inputs::{Fault, Input, InputRefusal, Names};
 use boot_model::Cause;
-use e820_table::ZeroFault;
+use boot_options::OptionFault;
+use e820_table::{ExtFault, ZeroFault};
+use efi_map::EfiFault;
 use itoa::Buffer;
 use memblock_model::Which;
+use page_alloc::PageFault;
 use program_words::Wanted;
+use script_reader::ScriptFault;
+use slit_zonelists::SlitFault;
+use srat_reader::SratFault;
 use stage_model::What;
 
 /// Puts the line of refused words on the error output.
@@ -25,9 +29,9 @@ pub fn tell_usage<E: Sink>(err: &mut E)
     put_line(err, &["bootmem: usage\n"])
 }
 
-/// Puts the line of want of memory on the error output, whatever the words ask for.
+/// Puts the line of want of memory on the error output.
 pub fn tell_memory<E: Sink>(err: &mut E)
-    ensures { (accepted : Option AnyWanted) → PutsLine E.Sink err.old err.new (failure_line accepted failures.Memory) }
+    ensures { PutsLine E.Sink err.old err.new memory_line }
 {
     put_line(err, &["bootmem: out of memory\n"])
 }
@@ -76,42 +80,25 @@ fn name_text<'a>(wanted: &'a Wanted<'_>, input: Input) -> &'a str
     wanted.of(input).unwrap_or("")
 }
 
-/// The line of a fault of the input of that name.
+/// The line of a fault of the input of that name. A reader's want of memory is none (`bytes_want_no_memory`), so it never comes.
 fn tell_fault<E: Sink>(err: &mut E, name: &str, fault: Fault)
     ensures { PutsLine E.Sink err.old err.new (fault_line name.now fault) }
 {
     match fault {
         Fault::TooLong => tell_whole(err, name, "too long"),
         Fault::ZeroPage(fault) => tell_zero(err, name, fault),
-        Fault::EntryTooFar { index } => tell_far(err, name, "entry", index),
-        Fault::Header => tell_whole(err, name, "header"),
-        Fault::Length => tell_whole(err, name, "length"),
-        Fault::LineTooLong => tell_whole(err, name, "line too long"),
-        Fault::OpenQuote => tell_whole(err, name, "open quote"),
-        Fault::BadMem { word } => tell_word(err, name, word, "mem"),
-        Fault::BadMemmap { word } => tell_word(err, name, word, "memmap"),
-        Fault::BadCrash { word } => tell_word(err, name, word, "crashkernel"),
-        Fault::UserMapInvalid { word } => tell_word(err, name, word, "user map"),
-        Fault::BadNuma { word } => tell_word(err, name, word, "numa"),
-        Fault::Short => tell_whole(err, name, "short"),
-        Fault::Signature => tell_whole(err, name, "signature"),
-        Fault::Checksum => tell_whole(err, name, "checksum"),
-        Fault::Localities => tell_whole(err, name, "localities"),
-        Fault::EntryLength { offset } => tell_offset(err, name, "entry length", offset),
-        Fault::BlockTooFar { offset } => tell_offset(err, name, "block too far", offset),
-        Fault::BadLine { line } => tell_line(err, name, line, "form"),
-        Fault::BadNumber { line } => tell_line(err, name, line, "number"),
-        Fault::BadAlign { line } => tell_line(err, name, line, "alignment"),
-        Fault::ZeroSize { line } => tell_line(err, name, line, "zero size"),
-        Fault::SecondSections { line } => tell_line(err, name, line, "second sections"),
-        Fault::LineTooFar { line } => tell_line(err, name, line, "too far"),
-        Fault::DescriptorTooFar { index } => tell_far(err, name, "descriptor", index),
+        Fault::Extension(fault) => tell_extension(err, name, fault),
+        Fault::CommandLine(fault) => tell_option(err, name, fault),
+        Fault::Srat(fault) => tell_srat(err, name, fault),
+        Fault::Script(fault) => tell_script(err, name, fault),
+        Fault::Pages(fault) => tell_pages(err, name, fault),
+        Fault::Slit(fault) => tell_slit(err, name, fault),
+        Fault::Efi(fault) => tell_efi(err, name, fault),
     }
 }
 
-/// The line of a fault of the zero page.
 fn tell_zero<E: Sink>(err: &mut E, name: &str, fault: ZeroFault)
-    ensures { PutsLine E.Sink err.old err.new (zero_line name.now fault) }
+    ensures { PutsLine E.Sink err.old err.new (zero_fault_line name.now fault) }
 {
     match fault {
         ZeroFault::WrongLength => tell_whole(err, name, "wrong length"),
@@ -119,6 +106,94 @@ fn tell_zero<E: Sink>(err: &mut E, name: &str, fault: ZeroFault)
         ZeroFault::TooMany => tell_whole(err, name, "too many entries"),
         ZeroFault::EntryTooFar { index } => tell_far(err, name, "entry", index),
         ZeroFault::InitrdTooFar => tell_whole(err, name, "initrd too far"),
+    }
+}
+
+fn tell_extension<E: Sink>(err: &mut E, name: &str, fault: ExtFault)
+    ensures { PutsLine E.Sink err.old err.new (extension_fault_line name.now fault) }
+{
+    match fault {
+        ExtFault::EntryTooFar { index } => tell_far(err, name, "entry", index),
+        ExtFault::ExtHeader => tell_whole(err, name, "header"),
+        ExtFault::ExtLength => tell_whole(err, name, "length"),
+        ExtFault::Memory => tell_memory(err),
+    }
+}
+
+fn tell_option<E: Sink>(err: &mut E, name: &str, fault: OptionFault)
+    ensures { PutsLine E.Sink err.old err.new (option_fault_line name.now fault) }
+{
+    match fault {
+        OptionFault::TooLong => tell_whole(err, name, "line too long"),
+        OptionFault::OpenQuote => tell_whole(err, name, "open quote"),
+        OptionFault::BadMem { word } => tell_word(err, name, word, "mem"),
+        OptionFault::BadMemmap { word } => tell_word(err, name, word, "memmap"),
+        OptionFault::BadCrash { word } => tell_word(err, name, word, "crashkernel"),
+        OptionFault::UserMapInvalid { word } => tell_word(err, name, word, "user map"),
+        OptionFault::BadNuma { word } => tell_word(err, name, word, "numa"),
+        OptionFault::Memory => tell_memory(err),
+    }
+}
+
+fn tell_srat<E: Sink>(err: &mut E, name: &str, fault: SratFault)
+    ensures { PutsLine E.Sink err.old err.new (srat_fault_line name.now fault) }
+{
+    match fault {
+        SratFault::Short => tell_whole(err, name, "short"),
+        SratFault::Signature => tell_whole(err, name, "signature"),
+        SratFault::Length => tell_whole(err, name, "length"),
+        SratFault::Checksum => tell_whole(err, name, "checksum"),
+        SratFault::EntryLength { offset } => tell_offset(err, name, "entry length", offset),
+        SratFault::BlockTooFar { offset } => tell_offset(err, name, "block too far", offset),
+        SratFault::Memory => tell_memory(err),
+    }
+}
+
+fn tell_script<E: Sink>(err: &mut E, name: &str, fault: ScriptFault)
+    ensures { PutsLine E.Sink err.old err.new (script_fault_line name.now fault) }
+{
+    match fault {
+        ScriptFault::BadLine { line } => tell_line(err, name, line, "form"),
+        ScriptFault::BadNumber { line } => tell_line(err, name, line, "number"),
+        ScriptFault::BadAlign { line } => tell_line(err, name, line, "alignment"),
+        ScriptFault::ZeroSize { line } => tell_line(err, name, line, "zero size"),
+        ScriptFault::SecondSections { line } => tell_line(err, name, line, "second sections"),
+        ScriptFault::TooFar { line } => tell_line(err, name, line, "too far"),
+        ScriptFault::Memory => tell_memory(err),
+    }
+}
+
+fn tell_pages<E: Sink>(err: &mut E, name: &str, fault: PageFault)
+    ensures { PutsLine E.Sink err.old err.new (page_fault_line name.now fault) }
+{
+    match fault {
+        PageFault::BadLine { line } => tell_line(err, name, line, "form"),
+        PageFault::BadNumber { line } => tell_line(err, name, line, "number"),
+        PageFault::Memory => tell_memory(err),
+    }
+}
+
+fn tell_slit<E: Sink>(err: &mut E, name: &str, fault: SlitFault)
+    ensures { PutsLine E.Sink err.old err.new (slit_fault_line name.now fault) }
+{
+    match fault {
+        SlitFault::Short => tell_whole(err, name, "short"),
+        SlitFault::Signature => tell_whole(err, name, "signature"),
+        SlitFault::Length => tell_whole(err, name, "length"),
+        SlitFault::Checksum => tell_whole(err, name, "checksum"),
+        SlitFault::Localities => tell_whole(err, name, "localities"),
+        SlitFault::Memory => tell_memory(err),
+    }
+}
+
+fn tell_efi<E: Sink>(err: &mut E, name: &str, fault: EfiFault)
+    ensures { PutsLine E.Sink err.old err.new (efi_fault_line name.now fault) }
+{
+    match fault {
+        EfiFault::Header => tell_whole(err, name, "header"),
+        EfiFault::Length => tell_whole(err, name, "length"),
+        EfiFault::TooFar { index } => tell_far(err, name, "descriptor", index),
+        EfiFault::Memory => tell_memory(err),
     }
 }
 
