@@ -1,10 +1,16 @@
-//! Entries and runs of the map, a zero page, and a file in memory, each of what a case gives.
+//! Entries and runs of the map, a zero page, a file in memory and a boot, each of what a case gives.
 
 ghost use Rattle.std.specs.Prelude.{◌≡◌, ◌+◌, ◌^◌, ◌<◌, ◌≤◌, length, IfOk, string_bytes};
-ghost use Rattle.e820_model.specs.Claims.{EndInSpace};
+ghost use Rattle.e820_model.specs.Claims.{EndInSpace, HaveTypes};
+ghost use Rattle.boot_model.specs.View.{booted_view};
+ghost use Rattle.debugfs_reports.specs.Report.{records_told};
+ghost use Rattle.debugfs_reports.specs.Stand.{TablesStand};
 
-use bm_base::Range;
+use bm_base::{Range, Width};
 use bm_io::MemFile;
+use boot_model::{Booted, Inputs, Stop};
+use boot_options::{Options, read_options};
+use boot_stages::boot;
 use byteorder::{ByteOrder, LittleEndian};
 use e820_model::{Entry, Run};
 use std::alloc::Global;
@@ -60,6 +66,20 @@ pub fn nested() -> [Entry; 2]
     [entry(0, 0x800_0000, 1), entry(0x20_0000, 0x10_0000, 2)]
 }
 
+/// A virtual machine of 128 MiB.
+pub fn machine() -> [Entry; 6]
+    ensures { EndInSpace result }
+{
+    [
+        entry(0, 0x9_FC00, 1),
+        entry(0x9_FC00, 0x400, 2),
+        entry(0xF_0000, 0x1_0000, 2),
+        entry(0x10_0000, 0x7EE_0000, 1),
+        entry(0x7FE_0000, 0x2_0000, 2),
+        entry(0xFFFC_0000, 0x4_0000, 2),
+    ]
+}
+
 pub fn run(base: u64, size: u64, kind: u32) -> Run
     requires { base + size < 2 ^ 64 }
     ensures { result ≡ record { base = base; size = size; value = kind } }
@@ -96,4 +116,28 @@ pub fn file(alloc: Global, name: &str, bytes: &[u8]) -> Result<MemFile, Fail>
         name: String::from_str(alloc, name)?,
         bytes: Vec::from_slice(alloc, bytes)?,
     })
+}
+
+/// The extension's entries of a boot.
+pub fn put_entries(inputs: &mut Inputs, entries: Vec<Entry>)
+    requires { EndInSpace entries.items }
+{
+    inputs.ext = entries;
+}
+
+fn put_options(inputs: &mut Inputs, options: Options)
+    requires { HaveTypes options.edits.items }
+{
+    inputs.options = options;
+}
+
+/// The boot of these entries, which come as an extension, and of this line.
+pub fn booted(alloc: Global, entries: &[Entry], line: &[u8]) -> Result<Result<Booted, Stop>, Fail>
+    requires { EndInSpace entries.now }
+    ensures { IfOk result (λ answer. IfOk answer (λ booted. TablesStand (records_told (booted_view booted)) booted)) }
+{
+    let mut inputs = Inputs::begun(alloc, Width::Bits46, KERNEL);
+    put_entries(&mut inputs, Vec::from_slice(alloc, entries)?);
+    put_options(&mut inputs, read_options(alloc, line)?);
+    Ok(boot(alloc, inputs))
 }

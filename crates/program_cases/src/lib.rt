@@ -21,6 +21,8 @@ mod of_boot_options;
 #[cfg(test)]
 mod of_boot_stages;
 #[cfg(test)]
+mod of_debugfs_reports;
+#[cfg(test)]
 mod of_e820_model;
 #[cfg(test)]
 mod of_e820_sanitise;

@@ -1,13 +1,14 @@
 //! The boot on maps that overlap, are edited and stop it, by runs from outside, and what it does to memory.
 
 ghost use Rattle.std.specs.List.{All};
-ghost use Rattle.e820_model.specs.Claims.{EndInSpace, HaveTypes};
+ghost use Rattle.e820_model.specs.Claims.{EndInSpace};
 ghost use Rattle.boot_model.specs.Mirrors.{IsMirror};
 
-use crate::common::{FIRST_640K, FIRST_PAGE, KERNEL, entry, nested, run};
+use crate::common::{
+    FIRST_640K, FIRST_PAGE, KERNEL, booted, entry, machine, nested, put_entries, run,
+};
 use bm_base::{Range, Width};
-use boot_model::{Booted, Inputs, Stop};
-use boot_options::{Options, read_options};
+use boot_model::{Inputs, Stop};
 use boot_stages::boot;
 use e820_model::Run;
 use e820_table::Entry;
@@ -15,42 +16,6 @@ use report_texts::put_journal;
 use std::alloc::Global;
 use std::process::Abort;
 use std::test::Fail;
-
-// A virtual machine of 128 MiB.
-fn machine() -> [Entry; 6]
-    ensures { EndInSpace result }
-{
-    [
-        entry(0, 0x9_FC00, 1),
-        entry(0x9_FC00, 0x400, 2),
-        entry(0xF_0000, 0x1_0000, 2),
-        entry(0x10_0000, 0x7EE_0000, 1),
-        entry(0x7FE_0000, 0x2_0000, 2),
-        entry(0xFFFC_0000, 0x4_0000, 2),
-    ]
-}
-
-fn put_entries(inputs: &mut Inputs, entries: Vec<Entry>)
-    requires { EndInSpace entries.items }
-{
-    inputs.ext = entries;
-}
-
-fn put_options(inputs: &mut Inputs, options: Options)
-    requires { HaveTypes options.edits.items }
-{
-    inputs.options = options;
-}
-
-// The boot of these entries, which come as an extension, and of this line.
-fn booted(alloc: Global, entries: &[Entry], line: &[u8]) -> Result<Result<Booted, Stop>, Fail>
-    requires { EndInSpace entries.now }
-{
-    let mut inputs = Inputs::begun(alloc, Width::Bits46, KERNEL);
-    put_entries(&mut inputs, Vec::from_slice(alloc, entries)?);
-    put_options(&mut inputs, read_options(alloc, line)?);
-    Ok(boot(alloc, inputs))
-}
 
 fn expect(
     rt: &impl Abort,

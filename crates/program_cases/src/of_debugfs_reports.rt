@@ -1,0 +1,63 @@
+//! The reports of a boot whose map has two runs of one type side by side, as a caller's map may have and that of a boot has not.
+
+ghost use Rattle.e820_usable.specs.Ascend.{Ascend};
+
+use crate::common::{FIRST_PAGE, booted, machine, run};
+use debugfs_reports::{Report, render};
+use e820_model::Run;
+use std::test::Fail;
+
+/// The map of the machine, with its greatest run in two.
+fn split_map() -> [Run; 8]
+    ensures { Ascend result }
+{
+    [
+        FIRST_PAGE,
+        run(0x1000, 0x9_EC00, 1),
+        run(0x9_FC00, 0x400, 2),
+        run(0xF_0000, 0x1_0000, 2),
+        run(0x10_0000, 0x300_0000, 1),
+        run(0x310_0000, 0x4EE_0000, 1),
+        run(0x7FE_0000, 0x2_0000, 2),
+        run(0xFFFC_0000, 0x4_0000, 2),
+    ]
+}
+
+/// Its text has a line for each of both.
+const MAP: &str = "0x0000000000000000..0x0000000000000fff 2 reserved\n\
+                   0x0000000000001000..0x000000000009fbff 1 usable\n\
+                   0x000000000009fc00..0x000000000009ffff 2 reserved\n\
+                   0x00000000000f0000..0x00000000000fffff 2 reserved\n\
+                   0x0000000000100000..0x00000000030fffff 1 usable\n\
+                   0x0000000003100000..0x0000000007fdffff 1 usable\n\
+                   0x0000000007fe0000..0x0000000007ffffff 2 reserved\n\
+                   0x00000000fffc0000..0x00000000ffffffff 2 reserved\n";
+
+/// One run more than the boot's map has, and as many frames.
+const SUMMARY: &str = "runs 8\nusable 32638\nfree 23727\n\
+                       memory records 2 room 128\nreserved records 5 room 128\nblocks 31\n";
+
+#[test]
+fn runs_that_touch(rt: HostRuntime) -> Result<(), Fail> {
+    let alloc = rt.alloc();
+    let Ok(mut booted) = booted(alloc, &machine(), b"")? else {
+        return Err("the boot stops".into());
+    };
+    let split = split_map();
+    let whole = [
+        split[0],
+        split[1],
+        split[2],
+        split[3],
+        run(0x10_0000, 0x7EE_0000, 1),
+        split[6],
+        split[7],
+    ];
+    assert!(rt; booted.map.as_slice() == whole.as_slice());
+    booted.map = Vec::from_slice(alloc, &split)?;
+    let map = render(alloc, Report::Map, &booted)?;
+    assert!(rt; map.as_slice() == MAP.as_bytes());
+    let summary = render(alloc, Report::Summary, &booted)?;
+    assert!(rt; summary.as_slice() == SUMMARY.as_bytes());
+    Ok(())
+}
