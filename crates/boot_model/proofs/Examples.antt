@@ -40,8 +40,8 @@ use Rattle.crash_kernel.specs.declared.crash.Crash.{Crash}
 use Rattle.crash_kernel.specs.declared.crash.Crash.TheVariants as crash
 use Rattle.sparse_sections.specs.Roots.{roots_view}
 use Rattle.growth_model.specs.declared.refusal.Refusal.TheVariants as refusal
-use Rattle.stage_model.specs.declared.stop.StageStop.TheVariants as stage
-use Rattle.stage_model.specs.declared.stop.What.TheVariants as what
+use Rattle.memblock_grow.specs.declared.stop.StageStop.TheVariants as stage
+use Rattle.memblock_grow.specs.declared.stop.What.TheVariants as what
 use Rattle.boot_model.specs.Boot.{Given, BootSoFar, added, begin, begin_with, begun, behind_lines, boot, claims, early_of, handed_over, has_room, lies_in_memory, mirrors_of, no_nodes, no_options, put_crash, put_nodes, put_sections, reach, reach_told, runs_lines, script_at, told, told_boot, unless_stopped, with_items}
 use Rattle.early_stages.specs.Early.{FrameRange}
 use Rattle.boot_model.specs.Kernel.{IsKernel, is_kernel}

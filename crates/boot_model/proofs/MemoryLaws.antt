@@ -29,7 +29,7 @@ use Rattle.numa_nodes.specs.Assigned.{assigned}
 use Rattle.numa_nodes.proofs.MemoryLaws.{keeps-limit, keeps-memory}
 use Rattle.crash_kernel.specs.Reserved.{reserved}
 use Rattle.crash_kernel.proofs.QuietLaws.{quiet-reserved}
-use Rattle.stage_model.specs.declared.section.Section.{Section}
+use Rattle.memblock_grow.specs.declared.section.Section.{Section}
 use Rattle.stage_model.specs.Quiet.{IsQuietStep}
 use Rattle.stage_model.specs.Doing.{◌>>=◌, returns, listed}
 use Rattle.stage_model.proofs.QuietLaws.{quiet-appended_limit, quiet-appended_memory, quiet-bind, quiet-listed, quiet-returns}

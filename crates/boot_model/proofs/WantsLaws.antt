@@ -14,11 +14,11 @@ use Rattle.memblock_model.specs.declared.request.Request.{Request}
 use Rattle.growth_model.specs.Outcome.{Change, Refused}
 use Rattle.growth_model.specs.Growth.{claimed, freed, noded}
 use Rattle.growth_model.specs.Request.{place_for}
-use Rattle.stage_model.specs.declared.section.Section.{Section}
-use Rattle.stage_model.specs.declared.stop.What.{What}
-use Rattle.stage_model.specs.declared.stop.What.TheVariants as what
-use Rattle.stage_model.specs.declared.stop.StageStop.{StageStop}
-use Rattle.stage_model.specs.declared.stop.StageStop.TheVariants as stage
+use Rattle.memblock_grow.specs.declared.section.Section.{Section}
+use Rattle.memblock_grow.specs.declared.stop.What.{What}
+use Rattle.memblock_grow.specs.declared.stop.What.TheVariants as what
+use Rattle.memblock_grow.specs.declared.stop.StageStop.{StageStop}
+use Rattle.memblock_grow.specs.declared.stop.StageStop.TheVariants as stage
 use Rattle.stage_model.specs.Doing.{Done, Doing, ◌>>=◌, after, going_on, in_turn, listed, returns, seen, stops}
 use Rattle.stage_model.specs.Requests.{allocated, carried, changes, claimed_at, or_else, or_stop, placed, refusal_of, refused_growth, unless_gap}
 use Rattle.address_runs.specs.Runs.{extent_of}

@@ -2,8 +2,8 @@
 use Rattle.std.specs.Prelude.{List, []}
 use Rattle.bm_base.specs.declared.width.Width.{Width}
 use Rattle.memblock_model.specs.Items.{memory_of}
-use Rattle.stage_model.specs.declared.section.Section.{Section}
-use Rattle.stage_model.specs.declared.stop.StageStop.{StageStop}
+use Rattle.memblock_grow.specs.declared.section.Section.{Section}
+use Rattle.memblock_grow.specs.declared.stop.StageStop.{StageStop}
 use Rattle.stage_model.specs.Doing.{Doing, ◌>>=◌, returns, listed}
 use Rattle.sparse_sections.specs.Present.{present}
 use Rattle.sparse_sections.specs.Roots.{RootsPlaced, roots}

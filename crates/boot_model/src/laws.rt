@@ -16,7 +16,7 @@ ghost use Rattle.memblock_model.specs.Items.{limit_of, memory_of};
 ghost use Rattle.early_stages.specs.Memory.{memory_end};
 ghost use Rattle.memblock_model.specs.declared.item.Item.{Item};
 ghost use Rattle.growth_model.specs.declared.refusal.Refusal.TheVariants as refusal;
-ghost use Rattle.stage_model.specs.declared.stop.StageStop.TheVariants as stage;
+ghost use Rattle.memblock_grow.specs.declared.stop.StageStop.TheVariants as stage;
 ghost use Rattle.srat_reader.specs.Table.{Affinity};
 ghost use Rattle.numa_nodes.specs.Assigned.{assigned};
 ghost use Rattle.boot_options.specs.Crash.{CrashWords as Asked};

@@ -6,8 +6,8 @@ ghost use Rattle.boot_model.specs.Stop.{cause_of};
 
 use bm_base::Memory;
 use e820_usable::MapStop;
+use memblock_grow::What;
 use memblock_model::Which;
-use stage_model::What;
 
 /// Why a boot stops, want of memory apart; numbered from 1 in this order.
 #[derive(Clone, Copy, Debug, PartialEq, Eq)]

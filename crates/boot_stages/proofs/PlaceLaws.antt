@@ -3,9 +3,9 @@ use Rattle.std.proofs.Common.{◌≡◌, List, Result, Ok, Err, refl, subst}
 use Rattle.bm_base.specs.declared.width.Width.{Width}
 use Rattle.memblock_model.specs.declared.item.Item.{Item}
 use Rattle.memblock_model.specs.Items.{memory_of}
-use Rattle.stage_model.specs.declared.section.Section.{Section}
-use Rattle.stage_model.specs.declared.stop.StageStop.{StageStop}
-use Rattle.stage_model.specs.declared.stop.StageStop.TheVariants as stage
+use Rattle.memblock_grow.specs.declared.section.Section.{Section}
+use Rattle.memblock_grow.specs.declared.stop.StageStop.{StageStop}
+use Rattle.memblock_grow.specs.declared.stop.StageStop.TheVariants as stage
 use Rattle.stage_model.specs.Doing.{Doing, EndsAs, ◌>>=◌, ok_as, returns, listed}
 use Rattle.stage_model.proofs.DoingLaws.{ends-first, ends-listed, ends-second, ends-wanting}
 use Rattle.sparse_sections.specs.Present.{present}

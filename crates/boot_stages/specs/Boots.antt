@@ -20,8 +20,8 @@ use Rattle.buddy_handover.specs.Contents.{Contents as Buddy, free}
 use Rattle.boot_model.specs.declared.stop.Cause.TheVariants as causes
 use Rattle.boot_model.specs.declared.stop.Stop.{Stop}
 use Rattle.boot_model.specs.declared.stop.Stop.TheVariants as stops
-use Rattle.stage_model.specs.declared.stop.StageStop.{StageStop}
-use Rattle.stage_model.specs.declared.stop.StageStop.TheVariants as stage
+use Rattle.memblock_grow.specs.declared.stop.StageStop.{StageStop}
+use Rattle.memblock_grow.specs.declared.stop.StageStop.TheVariants as stage
 use Rattle.numa_nodes.specs.Assigned.{Noded, nodes_view}
 use Rattle.crash_kernel.specs.declared.crash.Crash.{Crash}
 use Rattle.sparse_sections.specs.Roots.{roots_view}

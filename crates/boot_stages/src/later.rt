@@ -7,7 +7,7 @@ ghost use Rattle.memblock_model.specs.Items.{limit_of, memory_of};
 ghost use Rattle.growth_model.specs.Ends.{IsCutShort};
 ghost use Rattle.growth_model.specs.Sound.{HasBegun};
 ghost use Rattle.memblock_grow.specs.Kept.{StayReady};
-ghost use Rattle.stage_model.specs.declared.stop.StageStop.TheVariants as stage;
+ghost use Rattle.memblock_grow.specs.declared.stop.StageStop.TheVariants as stage;
 ghost use Rattle.stage_model.specs.Doing.{EndsAs, ok_as};
 ghost use Rattle.stage_model.specs.Noded.{IsNoded};
 ghost use Rattle.stage_model.specs.Lent.{GoesOn};

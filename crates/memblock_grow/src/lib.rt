@@ -14,6 +14,9 @@
 //! one place may be prepared that the memory table was to grow into (`prepared`, `specs/Prepared.antt`); `new` prepares both tables, and
 //! `fill` its range.
 //!
+//! What the stages of a boot place by it ([`What`]), why a stage stops a boot ([`StageStop`]) and a piece of memory of 128 MiB with
+//! its node ([`Section`]) are plain data that stages have in common.
+//!
 //! - `src/reserved.rt`: growth of the reserved table, claims and freeings.
 //! - `src/memory.rt`: growth of the memory table, added ranges, nodes and mirrors.
 //! - `src/request.rt`: what an allocation tries.
@@ -29,6 +32,10 @@ mod more;
 mod places;
 mod request;
 mod reserved;
+mod section;
+mod stop;
 
 pub use growth_model::{Refusal, Request};
 pub use memblock::Memblock;
+pub use section::Section;
+pub use stop::{StageStop, What};

@@ -24,8 +24,8 @@ use Rattle.node_hulls.specs.Hulls.{NumaBlock}
 use Rattle.node_hulls.specs.Judgement.{Judgement, judged}
 use Rattle.node_hulls.specs.Kept.{in_any}
 use Rattle.node_hulls.proofs.GivenLaws.{given-small}
-use Rattle.stage_model.specs.declared.stop.StageStop.{StageStop}
-use Rattle.stage_model.specs.declared.stop.StageStop.TheVariants as stop
+use Rattle.memblock_grow.specs.declared.stop.StageStop.{StageStop}
+use Rattle.memblock_grow.specs.declared.stop.StageStop.TheVariants as stop
 use Rattle.stage_model.specs.Doing.{Doing, EndsAs, in_turn, returns, listed, ◌>>=◌}
 use Rattle.stage_model.proofs.DoingLaws.{ends-along, ends-first, ends-listed, ends-second, ends-wanting}
 use Rattle.numa_nodes.specs.Assigned.{Noded, assigned, assigned_by, data_placed, given, is_memory, noded_by, nodes_with_memory, ranges_by, ranges_given, with_data}

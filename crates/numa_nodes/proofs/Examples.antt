@@ -9,7 +9,7 @@ use Rattle.node_hulls.specs.declared.reasons.Why.TheVariants as why
 use Rattle.node_hulls.specs.Hulls.{NumaBlock}
 use Rattle.node_hulls.specs.Judgement.{Judgement, unused}
 use Rattle.growth_model.specs.Outcome.{refuse}
-use Rattle.stage_model.specs.declared.stop.StageStop.TheVariants as stop
+use Rattle.memblock_grow.specs.declared.stop.StageStop.TheVariants as stop
 use Rattle.stage_model.specs.Doing.{in_turn}
 use Rattle.stage_model.specs.Requests.{carried}
 use Rattle.numa_nodes.specs.Assigned.{given, has_node, is_memory, is_of_node, node_data_request, nodes_from, noded_by, nodes_with_memory, ranges_given, with_data}

@@ -19,8 +19,8 @@ use Rattle.growth_model.specs.Growth.{grown, memory_growth, noded, two}
 use Rattle.growth_model.specs.Outcome.{Outcome, Refused, followed_by, write}
 use Rattle.growth_model.specs.Outcome.{after as after_change}
 use Rattle.growth_model.proofs.QuietLaws.{memory_growth-quiet, quiet-grown}
-use Rattle.stage_model.specs.declared.stop.StageStop.{StageStop}
-use Rattle.stage_model.specs.declared.stop.What.TheVariants as what
+use Rattle.memblock_grow.specs.declared.stop.StageStop.{StageStop}
+use Rattle.memblock_grow.specs.declared.stop.What.TheVariants as what
 use Rattle.stage_model.specs.Doing.{Done, Doing, ◌>>=◌, after, appended, going_on, in_turn, returns, listed}
 use Rattle.stage_model.specs.Requests.{placed, refused_growth}
 use Rattle.stage_model.specs.Quiet.{IsQuietStep}

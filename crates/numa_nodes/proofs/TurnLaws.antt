@@ -5,9 +5,9 @@ use Rattle.std.proofs.lemmas.List.{drop_all}
 use Rattle.memblock_model.specs.declared.owner.Owner.TheVariants as owner
 use Rattle.memblock_model.specs.declared.item.Item.{Item}
 use Rattle.memblock_model.specs.declared.request.Request.{Request}
-use Rattle.stage_model.specs.declared.stop.What.TheVariants as what
-use Rattle.stage_model.specs.declared.stop.StageStop.{StageStop}
-use Rattle.stage_model.specs.declared.stop.StageStop.TheVariants as stop
+use Rattle.memblock_grow.specs.declared.stop.What.TheVariants as what
+use Rattle.memblock_grow.specs.declared.stop.StageStop.{StageStop}
+use Rattle.memblock_grow.specs.declared.stop.StageStop.TheVariants as stop
 use Rattle.stage_model.specs.Doing.{Done, Doing, EndsAs, in_turn, returns, ◌>>=◌}
 use Rattle.stage_model.specs.Requests.{placed}
 use Rattle.stage_model.proofs.DoingLaws.{ends-along, ends-first, ends-second}

@@ -15,8 +15,8 @@ use Rattle.node_hulls.specs.Hulls.{NumaBlock}
 use Rattle.node_hulls.specs.Judgement.{Judgement, judged}
 use Rattle.memblock_model.specs.declared.request.Request.{Request}
 use Rattle.growth_model.specs.Growth.{noded}
-use Rattle.stage_model.specs.declared.stop.What.TheVariants as what
-use Rattle.stage_model.specs.declared.stop.StageStop.{StageStop}
+use Rattle.memblock_grow.specs.declared.stop.What.TheVariants as what
+use Rattle.memblock_grow.specs.declared.stop.StageStop.{StageStop}
 use Rattle.stage_model.specs.Doing.{Doing, ◌>>=◌, returns, seen, listed, in_turn}
 use Rattle.stage_model.specs.Requests.{carried, placed}
 use Rattle.numa_nodes.specs.declared.nodes.Nodes.{Nodes}

@@ -5,7 +5,7 @@ ghost use Rattle.std.specs.Option.{ForSome, option_map, option_copied};
 ghost use Rattle.memblock_model.specs.Items.{limit_of};
 ghost use Rattle.srat_reader.specs.Table.{affinity};
 ghost use Rattle.growth_model.specs.Sound.{HasBegun};
-ghost use Rattle.stage_model.specs.declared.stop.StageStop.TheVariants as stops;
+ghost use Rattle.memblock_grow.specs.declared.stop.StageStop.TheVariants as stops;
 ghost use Rattle.stage_model.specs.Doing.{EndsAs, in_turn, ok_as};
 ghost use Rattle.stage_model.specs.Lent.{GoesOn};
 ghost use Rattle.node_hulls.specs.Judgement.{judgement};

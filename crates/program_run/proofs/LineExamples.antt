@@ -14,7 +14,7 @@ use Rattle.boot_inputs.specs.declared.input.Input.TheVariants as inputs
 use Rattle.boot_inputs.specs.declared.refusal.InputError.TheVariants as errors
 use Rattle.boot_inputs.specs.declared.refusal.InputRefusal.TheVariants as refusals
 use Rattle.memblock_model.specs.declared.which.Which.TheVariants as which
-use Rattle.stage_model.specs.declared.stop.What.TheVariants as what
+use Rattle.memblock_grow.specs.declared.stop.What.TheVariants as what
 use Rattle.boot_model.specs.declared.stop.Cause.TheVariants as causes
 use Rattle.boot_model.specs.declared.stop.Stop.TheVariants as stops
 use Rattle.program_run.specs.declared.failure.Reason.TheVariants as reasons

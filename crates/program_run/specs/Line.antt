@@ -28,8 +28,8 @@ use Rattle.boot_inputs.specs.declared.refusal.InputRefusal.TheVariants as refusa
 use Rattle.boot_inputs.specs.Input.{word_for}
 use Rattle.memblock_model.specs.declared.which.Which.{Which}
 use Rattle.memblock_model.specs.declared.which.Which.TheVariants as which
-use Rattle.stage_model.specs.declared.stop.What.{What}
-use Rattle.stage_model.specs.declared.stop.What.TheVariants as what
+use Rattle.memblock_grow.specs.declared.stop.What.{What}
+use Rattle.memblock_grow.specs.declared.stop.What.TheVariants as what
 use Rattle.boot_model.specs.declared.stop.Cause.{Cause}
 use Rattle.boot_model.specs.declared.stop.Cause.TheVariants as causes
 use Rattle.program_run.specs.declared.failure.Reason.{Reason}

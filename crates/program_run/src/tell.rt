@@ -14,13 +14,13 @@ use boot_options::OptionFault;
 use e820_table::{ExtFault, ZeroFault};
 use efi_map::EfiFault;
 use itoa::Buffer;
+use memblock_grow::What;
 use memblock_model::Which;
 use page_alloc::PageFault;
 use program_words::Wanted;
 use script_reader::ScriptFault;
 use slit_zonelists::SlitFault;
 use srat_reader::SratFault;
-use stage_model::What;
 
 /// Puts the line of refused words on the error output.
 pub fn tell_usage<E: Sink>(err: &mut E)

@@ -1,6 +1,6 @@
 -- Worked examples: sections in groups, the places within a group, and what is asked for.
 use Rattle.std.proofs.Common.{◌≡◌, ℕ, true, false, Some, None, List, [], ◌∷◌, refl}
-use Rattle.stage_model.specs.declared.section.Section.{Section}
+use Rattle.memblock_grow.specs.declared.section.Section.{Section}
 use Rattle.stage_model.specs.Doing.{returns, listed}
 use Rattle.section_maps.specs.Maps.{Group, sections_in, groups_of, usage_request, map_request, spread, map_each, maps}
 

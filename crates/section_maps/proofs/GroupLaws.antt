@@ -3,9 +3,9 @@ use Rattle.std.proofs.Common.{◌≡◌, ℕ, suc, ◌+◌, ◌<◌, ◌≤◌, 
 use Rattle.std.specs.List.{prefix_len}
 use Rattle.std.proofs.lemmas.Bool.{cases_Bool, eqb-true}
 use Rattle.memblock_model.specs.declared.item.Item.{Item}
-use Rattle.stage_model.specs.declared.section.Section.{Section}
-use Rattle.stage_model.specs.declared.stop.StageStop.{StageStop}
-use Rattle.stage_model.specs.declared.stop.StageStop.TheVariants as stop
+use Rattle.memblock_grow.specs.declared.section.Section.{Section}
+use Rattle.memblock_grow.specs.declared.stop.StageStop.{StageStop}
+use Rattle.memblock_grow.specs.declared.stop.StageStop.TheVariants as stop
 use Rattle.stage_model.specs.Doing.{EndsAs, listed, in_turn}
 use Rattle.stage_model.proofs.DoingLaws.{ends-second, ends-first, ends-listed, ends-wanting, ends-returns}
 use Rattle.section_maps.specs.declared.placed.Placed.{Placed}

@@ -9,10 +9,10 @@ use Rattle.growth_model.specs.declared.refusal.Refusal.TheVariants as refusal
 use Rattle.memblock_model.specs.declared.request.Request.{Request}
 use Rattle.growth_model.specs.Ends.{Allocates}
 use Rattle.growth_model.specs.Request.{place_for}
-use Rattle.stage_model.specs.declared.section.Section.{Section}
-use Rattle.stage_model.specs.declared.stop.What.TheVariants as what
-use Rattle.stage_model.specs.declared.stop.StageStop.{StageStop}
-use Rattle.stage_model.specs.declared.stop.StageStop.TheVariants as stop
+use Rattle.memblock_grow.specs.declared.section.Section.{Section}
+use Rattle.memblock_grow.specs.declared.stop.What.TheVariants as what
+use Rattle.memblock_grow.specs.declared.stop.StageStop.{StageStop}
+use Rattle.memblock_grow.specs.declared.stop.StageStop.TheVariants as stop
 use Rattle.stage_model.specs.Doing.{EndsAs, returns}
 use Rattle.stage_model.specs.Requests.{allocated, placed, or_else}
 use Rattle.stage_model.proofs.DoingLaws.{ends-second, ends-first, ends-returns}

@@ -3,9 +3,9 @@ use Rattle.std.specs.Prelude.{ℕ, ◌+◌, ◌*◌, ◌==◌, Bool, true, false
 use Rattle.memblock_model.specs.declared.owner.Owner.TheVariants as owner
 use Rattle.growth_model.specs.declared.refusal.Refusal.{Refusal}
 use Rattle.memblock_model.specs.declared.request.Request.{Request}
-use Rattle.stage_model.specs.declared.section.Section.{Section}
-use Rattle.stage_model.specs.declared.stop.What.TheVariants as what
-use Rattle.stage_model.specs.declared.stop.StageStop.{StageStop}
+use Rattle.memblock_grow.specs.declared.section.Section.{Section}
+use Rattle.memblock_grow.specs.declared.stop.What.TheVariants as what
+use Rattle.memblock_grow.specs.declared.stop.StageStop.{StageStop}
 use Rattle.stage_model.specs.Doing.{Doing, ◌>>=◌, returns, listed, in_turn}
 use Rattle.stage_model.specs.Requests.{allocated, placed, or_else}
 use Rattle.section_maps.specs.declared.placed.Placed.{Placed}

@@ -4,8 +4,8 @@
 ghost use Rattle.std.specs.Prelude.{◌≡◌, ◌+◌, ◌*◌, ◌^◌, ◌<◌, ◌≤◌, false, length, vec_len, vec_capacity};
 ghost use Rattle.memblock_model.specs.declared.owner.Owner.TheVariants as owner;
 ghost use Rattle.growth_model.specs.Sound.{HasBegun};
-ghost use Rattle.stage_model.specs.declared.stop.StageStop.TheVariants as stops;
-ghost use Rattle.stage_model.specs.declared.stop.What.TheVariants as what;
+ghost use Rattle.memblock_grow.specs.declared.stop.StageStop.TheVariants as stops;
+ghost use Rattle.memblock_grow.specs.declared.stop.What.TheVariants as what;
 ghost use Rattle.stage_model.specs.Doing.{EndsAs, ok_as};
 ghost use Rattle.stage_model.specs.Requests.{placed};
 ghost use Rattle.stage_model.specs.Lent.{GoesOn};

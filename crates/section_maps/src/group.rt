@@ -3,10 +3,10 @@
 ghost use Rattle.std.specs.Prelude.{◌≡◌, ℕ, ◌+◌, ◌*◌, ◌^◌, ◌<◌, ◌≤◌, ◌==◌, length, vec_len, vec_capacity};
 ghost use Rattle.std.specs.List.{prefix_len};
 ghost use Rattle.growth_model.specs.Sound.{HasBegun};
-ghost use Rattle.stage_model.specs.declared.stop.StageStop.TheVariants as stops;
+ghost use Rattle.memblock_grow.specs.declared.stop.StageStop.TheVariants as stops;
 ghost use Rattle.stage_model.specs.Doing.{EndsAs, ok_as};
 ghost use Rattle.stage_model.specs.Requests.{or_else};
-ghost use Rattle.stage_model.specs.declared.stop.What.TheVariants as what;
+ghost use Rattle.memblock_grow.specs.declared.stop.What.TheVariants as what;
 ghost use Rattle.stage_model.specs.Lent.{GoesOn};
 ghost use Rattle.section_maps.specs.Maps.{map_all, map_each, group_placed};
 

@@ -4,7 +4,7 @@
 ghost use Rattle.std.specs.Prelude.{◌≡◌, List};
 ghost use Rattle.memblock_model.specs.declared.item.Item.{Item as AnyItem};
 ghost use Rattle.memblock_model.specs.Items.{memory_of, limit_of};
-ghost use Rattle.stage_model.specs.declared.section.Section.{Section as AnySection};
+ghost use Rattle.memblock_grow.specs.declared.section.Section.{Section as AnySection};
 ghost use Rattle.stage_model.specs.Doing.{after};
 ghost use Rattle.section_maps.specs.Maps.{maps};
 

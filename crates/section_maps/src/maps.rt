@@ -3,7 +3,7 @@
 
 ghost use Rattle.std.specs.Prelude.{◌≡◌, ◌^◌, ◌<◌, ◌≤◌, AllPairs, length};
 ghost use Rattle.growth_model.specs.Sound.{HasBegun};
-ghost use Rattle.stage_model.specs.declared.stop.StageStop.TheVariants as stops;
+ghost use Rattle.memblock_grow.specs.declared.stop.StageStop.TheVariants as stops;
 ghost use Rattle.stage_model.specs.Doing.{EndsAs, ok_as};
 ghost use Rattle.stage_model.specs.Lent.{GoesOn};
 ghost use Rattle.section_maps.specs.Maps.{maps};

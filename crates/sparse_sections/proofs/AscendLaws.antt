@@ -4,7 +4,7 @@ use Rattle.std.specs.List.{All}
 use Rattle.std.proofs.lemmas.Bool.{cases_lt}
 use Rattle.std.proofs.lemmas.List.{append-nil, get_or_append_left, get_or-append_right}
 use Rattle.memblock_model.specs.Labels.{Label, Labels}
-use Rattle.stage_model.specs.declared.section.Section.{Section}
+use Rattle.memblock_grow.specs.declared.section.Section.{Section}
 use Rattle.stage_model.specs.Noded.{IsNoded}
 use Rattle.sparse_sections.specs.Present.{section_label, section_of, section_for, sections_below, present, IsLowest, AreSections}
 use Rattle.sparse_sections.proofs.LowestLaws.{present-lowest}

@@ -6,7 +6,7 @@ use Rattle.std.proofs.lemmas.Bool.{cases_lt}
 use Rattle.std.proofs.lemmas.List.{get_or_append_left, get_or-append_right}
 use Rattle.std.proofs.lemmas.List.Elements.{All-append, All-nil}
 use Rattle.memblock_model.specs.Labels.{Label, Labels}
-use Rattle.stage_model.specs.declared.section.Section.{Section}
+use Rattle.memblock_grow.specs.declared.section.Section.{Section}
 use Rattle.stage_model.specs.Noded.{AreOfFrames, IsNoded}
 use Rattle.sparse_sections.specs.Present.{first_label, section_label, section_of, section_for, sections_below, present, IsLowest, IsSectionAt}
 

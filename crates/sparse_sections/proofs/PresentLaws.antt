@@ -9,7 +9,7 @@ use Rattle.address_runs.proofs.RunsLaws.{inside, behind, none_below, rest_from}
 use Rattle.memblock_model.specs.Labels.{Label, Labels, plain_label}
 use Rattle.memblock_ranges.specs.declared.region.Region.{Region}
 use Rattle.memblock_ranges.specs.Spelling.{node_field, region_of}
-use Rattle.stage_model.specs.declared.section.Section.{Section}
+use Rattle.memblock_grow.specs.declared.section.Section.{Section}
 use Rattle.sparse_sections.specs.Present.{section_label, section_of, section_for, sections_below, present, sections_from, IsWholeNoded}
 use Rattle.sparse_sections.proofs.LabelLaws.{section-none, section-found}
 

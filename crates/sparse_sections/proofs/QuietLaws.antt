@@ -5,8 +5,8 @@ use Rattle.bm_base.specs.Width.{root_table_of}
 use Rattle.memblock_model.specs.declared.owner.Owner.TheVariants as owner
 use Rattle.memblock_model.specs.declared.item.Item.{Item}
 use Rattle.memblock_model.specs.Items.{memory_of, limit_of}
-use Rattle.stage_model.specs.declared.section.Section.{Section}
-use Rattle.stage_model.specs.declared.stop.What.TheVariants as what
+use Rattle.memblock_grow.specs.declared.section.Section.{Section}
+use Rattle.memblock_grow.specs.declared.stop.What.TheVariants as what
 use Rattle.stage_model.specs.Doing.{after, returns, listed, ◌>>=◌, in_turn}
 use Rattle.stage_model.specs.Requests.{placed}
 use Rattle.stage_model.specs.Quiet.{IsQuietStep}

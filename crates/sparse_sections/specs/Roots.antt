@@ -5,9 +5,9 @@ use Rattle.bm_base.specs.declared.width.Width.{Width}
 use Rattle.bm_base.specs.Width.{root_table_of}
 use Rattle.memblock_model.specs.declared.owner.Owner.TheVariants as owner
 use Rattle.memblock_model.specs.declared.request.Request.{Request}
-use Rattle.stage_model.specs.declared.section.Section.{Section}
-use Rattle.stage_model.specs.declared.stop.What.TheVariants as what
-use Rattle.stage_model.specs.declared.stop.StageStop.{StageStop}
+use Rattle.memblock_grow.specs.declared.section.Section.{Section}
+use Rattle.memblock_grow.specs.declared.stop.What.TheVariants as what
+use Rattle.memblock_grow.specs.declared.stop.StageStop.{StageStop}
 use Rattle.stage_model.specs.Doing.{Doing, ◌>>=◌, returns, listed, in_turn}
 use Rattle.stage_model.specs.Requests.{placed}
 use Rattle.sparse_sections.specs.declared.roots.RootPlace.{RootPlace}

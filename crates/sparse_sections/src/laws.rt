@@ -12,7 +12,7 @@ ghost use Rattle.memblock_model.specs.Labels.{Label, Labels};
 ghost use Rattle.memblock_model.specs.Items.{memory_of, limit_of};
 ghost use Rattle.memblock_model.specs.Tables.{records_of};
 ghost use Rattle.table_frames.specs.Tables.{AreWholeFrames};
-ghost use Rattle.stage_model.specs.declared.section.Section.{Section as AnySection};
+ghost use Rattle.memblock_grow.specs.declared.section.Section.{Section as AnySection};
 ghost use Rattle.stage_model.specs.Doing.{after};
 ghost use Rattle.stage_model.specs.Noded.{IsNoded};
 ghost use Rattle.sparse_sections.specs.Present.{present, IsWholeNoded, IsLowest, IsSectionAt, AreSections};

@@ -12,8 +12,8 @@ use Rattle.growth_model.specs.Request.{place_for}
 use Rattle.growth_model.specs.Carried.{AreQuiet, memory_items}
 use Rattle.growth_model.proofs.MemoryItemLaws.{quiet-append}
 use Rattle.growth_model.proofs.QuietLaws.{IsQuiet, claimed-quiet, quiet-memory_items, quiet-memory, quiet-limit}
-use Rattle.stage_model.specs.declared.stop.What.{What}
-use Rattle.stage_model.specs.declared.stop.StageStop.{StageStop}
+use Rattle.memblock_grow.specs.declared.stop.What.{What}
+use Rattle.memblock_grow.specs.declared.stop.StageStop.{StageStop}
 use Rattle.stage_model.specs.Doing.{Done, Doing, appended, after, returns, stops, seen, listed, going_on, ◌>>=◌, in_turn}
 use Rattle.stage_model.specs.Requests.{changes, claimed_at, allocated, placed, unless_gap, or_else}
 use Rattle.stage_model.specs.Quiet.{IsQuietStep}

@@ -12,9 +12,9 @@ use Rattle.growth_model.specs.Growth.{claimed}
 use Rattle.growth_model.specs.Request.{place_for}
 use Rattle.growth_model.specs.Ends.{IsCutShort, Ends, Allocates}
 use Rattle.growth_model.proofs.EndLaws.{cut-first, Ends-error}
-use Rattle.stage_model.specs.declared.stop.What.{What}
-use Rattle.stage_model.specs.declared.stop.StageStop.{StageStop}
-use Rattle.stage_model.specs.declared.stop.StageStop.TheVariants as stop
+use Rattle.memblock_grow.specs.declared.stop.What.{What}
+use Rattle.memblock_grow.specs.declared.stop.StageStop.{StageStop}
+use Rattle.memblock_grow.specs.declared.stop.StageStop.TheVariants as stop
 use Rattle.stage_model.specs.Doing.{Done, Doing, after, returns, EndsAs}
 use Rattle.stage_model.specs.Requests.{refusal_of, changes, refused_growth, carried, claimed_at, allocated, stop_for, or_stop, placed, unless_gap, or_else}
 use Rattle.stage_model.proofs.DoingLaws.{appended-joined, ends-second, ends-first, ends-along}

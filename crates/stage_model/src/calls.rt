@@ -5,16 +5,15 @@ ghost use Rattle.growth_model.specs.Ends.{IsCutShort};
 ghost use Rattle.growth_model.specs.Growth.{claimed, noded, new_in, two, is_full as is_full_by};
 ghost use Rattle.growth_model.specs.Request.{place_for};
 ghost use Rattle.growth_model.specs.Sound.{HasBegun};
-ghost use Rattle.stage_model.specs.declared.stop.StageStop.TheVariants as stops;
+ghost use Rattle.memblock_grow.specs.declared.stop.StageStop.TheVariants as stops;
 ghost use Rattle.stage_model.specs.Doing.{EndsAs};
 ghost use Rattle.stage_model.specs.Requests.{stop_for, placed, carried};
 ghost use Rattle.stage_model.specs.Lent.{GoesOn};
 
-use crate::stop::{StageStop, What};
 use bm_base::Range;
 use boot_journal::Owner;
 use growth_model::{Refusal, Request};
-use memblock_grow::Memblock;
+use memblock_grow::{Memblock, StageStop, What};
 
 /// Why the boot stops where the thing was refused.
 pub fn stop_for(what: What, refusal: Refusal) -> StageStop

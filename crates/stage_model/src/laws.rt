@@ -12,8 +12,8 @@ ghost use Rattle.memblock_model.specs.declared.request.Request.{Request as AnyRe
 ghost use Rattle.growth_model.specs.Outcome.{Change};
 ghost use Rattle.growth_model.specs.Request.{place_for};
 ghost use Rattle.growth_model.specs.Ends.{Ends, Allocates};
-ghost use Rattle.stage_model.specs.declared.stop.What.{What as AnyWhat};
-ghost use Rattle.stage_model.specs.declared.stop.StageStop.TheVariants as stop;
+ghost use Rattle.memblock_grow.specs.declared.stop.What.{What as AnyWhat};
+ghost use Rattle.memblock_grow.specs.declared.stop.StageStop.TheVariants as stop;
 ghost use Rattle.stage_model.specs.Doing.{after, EndsAs};
 ghost use Rattle.stage_model.specs.Requests.{changes, allocated, or_stop, placed};
 

@@ -17,17 +17,12 @@
 //! can't do without, each over a memblock that was lent. Each ends as its step says. A stage's loop carries two sentences
 //! along: as what is left ends, so does all; and the memblock went on.
 //!
-//! [`What`] names what a boot places, [`StageStop`] is why a stage stops it, and [`Section`] is a piece of memory of 128 MiB
-//! with its node. They are plain data, and stand here because the definitions speak of them. The functions of `laws` are
-//! laws over the definitions: they do nothing, and their contracts are proved.
+//! The functions of `laws` are laws over the definitions: they do nothing, and their contracts are proved.
 #![tactic(auto)]
 
 mod calls;
 mod laws;
-mod section;
-mod stop;
 
 pub use calls::{place, set_node, stand_still, stop_for};
 pub use laws::{allocations_leave_memory, calls_end_as_steps};
-pub use section::Section;
-pub use stop::{StageStop, What};
+pub use memblock_grow::{Section, StageStop, What};

@@ -9,8 +9,8 @@ use Rattle.memblock_model.specs.Items.{memory_of}
 use Rattle.memblock_model.specs.Labels.{Label}
 use Rattle.memblock_model.specs.Tables.{records_of}
 use Rattle.memblock_ranges.specs.Tables.{Table}
-use Rattle.stage_model.specs.declared.section.Section.{Section}
-use Rattle.stage_model.specs.declared.stop.StageStop.{StageStop}
+use Rattle.memblock_grow.specs.declared.section.Section.{Section}
+use Rattle.memblock_grow.specs.declared.stop.StageStop.{StageStop}
 use Rattle.stage_model.proofs.LentLaws.{goes-then}
 use Rattle.sparse_sections.specs.Present.{IsWholeNoded, present}
 use Rattle.sparse_sections.proofs.AscendLaws.{present-ascends}

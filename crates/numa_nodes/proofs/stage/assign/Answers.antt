@@ -11,7 +11,7 @@ use Rattle.bm_base.specs.Extent.{Extent}
 use Rattle.node_hulls.specs.Judgement.{judged, judgement}
 use Rattle.node_hulls.specs.Kept.{in_any}
 use Rattle.numa_nodes.specs.Assigned.{is_memory, nodes_view}
-use Rattle.stage_model.specs.declared.stop.StageStop.{StageStop}
+use Rattle.memblock_grow.specs.declared.stop.StageStop.{StageStop}
 use Rattle.stage_model.specs.Doing.{ok_as}
 use Rattle.numa_nodes.proofs.AssignLaws.{all-wanting, by-judgement, can-get, goes-lent, ranges-tell, records-tell}
 use Rattle.numa_nodes.proofs.stage.assign.Goals as goal

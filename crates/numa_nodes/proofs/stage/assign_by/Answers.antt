@@ -6,8 +6,8 @@ use Rattle.memblock_model.specs.Items.{memory_of}
 use Rattle.memblock_model.specs.declared.which.Which.TheVariants as which
 use Rattle.growth_model.specs.Bytes.{table_for}
 use Rattle.node_hulls.specs.Judgement.{judgement}
-use Rattle.stage_model.specs.declared.stop.StageStop.{StageStop}
-use Rattle.stage_model.specs.declared.stop.StageStop.TheVariants as stop
+use Rattle.memblock_grow.specs.declared.stop.StageStop.{StageStop}
+use Rattle.memblock_grow.specs.declared.stop.StageStop.TheVariants as stop
 use Rattle.stage_model.specs.Doing.{in_turn, ok_as}
 use Rattle.stage_model.proofs.DoingLaws.{ends-along, ends-begun}
 use Rattle.numa_nodes.specs.Assigned.{given, noded_by, nodes_view, nodes_with_memory, with_data}

@@ -2,8 +2,8 @@
 use Rattle.std.proofs.Common.{List, Result, drop}
 use Rattle.memblock_model.specs.declared.item.Item.{Item}
 use Rattle.growth_model.specs.Sound.{HasBegun}
-use Rattle.stage_model.specs.declared.stop.StageStop.{StageStop}
-use Rattle.stage_model.specs.declared.stop.StageStop.TheVariants as stop
+use Rattle.memblock_grow.specs.declared.stop.StageStop.{StageStop}
+use Rattle.memblock_grow.specs.declared.stop.StageStop.TheVariants as stop
 use Rattle.stage_model.specs.Doing.{EndsAs, in_turn}
 use Rattle.numa_nodes.specs.Assigned.{given}
 use Rattle.numa_nodes.specs.Steps.{GoesFurther}

@@ -1,8 +1,8 @@
 -- A section whose root has no place yet is the next step.
 use Rattle.std.proofs.Common.{◌≡◌, ℕ, false, Some, Ok, get_or, sym, ◌∙◌, ap, arith}
 use Rattle.std.proofs.lemmas.Result.{err_from_is_err_and}
-use Rattle.stage_model.specs.declared.section.Section.{Section}
-use Rattle.stage_model.specs.declared.stop.StageStop.TheVariants as stop
+use Rattle.memblock_grow.specs.declared.section.Section.{Section}
+use Rattle.memblock_grow.specs.declared.stop.StageStop.TheVariants as stop
 use Rattle.stage_model.proofs.DoingLaws.{ends-begun}
 use Rattle.stage_model.proofs.LentLaws.{goes-then}
 use Rattle.sparse_sections.specs.Roots.{root_of, is_root, root_placed}

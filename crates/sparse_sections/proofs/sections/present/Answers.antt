@@ -6,7 +6,7 @@ use Rattle.address_runs.specs.Runs.{RunOf, run_end, value_at, AreRuns}
 use Rattle.memblock_model.specs.Labels.{Label}
 use Rattle.memblock_ranges.specs.declared.region.Region.{Region}
 use Rattle.memblock_ranges.specs.Spelling.{region_of}
-use Rattle.stage_model.specs.declared.section.Section.{Section}
+use Rattle.memblock_grow.specs.declared.section.Section.{Section}
 use Rattle.sparse_sections.specs.Present.{sections_from, IsWholeNoded}
 use Rattle.sparse_sections.proofs.PresentLaws.{IsLeft, IsNext, nobody, left-all, left-next, next-record, sections-record, present-none, present-end}
 use Rattle.sparse_sections.proofs.sections.present.Goals as goal

@@ -1,6 +1,6 @@
 use Rattle.std.proofs.Common.{Ok, Err, ℕ, sym, subst}
-use Rattle.stage_model.specs.declared.stop.StageStop.{StageStop}
-use Rattle.stage_model.specs.declared.stop.StageStop.TheVariants as stops
+use Rattle.memblock_grow.specs.declared.stop.StageStop.{StageStop}
+use Rattle.memblock_grow.specs.declared.stop.StageStop.TheVariants as stops
 use Rattle.stage_model.specs.Doing.{EndsAs}
 use Rattle.stage_model.specs.Requests.{placed}
 use Rattle.stage_model.proofs.RequestLaws.{ends-allocation, ends-placed}

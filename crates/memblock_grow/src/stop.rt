@@ -32,7 +32,7 @@ pub enum StageStop {
 
 impl From<Memory> for StageStop {
     ghost use Rattle.std.specs.Prelude.{◌≡◌};
-    ghost use Rattle.stage_model.specs.declared.stop.StageStop.TheVariants as stops;
+    ghost use Rattle.memblock_grow.specs.declared.stop.StageStop.TheVariants as stops;
 
     ghost from_gives = { λ _ stop. stop ≡ stops.Memory };
 
