@@ -7,7 +7,7 @@ ghost use Rattle.bm_io.specs.Counts.{Rose};
 ghost use Rattle.bm_io.specs.Told.{AppendsFront};
 ghost use Rattle.boot_audit.specs.Answers.{AnswerHasCause, IsEarly, Makes, Writes, WritingHasCause};
 ghost use Rattle.boot_audit.specs.Outcome.{outcome};
-ghost use Rattle.boot_audit.specs.Run.{RanTo};
+ghost use Rattle.boot_audit.specs.Run.{IsTold, RanTo};
 ghost use Rattle.boot_audit.specs.Status.{End, status_of_end};
 ghost use Rattle.boot_audit.specs.Verdicts.{IsNear};
 ghost use Rattle.boot_audit.specs.View.{wanted_view};
@@ -23,7 +23,7 @@ use crate::words::{Names, read_names};
 use bm_io::{Files, Put, Sink};
 use std::alloc::Global;
 
-/// The audit, of which `RanTo` says all that is known. Answers the exit status.
+/// The audit, of which `RanTo` and `IsTold` say all that is known. Answers the exit status.
 pub fn run_audit<F: Files, S: Sink, E: Sink>(
     alloc: Global,
     words: &[String],
@@ -31,8 +31,9 @@ pub fn run_audit<F: Files, S: Sink, E: Sink>(
     out: &mut S,
     err: &mut E,
 ) -> u8
-    ensures { (end : End) × (result ≡ status_of_end end) × RanTo F.Files S.Sink E.Sink
-        (accepted (map string_bytes words.now)) files.old files.new out.old out.new err.old err.new end }
+    ensures { (end : End) × (result ≡ status_of_end end)
+        × RanTo F.Files S.Sink (accepted (map string_bytes words.now)) files.old files.new out.old out.new end
+        × IsTold E.Sink (accepted (map string_bytes words.now)) err.old err.new end }
 {
     let names = read_names(words);
     match write_verdict(alloc, &names, files, out) {

@@ -74,7 +74,8 @@ full-begun m [] ends h =
 full-begun m (i ∷ is) ends h = tt
 
 -- two growths are enough, as the law over items has it
-pub space-of : (kernel : Extent) (items : List Item) (t : Contents) (at : Aim) → AreKept kernel items t at → at.limit ≤ 2 ^ 64 → IsInSpace items
+pub space-of : (kernel : Extent) (items : List Item) (t : Contents) (at : Aim) → AreKept kernel items t at → at.limit ≤ 2 ^ 64
+    → IsInSpace items
 space-of kernel items t at kept low = record { ends = kept.ends; limit = subst (λ (n : ℕ). n ≤ 2 ^ 64) (sym kept.limit) low }
 
 pub reserved-enough : (m : More) (avoid kernel : Extent) (items : List Item) (t : Contents) (at : Aim) → AreKept kernel items t at

@@ -42,6 +42,11 @@ pub room-least : (w : Which) (kernel : Extent) (items : List Item) (t : Contents
 room-least w kernel items t at kept =
     let n = room-is w kernel items t at kept in let least = room_of-least w items in omega (arith, n, least)
 
+pub room-some : (w : Which) (kernel : Extent) (items : List Item) (t : Contents) (at : Aim) (head : Head) → AreKept kernel items t at
+    → head ≡ head_of (table_in w t) → 0 < head.room
+room-some w kernel items t at head kept is =
+    let n = ap (λ (h : Head). h.room) is in let least = room-least w kernel items t at kept in omega (arith, n, least)
+
 -- frames of a table aren't empty
 pub frames-some : (w : Which) (items : List Item) (place : Extent) → place ≡ frames_at place.base (48 * room_of w items) → 0 < place.size
 frames-some w items place is =

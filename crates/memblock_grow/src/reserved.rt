@@ -2,10 +2,11 @@
 //!
 //! The growth avoids the range that is being claimed or freed, so that the table never lands in it. Its new place is claimed
 //! like any other, and what it leaves is freed. A claim doubles the table up to twice before it writes anything.
-ghost use Rattle.std.specs.Prelude.{◌≡◌, ◌+◌, ◌-◌, ◌<◌, ◌≤◌, false, None, OnOk, OnErr, IsOk, length};
+ghost use Rattle.std.specs.Prelude.{◌≡◌, ◌≢◌, ◌+◌, ◌-◌, ◌<◌, ◌≤◌, false, None, Err, OnOk, OnErr, IsOk, length};
 ghost use Rattle.memblock_model.specs.declared.owner.Owner.{Owner as ModelOwner};
 ghost use Rattle.memblock_model.specs.Items.{owner_of};
 ghost use Rattle.memblock_model.specs.declared.which.Which.TheVariants as tables_of;
+ghost use Rattle.growth_model.specs.declared.refusal.Refusal.TheVariants as refusals;
 ghost use Rattle.growth_model.specs.Outcome.{if_due};
 ghost use Rattle.growth_model.specs.Growth.{reserved_growth, grown, claimed, freed, new_in, two, is_full as is_full_by};
 ghost use Rattle.growth_model.specs.Ends.{Ends};
@@ -128,6 +129,7 @@ pub fn may_claim(journal: &Journal, tables: &Tables, aim: Aim, range: Range) -> 
     requires free { Unclaimed (owner_of journal.now.items) range }
     ensures ok { (who : ModelOwner) → OnOk result ((claimed range who journal.now.items).refused ≡ None) }
     ensures refused { (who : ModelOwner) → OnErr result (Ends result journal.now.items journal.now.items (claimed range who)) }
+    ensures short { result ≢ Err refusals.Memory }
 {
     if !is_full(tables, Which::Reserved, &More::PiecesOf(range)) {
         return Ok(());

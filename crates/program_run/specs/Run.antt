@@ -15,10 +15,10 @@ abbrev pub IsTold : {E : Type 0} → SinkOf E → Option Wanted → (old new : E
 IsTold errors accepted old new (Ok done) = new ≡ old
 IsTold errors accepted old new (Err failure) = PutsLine errors old new (failure_line accepted failure)
 
--- a run to that end. `files`, `sink` and `errors` are what the objects that it was handed tell; each object is seen
--- before and now
-pub record RanTo {F S E : Type 0} (files : FilesOf F) (sink : SinkOf S) (errors : SinkOf E) (accepted : Option Wanted)
-    (held_before held_now : F) (out_before out_now : S) (err_before err_now : E) (end : End) : Type 0 where
+-- a run to that end. Nothing here speaks of the error output, so what that answers changes no status. `files` and `sink` are what the objects
+-- that it was handed tell; each object is seen before and now
+pub record RanTo {F S : Type 0} (files : FilesOf F) (sink : SinkOf S) (accepted : Option Wanted) (held_before held_now : F)
+    (out_before out_now : S) (end : End) : Type 0 where
   -- the end has its cause, whatever the files tell
   pub cause : EndHasCause (files.faults held_before) (files.faults held_now) accepted end
   -- with refused words no file is fetched, and nothing is put into the output
@@ -32,5 +32,3 @@ pub record RanTo {F S E : Type 0} (files : FilesOf F) (sink : SinkOf S) (errors 
   pub unfailed : IsErrOf end failures.Memory → files.misses held_now ≡ files.misses held_before
   -- where the files tell what they hold, the end and the output are those of the outcome
   pub said : IfSome (files.holds held_before) (λ held. Writes (sink.written out_before) (sink.written out_now) end (outcome accepted held))
-  -- the line of a failure goes to the error output
-  pub line : IsTold errors accepted err_before err_now end

@@ -5,7 +5,7 @@
 //! the boot makes (`boot_model`), and from that to the text of the reports (`debugfs_reports`), each
 //! step by cases. [`run`] answers what it says, but where the outside fails: a file that couldn't be
 //! read, an output that refused, want of memory. The first two have their cause in a count of the
-//! object that was handed in. The contract is the record `RanTo` of `specs/Run.antt`; [`run_by_clauses`] has it
+//! object that was handed in. The contract is `RanTo` and `IsTold` of `specs/Run.antt`; [`run_by_clauses`] has it
 //! clause by clause, the headline among them.
 //!
 //! The program on the system's files and streams is `bootmem_cli`. [`read_given`] and [`Failure`] are for whoever boots without a report

@@ -13,7 +13,7 @@ ghost use Rattle.program_words.specs.Words.{accepted, texts};
 ghost use Rattle.program_run.specs.Answers.{FailureHasCause, IsOfBoot, Makes, ReportHasCause, Writes, WritingHasCause};
 ghost use Rattle.program_run.specs.Headline.{IsReported};
 ghost use Rattle.program_run.specs.Outcome.{outcome, reported};
-ghost use Rattle.program_run.specs.Run.{RanTo};
+ghost use Rattle.program_run.specs.Run.{IsTold, RanTo};
 ghost use Rattle.program_run.specs.Status.{End, status_of_end};
 
 use crate::chunks::put_reports;
@@ -42,8 +42,9 @@ pub fn run<F: Files, S: Sink, E: Sink>(
     out: &mut S,
     err: &mut E,
 ) -> u8
-    ensures ran { (end : End) × (result ≡ status_of_end end) × RanTo F.Files S.Sink E.Sink
-        (accepted (texts words.now)) files.old files.new out.old out.new err.old err.new end }
+    ensures ran { (end : End) × (result ≡ status_of_end end)
+        × RanTo F.Files S.Sink (accepted (texts words.now)) files.old files.new out.old out.new end
+        × IsTold E.Sink (accepted (texts words.now)) err.old err.new end }
     ensures headline { result ≡ 0 → IfSome (F.holds files.old) (λ held.
         IsReported (accepted (texts words.now)) held (S.written out.old) (S.written out.new)) }
 {
@@ -68,8 +69,9 @@ fn run_wanted<F: Files, S: Sink, E: Sink>(
     out: &mut S,
     err: &mut E,
 ) -> u8
-    ensures { (end : End) × (result ≡ status_of_end end) × RanTo F.Files S.Sink E.Sink
-        (Some (wanted_view wanted.now)) files.old files.new out.old out.new err.old err.new end }
+    ensures { (end : End) × (result ≡ status_of_end end)
+        × RanTo F.Files S.Sink (Some (wanted_view wanted.now)) files.old files.new out.old out.new end
+        × IsTold E.Sink (Some (wanted_view wanted.now)) err.old err.new end }
 {
     let Err(failure) = write_reports(alloc, wanted, files, out) else {
         return 0;

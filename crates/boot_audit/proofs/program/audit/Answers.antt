@@ -25,4 +25,4 @@ pub returns-clause-line : goal.returns-clause-line
 returns-clause-line g c =
     let ran = c.run_audit.ensures.2 in
     ran_line g.E.Sink _ (g.F.Files.faults c.args.files.now) (g.F.Files.faults c.run_audit.new.files) _ c.run_audit.ensures.0 _ _ _ _ _
-    c.run_audit.ensures.1 ran.cause ran.line ran.said
+    c.run_audit.ensures.1 ran.cause c.run_audit.ensures.3 ran.said

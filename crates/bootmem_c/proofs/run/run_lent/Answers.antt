@@ -51,8 +51,8 @@ returns-in-Ok-clause-line c = λ some other.
     let was = accepted (texts c.deref.result.now) in
     let said = outcome was (bytes_of c.new.result.files) in
     let told = ran_line c.new.result c.run.new.files was c.args.report.now c.run.new.out c.args.line.now c.run.new.err
-    c.run.ensures.ran.0 c.run.result c.run.ensures.ran.1 ran.cause ran.output ran.said c.requires.no_line c.requires.not_short ran.line some
-    other in
+    c.run.ensures.ran.0 c.run.result c.run.ensures.ran.1 ran.cause ran.output ran.said c.requires.no_line c.requires.not_short
+    c.run.ensures.ran.3 some other in
     let same : line_by was said ≡ line_said c.args.words.now c.args.files.now =
     ap (λ (a : Option Wanted). line_by a said) (asks c) ∙ ap (line_by (asked (lent_words c.args.words.now))) (is_outcome c)
     ∙ sym (line_asked (lent_words c.args.words.now) _ c.in-Ok.ensures.utf8) in

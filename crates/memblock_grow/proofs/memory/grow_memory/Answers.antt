@@ -13,7 +13,7 @@ use Rattle.memblock_grow.specs.Prepared.{Prepares, PreparesBy}
 use Rattle.memblock_grow.proofs.WholeLaws.{keeps-then, bytes-then}
 use Rattle.memblock_grow.proofs.PreparedLaws.{with-growth, prepares-then, by-exact, by-error}
 use Rattle.memblock_grow.proofs.PlaceLaws.{knows-mirrors, left-far}
-use Rattle.memblock_grow.proofs.ReservedLaws.{room-least, frames-some, left-found, twice-is, still-bytes}
+use Rattle.memblock_grow.proofs.ReservedLaws.{room-some, frames-some, left-found, twice-is, still-bytes}
 use Rattle.memblock_grow.proofs.ChangeLaws.{handed}
 use Rattle.memblock_grow.proofs.MemoryLaws.{IsBest, best-found, best-free, memory-none, memory-fails, memory-wants, memory-done, best-taken, MovedMemory, memory-apart, memory-ready, memory-keeps, memory-tells, memory-free, left-some}
 use Rattle.memblock_grow.proofs.memory.grow_memory.Goals as goal
@@ -78,9 +78,8 @@ moved c known =
 
 pub place_between-requires-clause-some : goal.place_between-requires-clause-some
 place_between-requires-clause-some c =
-    let n = ap (λ (h : Head). h.room) c.head-head.ensures.head in
-    let least = room-least which.Memory c.requires.kept.0 c.args.journal.now.items c.args.tables.now c.args.aim c.requires.kept.1.kept in
-    omega (arith, n, least)
+    room-some which.Memory c.requires.kept.0 c.args.journal.now.items c.args.tables.now c.args.aim c.head-head.result
+    c.requires.kept.1.kept c.head-head.ensures.head
 
 pub place_between-requires-clause-mirrors : goal.place_between-requires-clause-mirrors
 place_between-requires-clause-mirrors c =

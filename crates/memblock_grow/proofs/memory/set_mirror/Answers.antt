@@ -64,5 +64,5 @@ pub returns-clause-prepared : goal.returns-clause-prepared
 returns-clause-prepared c =
     let room = c.make_memory_room in
     prepares-item c.args.journal.now.items room.new.journal.items c.push.new.self.items (item.Mirror c.args.range)
-    c.args.tables.now.store room.new.tables.store c.mirror.new.tables.store c.in_ok-make_memory_room.ensures.prepared c.in_ok-push.ensures.ok (λ x. refl)
-    c.mirror.ensures.ready
+    c.args.tables.now.store room.new.tables.store c.mirror.new.tables.store c.in_ok-make_memory_room.ensures.prepared
+    c.in_ok-push.ensures.ok (λ x. refl) c.mirror.ensures.ready

@@ -14,7 +14,7 @@ use Rattle.memblock_grow.proofs.reserved.grow_reserved.Goals.{In-Some, After-cov
 use Rattle.memblock_grow.proofs.KeptLaws.{kept-same}
 use Rattle.memblock_grow.proofs.PlaceLaws.{knows-mirrors, left-far}
 use Rattle.memblock_grow.proofs.PreparedLaws.{prepares-item}
-use Rattle.memblock_grow.proofs.ReservedLaws.{room-least, frames-some, IsBeside, beside-found, beside-free, beside-apart, growth-none, growth-wants, moved_items, written-two, written-three, journal-two, journal-three, left-size, left-found, twice-is, claim-room, Claimed, claimed, claimed-room, Left, left-freed, prepares-moved, still-bytes}
+use Rattle.memblock_grow.proofs.ReservedLaws.{room-some, frames-some, IsBeside, beside-found, beside-free, beside-apart, growth-none, growth-wants, moved_items, written-two, written-three, journal-two, journal-three, left-size, left-found, twice-is, claim-room, Claimed, claimed, claimed-room, Left, left-freed, prepares-moved, still-bytes}
 
 -- the place was found beside the range
 known : (c : In-Some) → IsBeside c.args.journal.now.items c.args.avoid c.in-Some.place
@@ -82,10 +82,8 @@ left c there =
 
 pub place_beside-requires-clause-some : goal.place_beside-requires-clause-some
 place_beside-requires-clause-some c =
-    let n = ap (λ (h : Head). h.room) c.head-head.ensures.head in
-    let least = room-least which.Reserved c.requires.kept.0 c.args.journal.now.items c.args.tables.now c.args.aim c.requires.kept.1.kept
-    in
-    omega (arith, n, least)
+    room-some which.Reserved c.requires.kept.0 c.args.journal.now.items c.args.tables.now c.args.aim c.head-head.result
+    c.requires.kept.1.kept c.head-head.ensures.head
 
 pub place_beside-requires-clause-mirrors : goal.place_beside-requires-clause-mirrors
 place_beside-requires-clause-mirrors c =

@@ -40,8 +40,8 @@ returns-in-Err-Memory-clause-ran g c = (
     none_missed = tt;
     unfailed = λ wanting. refl;
     said = wanting_fits (g.F.Files.holds c.args.files.now) (accepted (texts c.args.words.now)) (g.S.Sink.written c.args.out.now);
-    line = c.tell_memory.ensures;
   },
+  c.tell_memory.ensures,
 )
 
 pub returns-in-Ok-clause-headline : goal.returns-in-Ok-clause-headline
