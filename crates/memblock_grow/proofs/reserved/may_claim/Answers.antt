@@ -25,7 +25,8 @@ place_beside-requires-clause-mirrors c =
     knows-mirrors c.requires.kept.0 c.args.journal.now.items c.args.tables.now c.args.aim c.requires.kept.1.kept
 
 -- such a claim isn't refused, where the table isn't full for it or finds a place
-unrefused : (c : After-is_full) (who : Owner) → (is_full which.Reserved (new_in which.Reserved c.args.range) c.args.journal.now.items ≡ false)
+unrefused : (c : After-is_full) (who : Owner)
+    → (is_full which.Reserved (new_in which.Reserved c.args.range) c.args.journal.now.items ≡ false)
     ⊎ IsSome (place_beside c.args.range (room_of which.Reserved c.args.journal.now.items) c.args.journal.now.items)
     → (claimed c.args.range who c.args.journal.now.items).refused ≡ None
 unrefused c who h =
