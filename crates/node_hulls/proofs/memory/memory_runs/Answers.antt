@@ -14,10 +14,6 @@ overlay_all-requires c =
     plain_addresses c.deref.result.now (rw (c.deref.ensures.value, c.in_ok-tell_memory.ensures, c.new-told.ensures.items)
     (bare_addresses c.args.memory.now c.requires))
 
-pub returns-clause-runs : goal.returns-clause-runs
-returns-clause-runs c =
-    IfOk-weaker c.overlay_all.result _ _ (λ runs laid. (plain_runs option_or c.deref.result.now runs.items laid).runs) c.overlay_all.ensures
-
 pub returns-clause-bytes : goal.returns-clause-bytes
 returns-clause-bytes c =
     IfOk-weaker c.overlay_all.result _ _ (λ runs laid.
