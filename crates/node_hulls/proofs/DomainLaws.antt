@@ -3,6 +3,8 @@ use Rattle.std.proofs.Common.{◌≡◌, ℕ, ◌<◌, ◌≤◌, ◌==◌, true
 use Rattle.std.proofs.lemmas.Bool.{cases_lt, cases_Bool}
 use Rattle.std.proofs.lemmas.Bool.Decides.{nat_tests}
 use Rattle.std.proofs.lemmas.List.{take_all, take-append-le, length-append, length-take-le}
+use Rattle.std.proofs.lemmas.List.Folds.{fold-map}
+use Rattle.std.proofs.lemmas.List.Sums.{fold-append}
 use Rattle.std.specs.List.{list_any}
 use Rattle.std.specs.Prelude.{nat_le}
 use Rattle.srat_reader.specs.declared.table.SratBlock.{SratBlock}
@@ -39,19 +41,10 @@ names_in_room : (full names : List ℕ) → fold with_name_in_room (take 1025 fu
 names_in_room full [] = refl
 names_in_room full (d ∷ ds) = rw (step_name full d) (names_in_room (with_name full d) ds)
 
-by_blocks : (domains : List ℕ) (blocks : List SratBlock)
-    → fold named_by_block domains blocks ≡ fold with_name_in_room domains (map (λ (b : SratBlock). b.domain) blocks)
-by_blocks domains [] = refl
-by_blocks domains (b ∷ bs) = by_blocks (named_by_block domains b) bs
-
-fold_append : (start xs ys : List ℕ) → fold with_name_in_room (fold with_name_in_room start xs) ys ≡ fold with_name_in_room start (xs ++ ys)
-fold_append start [] ys = refl
-fold_append start (x ∷ xs) ys = fold_append (with_name_in_room start x) xs ys
-
 pub named_in_room : (processors : List ℕ) (blocks : List SratBlock)
     → fold named_by_block (fold with_name_in_room [] processors) blocks ≡ take 1025 (domains_named processors blocks)
 unfolding named_once
 named_in_room processors blocks =
-    by_blocks (fold with_name_in_room [] processors) blocks
-    ∙ fold_append [] processors (map (λ (b : SratBlock). b.domain) blocks)
+    sym (fold-map with_name_in_room (λ (b : SratBlock). b.domain) (fold with_name_in_room [] processors) blocks)
+    ∙ sym (fold-append with_name_in_room [] processors (map (λ (b : SratBlock). b.domain) blocks))
     ∙ names_in_room [] (processors ++ map (λ (b : SratBlock). b.domain) blocks)

@@ -1,6 +1,6 @@
 -- Runs joined with their neighbours: what they give is what the runs give, and what lies between two places of one node with no
 -- other node between these.
-use Rattle.std.proofs.Common.{◌≡◌, ◌≢◌, ℕ, ◌-◌, ◌<◌, ◌≤◌, ◌==◌, ◌⊎◌, Option, Some, None, List, [], ◌∷◌, refl, sym, ◌∙◌, ap, subst, inl, inr, arith}
+use Rattle.std.proofs.Common.{◌≡◌, ◌≢◌, ℕ, ◌-◌, ◌<◌, ◌≤◌, ◌==◌, ◌⊎◌, Option, Some, None, List, [], ◌∷◌, refl, sym, ◌∙◌, ap, subst, inl, inr, le_of_suc-le-suc, lt_of_not-le, arith}
 use Rattle.std.proofs.lemmas.Bool.{cases_lt, cases_Bool}
 use Rattle.std.proofs.lemmas.Bool.Decides.{nat_tests}
 use Rattle.std.proofs.lemmas.Option.{none-some, same_Some}
@@ -55,10 +55,8 @@ at_behind r rs x from = rw (behind r x from) refl
 
 -- what gives a value in the rest lies behind the first run
 rest_behind : (r : NumaBlock) (rs : List NumaBlock) (x n : ℕ) → AreRuns (r ∷ rs) → value_at rs x ≡ Some n → run_end r ≤ x
-rest_behind r rs x n runs some = elim (cases_lt x (run_end r)) as (λ _. run_end r ≤ x) [
-  | inl lt ↦ absurd (none-some n (sym (none_below (run_end r) x rs runs.2 (rest_from r rs runs) lt) ∙ some))
-  | inr ge ↦ ge
-]
+rest_behind r rs x n runs some =
+    le_of_suc-le-suc (lt_of_not-le (λ lt. none-some n (sym (none_below (run_end r) x rs runs.2 (rest_from r rs runs) lt) ∙ some)))
 
 -- what the rest fills the whole list fills
 lifted : (r : NumaBlock) (rs : List NumaBlock) (x n : ℕ) → AreRuns (r ∷ rs) → IsFilled (value_at rs) x n → IsFilled (value_at (r ∷ rs)) x n

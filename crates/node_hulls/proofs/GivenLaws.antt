@@ -1,5 +1,5 @@
 -- The runs of a judgement: each has an address and a node below 1,024, they cover memory, and a frame lies in runs of the same nodes.
-use Rattle.std.proofs.Common.{◌≡◌, ◌≢◌, ℕ, zero, suc, ◌+◌, ◌^◌, ◌<◌, ◌≤◌, ◌==◌, Bool, true, false, ◌&&◌, ◌||◌, nat_le, nat_lt, if◌then◌else◌, Option, Some, None, List, [], ◌∷◌, ◌++◌, length, refl, sym, ◌∙◌, subst, inl, inr, arith}
+use Rattle.std.proofs.Common.{◌≡◌, ◌≢◌, ℕ, zero, suc, ◌+◌, ◌^◌, ◌<◌, ◌≤◌, ◌==◌, Bool, true, false, ◌&&◌, ◌||◌, nat_le, nat_lt, if◌then◌else◌, Option, Some, None, List, [], ◌∷◌, ◌++◌, length, refl, sym, ◌∙◌, ap, subst, inl, inr, arith}
 use Rattle.std.proofs.lemmas.Bool.{cases_Bool, true≢false}
 use Rattle.std.proofs.lemmas.Bool.Decides.{nat_tests}
 use Rattle.std.proofs.lemmas.List.Elements.{All-cons, All-append}
@@ -17,9 +17,9 @@ use Rattle.node_hulls.specs.Domains.{node_of}
 use Rattle.node_hulls.specs.Hulls.{NumaBlock, same_node}
 use Rattle.node_hulls.specs.Judgement.{Judgement, frames_given, if_apart, if_covering, judged, judged_kept, judged_table, left_by, names_of, nodes_by, unused, used}
 use Rattle.node_hulls.specs.Kept.{any_kept, count_some, first_clash, frame_base, framed, meets_memory, is_node_of, kept_from, kept_of, of_node}
-use Rattle.node_hulls.proofs.InListLaws.{IsIn, any_member}
+use Rattle.node_hulls.proofs.InListLaws.{any_member}
 use Rattle.node_hulls.proofs.JudgedLaws.{tells_nodes}
-use Rattle.node_hulls.proofs.MeaningLaws.{left_frame, node_of_kept, nodes_frame}
+use Rattle.node_hulls.proofs.MeaningLaws.{is_kept, left_frame, node_of_kept, nodes_frame}
 
 -- what holds of each judgement: it holds where the table isn't used, and where it is
 module _ (P : Judgement → Type 0) where
@@ -117,26 +117,13 @@ node-small domains d few = by (position (λ e. e == d) domains) refl where
       let below = (position-Some (λ e. e == d) domains i 0 at).0 in
       rw at (omega (arith, below, few))
 
-kept-small : (memory : ℕ → Bool) (domains : List ℕ) (i : ℕ) (bs : List SratBlock) (k : KeptBlock) → length domains ≤ 1024
-    → IsIn k (kept_from memory domains i bs) → k.block.value < 1024
-kept-small memory domains i [] k few member = absurd member
-kept-small memory domains i (b ∷ bs) k few member =
-    by (meets_memory memory (extent_of (of_node domains b))) refl (kept-small memory domains (i + 1) bs k few) member where
-      by : (some : Bool) → meets_memory memory (extent_of (of_node domains b)) ≡ some
-          → (IsIn k (kept_from memory domains (i + 1) bs) → k.block.value < 1024)
-          → IsIn k (kept_from memory domains i (b ∷ bs)) → k.block.value < 1024
-      by true some rest here = elim (rw some at here) as (λ _. k.block.value < 1024) [
-        | inl first ↦ subst (λ (j : KeptBlock). j.block.value < 1024) (sym first) (node-small domains b.domain few)
-        | inr later ↦ rest later
-      ]
-      by false none rest here = rest (rw none at here)
-
 node-few : (memory : ℕ → Bool) (domains : List ℕ) (bs : List SratBlock) (n : ℕ) → length domains ≤ 1024
     → is_node_of (kept_of memory domains bs) n ≡ true → n < 1024
 node-few memory domains bs n few of_block =
     let found = any_member _ (kept_of memory domains bs) of_block in
+    let kept = is_kept memory domains 0 bs found.one found.member in
     let node : found.one.block.value ≡ n = grind (arith, nat_tests, found.passes) in
-    subst (λ (m : ℕ). m < 1024) node (kept-small memory domains 0 bs found.one few found.member)
+    subst (λ (m : ℕ). m < 1024) (ap (λ (b : NumaBlock). b.value) (sym kept.block) ∙ node) (node-small domains kept.told.domain few)
 
 -- some block is kept
 some-kept : (memory : ℕ → Bool) (domains : List ℕ) (i : ℕ) (bs : List SratBlock) → any_kept memory bs ≡ true

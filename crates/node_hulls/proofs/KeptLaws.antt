@@ -1,7 +1,7 @@
 -- Which blocks are kept, and which overlap: what one look at a block tells.
-use Rattle.std.proofs.Common.{◌≡◌, ℕ, ◌+◌, ◌^◌, ◌<◌, Bool, true, false, not, List, [], ◌∷◌, length, get_or, drop, add-one, ◌++◌, refl, subst, sym, ◌∙◌, ap, inl, inr, arith}
-use Rattle.std.proofs.lemmas.Bool.{cases_lt, cases_Bool, true≢false}
-use Rattle.std.proofs.lemmas.List.{append-nil}
+use Rattle.std.proofs.Common.{◌≡◌, ℕ, ◌+◌, ◌^◌, ◌<◌, Bool, true, false, not, List, [], ◌∷◌, length, get_or, drop, add-one, ◌++◌, refl, subst, sym, ◌∙◌, ap, inl, inr, lt_of_not-le, arith}
+use Rattle.std.proofs.lemmas.Bool.{cases_Bool, true≢false}
+use Rattle.std.proofs.lemmas.List.{append-nil, map-append}
 use Rattle.std.proofs.Math.Seq.{drop-cons}
 use Rattle.bm_base.specs.Each.{each_in}
 use Rattle.bm_base.proofs.EachLaws.{each_in-all}
@@ -12,6 +12,7 @@ use Rattle.node_hulls.specs.declared.kept.KeptBlock.{KeptBlock}
 use Rattle.node_hulls.specs.Hulls.{NumaBlock}
 use Rattle.node_hulls.specs.Kept.{numa_blocks_of, meets_memory, of_node, kept_one, kept_from, kept_of, any_kept}
 use Rattle.node_hulls.specs.Steps.{EndInSpace}
+use Rattle.node_hulls.proofs.RestLaws.{space_push}
 
 -- the blocks that are kept, from one place on
 pub kept_step : (memory : ℕ → Bool) (domains : List ℕ) (blocks : List SratBlock) (i : ℕ) (b : SratBlock) → i < length blocks
@@ -25,23 +26,18 @@ pub kept_space : (memory : ℕ → Bool) (kept : List KeptBlock) (i : ℕ) (b : 
     → EndInSpace (numa_blocks_of (kept ++ kept_one memory i b))
 kept_space memory kept i b space ends =
     elim (cases_Bool (meets_memory memory (extent_of b))) as (λ _. EndInSpace (numa_blocks_of (kept ++ kept_one memory i b))) [
-      | inl some ↦ rw some (space_behind kept i b space ends)
+      | inl some ↦
+          let one : KeptBlock = record { number = i; block = b } in
+          rw (some, map-append (λ (k : KeptBlock). k.block) kept (one ∷ [])) (space_push (numa_blocks_of kept) b space ends)
       | inr none ↦ rw (none, append-nil kept) space
-    ] where
-      space_behind : (ks : List KeptBlock) (j : ℕ) (c : NumaBlock) → EndInSpace (numa_blocks_of ks) → run_end c < 2 ^ 64
-          → EndInSpace (numa_blocks_of (ks ++ record { number = j; block = c } ∷ []))
-      space_behind [] j c ok last = (last, tt)
-      space_behind (k ∷ ks) j c ok last = (ok.0, space_behind ks j c ok.1 last)
+    ]
 
 -- a block that is kept has an address: a byte of memory
 has_address : (memory : ℕ → Bool) (b : NumaBlock) → meets_memory memory (extent_of b) ≡ true → 0 < b.size
-has_address memory b some = elim (cases_lt 0 b.size) as (λ _. 0 < b.size) [
-  | inl lt ↦ lt
-  | inr none ↦
-      let all : each_in (extent_of b) (λ y. not (memory y)) ≡ true = each_in-all (extent_of b) (λ y. not (memory y))
-      (λ y low high. absurd (omega arith)) in
-      absurd (true≢false (sym some ∙ rw all refl))
-]
+has_address memory b some = lt_of_not-le (λ none.
+    let all : each_in (extent_of b) (λ y. not (memory y)) ≡ true = each_in-all (extent_of b) (λ y. not (memory y))
+    (λ y low high. absurd (omega arith)) in
+    true≢false (sym some ∙ rw all refl))
 
 kept_addresses : (memory : ℕ → Bool) (domains : List ℕ) (i : ℕ) (bs : List SratBlock)
     → HaveAddresses (numa_blocks_of (kept_from memory domains i bs))

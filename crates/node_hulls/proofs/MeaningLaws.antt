@@ -135,32 +135,43 @@ node_frame : (blocks : List NumaBlock) (x : ℕ) → Framed blocks → node_at b
 unfolding node_at
 node_frame blocks x framed = first_frame blocks x blocks framed
 
-framed_one : (domains : List ℕ) (b : SratBlock) → ((of_node domains b).base % 4096 ≡ 0) × (run_end (of_node domains b) % 4096 ≡ 0)
-framed_one domains b = (omega arith, omega arith)
+-- a kept block is one of the table, and has memory
+pub record IsKept (memory : ℕ → Bool) (domains : List ℕ) (k : KeptBlock) : Type 0 where
+  pub told : SratBlock
+  pub block : k.block ≡ of_node domains told
+  pub some : meets_memory memory (extent_of k.block) ≡ true
 
-framed_kept : (memory : ℕ → Bool) (domains : List ℕ) (i : ℕ) (bs : List SratBlock) → Framed (numa_blocks_of (kept_from memory domains i bs))
-framed_kept memory domains i [] c member = absurd member
-framed_kept memory domains i (b ∷ bs) c member =
-    by (meets_memory memory (extent_of (of_node domains b))) refl (framed_kept memory domains (i + 1) bs) member where
+pub is_kept : (memory : ℕ → Bool) (domains : List ℕ) (i : ℕ) (bs : List SratBlock) (k : KeptBlock) → IsIn k (kept_from memory domains i bs)
+    → IsKept memory domains k
+is_kept memory domains i [] k member = absurd member
+is_kept memory domains i (b ∷ bs) k member =
+    by (meets_memory memory (extent_of (of_node domains b))) refl (is_kept memory domains (i + 1) bs k) member where
       by : (some : Bool) → meets_memory memory (extent_of (of_node domains b)) ≡ some
-          → Framed (numa_blocks_of (kept_from memory domains (i + 1) bs))
-          → IsIn c (numa_blocks_of (kept_from memory domains i (b ∷ bs))) → (c.base % 4096 ≡ 0) × (run_end c % 4096 ≡ 0)
-      by true some rest here = elim (rw some at here) as (λ _. (c.base % 4096 ≡ 0) × (run_end c % 4096 ≡ 0)) [
-        | inl first ↦ subst (λ (d : NumaBlock). (d.base % 4096 ≡ 0) × (run_end d % 4096 ≡ 0)) (sym first) (framed_one domains b)
-        | inr later ↦ rest c later
+          → (IsIn k (kept_from memory domains (i + 1) bs) → IsKept memory domains k)
+          → IsIn k (kept_from memory domains i (b ∷ bs)) → IsKept memory domains k
+      by true some rest here = elim (rw some at here) as (λ _. IsKept memory domains k) [
+        | inl first ↦ record {
+          told = b;
+          block = ap (λ (j : KeptBlock). j.block) first;
+          some = ap (λ (j : KeptBlock). meets_memory memory (extent_of j.block)) first ∙ some;
+        }
+        | inr later ↦ rest later
       ]
-      by false none rest here = rest c (rw none at here)
+      by false none rest here = rest (rw none at here)
 
-pub left_frame : (memory : ℕ → Bool) → ((x : ℕ) → memory x ≡ memory (frame_base x)) → (domains : List ℕ) (blocks : List SratBlock) (x : ℕ)
-    → left_by memory (kept_of memory domains blocks) x ≡ left_by memory (kept_of memory domains blocks) (frame_base x)
-left_frame memory whole domains blocks x =
-    let node : nodes_by (kept_of memory domains blocks) x ≡ nodes_by (kept_of memory domains blocks) (frame_base x) =
-    node_frame (numa_blocks_of (kept_of memory domains blocks)) x (framed_kept memory domains 0 blocks) in
-    rw (whole x, node) refl
+framed_kept : (memory : ℕ → Bool) (domains : List ℕ) (bs : List SratBlock) → Framed (numa_blocks_of (kept_of memory domains bs))
+framed_kept memory domains bs c member =
+    let found = kept_member (kept_of memory domains bs) c member in
+    let kept = is_kept memory domains 0 bs found.0 found.1 in
+    rw (found.2 ∙ kept.block) (omega arith, omega arith)
 
 pub nodes_frame : (memory : ℕ → Bool) (domains : List ℕ) (blocks : List SratBlock) (x : ℕ)
     → nodes_by (kept_of memory domains blocks) x ≡ nodes_by (kept_of memory domains blocks) (frame_base x)
-nodes_frame memory domains blocks x = node_frame (numa_blocks_of (kept_of memory domains blocks)) x (framed_kept memory domains 0 blocks)
+nodes_frame memory domains blocks x = node_frame (numa_blocks_of (kept_of memory domains blocks)) x (framed_kept memory domains blocks)
+
+pub left_frame : (memory : ℕ → Bool) → ((x : ℕ) → memory x ≡ memory (frame_base x)) → (domains : List ℕ) (blocks : List SratBlock) (x : ℕ)
+    → left_by memory (kept_of memory domains blocks) x ≡ left_by memory (kept_of memory domains blocks) (frame_base x)
+left_frame memory whole domains blocks x = rw (whole x, nodes_frame memory domains blocks x) refl
 
 -- a byte of memory in a range that has memory
 pub record MemoryIn (memory : ℕ → Bool) (from n : ℕ) : Type 0 where
@@ -188,20 +199,6 @@ memory_in memory b some = memory_from memory b.base b.size (by (each_from (λ y.
   by true all = absurd (true≢false (sym some ∙ rw all refl))
   by false at = at
 
-kept_memory : (memory : ℕ → Bool) (domains : List ℕ) (i : ℕ) (bs : List SratBlock) (k : KeptBlock) → IsIn k (kept_from memory domains i bs)
-    → meets_memory memory (extent_of k.block) ≡ true
-kept_memory memory domains i [] k member = absurd member
-kept_memory memory domains i (b ∷ bs) k member =
-    by (meets_memory memory (extent_of (of_node domains b))) refl (kept_memory memory domains (i + 1) bs k) member where
-      by : (some : Bool) → meets_memory memory (extent_of (of_node domains b)) ≡ some
-          → (IsIn k (kept_from memory domains (i + 1) bs) → meets_memory memory (extent_of k.block) ≡ true)
-          → IsIn k (kept_from memory domains i (b ∷ bs)) → meets_memory memory (extent_of k.block) ≡ true
-      by true some rest here = elim (rw some at here) as (λ _. meets_memory memory (extent_of k.block) ≡ true) [
-        | inl first ↦ ap (λ (j : KeptBlock). meets_memory memory (extent_of j.block)) first ∙ some
-        | inr later ↦ rest later
-      ]
-      by false none rest here = rest (rw none at here)
-
 block_in : (ks : List KeptBlock) (k : KeptBlock) → IsIn k ks → IsIn k.block (numa_blocks_of ks)
 block_in [] k member = absurd member
 block_in (j ∷ js) k (inl here) = inl (ap (λ (i : KeptBlock). i.block) here)
@@ -216,7 +213,7 @@ node_memory memory domains blocks apart n of_block =
     let found = any_member _ kept of_block in
     let k : KeptBlock = found.one in
     let node : k.block.value ≡ n = grind (arith, nat_tests, found.passes) in
-    let place = memory_in memory k.block (kept_memory memory domains 0 blocks k found.member) in
+    let place = memory_in memory k.block (is_kept memory domains 0 blocks k found.member).some in
     let above = place.above in
     let under = place.under in
     let lies : lies_in k.block place.at ≡ true = grind (arith, nat_tests) in

@@ -1,6 +1,6 @@
 -- Memory as runs: the first run that ends behind a range's first address tells whether a byte of the range is memory.
-use Rattle.std.proofs.Common.{◌≡◌, ◌↔◌, ℕ, suc, ◌+◌, ◌<◌, ◌≤◌, Bool, true, false, not, max, if◌then◌else◌, Option, Some, None, List, ◌∷◌, map, length, get_or, drop, drop-cons, refl, sym, ◌∙◌, ap, subst, inl, inr, arith}
-use Rattle.std.proofs.lemmas.Bool.{cases_lt, true≢false}
+use Rattle.std.proofs.Common.{◌≡◌, ◌↔◌, ℕ, suc, ◌+◌, ◌<◌, ◌≤◌, Bool, true, false, not, max, if◌then◌else◌, Option, Some, None, List, ◌∷◌, map, length, get_or, drop, drop-cons, refl, sym, ◌∙◌, ap, subst, lt_of_not-le, arith}
+use Rattle.std.proofs.lemmas.Bool.{true≢false}
 use Rattle.std.proofs.lemmas.Bool.Decides.{nat_tests}
 use Rattle.std.proofs.lemmas.List.{at_drop_all}
 use Rattle.std.specs.Option.{option_or}
@@ -68,12 +68,9 @@ first_meets rs i range r rest few is met =
 
 begins_above : (r : RunOf Bool) (range : Extent) (y : ℕ) → (Meet (extent_of r) range → ⊥) → range.base < run_end r → 0 < r.size
     → range.base ≤ y → y < range.base + range.size → y < r.base
-begins_above r range y apart ends some low high = elim (cases_lt y r.base) as (λ _. y < r.base) [
-  | inl under ↦ under
-  | inr above ↦
-      let x : ℕ = max r.base range.base in
-      absurd (apart (x, grind (arith, nat_tests)))
-]
+begins_above r range y apart ends some low high = lt_of_not-le (λ above.
+    let x : ℕ = max r.base range.base in
+    apart (x, grind (arith, nat_tests)))
 
 first_misses : (rs : List (RunOf Bool)) (i : ℕ) (range : Extent) (r : RunOf Bool) → IsRestFrom (value_at rs) range.base (drop i rs)
     → i < length rs → r ≡ get_or rs i r → (Meet (extent_of r) range → ⊥) → meets_memory (in_runs rs) range ≡ false

@@ -1,5 +1,5 @@
 -- Nodes count domains in the order in which these are first named.
-use Rattle.std.proofs.Common.{◌≡◌, ◌≢◌, ℕ, zero, suc, ◌+◌, ◌<◌, ◌≤◌, ◌==◌, true, false, ◌||◌, List, [], ◌∷◌, ◌++◌, fold, length, get_or, length-append, append_assoc, refl, sym, ◌∙◌, ap, subst, inl, inr, arith}
+use Rattle.std.proofs.Common.{◌≡◌, ◌≢◌, ℕ, zero, suc, ◌+◌, ◌<◌, ◌≤◌, ◌==◌, true, false, ◌||◌, List, [], ◌∷◌, ◌++◌, fold, length, get_or, length-append, append_assoc, refl, sym, ◌∙◌, ap, subst, inl, inr, le_of_suc-le-suc, lt_of_not-le, arith}
 use Rattle.std.proofs.lemmas.Bool.{cases_lt, cases_Bool, true≢false}
 use Rattle.std.proofs.lemmas.Bool.Decides.{nat_tests}
 use Rattle.std.proofs.lemmas.List.{append-nil, get_or_append_left}
@@ -72,13 +72,10 @@ node_stays domains more d named =
 
 node_behind : (domains more : List ℕ) (d : ℕ) → is_named domains d ≡ false → is_named (domains ++ more) d ≡ true
     → length domains ≤ node_of (domains ++ more) d
-node_behind domains more d new named =
+node_behind domains more d new named = le_of_suc-le-suc (lt_of_not-le (λ before.
     let node : ℕ = node_of (domains ++ more) d in
-    elim (cases_lt node (length domains)) as (λ _. length domains ≤ node) [
-      | inl before ↦ absurd (true≢false (sym (is_named_at domains node d before
-          (sym (get_or_append_left domains more 0 node before) ∙ (place_of (domains ++ more) d named).there)) ∙ new))
-      | inr behind ↦ behind
-    ]
+    true≢false (sym (is_named_at domains node d before
+    (sym (get_or_append_left domains more 0 node before) ∙ (place_of (domains ++ more) d named).there)) ∙ new)))
 
 -- so each domain's node is its place
 abbrev ArePlaces : List ℕ → Type 0

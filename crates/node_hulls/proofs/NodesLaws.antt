@@ -1,10 +1,9 @@
 -- Blocks of different nodes that share no address: the joined runs of their nodes are the runs of what each address has.
-use Rattle.std.proofs.Common.{◌≡◌, ◌≢◌, ℕ, zero, suc, ◌^◌, ◌<◌, ◌≤◌, ◌==◌, Bool, true, false, ◌&&◌, ◌||◌, not, nat_le, nat_lt, max, min, Option, Some, None, List, [], ◌∷◌, map, length, get_or, refl, sym, ◌∙◌, ap, subst, inl, inr, arith}
-use Rattle.std.proofs.lemmas.Bool.{cases_lt, cases_Bool, and_parts, and_from, true≢false}
+use Rattle.std.proofs.Common.{◌≡◌, ◌≢◌, ℕ, zero, suc, ◌^◌, ◌<◌, ◌≤◌, ◌==◌, Bool, true, false, ◌&&◌, ◌||◌, not, max, min, Option, Some, None, List, [], ◌∷◌, map, length, get_or, refl, sym, ◌∙◌, ap, subst, inl, inr, arith}
+use Rattle.std.proofs.lemmas.Bool.{cases_lt, cases_Bool, and_parts, and_from, false_from_ne_true, true≢false}
 use Rattle.std.proofs.lemmas.Bool.Decides.{nat_tests}
 use Rattle.std.proofs.lemmas.List.{map-id}
 use Rattle.std.proofs.lemmas.Option.{none-some, same_Some}
-use Rattle.std.specs.List.{list_any}
 use Rattle.std.specs.Option.{option_or}
 use Rattle.std.specs.Prelude.{find}
 use Rattle.address_runs.specs.Overlay.{all_overlaid, HaveAddresses}
@@ -72,11 +71,7 @@ bounds b x lies = (grind (arith, nat_tests), grind (arith, nat_tests))
 
 -- a block that a stretch meets has an address in it
 met_at : (from until : ℕ) (c : NumaBlock) (x : ℕ) → lies_in c x ≡ true → from ≤ x → x < until → meets from until c ≡ true
-met_at from until c x lies above under =
-    let ends : (c.base ≤ x) × (x < run_end c) = bounds c x lies in
-    let low = ends.0 in
-    let high = ends.1 in
-    grind (arith, nat_tests)
+met_at from until c x lies above under = grind (arith, nat_tests, (bounds c x lies).0, (bounds c x lies).1)
 
 meeting_place : (from until : ℕ) (c : NumaBlock) → meets from until c ≡ true
     → (from ≤ max from c.base) × (max from c.base < until) × (lies_in c (max from c.base) ≡ true)
@@ -90,12 +85,7 @@ own_node : (blocks : List NumaBlock) (n : ℕ) (a b c : NumaBlock) → is_own bl
     → c.value ≡ n
 own_node blocks n a b c own member meeting =
     let passes : ((c.value == n) || not (meets a.base (run_end b) c)) ≡ true = all_member _ blocks c own member in
-    let alone : (c.value == n) ≡ true = either (c.value == n) (meets a.base (run_end b) c) passes meeting in
-    grind (arith, nat_tests) where
-      either : (p q : Bool) → (p || not q) ≡ true → q ≡ true → p ≡ true
-      either true q h meets_too = refl
-      either false true h meets_too = h
-      either false false h meets_too = meets_too
+    grind (arith, nat_tests, rw meeting at passes)
 
 -- what an address has is given there, or lies around it
 joined_around : (blocks : List NumaBlock) (n x : ℕ) → Apart blocks → HaveAddresses blocks → joins blocks n x ≡ true
@@ -108,9 +98,8 @@ joined_around blocks n x apart some joined =
     let b = inner.one in
     let of_b = and_parts (b.value == n) _ inner.passes in
     let between_own = and_parts (is_between a b x) (is_own blocks n a b) of_b.1 in
-    let sides = and_parts (nat_le (run_end a) x) (nat_lt x b.base) between_own.0 in
-    let a_behind : run_end a ≤ x = grind (arith, nat_tests, sides.0) in
-    let b_before : x < b.base = grind (arith, nat_tests, sides.1) in
+    let a_behind : run_end a ≤ x = grind (arith, nat_tests, between_own.0) in
+    let b_before : x < b.base = grind (arith, nat_tests, between_own.0) in
     let a_some : 0 < a.size = some_address blocks a some outer.member in
     let b_some : 0 < b.size = some_address blocks b some inner.member in
     let a_node : a.value ≡ n = grind (arith, nat_tests, of_a.0) in
@@ -145,77 +134,49 @@ pub held_by : (blocks : List NumaBlock) (b : NumaBlock) (n x : ℕ) → IsIn b b
 held_by blocks b n x member node lies = member_any _ blocks b member (and_from (b.value == n) (lies_in b x) (grind (arith, nat_tests)) lies)
 
 -- a block that the hull of two places meets is of their node
-hull_own : (blocks : List NumaBlock) (n x : ℕ) (a b c : NumaBlock) → Apart blocks → (around : IsAround (value_at blocks) x n)
-    → IsIn a blocks → a.value ≡ n → lies_in a around.low ≡ true → IsIn b blocks → b.value ≡ n → lies_in b around.high ≡ true
-    → IsIn c blocks → meets a.base (run_end b) c ≡ true → c.value ≡ n
-hull_own blocks n x a b c apart around in_a node_a lies_a in_b node_b lies_b in_c meeting =
-    let met = meeting_place a.base (run_end b) c meeting in
-    let y : ℕ = max a.base c.base in
-    let above : a.base ≤ y = met.0 in
-    let below_end : y < run_end b = met.1 in
-    let here : lies_in c y ≡ true = met.2 in
-    let low : (a.base ≤ around.low) × (around.low < run_end a) = bounds a around.low lies_a in
-    let high : (b.base ≤ around.high) × (around.high < run_end b) = bounds b around.high lies_b in
-    let low_under = low.1 in
-    let high_above = high.0 in
+hull_own : (blocks : List NumaBlock) (n x : ℕ) → Apart blocks → (around : IsAround (value_at blocks) x n)
+    → (a : Covers blocks around.low n) (b : Covers blocks around.high n) (c : NumaBlock) → IsIn c blocks
+    → meets a.block.base (run_end b.block) c ≡ true → c.value ≡ n
+hull_own blocks n x apart around a b c in_c meeting =
+    let y : ℕ = max a.block.base c.base in
+    let met = meeting_place a.block.base (run_end b.block) c meeting in
+    let low = bounds a.block around.low a.lies in
+    let high = bounds b.block around.high b.lies in
     elim (cases_lt y around.low) as (λ _. c.value ≡ n) [
-      | inl lower ↦ sym (apart a c y in_a in_c (inside a y above (omega arith)) here) ∙ node_a
+      | inl lower ↦ sym (apart a.block c y a.member in_c (inside a.block y met.0 (omega arith)) met.2) ∙ a.node
       | inr not_lower ↦ elim (cases_lt around.high y) as (λ _. c.value ≡ n) [
-        | inl higher ↦ sym (apart b c y in_b in_c (inside b y (omega arith) below_end) here) ∙ node_b
-        | inr between ↦ around.only y c.value not_lower between (given blocks c y apart in_c here)
+        | inl higher ↦ sym (apart b.block c y b.member in_c (inside b.block y (omega arith) met.1) met.2) ∙ b.node
+        | inr between ↦ around.only y c.value not_lower between (given blocks c y apart in_c met.2)
       ]
     ]
 
-or_true : (p : Bool) → (p || true) ≡ true
-or_true true = refl
-or_true false = refl
+own_passes : (v n : ℕ) (meeting : Bool) → (meeting ≡ true → v ≡ n) → ((v == n) || not meeting) ≡ true
+own_passes v n true same = let is : v ≡ n = same refl in grind (arith, nat_tests)
+own_passes v n false same = grind arith
+
+lies_outside : (blocks : List NumaBlock) (n x at : ℕ) (b : Covers blocks at n) → holds blocks n x ≡ false → lies_in b.block x ≡ false
+lies_outside blocks n x at b not_held = false_from_ne_true (lies_in b.block x) (λ lies.
+    true≢false (sym (held_by blocks b.block n x b.member b.node lies) ∙ not_held))
 
 around_joins : (blocks : List NumaBlock) (n x : ℕ) → Apart blocks → IsAround (value_at blocks) x n → holds blocks n x ≡ false
     → joins blocks n x ≡ true
 around_joins blocks n x apart around not_held =
-    let lower = given_by_block blocks around.low n around.at_low in
-    let upper = given_by_block blocks around.high n around.at_high in
-    let a = lower.block in
-    let b = upper.block in
-    let low : (a.base ≤ around.low) × (around.low < run_end a) = bounds a around.low lower.lies in
-    let high : (b.base ≤ around.high) × (around.high < run_end b) = bounds b around.high upper.lies in
-    let low_from = low.0 in
-    let high_to = high.1 in
+    let a = given_by_block blocks around.low n around.at_low in
+    let b = given_by_block blocks around.high n around.at_high in
+    let low = bounds a.block around.low a.lies in
+    let high = bounds b.block around.high b.lies in
     let under = around.under in
     let over = around.over in
-    let a_behind : run_end a ≤ x = elim (cases_lt x (run_end a)) as (λ _. run_end a ≤ x) [
-      | inl short ↦ absurd (true≢false (sym (held_by blocks a n x lower.member lower.node (inside a x (omega arith) short)) ∙ not_held))
-      | inr long ↦ long
-    ] in
-    let b_before : x < b.base = elim (cases_lt x b.base) as (λ _. x < b.base) [
-      | inl lt ↦ lt
-      | inr ge ↦ absurd (true≢false (sym (held_by blocks b n x upper.member upper.node (inside b x ge (omega arith))) ∙ not_held))
-    ] in
-    let own : is_own blocks n a b ≡ true = member_all _ blocks (λ c in_c. one_own c in_c) in
-    let between : is_between a b x ≡ true = grind (arith, nat_tests) in
-    let inner : list_any (λ (d : NumaBlock). (d.value == n) && (is_between a d x && is_own blocks n a d)) blocks ≡ true =
-    member_any _ blocks b upper.member
-    (and_from (b.value == n) (is_between a b x && is_own blocks n a b) (grind (arith, nat_tests, upper.node))
-    (and_from (is_between a b x) (is_own blocks n a b) between own)) in
-    member_any _ blocks a lower.member
-    (and_from (a.value == n) (list_any (λ (d : NumaBlock). (d.value == n) && (is_between a d x && is_own blocks n a d)) blocks)
-    (grind (arith, nat_tests, lower.node)) inner) where
-      one_own : (c : NumaBlock) → IsIn c blocks
-          → ((c.value == n) || not (meets (given_by_block blocks around.low n around.at_low).block.base
-          (run_end (given_by_block blocks around.high n around.at_high).block) c)) ≡ true
-      one_own c in_c =
-          let lower = given_by_block blocks around.low n around.at_low in
-          let upper = given_by_block blocks around.high n around.at_high in
-          let a = lower.block in
-          let b = upper.block in
-          elim (cases_Bool (meets a.base (run_end b) c)) as (λ _. ((c.value == n) || not (meets a.base (run_end b) c)) ≡ true) [
-            | inl meeting ↦
-                let node : c.value ≡ n = hull_own blocks n x a b c apart around lower.member lower.node lower.lies
-                upper.member upper.node upper.lies in_c meeting in
-                let same : (c.value == n) ≡ true = grind (arith, nat_tests) in
-                rw same refl
-            | inr apart_from ↦ rw apart_from (or_true (c.value == n))
-          ]
+    let a_behind : run_end a.block ≤ x = grind (arith, nat_tests, low.0, lies_outside blocks n x around.low a not_held) in
+    let b_before : x < b.block.base = grind (arith, nat_tests, high.1, lies_outside blocks n x around.high b not_held) in
+    let between : is_between a.block b.block x ≡ true = grind (arith, nat_tests) in
+    let own : is_own blocks n a.block b.block ≡ true = member_all _ blocks (λ c in_c.
+    own_passes c.value n (meets a.block.base (run_end b.block) c) (hull_own blocks n x apart around a b c in_c)) in
+    let of_a : (a.block.value == n) ≡ true = grind (arith, nat_tests, a.node) in
+    let of_b : (b.block.value == n) ≡ true = grind (arith, nat_tests, b.node) in
+    let inner = member_any (λ (d : NumaBlock). (d.value == n) && (is_between a.block d x && is_own blocks n a.block d)) blocks b.block
+    b.member (rw (of_b, between, own) refl) in
+    member_any _ blocks a.block a.member (rw (of_a, inner) refl)
 
 filled_has : (blocks : List NumaBlock) (n x : ℕ) → Apart blocks → IsFilled (value_at blocks) x n → has blocks n x ≡ true
 filled_has blocks n x apart (inl here) =
@@ -245,19 +206,23 @@ first_some blocks x (c ∷ cs) b member had none = elim (cases_Bool (has blocks 
   ]
 ]
 
--- a node that an address has is that of a block
-pub node_block : (blocks : List NumaBlock) (n x : ℕ) → has blocks n x ≡ true → (b : NumaBlock) × IsIn b blocks × (b.value ≡ n)
-node_block blocks n x had = elim (cases_Bool (holds blocks n x)) as (λ _. (b : NumaBlock) × IsIn b blocks × (b.value ≡ n)) [
-  | inl held ↦
-      let found = any_member _ blocks held in
-      let parts = and_parts (found.one.value == n) (lies_in found.one x) found.passes in
-      (found.one, found.member, grind (arith, nat_tests, parts.0))
-  | inr not_held ↦
-      let joined : joins blocks n x ≡ true = rw not_held at had in
-      let found = any_member _ blocks joined in
-      let parts = and_parts (found.one.value == n) _ found.passes in
-      (found.one, found.member, grind (arith, nat_tests, parts.0))
-]
+-- a node that an address has is that of a block, which ends behind the address
+pub node_block : (blocks : List NumaBlock) (n x : ℕ) → has blocks n x ≡ true
+    → (b : NumaBlock) × IsIn b blocks × (b.value ≡ n) × (x < run_end b)
+node_block blocks n x had =
+    elim (cases_Bool (holds blocks n x)) as (λ _. (b : NumaBlock) × IsIn b blocks × (b.value ≡ n) × (x < run_end b)) [
+      | inl held ↦
+          let found = any_member _ blocks held in
+          let parts = and_parts (found.one.value == n) (lies_in found.one x) found.passes in
+          (found.one, found.member, grind (arith, nat_tests, parts.0), (bounds found.one x parts.1).1)
+      | inr not_held ↦
+          let joined : joins blocks n x ≡ true = rw not_held at had in
+          let a = any_member _ blocks joined in
+          let b = any_member _ blocks (and_parts (a.one.value == n) _ a.passes).1 in
+          let parts = and_parts (b.one.value == n) _ b.passes in
+          let between = (and_parts (is_between a.one b.one x) (is_own blocks n a.one b.one) parts.1).0 in
+          (b.one, b.member, grind (arith, nat_tests, parts.0), grind (arith, nat_tests, between))
+    ]
 
 -- so the joined runs give the node of each address
 node_given : (blocks rs ts : List NumaBlock) (x : ℕ) → Apart blocks → HaveAddresses blocks → IsRunsOf (value_at blocks) rs
@@ -357,17 +322,14 @@ abbrev pub HasOwn : (ℕ → Option ℕ) → NumaBlock → Type 0
 HasOwn f b = (x : ℕ) → b.base ≤ x → x < run_end b → f x ≡ Some b.value
 
 own_none : (f : ℕ → Option ℕ) (a b : KeptBlock) → HasOwn f a.block → HasOwn f b.block → clash a b ≡ false
-own_none f a b own_a own_b = elim (cases_Bool (clash a b)) as (λ _. clash a b ≡ false) [
-  | inl clashing ↦
-      let parts = and_parts (not (a.block.value == b.block.value)) (meets a.block.base (run_end a.block) b.block) clashing in
-      let place = meeting_place a.block.base (run_end a.block) b.block parts.1 in
-      let x : ℕ = max a.block.base b.block.base in
-      let in_b = bounds b.block x place.2 in
-      let same : a.block.value ≡ b.block.value =
-      same_Some a.block.value b.block.value (sym (own_a x place.0 place.1) ∙ own_b x in_b.0 in_b.1) in
-      absurd (grind (arith, nat_tests, parts.0))
-  | inr apart ↦ apart
-]
+own_none f a b own_a own_b = false_from_ne_true (clash a b) (λ clashing.
+    let parts = and_parts (not (a.block.value == b.block.value)) (meets a.block.base (run_end a.block) b.block) clashing in
+    let place = meeting_place a.block.base (run_end a.block) b.block parts.1 in
+    let x : ℕ = max a.block.base b.block.base in
+    let in_b = bounds b.block x place.2 in
+    let same : a.block.value ≡ b.block.value =
+    same_Some a.block.value b.block.value (sym (own_a x place.0 place.1) ∙ own_b x in_b.0 in_b.1) in
+    grind (arith, nat_tests, parts.0))
 
 none_found : {X : Type 0} (p : X → Bool) (xs : List X) → ((i : ℕ) (d : X) → i < length xs → p (get_or xs i d) ≡ false) → find p xs ≡ None
 none_found p [] none = refl
@@ -397,25 +359,6 @@ pub laid_own : (ks : List KeptBlock) (laid : List NumaBlock) (i : ℕ) (k : Kept
 laid_own ks laid i k known none lt is x above under =
     rw (map-id laid) (known.each x ∙ apart_own ks i k none lt is x above under)
 
--- an address that has a node lies below the end of a block
-has_bound : (blocks : List NumaBlock) (n x : ℕ) → has blocks n x ≡ true → (b : NumaBlock) × IsIn b blocks × (x < run_end b)
-has_bound blocks n x had = elim (cases_Bool (holds blocks n x)) as (λ _. (b : NumaBlock) × IsIn b blocks × (x < run_end b)) [
-  | inl held ↦
-      let found = any_member _ blocks held in
-      let parts = and_parts (found.one.value == n) (lies_in found.one x) found.passes in
-      (found.one, found.member, (bounds found.one x parts.1).1)
-  | inr not_held ↦
-      let joined : joins blocks n x ≡ true = rw not_held at had in
-      let outer = any_member _ blocks joined in
-      let a = outer.one in
-      let inner = any_member _ blocks (and_parts (a.value == n) _ outer.passes).1 in
-      let b = inner.one in
-      let sides = and_parts (nat_le (run_end a) x) (nat_lt x b.base)
-      (and_parts (is_between a b x) (is_own blocks n a b) (and_parts (b.value == n) _ inner.passes).1).0 in
-      let before : x < b.base = grind (arith, nat_tests, sides.1) in
-      (b, inner.member, omega arith)
-]
-
 space_of : (blocks : List NumaBlock) (b : NumaBlock) → EndInSpace blocks → IsIn b blocks → run_end b < 2 ^ 64
 space_of [] b space member = absurd member
 space_of (c ∷ cs) b space (inl here) = subst (λ (d : NumaBlock). run_end d < 2 ^ 64) (sym here) space.0
@@ -428,7 +371,7 @@ node_none blocks x space far = by (first_had blocks x blocks) refl where
   by : (o : Option ℕ) → first_had blocks x blocks ≡ o → first_had blocks x blocks ≡ None
   by None at = at
   by (Some m) at =
-      let block = has_bound blocks m x (first_has blocks x m blocks at) in
+      let block = node_block blocks m x (first_has blocks x m blocks at) in
       let ends : run_end block.0 < 2 ^ 64 = space_of blocks block.0 space block.1 in
-      let under = block.2 in
+      let under = block.3 in
       absurd (omega arith)

@@ -1,6 +1,6 @@
 -- The pair of kept blocks that is told is the least that overlaps.
 use Rattle.std.proofs.Common.{◌≡◌, ℕ, ◌+◌, ◌<◌, ◌≤◌, ◌==◌, ◌⊎◌, Bool, true, false, ◌&&◌, nat_lt, Option, Some, None, List, [], ◌∷◌, refl, sym, ◌∙◌, ap, inl, inr, arith}
-use Rattle.std.proofs.lemmas.Bool.{cases_Bool, and_parts, true≢false}
+use Rattle.std.proofs.lemmas.Bool.{cases_Bool, and_parts, false_from_ne_true, true≢false}
 use Rattle.std.proofs.lemmas.Bool.Decides.{nat_tests}
 use Rattle.std.proofs.lemmas.Option.{none-some, same_Some}
 use Rattle.std.specs.Prelude.{find}
@@ -236,7 +236,5 @@ module _ (memory : ℕ → Bool) (domains : List ℕ) (blocks : List SratBlock) 
   pair_least i j k l is test = (told 0 ks i j (kept_numbered memory domains 0 blocks) is).least k l (overlap_from ks k l test)
 
   pub none_overlap : (k l : ℕ) → first_clash ks ≡ None → overlap_at ks k l ≡ false
-  none_overlap k l none = elim (cases_Bool (overlap_at ks k l)) as (λ _. overlap_at ks k l ≡ false) [
-    | inl test ↦ absurd (no_overlap 0 ks k l (kept_numbered memory domains 0 blocks) none (overlap_from ks k l test))
-    | inr apart ↦ apart
-  ]
+  none_overlap k l none = false_from_ne_true (overlap_at ks k l) (λ test.
+      no_overlap 0 ks k l (kept_numbered memory domains 0 blocks) none (overlap_from ks k l test))

@@ -1,6 +1,6 @@
 -- Memory without a node, by laying memory and the runs with a node over one another; and the frames that begin in runs.
-use Rattle.std.proofs.Common.{◌≡◌, ℕ, ◌+◌, ◌-◌, ◌*◌, ◌^◌, ◌<◌, ◌≤◌, Bool, true, false, ◌&&◌, ◌||◌, nat_le, nat_lt, if◌then◌else◌, Option, Some, None, List, [], ◌∷◌, ◌++◌, map, suc, add-one, drop, take, length, get_or, append_assoc, refl, sym, ◌∙◌, ap, subst, inl, inr, arith}
-use Rattle.std.proofs.lemmas.Bool.{cases_lt, cases_Bool}
+use Rattle.std.proofs.Common.{◌≡◌, ℕ, ◌+◌, ◌-◌, ◌*◌, ◌^◌, ◌<◌, ◌≤◌, Bool, true, false, ◌&&◌, ◌||◌, nat_le, nat_lt, if◌then◌else◌, Option, Some, None, List, [], ◌∷◌, ◌++◌, map, suc, add-one, drop, take, length, get_or, append_assoc, refl, sym, ◌∙◌, ap, subst, inl, inr, le_of_suc-le-suc, lt_of_not-le, arith}
+use Rattle.std.proofs.lemmas.Bool.{cases_Bool}
 use Rattle.std.proofs.lemmas.Bool.Decides.{nat_tests}
 use Rattle.std.proofs.lemmas.List.{take_all}
 use Rattle.std.proofs.lemmas.Option.{none-some}
@@ -99,14 +99,11 @@ bare_start : (n at : ℕ) (cs : List (RunOf Bool)) (d : NumaBlock) (ds : List Nu
     → bare_runs n cs ≡ d ∷ ds → at ≤ d.base
 bare_start n at cs d ds runs start canonical is =
     let first : value_at (d ∷ ds) d.base ≡ Some d.value = rw (inside d d.base (omega arith) (omega (arith, some))) refl in
-    elim (cases_lt d.base at) as (λ _. at ≤ d.base) [
-      | inl lower ↦
-          let none : value_at cs d.base ≡ None = none_below at d.base cs runs start lower in
-          let given : bare_of n (value_at cs d.base) ≡ Some d.value =
-          sym (bare_value n cs d.base runs) ∙ ap (λ (es : List NumaBlock). value_at es d.base) is ∙ first in
-          absurd (none-some d.value (ap (bare_of n) (sym none) ∙ given))
-      | inr ge ↦ ge
-    ] where
+    le_of_suc-le-suc (lt_of_not-le (λ lower.
+    let none : value_at cs d.base ≡ None = none_below at d.base cs runs start lower in
+    let given : bare_of n (value_at cs d.base) ≡ Some d.value =
+    sym (bare_value n cs d.base runs) ∙ ap (λ (es : List NumaBlock). value_at es d.base) is ∙ first in
+    none-some d.value (ap (bare_of n) (sym none) ∙ given))) where
       some : 0 < d.size
       some = (subst (λ (es : List NumaBlock). AreRuns es) is canonical).0
 
