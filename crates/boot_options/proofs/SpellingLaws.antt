@@ -1,5 +1,5 @@
 -- What is spelled as a map option of `memmap=` is read as that map option.
-use Rattle.std.proofs.Common.{◌≡◌, ◌≢◌, ℕ, ◌+◌, ◌-◌, ◌^◌, ◌<◌, ◌==◌, nat_lt, if◌then◌else◌, Bool, true, false, Option, Some, List, [], ◌∷◌, ◌++◌, length, drop, refl, ap, ◌∙◌, eq-eqb, codes, Result, Ok, Err, arith}
+use Rattle.std.proofs.Common.{◌≡◌, ◌≢◌, ℕ, ◌+◌, ◌^◌, ◌<◌, ◌==◌, nat_lt, if◌then◌else◌, Bool, true, false, Option, Some, List, [], ◌∷◌, ◌++◌, length, drop, refl, ap, ◌∙◌, eq-eqb, codes, Result, Ok, Err, arith}
 use Rattle.std.proofs.Math.Seq.{drop-append_seam, drop-length}
 use Rattle.bm_base.specs.declared.size.NumFault.TheVariants.{NoDigits}
 use Rattle.std.proofs.lemmas.Bool.{ne_eqb}
@@ -14,7 +14,7 @@ use Rattle.e820_model.specs.declared.edit.Edit.{Edit}
 use Rattle.e820_model.specs.declared.edit.Edit.TheVariants.{Add, Remove, RemoveAll, Change}
 use Rattle.bm_base.specs.OptionSteps.{◌>>=◌}
 use Rattle.boot_options.specs.declared.map_option.MapOption.TheVariants.{Adding, Other}
-use Rattle.boot_options.specs.MapOptions.{number_and_rest, front_size, front_number, at_end, whole_size, range_at, unless_empty, range_above, adding_option, small_kind, kind_behind, retyped, changed, by_mark, map_option_of, Spell, SpellsType}
+use Rattle.boot_options.specs.MapOptions.{number_and_rest, front_size, front_number, at_end, whole_size, range_at, unless_empty, adding_option, small_kind, kind_behind, retyped, changed, by_mark, map_option_of, Spell, SpellsType}
 
 -- the later step, where the earlier one gives a value
 pub then-some : {A B : Type 0} (o : Option A) (f : A → Option B) (x : A) → o ≡ Some x → (o >>= f) ≡ f x
@@ -68,10 +68,6 @@ pub exactmap-other : (s rest : List ℕ) → begins_with_digit s ≡ true → by
 exactmap-other [] rest begins = cc
 exactmap-other (b ∷ bs) rest begins = exactmap-digit b (bs ++ rest) begins
 
-pub exactmap-end : (s : List ℕ) → begins_with_digit s ≡ true → bytes_eq s (codes "exactmap") ≡ false
-exactmap-end [] begins = cc
-exactmap-end (b ∷ bs) begins = exactmap-digit b bs begins
-
 -- the size in front of a mark
 pub map_option-mark : (s : List ℕ) (n mark : ℕ) (rest : List ℕ) → IsSize s n → is_digit mark 36 ≡ false
     → map_option_of (s ++ (mark ∷ rest)) ≡ by_mark n (mark ∷ rest)
@@ -103,15 +99,6 @@ pub map_option-adding : (s a : List ℕ) (range : Extent) (mark kind : ℕ) → 
     → map_option_of (s ++ (mark ∷ a)) ≡ Some (Adding (Some (Add range kind)))
 map_option-adding s a range mark kind is means spell =
     map_option-mark s range.size mark a spell.size is ∙ means ∙ adding_option-spelled kind s a range spell
-
--- a size alone
-pub map_option-above : (s : List ℕ) (size : ℕ) → IsSize s size → size < 2 ^ 64 - 1
-    → map_option_of s ≡ Some (Other (Some (Remove (range_above size) 1)))
-map_option-above s size is small =
-    let some : 0 < (range_above size).size = omega arith in
-    rw (exactmap-end s (begins_with_digit-size s size is))
-    (then-some (front_size s) (λ front. by_mark front.0 front.1) (size, []) (front_size-end s size is)
-    ∙ ap (λ (e : Option Edit). Some (Other e)) (unless_empty-some (range_above size) (Remove (range_above size) 1) some))
 
 -- a type below 2^32 is one
 pub small_kind-below : (n : ℕ) (rest : List ℕ) → n < 2 ^ 32 → small_kind (n, rest) ≡ Some (n, rest)

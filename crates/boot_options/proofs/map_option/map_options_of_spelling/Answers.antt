@@ -1,5 +1,5 @@
 use Rattle.std.proofs.Common.{refl}
-use Rattle.boot_options.proofs.SpellingLaws.{map_option-adding, map_option-above, map_option-every_type, map_option-one_type, map_option-new_type, map_option-other_type}
+use Rattle.boot_options.proofs.SpellingLaws.{map_option-adding, map_option-every_type, map_option-one_type, map_option-new_type, map_option-other_type}
 use Rattle.boot_options.proofs.map_option.map_options_of_spelling.Goals as goal
 
 pub returns-clause-ram : goal.returns-clause-ram
@@ -13,9 +13,6 @@ returns-clause-reserved c = λ s a range spell. map_option-adding s a range 36 2
 
 pub returns-clause-persistent : goal.returns-clause-persistent
 returns-clause-persistent c = λ s a range spell. map_option-adding s a range 33 12 refl refl spell
-
-pub returns-clause-above : goal.returns-clause-above
-returns-clause-above c = map_option-above
 
 pub returns-clause-every_type : goal.returns-clause-every_type
 returns-clause-every_type c = map_option-every_type
