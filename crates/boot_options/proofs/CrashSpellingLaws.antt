@@ -164,15 +164,24 @@ lacks-range text r mark is dash colon spells =
           (colon, lacks-size spells.size_text mark r.size is spells.size),
     ))
 
+-- the colon of a range, whatever stands behind the range
+cut-range : (text rest : List ℕ) (r : CrashRange) → (spells : SpellsRange text r)
+    → cut 58 (text ++ rest) ≡ Some (spells.start_text ++ (45 ∷ spells.end_text), spells.size_text ++ rest)
+cut-range text rest r spells =
+    let bounds : List ℕ = spells.start_text ++ (45 ∷ spells.end_text) in
+    let halves : text ++ rest ≡ bounds ++ (58 ∷ (spells.size_text ++ rest)) =
+    ap (λ (t : List ℕ). t ++ rest)
+    (spells.text ∙ sym (append_assoc spells.start_text (45 ∷ spells.end_text) (58 ∷ spells.size_text)))
+    ∙ append_assoc bounds (58 ∷ spells.size_text) rest in
+    rw halves (cut-mark 58 bounds (spells.size_text ++ rest)
+    (lacks-append 58 spells.start_text (45 ∷ spells.end_text) (lacks-size spells.start_text 58 r.start refl spells.start)
+    (refl, lacks-end spells.end_text r.end r.start 58 refl spells.end)))
+
 range-spelled : (text : List ℕ) (r : CrashRange) → SpellsRange text r → crash_range_of text ≡ Some r
 range-spelled text r spells =
     let bounds : List ℕ = spells.start_text ++ (45 ∷ spells.end_text) in
-    let halves : text ≡ bounds ++ (58 ∷ spells.size_text) =
-    spells.text ∙ sym (append_assoc spells.start_text (45 ∷ spells.end_text) (58 ∷ spells.size_text)) in
     let at_colon : cut 58 text ≡ Some (bounds, spells.size_text) =
-    rw halves (cut-mark 58 bounds spells.size_text
-    (lacks-append 58 spells.start_text (45 ∷ spells.end_text) (lacks-size spells.start_text 58 r.start refl spells.start)
-    (refl, lacks-end spells.end_text r.end r.start 58 refl spells.end))) in
+    rw (append-nil text, append-nil spells.size_text) at (cut-range text [] r spells) in
     let at_dash : cut 45 bounds ≡ Some (spells.start_text, spells.end_text) =
     cut-mark 45 spells.start_text spells.end_text (lacks-size spells.start_text 45 r.start refl spells.start) in
     let end = end-spelled spells.end_text r.end r.start spells.end in
@@ -221,24 +230,11 @@ front-joined : (text : List ℕ) (texts : List (List ℕ)) (behind : List ℕ)
 front-joined text [] behind = (behind, refl)
 front-joined text (u ∷ texts) behind = ((44 ∷ joined (u ∷ texts)) ++ behind, append_assoc text (44 ∷ joined (u ∷ texts)) behind)
 
-colon-in : (text rest : List ℕ) (r : CrashRange) → SpellsRange text r → is_some (cut 58 (text ++ rest)) ≡ true
-colon-in text rest r spells =
-    let bounds : List ℕ = spells.start_text ++ (45 ∷ spells.end_text) in
-    let halves : text ++ rest ≡ bounds ++ (58 ∷ (spells.size_text ++ rest)) =
-    ap (λ (t : List ℕ). t ++ rest)
-    (spells.text ∙ sym (append_assoc spells.start_text (45 ∷ spells.end_text) (58 ∷ spells.size_text)))
-    ∙ append_assoc bounds (58 ∷ spells.size_text) rest in
-    let found : cut 58 (text ++ rest) ≡ Some (bounds, spells.size_text ++ rest) =
-    rw halves (cut-mark 58 bounds (spells.size_text ++ rest)
-    (lacks-append 58 spells.start_text (45 ∷ spells.end_text) (lacks-size spells.start_text 58 r.start refl spells.start)
-    (refl, lacks-end spells.end_text r.end r.start 58 refl spells.end))) in
-    rw found refl
-
 has-colon : (text : List ℕ) (texts : List (List ℕ)) (rs : List CrashRange) (behind : List ℕ) → SpellRanges (text ∷ texts) rs
     → is_some (cut 58 (joined (text ∷ texts) ++ behind)) ≡ true
 has-colon text texts [] behind spell = absurd spell
 has-colon text texts (r ∷ rs) behind spell =
-    let front = front-joined text texts behind in rw front.1 (colon-in text front.0 r spell.0)
+    let front = front-joined text texts behind in rw (front.1, cut-range text front.0 r spell.0) refl
 
 form-ranges_form : (value front : List ℕ) (base : ℕ) (rs : List CrashRange) → is_some (cut 58 value) ≡ true
     → place_of value ≡ Some (front, base) → crash_ranges_of (parts_in (Byte 44) front) ≡ Some rs

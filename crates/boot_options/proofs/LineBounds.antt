@@ -47,78 +47,54 @@ IsLineFault (faults.UserMapInvalid word) = 0 < word
 IsLineFault (faults.BadNuma word) = 0 < word
 IsLineFault faults.Memory = ⊥
 
+-- what a step gives is sound, or its fault is one that a line may have
+abbrev pub IsFit : {A : Type 0} → (A → Type 0) → Result A OptionFault → Type 0
+IsFit P (Ok a) = P a
+IsFit P (Err fault) = IsLineFault fault
+
+pub fit-or_fault : (fault : OptionFault) (o : Option Said) → IsLineFault fault → IfSome o IsSoundWord → IsFit IsSoundWord (or_fault fault o)
+fit-or_fault fault None numbered is = numbered
+fit-or_fault fault (Some said) numbered is = is
+
+pub fit-if : {A : Type 0} (P : A → Type 0) (t : Bool) (x y : Result A OptionFault) → IsFit P x → IsFit P y → IsFit P (if t then x else y)
+fit-if P true x y a b = a
+fit-if P false x y a b = b
+
 -- what a word says is sound, and its fault has its number
-pub sound-or_fault : (fault : OptionFault) (o : Option Said) → IfSome o IsSoundWord → IfOk (or_fault fault o) IsSoundWord
-sound-or_fault fault None is = tt
-sound-or_fault fault (Some said) is = is
-
-pub numbered-or_fault : (fault : OptionFault) (o : Option Said) → IsLineFault fault → IfErr (or_fault fault o) IsLineFault
-numbered-or_fault fault None is = is
-numbered-or_fault fault (Some said) is = tt
-
-pub ifok-if : {A E : Type 0} (P : A → Type 0) (t : Bool) (x y : Result A E) → IfOk x P → IfOk y P → IfOk (if t then x else y) P
-ifok-if P true x y a b = a
-ifok-if P false x y a b = b
-
-pub iferr-if : {A E : Type 0} (P : E → Type 0) (t : Bool) (x y : Result A E) → IfErr x P → IfErr y P → IfErr (if t then x else y) P
-iferr-if P true x y a b = a
-iferr-if P false x y a b = b
-
-pub sound-said_by : (number : ℕ) (word : List ℕ × Option (List ℕ)) → IfOk (said_by number word) IsSoundWord
-sound-said_by number word =
-    ifok-if IsSoundWord (bytes_eq word.0 (codes "mem")) _ _
-    (sound-or_fault (faults.BadMem number) _
+pub fit-said_by : (number : ℕ) (word : List ℕ × Option (List ℕ)) → 0 < number → IsFit IsSoundWord (said_by number word)
+fit-said_by number word above =
+    fit-if IsSoundWord (bytes_eq word.0 (codes "mem")) _ _
+    (fit-or_fault (faults.BadMem number) _ above
     (ifsome-map IsSoundOption IsSoundWord of_one (option_and_then mem_of word.1) (λ p is. (is, tt))
     (ifsome-and_then IsSoundOption mem_of word.1 sound-mem)))
-    (ifok-if IsSoundWord (bytes_eq word.0 (codes "memmap")) _ _
-    (sound-or_fault (faults.BadMemmap number) _
+    (fit-if IsSoundWord (bytes_eq word.0 (codes "memmap")) _ _
+    (fit-or_fault (faults.BadMemmap number) _ above
     (ifsome-and_then IsSoundWord memmap_of word.1 (λ value.
     ifsome-map AreSound IsSoundWord OfMap (map_options_of (parts_in (Byte 44) value)) (λ ps are. are)
     (sound-map_options (parts_in (Byte 44) value)))))
-    (ifok-if IsSoundWord (bytes_eq word.0 (codes "crashkernel")) _ _
-    (sound-or_fault (faults.BadCrash number) _
+    (fit-if IsSoundWord (bytes_eq word.0 (codes "crashkernel")) _ _
+    (fit-or_fault (faults.BadCrash number) _ above
     (ifsome-and_then IsSoundWord crash_of word.1 (λ value.
     ifsome-map IsSoundForm IsSoundWord OfCrash (form_of value) (λ form is. is) (sound-form value))))
-    (ifok-if IsSoundWord (bytes_eq word.0 (codes "numa")) _ _
-    (sound-or_fault (faults.BadNuma number) _
+    (fit-if IsSoundWord (bytes_eq word.0 (codes "numa")) _ _
+    (fit-or_fault (faults.BadNuma number) _ above
     (ifsome-and_then IsSoundWord numa_of word.1 (λ value.
     ifsome-if IsSoundWord (bytes_eq value (codes "off")) (Some NumaOff) None tt tt)))
-    (ifok-if IsSoundWord (bytes_eq word.0 (codes "add_efi_memmap")) _ _ tt tt))))
-
-pub numbered-said_by : (number : ℕ) (word : List ℕ × Option (List ℕ)) → 0 < number → IfErr (said_by number word) IsLineFault
-numbered-said_by number word above =
-    iferr-if IsLineFault (bytes_eq word.0 (codes "mem")) _ _ (numbered-or_fault (faults.BadMem number) _ above)
-    (iferr-if IsLineFault (bytes_eq word.0 (codes "memmap")) _ _ (numbered-or_fault (faults.BadMemmap number) _ above)
-    (iferr-if IsLineFault (bytes_eq word.0 (codes "crashkernel")) _ _ (numbered-or_fault (faults.BadCrash number) _ above)
-    (iferr-if IsLineFault (bytes_eq word.0 (codes "numa")) _ _ (numbered-or_fault (faults.BadNuma number) _ above)
-    (iferr-if IsLineFault (bytes_eq word.0 (codes "add_efi_memmap")) _ _ tt tt))))
+    (fit-if IsSoundWord (bytes_eq word.0 (codes "add_efi_memmap")) _ _ tt tt))))
 
 -- a fact of a later step, by what the earlier one gives
-pub ifok-then : {A B : Type 0} (P : A → Type 0) (Q : B → Type 0) (r : Result A OptionFault) (f : A → Result B OptionFault)
-    → IfOk r P → ((a : A) → P a → IfOk (f a) Q) → IfOk (r >>= f) Q
-ifok-then P Q (Ok a) f is each = each a is
-ifok-then P Q (Err fault) f is each = tt
-
-pub iferr-then : {A B : Type 0} (P : A → Type 0) (r : Result A OptionFault) (f : A → Result B OptionFault)
-    → IfOk r P → IfErr r IsLineFault → ((a : A) → P a → IfErr (f a) IsLineFault) → IfErr (r >>= f) IsLineFault
-iferr-then P (Ok a) f is err each = each a is
-iferr-then P (Err fault) f is err each = err
+pub fit-then : {A B : Type 0} (P : A → Type 0) (Q : B → Type 0) (r : Result A OptionFault) (f : A → Result B OptionFault)
+    → IsFit P r → ((a : A) → P a → IsFit Q (f a)) → IsFit Q (r >>= f)
+fit-then P Q (Ok a) f is each = each a is
+fit-then P Q (Err fault) f is each = is
 
 -- every word, with the words behind it
-pub sound-said_from : (number : ℕ) (words : List (List ℕ)) → 0 < number → IfOk (said_from number words) AreSoundWords
-sound-said_from number [] above = tt
-sound-said_from number (word ∷ words) above =
-    ifok-then IsSoundWord AreSoundWords (said_by number (name_value_of word)) _ (sound-said_by number (name_value_of word)) (λ said is.
-    ifok-then AreSoundWords AreSoundWords (said_from (number + 1) words) _
-    (sound-said_from (number + 1) words (omega arith)) (λ others are. (above, is, are)))
-
-pub numbered-said_from : (number : ℕ) (words : List (List ℕ)) → 0 < number → IfErr (said_from number words) IsLineFault
-numbered-said_from number [] above = tt
-numbered-said_from number (word ∷ words) above =
-    iferr-then IsSoundWord (said_by number (name_value_of word)) _ (sound-said_by number (name_value_of word))
-    (numbered-said_by number (name_value_of word) above) (λ said is.
-    iferr-then AreSoundWords (said_from (number + 1) words) _ (sound-said_from (number + 1) words (omega arith))
-    (numbered-said_from (number + 1) words (omega arith)) (λ others are. tt))
+pub fit-said_from : (number : ℕ) (words : List (List ℕ)) → 0 < number → IsFit AreSoundWords (said_from number words)
+fit-said_from number [] above = tt
+fit-said_from number (word ∷ words) above =
+    fit-then IsSoundWord AreSoundWords (said_by number (name_value_of word)) _ (fit-said_by number (name_value_of word) above) (λ said is.
+    fit-then AreSoundWords AreSoundWords (said_from (number + 1) words) _
+    (fit-said_from (number + 1) words (omega arith)) (λ others are. (above, is, are)))
 
 -- the map options of all words
 pub sound-numbered : (number : ℕ) (ps : List MapOption) (behind : List (ℕ × MapOption))
@@ -178,60 +154,43 @@ pub sound-chosen_by : (said : List (ℕ × Said)) → AreSoundWords said → IsS
 sound-chosen_by said are =
     let edits = types-edits (all_map_options said) (sound-all_map_options said are) in (edits.0, edits.1, sound-last_plain said are)
 
-pub sound-with_user_map : (said : List (ℕ × Said)) → AreSoundWords said → IfOk (with_user_map said) IsSoundChoice
-sound-with_user_map said are = by_exact (last_exact (all_map_options said))
-  where
-    by_exact : (found : Option (ℕ × ℕ)) → IfOk (unless_incomplete (chosen_by said) found) IsSoundChoice
-    by_exact None = sound-chosen_by said are
-    by_exact (Some exact) =
-        ifok-if IsSoundChoice (nat_lt exact.1 2) _ _ tt (sound-chosen_by said are)
-
-pub numbered-with_user_map : (said : List (ℕ × Said)) → AreSoundWords said → IfErr (with_user_map said) IsLineFault
-numbered-with_user_map said are =
+pub fit-with_user_map : (said : List (ℕ × Said)) → AreSoundWords said → IsFit IsSoundChoice (with_user_map said)
+fit-with_user_map said are =
     by_exact (last_exact (all_map_options said)) (numbered-last_exact (all_map_options said) (sound-all_map_options said are))
   where
-    by_exact : (found : Option (ℕ × ℕ)) → IfSome found (λ exact. 0 < exact.0) → IfErr (unless_incomplete (chosen_by said) found) IsLineFault
-    by_exact None is = tt
-    by_exact (Some exact) is = iferr-if IsLineFault (nat_lt exact.1 2) _ _ is tt
-
-pub numbered-line : (bytes : List ℕ) → IfErr (line_of bytes) IsLineFault
-numbered-line bytes =
-    iferr-if IsLineFault (nat_lt 2047 (length (raw_line bytes))) _ _ tt (iferr-if IsLineFault (is_closed (raw_line bytes)) _ _ tt tt)
+    by_exact : (found : Option (ℕ × ℕ)) → IfSome found (λ exact. 0 < exact.0)
+        → IsFit IsSoundChoice (unless_incomplete (chosen_by said) found)
+    by_exact None is = sound-chosen_by said are
+    by_exact (Some exact) is = fit-if IsSoundChoice (nat_lt exact.1 2) _ _ is (sound-chosen_by said are)
 
 abbrev pub IsAnyLine : List ℕ → Type 0
 IsAnyLine line = Unit {0}
 
-pub any_line : (r : Result (List ℕ) OptionFault) → IfOk r IsAnyLine
-any_line (Ok line) = tt
-any_line (Err fault) = tt
+pub fit-line : (bytes : List ℕ) → IsFit IsAnyLine (line_of bytes)
+fit-line bytes =
+    fit-if IsAnyLine (nat_lt 2047 (length (raw_line bytes))) _ _ tt (fit-if IsAnyLine (is_closed (raw_line bytes)) _ _ tt tt)
 
 -- the options of the bytes, and their faults
-pub sound-options : (bytes : List ℕ) → IfOk (options_of bytes) IsSoundChoice
-sound-options bytes =
-    ifok-then IsAnyLine IsSoundChoice (line_of bytes) _ (any_line (line_of bytes)) (λ line _.
-    ifok-then AreSoundWords IsSoundChoice (said_from 1 (option_words line)) with_user_map
-    (sound-said_from 1 (option_words line) (omega arith)) sound-with_user_map)
-
-pub numbered-options : (bytes : List ℕ) → IfErr (options_of bytes) IsLineFault
-numbered-options bytes =
-    iferr-then IsAnyLine (line_of bytes) _ (any_line (line_of bytes)) (numbered-line bytes) (λ line _.
-    iferr-then AreSoundWords (said_from 1 (option_words line)) with_user_map
-    (sound-said_from 1 (option_words line) (omega arith)) (numbered-said_from 1 (option_words line) (omega arith)) numbered-with_user_map)
+pub fit-options : (bytes : List ℕ) → IsFit IsSoundChoice (options_of bytes)
+fit-options bytes =
+    fit-then IsAnyLine IsSoundChoice (line_of bytes) _ (fit-line bytes) (λ line _.
+    fit-then AreSoundWords IsSoundChoice (said_from 1 (option_words line)) with_user_map
+    (fit-said_from 1 (option_words line) (omega arith)) fit-with_user_map)
 
 -- the same of what a call gives
 pub types-given : (bytes : List ℕ) (r : Result Options OptionFault) → Answers faults.Memory chosen r (options_of bytes)
     → IfOk r (λ options. HaveTypes options.edits.items)
-types-given bytes (Ok options) is = (rw is at (sound-options bytes)).0
+types-given bytes (Ok options) is = (rw is at (fit-options bytes)).0
 types-given bytes (Err fault) is = tt
 
 pub ranges-given : (bytes : List ℕ) (r : Result Options OptionFault) → Answers faults.Memory chosen r (options_of bytes)
     → IfOk r (λ options. HaveRanges options.edits.items)
-ranges-given bytes (Ok options) is = (rw is at (sound-options bytes)).1
+ranges-given bytes (Ok options) is = (rw is at (fit-options bytes)).1
 ranges-given bytes (Err fault) is = tt
 
 pub crash-given : (bytes : List ℕ) (r : Result Options OptionFault) → Answers faults.Memory chosen r (options_of bytes)
     → IfOk r (λ options. IfSome options.crash.plain (λ plain. IsPlain (plain_view plain)))
-crash-given bytes (Ok options) is = seen options.crash.plain (rw is at (sound-options bytes)).2
+crash-given bytes (Ok options) is = seen options.crash.plain (rw is at (fit-options bytes)).2
   where
     seen : (plain : Option CrashPlain) → IfSome (option_map plain_view plain) IsPlain → IfSome plain (λ p. IsPlain (plain_view p))
     seen None is = tt
@@ -246,13 +205,13 @@ numbered-given bytes (Err fault) is = by_fault fault is
     by_fault : (fault : OptionFault) → (fault ≢ faults.Memory → options_of bytes ≡ Err fault) → IsNumbered fault
     by_fault faults.TooLong is = tt
     by_fault faults.OpenQuote is = tt
-    by_fault (faults.BadMem word) is = rw (is (λ same. cc)) at (numbered-options bytes)
-    by_fault (faults.BadMemmap word) is = rw (is (λ same. cc)) at (numbered-options bytes)
-    by_fault (faults.BadCrash word) is = rw (is (λ same. cc)) at (numbered-options bytes)
-    by_fault (faults.UserMapInvalid word) is = rw (is (λ same. cc)) at (numbered-options bytes)
-    by_fault (faults.BadNuma word) is = rw (is (λ same. cc)) at (numbered-options bytes)
+    by_fault (faults.BadMem word) is = rw (is (λ same. cc)) at (fit-options bytes)
+    by_fault (faults.BadMemmap word) is = rw (is (λ same. cc)) at (fit-options bytes)
+    by_fault (faults.BadCrash word) is = rw (is (λ same. cc)) at (fit-options bytes)
+    by_fault (faults.UserMapInvalid word) is = rw (is (λ same. cc)) at (fit-options bytes)
+    by_fault (faults.BadNuma word) is = rw (is (λ same. cc)) at (fit-options bytes)
     by_fault faults.Memory is = tt
 
 -- no line says that memory ran out
 pub options-remembered : (bytes : List ℕ) → options_of bytes ≢ Err faults.Memory
-options-remembered bytes is = rw is at (numbered-options bytes)
+options-remembered bytes is = rw is at (fit-options bytes)

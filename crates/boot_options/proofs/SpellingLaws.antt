@@ -58,11 +58,8 @@ begins_with_digit-size s n size = by_test (begins_with_digit s) size
 
 pub exactmap-digit : (b : ℕ) (bs : List ℕ) → is_digit b 10 ≡ true → bytes_eq (b ∷ bs) (codes "exactmap") ≡ false
 exactmap-digit b bs digit =
-    let other : b == 101 ≡ false = ne_eqb b 101 (λ same. is_none (rw same at digit)) in
+    let other : b == 101 ≡ false = ne_eqb b 101 (λ same. let letter : is_digit 101 10 ≡ true = rw same at digit in cc) in
     rw other refl
-  where
-    is_none : is_digit 101 10 ≡ true → ⊥
-    is_none is = cc
 
 pub exactmap-other : (s rest : List ℕ) → begins_with_digit s ≡ true → bytes_eq (s ++ rest) (codes "exactmap") ≡ false
 exactmap-other [] rest begins = cc

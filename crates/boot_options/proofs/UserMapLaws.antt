@@ -38,31 +38,29 @@ edits-all st ((number, OfCrash form) ∷ said) = edits-all (after number st (OfC
 edits-all st ((number, NumaOff) ∷ said) = edits-all (after number st NumaOff) said
 edits-all st ((number, AddEfi) ∷ said) = edits-all (after number st AddEfi) said
 
--- map options say nothing of nodes
-pub numa_off-map_options : (number : ℕ) (st : State) (ps : List MapOption) → (after_map_options number st ps).numa_off ≡ st.numa_off
-numa_off-map_options number st [] = refl
-numa_off-map_options number st (p ∷ ps) = numa_off-map_options number (after_map_option number st p) ps
+-- what one map option leaves as it is, those of a word leave
+pub same-map_options : {X : Type 0} (part : State → X) → ((number : ℕ) (st : State) (p : MapOption) → part (after_map_option number st p) ≡ part st)
+    → (number : ℕ) (st : State) (ps : List MapOption) → part (after_map_options number st ps) ≡ part st
+same-map_options part same number st [] = refl
+same-map_options part same number st (p ∷ ps) =
+    same-map_options part same number (after_map_option number st p) ps ∙ same number st p
 
 -- whether some word says `numa=off`
 pub numa_off-all : (st : State) (said : List (ℕ × Said)) → (after_all st said).numa_off ≡ (st.numa_off || is_numa_off said)
 numa_off-all st [] = sym (or-false st.numa_off)
 numa_off-all st ((number, OfMap ps) ∷ said) =
     numa_off-all (after_map_options number st ps) said
-    ∙ ap (λ (b : Bool). b || is_numa_off said) (numa_off-map_options number st ps)
+    ∙ ap (λ (b : Bool). b || is_numa_off said) (same-map_options (λ (s : State). s.numa_off) (λ n s p. refl) number st ps)
 numa_off-all st ((number, OfCrash form) ∷ said) = numa_off-all (after number st (OfCrash form)) said
 numa_off-all st ((number, NumaOff) ∷ said) = numa_off-all (after number st NumaOff) said ∙ sym (or-true st.numa_off)
 numa_off-all st ((number, AddEfi) ∷ said) = numa_off-all (after number st AddEfi) said
 
 -- the same of `add_efi_memmap`
-pub add_efi-map_options : (number : ℕ) (st : State) (ps : List MapOption) → (after_map_options number st ps).add_efi ≡ st.add_efi
-add_efi-map_options number st [] = refl
-add_efi-map_options number st (p ∷ ps) = add_efi-map_options number (after_map_option number st p) ps
-
 pub add_efi-all : (st : State) (said : List (ℕ × Said)) → (after_all st said).add_efi ≡ (st.add_efi || is_efi_added said)
 add_efi-all st [] = sym (or-false st.add_efi)
 add_efi-all st ((number, OfMap ps) ∷ said) =
     add_efi-all (after_map_options number st ps) said
-    ∙ ap (λ (b : Bool). b || is_efi_added said) (add_efi-map_options number st ps)
+    ∙ ap (λ (b : Bool). b || is_efi_added said) (same-map_options (λ (s : State). s.add_efi) (λ n s p. refl) number st ps)
 add_efi-all st ((number, OfCrash form) ∷ said) = add_efi-all (after number st (OfCrash form)) said
 add_efi-all st ((number, NumaOff) ∷ said) = add_efi-all (after number st NumaOff) said
 add_efi-all st ((number, AddEfi) ∷ said) = add_efi-all (after number st AddEfi) said ∙ sym (or-true st.add_efi)
@@ -89,16 +87,12 @@ later-twice a b c = rw (or_twice a.plain b.plain c.plain, or_twice a.high b.high
 pub later-nothing : (a : CrashWords) → later a no_crash ≡ a
 later-nothing a = rw (or_nothing a.plain, or_nothing a.high, or_nothing a.low) refl
 
--- map options say nothing of the crash area
-pub crash-map_options : (number : ℕ) (st : State) (ps : List MapOption) → (after_map_options number st ps).crash ≡ st.crash
-crash-map_options number st [] = refl
-crash-map_options number st (p ∷ ps) = crash-map_options number (after_map_option number st p) ps
-
 -- the last value of each form
 pub crash-all : (st : State) (said : List (ℕ × Said)) → (after_all st said).crash ≡ later (crash_by said) st.crash
 crash-all st [] = refl
 crash-all st ((number, OfMap ps) ∷ said) =
-    crash-all (after_map_options number st ps) said ∙ ap (later (crash_by said)) (crash-map_options number st ps)
+    crash-all (after_map_options number st ps) said
+    ∙ ap (later (crash_by said)) (same-map_options (λ (s : State). s.crash) (λ n s p. refl) number st ps)
     ∙ later-twice (crash_by said) no_crash st.crash
 crash-all st ((number, OfCrash (Plain form)) ∷ said) =
     crash-all (after number st (OfCrash (Plain form))) said ∙ later-twice (crash_by said) (after_form no_crash (Plain form)) st.crash
