@@ -1,4 +1,4 @@
-use Rattle.frame_blocks.proofs.BlockLaws.{block_found, found_block, none_found, listed_sound, listed_complete, listed_ascends}
+use Rattle.frame_blocks.proofs.BlockLaws.{block_found, found_block, listed_sound, listed_complete, listed_ascends}
 use Rattle.frame_blocks.proofs.laws.listed_blocks_are_blocks.Goals as goal
 
 pub returns-clause-block : goal.returns-clause-block
@@ -6,9 +6,6 @@ returns-clause-block c = block_found
 
 pub returns-clause-one : goal.returns-clause-one
 returns-clause-one c = found_block
-
-pub returns-clause-none : goal.returns-clause-none
-returns-clause-none c = none_found
 
 pub returns-clause-sound : goal.returns-clause-sound
 returns-clause-sound c = listed_sound
