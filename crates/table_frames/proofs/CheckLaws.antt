@@ -1,5 +1,5 @@
 -- Reading a list of records in order, what it is so far.
-use Rattle.std.proofs.Common.{◌≡◌, ◌⊎◌, ◌↔◌, ℕ, zero, suc, ◌+◌, ◌-◌, ◌*◌, ◌%◌, ◌^◌, ◌<◌, ◌≤◌, Option, Some, None, List, [], ◌∷◌, length, get_or, drop, refl, sym, ◌∙◌, ap, subst, inl, inr, arith, drop-cons}
+use Rattle.std.proofs.Common.{◌≡◌, ◌↔◌, ℕ, suc, ◌+◌, ◌*◌, ◌%◌, ◌<◌, ◌≤◌, List, [], ◌∷◌, length, drop, sym, ◌∙◌, ap, subst, arith, drop-cons}
 use Rattle.std.proofs.lemmas.List.{at_drop_all}
 use Rattle.phys_store.specs.Bytes.{Stored, byte_of, bytes_at}
 use Rattle.address_runs.specs.Runs.{RunOf, run_end}
@@ -7,9 +7,9 @@ use Rattle.address_runs.specs.Sweep.{StartFrom}
 use Rattle.memblock_model.specs.Labels.{Label}
 use Rattle.memblock_ranges.specs.declared.region.Head.{Head}
 use Rattle.memblock_ranges.specs.declared.region.Region.{Region}
-use Rattle.memblock_ranges.specs.Spelling.{base_in, size_in, region_in, run_in}
+use Rattle.memblock_ranges.specs.Spelling.{region_in, run_in}
 use Rattle.memblock_ranges.specs.Tables.{list_in}
-use Rattle.table_frames.specs.Tables.{AscendBelow, HasRecords, AreWholeFrames}
+use Rattle.table_frames.specs.Tables.{AscendBelow, AreWholeFrames}
 use Rattle.table_frames.proofs.RecordLaws.{record_by_bytes, length_by_head}
 
 -- what is left from a record on begins with what was read
@@ -28,10 +28,6 @@ left_from s h i g few is =
 
 abbrev pub Ascends : ℕ → ℕ → List (RunOf Label) → Type 0
 Ascends from b rs = StartFrom from rs × AscendBelow b rs
-
-pub start_none : (b : ℕ) (rs : List (RunOf Label)) → Ascends 0 b rs ↔ AscendBelow b rs
-start_none b [] = ((λ both. both.1), λ ascend. (tt, ascend))
-start_none b (r ∷ rs) = ((λ both. both.1), λ ascend. (omega arith, ascend))
 
 -- a record in its place: the rest decides
 pub one_in_place : (b from i next : ℕ) (rs ss : List (RunOf Label)) (r : RunOf Label) → Ascends from b (drop i rs) ↔ AscendBelow b rs

@@ -1,5 +1,5 @@
 -- Small tables by frames.
-use Rattle.std.proofs.Common.{◌≡◌, ℕ, ◌+◌, ◌*◌, ◌<◌, ◌≤◌, true, false, Option, Some, None, List, [], ◌∷◌, if◌then◌else◌, refl, sym, ◌∙◌, arith}
+use Rattle.std.proofs.Common.{◌≡◌, ℕ, true, false, Some, None, [], ◌∷◌, if◌then◌else◌, refl, sym, ◌∙◌, arith}
 use Rattle.address_runs.specs.Runs.{RunOf, value_at}
 use Rattle.memblock_model.specs.Labels.{Label, Labels, plain_label, with_node}
 use Rattle.table_frames.specs.Frames.{node_below, node_told, frames_of, node_of_frame, is_unclaimed, free_node_in, IsPassed}

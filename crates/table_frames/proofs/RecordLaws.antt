@@ -1,15 +1,15 @@
 -- The records of an ascending list: each by its index, and what the list gives below and behind.
-use Rattle.std.proofs.Common.{◌≡◌, ℕ, zero, suc, ◌+◌, ◌-◌, ◌*◌, ◌/◌, ◌%◌, ◌^◌, ◌<◌, ◌≤◌, ◌==◌, nat_lt, Bool, true, false, Option, Some, None, List, [], ◌∷◌, ◌++◌, length, get_or, take, drop, if◌then◌else◌, refl, sym, ◌∙◌, ap, subst, inl, inr, arith, drop-cons}
+use Rattle.std.proofs.Common.{◌≡◌, ℕ, zero, suc, ◌+◌, ◌-◌, ◌*◌, ◌/◌, ◌^◌, ◌<◌, ◌≤◌, ◌==◌, nat_lt, true, false, Option, Some, None, List, [], ◌∷◌, length, get_or, take, drop, if◌then◌else◌, refl, sym, ◌∙◌, ap, subst, inl, inr, arith}
 use Rattle.std.proofs.lemmas.Bool.Decides.{nat_tests}
-use Rattle.std.proofs.lemmas.Bool.{cases_lt, cases_Bool, eqb-true}
+use Rattle.std.proofs.lemmas.Bool.{cases_Bool, eqb-true}
 use Rattle.phys_store.specs.Bytes.{Stored, byte_of, bytes_at}
-use Rattle.address_runs.specs.Runs.{RunOf, run_end, lies_in, value_at}
+use Rattle.address_runs.specs.Runs.{RunOf, run_end, value_at}
 use Rattle.address_runs.specs.Sweep.{StartFrom}
-use Rattle.address_runs.proofs.RunsLaws.{inside, below, behind}
+use Rattle.address_runs.proofs.RunsLaws.{below, behind}
 use Rattle.memblock_model.specs.Labels.{Label}
 use Rattle.memblock_ranges.specs.declared.region.Head.{Head}
 use Rattle.memblock_ranges.specs.declared.region.Region.{Region}
-use Rattle.memblock_ranges.specs.Spelling.{base_in, size_in, node_in, node_of_field, region_in, run_in, records_at}
+use Rattle.memblock_ranges.specs.Spelling.{base_in, size_in, node_in, node_of_field, region_in, run_in}
 use Rattle.memblock_ranges.specs.Tables.{list_in}
 use Rattle.memblock_ranges.proofs.SpellLaws.{get-records_at, length-records_at}
 use Rattle.table_frames.specs.declared.frames.RecordFrames.{RecordFrames}

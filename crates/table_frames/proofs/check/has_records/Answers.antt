@@ -1,13 +1,10 @@
-use Rattle.std.proofs.Common.{◌≡◌, ◌≤◌, ◌<◌, ◌+◌, length, drop, sym, ◌∙◌, ap, arith, refl}
+use Rattle.std.proofs.Common.{◌≤◌, ◌+◌, length, drop, arith, refl}
 use Rattle.std.proofs.lemmas.Bool.{false≢true}
 use Rattle.memblock_ranges.specs.Tables.{list_in}
 use Rattle.table_frames.specs.Tables.{HasRecords}
 use Rattle.table_frames.proofs.RecordLaws.{length_by_head, records_higher}
-use Rattle.table_frames.proofs.CheckLaws.{left_from, start_none, one_in_place, out_of_place, all_in_place}
+use Rattle.table_frames.proofs.CheckLaws.{left_from, one_in_place, out_of_place, all_in_place}
 use Rattle.table_frames.proofs.check.has_records.Goals as goal
-
-pub loop-i-init : goal.loop-i-init
-loop-i-init c = start_none c.args.bound (list_in c.args.store.now c.args.head.now)
 
 pub returns-then-not-is_in_place-clause-list : goal.returns-then-not-is_in_place-clause-list
 returns-then-not-is_in_place-clause-list c =

@@ -1,4 +1,4 @@
-use Rattle.std.proofs.Common.{◌≡◌, ◌≤◌, ◌+◌, ◌%◌, length, drop, sym, ◌∙◌, ap, arith, refl}
+use Rattle.std.proofs.Common.{◌≤◌, ◌+◌, ◌%◌, length, drop, sym, ◌∙◌, ap, arith, refl}
 use Rattle.std.proofs.lemmas.Bool.{false≢true}
 use Rattle.memblock_ranges.specs.Tables.{list_in}
 use Rattle.table_frames.proofs.RecordLaws.{length_by_head}

@@ -1,4 +1,4 @@
-use Rattle.std.proofs.Common.{◌↔◌, ◌≤◌, drop}
+use Rattle.std.proofs.Common.{◌↔◌, drop}
 use Rattle.memblock_ranges.specs.Tables.{list_in}
 use Rattle.table_frames.specs.Tables.{AreWholeFrames}
 use Rattle.table_frames.proofs.check.has_whole_frames.Given as goal

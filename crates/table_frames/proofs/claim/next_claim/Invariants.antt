@@ -1,5 +1,4 @@
 use Rattle.std.proofs.Common.{◌≤◌, ◌-◌}
-use Rattle.address_runs.specs.Runs.{value_at}
 use Rattle.memblock_ranges.specs.Tables.{list_in}
 use Rattle.table_frames.specs.Frames.{IsPassed}
 use Rattle.table_frames.proofs.claim.next_claim.Given as goal

@@ -1,4 +1,4 @@
-use Rattle.std.proofs.Common.{◌≡◌, arith}
+use Rattle.std.proofs.Common.{arith}
 use Rattle.table_frames.proofs.RecordLaws.{region_fits, region_frames, some_node, no_node}
 use Rattle.table_frames.proofs.frames.frames_at.Goals as goal
 
