@@ -1,12 +1,12 @@
 -- How one call after another ends: by the ends of both.
-use Rattle.std.proofs.Common.{◌≡◌, ◌≢◌, ℕ, ◌+◌, ◌<◌, Bool, true, false, Option, Some, None, List, [], ◌∷◌, ◌++◌, length, take, Result, Ok, Err, refl, sym, ◌∙◌, ap, subst, append_assoc, arith}
+use Rattle.std.proofs.Common.{◌≡◌, ℕ, ◌+◌, ◌<◌, Bool, true, false, Option, Some, None, List, [], ◌∷◌, ◌++◌, length, take, Result, Ok, Err, refl, sym, ◌∙◌, ap, subst, append_assoc, arith}
 use Rattle.std.proofs.lemmas.List.{append-nil, length-append, take-append-le}
 use Rattle.std.proofs.Math.Seq.{take-append-add}
 use Rattle.memblock_model.specs.declared.which.Which.{Which}
 use Rattle.memblock_model.specs.declared.item.Item.{Item}
 use Rattle.growth_model.specs.declared.refusal.Refusal.{Refusal}
 use Rattle.growth_model.specs.declared.refusal.Refusal.TheVariants as refusal
-use Rattle.growth_model.specs.Outcome.{Refused, Outcome, Change, joined, after, nothing, step, refuse, followed_by, ◌>>◌, if_due, whatever_refused}
+use Rattle.growth_model.specs.Outcome.{Refused, Outcome, Change, joined, after, nothing, step, refuse, followed_by, ◌>>◌, if_due}
 use Rattle.growth_model.specs.Ends.{IsCut, IsCutShort, EndsBy, Ends}
 
 pub joined-append : (a b : List (List Item)) → joined (a ++ b) ≡ joined a ++ joined b
@@ -105,22 +105,6 @@ Ends-refused T w room items = (refl, sym (append-nil items))
 pub Ends-wanting : (T : Type 0) (items : List Item) (change : Change) → 0 < length (change items).steps
     → Ends {T = T} (Err refusal.Memory) items items change
 Ends-wanting T items change some = record { count = 0; short = some; stands = sym (append-nil items) }
-
--- a refusal that doesn't count
-whatever_by : {T U : Type 0} (x : U) (r : Result T Refusal) (old new : List Item) (o : Outcome) → r ≢ Err refusal.Memory
-    → EndsBy r old new o → EndsBy (Ok x) old new (record { steps = o.steps; refused = None })
-whatever_by x (Ok y) old new o other h = (refl, h.1)
-whatever_by x (Err refusal.NoGap) old new o other h = absurd h
-whatever_by x (Err (refusal.NoGapForTable w room)) old new o other h = (refl, h.1)
-whatever_by x (Err refusal.Memory) old new o other h = absurd (other refl)
-
-pub Ends-whatever : {T U : Type 0} (x : U) (r : Result T Refusal) (old new : List Item) (change : Change) → r ≢ Err refusal.Memory
-    → Ends r old new change → Ends (Ok x) old new (whatever_refused change)
-Ends-whatever x r old new change other h = whatever_by x r old new (change old) other h
-
-pub Ends-whatever_wanting : (T U : Type 0) (old new : List Item) (change : Change) → Ends {T = T} (Err refusal.Memory) old new change
-    → Ends {T = U} (Err refusal.Memory) old new (whatever_refused change)
-Ends-whatever_wanting T U old new change cut = record { count = cut.count; short = cut.short; stands = cut.stands }
 
 -- the ends of an answer that is known
 pub Ends-along : {T : Type 0} (r s : Result T Refusal) (old new : List Item) (change : Change) → r ≡ s → Ends r old new change

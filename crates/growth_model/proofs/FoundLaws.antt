@@ -1,6 +1,6 @@
 -- A place that a search found: nobody has its bytes, so neither table lies there.
-use Rattle.std.proofs.Common.{◌≡◌, ℕ, ◌+◌, ◌*◌, ◌%◌, ◌≤◌, Bool, true, false, ◌==◌, if◌then◌else◌, min, Option, Some, None, List, [], ◌∷◌, ◌++◌, refl, sym, ap, subst, inl, inr, ◌⊎◌, arith}
-use Rattle.std.proofs.lemmas.Bool.{and_parts, and_from}
+use Rattle.std.proofs.Common.{◌≡◌, ℕ, ◌+◌, ◌*◌, ◌%◌, ◌≤◌, Bool, true, false, ◌==◌, if◌then◌else◌, min, Option, Some, None, List, [], ◌∷◌, ◌++◌, refl, ap, subst, inl, inr, ◌⊎◌, arith}
+use Rattle.std.proofs.lemmas.Bool.{and_parts}
 use Rattle.std.specs.Option.{option_or}
 use Rattle.bm_base.specs.Extent.{Extent, end_of, covers, Meet}
 use Rattle.memblock_model.specs.declared.which.Which.{Which}
@@ -203,24 +203,6 @@ pub away-apart : (kernel a : Extent) (items : List Item) (t : Contents) → t.me
     → t.reserved ≡ table_for which.Reserved kernel items → IsAway kernel a items → ¬ Overlaps t a
 away-apart kernel a items t memory reserved away (w, meet) =
     away_at kernel a items w away (subst (λ (e : Extent). Meet e a) (live_bytes kernel items t w memory reserved) meet)
-
-meet_at : (a b : Extent) (x : ℕ) → covers a x ≡ true → covers b x ≡ true → Meet b a
-meet_at a b x at_a at_b = (x, and_from (covers b x) (covers a x) at_b at_a)
-
-pub apart-away : (kernel a : Extent) (items : List Item) (t : Contents) → t.memory ≡ table_for which.Memory kernel items
-    → t.reserved ≡ table_for which.Reserved kernel items → ¬ Overlaps t a → IsAway kernel a items
-apart-away kernel a items t memory reserved apart = (
-  λ x at_a at_t. apart (
-    which.Memory,
-    subst (λ (e : Extent). Meet e a) (sym (live_bytes kernel items t which.Memory memory reserved))
-        (meet_at a (live which.Memory kernel items) x at_a at_t),
-  ),
-  λ x at_a at_t. apart (
-    which.Reserved,
-    subst (λ (e : Extent). Meet e a) (sym (live_bytes kernel items t which.Reserved memory reserved))
-        (meet_at a (live which.Reserved kernel items) x at_a at_t),
-  ),
-)
 
 -- a place that was found, for a table with twice the room: what `Tables::relocate` wants
 pub found-apart : (kernel : Extent) (items : List Item) (t : Contents) (room place : ℕ) → t.memory ≡ table_for which.Memory kernel items

@@ -1,5 +1,5 @@
 -- Places of tables, by ranges and owners alone: what a claim, a free and a move leave of them.
-use Rattle.std.proofs.Common.{◌≡◌, ℕ, ◌+◌, ◌*◌, ◌/◌, ◌%◌, ◌<◌, ◌≤◌, Bool, true, false, if◌then◌else◌, Option, Some, None, refl, sym, ◌∙◌, ap, inl, inr, arith}
+use Rattle.std.proofs.Common.{◌≡◌, ℕ, ◌+◌, ◌*◌, ◌/◌, ◌%◌, ◌<◌, ◌≤◌, Bool, true, false, if◌then◌else◌, Option, Some, None, sym, ◌∙◌, ap, inl, inr, arith}
 use Rattle.std.proofs.lemmas.Bool.{cases_Bool, true≢false}
 use Rattle.std.proofs.lemmas.Bool.Decides.{nat_tests}
 use Rattle.bm_base.specs.Extent.{Extent, covers}
@@ -42,12 +42,6 @@ first-frame x = omega arith
 
 pub Apart-swap : (a b : Extent) → ShareNoFrame a b → ShareNoFrame b a
 Apart-swap a b apart x y at_x at_y same = apart y x at_y at_x (sym same)
-
-pub Clear-swap : (a b : Extent) → Clear a b → Clear b a
-Clear-swap a b clear x at_b at_a = clear x at_a at_b
-
-pub Apart-clear : (a b : Extent) → ShareNoFrame a b → Clear a b
-Apart-clear a b apart x at_a at_b = apart x x at_a at_b refl
 
 -- the frames of a place miss the other place
 pub apart-clear : (a b : Extent) → a.base % 4096 ≡ 0 → ShareNoFrame a b → Clear (frames a) b

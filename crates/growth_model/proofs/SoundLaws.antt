@@ -10,22 +10,19 @@ use Rattle.growth_model.specs.declared.refusal.Refusal.{Refusal}
 use Rattle.growth_model.specs.declared.refusal.Refusal.TheVariants as refusal
 use Rattle.memblock_model.specs.declared.request.Request.{Request}
 use Rattle.growth_model.specs.Outcome.{Outcome, Change, joined, nothing, if_due}
-use Rattle.growth_model.specs.Growth.{is_full, new_in, two, grown, claimed, freed, reserved_growth, memory_growth, added, noded, mirrored}
+use Rattle.growth_model.specs.Growth.{is_full, new_in, claimed, freed, reserved_growth, memory_growth, added, noded, mirrored}
 use Rattle.growth_model.specs.Request.{place_for}
 use Rattle.growth_model.specs.Ends.{EndsBy, Ends, Allocates}
 use Rattle.growth_model.specs.Sound.{keeps, Seated, IsImage, HasBegun, IsAway, MayClaim}
-use Rattle.growth_model.proofs.CutLaws.{EachCut, cuts-ends, cuts-map, cuts-due, cuts-grown}
+use Rattle.growth_model.proofs.CutLaws.{EachCut, cuts-ends, cuts-map, cuts-due}
 use Rattle.growth_model.proofs.PlacedLaws.{aside-same, Going, trim-placed, limit-placed, upward-placed}
-use Rattle.growth_model.proofs.PlacedReservedLaws.{reserved-cuts, room-cuts, claimed-cuts, freed-cuts}
+use Rattle.growth_model.proofs.PlacedReservedLaws.{reserved-cuts, claimed-cuts, freed-cuts}
 use Rattle.growth_model.proofs.PlacedMemoryLaws.{memory-cuts, added-cuts, noded-cuts, mirrored-cuts, allocated-cuts}
-use Rattle.growth_model.proofs.FirstLaws.{first-full, first-full_by_two, first-claimed, first-placed}
+use Rattle.growth_model.proofs.FirstLaws.{first-full, first-claimed, first-placed}
 
 -- from the first claim on
 abbrev pub Stands : Extent → List Item → Type 0
 Stands kernel items = HasBegun items → Seated kernel items
-
-pub placed-begun : (kernel : Extent) (items : List Item) → Seated kernel items → HasBegun items
-placed-begun kernel items placed = subst HasBegun (sym placed.first) tt
 
 -- a change that keeps the places throughout, with something claimed already
 stands-by : {T : Type 0} (kernel : Extent) (r : Result T Refusal) (old new : List Item) (o : Outcome)
@@ -70,19 +67,6 @@ pub mirror-stands : {T : Type 0} (kernel : Extent) (r : Result T Refusal) (old n
 mirror-stands kernel r old new range stands begun ends =
     stands-by kernel r old new (mirrored range old) (λ placed. mirrored-cuts kernel old range placed) stands begun ends
 
--- the two growths by themselves, and a claim by an owner that isn't the script: also between the calls
-pub reserved-stands : {T : Type 0} (kernel : Extent) (r : Result T Refusal) (old new : List Item) (range : Extent)
-    → Stands kernel old → HasBegun old → Ends r old new (reserved_growth range) → Stands kernel new
-reserved-stands kernel r old new range stands begun ends =
-    stands-by kernel r old new (reserved_growth range old)
-    (λ placed. cuts-map (Going kernel range old) (Seated kernel) old (reserved_growth range old).steps (λ t going. going.placed)
-    (reserved-cuts kernel range old old (record { placed = placed; aside = aside-same kernel range old }))) stands begun ends
-
-pub memory-stands : {T : Type 0} (kernel : Extent) (r : Result T Refusal) (old new : List Item)
-    → Stands kernel old → HasBegun old → Ends r old new memory_growth → Stands kernel new
-memory-stands kernel r old new stands begun ends =
-    stands-by kernel r old new (memory_growth old) (λ placed. memory-cuts kernel old placed) stands begun ends
-
 -- an allocation, whoever it is for
 pub alloc-placed : (kernel : Extent) (r : Result ℕ Refusal) (old new : List Item) (q : Request) (who : Owner)
     → Seated kernel old → (found : Option ℕ) → place_for q old ≡ found → Allocates r old new found q.size who → Seated kernel new
@@ -109,9 +93,6 @@ limit-stands kernel old new at stands begun is = λ _. subst (Seated kernel) (sy
 pub upward-stands : (kernel : Extent) (old new : List Item) (on : Bool) → Stands kernel old → HasBegun old
     → new ≡ old ++ item.Upward on ∷ [] → Stands kernel new
 upward-stands kernel old new on stands begun is = λ _. subst (Seated kernel) (sym is) (upward-placed kernel old on (stands begun))
-
-pub same-stands : (kernel : Extent) (old new : List Item) → Stands kernel old → new ≡ old → Stands kernel new
-same-stands kernel old new stands is = subst (Stands kernel) (sym is) stands
 
 -- what has begun goes on
 more-begun : (items more : List Item) → HasBegun items → HasBegun (items ++ more)
@@ -148,10 +129,6 @@ pub full-begun : (items : List Item) (range : Extent) → end_of range ≤ 2 ^ 6
 full-begun [] range small full = absurd (true≢false (sym full ∙ first-full range small))
 full-begun (i ∷ is) range small full = tt
 
-pub full-begun_by_two : (items : List Item) → is_full which.Reserved two items ≡ true → HasBegun items
-full-begun_by_two [] full = absurd (true≢false (sym full ∙ first-full_by_two))
-full-begun_by_two (i ∷ is) full = tt
-
 -- growths where they are due
 pub once-cuts : (kernel range : Extent) (more : List Item → ℕ) (items : List Item) → Seated kernel items
     → EachCut (Going kernel range items) items (if_due (is_full which.Reserved more) (reserved_growth range) items).steps
@@ -165,12 +142,6 @@ pub once-going : {T : Type 0} (kernel range : Extent) (r : Result T Refusal) (ol
 once-going kernel range r old new more placed ends =
     cuts-ends (Going kernel range old) r old new (if_due (is_full which.Reserved more) (reserved_growth range) old)
     (once-cuts kernel range more old placed) ends
-
-pub grown-going : {T : Type 0} (kernel range : Extent) (r : Result T Refusal) (old new : List Item) (more : List Item → ℕ)
-    → Seated kernel old → Ends r old new (grown which.Reserved more (reserved_growth range)) → Going kernel range old new
-grown-going kernel range r old new more placed ends =
-    cuts-ends (Going kernel range old) r old new (grown which.Reserved more (reserved_growth range) old)
-    (room-cuts kernel range more old placed) ends
 
 -- from nothing nothing grows
 idle-stands : {T : Type 0} (kernel : Extent) (r : Result T Refusal) (items new : List Item) (due : List Item → Bool) (change : Change)
@@ -193,10 +164,3 @@ pub memory_once-stands : {T : Type 0} (kernel : Extent) (r : Result T Refusal) (
 memory_once-stands kernel r old new due stands begun ends =
     stands-by kernel r old new (if_due due memory_growth old)
     (λ placed. cuts-due (Seated kernel) old due memory_growth placed (memory-cuts kernel old placed)) stands begun ends
-
-pub memory_grown-stands : {T : Type 0} (kernel : Extent) (r : Result T Refusal) (old new : List Item) (more : List Item → ℕ)
-    → Stands kernel old → HasBegun old → Ends r old new (grown which.Memory more memory_growth) → Stands kernel new
-memory_grown-stands kernel r old new more stands begun ends =
-    stands-by kernel r old new (grown which.Memory more memory_growth old)
-    (λ placed. cuts-grown (Seated kernel) which.Memory more memory_growth old (λ t was. memory-cuts kernel t was) placed)
-    stands begun ends

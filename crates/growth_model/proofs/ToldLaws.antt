@@ -10,7 +10,7 @@ use Rattle.memblock_model.specs.declared.which.Which.{Which}
 use Rattle.memblock_model.specs.declared.which.Which.TheVariants as which
 use Rattle.memblock_ranges.specs.Spelling.{spelled_table}
 use Rattle.memblock_ranges.specs.Tables.{Table, Contents, table_in, bytes_of, bytes_in, StandsIn}
-use Rattle.growth_model.specs.Bytes.{spelled_at, shown_by, AreSpelled, left_by}
+use Rattle.growth_model.specs.Bytes.{spelled_at, shown_by, left_by}
 
 -- where the bytes at a table's place are its spelling, so is each of them
 pub listed-told : (t : Table) (f : ℕ → ℕ) (x : ℕ) → bytes_at f t.place (24 * t.room) ≡ spelled_table t.records t.room →
@@ -40,10 +40,6 @@ all-told m r s g first second beside x =
     chosen (covers (bytes_of m) x) (covers (bytes_of r) x) (byte_of s x) (spelled_at m x) (spelled_at r x) (g x)
     (table-told m s x first) (table-told r s x second) (beside x)
 
--- two tables that stand in a store lie in its bytes
-pub both-spelled : (m r : Table) (s : List Stored) → StandsIn m s → StandsIn r s → AreSpelled m r (byte_of s)
-both-spelled m r s first second = all-told m r s (byte_of s) first second (λ x beside too. refl)
-
 -- beside both tables no byte lies in either
 beside-one : (w : Which) (t : Contents) (x : ℕ) → covers (bytes_of t.memory) x ≡ false → covers (bytes_of t.reserved) x ≡ false →
     covers (bytes_in w t) x ≡ false
@@ -72,13 +68,3 @@ move-told w old new gone elsewhere first second =
     all-told new.memory new.reserved new.store (λ x. left_by (table_in w old) x (byte_of old.store x)) first second
     (λ x out too. left_or (covers (bytes_in w old) x) (byte_of new.store x) (byte_of old.store x) (gone x)
     (λ away. elsewhere x (beside-one w new x out too) away))
-
--- after a call that changes neither table nor a byte (`prepare`)
-pub still-told : (old new : Contents) → new.memory ≡ old.memory → new.reserved ≡ old.reserved →
-    ((x : ℕ) → byte_of new.store x ≡ byte_of old.store x) → AreSpelled old.memory old.reserved (byte_of old.store) →
-    AreSpelled new.memory new.reserved (byte_of new.store)
-still-told old new first second same spelled = λ x.
-    same x ∙ spelled x
-    ∙ sym (ap (λ (n : ℕ). shown_by new.memory new.reserved x n) (same x)
-    ∙ ap (λ (t : Table). shown_by t new.reserved x (byte_of old.store x)) first
-    ∙ ap (λ (t : Table). shown_by old.memory t x (byte_of old.store x)) second)
