@@ -276,7 +276,8 @@ room-for-free kernel range items space fits placed some ends free unrefused =
     let one = one-piece range (table_of which.Reserved u) ends some
     (λ x le lt. ap without_owner (going.aside.free free x (covers-to range x le lt))) in
     let room = well.room in let few = well.few in let least = room_of-least which.Reserved items in let fit = fits which.Reserved in
-    let all : count which.Reserved u + new_in which.Reserved range u ≤ room_of which.Reserved u = omega (arith, one, room, few, least, fit) in
+    let all : count which.Reserved u + new_in which.Reserved range u ≤ room_of which.Reserved u =
+    omega (arith, one, room, few, least, fit) in
     grind (arith, nat_tests, all)
 
 found-unrefused : (range : Extent) (items : List Item) (found : Option ℕ) → place_beside range (room_of which.Reserved items) items ≡ found
