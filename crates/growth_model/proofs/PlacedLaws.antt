@@ -61,7 +61,7 @@ pub limits-of : (items more : List Item) → limit_of (items ++ more) ≡ fold l
 limits-of items more = fold-append limit_after 0 items more
 
 -- an item that moves no table
-stays : (w : Which) (kernel : Extent) (items : List Item) (i : Item) → moved_after w (moved_to w items) i ≡ moved_to w items
+pub stays : (w : Which) (kernel : Extent) (items : List Item) (i : Item) → moved_after w (moved_to w items) i ≡ moved_to w items
     → room_after w (room_of w items) i ≡ room_of w items → live w kernel (items ++ i ∷ []) ≡ live w kernel items
 stays w kernel items i at wide = live-same w kernel items (items ++ i ∷ []) (moves-of w items (i ∷ []) ∙ at)
     (rooms-of w items (i ∷ []) ∙ wide)

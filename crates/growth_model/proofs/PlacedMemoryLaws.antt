@@ -18,7 +18,7 @@ use Rattle.growth_model.specs.Sound.{Clear, Unclaimed, Seats, Seated, IsAway}
 use Rattle.growth_model.proofs.CutLaws.{EachCut, cuts-last, cuts-then, cuts-grown}
 use Rattle.growth_model.proofs.SeatLaws.{frames, apart-clear, old-clear, Seats-swap}
 use Rattle.growth_model.proofs.FoundLaws.{found-fits, found-unclaimed, place-unclaimed, unclaimed-away}
-use Rattle.growth_model.proofs.PlacedLaws.{live_by, live-is, live-same, placed-more, owners-of, moves-of, rooms-of, claim-placed, mem-placed, node-placed, mirror-placed, for_table, move-seats}
+use Rattle.growth_model.proofs.PlacedLaws.{live_by, live-is, stays, placed-more, owners-of, moves-of, rooms-of, claim-placed, mem-placed, node-placed, mirror-placed, for_table, move-seats}
 use Rattle.growth_model.proofs.PlacedReservedLaws.{roomy, room-going, claimed-cuts, freed-cuts, claimed-after, place-inside}
 
 -- a place for the memory table, whose room is that at the items: aligned, and nobody's
@@ -43,21 +43,22 @@ module _ (kernel : Extent) (t : List Item) (place : ℕ) where
   abbrev u : List Item
   u = taken t place
 
+  abbrev claims : Item
+  claims = item.Claim a (for_table which.Memory)
+
   abbrev grows : Item
   grows = item.Grown which.Memory place (2 * room_of which.Memory t)
 
   moved-owners : owner_of (moved t place) ≡ replaced a (for_table which.Memory) (owner_of t)
-  moved-owners = owners-of u (grows ∷ []) ∙ owners-of t (item.Claim a (for_table which.Memory) ∷ [])
+  moved-owners = owners-of u (grows ∷ []) ∙ owners-of t (claims ∷ [])
 
   moved-memory : live which.Memory kernel (moved t place) ≡ new_live t place
   moved-memory = live-is which.Memory kernel (moved t place) (Some place) (2 * room_of which.Memory t)
       (moves-of which.Memory u (grows ∷ []))
-      (rooms-of which.Memory u (grows ∷ []) ∙ ap (λ (n : ℕ). 2 * n) (rooms-of which.Memory t (item.Claim a (for_table which.Memory) ∷ [])))
+      (rooms-of which.Memory u (grows ∷ []) ∙ ap (λ (n : ℕ). 2 * n) (rooms-of which.Memory t (claims ∷ [])))
 
   moved-reserved : live which.Reserved kernel (moved t place) ≡ live which.Reserved kernel t
-  moved-reserved = live-same which.Reserved kernel t (moved t place)
-      (moves-of which.Reserved u (grows ∷ []) ∙ moves-of which.Reserved t (item.Claim a (for_table which.Memory) ∷ []))
-      (rooms-of which.Reserved u (grows ∷ []) ∙ rooms-of which.Reserved t (item.Claim a (for_table which.Memory) ∷ []))
+  moved-reserved = stays which.Reserved kernel u grows refl refl ∙ stays which.Reserved kernel t claims refl refl
 
   pub taken-placed : Seated kernel t → Seated kernel u
   taken-placed placed = claim-placed kernel t a (for_table which.Memory) (inl refl) placed
@@ -66,12 +67,8 @@ module _ (kernel : Extent) (t : List Item) (place : ℕ) where
   taken-away : IsFree t place → Seated kernel t → IsAway kernel a u
   taken-away new placed =
       let away = unclaimed-away kernel a t placed new.free in (
-        subst (λ (e : Extent). Clear a e) (sym (live-same which.Memory kernel t u
-            (moves-of which.Memory t (item.Claim a (for_table which.Memory) ∷ []))
-            (rooms-of which.Memory t (item.Claim a (for_table which.Memory) ∷ [])))) away.0,
-        subst (λ (e : Extent). Clear a e) (sym (live-same which.Reserved kernel t u
-            (moves-of which.Reserved t (item.Claim a (for_table which.Memory) ∷ []))
-            (rooms-of which.Reserved t (item.Claim a (for_table which.Memory) ∷ [])))) away.1,
+        subst (λ (e : Extent). Clear a e) (sym (stays which.Memory kernel t claims refl refl)) away.0,
+        subst (λ (e : Extent). Clear a e) (sym (stays which.Reserved kernel t claims refl refl)) away.1,
       )
 
   pub moved-placed : IsFree t place → Seated kernel t → Seated kernel (moved t place)
@@ -103,40 +100,6 @@ module _ (kernel : Extent) (t : List Item) (place : ℕ) where
         subst (λ (n : Extent). Clear (frames before) n) (sym moved-memory) first,
         subst (λ (n : Extent). Clear (frames before) n) (sym moved-reserved) second,
       )
-
-  leave-cuts : (old : Option ℕ) → moved_to which.Memory t ≡ old → IsFree t place → Seated kernel t
-      → EachCut (Seated kernel) (moved t place) (leave (old_frames (room_of which.Memory t) old) (moved t place)).steps
-  leave-cuts None was new placed = moved-placed new placed
-  leave-cuts (Some q) was new placed =
-      freed-cuts kernel (moved t place) (frames_at q (24 * room_of which.Memory t)) (old-away q was new placed) (moved-placed new placed)
-
-  -- the move behind the claim, and what follows it
-  move-cuts : IsFree t place → Seated kernel t → EachCut (Seated kernel) u
-      ((write grows >> leave (old_frames (room_of which.Memory t) (moved_to which.Memory t))) u).steps
-  move-cuts new placed =
-      cuts-then (Seated kernel) u (write grows) (leave (old_frames (room_of which.Memory t) (moved_to which.Memory t)))
-      (taken-placed placed, moved-placed new placed)
-      (λ _. leave-cuts (moved_to which.Memory t) refl new placed)
-
--- what the growth of the memory table does behind the claim of its new place
-abbrev rest_of : ℕ → Option ℕ → ℕ → List Item → List (List Item)
-rest_of room old place v = ((write (item.Grown which.Memory place (2 * room)) >> leave (old_frames room old)) v).steps
-
--- at the room and the place of other items, which are the same
-along : (kernel : Extent) (t : List Item) (room : ℕ) (old : Option ℕ) (place : ℕ) → room_of which.Memory t ≡ room
-    → moved_to which.Memory t ≡ old → place % 4096 ≡ 0 → Unclaimed (owner_of t) (frames_at place (48 * room)) → Seated kernel t
-    → EachCut (Seated kernel) (t ++ item.Claim (frames_at place (48 * room)) (for_table which.Memory) ∷ [])
-    (rest_of room old place (t ++ item.Claim (frames_at place (48 * room)) (for_table which.Memory) ∷ []))
-along kernel t room old place wide was aligned free placed =
-    let new : IsFree t place = record {
-      aligned = aligned;
-      free = subst (λ (n : ℕ). Unclaimed (owner_of t) (frames_at place (48 * n))) (sym wide) free;
-    } in
-    subst (λ (o : Option ℕ). EachCut (Seated kernel) (t ++ item.Claim (frames_at place (48 * room)) (for_table which.Memory) ∷ [])
-    (rest_of room o place (t ++ item.Claim (frames_at place (48 * room)) (for_table which.Memory) ∷ []))) was
-    (subst (λ (n : ℕ). EachCut (Seated kernel) (t ++ item.Claim (frames_at place (48 * n)) (for_table which.Memory) ∷ [])
-    (rest_of n (moved_to which.Memory t) place (t ++ item.Claim (frames_at place (48 * n)) (for_table which.Memory) ∷ []))) wide
-    (move-cuts kernel t place new placed))
 
 -- behind the claim of the new place of the memory table, whose room and place were these: what the move and the freeing of the old place
 -- ask for
@@ -189,6 +152,20 @@ claimed-taken x kernel items u place placed is ends =
     (taken-along kernel t room old place going.aside.wide going.aside.place fits.aligned
     (going.aside.free (found-unclaimed items q place is)) going.placed)
 
+-- so a place that was left is freed, and the move behind the claim keeps both places
+left-cuts : (kernel : Extent) (u : List Item) (room : ℕ) (old : Option ℕ) → Seated kernel u
+    → ((q : ℕ) → old ≡ Some q → IsAway kernel (frames_at q (24 * room)) u)
+    → EachCut (Seated kernel) u (leave (old_frames room old) u).steps
+left-cuts kernel u room None placed left = placed
+left-cuts kernel u room (Some q) placed left = freed-cuts kernel u (frames_at q (24 * room)) (left q refl) placed
+
+taken-cuts : (kernel : Extent) (u : List Item) (room : ℕ) (old : Option ℕ) (place : ℕ) → IsTaken kernel u room old place
+    → EachCut (Seated kernel) u ((write (item.Grown which.Memory place (2 * room)) >> leave (old_frames room old)) u).steps
+taken-cuts kernel u room old place known =
+    let moves : Item = item.Grown which.Memory place (2 * room) in
+    cuts-then (Seated kernel) u (write moves) (leave (old_frames room old)) (known.placed, known.next)
+    (λ _. left-cuts kernel (u ++ moves ∷ []) room old known.next known.left)
+
 growth-at : (kernel : Extent) (items : List Item) (found : Option ℕ)
     → best items (table_query (room_of which.Memory items) 0 (limit_of items)) ≡ found → Seated kernel items
     → EachCut (Seated kernel) items (memory_growth_at (room_of which.Memory items) (moved_to which.Memory items) found items).steps
@@ -197,18 +174,12 @@ growth-at kernel items None is placed = placed
 growth-at kernel items (Some place) is placed =
     let room = room_of which.Memory items in
     let old = moved_to which.Memory items in
-    let q = table_query room 0 (limit_of items) in
-    let a = frames_at place (48 * room) in
-    let t = roomy a (new_in which.Reserved a) items in
-    let going = room-going kernel a (new_in which.Reserved a) items placed in
-    let fits = found-fits items q place is in
-    cuts-then (Seated kernel) items (claimed a (for_table which.Memory))
-    (write (item.Grown which.Memory place (2 * room)) >> leave (old_frames room old))
-    (claimed-cuts kernel items a (for_table which.Memory) (inl refl) placed)
-    (λ unrefused. subst (λ (v : List Item). EachCut (Seated kernel) v (rest_of room old place v))
-    (sym (claimed-after items a (for_table which.Memory) unrefused))
-    (along kernel t room old place going.aside.wide going.aside.place fits.aligned
-    (going.aside.free (found-unclaimed items q place is)) going.placed))
+    let first = claimed (frames_at place (48 * room)) (for_table which.Memory) in
+    let u = after items (first items) in
+    cuts-then (Seated kernel) items first (write (item.Grown which.Memory place (2 * room)) >> leave (old_frames room old))
+    (claimed-cuts kernel items (frames_at place (48 * room)) (for_table which.Memory) (inl refl) placed)
+    (λ unrefused. taken-cuts kernel u room old place
+    (claimed-taken {T = Unit {0}} tt kernel items u place placed is (unrefused, refl)))
 
 -- throughout one growth
 pub memory-cuts : (kernel : Extent) (items : List Item) → Seated kernel items → EachCut (Seated kernel) items (memory_growth items).steps
