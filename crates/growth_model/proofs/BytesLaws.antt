@@ -156,11 +156,6 @@ written-append kernel fills items (i ∷ more) further x b =
     ∙ ap (λ (is : List Item). written kernel fills is further x (written kernel fills (items ++ i ∷ []) more x now))
     (append_assoc items (i ∷ []) more)
 
-zero_twice : (first second : Bool) (b : ℕ) → (if second then 0 else (if first then 0 else b)) ≡ (if first || second then 0 else b)
-zero_twice true true b = refl
-zero_twice true false b = refl
-zero_twice false second b = refl
-
 -- behind the last fill only moves write
 written-beyond : (kernel : Extent) (fills : List Filled) (items more : List Item) (x b : ℕ) → AreMadeBy (length items) fills →
     written kernel fills items more x b ≡ (if is_left kernel items more x then 0 else b)
@@ -172,12 +167,7 @@ written-beyond kernel fills items (i ∷ more) x b made =
     (filled-later (length items) (length items + 1) fills x now made (omega arith))
     ∙ written-beyond kernel fills (items ++ i ∷ []) more x now
     (AreMadeBy-more (length items) (length (items ++ i ∷ [])) fills (omega arith) made)
-    ∙ zero_twice (leaves kernel items i x) (is_left kernel (items ++ i ∷ []) more x) b
-
-left_once : (g h : ℕ → ℕ) (left : Bool) (b : ℕ) → (left ≡ false → (c : ℕ) → g (h c) ≡ g c) →
-    g (if left then 0 else h b) ≡ g (if left then 0 else b)
-left_once g h true b hides = refl
-left_once g h false b hides = hides refl b
+    ∙ left_twice (λ (n : ℕ). n) (λ (n : ℕ). n) (leaves kernel items i x) (is_left kernel (items ++ i ∷ []) more x) b (λ stays c. refl)
 
 -- the byte of the longer list is what the further items make of the byte
 pub after-byte : (kernel : Extent) (items more : List Item) (fills : List Filled) (x : ℕ) → AreMadeBy (length items) fills →
@@ -186,7 +176,7 @@ unfolding byte
 after-byte kernel items more fills x made =
     let old = written kernel fills [] items x (filled 0 fills x 0) in
     after-is kernel items more x (shown kernel items x old)
-    ∙ left_once (shown kernel (items ++ more) x) (shown kernel items x) (is_left kernel items more x) old
+    ∙ left_twice (shown kernel (items ++ more) x) (shown kernel items x) false (is_left kernel items more x) old
     (λ stays c. shown-further kernel items more x c stays)
     ∙ ap (λ (n : ℕ). shown kernel (items ++ more) x n)
     (sym (written-append kernel fills [] items more x (filled 0 fills x 0) ∙ written-beyond kernel fills items more x old made))

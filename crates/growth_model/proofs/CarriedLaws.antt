@@ -8,6 +8,7 @@ use Rattle.memblock_model.specs.declared.item.Item.TheVariants as item
 use Rattle.growth_model.specs.Outcome.{Refused, Outcome, Change, ◌>>◌, followed_by, after, joined, write}
 use Rattle.growth_model.specs.Growth.{added, claimed, freed, mirrored, noded, new_in, two}
 use Rattle.growth_model.specs.Carried.{AreQuiet, carried_out, change, ended, memory_items, unless_refused}
+use Rattle.growth_model.proofs.EndLaws.{joined-append}
 use Rattle.growth_model.proofs.MemoryItemLaws.{memory_items-append, quiet-joined}
 use Rattle.growth_model.proofs.QuietLaws.{IsQuiet, quiet-grown, reserved_growth-quiet, memory_growth-quiet}
 
@@ -26,10 +27,6 @@ pub first_carried : (i : Item) (is items last : List Item) → carried_out (i �
     → GoesOn (ended items (change i items)) (carried_out is) last
 unfolding carried_out
 first_carried i is items last ends = goes_on (ended items (change i items)) (carried_out is) last ends
-
-joined-append : (ss ts : List (List Item)) → joined (ss ++ ts) ≡ joined ss ++ joined ts
-joined-append [] ts = refl
-joined-append (s ∷ ss) ts = ap (λ (t : List Item). s ++ t) (joined-append ss ts) ∙ sym (append_assoc s (joined ss) (joined ts))
 
 -- behind quiet steps and an item, the items of memory are those before and that one, if it is of memory
 one_behind : (items : List Item) (ss : List (List Item)) (i : Item) → AreQuiet ss

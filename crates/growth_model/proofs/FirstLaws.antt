@@ -23,7 +23,7 @@ use Rattle.growth_model.proofs.SeatLaws.{covers-from, covers-to, Seat-new}
 pub no_records : (f : Labels) → ((x : ℕ) → f x ≡ None) → length (records_for f) ≡ 0
 no_records f none = ap length (sym (records_for-is f [] (λ x le. none x) (record { runs = tt; each = λ x. sym (none x) })))
 
-nothing_said : (w : Which) (x : ℕ) → table_of w [] x ≡ None
+pub nothing_said : (w : Which) (x : ℕ) → table_of w [] x ≡ None
 nothing_said which.Memory x = refl
 nothing_said which.Reserved x = refl
 

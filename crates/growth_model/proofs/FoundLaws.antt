@@ -1,5 +1,5 @@
 -- A place that a search found: nobody has its bytes, so neither table lies there.
-use Rattle.std.proofs.Common.{◌≡◌, ℕ, ◌+◌, ◌*◌, ◌%◌, ◌≤◌, Bool, true, false, ◌==◌, if◌then◌else◌, min, Option, Some, None, List, [], ◌∷◌, ◌++◌, refl, ap, subst, inl, inr, ◌⊎◌, arith}
+use Rattle.std.proofs.Common.{◌≡◌, ℕ, ◌+◌, ◌*◌, ◌%◌, ◌<◌, ◌≤◌, Bool, true, false, ◌==◌, if◌then◌else◌, min, Option, Some, None, List, [], ◌∷◌, ◌++◌, refl, ap, subst, inl, inr, ◌⊎◌, arith}
 use Rattle.std.proofs.lemmas.Bool.{and_parts}
 use Rattle.std.specs.Option.{option_or}
 use Rattle.bm_base.specs.Extent.{Extent, end_of, covers, Meet}
@@ -64,37 +64,29 @@ pub record IsNew (items : List Item) (avoid : Extent) (room place : ℕ) : Type 
   pub within : place + in_whole_frames (48 * room) ≤ limit_of items
   pub clear : Clear avoid (frames_at place (48 * room))
 
-new_above : (items : List Item) (avoid : Extent) (room place : ℕ)
-    → best items (table_query room (end_of avoid) (limit_of items)) ≡ Some place → IsNew items avoid room place
-new_above items avoid room place found =
-    let known = found-fits items (table_query room (end_of avoid) (limit_of items)) place found in
+new_between : (items : List Item) (avoid : Extent) (room lo hi place : ℕ) → hi ≤ limit_of items
+    → ((x : ℕ) → avoid.base ≤ x → x < end_of avoid → lo ≤ x → x < hi → ⊥) → best items (table_query room lo hi) ≡ Some place
+    → IsNew items avoid room place
+new_between items avoid room lo hi place within beside found =
+    let known = found-fits items (table_query room lo hi) place found in
+    let low = known.low in let high = known.high in
     record {
       aligned = known.aligned;
-      free = found-unclaimed items (table_query room (end_of avoid) (limit_of items)) place found;
-      within = known.high;
-      clear = λ x at_a at_p. let a = covers-from avoid x at_a in
-          let p = covers-from (frames_at place (48 * room)) x at_p in let low = known.low in omega arith;
-    }
-
-new_below : (items : List Item) (avoid : Extent) (room place : ℕ)
-    → best items (table_query room 0 (min avoid.base (limit_of items))) ≡ Some place → IsNew items avoid room place
-new_below items avoid room place found =
-    let known = found-fits items (table_query room 0 (min avoid.base (limit_of items))) place found in
-    let high : place + in_whole_frames (48 * room) ≤ min avoid.base (limit_of items) = known.high in
-    record {
-      aligned = known.aligned;
-      free = found-unclaimed items (table_query room 0 (min avoid.base (limit_of items))) place found;
+      free = found-unclaimed items (table_query room lo hi) place found;
       within = omega arith;
       clear = λ x at_a at_p. let a = covers-from avoid x at_a in
-          let p = covers-from (frames_at place (48 * room)) x at_p in omega arith;
+          let p = covers-from (frames_at place (48 * room)) x at_p in beside x a.0 a.1 (omega arith) (omega arith);
     }
 
 pub beside-new : (items : List Item) (avoid : Extent) (room place : ℕ) → place_beside avoid room items ≡ Some place
     → IsNew items avoid room place
 beside-new items avoid room place found =
-    elim (or_cases (best items (table_query room (end_of avoid) (limit_of items)))
-    (best items (table_query room 0 (min avoid.base (limit_of items)))) place found) as (λ _. IsNew items avoid room place)
-    [ inl above ↦ new_above items avoid room place above | inr below ↦ new_below items avoid room place below ]
+    let behind = end_of avoid in let limit = limit_of items in let before = min avoid.base limit in
+    elim (or_cases (best items (table_query room behind limit)) (best items (table_query room 0 before)) place found)
+    as (λ _. IsNew items avoid room place) [
+      | inl above ↦ new_between items avoid room behind limit place (omega arith) (λ x from under low high. omega arith) above
+      | inr below ↦ new_between items avoid room 0 before place (omega arith) (λ x from under low high. omega arith) below
+    ]
 
 -- what an allocation tries
 pub record IsTried (r : Request) (limit : ℕ) (q : Query) : Type 0 where

@@ -1,7 +1,7 @@
 -- Small changes, computed: what is written step by step, which growth is refused, what an allocation tries, and how calls end.
-use Rattle.std.proofs.Common.{◌≡◌, ℕ, zero, suc, ◌+◌, ◌*◌, ◌%◌, ◌^◌, ◌<◌, ◌≤◌, Bool, true, false, if◌then◌else◌, nat_lt, Option, Some, None, List, [], ◌∷◌, ◌++◌, length, take, Ok, Err, refl, sym, ◌∙◌, ap, subst, inl, inr, arith}
+use Rattle.std.proofs.Common.{◌≡◌, ℕ, zero, suc, ◌+◌, ◌*◌, ◌%◌, ◌^◌, ◌<◌, ◌≤◌, Bool, true, false, if◌then◌else◌, nat_lt, Option, Some, None, List, [], ◌∷◌, ◌++◌, length, take, Ok, Err, refl, sym, ◌∙◌, ap, subst, arith}
 use Rattle.std.specs.Option.{option_or}
-use Rattle.std.proofs.lemmas.Bool.{cases_Bool}
+use Rattle.std.proofs.lemmas.Bool.{false_from_ne_true}
 use Rattle.std.proofs.lemmas.Bool.Decides.{nat_tests}
 use Rattle.bm_base.specs.Extent.{Extent, end_of, covers}
 use Rattle.address_runs.specs.Runs.{RunOf, value_at}
@@ -184,19 +184,18 @@ nothing_mirrored : (q : Query) → top small q true ≡ None
 unfolding top
 nothing_mirrored q = top_in-mirrorless false (table_of which.Memory small) (table_of which.Reserved small) q small_is_plain
 
+-- nothing fits where no number could
+none_fits : (mirror : Bool) (items : List Item) (q : Query) → ((a : ℕ) → q.lo ≤ a → 4096 ≤ a → a + q.size ≤ q.hi → ⊥) → (a : ℕ)
+    → fits_in mirror (table_of which.Memory items) (table_of which.Reserved items) q a ≡ false
+none_fits mirror items q never a = false_from_ne_true _ (λ fits.
+    let known = fits_in-parts mirror (table_of which.Memory items) (table_of which.Reserved items) q a fits in
+    never a known.low known.first known.high)
+
 no_window : (lo hi : ℕ) → hi ≤ lo → best small (table_query 128 lo hi) ≡ None
 unfolding best
 no_window lo hi none =
-    best_in-fails false (table_of which.Memory small) (table_of which.Reserved small) (table_query 128 lo hi) (λ b lt.
-    elim (cases_Bool (fits_in false (table_of which.Memory small) (table_of which.Reserved small) (table_query 128 lo hi) b))
-    as (λ _. fits_in false (table_of which.Memory small) (table_of which.Reserved small) (table_query 128 lo hi) b ≡ false) [
-      | inl passes ↦
-          let known = fits_in-parts false (table_of which.Memory small) (table_of which.Reserved small) (table_query 128 lo hi) b passes in
-          let low = known.low in
-          let high = known.high in
-          absurd (omega arith)
-      | inr fails ↦ fails
-    ])
+    best_in-fails false (table_of which.Memory small) (table_of which.Reserved small) (table_query 128 lo hi)
+    (λ b lt. none_fits false small (table_query 128 lo hi) (λ a low first high. omega arith) b)
 
 -- above the frame at 128 KiB there is room; above the last 64 KiB there is none, but there is below them
 above_place : place_beside (frame 32) 128 small ≡ Some 253952
@@ -453,15 +452,8 @@ grows_below_the_limit = refl
 without_memory : memory_growth [] ≡ refuse which.Memory 128 []
 unfolding memory_growth memory_growth_at best
 without_memory = ap (λ (o : Option ℕ). memory_growth_at 128 None o [])
-    (best_in-fails false (table_of which.Memory []) (table_of which.Reserved []) (table_query 128 0 0) (λ b lt.
-    elim (cases_Bool (fits_in false (table_of which.Memory []) (table_of which.Reserved []) (table_query 128 0 0) b))
-    as (λ _. fits_in false (table_of which.Memory []) (table_of which.Reserved []) (table_query 128 0 0) b ≡ false) [
-      | inl passes ↦
-          let known = fits_in-parts false (table_of which.Memory []) (table_of which.Reserved []) (table_query 128 0 0) b passes in
-          let high = known.high in
-          absurd (omega arith)
-      | inr fails ↦ fails
-    ]))
+    (best_in-fails false (table_of which.Memory []) (table_of which.Reserved []) (table_query 128 0 0)
+    (λ b lt. none_fits false [] (table_query 128 0 0) (λ a low first high. omega arith) b))
 
 -- the searches of an allocation: one frame, from 128 KiB on if it can be, of node 1 if it can be
 abbrev a_frame : Request
@@ -547,16 +539,7 @@ place_at_the_top = second_search
 no_top : (q : Query) (mirror : Bool) → q.hi ≡ 0 → top small q mirror ≡ None
 unfolding top
 no_top q mirror none = top_in-fails (record { mirror = mirror; up = false }) (table_of which.Memory small)
-    (table_of which.Reserved small) q (λ b lt.
-    elim (cases_Bool (fits_in mirror (table_of which.Memory small) (table_of which.Reserved small) q b))
-    as (λ _. fits_in mirror (table_of which.Memory small) (table_of which.Reserved small) q b ≡ false) [
-      | inl passes ↦
-          let known = fits_in-parts mirror (table_of which.Memory small) (table_of which.Reserved small) q b passes in
-          let high = known.high in
-          let first = known.first in
-          absurd (omega arith)
-      | inr fails ↦ fails
-    ])
+    (table_of which.Reserved small) q (λ b lt. none_fits mirror small q (λ a low first high. omega arith) b)
 
 no_place_so_low : place_for (record two_frames_please { max = Some 0 }) small ≡ None
 no_place_so_low = rw (nothing_mirrored (table_query 128 0 0), no_top (table_query 128 0 0) false refl) refl

@@ -1,6 +1,6 @@
 -- The places of both tables stay good throughout a growth of the reserved table, a claim and a free.
 use Rattle.std.proofs.Common.{◌≡◌, ℕ, ◌*◌, true, Option, Some, None, List, [], ◌∷◌, ◌++◌, refl, sym, subst, inl, inr, arith}
-use Rattle.std.proofs.lemmas.Bool.{cases_Bool}
+use Rattle.std.proofs.lemmas.Bool.{cases_Bool, false_from_ne_true}
 use Rattle.bm_base.specs.Extent.{Extent, covers}
 use Rattle.address_runs.specs.Edits.{uncovered, replaced}
 use Rattle.memblock_model.specs.declared.which.Which.TheVariants as which
@@ -20,8 +20,7 @@ use Rattle.growth_model.proofs.PlacedLaws.{live_by, live-is, live-same, placed-m
 -- bytes without an owner stay so when others are claimed, and when any are freed
 claim-unclaimed : (own : Owners) (a r : Extent) (o : Owner) → Clear a r → Unclaimed own a → Unclaimed (replaced r o own) a
 claim-unclaimed own a r o clear free x at =
-    elim (cases_Bool (covers r x)) as (λ _. replaced r o own x ≡ None)
-    [ inl in_r ↦ absurd (clear x at in_r) | inr other ↦ rw other (free x at) ]
+    rw (false_from_ne_true (covers r x) (λ in_r. clear x at in_r)) (free x at)
 
 free-unclaimed : (own : Owners) (a r : Extent) → Unclaimed own a → Unclaimed (uncovered r own) a
 free-unclaimed own a r free x at =

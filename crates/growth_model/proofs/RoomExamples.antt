@@ -1,22 +1,18 @@
 -- Small lists of items, computed: whether a table doubled, and whether it has room.
-use Rattle.std.proofs.Common.{◌≡◌, ℕ, ◌+◌, ◌^◌, true, false, None, [], ◌∷◌, refl, sym, ◌∙◌, ap, subst, arith}
+use Rattle.std.proofs.Common.{◌≡◌, ◌+◌, ◌^◌, true, false, [], ◌∷◌, refl, sym, ◌∙◌, ap, subst, arith}
 use Rattle.std.proofs.lemmas.Bool.{true≢false}
 use Rattle.std.proofs.lemmas.Bool.Decides.{nat_tests}
-use Rattle.memblock_model.specs.declared.which.Which.{Which}
 use Rattle.memblock_model.specs.declared.which.Which.TheVariants as which
 use Rattle.memblock_model.specs.declared.item.Item.TheVariants as item
-use Rattle.memblock_model.specs.Tables.{table_of, records_of}
+use Rattle.memblock_model.specs.Tables.{records_of}
 use Rattle.growth_model.specs.Outcome.{Outcome, Change, after, nothing, if_due}
 use Rattle.growth_model.specs.Growth.{is_full, two, grown}
 use Rattle.growth_model.specs.Room.{IsInSpace, HasDoubled, HasRoomBehind}
 use Rattle.growth_model.proofs.EndLaws.{skips}
-
-nothing_yet : (w : Which) (x : ℕ) → table_of w [] x ≡ None
-nothing_yet which.Memory x = refl
-nothing_yet which.Reserved x = refl
+use Rattle.growth_model.proofs.FirstLaws.{nothing_said}
 
 in_space : IsInSpace []
-in_space = record { ends = λ w x le. nothing_yet w x; limit = omega arith }
+in_space = record { ends = λ w x le. nothing_said w x; limit = omega arith }
 
 limit_too_high : IsInSpace (item.Limit (2 ^ 64 + 1) ∷ []) → ⊥
 limit_too_high space = let limit = space.limit in omega (arith, limit)

@@ -1,6 +1,6 @@
 -- Places of tables, by ranges and owners alone: what a claim, a free and a move leave of them.
-use Rattle.std.proofs.Common.{◌≡◌, ℕ, ◌+◌, ◌*◌, ◌/◌, ◌%◌, ◌<◌, ◌≤◌, Bool, true, false, if◌then◌else◌, Option, Some, None, sym, ◌∙◌, ap, inl, inr, arith}
-use Rattle.std.proofs.lemmas.Bool.{cases_Bool, true≢false}
+use Rattle.std.proofs.Common.{◌≡◌, ℕ, ◌+◌, ◌*◌, ◌/◌, ◌%◌, ◌<◌, ◌≤◌, Bool, true, false, if◌then◌else◌, Option, Some, None, sym, ◌∙◌, ap, arith}
+use Rattle.std.proofs.lemmas.Bool.{true≢false, false_from_ne_true}
 use Rattle.std.proofs.lemmas.Bool.Decides.{nat_tests}
 use Rattle.bm_base.specs.Extent.{Extent, covers}
 use Rattle.address_runs.specs.Edits.{uncovered, replaced}
@@ -82,15 +82,13 @@ Seat-claim own a r o new seat = record {
 pub Seat-clear : (own : Owners) (a r : Extent) (o : Owner) → Clear r a → Seat own a → Seat (replaced r o own) a
 Seat-clear own a r o clear seat = record {
   aligned = seat.aligned;
-  kept = λ x at. elim (cases_Bool (covers r x)) as (λ _. keeps (replaced r o own x) ≡ true)
-      [ inl in_r ↦ absurd (clear x in_r at) | inr other ↦ rw other (seat.kept x at) ];
+  kept = λ x at. rw (false_from_ne_true (covers r x) (λ in_r. clear x in_r at)) (seat.kept x at);
 }
 
 pub Seat-free : (own : Owners) (a r : Extent) → Clear r a → Seat own a → Seat (uncovered r own) a
 Seat-free own a r clear seat = record {
   aligned = seat.aligned;
-  kept = λ x at. elim (cases_Bool (covers r x)) as (λ _. keeps (uncovered r own x) ≡ true)
-      [ inl in_r ↦ absurd (clear x in_r at) | inr other ↦ rw other (seat.kept x at) ];
+  kept = λ x at. rw (false_from_ne_true (covers r x) (λ in_r. clear x in_r at)) (seat.kept x at);
 }
 
 -- a claim makes a place

@@ -1,6 +1,6 @@
 -- Where both tables lie apart, the bytes at the place of each are those of its records.
-use Rattle.std.proofs.Common.{◌≡◌, ℕ, zero, suc, ◌+◌, ◌-◌, ◌*◌, ◌<◌, ◌≤◌, Bool, true, false, if◌then◌else◌, List, [], ◌∷◌, ◌++◌, length, get_or, refl, sym, ◌∙◌, ap, arith, length-append, inl, inr}
-use Rattle.std.proofs.lemmas.Bool.{cases_Bool}
+use Rattle.std.proofs.Common.{◌≡◌, ℕ, zero, suc, ◌+◌, ◌-◌, ◌*◌, ◌<◌, ◌≤◌, true, false, List, [], ◌∷◌, ◌++◌, length, get_or, refl, sym, ◌∙◌, ap, arith, length-append}
+use Rattle.std.proofs.lemmas.Bool.{false_from_ne_true}
 use Rattle.std.proofs.lemmas.Bool.Decides.{nat_tests}
 use Rattle.std.proofs.lemmas.List.{length-replicate}
 use Rattle.bm_base.specs.Extent.{Extent, covers}
@@ -13,20 +13,10 @@ use Rattle.memblock_model.specs.declared.which.Which.TheVariants as which
 use Rattle.memblock_model.specs.declared.item.Item.{Item}
 use Rattle.memblock_model.specs.Tables.{records_of, room_of, place_of, live}
 use Rattle.memblock_ranges.specs.Spelling.{spelled_table, spelling_of, flags_field, node_field}
-use Rattle.memblock_ranges.specs.Tables.{bytes_of}
 use Rattle.memblock_ranges.proofs.SpellLaws.{length-fields_of}
 use Rattle.growth_model.specs.Sound.{Seated, Fits, Clear}
 use Rattle.growth_model.proofs.ToldLaws.{listed-told, chosen}
 use Rattle.growth_model.specs.Bytes.{table_for, spelled_at, AreSpelled}
-
-memory_first : (here : Bool) (a c : ℕ) → here ≡ true → (if here then a else c) ≡ a
-memory_first true a c h = refl
-memory_first false a c h = cc
-
-reserved_next : (first second : Bool) (a b c : ℕ) → first ≡ false → second ≡ true → (if first then a else (if second then b else c)) ≡ b
-reserved_next true second a b c out here = cc
-reserved_next false true a b c out here = refl
-reserved_next false false a b c out here = cc
 
 -- no byte lies in both tables
 pub live-clear : (kernel : Extent) (items : List Item) → Seated kernel items →
@@ -35,26 +25,16 @@ live-clear kernel items placed = λ x here too. placed.seats.apart x x here too 
 
 beside_memory : (kernel : Extent) (items : List Item) (x : ℕ) → Seated kernel items →
     covers (live which.Reserved kernel items) x ≡ true → covers (live which.Memory kernel items) x ≡ false
-beside_memory kernel items x placed here =
-    elim (cases_Bool (covers (live which.Memory kernel items) x)) as (λ _. covers (live which.Memory kernel items) x ≡ false) [
-      | inl too ↦ absurd (live-clear kernel items placed x too here)
-      | inr out ↦ out
-    ]
+beside_memory kernel items x placed here = false_from_ne_true _ (λ too. live-clear kernel items placed x too here)
 
 -- the byte at an address of a table's place is that of the spelling
 pub journal-stands : (w : Which) (kernel : Extent) (items : List Item) (f : ℕ → ℕ) (x : ℕ) → Seated kernel items →
     AreSpelled (table_for which.Memory kernel items) (table_for which.Reserved kernel items) f → covers (live w kernel items) x ≡ true →
     f x ≡ spelled_at (table_for w kernel items) x
-journal-stands which.Memory kernel items f x placed spelled here =
-    let m = table_for which.Memory kernel items in
-    let r = table_for which.Reserved kernel items in
-    spelled x ∙ memory_first (covers (live which.Memory kernel items) x) (spelled_at m x)
-    (if covers (bytes_of r) x then spelled_at r x else f x) here
+journal-stands which.Memory kernel items f x placed spelled here = spelled x ∙ rw here refl
 journal-stands which.Reserved kernel items f x placed spelled here =
-    let m = table_for which.Memory kernel items in
-    let r = table_for which.Reserved kernel items in
-    spelled x ∙ reserved_next (covers (live which.Memory kernel items) x) (covers (live which.Reserved kernel items) x)
-    (spelled_at m x) (spelled_at r x) (f x) (beside_memory kernel items x placed here) here
+    let beside = beside_memory kernel items x placed here in
+    spelled x ∙ rw (beside, here) refl
 
 -- and the other way round: where the bytes at both places are those of the spellings, the tables lie in their bytes
 pub spelled-from : (kernel : Extent) (items : List Item) (f : ℕ → ℕ) →
