@@ -1,7 +1,7 @@
 -- What a byte carries by the body's way: from trim to trim, with a look at a frame's edges.
-use Rattle.std.proofs.Common.{◌≡◌, ◌⊎◌, ℕ, zero, suc, ◌+◌, ◌-◌, ◌%◌, ◌<◌, ◌≤◌, ◌==◌, Bool, true, false, ◌||◌, nat_lt, Option, Some, None, List, [], ◌∷◌, ◌++◌, length, take, drop, get_or, refl, sym, ◌∙◌, ap, subst, inl, inr, arith}
+use Rattle.std.proofs.Common.{◌≡◌, ℕ, zero, suc, ◌+◌, ◌-◌, ◌%◌, ◌<◌, ◌≤◌, ◌==◌, Bool, true, false, ◌||◌, nat_lt, Option, Some, None, List, [], ◌∷◌, ◌++◌, length, take, drop, get_or, refl, sym, ◌∙◌, ap, subst, inl, inr, arith}
 use Rattle.std.proofs.lemmas.Bool.Decides.{nat_tests}
-use Rattle.std.proofs.lemmas.Bool.{cases_Bool, true≢false}
+use Rattle.std.proofs.lemmas.Bool.{cases_Bool, or_cases, or_parts, true≢false}
 use Rattle.std.proofs.lemmas.List.Quantifiers.{position-Some}
 use Rattle.std.proofs.lemmas.List.Sums.{fold-append, split_at_first, fails_before_first, passes_at_first, position_or_len_is}
 use Rattle.std.proofs.lemmas.List.{get_or-take, length-take}
@@ -29,13 +29,6 @@ edge_in (i ∷ is) e = edge_at i e || edge_in is e
 covers-step : (r : Extent) (y : ℕ) → ((r.base == y + 1) || (end_of r == y + 1)) ≡ false → covers r (y + 1) ≡ covers r y
 covers-step r y h = grind (arith, nat_tests)
 
-either_false : (a b : Bool) → (a || b) ≡ false → (a ≡ false) × (b ≡ false)
-either_false a b h = grind arith
-
-either_true : (a b : Bool) → (a || b) ≡ true → (a ≡ true) ⊎ (b ≡ true)
-either_true true b h = inl refl
-either_true false b h = inr h
-
 -- between two ends an item does the same to a byte and to the next
 label_after-step : (i : Item) (t : Option Label) (y : ℕ) → edge_at i (y + 1) ≡ false → label_after (y + 1) t i ≡ label_after y t i
 label_after-step (item.Mem range) t y h = rw (covers-step range y h) refl
@@ -47,7 +40,7 @@ label_from-step : (items : List Item) (t : Option Label) (y : ℕ) → edge_in i
     ≡ label_from t items y
 label_from-step [] t y h = refl
 label_from-step (i ∷ is) t y h =
-    let both = either_false (edge_at i (y + 1)) (edge_in is (y + 1)) h in
+    let both = or_parts (edge_at i (y + 1)) (edge_in is (y + 1)) h in
     ap (λ (u : Option Label). label_from u is (y + 1)) (label_after-step i t y both.0) ∙ label_from-step is (label_after y t i) y both.1
 
 -- where all ends agree, each end does
@@ -55,7 +48,7 @@ range_agrees-at : (whole : Option Label) (items : List Item) (first : ℕ) (r : 
     → Agrees whole items first (end_of r)
     → ((r.base == e) || (end_of r == e)) ≡ true → Agrees whole items first e
 range_agrees-at whole items first r e base_agrees end_agrees h =
-    elim (either_true (r.base == e) (end_of r == e) h) as (λ _. Agrees whole items first e) [
+    elim (or_cases (r.base == e) (end_of r == e) h) as (λ _. Agrees whole items first e) [
       | inl at_base ↦ let is : r.base ≡ e = grind (arith, nat_tests) in subst (λ (k : ℕ). Agrees whole items first k) is base_agrees
       | inr at_end ↦ let is : end_of r ≡ e = grind (arith, nat_tests) in subst (λ (k : ℕ). Agrees whole items first k) is end_agrees
     ]
@@ -71,7 +64,7 @@ all_agree-at : (whole : Option Label) (items : List Item) (first : ℕ) (is : Li
     → edge_in is e ≡ true → Agrees whole items first e
 all_agree-at whole items first [] e agree h = absurd (true≢false (sym h))
 all_agree-at whole items first (i ∷ is) e agree h =
-    elim (either_true (edge_at i e) (edge_in is e) h) as (λ _. Agrees whole items first e) [
+    elim (or_cases (edge_at i e) (edge_in is e) h) as (λ _. Agrees whole items first e) [
       | inl here ↦ edges_agree-at whole items first i e agree.0 here
       | inr later ↦ all_agree-at whole items first is e agree.1 later
     ]

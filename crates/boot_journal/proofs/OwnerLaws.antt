@@ -28,10 +28,6 @@ pub owners_within : (items : List Item) (rs : List (RunOf Owner)) → IsRunsOf (
     → NothingFrom (2 ^ 64) (owner_of items)
 owners_within items rs known none x le = sym (known.each x) ∙ none x le
 
-pub runs_within : (items : List Item) (rs : List (RunOf Owner)) → IsRunsOf (owner_of items) rs → NothingFrom (2 ^ 64) (owner_of items)
-    → NothingFrom (2 ^ 64) (value_at rs)
-runs_within items rs known none x le = known.each x ∙ none x le
-
 -- they are the list of the definitions
 pub owner_list : (items : List Item) (rs : List (RunOf Owner)) → IsRunsOf (owner_of items) rs → NothingFrom (2 ^ 64) (owner_of items) → rs
     ≡ owner_runs_of items
