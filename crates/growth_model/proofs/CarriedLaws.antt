@@ -73,10 +73,7 @@ change-memory (item.Claim range who) items next ends =
     (quiet-grown which.Reserved (new_in which.Reserved range) _ (reserved_growth-quiet range)) ends
 change-memory (item.Free range) items next ends =
     grown_behind _ (item.Free range) items next (quiet-grown which.Reserved two _ (reserved_growth-quiet range)) ends
-change-memory item.Trim items next ends = plainly_behind item.Trim items next ends
-change-memory (item.Limit at) items next ends = plainly_behind (item.Limit at) items next ends
-change-memory (item.Upward on) items next ends = plainly_behind (item.Upward on) items next ends
-change-memory (item.Grown w place room) items next ends = plainly_behind (item.Grown w place room) items next ends
+change-memory i items next ends = plainly_behind i items next ends
 
 -- and all of them: growth appears in no law of memory
 pub carried-memory : (is items last : List Item) → carried_out is items ≡ Ok last

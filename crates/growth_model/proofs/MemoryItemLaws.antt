@@ -10,27 +10,13 @@ use Rattle.growth_model.specs.Carried.{memory_items, AreQuiet}
 
 pub fold-memory : (f : Labels) (is : List Item) → fold memory_after f is ≡ fold memory_after f (memory_items is)
 fold-memory f [] = refl
-fold-memory f (item.Mem range ∷ is) = fold-memory (memory_after f (item.Mem range)) is
 fold-memory f (item.Trim ∷ is) = fold-memory (memory_after f item.Trim) is
-fold-memory f (item.Node range node ∷ is) = fold-memory (memory_after f (item.Node range node)) is
-fold-memory f (item.Mirror range ∷ is) = fold-memory (memory_after f (item.Mirror range)) is
-fold-memory f (item.Limit at ∷ is) = fold-memory f is
-fold-memory f (item.Upward on ∷ is) = fold-memory f is
-fold-memory f (item.Claim range who ∷ is) = fold-memory f is
-fold-memory f (item.Free range ∷ is) = fold-memory f is
-fold-memory f (item.Grown w place room ∷ is) = fold-memory f is
+fold-memory f (i ∷ is) = fold-memory (memory_after f i) is
 
 pub fold-limit : (at : ℕ) (is : List Item) → fold limit_after at is ≡ fold limit_after at (memory_items is)
 fold-limit at [] = refl
-fold-limit at (item.Mem range ∷ is) = fold-limit at is
-fold-limit at (item.Trim ∷ is) = fold-limit at is
-fold-limit at (item.Node range node ∷ is) = fold-limit at is
-fold-limit at (item.Mirror range ∷ is) = fold-limit at is
 fold-limit at (item.Limit new ∷ is) = fold-limit new is
-fold-limit at (item.Upward on ∷ is) = fold-limit at is
-fold-limit at (item.Claim range who ∷ is) = fold-limit at is
-fold-limit at (item.Free range ∷ is) = fold-limit at is
-fold-limit at (item.Grown w place room ∷ is) = fold-limit at is
+fold-limit at (i ∷ is) = fold-limit at is
 
 pub memory_of-decided : (is : List Item) → memory_of is ≡ memory_of (memory_items is)
 memory_of-decided is = fold-memory no_memory is
@@ -47,15 +33,11 @@ limit_of-same is js same = limit_of-decided is ∙ ap limit_of same ∙ sym (lim
 
 pub memory_items-append : (is js : List Item) → memory_items (is ++ js) ≡ memory_items is ++ memory_items js
 memory_items-append [] js = refl
-memory_items-append (item.Mem range ∷ is) js = ap (λ (t : List Item). item.Mem range ∷ t) (memory_items-append is js)
-memory_items-append (item.Trim ∷ is) js = ap (λ (t : List Item). item.Trim ∷ t) (memory_items-append is js)
-memory_items-append (item.Node range node ∷ is) js = ap (λ (t : List Item). item.Node range node ∷ t) (memory_items-append is js)
-memory_items-append (item.Mirror range ∷ is) js = ap (λ (t : List Item). item.Mirror range ∷ t) (memory_items-append is js)
-memory_items-append (item.Limit at ∷ is) js = ap (λ (t : List Item). item.Limit at ∷ t) (memory_items-append is js)
 memory_items-append (item.Upward on ∷ is) js = memory_items-append is js
 memory_items-append (item.Claim range who ∷ is) js = memory_items-append is js
 memory_items-append (item.Free range ∷ is) js = memory_items-append is js
 memory_items-append (item.Grown w place room ∷ is) js = memory_items-append is js
+memory_items-append (i ∷ is) js = ap (λ (t : List Item). i ∷ t) (memory_items-append is js)
 
 -- quiet steps have no item of memory, and neither have some of them
 pub quiet-joined : (ss : List (List Item)) → AreQuiet ss → memory_items (joined ss) ≡ []

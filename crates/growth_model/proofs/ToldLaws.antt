@@ -1,5 +1,6 @@
 -- What the edits of the two tables make of each byte, as one equation for all addresses.
-use Rattle.std.proofs.Common.{◌≡◌, ℕ, ◌+◌, ◌-◌, ◌*◌, ◌<◌, ◌≤◌, Bool, true, false, if◌then◌else◌, List, get_or, refl, sym, ◌∙◌, ap, arith}
+use Rattle.std.proofs.Common.{◌≡◌, ℕ, ◌+◌, ◌-◌, ◌*◌, ◌<◌, ◌≤◌, Bool, true, false, if◌then◌else◌, List, get_or, sym, ◌∙◌, ap, arith}
+use Rattle.std.proofs.lemmas.Bool.{cond_both}
 use Rattle.std.proofs.lemmas.Bool.Decides.{nat_tests}
 use Rattle.bm_base.specs.Extent.{covers}
 use Rattle.phys_store.specs.Bytes.{Stored, byte_of, bytes_at}
@@ -28,9 +29,8 @@ table-told t s x stands here = listed-told t (byte_of s) x stands.bytes here
 
 pub chosen : (m r : Bool) (y a b c : ℕ) → (m ≡ true → y ≡ a) → (r ≡ true → y ≡ b) → (m ≡ false → r ≡ false → y ≡ c) →
     y ≡ (if m then a else (if r then b else c))
-chosen true r y a b c first second neither = first refl
-chosen false true y a b c first second neither = second refl
-chosen false false y a b c first second neither = neither refl refl
+chosen m r y a b c first second neither =
+    cond_both m a (if r then b else c) (λ (n : ℕ). y ≡ n) first (λ out. cond_both r b c (λ (n : ℕ). y ≡ n) second (neither out))
 
 -- every byte of a store in which both tables stand, from those beside them
 pub all-told : (m r : Table) (s : List Stored) (g : ℕ → ℕ) → StandsIn m s → StandsIn r s →
@@ -55,10 +55,6 @@ edit-told w old new records edited elsewhere first second =
     all-told new.memory new.reserved new.store (byte_of old.store) first second
     (λ x out too. elsewhere x (ap (λ (t : Table). covers (bytes_of t) x) (sym edited) ∙ beside-one w new x out too))
 
-left_or : (left : Bool) (y b : ℕ) → (left ≡ true → y ≡ 0) → (left ≡ false → y ≡ b) → y ≡ (if left then 0 else b)
-left_or true y b gone stays = gone refl
-left_or false y b gone stays = stays refl
-
 -- after a move of one table (`relocate`)
 pub move-told : (w : Which) (old new : Contents) → ((x : ℕ) → covers (bytes_in w old) x ≡ true → byte_of new.store x ≡ 0) →
     ((x : ℕ) → covers (bytes_in w new) x ≡ false → covers (bytes_in w old) x ≡ false → byte_of new.store x ≡ byte_of old.store x) →
@@ -66,5 +62,5 @@ pub move-told : (w : Which) (old new : Contents) → ((x : ℕ) → covers (byte
     byte_of new.store x ≡ shown_by new.memory new.reserved x (left_by (table_in w old) x (byte_of old.store x))
 move-told w old new gone elsewhere first second =
     all-told new.memory new.reserved new.store (λ x. left_by (table_in w old) x (byte_of old.store x)) first second
-    (λ x out too. left_or (covers (bytes_in w old) x) (byte_of new.store x) (byte_of old.store x) (gone x)
+    (λ x out too. cond_both (covers (bytes_in w old) x) 0 (byte_of old.store x) (λ (n : ℕ). byte_of new.store x ≡ n) (gone x)
     (λ away. elsewhere x (beside-one w new x out too) away))
