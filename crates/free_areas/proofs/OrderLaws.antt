@@ -2,6 +2,7 @@
 use Rattle.std.proofs.Common.{◌≡◌, ◌≢◌, ◌⊎◌, ◌↔◌, ℕ, ◌<◌, ◌≤◌, true, false, List, [], ◌∷◌, refl, sym, ◌∙◌, ap, inl, inr, ⊎_elim, arith}
 use Rattle.std.proofs.lemmas.Bool.Decides.{nat_tests}
 use Rattle.std.proofs.lemmas.Bool.{cases_lt, cases_Bool}
+use Rattle.std.proofs.lemmas.Cmp.{ranked}
 use Rattle.std.specs.declared.cmp.Ordering.{Ordering}
 use Rattle.std.specs.declared.cmp.Ordering.TheVariants.{Less, Equal, Greater}
 use Rattle.std.specs.Ordering.{nat_cmp, ordering_then, is_gt, is_eq}
@@ -29,22 +30,10 @@ number_self : (n : ℕ) → nat_cmp n n ≡ Equal
 number_self n = grind (arith, nat_tests)
 
 number_equal : (m n : ℕ) → nat_cmp m n ≡ Equal → m ≡ n
-number_equal m n h = elim (cases_lt m n) as (λ _. m ≡ n) [
-  | inl lt ↦ let less : nat_cmp m n ≡ Less = grind (arith, nat_tests) in cc
-  | inr ge ↦ elim (cases_lt n m) as (λ _. m ≡ n) [
-    | inl gt ↦ let more : nat_cmp m n ≡ Greater = grind (arith, nat_tests) in cc
-    | inr le ↦ omega arith
-  ]
-]
+number_equal m n h = ranked m n Equal (sym h)
 
 number_less : (m n : ℕ) → nat_cmp m n ≡ Less → m < n
-number_less m n h = elim (cases_lt m n) as (λ _. m < n) [
-  | inl lt ↦ lt
-  | inr ge ↦ elim (cases_lt n m) as (λ _. m < n) [
-    | inl gt ↦ let more : nat_cmp m n ≡ Greater = grind (arith, nat_tests) in cc
-    | inr le ↦ let same : m ≡ n = omega arith in cc (number_self n, ap (λ k. nat_cmp k n) same)
-  ]
-]
+number_less m n h = ranked m n Less (sym h)
 
 less_number : (m n : ℕ) → m < n → nat_cmp m n ≡ Less
 less_number m n lt = grind (arith, nat_tests)
@@ -56,26 +45,16 @@ zone_self zone.Normal = refl
 
 zone_equal : (a b : Zone) → zone_cmp a b ≡ Equal → a ≡ b
 zone_equal zone.Dma zone.Dma h = refl
-zone_equal zone.Dma zone.Dma32 h = cc
-zone_equal zone.Dma zone.Normal h = cc
-zone_equal zone.Dma32 zone.Dma h = cc
 zone_equal zone.Dma32 zone.Dma32 h = refl
-zone_equal zone.Dma32 zone.Normal h = cc
-zone_equal zone.Normal zone.Dma h = cc
-zone_equal zone.Normal zone.Dma32 h = cc
 zone_equal zone.Normal zone.Normal h = refl
+zone_equal a b h = cc
 
 -- each before the other can't be
 zone_apart : (a b : Zone) → zone_cmp a b ≡ Less → zone_cmp b a ≡ Less → ⊥
 zone_apart zone.Dma zone.Dma h g = cc
-zone_apart zone.Dma zone.Dma32 h g = cc
-zone_apart zone.Dma zone.Normal h g = cc
-zone_apart zone.Dma32 zone.Dma h g = cc
 zone_apart zone.Dma32 zone.Dma32 h g = cc
-zone_apart zone.Dma32 zone.Normal h g = cc
-zone_apart zone.Normal zone.Dma h g = cc
-zone_apart zone.Normal zone.Dma32 h g = cc
 zone_apart zone.Normal zone.Normal h g = cc
+zone_apart a b h g = cc
 
 then_equal : (a b : Ordering) → ordering_then a b ≡ Equal → (a ≡ Equal) × (b ≡ Equal)
 then_equal Less b h = cc
