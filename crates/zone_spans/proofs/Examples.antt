@@ -1,10 +1,10 @@
 -- Spans of few frames, computed.
-use Rattle.std.proofs.Common.{◌≡◌, ℕ, nat_le, nat_lt, ◌&&◌, true, false, Option, Some, None, List, [], ◌∷◌, if◌then◌else◌, refl, arith}
+use Rattle.std.proofs.Common.{◌≡◌, nat_le, nat_lt, ◌&&◌, true, false, Some, None, [], ◌∷◌, if◌then◌else◌, refl}
 use Rattle.bm_base.specs.declared.zone.Zone.TheVariants as zone
 use Rattle.frame_blocks.specs.Frames.{Frames}
 use Rattle.zone_spans.specs.declared.span.Span.{Span}
 use Rattle.zone_spans.specs.Spans.{is_in, with_frames, span_below, number_below}
-use Rattle.zone_spans.specs.Slots.{place_of, AreBounded, with_run, slot_with, somes}
+use Rattle.zone_spans.specs.Slots.{place_of, with_run, slot_with, somes}
 
 -- frames 1 and 3 are memory of node 7
 abbrev holed : Frames

@@ -1,5 +1,5 @@
 -- The places of spans: what one stretch of frames of a node and a zone changes, and the list of what they hold.
-use Rattle.std.proofs.Common.{◌≡◌, ◌^◌, ◌≢◌, ℕ, zero, suc, ◌+◌, ◌-◌, ◌*◌, ◌<◌, ◌≤◌, ◌==◌, nat_le, nat_lt, Bool, true, false, ◌&&◌, Option, Some, None, List, [], ◌∷◌, ◌++◌, length, get_or, drop, if◌then◌else◌, refl, sym, ◌∙◌, ap, inl, inr, arith, append_assoc}
+use Rattle.std.proofs.Common.{◌≡◌, ◌^◌, ℕ, zero, suc, ◌+◌, ◌-◌, ◌*◌, ◌<◌, ◌≤◌, ◌==◌, nat_le, nat_lt, true, false, ◌&&◌, Option, Some, None, List, [], ◌∷◌, ◌++◌, length, get_or, drop, refl, sym, ◌∙◌, ap, inl, inr, arith, append_assoc}
 use Rattle.std.specs.Option.{option_to_list}
 use Rattle.std.proofs.lemmas.Bool.Decides.{nat_tests}
 use Rattle.std.proofs.lemmas.Bool.{cases_lt, cases_Bool, eqb-true, eq-eqb, true≢false}
@@ -24,25 +24,15 @@ low_place zone.Normal = omega arith
 
 zone_by_place : (a b : Zone) → place_of a ≡ place_of b → a ≡ b
 zone_by_place zone.Dma zone.Dma h = refl
-zone_by_place zone.Dma zone.Dma32 h = absurd (omega arith)
-zone_by_place zone.Dma zone.Normal h = absurd (omega arith)
-zone_by_place zone.Dma32 zone.Dma h = absurd (omega arith)
 zone_by_place zone.Dma32 zone.Dma32 h = refl
-zone_by_place zone.Dma32 zone.Normal h = absurd (omega arith)
-zone_by_place zone.Normal zone.Dma h = absurd (omega arith)
-zone_by_place zone.Normal zone.Dma32 h = absurd (omega arith)
 zone_by_place zone.Normal zone.Normal h = refl
+zone_by_place a b h = absurd (omega arith)
 
 zone_is : (a b : Zone) → same_zone a b ≡ true → a ≡ b
 zone_is zone.Dma zone.Dma h = refl
-zone_is zone.Dma zone.Dma32 h = cc
-zone_is zone.Dma zone.Normal h = cc
-zone_is zone.Dma32 zone.Dma h = cc
 zone_is zone.Dma32 zone.Dma32 h = refl
-zone_is zone.Dma32 zone.Normal h = cc
-zone_is zone.Normal zone.Dma h = cc
-zone_is zone.Normal zone.Dma32 h = cc
 zone_is zone.Normal zone.Normal h = refl
+zone_is a b h = cc
 
 -- inside and outside of a run
 run_inside : (at until n x : ℕ) (f : Frames) → at ≤ x → x < until → with_run at until n f x ≡ Some n
@@ -150,22 +140,10 @@ told_more f k at until w old new nothing some low zones told put n z =
 -- a run in two parts
 pub run_parts : (first at until n : ℕ) (f : Frames) → first ≤ at → at ≤ until
     → with_run at until n (with_run first at n f) ≡ with_run first until n f
-run_parts first at until n f order order_too =
-    let same : (x : ℕ) → with_run at until n (with_run first at n f) x ≡ with_run first until n f x = λ x.
-    elim (cases_lt x at) as (λ _. with_run at until n (with_run first at n f) x ≡ with_run first until n f x) [
-      | inl before ↦
-          run_below at until n x (with_run first at n f) before
-          ∙ elim (cases_lt x first) as (λ _. with_run first at n f x ≡ with_run first until n f x) [
-            | inl lower ↦ run_below first at n x f lower ∙ sym (run_below first until n x f lower)
-            | inr inner ↦ run_inside first at n x f inner before ∙ sym (run_inside first until n x f inner (omega arith))
-          ]
-      | inr above ↦ elim (cases_lt x until) as (λ _. with_run at until n (with_run first at n f) x ≡ with_run first until n f x) [
-        | inl inner ↦ run_inside at until n x (with_run first at n f) above inner ∙ sym (run_inside first until n x f (omega arith) inner)
-        | inr after ↦
-            run_behind at until n x (with_run first at n f) after ∙ run_behind first at n x f above
-            ∙ sym (run_behind first until n x f after)
-      ]
-    ] in λ j x. same x j
+run_parts first at until n f order order_too = λ j x. parts x j
+  where
+    parts : (x : ℕ) → with_run at until n (with_run first at n f) x ≡ with_run first until n f x
+    parts x = grind (arith, nat_tests)
 
 pub nothing_behind : (first at n : ℕ) (f : Frames) → first ≤ at → NothingFrom first f → NothingFrom at (with_run first at n f)
 nothing_behind first at n f order nothing x above = run_behind first at n x f above ∙ nothing x (omega arith)

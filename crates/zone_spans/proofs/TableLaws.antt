@@ -1,18 +1,17 @@
 -- The nodes of frames by the first records of a table, and by one more.
-use Rattle.std.proofs.Common.{◌≡◌, ℕ, zero, suc, ◌+◌, ◌-◌, ◌*◌, ◌/◌, ◌<◌, ◌≤◌, nat_le, nat_lt, Bool, true, false, ◌&&◌, Option, Some, None, List, [], ◌∷◌, length, get_or, take, if◌then◌else◌, refl, sym, ◌∙◌, ap, subst, inl, inr, arith}
+use Rattle.std.proofs.Common.{◌≡◌, ℕ, ◌+◌, ◌*◌, ◌/◌, ◌<◌, ◌≤◌, nat_le, nat_lt, Bool, true, false, ◌&&◌, Option, Some, None, List, length, get_or, take, if◌then◌else◌, refl, sym, ◌∙◌, ap, inl, inr, arith}
 use Rattle.std.proofs.lemmas.Bool.{cases_lt, cases_Bool}
 use Rattle.std.proofs.lemmas.Bool.Decides.{nat_tests}
 use Rattle.std.proofs.Math.Seq.{take-length}
-use Rattle.address_runs.specs.Runs.{RunOf, run_end, value_at}
+use Rattle.address_runs.specs.Runs.{RunOf, value_at}
 use Rattle.address_runs.specs.Edits.{NothingFrom}
 use Rattle.memblock_model.specs.Labels.{Label}
 use Rattle.frame_blocks.specs.Frames.{Frames}
 use Rattle.table_frames.specs.declared.frames.RecordFrames.{RecordFrames}
-use Rattle.table_frames.specs.declared.frames.TheConstants.{MAX_NODES}
 use Rattle.table_frames.specs.Frames.{node_below, node_told, node_of_frame, frames_of}
 use Rattle.table_frames.specs.Tables.{AscendBelow, AreWholeFrames}
-use Rattle.table_frames.proofs.RecordLaws.{ascend_at, taken_none}
-use Rattle.table_frames.proofs.WholeLaws.{whole_at, first_byte}
+use Rattle.table_frames.proofs.RecordLaws.{taken_none}
+use Rattle.table_frames.proofs.WholeLaws.{whole_at}
 use Rattle.table_frames.proofs.TakeLaws.{node_more, tests_both}
 use Rattle.zone_spans.specs.Slots.{with_run}
 

@@ -1,9 +1,8 @@
-use Rattle.std.proofs.Common.{◌≡◌, ◌≤◌, ℕ, None, get_or, ap, sym, ◌∙◌, subst, arith}
+use Rattle.std.proofs.Common.{◌≡◌, ℕ, None, get_or, ap, ◌∙◌, subst, arith}
 use Rattle.bm_base.specs.declared.zone.Zone.{Zone}
 use Rattle.bm_base.specs.Zones.{zone_of}
-use Rattle.address_runs.specs.Edits.{NothingFrom}
 use Rattle.frame_blocks.specs.Frames.{Frames}
-use Rattle.zone_spans.specs.Slots.{AreSpans, AreBounded, with_run, slot_with}
+use Rattle.zone_spans.specs.Slots.{AreSpans, with_run, slot_with}
 use Rattle.zone_spans.proofs.SlotLaws.{told_more, bounded_more, run_parts, nothing_behind}
 use Rattle.zone_spans.proofs.slots.note.Goals as goal
 
